@@ -1,0 +1,9 @@
+use Rattle.fkv_functions.specs.Names.{padded_by, room_by}
+use Rattle.fkv_functions.proofs.names.Name.new.Goals as goal
+
+pub invariant_of-result-clause-room : goal.invariant_of-result-clause-room
+invariant_of-result-clause-room c = rw c.copy_from_slice.ensures.after (room_by c.args.bytes.now c.if-bytes-gt31.false)
+
+pub invariant_of-result-clause-padded : goal.invariant_of-result-clause-padded
+invariant_of-result-clause-padded c =
+    rw c.copy_from_slice.ensures.after (padded_by c.args.bytes.now c.if-bytes-gt31.false)

@@ -1,0 +1,147 @@
+//! Names: keys of 1 to 31 bytes.
+ghost use Rattle.std.specs.Prelude.{◌≡◌, ◌+◌, ◌-◌, ◌<◌, ◌≤◌, ◌↔◌, ℕ, List, ◌∷◌, ◌++◌, length, drop, take, replicate, refl, IfSome, IsSome, IsTrue, Some};
+
+use crate::values::{Fixed, Known};
+use std::cmp::Ordering;
+
+/// 1 to 31 bytes of any kind, ordered as byte strings.
+///
+/// As a [`Fixed`] value it takes 32 bytes: its length, its bytes, and zeros.
+#[derive(Clone, Copy, Debug)]
+pub struct Name {
+    len: u8,
+    bytes: [u8; 31],
+    pub ghost some: { 1 ≤ len },
+    pub ghost most: { len ≤ 31 },
+    pub ghost room: { length bytes ≡ 31 },
+    pub ghost padded: { drop len bytes ≡ replicate (31 - len) 0 },
+}
+
+impl Name {
+    ghost use Rattle.fkv_functions.specs.Names.{text_of};
+
+    /// The name of these bytes, where there are 1 to 31.
+    pub fn new(bytes: &[u8]) -> Option<Name>
+        ensures some { IfSome result (λ name. text_of name ≡ bytes.now) }
+        ensures range { IsSome result ↔ ((1 ≤ length bytes.now) × (length bytes.now ≤ 31)) }
+    {
+        if bytes.is_empty() || bytes.len() > 31 {
+            return None;
+        }
+        let mut all = [0u8; 31];
+        all[..bytes.len()].copy_from_slice(bytes);
+        Some(Name {
+            len: bytes.len() as u8,
+            bytes: all,
+        })
+    }
+
+    /// The bytes.
+    pub fn bytes(&self) -> &[u8]
+        ensures value { result.now ≡ text_of self.now }
+        ensures some { 1 ≤ length result.now }
+        ensures most { length result.now ≤ 31 }
+    {
+        &self.bytes[..self.len as usize]
+    }
+}
+
+impl PartialEq for Name {
+    ghost use Rattle.fkv_functions.specs.Names.{same_names, same_partial};
+
+    ghost eq = { same_names };
+
+    ghost laws = { same_partial };
+
+    fn eq(&self, other: &Name) -> bool {
+        self.bytes() == other.bytes()
+    }
+}
+
+impl Eq for Name {
+    ghost use Rattle.fkv_functions.specs.Names.{same_equivalence};
+
+    ghost laws = { same_equivalence };
+}
+
+impl Ord for Name {
+    ghost use Rattle.std.specs.Prelude.{refl};
+    ghost use Rattle.fkv_functions.specs.Names.{name_cmp, name_total, name_ties};
+
+    ghost cmp = { name_cmp };
+
+    ghost total = { name_total };
+
+    ghost matches_partial_cmp = { λ a b. refl };
+
+    ghost matches_eq = { name_ties };
+
+    fn cmp(&self, other: &Name) -> Ordering {
+        self.bytes().cmp(other.bytes())
+    }
+}
+
+impl PartialOrd for Name {
+    ghost use Rattle.std.specs.Ordering.{as_partial_cmp};
+    ghost use Rattle.fkv_functions.specs.Names.{name_cmp, name_ordered};
+
+    ghost partial_cmp = { as_partial_cmp name_cmp };
+
+    ghost laws = { name_ordered };
+
+    fn partial_cmp(&self, other: &Name) -> Option<Ordering> {
+        Some(self.cmp(other))
+    }
+}
+
+impl Known for Name {
+    ghost use Rattle.fkv_functions.specs.Names.{name_exact};
+
+    // its ghost fields say all
+    ghost is_known = { λ _. Unit {0} };
+
+    fn known(&self) {
+        let _length = self.len;
+    }
+
+    ghost exact = { name_exact };
+}
+
+impl Fixed for Name {
+    ghost use Rattle.std.specs.Prelude.{◌≡◌, ℕ, List, length};
+    ghost use Rattle.fkv_functions.specs.Names.{name_bytes, name_sized, name_readable};
+
+    const SIZE: usize = 32;
+
+    ghost SIZE = { 32 };
+
+    ghost bytes_of = { name_bytes };
+
+    fn put(&self, out: &mut [u8]) {
+        let (length, rest) = out.split_at_mut(1);
+        length[0] = self.len;
+        rest.copy_from_slice(&self.bytes);
+    }
+
+    fn take(bytes: &[u8]) -> Option<Name> {
+        let (length, rest) = bytes.split_at(1);
+        let len = length[0];
+        if len == 0 || len > 31 || !is_zeros(&rest[len as usize..]) {
+            return None;
+        }
+        let mut all = [0u8; 31];
+        all.copy_from_slice(rest);
+        Some(Name { len, bytes: all })
+    }
+
+    ghost sized = { λ v h. name_sized v };
+
+    ghost readable = { λ v w h k e. name_readable v w e };
+}
+
+/// Whether these bytes are all zero.
+fn is_zeros(bytes: &[u8]) -> bool
+    ensures { IsTrue result ↔ (bytes.now ≡ replicate (length bytes.now) 0) }
+{
+    bytes.iter().all(|byte| *byte == 0)
+}

@@ -1,0 +1,44 @@
+//! Values that a store holds: known to proofs, told apart by `==`, and of a fixed number of bytes.
+ghost use Rattle.std.specs.Prelude.{◌≡◌, ℕ, List, length, IfSome, Some};
+ghost use Rattle.fkv_functions.specs.Meanings.{Exact};
+
+/// A value that proofs can tell: one in hand is one of its type, and `==` is identity.
+pub trait Known: Copy + Eq + Send + Sync {
+    /// Holds of the values of the type. A law about numbers speaks of these alone.
+    ghost is_known: { Self → Type 0 };
+
+    /// Tells a proof that a value in hand is one of its type.
+    fn known(&self)
+        ensures { is_known self.now };
+
+    /// `==` is true of identical values alone.
+    ghost exact: { Exact Self.eq };
+}
+
+/// A value that is written in a fixed number of bytes.
+pub trait Fixed: Known {
+    /// How many bytes.
+    const SIZE: usize;
+
+    ghost SIZE: { ℕ };
+
+    /// The bytes of a value.
+    ghost bytes_of: { Self → List ℕ };
+
+    /// Writes the value's bytes over all of `out`.
+    fn put(&self, out: &mut [u8])
+        requires { length out.old ≡ SIZE }
+        ensures { out.new ≡ bytes_of self.now };
+
+    /// The one value that is written in these bytes, or `None` where no value is.
+    fn take(bytes: &[u8]) -> Option<Self>
+        requires { length bytes.now ≡ SIZE }
+        ensures found { IfSome result (λ v. Self.is_known v × (bytes_of v ≡ bytes.now)) }
+        ensures only { (v : Self) → Self.is_known v → bytes_of v ≡ bytes.now → result ≡ Some v };
+
+    /// The bytes of a value are as many as `SIZE` says.
+    ghost sized: { (v : Self) → Self.is_known v → length (bytes_of v) ≡ SIZE };
+
+    /// Two values of the same bytes are one.
+    ghost readable: { (v w : Self) → Self.is_known v → Self.is_known w → bytes_of v ≡ bytes_of w → v ≡ w };
+}
