@@ -10,6 +10,9 @@ use crate::hashes::fnv_1a_hash;
 use crate::names::Name;
 use crate::updates::{Functions, OrderFree};
 
+/// What a key is counted as at its first input.
+const FIRST: u64 = 1;
+
 /// Counts the inputs of each name: from 1, by 1, modulo 2^64. The amount of an input plays no part.
 #[derive(Clone, Copy, Debug, Default)]
 pub struct CountFns;
@@ -28,19 +31,19 @@ impl Functions for CountFns {
     ghost code = { λ name. fnv_1a (text_of name) };
 
     fn initial(&self, _key: &Name, _input: &i64) -> u64 {
-        1
+        FIRST
     }
 
     fn in_place(&self, _key: &Name, _input: &i64, value: &mut u64) {
         *value = value.wrapping_add(1);
     }
 
-    fn copy(&self, _key: &Name, _input: &i64, value: &u64) -> u64 {
-        value.wrapping_add(1)
+    fn copy(&self, _key: &Name, _input: &i64, held: &u64) -> u64 {
+        held.wrapping_add(1)
     }
 
-    fn read(&self, _key: &Name, _input: &i64, value: &u64) -> u64 {
-        *value
+    fn read(&self, _key: &Name, _input: &i64, held: &u64) -> u64 {
+        *held
     }
 
     fn hash(&self, key: &Name) -> u64 {

@@ -24,3 +24,6 @@ pub use refusals::{Refused, What};
 pub use sums::SumFns;
 pub use updates::{Functions, OrderFree};
 pub use values::{Fixed, Known};
+
+#[cfg(test)]
+mod tests;

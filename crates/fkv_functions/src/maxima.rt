@@ -33,12 +33,12 @@ impl Functions for MaxFns {
         *value = (*value).max(*input);
     }
 
-    fn copy(&self, _key: &Name, input: &i64, value: &i64) -> i64 {
-        (*value).max(*input)
+    fn copy(&self, _key: &Name, input: &i64, held: &i64) -> i64 {
+        (*held).max(*input)
     }
 
-    fn read(&self, _key: &Name, _input: &i64, value: &i64) -> i64 {
-        *value
+    fn read(&self, _key: &Name, _input: &i64, held: &i64) -> i64 {
+        *held
     }
 
     fn hash(&self, key: &Name) -> u64 {

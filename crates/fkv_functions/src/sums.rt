@@ -33,12 +33,12 @@ impl Functions for SumFns {
         *value = value.wrapping_add(i128::from(*input));
     }
 
-    fn copy(&self, _key: &Name, input: &i64, value: &i128) -> i128 {
-        value.wrapping_add(i128::from(*input))
+    fn copy(&self, _key: &Name, input: &i64, held: &i128) -> i128 {
+        held.wrapping_add(i128::from(*input))
     }
 
-    fn read(&self, _key: &Name, _input: &i64, value: &i128) -> i128 {
-        *value
+    fn read(&self, _key: &Name, _input: &i64, held: &i128) -> i128 {
+        *held
     }
 
     fn hash(&self, key: &Name) -> u64 {

@@ -1,0 +1,44 @@
+-- What an operation does to a plain map, and what it answers.
+use Rattle.std.specs.Prelude.{Bool, true, false, List, [], ◌∷◌, Option, Some, None}
+use Rattle.std.specs.declared.cmp.Ordering.{Ordering}
+use Rattle.fkv_functions.specs.Meanings.{Meanings, updated}
+use Rattle.fkv_functions.specs.Plain.{PlainMap, with_at}
+use Rattle.fkv_operations.specs.declared.operations.Op.{Op}
+use Rattle.fkv_operations.specs.declared.operations.Op.TheVariants.{Read, Rmw}
+use Rattle.fkv_operations.specs.declared.operations.Answer.{Answer}
+use Rattle.fkv_operations.specs.declared.operations.Answer.TheVariants.{Value, Absent}
+
+-- the key of an operation
+abbrev pub key_of : {K I : Type 0} → Op K I → K
+key_of (Read k i) = k
+key_of (Rmw k i) = k
+
+-- whether an operation may change the map
+abbrev pub is_update : {K I : Type 0} → Op K I → Bool
+is_update (Read k i) = false
+is_update (Rmw k i) = true
+
+-- the map after an operation
+abbrev pub after : {K V I O : Type 0} → (K → K → Ordering) → Meanings K V I O → PlainMap K V → Op K I → PlainMap K V
+after cmp f m (Read k i) = m
+after cmp f m (Rmw k i) = with_at cmp m k (Some (updated f k i (m k)))
+
+-- what a read shows where the key has this value, or none
+abbrev pub shown_of : {K V I O : Type 0} → Meanings K V I O → K → I → Option V → Answer O
+shown_of f k i None = Absent
+shown_of f k i (Some v) = Value (f.shown k i v)
+
+-- the answer to an operation
+abbrev pub answer : {K V I O : Type 0} → Meanings K V I O → PlainMap K V → Op K I → Answer O
+answer f m (Read k i) = shown_of f k i (m k)
+answer f m (Rmw k i) = Value (f.shown k i (updated f k i (m k)))
+
+-- the map after a list of operations
+abbrev pub after_all : {K V I O : Type 0} → (K → K → Ordering) → Meanings K V I O → PlainMap K V → List (Op K I) → PlainMap K V
+after_all cmp f m [] = m
+after_all cmp f m (op ∷ ops) = after_all cmp f (after cmp f m op) ops
+
+-- the answers to a list of operations, each from the map that the ones before it leave
+abbrev pub answers : {K V I O : Type 0} → (K → K → Ordering) → Meanings K V I O → PlainMap K V → List (Op K I) → List (Answer O)
+answers cmp f m [] = []
+answers cmp f m (op ∷ ops) = answer f m op ∷ answers cmp f (after cmp f m op) ops

@@ -1,0 +1,17 @@
+//! Operations on keys, what each does to a plain map and answers, and the clock of moments.
+//!
+//! A store is compared with a plain map: `specs/After.antt` says what an operation does to one and what
+//! it answers. [`plainly`] is the slow program that does just that, which every faster body is compared
+//! with.
+#![tactic(auto)]
+
+pub mod clocks;
+pub mod operations;
+pub mod plainly;
+
+pub use clocks::Clock;
+pub use operations::{Answer, AnswerOf, Op, OpOf};
+pub use plainly::{PlainRun, apply_plainly, run_plainly};
+
+#[cfg(test)]
+mod tests;

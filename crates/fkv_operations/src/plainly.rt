@@ -1,0 +1,87 @@
+//! The plain, slow program: operations on a sorted map, one after the other.
+ghost use Rattle.std.specs.Prelude.{◌≡◌, Option, None, Ok, Err, IfOk, IfErr, OnErr};
+ghost use Rattle.std.specs.BTreeMap.{get, IsOrdered};
+ghost use Rattle.fkv_functions.specs.Plain.{Same};
+ghost use Rattle.fkv_operations.specs.After.{after, answer, after_all, answers, shown_of};
+
+use crate::operations::{Answer, AnswerOf, Op, OpOf};
+use fkv_functions::{Functions, Refused};
+use std::alloc::Global;
+use std::collections::BTreeMap;
+
+/// What a list of operations leaves and answers.
+#[derive(Drop)]
+pub struct PlainRun<F: Functions> {
+    /// The value of each key that has one.
+    pub map: BTreeMap<F::Key, F::Value>,
+    /// The answers, in the order of the operations.
+    pub answers: Vec<AnswerOf<F>>,
+}
+
+/// What the key's value, or none, shows to this input.
+fn shown<F: Functions>(
+    functions: &F,
+    key: &F::Key,
+    input: &F::Input,
+    held: Option<F::Value>,
+) -> AnswerOf<F>
+    ensures { result ≡ shown_of F.meaning key.now input.now held }
+{
+    match held {
+        None => Answer::Absent,
+        Some(value) => Answer::Value(functions.read(key, input, &value)),
+    }
+}
+
+/// Does one operation to the map. Refused: `NoMemory`, and then the map is as it was.
+pub fn apply_plainly<F: Functions>(
+    functions: &F,
+    map: &mut BTreeMap<F::Key, F::Value>,
+    op: OpOf<F>,
+) -> Result<AnswerOf<F>, Refused>
+    ensures map { IfOk result (λ _. Same (get F.Key.cmp map.new) (after F.Key.cmp F.meaning (get F.Key.cmp map.old) op)) }
+    ensures answer { IfOk result (λ told. told ≡ answer F.meaning (get F.Key.cmp map.old) op) }
+    ensures err { OnErr result (Same (get F.Key.cmp map.new) (get F.Key.cmp map.old)) }
+    ensures only { IfErr result (λ refused. refused ≡ Refused.NoMemory) }
+{
+    match op {
+        Op::Read(key, input) => {
+            let held = map.get(&key).copied();
+            Ok(shown(functions, &key, &input, held))
+        }
+        Op::Rmw(key, input) => {
+            let value = match map.get(&key) {
+                None => functions.initial(&key, &input),
+                Some(held) => functions.copy(&key, &input, held),
+            };
+            match map.insert(key, value) {
+                Ok(_) => Ok(Answer::Value(functions.read(&key, &input, &value))),
+                Err(_) => Err(Refused::NoMemory),
+            }
+        }
+    }
+}
+
+/// Does the operations in order, from no keys. Refused: `NoMemory`.
+pub fn run_plainly<F: Functions>(
+    alloc: Global,
+    functions: &F,
+    ops: &[OpOf<F>],
+) -> Result<PlainRun<F>, Refused>
+    ensures map { IfOk result (λ run. Same (get F.Key.cmp run.map) (after_all F.Key.cmp F.meaning (λ key. None) ops.now)) }
+    ensures answers { IfOk result (λ run. run.answers.items ≡ answers F.Key.cmp F.meaning (λ key. None) ops.now) }
+    ensures only { IfErr result (λ refused. refused ≡ Refused.NoMemory) }
+{
+    let mut map = BTreeMap::new(alloc);
+    let mut told = Vec::new(alloc);
+    for op in ops {
+        if told.reserve(1).is_err() {
+            return Err(Refused::NoMemory);
+        }
+        let one = apply_plainly(functions, &mut map, *op)?;
+        if told.push(one).is_err() {
+            return Err(Refused::NoMemory);
+        }
+    }
+    Ok(PlainRun { map, answers: told })
+}
