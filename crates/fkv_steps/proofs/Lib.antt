@@ -1,0 +1,4 @@
+pub mod LivesLemmas
+pub mod PlacedLemmas
+pub mod ToldLemmas
+pub mod WrongLemmas

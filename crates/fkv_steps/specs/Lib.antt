@@ -1,0 +1,4 @@
+pub mod Lives
+pub mod Placed
+pub mod Changes
+pub mod WrongLives

@@ -1,0 +1,45 @@
+//! What became of the operations that were issued.
+use fkv_functions::Functions;
+use fkv_operations::{Answer, Op};
+
+/// How an operation was finished.
+#[derive(Clone, Copy, PartialEq, Eq, Debug)]
+pub struct Finish<O> {
+    /// The one step at which the operation takes effect.
+    pub effect: u64,
+    /// The step that told the answer.
+    pub done: u64,
+    /// The answer that was told.
+    pub answer: Answer<O>,
+}
+
+/// How an operation ended, or that it is open.
+#[derive(Clone, Copy, PartialEq, Eq, Debug)]
+pub enum End<O> {
+    /// The operation is open.
+    Open,
+    /// The operation was answered.
+    Finished(Finish<O>),
+    /// The operation was ended by a fault, without effect.
+    Failed,
+    /// The operation was given up, without effect.
+    GivenUp,
+}
+
+/// What became of one accepted issue.
+#[derive(Clone, Copy, PartialEq, Eq, Debug)]
+pub struct Life<K, I, O> {
+    /// The number of the partition.
+    pub partition: u64,
+    /// The session, by the count of enters in its partition, from 1.
+    pub session: u64,
+    /// The operation, by the count of issues in its session, from 1.
+    pub number: u64,
+    pub op: Op<K, I>,
+    /// The step of the issue.
+    pub issue: u64,
+    pub end: End<O>,
+}
+
+/// The lives of one type of functions.
+pub type LifeOf<F> = Life<<F as Functions>::Key, <F as Functions>::Input, <F as Functions>::Output>;

@@ -1,0 +1,17 @@
+//! What a step that was not refused answers.
+use fkv_operations::Answer;
+
+/// What a step that was not refused answers.
+#[derive(Clone, Copy, PartialEq, Eq, Debug)]
+pub enum Outcome<V, O> {
+    /// The session has this slot.
+    Entered(u64),
+    /// The operation has this context.
+    Issued(u64),
+    /// The operation is to go on.
+    Next,
+    /// The operation asks for a value to be built from this one, if there is one.
+    Build(Option<V>),
+    /// The operation is finished with this answer.
+    Done(Answer<O>),
+}
