@@ -1,8 +1,9 @@
 //! Questions for a value, and their answers.
-ghost use Rattle.std.specs.Prelude.{◌≡◌};
+ghost use Rattle.std.specs.Prelude.{◌≡◌, ◌↔◌, IsTrue};
 ghost use Rattle.fkv_functions.specs.Meanings.{updated};
 
 use crate::updates::Functions;
+use crate::values::Known;
 use std::marker::Model;
 
 /// A question of an update: the value of this key after this input, from the one that it has.
@@ -14,6 +15,15 @@ pub struct Ask<K, V, I> {
     /// The value that the key has, if any.
     pub source: Option<V>,
     pub input: I,
+}
+
+impl<K: Known, V: Known, I: Known> Ask<K, V, I> {
+    /// Whether this is the same question, in each part.
+    pub fn is(&self, other: &Self) -> bool
+        ensures { IsTrue result ↔ (self.now ≡ other.now) }
+    {
+        *self == *other
+    }
 }
 
 /// The questions of one type of functions.

@@ -11,7 +11,7 @@ pub mod plainly;
 
 pub use clocks::Clock;
 pub use operations::{Answer, AnswerOf, Op, OpOf};
-pub use plainly::{PlainRun, apply_plainly, run_plainly};
+pub use plainly::{PlainRun, apply_plainly, run_plainly, shown};
 
 #[cfg(test)]
 mod tests;

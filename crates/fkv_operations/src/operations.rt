@@ -1,4 +1,6 @@
 //! Operations and their answers.
+ghost use Rattle.std.specs.Prelude.{◌≡◌};
+
 use fkv_functions::Functions;
 
 /// An operation on a key.
@@ -8,6 +10,20 @@ pub enum Op<K, I> {
     Read(K, I),
     /// Changes the key's value by this input, or gives it its first value, and shows the new one.
     Rmw(K, I),
+}
+
+impl<K: Copy, I: Copy> Op<K, I> {
+    ghost use Rattle.fkv_operations.specs.After.{key_of};
+
+    /// The operation's key.
+    pub fn key(&self) -> K
+        ensures { result ≡ key_of self.now }
+    {
+        match self {
+            Op::Read(key, _) => *key,
+            Op::Rmw(key, _) => *key,
+        }
+    }
 }
 
 /// The operations of one type of functions.

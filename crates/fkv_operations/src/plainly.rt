@@ -19,7 +19,7 @@ pub struct PlainRun<F: Functions> {
 }
 
 /// What the key's value, or none, shows to this input.
-fn shown<F: Functions>(
+pub fn shown<F: Functions>(
     functions: &F,
     key: &F::Key,
     input: &F::Input,

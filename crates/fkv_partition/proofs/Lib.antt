@@ -1,0 +1,6 @@
+pub mod ListLemmas
+pub mod TextLemmas
+pub mod SoundLemmas
+pub mod AskedLemmas
+pub mod EventLemmas
+pub mod ListingLemmas

@@ -1,0 +1,11 @@
+pub mod Limits
+pub mod Text
+pub mod Index
+pub mod Contexts
+pub mod Views
+pub mod Effect
+pub mod Going
+pub mod Installing
+pub mod Sound
+pub mod Beginning
+pub mod Listing

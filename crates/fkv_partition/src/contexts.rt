@@ -1,0 +1,126 @@
+//! The open operations of a partition: how far each is, and what an event of it answers.
+ghost use Rattle.std.specs.Prelude.{◌≡◌, ◌+◌, ◌*◌, ◌<◌, ◌≤◌, ◌⊎◌, ◌↔◌, length, Option, Some, None, IsTrue, IfSome, IfNone, slice_range, slice_set, position, is_none};
+ghost use Rattle.fkv_partition.specs.Contexts.{context_in, question_in};
+
+use crate::sessions::is_entered;
+use fkv_functions::{Ask, Functions, Known};
+use fkv_operations::{Answer, Op};
+
+/// How many operations of a session may be open.
+pub const CONTEXTS: usize = 8;
+
+/// How far an operation is.
+#[derive(Clone, Copy, PartialEq, Eq, Debug)]
+pub enum Phase<V> {
+    /// Nothing is known.
+    Fresh,
+    /// An update waits for its new value, built from this source; the index then led to this address.
+    Prepared { kept: u64, source: Option<V> },
+}
+
+/// An open operation.
+#[derive(Clone, Copy, PartialEq, Eq, Debug)]
+pub struct Context<K, V, I> {
+    /// The moment of its issue, which no other operation has.
+    pub number: u64,
+    pub op: Op<K, I>,
+    pub phase: Phase<V>,
+}
+
+/// What an event of an operation answers.
+#[derive(Clone, Copy, PartialEq, Eq, Debug)]
+pub enum Progress<K, V, I, O> {
+    /// The operation is finished with this answer; its effect is at this moment.
+    Done(Answer<O>, u64),
+    /// The operation is to go on.
+    Next,
+    /// The operation needs this question answered.
+    NeedsBuild(Ask<K, V, I>),
+}
+
+/// The progress of one type of functions.
+pub type ProgressOf<F> = Progress<
+    <F as Functions>::Key,
+    <F as Functions>::Value,
+    <F as Functions>::Input,
+    <F as Functions>::Output,
+>;
+
+/// The operation that is open in a context of an entered session.
+pub fn open_at<K: Copy, V: Copy, I: Copy>(
+    entered: &[bool],
+    contexts: &[Option<Context<K, V, I>>],
+    slot: usize,
+    context: usize,
+) -> Option<Context<K, V, I>>
+    requires sessions { length entered.now ≡ 16 }
+    requires places { length contexts.now ≡ 128 }
+    ensures value { result ≡ context_in entered.now contexts.now slot context }
+    ensures session { IfSome result (λ _. slot < 16) }
+    ensures context { IfSome result (λ _. context < 8) }
+{
+    if !is_entered(entered, slot) || context >= CONTEXTS {
+        return None;
+    }
+    contexts[slot * CONTEXTS + context]
+}
+
+/// The lowest place that holds nothing.
+fn free_place<T>(places: &[Option<T>]) -> Option<usize>
+    ensures value { result ≡ position is_none places.now }
+    ensures within { IfSome result (λ place. place < length places.now) }
+{
+    places.iter().position(|place| place.is_none())
+}
+
+/// The lowest free context of a session.
+pub fn free_context<K, V, I>(contexts: &[Option<Context<K, V, I>>], slot: usize) -> Option<usize>
+    requires session { slot < 16 }
+    requires places { length contexts.now ≡ 128 }
+    ensures value { result ≡ position is_none (slice_range contexts.now (slot * 8) (slot * 8 + 8)) }
+    ensures within { IfSome result (λ context. context < 8) }
+{
+    let first = slot * CONTEXTS;
+    free_place(&contexts[first..first + CONTEXTS])
+}
+
+/// Puts an operation, or none, into a context.
+pub fn set_context<K: Copy, V: Copy, I: Copy>(
+    contexts: &mut Vec<Option<Context<K, V, I>>>,
+    slot: usize,
+    context: usize,
+    operation: Option<Context<K, V, I>>,
+)
+    requires session { slot < 16 }
+    requires context { context < 8 }
+    requires places { length contexts.old.items ≡ 128 }
+    ensures { contexts.new.items ≡ slice_set contexts.old.items (slot * 8 + context) operation }
+{
+    contexts[slot * CONTEXTS + context] = operation;
+}
+
+/// The question that a prepared update asks.
+pub fn question_of<K: Copy, V: Copy, I: Copy>(
+    context: &Context<K, V, I>,
+) -> Option<(u64, Ask<K, V, I>)>
+    ensures { result ≡ question_in context.now }
+{
+    let number = context.number;
+    let op = context.op;
+    let phase = context.phase;
+    match phase {
+        Phase::Fresh => None,
+        Phase::Prepared { kept, source } => match op {
+            Op::Read(_, _) => None,
+            Op::Rmw(key, input) => Some((
+                kept,
+                Ask {
+                    number,
+                    key,
+                    source,
+                    input,
+                },
+            )),
+        },
+    }
+}

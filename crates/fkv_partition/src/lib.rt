@@ -1,0 +1,22 @@
+//!
+//! A contract sees a partition by its text, its index, its sessions and contexts, and its last moment
+//! (`specs/Views.antt`). The live map is the last record of each key in the text; nothing in that
+//! definition follows an index. Each event changes it by nothing, or by the one operation that it
+//! finishes (`specs/Effect.antt`); what an event does, row by row, stands in `specs/Going.antt` and
+//! `specs/Installing.antt`.
+#![tactic(auto)]
+
+pub mod contexts;
+pub mod going;
+pub mod index;
+pub mod installing;
+pub mod limits;
+pub mod listing;
+pub mod log;
+pub mod partitions;
+pub mod sessions;
+
+pub use contexts::{Context, Phase, Progress, ProgressOf};
+pub use limits::Config;
+pub use log::Entry;
+pub use partitions::Partition;

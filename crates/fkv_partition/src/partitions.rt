@@ -1,0 +1,140 @@
+//! A partition: its parts, and what its sessions and operations begin with.
+ghost use Rattle.std.specs.Prelude.{◌≡◌, ◌≢◌, ◌+◌, ◌*◌, ◌<◌, ◌⊎◌, true, Option, Some, None, Ok, Err, IfOk, IfErr, OnErr, slice_set, unwrap_or, slice_get, false, replicate};
+ghost use Rattle.fkv_partition.specs.Limits.{IsPartitionOf};
+ghost use Rattle.fkv_partition.specs.Views.{empty_partition, with_context, free_slot, free_context};
+ghost use Rattle.fkv_partition.specs.Beginning.{Enters, Issues};
+ghost use Rattle.fkv_partition.specs.Effect.{IsEnter, IsIssue};
+
+use crate::contexts::{Context, Phase, free_context, set_context};
+use crate::limits::Config;
+use crate::log::Log;
+use crate::sessions::{free_slot, is_entered, take_slot};
+use arrayvec::ArrayVec;
+use fkv_functions::{Functions, Refused, What};
+use fkv_operations::OpOf;
+use std::alloc::Global;
+use std::collections::BTreeMap;
+use std::marker::Model;
+
+/// The open operations that one partition may have.
+const PLACES: usize = 128;
+
+/// One partition of a store: a log, an index of it, sessions, and their open operations. Each call that
+/// takes a moment is one event; the moments of a partition rise.
+#[derive(Drop)]
+pub struct Partition<F: Functions> {
+    pub(crate) number: u64,
+    pub(crate) count: u64,
+    pub(crate) log: Log<F::Key, F::Value>,
+    pub(crate) index: BTreeMap<F::Key, u64>,
+    pub(crate) entered: ArrayVec<bool, 16>,
+    pub(crate) contexts: Vec<Option<Context<F::Key, F::Value, F::Input>>>,
+    pub(crate) moment: u64,
+}
+
+impl<F: Functions> Model for Partition<F> {
+    ghost use Rattle.fkv_partition.specs.Views.{PartitionView};
+    ghost use Rattle.fkv_partition.specs.Sound.{IsSound};
+
+    ghost Value = { PartitionView F.Key F.Value F.Input };
+
+    ghost view = { λ p. record { number = p.number; count = p.count; text = p.log; finals = p.index.entries; begin = 64; entered = p.entered.items; contexts = p.contexts.items; moment = p.moment } };
+
+    ghost invariant = { λ p. IsSound F.Key.cmp F.code (record { number = p.number; count = p.count; text = p.log; finals = p.index.entries; begin = 64; entered = p.entered.items; contexts = p.contexts.items; moment = p.moment }) };
+}
+
+/// Places that hold nothing. Refused: `NoMemory`.
+fn free_places<T: Drop>(alloc: Global) -> Result<Vec<Option<T>>, Refused>
+    ensures ok { IfOk result (λ places. places.items ≡ replicate 128 None) }
+    ensures only { IfErr result (λ refused. refused ≡ Refused.NoMemory) }
+{
+    let mut places = Vec::new(alloc);
+    for _ in 0..PLACES {
+        let Ok(()) = places.push(None) else {
+            return Err(Refused::NoMemory);
+        };
+    }
+    Ok(places)
+}
+
+impl<F: Functions> Partition<F> {
+    /// The partition of this number, with nothing in it. Refused, in this order: `BadConfig` where a
+    /// number of the configuration is outside its limits or there is no partition of this number,
+    /// `NoMemory`.
+    pub fn new(alloc: Global, config: &Config, number: u64) -> Result<Self, Refused>
+        ensures ok { IfOk result (λ p. p ≡ empty_partition config.now number) }
+        ensures good { result ≢ Err Refused.BadConfig → IsPartitionOf config.now number }
+        ensures bad { result ≡ Err Refused.BadConfig → ¬ IsPartitionOf config.now number }
+        ensures only { IfErr result (λ refused. (refused ≡ Refused.BadConfig) ⊎ (refused ≡ Refused.NoMemory)) }
+    {
+        if !config.is_within_limits() || number >= config.partitions() {
+            return Err(Refused::BadConfig);
+        }
+        let count = config.partitions();
+        let contexts = free_places(alloc)?;
+        Ok(Partition {
+            number,
+            count,
+            log: Log::new(alloc),
+            index: BTreeMap::new(alloc),
+            entered: ArrayVec::from([false; 16]),
+            contexts,
+            moment: 0,
+        })
+    }
+
+    /// Enters a session and answers its slot, the lowest free one. Refused: `NoSlot`, and then nothing
+    /// changes.
+    pub fn enter(&mut self, now: u64) -> Result<usize, Refused>
+        requires later { self.old.moment < now }
+        ensures does { Enters self.old self.new now result }
+        ensures event { IfOk result (λ slot. IsEnter self.old self.new slot now) }
+        ensures err { OnErr result (self.new ≡ self.old) }
+    {
+        let Some(slot) = free_slot(self.entered.as_slice()) else {
+            return Err(Refused::NoSlot);
+        };
+        self.moment = now;
+        take_slot(&mut self.entered, slot);
+        Ok(slot)
+    }
+
+    /// Issues an operation in a session and answers its context, the lowest free one. Refused, in this
+    /// order, and then nothing changes: `Unknown` where the slot is that of no session, `Stranger` where
+    /// the operation's key belongs to another partition, `NoContext`.
+    pub fn issue(
+        &mut self,
+        slot: usize,
+        op: OpOf<F>,
+        functions: &F,
+        now: u64,
+    ) -> Result<usize, Refused>
+        requires later { self.old.moment < now }
+        ensures does { Issues F.code self.old self.new slot op now result }
+        ensures event { IfOk result (λ context. IsIssue F.code self.old self.new slot context op now) }
+        ensures err { OnErr result (self.new ≡ self.old) }
+    {
+        if !is_entered(self.entered.as_slice(), slot) {
+            return Err(Refused::Unknown);
+        }
+        let came = functions.hash(&op.key()) % self.count;
+        if came != self.number {
+            return Err(Refused::Stranger {
+                what: What::Partition,
+                held: self.number,
+                came,
+            });
+        }
+        let Some(context) = free_context(&self.contexts, slot) else {
+            return Err(Refused::NoContext);
+        };
+        let operation = Context {
+            number: now,
+            op,
+            phase: Phase::Fresh,
+        };
+        self.moment = now;
+        set_context(&mut self.contexts, slot, context, Some(operation));
+        Ok(context)
+    }
+}
