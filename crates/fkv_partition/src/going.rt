@@ -1,5 +1,5 @@
 //! What an operation does when it goes on: a read is answered, an update finds its source.
-ghost use Rattle.std.specs.Prelude.{◌≡◌, ◌<◌, IfOk, OnErr};
+ghost use Rattle.std.specs.Prelude.{◌≡◌, ◌<◌, ◌≤◌, IfOk, OnErr};
 ghost use Rattle.fkv_partition.specs.Going.{Goes};
 ghost use Rattle.fkv_partition.specs.Effect.{IsEvent};
 
@@ -25,6 +25,7 @@ impl<F: Functions> Partition<F> {
         ensures does { Goes F.Key.cmp F.meaning self.old self.new slot context now result }
         ensures event { IfOk result (λ progress. IsEvent F.Key.cmp F.meaning self.old self.new slot context now progress) }
         ensures err { OnErr result (self.new ≡ self.old) }
+        ensures moment { self.new.moment ≤ now }
     {
         let Some(open) = open_at(self.entered.as_slice(), &self.contexts, slot, context) else {
             return Err(Refused::Unknown);

@@ -1,5 +1,5 @@
 //! How a built value becomes the key's.
-ghost use Rattle.std.specs.Prelude.{◌≡◌, ◌<◌, IfOk, OnErr};
+ghost use Rattle.std.specs.Prelude.{◌≡◌, ◌<◌, ◌≤◌, IfOk, OnErr};
 ghost use Rattle.fkv_partition.specs.Installing.{Installs};
 ghost use Rattle.fkv_partition.specs.Effect.{IsEvent};
 
@@ -27,6 +27,7 @@ impl<F: Functions> Partition<F> {
         ensures does { Installs F.Key.cmp F.meaning self.old self.new slot context built now result }
         ensures event { IfOk result (λ progress. IsEvent F.Key.cmp F.meaning self.old self.new slot context now progress) }
         ensures err { OnErr result (self.new ≡ self.old) }
+        ensures moment { self.new.moment ≤ now }
     {
         let Some(open) = open_at(self.entered.as_slice(), &self.contexts, slot, context) else {
             return Err(Refused::Unknown);

@@ -20,3 +20,6 @@ pub use contexts::{Context, Phase, Progress, ProgressOf};
 pub use limits::Config;
 pub use log::Entry;
 pub use partitions::Partition;
+
+#[cfg(test)]
+mod tests;

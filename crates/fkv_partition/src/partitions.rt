@@ -1,5 +1,5 @@
 //! A partition: its parts, and what its sessions and operations begin with.
-ghost use Rattle.std.specs.Prelude.{◌≡◌, ◌≢◌, ◌+◌, ◌*◌, ◌<◌, ◌⊎◌, true, Option, Some, None, Ok, Err, IfOk, IfErr, OnErr, slice_set, unwrap_or, slice_get, false, replicate};
+ghost use Rattle.std.specs.Prelude.{◌≡◌, ◌≢◌, ◌+◌, ◌*◌, ◌<◌, ◌≤◌, ◌⊎◌, true, Option, Some, None, Ok, Err, IfOk, IfErr, OnErr, slice_set, unwrap_or, slice_get, false, replicate};
 ghost use Rattle.fkv_partition.specs.Limits.{IsPartitionOf};
 ghost use Rattle.fkv_partition.specs.Views.{empty_partition, with_context, free_slot, free_context};
 ghost use Rattle.fkv_partition.specs.Beginning.{Enters, Issues};
@@ -90,6 +90,7 @@ impl<F: Functions> Partition<F> {
         ensures does { Enters self.old self.new now result }
         ensures event { IfOk result (λ slot. IsEnter self.old self.new slot now) }
         ensures err { OnErr result (self.new ≡ self.old) }
+        ensures moment { self.new.moment ≤ now }
     {
         let Some(slot) = free_slot(self.entered.as_slice()) else {
             return Err(Refused::NoSlot);
@@ -113,6 +114,7 @@ impl<F: Functions> Partition<F> {
         ensures does { Issues F.code self.old self.new slot op now result }
         ensures event { IfOk result (λ context. IsIssue F.code self.old self.new slot context op now) }
         ensures err { OnErr result (self.new ≡ self.old) }
+        ensures moment { self.new.moment ≤ now }
     {
         if !is_entered(self.entered.as_slice(), slot) {
             return Err(Refused::Unknown);

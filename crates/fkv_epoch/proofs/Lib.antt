@@ -1,0 +1,6 @@
+pub mod ListLemmas
+pub mod SafeLemmas
+pub mod TimelyLemmas
+pub mod StepLemmas
+pub mod RunLemmas
+pub mod SeenLemmas

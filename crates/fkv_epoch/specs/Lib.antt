@@ -1,0 +1,9 @@
+pub mod EpochState
+pub mod SafeEpoch
+pub mod Due
+pub mod Moves
+pub mod Timely
+pub mod Inside
+pub mod Calls
+pub mod Runs
+pub mod Seen
