@@ -11,3 +11,6 @@ pub mod outcomes;
 
 pub use lives::{End, Finish, Life, LifeOf};
 pub use outcomes::Outcome;
+
+#[cfg(test)]
+mod tests;
