@@ -1,0 +1,106 @@
+use Rattle.std.proofs.Common.{◌≡◌, ◌≢◌, ◌<◌, ◌+◌, ◌%◌, ℕ, suc, zero, List, [], ◌∷◌, Option, Some, None, set, length, get_or, ◌^◌, refl, sym, ◌∙◌, ap, arith, rules, true, false, nat_eq, ◌==◌, eq-eqb, Bool, cond, get_or-set_same, length-set, replicate}
+use Rattle.std.proofs.lemmas.Option.{slice_get_read, slice_get-map}
+use Rattle.std.specs.Prelude.{slice_get}
+use Rattle.fkv_frames.specs.Ring.{Ring}
+use Rattle.fkv_frames.specs.Held.{held, in_slot, is_page, LeavesOthers, Opens, Writes, written_at}
+use Rattle.std.proofs.lemmas.List.{map-set, length-map}
+use Rattle.std.specs.Prelude.{map, IsSome, IfSome, All}
+use Rattle.std.specs.Vec.{with_item, with_items}
+use Rattle.fkv_frames.specs.Inside.{ring_of, IsRing}
+use Rattle.fkv_frames.specs.declared.ring.Frames.TheInside.{Inside}
+use Rattle.fkv_frames.specs.declared.ring.Frame.{Frame}
+
+pub get-set_same : {X : Type 0} (xs : List X) (i : ℕ) (x : X) → i < length xs → slice_get (set xs i x) i ≡ Some x
+get-set_same xs i x h =
+    let inside : i < length (set xs i x) = rw length-set h in
+    slice_get_read (set xs i x) (length (set xs i x)) i x refl inside (sym (get_or-set_same xs i x x h))
+
+pub get-set_other : {X : Type 0} (xs : List X) (i j : ℕ) (x : X) → j ≢ i → slice_get (set xs i x) j ≡ slice_get xs j
+get-set_other [] i j x ne = refl
+get-set_other (y ∷ ys) zero zero x ne = absurd (ne refl)
+get-set_other (y ∷ ys) zero (suc j) x ne = refl
+get-set_other (y ∷ ys) (suc i) zero x ne = refl
+get-set_other (y ∷ ys) (suc i) (suc j) x ne = get-set_other ys i j x (λ e. ne (ap suc e))
+
+-- a ring with page n in its slot
+abbrev pub with_page : Ring → ℕ → List ℕ → Ring
+with_page r n bytes = record { bits = r.bits; slots = set r.slots (n % length r.slots) (Some n, bytes) }
+
+pub own_page : (n : ℕ) (bytes : List ℕ) → in_slot (Some (Some n, bytes)) n ≡ Some bytes
+own_page n bytes = rw (eq-eqb n n refl) refl
+
+pub held-with_page : (r : Ring) (n : ℕ) (bytes : List ℕ) → 0 < length r.slots → held (with_page r n bytes) n ≡ Some bytes
+held-with_page r n bytes h =
+    let within : n % length r.slots < length r.slots = omega arith in
+    rw (length-set, get-set_same r.slots (n % length r.slots) (Some n, bytes) within) (own_page n bytes)
+
+-- another page in that slot is gone
+other_page : (n m : ℕ) (bytes : List ℕ) → m ≢ n → in_slot (Some (Some n, bytes)) m ≡ None
+other_page n m bytes ne = by (n == m) refl
+  where
+    by : (b : Bool) → (n == m) ≡ b → in_slot (Some (Some n, bytes)) m ≡ None
+    by true e = absurd (ne (search rules))
+    by false e = rw e refl
+
+pub others-with_page : (r : Ring) (n : ℕ) (bytes : List ℕ) → 0 < length r.slots → LeavesOthers n r (with_page r n bytes)
+others-with_page r n bytes h =
+    let within : n % length r.slots < length r.slots = omega arith in
+    record {
+      bits = refl;
+      count = length-set _ _ _;
+      others = λ m ne. rw length-set (ap (λ s. in_slot s m) (get-set_other r.slots (n % length r.slots) (m % length r.slots) (Some n, bytes) ne));
+      dropped = λ m e ne. rw (length-set, e, get-set_same r.slots (n % length r.slots) (Some n, bytes) within) (other_page n m bytes ne);
+    }
+
+-- the slot that a frame is
+abbrev pub slot : Frame → Option ℕ × List ℕ
+slot x = (x.page, x.bytes.items)
+
+-- a ring with another frame at a place
+pub ring_of-with_item : (f : Inside) (i : ℕ) (x : Frame) → ring_of (record { page_bits = f.page_bits; frames = with_item f.frames i x }) ≡ record { bits = f.page_bits; slots = set (ring_of f).slots i (slot x) }
+ring_of-with_item f i x = ap (λ (s : List (Option ℕ × List ℕ)). record { bits = f.page_bits; slots = s }) (map-set slot f.frames.items i x)
+
+pub ring_of-page : (f : Inside) (n i : ℕ) (x : Frame) (bytes : List ℕ) → i ≡ n % length f.frames.items → x.page ≡ Some n → x.bytes.items ≡ bytes
+    → ring_of (record { page_bits = f.page_bits; frames = with_item f.frames i x }) ≡ with_page (ring_of f) n bytes
+ring_of-page f n i x bytes at p b = ring_of-with_item f i x ∙ rw (length-map, at, p, b) refl
+
+pub opens : (f : Inside) (n i : ℕ) (x : Frame) → 0 < length f.frames.items → i ≡ n % length f.frames.items → x.page ≡ Some n → x.bytes.items ≡ replicate (2 ^ f.page_bits) 0
+    → Opens n (ring_of f) (ring_of (record { page_bits = f.page_bits; frames = with_item f.frames i x }))
+opens f n i x some at p b =
+    let some_slot : 0 < length (ring_of f).slots = rw length-map some in
+    rw (ring_of-page f n i x (replicate (2 ^ f.page_bits) 0) at p b)
+    (record { opened = held-with_page (ring_of f) n _ some_slot; others = others-with_page (ring_of f) n _ some_slot })
+
+pub none-in_slots : (xs : List Frame) (i n : ℕ) → All (λ x. x.page ≡ None) xs → in_slot (slice_get (map slot xs) i) n ≡ None
+none-in_slots [] i n h = refl
+none-in_slots (x ∷ xs) zero n h = let e : x.page ≡ None = h zero x (omega arith) in rw e refl
+none-in_slots (x ∷ xs) (suc i) n h = none-in_slots xs i n (λ k d l. h (suc k) d (omega arith))
+
+-- a held page's slot
+pub held_slot : (r : Ring) (n : ℕ) (s : Option ℕ × List ℕ) → slice_get r.slots (n % length r.slots) ≡ Some s → IsSome (held r n) → (s.0 ≡ Some n) × (held r n ≡ Some s.1)
+held_slot r n s e h = by s.0 refl
+  where
+    by : (o : Option ℕ) → s.0 ≡ o → (s.0 ≡ Some n) × (held r n ≡ Some s.1)
+    by None q = let none : Option (List ℕ) = None in let bad : IsSome none = rw (e, q) at h in absurd (search rules)
+    by (Some m) q = same (m == n) refl
+      where
+        same : (b : Bool) → (m == n) ≡ b → (s.0 ≡ Some n) × (held r n ≡ Some s.1)
+        same true t = let is : m ≡ n = search rules in (q ∙ ap Some is, rw (e, q, t) refl)
+        same false t = let none : Option (List ℕ) = None in let bad : IsSome none = rw (e, q, t) at h in absurd (search rules)
+
+pub writes : (f : Inside) (n i at : ℕ) (old new : Frame) (bytes : List ℕ) → 0 < length f.frames.items → i ≡ n % length f.frames.items
+    → slice_get f.frames.items i ≡ Some old → IsSome (held (ring_of f) n) → new.page ≡ old.page → new.bytes.items ≡ written_at old.bytes.items at bytes
+    → Writes n at bytes (ring_of f) (ring_of (record { page_bits = f.page_bits; frames = with_item f.frames i new }))
+writes f n i at old new bytes some is found inside p b =
+    let some_slot : 0 < length (ring_of f).slots = rw length-map some in
+    let here : slice_get (ring_of f).slots (n % length (ring_of f).slots) ≡ Some (slot old) = rw (length-map, slice_get-map, ← is, found) refl in
+    let own = held_slot (ring_of f) n (slot old) here inside in
+    rw (ring_of-page f n i new (written_at old.bytes.items at bytes) is (p ∙ own.0) b)
+    (record {
+      written = rw own.1 (held-with_page (ring_of f) n _ some_slot);
+      others = others-with_page (ring_of f) n _ some_slot;
+    })
+
+-- where no frame holds a page, no page is held
+pub none-in_frames : (f : Inside) (n : ℕ) → All (λ x. x.page ≡ None) f.frames.items → held (ring_of f) n ≡ None
+none-in_frames f n h = none-in_slots f.frames.items (n % length (ring_of f).slots) n h

@@ -1,0 +1,10 @@
+pub mod Maps
+pub mod Rows
+pub mod Sweeps
+pub mod WordFacts
+pub mod Written
+pub mod Grown
+pub mod Emptied
+pub mod Confirmed
+pub mod Found
+pub mod IndexMaps

@@ -1,0 +1,5 @@
+pub mod Words
+pub mod Places
+pub mod Entries
+pub mod Changes
+pub mod Storage

@@ -1,0 +1,4 @@
+pub mod EditLemmas
+pub mod HeaderLemmas
+pub mod PlaceLemmas
+pub mod RecordLemmas
