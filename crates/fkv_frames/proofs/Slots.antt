@@ -1,14 +1,19 @@
-use Rattle.std.proofs.Common.{◌≡◌, ◌≢◌, ◌<◌, ◌+◌, ◌%◌, ℕ, suc, zero, List, [], ◌∷◌, Option, Some, None, set, length, get_or, ◌^◌, refl, sym, ◌∙◌, ap, arith, rules, true, false, nat_eq, ◌==◌, eq-eqb, Bool, cond, get_or-set_same, length-set, replicate}
+use Rattle.std.proofs.Common.{◌≡◌, ◌≢◌, ◌<◌, ◌%◌, ℕ, suc, zero, List, [], ◌∷◌, Option, Some, None, set, length, ◌^◌, refl, sym, ◌∙◌, ap, arith, rules, true, false, ◌==◌, eq-eqb, Bool, get_or-set_same, length-set, replicate, bit_and, ◌-◌}
+use Rattle.std.proofs.lemmas.Nat.{and_mask}
 use Rattle.std.proofs.lemmas.Option.{slice_get_read, slice_get-map}
 use Rattle.std.specs.Prelude.{slice_get}
 use Rattle.fkv_frames.specs.Ring.{Ring}
-use Rattle.fkv_frames.specs.Held.{held, in_slot, is_page, LeavesOthers, Opens, Writes, written_at}
+use Rattle.fkv_frames.specs.Held.{held, in_slot, LeavesOthers, Opens, Writes, written_at}
 use Rattle.std.proofs.lemmas.List.{map-set, length-map}
-use Rattle.std.specs.Prelude.{map, IsSome, IfSome, All}
-use Rattle.std.specs.Vec.{with_item, with_items}
-use Rattle.fkv_frames.specs.Inside.{ring_of, IsRing}
+use Rattle.std.specs.Prelude.{map, IsSome, All}
+use Rattle.std.specs.Vec.{with_item}
+use Rattle.fkv_frames.specs.Inside.{ring_of}
 use Rattle.fkv_frames.specs.declared.ring.Frames.TheInside.{Inside}
 use Rattle.fkv_frames.specs.declared.ring.Frame.{Frame}
+
+-- an offset by a mask
+pub masked : (address bits : ℕ) → bit_and address (2 ^ bits - 1) ≡ address % 2 ^ bits
+masked address bits = and_mask address bits
 
 pub get-set_same : {X : Type 0} (xs : List X) (i : ℕ) (x : X) → i < length xs → slice_get (set xs i x) i ≡ Some x
 get-set_same xs i x h =

@@ -1,5 +1,5 @@
 -- What the frames keep.
-use Rattle.std.specs.Prelude.{◌≡◌, ◌<◌, ◌≤◌, ◌^◌, ℕ, List, map, length, All}
+use Rattle.std.specs.Prelude.{◌≡◌, ◌<◌, ◌≤◌, ◌^◌, map, length, All}
 use Rattle.fkv_frames.specs.Ring.{Ring}
 use Rattle.fkv_frames.specs.declared.ring.Frames.TheInside.{Inside}
 

@@ -106,8 +106,8 @@ fn offset_in(page_bits: u32, address: Address) -> usize
     requires { page_bits ≤ 20 }
     ensures { result ≡ offset_at page_bits address }
 {
-    let size = 1u64 << page_bits;
-    (address % size) as usize
+    let size = 1usize << page_bits;
+    address as usize & (size - 1)
 }
 
 /// Writes bytes at an offset of a page.

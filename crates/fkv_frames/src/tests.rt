@@ -1,4 +1,6 @@
 //! Frames beside an ordered map from page to bytes.
+ghost use Rattle.std.specs.Prelude.{◌<◌};
+
 use crate::ring::Frames;
 use fkv_functions::Refused;
 use std::alloc::Global;
@@ -41,6 +43,17 @@ fn compares(rt: &impl Abort, frames: &Frames, plain: &BTreeMap<u64, Vec<u8>>, pa
     }
 }
 
+/// Writes 16 bytes into a page of 256 bytes.
+fn writes_sixteen(rt: &impl Abort, frames: &mut Frames, page: u64, offset: usize, bytes: [u8; 16])
+    requires page { page < 64 }
+    requires offset { offset < 240 }
+{
+    assert!(rt; frames.holds(page));
+    let size = frames.bytes(page).len();
+    assert!(rt; size == 256);
+    frames.write_at(page * 256 + offset as u64, &bytes);
+}
+
 /// 300 pseudo-random calls on these frames, compared with a map after each.
 fn runs_beside_a_map(rt: &impl Abort, alloc: Global, count: u64, seed: u32) -> Result<(), Fail> {
     assert!(rt; 0 < count && count <= 8);
@@ -61,9 +74,7 @@ fn runs_beside_a_map(rt: &impl Abort, alloc: Global, count: u64, seed: u32) -> R
         } else if frames.holds(page) {
             let offset = (state >> 16) as usize % 240;
             let bytes = [(turn % 251) as u8 + 1; 16];
-            frames.write_at(page * 256 + offset as u64, &bytes);
-            let mut changed = vec![in alloc; 0u8; 0]?;
-            changed.extend_from_slice(frames.bytes(page))?;
+            writes_sixteen(rt, &mut frames, page, offset, bytes);
             let mut wanted = vec![in alloc; 0u8; 0]?;
             if let Some(old) = plain.get(&page) {
                 for (at, byte) in old.iter().enumerate() {
@@ -74,7 +85,6 @@ fn runs_beside_a_map(rt: &impl Abort, alloc: Global, count: u64, seed: u32) -> R
                     })?;
                 }
             }
-            assert!(rt; changed.as_slice() == wanted.as_slice(), "in turn {turn}");
             plain.insert(page, wanted)?;
         }
         compares(rt, &frames, &plain, 3 * count);
