@@ -36,14 +36,16 @@ module _ {K V I O : Type 0} (cmp : K → K → Ordering) (o : IsKeyOrder cmp) (f
   -- nothing changed in the partition: nothing in the world
   pub live-quiet : Same (live_of cmp new) (live_of cmp old) → Same (world_live cmp code (slice_set views p new)) (world_live cmp code views)
   live-quiet h k = elim (cases_eq (partition_of (length views) (code k)) p) [
-        inl r ↦ live-set_here k r ∙ h k ∙ sym (live-here k r)
-      | inr r ↦ live-set_elsewhere k r ]
+    | inl r ↦ live-set_here k r ∙ h k ∙ sym (live-here k r)
+    | inr r ↦ live-set_elsewhere k r
+  ]
 
   -- one value changed, at a key that belongs here
   live-with_at : (k : K) (v : Option V) → partition_of (length views) (code k) ≡ p → Same (live_of cmp new) (with_at cmp (live_of cmp old) k v) → Same (world_live cmp code (slice_set views p new)) (with_at cmp (world_live cmp code views) k v)
   live-with_at k v rk h q = elim (cases_eq (partition_of (length views) (code q)) p) [
-        inl r ↦ live-set_here q r ∙ h q ∙ ap (cond (is_at (cmp k) q) v) (sym (live-here q r))
-      | inr r ↦ live-set_elsewhere q r ∙ off (is_at (cmp k) q) refl (λ t. r (ap (λ (x : K). partition_of (length views) (code x)) (sym (o.same k q t)) ∙ rk)) ]
+    | inl r ↦ live-set_here q r ∙ h q ∙ ap (cond (is_at (cmp k) q) v) (sym (live-here q r))
+    | inr r ↦ live-set_elsewhere q r ∙ off (is_at (cmp k) q) refl (λ t. r (ap (λ (x : K). partition_of (length views) (code x)) (sym (o.same k q t)) ∙ rk))
+  ]
     where
       off : (b : Bool) → is_at (cmp k) q ≡ b → (is_at (cmp k) q ≡ true → ⊥) → world_live cmp code views q ≡ cond (is_at (cmp k) q) v (world_live cmp code views q)
       off true t n = absurd (n t)
@@ -74,12 +76,15 @@ module _ {K V I : Type 0} (views : List (PartitionView K V I)) (p : ℕ) (old ne
   pub asked-others : (slot c : ℕ) → ((s d : ℕ) → (s ≢ slot) ⊎ (d ≢ c) → asked new s d ≡ asked old s d)
       → (w : Where) → w ≢ record { partition = p; slot = slot; context = c } → asked_in (slice_set views p new) w ≡ asked_in views w
   asked-others slot c same w n = elim (cases_eq w.partition p) [
-        inr r ↦ asked-elsewhere w r
-      | inl r ↦ elim (cases_eq w.slot slot) [
-          inr s ↦ in_place r (inl s)
-        | inl s ↦ elim (cases_eq w.context c) [
-            inr d ↦ in_place r (inr d)
-          | inl d ↦ absurd (n (λ i. record { partition = r i; slot = s i; context = d i })) ] ] ]
+    | inr r ↦ asked-elsewhere w r
+    | inl r ↦ elim (cases_eq w.slot slot) [
+      | inr s ↦ in_place r (inl s)
+      | inl s ↦ elim (cases_eq w.context c) [
+        | inr d ↦ in_place r (inr d)
+        | inl d ↦ absurd (n (λ i. record { partition = r i; slot = s i; context = d i }))
+      ]
+    ]
+  ]
     where
       in_place : w.partition ≡ p → (w.slot ≢ slot) ⊎ (w.context ≢ c) → asked_in (slice_set views p new) w ≡ asked_in views w
       in_place r other =
@@ -89,7 +94,8 @@ module _ {K V I : Type 0} (views : List (PartitionView K V I)) (p : ℕ) (old ne
 
   pub asked-all : ((s d : ℕ) → asked new s d ≡ asked old s d) → (w : Where) → asked_in (slice_set views p new) w ≡ asked_in views w
   asked-all same w = elim (cases_eq w.partition p) [
-        inr r ↦ asked-elsewhere w r
-      | inl r ↦ ap (λ q. asked_at (slice_get (slice_set views p new) q) w.slot w.context) r
-          ∙ asked-here w.slot w.context ∙ same w.slot w.context ∙ sym (asked-was w.slot w.context)
-          ∙ ap (λ q. asked_at (slice_get views q) w.slot w.context) (sym r) ]
+    | inr r ↦ asked-elsewhere w r
+    | inl r ↦ ap (λ q. asked_at (slice_get (slice_set views p new) q) w.slot w.context) r
+        ∙ asked-here w.slot w.context ∙ same w.slot w.context ∙ sym (asked-was w.slot w.context)
+        ∙ ap (λ q. asked_at (slice_get views q) w.slot w.context) (sym r)
+  ]

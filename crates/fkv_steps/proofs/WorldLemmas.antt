@@ -28,12 +28,15 @@ use Rattle.fkv_steps.proofs.ManyLemmas.{live-quiet, live-after, answer-here, ask
 
 same_where : (w u : Where) → (w ≡ u) ⊎ (w ≢ u)
 same_where w u = elim (cases_eq w.partition u.partition) [
-      inr n ↦ inr (λ e. n (ap (λ (x : Where). x.partition) e))
-    | inl a ↦ elim (cases_eq w.slot u.slot) [
-        inr n ↦ inr (λ e. n (ap (λ (x : Where). x.slot) e))
-      | inl b ↦ elim (cases_eq w.context u.context) [
-          inr n ↦ inr (λ e. n (ap (λ (x : Where). x.context) e))
-        | inl c ↦ inl (λ i. record { partition = a i; slot = b i; context = c i }) ] ] ]
+  | inr n ↦ inr (λ e. n (ap (λ (x : Where). x.partition) e))
+  | inl a ↦ elim (cases_eq w.slot u.slot) [
+    | inr n ↦ inr (λ e. n (ap (λ (x : Where). x.slot) e))
+    | inl b ↦ elim (cases_eq w.context u.context) [
+      | inr n ↦ inr (λ e. n (ap (λ (x : Where). x.context) e))
+      | inl c ↦ inl (λ i. record { partition = a i; slot = b i; context = c i })
+    ]
+  ]
+]
 
 -- a life that stands in a longer list, or beside one that ends
 open-append : {K I O : Type 0} (lives : List (Life K I O)) (y : Life K I O) (j : ℕ) (x : Asked K I) → IsOpenLife lives j x → IsOpenLife (lives ++ y ∷ []) j x
@@ -49,14 +52,17 @@ module _ {K V I O : Type 0} (cmp : K → K → Ordering) (o : IsKeyOrder cmp) (f
     housed-set routed = record {
       some = rw (length-set views p new) world.housed.some;
       numbered = λ q v h. elim (get-set_cases views p q new v h) [
-          inl c ↦ ap (λ (u : PartitionView K V I). u.number) (sym c.1) ∙ number ∙ world.housed.numbered p old here ∙ sym c.0
-        | inr c ↦ world.housed.numbered q v c ];
+        | inl c ↦ ap (λ (u : PartitionView K V I). u.number) (sym c.1) ∙ number ∙ world.housed.numbered p old here ∙ sym c.0
+        | inr c ↦ world.housed.numbered q v c
+      ];
       counted = λ q v h. elim (get-set_cases views p q new v h) [
-          inl c ↦ ap (λ (u : PartitionView K V I). u.count) (sym c.1) ∙ count ∙ world.housed.counted p old here ∙ sym (length-set views p new)
-        | inr c ↦ world.housed.counted q v c ∙ sym (length-set views p new) ];
+        | inl c ↦ ap (λ (u : PartitionView K V I). u.count) (sym c.1) ∙ count ∙ world.housed.counted p old here ∙ sym (length-set views p new)
+        | inr c ↦ world.housed.counted q v c ∙ sym (length-set views p new)
+      ];
       past = λ q v h. elim (get-set_cases views p q new v h) [
-          inl c ↦ (let m : v.moment ≡ next = ap (λ (u : PartitionView K V I). u.moment) (sym c.1) ∙ moment in omega arith)
-        | inr c ↦ (let m : v.moment ≤ now = world.housed.past q v c in omega arith) ];
+        | inl c ↦ (let m : v.moment ≡ next = ap (λ (u : PartitionView K V I). u.moment) (sym c.1) ∙ moment in omega arith)
+        | inr c ↦ (let m : v.moment ≤ now = world.housed.past q v c in omega arith)
+      ];
       routed = λ w x h. ap (λ n. partition_of n (code (key_of x.op))) (length-set views p new) ∙ routed w x h;
     }
 
@@ -78,7 +84,7 @@ module _ {K V I O : Type 0} (cmp : K → K → Ordering) (o : IsKeyOrder cmp) (f
 
   -- an operation is issued: one more life, at the end
   module _ (p : ℕ) (old new : PartitionView K V I) (slot c : ℕ) (op : Op K I) (here : slice_get views p ≡ Some old) (ev : IsIssue code old new slot c op next) (begun : Life K I O) (is : begun.op ≡ op) (at : begun.issue ≡ next) (unended : begun.end ≡ Open)
-    (life_at' : Where → ℕ) (place : life_at' (record { partition = p; slot = slot; context = c }) ≡ length lives) (places : (u : Where) → u ≢ record { partition = p; slot = slot; context = c } → life_at' u ≡ life_at u) where
+      (life_at' : Where → ℕ) (place : life_at' (record { partition = p; slot = slot; context = c }) ≡ length lives) (places : (u : Where) → u ≢ record { partition = p; slot = slot; context = c } → life_at' u ≡ life_at u) where
     there : Where
     there = record { partition = p; slot = slot; context = c }
 
@@ -103,36 +109,41 @@ module _ {K V I O : Type 0} (cmp : K → K → Ordering) (o : IsKeyOrder cmp) (f
     linked-issue : IsLinked (asked_in (slice_set views p new)) life_at' (lives ++ begun ∷ [])
     linked-issue = record {
       linked = λ u x h. elim (same_where u (record { partition = p; slot = slot; context = c })) [
-          inl s ↦ rw (ap life_at' s ∙ place) (subst (λ (y : Asked K I). IsOpenLife (lives ++ begun ∷ []) (length lives) y) (is_new x (ap (asked_in (slice_set views p new)) (sym s) ∙ h)) fresh)
-        | inr n ↦ rw (places u n) (open-append lives begun (life_at u) x (world.linked.linked u x (sym (elsewhere u n) ∙ h))) ];
+        | inl s ↦ rw (ap life_at' s ∙ place) (subst (λ (y : Asked K I). IsOpenLife (lives ++ begun ∷ []) (length lives) y) (is_new x (ap (asked_in (slice_set views p new)) (sym s) ∙ h)) fresh)
+        | inr n ↦ rw (places u n) (open-append lives begun (life_at u) x (world.linked.linked u x (sym (elsewhere u n) ∙ h)))
+      ];
       apart = λ u v x y h k q. elim (same_where u (record { partition = p; slot = slot; context = c })) [
-          inl s ↦ elim (same_where v (record { partition = p; slot = slot; context = c })) [
-            inl t ↦ s ∙ sym t
+        | inl s ↦ elim (same_where v (record { partition = p; slot = slot; context = c })) [
+          | inl t ↦ s ∙ sym t
           | inr t ↦ (let low = old_place v y (sym (elsewhere v t) ∙ k) in
-              let same : length lives ≡ life_at v = sym (ap life_at' s ∙ place) ∙ q ∙ places v t in absurd (omega arith)) ]
+              let same : length lives ≡ life_at v = sym (ap life_at' s ∙ place) ∙ q ∙ places v t in absurd (omega arith))
+        ]
         | inr s ↦ elim (same_where v (record { partition = p; slot = slot; context = c })) [
-            inl t ↦ (let low = old_place u x (sym (elsewhere u s) ∙ h) in
+          | inl t ↦ (let low = old_place u x (sym (elsewhere u s) ∙ h) in
               let same : life_at u ≡ length lives = sym (places u s) ∙ q ∙ ap life_at' t ∙ place in absurd (omega arith))
-          | inr t ↦ world.linked.apart u v x y (sym (elsewhere u s) ∙ h) (sym (elsewhere v t) ∙ k) (sym (places u s) ∙ q ∙ places v t) ] ];
+          | inr t ↦ world.linked.apart u v x y (sym (elsewhere u s) ∙ h) (sym (elsewhere v t) ∙ k) (sym (places u s) ∙ q ∙ places v t)
+        ]
+      ];
     }
 
     pub world-issue : IsWorld cmp f code (slice_set views p new) life_at' (lives ++ begun ∷ []) next
     world-issue = record {
       placed = placed-append cmp f lives now next e world.placed begun at untold;
       denotes = λ k. live-quiet cmp o f code views p old new here (λ q. ap (λ t. live cmp t q) ev.text) k ∙ world.denotes k
-        ∙ ap (λ (m : PlainMap K V). m k) (sym (map-append cmp f lives now next e world.placed begun at untold));
+          ∙ ap (λ (m : PlainMap K V). m k) (sym (map-append cmp f lives now next e world.placed begun at untold));
       linked = linked-issue;
       housed = housed-set p old new here ev.frame.number ev.frame.count ev.frame.moment (λ u x h. elim (same_where u (record { partition = p; slot = slot; context = c })) [
-          inl s ↦ (let same = is_new x (ap (asked_in (slice_set views p new)) (sym s) ∙ h) in
+        | inl s ↦ (let same = is_new x (ap (asked_in (slice_set views p new)) (sym s) ∙ h) in
             ap (λ (y : Asked K I). partition_of (length views) (code (key_of y.op))) (sym same)
             ∙ ap (λ n. partition_of n (code (key_of op))) (sym (world.housed.counted p old here))
             ∙ ev.own ∙ world.housed.numbered p old here ∙ ap (λ (w : Where). w.partition) (sym s))
-        | inr n ↦ world.housed.routed u x (sym (elsewhere u n) ∙ h) ]);
+        | inr n ↦ world.housed.routed u x (sym (elsewhere u n) ∙ h)
+      ]);
     }
 
   -- an operation is finished: its life ends with the answer
   module _ (p : ℕ) (old new : PartitionView K V I) (slot c : ℕ) (x : Asked K I) (a : Answer O) (here : slice_get views p ≡ Some old) (was : asked old slot c ≡ Some x) (closed : asked new slot c ≡ None) (frame : LeavesOthers old new slot c next)
-    (map : Same (live_of cmp new) (after cmp f (live_of cmp old) x.op)) (told : a ≡ answer f (live_of cmp old) x.op) where
+      (map : Same (live_of cmp new) (after cmp f (live_of cmp old) x.op)) (told : a ≡ answer f (live_of cmp old) x.op) where
     asks : asked_in views (record { partition = p; slot = slot; context = c }) ≡ Some x
     asks = asked-was views p old new here slot c ∙ was
 
@@ -150,28 +161,29 @@ module _ {K V I O : Type 0} (cmp : K → K → Ordering) (o : IsKeyOrder cmp) (f
 
     pub world-done : IsWorld cmp f code (slice_set views p new) life_at (ended_at lives (life_at (record { partition = p; slot = slot; context = c })) (Finished (record { effect = next; done = next; answer = a }))) next
     world-done =
-      let l = open_life in
-      let j = life_at (record { partition = p; slot = slot; context = c }) in
-      let unended : finish_of l.life ≡ None = ap (λ n. finish_of (record (l.life) { end = n })) l.unended in
-      let here' = l.here in
-      record {
-        placed = placed-now cmp f lives now next e world.placed j l.life l.here unended a
-          (told ∙ answer-here cmp o f code views p old new here x.op own ∙ ap (λ m. answer f m x.op) live-then ∙ ap (answer f (map_before cmp f lives (suc now))) (sym l.op));
-        denotes = λ k. live-after cmp o f code views p old new here x.op own map k
-          ∙ ap (λ m. after cmp f m x.op k) live-then ∙ ap (λ q. after cmp f (map_before cmp f lives (suc now)) q k) (sym l.op)
-          ∙ ap (λ (m : PlainMap K V). m k) (sym (map-now cmp f lives now next e world.placed j l.life l.here unended a));
-        linked = record {
-          linked = λ u y h. (let k = world.linked.linked u y (then u y h) in
-            let other : life_at u ≢ j = λ q. away u y h (world.linked.apart u (record { partition = p; slot = slot; context = c }) y x (then u y h) asks q) in
-            record { life = k.life; here = ended_other lives j _ (life_at u) other ∙ k.here; op = k.op; issue = k.issue; unended = k.unended });
-          apart = λ u v y z h k q. world.linked.apart u v y z (then u y h) (then v z k) q;
-        };
-        housed = housed-set p old new here frame.number frame.count frame.moment (λ u y h. world.housed.routed u y (then u y h));
-      }
+        let l = open_life in
+        let j = life_at (record { partition = p; slot = slot; context = c }) in
+        let unended : finish_of l.life ≡ None = ap (λ n. finish_of (record (l.life) { end = n })) l.unended in
+        let here' = l.here in
+        record {
+          placed = placed-now cmp f lives now next e world.placed j l.life l.here unended a
+              (told ∙ answer-here cmp o f code views p old new here x.op own ∙ ap (λ m. answer f m x.op) live-then ∙ ap (answer f (map_before cmp f lives (suc now))) (sym l.op));
+          denotes = λ k. live-after cmp o f code views p old new here x.op own map k
+              ∙ ap (λ m. after cmp f m x.op k) live-then ∙ ap (λ q. after cmp f (map_before cmp f lives (suc now)) q k) (sym l.op)
+              ∙ ap (λ (m : PlainMap K V). m k) (sym (map-now cmp f lives now next e world.placed j l.life l.here unended a));
+          linked = record {
+            linked = λ u y h. (let k = world.linked.linked u y (then u y h) in
+                let other : life_at u ≢ j = λ q. away u y h (world.linked.apart u (record { partition = p; slot = slot; context = c }) y x (then u y h) asks q) in
+                record { life = k.life; here = ended_other lives j _ (life_at u) other ∙ k.here; op = k.op; issue = k.issue; unended = k.unended });
+            apart = λ u v y z h k q. world.linked.apart u v y z (then u y h) (then v z k) q;
+          };
+          housed = housed-set p old new here frame.number frame.count frame.moment (λ u y h. world.housed.routed u y (then u y h));
+        }
 
   -- an event that finishes nothing
   pub world-next : (p : ℕ) (old new : PartitionView K V I) (slot c : ℕ) (x : Asked K I) → slice_get views p ≡ Some old → asked old slot c ≡ Some x → asked new slot c ≡ Some x → LeavesOthers old new slot c next → Same (live_of cmp new) (live_of cmp old)
       → IsWorld cmp f code (slice_set views p new) life_at lives next
   world-next p old new slot c x here was is frame same = world-quiet p old new here frame.number frame.count frame.moment same (λ w. elim (same_where w (record { partition = p; slot = slot; context = c })) [
-        inl s ↦ ap (asked_in (slice_set views p new)) s ∙ asked-here views p old new here slot c ∙ is ∙ sym was ∙ sym (asked-was views p old new here slot c) ∙ ap (asked_in views) (sym s)
-      | inr n ↦ asked-others views p old new here slot c frame.others w n ])
+    | inl s ↦ ap (asked_in (slice_set views p new)) s ∙ asked-here views p old new here slot c ∙ is ∙ sym was ∙ sym (asked-was views p old new here slot c) ∙ ap (asked_in views) (sym s)
+    | inr n ↦ asked-others views p old new here slot c frame.others w n
+  ])
