@@ -1,0 +1,216 @@
+//! A device of files, which promises no bytes: a page that was changed is found by its digest.
+ghost use Rattle.std.specs.Prelude.{◌≡◌, ◌≢◌, ◌+◌, ◌*◌, ◌^◌, ◌<◌, ◌≤◌, ℕ, Some, [], length, IsTrue, IfOk, IfErr, IfSome, OnOk};
+ghost use Rattle.sha2.specs.Sha256.{sha256};
+ghost use Rattle.fkv_functions.specs.declared.refusals.Refused.TheVariants as refused;
+ghost use Rattle.fkv_device.specs.Failing.{FailsOnlyBy, ReadFailsBy};
+
+use crate::failures::Failures;
+use crate::pages::{PageReader, PageWriter};
+use crate::receipts::Receipt;
+use fkv_functions::Refused;
+use sha2::{Digest, Sha256};
+use std::alloc::Global;
+use std::io::{Read, Seek, SeekFrom, Write};
+
+/// A receipt of a page in a file: the SHA-256 of the bytes that were written.
+#[derive(Drop)]
+pub struct FileReceipt {
+    number: u64,
+    page: u64,
+    length: usize,
+    digest: [u8; 32],
+}
+
+impl Receipt for FileReceipt {
+    ghost stands = { λ r. record {
+      number = r.number;
+      page = r.page;
+      length = r.length;
+      bytes = [];
+      mark = r.digest;
+    } };
+
+    fn number(&self) -> u64 {
+        self.number
+    }
+
+    fn page(&self) -> u64 {
+        self.page
+    }
+
+    fn same(&self, other: &FileReceipt) -> bool {
+        self.number == other.number
+            && self.page == other.page
+            && self.length == other.length
+            && self.digest == other.digest
+    }
+
+    /// A copy, which is never refused.
+    fn again(&self) -> Result<FileReceipt, Refused> {
+        Ok(FileReceipt {
+            number: self.number,
+            page: self.page,
+            length: self.length,
+            digest: self.digest,
+        })
+    }
+}
+
+fn digest_of(bytes: &[u8]) -> [u8; 32]
+    ensures { result ≡ sha256 bytes.now }
+{
+    let mut hasher = Sha256::new();
+    hasher.update(bytes);
+    hasher.finalize()
+}
+
+/// Goes to the place of a page, `page * 2^page_bits`, and says whether the file is there.
+fn go_to_page<F: Seek>(file: &mut F, page_bits: u32, page: u64) -> bool
+    ensures { IsTrue result → IfSome (F.stream_position file.old)
+        (λ _. F.stream_position file.new ≡ Some (page * 2 ^ page_bits)) }
+{
+    let Some(size) = 2u64.checked_pow(page_bits) else {
+        return false;
+    };
+    let Some(place) = page.checked_mul(size) else {
+        return false;
+    };
+    file.seek(SeekFrom::Start(place)).is_ok()
+}
+
+/// Writes pages of `2^page_bits` bytes to a file. It has the numbers below 2^64 - 1 for its receipts.
+#[derive(Drop)]
+pub struct FileWriter<F: Write + Seek + Drop> {
+    file: F,
+    page_bits: u32,
+    next: u64,
+    failures: Failures,
+}
+
+impl<F: Write + Seek + Drop> FileWriter<F> {
+    /// A writer whose next receipt has this number.
+    pub(crate) fn at(alloc: Global, file: F, page_bits: u32, next: u64) -> FileWriter<F>
+        ensures { result.next ≡ next }
+    {
+        FileWriter {
+            file,
+            page_bits,
+            next,
+            failures: Failures::new(alloc),
+        }
+    }
+
+    /// Writes a page at its place, and says whether it was written.
+    fn put(&mut self, page: u64, bytes: &[u8]) -> bool
+        ensures next { self.new.next ≡ self.old.next }
+        ensures failures { self.new.failures ≡ self.old.failures }
+    {
+        2u64.checked_pow(self.page_bits) == Some(bytes.len() as u64)
+            && go_to_page(&mut self.file, self.page_bits, page)
+            && self.file.write_all(bytes).is_ok()
+    }
+}
+
+impl<F: Write + Seek + Drop + Send> PageWriter for FileWriter<F> {
+    type Receipt = FileReceipt;
+
+    ghost keeps = { ⊥ };
+
+    ghost failures = { λ w. w.failures };
+
+    ghost next = { λ w. w.next };
+
+    /// Writes a page.
+    ///
+    /// # Errors
+    ///
+    /// `Device` with code 2 where the bytes are not `2^page_bits`, the file refuses them or no number is
+    /// left; `NoMemory` where the failure can not be counted.
+    fn write(&mut self, page: u64, bytes: &[u8]) -> Result<FileReceipt, Refused>
+        ensures digest { IfOk result (λ r. r.digest ≡ sha256 bytes.now) }
+        ensures page { IfOk result (λ r. r.page ≡ page) }
+        ensures length { IfOk result (λ r. r.length ≡ length bytes.now) }
+        ensures number { IfOk result (λ r. r.number ≡ self.old.next) }
+        ensures next { OnOk result (self.new.next ≡ self.old.next + 1) }
+        ensures same_next { IfErr result (λ _. self.new.next ≡ self.old.next) }
+        ensures later { self.old.failures ≤ self.new.failures }
+        ensures cause { IfErr result (λ e. e ≢ refused.NoMemory → self.old.failures < self.new.failures) }
+        ensures codes { IfErr result (λ e. FailsOnlyBy 2 page e) }
+    {
+        let Some(next) = self.next.checked_add(1) else {
+            return Err(self.failures.count(Refused::Device { code: 2, page }));
+        };
+        if !self.put(page, bytes) {
+            return Err(self.failures.count(Refused::Device { code: 2, page }));
+        }
+        let number = self.next;
+        self.next = next;
+        Ok(FileReceipt {
+            number,
+            page,
+            length: bytes.len(),
+            digest: digest_of(bytes),
+        })
+    }
+}
+
+/// Reads pages of a file.
+#[derive(Drop)]
+pub struct FileReader<F: Read + Seek + Drop> {
+    file: F,
+    page_bits: u32,
+    failures: Failures,
+}
+
+impl<F: Read + Seek + Drop> FileReader<F> {
+    /// A reader of this file.
+    pub(crate) fn new(alloc: Global, file: F, page_bits: u32) -> FileReader<F> {
+        FileReader {
+            file,
+            page_bits,
+            failures: Failures::new(alloc),
+        }
+    }
+
+    /// Reads a page from its place, and says whether it was there.
+    fn take(&mut self, receipt: &FileReceipt, out: &mut [u8]) -> bool
+        ensures length { IsTrue result → length out.old ≡ receipt.now.length }
+        ensures failures { self.new.failures ≡ self.old.failures }
+    {
+        out.len() == receipt.length
+            && go_to_page(&mut self.file, self.page_bits, receipt.page)
+            && self.file.read_exact(out).is_ok()
+    }
+}
+
+impl<F: Read + Seek + Drop + Send> PageReader for FileReader<F> {
+    type Receipt = FileReceipt;
+
+    ghost keeps = { ⊥ };
+
+    ghost failures = { λ r. r.failures };
+
+    /// Reads a page, and compares its digest with that of the bytes that were written.
+    ///
+    /// # Errors
+    ///
+    /// `Device` with code 3 where `out` is not as long as the page, or the file fails or ends;
+    /// `Damaged` where the digest differs; `NoMemory` where the failure can not be counted.
+    fn read(&mut self, receipt: &FileReceipt, out: &mut [u8]) -> Result<(), Refused>
+        ensures digest { OnOk result (sha256 out.new ≡ receipt.now.digest) }
+        ensures length { OnOk result (length out.old ≡ receipt.now.length) }
+        ensures later { self.old.failures ≤ self.new.failures }
+        ensures cause { IfErr result (λ e. e ≢ refused.NoMemory → self.old.failures < self.new.failures) }
+        ensures codes { IfErr result (λ e. ReadFailsBy receipt.now.page e) }
+        ensures damaged { IfErr result (λ e. e ≡ refused.Damaged receipt.now.page → sha256 out.new ≢ receipt.now.digest) }
+    {
+        let page = receipt.page;
+        if !self.take(receipt, out) {
+            return Err(self.failures.count(Refused::Device { code: 3, page }));
+        }
+        if digest_of(out) != receipt.digest {
+            return Err(self.failures.count(Refused::Damaged { page }));
+        }
+        Ok(())
+    }
+}

@@ -1,0 +1,30 @@
+//! Pages on a device: what a receipt of a written page stands for, and when a device may fail.
+//!
+//! A device is not the store's own: it may lose a page, or give other bytes. What is believed of one
+//! that keeps what it is given is the ghost member `keeps`, and each clause about bytes has it as its
+//! premise. All other clauses hold of every device. [`MemoryDevice`] keeps.
+#![tactic(auto)]
+
+pub mod disks;
+pub mod failures;
+pub mod files;
+pub mod folders;
+pub mod memory;
+pub mod messages;
+pub mod pages;
+pub mod receipts;
+
+pub use disks::Disk;
+pub use files::{FileReader, FileReceipt, FileWriter};
+pub use folders::FileDevice;
+pub use memory::{MemoryDevice, MemoryReader, MemoryReceipt, MemoryWriter};
+pub use messages::{FlushJob, Loaded, Written};
+pub use pages::{PageReader, PageWriter};
+pub use receipts::Receipt;
+
+#[cfg(test)]
+mod fault_tests;
+#[cfg(test)]
+mod file_tests;
+#[cfg(test)]
+mod tests;

@@ -1,0 +1,210 @@
+//! A device in memory, which keeps what it is given.
+ghost use Rattle.std.specs.Prelude.{◌≡◌, ◌≢◌, ◌+◌, ◌^◌, ◌<◌, ◌≤◌, ℕ, List, [], length, ◌↔◌, IfOk, IfErr, OnOk, IsOk, ⊤};
+ghost use Rattle.std.specs.Arc.{arc_value};
+ghost use Rattle.fkv_functions.specs.declared.refusals.Refused.TheVariants as refused;
+ghost use Rattle.fkv_device.specs.Failing.{FailsOnlyBy, ReadFailsBy};
+
+use crate::disks::Disk;
+use crate::failures::Failures;
+use crate::pages::{PageReader, PageWriter};
+use crate::receipts::Receipt;
+use fkv_functions::Refused;
+use std::alloc::Global;
+use std::sync::Arc;
+
+/// A receipt of a page in memory, which shares the page.
+#[derive(Drop)]
+pub struct MemoryReceipt {
+    number: u64,
+    page: u64,
+    bytes: Arc<Vec<u8>>,
+}
+
+impl MemoryReceipt {
+    fn bytes(&self) -> &[u8]
+        ensures { result.now ≡ (arc_value self.now.bytes).items }
+    {
+        let bytes: &Vec<u8> = &self.bytes;
+        bytes.as_slice()
+    }
+}
+
+impl Receipt for MemoryReceipt {
+    ghost stands = { λ r. record {
+      number = r.number;
+      page = r.page;
+      length = length (arc_value r.bytes).items;
+      bytes = (arc_value r.bytes).items;
+      mark = [];
+    } };
+
+    fn number(&self) -> u64 {
+        self.number
+    }
+
+    fn page(&self) -> u64 {
+        self.page
+    }
+
+    fn same(&self, other: &MemoryReceipt) -> bool {
+        self.number == other.number && self.page == other.page && self.bytes() == other.bytes()
+    }
+
+    fn again(&self) -> Result<MemoryReceipt, Refused> {
+        match self.bytes.clone() {
+            Err(_) => Err(Refused::NoMemory),
+            Ok(bytes) => Ok(MemoryReceipt {
+                number: self.number,
+                page: self.page,
+                bytes,
+            }),
+        }
+    }
+}
+
+/// Writes pages to memory. It has the numbers below 2^64 - 1 for its receipts.
+#[derive(Drop)]
+pub struct MemoryWriter {
+    alloc: Global,
+    next: u64,
+    failures: Failures,
+}
+
+impl MemoryWriter {
+    /// A writer whose next receipt has this number.
+    pub(crate) fn at(alloc: Global, next: u64) -> MemoryWriter
+        ensures { result.next ≡ next }
+    {
+        MemoryWriter {
+            alloc,
+            next,
+            failures: Failures::new(alloc),
+        }
+    }
+}
+
+impl PageWriter for MemoryWriter {
+    type Receipt = MemoryReceipt;
+
+    ghost keeps = { ⊤ };
+
+    ghost failures = { λ w. w.failures };
+
+    ghost next = { λ w. w.next };
+
+    /// Writes a page: one copy of its bytes.
+    ///
+    /// # Errors
+    ///
+    /// `NoMemory`; `Device` with code 2 where no number is left, and never else.
+    fn write(&mut self, page: u64, bytes: &[u8]) -> Result<MemoryReceipt, Refused>
+        ensures kept { IfOk result (λ r. (arc_value r.bytes).items ≡ bytes.now) }
+        ensures page { IfOk result (λ r. r.page ≡ page) }
+        ensures number { IfOk result (λ r. r.number ≡ self.old.next) }
+        ensures next { OnOk result (self.new.next ≡ self.old.next + 1) }
+        ensures same_next { IfErr result (λ _. self.new.next ≡ self.old.next) }
+        ensures later { self.old.failures ≤ self.new.failures }
+        ensures cause { IfErr result (λ e. e ≢ refused.NoMemory → self.old.failures < self.new.failures) }
+        ensures codes { IfErr result (λ e. FailsOnlyBy 2 page e) }
+        ensures spent { IfErr result (λ e. e ≢ refused.NoMemory → self.old.next + 1 ≡ 2 ^ 64) }
+    {
+        let Some(next) = self.next.checked_add(1) else {
+            return Err(self.failures.count(Refused::Device { code: 2, page }));
+        };
+        let Ok(copy) = bytes.to_vec(self.alloc) else {
+            return Err(Refused::NoMemory);
+        };
+        let Ok(shared) = Arc::new(self.alloc, copy) else {
+            return Err(Refused::NoMemory);
+        };
+        let number = self.next;
+        self.next = next;
+        Ok(MemoryReceipt {
+            number,
+            page,
+            bytes: shared,
+        })
+    }
+}
+
+/// Reads pages of memory.
+#[derive(Drop)]
+pub struct MemoryReader {
+    failures: Failures,
+}
+
+impl PageReader for MemoryReader {
+    type Receipt = MemoryReceipt;
+
+    ghost keeps = { ⊤ };
+
+    ghost failures = { λ r. r.failures };
+
+    /// Reads a page: one copy of its bytes.
+    ///
+    /// # Errors
+    ///
+    /// None where `out` is as long as the page, else `Device` with code 3, or `NoMemory` where the
+    /// failure can not be counted.
+    fn read(&mut self, receipt: &MemoryReceipt, out: &mut [u8]) -> Result<(), Refused>
+        ensures kept { OnOk result (out.new ≡ (arc_value receipt.now.bytes).items) }
+        ensures length { IsOk result ↔ (length out.old ≡ length (arc_value receipt.now.bytes).items) }
+        ensures later { self.old.failures ≤ self.new.failures }
+        ensures cause { IfErr result (λ e. e ≢ refused.NoMemory → self.old.failures < self.new.failures) }
+        ensures codes { IfErr result (λ e. ReadFailsBy receipt.now.page e) }
+    {
+        let bytes = receipt.bytes();
+        if out.len() != bytes.len() {
+            let page = receipt.page;
+            return Err(self.failures.count(Refused::Device { code: 3, page }));
+        }
+        out.copy_from_slice(bytes);
+        Ok(())
+    }
+}
+
+/// A device in memory. Its pages live as long as their receipts.
+#[derive(Drop)]
+pub struct MemoryDevice {
+    alloc: Global,
+}
+
+impl MemoryDevice {
+    /// A device whose pages are made by `alloc`.
+    pub fn new(alloc: Global) -> MemoryDevice {
+        MemoryDevice { alloc }
+    }
+}
+
+impl Disk for MemoryDevice {
+    type Receipt = MemoryReceipt;
+
+    type Writer = MemoryWriter;
+
+    type Reader = MemoryReader;
+
+    ghost keeps = { ⊤ };
+
+    ghost failures = { λ _. 0 };
+
+    /// A writer, which is never refused.
+    fn writer(&mut self, _partition: u64) -> Result<MemoryWriter, Refused>
+        ensures done { IsOk result }
+        ensures number { IfOk result (λ w. w.next ≡ 0) }
+    {
+        Ok(MemoryWriter::at(self.alloc, 0))
+    }
+
+    /// A reader, which is never refused.
+    fn reader(&mut self, _partition: u64) -> Result<MemoryReader, Refused>
+        ensures done { IsOk result }
+    {
+        Ok(MemoryReader {
+            failures: Failures::new(self.alloc),
+        })
+    }
+
+    ghost writer_keeps = { λ h. h };
+
+    ghost reader_keeps = { λ h. h };
+}
