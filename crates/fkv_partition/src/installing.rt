@@ -26,6 +26,7 @@ impl<F: Functions> Partition<F> {
         requires later { self.old.moment < now }
         ensures does { Installs F.Key.cmp F.meaning self.old self.new slot context built now result }
         ensures event { IfOk result (λ progress. IsEvent F.Key.cmp F.meaning self.old self.new slot context now progress) }
+        ensures within { IfOk result (λ _. (slot < 16) × (context < 8)) }
         ensures err { OnErr result (self.new ≡ self.old) }
         ensures moment { self.new.moment ≤ now }
     {

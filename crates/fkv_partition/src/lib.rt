@@ -6,6 +6,7 @@
 //! `specs/Installing.antt`.
 #![tactic(auto)]
 
+pub mod asking;
 pub mod contexts;
 pub mod going;
 pub mod index;

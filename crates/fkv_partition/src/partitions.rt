@@ -89,6 +89,7 @@ impl<F: Functions> Partition<F> {
         requires later { self.old.moment < now }
         ensures does { Enters self.old self.new now result }
         ensures event { IfOk result (λ slot. IsEnter self.old self.new slot now) }
+        ensures within { IfOk result (λ slot. slot < 16) }
         ensures err { OnErr result (self.new ≡ self.old) }
         ensures moment { self.new.moment ≤ now }
     {
@@ -113,6 +114,7 @@ impl<F: Functions> Partition<F> {
         requires later { self.old.moment < now }
         ensures does { Issues F.code self.old self.new slot op now result }
         ensures event { IfOk result (λ context. IsIssue F.code self.old self.new slot context op now) }
+        ensures within { IfOk result (λ context. (slot < 16) × (context < 8)) }
         ensures err { OnErr result (self.new ≡ self.old) }
         ensures moment { self.new.moment ≤ now }
     {

@@ -1,6 +1,9 @@
 pub mod LivesLemmas
 pub mod PlacedLemmas
-pub mod ToldLemmas
 pub mod WrongLemmas
 pub mod ManyLemmas
 pub mod WorldLemmas
+pub mod StateLemmas
+pub mod ActsLemmas
+pub mod EmptyLemmas
+pub mod AccountLemmas

@@ -7,7 +7,7 @@ use Rattle.fkv_operations.specs.After.{is_update}
 use Rattle.fkv_steps.specs.declared.lives.Life.{Life}
 use Rattle.fkv_steps.specs.declared.lives.End.{End}
 use Rattle.fkv_steps.specs.declared.lives.Finish.{Finish}
-use Rattle.fkv_steps.specs.Lives.{finish_of, has_effect_at, updates_at, first_by, update_at, after_some, map_before, is_told_at}
+use Rattle.fkv_steps.specs.Lives.{finish_of, has_effect_at, updates_at, first_by, update_at, after_some, map_before}
 use Rattle.fkv_steps.specs.Changes.{ended_at}
 
 -- ---- lists
@@ -87,10 +87,6 @@ effect-no s (Some t) h = let ne : t.effect ≢ s = h t refl in grind (arith, nat
 
 pub updates_at-other : {K I O : Type 0} (s : ℕ) (x : Life K I O) → ((t : Finish O) → finish_of x ≡ Some t → t.effect ≢ s) → updates_at s x ≡ false
 updates_at-other s x h = ap (λ b. is_update x.op && b) (effect-no s (finish_of x) h) ∙ and-false (is_update x.op)
-
-pub is_told_at-other : {O : Type 0} (s : ℕ) (o : Option (Finish O)) → ((t : Finish O) → o ≡ Some t → t.done ≢ s) → is_told_at s o ≡ false
-is_told_at-other s None h = refl
-is_told_at-other s (Some t) h = let ne : t.done ≢ s = h t refl in grind (arith, nat_tests)
 
 -- ---- the map before a step
 pub map_before-same : {K V I O : Type 0} (cmp : K → K → Ordering) (f : Meanings K V I O) (l k : List (Life K I O)) (n : ℕ) → ((s : ℕ) → s < n → update_at l s ≡ update_at k s) → map_before cmp f l n ≡ map_before cmp f k n

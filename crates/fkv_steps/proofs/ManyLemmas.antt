@@ -12,7 +12,8 @@ use Rattle.fkv_operations.specs.declared.operations.Op.TheVariants.{Read, Rmw}
 use Rattle.fkv_partition.specs.Views.{PartitionView, live_of, partition_of}
 use Rattle.fkv_partition.specs.Effect.{Asked, asked}
 use Rattle.fkv_partition.proofs.ListLemmas.{get-set_same, get-set_other}
-use Rattle.fkv_steps.specs.Worlds.{live_at, world_live, Where, asked_at, asked_in}
+use Rattle.fkv_steps.specs.declared.steps.Place.{Place}
+use Rattle.fkv_steps.specs.Worlds.{live_at, world_live, asked_at, asked_in}
 
 module _ {K V I O : Type 0} (cmp : K → K → Ordering) (o : IsKeyOrder cmp) (f : Meanings K V I O) (code : K → ℕ) (views : List (PartitionView K V I)) (p : ℕ) (old new : PartitionView K V I) (here : slice_get views p ≡ Some old) where
   route : K → ℕ
@@ -69,12 +70,12 @@ module _ {K V I : Type 0} (views : List (PartitionView K V I)) (p : ℕ) (old ne
   pub asked-was : (slot c : ℕ) → asked_in views (record { partition = p; slot = slot; context = c }) ≡ asked old slot c
   asked-was slot c = ap (λ t. asked_at t slot c) here
 
-  pub asked-elsewhere : (w : Where) → w.partition ≢ p → asked_in (slice_set views p new) w ≡ asked_in views w
+  pub asked-elsewhere : (w : Place) → w.partition ≢ p → asked_in (slice_set views p new) w ≡ asked_in views w
   asked-elsewhere w n = ap (λ t. asked_at t w.slot w.context) (get-set_other views p w.partition new n)
 
   -- contexts that ask the same in the partition ask the same in the world
   pub asked-others : (slot c : ℕ) → ((s d : ℕ) → (s ≢ slot) ⊎ (d ≢ c) → asked new s d ≡ asked old s d)
-      → (w : Where) → w ≢ record { partition = p; slot = slot; context = c } → asked_in (slice_set views p new) w ≡ asked_in views w
+      → (w : Place) → w ≢ record { partition = p; slot = slot; context = c } → asked_in (slice_set views p new) w ≡ asked_in views w
   asked-others slot c same w n = elim (cases_eq w.partition p) [
     | inr r ↦ asked-elsewhere w r
     | inl r ↦ elim (cases_eq w.slot slot) [
@@ -92,7 +93,7 @@ module _ {K V I : Type 0} (views : List (PartitionView K V I)) (p : ℕ) (old ne
           ∙ asked-here w.slot w.context ∙ same w.slot w.context other ∙ sym (asked-was w.slot w.context)
           ∙ ap (λ q. asked_at (slice_get views q) w.slot w.context) (sym r)
 
-  pub asked-all : ((s d : ℕ) → asked new s d ≡ asked old s d) → (w : Where) → asked_in (slice_set views p new) w ≡ asked_in views w
+  pub asked-all : ((s d : ℕ) → asked new s d ≡ asked old s d) → (w : Place) → asked_in (slice_set views p new) w ≡ asked_in views w
   asked-all same w = elim (cases_eq w.partition p) [
     | inr r ↦ asked-elsewhere w r
     | inl r ↦ ap (λ q. asked_at (slice_get (slice_set views p new) q) w.slot w.context) r

@@ -21,18 +21,19 @@ use Rattle.fkv_steps.specs.declared.lives.End.TheVariants.{Open, Finished}
 use Rattle.fkv_steps.specs.Lives.{finish_of, map_before}
 use Rattle.fkv_steps.specs.Changes.{ended_at}
 use Rattle.fkv_steps.specs.Placed.{IsPlaced}
-use Rattle.fkv_steps.specs.Worlds.{world_live, Where, asked_in, IsOpenLife, IsLinked, IsHoused, IsWorld}
+use Rattle.fkv_steps.specs.declared.steps.Place.{Place}
+use Rattle.fkv_steps.specs.Worlds.{world_live, asked_in, IsOpenLife, IsLinked, IsHoused, IsWorld}
 use Rattle.fkv_steps.proofs.LivesLemmas.{append_old, ended_other}
 use Rattle.fkv_steps.proofs.PlacedLemmas.{placed-quiet, map-quiet, placed-append, map-append, placed-now, map-now}
 use Rattle.fkv_steps.proofs.ManyLemmas.{live-quiet, live-after, answer-here, asked-here, asked-was, asked-others, asked-all}
 
-same_where : (w u : Where) → (w ≡ u) ⊎ (w ≢ u)
+same_where : (w u : Place) → (w ≡ u) ⊎ (w ≢ u)
 same_where w u = elim (cases_eq w.partition u.partition) [
-  | inr n ↦ inr (λ e. n (ap (λ (x : Where). x.partition) e))
+  | inr n ↦ inr (λ e. n (ap (λ (x : Place). x.partition) e))
   | inl a ↦ elim (cases_eq w.slot u.slot) [
-    | inr n ↦ inr (λ e. n (ap (λ (x : Where). x.slot) e))
+    | inr n ↦ inr (λ e. n (ap (λ (x : Place). x.slot) e))
     | inl b ↦ elim (cases_eq w.context u.context) [
-      | inr n ↦ inr (λ e. n (ap (λ (x : Where). x.context) e))
+      | inr n ↦ inr (λ e. n (ap (λ (x : Place). x.context) e))
       | inl c ↦ inl (λ i. record { partition = a i; slot = b i; context = c i })
     ]
   ]
@@ -42,13 +43,13 @@ same_where w u = elim (cases_eq w.partition u.partition) [
 open-append : {K I O : Type 0} (lives : List (Life K I O)) (y : Life K I O) (j : ℕ) (x : Asked K I) → IsOpenLife lives j x → IsOpenLife (lives ++ y ∷ []) j x
 open-append lives y j x l = record { life = l.life; here = append_old lives y j l.life l.here; op = l.op; issue = l.issue; unended = l.unended }
 
-module _ {K V I O : Type 0} (cmp : K → K → Ordering) (o : IsKeyOrder cmp) (f : Meanings K V I O) (code : K → ℕ) (views : List (PartitionView K V I)) (life_at : Where → ℕ) (lives : List (Life K I O)) (now next : ℕ) (e : next ≡ suc now) (world : IsWorld cmp f code views life_at lives now) where
+module _ {K V I O : Type 0} (cmp : K → K → Ordering) (o : IsKeyOrder cmp) (f : Meanings K V I O) (code : K → ℕ) (views : List (PartitionView K V I)) (life_at : Place → ℕ) (lives : List (Life K I O)) (now next : ℕ) (e : next ≡ suc now) (world : IsWorld cmp f code views life_at lives now) where
   live-then : world_live cmp code views ≡ map_before cmp f lives (suc now)
   live-then = same_map (world_live cmp code views) (map_before cmp f lives (suc now)) world.denotes
 
   module _ (p : ℕ) (old new : PartitionView K V I) (here : slice_get views p ≡ Some old) (number : new.number ≡ old.number) (count : new.count ≡ old.count) (moment : new.moment ≡ next) where
     -- the partitions stay where they are
-    housed-set : ((w : Where) (x : Asked K I) → asked_in (slice_set views p new) w ≡ Some x → partition_of (length views) (code (key_of x.op)) ≡ w.partition) → IsHoused code (slice_set views p new) next
+    housed-set : ((w : Place) (x : Asked K I) → asked_in (slice_set views p new) w ≡ Some x → partition_of (length views) (code (key_of x.op)) ≡ w.partition) → IsHoused code (slice_set views p new) next
     housed-set routed = record {
       some = rw (length-set views p new) world.housed.some;
       numbered = λ q v h. elim (get-set_cases views p q new v h) [
@@ -67,7 +68,7 @@ module _ {K V I O : Type 0} (cmp : K → K → Ordering) (o : IsKeyOrder cmp) (f
     }
 
     -- a step that changes no live value, no question and no life
-    world-quiet : Same (live_of cmp new) (live_of cmp old) → ((w : Where) → asked_in (slice_set views p new) w ≡ asked_in views w) → IsWorld cmp f code (slice_set views p new) life_at lives next
+    world-quiet : Same (live_of cmp new) (live_of cmp old) → ((w : Place) → asked_in (slice_set views p new) w ≡ asked_in views w) → IsWorld cmp f code (slice_set views p new) life_at lives next
     world-quiet same questions = record {
       placed = placed-quiet cmp f lives now next e world.placed;
       denotes = λ k. live-quiet cmp o f code views p old new here same k ∙ world.denotes k ∙ ap (λ (m : PlainMap K V). m k) (sym (map-quiet cmp f lives now next e world.placed));
@@ -84,8 +85,8 @@ module _ {K V I O : Type 0} (cmp : K → K → Ordering) (o : IsKeyOrder cmp) (f
 
   -- an operation is issued: one more life, at the end
   module _ (p : ℕ) (old new : PartitionView K V I) (slot c : ℕ) (op : Op K I) (here : slice_get views p ≡ Some old) (ev : IsIssue code old new slot c op next) (begun : Life K I O) (is : begun.op ≡ op) (at : begun.issue ≡ next) (unended : begun.end ≡ Open)
-      (life_at' : Where → ℕ) (place : life_at' (record { partition = p; slot = slot; context = c }) ≡ length lives) (places : (u : Where) → u ≢ record { partition = p; slot = slot; context = c } → life_at' u ≡ life_at u) where
-    there : Where
+      (life_at' : Place → ℕ) (place : life_at' (record { partition = p; slot = slot; context = c }) ≡ length lives) (places : (u : Place) → u ≢ record { partition = p; slot = slot; context = c } → life_at' u ≡ life_at u) where
+    there : Place
     there = record { partition = p; slot = slot; context = c }
 
     untold : finish_of begun ≡ None
@@ -94,7 +95,7 @@ module _ {K V I O : Type 0} (cmp : K → K → Ordering) (o : IsKeyOrder cmp) (f
     opened : asked_in (slice_set views p new) (record { partition = p; slot = slot; context = c }) ≡ Some (record { number = next; op = op })
     opened = asked-here views p old new here slot c ∙ ev.opened
 
-    elsewhere : (u : Where) → u ≢ record { partition = p; slot = slot; context = c } → asked_in (slice_set views p new) u ≡ asked_in views u
+    elsewhere : (u : Place) → u ≢ record { partition = p; slot = slot; context = c } → asked_in (slice_set views p new) u ≡ asked_in views u
     elsewhere = asked-others views p old new here slot c ev.frame.others
 
     is_new : (x : Asked K I) → asked_in (slice_set views p new) (record { partition = p; slot = slot; context = c }) ≡ Some x → record { number = next; op = op } ≡ x
@@ -103,7 +104,7 @@ module _ {K V I O : Type 0} (cmp : K → K → Ordering) (o : IsKeyOrder cmp) (f
     fresh : IsOpenLife (lives ++ begun ∷ []) (length lives) (record { number = next; op = op })
     fresh = record { life = begun; here = get-append_last lives begun; op = is; issue = at; unended = unended }
 
-    old_place : (u : Where) (x : Asked K I) → asked_in views u ≡ Some x → life_at u < length lives
+    old_place : (u : Place) (x : Asked K I) → asked_in views u ≡ Some x → life_at u < length lives
     old_place u x h = let l = world.linked.linked u x h in slice_get_within lives (life_at u) l.life l.here
 
     linked-issue : IsLinked (asked_in (slice_set views p new)) life_at' (lives ++ begun ∷ [])
@@ -136,7 +137,7 @@ module _ {K V I O : Type 0} (cmp : K → K → Ordering) (o : IsKeyOrder cmp) (f
         | inl s ↦ (let same = is_new x (ap (asked_in (slice_set views p new)) (sym s) ∙ h) in
             ap (λ (y : Asked K I). partition_of (length views) (code (key_of y.op))) (sym same)
             ∙ ap (λ n. partition_of n (code (key_of op))) (sym (world.housed.counted p old here))
-            ∙ ev.own ∙ world.housed.numbered p old here ∙ ap (λ (w : Where). w.partition) (sym s))
+            ∙ ev.own ∙ world.housed.numbered p old here ∙ ap (λ (w : Place). w.partition) (sym s))
         | inr n ↦ world.housed.routed u x (sym (elsewhere u n) ∙ h)
       ]);
     }
@@ -153,10 +154,10 @@ module _ {K V I O : Type 0} (cmp : K → K → Ordering) (o : IsKeyOrder cmp) (f
     open_life : IsOpenLife lives (life_at (record { partition = p; slot = slot; context = c })) x
     open_life = world.linked.linked (record { partition = p; slot = slot; context = c }) x asks
 
-    away : (u : Where) (y : Asked K I) → asked_in (slice_set views p new) u ≡ Some y → u ≢ record { partition = p; slot = slot; context = c }
+    away : (u : Place) (y : Asked K I) → asked_in (slice_set views p new) u ≡ Some y → u ≢ record { partition = p; slot = slot; context = c }
     away u y h s = let k : None ≡ Some y = sym (asked-here views p old new here slot c ∙ closed) ∙ ap (asked_in (slice_set views p new)) (sym s) ∙ h in absurd (cc)
 
-    then : (u : Where) (y : Asked K I) → asked_in (slice_set views p new) u ≡ Some y → asked_in views u ≡ Some y
+    then : (u : Place) (y : Asked K I) → asked_in (slice_set views p new) u ≡ Some y → asked_in views u ≡ Some y
     then u y h = sym (asked-others views p old new here slot c frame.others u (away u y h)) ∙ h
 
     pub world-done : IsWorld cmp f code (slice_set views p new) life_at (ended_at lives (life_at (record { partition = p; slot = slot; context = c })) (Finished (record { effect = next; done = next; answer = a }))) next

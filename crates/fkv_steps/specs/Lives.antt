@@ -5,7 +5,6 @@ use Rattle.fkv_functions.specs.Meanings.{Meanings}
 use Rattle.fkv_functions.specs.Plain.{PlainMap}
 use Rattle.fkv_operations.specs.After.{after, is_update}
 use Rattle.fkv_operations.specs.declared.operations.Op.{Op}
-use Rattle.fkv_operations.specs.declared.operations.Answer.{Answer}
 use Rattle.fkv_steps.specs.declared.lives.Finish.{Finish}
 use Rattle.fkv_steps.specs.declared.lives.Life.{Life}
 use Rattle.fkv_steps.specs.declared.lives.End.{End}
@@ -48,16 +47,3 @@ after_some cmp f m (Some op) = after cmp f m op
 abbrev pub map_before : {K V I O : Type 0} → (K → K → Ordering) → Meanings K V I O → List (Life K I O) → ℕ → PlainMap K V
 map_before cmp f lives zero = λ k. None
 map_before cmp f lives (suc s) = after_some cmp f (map_before cmp f lives s) (update_at lives s)
-
--- whether the answer was told at this step
-abbrev pub is_told_at : {O : Type 0} → ℕ → Option (Finish O) → Bool
-is_told_at s None = false
-is_told_at s (Some t) = t.done == s
-
-abbrev pub answer_of : {O : Type 0} → Option (Finish O) → Option (Answer O)
-answer_of None = None
-answer_of (Some t) = Some t.answer
-
--- the answer told at this step, if one was
-abbrev pub told_at : {K I O : Type 0} → List (Life K I O) → ℕ → Option (Answer O)
-told_at lives s = first_by (λ x. is_told_at s (finish_of x)) (λ x. answer_of (finish_of x)) lives

@@ -8,9 +8,15 @@
 pub mod laws;
 pub mod lives;
 pub mod outcomes;
+pub mod states;
+pub mod steps;
+pub mod tables;
+pub mod worlds;
 
 pub use lives::{End, Finish, Life, LifeOf};
-pub use outcomes::Outcome;
+pub use outcomes::{Outcome, OutcomeOf};
+pub use steps::{Place, Step, StepOf};
+pub use worlds::World;
 
 #[cfg(test)]
 mod tests;

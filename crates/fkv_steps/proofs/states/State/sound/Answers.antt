@@ -1,0 +1,5 @@
+use Rattle.std.proofs.Common.{◌≡◌, refl, sym, ap}
+use Rattle.fkv_steps.proofs.states.State.sound.Goals as goal
+
+pub returns : goal.returns
+returns g c = rw (← c.self.view_is) c.self.invariant

@@ -1,0 +1,6 @@
+use Rattle.std.proofs.Common.{◌≡◌}
+use Rattle.fkv_steps.specs.States.{empty_partitions}
+use Rattle.fkv_steps.proofs.states.empty_partitions.Given as goal
+
+abbrev pub invariant-loop-number : goal.invariant-loop-number
+invariant-loop-number g l = l.partitions.items ≡ empty_partitions l.config l.number

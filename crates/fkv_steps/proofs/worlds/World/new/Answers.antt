@@ -1,0 +1,6 @@
+use Rattle.std.proofs.Common.{◌≡◌, refl, sym, ap}
+use Rattle.fkv_steps.proofs.AccountLemmas.{account-empty}
+use Rattle.fkv_steps.proofs.worlds.World.new.Goals as goal
+
+pub invariant_of-result : goal.invariant_of-result
+invariant_of-result g c = rw (c.in_ok-state.ensures.ok, c.new-2.ensures.items) account-empty

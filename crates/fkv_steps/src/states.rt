@@ -1,0 +1,252 @@
+//! The state of a world, and what each step does to it.
+ghost use Rattle.std.specs.Prelude.{◌≢◌, ◌⊎◌, ◌*◌, replicate, ◌≡◌, ◌+◌, ◌-◌, ◌^◌, ◌<◌, ◌↔◌, Err, IfOk, IfErr};
+ghost use Rattle.fkv_partition.specs.Limits.{IsWithinLimits};
+ghost use Rattle.fkv_steps.specs.States.{empty_partitions, empty_state};
+ghost use Rattle.fkv_steps.specs.Sound.{IsState};
+ghost use Rattle.fkv_steps.specs.Acts.{Acts};
+ghost use Rattle.fkv_steps.specs.declared.steps.Step.TheVariants.{Enter, Issue, Go, Install};
+
+use crate::lives::LifeOf;
+use crate::outcomes::{Outcome, OutcomeOf};
+use crate::steps::{Place, Step, StepOf};
+use crate::tables::{
+    CONTEXT_ROWS, SLOTS, Seat, begun_life, life_at, note_progress, question_at, row_of, row_of_slot,
+};
+use fkv_functions::{Ask, Built, Functions, Refused};
+use fkv_operations::{Clock, OpOf};
+use fkv_partition::{Config, Partition};
+use std::alloc::Global;
+use std::marker::Model;
+
+/// The partitions, tables, lives and last moment of a world.
+#[derive(Drop)]
+pub struct State<F: Functions> {
+    partitions: Vec<Partition<F>>,
+    begun: Vec<usize>,
+    questions: Vec<Option<Ask<F::Key, F::Value, F::Input>>>,
+    seats: Vec<Seat>,
+    enters: Vec<u64>,
+    lives: Vec<LifeOf<F>>,
+    moment: u64,
+}
+
+impl<F: Functions> Model for State<F> {
+    ghost use Rattle.fkv_steps.specs.States.{StateView};
+    ghost use Rattle.fkv_steps.specs.Sound.{IsState};
+
+    ghost Value = { StateView F.Key F.Value F.Input F.Output };
+
+    ghost view = { λ s. record { partitions = s.partitions.items; begun = s.begun.items; questions = s.questions.items; seats = s.seats.items; enters = s.enters.items; lives = s.lives.items; moment = s.moment } };
+
+    ghost invariant = { λ s. IsState F.Key.cmp F.meaning F.code (record { partitions = s.partitions.items; begun = s.begun.items; questions = s.questions.items; seats = s.seats.items; enters = s.enters.items; lives = s.lives.items; moment = s.moment }) };
+}
+
+/// The moment after this one, or `Worn` after the last.
+fn moment_after(moment: u64) -> Result<u64, Refused>
+    ensures ok { IfOk result (λ now. now ≡ moment + 1) }
+    ensures worn { (result ≡ Err Refused.Worn) ↔ (moment ≡ 2 ^ 64 - 1) }
+    ensures only { IfErr result (λ refused. refused ≡ Refused.Worn) }
+{
+    Clock::starting(moment).tick()
+}
+
+/// Partitions with nothing in them, one of each number. Refused: `NoMemory`.
+fn empty_partitions<F: Functions>(
+    alloc: Global,
+    config: &Config,
+    count: u64,
+) -> Result<Vec<Partition<F>>, Refused>
+    requires limits { IsWithinLimits config.now }
+    requires count { count ≡ 2 ^ config.now.partition_bits }
+    ensures ok { IfOk result (λ partitions. partitions.items ≡ empty_partitions config.now count) }
+    ensures only { IfErr result (λ refused. refused ≡ Refused.NoMemory) }
+{
+    let mut partitions = Vec::new(alloc);
+    for number in 0..count {
+        let Ok(partition) = Partition::new(alloc, config, number) else {
+            return Err(Refused::NoMemory);
+        };
+        let Ok(()) = partitions.push(partition) else {
+            return Err(Refused::NoMemory);
+        };
+    }
+    Ok(partitions)
+}
+
+/// A table of this many rows, all the same. Refused: `NoMemory`.
+fn table<T: Copy>(alloc: Global, rows: usize, row: T) -> Result<Vec<T>, Refused>
+    ensures ok { IfOk result (λ table. table.items ≡ replicate rows row) }
+    ensures only { IfErr result (λ refused. refused ≡ Refused.NoMemory) }
+{
+    let mut table = Vec::new(alloc);
+    let Ok(()) = table.resize(rows, row) else {
+        return Err(Refused::NoMemory);
+    };
+    Ok(table)
+}
+
+impl<F: Functions> State<F> {
+    /// The state before the first step. Refused, in this order: `BadConfig` where a number of the
+    /// configuration is outside its limits, `NoMemory`.
+    pub fn new(alloc: Global, config: &Config) -> Result<Self, Refused>
+        ensures ok { IfOk result (λ state. state ≡ empty_state config.now) }
+        ensures good { result ≢ Err Refused.BadConfig → IsWithinLimits config.now }
+        ensures bad { result ≡ Err Refused.BadConfig → ¬ IsWithinLimits config.now }
+        ensures only { IfErr result (λ refused. (refused ≡ Refused.BadConfig) ⊎ (refused ≡ Refused.NoMemory)) }
+    {
+        if !config.is_within_limits() {
+            return Err(Refused::BadConfig);
+        }
+        let count = config.partitions();
+        let partitions = empty_partitions(alloc, config, count)?;
+        let rows = count as usize;
+        let begun = table(alloc, rows * CONTEXT_ROWS, 0)?;
+        let questions = table(alloc, rows * CONTEXT_ROWS, None)?;
+        let nobody = Seat {
+            session: 0,
+            issues: 0,
+        };
+        let seats = table(alloc, rows * SLOTS, nobody)?;
+        let enters = table(alloc, rows, 0)?;
+        Ok(State {
+            partitions,
+            begun,
+            questions,
+            seats,
+            enters,
+            lives: Vec::new(alloc),
+            moment: 0,
+        })
+    }
+
+    /// Enters a session.
+    pub fn enter(&mut self, p: usize) -> Result<OutcomeOf<F>, Refused>
+        ensures does { Acts F.Key.cmp F.meaning F.code self.old self.new (Enter p) result }
+    {
+        if p >= self.partitions.len() {
+            return Err(Refused::Unknown);
+        }
+        let now = moment_after(self.moment)?;
+        let slot = self.partitions[p].enter(now)?;
+        let session = self.enters[p] + 1;
+        let row = row_of_slot(p, slot);
+        self.enters[p] = session;
+        self.seats[row] = Seat { session, issues: 0 };
+        self.moment = now;
+        Ok(Outcome::Entered(slot))
+    }
+
+    /// Issues an operation.
+    pub fn issue(
+        &mut self,
+        functions: &F,
+        p: usize,
+        slot: usize,
+        op: OpOf<F>,
+    ) -> Result<OutcomeOf<F>, Refused>
+        ensures does { Acts F.Key.cmp F.meaning F.code self.old self.new (Issue p slot op) result }
+    {
+        if p >= self.partitions.len() {
+            return Err(Refused::Unknown);
+        }
+        let now = moment_after(self.moment)?;
+        let Ok(()) = self.lives.try_reserve(1) else {
+            return Err(Refused::NoMemory);
+        };
+        let context = self.partitions[p].issue(slot, op, functions, now)?;
+        let row = row_of_slot(p, slot);
+        let seat = self.seats[row];
+        let life = self.lives.len();
+        let Ok(()) = self.lives.push(begun_life(p, &seat, op, now)) else {
+            return Err(Refused::NoMemory);
+        };
+        let place = row_of(Place {
+            partition: p,
+            slot,
+            context,
+        });
+        self.seats[row] = seat.after_issue();
+        self.begun[place] = life;
+        self.questions[place] = None;
+        self.moment = now;
+        Ok(Outcome::Issued(context))
+    }
+
+    /// Goes on with an operation.
+    pub fn go(&mut self, functions: &F, place: Place) -> Result<OutcomeOf<F>, Refused>
+        ensures does { Acts F.Key.cmp F.meaning F.code self.old self.new (Go place) result }
+    {
+        let p = place.partition;
+        if p >= self.partitions.len() {
+            return Err(Refused::Unknown);
+        }
+        let now = moment_after(self.moment)?;
+        let progress = self.partitions[p].go(place.slot, place.context, functions, now)?;
+        let row = row_of(place);
+        let life = life_at(&self.begun, place);
+        self.moment = now;
+        Ok(note_progress(
+            &mut self.lives,
+            life,
+            &mut self.questions,
+            row,
+            progress,
+            now,
+        ))
+    }
+
+    /// Installs what an operation asked for last.
+    pub fn install(&mut self, functions: &F, place: Place) -> Result<OutcomeOf<F>, Refused>
+        ensures does { Acts F.Key.cmp F.meaning F.code self.old self.new (Install place) result }
+    {
+        let p = place.partition;
+        if p >= self.partitions.len() {
+            return Err(Refused::Unknown);
+        }
+        let Some(ask) = question_at(&self.questions, place) else {
+            let Ok(_) = self.partitions[p].asked(place.slot, place.context) else {
+                return Err(Refused::Unknown);
+            };
+            return Err(Refused::NotReady);
+        };
+        let now = moment_after(self.moment)?;
+        let built = Built::make(functions, ask);
+        let progress = self.partitions[p].install(
+            place.slot,
+            place.context,
+            built,
+            functions,
+            now,
+        )?;
+        let row = row_of(place);
+        let life = life_at(&self.begun, place);
+        self.moment = now;
+        Ok(note_progress(
+            &mut self.lives,
+            life,
+            &mut self.questions,
+            row,
+            progress,
+            now,
+        ))
+    }
+
+    /// Does a step.
+    pub fn act(&mut self, functions: &F, step: StepOf<F>) -> Result<OutcomeOf<F>, Refused>
+        ensures does { Acts F.Key.cmp F.meaning F.code self.old self.new step result }
+    {
+        match step {
+            Step::Enter(partition) => self.enter(partition),
+            Step::Issue(partition, slot, op) => self.issue(functions, partition, slot, op),
+            Step::Go(place) => self.go(functions, place),
+            Step::Install(place) => self.install(functions, place),
+        }
+    }
+
+    /// What holds of every state.
+    pub fn sound(&self)
+        ensures { IsState F.Key.cmp F.meaning F.code self.now }
+    {
+        let _moment = self.moment;
+    }
+}

@@ -1,0 +1,150 @@
+//! The tables of a world: who sits in a slot, what began in a context, and what it asked for last.
+ghost use Rattle.std.specs.Prelude.{◌≡◌, ◌+◌, ◌-◌, ◌*◌, ◌^◌, ◌<◌, ◌≤◌, length, Some, slice_get, slice_set};
+ghost use Rattle.fkv_steps.specs.States.{seat_row, context_row, life_in, question_in};
+ghost use Rattle.fkv_steps.specs.Changes.{ended_at};
+ghost use Rattle.fkv_steps.specs.Acts.{begun_life, lives_by, questions_by, told};
+
+use crate::lives::{End, Finish, Life};
+use crate::outcomes::Outcome;
+use crate::steps::Place;
+use fkv_functions::Ask;
+use fkv_operations::Op;
+use fkv_partition::Progress;
+
+/// The slots of a partition.
+pub const SLOTS: usize = 16;
+
+/// The contexts of a slot.
+pub const CONTEXTS: usize = 8;
+
+/// The contexts of a partition.
+pub const CONTEXT_ROWS: usize = SLOTS * CONTEXTS;
+
+/// The session of a slot.
+#[derive(Clone, Copy, PartialEq, Eq, Debug)]
+pub struct Seat {
+    /// The session, by the count of enters in its partition, from 1; 0 before the first.
+    pub session: u64,
+    /// How many operations the session has issued.
+    pub issues: u64,
+}
+
+impl Seat {
+    ghost use Rattle.fkv_steps.specs.Acts.{after_issue};
+
+    /// The seat once it has issued one more operation.
+    pub fn after_issue(&self) -> Seat
+        requires { self.now.issues < 2 ^ 64 - 1 }
+        ensures { result ≡ after_issue self.now }
+    {
+        Seat {
+            session: self.session,
+            issues: self.issues + 1,
+        }
+    }
+}
+
+/// The life that an accepted issue begins.
+pub fn begun_life<K, I, O>(partition: usize, seat: &Seat, op: Op<K, I>, now: u64) -> Life<K, I, O>
+    requires { seat.now.issues < 2 ^ 64 - 1 }
+    ensures { result ≡ begun_life partition seat.now op now }
+{
+    Life {
+        partition: partition as u64,
+        session: seat.session,
+        number: seat.issues + 1,
+        op,
+        issue: now,
+        end: End::Open,
+    }
+}
+
+/// The row of a slot in a table of slots.
+pub fn row_of_slot(partition: usize, slot: usize) -> usize
+    requires partition { partition < 64 }
+    requires slot { slot < 16 }
+    ensures { result ≡ seat_row partition slot }
+{
+    partition * SLOTS + slot
+}
+
+/// The row of a context in a table of contexts.
+pub fn row_of(place: Place) -> usize
+    requires partition { place.partition < 64 }
+    requires slot { place.slot < 16 }
+    requires context { place.context < 8 }
+    ensures { result ≡ context_row place }
+{
+    place.partition * CONTEXT_ROWS + place.slot * CONTEXTS + place.context
+}
+
+/// What a context asked for last; nothing where there is no such context.
+pub fn question_at<K: Copy, V: Copy, I: Copy>(
+    questions: &[Option<Ask<K, V, I>>],
+    place: Place,
+) -> Option<Ask<K, V, I>>
+    requires partition { place.partition < 64 }
+    requires rows { place.partition * 128 + 128 ≤ length questions.now }
+    ensures { result ≡ question_in questions.now place }
+{
+    if place.slot >= SLOTS || place.context >= CONTEXTS {
+        return None;
+    }
+    questions[row_of(place)]
+}
+
+/// The place of the life that began in a context.
+pub fn life_at(begun: &[usize], place: Place) -> usize
+    requires partition { place.partition < 64 }
+    requires slot { place.slot < 16 }
+    requires context { place.context < 8 }
+    requires rows { place.partition * 128 + 128 ≤ length begun.now }
+    ensures { result ≡ life_in begun.now place }
+{
+    begun[row_of(place)]
+}
+
+/// Ends the life at a place.
+fn finish_life<K: Copy, I: Copy, O: Copy>(
+    lives: &mut Vec<Life<K, I, O>>,
+    place: usize,
+    finish: Finish<O>,
+)
+    requires { place < length lives.old.items }
+    ensures { lives.new.items ≡ ended_at lives.old.items place (End.Finished finish) }
+{
+    lives[place].end = End::Finished(finish);
+}
+
+/// Ends the life of an operation that is done, or keeps what it asks for, and tells its progress.
+pub fn note_progress<K: Copy, V: Copy, I: Copy, O: Copy>(
+    lives: &mut Vec<Life<K, I, O>>,
+    life: usize,
+    questions: &mut Vec<Option<Ask<K, V, I>>>,
+    row: usize,
+    progress: Progress<K, V, I, O>,
+    now: u64,
+) -> Outcome<V, O>
+    requires life { life < length lives.old.items }
+    requires row { row < length questions.old.items }
+    ensures lives { lives.new.items ≡ lives_by lives.old.items life now progress }
+    ensures questions { questions.new.items ≡ questions_by questions.old.items row progress }
+    ensures told { result ≡ told progress }
+{
+    match progress {
+        Progress::Done(answer, effect) => {
+            let finish = Finish {
+                effect,
+                done: now,
+                answer,
+            };
+            finish_life(lives, life, finish);
+            Outcome::Done(answer)
+        }
+        Progress::Next => Outcome::Next,
+        Progress::NeedsBuild(ask) => {
+            questions[row] = Some(ask);
+            Outcome::Build(ask.source)
+        }
+    }
+}
