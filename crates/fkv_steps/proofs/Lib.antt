@@ -7,3 +7,4 @@ pub mod StateLemmas
 pub mod ActsLemmas
 pub mod EmptyLemmas
 pub mod AccountLemmas
+pub mod ReportLemmas

@@ -8,3 +8,4 @@ pub mod Worlds
 pub mod Told
 pub mod Headline
 pub mod Sound
+pub mod Reports

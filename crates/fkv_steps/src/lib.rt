@@ -8,6 +8,9 @@
 pub mod laws;
 pub mod lives;
 pub mod outcomes;
+pub mod pursuits;
+pub mod replays;
+pub mod reports;
 pub mod states;
 pub mod steps;
 pub mod tables;
@@ -15,6 +18,8 @@ pub mod worlds;
 
 pub use lives::{End, Finish, Life, LifeOf};
 pub use outcomes::{Outcome, OutcomeOf};
+pub use replays::replay;
+pub use reports::{Report, ReportOf};
 pub use steps::{Place, Step, StepOf};
 pub use worlds::World;
 

@@ -21,7 +21,7 @@ use std::marker::Model;
 /// The partitions, tables, lives and last moment of a world.
 #[derive(Drop)]
 pub struct State<F: Functions> {
-    partitions: Vec<Partition<F>>,
+    pub(crate) partitions: Vec<Partition<F>>,
     begun: Vec<usize>,
     questions: Vec<Option<Ask<F::Key, F::Value, F::Input>>>,
     seats: Vec<Seat>,
@@ -241,6 +241,13 @@ impl<F: Functions> State<F> {
             Step::Go(place) => self.go(functions, place),
             Step::Install(place) => self.install(functions, place),
         }
+    }
+
+    /// The lives, in the order of the issues.
+    pub fn lives(&self) -> &[LifeOf<F>]
+        ensures { result.now ≡ self.now.lives }
+    {
+        self.lives.as_slice()
     }
 
     /// What holds of every state.

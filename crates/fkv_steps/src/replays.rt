@@ -1,0 +1,36 @@
+//! Lists of steps, replayed from nothing.
+ghost use Rattle.std.specs.Prelude.{◌≡◌, ◌≢◌, ◌⊎◌, Err, IfOk, IfErr};
+ghost use Rattle.fkv_partition.specs.Limits.{IsWithinLimits};
+ghost use Rattle.fkv_steps.specs.Reports.{IsReplay};
+
+use crate::reports::ReportOf;
+use crate::steps::StepOf;
+use crate::worlds::World;
+use fkv_functions::{Functions, Refused};
+use fkv_partition::Config;
+use std::alloc::Global;
+
+/// Does the steps in turn in a world with nothing in it, and reports what became of them. A step that is
+/// refused is an outcome like the others, and the replay goes on. Refused, in this order: `BadConfig`
+/// where a number of the configuration is outside its limits, `NoMemory`.
+pub fn replay<F: Functions>(
+    alloc: Global,
+    config: &Config,
+    functions: &F,
+    steps: &[StepOf<F>],
+) -> Result<ReportOf<F>, Refused>
+    ensures ok { IfOk result (λ r. IsReplay F.Key.cmp F.meaning F.code config.now steps.now r.outcomes.items r.lives.items r.map.items) }
+    ensures good { result ≢ Err Refused.BadConfig → IsWithinLimits config.now }
+    ensures bad { result ≡ Err Refused.BadConfig → ¬ IsWithinLimits config.now }
+    ensures only { IfErr result (λ refused. (refused ≡ Refused.BadConfig) ⊎ (refused ≡ Refused.NoMemory)) }
+{
+    let mut world = World::new(alloc, config)?;
+    for step in steps {
+        let Some(_told) = world.try_step(functions, *step) else {
+            return Err(Refused::NoMemory);
+        };
+    }
+    world.headline();
+    let report = world.report(alloc)?;
+    Ok(report)
+}
