@@ -25,3 +25,5 @@ pub use worlds::World;
 
 #[cfg(test)]
 mod tests;
+#[cfg(test)]
+mod world_tests;
