@@ -4,3 +4,8 @@ pub mod ToldLemmas
 pub mod WrongLemmas
 pub mod ManyLemmas
 pub mod WorldLemmas
+pub mod WordLemmas
+pub mod KeyLemmas
+pub mod GrammarLemmas
+pub mod LineLemmas
+pub mod ReadLemmas

@@ -3,3 +3,7 @@ pub mod Placed
 pub mod Changes
 pub mod WrongLives
 pub mod Worlds
+pub mod Words
+pub mod Grammar
+pub mod Reading
+pub mod Script

@@ -8,6 +8,7 @@
 pub mod laws;
 pub mod lives;
 pub mod outcomes;
+pub mod scripts;
 
 pub use lives::{End, Finish, Life, LifeOf};
 pub use outcomes::Outcome;

@@ -1,0 +1,13 @@
+//! Scripts: the text that a replay reads, and the text that it prints.
+//!
+//! `specs/Grammar.antt` says how each line is written, word by word, and `specs/Script.antt` what a text
+//! says, and which of its lines is the first bad one. `specs/Printing.antt` has the text that is printed.
+
+pub mod lines;
+mod parse;
+pub mod reading;
+mod texts;
+mod words;
+
+pub use lines::{FunctionsName, Line, Opening, Place, Script};
+pub use reading::{LIMIT, read_script};
