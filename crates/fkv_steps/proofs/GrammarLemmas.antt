@@ -200,7 +200,7 @@ do_found ws l e v t =
     let d = bind_ok {A = Op Name ℤ} (operation_of c.0.0 c.0.1) _ l c.2 in
     let o = operation_found c.0.0 c.0.1 d.0 d.1 in
     let same : Do a.0.0 b.0.0 d.0 ≡ l = same_Some (Do a.0.0 b.0.0 d.0) l d.2 in
-    rw (← same) ((t, taken_number ws a.0 a.1 _ (taken_number a.0.1 b.0 b.1 _ (first_word b.0.1 c.0 c.1 (verb d.0) (operands d.0) o.0 o.1))), o.2)
+    rw (← same) ((t, taken_number ws a.0 a.1 (number b.0.0 ∷ verb d.0 ∷ operands d.0) (taken_number a.0.1 b.0 b.1 (verb d.0 ∷ operands d.0) (first_word b.0.1 c.0 c.1 (verb d.0) (operands d.0) o.0 o.1))), o.2)
   where
     first_word : (vs : List (List ℕ)) (x : List ℕ × List (List ℕ)) → first_as Some vs ≡ Some x → (t : Token) (ts : List Token) → Spells x.0 t → SpellAll x.1 ts → SpellAll vs (t ∷ ts)
     first_word [] x f t ts g h = absurd (let bad : None ≡ Some x = f in cc)

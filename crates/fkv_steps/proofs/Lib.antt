@@ -9,3 +9,4 @@ pub mod KeyLemmas
 pub mod GrammarLemmas
 pub mod LineLemmas
 pub mod ReadLemmas
+pub mod WriteLemmas

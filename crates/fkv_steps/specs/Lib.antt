@@ -7,3 +7,4 @@ pub mod Words
 pub mod Grammar
 pub mod Reading
 pub mod Script
+pub mod Printing

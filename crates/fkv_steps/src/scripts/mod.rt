@@ -5,9 +5,14 @@
 
 pub mod lines;
 mod parse;
+pub mod printing;
 pub mod reading;
 mod texts;
 mod words;
 
 pub use lines::{FunctionsName, Line, Opening, Place, Script};
+pub use printing::{Shown, text_of, write_out};
 pub use reading::{LIMIT, read_script};
+
+#[cfg(test)]
+mod tests;
