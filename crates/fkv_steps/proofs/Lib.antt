@@ -10,3 +10,4 @@ pub mod GrammarLemmas
 pub mod LineLemmas
 pub mod ReadLemmas
 pub mod WriteLemmas
+pub mod OneReadingLemmas

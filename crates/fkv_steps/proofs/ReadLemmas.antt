@@ -34,7 +34,7 @@ said-all text (b ∷ bs) limit front ls e s h z = absurd (let none : length (b �
 
 -- a first line that opens no store, or is one too many
 pub bad-first : (limit n : ℕ) (lines : List (List ℕ)) (first : List ℕ) (more : List (List ℕ)) → lines ≡ first ∷ more → 1 ≡ n → ((o : Opening) → Opens first o → ⊥) ⊎ (0 ≡ limit) → IsBadAt limit lines n
-bad-first limit n lines first more e one why = inr (record { before = []; here = first; after = more; whole = e; number = sym one; good = tt; bad = why })
+bad-first limit n lines first more e one why = inr (record { before = []; here = first; after = more; whole = e; number = sym one; good = tt; within = omega arith; bad = why })
 
 no_lines : (n : ℕ) → take_lines n [] ≡ []
 unfolding take_lines
@@ -105,6 +105,7 @@ bad_line limit lines n h = record {
   whole = sym (take-append-drop (limit + 1) lines) ∙ ap (λ xs. xs ++ drop (limit + 1) lines) h.whole ∙ append_assoc h.before (h.here ∷ h.after) (drop (limit + 1) lines);
   number = h.number;
   good = h.good;
+  within = h.within;
   bad = h.bad;
 }
 

@@ -1,5 +1,5 @@
 -- The lines of a text, and what they say together.
-use Rattle.std.specs.Prelude.{zero, suc, ◌≡◌, ◌==◌, ◌⊎◌, ◌+◌, ℕ, Bool, List, [], ◌∷◌, ◌++◌, length, if◌then◌else◌}
+use Rattle.std.specs.Prelude.{zero, suc, ◌≡◌, ◌==◌, ◌⊎◌, ◌+◌, ◌≤◌, ℕ, Bool, List, [], ◌∷◌, ◌++◌, length, if◌then◌else◌}
 use Rattle.std.specs.List.{onto_first}
 use Rattle.std.specs.Io.BufRead.{take_through, drop_through}
 use Rattle.fkv_steps.specs.Grammar.{Says, Opens}
@@ -36,7 +36,7 @@ abbrev pub SaysNothing : List (List ℕ) → List ℕ → Type 0
 SaysNothing [] here = (o : Opening) → Opens here o → ⊥
 SaysNothing (first ∷ more) here = (l : Line) → Says here l → ⊥
 
--- Line n is the first bad one: those before it are the lines of a script, and it says nothing or is one too many.
+-- Line n is the first bad one: those before it are the lines of a script and not too many, and it says nothing or is one too many.
 pub record IsBadLine (limit : ℕ) (lines : List (List ℕ)) (n : ℕ) : Type 0 where
   pub before : List (List ℕ)
   pub here : List ℕ
@@ -44,6 +44,7 @@ pub record IsBadLine (limit : ℕ) (lines : List (List ℕ)) (n : ℕ) : Type 0 
   pub whole : lines ≡ before ++ (here ∷ after)
   pub number : n ≡ length before + 1
   pub good : BeginsScript before
+  pub within : length before ≤ limit
   pub bad : SaysNothing before here ⊎ (length before ≡ limit)
 
 -- a script is bad at line n; one of no bytes is bad in line 1

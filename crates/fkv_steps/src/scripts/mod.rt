@@ -3,6 +3,7 @@
 //! `specs/Grammar.antt` says how each line is written, word by word, and `specs/Script.antt` what a text
 //! says, and which of its lines is the first bad one. `specs/Printing.antt` has the text that is printed.
 
+pub mod laws;
 pub mod lines;
 mod parse;
 pub mod printing;
@@ -10,6 +11,7 @@ pub mod reading;
 mod texts;
 mod words;
 
+pub use laws::one_reading;
 pub use lines::{FunctionsName, Line, Opening, Place, Script};
 pub use printing::{Shown, text_of, write_out};
 pub use reading::{LIMIT, read_script};

@@ -1,5 +1,6 @@
 //! Lines of each kind, good and bad; printed texts; readers and writers that fail.
 use crate::outcomes::Outcome;
+use crate::scripts::laws::one_reading;
 use crate::scripts::lines::{FunctionsName, Line, Opening, Place, Script};
 use crate::scripts::printing::{text_of, write_out};
 use crate::scripts::reading::{LIMIT, read_script};
@@ -84,6 +85,7 @@ do 1 15 rmw a -0";
     let ended = read(rt.alloc(), "store sum 1 8 0 18446744073709551615\n")?;
     assert_eq!(rt; ended.opening, OPENING);
     assert_eq!(rt; ended.lines.len(), 0);
+    one_reading();
     Ok(())
 }
 
@@ -117,6 +119,12 @@ fn bad_first_lines(rt: HostRuntime) {
             "{at}"
         );
     }
+    // bytes that are no text
+    let bytes = b"store sum 0 8 8 2\xff".as_slice();
+    assert_eq!(rt;
+        read_script(rt.alloc(), bytes, LIMIT).err(),
+        Some(Refused::BadScript { line: 1 })
+    );
 }
 
 #[test]
@@ -336,4 +344,26 @@ fn a_writer_that_fails(rt: HostRuntime) {
             assert_eq!(rt; writer.text.as_slice(), &bytes[..taken], "{call}");
         }
     }
+}
+
+/// Reads and prints, and says whether memory was refused. It passes whichever allocation is refused, and is
+/// meant to be run with each of them refused in turn.
+#[test]
+fn refused_growths_are_told(rt: HostRuntime) -> Result<(), Fail> {
+    let text = "store sum 0 8 8 2\nenter 0\nrmw 0 0 a 5\n";
+    let mut script = read(rt.alloc(), text);
+    if let Err(refused) = script {
+        assert_eq!(rt; refused, Refused::NoMemory);
+        script = read(rt.alloc(), text);
+    }
+    assert_eq!(rt; script?.lines.len(), 2);
+    let steps: [Result<Outcome<i128, i128>, Refused>; 1] = [Ok(Outcome::Next)];
+    let pairs = [(name(b"a")?, 12)];
+    let mut printed = text_of(rt.alloc(), steps.as_slice(), pairs.as_slice());
+    if let Err(refused) = printed {
+        assert_eq!(rt; refused, Refused::NoMemory);
+        printed = text_of(rt.alloc(), steps.as_slice(), pairs.as_slice());
+    }
+    assert_eq!(rt; printed?.as_slice(), b"next\nmap 1\na 12\n".as_slice());
+    Ok(())
 }

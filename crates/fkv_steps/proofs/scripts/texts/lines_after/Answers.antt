@@ -16,6 +16,7 @@ returns-then-len-limit-clause-bad c = λ n e first o opens.
       whole = ap (λ x. first ∷ x) (read.1 ∙ ap (λ x. read.0 ++ x) c.split_line.ensures.lines);
       number = omega arith;
       good = (o, c.loop-rest.lines.items, (opens, read.2));
+      within = omega arith;
       bad = inr (omega arith);
     }
 
@@ -33,6 +34,7 @@ returns-in_err-add_line-clause-bad c =
       whole = ap (λ x. first ∷ x) (read.1 ∙ ap (λ x. read.0 ++ x) c.split_line.ensures.lines);
       number = omega (arith, why.0);
       good = (o, c.loop-rest.lines.items, (opens, read.2));
+      within = omega arith;
       bad = inl why.1;
     })
 
