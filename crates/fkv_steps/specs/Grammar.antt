@@ -59,15 +59,11 @@ abbrev pub ReadsWithZero : Op Name ℤ → Type 0
 ReadsWithZero (Read k i) = i ≡ pos 0
 ReadsWithZero (Rmw k n) = Unit {0}
 
--- a line can be written
+-- a line can be written: what it asks a read with is 0
 abbrev pub HasText : Line → Type 0
-HasText (Enter p) = Unit {0}
 HasText (Issue p s o) = ReadsWithZero o
 HasText (Do p s o) = ReadsWithZero o
-HasText (Go p) = Unit {0}
-HasText (Install p) = Unit {0}
-HasText (Ready p) = Unit {0}
-HasText (Finish p) = Unit {0}
+HasText other = Unit {0}
 
 abbrev pub Spelled : List (List ℕ) → Line → Type 0
 Spelled ws l = SpellAll ws (tokens l) × HasText l

@@ -13,7 +13,7 @@ mod words;
 
 pub use laws::one_reading;
 pub use lines::{FunctionsName, Line, Opening, Place, Script};
-pub use printing::{Shown, text_of, write_out};
+pub use printing::{Printed, text_of, write_out};
 pub use reading::{LIMIT, read_script};
 
 #[cfg(test)]

@@ -12,36 +12,36 @@ use std::fmt::{self, Display};
 use std::io::{ErrorKind, Write};
 
 /// A value whose printed text is known.
-pub trait Shown: Display {
+pub trait Printed: Display {
     /// The text that `{}` writes.
     ghost text: { Self → List ℕ };
 
     /// Tells a proof that `{}` writes this text.
-    fn shown(&self)
+    fn printed(&self)
         ensures { Self.output self.now ≡ Some (text self.now) };
 }
 
-impl Shown for u64 {
+impl Printed for u64 {
     ghost text = { decimal };
 
-    fn shown(&self) {}
+    fn printed(&self) {}
 }
 
-impl Shown for i64 {
+impl Printed for i64 {
     ghost text = { signed_decimal };
 
-    fn shown(&self) {}
+    fn printed(&self) {}
 }
 
-impl Shown for i128 {
+impl Printed for i128 {
     ghost text = { signed_decimal };
 
-    fn shown(&self) {}
+    fn printed(&self) {}
 }
 
 /// An outcome prints as a script's line does: `entered S`, `issued C`, `next`, `build none`, `build V`,
 /// `done value V` or `done absent`.
-impl<V: Shown, O: Shown> Display for Outcome<V, O> {
+impl<V: Printed, O: Printed> Display for Outcome<V, O> {
     ghost output = { λ o. Some (outcome_text V.text O.text o) };
 
     fn fmt<W: fmt::Write>(&self, f: &mut fmt::Formatter<W>) -> fmt::Result {
@@ -51,11 +51,11 @@ impl<V: Shown, O: Shown> Display for Outcome<V, O> {
             Outcome::Next => write!(f, "next"),
             Outcome::Build(None) => write!(f, "build none"),
             Outcome::Build(Some(value)) => {
-                value.shown();
+                value.printed();
                 write!(f, "build {value}")
             }
             Outcome::Done(Answer::Value(shown)) => {
-                shown.shown();
+                shown.printed();
                 write!(f, "done value {shown}")
             }
             Outcome::Done(Answer::Absent) => write!(f, "done absent"),
@@ -65,7 +65,7 @@ impl<V: Shown, O: Shown> Display for Outcome<V, O> {
 
 /// The whole text that a replay prints: a line for each step, then the number of live keys, and a line
 /// for each of them in the order given. Refused: `NoMemory`.
-pub fn text_of<V: Shown, O: Shown>(
+pub fn text_of<V: Printed, O: Printed>(
     alloc: Global,
     steps: &[Result<Outcome<V, O>, Refused>],
     pairs: &[(Name, V)],
@@ -82,7 +82,7 @@ pub fn text_of<V: Shown, O: Shown>(
 }
 
 /// Adds the line of a step.
-fn add_step<V: Shown, O: Shown>(
+fn add_step<V: Printed, O: Printed>(
     text: &mut Vec<u8>,
     step: &Result<Outcome<V, O>, Refused>,
 ) -> Result<(), Refused>
@@ -102,7 +102,7 @@ fn add_step<V: Shown, O: Shown>(
 }
 
 /// Adds the lines of the map.
-fn add_map<V: Shown>(text: &mut Vec<u8>, pairs: &[(Name, V)]) -> Result<(), Refused>
+fn add_map<V: Printed>(text: &mut Vec<u8>, pairs: &[(Name, V)]) -> Result<(), Refused>
     ensures ok { OnOk result (text.new.items ≡ text.old.items ++ map_text V.text pairs.now) }
     ensures only { IfErr result (λ refused. refused ≡ Refused.NoMemory) }
 {
@@ -116,14 +116,14 @@ fn add_map<V: Shown>(text: &mut Vec<u8>, pairs: &[(Name, V)]) -> Result<(), Refu
 }
 
 /// Adds the line of a key and its value.
-fn add_pair<V: Shown>(text: &mut Vec<u8>, key: &Name, value: &V) -> Result<(), Refused>
+fn add_pair<V: Printed>(text: &mut Vec<u8>, key: &Name, value: &V) -> Result<(), Refused>
     ensures ok { OnOk result (text.new.items ≡ text.old.items ++ line (pair_text V.text (key.now, value.now))) }
     ensures only { IfErr result (λ refused. refused ≡ Refused.NoMemory) }
 {
     let Ok(()) = text.extend_from_slice(key.bytes()) else {
         return Err(Refused::NoMemory);
     };
-    value.shown();
+    value.printed();
     let Ok(()) = writeln!(text, " {value}") else {
         return Err(Refused::NoMemory);
     };
