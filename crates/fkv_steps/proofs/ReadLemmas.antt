@@ -9,7 +9,7 @@ use Rattle.std.specs.Io.BufRead.{take_through, drop_through, DropsThrough}
 use Rattle.fkv_steps.specs.Grammar.{Says, Opens}
 use Rattle.fkv_steps.specs.declared.scripts.lines.Line.{Line}
 use Rattle.fkv_steps.specs.declared.scripts.lines.Opening.{Opening}
-use Rattle.fkv_steps.specs.Script.{is_line_end, lines_of, SayAll, SaysScript, IsBadLine, IsBadAt, take_lines}
+use Rattle.fkv_steps.specs.Script.{is_line_end, lines_of, SayAll, SaysScript, IsBadLine, IsBadAt}
 
 pub say-more : (front : List (List ℕ)) (ls : List Line) (bytes : List ℕ) (l : Line) → SayAll front ls → Says bytes l → SayAll (front ++ (bytes ∷ [])) (ls ++ (l ∷ []))
 say-more [] [] bytes l s h = (h, tt)
@@ -35,6 +35,11 @@ said-all text (b ∷ bs) limit front ls e s h z = absurd (let none : length (b �
 -- a first line that opens no store, or is one too many
 pub bad-first : (limit n : ℕ) (lines : List (List ℕ)) (first : List ℕ) (more : List (List ℕ)) → lines ≡ first ∷ more → 1 ≡ n → ((o : Opening) → Opens first o → ⊥) ⊎ (0 ≡ limit) → IsBadAt limit lines n
 bad-first limit n lines first more e one why = inr (record { before = []; here = first; after = more; whole = e; number = sym one; good = tt; within = omega arith; bad = why })
+
+-- the bytes of the first lines
+unfoldable pub take_lines : ℕ → List ℕ → List ℕ
+take_lines zero xs = []
+take_lines (suc n) xs = take_through 10 xs ++ take_lines n (drop_through 10 xs)
 
 no_lines : (n : ℕ) → take_lines n [] ≡ []
 unfolding take_lines

@@ -1,7 +1,6 @@
 -- The lines of a text, and what they say together.
-use Rattle.std.specs.Prelude.{zero, suc, ◌≡◌, ◌==◌, ◌⊎◌, ◌+◌, ◌≤◌, ℕ, Bool, List, [], ◌∷◌, ◌++◌, length, if◌then◌else◌}
+use Rattle.std.specs.Prelude.{◌≡◌, ◌==◌, ◌⊎◌, ◌+◌, ◌≤◌, ℕ, Bool, List, [], ◌∷◌, ◌++◌, length, if◌then◌else◌}
 use Rattle.std.specs.List.{onto_first}
-use Rattle.std.specs.Io.BufRead.{take_through, drop_through}
 use Rattle.fkv_steps.specs.Grammar.{Says, Opens}
 use Rattle.fkv_steps.specs.declared.scripts.lines.Opening.{Opening}
 use Rattle.fkv_steps.specs.declared.scripts.lines.Line.{Line}
@@ -50,8 +49,3 @@ pub record IsBadLine (limit : ℕ) (lines : List (List ℕ)) (n : ℕ) : Type 0 
 -- a script is bad at line n; one of no bytes is bad in line 1
 abbrev pub IsBadAt : ℕ → List (List ℕ) → ℕ → Type 0
 IsBadAt limit lines n = ((lines ≡ []) × (n ≡ 1)) ⊎ IsBadLine limit lines n
-
--- the bytes of the first lines
-unfoldable pub take_lines : ℕ → List ℕ → List ℕ
-take_lines zero xs = []
-take_lines (suc n) xs = take_through 10 xs ++ take_lines n (drop_through 10 xs)

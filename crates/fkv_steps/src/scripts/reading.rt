@@ -1,6 +1,7 @@
 //! Scripts from a reader.
-ghost use Rattle.std.specs.Prelude.{◌≡◌, ◌+◌, ◌≤◌, ◌⊎◌, ℕ, IfOk, IfErr, IfSome, length, take};
+ghost use Rattle.std.specs.Prelude.{◌≡◌, ◌≢◌, ◌+◌, ◌≤◌, ◌⊎◌, ℕ, IfOk, IfErr, IfSome, length, take};
 ghost use Rattle.std.specs.Io.Buffered.{reader_remaining};
+ghost use Rattle.std.specs.IoError.{error_kind};
 ghost use Rattle.fkv_steps.specs.Script.{lines_of, SaysScript, IsBadAt};
 
 use crate::scripts::lines::Script;
@@ -59,7 +60,9 @@ fn read_lines<R: BufRead>(alloc: Global, reader: &mut R, count: usize) -> Result
 
 /// Why a read was refused: its buffers are the only memory that it asks for.
 fn why(error: &io::Error) -> Refused
-    ensures { (result ≡ Refused.NoMemory) ⊎ (result ≡ Refused.Unreadable 1) }
+    ensures memory { error_kind error.now ≡ ErrorKind.OutOfMemory → result ≡ Refused.NoMemory }
+    ensures input { error_kind error.now ≢ ErrorKind.OutOfMemory → result ≡ Refused.Unreadable 1 }
+    ensures only { (result ≡ Refused.NoMemory) ⊎ (result ≡ Refused.Unreadable 1) }
 {
     if error.kind() == ErrorKind::OutOfMemory {
         Refused::NoMemory
