@@ -8,3 +8,11 @@ pub mod ActsLemmas
 pub mod EmptyLemmas
 pub mod AccountLemmas
 pub mod ReportLemmas
+pub mod WordLemmas
+pub mod KeyLemmas
+pub mod GrammarLemmas
+pub mod LineLemmas
+pub mod ReadLemmas
+pub mod WriteLemmas
+pub mod OneReadingLemmas
+pub mod RunningLemmas

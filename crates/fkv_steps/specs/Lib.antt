@@ -9,3 +9,10 @@ pub mod Told
 pub mod Headline
 pub mod Sound
 pub mod Reports
+pub mod Words
+pub mod Grammar
+pub mod Reading
+pub mod Script
+pub mod OneReading
+pub mod Printing
+pub mod Running

@@ -11,6 +11,7 @@ pub mod outcomes;
 pub mod pursuits;
 pub mod replays;
 pub mod reports;
+pub mod scripts;
 pub mod states;
 pub mod steps;
 pub mod tables;

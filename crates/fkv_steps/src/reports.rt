@@ -105,6 +105,15 @@ impl<F: Functions> State<F> {
 }
 
 impl<F: Functions> World<F> {
+    /// Each live key of all partitions with its value, keys rising. Refused: `NoMemory`.
+    pub fn live(&self, alloc: Global) -> Result<Vec<(F::Key, F::Value)>, Refused>
+        ensures map { IfOk result (λ pairs. (k : F.Key) → lookup (is_at (F.Key.cmp k)) pairs.items ≡ world_live F.Key.cmp F.code self.now.state.partitions k) }
+        ensures rising { IfOk result (λ pairs. IsStrictlySortedBy F.Key.cmp (keys_of pairs.items)) }
+        ensures only { IfErr result (λ refused. refused ≡ Refused.NoMemory) }
+    {
+        self.state.live(alloc)
+    }
+
     /// The report of the world as it is. Refused: `NoMemory`.
     pub fn report(&self, alloc: Global) -> Result<ReportOf<F>, Refused>
         ensures ok { IfOk result (λ r. IsReport F.Key.cmp F.code self.now r.outcomes.items r.lives.items r.map.items) }

@@ -1,0 +1,13 @@
+use Rattle.fkv_steps.proofs.scripts.running.run_line.Goals as goal
+
+pub returns-in-Enter : goal.returns-in-Enter
+returns-in-Enter g c = rw c.in-Enter.is c.step.ensures.does
+
+pub returns-in-Issue : goal.returns-in-Issue
+returns-in-Issue g c = rw c.in-Issue.is c.step-in-Issue.ensures.does
+
+pub returns-in-Go : goal.returns-in-Go
+returns-in-Go g c = rw c.in-Go.is c.step-in-Go.ensures.does
+
+pub returns-in-Install : goal.returns-in-Install
+returns-in-Install g c = rw c.in-Install.is c.step-in-Install.ensures.does

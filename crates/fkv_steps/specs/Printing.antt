@@ -1,0 +1,46 @@
+-- The text that a replay prints.
+use Rattle.std.specs.Prelude.{ℕ, List, Option, Some, None, Result, Ok, Err, ◌++◌, ◌∷◌, [], length, take, codes, decimal}
+use Rattle.std.specs.List.{flat_map}
+use Rattle.std.specs.Io.KnownBytes.{Appends}
+use Rattle.fkv_functions.specs.Names.{text_of}
+use Rattle.fkv_functions.specs.RefusalNames.{name_of}
+use Rattle.fkv_functions.specs.declared.names.Name.{Name}
+use Rattle.fkv_functions.specs.declared.refusals.Refused.{Refused}
+use Rattle.fkv_operations.specs.declared.operations.Answer.TheVariants.{Value, Absent}
+use Rattle.fkv_steps.specs.declared.outcomes.Outcome.{Outcome}
+use Rattle.fkv_steps.specs.declared.outcomes.Outcome.TheVariants.{Entered, Issued, Next, Build, Done}
+
+-- the text of an outcome, from the texts of values and of what is shown of them
+abbrev pub outcome_text : {V O : Type 0} → (V → List ℕ) → (O → List ℕ) → Outcome V O → List ℕ
+outcome_text value shown (Entered slot) = codes "entered " ++ decimal slot
+outcome_text value shown (Issued context) = codes "issued " ++ decimal context
+outcome_text value shown Next = codes "next"
+outcome_text value shown (Build None) = codes "build none"
+outcome_text value shown (Build (Some v)) = codes "build " ++ value v
+outcome_text value shown (Done (Value o)) = codes "done value " ++ shown o
+outcome_text value shown (Done Absent) = codes "done absent"
+
+-- what a step prints: its outcome, or the name of its refusal
+abbrev pub step_text : {V O : Type 0} → (V → List ℕ) → (O → List ℕ) → Result (Outcome V O) Refused → List ℕ
+step_text value shown (Ok o) = outcome_text value shown o
+step_text value shown (Err e) = codes "refused " ++ name_of e
+
+-- a line feed ends each line
+abbrev pub line : List ℕ → List ℕ
+line text = text ++ 10 ∷ []
+
+-- a key, a space and its value
+abbrev pub pair_text : {V : Type 0} → (V → List ℕ) → Name × V → List ℕ
+pair_text value p = text_of p.0 ++ 32 ∷ [] ++ value p.1
+
+-- a line for each step
+abbrev pub steps_text : {V O : Type 0} → (V → List ℕ) → (O → List ℕ) → List (Result (Outcome V O) Refused) → List ℕ
+steps_text value shown steps = flat_map (λ r. line (step_text value shown r)) steps
+
+-- how many keys are live, and a line for each in order
+abbrev pub map_text : {V : Type 0} → (V → List ℕ) → List (Name × V) → List ℕ
+map_text value pairs = line (codes "map " ++ decimal (length pairs)) ++ flat_map (λ p. line (pair_text value p)) pairs
+
+-- bytes from the front of these were written, and no others
+abbrev pub AppendsPrefix : Option (List ℕ) → Option (List ℕ) → List ℕ → Type 0
+AppendsPrefix old new bytes = (n : ℕ) × Appends old new (take n bytes)

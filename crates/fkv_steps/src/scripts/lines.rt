@@ -1,0 +1,60 @@
+//! What the lines of a script say.
+use crate::steps::Place;
+use fkv_functions::Name;
+use fkv_operations::Op;
+
+/// The sets of functions that a script can name.
+#[derive(Clone, Copy, PartialEq, Eq, Debug)]
+pub enum FunctionsName {
+    /// `sum`: the sum of the amounts of each key.
+    Sum,
+}
+
+/// The first line of a script: the store that it opens. The numbers are those that are written, within
+/// the limits of a configuration or not.
+#[derive(Clone, Copy, PartialEq, Eq, Debug)]
+pub struct Opening {
+    pub functions: FunctionsName,
+    pub partition_bits: u64,
+    pub bucket_bits: u64,
+    pub page_bits: u64,
+    /// The page frames of a partition.
+    pub frames: u64,
+}
+
+/// A line of a script, after the first.
+#[derive(Clone, Copy, PartialEq, Eq, Debug)]
+pub enum Line {
+    /// A session enters a partition.
+    Enter {
+        partition: u64,
+    },
+    /// A session issues an operation. The input of a read is 0.
+    Issue {
+        partition: u64,
+        session: u64,
+        op: Op<Name, i64>,
+    },
+    /// A session issues an operation and finishes it. The input of a read is 0.
+    Do {
+        partition: u64,
+        session: u64,
+        op: Op<Name, i64>,
+    },
+    /// An operation goes on by one step.
+    Go(Place),
+    /// What an operation last asked for is answered.
+    Install(Place),
+    /// An operation goes on until it asks for something or ends.
+    Ready(Place),
+    /// An operation goes on, and is answered, until it ends.
+    Finish(Place),
+}
+
+/// What a whole script says.
+#[derive(Drop)]
+pub struct Script {
+    pub opening: Opening,
+    /// The lines after the first, in order.
+    pub lines: Vec<Line>,
+}

@@ -1,0 +1,188 @@
+//! What one line says, found word by word.
+ghost use Rattle.std.specs.Prelude.{◌≡◌, IfSome, Some};
+ghost use Rattle.std.specs.Str.{bytes_eq};
+ghost use Rattle.fkv_steps.specs.declared.scripts.lines.Line.{Line};
+ghost use Rattle.fkv_steps.specs.declared.scripts.lines.Opening.{Opening};
+ghost use Rattle.fkv_steps.specs.Words.{words_of};
+ghost use Rattle.fkv_steps.specs.Grammar.{Says, Opens};
+ghost use Rattle.fkv_steps.specs.Reading.{Gives, first_as, line_of, enter_of, issue_of, do_of, place_of, operation_of, functions_of, store_of, opening_of};
+
+use crate::scripts::lines::{FunctionsName, Line, Opening};
+use crate::scripts::words::Words;
+use crate::steps::Place;
+use fkv_functions::Name;
+use fkv_operations::Op;
+
+/// What a line after the first says, where it says anything.
+pub fn parse_line(bytes: &[u8]) -> Option<Line>
+    // It says what was found.
+    ensures found { IfSome result (λ l. Says bytes.now l) }
+    // What it says is found.
+    ensures only { (l : Line) → Says bytes.now l → result ≡ Some l }
+{
+    line(bytes)
+}
+
+/// The store that a first line opens, where it opens one.
+pub fn parse_opening(bytes: &[u8]) -> Option<Opening>
+    ensures found { IfSome result (λ o. Opens bytes.now o) }
+    ensures only { (o : Opening) → Opens bytes.now o → result ≡ Some o }
+{
+    opening(bytes)
+}
+
+#[tactic(auto, unfolding(crate::specs::Reading::line_of))]
+fn line(bytes: &[u8]) -> Option<Line>
+    ensures { result ≡ line_of (words_of bytes.now) }
+{
+    let mut words = Words::new(bytes);
+    let verb = words.next()?;
+    if is(verb, "enter") {
+        return enter(&mut words);
+    }
+    if is(verb, "do") {
+        return do_line(&mut words);
+    }
+    if is(verb, "go") {
+        return Some(Line::Go(place(&mut words)?));
+    }
+    if is(verb, "install") {
+        return Some(Line::Install(place(&mut words)?));
+    }
+    if is(verb, "ready") {
+        return Some(Line::Ready(place(&mut words)?));
+    }
+    if is(verb, "finish") {
+        return Some(Line::Finish(place(&mut words)?));
+    }
+    issue(verb, &mut words)
+}
+
+#[tactic(auto, unfolding(crate::specs::Reading::opening_of))]
+fn opening(bytes: &[u8]) -> Option<Opening>
+    ensures { result ≡ opening_of (words_of bytes.now) }
+{
+    let mut words = Words::new(bytes);
+    let verb = words.next()?;
+    if is(verb, "store") {
+        return store(&mut words);
+    }
+    None
+}
+
+fn is(word: &[u8], text: &str) -> bool
+    ensures { result ≡ bytes_eq word.now text.now }
+{
+    word == text.as_bytes()
+}
+
+#[tactic(auto, unfolding(crate::specs::Reading::functions_of))]
+fn functions(words: &mut Words<'_>) -> Option<FunctionsName>
+    ensures { Gives result (first_as functions_of words.old) words.new }
+{
+    let word = words.next()?;
+    if is(word, "sum") {
+        return Some(FunctionsName::Sum);
+    }
+    None
+}
+
+#[tactic(auto, unfolding(crate::specs::Reading::store_of))]
+fn store(words: &mut Words<'_>) -> Option<Opening>
+    ensures { result ≡ store_of words.old }
+{
+    let functions = functions(words)?;
+    let partition_bits = words.number()?;
+    let bucket_bits = words.number()?;
+    let page_bits = words.number()?;
+    let frames = words.number()?;
+    if !words.is_empty() {
+        return None;
+    }
+    Some(Opening {
+        functions,
+        partition_bits,
+        bucket_bits,
+        page_bits,
+        frames,
+    })
+}
+
+#[tactic(auto, unfolding(crate::specs::Reading::enter_of))]
+fn enter(words: &mut Words<'_>) -> Option<Line>
+    ensures { result ≡ enter_of words.old }
+{
+    let partition = words.number()?;
+    if !words.is_empty() {
+        return None;
+    }
+    Some(Line::Enter { partition })
+}
+
+#[tactic(auto, unfolding(crate::specs::Reading::place_of))]
+fn place(words: &mut Words<'_>) -> Option<Place>
+    ensures { result ≡ place_of words.old }
+{
+    let partition = words.number()?;
+    let slot = words.number()?;
+    let context = words.number()?;
+    if !words.is_empty() {
+        return None;
+    }
+    Some(Place {
+        partition: partition as usize,
+        slot: slot as usize,
+        context: context as usize,
+    })
+}
+
+#[tactic(auto, unfolding(crate::specs::Reading::operation_of))]
+fn operation(verb: &[u8], words: &mut Words<'_>) -> Option<Op<Name, i64>>
+    ensures { result ≡ operation_of verb.now words.old }
+{
+    if is(verb, "read") {
+        let key = words.key()?;
+        if !words.is_empty() {
+            return None;
+        }
+        return Some(Op::Read(key, 0));
+    }
+    if is(verb, "rmw") {
+        let key = words.key()?;
+        let amount = words.amount()?;
+        if !words.is_empty() {
+            return None;
+        }
+        return Some(Op::Rmw(key, amount));
+    }
+    None
+}
+
+#[tactic(auto, unfolding(crate::specs::Reading::issue_of))]
+fn issue(verb: &[u8], words: &mut Words<'_>) -> Option<Line>
+    ensures { result ≡ issue_of verb.now words.old }
+{
+    let partition = words.number()?;
+    let session = words.number()?;
+    let op = operation(verb, words)?;
+    Some(Line::Issue {
+        partition,
+        session,
+        op,
+    })
+}
+
+#[tactic(auto, unfolding(crate::specs::Reading::do_of))]
+fn do_line(words: &mut Words<'_>) -> Option<Line>
+    ensures { result ≡ do_of words.old }
+{
+    let partition = words.number()?;
+    let session = words.number()?;
+    let verb = words.next()?;
+    let op = operation(verb, words)?;
+    Some(Line::Do {
+        partition,
+        session,
+        op,
+    })
+}

@@ -1,0 +1,148 @@
+//! Running a script from a reader to a writer.
+ghost use Rattle.std.specs.Prelude.{◌≡◌, ◌≢◌, ◌⊎◌, ℕ, List, Err, IfOk, IfErr, IfSome, OnOk};
+ghost use Rattle.fkv_partition.specs.Limits.{IsWithinLimits};
+ghost use Rattle.fkv_steps.specs.declared.scripts.lines.Line.{Line};
+ghost use Rattle.fkv_functions.specs.Names.{name_cmp};
+ghost use Rattle.std.specs.Io.KnownBytes.{Appends};
+ghost use Rattle.fkv_steps.specs.Printing.{AppendsPrefix};
+ghost use Rattle.fkv_steps.specs.Script.{lines_of, IsBadAt};
+ghost use Rattle.fkv_steps.specs.Running.{config_of, RunsLine, IsPrintedBy, IsOutputOf, HasBadConfig};
+
+use crate::outcomes::{Outcome, OutcomeOf};
+use crate::scripts::lines::{FunctionsName, Line, Opening};
+use crate::scripts::printing::{Printed, text_of, write_out};
+use crate::scripts::reading::{LIMIT, read_script};
+use crate::steps::{Place, Step};
+use crate::worlds::World;
+use fkv_functions::{Functions, Name, Refused, SumFns};
+use fkv_operations::Op;
+use fkv_partition::Config;
+use std::alloc::Global;
+use std::io::{Read, Write};
+
+impl Opening {
+    /// The configuration that the line names. Its id is 1, and its turns are 1,000,000.
+    pub fn config(&self) -> Config
+        ensures { result ≡ config_of self.now }
+    {
+        Config {
+            id: 1,
+            partition_bits: self.partition_bits,
+            bucket_bits: self.bucket_bits,
+            page_bits: self.page_bits,
+            frames: self.frames,
+            turns: 1_000_000,
+        }
+    }
+}
+
+/// Does what a line says, and answers what its last step told.
+fn run_line<F: Functions<Key = Name, Input = i64>>(
+    world: &mut World<F>,
+    functions: &F,
+    line: &Line,
+) -> Result<OutcomeOf<F>, Refused>
+    ensures { RunsLine name_cmp F.meaning F.code world.old world.new result line.now }
+{
+    match *line {
+        Line::Enter { partition } => world.step(functions, Step::Enter(partition as usize)),
+        Line::Issue {
+            partition,
+            session,
+            op,
+        } => world.step(
+            functions,
+            Step::Issue(partition as usize, session as usize, op),
+        ),
+        Line::Do {
+            partition,
+            session,
+            op,
+        } => do_operation(world, functions, partition as usize, session as usize, op),
+        Line::Go(place) => world.step(functions, Step::Go(place)),
+        Line::Install(place) => world.step(functions, Step::Install(place)),
+        Line::Ready(place) => world.ready(functions, place),
+        Line::Finish(place) => world.finish(functions, place),
+    }
+}
+
+/// Issues an operation, and finishes it.
+fn do_operation<F: Functions<Key = Name, Input = i64>>(
+    world: &mut World<F>,
+    functions: &F,
+    partition: usize,
+    slot: usize,
+    op: Op<Name, i64>,
+) -> Result<OutcomeOf<F>, Refused>
+    ensures { RunsLine name_cmp F.meaning F.code world.old world.new result (Line.Do partition slot op) }
+{
+    let issued = world.step(functions, Step::Issue(partition, slot, op));
+    match issued {
+        Ok(Outcome::Issued(context)) => world.finish(
+            functions,
+            Place {
+                partition,
+                slot,
+                context,
+            },
+        ),
+        _ => issued,
+    }
+}
+
+/// The text that the lines print, run in a world with nothing in it. Refused, in this order: `BadConfig`
+/// where a number of the configuration is outside its limits, `NoMemory`.
+fn printed_by<F: Functions<Key = Name, Input = i64>>(
+    alloc: Global,
+    functions: &F,
+    config: &Config,
+    lines: &[Line],
+) -> Result<Vec<u8>, Refused>
+where
+    F::Value: Printed,
+    F::Output: Printed,
+    ensures ok { IfOk result (λ text. IsPrintedBy name_cmp F.meaning F.code F.Value.text F.Output.text config.now lines.now text.items) }
+    ensures good { result ≢ Err Refused.BadConfig → IsWithinLimits config.now }
+    ensures bad { result ≡ Err Refused.BadConfig → ¬ IsWithinLimits config.now }
+    ensures only { IfErr result (λ refused. (refused ≡ Refused.BadConfig) ⊎ (refused ≡ Refused.NoMemory)) }
+{
+    let mut world = World::<F>::new(alloc, config)?;
+    let mut told = Vec::new(alloc);
+    for line in lines {
+        let one = run_line(&mut world, functions, line);
+        let Ok(()) = told.push(one) else {
+            return Err(Refused::NoMemory);
+        };
+    }
+    world.headline();
+    let pairs = world.live(alloc)?;
+    let text = text_of(alloc, &told, &pairs)?;
+    Ok(text)
+}
+
+/// Reads a script to its end, does what its lines say, and writes what they tell: a line for each, then
+/// the number of live keys, and a line for each of these with its value, keys rising.
+///
+/// Refused, in this order: `Unreadable` with number 1 where the reader fails; `BadScript` with the first
+/// line that is bad; `BadConfig` where a number of the first line is outside its limits; `NoMemory`; and
+/// `Unwritable` where the writer fails: then the bytes that it took are the first of them. After any other
+/// refusal nothing is written.
+pub fn run_script<R: Read + Drop, W: Write>(
+    alloc: Global,
+    reader: R,
+    writer: &mut W,
+) -> Result<(), Refused>
+    ensures ok { OnOk result (IfSome (R.remaining reader) (λ input. (text : List ℕ) × IsOutputOf input text × Appends (W.contents writer.old) (W.contents writer.new) text)) }
+    ensures unwritable { result ≡ Err Refused.Unwritable → IfSome (R.remaining reader) (λ input. (text : List ℕ) × IsOutputOf input text × AppendsPrefix (W.contents writer.old) (W.contents writer.new) text) }
+    ensures nothing { IfErr result (λ e. e ≢ Refused.Unwritable → W.contents writer.new ≡ W.contents writer.old) }
+    ensures bad { IfErr result (λ e. (n : ℕ) → e ≡ Refused.BadScript n → IfSome (R.remaining reader) (λ input. IsBadAt 1000000 (lines_of input) n)) }
+    ensures config { result ≡ Err Refused.BadConfig → IfSome (R.remaining reader) HasBadConfig }
+    ensures only { IfErr result (λ e. (e ≡ Refused.NoMemory) ⊎ (e ≡ Refused.Unreadable 1) ⊎ (e ≡ Refused.BadConfig) ⊎ (e ≡ Refused.Unwritable) ⊎ ((n : ℕ) × (e ≡ Refused.BadScript n))) }
+{
+    let script = read_script(alloc, reader, LIMIT)?;
+    let config = script.opening.config();
+    let text = match script.opening.functions {
+        FunctionsName::Sum => printed_by(alloc, &SumFns, &config, &script.lines)?,
+    };
+    write_out(writer, text.as_slice())
+}
