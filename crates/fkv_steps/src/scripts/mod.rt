@@ -19,4 +19,6 @@ pub use reading::{LIMIT, read_script};
 pub use running::run_script;
 
 #[cfg(test)]
+mod run_tests;
+#[cfg(test)]
 mod tests;

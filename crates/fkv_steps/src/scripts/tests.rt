@@ -190,10 +190,10 @@ fn the_line_after_the_limit(rt: HostRuntime) {
 
 /// Gives a text five bytes at a time, and fails once, after so many calls.
 #[derive(Drop)]
-struct Breaking<'a> {
-    text: &'a [u8],
-    left: u64,
-    kind: ErrorKind,
+pub(super) struct Breaking<'a> {
+    pub(super) text: &'a [u8],
+    pub(super) left: u64,
+    pub(super) kind: ErrorKind,
 }
 
 impl Read for Breaking<'_> {
@@ -288,10 +288,10 @@ a-1 170141183460469231731687303715884105727
 
 /// Takes three bytes at a time, and fails once, after so many calls.
 #[derive(Drop)]
-struct Filling {
-    text: Vec<u8>,
-    left: u64,
-    kind: Option<ErrorKind>,
+pub(super) struct Filling {
+    pub(super) text: Vec<u8>,
+    pub(super) left: u64,
+    pub(super) kind: Option<ErrorKind>,
 }
 
 impl Write for Filling {

@@ -1,0 +1,178 @@
+//! Scripts run from bytes to bytes: worked rows, bad scripts, readers and writers that fail.
+use crate::scripts::running::run_script;
+use crate::scripts::tests::{Breaking, Filling};
+use fkv_functions::Refused;
+use std::alloc::Global;
+use std::io::ErrorKind;
+
+/// The text that a script prints, or its refusal with what was written before it.
+fn run(alloc: Global, script: &str) -> (Result<(), Refused>, Vec<u8>) {
+    let mut written = Vec::new(alloc);
+    let refused = run_script(alloc, script.as_bytes(), &mut written);
+    (refused, written)
+}
+
+#[test]
+fn empty(rt: HostRuntime) {
+    let (told, written) = run(rt.alloc(), "store sum 0 8 8 2\n");
+    assert_eq!(rt; told, Ok(()));
+    assert!(rt; written.as_slice() == b"map 0\n".as_slice());
+}
+
+#[test]
+fn thin_path(rt: HostRuntime) {
+    let (told, written) = run(
+        rt.alloc(),
+        "store sum 0 8 8 2
+enter 0
+do 0 0 rmw a 5
+do 0 0 rmw a -2
+do 0 0 read a",
+    );
+    assert_eq!(rt; told, Ok(()));
+    let text = "entered 0
+done value 5
+done value 3
+done value 3
+map 1
+a 3
+";
+    assert!(rt; written.as_slice() == text.as_bytes());
+}
+
+#[test]
+fn two_updates_from_one_look_up(rt: HostRuntime) {
+    let (told, written) = run(
+        rt.alloc(),
+        "store sum 0 8 8 2
+enter 0
+enter 0
+rmw 0 0 a 1
+rmw 0 1 a 2
+ready 0 0 0
+ready 0 1 0
+install 0 0 0
+install 0 1 0
+finish 0 1 0
+",
+    );
+    assert_eq!(rt; told, Ok(()));
+    let text = "entered 0
+entered 1
+issued 0
+issued 0
+build none
+build none
+done value 1
+next
+done value 3
+map 1
+a 3
+";
+    assert!(rt; written.as_slice() == text.as_bytes());
+}
+
+#[test]
+fn refused_lines_are_printed(rt: HostRuntime) {
+    let (told, written) = run(
+        rt.alloc(),
+        "store sum 1 8 8 2
+enter 1
+read 1 0 a
+read 0 0 a
+go 7 0 0
+enter 0
+do 0 0 read a
+install 0 0 0
+rmw 0 0 a 9
+install 0 0 0
+go 0 0 18446744073709551615
+",
+    );
+    assert_eq!(rt; told, Ok(()));
+    let text = "entered 0
+refused Stranger
+refused Unknown
+refused Unknown
+entered 0
+done absent
+refused Unknown
+issued 0
+refused NotReady
+refused Unknown
+map 0
+";
+    assert!(rt; written.as_slice() == text.as_bytes());
+}
+
+#[test]
+fn bad_input(rt: HostRuntime) {
+    for (script, refused) in [
+        ("", Refused::BadScript { line: 1 }),
+        ("store sum 0 8 8 2\nenter", Refused::BadScript { line: 2 }),
+        (
+            "store sum 0 8 8 2\nenter 0\nupsert 0 0 a 1\n",
+            Refused::BadScript { line: 3 },
+        ),
+        ("store sum 0 8 7 2\nenter\n", Refused::BadScript { line: 2 }),
+        ("store sum 0 8 7 2\nenter 0\n", Refused::BadConfig),
+        ("store sum 7 8 8 2\n", Refused::BadConfig),
+        ("store sum 0 21 8 2\n", Refused::BadConfig),
+        ("store sum 0 8 8 1\n", Refused::BadConfig),
+    ] {
+        let (told, written) = run(rt.alloc(), script);
+        assert_eq!(rt; told, Err(refused), "{script}");
+        assert_eq!(rt; written.len(), 0);
+    }
+}
+
+#[test]
+fn reader_that_fails(rt: HostRuntime) {
+    for (text, left) in [
+        ("", 0u64),
+        ("bad\n", 1),
+        ("store sum 0 8 8 2\nenter 0\n", 2),
+    ] {
+        let mut written = Vec::new(rt.alloc());
+        let reader = Breaking {
+            text: text.as_bytes(),
+            left,
+            kind: ErrorKind::Other,
+        };
+        let told = run_script(rt.alloc(), reader, &mut written);
+        assert_eq!(rt; told, Err(Refused::Unreadable { number: 1 }), "{text}");
+        assert_eq!(rt; written.len(), 0);
+    }
+}
+
+#[test]
+fn writer_that_fails(rt: HostRuntime) {
+    let script = "store sum 0 8 8 2\nenter 0\ndo 0 0 rmw a 5\n";
+    let text = b"entered 0\ndone value 5\nmap 1\na 5\n".as_slice();
+    for calls in 0..8u64 {
+        let mut writer = Filling {
+            text: Vec::new(rt.alloc()),
+            left: calls,
+            kind: Some(ErrorKind::Other),
+        };
+        let told = run_script(rt.alloc(), script.as_bytes(), &mut writer);
+        assert_eq!(rt; told, Err(Refused::Unwritable));
+        let written = writer.text.len();
+        assert_eq!(rt; written as u64, 3 * calls);
+        assert!(rt; text.starts_with(&writer.text));
+    }
+}
+
+/// The script again where memory was refused, and then nothing was written.
+#[test]
+fn refused_growths_are_called_again(rt: HostRuntime) {
+    let script = "store sum 0 8 8 2\nenter 0\ndo 0 0 rmw a 5\n";
+    let text = b"entered 0\ndone value 5\nmap 1\na 5\n".as_slice();
+    let (told, written) = run(rt.alloc(), script);
+    if told == Err(Refused::NoMemory) {
+        assert_eq!(rt; written.len(), 0);
+        let (told, written) = run(rt.alloc(), script);
+        assert_eq!(rt; told, Ok(()));
+        assert!(rt; written.as_slice() == text);
+    }
+}
