@@ -1,8 +1,10 @@
-//! Lives of operations, placed on steps: the definitions of the headline.
+//! Worlds of partitions driven by single steps, with the headline over them; replays of lists of steps,
+//! and scripts.
 //!
 //! An accepted issue begins a life. `specs/Placed.antt` says what it means that a list of lives is
 //! placed on the steps: each finished operation takes effect at one step of its own between its issue
-//! and its completion, and answers what the plain map answers there.
+//! and its completion, and answers what the plain map answers there. `specs/Headline.antt` joins that
+//! with the live records and with the outcomes that were told; [`World::step`] keeps it.
 #![tactic(auto)]
 
 pub mod laws;
