@@ -1,13 +1,14 @@
 -- What an appended entry changes of a text, and which entry is the last of those that pass a test.
-use Rattle.std.proofs.Common.{◌≡◌, ◌≢◌, Bool, true, false, cond, ◌&&◌, ℕ, zero, suc, ◌<◌, ◌≤◌, ◌==◌, List, [], ◌∷◌, ◌++◌, Option, Some, slice_get, refl, sym, ◌∙◌, ap, subst, arith, nat_le}
+use Rattle.std.proofs.Common.{◌≡◌, ◌≢◌, Bool, true, false, cond, ◌&&◌, ℕ, zero, suc, ◌<◌, ◌≤◌, ◌==◌, List, [], ◌∷◌, ◌++◌, Option, Some, None, slice_get, refl, sym, ◌∙◌, ap, subst, arith, nat_le}
 use Rattle.std.proofs.lemmas.Bool.Decides.{nat_tests}
-use Rattle.std.proofs.lemmas.Bool.{ne_eqb, eq-eqb}
+use Rattle.std.proofs.lemmas.Bool.{ne_eqb, eq-eqb, eqb-true}
 use Rattle.std.specs.declared.cmp.Ordering.{Ordering}
 use Rattle.std.specs.BTreeMap.{is_at}
 use Rattle.fkv_functions.specs.Plain.{Same, with_at}
 use Rattle.fkv_hybrid.specs.declared.entries.Entry.{Entry}
 use Rattle.fkv_hybrid.specs.Text.{entry_at, has_key, last_of, value_of, live, newest, AllAbove, IsRising}
-use Rattle.fkv_hybrid.proofs.LastWhere.{last_where-append}
+use Rattle.fkv_hybrid.specs.Chains.{IsIn}
+use Rattle.fkv_hybrid.proofs.LastWhere.{last_where-append, last_where-found, last_where-in, none-passes}
 
 -- ---- addresses
 above-in : {K V : Type 0} (a : ℕ) (xs : List (Entry K V)) → AllAbove a xs → (i : ℕ) (x : Entry K V) → slice_get xs i ≡ Some x → a < x.address
@@ -30,6 +31,19 @@ one_address (z ∷ zs) r (suc i) zero x y hi hj e =
     let lt : z.address < x.address = above-in z.address zs r.0 i x hi in
     absurd (omega arith)
 one_address (z ∷ zs) r (suc i) (suc j) x y hi hj e = one_address zs r.1 i j x y hi hj e
+
+-- an entry of a text is the one at its address
+pub entry_at-in : {K V : Type 0} (text : List (Entry K V)) → IsRising text → (e : Entry K V) → IsIn text e → (a : ℕ) → e.address ≡ a → entry_at text a ≡ Some e
+entry_at-in {K} {V} text r e m a at = by_found (entry_at text a) refl
+  where
+    by_found : (o : Option (Entry K V)) → entry_at text a ≡ o → entry_at text a ≡ Some e
+    by_found None h = absurd (
+        let no : (e.address == a) ≡ false = none-passes (λ x. x.address == a) text h m.place e m.here in
+        let yes : (e.address == a) ≡ true = eq-eqb e.address a at in cc)
+    by_found (Some d) h =
+        let i = last_where-in (λ x. x.address == a) text d h in
+        let there : d.address ≡ a = eqb-true d.address a (last_where-found (λ x. x.address == a) text d h) in
+        h ∙ ap Some (one_address text r i.place m.place d e i.here m.here (there ∙ sym at))
 
 -- ---- an entry is appended
 module _ {K V : Type 0} (cmp : K → K → Ordering) (text : List (Entry K V)) (e : Entry K V) where

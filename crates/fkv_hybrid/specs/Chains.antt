@@ -1,7 +1,7 @@
 -- Classes of keys, and the chains of their entries. A class is what `class` makes of a key.
 use Rattle.std.specs.Prelude.{◌≡◌, ℕ, ◌<◌, ◌≤◌, Bool, true, ◌&&◌, List, [], ◌∷◌, filter, reverse, Option, Some, None, nat_lt, slice_get}
 use Rattle.fkv_hybrid.specs.declared.entries.Entry.{Entry}
-use Rattle.fkv_hybrid.specs.Text.{last_where}
+use Rattle.fkv_hybrid.specs.Text.{last_where, entry_at}
 
 -- a test for the same class, exact
 pub record IsClassTest {C : Type 0} (same : C → C → Bool) : Type 0 where
@@ -39,6 +39,14 @@ pub data IsChainFrom {K V : Type 0} (begin : ℕ) (text : List (Entry K V)) : �
   ends : {a : ℕ} → a < begin → IsChainFrom begin text a []
   goes : {a : ℕ} {e : Entry K V} {es : List (Entry K V)} → begin ≤ a → IsIn text e → e.address ≡ a → IsChainFrom begin text e.previous es
       → IsChainFrom begin text a (e ∷ es)
+
+-- where a chain stands at an address: at the entry there, and it goes on from that entry's previous address
+pub record StandsAt {K V : Type 0} (begin : ℕ) (text : List (Entry K V)) (a : ℕ) (es : List (Entry K V)) : Type 0 where
+  pub entry : Entry K V
+  pub rest : List (Entry K V)
+  pub here : entry_at text a ≡ Some entry
+  pub is : es ≡ entry ∷ rest
+  pub on : IsChainFrom begin text entry.previous rest
 
 -- the entries of a class, the last one first
 abbrev pub falling : {K V C : Type 0} → (K → C) → (C → C → Bool) → List (Entry K V) → C → List (Entry K V)

@@ -4,7 +4,7 @@ ghost use Rattle.std.specs.declared.cmp.Ordering.{Ordering};
 ghost use Rattle.fkv_functions.specs.Plain.{Same, with_at, IsKeyOrder};
 ghost use Rattle.fkv_hybrid.specs.declared.entries.Entry.{Entry};
 ghost use Rattle.fkv_hybrid.specs.Text.{entry_at, has_key, last_of, newest, live, IsRising, IsFrom, IsBelow};
-ghost use Rattle.fkv_hybrid.specs.Chains.{IsClassTest, last_of_class, Leads, IsChained, IsChainFrom, falling};
+ghost use Rattle.fkv_hybrid.specs.Chains.{IsClassTest, last_of_class, Leads, IsChained, IsChainFrom, StandsAt, falling};
 
 /// What a text says of each key and address once an entry is appended.
 pub fn appended<K, V>()
@@ -27,7 +27,7 @@ pub fn appended<K, V>()
 
 /// A text stays chained where an entry is appended whose previous address leads to the last entry of its
 /// class. The chain from the last entry of a class has the entries of that class and no others, the last one
-/// first; and of these the first of a key is the last entry of the key.
+/// first; and the first of a key that it meets is the last entry of the key, or there is none.
 pub fn chains<K, V, C>()
     ensures kept { (class : K → C) (same : C → C → Bool) (begin : ℕ) (text : List (Entry K V)) (e : Entry K V)
         → IsChained class same begin text → IsBelow e.address text
@@ -37,7 +37,17 @@ pub fn chains<K, V, C>()
         → IsClassTest same → IsRising text → IsFrom begin text → IsChained class same begin text
         → Leads begin (last_of_class class same text c) a
         → (es : List (Entry K V)) → IsChainFrom begin text a es ↔ (es ≡ falling class same text c) }
-    ensures finds { (cmp : K → K → Ordering) (class : K → C) (same : C → C → Bool) (text : List (Entry K V)) (k : K)
-        → IsKeyOrder cmp → IsClassTest same
-        → find (has_key cmp k) (falling class same text (class k)) ≡ last_of cmp text k }
+    ensures found { (cmp : K → K → Ordering) (class : K → C) (same : C → C → Bool) (begin : ℕ) (text : List (Entry K V)) (k : K) (a : ℕ)
+        → IsKeyOrder cmp → IsClassTest same → IsRising text → IsFrom begin text → IsChained class same begin text
+        → Leads begin (last_of_class class same text (class k)) a
+        → (es : List (Entry K V)) → IsChainFrom begin text a es → find (has_key cmp k) es ≡ last_of cmp text k }
+    // an entry appended behind a chain begins it
+    ensures grown { (begin : ℕ) (text : List (Entry K V)) (e : Entry K V) (es : List (Entry K V))
+        → IsChainFrom begin text e.previous es → begin ≤ e.address
+        → IsChainFrom begin (text ++ e ∷ []) e.address (e ∷ es) }
+    // a reader goes along it from entry to entry, and ends below Begin
+    ensures stands { (begin : ℕ) (text : List (Entry K V)) (a : ℕ) (es : List (Entry K V)) → IsRising text
+        → IsChainFrom begin text a es → begin ≤ a → StandsAt begin text a es }
+    ensures ends { (begin : ℕ) (text : List (Entry K V)) (a : ℕ) (es : List (Entry K V))
+        → IsChainFrom begin text a es → a < begin → es ≡ [] }
 {}

@@ -6,6 +6,7 @@
 //! nothing keeps it beside them.
 #![tactic(auto)]
 
+pub mod chains;
 pub mod entries;
 pub mod laws;
 pub mod log;

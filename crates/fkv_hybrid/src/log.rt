@@ -112,7 +112,9 @@ impl<K: Fixed, V: Fixed> Log<K, V> {
     /// The entry at an address, where one stands ([`Log::has_entry`]).
     pub fn record_at(&self, address: Address) -> Entry<K, V>
         requires { IsSome (entry_at self.now.text address) }
-        ensures { entry_at self.now.text address ≡ Some result }
+        ensures entry { entry_at self.now.text address ≡ Some result }
+        // so the way along previous addresses falls
+        ensures previous { IsPrevious address result.previous }
     {
         let page = self.shape.page_of(address) as usize;
         let offset = self.shape.offset_of(address);

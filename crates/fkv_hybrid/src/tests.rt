@@ -1,4 +1,9 @@
-//! Records over three pages, the places at the top, and refused growths.
+//! Records over three pages, a chain, the places at the top, and refused growths.
+ghost use Rattle.std.specs.Prelude.{List, IfOk};
+ghost use Rattle.fkv_functions.specs.declared.names.Name.{Name};
+ghost use Rattle.fkv_hybrid.specs.declared.entries.Entry.{Entry};
+ghost use Rattle.fkv_hybrid.specs.Chains.{IsChainFrom};
+
 use crate::{Entry, Log};
 use fkv_functions::{Fixed, Name, Refused};
 use fkv_records::{END, Shape, record_size};
@@ -146,5 +151,45 @@ fn refused_growths_are_called_again(rt: HostRuntime) -> Result<(), Fail> {
         holds(&rt, &log, &entry);
         previous = address;
     }
+    Ok(())
+}
+
+/// Appends a record behind an entry of a chain, which so grows by it.
+fn append_to_chain<V: Fixed>(
+    rt: &impl Abort,
+    log: &mut Log<Name, V>,
+    previous: u64,
+    key: Name,
+    value: Option<V>,
+) -> Result<u64, Refused>
+    requires { (es : List (Entry Name V)) × IsChainFrom log.old.begin log.old.text previous es }
+    ensures { IfOk result (λ a. (es : List (Entry Name V)) × IsChainFrom log.new.begin log.new.text a es) }
+{
+    log.known();
+    let tail = log.tail();
+    let is_previous = previous == 1 || (64 <= previous && previous < tail);
+    assert!(rt; 64 <= tail && is_previous);
+    let address = log.append(previous, key, value)?;
+    Ok(address)
+}
+
+/// Three keys in turn over three pages, in one chain: each key's last entry is found, and another key is not.
+#[test]
+fn first_on_a_chain(rt: HostRuntime) -> Result<(), Fail> {
+    let keys = [name(b"a")?, name(b"b")?, name(b"c")?];
+    let mut log = small_log::<i128>(&rt, rt.alloc())?;
+    log.known();
+    let mut last = 1;
+    for (at, place) in PLACES_OF_56.iter().enumerate() {
+        last = append_to_chain(&rt, &mut log, last, keys[at % 3], Some(at as i128))?;
+        assert!(rt; last == *place);
+    }
+    for (key, place, value) in [(keys[1], 680, 10), (keys[0], 624, 9), (keys[2], 568, 8)] {
+        let found = log.first_on_chain(&key, last);
+        assert!(rt;
+            found.is_some_and(|entry| entry.address == place && entry.value == Some(value))
+        );
+    }
+    assert!(rt; log.first_on_chain(&name(b"d")?, last).is_none());
     Ok(())
 }

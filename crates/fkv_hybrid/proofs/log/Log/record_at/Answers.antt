@@ -31,8 +31,8 @@ unreachable-requires g c =
     let r = c.read_record.ensures.only (record_of h.entry) h.sound (rw (c.part-bytes.ensures, c.deref.ensures.value, c.page_of-page.ensures, c.offset_of-offset.ensures.value) h.spells) in
     absurd (cc (r, c.in-Err.is))
 
-pub returns : goal.returns
-returns g c =
+pub returns-clause-entry : goal.returns-clause-entry
+returns-clause-entry g c =
     let i = c.self.inside in
     let h = held g.K.Fixed.bytes_of g.V.Fixed.bytes_of g.K.Known.is_known g.V.Known.is_known g.K.Fixed.SIZE g.V.Fixed.SIZE i.shape _ i.tail i.text.0.0 c.args.address c.self.invariant (rw (← c.self.view_is) at c.requires) in
     let r = c.read_record.ensures.only (record_of h.entry) h.sound (rw (c.part-bytes.ensures, c.deref.ensures.value, c.page_of-page.ensures, c.offset_of-offset.ensures.value) h.spells) in
