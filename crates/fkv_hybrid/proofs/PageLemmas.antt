@@ -195,9 +195,6 @@ module _ {K V : Type 0} (key : K → List ℕ) (value : V → List ℕ) (is_key 
       (o : Opens (page_at shape.page_bits tail) (2 ^ shape.page_bits) pages opened)
       (w : Writes (page_at shape.page_bits tail) (offset_at shape.page_bits tail) bytes opened written)
       (sized : length bytes ≡ shape.record_size) (sound : IsRecord is_key is_value tail (record_of e)) (spells : Spells key value ksize vsize bytes (record_of e)) where
-    bits : ℕ
-    bits = shape.page_bits
-
     grown_room : offset_at shape.page_bits tail + length bytes ≤ length w.page
     grown_room =
         let page = opens-sized (page_at shape.page_bits tail) (2 ^ shape.page_bits) pages opened o log.paged.sized (page_at shape.page_bits tail) w.page w.was in

@@ -6,7 +6,7 @@ use Rattle.std.specs.declared.cmp.Ordering.{Ordering}
 use Rattle.std.specs.BTreeMap.{is_at}
 use Rattle.fkv_functions.specs.Plain.{Same, with_at}
 use Rattle.fkv_hybrid.specs.declared.entries.Entry.{Entry}
-use Rattle.fkv_hybrid.specs.Text.{entry_at, has_key, last_of, value_of, live, newest, AllAbove, IsRising}
+use Rattle.fkv_hybrid.specs.Text.{entry_at, has_key, last_of, value_of, value_at, live, newest, AllAbove, IsRising}
 use Rattle.fkv_hybrid.specs.Chains.{IsIn}
 use Rattle.fkv_hybrid.proofs.LastWhere.{last_where-append, last_where-found, last_where-in, none-passes}
 
@@ -46,17 +46,17 @@ entry_at-in {K} {V} text r e m a at = by_found (entry_at text a) refl
         h ∙ ap Some (one_address text r i.place m.place d e i.here m.here (there ∙ sym at))
 
 -- ---- an entry is appended
+value-cond : {K V : Type 0} (e : Entry K V) (b : Bool) (l : Option (Entry K V)) → value_of (cond b (Some e) l) ≡ cond b e.value (value_of l)
+value-cond e true l = refl
+value-cond e false l = refl
+
 module _ {K V : Type 0} (cmp : K → K → Ordering) (text : List (Entry K V)) (e : Entry K V) where
   pub last_of-append : (q : K) → last_of cmp (text ++ e ∷ []) q ≡ cond (has_key cmp q e) (Some e) (last_of cmp text q)
   last_of-append q = last_where-append (has_key cmp q) text e
 
-  value-cond : (b : Bool) (l : Option (Entry K V)) → value_of (cond b (Some e) l) ≡ cond b e.value (value_of l)
-  value-cond true l = refl
-  value-cond false l = refl
-
   -- the live map gains its value, or loses its key
   pub live-append : Same (live cmp (text ++ e ∷ [])) (with_at cmp (live cmp text) e.key e.value)
-  live-append q = ap value_of (last_of-append q) ∙ value-cond (is_at (cmp e.key) q) (last_of cmp text q)
+  live-append q = ap value_of (last_of-append q) ∙ value-cond e (is_at (cmp e.key) q) (last_of cmp text q)
 
   -- what is newest at a lower address stays
   pub newest-below : (q : K) (a : ℕ) → a < e.address → newest cmp (text ++ e ∷ []) q a ≡ newest cmp text q a
@@ -79,3 +79,6 @@ module _ {K V : Type 0} (text : List (Entry K V)) (e : Entry K V) where
   entry_at-old a ne =
       let no : (e.address == a) ≡ false = ne_eqb e.address a (λ q. ne (sym q)) in
       last_where-append (λ x. x.address == a) text e ∙ rw no refl
+
+  pub value_at-append : (a : ℕ) → value_at (text ++ e ∷ []) a ≡ cond (e.address == a) e.value (value_at text a)
+  value_at-append a = ap value_of (last_where-append (λ x. x.address == a) text e) ∙ value-cond e (e.address == a) (entry_at text a)

@@ -32,6 +32,10 @@ abbrev pub value_of : {K V : Type 0} → Option (Entry K V) → Option V
 value_of None = None
 value_of (Some e) = e.value
 
+-- the value of the entry at an address
+abbrev pub value_at : {K V : Type 0} → List (Entry K V) → ℕ → Option V
+value_at text a = value_of (entry_at text a)
+
 -- the live map: the last entry of a key wins
 abbrev pub live : {K V : Type 0} → (K → K → Ordering) → List (Entry K V) → PlainMap K V
 live cmp text k = value_of (last_of cmp text k)

@@ -1,9 +1,9 @@
 //! What holds of every text. Each law is what a function without a body ensures.
-ghost use Rattle.std.specs.Prelude.{◌≡◌, ◌≢◌, ◌<◌, ◌≤◌, ◌↔◌, ℕ, Bool, List, [], ◌∷◌, ◌++◌, find, Some, if◌then◌else◌};
+ghost use Rattle.std.specs.Prelude.{◌≡◌, ◌≢◌, ◌==◌, ◌<◌, ◌≤◌, ◌↔◌, ℕ, Bool, List, [], ◌∷◌, ◌++◌, find, Some, if◌then◌else◌};
 ghost use Rattle.std.specs.declared.cmp.Ordering.{Ordering};
 ghost use Rattle.fkv_functions.specs.Plain.{Same, with_at, IsKeyOrder};
 ghost use Rattle.fkv_hybrid.specs.declared.entries.Entry.{Entry};
-ghost use Rattle.fkv_hybrid.specs.Text.{entry_at, has_key, last_of, newest, live, IsRising, IsFrom, IsBelow};
+ghost use Rattle.fkv_hybrid.specs.Text.{entry_at, value_at, has_key, last_of, newest, live, IsRising, IsFrom, IsBelow};
 ghost use Rattle.fkv_hybrid.specs.Chains.{IsClassTest, last_of_class, Leads, IsChained, IsChainFrom, StandsAt, falling};
 
 /// What a text says of each key and address once an entry is appended.
@@ -12,6 +12,8 @@ pub fn appended<K, V>()
     ensures new { (text : List (Entry K V)) (e : Entry K V) → entry_at (text ++ e ∷ []) e.address ≡ Some e }
     ensures old { (text : List (Entry K V)) (e : Entry K V) (a : ℕ) → a ≢ e.address
         → entry_at (text ++ e ∷ []) a ≡ entry_at text a }
+    ensures value { (text : List (Entry K V)) (e : Entry K V) (a : ℕ)
+        → value_at (text ++ e ∷ []) a ≡ (if e.address == a then e.value else value_at text a) }
     // it is the last of its key, and another key's last stays
     ensures last { (cmp : K → K → Ordering) (text : List (Entry K V)) (e : Entry K V) (k : K)
         → last_of cmp (text ++ e ∷ []) k ≡ (if has_key cmp k e then Some e else last_of cmp text k) }

@@ -6,11 +6,11 @@
 //! nothing keeps it beside them.
 #![tactic(auto)]
 
-pub mod chains;
+mod chains;
 pub mod entries;
 pub mod laws;
 pub mod log;
-pub mod pages;
+mod pages;
 #[cfg(test)]
 mod tests;
 
