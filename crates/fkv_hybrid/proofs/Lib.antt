@@ -1,0 +1,6 @@
+pub mod ListLemmas
+pub mod LastWhere
+pub mod TextLemmas
+pub mod PlaceLemmas
+pub mod PageLemmas
+pub mod ChainLemmas

@@ -1,0 +1,15 @@
+use Rattle.std.proofs.Common.{◌≡◌, List}
+use Rattle.std.specs.List.{find}
+use Rattle.fkv_hybrid.specs.declared.entries.Entry.{Entry}
+use Rattle.fkv_hybrid.specs.Text.{has_key}
+use Rattle.fkv_hybrid.specs.Chains.{IsChainFrom}
+use Rattle.fkv_hybrid.proofs.log.Log.first_on_chain.Given as goal
+
+-- what is left of the chain, in which the first of the key is that of the whole
+abbrev pub invariant-loop-address : goal.invariant-loop-address
+invariant-loop-address g l =
+    (es : List (Entry g.row.K.Denot g.row.V.Denot)) × (IsChainFrom l.self.begin l.self.text l.address es
+    × ((ds : List (Entry g.row.K.Denot g.row.V.Denot)) → IsChainFrom l.self.begin l.self.text l.from ds → find (has_key g.K.Ord.cmp l.key) ds ≡ find (has_key g.K.Ord.cmp l.key) es))
+
+abbrev pub decreases-loop-address : goal.decreases-loop-address
+decreases-loop-address g l = l.address

@@ -1,0 +1,5 @@
+pub mod Text
+pub mod Places
+pub mod Chains
+pub mod Pages
+pub mod Views

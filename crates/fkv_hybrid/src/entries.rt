@@ -1,0 +1,27 @@
+//! The entries of a text.
+ghost use Rattle.std.specs.Prelude.{◌≡◌};
+
+use fkv_records::{Address, Record};
+
+/// A record of a log, where it stands.
+#[derive(Clone, Copy, Debug, PartialEq, Eq)]
+pub struct Entry<K, V> {
+    pub address: Address,
+    /// The address of the entry before it in its class, or 1 where there is none.
+    pub previous: Address,
+    pub key: K,
+    /// The key's value, or `None` for a tombstone.
+    pub value: Option<V>,
+}
+
+/// The entry that a record is at an address.
+pub fn entry_of<K, V>(address: Address, found: Record<K, V>) -> Entry<K, V>
+    ensures { result ≡ record { address = address; previous = found.previous; key = found.key; value = found.value } }
+{
+    Entry {
+        address,
+        previous: found.previous,
+        key: found.key,
+        value: found.value,
+    }
+}

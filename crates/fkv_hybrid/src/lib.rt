@@ -1,0 +1,18 @@
+//! The log of one partition: pages of bytes below, a list of entries above.
+//!
+//! Records stand at the places of the log's shape and are read and written as bytes. A contract sees a log
+//! by its text: the list of its entries in rising address, each with the address of the entry before it in
+//! its class, its key, and its value or none for a tombstone. The text is the one that the bytes spell, and
+//! nothing keeps it beside them.
+#![tactic(auto)]
+
+mod chains;
+pub mod entries;
+pub mod laws;
+pub mod log;
+mod pages;
+#[cfg(test)]
+mod tests;
+
+pub use entries::Entry;
+pub use log::Log;
