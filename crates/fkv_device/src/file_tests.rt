@@ -4,7 +4,7 @@ use crate::files::FileWriter;
 use crate::folders::FileDevice;
 use crate::pages::{PageReader, PageWriter};
 use crate::receipts::Receipt;
-use crate::tests::{there_and_back, three_pages};
+use crate::tests::{there_and_back, there_and_back_again, three_pages};
 use fkv_functions::Refused;
 use std::fs;
 use std::fs::File;
@@ -105,4 +105,24 @@ fn each_refusal_has_its_code(rt: HostRuntime) -> Result<(), Fail> {
     let mut spent = FileWriter::at(rt.alloc(), file, 6, u64::MAX);
     assert_eq!(rt; spent.write(8, [0u8; 64].as_slice()).err(), fault);
     clear(&rt, "codes")
+}
+
+/// The folder of a test, named again where memory is refused.
+fn folder_again(rt: &HostRuntime) -> Result<String, Fail> {
+    match format!(in rt.alloc(); "device_files/refused") {
+        Ok(folder) => Ok(folder),
+        Err(_) => Ok(format!(in rt.alloc(); "device_files/refused")?),
+    }
+}
+
+#[test]
+fn refused_growths_of_files_are_called_again(rt: HostRuntime) -> Result<(), Fail> {
+    let folder = folder_again(&rt)?;
+    let mut disk = FileDevice::new(rt.clone()?, rt.alloc(), folder, 6);
+    let read = there_and_back_again(rt.alloc(), &mut disk)?;
+    assert_eq!(rt; read.as_slice(), [9u8; 64].as_slice());
+    if fs::remove_dir_all(&rt, "device_files/refused").is_err() {
+        fs::remove_dir_all(&rt, "device_files/refused")?;
+    }
+    Ok(())
 }

@@ -122,3 +122,26 @@ fn numbers_are_used_up(rt: HostRuntime) -> Result<(), Fail> {
     }
     Ok(())
 }
+
+/// A page of nines, made again where memory is refused.
+fn nines(alloc: Global) -> Result<Vec<u8>, Fail> {
+    match vec![in alloc; 9u8; 64] {
+        Ok(bytes) => Ok(bytes),
+        Err(_) => Ok(vec![in alloc; 9u8; 64]?),
+    }
+}
+
+/// A page that is written and fetched, all of it again where memory is refused.
+pub(crate) fn there_and_back_again<D: Disk>(alloc: Global, disk: &mut D) -> Result<Vec<u8>, Fail> {
+    match there_and_back(alloc, disk, 5, 0, nines(alloc)?) {
+        Err(Refused::NoMemory) => Ok(there_and_back(alloc, disk, 5, 0, nines(alloc)?)?),
+        read => Ok(read?),
+    }
+}
+
+#[test]
+fn refused_growths_are_called_again(rt: HostRuntime) -> Result<(), Fail> {
+    let read = there_and_back_again(rt.alloc(), &mut MemoryDevice::new(rt.alloc()))?;
+    assert_eq!(rt; read.as_slice(), [9u8; 64].as_slice());
+    Ok(())
+}

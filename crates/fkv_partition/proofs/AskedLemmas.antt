@@ -1,10 +1,10 @@
 -- What the contexts ask before and after one of them changes.
-use Rattle.std.proofs.Common.{◌≡◌, ◌≢◌, Bool, true, false, cond, ◌&&◌, ℕ, zero, suc, ◌+◌, ◌-◌, ◌*◌, ◌<◌, ◌⊎◌, inl, inr, List, [], ◌∷◌, length, Option, Some, None, option_map, slice_get, slice_set, slice_range, take, drop, position, is_none, zero-add, subst, not, unwrap_or, nat_lt, refl, sym, ◌∙◌, ap, arith}
+use Rattle.std.proofs.Common.{◌≡◌, ◌≢◌, Bool, true, false, cond, ◌&&◌, ℕ, zero, suc, ◌+◌, ◌-◌, ◌*◌, ◌<◌, ◌≤◌, ◌⊎◌, inl, inr, List, [], ◌∷◌, length, Option, Some, None, option_map, slice_get, slice_set, slice_range, take, drop, position, is_none, is_some, zero-add, subst, not, unwrap_or, nat_lt, refl, sym, ◌∙◌, ap, arith}
 use Rattle.std.proofs.lemmas.Bool.Decides.{nat_tests}
 use Rattle.std.specs.List.{position_or_len}
 use Rattle.fkv_partition.specs.declared.contexts.Context.{Context}
 use Rattle.fkv_partition.specs.Contexts.{joined, context_in}
-use Rattle.fkv_partition.specs.Views.{PartitionView, context_at, with_context, free_slot, free_context}
+use Rattle.fkv_partition.specs.Views.{PartitionView, context_at, with_context, free_slot, free_context, open_context}
 use Rattle.fkv_partition.specs.Effect.{asked, asked_by}
 use Rattle.fkv_partition.proofs.ListLemmas.{get-set_same, get-set_other}
 
@@ -113,3 +113,53 @@ free-slot v slot h =
     false-is : (b : Bool) → not b ≡ true → b ≡ false
     false-is true e = sym e
     false-is false e = refl
+
+-- ---- a session with no open context
+none-before : {A : Type 0} (p : A → Bool) (xs : List A) → length xs ≤ position_or_len p xs → (i : ℕ) (x : A) → slice_get xs i ≡ Some x → p x ≡ false
+none-before p [] h i x k = absurd (cc)
+none-before {A} p (y ∷ ys) h i x k = by_case (none-before p ys) (p y) refl h i k
+  where
+    by_case : (length ys ≤ position_or_len p ys → (i : ℕ) (x : A) → slice_get ys i ≡ Some x → p x ≡ false) → (b : Bool) → p y ≡ b → length (y ∷ ys) ≤ cond (not (p y)) (1 + position_or_len p ys) 0 → (i : ℕ) → slice_get (y ∷ ys) i ≡ Some x → p x ≡ false
+    by_case more true t l i e = let low : length (y ∷ ys) ≤ 0 = rw t at l in absurd (omega arith)
+    by_case more false t l zero e = let same : y ≡ x = cc in ap p (sym same) ∙ t
+    by_case more false t l (suc i) e = let low : length (y ∷ ys) ≤ 1 + position_or_len p ys = rw t at l in more (omega arith) i x e
+
+pub position-none : {A : Type 0} (p : A → Bool) (xs : List A) → position p xs ≡ None → (i : ℕ) (x : A) → slice_get xs i ≡ Some x → p x ≡ false
+position-none {A} p xs h i x k = by_test (nat_lt (position_or_len p xs) (length xs)) refl h
+  where
+    by_test : (b : Bool) → nat_lt (position_or_len p xs) (length xs) ≡ b → cond b (Some (position_or_len p xs)) None ≡ None → p x ≡ false
+    by_test true t e = absurd (cc)
+    by_test false t e = none-before p xs (grind (arith, nat_tests)) i x k
+
+get-take_back : {A : Type 0} (n i : ℕ) (xs : List A) (x : A) → i < n → slice_get xs i ≡ Some x → slice_get (take n xs) i ≡ Some x
+get-take_back zero i xs x l h = absurd (omega arith)
+get-take_back (suc n) i [] x l h = absurd (cc)
+get-take_back (suc n) zero (y ∷ ys) x l h = h
+get-take_back (suc n) (suc i) (y ∷ ys) x l h = get-take_back n i ys x (omega arith) h
+
+-- nothing stands in its contexts
+pub idle : {K V I : Type 0} (v : PartitionView K V I) (slot c : ℕ) (x : Context K V I) → open_context v slot ≡ None → c < 8 → slice_get v.contexts (slot * 8 + c) ≡ Some (Some x) → ⊥
+idle v slot c x h low here =
+    let room : c < (slot * 8 + 8) - slot * 8 = omega arith in
+    let there = get-take_back ((slot * 8 + 8) - slot * 8) c (drop (slot * 8) v.contexts) (Some x) room (get-drop (slot * 8) c v.contexts ∙ here) in
+    let no : true ≡ false = position-none is_some (slice_range v.contexts (slot * 8) (slot * 8 + 8)) h c (Some x) there in
+    absurd (cc)
+
+pub idle-asked : {K V I : Type 0} (v : PartitionView K V I) (slot c : ℕ) → open_context v slot ≡ None → context_at v slot c ≡ None
+idle-asked v slot c h = by_cases (context_at v slot c) refl
+  where
+    by_cases : (o : Option (Context _ _ _)) → context_at v slot c ≡ o → context_at v slot c ≡ None
+    by_cases None e = e
+    by_cases (Some x) e = let o = open_at v.entered v.contexts slot c x e in absurd (idle v slot c x h o.low o.here)
+
+-- a slot that is left
+pub left-here : (entered : List Bool) (slot : ℕ) → unwrap_or (slice_get (slice_set entered slot false) slot) false ≡ false
+left-here [] slot = refl
+left-here (b ∷ bs) zero = refl
+left-here (b ∷ bs) (suc slot) = left-here bs slot
+
+pub context-left : {K V I : Type 0} (entered : List Bool) (contexts : List (Option (Context K V I))) (slot c : ℕ) → context_in (slice_set entered slot false) contexts slot c ≡ None
+context-left entered contexts slot c = rw (left-here entered slot) refl
+
+pub context-elsewhere : {K V I : Type 0} (entered : List Bool) (contexts : List (Option (Context K V I))) (slot s c : ℕ) (b : Bool) → s ≢ slot → context_in (slice_set entered slot b) contexts s c ≡ context_in entered contexts s c
+context-elsewhere entered contexts slot s c b n = ap (λ o. cond (unwrap_or o false && nat_lt c 8) (joined (slice_get contexts (s * 8 + c))) None) (get-set_other entered slot s b n)

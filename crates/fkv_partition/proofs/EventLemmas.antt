@@ -17,13 +17,13 @@ use Rattle.fkv_partition.specs.declared.contexts.Progress.TheVariants.{Done, Nex
 use Rattle.fkv_partition.specs.Contexts.{question_in, question_by, joined, context_in}
 use Rattle.fkv_partition.specs.Index.{entry_of, address_of}
 use Rattle.fkv_partition.specs.Text.{value_at, tail_of}
-use Rattle.fkv_partition.specs.Views.{PartitionView, partition_of, context_at, with_context, live_of, free_slot, free_context}
-use Rattle.fkv_partition.specs.Effect.{asked, asked_by, LeavesOthers, IsEnter, IsIssue, IsEvent}
+use Rattle.fkv_partition.specs.Views.{PartitionView, partition_of, context_at, with_context, live_of, free_slot, free_context, open_context}
+use Rattle.fkv_partition.specs.Effect.{asked, asked_by, LeavesOthers, IsEnter, IsIssue, IsEvent, IsLeave, IsGiveUp}
 use Rattle.fkv_partition.specs.Installing.{with_record}
 use Rattle.fkv_partition.specs.Sound.{StandsFor, IsSound}
 use Rattle.fkv_partition.proofs.ListLemmas.{get-set_other, get-set_same}
 use Rattle.fkv_partition.proofs.TextLemmas.{live-append}
-use Rattle.fkv_partition.proofs.AskedLemmas.{open_at, context-inside, context-other, asked-same, asked-other, free-context, free-slot}
+use Rattle.fkv_partition.proofs.AskedLemmas.{open_at, context-inside, context-other, asked-same, asked-other, free-context, free-slot, idle-asked, context-left, context-elsewhere}
 
 -- a context that asks nothing to be built is fresh
 pub fresh-by : {K V I : Type 0} (n : ℕ) (op : Op K I) (phase : Phase V) (text : List (Entry K V)) → StandsFor text op phase → question_by n op phase ≡ None → phase ≡ Fresh
@@ -205,3 +205,28 @@ module _ {K V I O : Type 0} (cmp : K → K → Ordering) (f : Meanings K V I O) 
           by_low false b =
               let taken : slice_get (slice_set v.entered slot true) slot ≡ Some true = get-set_same v.entered slot false true is_free in
               rw (taken, is_free, b) refl
+
+-- a session without open operations is left
+pub event-leave : {K V I : Type 0} (v : PartitionView K V I) (slot now : ℕ) → open_context v slot ≡ None → IsLeave v (record v { entered = slice_set v.entered slot false; moment = now }) now
+event-leave v slot now none = record {
+  same = λ t d. elim (same_or t slot) [
+    | inl e ↦ ap (option_map asked_by) (ap (λ n. context_in (slice_set v.entered slot false) v.contexts n d) e ∙ context-left v.entered v.contexts slot d ∙ sym (idle-asked v slot d none) ∙ ap (λ n. context_at v n d) (sym e))
+    | inr n ↦ ap (option_map asked_by) (context-elsewhere v.entered v.contexts slot t d false n)
+  ];
+  text = refl;
+  number = refl;
+  count = refl;
+  begin = refl;
+  moment = refl;
+}
+
+-- an operation is given up
+pub event-give_up : {K V I : Type 0} (v : PartitionView K V I) (slot c now : ℕ) (x : Context K V I) → context_at v slot c ≡ Some x → IsGiveUp v (with_context v slot c None now) slot c now
+event-give_up v slot c now x h = record {
+  question = asked_by x;
+  was = ap (option_map asked_by) h;
+  closed = asked-same v slot c now x h None;
+  text = refl;
+  entered = refl;
+  frame = record { others = λ t d o. asked-other v slot c now x h None t d o; number = refl; count = refl; begin = refl; moment = refl };
+}

@@ -12,8 +12,10 @@ use Rattle.fkv_partition.specs.declared.contexts.Context.{Context}
 use Rattle.fkv_partition.specs.declared.contexts.Phase.{Phase}
 use Rattle.fkv_partition.specs.declared.contexts.Phase.TheVariants.{Fresh, Prepared}
 use Rattle.fkv_partition.specs.Index.{entry_of, address_of}
-use Rattle.fkv_partition.specs.Views.{PartitionView, empty_partition, partition_of, with_context}
-use Rattle.fkv_partition.proofs.ListLemmas.{get-set_cases, get-append_cases}
+use Rattle.fkv_partition.specs.Views.{PartitionView, empty_partition, partition_of, with_context, open_context}
+use Rattle.fkv_partition.proofs.ListLemmas.{get-set_cases, get-set_other, get-append_cases}
+use Rattle.fkv_partition.proofs.AskedLemmas.{idle}
+use Rattle.std.proofs.lemmas.Bool.{cases_eq}
 use Rattle.fkv_partition.specs.Text.{live, value_at, tail_of}
 use Rattle.fkv_partition.specs.Sound.{IsPlaceIn, StandsFor, IsSound}
 use Rattle.fkv_partition.proofs.TextLemmas.{live-append, value_at-append, value_at-last, tail-append}
@@ -92,6 +94,24 @@ module _ {K V I : Type 0} {cmp : K → K → Ordering} {code : K → ℕ} where
       routed = s.routed;
       asked = s.asked;
       housed = λ t c x h e. entered-stays v.entered slot t (s.housed t c x h e);
+    }
+
+    -- a session without open operations is left
+    pub sound-left : (slot now : ℕ) → open_context v slot ≡ None → IsSound cmp code (record v { entered = slice_set v.entered slot false; moment = now })
+    sound-left slot now none = record {
+      own = s.own;
+      sessions = length-set v.entered slot false ∙ s.sessions;
+      places = s.places;
+      leads = s.leads;
+      placed = s.placed;
+      stands = s.stands;
+      indexed = s.indexed;
+      routed = s.routed;
+      asked = s.asked;
+      housed = λ t c x h e. elim (cases_eq t slot) [
+        | inl same ↦ absurd (idle v slot c x none h (ap (λ n. slice_get v.contexts (n * 8 + c)) (sym same) ∙ e))
+        | inr other ↦ ap (λ o. unwrap_or o false) (get-set_other v.entered slot t false other) ∙ s.housed t c x h e
+      ];
     }
 
     -- an operation in a context, which stands for what it says and belongs here

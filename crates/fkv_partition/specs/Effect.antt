@@ -63,3 +63,21 @@ pub record IsEvent {K V I O : Type 0} (cmp : K → K → Ordering) (f : Meanings
   pub effect : HasEffect cmp f (live_of cmp old) (live_of cmp new) now question (asked new slot c) progress
   pub entered : new.entered ≡ old.entered
   pub frame : LeavesOthers old new slot c now
+
+-- a session is left: no context asks anything else
+pub record IsLeave {K V I : Type 0} (old new : PartitionView K V I) (now : ℕ) : Type 0 where
+  pub same : (s d : ℕ) → asked new s d ≡ asked old s d
+  pub text : new.text ≡ old.text
+  pub number : new.number ≡ old.number
+  pub count : new.count ≡ old.count
+  pub begin : new.begin ≡ old.begin
+  pub moment : new.moment ≡ now
+
+-- an operation is given up, without effect
+pub record IsGiveUp {K V I : Type 0} (old new : PartitionView K V I) (slot c now : ℕ) : Type 0 where
+  pub question : Asked K I
+  pub was : asked old slot c ≡ Some question
+  pub closed : asked new slot c ≡ None
+  pub text : new.text ≡ old.text
+  pub entered : new.entered ≡ old.entered
+  pub frame : LeavesOthers old new slot c now

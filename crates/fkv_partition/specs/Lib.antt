@@ -9,3 +9,4 @@ pub mod Installing
 pub mod Sound
 pub mod Beginning
 pub mod Listing
+pub mod Ending

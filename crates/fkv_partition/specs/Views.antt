@@ -1,5 +1,5 @@
 -- What a contract sees of a partition.
-use Rattle.std.specs.Prelude.{◌+◌, ◌*◌, ◌%◌, ◌^◌, Bool, false, not, ℕ, List, [], Option, None, replicate, slice_set, slice_range, position, is_none}
+use Rattle.std.specs.Prelude.{◌+◌, ◌*◌, ◌%◌, ◌^◌, Bool, false, not, ℕ, List, [], Option, None, replicate, slice_set, slice_range, position, is_none, is_some}
 use Rattle.std.specs.declared.cmp.Ordering.{Ordering}
 use Rattle.fkv_functions.specs.Plain.{PlainMap}
 use Rattle.fkv_partition.specs.declared.log.Entry.{Entry}
@@ -55,3 +55,7 @@ free_slot v = position not v.entered
 
 abbrev pub free_context : {K V I : Type 0} → PartitionView K V I → ℕ → Option ℕ
 free_context v slot = position is_none (slice_range v.contexts (slot * 8) (slot * 8 + 8))
+
+-- the lowest open context of a slot
+abbrev pub open_context : {K V I : Type 0} → PartitionView K V I → ℕ → Option ℕ
+open_context v slot = position is_some (slice_range v.contexts (slot * 8) (slot * 8 + 8))

@@ -1,5 +1,5 @@
 //! The open operations of a partition: how far each is, and what an event of it answers.
-ghost use Rattle.std.specs.Prelude.{◌≡◌, ◌+◌, ◌*◌, ◌<◌, ◌≤◌, ◌⊎◌, ◌↔◌, length, Option, Some, None, IsTrue, IfSome, IfNone, slice_range, slice_set, position, is_none};
+ghost use Rattle.std.specs.Prelude.{◌≡◌, ◌+◌, ◌*◌, ◌<◌, ◌≤◌, ◌⊎◌, ◌↔◌, length, Option, Some, None, IsTrue, IfSome, IfNone, slice_range, slice_set, position, is_none, is_some};
 ghost use Rattle.fkv_partition.specs.Contexts.{context_in, question_in};
 
 use crate::sessions::is_entered;
@@ -82,6 +82,18 @@ pub fn free_context<K, V, I>(contexts: &[Option<Context<K, V, I>>], slot: usize)
 {
     let first = slot * CONTEXTS;
     free_place(&contexts[first..first + CONTEXTS])
+}
+
+/// The lowest open context of a session.
+pub fn open_context<K, V, I>(contexts: &[Option<Context<K, V, I>>], slot: usize) -> Option<usize>
+    requires session { slot < 16 }
+    requires places { length contexts.now ≡ 128 }
+    ensures value { result ≡ position is_some (slice_range contexts.now (slot * 8) (slot * 8 + 8)) }
+{
+    let first = slot * CONTEXTS;
+    contexts[first..first + CONTEXTS]
+        .iter()
+        .position(|context| context.is_some())
 }
 
 /// Puts an operation, or none, into a context.

@@ -8,6 +8,7 @@
 
 pub mod asking;
 pub mod contexts;
+pub mod ending;
 pub mod going;
 pub mod index;
 pub mod installing;

@@ -32,3 +32,11 @@ pub fn take_slot(entered: &mut ArrayVec<bool, 16>, slot: usize)
 {
     entered[slot] = true;
 }
+
+/// Frees the slot of a session.
+pub fn leave_slot(entered: &mut ArrayVec<bool, 16>, slot: usize)
+    requires { slot < length entered.old.items }
+    ensures { entered.new.items ≡ slice_set entered.old.items slot false }
+{
+    entered[slot] = false;
+}

@@ -80,6 +80,24 @@ impl Driven {
         progress
     }
 
+    fn leave(&mut self, slot: usize) -> Result<(), Refused> {
+        let Some(now) = self.now.checked_add(1) else {
+            return Err(Refused::Worn);
+        };
+        let left = self.partition.leave(slot, now);
+        self.now = now;
+        left
+    }
+
+    fn give_up(&mut self, slot: usize, context: usize) -> Result<(), Refused> {
+        let Some(now) = self.now.checked_add(1) else {
+            return Err(Refused::Worn);
+        };
+        let given_up = self.partition.give_up(slot, context, now);
+        self.now = now;
+        given_up
+    }
+
     /// Goes on, and builds what is asked for, until the operation is answered; at most ten events.
     fn finish(&mut self, slot: usize, context: usize) -> Result<Answer<i128>, Refused> {
         let mut progress = self.go(slot, context)?;
@@ -182,6 +200,32 @@ fn sessions_and_contexts(rt: HostRuntime) -> Result<(), Fail> {
     assert_eq!(rt; driven.issue(16, Op::Read(a, 0)), Err(Refused::Unknown));
     assert_eq!(rt; driven.finish(15, 3), Ok(Answer::Absent));
     assert_eq!(rt; driven.issue(15, Op::Read(a, 0)), Ok(3));
+    Ok(())
+}
+
+#[test]
+fn leaving_and_giving_up(rt: HostRuntime) -> Result<(), Fail> {
+    let a = name(b"a")?;
+    let mut driven = Driven::new(rt.alloc(), &SMALL, 0)?;
+    assert_eq!(rt; driven.leave(0), Err(Refused::Unknown));
+    assert_eq!(rt; driven.enter(), Ok(0));
+    assert_eq!(rt; driven.enter(), Ok(1));
+    assert_eq!(rt; driven.issue(0, Op::Rmw(a, 5)), Ok(0));
+    assert_eq!(rt; driven.issue(0, Op::Rmw(a, 7)), Ok(1));
+    assert_eq!(rt; driven.leave(0), Err(Refused::Busy));
+    assert_eq!(rt; driven.give_up(0, 2), Err(Refused::Unknown));
+    assert_eq!(rt; driven.give_up(0, 0), Ok(()));
+    assert_eq!(rt; driven.give_up(0, 0), Err(Refused::Unknown));
+    assert_eq!(rt; driven.go(0, 0), Err(Refused::Unknown));
+    assert_eq!(rt; driven.leave(0), Err(Refused::Busy));
+    assert_eq!(rt; driven.finish(0, 1), Ok(Answer::Value(7)));
+    assert_eq!(rt; driven.leave(0), Ok(()));
+    assert_eq!(rt; driven.leave(0), Err(Refused::Unknown));
+    assert_eq!(rt; driven.issue(0, Op::Read(a, 0)), Err(Refused::Unknown));
+    assert_eq!(rt; driven.leave(1), Ok(()));
+    assert_eq!(rt; driven.enter(), Ok(0));
+    let pairs = driven.partition.live(rt.alloc())?;
+    assert!(rt; pairs.as_slice() == [(a, 7i128)].as_slice());
     Ok(())
 }
 

@@ -14,7 +14,7 @@ use Rattle.fkv_partition.proofs.ListLemmas.{get-append_left, get-append_last}
 use Rattle.fkv_steps.specs.declared.lives.Life.{Life}
 use Rattle.fkv_steps.specs.declared.lives.Finish.{Finish}
 use Rattle.fkv_steps.specs.declared.lives.End.{End}
-use Rattle.fkv_steps.specs.declared.lives.End.TheVariants.{Open, Finished}
+use Rattle.fkv_steps.specs.declared.lives.End.TheVariants.{Open, Finished, GivenUp}
 use Rattle.fkv_steps.specs.declared.outcomes.Outcome.{Outcome}
 use Rattle.fkv_steps.specs.declared.outcomes.Outcome.TheVariants as outcome
 use Rattle.fkv_steps.specs.declared.steps.Place.{Place}
@@ -22,7 +22,7 @@ use Rattle.fkv_steps.specs.declared.steps.Step.{Step}
 use Rattle.fkv_steps.specs.Lives.{finish_of}
 use Rattle.fkv_steps.specs.Changes.{ended_at}
 use Rattle.fkv_steps.specs.States.{StateView, life_in}
-use Rattle.fkv_steps.specs.Acts.{Acts, IsDue, partition_in, lives_by, told, nowhere, unasked, unknown, worn, lifeless, refuses_enter, enters, refuses_issue, issues, refuses_go, goes, refuses_install, installs}
+use Rattle.fkv_steps.specs.Acts.{Acts, IsDue, partition_in, lives_by, told, nowhere, unasked, unknown, worn, lifeless, refuses_enter, enters, refuses_leave, leaves, refuses_give_up, gives_up, refuses_issue, issues, refuses_go, goes, refuses_install, installs}
 use Rattle.fkv_steps.specs.Told.{IsAccount, taken, answer_in, answer_some, told_at, issues_from}
 use Rattle.fkv_steps.specs.Sound.{IsState}
 use Rattle.fkv_steps.proofs.LivesLemmas.{append_cases, append_old, ended_cases, ended_here, ended_other}
@@ -57,6 +57,8 @@ told-new os o s h = ap (told_at (os ++ o ∷ [])) h ∙ ap answer_some (get-appe
 issues-append : {V O : Type 0} (s n : ℕ) (os : List (Outcome V O)) (o : Outcome V O) → n ≡ s + length os → issues_from s (os ++ o ∷ []) ≡ issues_from s os ++ issues_from n (o ∷ [])
 issues-append s n [] o h = let e : s ≡ n = omega arith in ap (λ m. issues_from m (o ∷ [])) e
 issues-append s n (outcome.Entered x ∷ os) o h = issues-append (suc s) n os o (omega arith)
+issues-append s n (outcome.Left ∷ os) o h = issues-append (suc s) n os o (omega arith)
+issues-append s n (outcome.GivenUp ∷ os) o h = issues-append (suc s) n os o (omega arith)
 issues-append s n (outcome.Issued x ∷ os) o h = ap (λ xs. s ∷ xs) (issues-append (suc s) n os o (omega arith))
 issues-append s n (outcome.Next ∷ os) o h = issues-append (suc s) n os o (omega arith)
 issues-append s n (outcome.Build x ∷ os) o h = issues-append (suc s) n os o (omega arith)
@@ -121,6 +123,21 @@ module _ {K V I O : Type 0} (lives : List (Life K I O)) (os : List (Outcome V O)
     where
       old : (j : ℕ) (x : Life K I O) (t : Finish O) → slice_get (lives ++ y ∷ []) j ≡ Some x → finish_of x ≡ Some t → slice_get lives j ≡ Some x
       old j x t h k = elim (append_cases lives y j x h) [ inl a ↦ a | inr e ↦ (let n : None ≡ Some t = sym untold ∙ ap finish_of (sym e) ∙ k in absurd (cc)) ]
+
+  -- a life ends without an answer
+  account-given_up : (j : ℕ) (x : Life K I O) → slice_get lives j ≡ Some x → finish_of x ≡ None → IsAccount (ended_at lives j GivenUp) (os ++ outcome.GivenUp ∷ []) (suc now)
+  account-given_up j x here untold = record {
+    counted = longer outcome.GivenUp;
+    issued = ended-issues lives j GivenUp ∙ account.issued ∙ sym (append-nothing (issues_from 1 os)) ∙ sym (issues-append 1 (suc now) os outcome.GivenUp (let b = account.counted in omega arith));
+    told = λ i y t h k. kept-at outcome.GivenUp i y t (old i y t h k) k;
+    once = λ i k y z t u h l a b e. account.once i k y z t u (old i y t h a) (old k z u l b) a b e;
+    owned = λ s a h. (let w = account.owned s a (silent-before outcome.GivenUp refl s a h) in
+        let other : w.0 ≢ j = λ e. (let n : None ≡ Some w.2 = sym untold ∙ (let f : Some x ≡ Some w.1 = sym here ∙ ap (slice_get lives) (sym e) ∙ w.3 in let g : x ≡ w.1 = cc in ap finish_of g) ∙ w.4 in absurd (cc)) in
+        (w.0, w.1, w.2, ended_other lives j _ w.0 other ∙ w.3, w.4, w.5, w.6));
+  }
+    where
+      old : (i : ℕ) (y : Life K I O) (t : Finish O) → slice_get (ended_at lives j GivenUp) i ≡ Some y → finish_of y ≡ Some t → slice_get lives i ≡ Some y
+      old i y t h k = elim (ended_cases lives j GivenUp x here i y h) [ inl c ↦ (let n : None ≡ Some t = ap finish_of (sym c.1) ∙ k in absurd (cc)) | inr c ↦ c.1 ]
 
   -- a life ends with its answer
   module _ (past_done : (j : ℕ) (x : Life K I O) (t : Finish O) → slice_get lives j ≡ Some x → finish_of x ≡ Some t → t.done ≤ now) (j : ℕ) (x : Life K I O) (here : slice_get lives j ≡ Some x) (untold : finish_of x ≡ None) (effect : ℕ) (a : Answer O) where
@@ -207,6 +224,13 @@ module _ {K V I O : Type 0} (cmp : K → K → Ordering) (f : Meanings K V I O) 
   account-acts new step r (lifeless p slot op v a b same is) = kept-state new r _ same is
   account-acts new step r (refuses_enter p v e a b c same is) = kept-state new r _ same is
   account-acts new step r (enters p slot n v v' a b c d g to is) = rw (is, to, taken-ok rs (outcome.Entered slot)) (account-quiet s.lives (taken rs) s.moment account (outcome.Entered slot) refl refl)
+  account-acts new step r (refuses_leave p slot v e a b c same is) = kept-state new r _ same is
+  account-acts new step r (leaves p slot v v' a b c ev to is) = rw (is, to, taken-ok rs outcome.Left) (account-quiet s.lives (taken rs) s.moment account outcome.Left refl refl)
+  account-acts new step r (refuses_give_up w v e a b c same is) = kept-state new r _ same is
+  account-acts new step r (gives_up w v v' a due c ev to is) =
+      let here : slice_get s.partitions w.partition ≡ Some v = ap (λ q. slice_get s.partitions (partition_in q)) (sym a) ∙ due.here in
+      let l = state.world.linked.linked w ev.question (asked-was s.partitions w.partition v v' here w.slot w.context ∙ ev.was) in
+      rw (is, to, taken-ok rs outcome.GivenUp) (account-given_up s.lives (taken rs) s.moment account (life_in s.begun w) l.life l.here (ap (λ n. finish_of (record (l.life) { end = n })) l.unended))
   account-acts new step r (refuses_issue p slot op v e a b c same is) = kept-state new r _ same is
   account-acts new step r (issues p slot c op v v' seat a b d ev at to is) = rw (is, to, taken-ok rs (outcome.Issued c)) (account-issue s.lives (taken rs) s.moment account c _ refl refl)
   account-acts new step r (refuses_go w v e a b c same is) = kept-state new r _ same is

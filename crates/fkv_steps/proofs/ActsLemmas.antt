@@ -8,17 +8,20 @@ use Rattle.fkv_operations.specs.declared.operations.Op.{Op}
 use Rattle.fkv_partition.specs.declared.contexts.Progress.{Progress}
 use Rattle.fkv_partition.specs.Views.{PartitionView}
 use Rattle.fkv_partition.specs.Beginning.{Enters, Issues}
-use Rattle.fkv_partition.specs.Effect.{IsEnter, IsIssue, IsEvent}
+use Rattle.fkv_partition.specs.Effect.{IsEnter, IsLeave, IsIssue, IsEvent, IsGiveUp}
 use Rattle.fkv_partition.specs.Going.{Goes}
 use Rattle.fkv_partition.specs.Installing.{Installs}
+use Rattle.fkv_partition.specs.Ending.{Leaves, GivesUp}
+use Rattle.fkv_steps.specs.declared.lives.End.TheVariants.{GivenUp}
+use Rattle.fkv_steps.specs.Changes.{ended_at}
 use Rattle.fkv_steps.specs.declared.outcomes.Outcome.{Outcome}
 use Rattle.fkv_steps.specs.declared.outcomes.Outcome.TheVariants as outcome
 use Rattle.fkv_steps.specs.declared.steps.Place.{Place}
 use Rattle.fkv_steps.specs.declared.steps.Step.{Step}
-use Rattle.fkv_steps.specs.declared.steps.Step.TheVariants.{Enter, Issue, Go, Install}
+use Rattle.fkv_steps.specs.declared.steps.Step.TheVariants.{Enter, Leave, Issue, Go, Install, GiveUp}
 use Rattle.fkv_steps.specs.declared.tables.Seat.{Seat}
 use Rattle.fkv_steps.specs.States.{StateView, seat_row, context_row, question_in, life_in}
-use Rattle.fkv_steps.specs.Acts.{Acts, IsDue, partition_in, begun_life, after_issue, lives_by, questions_by, told, refuses_enter, enters, refuses_issue, issues, refuses_go, goes, refuses_install, installs}
+use Rattle.fkv_steps.specs.Acts.{Acts, IsDue, partition_in, begun_life, after_issue, lives_by, questions_by, told, refuses_enter, enters, refuses_leave, leaves, refuses_give_up, gives_up, refuses_issue, issues, refuses_go, goes, refuses_install, installs}
 
 -- a state with the partitions that it has
 pub same-state : {K V I O : Type 0} (s : StateView K V I O) (xs : List (PartitionView K V I)) → xs ≡ s.partitions → record s { partitions = xs } ≡ s
@@ -43,6 +46,15 @@ module _ {K V I O : Type 0} (cmp : K → K → Ordering) (f : Meanings K V I O) 
         let up : n + 1 ≡ suc n = omega arith in
         rw (e, up) (enters p slot n old new refl (record { here = here; question = λ w h. absurd (cc); moment = left }) (subst (λ m. Enters old new m (Ok slot)) e does) (subst (λ m. IsEnter old new slot m) e ev) count refl refl)
 
+    pub acts-no_leave : (slot : ℕ) (r : Refused) → new ≡ old → Leaves old new slot next (Err r) → Acts cmp f code s s (Leave p slot) (Err r)
+    acts-no_leave slot r same does =
+        refuses_leave p slot old r refl (record { here = here; question = λ w h. absurd (cc); moment = left })
+        (subst (λ m. Leaves old old slot m (Err r)) e (subst (λ v. Leaves old v slot next (Err r)) same does)) refl refl
+
+    pub acts-leave : (slot : ℕ) → Leaves old new slot next (Ok tt) → IsLeave old new next → Acts cmp f code s (record s { partitions = slice_set s.partitions p new; moment = next }) (Leave p slot) (Ok outcome.Left)
+    acts-leave slot does ev =
+        rw e (leaves p slot old new refl (record { here = here; question = λ w h. absurd (cc); moment = left }) (subst (λ m. Leaves old new slot m (Ok tt)) e does) (subst (λ m. IsLeave old new m) e ev) refl refl)
+
     pub acts-no_issue : (slot : ℕ) (op : Op K I) (r : Refused) → new ≡ old → Issues code old new slot op next (Err r) → Acts cmp f code s s (Issue p slot op) (Err r)
     acts-no_issue slot op r same does =
         refuses_issue p slot op old r refl (record { here = here; question = λ w h. absurd (cc); moment = left })
@@ -61,6 +73,16 @@ module _ {K V I O : Type 0} (cmp : K → K → Ordering) (f : Meanings K V I O) 
         rw e (issues p slot c op old new seat refl (record { here = here; question = λ w h. absurd (cc); moment = left }) (subst (λ m. Issues code old new slot op m (Ok c)) e does) (subst (λ m. IsIssue code old new slot c op m) e ev) at refl refl)
 
   module _ (w : Place) (old new : PartitionView K V I) (here : slice_get s.partitions w.partition ≡ Some old) where
+    pub acts-no_give_up : (r : Refused) → new ≡ old → GivesUp old new w.slot w.context next (Err r) → Acts cmp f code s s (GiveUp w) (Err r)
+    acts-no_give_up r same does =
+        refuses_give_up w old r refl (record { here = here; question = λ u h. absurd (cc); moment = left })
+        (subst (λ m. GivesUp old old w.slot w.context m (Err r)) e (subst (λ v. GivesUp old v w.slot w.context next (Err r)) same does)) refl refl
+
+    pub acts-give_up : GivesUp old new w.slot w.context next (Ok tt) → IsGiveUp old new w.slot w.context next
+        → Acts cmp f code s (record s { partitions = slice_set s.partitions w.partition new; lives = ended_at s.lives (life_in s.begun w) GivenUp; moment = next }) (GiveUp w) (Ok outcome.GivenUp)
+    acts-give_up does ev =
+        rw e (gives_up w old new refl (record { here = here; question = λ u h. absurd (cc); moment = left }) (subst (λ m. GivesUp old new w.slot w.context m (Ok tt)) e does) (subst (λ m. IsGiveUp old new w.slot w.context m) e ev) refl refl)
+
     pub acts-no_go : (r : Refused) → new ≡ old → Goes cmp f old new w.slot w.context next (Err r) → Acts cmp f code s s (Go w) (Err r)
     acts-no_go r same does =
         refuses_go w old r refl (record { here = here; question = λ u h. absurd (cc); moment = left })

@@ -9,13 +9,13 @@ use Rattle.fkv_operations.specs.declared.operations.Op.{Op}
 use Rattle.fkv_operations.specs.declared.operations.Op.TheVariants.{Read, Rmw}
 use Rattle.fkv_steps.specs.Words.{number_of, amount_of}
 use Rattle.fkv_steps.specs.Grammar.{Token, word, number, key, amount, Spells, SpellAll, Spelled, HasText, ReadsWithZero, place, verb, operands, tokens, opening, functions_name}
-use Rattle.fkv_steps.specs.Reading.{◌>>=◌, first_as, end_of, key_of, place_of, enter_of, operation_of, issue_of, do_of, line_of, functions_of, store_of, opening_of}
+use Rattle.fkv_steps.specs.Reading.{◌>>=◌, first_as, end_of, key_of, place_of, enter_of, leave_of, operation_of, issue_of, do_of, line_of, functions_of, store_of, opening_of}
 use Rattle.fkv_steps.specs.declared.scripts.lines.FunctionsName.{FunctionsName}
-use Rattle.fkv_steps.specs.declared.scripts.lines.FunctionsName.TheVariants.{Sum}
+use Rattle.fkv_steps.specs.declared.scripts.lines.FunctionsName.TheVariants.{Count, Sum, Max}
 use Rattle.fkv_steps.specs.declared.scripts.lines.Opening.{Opening}
 use Rattle.fkv_steps.specs.declared.steps.Place.{Place}
 use Rattle.fkv_steps.specs.declared.scripts.lines.Line.{Line}
-use Rattle.fkv_steps.specs.declared.scripts.lines.Line.TheVariants.{Enter, Issue, Do, Go, Install, Ready, Finish}
+use Rattle.fkv_steps.specs.declared.scripts.lines.Line.TheVariants.{Enter, Leave, Issue, Do, Go, Install, GiveUp, Ready, Finish}
 use Rattle.fkv_steps.proofs.KeyLemmas.{key_only, key_found}
 
 -- a word that stands for the first token is read as its value
@@ -42,6 +42,13 @@ place_only p ws s =
 enter_only : (p : ℕ) (ws : List (List ℕ)) → SpellAll ws (number p ∷ []) → enter_of ws ≡ Some (Enter p)
 unfolding enter_of
 enter_only p ws s = let a = takes_number p [] ws s in rw a.1 (ends a.0 (Enter p) a.2)
+
+leave_only : (p s : ℕ) (ws : List (List ℕ)) → SpellAll ws (number p ∷ number s ∷ []) → leave_of ws ≡ Some (Leave p s)
+unfolding leave_of
+leave_only p s ws h =
+    let a = takes_number p (number s ∷ []) ws h in
+    let b = takes_number s [] a.0 a.2 in
+    rw (a.1, b.1) (ends b.0 (Leave p s) b.2)
 
 operation_only : (o : Op Name ℤ) (v : List ℕ) (ws : List (List ℕ)) → ReadsWithZero o → Spells v (verb o) → SpellAll ws (operands o) → operation_of v ws ≡ Some o
 unfolding operation_of
@@ -73,9 +80,11 @@ do_only p s o ws z h =
 pub only : (l : Line) (ws : List (List ℕ)) → Spelled ws l → line_of ws ≡ Some l
 unfolding line_of
 only (Enter p) (v ∷ ws) h = rw h.0.0 (enter_only p ws h.0.1)
+only (Leave p s) (v ∷ ws) h = rw h.0.0 (leave_only p s ws h.0.1)
 only (Do p s o) (v ∷ ws) h = rw h.0.0 (do_only p s o ws h.1 h.0.1)
 only (Go p) (v ∷ ws) h = rw (h.0.0, place_only p ws h.0.1) refl
 only (Install p) (v ∷ ws) h = rw (h.0.0, place_only p ws h.0.1) refl
+only (GiveUp p) (v ∷ ws) h = rw (h.0.0, place_only p ws h.0.1) refl
 only (Ready p) (v ∷ ws) h = rw (h.0.0, place_only p ws h.0.1) refl
 only (Finish p) (v ∷ ws) h = rw (h.0.0, place_only p ws h.0.1) refl
 only (Issue p s o) (v ∷ ws) h = issued o h.1 h.0.0 h.0.1
@@ -84,16 +93,20 @@ only (Issue p s o) (v ∷ ws) h = issued o h.1 h.0.0 h.0.1
     issued (Read k i) z e f = rw e (issue_only p s (Read k i) (codes "read") ws z refl f)
     issued (Rmw k n) z e f = rw e (issue_only p s (Rmw k n) (codes "rmw") ws z refl f)
 only (Enter p) [] h = absurd h.0
+only (Leave p s) [] h = absurd h.0
 only (Do p s o) [] h = absurd h.0
 only (Go p) [] h = absurd h.0
 only (Install p) [] h = absurd h.0
+only (GiveUp p) [] h = absurd h.0
 only (Ready p) [] h = absurd h.0
 only (Finish p) [] h = absurd h.0
 only (Issue p s o) [] h = absurd h.0
 
 functions_only : (f : FunctionsName) (w : List ℕ) → Spells w (functions_name f) → functions_of w ≡ Some f
 unfolding functions_of
+functions_only Count w e = rw e refl
 functions_only Sum w e = rw e refl
+functions_only Max w e = rw e refl
 
 store_only : (o : Opening) (ws : List (List ℕ)) → SpellAll ws (functions_name o.functions ∷ number o.partition_bits ∷ number o.bucket_bits ∷ number o.page_bits ∷ number o.frames ∷ []) → store_of ws ≡ Some o
 unfolding store_of
@@ -141,6 +154,14 @@ enter_found ws l e v t =
     let a = bind_ok _ _ l e in
     let b = ended a.0.1 (Enter a.0.0) l a.2 in
     rw (← b.1) ((t, taken_number ws a.0 a.1 [] b.0), tt)
+
+leave_found : (ws : List (List ℕ)) (l : Line) → leave_of ws ≡ Some l → (v : List ℕ) → v ≡ codes "leave" → Spelled (v ∷ ws) l
+unfolding leave_of
+leave_found ws l e v t =
+    let a = bind_ok _ _ l e in
+    let b = bind_ok _ _ l a.2 in
+    let c = ended b.0.1 (Leave a.0.0 b.0.0) l b.2 in
+    rw (← c.1) ((t, taken_number ws a.0 a.1 _ (taken_number a.0.1 b.0 b.1 [] c.0)), tt)
 
 place_found : (ws : List (List ℕ)) (p : Place) → place_of ws ≡ Some p → SpellAll ws (place p)
 unfolding place_of
@@ -216,12 +237,14 @@ unfolding line_of
 found [] l e = absurd (let bad : None ≡ Some l = e in cc)
 found (v ∷ ws) l e =
     chosen (bytes_eq v (codes "enter")) _ _ (Some l) e (λ t f. enter_found ws l f v (same_text v (codes "enter") t))
+    (λ f. chosen (bytes_eq v (codes "leave")) _ _ (Some l) f (λ t g. leave_found ws l g v (same_text v (codes "leave") t))
     (λ f. chosen (bytes_eq v (codes "do")) _ _ (Some l) f (λ t g. do_found ws l g v (same_text v (codes "do") t))
     (λ f. chosen (bytes_eq v (codes "go")) _ _ (Some l) f (λ t g. placed_found Go (codes "go") (λ p. refl) (λ p. tt) ws l g v (same_text v (codes "go") t))
     (λ f. chosen (bytes_eq v (codes "install")) _ _ (Some l) f (λ t g. placed_found Install (codes "install") (λ p. refl) (λ p. tt) ws l g v (same_text v (codes "install") t))
+    (λ f. chosen (bytes_eq v (codes "giveup")) _ _ (Some l) f (λ t g. placed_found GiveUp (codes "giveup") (λ p. refl) (λ p. tt) ws l g v (same_text v (codes "giveup") t))
     (λ f. chosen (bytes_eq v (codes "ready")) _ _ (Some l) f (λ t g. placed_found Ready (codes "ready") (λ p. refl) (λ p. tt) ws l g v (same_text v (codes "ready") t))
     (λ f. chosen (bytes_eq v (codes "finish")) _ _ (Some l) f (λ t g. placed_found Finish (codes "finish") (λ p. refl) (λ p. tt) ws l g v (same_text v (codes "finish") t))
-    (λ f. issue_found v ws l f))))))
+    (λ f. issue_found v ws l f))))))))
 
 pub found_if : (ws : List (List ℕ)) (o : Option Line) → o ≡ line_of ws → IfSome o (λ l. Spelled ws l)
 found_if ws None e = tt
@@ -229,7 +252,11 @@ found_if ws (Some l) e = found ws l (sym e)
 
 functions_found : (w : List ℕ) (f : FunctionsName) → functions_of w ≡ Some f → Spells w (functions_name f)
 unfolding functions_of
-functions_found w Sum e = chosen (bytes_eq w (codes "sum")) (Some Sum) None (Some Sum) e (λ t f. same_text w (codes "sum") t) (λ f. absurd (let bad : None ≡ Some Sum = f in cc))
+functions_found w f e =
+    chosen (bytes_eq w (codes "count")) _ _ (Some f) e (λ t g. rw (← same_Some Count f g) (same_text w (codes "count") t))
+    (λ g. chosen (bytes_eq w (codes "sum")) _ _ (Some f) g (λ t h. rw (← same_Some Sum f h) (same_text w (codes "sum") t))
+    (λ g. chosen (bytes_eq w (codes "max")) _ _ (Some f) g (λ t h. rw (← same_Some Max f h) (same_text w (codes "max") t))
+    (λ g. absurd (let bad : None ≡ Some f = g in cc))))
 
 store_found : (ws : List (List ℕ)) (o : Opening) → store_of ws ≡ Some o
     → SpellAll ws (functions_name o.functions ∷ number o.partition_bits ∷ number o.bucket_bits ∷ number o.page_bits ∷ number o.frames ∷ [])

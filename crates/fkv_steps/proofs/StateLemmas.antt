@@ -11,11 +11,11 @@ use Rattle.fkv_operations.specs.declared.operations.Op.{Op}
 use Rattle.fkv_partition.specs.declared.contexts.Progress.{Progress}
 use Rattle.fkv_partition.specs.declared.contexts.Progress.TheVariants.{Done, Next, NeedsBuild}
 use Rattle.fkv_partition.specs.Views.{PartitionView}
-use Rattle.fkv_partition.specs.Effect.{Asked, asked, IsEnter, IsIssue, IsEvent}
+use Rattle.fkv_partition.specs.Effect.{Asked, asked, IsEnter, IsLeave, IsIssue, IsEvent, IsGiveUp}
 use Rattle.fkv_partition.proofs.ListLemmas.{get-set_cases, get-set_other, get-set_within}
 use Rattle.fkv_steps.specs.declared.lives.Life.{Life}
 use Rattle.fkv_steps.specs.declared.lives.End.{End}
-use Rattle.fkv_steps.specs.declared.lives.End.TheVariants.{Finished}
+use Rattle.fkv_steps.specs.declared.lives.End.TheVariants.{Finished, GivenUp}
 use Rattle.fkv_steps.specs.declared.steps.Place.{Place}
 use Rattle.fkv_steps.specs.declared.tables.Seat.{Seat}
 use Rattle.fkv_steps.specs.Changes.{ended_at}
@@ -24,7 +24,7 @@ use Rattle.fkv_steps.specs.Acts.{lives_by, questions_by, begun_life, after_issue
 use Rattle.fkv_steps.specs.Worlds.{IsWorld, asked_in}
 use Rattle.fkv_steps.specs.Sound.{HasTables, IsState}
 use Rattle.fkv_steps.proofs.ManyLemmas.{asked-was}
-use Rattle.fkv_steps.proofs.WorldLemmas.{world-enter, world-issue, world-done, world-next}
+use Rattle.fkv_steps.proofs.WorldLemmas.{world-enter, world-leave, world-issue, world-done, world-give_up, world-next}
 
 -- ---- lists by their places
 pub at-index : {A : Type 0} (xs : List A) (i : ℕ) (x : A) → i < length xs → x ≡ slice_index_or xs i x → slice_get xs i ≡ Some x
@@ -108,6 +108,31 @@ module _ {K V I O : Type 0} (cmp : K → K → Ordering) (o : IsKeyOrder cmp) (f
         | inr c ↦ (let k = state.tables.issued i x c in omega arith)
       ];
     };
+  }
+
+  -- the tables, where the partition changes alone
+  tables-moved : (p : ℕ) (new : PartitionView K V I) (lives : List (Life K I O)) → HasTables (record s { partitions = slice_set s.partitions p new; lives = lives; moment = next })
+  tables-moved p new lives = record {
+    most = rw (length-set s.partitions p new) state.tables.most;
+    begun = rw (length-set s.partitions p new) state.tables.begun;
+    questions = rw (length-set s.partitions p new) state.tables.questions;
+    seats = rw (length-set s.partitions p new) state.tables.seats;
+    enters = rw (length-set s.partitions p new) state.tables.enters;
+    counted = λ q m h. (let k = state.tables.counted q m h in omega arith);
+    issued = λ i x h. (let k = state.tables.issued i x h in omega arith);
+  }
+
+  pub state-leave : (p : ℕ) (old new : PartitionView K V I) → slice_get s.partitions p ≡ Some old → IsLeave old new next → IsState cmp f code (record s { partitions = slice_set s.partitions p new; moment = next })
+  state-leave p old new here ev = record {
+    world = world-leave cmp o f code s.partitions (life_in s.begun) s.lives s.moment next e state.world p old new here ev;
+    tables = tables-moved p new s.lives;
+  }
+
+  pub state-give_up : (w : Place) (old new : PartitionView K V I) → slice_get s.partitions w.partition ≡ Some old → IsGiveUp old new w.slot w.context next
+      → IsState cmp f code (record s { partitions = slice_set s.partitions w.partition new; lives = ended_at s.lives (life_in s.begun w) GivenUp; moment = next })
+  state-give_up w old new here ev = record {
+    world = world-give_up cmp o f code s.partitions (life_in s.begun) s.lives s.moment next e state.world w.partition old new w.slot w.context here ev;
+    tables = tables-moved w.partition new (ended_at s.lives (life_in s.begun w) GivenUp);
   }
 
   pub state-issue : (p slot c : ℕ) (op : Op K I) (seat : Seat) (old new : PartitionView K V I) → slice_get s.partitions p ≡ Some old → IsIssue code old new slot c op next

@@ -14,17 +14,17 @@ use Rattle.fkv_partition.specs.declared.contexts.Progress.{Progress}
 use Rattle.fkv_partition.specs.declared.contexts.Progress.TheVariants.{Done, Next, NeedsBuild}
 use Rattle.fkv_partition.specs.Views.{PartitionView, live_of, partition_of}
 use Rattle.fkv_partition.specs.Text.{live}
-use Rattle.fkv_partition.specs.Effect.{Asked, asked, LeavesOthers, IsEnter, IsIssue, IsEvent}
+use Rattle.fkv_partition.specs.Effect.{Asked, asked, LeavesOthers, IsEnter, IsLeave, IsIssue, IsEvent, IsGiveUp}
 use Rattle.fkv_partition.proofs.ListLemmas.{get-set_cases, get-append_last}
 use Rattle.fkv_steps.specs.declared.lives.Life.{Life}
-use Rattle.fkv_steps.specs.declared.lives.End.TheVariants.{Open, Finished}
+use Rattle.fkv_steps.specs.declared.lives.End.TheVariants.{Open, Finished, GivenUp}
 use Rattle.fkv_steps.specs.Lives.{finish_of, map_before}
 use Rattle.fkv_steps.specs.Changes.{ended_at}
 use Rattle.fkv_steps.specs.Placed.{IsPlaced}
 use Rattle.fkv_steps.specs.declared.steps.Place.{Place}
 use Rattle.fkv_steps.specs.Worlds.{world_live, asked_in, IsOpenLife, IsLinked, IsHoused, IsWorld}
 use Rattle.fkv_steps.proofs.LivesLemmas.{append_old, ended_other}
-use Rattle.fkv_steps.proofs.PlacedLemmas.{placed-quiet, map-quiet, placed-append, map-append, placed-now, map-now}
+use Rattle.fkv_steps.proofs.PlacedLemmas.{placed-quiet, map-quiet, placed-append, map-append, placed-ended, map-ended, placed-now, map-now}
 use Rattle.fkv_steps.proofs.ManyLemmas.{live-quiet, live-after, answer-here, asked-here, asked-was, asked-others, asked-all}
 
 same_where : (w u : Place) → (w ≡ u) ⊎ (w ≢ u)
@@ -82,6 +82,10 @@ module _ {K V I O : Type 0} (cmp : K → K → Ordering) (o : IsKeyOrder cmp) (f
   -- a session is entered
   pub world-enter : (p : ℕ) (old new : PartitionView K V I) (slot : ℕ) → slice_get views p ≡ Some old → IsEnter old new slot next → IsWorld cmp f code (slice_set views p new) life_at lives next
   world-enter p old new slot here ev = world-quiet p old new here ev.number ev.count ev.moment (λ k. ap (λ t. live cmp t k) ev.text) (asked-all views p old new here ev.same)
+
+  -- a session is left
+  pub world-leave : (p : ℕ) (old new : PartitionView K V I) → slice_get views p ≡ Some old → IsLeave old new next → IsWorld cmp f code (slice_set views p new) life_at lives next
+  world-leave p old new here ev = world-quiet p old new here ev.number ev.count ev.moment (λ k. ap (λ t. live cmp t k) ev.text) (asked-all views p old new here ev.same)
 
   -- an operation is issued: one more life, at the end
   module _ (p : ℕ) (old new : PartitionView K V I) (slot c : ℕ) (op : Op K I) (here : slice_get views p ≡ Some old) (ev : IsIssue code old new slot c op next) (begun : Life K I O) (is : begun.op ≡ op) (at : begun.issue ≡ next) (unended : begun.end ≡ Open)
@@ -179,6 +183,38 @@ module _ {K V I O : Type 0} (cmp : K → K → Ordering) (o : IsKeyOrder cmp) (f
             apart = λ u v y z h k q. world.linked.apart u v y z (then u y h) (then v z k) q;
           };
           housed = housed-set p old new here frame.number frame.count frame.moment (λ u y h. world.housed.routed u y (then u y h));
+        }
+
+  -- an operation is given up: its life ends without effect
+  module _ (p : ℕ) (old new : PartitionView K V I) (slot c : ℕ) (here : slice_get views p ≡ Some old) (ev : IsGiveUp old new slot c next) where
+    gone : Place
+    gone = record { partition = p; slot = slot; context = c }
+
+    gives : asked_in views (record { partition = p; slot = slot; context = c }) ≡ Some ev.question
+    gives = asked-was views p old new here slot c ∙ ev.was
+
+    not_here : (u : Place) (y : Asked K I) → asked_in (slice_set views p new) u ≡ Some y → u ≢ record { partition = p; slot = slot; context = c }
+    not_here u y h s = let k : None ≡ Some y = sym (asked-here views p old new here slot c ∙ ev.closed) ∙ ap (asked_in (slice_set views p new)) (sym s) ∙ h in absurd (cc)
+
+    was_asked : (u : Place) (y : Asked K I) → asked_in (slice_set views p new) u ≡ Some y → asked_in views u ≡ Some y
+    was_asked u y h = sym (asked-others views p old new here slot c ev.frame.others u (not_here u y h)) ∙ h
+
+    pub world-give_up : IsWorld cmp f code (slice_set views p new) life_at (ended_at lives (life_at (record { partition = p; slot = slot; context = c })) GivenUp) next
+    world-give_up =
+        let l = world.linked.linked (record { partition = p; slot = slot; context = c }) ev.question gives in
+        let j = life_at (record { partition = p; slot = slot; context = c }) in
+        let unended : finish_of l.life ≡ None = ap (λ n. finish_of (record (l.life) { end = n })) l.unended in
+        record {
+          placed = placed-ended cmp f lives now next e world.placed j l.life l.here unended GivenUp refl;
+          denotes = λ k. live-quiet cmp o f code views p old new here (λ q. ap (λ t. live cmp t q) ev.text) k ∙ world.denotes k
+              ∙ ap (λ (m : PlainMap K V). m k) (sym (map-ended cmp f lives now next e world.placed j l.life l.here unended GivenUp refl));
+          linked = record {
+            linked = λ u y h. (let k = world.linked.linked u y (was_asked u y h) in
+                let other : life_at u ≢ j = λ q. not_here u y h (world.linked.apart u (record { partition = p; slot = slot; context = c }) y ev.question (was_asked u y h) gives q) in
+                record { life = k.life; here = ended_other lives j _ (life_at u) other ∙ k.here; op = k.op; issue = k.issue; unended = k.unended });
+            apart = λ u v y z h k q. world.linked.apart u v y z (was_asked u y h) (was_asked v z k) q;
+          };
+          housed = housed-set p old new here ev.frame.number ev.frame.count ev.frame.moment (λ u y h. world.housed.routed u y (was_asked u y h));
         }
 
   -- an event that finishes nothing

@@ -9,28 +9,31 @@ use Rattle.fkv_operations.specs.declared.operations.Op.{Op}
 use Rattle.fkv_partition.specs.declared.contexts.Progress.{Progress}
 use Rattle.fkv_partition.specs.declared.contexts.Progress.TheVariants.{Done, Next, NeedsBuild}
 use Rattle.fkv_partition.specs.Views.{PartitionView}
-use Rattle.fkv_partition.specs.Effect.{asked, IsEnter, IsIssue, IsEvent}
+use Rattle.fkv_partition.specs.Effect.{asked, IsEnter, IsLeave, IsIssue, IsEvent, IsGiveUp}
 use Rattle.fkv_partition.specs.Beginning.{Enters, Issues}
 use Rattle.fkv_partition.specs.Going.{Goes}
 use Rattle.fkv_partition.specs.Installing.{Installs}
+use Rattle.fkv_partition.specs.Ending.{Leaves, GivesUp}
 use Rattle.fkv_steps.specs.declared.lives.Life.{Life}
 use Rattle.fkv_steps.specs.declared.lives.End.{End}
-use Rattle.fkv_steps.specs.declared.lives.End.TheVariants.{Open, Finished}
+use Rattle.fkv_steps.specs.declared.lives.End.TheVariants.{Open, Finished, GivenUp}
 use Rattle.fkv_steps.specs.declared.outcomes.Outcome.{Outcome}
 use Rattle.fkv_steps.specs.declared.outcomes.Outcome.TheVariants as outcome
 use Rattle.fkv_steps.specs.declared.tables.Seat.{Seat}
 use Rattle.fkv_steps.specs.declared.steps.Place.{Place}
 use Rattle.fkv_steps.specs.declared.steps.Step.{Step}
-use Rattle.fkv_steps.specs.declared.steps.Step.TheVariants.{Enter, Issue, Go, Install}
+use Rattle.fkv_steps.specs.declared.steps.Step.TheVariants.{Enter, Leave, Issue, Go, Install, GiveUp}
 use Rattle.fkv_steps.specs.Changes.{ended_at}
 use Rattle.fkv_steps.specs.States.{StateView, WorldView, seat_row, context_row, life_in, question_in}
 
 -- the partition of a step
 abbrev pub partition_in : {K I : Type 0} → Step K I → ℕ
 partition_in (Enter p) = p
+partition_in (Leave p slot) = p
 partition_in (Issue p slot op) = p
 partition_in (Go w) = w.partition
 partition_in (Install w) = w.partition
+partition_in (GiveUp w) = w.partition
 
 -- the state where the partition at a place has become this one, at its moment
 abbrev pub with_partition : {K V I O : Type 0} → StateView K V I O → ℕ → PartitionView K V I → StateView K V I O
@@ -79,6 +82,10 @@ with_progress s w progress v = record (with_partition s w.partition v) {
   questions = questions_by s.questions (context_row w) progress;
 }
 
+-- an operation is given up: its life ends without effect
+abbrev pub with_given_up : {K V I O : Type 0} → StateView K V I O → Place → PartitionView K V I → StateView K V I O
+with_given_up s w v = record (with_partition s w.partition v) { lives = ended_at s.lives (life_in s.begun w) GivenUp }
+
 -- what a step tells of a progress
 abbrev pub told : {K V I O : Type 0} → Progress K V I O → Outcome V O
 told (Done a effect) = outcome.Done a
@@ -110,6 +117,10 @@ pub data Acts {K V I O : Type 0} (cmp : K → K → Ordering) (f : Meanings K V 
       → new ≡ old → result ≡ Err e → Acts cmp f code old new step result
   enters : (p slot n : ℕ) (v v' : PartitionView K V I) → step ≡ Enter p → IsDue old step v → Enters v v' (suc old.moment) (Ok slot) → IsEnter v v' slot (suc old.moment) → slice_get old.enters p ≡ Some n
       → new ≡ with_session old p slot n v' → result ≡ Ok (outcome.Entered slot) → Acts cmp f code old new step result
+  refuses_leave : (p slot : ℕ) (v : PartitionView K V I) (e : Refused) → step ≡ Leave p slot → IsDue old step v → Leaves v v slot (suc old.moment) (Err e)
+      → new ≡ old → result ≡ Err e → Acts cmp f code old new step result
+  leaves : (p slot : ℕ) (v v' : PartitionView K V I) → step ≡ Leave p slot → IsDue old step v → Leaves v v' slot (suc old.moment) (Ok tt) → IsLeave v v' (suc old.moment)
+      → new ≡ with_partition old p v' → result ≡ Ok outcome.Left → Acts cmp f code old new step result
   refuses_issue : (p slot : ℕ) (op : Op K I) (v : PartitionView K V I) (e : Refused) → step ≡ Issue p slot op → IsDue old step v → Issues code v v slot op (suc old.moment) (Err e)
       → new ≡ old → result ≡ Err e → Acts cmp f code old new step result
   issues : (p slot c : ℕ) (op : Op K I) (v v' : PartitionView K V I) (seat : Seat) → step ≡ Issue p slot op → IsDue old step v → Issues code v v' slot op (suc old.moment) (Ok c)
@@ -125,6 +136,10 @@ pub data Acts {K V I O : Type 0} (cmp : K → K → Ordering) (f : Meanings K V 
       → Installs cmp f v v' w.slot w.context ask (suc old.moment) (Ok progress)
       → IsEvent cmp f v v' w.slot w.context (suc old.moment) progress → new ≡ with_progress old w progress v' → result ≡ Ok (told progress)
       → Acts cmp f code old new step result
+  refuses_give_up : (w : Place) (v : PartitionView K V I) (e : Refused) → step ≡ GiveUp w → IsDue old step v → GivesUp v v w.slot w.context (suc old.moment) (Err e)
+      → new ≡ old → result ≡ Err e → Acts cmp f code old new step result
+  gives_up : (w : Place) (v v' : PartitionView K V I) → step ≡ GiveUp w → IsDue old step v → GivesUp v v' w.slot w.context (suc old.moment) (Ok tt)
+      → IsGiveUp v v' w.slot w.context (suc old.moment) → new ≡ with_given_up old w v' → result ≡ Ok outcome.GivenUp → Acts cmp f code old new step result
 
 -- a step of a world: its outcome is kept, after those of the steps before it; where there is no memory to keep it,
 -- nothing is done

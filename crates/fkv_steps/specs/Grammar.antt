@@ -6,11 +6,11 @@ use Rattle.fkv_operations.specs.declared.operations.Op.{Op}
 use Rattle.fkv_operations.specs.declared.operations.Op.TheVariants.{Read, Rmw}
 use Rattle.fkv_steps.specs.Words.{words_of, number_of, amount_of, is_key}
 use Rattle.fkv_steps.specs.declared.scripts.lines.FunctionsName.{FunctionsName}
-use Rattle.fkv_steps.specs.declared.scripts.lines.FunctionsName.TheVariants.{Sum}
+use Rattle.fkv_steps.specs.declared.scripts.lines.FunctionsName.TheVariants.{Count, Sum, Max}
 use Rattle.fkv_steps.specs.declared.scripts.lines.Opening.{Opening}
 use Rattle.fkv_steps.specs.declared.steps.Place.{Place}
 use Rattle.fkv_steps.specs.declared.scripts.lines.Line.{Line}
-use Rattle.fkv_steps.specs.declared.scripts.lines.Line.TheVariants.{Enter, Issue, Do, Go, Install, Ready, Finish}
+use Rattle.fkv_steps.specs.declared.scripts.lines.Line.TheVariants.{Enter, Leave, Issue, Do, Go, Install, GiveUp, Ready, Finish}
 
 -- what a word of a line stands for
 pub data Token : Type 0 where
@@ -47,10 +47,12 @@ operands (Rmw k n) = key k ∷ amount n ∷ []
 -- how each line but the first is written
 abbrev pub tokens : Line → List Token
 tokens (Enter p) = word (codes "enter") ∷ number p ∷ []
+tokens (Leave p s) = word (codes "leave") ∷ number p ∷ number s ∷ []
 tokens (Issue p s o) = verb o ∷ number p ∷ number s ∷ operands o
 tokens (Do p s o) = word (codes "do") ∷ number p ∷ number s ∷ verb o ∷ operands o
 tokens (Go p) = word (codes "go") ∷ place p
 tokens (Install p) = word (codes "install") ∷ place p
+tokens (GiveUp p) = word (codes "giveup") ∷ place p
 tokens (Ready p) = word (codes "ready") ∷ place p
 tokens (Finish p) = word (codes "finish") ∷ place p
 
@@ -73,7 +75,9 @@ abbrev pub Says : List ℕ → Line → Type 0
 Says bytes l = Spelled (words_of bytes) l
 
 abbrev pub functions_name : FunctionsName → Token
+functions_name Count = word (codes "count")
 functions_name Sum = word (codes "sum")
+functions_name Max = word (codes "max")
 
 -- how the first line is written
 abbrev pub opening : Opening → List Token

@@ -10,11 +10,11 @@ use Rattle.fkv_operations.specs.declared.operations.Op.{Op}
 use Rattle.fkv_operations.specs.declared.operations.Op.TheVariants.{Read, Rmw}
 use Rattle.fkv_steps.specs.Words.{number_of, amount_of, is_key, is_key_byte}
 use Rattle.fkv_steps.specs.declared.scripts.lines.FunctionsName.{FunctionsName}
-use Rattle.fkv_steps.specs.declared.scripts.lines.FunctionsName.TheVariants.{Sum}
+use Rattle.fkv_steps.specs.declared.scripts.lines.FunctionsName.TheVariants.{Count, Sum, Max}
 use Rattle.fkv_steps.specs.declared.scripts.lines.Opening.{Opening}
 use Rattle.fkv_steps.specs.declared.steps.Place.{Place}
 use Rattle.fkv_steps.specs.declared.scripts.lines.Line.{Line}
-use Rattle.fkv_steps.specs.declared.scripts.lines.Line.TheVariants.{Enter, Issue, Do, Go, Install, Ready, Finish}
+use Rattle.fkv_steps.specs.declared.scripts.lines.Line.TheVariants.{Enter, Leave, Issue, Do, Go, Install, GiveUp, Ready, Finish}
 
 -- the name of 1 to 31 bytes
 abbrev pub name_with : (bytes : List ℕ) → (1 ≤ length bytes) × (length bytes ≤ 31) → Name
@@ -78,6 +78,12 @@ enter_of ws = do
   p ← first_as number_of ws
   end_of p.1 (Enter p.0)
 
+unfoldable pub leave_of : List (List ℕ) → Option Line
+leave_of ws = do
+  p ← first_as number_of ws
+  s ← first_as number_of p.1
+  end_of s.1 (Leave p.0 s.0)
+
 unfoldable pub operation_of : List ℕ → List (List ℕ) → Option (Op Name ℤ)
 operation_of verb ws =
     if bytes_eq verb (codes "read") then (do
@@ -108,15 +114,21 @@ unfoldable pub line_of : List (List ℕ) → Option Line
 line_of [] = None
 line_of (v ∷ ws) =
     if bytes_eq v (codes "enter") then enter_of ws
+    else (if bytes_eq v (codes "leave") then leave_of ws
     else (if bytes_eq v (codes "do") then do_of ws
     else (if bytes_eq v (codes "go") then option_map Go (place_of ws)
     else (if bytes_eq v (codes "install") then option_map Install (place_of ws)
+    else (if bytes_eq v (codes "giveup") then option_map GiveUp (place_of ws)
     else (if bytes_eq v (codes "ready") then option_map Ready (place_of ws)
     else (if bytes_eq v (codes "finish") then option_map Finish (place_of ws)
-    else issue_of v ws)))))
+    else issue_of v ws)))))))
 
 unfoldable pub functions_of : List ℕ → Option FunctionsName
-functions_of word = if bytes_eq word (codes "sum") then Some Sum else None
+functions_of word =
+    if bytes_eq word (codes "count") then Some Count
+    else (if bytes_eq word (codes "sum") then Some Sum
+    else (if bytes_eq word (codes "max") then Some Max
+    else None))
 
 unfoldable pub store_of : List (List ℕ) → Option Opening
 store_of ws = do

@@ -11,7 +11,7 @@ use Rattle.fkv_functions.specs.declared.refusals.Refused.TheVariants.{Stalled}
 use Rattle.fkv_partition.specs.declared.limits.Config.{Config}
 use Rattle.fkv_steps.specs.declared.lives.Life.{Life}
 use Rattle.fkv_steps.specs.declared.outcomes.Outcome.{Outcome}
-use Rattle.fkv_steps.specs.declared.outcomes.Outcome.TheVariants.{Entered, Issued, Next, Build, Done}
+use Rattle.fkv_steps.specs.declared.outcomes.Outcome.TheVariants.{Entered, Left, Issued, Next, Build, Done, GivenUp}
 use Rattle.fkv_steps.specs.declared.steps.Place.{Place}
 use Rattle.fkv_steps.specs.declared.steps.Step.{Step}
 use Rattle.fkv_steps.specs.declared.steps.Step.TheVariants.{Go, Install}
@@ -54,11 +54,13 @@ pub record IsReplay {K V I O : Type 0} (cmp : K → K → Ordering) (f : Meaning
 -- the step that follows an outcome, if one does: `ready` goes on after Next, and `finish` installs after Build too
 abbrev pub step_after : {K V I O : Type 0} → Pursuit → Place → Outcome V O → Option (Step K I)
 step_after pursuit place (Entered slot) = None
+step_after pursuit place Left = None
 step_after pursuit place (Issued context) = None
 step_after pursuit place Next = Some (Go place)
 step_after Ready place (Build source) = None
 step_after Finish place (Build source) = Some (Install place)
 step_after pursuit place (Done a) = None
+step_after pursuit place GivenUp = None
 
 abbrev pub follows : {K V I O : Type 0} → Pursuit → Place → Result (Outcome V O) Refused → Option (Step K I)
 follows pursuit place (Ok x) = step_after pursuit place x

@@ -1,28 +1,28 @@
 -- What the lines of a script do, and what a whole script prints.
 use Rattle.std.specs.Prelude.{◌≡◌, ℕ, ℤ, List, [], ◌∷◌, ◌++◌, Result, Ok, Err}
 use Rattle.std.specs.declared.cmp.Ordering.{Ordering}
-use Rattle.std.specs.Fmt.{signed_decimal}
+use Rattle.std.specs.Fmt.{decimal, signed_decimal}
 use Rattle.std.specs.BTreeMap.{is_at}
 use Rattle.std.specs.Map.{lookup, keys_of}
 use Rattle.std.specs.List.Sorted.{IsStrictlySortedBy}
 use Rattle.fkv_functions.specs.Meanings.{Meanings}
 use Rattle.fkv_functions.specs.Names.{name_cmp, text_of}
-use Rattle.fkv_functions.specs.Sets.{sums}
+use Rattle.fkv_functions.specs.Sets.{counts, sums, maxima}
 use Rattle.fkv_functions.specs.Hashes.{fnv_1a}
 use Rattle.fkv_functions.specs.declared.names.Name.{Name}
 use Rattle.fkv_functions.specs.declared.refusals.Refused.{Refused}
 use Rattle.fkv_partition.specs.declared.limits.Config.{Config}
 use Rattle.fkv_partition.specs.Limits.{IsWithinLimits}
 use Rattle.fkv_steps.specs.declared.outcomes.Outcome.{Outcome}
-use Rattle.fkv_steps.specs.declared.outcomes.Outcome.TheVariants.{Entered, Issued, Next, Build, Done}
+use Rattle.fkv_steps.specs.declared.outcomes.Outcome.TheVariants.{Entered, Left, Issued, Next, Build, Done, GivenUp}
 use Rattle.fkv_steps.specs.declared.steps.Place.{Place}
 use Rattle.fkv_steps.specs.declared.steps.Step.TheVariants as step
 use Rattle.fkv_steps.specs.declared.pursuits.Pursuit.TheVariants as pursuit
 use Rattle.fkv_steps.specs.declared.scripts.lines.Line.{Line}
-use Rattle.fkv_steps.specs.declared.scripts.lines.Line.TheVariants.{Enter, Issue, Do, Go, Install, Ready, Finish}
+use Rattle.fkv_steps.specs.declared.scripts.lines.Line.TheVariants.{Enter, Leave, Issue, Do, Go, Install, GiveUp, Ready, Finish}
 use Rattle.fkv_steps.specs.declared.scripts.lines.Opening.{Opening}
 use Rattle.fkv_steps.specs.declared.scripts.lines.FunctionsName.{FunctionsName}
-use Rattle.fkv_steps.specs.declared.scripts.lines.FunctionsName.TheVariants.{Sum}
+use Rattle.fkv_steps.specs.declared.scripts.lines.FunctionsName.TheVariants.{Count, Sum, Max}
 use Rattle.fkv_steps.specs.Script.{lines_of, SaysScript}
 use Rattle.fkv_steps.specs.States.{WorldView, empty_world}
 use Rattle.fkv_steps.specs.Acts.{Steps}
@@ -40,19 +40,23 @@ abbrev pub FinishesIssued : {V O : Type 0} → (Name → Name → Ordering) → 
 FinishesIssued cmp f code p slot mid new told (Ok (Issued c)) =
     Pursues cmp f code pursuit.Finish (record { partition = p; slot = slot; context = c }) new told 10000 (step.Go (record { partition = p; slot = slot; context = c })) mid
 FinishesIssued cmp f code p slot mid new told (Ok (Entered x)) = (new ≡ mid) × (told ≡ Ok (Entered x))
+FinishesIssued cmp f code p slot mid new told (Ok Left) = (new ≡ mid) × (told ≡ Ok Left)
 FinishesIssued cmp f code p slot mid new told (Ok Next) = (new ≡ mid) × (told ≡ Ok Next)
 FinishesIssued cmp f code p slot mid new told (Ok (Build x)) = (new ≡ mid) × (told ≡ Ok (Build x))
 FinishesIssued cmp f code p slot mid new told (Ok (Done x)) = (new ≡ mid) × (told ≡ Ok (Done x))
+FinishesIssued cmp f code p slot mid new told (Ok GivenUp) = (new ≡ mid) × (told ≡ Ok GivenUp)
 FinishesIssued cmp f code p slot mid new told (Err e) = (new ≡ mid) × (told ≡ Err e)
 
 -- what a line does, and tells
 abbrev pub RunsLine : {V O : Type 0} → (Name → Name → Ordering) → Meanings Name V ℤ O → (Name → ℕ) → WorldView Name V ℤ O → WorldView Name V ℤ O → Result (Outcome V O) Refused → Line → Type 0
 RunsLine cmp f code old new told (Enter p) = Steps cmp f code old new (step.Enter p) told
+RunsLine cmp f code old new told (Leave p slot) = Steps cmp f code old new (step.Leave p slot) told
 RunsLine cmp f code old new told (Issue p slot op) = Steps cmp f code old new (step.Issue p slot op) told
 RunsLine {V} {O} cmp f code old new told (Do p slot op) =
     (mid : WorldView Name V ℤ O) × (issued : Result (Outcome V O) Refused) × Steps cmp f code old mid (step.Issue p slot op) issued × FinishesIssued cmp f code p slot mid new told issued
 RunsLine cmp f code old new told (Go w) = Steps cmp f code old new (step.Go w) told
 RunsLine cmp f code old new told (Install w) = Steps cmp f code old new (step.Install w) told
+RunsLine cmp f code old new told (GiveUp w) = Steps cmp f code old new (step.GiveUp w) told
 RunsLine cmp f code old new told (Ready w) = Pursues cmp f code pursuit.Ready w new told 10000 (step.Go w) old
 RunsLine cmp f code old new told (Finish w) = Pursues cmp f code pursuit.Finish w new told 10000 (step.Go w) old
 
@@ -77,7 +81,9 @@ pub record IsPrintedBy {V O : Type 0} (cmp : Name → Name → Ordering) (f : Me
 
 -- the text that a script prints with the functions that its first line names
 abbrev pub Prints : FunctionsName → Config → List Line → List ℕ → Type 0
+Prints Count config lines text = IsPrintedBy name_cmp counts (λ name. fnv_1a (text_of name)) decimal decimal config lines text
 Prints Sum config lines text = IsPrintedBy name_cmp sums (λ name. fnv_1a (text_of name)) signed_decimal signed_decimal config lines text
+Prints Max config lines text = IsPrintedBy name_cmp maxima (λ name. fnv_1a (text_of name)) signed_decimal signed_decimal config lines text
 
 -- the output of an input: it says a script, whose numbers are within the limits, and this is what the script prints
 pub record IsOutputOf (input text : List ℕ) : Type 0 where

@@ -5,7 +5,7 @@ use Rattle.fkv_operations.specs.declared.operations.Answer.{Answer}
 use Rattle.fkv_steps.specs.declared.lives.Life.{Life}
 use Rattle.fkv_steps.specs.declared.lives.Finish.{Finish}
 use Rattle.fkv_steps.specs.declared.outcomes.Outcome.{Outcome}
-use Rattle.fkv_steps.specs.declared.outcomes.Outcome.TheVariants.{Entered, Issued, Next, Build, Done}
+use Rattle.fkv_steps.specs.declared.outcomes.Outcome.TheVariants.{Entered, Left, Issued, Next, Build, Done, GivenUp}
 use Rattle.fkv_steps.specs.Lives.{finish_of}
 
 -- the outcomes of the steps that were not refused, in order: that of step s stands at s - 1
@@ -17,10 +17,12 @@ taken (Err e ∷ rest) = taken rest
 -- the answer that an outcome tells, if it tells one
 abbrev pub answer_in : {V O : Type 0} → Outcome V O → Option (Answer O)
 answer_in (Entered slot) = None
+answer_in Left = None
 answer_in (Issued context) = None
 answer_in Next = None
 answer_in (Build source) = None
 answer_in (Done a) = Some a
+answer_in GivenUp = None
 
 abbrev pub answer_some : {V O : Type 0} → Option (Outcome V O) → Option (Answer O)
 answer_some None = None
@@ -35,10 +37,12 @@ told_at outcomes (suc s) = answer_some (slice_get outcomes s)
 abbrev pub issues_from : {V O : Type 0} → ℕ → List (Outcome V O) → List ℕ
 issues_from s [] = []
 issues_from s (Entered slot ∷ rest) = issues_from (suc s) rest
+issues_from s (Left ∷ rest) = issues_from (suc s) rest
 issues_from s (Issued context ∷ rest) = s ∷ issues_from (suc s) rest
 issues_from s (Next ∷ rest) = issues_from (suc s) rest
 issues_from s (Build source ∷ rest) = issues_from (suc s) rest
 issues_from s (Done a ∷ rest) = issues_from (suc s) rest
+issues_from s (GivenUp ∷ rest) = issues_from (suc s) rest
 
 -- there is one life for each accepted issue, in their order, and no other; and the answers told are those of the finished
 -- lives, each told at its own step and once

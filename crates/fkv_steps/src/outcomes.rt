@@ -7,6 +7,8 @@ use fkv_operations::Answer;
 pub enum Outcome<V, O> {
     /// The session has this slot.
     Entered(usize),
+    /// The session is left.
+    Left,
     /// The operation has this context.
     Issued(usize),
     /// The operation is to go on.
@@ -15,6 +17,8 @@ pub enum Outcome<V, O> {
     Build(Option<V>),
     /// The operation is finished with this answer.
     Done(Answer<O>),
+    /// The operation is given up.
+    GivenUp,
 }
 
 /// The outcomes of one type of functions.

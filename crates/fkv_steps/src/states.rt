@@ -4,13 +4,14 @@ ghost use Rattle.fkv_partition.specs.Limits.{IsWithinLimits};
 ghost use Rattle.fkv_steps.specs.States.{empty_partitions, empty_state};
 ghost use Rattle.fkv_steps.specs.Sound.{IsState};
 ghost use Rattle.fkv_steps.specs.Acts.{Acts};
-ghost use Rattle.fkv_steps.specs.declared.steps.Step.TheVariants.{Enter, Issue, Go, Install};
+ghost use Rattle.fkv_steps.specs.declared.steps.Step.TheVariants.{Enter, Leave, Issue, Go, Install, GiveUp};
 
-use crate::lives::LifeOf;
+use crate::lives::{End, LifeOf};
 use crate::outcomes::{Outcome, OutcomeOf};
 use crate::steps::{Place, Step, StepOf};
 use crate::tables::{
-    CONTEXT_ROWS, SLOTS, Seat, begun_life, life_at, note_progress, question_at, row_of, row_of_slot,
+    CONTEXT_ROWS, SLOTS, Seat, begun_life, end_life, life_at, note_progress, question_at, row_of,
+    row_of_slot,
 };
 use fkv_functions::{Ask, Built, Functions, Refused};
 use fkv_operations::{Clock, OpOf};
@@ -136,6 +137,19 @@ impl<F: Functions> State<F> {
         Ok(Outcome::Entered(slot))
     }
 
+    /// Leaves a session.
+    pub fn leave(&mut self, p: usize, slot: usize) -> Result<OutcomeOf<F>, Refused>
+        ensures does { Acts F.Key.cmp F.meaning F.code self.old self.new (Leave p slot) result }
+    {
+        if p >= self.partitions.len() {
+            return Err(Refused::Unknown);
+        }
+        let now = moment_after(self.moment)?;
+        self.partitions[p].leave(slot, now)?;
+        self.moment = now;
+        Ok(Outcome::Left)
+    }
+
     /// Issues an operation.
     pub fn issue(
         &mut self,
@@ -231,15 +245,33 @@ impl<F: Functions> State<F> {
         ))
     }
 
+    /// Gives up an operation.
+    pub fn give_up(&mut self, place: Place) -> Result<OutcomeOf<F>, Refused>
+        ensures does { Acts F.Key.cmp F.meaning F.code self.old self.new (GiveUp place) result }
+    {
+        let p = place.partition;
+        if p >= self.partitions.len() {
+            return Err(Refused::Unknown);
+        }
+        let now = moment_after(self.moment)?;
+        self.partitions[p].give_up(place.slot, place.context, now)?;
+        let life = life_at(&self.begun, place);
+        self.moment = now;
+        end_life(&mut self.lives, life, End::GivenUp);
+        Ok(Outcome::GivenUp)
+    }
+
     /// Does a step.
     pub fn act(&mut self, functions: &F, step: StepOf<F>) -> Result<OutcomeOf<F>, Refused>
         ensures does { Acts F.Key.cmp F.meaning F.code self.old self.new step result }
     {
         match step {
             Step::Enter(partition) => self.enter(partition),
+            Step::Leave(partition, slot) => self.leave(partition, slot),
             Step::Issue(partition, slot, op) => self.issue(functions, partition, slot, op),
             Step::Go(place) => self.go(functions, place),
             Step::Install(place) => self.install(functions, place),
+            Step::GiveUp(place) => self.give_up(place),
         }
     }
 

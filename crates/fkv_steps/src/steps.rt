@@ -15,12 +15,16 @@ pub struct Place {
 pub enum Step<K, I> {
     /// Enters a session in this partition.
     Enter(usize),
+    /// Leaves the session of this slot, after its partition.
+    Leave(usize, usize),
     /// Issues an operation in the session of this slot, after its partition.
     Issue(usize, usize, Op<K, I>),
     /// Goes on with the operation that is open there.
     Go(Place),
     /// Installs what the operation that is open there asked for last.
     Install(Place),
+    /// Gives up the operation that is open there.
+    GiveUp(Place),
 }
 
 /// The steps of one type of functions.

@@ -105,15 +105,15 @@ pub fn life_at(begun: &[usize], place: Place) -> usize
 }
 
 /// Ends the life at a place.
-fn finish_life<K: Copy, I: Copy, O: Copy>(
+pub fn end_life<K: Copy, I: Copy, O: Copy>(
     lives: &mut Vec<Life<K, I, O>>,
     place: usize,
-    finish: Finish<O>,
+    end: End<O>,
 )
     requires { place < length lives.old.items }
-    ensures { lives.new.items ≡ ended_at lives.old.items place (End.Finished finish) }
+    ensures { lives.new.items ≡ ended_at lives.old.items place end }
 {
-    lives[place].end = End::Finished(finish);
+    lives[place].end = end;
 }
 
 /// Ends the life of an operation that is done, or keeps what it asks for, and tells its progress.
@@ -138,7 +138,7 @@ pub fn note_progress<K: Copy, V: Copy, I: Copy, O: Copy>(
                 done: now,
                 answer,
             };
-            finish_life(lives, life, finish);
+            end_life(lives, life, End::Finished(finish));
             Outcome::Done(answer)
         }
         Progress::Next => Outcome::Next,

@@ -247,6 +247,8 @@ fn random_step(word: u64, keys: &[Name; 4]) -> StepOf<SumFns> {
     let key = keys[(word >> 3 & 3) as usize];
     let input = (word >> 8 & 0xff) as i64 - 100;
     match word >> 5 & 7 {
+        0 if word >> 16 & 7 == 0 => Step::Leave(place.partition, place.slot),
+        0 if word >> 16 & 7 == 1 => Step::GiveUp(place),
         0 => Step::Enter(place.partition),
         1 => Step::Issue(place.partition, place.slot, Op::Read(key, input)),
         2 | 3 => Step::Issue(place.partition, place.slot, Op::Rmw(key, input)),

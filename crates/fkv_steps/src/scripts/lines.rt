@@ -6,8 +6,12 @@ use fkv_operations::Op;
 /// The sets of functions that a script can name.
 #[derive(Clone, Copy, PartialEq, Eq, Debug)]
 pub enum FunctionsName {
+    /// `count`: how often each key was updated.
+    Count,
     /// `sum`: the sum of the amounts of each key.
     Sum,
+    /// `max`: the greatest amount of each key.
+    Max,
 }
 
 /// The first line of a script: the store that it opens. The numbers are those that are written, within
@@ -29,6 +33,11 @@ pub enum Line {
     Enter {
         partition: u64,
     },
+    /// A session is left.
+    Leave {
+        partition: u64,
+        session: u64,
+    },
     /// A session issues an operation. The input of a read is 0.
     Issue {
         partition: u64,
@@ -45,6 +54,8 @@ pub enum Line {
     Go(Place),
     /// What an operation last asked for is answered.
     Install(Place),
+    /// An operation is given up.
+    GiveUp(Place),
     /// An operation goes on until it asks for something or ends.
     Ready(Place),
     /// An operation goes on, and is answered, until it ends.

@@ -5,7 +5,7 @@ ghost use Rattle.fkv_steps.specs.declared.scripts.lines.Line.{Line};
 ghost use Rattle.fkv_steps.specs.declared.scripts.lines.Opening.{Opening};
 ghost use Rattle.fkv_steps.specs.Words.{words_of};
 ghost use Rattle.fkv_steps.specs.Grammar.{Says, Opens};
-ghost use Rattle.fkv_steps.specs.Reading.{Gives, first_as, line_of, enter_of, issue_of, do_of, place_of, operation_of, functions_of, store_of, opening_of};
+ghost use Rattle.fkv_steps.specs.Reading.{Gives, first_as, line_of, enter_of, leave_of, issue_of, do_of, place_of, operation_of, functions_of, store_of, opening_of};
 
 use crate::scripts::lines::{FunctionsName, Line, Opening};
 use crate::scripts::words::Words;
@@ -40,6 +40,9 @@ fn line(bytes: &[u8]) -> Option<Line>
     if is(verb, "enter") {
         return enter(&mut words);
     }
+    if is(verb, "leave") {
+        return leave(&mut words);
+    }
     if is(verb, "do") {
         return do_line(&mut words);
     }
@@ -48,6 +51,9 @@ fn line(bytes: &[u8]) -> Option<Line>
     }
     if is(verb, "install") {
         return Some(Line::Install(place(&mut words)?));
+    }
+    if is(verb, "giveup") {
+        return Some(Line::GiveUp(place(&mut words)?));
     }
     if is(verb, "ready") {
         return Some(Line::Ready(place(&mut words)?));
@@ -81,8 +87,14 @@ fn functions(words: &mut Words<'_>) -> Option<FunctionsName>
     ensures { Gives result (first_as functions_of words.old) words.new }
 {
     let word = words.next()?;
+    if is(word, "count") {
+        return Some(FunctionsName::Count);
+    }
     if is(word, "sum") {
         return Some(FunctionsName::Sum);
+    }
+    if is(word, "max") {
+        return Some(FunctionsName::Max);
     }
     None
 }
@@ -117,6 +129,18 @@ fn enter(words: &mut Words<'_>) -> Option<Line>
         return None;
     }
     Some(Line::Enter { partition })
+}
+
+#[tactic(auto, unfolding(crate::specs::Reading::leave_of))]
+fn leave(words: &mut Words<'_>) -> Option<Line>
+    ensures { result ≡ leave_of words.old }
+{
+    let partition = words.number()?;
+    let session = words.number()?;
+    if !words.is_empty() {
+        return None;
+    }
+    Some(Line::Leave { partition, session })
 }
 
 #[tactic(auto, unfolding(crate::specs::Reading::place_of))]

@@ -39,14 +39,15 @@ impl Printed for i128 {
     fn printed(&self) {}
 }
 
-/// An outcome prints as a script's line does: `entered S`, `issued C`, `next`, `build none`, `build V`,
-/// `done value V` or `done absent`.
+/// An outcome prints as a script's line does: `entered S`, `left`, `issued C`, `next`, `build none`,
+/// `build V`, `done value V`, `done absent` or `given up`.
 impl<V: Printed, O: Printed> Display for Outcome<V, O> {
     ghost output = { λ o. Some (outcome_text V.text O.text o) };
 
     fn fmt<W: fmt::Write>(&self, f: &mut fmt::Formatter<W>) -> fmt::Result {
         match self {
             Outcome::Entered(slot) => write!(f, "entered {slot}"),
+            Outcome::Left => write!(f, "left"),
             Outcome::Issued(context) => write!(f, "issued {context}"),
             Outcome::Next => write!(f, "next"),
             Outcome::Build(None) => write!(f, "build none"),
@@ -59,6 +60,7 @@ impl<V: Printed, O: Printed> Display for Outcome<V, O> {
                 write!(f, "done value {shown}")
             }
             Outcome::Done(Answer::Absent) => write!(f, "done absent"),
+            Outcome::GivenUp => write!(f, "given up"),
         }
     }
 }

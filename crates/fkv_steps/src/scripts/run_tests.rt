@@ -3,7 +3,8 @@ use crate::scripts::running::run_script;
 use crate::scripts::tests::{Breaking, Filling};
 use fkv_functions::Refused;
 use std::alloc::Global;
-use std::io::ErrorKind;
+use std::io::{ErrorKind, Write};
+use std::test::Fail;
 
 /// The text that a script prints, or its refusal with what was written before it.
 fn run(alloc: Global, script: &str) -> (Result<(), Refused>, Vec<u8>) {
@@ -102,6 +103,98 @@ refused NotReady
 refused Unknown
 map 0
 ";
+    assert!(rt; written.as_slice() == text.as_bytes());
+}
+
+#[test]
+fn leaving_and_giving_up(rt: HostRuntime) {
+    let (told, written) = run(
+        rt.alloc(),
+        "store sum 0 8 8 2
+leave 0 0
+enter 0
+rmw 0 0 a 5
+ready 0 0 0
+leave 0 0
+giveup 0 0 0
+install 0 0 0
+giveup 0 0 0
+do 0 0 rmw a 2
+leave 0 0
+leave 0 0
+do 0 0 read a
+enter 0
+do 0 0 read a
+",
+    );
+    assert_eq!(rt; told, Ok(()));
+    let text = "refused Unknown
+entered 0
+issued 0
+build none
+refused Busy
+given up
+refused Unknown
+refused Unknown
+done value 2
+left
+refused Unknown
+refused Unknown
+entered 0
+done value 2
+map 1
+a 2
+";
+    assert!(rt; written.as_slice() == text.as_bytes());
+}
+
+#[test]
+fn session_limits(rt: HostRuntime) -> Result<(), Fail> {
+    let mut script = Vec::new(rt.alloc());
+    let mut text = Vec::new(rt.alloc());
+    writeln!(script, "store sum 0 8 8 2")?;
+    for slot in 0..16u64 {
+        writeln!(script, "enter 0")?;
+        writeln!(text, "entered {slot}")?;
+    }
+    writeln!(script, "enter 0")?;
+    writeln!(text, "refused NoSlot")?;
+    for context in 0..8u64 {
+        writeln!(script, "read 0 0 a")?;
+        writeln!(text, "issued {context}")?;
+    }
+    writeln!(
+        script,
+        "read 0 0 a\nleave 0 0\ngiveup 0 0 7\ngo 0 0 7\ninstall 0 0 0"
+    )?;
+    writeln!(
+        text,
+        "refused NoContext\nrefused Busy\ngiven up\nrefused Unknown\nrefused NotReady\nmap 0"
+    )?;
+    let mut written = Vec::new(rt.alloc());
+    assert_eq!(rt;
+        run_script(rt.alloc(), script.as_slice(), &mut written),
+        Ok(())
+    );
+    assert!(rt; written == text);
+    Ok(())
+}
+
+#[test]
+fn counts_and_maxima(rt: HostRuntime) {
+    let (told, written) = run(
+        rt.alloc(),
+        "store count 0 8 8 2\nenter 0\ndo 0 0 rmw a 5\ndo 0 0 rmw a -2\n",
+    );
+    assert_eq!(rt; told, Ok(()));
+    let text = "entered 0\ndone value 1\ndone value 2\nmap 1\na 2\n";
+    assert!(rt; written.as_slice() == text.as_bytes());
+    let (told, written) = run(
+        rt.alloc(),
+        "store max 0 8 8 2\nenter 0\ndo 0 0 rmw a 5\ndo 0 0 rmw a -2\n",
+    );
+    assert_eq!(rt; told, Ok(()));
+    let text = "entered 0\ndone value 5\ndone value 5\nmap 1\na 5\n";
     assert!(rt; written.as_slice() == text.as_bytes());
 }
 

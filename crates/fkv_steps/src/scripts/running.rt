@@ -14,7 +14,7 @@ use crate::scripts::printing::{Printed, text_of, write_out};
 use crate::scripts::reading::{LIMIT, read_script};
 use crate::steps::{Place, Step};
 use crate::worlds::World;
-use fkv_functions::{Functions, Name, Refused, SumFns};
+use fkv_functions::{CountFns, Functions, MaxFns, Name, Refused, SumFns};
 use fkv_operations::Op;
 use fkv_partition::Config;
 use std::alloc::Global;
@@ -59,8 +59,13 @@ fn run_line<F: Functions<Key = Name, Input = i64>>(
             session,
             op,
         } => do_operation(world, functions, partition as usize, session as usize, op),
+        Line::Leave { partition, session } => world.step(
+            functions,
+            Step::Leave(partition as usize, session as usize),
+        ),
         Line::Go(place) => world.step(functions, Step::Go(place)),
         Line::Install(place) => world.step(functions, Step::Install(place)),
+        Line::GiveUp(place) => world.step(functions, Step::GiveUp(place)),
         Line::Ready(place) => world.ready(functions, place),
         Line::Finish(place) => world.finish(functions, place),
     }
@@ -142,7 +147,9 @@ pub fn run_script<R: Read + Drop, W: Write>(
     let script = read_script(alloc, reader, LIMIT)?;
     let config = script.opening.config();
     let text = match script.opening.functions {
+        FunctionsName::Count => printed_by(alloc, &CountFns, &config, &script.lines)?,
         FunctionsName::Sum => printed_by(alloc, &SumFns, &config, &script.lines)?,
+        FunctionsName::Max => printed_by(alloc, &MaxFns, &config, &script.lines)?,
     };
     write_out(writer, text.as_slice())
 }

@@ -42,6 +42,8 @@ rmw 1 15 a_Z-9 -9223372036854775808
 rmw 1 15 abcdefghijklmnopqrstuvwxyz01234 +0005
 go 1 15 7
 install 1 15 7
+leave 1 15
+giveup 1 15 7
 ready 1 15 7
 finish 1 15 7
 do 1 15 read a
@@ -66,6 +68,11 @@ do 1 15 rmw a -0";
         },
         Line::Go(PLACE),
         Line::Install(PLACE),
+        Line::Leave {
+            partition: 1,
+            session: 15,
+        },
+        Line::GiveUp(PLACE),
         Line::Ready(PLACE),
         Line::Finish(PLACE),
         Line::Do {
@@ -97,8 +104,8 @@ fn bad_first_lines(rt: HostRuntime) {
         "\n",
         "enter 0",
         "store",
-        "store count 0 8 8 2",
-        "store max 0 8 8 2",
+        "store mean 0 8 8 2",
+        "store Sum 0 8 8 2",
         "store sum 0 8 8",
         "store sum 0 8 8 2 2",
         "store sum 0 8 8 2 ",
@@ -144,7 +151,10 @@ fn bad_later_lines(rt: HostRuntime) -> Result<(), Fail> {
         "enter 18446744073709551616",
         "enter 1a",
         "Enter 0",
-        "leave 0 0",
+        "leave 0",
+        "leave 0 0 0",
+        "giveup 0 0",
+        "refresh 0 0",
         "upsert 0 0 a 1",
         "read 0 0",
         "read 0 0 a 0",

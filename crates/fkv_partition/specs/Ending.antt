@@ -1,0 +1,17 @@
+-- What `leave` and `give_up` do: a rule for each case, in the order of the tests.
+use Rattle.std.specs.Prelude.{◌≡◌, false, ℕ, Some, None, Result, Ok, Err, slice_get, slice_set, unwrap_or}
+use Rattle.fkv_functions.specs.declared.refusals.Refused.{Refused}
+use Rattle.fkv_functions.specs.declared.refusals.Refused.TheVariants.{Unknown, Busy}
+use Rattle.fkv_partition.specs.declared.contexts.Context.{Context}
+use Rattle.fkv_partition.specs.Beginning.{IsEntered}
+use Rattle.fkv_partition.specs.Views.{PartitionView, context_at, with_context, open_context}
+
+pub data Leaves {K V I : Type 0} (old new : PartitionView K V I) (slot now : ℕ) (result : Result (Unit {0}) Refused) : Type 0 where
+  unknown : unwrap_or (slice_get old.entered slot) false ≡ false → new ≡ old → result ≡ Err Unknown → Leaves old new slot now result
+  busy : (c : ℕ) → IsEntered old slot → open_context old slot ≡ Some c → new ≡ old → result ≡ Err Busy → Leaves old new slot now result
+  leaves : IsEntered old slot → open_context old slot ≡ None → new ≡ record old { entered = slice_set old.entered slot false; moment = now } → result ≡ Ok tt
+      → Leaves old new slot now result
+
+pub data GivesUp {K V I : Type 0} (old new : PartitionView K V I) (slot c now : ℕ) (result : Result (Unit {0}) Refused) : Type 0 where
+  unknown : context_at old slot c ≡ None → new ≡ old → result ≡ Err Unknown → GivesUp old new slot c now result
+  gives_up : (x : Context K V I) → context_at old slot c ≡ Some x → new ≡ with_context old slot c None now → result ≡ Ok tt → GivesUp old new slot c now result

@@ -1,0 +1,49 @@
+//! How sessions and operations end without an answer.
+ghost use Rattle.std.specs.Prelude.{◌≡◌, ◌<◌, ◌≤◌, IfOk, OnOk, OnErr};
+ghost use Rattle.fkv_partition.specs.Ending.{Leaves, GivesUp};
+ghost use Rattle.fkv_partition.specs.Effect.{IsLeave, IsGiveUp};
+
+use crate::contexts::{open_at, open_context, set_context};
+use crate::partitions::Partition;
+use crate::sessions::{is_entered, leave_slot};
+use fkv_functions::{Functions, Refused};
+
+impl<F: Functions> Partition<F> {
+    /// Leaves a session, and frees its slot. Refused, in this order, and then nothing changes: `Unknown`
+    /// where the slot is that of no session, `Busy` where an operation of the session is open.
+    pub fn leave(&mut self, slot: usize, now: u64) -> Result<(), Refused>
+        requires later { self.old.moment < now }
+        ensures does { Leaves self.old self.new slot now result }
+        ensures event { OnOk result (IsLeave self.old self.new now) }
+        ensures err { OnErr result (self.new ≡ self.old) }
+        ensures moment { self.new.moment ≤ now }
+    {
+        if !is_entered(self.entered.as_slice(), slot) {
+            return Err(Refused::Unknown);
+        }
+        if let Some(_open) = open_context(&self.contexts, slot) {
+            return Err(Refused::Busy);
+        }
+        self.moment = now;
+        leave_slot(&mut self.entered, slot);
+        Ok(())
+    }
+
+    /// Gives up an operation, which ends without effect, and frees its context. Refused, and then nothing
+    /// changes: `Unknown` where no operation is open there.
+    pub fn give_up(&mut self, slot: usize, context: usize, now: u64) -> Result<(), Refused>
+        requires later { self.old.moment < now }
+        ensures does { GivesUp self.old self.new slot context now result }
+        ensures event { OnOk result (IsGiveUp self.old self.new slot context now) }
+        ensures within { OnOk result ((slot < 16) × (context < 8)) }
+        ensures err { OnErr result (self.new ≡ self.old) }
+        ensures moment { self.new.moment ≤ now }
+    {
+        let Some(_open) = open_at(self.entered.as_slice(), &self.contexts, slot, context) else {
+            return Err(Refused::Unknown);
+        };
+        self.moment = now;
+        set_context(&mut self.contexts, slot, context, None);
+        Ok(())
+    }
+}
