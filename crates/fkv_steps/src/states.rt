@@ -121,31 +121,31 @@ impl<F: Functions> State<F> {
     }
 
     /// Enters a session.
-    pub fn enter(&mut self, p: usize) -> Result<OutcomeOf<F>, Refused>
-        ensures does { Acts F.Key.cmp F.meaning F.code self.old self.new (Enter p) result }
+    pub fn enter(&mut self, partition: usize) -> Result<OutcomeOf<F>, Refused>
+        ensures does { Acts F.Key.cmp F.meaning F.code self.old self.new (Enter partition) result }
     {
-        if p >= self.partitions.len() {
+        if partition >= self.partitions.len() {
             return Err(Refused::Unknown);
         }
         let now = moment_after(self.moment)?;
-        let slot = self.partitions[p].enter(now)?;
-        let session = self.enters[p] + 1;
-        let row = row_of_slot(p, slot);
-        self.enters[p] = session;
+        let slot = self.partitions[partition].enter(now)?;
+        let session = self.enters[partition] + 1;
+        let row = row_of_slot(partition, slot);
+        self.enters[partition] = session;
         self.seats[row] = Seat { session, issues: 0 };
         self.moment = now;
         Ok(Outcome::Entered(slot))
     }
 
     /// Leaves a session.
-    pub fn leave(&mut self, p: usize, slot: usize) -> Result<OutcomeOf<F>, Refused>
-        ensures does { Acts F.Key.cmp F.meaning F.code self.old self.new (Leave p slot) result }
+    pub fn leave(&mut self, partition: usize, slot: usize) -> Result<OutcomeOf<F>, Refused>
+        ensures does { Acts F.Key.cmp F.meaning F.code self.old self.new (Leave partition slot) result }
     {
-        if p >= self.partitions.len() {
+        if partition >= self.partitions.len() {
             return Err(Refused::Unknown);
         }
         let now = moment_after(self.moment)?;
-        self.partitions[p].leave(slot, now)?;
+        self.partitions[partition].leave(slot, now)?;
         self.moment = now;
         Ok(Outcome::Left)
     }
@@ -154,28 +154,28 @@ impl<F: Functions> State<F> {
     pub fn issue(
         &mut self,
         functions: &F,
-        p: usize,
+        partition: usize,
         slot: usize,
         op: OpOf<F>,
     ) -> Result<OutcomeOf<F>, Refused>
-        ensures does { Acts F.Key.cmp F.meaning F.code self.old self.new (Issue p slot op) result }
+        ensures does { Acts F.Key.cmp F.meaning F.code self.old self.new (Issue partition slot op) result }
     {
-        if p >= self.partitions.len() {
+        if partition >= self.partitions.len() {
             return Err(Refused::Unknown);
         }
         let now = moment_after(self.moment)?;
         let Ok(()) = self.lives.try_reserve(1) else {
             return Err(Refused::NoMemory);
         };
-        let context = self.partitions[p].issue(slot, op, functions, now)?;
-        let row = row_of_slot(p, slot);
+        let context = self.partitions[partition].issue(slot, op, functions, now)?;
+        let row = row_of_slot(partition, slot);
         let seat = self.seats[row];
         let life = self.lives.len();
-        let Ok(()) = self.lives.push(begun_life(p, &seat, op, now)) else {
+        let Ok(()) = self.lives.push(begun_life(partition, &seat, op, now)) else {
             return Err(Refused::NoMemory);
         };
         let place = row_of(Place {
-            partition: p,
+            partition,
             slot,
             context,
         });
@@ -190,12 +190,12 @@ impl<F: Functions> State<F> {
     pub fn go(&mut self, functions: &F, place: Place) -> Result<OutcomeOf<F>, Refused>
         ensures does { Acts F.Key.cmp F.meaning F.code self.old self.new (Go place) result }
     {
-        let p = place.partition;
-        if p >= self.partitions.len() {
+        let partition = place.partition;
+        if partition >= self.partitions.len() {
             return Err(Refused::Unknown);
         }
         let now = moment_after(self.moment)?;
-        let progress = self.partitions[p].go(place.slot, place.context, functions, now)?;
+        let progress = self.partitions[partition].go(place.slot, place.context, functions, now)?;
         let row = row_of(place);
         let life = life_at(&self.begun, place);
         self.moment = now;
@@ -213,19 +213,19 @@ impl<F: Functions> State<F> {
     pub fn install(&mut self, functions: &F, place: Place) -> Result<OutcomeOf<F>, Refused>
         ensures does { Acts F.Key.cmp F.meaning F.code self.old self.new (Install place) result }
     {
-        let p = place.partition;
-        if p >= self.partitions.len() {
+        let partition = place.partition;
+        if partition >= self.partitions.len() {
             return Err(Refused::Unknown);
         }
         let Some(ask) = question_at(&self.questions, place) else {
-            let Ok(_) = self.partitions[p].asked(place.slot, place.context) else {
+            let Ok(_) = self.partitions[partition].asked(place.slot, place.context) else {
                 return Err(Refused::Unknown);
             };
             return Err(Refused::NotReady);
         };
         let now = moment_after(self.moment)?;
         let built = Built::make(functions, ask);
-        let progress = self.partitions[p].install(
+        let progress = self.partitions[partition].install(
             place.slot,
             place.context,
             built,
@@ -249,12 +249,12 @@ impl<F: Functions> State<F> {
     pub fn give_up(&mut self, place: Place) -> Result<OutcomeOf<F>, Refused>
         ensures does { Acts F.Key.cmp F.meaning F.code self.old self.new (GiveUp place) result }
     {
-        let p = place.partition;
-        if p >= self.partitions.len() {
+        let partition = place.partition;
+        if partition >= self.partitions.len() {
             return Err(Refused::Unknown);
         }
         let now = moment_after(self.moment)?;
-        self.partitions[p].give_up(place.slot, place.context, now)?;
+        self.partitions[partition].give_up(place.slot, place.context, now)?;
         let life = life_at(&self.begun, place);
         self.moment = now;
         end_life(&mut self.lives, life, End::GivenUp);

@@ -8,7 +8,7 @@ use Rattle.fkv_steps.proofs.states.State.enter.Goals as goal
 pub returns-in_err-now : goal.returns-in_err-now
 returns-in_err-now g c =
     let is = err-is c.from_residual.result c.in_err-now.field-0.0 c.from_residual.ensures.0 c.from_residual.ensures.1 in
-    let there : c.args.p < length c.self.inside.partitions.items = omega arith in
+    let there : c.args.partition < length c.self.inside.partitions.items = omega arith in
     rw (← c.self.view_is, is) (record { does = worn there (λ w h. absurd (cc)) (c.in_err-now.ensures.worn.0 (ap Err c.in_err-now.ensures.only)) refl (ap Err c.in_err-now.ensures.only) })
 
 pub enter-requires-clause-later : goal.enter-requires-clause-later
@@ -16,28 +16,28 @@ enter-requires-clause-later g c κs within =
     let ord = g.met.F.Key.Ord g.world.𝓛 g.world.𝓜 g.world.𝓡 ((λ s x. x), (λ x. x), (λ x. x), λ x. x) in
     let known = g.met.F.Key.Known g.world.𝓛 g.world.𝓜 g.world.𝓡 ((λ s x. x), (λ x. x), (λ x. x), λ x. x) in
     let order = key_order g.F.Key.PartialEq.eq g.F.Key.Ord.cmp ord.matches_eq known.exact ord.total in
-    let there : c.args.p < length c.self.inside.partitions.items = omega arith in
-    let here = at-index c.self.inside.partitions.items c.args.p c.index_mut.result.now there c.index_mut.ensures.value in
-    later g.F.Key.Ord.cmp order g.F.Functions.meaning g.F.Functions.code _ c.self.invariant c.in_ok-now.now c.in_ok-now.ensures.ok c.args.p c.index_mut.result.now here
+    let there : c.args.partition < length c.self.inside.partitions.items = omega arith in
+    let here = at-index c.self.inside.partitions.items c.args.partition c.index_mut.result.now there c.index_mut.ensures.value in
+    later g.F.Key.Ord.cmp order g.F.Functions.meaning g.F.Functions.code _ c.self.invariant c.in_ok-now.now c.in_ok-now.ensures.ok c.args.partition c.index_mut.result.now here
 
 pub invariant_of-self : goal.invariant_of-self
 invariant_of-self g c =
-    let there : c.args.p < length c.self.inside.partitions.items = omega arith in
-    let here = at-index c.self.inside.partitions.items c.args.p c.index_mut.result.now there c.index_mut.ensures.value in
-    rw (set-unchanged c.self.inside.partitions.items c.args.p c.index_mut.result.now c.enter.new.self here c.in_err-slot.ensures.err) c.self.invariant
+    let there : c.args.partition < length c.self.inside.partitions.items = omega arith in
+    let here = at-index c.self.inside.partitions.items c.args.partition c.index_mut.result.now there c.index_mut.ensures.value in
+    rw (set-unchanged c.self.inside.partitions.items c.args.partition c.index_mut.result.now c.enter.new.self here c.in_err-slot.ensures.err) c.self.invariant
 
 pub returns-in_err-slot : goal.returns-in_err-slot
 returns-in_err-slot g c =
-    let there : c.args.p < length c.self.inside.partitions.items = omega arith in
-    let here = at-index c.self.inside.partitions.items c.args.p c.index_mut.result.now there c.index_mut.ensures.value in
+    let there : c.args.partition < length c.self.inside.partitions.items = omega arith in
+    let here = at-index c.self.inside.partitions.items c.args.partition c.index_mut.result.now there c.index_mut.ensures.value in
     let is = err-is c.from_residual-in_err-slot.result c.in_err-slot.field-0.0 c.from_residual-in_err-slot.ensures.0 c.from_residual-in_err-slot.ensures.1 in
-    let kept = set-unchanged c.self.inside.partitions.items c.args.p c.index_mut.result.now c.enter.new.self here c.in_err-slot.ensures.err in
-    rw (← c.self.view_is, is, kept) (record { does = acts-no_enter g.F.Key.Ord.cmp g.F.Functions.meaning g.F.Functions.code _ c.in_ok-now.now c.in_ok-now.ensures.ok (omega arith) c.args.p c.index_mut.result.now c.enter.new.self here c.in_err-slot.field-0.0 c.in_err-slot.ensures.err c.in_err-slot.ensures.does })
+    let kept = set-unchanged c.self.inside.partitions.items c.args.partition c.index_mut.result.now c.enter.new.self here c.in_err-slot.ensures.err in
+    rw (← c.self.view_is, is, kept) (record { does = acts-no_enter g.F.Key.Ord.cmp g.F.Functions.meaning g.F.Functions.code _ c.in_ok-now.now c.in_ok-now.ensures.ok (omega arith) c.args.partition c.index_mut.result.now c.enter.new.self here c.in_err-slot.field-0.0 c.in_err-slot.ensures.err c.in_err-slot.ensures.does })
 
 pub overflow_add-session : goal.overflow_add-session
 overflow_add-session g c =
     let rows = c.self.invariant.tables.enters in
-    let count = c.self.invariant.tables.counted c.args.p c.index.result.now (at-index c.self.inside.enters.items c.args.p c.index.result.now (omega arith) c.index.ensures) in
+    let count = c.self.invariant.tables.counted c.args.partition c.index.result.now (at-index c.self.inside.enters.items c.args.partition c.index.result.now (omega arith) c.index.ensures) in
     let then = c.in_ok-now.ensures.ok in
     omega arith
 
@@ -46,18 +46,18 @@ invariant_of-self-2 g c =
     let ord = g.met.F.Key.Ord g.world.𝓛 g.world.𝓜 g.world.𝓡 ((λ s x. x), (λ x. x), (λ x. x), λ x. x) in
     let known = g.met.F.Key.Known g.world.𝓛 g.world.𝓜 g.world.𝓡 ((λ s x. x), (λ x. x), (λ x. x), λ x. x) in
     let order = key_order g.F.Key.PartialEq.eq g.F.Key.Ord.cmp ord.matches_eq known.exact ord.total in
-    let there : c.args.p < length c.self.inside.partitions.items = omega arith in
-    let here = at-index c.self.inside.partitions.items c.args.p c.index_mut.result.now there c.index_mut.ensures.value in
+    let there : c.args.partition < length c.self.inside.partitions.items = omega arith in
+    let here = at-index c.self.inside.partitions.items c.args.partition c.index_mut.result.now there c.index_mut.ensures.value in
     let rows = c.self.invariant.tables.enters in
-    let count = at-index c.self.inside.enters.items c.args.p c.index.result.now (omega arith) c.index.ensures in
+    let count = at-index c.self.inside.enters.items c.args.partition c.index.result.now (omega arith) c.index.ensures in
     rw c.row_of_slot-row.ensures
-    (state-enter g.F.Key.Ord.cmp order g.F.Functions.meaning g.F.Functions.code _ c.self.invariant c.in_ok-now.now c.in_ok-now.ensures.ok c.args.p c.in_ok-slot.slot c.index.result.now c.index_mut.result.now c.enter.new.self here c.in_ok-slot.ensures.event count)
+    (state-enter g.F.Key.Ord.cmp order g.F.Functions.meaning g.F.Functions.code _ c.self.invariant c.in_ok-now.now c.in_ok-now.ensures.ok c.args.partition c.in_ok-slot.slot c.index.result.now c.index_mut.result.now c.enter.new.self here c.in_ok-slot.ensures.event count)
 
 pub returns : goal.returns
 returns g c =
-    let there : c.args.p < length c.self.inside.partitions.items = omega arith in
-    let here = at-index c.self.inside.partitions.items c.args.p c.index_mut.result.now there c.index_mut.ensures.value in
+    let there : c.args.partition < length c.self.inside.partitions.items = omega arith in
+    let here = at-index c.self.inside.partitions.items c.args.partition c.index_mut.result.now there c.index_mut.ensures.value in
     let rows = c.self.invariant.tables.enters in
-    let count = at-index c.self.inside.enters.items c.args.p c.index.result.now (omega arith) c.index.ensures in
+    let count = at-index c.self.inside.enters.items c.args.partition c.index.result.now (omega arith) c.index.ensures in
     rw (← c.self.view_is, c.row_of_slot-row.ensures)
-    (record { does = acts-enter g.F.Key.Ord.cmp g.F.Functions.meaning g.F.Functions.code _ c.in_ok-now.now c.in_ok-now.ensures.ok (omega arith) c.args.p c.index_mut.result.now c.enter.new.self here c.in_ok-slot.slot c.index.result.now c.in_ok-slot.ensures.does c.in_ok-slot.ensures.event count })
+    (record { does = acts-enter g.F.Key.Ord.cmp g.F.Functions.meaning g.F.Functions.code _ c.in_ok-now.now c.in_ok-now.ensures.ok (omega arith) c.args.partition c.index_mut.result.now c.enter.new.self here c.in_ok-slot.slot c.index.result.now c.in_ok-slot.ensures.does c.in_ok-slot.ensures.event count })
