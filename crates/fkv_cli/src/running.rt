@@ -1,11 +1,12 @@
 //! Doing what a command line asks for.
-ghost use Rattle.std.specs.Prelude.{◌≡◌, ◌⊎◌, map, string_bytes};
+ghost use Rattle.std.specs.Prelude.{◌≡◌, ◌⊎◌, map, codes, string_bytes};
+ghost use Rattle.fkv_steps.specs.Printing.{AppendsPrefix, line};
 ghost use Rattle.fkv_cli.specs.Requests.{AsksReplay, MayAskHelp, MayBeMistaken};
 ghost use Rattle.fkv_cli.specs.Endings.{PrintsAll, PrintsPart};
 
 use crate::requests::{Request, request_of};
 use fkv_functions::Refused;
-use fkv_steps::scripts::run_script;
+use fkv_steps::scripts::{run_script, write_out};
 use std::alloc::Global;
 use std::io::{Read, Write};
 
@@ -62,11 +63,10 @@ pub fn tell<E: Write>(faults: &mut E, refused: Refused) -> u8
 
 /// Refuses a command line with a word that is no text, in clap's own words, and answers its status.
 pub fn refuse_words<E: Write>(faults: &mut E) -> u8
-    ensures { result ≡ 2 }
+    ensures status { result ≡ 2 }
+    ensures told { AppendsPrefix (E.contents faults.old) (E.contents faults.new) (line (codes "error: invalid UTF-8 was detected in one or more arguments")) }
 {
-    let _untold = writeln!(
-        faults,
-        "error: invalid UTF-8 was detected in one or more arguments"
-    );
+    let text = "error: invalid UTF-8 was detected in one or more arguments\n";
+    let _untold = write_out(faults, text.as_bytes());
     MISTAKE
 }
