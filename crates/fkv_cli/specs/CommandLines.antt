@@ -14,10 +14,10 @@ AsksByReplay = (name : Text) → AsksReplay (name ∷ codes "replay" ∷ [])
 abbrev pub AsksHelpByOption : Type 0
 AsksHelpByOption = (name : Text) → fault_of program (name ∷ codes "--help" ∷ []) ≡ DisplayHelp ∷ []
 
--- a word that is no subcommand is a mistake
+-- a word that is no subcommand is a mistake, as this one
 abbrev pub IsMistakenWord : Type 0
 IsMistakenWord = (name : Text) → fault_of program (name ∷ codes "reply" ∷ []) ≡ UnknownArgument ∷ InvalidSubcommand ∷ []
 
--- and so is a word behind the subcommand
+-- and so is a word behind the subcommand, as this one
 abbrev pub IsMistakenMore : Type 0
 IsMistakenMore = (name : Text) → fault_of program (name ∷ codes "replay" ∷ codes "more" ∷ []) ≡ UnknownArgument ∷ []
