@@ -1,5 +1,5 @@
 -- What a step keeps of the account of lives and outcomes.
-use Rattle.std.proofs.Common.{◌≡◌, ◌≢◌, ℕ, zero, suc, ◌+◌, ◌<◌, ◌≤◌, inl, inr, ◌⊎◌, List, [], ◌∷◌, ◌++◌, length, map, Option, Some, None, Result, Ok, Err, slice_get, refl, sym, ◌∙◌, ap, subst, arith, length-append}
+use Rattle.std.proofs.Common.{◌≡◌, ◌≢◌, ℕ, zero, suc, ◌+◌, ◌≤◌, inl, inr, ◌⊎◌, List, [], ◌∷◌, ◌++◌, length, map, Option, Some, None, Result, Ok, Err, slice_get, refl, sym, ◌∙◌, ap, arith, length-append}
 use Rattle.std.proofs.lemmas.Bool.{cases_eq}
 use Rattle.std.proofs.lemmas.Option.{slice_get_within}
 use Rattle.std.specs.declared.cmp.Ordering.{Ordering}
@@ -9,12 +9,12 @@ use Rattle.fkv_operations.specs.declared.operations.Answer.{Answer}
 use Rattle.fkv_partition.specs.declared.contexts.Progress.{Progress}
 use Rattle.fkv_partition.specs.declared.contexts.Progress.TheVariants.{Done, Next, NeedsBuild}
 use Rattle.fkv_partition.specs.Views.{PartitionView}
-use Rattle.fkv_partition.specs.Effect.{Asked, IsEvent}
+use Rattle.fkv_partition.specs.Effect.{IsEvent}
 use Rattle.fkv_partition.proofs.ListLemmas.{get-append_left, get-append_last}
 use Rattle.fkv_steps.specs.declared.lives.Life.{Life}
 use Rattle.fkv_steps.specs.declared.lives.Finish.{Finish}
 use Rattle.fkv_steps.specs.declared.lives.End.{End}
-use Rattle.fkv_steps.specs.declared.lives.End.TheVariants.{Open, Finished, GivenUp}
+use Rattle.fkv_steps.specs.declared.lives.End.TheVariants.{Finished, GivenUp}
 use Rattle.fkv_steps.specs.declared.outcomes.Outcome.{Outcome}
 use Rattle.fkv_steps.specs.declared.outcomes.Outcome.TheVariants as outcome
 use Rattle.fkv_steps.specs.declared.steps.Place.{Place}
@@ -22,7 +22,7 @@ use Rattle.fkv_steps.specs.declared.steps.Step.{Step}
 use Rattle.fkv_steps.specs.Lives.{finish_of}
 use Rattle.fkv_steps.specs.Changes.{ended_at}
 use Rattle.fkv_steps.specs.States.{StateView, life_in}
-use Rattle.fkv_steps.specs.Acts.{Acts, IsDue, partition_in, lives_by, told, nowhere, unasked, unknown, worn, lifeless, refuses_enter, enters, refuses_leave, leaves, refuses_give_up, gives_up, refuses_issue, issues, refuses_go, goes, refuses_install, installs}
+use Rattle.fkv_steps.specs.Acts.{Acts, partition_in, lives_by, told, nowhere, unasked, unknown, worn, lifeless, refuses_enter, enters, refuses_leave, leaves, refuses_give_up, gives_up, refuses_issue, issues, refuses_go, goes, refuses_install, installs}
 use Rattle.fkv_steps.specs.Told.{IsAccount, taken, answer_in, answer_some, told_at, issues_from}
 use Rattle.fkv_steps.specs.Sound.{IsState}
 use Rattle.fkv_steps.proofs.LivesLemmas.{append_cases, append_old, ended_cases, ended_here, ended_other}

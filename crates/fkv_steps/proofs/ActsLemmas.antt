@@ -1,5 +1,5 @@
 -- Which rule of a step a call is, in the words of the code.
-use Rattle.std.proofs.Common.{◌≡◌, ℕ, List, suc, ◌+◌, ◌-◌, ◌^◌, ◌<◌, ◌∷◌, [], ◌++◌, length, Option, Some, None, Result, Ok, Err, IsSome, slice_get, slice_set, refl, sym, ◌∙◌, ap, subst, arith}
+use Rattle.std.proofs.Common.{◌≡◌, ℕ, List, suc, ◌+◌, ◌-◌, ◌^◌, ◌<◌, ◌∷◌, [], ◌++◌, length, Some, None, Ok, Err, IsSome, slice_get, slice_set, refl, ap, subst, arith}
 use Rattle.std.specs.declared.cmp.Ordering.{Ordering}
 use Rattle.fkv_functions.specs.Meanings.{Meanings}
 use Rattle.fkv_functions.specs.declared.asks.Ask.{Ask}
@@ -14,14 +14,13 @@ use Rattle.fkv_partition.specs.Installing.{Installs}
 use Rattle.fkv_partition.specs.Ending.{Leaves, GivesUp}
 use Rattle.fkv_steps.specs.declared.lives.End.TheVariants.{GivenUp}
 use Rattle.fkv_steps.specs.Changes.{ended_at}
-use Rattle.fkv_steps.specs.declared.outcomes.Outcome.{Outcome}
 use Rattle.fkv_steps.specs.declared.outcomes.Outcome.TheVariants as outcome
 use Rattle.fkv_steps.specs.declared.steps.Place.{Place}
 use Rattle.fkv_steps.specs.declared.steps.Step.{Step}
 use Rattle.fkv_steps.specs.declared.steps.Step.TheVariants.{Enter, Leave, Issue, Go, Install, GiveUp}
 use Rattle.fkv_steps.specs.declared.tables.Seat.{Seat}
 use Rattle.fkv_steps.specs.States.{StateView, seat_row, context_row, question_in, life_in}
-use Rattle.fkv_steps.specs.Acts.{Acts, IsDue, partition_in, begun_life, after_issue, lives_by, questions_by, told, refuses_enter, enters, refuses_leave, leaves, refuses_give_up, gives_up, refuses_issue, issues, refuses_go, goes, refuses_install, installs}
+use Rattle.fkv_steps.specs.Acts.{Acts, begun_life, after_issue, lives_by, questions_by, told, refuses_enter, enters, refuses_leave, leaves, refuses_give_up, gives_up, refuses_issue, issues, refuses_go, goes, refuses_install, installs}
 
 -- a state with the partitions that it has
 pub same-state : {K V I O : Type 0} (s : StateView K V I O) (xs : List (PartitionView K V I)) → xs ≡ s.partitions → record s { partitions = xs } ≡ s

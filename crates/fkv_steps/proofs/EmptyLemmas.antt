@@ -1,5 +1,5 @@
 -- A world before its first step.
-use Rattle.std.proofs.Common.{◌≡◌, Bool, true, false, cond, ◌&&◌, ℕ, zero, suc, ◌+◌, ◌*◌, ◌^◌, ◌<◌, ◌≤◌, List, [], ◌∷◌, length, map, replicate, Option, Some, None, option_map, slice_get, unwrap_or, nat_lt, refl, sym, ◌∙◌, ap, subst, arith}
+use Rattle.std.proofs.Common.{◌≡◌, Bool, true, false, cond, ◌&&◌, ℕ, zero, suc, ◌+◌, ◌*◌, ◌^◌, ◌<◌, ◌≤◌, List, length, replicate, Option, Some, None, option_map, slice_get, unwrap_or, nat_lt, refl, sym, ◌∙◌, ap, arith}
 use Rattle.std.specs.List.{range_with_len}
 use Rattle.std.proofs.lemmas.List.FromFn.{length-map-range_with_len}
 use Rattle.std.proofs.lemmas.List.{length-replicate}
@@ -8,18 +8,14 @@ use Rattle.std.proofs.Math.Pow.{pow_mono}
 use Rattle.std.proofs.lemmas.Option.{slice_get-map}
 use Rattle.std.specs.declared.cmp.Ordering.{Ordering}
 use Rattle.fkv_functions.specs.Meanings.{Meanings}
-use Rattle.fkv_functions.specs.Plain.{PlainMap}
 use Rattle.fkv_partition.specs.declared.limits.Config.{Config}
-use Rattle.fkv_partition.specs.declared.contexts.Context.{Context}
 use Rattle.fkv_partition.specs.Limits.{IsWithinLimits}
 use Rattle.fkv_partition.specs.Contexts.{joined}
 use Rattle.fkv_partition.specs.Views.{PartitionView, empty_partition, partition_of}
 use Rattle.fkv_partition.specs.Effect.{Asked, asked, asked_by}
-use Rattle.fkv_steps.specs.declared.lives.Life.{Life}
-use Rattle.fkv_steps.specs.declared.steps.Place.{Place}
 use Rattle.fkv_steps.specs.declared.tables.Seat.{Seat}
-use Rattle.fkv_steps.specs.States.{StateView, empty_partitions, empty_state}
-use Rattle.fkv_steps.specs.Worlds.{live_at, world_live, asked_at, asked_in}
+use Rattle.fkv_steps.specs.States.{empty_partitions, empty_state}
+use Rattle.fkv_steps.specs.Worlds.{live_at, asked_at}
 use Rattle.fkv_steps.specs.Sound.{IsState}
 
 range-at : (a n p i : ℕ) → slice_get (range_with_len a n) p ≡ Some i → i ≡ a + p

@@ -1,16 +1,16 @@
 -- A step of one partition, seen in the world.
-use Rattle.std.proofs.Common.{◌≡◌, ◌≢◌, Bool, true, false, cond, ℕ, zero, suc, ◌≤◌, ◌<◌, ◌⊎◌, inl, inr, List, length, Option, Some, None, slice_get, slice_set, refl, sym, ◌∙◌, ap, subst, arith}
+use Rattle.std.proofs.Common.{◌≡◌, ◌≢◌, Bool, true, false, cond, ℕ, ◌⊎◌, inl, inr, List, length, Option, Some, slice_get, slice_set, refl, sym, ◌∙◌, ap}
 use Rattle.std.proofs.lemmas.Bool.{cases_eq}
 use Rattle.std.proofs.lemmas.List.{length-set}
 use Rattle.std.specs.declared.cmp.Ordering.{Ordering}
 use Rattle.std.specs.BTreeMap.{is_at}
 use Rattle.fkv_functions.specs.Meanings.{Meanings, updated}
-use Rattle.fkv_functions.specs.Plain.{PlainMap, Same, with_at, IsKeyOrder}
+use Rattle.fkv_functions.specs.Plain.{Same, with_at, IsKeyOrder}
 use Rattle.fkv_operations.specs.After.{after, answer, key_of, shown_of}
 use Rattle.fkv_operations.specs.declared.operations.Op.{Op}
 use Rattle.fkv_operations.specs.declared.operations.Op.TheVariants.{Read, Rmw}
 use Rattle.fkv_partition.specs.Views.{PartitionView, live_of, partition_of}
-use Rattle.fkv_partition.specs.Effect.{Asked, asked}
+use Rattle.fkv_partition.specs.Effect.{asked}
 use Rattle.fkv_partition.proofs.ListLemmas.{get-set_same, get-set_other}
 use Rattle.fkv_steps.specs.declared.steps.Place.{Place}
 use Rattle.fkv_steps.specs.Worlds.{live_at, world_live, asked_at, asked_in}

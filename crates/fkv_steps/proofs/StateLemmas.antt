@@ -1,5 +1,5 @@
 -- What each step keeps of a world's state, and which rule it is.
-use Rattle.std.proofs.Common.{◌≡◌, ◌≢◌, Bool, true, false, cond, ◌&&◌, ℕ, zero, suc, ◌+◌, ◌*◌, ◌-◌, ◌^◌, ◌<◌, ◌≤◌, inl, inr, ◌⊎◌, List, [], ◌∷◌, ◌++◌, length, Option, Some, None, Result, Ok, Err, slice_get, slice_set, slice_index_or, unwrap_or, nat_lt, refl, sym, ◌∙◌, ap, subst, arith}
+use Rattle.std.proofs.Common.{◌≡◌, ◌≢◌, Bool, true, false, cond, ◌&&◌, ℕ, zero, suc, ◌+◌, ◌*◌, ◌<◌, inl, inr, List, [], ◌∷◌, ◌++◌, length, Some, None, Result, Ok, Err, slice_get, slice_set, slice_index_or, unwrap_or, nat_lt, refl, sym, ◌∙◌, ap, arith}
 use Rattle.std.proofs.lemmas.Bool.Decides.{nat_tests}
 use Rattle.std.proofs.lemmas.List.{length-set}
 use Rattle.std.proofs.lemmas.Option.{slice_get_within}
@@ -15,13 +15,13 @@ use Rattle.fkv_partition.specs.Effect.{Asked, asked, IsEnter, IsLeave, IsIssue, 
 use Rattle.fkv_partition.proofs.ListLemmas.{get-set_cases, get-set_other, get-set_within}
 use Rattle.fkv_steps.specs.declared.lives.Life.{Life}
 use Rattle.fkv_steps.specs.declared.lives.End.{End}
-use Rattle.fkv_steps.specs.declared.lives.End.TheVariants.{Finished, GivenUp}
+use Rattle.fkv_steps.specs.declared.lives.End.TheVariants.{GivenUp}
 use Rattle.fkv_steps.specs.declared.steps.Place.{Place}
 use Rattle.fkv_steps.specs.declared.tables.Seat.{Seat}
 use Rattle.fkv_steps.specs.Changes.{ended_at}
 use Rattle.fkv_steps.specs.States.{StateView, is_context, context_row, seat_row, life_in}
 use Rattle.fkv_steps.specs.Acts.{lives_by, questions_by, begun_life, after_issue}
-use Rattle.fkv_steps.specs.Worlds.{IsWorld, asked_in}
+use Rattle.fkv_steps.specs.Worlds.{IsWorld}
 use Rattle.fkv_steps.specs.Sound.{HasTables, IsState}
 use Rattle.fkv_steps.proofs.ManyLemmas.{asked-was}
 use Rattle.fkv_steps.proofs.WorldLemmas.{world-enter, world-leave, world-issue, world-done, world-give_up, world-next}

@@ -1,5 +1,5 @@
 -- What a step does: a rule for each case, in the order of the tests.
-use Rattle.std.specs.Prelude.{length, ◌≡◌, ◌<◌, ◌≤◌, ◌+◌, ◌-◌, ◌^◌, ℕ, suc, List, [], ◌∷◌, ◌++◌, Option, Some, None, Result, Ok, Err, IsSome, slice_get, slice_set}
+use Rattle.std.specs.Prelude.{length, ◌≡◌, ◌<◌, ◌≤◌, ◌-◌, ◌^◌, ℕ, suc, List, [], ◌∷◌, ◌++◌, Option, Some, None, Result, Ok, Err, IsSome, slice_get, slice_set}
 use Rattle.std.specs.declared.cmp.Ordering.{Ordering}
 use Rattle.fkv_functions.specs.Meanings.{Meanings}
 use Rattle.fkv_functions.specs.declared.asks.Ask.{Ask}
@@ -15,7 +15,6 @@ use Rattle.fkv_partition.specs.Going.{Goes}
 use Rattle.fkv_partition.specs.Installing.{Installs}
 use Rattle.fkv_partition.specs.Ending.{Leaves, GivesUp}
 use Rattle.fkv_steps.specs.declared.lives.Life.{Life}
-use Rattle.fkv_steps.specs.declared.lives.End.{End}
 use Rattle.fkv_steps.specs.declared.lives.End.TheVariants.{Open, Finished, GivenUp}
 use Rattle.fkv_steps.specs.declared.outcomes.Outcome.{Outcome}
 use Rattle.fkv_steps.specs.declared.outcomes.Outcome.TheVariants as outcome

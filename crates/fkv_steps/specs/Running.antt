@@ -15,7 +15,6 @@ use Rattle.fkv_partition.specs.declared.limits.Config.{Config}
 use Rattle.fkv_partition.specs.Limits.{IsWithinLimits}
 use Rattle.fkv_steps.specs.declared.outcomes.Outcome.{Outcome}
 use Rattle.fkv_steps.specs.declared.outcomes.Outcome.TheVariants.{Entered, Left, Issued, Next, Build, Done, GivenUp}
-use Rattle.fkv_steps.specs.declared.steps.Place.{Place}
 use Rattle.fkv_steps.specs.declared.steps.Step.TheVariants as step
 use Rattle.fkv_steps.specs.declared.pursuits.Pursuit.TheVariants as pursuit
 use Rattle.fkv_steps.specs.declared.scripts.lines.Line.{Line}

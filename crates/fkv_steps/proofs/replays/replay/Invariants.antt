@@ -1,4 +1,4 @@
-use Rattle.std.proofs.Common.{◌≡◌, take}
+use Rattle.std.proofs.Common.{take}
 use Rattle.fkv_steps.specs.States.{empty_world}
 use Rattle.fkv_steps.specs.Reports.{RunsTo}
 use Rattle.fkv_steps.proofs.replays.replay.Given as goal

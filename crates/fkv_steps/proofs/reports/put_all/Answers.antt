@@ -1,8 +1,6 @@
 use Rattle.std.proofs.Common.{◌≡◌, ◌+◌, ◌∷◌, [], ◌++◌, take, Some, cond, sym, ◌∙◌, ap, add-one}
 use Rattle.std.proofs.Math.Seq.{take-suc}
 use Rattle.std.specs.BTreeMap.{get, is_at}
-use Rattle.fkv_functions.specs.Plain.{with_at}
-use Rattle.fkv_steps.specs.Reports.{with_all}
 use Rattle.fkv_steps.proofs.ReportLemmas.{with_all-append}
 use Rattle.fkv_steps.proofs.reports.put_all.Goals as goal
 

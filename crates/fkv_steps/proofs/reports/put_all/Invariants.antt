@@ -1,4 +1,4 @@
-use Rattle.std.proofs.Common.{◌≡◌, take}
+use Rattle.std.proofs.Common.{take}
 use Rattle.std.specs.BTreeMap.{get}
 use Rattle.fkv_functions.specs.Plain.{Same}
 use Rattle.fkv_steps.specs.Reports.{with_all}

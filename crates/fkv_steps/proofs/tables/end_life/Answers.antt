@@ -1,4 +1,3 @@
-use Rattle.std.proofs.Common.{◌≡◌, refl, sym, ◌∙◌}
 use Rattle.fkv_steps.proofs.StateLemmas.{at-index, ended-set}
 use Rattle.fkv_steps.proofs.tables.end_life.Goals as goal
 

@@ -1,8 +1,8 @@
-use Rattle.std.proofs.Common.{◌≡◌, ◌≤◌, ◌+◌, ◌∷◌, [], ◌++◌, take, subst, length, refl, sym, ap, ◌∙◌, add-one, arith}
+use Rattle.std.proofs.Common.{◌≡◌, ◌≤◌, ◌+◌, ◌∷◌, [], ◌++◌, take, subst, length, sym, ap, ◌∙◌, add-one, arith}
 use Rattle.std.proofs.Math.Seq.{take-suc}
 use Rattle.fkv_functions.specs.Names.{name_cmp}
 use Rattle.fkv_steps.specs.States.{empty_world}
-use Rattle.fkv_steps.specs.Running.{RunLines, RunsLine}
+use Rattle.fkv_steps.specs.Running.{RunLines}
 use Rattle.fkv_steps.specs.Printing.{steps_text, map_text}
 use Rattle.fkv_steps.proofs.ReportLemmas.{take-all}
 use Rattle.fkv_steps.proofs.RunningLemmas.{lines-append}

@@ -1,8 +1,8 @@
-use Rattle.std.proofs.Common.{◌≡◌, ◌<◌, ◌+◌, suc, length, Some, Ok, Err, slice_get, slice_set, refl, sym, ◌∙◌, ap, subst, arith}
+use Rattle.std.proofs.Common.{◌<◌, length, Err, refl, ap, arith}
 use Rattle.fkv_functions.proofs.KeyOrder.{key_order}
 use Rattle.fkv_steps.specs.Acts.{worn}
 use Rattle.fkv_steps.proofs.StateLemmas.{err-is, at-index, set-unchanged, later, state-enter}
-use Rattle.fkv_steps.proofs.ActsLemmas.{same-state, acts-no_enter, acts-enter}
+use Rattle.fkv_steps.proofs.ActsLemmas.{acts-no_enter, acts-enter}
 use Rattle.fkv_steps.proofs.states.State.enter.Goals as goal
 
 pub returns-in_err-now : goal.returns-in_err-now

@@ -1,7 +1,7 @@
-use Rattle.std.proofs.Common.{◌≡◌, ◌<◌, ◌+◌, ◌*◌, ℕ, suc, length, Some, Ok, Err, slice_get, slice_set, refl, sym, ◌∙◌, ap, subst, arith}
+use Rattle.std.proofs.Common.{◌<◌, length, Err, refl, ◌∙◌, ap, arith}
 use Rattle.fkv_functions.proofs.KeyOrder.{key_order}
 use Rattle.fkv_steps.specs.Acts.{worn}
-use Rattle.fkv_steps.specs.States.{life_in, question_in}
+use Rattle.fkv_steps.specs.States.{life_in}
 use Rattle.fkv_steps.proofs.StateLemmas.{err-is, at-index, set-unchanged, later, life-within, state-progress}
 use Rattle.fkv_steps.proofs.ActsLemmas.{acts-no_go, acts-go}
 use Rattle.fkv_steps.proofs.states.State.go.Goals as goal

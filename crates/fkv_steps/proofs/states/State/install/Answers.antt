@@ -1,4 +1,4 @@
-use Rattle.std.proofs.Common.{◌≡◌, ◌<◌, ◌+◌, ◌*◌, ℕ, suc, length, Some, IsSome, Ok, Err, slice_get, slice_set, refl, sym, ◌∙◌, ap, subst, arith}
+use Rattle.std.proofs.Common.{◌≡◌, ◌<◌, length, Some, IsSome, Err, refl, sym, ◌∙◌, ap, subst, arith}
 use Rattle.fkv_functions.proofs.KeyOrder.{key_order}
 use Rattle.fkv_steps.specs.Acts.{worn, unasked, unknown}
 use Rattle.fkv_steps.specs.States.{life_in, question_in}

@@ -1,4 +1,4 @@
-use Rattle.std.proofs.Common.{◌≡◌, None, cond, nat_lt, length}
+use Rattle.std.proofs.Common.{None, cond, nat_lt, length}
 use Rattle.std.specs.BTreeMap.{get}
 use Rattle.fkv_functions.specs.Plain.{Same}
 use Rattle.fkv_partition.specs.Views.{partition_of}

@@ -1,4 +1,3 @@
-use Rattle.std.proofs.Common.{◌≡◌, refl, sym, ap}
 use Rattle.fkv_steps.proofs.EmptyLemmas.{state-empty}
 use Rattle.fkv_steps.proofs.states.State.new.Goals as goal
 

@@ -1,4 +1,3 @@
-use Rattle.std.proofs.Common.{◌≡◌, refl, sym, ap}
 use Rattle.fkv_steps.proofs.AccountLemmas.{account-empty}
 use Rattle.fkv_steps.proofs.worlds.World.new.Goals as goal
 

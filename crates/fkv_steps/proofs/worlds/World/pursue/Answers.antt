@@ -1,4 +1,4 @@
-use Rattle.std.proofs.Common.{◌≡◌, ◌+◌, ◌-◌, zero, suc, Err, refl, sym, ap, subst, ◌∙◌, arith}
+use Rattle.std.proofs.Common.{◌-◌, zero, suc, Err, refl, sym, subst, arith}
 use Rattle.fkv_functions.specs.declared.refusals.Refused.TheVariants.{Stalled}
 use Rattle.fkv_steps.specs.declared.steps.Step.TheVariants.{Go}
 use Rattle.fkv_steps.specs.Reports.{Pursues, stalls, ends, goes_on}

@@ -1,4 +1,4 @@
-use Rattle.std.proofs.Common.{◌≡◌, refl, sym, ap, ◌∙◌}
+use Rattle.std.proofs.Common.{◌∙◌}
 use Rattle.fkv_steps.proofs.worlds.World.report.Goals as goal
 
 pub returns-clause-ok : goal.returns-clause-ok

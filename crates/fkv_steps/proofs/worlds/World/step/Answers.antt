@@ -1,4 +1,4 @@
-use Rattle.std.proofs.Common.{◌≡◌, refl, sym, ap}
+use Rattle.std.proofs.Common.{refl}
 use Rattle.fkv_steps.specs.Acts.{unkept, kept}
 use Rattle.fkv_steps.proofs.worlds.World.step.Goals as goal
 

@@ -1,4 +1,3 @@
-use Rattle.std.proofs.Common.{◌≡◌, refl, sym, ap}
 use Rattle.fkv_steps.proofs.AccountLemmas.{account-acts}
 use Rattle.fkv_steps.proofs.worlds.World.try_step.Goals as goal
 
