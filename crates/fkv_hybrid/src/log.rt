@@ -4,7 +4,7 @@ ghost use mathlib.Core.Equiv.{IsContr-prop};
 ghost use Rattle.fkv_records.specs.Places.{offset_at};
 ghost use Rattle.fkv_records.specs.Records.{size_of, IsPrevious};
 ghost use Rattle.fkv_hybrid.specs.Pages.{TheOne, IsTextOf};
-ghost use Rattle.fkv_hybrid.specs.Places.{IsLaidOut};
+ghost use Rattle.fkv_hybrid.specs.Places.{IsLaidOut, tail_after};
 ghost use Rattle.fkv_hybrid.specs.Text.{entry_at, IsRising, IsFrom, IsBelow};
 ghost use Rattle.fkv_hybrid.specs.Views.{empty_log, with_entry};
 
@@ -123,6 +123,14 @@ impl<K: Fixed, V: Fixed> Log<K, V> {
             Ok(found) => entry_of(address, found),
             Err(_) => unreachable!(),
         }
+    }
+
+    /// The address after one: where the next entry stands behind an entry, or 2^48 where no record can.
+    pub fn next(&self, address: Address) -> Address
+        ensures next { result ≡ tail_after self.now.bits (size_of K.SIZE V.SIZE) address }
+        ensures rises { address < 2 ^ 48 → address < result }
+    {
+        self.shape.next_place(address).unwrap_or(END)
     }
 
     /// What holds of every log: its text has one entry at each place from Begin to below the tail.

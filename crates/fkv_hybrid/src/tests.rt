@@ -86,6 +86,7 @@ fn fills_three_pages<V: Fixed>(
     for (at, entry) in wanted.as_slice().iter().enumerate() {
         let address = append(rt, &mut log, entry)?;
         assert!(rt; address == entry.address);
+        assert!(rt; log.next(address) == log.tail());
         for (before, old) in wanted.as_slice().iter().enumerate() {
             if before <= at {
                 holds(rt, &log, old);

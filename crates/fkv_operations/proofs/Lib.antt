@@ -1,0 +1,3 @@
+pub mod ClassLemmas
+pub mod TracedLemmas
+pub mod ScanLemmas

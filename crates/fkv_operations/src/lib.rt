@@ -5,13 +5,23 @@
 //! with.
 #![tactic(auto)]
 
+pub mod classes;
 pub mod clocks;
+pub mod decisions;
+mod finals;
+pub mod laws;
 pub mod operations;
 pub mod plainly;
+pub mod records;
 
+pub use classes::{Class, class_of};
 pub use clocks::Clock;
+pub use decisions::{Decision, DecisionOf, Met, decide, met_by};
 pub use operations::{Answer, AnswerOf, Op, OpOf};
 pub use plainly::{PlainRun, apply_plainly, run_plainly, shown};
+pub use records::Records;
 
+#[cfg(test)]
+mod records_tests;
 #[cfg(test)]
 mod tests;

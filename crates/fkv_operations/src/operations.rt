@@ -5,14 +5,18 @@ use fkv_functions::Functions;
 
 /// An operation on a key.
 #[derive(Clone, Copy, PartialEq, Eq, Debug)]
-pub enum Op<K, I> {
+pub enum Op<K, V, I> {
     /// Shows the key's value, for this input.
     Read(K, I),
+    /// Sets the key's value, whatever it was: a blind write.
+    Upsert(K, V),
     /// Changes the key's value by this input, or gives it its first value, and shows the new one.
     Rmw(K, I),
+    /// Removes the key.
+    Delete(K),
 }
 
-impl<K: Copy, I: Copy> Op<K, I> {
+impl<K: Copy, V: Copy, I: Copy> Op<K, V, I> {
     ghost use Rattle.fkv_operations.specs.After.{key_of};
 
     /// The operation's key.
@@ -21,13 +25,15 @@ impl<K: Copy, I: Copy> Op<K, I> {
     {
         match self {
             Op::Read(key, _) => *key,
+            Op::Upsert(key, _) => *key,
             Op::Rmw(key, _) => *key,
+            Op::Delete(key) => *key,
         }
     }
 }
 
 /// The operations of one type of functions.
-pub type OpOf<F> = Op<<F as Functions>::Key, <F as Functions>::Input>;
+pub type OpOf<F> = Op<<F as Functions>::Key, <F as Functions>::Value, <F as Functions>::Input>;
 
 /// What an operation answers.
 #[derive(Clone, Copy, PartialEq, Eq, Debug)]
@@ -36,6 +42,10 @@ pub enum Answer<O> {
     Value(O),
     /// The key has no value.
     Absent,
+    /// The key has the value that was written.
+    Stored,
+    /// The key has no value any more.
+    Deleted,
 }
 
 /// The answers of one type of functions.

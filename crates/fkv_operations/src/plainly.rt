@@ -59,6 +59,14 @@ pub fn apply_plainly<F: Functions>(
                 Err(_) => Err(Refused::NoMemory),
             }
         }
+        Op::Upsert(key, written) => match map.insert(key, written) {
+            Ok(_) => Ok(Answer::Stored),
+            Err(_) => Err(Refused::NoMemory),
+        },
+        Op::Delete(key) => {
+            map.remove(&key);
+            Ok(Answer::Deleted)
+        }
     }
 }
 

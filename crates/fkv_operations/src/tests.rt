@@ -1,5 +1,6 @@
 //! The plain program on worked runs, and the clock at its end.
 use crate::clocks::Clock;
+use crate::decisions::{Decision, DecisionOf, Met, decide, met_by};
 use crate::operations::{Answer, AnswerOf, Op, OpOf};
 use crate::plainly::{apply_plainly, run_plainly};
 use fkv_functions::{CountFns, Functions, MaxFns, Name, Refused, SumFns};
@@ -108,6 +109,72 @@ fn counts_and_maxima(rt: HostRuntime) -> Result<(), Fail> {
         &maxima,
         &[(a, Some(5)), (b, Some(7))],
     )
+}
+
+#[test]
+fn blind_writes_and_deletes(rt: HostRuntime) -> Result<(), Fail> {
+    let a = name(b"a")?;
+    let b = name(b"b")?;
+    let ops = [
+        Op::Upsert(a, 4),
+        Op::Rmw(a, 5),
+        Op::Upsert(a, 1),
+        Op::Read(a, 0),
+        Op::Delete(a),
+        Op::Read(a, 0),
+        Op::Delete(b),
+        Op::Rmw(a, 2),
+        Op::Upsert(b, 7),
+    ];
+    let answers = [
+        Answer::Stored,
+        Answer::Value(9),
+        Answer::Stored,
+        Answer::Value(1),
+        Answer::Deleted,
+        Answer::Absent,
+        Answer::Deleted,
+        Answer::Value(2),
+        Answer::Stored,
+    ];
+    runs_to(
+        &rt,
+        rt.alloc(),
+        &SumFns,
+        &ops,
+        &answers,
+        &[(a, Some(2)), (b, Some(7))],
+    )
+}
+
+/// The table of decisions, row by row, for a sum whose key holds 3 where it holds a value.
+#[test]
+fn decisions(rt: HostRuntime) -> Result<(), Fail> {
+    let a = name(b"a")?;
+    let done: fn(Answer<i128>) -> DecisionOf<SumFns> = |answer| Decision::Done(answer);
+    let read = Op::Read(a, 0);
+    let upsert = Op::Upsert(a, 4);
+    let rmw = Op::Rmw(a, 5);
+    let delete = Op::Delete(a);
+    assert!(rt; met_by::<i128>(None, None) == Met::NoEntry);
+    assert!(rt; met_by::<i128>(Some(1), None) == Met::NoValue);
+    assert!(rt; met_by(Some(64), Some(3i128)) == Met::Value(3));
+    for met in [Met::NoEntry, Met::NoValue] {
+        assert!(rt; decide(&SumFns, &read, &met) == done(Answer::Absent));
+        assert!(rt; decide(&SumFns, &delete, &met) == done(Answer::Deleted));
+    }
+    assert!(rt; decide(&SumFns, &read, &Met::Value(3)) == done(Answer::Value(3)));
+    assert!(rt; decide(&SumFns, &upsert, &Met::NoEntry) == Decision::Claim);
+    assert!(rt; decide(&SumFns, &rmw, &Met::NoEntry) == Decision::Claim);
+    assert!(rt; decide(&SumFns, &rmw, &Met::NoValue) == Decision::Prepare(None, 5));
+    for met in [Met::NoValue, Met::Value(3)] {
+        let stored = Decision::Append(Some(4), Answer::Stored);
+        assert!(rt; decide(&SumFns, &upsert, &met) == stored);
+    }
+    assert!(rt; decide(&SumFns, &rmw, &Met::Value(3)) == Decision::Prepare(Some(3), 5));
+    let removed = Decision::Append(None, Answer::Deleted);
+    assert!(rt; decide(&SumFns, &delete, &Met::Value(3)) == removed);
+    Ok(())
 }
 
 #[test]

@@ -1,45 +1,57 @@
 -- What each event is to those who see no more than the live map and what the contexts ask.
-use Rattle.std.proofs.Common.{◌≡◌, ◌≢◌, Bool, true, false, cond, ◌&&◌, nat_lt, ℕ, zero, suc, ◌+◌, ◌*◌, ◌<◌, ◌⊎◌, inl, inr, List, Option, Some, None, option_map, slice_get, slice_set, unwrap_or, refl, sym, ◌∙◌, ap, subst, arith}
+use Rattle.std.proofs.Common.{◌≡◌, ◌≢◌, Bool, true, false, cond, ◌&&◌, nat_lt, ℕ, zero, suc, ◌+◌, ◌*◌, ◌<◌, ◌⊎◌, inl, inr, List, Option, Some, None, option_map, IsSome, slice_get, slice_set, unwrap_or, refl, sym, ◌∙◌, ap, subst, arith}
 use Rattle.std.proofs.lemmas.Bool.Decides.{nat_tests}
 use Rattle.std.specs.declared.cmp.Ordering.{Ordering}
 use Rattle.std.specs.BTreeMap.{is_at}
 use Rattle.fkv_functions.specs.Meanings.{Meanings, updated}
 use Rattle.fkv_functions.specs.declared.asks.Ask.{Ask}
-use Rattle.fkv_operations.specs.After.{key_of, shown_of, after, answer}
+use Rattle.fkv_functions.specs.Plain.{PlainMap, Same, IsKeyOrder, with_at}
+use Rattle.fkv_operations.specs.After.{key_of, after, answer}
+use Rattle.fkv_operations.specs.Decisions.{held_of, decision}
+use Rattle.fkv_operations.specs.DecisionLaws.{quiet-after, quiet-answer, append-after, append-answer, prepare-met, prepare-op, prepare-source, held-met}
+use Rattle.fkv_operations.specs.declared.decisions.Decision.{Decision}
+use Rattle.fkv_operations.specs.declared.decisions.Decision.TheVariants.{Append, Prepare}
 use Rattle.fkv_operations.specs.declared.operations.Op.{Op}
-use Rattle.fkv_operations.specs.declared.operations.Op.TheVariants.{Read, Rmw}
+use Rattle.fkv_operations.specs.declared.operations.Op.TheVariants.{Read, Upsert, Rmw, Delete}
+use Rattle.fkv_operations.specs.declared.operations.Answer.{Answer}
 use Rattle.fkv_operations.specs.declared.operations.Answer.TheVariants.{Value}
-use Rattle.fkv_partition.specs.declared.log.Entry.{Entry}
+use Rattle.fkv_hybrid.specs.Text.{last_of, newest, value_of, live}
+use Rattle.fkv_operations.specs.RecordsViews.{RecordsView, class_in, address_of, with_record}
 use Rattle.fkv_partition.specs.declared.contexts.Context.{Context}
 use Rattle.fkv_partition.specs.declared.contexts.Phase.{Phase}
 use Rattle.fkv_partition.specs.declared.contexts.Phase.TheVariants.{Fresh, Prepared}
 use Rattle.fkv_partition.specs.declared.contexts.Progress.TheVariants.{Done, Next, NeedsBuild}
 use Rattle.fkv_partition.specs.Contexts.{question_in, question_by, joined, context_in}
-use Rattle.fkv_partition.specs.Index.{entry_of, address_of}
-use Rattle.fkv_partition.specs.Text.{value_at, tail_of}
-use Rattle.fkv_partition.specs.Views.{PartitionView, partition_of, context_at, with_context, live_of, free_slot, free_context, open_context}
+use Rattle.fkv_partition.specs.Views.{PartitionView, partition_of, entry_for, met_at, context_at, with_context, with_appended, live_of, free_slot, free_context, open_context}
 use Rattle.fkv_partition.specs.Effect.{asked, asked_by, LeavesOthers, IsEnter, IsIssue, IsEvent, IsLeave, IsGiveUp}
-use Rattle.fkv_partition.specs.Installing.{with_record}
 use Rattle.fkv_partition.specs.Sound.{StandsFor, IsSound}
 use Rattle.fkv_partition.proofs.ListLemmas.{get-set_other, get-set_same}
-use Rattle.fkv_partition.proofs.TextLemmas.{live-append}
 use Rattle.fkv_partition.proofs.AskedLemmas.{open_at, context-inside, context-other, asked-same, asked-other, free-context, free-slot, idle-asked, context-left, context-elsewhere}
 
 -- a context that asks nothing to be built is fresh
-pub fresh-by : {K V I : Type 0} (n : ℕ) (op : Op K I) (phase : Phase V) (text : List (Entry K V)) → StandsFor text op phase → question_by n op phase ≡ None → phase ≡ Fresh
-fresh-by n op Fresh text s h = refl
-fresh-by n (Read k i) (Prepared a source) text s h = let no : false ≡ true = s.2 in absurd (cc)
-fresh-by n (Rmw k i) (Prepared a source) text s h = absurd (cc)
+pub fresh-by : {K V I : Type 0} (n : ℕ) (op : Op K V I) (phase : Phase V) (cmp : K → K → Ordering) (r : RecordsView K V) → StandsFor cmp r op phase → question_by n op phase ≡ None → phase ≡ Fresh
+fresh-by n op Fresh cmp r s h = refl
+fresh-by n (Read k i) (Prepared a source) cmp r s h = absurd s
+fresh-by n (Upsert k v) (Prepared a source) cmp r s h = absurd s
+fresh-by n (Delete k) (Prepared a source) cmp r s h = absurd s
+fresh-by n (Rmw k i) (Prepared a source) cmp r s h = absurd (cc)
+
+-- where an entry leads
+pub kept-is : (o : Option ℕ) → unwrap_or o 1 ≡ address_of o
+kept-is None = refl
+kept-is (Some a) = refl
 
 -- what a question is made of
-pub record IsQuestionOf {K V I : Type 0} (n : ℕ) (op : Op K I) (phase : Phase V) (a : ℕ) (ask : Ask K V I) : Type 0 where
+pub record IsQuestionOf {K V I : Type 0} (n : ℕ) (op : Op K V I) (phase : Phase V) (a : ℕ) (ask : Ask K V I) : Type 0 where
   pub number : ask.number ≡ n
   pub op_is : op ≡ Rmw ask.key ask.input
   pub phase_is : phase ≡ Prepared a ask.source
 
-pub question-of : {K V I : Type 0} (n : ℕ) (op : Op K I) (phase : Phase V) (a : ℕ) (ask : Ask K V I) → question_by n op phase ≡ Some (a, ask) → IsQuestionOf n op phase a ask
+pub question-of : {K V I : Type 0} (n : ℕ) (op : Op K V I) (phase : Phase V) (a : ℕ) (ask : Ask K V I) → question_by n op phase ≡ Some (a, ask) → IsQuestionOf n op phase a ask
 question-of n op Fresh a ask h = absurd (cc)
 question-of n (Read k i) (Prepared b s) a ask h = absurd (cc)
+question-of n (Upsert k v) (Prepared b s) a ask h = absurd (cc)
+question-of n (Delete k) (Prepared b s) a ask h = absurd (cc)
 question-of {K} {V} {I} n (Rmw k i) (Prepared b s) a ask h =
     let pair : (b, record { number = n; key = k; source = s; input = i }) ≡ (a, ask) = cc in
     let asks : record { number = n; key = k; source = s; input = i } ≡ ask = ap (λ (p : ℕ × Ask K V I). p.1) pair in
@@ -62,18 +74,18 @@ same_or (suc d) (suc c) = elim (same_or d c) [ inl e ↦ inl (ap suc e) | inr n 
 
 module _ {K V I O : Type 0} (cmp : K → K → Ordering) (f : Meanings K V I O) (code : K → ℕ) (v : PartitionView K V I) (s : IsSound cmp code v) where
   -- a context of an entered session stands for what it says
-  pub stands-at : (slot c : ℕ) (x : Context K V I) → context_at v slot c ≡ Some x → StandsFor v.text x.op x.phase
+  pub stands-at : (slot c : ℕ) (x : Context K V I) → context_at v slot c ≡ Some x → StandsFor cmp v.records x.op x.phase
   stands-at slot c x h = s.stands (slot * 8 + c) x (open_at v.entered v.contexts slot c x h).here
 
   pub own-at : (slot c : ℕ) (x : Context K V I) → context_at v slot c ≡ Some x → partition_of v.count (code (key_of x.op)) ≡ v.number
   own-at slot c x h = s.asked (slot * 8 + c) x (open_at v.entered v.contexts slot c x h).here
 
-  -- the key of an entry that stands where a prepared update saw it has the value that it kept
-  pub source-is : (slot c a : ℕ) (x : Context K V I) (ask : Ask K V I) → context_at v slot c ≡ Some x → question_in x ≡ Some (a, ask) → entry_of cmp v.finals ask.key ≡ Some a → ask.source ≡ live_of cmp v ask.key
-  source-is slot c a x ask h q e =
+  -- the key of an entry that leads where a prepared update saw it has the value that it kept
+  pub source-is : (slot c a : ℕ) (x : Context K V I) (ask : Ask K V I) → context_at v slot c ≡ Some x → question_in x ≡ Some (a, ask) → newest cmp v.records.text ask.key a ≡ last_of cmp v.records.text ask.key → ask.source ≡ live_of cmp v ask.key
+  source-is slot c a x ask h q held =
       let w = question-of x.number x.op x.phase a ask q in
-      let k : StandsFor v.text x.op (Prepared a ask.source) = subst (λ (p : Phase V). StandsFor v.text x.op p) w.phase_is (stands-at slot c x h) in
-      sym (s.leads ask.key ∙ ap (λ o. value_at v.text (address_of o)) e ∙ k.1)
+      let k : StandsFor cmp v.records (Rmw ask.key ask.input) (Prepared a ask.source) = subst (λ (o : Op K V I). StandsFor cmp v.records o (Prepared a ask.source)) w.op_is (subst (λ (p : Phase V). StandsFor cmp v.records x.op p) w.phase_is (stands-at slot c x h)) in
+      sym k.1 ∙ ap value_of held
 
   module _ (slot c now : ℕ) (x : Context K V I) (h : context_at v slot c ≡ Some x) where
     leaves : (y : Option (Context K V I)) → LeavesOthers v (with_context v slot c y now) slot c now
@@ -82,24 +94,71 @@ module _ {K V I O : Type 0} (cmp : K → K → Ordering) (f : Meanings K V I O) 
     was-asked : asked v slot c ≡ Some (asked_by x)
     was-asked = ap (option_map asked_by) h
 
-    -- a read is done
-    pub event-reads : (k : K) (i : I) → x.op ≡ Read k i → IsEvent cmp f v (with_context v slot c None now) slot c now (Done (shown_of f k i (live_of cmp v k)) now)
-    event-reads k i is = record {
+    -- what an operation meets says what its key holds
+    pub held-is : (entry_for code v (key_of x.op) ≡ None → last_of cmp v.records.text (key_of x.op) ≡ None) → live_of cmp v (key_of x.op) ≡ held_of (met_at cmp code v (key_of x.op))
+    held-is none = held-met (entry_for code v (key_of x.op)) (live_of cmp v (key_of x.op)) (λ e. ap value_of (none e))
+
+    -- what an operation asks
+    pub asks-rmw : (source : Option V) (i : I) → decision f x.op (met_at cmp code v (key_of x.op)) ≡ Prepare source i → x.op ≡ Rmw (key_of x.op) i
+    asks-rmw source i d = prepare-op f x.op (met_at cmp code v (key_of x.op)) source i d
+
+    pub prepared-stands : (a : ℕ) (source : Option V) (i : I) → entry_for code v (key_of x.op) ≡ Some a → a < v.records.tail → newest cmp v.records.text (key_of x.op) a ≡ last_of cmp v.records.text (key_of x.op) → decision f x.op (met_at cmp code v (key_of x.op)) ≡ Prepare source i → StandsFor cmp v.records x.op (Prepared a source)
+    prepared-stands a source i e low newest d =
+        let k : K = key_of x.op in
+        let held : live_of cmp v k ≡ source = held-met (entry_for code v k) (live_of cmp v k) (λ none. let no : None ≡ Some a = sym none ∙ e in absurd (cc)) ∙ sym (prepare-source f x.op (met_at cmp code v k) source i d) in
+        subst (λ (o : Op K V I). StandsFor cmp v.records o (Prepared a source)) (sym (asks-rmw source i d)) (low, ap value_of newest ∙ held)
+
+    -- the same of the address where the entry leads
+    pub prepared-at : (kept : ℕ) (source : Option V) (i : I) → kept ≡ address_of (entry_for code v (key_of x.op)) → ((a : ℕ) → entry_for code v (key_of x.op) ≡ Some a → a < v.records.tail)
+        → ((a : ℕ) → entry_for code v (key_of x.op) ≡ Some a → newest cmp v.records.text (key_of x.op) a ≡ last_of cmp v.records.text (key_of x.op)) → decision f x.op (met_at cmp code v (key_of x.op)) ≡ Prepare source i → StandsFor cmp v.records x.op (Prepared kept source)
+    prepared-at kept source i is low held d = by_entry (entry_for code v (key_of x.op)) refl
+      where
+        by_entry : (o : Option ℕ) → entry_for code v (key_of x.op) ≡ o → StandsFor cmp v.records x.op (Prepared kept source)
+        by_entry None e = absurd (let some = prepare-met f x.op (entry_for code v (key_of x.op)) (live_of cmp v (key_of x.op)) source i d in let no : IsSome {T = ℕ} None = subst (λ (o : Option ℕ). IsSome o) e some in cc)
+        by_entry (Some a) e = subst (λ n. StandsFor cmp v.records x.op (Prepared n source)) (sym (is ∙ ap address_of e)) (prepared-stands a source i e (low a e) (held a e) d)
+
+    -- an operation is done without a write
+    pub event-quiet : IsKeyOrder cmp → (entry_for code v (key_of x.op) ≡ None → last_of cmp v.records.text (key_of x.op) ≡ None) → (a : Answer O) → decision f x.op (met_at cmp code v (key_of x.op)) ≡ Decision.Done a → IsEvent cmp f v (with_context v slot c None now) slot c now (Done a now)
+    event-quiet order none a d = record {
       question = asked_by x;
       was = was-asked;
-      effect = (asked-same v slot c now x h None, refl, (λ q. ap (λ o. after cmp f (live_of cmp v) o q) (sym is)), ap (answer f (live_of cmp v)) (sym is));
+      effect = (
+        asked-same v slot c now x h None,
+        refl,
+        (λ q. sym (quiet-after cmp f (live_of cmp v) order x.op (met_at cmp code v (key_of x.op)) a (held-is none) d q)),
+        quiet-answer cmp f (live_of cmp v) x.op (met_at cmp code v (key_of x.op)) a (held-is none) d,
+      );
       entered = refl;
       frame = leaves None;
     }
 
+    -- or appends a record
+    pub event-appends : (previous : ℕ) (value : Option V) (a : Answer O) → Same (live cmp (with_record v.records (class_in code v.records (key_of x.op)) previous (key_of x.op) value).text) (with_at cmp (live_of cmp v) (key_of x.op) value) → decision f x.op (met_at cmp code v (key_of x.op)) ≡ Append value a
+        → IsEvent cmp f v (with_appended code v slot c (key_of x.op) value previous now) slot c now (Done a now)
+    event-appends previous value a lives d =
+        let l = leaves None in
+        record {
+          question = asked_by x;
+          was = was-asked;
+          effect = (
+            asked-same v slot c now x h None,
+            refl,
+            (λ q. lives q
+                ∙ ap (λ (m : PlainMap K V). m q) (sym (append-after cmp f (live_of cmp v) x.op (met_at cmp code v (key_of x.op)) value a d))),
+            append-answer cmp f (live_of cmp v) x.op (met_at cmp code v (key_of x.op)) value a d,
+          );
+          entered = refl;
+          frame = record { others = l.others; number = refl; count = refl; begin = refl; moment = refl };
+        }
+
     -- an entry is made
-    pub event-claims : (finals : List (K × ℕ)) → IsEvent cmp f v (record v { finals = finals; moment = now }) slot c now Next
-    event-claims finals = record {
+    pub event-claims : (records : RecordsView K V) → records.text ≡ v.records.text → records.begin ≡ v.records.begin → IsEvent cmp f v (record v { records = records; moment = now }) slot c now Next
+    event-claims records text begin = record {
       question = asked_by x;
       was = was-asked;
-      effect = (was-asked, λ q. refl);
+      effect = (was-asked, λ q. ap (λ t. live cmp t q) text);
       entered = refl;
-      frame = record { others = λ t d o. refl; number = refl; count = refl; begin = refl; moment = refl };
+      frame = record { others = λ t d o. refl; number = refl; count = refl; begin = begin; moment = refl };
     }
 
     -- a question is asked, from another phase
@@ -136,11 +195,12 @@ module _ {K V I O : Type 0} (cmp : K → K → Ordering) (f : Meanings K V I O) 
     }
 
     -- the built value is appended
-    pub event-done : (a : ℕ) (ask : Ask K V I) → question_in x ≡ Some (a, ask) → entry_of cmp v.finals ask.key ≡ Some a
-        → IsEvent cmp f v (with_record cmp v slot c ask.key (updated f ask.key ask.input ask.source) a now) slot c now (Done (Value (f.shown ask.key ask.input (updated f ask.key ask.input ask.source))) now)
-    event-done a ask q e =
+    pub event-done : (a : ℕ) (ask : Ask K V I) → question_in x ≡ Some (a, ask) → newest cmp v.records.text ask.key a ≡ last_of cmp v.records.text ask.key
+        → ((value : Option V) → Same (live cmp (with_record v.records (class_in code v.records ask.key) a ask.key value).text) (with_at cmp (live_of cmp v) ask.key value))
+        → IsEvent cmp f v (with_appended code v slot c ask.key (Some (updated f ask.key ask.input ask.source)) a now) slot c now (Done (Value (f.shown ask.key ask.input (updated f ask.key ask.input ask.source))) now)
+    event-done a ask q newest lives =
         let w = question-of x.number x.op x.phase a ask q in
-        let held : ask.source ≡ live_of cmp v ask.key = source-is slot c a x ask h q e in
+        let held : ask.source ≡ live_of cmp v ask.key = source-is slot c a x ask h q newest in
         let value : V = updated f ask.key ask.input ask.source in
         let meant : updated f ask.key ask.input ask.source ≡ updated f ask.key ask.input (live_of cmp v ask.key) = ap (updated f ask.key ask.input) held in
         let l = leaves None in
@@ -150,7 +210,7 @@ module _ {K V I O : Type 0} (cmp : K → K → Ordering) (f : Meanings K V I O) 
           effect = (
             asked-same v slot c now x h None,
             refl,
-            (λ p. live-append cmp v.text (record { address = tail_of v.text; previous = a; key = ask.key; value = Some value }) p
+            (λ p. lives (Some value) p
                 ∙ ap (λ (u : V). cond (is_at (cmp ask.key) p) (Some u) (live_of cmp v p)) meant
                 ∙ ap (λ o. after cmp f (live_of cmp v) o p) (sym w.op_is)),
             ap (λ (u : V). Value (f.shown ask.key ask.input u)) meant ∙ ap (answer f (live_of cmp v)) (sym w.op_is),
@@ -160,7 +220,7 @@ module _ {K V I O : Type 0} (cmp : K → K → Ordering) (f : Meanings K V I O) 
         }
 
   -- an operation is issued
-  pub event-issue : (slot c now : ℕ) (op : Op K I) → unwrap_or (slice_get v.entered slot) false ≡ true → free_context v slot ≡ Some c → c < 8 → partition_of v.count (code (key_of op)) ≡ v.number
+  pub event-issue : (slot c now : ℕ) (op : Op K V I) → unwrap_or (slice_get v.entered slot) false ≡ true → free_context v slot ≡ Some c → c < 8 → partition_of v.count (code (key_of op)) ≡ v.number
       → IsIssue code v (with_context v slot c (Some (record { number = now; op = op; phase = Fresh })) now) slot c op now
   event-issue slot c now op inside free low own =
       let here = free-context v slot c free in

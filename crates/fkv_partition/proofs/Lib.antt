@@ -1,5 +1,4 @@
 pub mod ListLemmas
-pub mod TextLemmas
 pub mod SoundLemmas
 pub mod AskedLemmas
 pub mod EventLemmas

@@ -1,54 +1,36 @@
 -- What an append, a claim and a change of contexts keep.
-use Rattle.std.proofs.Common.{◌≡◌, Bool, true, false, cond, ℕ, zero, suc, ◌+◌, ◌*◌, ◌^◌, ◌<◌, inl, inr, All, List, [], ◌∷◌, ◌++◌, replicate, Option, Some, None, slice_get, slice_set, unwrap_or, refl, sym, ◌∙◌, ap, subst, arith, lit<}
+use Rattle.std.proofs.Common.{◌≡◌, true, false, ℕ, zero, suc, ◌+◌, ◌*◌, ◌^◌, ◌<◌, ◌≤◌, inl, inr, List, [], ◌∷◌, length, replicate, Bool, Option, Some, None, slice_get, slice_set, unwrap_or, refl, sym, ◌∙◌, ap, subst, arith}
 use Rattle.std.proofs.lemmas.List.{length-set}
+use Rattle.std.proofs.lemmas.Bool.{cases_eq}
 use Rattle.std.specs.declared.cmp.Ordering.{Ordering}
-use Rattle.std.specs.BTreeMap.{is_at}
-use Rattle.std.specs.Map.{keys_of}
+use Rattle.fkv_hybrid.specs.declared.entries.Entry.{Entry}
+use Rattle.fkv_hybrid.specs.Text.{newest, value_of}
 use Rattle.fkv_operations.specs.After.{key_of}
+use Rattle.fkv_operations.specs.RecordsViews.{RecordsView, with_record}
+use Rattle.fkv_operations.specs.Traced.{IsTraced}
+use Rattle.fkv_operations.specs.declared.classes.Class.{Class}
 use Rattle.fkv_operations.specs.declared.operations.Op.{Op}
+use Rattle.fkv_operations.specs.declared.operations.Op.TheVariants.{Read, Upsert, Rmw, Delete}
 use Rattle.fkv_partition.specs.declared.limits.Config.{Config}
-use Rattle.fkv_partition.specs.declared.log.Entry.{Entry}
 use Rattle.fkv_partition.specs.declared.contexts.Context.{Context}
 use Rattle.fkv_partition.specs.declared.contexts.Phase.{Phase}
 use Rattle.fkv_partition.specs.declared.contexts.Phase.TheVariants.{Fresh, Prepared}
-use Rattle.fkv_partition.specs.Index.{entry_of, address_of}
 use Rattle.fkv_partition.specs.Views.{PartitionView, empty_partition, partition_of, with_context, open_context}
-use Rattle.fkv_partition.proofs.ListLemmas.{get-set_cases, get-set_other, get-append_cases}
+use Rattle.fkv_partition.specs.Sound.{StandsFor, IsSound}
+use Rattle.fkv_partition.proofs.ListLemmas.{get-set_cases, get-set_other, get-append_last, get-append_cases}
 use Rattle.fkv_partition.proofs.AskedLemmas.{idle}
-use Rattle.std.proofs.lemmas.Bool.{cases_eq}
-use Rattle.fkv_partition.specs.Text.{live, value_at, tail_of}
-use Rattle.fkv_partition.specs.Sound.{IsPlaceIn, StandsFor, IsSound}
-use Rattle.fkv_partition.proofs.TextLemmas.{live-append, value_at-append, value_at-last, tail-append}
 
-leads-by : {K V : Type 0} (b : Bool) (rs : List (Entry K V)) (r : Entry K V) (p : Option ℕ) (l : Option V) → address_of p < tail_of rs → l ≡ value_at rs (address_of p)
-    → cond b r.value l ≡ value_at (rs ++ r ∷ []) (address_of (cond b (Some (tail_of rs)) p))
-leads-by true rs r p l h e = sym (value_at-last rs r)
-leads-by false rs r p l h e = e ∙ sym (value_at-append rs r (address_of p) h)
+-- records that grow leave what is newest at or below each address that is taken, and the tail does not fall
+pub record IsGrown {K V : Type 0} (cmp : K → K → Ordering) (old new : RecordsView K V) : Type 0 where
+  pub tail : old.tail ≤ new.tail
+  pub kept : (k : K) (a : ℕ) → a < old.tail → newest cmp new.text k a ≡ newest cmp old.text k a
 
-placed-by : {K V : Type 0} (b : Bool) (rs : List (Entry K V)) (r : Entry K V) (p : Option ℕ) → IsPlaceIn rs (address_of p) → IsPlaceIn (rs ++ r ∷ []) (address_of (cond b (Some (tail_of rs)) p))
-placed-by true rs r p h = record { low = inr (omega arith); high = rw (tail-append rs r) (omega arith) }
-placed-by false rs r p h = record { low = h.low; high = rw (tail-append rs r) (let k : address_of p < tail_of rs = h.high in omega arith) }
-
--- an appended record, to which the entry of its key is moved
-module _ {K V : Type 0} (cmp : K → K → Ordering) (rs : List (Entry K V)) (r : Entry K V) (place moved : K → Option ℕ) (h : (q : K) → moved q ≡ cond (is_at (cmp r.key) q) (Some (tail_of rs)) (place q)) (placed : (q : K) → IsPlaceIn rs (address_of (place q))) where
-  pub leads-append : ((q : K) → live cmp rs q ≡ value_at rs (address_of (place q))) → (q : K) → live cmp (rs ++ r ∷ []) q ≡ value_at (rs ++ r ∷ []) (address_of (moved q))
-  leads-append leads q = live-append cmp rs r q ∙ leads-by (is_at (cmp r.key) q) rs r (place q) (live cmp rs q) (placed q).high (leads q) ∙ ap (λ p. value_at (rs ++ r ∷ []) (address_of p)) (sym (h q))
-
-  pub placed-append : (q : K) → IsPlaceIn (rs ++ r ∷ []) (address_of (moved q))
-  placed-append q = rw (h q) (placed-by (is_at (cmp r.key) q) rs r (place q) (placed q))
-
-pub stands-append : {K V I : Type 0} (rs : List (Entry K V)) (r : Entry K V) (op : Op K I) (phase : Phase V) → StandsFor rs op phase → StandsFor (rs ++ r ∷ []) op phase
-stands-append rs r op Fresh h = tt
-stands-append rs r op (Prepared a s) h = (rw (tail-append rs r) (let k : a < tail_of rs = h.0 in omega arith), value_at-append rs r a h.0 ∙ h.1, h.2)
-
-claim-by : {K V : Type 0} (b : Bool) (rs : List (Entry K V)) (p : Option ℕ) → (b ≡ true → p ≡ None) → address_of (cond b (Some 1) p) ≡ address_of p
-claim-by true rs p none = ap address_of (sym (none refl))
-claim-by false rs p none = refl
-
--- an entry that is made for a key that has none leads where none did
-pub claimed : {K V : Type 0} (cmp : K → K → Ordering) (rs : List (Entry K V)) (place made : K → Option ℕ) (k : K) → ((q : K) → is_at (cmp k) q ≡ true → place q ≡ None) → ((q : K) → made q ≡ cond (is_at (cmp k) q) (Some 1) (place q))
-    → (q : K) → address_of (made q) ≡ address_of (place q)
-claimed cmp rs place made k none h q = ap address_of (h q) ∙ claim-by (is_at (cmp k) q) rs (place q) (none q)
+stands-grown : {K V I : Type 0} (cmp : K → K → Ordering) (old new : RecordsView K V) (op : Op K V I) (phase : Phase V) → IsGrown cmp old new → StandsFor cmp old op phase → StandsFor cmp new op phase
+stands-grown cmp old new op Fresh g h = tt
+stands-grown cmp old new (Read k i) (Prepared a s) g h = h
+stands-grown cmp old new (Upsert k v) (Prepared a s) g h = h
+stands-grown cmp old new (Rmw k i) (Prepared a s) g h = ((let low : a < old.tail = h.0 in let up = g.tail in omega arith), ap value_of (g.kept k a h.0) ∙ h.1)
+stands-grown cmp old new (Delete k) (Prepared a s) g h = h
 
 entered-stays : (entered : List Bool) (slot t : ℕ) → unwrap_or (slice_get entered t) false ≡ true → unwrap_or (slice_get (slice_set entered slot true) t) false ≡ true
 entered-stays [] slot t h = h
@@ -59,15 +41,14 @@ entered-stays (b ∷ bs) (suc slot) (suc t) h = entered-stays bs slot t h
 
 -- ---- whole partitions
 module _ {K V I : Type 0} {cmp : K → K → Ordering} {code : K → ℕ} where
-  pub sound-empty : (config : Config) (number : ℕ) → number < 2 ^ config.partition_bits → IsSound {V = V} {I = I} cmp code (empty_partition config number)
-  sound-empty config number h = record {
+  pub sound-empty : (config : Config) (size number : ℕ) → number < 2 ^ config.partition_bits → IsTraced {V = V} code (empty_partition {I = I} config size number).records → IsSound {V = V} {I = I} cmp code (empty_partition config size number)
+  sound-empty config size number h traced = record {
     own = h;
+    counted = refl;
     sessions = refl;
     places = refl;
-    leads = λ q. refl;
-    placed = λ q. record { low = inl refl; high = lit< tt };
+    traced = traced;
     stands = λ p x e. absurd (none_in 128 p x e);
-    indexed = λ i d h. absurd (omega arith);
     routed = λ i e k. absurd (cc);
     asked = λ p x e. absurd (none_in 128 p x e);
     housed = λ slot c x h e. absurd (none_in 128 (slot * 8 + c) x e);
@@ -80,17 +61,16 @@ module _ {K V I : Type 0} {cmp : K → K → Ordering} {code : K → ℕ} where
 
   module _ {v : PartitionView K V I} (s : IsSound cmp code v) where
     pub sound-moment : (now : ℕ) → IsSound cmp code (record v { moment = now })
-    sound-moment now = record { own = s.own; sessions = s.sessions; places = s.places; leads = s.leads; placed = s.placed; stands = s.stands; indexed = s.indexed; routed = s.routed; asked = s.asked; housed = s.housed }
+    sound-moment now = record { own = s.own; counted = s.counted; sessions = s.sessions; places = s.places; traced = s.traced; stands = s.stands; routed = s.routed; asked = s.asked; housed = s.housed }
 
     pub sound-entered : (slot now : ℕ) → IsSound cmp code (record v { entered = slice_set v.entered slot true; moment = now })
     sound-entered slot now = record {
       own = s.own;
+      counted = s.counted;
       sessions = length-set v.entered slot true ∙ s.sessions;
       places = s.places;
-      leads = s.leads;
-      placed = s.placed;
+      traced = s.traced;
       stands = s.stands;
-      indexed = s.indexed;
       routed = s.routed;
       asked = s.asked;
       housed = λ t c x h e. entered-stays v.entered slot t (s.housed t c x h e);
@@ -100,12 +80,11 @@ module _ {K V I : Type 0} {cmp : K → K → Ordering} {code : K → ℕ} where
     pub sound-left : (slot now : ℕ) → open_context v slot ≡ None → IsSound cmp code (record v { entered = slice_set v.entered slot false; moment = now })
     sound-left slot now none = record {
       own = s.own;
+      counted = s.counted;
       sessions = length-set v.entered slot false ∙ s.sessions;
       places = s.places;
-      leads = s.leads;
-      placed = s.placed;
+      traced = s.traced;
       stands = s.stands;
-      indexed = s.indexed;
       routed = s.routed;
       asked = s.asked;
       housed = λ t c x h e. elim (cases_eq t slot) [
@@ -115,18 +94,17 @@ module _ {K V I : Type 0} {cmp : K → K → Ordering} {code : K → ℕ} where
     }
 
     -- an operation in a context, which stands for what it says and belongs here
-    pub sound-context : (slot c now : ℕ) (x : Context K V I) → c < 8 → unwrap_or (slice_get v.entered slot) false ≡ true → StandsFor v.text x.op x.phase → partition_of v.count (code (key_of x.op)) ≡ v.number → IsSound cmp code (with_context v slot c (Some x) now)
+    pub sound-context : (slot c now : ℕ) (x : Context K V I) → c < 8 → unwrap_or (slice_get v.entered slot) false ≡ true → StandsFor cmp v.records x.op x.phase → partition_of v.count (code (key_of x.op)) ≡ v.number → IsSound cmp code (with_context v slot c (Some x) now)
     sound-context slot c now x low inside k r = record {
       own = s.own;
+      counted = s.counted;
       sessions = s.sessions;
       places = length-set v.contexts (slot * 8 + c) (Some x) ∙ s.places;
-      leads = s.leads;
-      placed = s.placed;
+      traced = s.traced;
       stands = λ p y h. elim (get-set_cases v.contexts (slot * 8 + c) p (Some x) (Some y) h) [
-        | inl e ↦ (let same : x ≡ y = (let w = e.1 in cc) in subst (λ (z : Context K V I). StandsFor v.text z.op z.phase) same k)
+        | inl e ↦ (let same : x ≡ y = (let w = e.1 in cc) in subst (λ (z : Context K V I). StandsFor cmp v.records z.op z.phase) same k)
         | inr o ↦ s.stands p y o
       ];
-      indexed = s.indexed;
       routed = s.routed;
       asked = λ p y h. elim (get-set_cases v.contexts (slot * 8 + c) p (Some x) (Some y) h) [
         | inl e ↦ (let same : x ≡ y = (let w = e.1 in cc) in subst (λ (z : Context K V I). partition_of v.count (code (key_of z.op)) ≡ v.number) same r)
@@ -141,50 +119,50 @@ module _ {K V I : Type 0} {cmp : K → K → Ordering} {code : K → ℕ} where
     pub sound-freed : (slot c now : ℕ) → IsSound cmp code (with_context v slot c None now)
     sound-freed slot c now = record {
       own = s.own;
+      counted = s.counted;
       sessions = s.sessions;
       places = length-set v.contexts (slot * 8 + c) None ∙ s.places;
-      leads = s.leads;
-      placed = s.placed;
+      traced = s.traced;
       stands = λ p y h. elim (get-set_cases v.contexts (slot * 8 + c) p None (Some y) h) [ inl e ↦ (let w = e.1 in absurd (cc)) | inr o ↦ s.stands p y o ];
-      indexed = s.indexed;
       routed = s.routed;
       asked = λ p y h. elim (get-set_cases v.contexts (slot * 8 + c) p None (Some y) h) [ inl e ↦ (let w = e.1 in absurd (cc)) | inr o ↦ s.asked p y o ];
       housed = λ t d y h e. elim (get-set_cases v.contexts (slot * 8 + c) (t * 8 + d) None (Some y) e) [ inl p ↦ (let w = p.1 in absurd (cc)) | inr o ↦ s.housed t d y h o ];
     }
 
-    -- an entry for a key that has none
-    pub sound-claimed : (finals : List (K × ℕ)) (k : K) (now : ℕ) → All (λ q. partition_of v.count (code q) ≡ v.number) (keys_of finals) → ((q : K) → is_at (cmp k) q ≡ true → entry_of cmp v.finals q ≡ None)
-        → ((q : K) → entry_of cmp finals q ≡ cond (is_at (cmp k) q) (Some 1) (entry_of cmp v.finals q)) → IsSound cmp code (record v { finals = finals; moment = now })
-    sound-claimed finals k now kept none h =
-        let same = claimed cmp v.text (entry_of cmp v.finals) (entry_of cmp finals) k none h in
-        record {
-          own = s.own;
-          sessions = s.sessions;
-          places = s.places;
-          leads = λ q. s.leads q ∙ ap (value_at v.text) (sym (same q));
-          placed = λ q. rw (same q) (s.placed q);
-          stands = s.stands;
-          indexed = kept;
-          routed = s.routed;
-          asked = s.asked;
-          housed = s.housed;
-        }
-
-    -- a record at the tail, of a key that belongs here, to which its entry is moved
-    pub sound-appended : (finals : List (K × ℕ)) (r : Entry K V) → All (λ q. partition_of v.count (code q) ≡ v.number) (keys_of finals) → partition_of v.count (code r.key) ≡ v.number
-        → ((q : K) → entry_of cmp finals q ≡ cond (is_at (cmp r.key) q) (Some (tail_of v.text)) (entry_of cmp v.finals q)) → IsSound cmp code (record v { text = v.text ++ r ∷ []; finals = finals })
-    sound-appended finals r kept own h = record {
+    -- an entry for a class that has none
+    pub sound-claimed : (records : RecordsView K V) (now : ℕ) → IsTraced code records → records.partition_bits ≡ v.records.partition_bits → records.tail ≡ v.records.tail → records.text ≡ v.records.text → IsSound cmp code (record v { records = records; moment = now })
+    sound-claimed records now traced bits tail text = record {
       own = s.own;
+      counted = s.counted ∙ ap (λ n. 2 ^ n) (sym bits);
       sessions = s.sessions;
       places = s.places;
-      leads = leads-append cmp v.text r (entry_of cmp v.finals) (entry_of cmp finals) h s.placed s.leads;
-      placed = placed-append cmp v.text r (entry_of cmp v.finals) (entry_of cmp finals) h s.placed;
-      stands = λ p x e. stands-append v.text r x.op x.phase (s.stands p x e);
-      indexed = kept;
-      routed = λ i e k. elim (get-append_cases v.text r i e k) [
+      traced = traced;
+      stands = λ p x e. stands-grown cmp v.records records x.op x.phase (record { tail = rw tail (omega arith); kept = λ k a h. ap (λ t. newest cmp t k a) text }) (s.stands p x e);
+      routed = λ i e h. s.routed i e (ap (λ t. slice_get t i) (sym text) ∙ h);
+      asked = s.asked;
+      housed = s.housed;
+    }
+
+    -- a record at the tail, of a key that belongs here
+    pub sound-appended : (c : Class) (previous : ℕ) (k : K) (value : Option V) → IsTraced code (with_record v.records c previous k value) → ((q : K) (a : ℕ) → a < v.records.tail → newest cmp (with_record v.records c previous k value).text q a ≡ newest cmp v.records.text q a) → partition_of v.count (code k) ≡ v.number
+        → IsSound cmp code (record v { records = with_record v.records c previous k value })
+    sound-appended c previous k value traced kept own = record {
+      own = s.own;
+      counted = s.counted;
+      sessions = s.sessions;
+      places = s.places;
+      traced = traced;
+      stands = λ p x e. stands-grown cmp v.records (with_record v.records c previous k value) x.op x.phase grown (s.stands p x e);
+      routed = λ i e h. elim (get-append_cases v.records.text (record { address = v.records.tail; previous = previous; key = k; value = value }) i e h) [
         | inl old ↦ s.routed i e old
         | inr new ↦ subst (λ (x : Entry K V). partition_of v.count (code x.key) ≡ v.number) new.1 own
       ];
       asked = s.asked;
       housed = s.housed;
     }
+      where
+        last : Entry K V
+        last = record { address = v.records.tail; previous = previous; key = k; value = value }
+
+        grown : IsGrown cmp v.records (with_record v.records c previous k value)
+        grown = record { tail = (let up : v.records.tail < (with_record v.records c previous k value).tail = traced.below (length v.records.text) last (get-append_last v.records.text last) in omega arith); kept = kept }

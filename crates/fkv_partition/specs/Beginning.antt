@@ -17,7 +17,7 @@ pub data Enters {K V I : Type 0} (old new : PartitionView K V I) (now : ℕ) (re
 abbrev pub IsEntered : {K V I : Type 0} → PartitionView K V I → ℕ → Type 0
 IsEntered v slot = unwrap_or (slice_get v.entered slot) false ≡ true
 
-pub data Issues {K V I : Type 0} (code : K → ℕ) (old new : PartitionView K V I) (slot : ℕ) (op : Op K I) (now : ℕ) (result : Result ℕ Refused) : Type 0 where
+pub data Issues {K V I : Type 0} (code : K → ℕ) (old new : PartitionView K V I) (slot : ℕ) (op : Op K V I) (now : ℕ) (result : Result ℕ Refused) : Type 0 where
   unknown : unwrap_or (slice_get old.entered slot) false ≡ false → new ≡ old → result ≡ Err Unknown → Issues code old new slot op now result
   stranger : IsEntered old slot → partition_of old.count (code (key_of op)) ≢ old.number → new ≡ old
       → result ≡ Err (Stranger Partition old.number (partition_of old.count (code (key_of op)))) → Issues code old new slot op now result

@@ -12,19 +12,19 @@ use Rattle.fkv_partition.specs.declared.contexts.Progress.TheVariants.{Done, Nex
 use Rattle.fkv_partition.specs.Views.{PartitionView, context_at, live_of, partition_of}
 
 -- what an open context asks: the moment of its issue, and its operation
-pub record Asked (K I : Type 0) : Type 0 where
+pub record Asked (K V I : Type 0) : Type 0 where
   pub number : ℕ
-  pub op : Op K I
+  pub op : Op K V I
 
-abbrev pub asked_by : {K V I : Type 0} → Context K V I → Asked K I
+abbrev pub asked_by : {K V I : Type 0} → Context K V I → Asked K V I
 asked_by x = record { number = x.number; op = x.op }
 
-abbrev pub asked : {K V I : Type 0} → PartitionView K V I → ℕ → ℕ → Option (Asked K I)
+abbrev pub asked : {K V I : Type 0} → PartitionView K V I → ℕ → ℕ → Option (Asked K V I)
 asked v slot c = option_map asked_by (context_at v slot c)
 
 -- the effect of an event at this moment, of a context that asked `x` and then asks `is`: a Done does exactly the one
 -- operation and answers as the plain map does just before, and anything else leaves the live map
-abbrev pub HasEffect : {K V I O : Type 0} → (K → K → Ordering) → Meanings K V I O → PlainMap K V → PlainMap K V → ℕ → Asked K I → Option (Asked K I)
+abbrev pub HasEffect : {K V I O : Type 0} → (K → K → Ordering) → Meanings K V I O → PlainMap K V → PlainMap K V → ℕ → Asked K V I → Option (Asked K V I)
     → Progress K V I O → Type 0
 HasEffect cmp f m m' now x is (Done a effect) = (is ≡ None) × (effect ≡ now) × Same m' (after cmp f m x.op) × (a ≡ answer f m x.op)
 HasEffect cmp f m m' now x is Next = (is ≡ Some x) × Same m' m
@@ -35,30 +35,30 @@ pub record LeavesOthers {K V I : Type 0} (old new : PartitionView K V I) (slot c
   pub others : (s d : ℕ) → (s ≢ slot) ⊎ (d ≢ c) → asked new s d ≡ asked old s d
   pub number : new.number ≡ old.number
   pub count : new.count ≡ old.count
-  pub begin : new.begin ≡ old.begin
+  pub begin : new.records.begin ≡ old.records.begin
   pub moment : new.moment ≡ now
 
 -- a session is entered: no context asks anything new
 pub record IsEnter {K V I : Type 0} (old new : PartitionView K V I) (slot now : ℕ) : Type 0 where
   pub same : (s d : ℕ) → asked new s d ≡ asked old s d
-  pub text : new.text ≡ old.text
+  pub text : new.records.text ≡ old.records.text
   pub number : new.number ≡ old.number
   pub count : new.count ≡ old.count
-  pub begin : new.begin ≡ old.begin
+  pub begin : new.records.begin ≡ old.records.begin
   pub moment : new.moment ≡ now
 
 -- an operation of a key that belongs here is issued in a context which asked nothing
-pub record IsIssue {K V I : Type 0} (code : K → ℕ) (old new : PartitionView K V I) (slot c : ℕ) (op : Op K I) (now : ℕ) : Type 0 where
+pub record IsIssue {K V I : Type 0} (code : K → ℕ) (old new : PartitionView K V I) (slot c : ℕ) (op : Op K V I) (now : ℕ) : Type 0 where
   pub closed : asked old slot c ≡ None
   pub opened : asked new slot c ≡ Some (record { number = now; op = op })
   pub own : partition_of old.count (code (key_of op)) ≡ old.number
-  pub text : new.text ≡ old.text
+  pub text : new.records.text ≡ old.records.text
   pub entered : new.entered ≡ old.entered
   pub frame : LeavesOthers old new slot c now
 
 -- an event of one context
 pub record IsEvent {K V I O : Type 0} (cmp : K → K → Ordering) (f : Meanings K V I O) (old new : PartitionView K V I) (slot c now : ℕ) (progress : Progress K V I O) : Type 0 where
-  pub question : Asked K I
+  pub question : Asked K V I
   pub was : asked old slot c ≡ Some question
   pub effect : HasEffect cmp f (live_of cmp old) (live_of cmp new) now question (asked new slot c) progress
   pub entered : new.entered ≡ old.entered
@@ -67,17 +67,17 @@ pub record IsEvent {K V I O : Type 0} (cmp : K → K → Ordering) (f : Meanings
 -- a session is left: no context asks anything else
 pub record IsLeave {K V I : Type 0} (old new : PartitionView K V I) (now : ℕ) : Type 0 where
   pub same : (s d : ℕ) → asked new s d ≡ asked old s d
-  pub text : new.text ≡ old.text
+  pub text : new.records.text ≡ old.records.text
   pub number : new.number ≡ old.number
   pub count : new.count ≡ old.count
-  pub begin : new.begin ≡ old.begin
+  pub begin : new.records.begin ≡ old.records.begin
   pub moment : new.moment ≡ now
 
 -- an operation is given up, without effect
 pub record IsGiveUp {K V I : Type 0} (old new : PartitionView K V I) (slot c now : ℕ) : Type 0 where
-  pub question : Asked K I
+  pub question : Asked K V I
   pub was : asked old slot c ≡ Some question
   pub closed : asked new slot c ≡ None
-  pub text : new.text ≡ old.text
+  pub text : new.records.text ≡ old.records.text
   pub entered : new.entered ≡ old.entered
   pub frame : LeavesOthers old new slot c now

@@ -1,41 +1,58 @@
--- What `go` does: a rule for each row.
-use Rattle.std.specs.Prelude.{◌≡◌, ℕ, Some, None, Result, Ok, Err}
+-- What `go` does: nothing is open; or a prepared update asks again; or the operation looks its key up, and what it meets decides.
+use Rattle.std.specs.Prelude.{◌≡◌, ◌≢◌, ◌^◌, ℕ, Option, Some, None, Result, Ok, Err}
 use Rattle.std.specs.declared.cmp.Ordering.{Ordering}
-use Rattle.std.specs.BTreeMap.{insert_entry}
 use Rattle.fkv_functions.specs.Meanings.{Meanings}
 use Rattle.fkv_functions.specs.declared.asks.Ask.{Ask}
 use Rattle.fkv_functions.specs.declared.refusals.Refused.{Refused}
-use Rattle.fkv_functions.specs.declared.refusals.Refused.TheVariants.{Unknown, NoMemory}
-use Rattle.fkv_operations.specs.After.{shown_of}
-use Rattle.fkv_operations.specs.declared.operations.Op.TheVariants.{Read, Rmw}
+use Rattle.fkv_functions.specs.declared.refusals.Refused.TheVariants.{Unknown, Worn, NoMemory}
+use Rattle.fkv_operations.specs.After.{key_of}
+use Rattle.fkv_records.specs.Places.{offset_at}
+use Rattle.fkv_operations.specs.RecordsViews.{class_in, address_of, claimed}
+use Rattle.fkv_operations.specs.Decisions.{decision}
+use Rattle.fkv_operations.specs.declared.operations.Answer.{Answer}
+use Rattle.fkv_operations.specs.declared.decisions.Decision.{Decision}
+use Rattle.fkv_operations.specs.declared.decisions.Decision.TheVariants.{Claim, Append, Prepare}
 use Rattle.fkv_partition.specs.declared.contexts.Context.{Context}
 use Rattle.fkv_partition.specs.declared.contexts.Phase.TheVariants.{Fresh, Prepared}
 use Rattle.fkv_partition.specs.declared.contexts.Progress.{Progress}
 use Rattle.fkv_partition.specs.declared.contexts.Progress.TheVariants.{Done, Next, NeedsBuild}
 use Rattle.fkv_partition.specs.Contexts.{question_in}
-use Rattle.fkv_partition.specs.Index.{entry_of}
-use Rattle.fkv_partition.specs.Views.{PartitionView, context_at, with_context, live_of}
+use Rattle.fkv_partition.specs.Views.{PartitionView, entry_for, met_at, context_at, with_context, with_appended}
 
-pub data Goes {K V I O : Type 0} (cmp : K → K → Ordering) (f : Meanings K V I O) (old new : PartitionView K V I) (slot c now : ℕ) (result : Result (Progress K V I O) Refused) : Type 0 where
+-- an operation that looks its key up in a context, and what it then does
+pub record Decides {K V I O : Type 0} (cmp : K → K → Ordering) (f : Meanings K V I O) (code : K → ℕ) (v : PartitionView K V I) (slot c : ℕ) (x : Context K V I) (d : Decision V I O) : Type 0 where
+  pub here : context_at v slot c ≡ Some x
+  pub fresh : x.phase ≡ Fresh
+  pub decided : decision f x.op (met_at cmp code v (key_of x.op)) ≡ d
+
+pub data Goes {K V I O : Type 0} (cmp : K → K → Ordering) (f : Meanings K V I O) (code : K → ℕ) (old new : PartitionView K V I) (slot c now : ℕ) (result : Result (Progress K V I O) Refused) : Type 0 where
   -- nothing is open there
-  unknown : context_at old slot c ≡ None → new ≡ old → result ≡ Err Unknown → Goes cmp f old new slot c now result
-  -- a read shows the live value, and its context is free
-  reads : (x : Context K V I) (k : K) (i : I) → context_at old slot c ≡ Some x → x.phase ≡ Fresh → x.op ≡ Read k i
-      → new ≡ with_context old slot c None now → result ≡ Ok (Done (shown_of f k i (live_of cmp old k)) now)
-      → Goes cmp f old new slot c now result
-  -- an update of a key without an entry makes one
-  claims : (x : Context K V I) (k : K) (i : I) → context_at old slot c ≡ Some x → x.phase ≡ Fresh → x.op ≡ Rmw k i → entry_of cmp old.finals k ≡ None
-      → new ≡ record old { finals = insert_entry cmp old.finals k 1; moment = now } → result ≡ Ok Next
-      → Goes cmp f old new slot c now result
-  -- or is refused the memory for it
-  unheld : (x : Context K V I) (k : K) (i : I) → context_at old slot c ≡ Some x → x.phase ≡ Fresh → x.op ≡ Rmw k i → entry_of cmp old.finals k ≡ None
-      → new ≡ old → result ≡ Err NoMemory → Goes cmp f old new slot c now result
-  -- an update of a key with an entry keeps the entry's address and the live value, and asks for the new one
-  prepares : (x : Context K V I) (k : K) (i : I) (a : ℕ) → context_at old slot c ≡ Some x → x.phase ≡ Fresh → x.op ≡ Rmw k i → entry_of cmp old.finals k ≡ Some a
-      → new ≡ with_context old slot c (Some (record { number = x.number; op = x.op; phase = Prepared a (live_of cmp old k) })) now
-      → result ≡ Ok (NeedsBuild (record { number = x.number; key = k; source = live_of cmp old k; input = i }))
-      → Goes cmp f old new slot c now result
+  unknown : context_at old slot c ≡ None → new ≡ old → result ≡ Err Unknown → Goes cmp f code old new slot c now result
   -- a prepared update asks the same again
   asks : (x : Context K V I) (a : ℕ) (ask : Ask K V I) → context_at old slot c ≡ Some x → question_in x ≡ Some (a, ask)
       → new ≡ record old { moment = now } → result ≡ Ok (NeedsBuild ask)
-      → Goes cmp f old new slot c now result
+      → Goes cmp f code old new slot c now result
+  -- it is done without a write, and its context is free
+  done : (x : Context K V I) (a : Answer O) → Decides cmp f code old slot c x (Decision.Done a)
+      → new ≡ with_context old slot c None now → result ≡ Ok (Done a now)
+      → Goes cmp f code old new slot c now result
+  -- an entry is made, or the memory for it is refused
+  claims : (x : Context K V I) → Decides cmp f code old slot c x Claim
+      → new ≡ record old { records = claimed old.records (class_in code old.records (key_of x.op)); moment = now } → result ≡ Ok Next
+      → Goes cmp f code old new slot c now result
+  unclaimed : (x : Context K V I) → Decides cmp f code old slot c x Claim → new ≡ old → result ≡ Err NoMemory
+      → Goes cmp f code old new slot c now result
+  -- a record is appended, the entry moves to it, and the operation is done; or no address is left; or the record would be
+  -- the first of a page, and memory is refused
+  appends : (x : Context K V I) (value : Option V) (a : Answer O) → Decides cmp f code old slot c x (Append value a) → old.records.tail ≢ 2 ^ 48
+      → new ≡ with_appended code old slot c (key_of x.op) value (address_of (entry_for code old (key_of x.op))) now → result ≡ Ok (Done a now)
+      → Goes cmp f code old new slot c now result
+  worn : (x : Context K V I) (value : Option V) (a : Answer O) → Decides cmp f code old slot c x (Append value a) → old.records.tail ≡ 2 ^ 48
+      → new ≡ old → result ≡ Err Worn → Goes cmp f code old new slot c now result
+  unheld : (x : Context K V I) (value : Option V) (a : Answer O) → Decides cmp f code old slot c x (Append value a) → old.records.tail ≢ 2 ^ 48
+      → offset_at old.records.page_bits old.records.tail ≡ 0 → new ≡ old → result ≡ Err NoMemory → Goes cmp f code old new slot c now result
+  -- an update keeps the address to which the entry leads and the value that it met, and asks for the new one
+  prepares : (x : Context K V I) (source : Option V) (i : I) → Decides cmp f code old slot c x (Prepare source i)
+      → new ≡ with_context old slot c (Some (record { number = x.number; op = x.op; phase = Prepared (address_of (entry_for code old (key_of x.op))) source })) now
+      → result ≡ Ok (NeedsBuild (record { number = x.number; key = key_of x.op; source = source; input = i }))
+      → Goes cmp f code old new slot c now result

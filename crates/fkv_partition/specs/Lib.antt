@@ -1,6 +1,4 @@
 pub mod Limits
-pub mod Text
-pub mod Index
 pub mod Contexts
 pub mod Views
 pub mod Effect
@@ -8,5 +6,4 @@ pub mod Going
 pub mod Installing
 pub mod Sound
 pub mod Beginning
-pub mod Listing
 pub mod Ending

@@ -23,7 +23,7 @@ pub enum Phase<V> {
 pub struct Context<K, V, I> {
     /// The moment of its issue, which no other operation has.
     pub number: u64,
-    pub op: Op<K, I>,
+    pub op: Op<K, V, I>,
     pub phase: Phase<V>,
 }
 
@@ -123,7 +123,7 @@ pub fn question_of<K: Copy, V: Copy, I: Copy>(
     match phase {
         Phase::Fresh => None,
         Phase::Prepared { kept, source } => match op {
-            Op::Read(_, _) => None,
+            Op::Read(_, _) | Op::Upsert(_, _) | Op::Delete(_) => None,
             Op::Rmw(key, input) => Some((
                 kept,
                 Ask {

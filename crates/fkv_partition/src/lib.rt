@@ -10,17 +10,15 @@ pub mod asking;
 pub mod contexts;
 pub mod ending;
 pub mod going;
-pub mod index;
 pub mod installing;
 pub mod limits;
 pub mod listing;
-pub mod log;
 pub mod partitions;
 pub mod sessions;
 
 pub use contexts::{Context, Phase, Progress, ProgressOf};
 pub use limits::Config;
-pub use log::Entry;
+pub use listing::pairs_of;
 pub use partitions::Partition;
 
 #[cfg(test)]

@@ -1,33 +1,28 @@
 //! The live map of a partition as a list.
-ghost use Rattle.std.specs.Prelude.{◌≡◌, All, Option, IfOk, IfErr};
+ghost use Rattle.std.specs.Prelude.{◌≡◌, All, IfOk, IfErr};
 ghost use Rattle.std.specs.BTreeMap.{is_at};
 ghost use Rattle.std.specs.Map.{lookup, keys_of};
 ghost use Rattle.std.specs.List.Sorted.{IsStrictlySortedBy};
-ghost use Rattle.fkv_partition.specs.Listing.{held_in};
 ghost use Rattle.fkv_partition.specs.Views.{live_of, partition_of};
 
-use crate::log::Log;
 use crate::partitions::Partition;
 use fkv_functions::{Functions, Refused};
 use std::alloc::Global;
 use std::collections::BTreeMap;
 
-/// The keys of an index whose records hold a value, with the values. Refused: `NoMemory`.
-fn listed<K: Ord + Copy + Drop, V: Copy>(
+/// The pairs of a map, keys rising. Refused: `NoMemory`.
+pub fn pairs_of<K: Ord + Copy + Drop, V: Copy + Drop>(
     alloc: Global,
-    log: &Log<K, V>,
-    index: &BTreeMap<K, u64>,
+    map: &BTreeMap<K, V>,
 ) -> Result<Vec<(K, V)>, Refused>
-    ensures ok { IfOk result (λ pairs. pairs.items ≡ held_in log.now index.now.entries) }
+    ensures ok { IfOk result (λ pairs. pairs.items ≡ map.now.entries) }
     ensures only { IfErr result (λ refused. refused ≡ Refused.NoMemory) }
 {
     let mut pairs = Vec::new(alloc);
-    for (key, address) in index {
-        if let Some(value) = log.value_at(*address) {
-            let Ok(()) = pairs.push((*key, value)) else {
-                return Err(Refused::NoMemory);
-            };
-        }
+    for (key, value) in map {
+        let Ok(()) = pairs.push((*key, *value)) else {
+            return Err(Refused::NoMemory);
+        };
     }
     Ok(pairs)
 }
@@ -41,7 +36,8 @@ impl<F: Functions> Partition<F> {
         ensures own { IfOk result (λ pairs. All (λ k. partition_of self.now.count (F.code k) ≡ self.now.number) (keys_of pairs.items)) }
         ensures only { IfErr result (λ refused. refused ≡ Refused.NoMemory) }
     {
-        let _ordered = self.index.len();
-        listed(alloc, &self.log, &self.index)
+        let map = self.records.live(alloc)?;
+        let _ordered = map.len();
+        pairs_of(alloc, &map)
     }
 }

@@ -1,32 +1,30 @@
 //! A partition: its parts, and what its sessions and operations begin with.
 ghost use Rattle.std.specs.Prelude.{◌≡◌, ◌≢◌, ◌+◌, ◌*◌, ◌<◌, ◌≤◌, ◌⊎◌, true, Option, Some, None, Ok, Err, IfOk, IfErr, OnErr, slice_set, unwrap_or, slice_get, false, replicate};
+ghost use Rattle.fkv_records.specs.Records.{size_of};
 ghost use Rattle.fkv_partition.specs.Limits.{IsPartitionOf};
-ghost use Rattle.fkv_partition.specs.Views.{empty_partition, with_context, free_slot, free_context};
+ghost use Rattle.fkv_partition.specs.Views.{empty_partition};
 ghost use Rattle.fkv_partition.specs.Beginning.{Enters, Issues};
 ghost use Rattle.fkv_partition.specs.Effect.{IsEnter, IsIssue};
 
 use crate::contexts::{Context, Phase, free_context, set_context};
 use crate::limits::Config;
-use crate::log::Log;
 use crate::sessions::{free_slot, is_entered, take_slot};
 use arrayvec::ArrayVec;
 use fkv_functions::{Functions, Refused, What};
-use fkv_operations::OpOf;
+use fkv_operations::{OpOf, Records};
 use std::alloc::Global;
-use std::collections::BTreeMap;
 use std::marker::Model;
 
 /// The open operations that one partition may have.
 const PLACES: usize = 128;
 
-/// One partition of a store: a log, an index of it, sessions, and their open operations. Each call that
+/// One partition of a store: its records with their entries, sessions, and their open operations. Each call that
 /// takes a moment is one event; the moments of a partition rise.
 #[derive(Drop)]
 pub struct Partition<F: Functions> {
     pub(crate) number: u64,
     pub(crate) count: u64,
-    pub(crate) log: Log<F::Key, F::Value>,
-    pub(crate) index: BTreeMap<F::Key, u64>,
+    pub(crate) records: Records<F>,
     pub(crate) entered: ArrayVec<bool, 16>,
     pub(crate) contexts: Vec<Option<Context<F::Key, F::Value, F::Input>>>,
     pub(crate) moment: u64,
@@ -38,9 +36,9 @@ impl<F: Functions> Model for Partition<F> {
 
     ghost Value = { PartitionView F.Key F.Value F.Input };
 
-    ghost view = { λ p. record { number = p.number; count = p.count; text = p.log; finals = p.index.entries; begin = 64; entered = p.entered.items; contexts = p.contexts.items; moment = p.moment } };
+    ghost view = { λ p. record { number = p.number; count = p.count; records = p.records; entered = p.entered.items; contexts = p.contexts.items; moment = p.moment } };
 
-    ghost invariant = { λ p. IsSound F.Key.cmp F.code (record { number = p.number; count = p.count; text = p.log; finals = p.index.entries; begin = 64; entered = p.entered.items; contexts = p.contexts.items; moment = p.moment }) };
+    ghost invariant = { λ p. IsSound F.Key.cmp F.code (record { number = p.number; count = p.count; records = p.records; entered = p.entered.items; contexts = p.contexts.items; moment = p.moment }) };
 }
 
 /// Places that hold nothing. Refused: `NoMemory`.
@@ -59,24 +57,28 @@ fn free_places<T: Drop>(alloc: Global) -> Result<Vec<Option<T>>, Refused>
 
 impl<F: Functions> Partition<F> {
     /// The partition of this number, with nothing in it. Refused, in this order: `BadConfig` where a
-    /// number of the configuration is outside its limits or there is no partition of this number,
+    /// number of the configuration is outside its limits, a record is too large, or there is no partition of this number,
     /// `NoMemory`.
     pub fn new(alloc: Global, config: &Config, number: u64) -> Result<Self, Refused>
-        ensures ok { IfOk result (λ p. p ≡ empty_partition config.now number) }
-        ensures good { result ≢ Err Refused.BadConfig → IsPartitionOf config.now number }
-        ensures bad { result ≡ Err Refused.BadConfig → ¬ IsPartitionOf config.now number }
+        ensures ok { IfOk result (λ p. p ≡ empty_partition config.now (size_of F.Key.SIZE F.Value.SIZE) number) }
+        ensures good { result ≢ Err Refused.BadConfig → IsPartitionOf config.now (size_of F.Key.SIZE F.Value.SIZE) number }
+        ensures bad { result ≡ Err Refused.BadConfig → ¬ IsPartitionOf config.now (size_of F.Key.SIZE F.Value.SIZE) number }
         ensures only { IfErr result (λ refused. (refused ≡ Refused.BadConfig) ⊎ (refused ≡ Refused.NoMemory)) }
     {
-        if !config.is_within_limits() || number >= config.partitions() {
+        let Some(shape) = config.shape::<F::Key, F::Value>() else {
+            return Err(Refused::BadConfig);
+        };
+        let count = config.partitions();
+        if number >= count {
             return Err(Refused::BadConfig);
         }
-        let count = config.partitions();
+        let records = Records::new(alloc, config.partition_bits, config.bucket_bits, shape)?;
         let contexts = free_places(alloc)?;
+        records.known();
         Ok(Partition {
             number,
             count,
-            log: Log::new(alloc),
-            index: BTreeMap::new(alloc),
+            records,
             entered: ArrayVec::from([false; 16]),
             contexts,
             moment: 0,

@@ -428,28 +428,162 @@ fn unless_no_memory<T: Drop>(first: Result<T, Refused>) -> Option<Result<T, Refu
     }
 }
 
+/// One bucket: all keys of one lower-case letter have one tag, and so one class.
+const ONE_CLASS: Config = Config {
+    id: 1,
+    partition_bits: 0,
+    bucket_bits: 0,
+    page_bits: 8,
+    frames: 8,
+    turns: 1_000_000,
+};
+
+/// The keys a to h.
+fn letters() -> Result<[Name; 8], Fail> {
+    Ok([
+        name(b"a")?,
+        name(b"b")?,
+        name(b"c")?,
+        name(b"d")?,
+        name(b"e")?,
+        name(b"f")?,
+        name(b"g")?,
+        name(b"h")?,
+    ])
+}
+
+/// Eight keys of one class, each by its own records, over pages of five records at most.
+#[test]
+fn one_class(rt: HostRuntime) -> Result<(), Fail> {
+    let keys = letters()?;
+    let mut driven = Driven::new(rt.alloc(), &ONE_CLASS, 0)?;
+    assert_eq!(rt; driven.enter(), Ok(0));
+    for (at, key) in keys.iter().enumerate() {
+        let value = at as i64 + 1;
+        assert_eq!(rt; driven.issue(0, Op::Rmw(*key, value)), Ok(0));
+        assert_eq!(rt; driven.finish(0, 0), Ok(Answer::Value(i128::from(value))));
+    }
+    for (at, key) in keys.iter().enumerate() {
+        assert_eq!(rt; driven.issue(0, Op::Read(*key, 0)), Ok(0));
+        assert_eq!(rt; driven.finish(0, 0), Ok(Answer::Value(at as i128 + 1)));
+    }
+    for key in keys.iter().step_by(2) {
+        assert_eq!(rt; driven.issue(0, Op::Delete(*key)), Ok(0));
+        assert_eq!(rt; driven.finish(0, 0), Ok(Answer::Deleted));
+        assert_eq!(rt; driven.issue(0, Op::Read(*key, 0)), Ok(0));
+        assert_eq!(rt; driven.finish(0, 0), Ok(Answer::Absent));
+    }
+    let pairs = driven.partition.live(rt.alloc())?;
+    let wanted = [(keys[1], 2i128), (keys[3], 4), (keys[5], 6), (keys[7], 8)];
+    assert!(rt; pairs.as_slice() == wanted.as_slice());
+    Ok(())
+}
+
+#[test]
+fn blind_writes_and_deletes(rt: HostRuntime) -> Result<(), Fail> {
+    let a = name(b"a")?;
+    let zz = name(b"zz")?;
+    let mut driven = Driven::new(rt.alloc(), &SMALL, 0)?;
+    assert_eq!(rt; driven.enter(), Ok(0));
+    for (op, answer) in [
+        (Op::Delete(zz), Answer::Deleted),
+        (Op::Upsert(a, 4), Answer::Stored),
+        (Op::Rmw(a, 5), Answer::Value(9)),
+        (Op::Upsert(a, 1), Answer::Stored),
+        (Op::Read(a, 0), Answer::Value(1)),
+        (Op::Delete(a), Answer::Deleted),
+        (Op::Read(a, 0), Answer::Absent),
+        (Op::Delete(a), Answer::Deleted),
+        (Op::Rmw(a, 2), Answer::Value(2)),
+    ] {
+        assert_eq!(rt; driven.issue(0, op), Ok(0));
+        assert_eq!(rt; driven.finish(0, 0), Ok(answer));
+    }
+    let pairs = driven.partition.live(rt.alloc())?;
+    assert!(rt; pairs.as_slice() == [(a, 2i128)].as_slice());
+    Ok(())
+}
+
+/// Which single events an upsert and a delete take: a key without an entry needs one more.
+#[test]
+fn single_events(rt: HostRuntime) -> Result<(), Fail> {
+    let a = name(b"a")?;
+    let mut driven = Driven::new(rt.alloc(), &SMALL, 0)?;
+    assert_eq!(rt; driven.enter(), Ok(0));
+    assert_eq!(rt; driven.issue(0, Op::Delete(a)), Ok(0));
+    assert_eq!(rt; driven.go(0, 0), Ok(Progress::Done(Answer::Deleted, 3)));
+    assert_eq!(rt; driven.issue(0, Op::Upsert(a, 4)), Ok(0));
+    assert_eq!(rt; driven.go(0, 0), Ok(Progress::Next));
+    assert_eq!(rt; driven.go(0, 0), Ok(Progress::Done(Answer::Stored, 6)));
+    assert_eq!(rt; driven.go(0, 0), Err(Refused::Unknown));
+    assert_eq!(rt; driven.issue(0, Op::Upsert(a, 5)), Ok(0));
+    assert_eq!(rt; driven.go(0, 0), Ok(Progress::Done(Answer::Stored, 9)));
+    assert_eq!(rt; driven.issue(0, Op::Delete(a)), Ok(0));
+    assert_eq!(rt; driven.go(0, 0), Ok(Progress::Done(Answer::Deleted, 11)));
+    Ok(())
+}
+
+/// A write of another key moves the entry of the class that they share, so the update looks again.
+#[test]
+fn entry_moves_under_an_update(rt: HostRuntime) -> Result<(), Fail> {
+    let a = name(b"a")?;
+    let b = name(b"b")?;
+    let mut driven = Driven::new(rt.alloc(), &ONE_CLASS, 0)?;
+    assert_eq!(rt; driven.enter(), Ok(0));
+    assert_eq!(rt; driven.issue(0, Op::Rmw(a, 5)), Ok(0));
+    assert_eq!(rt; driven.go(0, 0), Ok(Progress::Next));
+    let ask = Ask {
+        number: 2,
+        key: a,
+        source: None,
+        input: 5,
+    };
+    assert_eq!(rt; driven.go(0, 0), Ok(Progress::NeedsBuild(ask)));
+    assert_eq!(rt; driven.issue(0, Op::Upsert(b, 7)), Ok(1));
+    assert_eq!(rt; driven.go(0, 1), Ok(Progress::Done(Answer::Stored, 6)));
+    assert_eq!(rt; driven.install(0, 0, ask), Ok(Progress::Next));
+    assert_eq!(rt; driven.go(0, 0), Ok(Progress::NeedsBuild(ask)));
+    let done = Progress::Done(Answer::Value(5), 9);
+    assert_eq!(rt; driven.install(0, 0, ask), Ok(done));
+    let pairs = driven.partition.live(rt.alloc())?;
+    assert!(rt; pairs.as_slice() == [(a, 5i128), (b, 7)].as_slice());
+    Ok(())
+}
+
 /// Run also with each allocation refused in turn, by `rt try --test --fail-alloc N`: what was refused is
 /// called again and answered, and the map is whole.
 #[test]
 fn refused_growths_are_called_again(rt: HostRuntime) -> Result<(), Fail> {
-    let a = name(b"a")?;
-    let mut driven = match unless_no_memory(Driven::new(rt.alloc(), &SMALL, 0)) {
+    let keys = letters()?;
+    let a = keys[0];
+    let mut driven = match unless_no_memory(Driven::new(rt.alloc(), &ONE_CLASS, 0)) {
         Some(made) => made?,
-        None => Driven::new(rt.alloc(), &SMALL, 0)?,
+        None => Driven::new(rt.alloc(), &ONE_CLASS, 0)?,
     };
     assert_eq!(rt; driven.enter(), Ok(0));
-    for (input, value) in [(5i64, 5i128), (-2, 3)] {
-        assert_eq!(rt; driven.issue(0, Op::Rmw(a, input)), Ok(0));
+    for (op, wanted) in [
+        (Op::Rmw(a, 5), Answer::Value(5)),
+        (Op::Rmw(a, -2), Answer::Value(3)),
+        (Op::Upsert(keys[1], 1), Answer::Stored),
+        (Op::Upsert(keys[2], 2), Answer::Stored),
+        (Op::Delete(keys[1]), Answer::Deleted),
+        (Op::Upsert(keys[3], 3), Answer::Stored),
+        (Op::Rmw(keys[3], 4), Answer::Value(7)),
+        (Op::Upsert(keys[4], 4), Answer::Stored),
+        (Op::Delete(keys[4]), Answer::Deleted),
+    ] {
+        assert_eq!(rt; driven.issue(0, op), Ok(0));
         let answer = match unless_no_memory(driven.finish(0, 0)) {
             Some(answer) => answer,
             None => driven.finish(0, 0),
         };
-        assert_eq!(rt; answer, Ok(Answer::Value(value)));
+        assert_eq!(rt; answer, Ok(wanted));
     }
     let pairs = match unless_no_memory(driven.partition.live(rt.alloc())) {
         Some(pairs) => pairs?,
         None => driven.partition.live(rt.alloc())?,
     };
-    assert!(rt; pairs.as_slice() == [(a, 3i128)].as_slice());
+    let wanted = [(a, 3i128), (keys[2], 2), (keys[3], 7)];
+    assert!(rt; pairs.as_slice() == wanted.as_slice());
     Ok(())
 }

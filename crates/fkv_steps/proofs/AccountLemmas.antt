@@ -69,16 +69,16 @@ append-nothing [] = refl
 append-nothing (x ∷ xs) = ap (λ ys. x ∷ ys) (append-nothing xs)
 
 -- ---- lives
-ended-issues : {K I O : Type 0} (lives : List (Life K I O)) (j : ℕ) (e : End O) → map (λ (x : Life K I O). x.issue) (ended_at lives j e) ≡ map (λ (x : Life K I O). x.issue) lives
+ended-issues : {K V I O : Type 0} (lives : List (Life K V I O)) (j : ℕ) (e : End O) → map (λ (x : Life K V I O). x.issue) (ended_at lives j e) ≡ map (λ (x : Life K V I O). x.issue) lives
 ended-issues [] j e = refl
 ended-issues (x ∷ xs) zero e = refl
 ended-issues (x ∷ xs) (suc j) e = ap (λ ys. x.issue ∷ ys) (ended-issues xs j e)
 
-begun-issues : {K I O : Type 0} (lives : List (Life K I O)) (y : Life K I O) → map (λ (x : Life K I O). x.issue) (lives ++ y ∷ []) ≡ map (λ (x : Life K I O). x.issue) lives ++ y.issue ∷ []
+begun-issues : {K V I O : Type 0} (lives : List (Life K V I O)) (y : Life K V I O) → map (λ (x : Life K V I O). x.issue) (lives ++ y ∷ []) ≡ map (λ (x : Life K V I O). x.issue) lives ++ y.issue ∷ []
 begun-issues [] y = refl
 begun-issues (x ∷ xs) y = ap (λ ys. x.issue ∷ ys) (begun-issues xs y)
 
-module _ {K V I O : Type 0} (lives : List (Life K I O)) (os : List (Outcome V O)) (now : ℕ) (account : IsAccount lives os now) where
+module _ {K V I O : Type 0} (lives : List (Life K V I O)) (os : List (Outcome V O)) (now : ℕ) (account : IsAccount lives os now) where
   longer : (o : Outcome V O) → length (os ++ o ∷ []) ≡ suc now
   longer o = let a = length-append os (o ∷ []) in let b = account.counted in omega arith
 
@@ -91,7 +91,7 @@ module _ {K V I O : Type 0} (lives : List (Life K I O)) (os : List (Outcome V O)
   next-at : (o : Outcome V O) → told_at (os ++ o ∷ []) (suc now) ≡ answer_in o
   next-at o = told-new os o (suc now) (ap suc (sym account.counted))
 
-  kept-at : (o : Outcome V O) (j : ℕ) (x : Life K I O) (t : Finish O) → slice_get lives j ≡ Some x → finish_of x ≡ Some t → told_at (os ++ o ∷ []) t.done ≡ Some t.answer
+  kept-at : (o : Outcome V O) (j : ℕ) (x : Life K V I O) (t : Finish O) → slice_get lives j ≡ Some x → finish_of x ≡ Some t → told_at (os ++ o ∷ []) t.done ≡ Some t.answer
   kept-at o j x t h k = let a = account.told j x t h k in told-old os o t.done (told-within os t.done t.answer a) ∙ a
 
   -- a step that tells no answer
@@ -112,7 +112,7 @@ module _ {K V I O : Type 0} (lives : List (Life K I O)) (os : List (Outcome V O)
   }
 
   -- an issue begins a life
-  account-issue : (c : ℕ) (y : Life K I O) → y.issue ≡ suc now → finish_of y ≡ None → IsAccount (lives ++ y ∷ []) (os ++ outcome.Issued c ∷ []) (suc now)
+  account-issue : (c : ℕ) (y : Life K V I O) → y.issue ≡ suc now → finish_of y ≡ None → IsAccount (lives ++ y ∷ []) (os ++ outcome.Issued c ∷ []) (suc now)
   account-issue c y at untold = record {
     counted = longer (outcome.Issued c);
     issued = begun-issues lives y ∙ ap (λ xs. xs ++ y.issue ∷ []) account.issued ∙ ap (λ n. issues_from 1 os ++ n ∷ []) at ∙ sym (issues-append 1 (suc now) os (outcome.Issued c) (let b = account.counted in omega arith));
@@ -121,11 +121,11 @@ module _ {K V I O : Type 0} (lives : List (Life K I O)) (os : List (Outcome V O)
     owned = λ s a h. (let w = account.owned s a (silent-before (outcome.Issued c) refl s a h) in (w.0, w.1, w.2, append_old lives y w.0 w.1 w.3, w.4, w.5, w.6));
   }
     where
-      old : (j : ℕ) (x : Life K I O) (t : Finish O) → slice_get (lives ++ y ∷ []) j ≡ Some x → finish_of x ≡ Some t → slice_get lives j ≡ Some x
+      old : (j : ℕ) (x : Life K V I O) (t : Finish O) → slice_get (lives ++ y ∷ []) j ≡ Some x → finish_of x ≡ Some t → slice_get lives j ≡ Some x
       old j x t h k = elim (append_cases lives y j x h) [ inl a ↦ a | inr e ↦ (let n : None ≡ Some t = sym untold ∙ ap finish_of (sym e) ∙ k in absurd (cc)) ]
 
   -- a life ends without an answer
-  account-given_up : (j : ℕ) (x : Life K I O) → slice_get lives j ≡ Some x → finish_of x ≡ None → IsAccount (ended_at lives j GivenUp) (os ++ outcome.GivenUp ∷ []) (suc now)
+  account-given_up : (j : ℕ) (x : Life K V I O) → slice_get lives j ≡ Some x → finish_of x ≡ None → IsAccount (ended_at lives j GivenUp) (os ++ outcome.GivenUp ∷ []) (suc now)
   account-given_up j x here untold = record {
     counted = longer outcome.GivenUp;
     issued = ended-issues lives j GivenUp ∙ account.issued ∙ sym (append-nothing (issues_from 1 os)) ∙ sym (issues-append 1 (suc now) os outcome.GivenUp (let b = account.counted in omega arith));
@@ -136,16 +136,16 @@ module _ {K V I O : Type 0} (lives : List (Life K I O)) (os : List (Outcome V O)
         (w.0, w.1, w.2, ended_other lives j _ w.0 other ∙ w.3, w.4, w.5, w.6));
   }
     where
-      old : (i : ℕ) (y : Life K I O) (t : Finish O) → slice_get (ended_at lives j GivenUp) i ≡ Some y → finish_of y ≡ Some t → slice_get lives i ≡ Some y
+      old : (i : ℕ) (y : Life K V I O) (t : Finish O) → slice_get (ended_at lives j GivenUp) i ≡ Some y → finish_of y ≡ Some t → slice_get lives i ≡ Some y
       old i y t h k = elim (ended_cases lives j GivenUp x here i y h) [ inl c ↦ (let n : None ≡ Some t = ap finish_of (sym c.1) ∙ k in absurd (cc)) | inr c ↦ c.1 ]
 
   -- a life ends with its answer
-  module _ (past_done : (j : ℕ) (x : Life K I O) (t : Finish O) → slice_get lives j ≡ Some x → finish_of x ≡ Some t → t.done ≤ now) (j : ℕ) (x : Life K I O) (here : slice_get lives j ≡ Some x) (untold : finish_of x ≡ None) (effect : ℕ) (a : Answer O) where
+  module _ (past_done : (j : ℕ) (x : Life K V I O) (t : Finish O) → slice_get lives j ≡ Some x → finish_of x ≡ Some t → t.done ≤ now) (j : ℕ) (x : Life K V I O) (here : slice_get lives j ≡ Some x) (untold : finish_of x ≡ None) (effect : ℕ) (a : Answer O) where
     finish : Finish O
     finish = record { effect = effect; done = suc now; answer = a }
 
     -- it is the one that ended now, or one that was finished before
-    which : (i : ℕ) (y : Life K I O) (t : Finish O) → slice_get (ended_at lives j (Finished (record { effect = effect; done = suc now; answer = a }))) i ≡ Some y → finish_of y ≡ Some t
+    which : (i : ℕ) (y : Life K V I O) (t : Finish O) → slice_get (ended_at lives j (Finished (record { effect = effect; done = suc now; answer = a }))) i ≡ Some y → finish_of y ≡ Some t
         → ((i ≡ j) × (t.done ≡ suc now) × (t.answer ≡ a)) ⊎ ((slice_get lives i ≡ Some y) × (t.done ≤ now))
     which i y t h k = elim (ended_cases lives j (Finished (record { effect = effect; done = suc now; answer = a })) x here i y h) [
       | inl c ↦ (let e : Some (record { effect = effect; done = suc now; answer = a }) ≡ Some t = ap finish_of (sym c.1) ∙ k in
@@ -199,7 +199,7 @@ account-empty {K} {V} {I} {O} = record {
 
 -- ---- each step keeps the account
 module _ {K V I O : Type 0} (cmp : K → K → Ordering) (f : Meanings K V I O) (code : K → ℕ) (s : StateView K V I O) (state : IsState cmp f code s) (rs : List (Result (Outcome V O) Refused)) (account : IsAccount s.lives (taken rs) s.moment) where
-  past_done : (j : ℕ) (x : Life K I O) (t : Finish O) → slice_get s.lives j ≡ Some x → finish_of x ≡ Some t → t.done ≤ s.moment
+  past_done : (j : ℕ) (x : Life K V I O) (t : Finish O) → slice_get s.lives j ≡ Some x → finish_of x ≡ Some t → t.done ≤ s.moment
   past_done j x t h k = (state.world.placed.timely j x t h k).past
 
   account-progress : (w : Place) (v v' : PartitionView K V I) (p : Progress K V I O) → slice_get s.partitions w.partition ≡ Some v → IsEvent cmp f v v' w.slot w.context (suc s.moment) p
@@ -216,7 +216,7 @@ module _ {K V I O : Type 0} (cmp : K → K → Ordering) (f : Meanings K V I O) 
   kept-state : (new : StateView K V I O) (r : Result (Outcome V O) Refused) (e : Refused) → new ≡ s → r ≡ Err e → IsAccount new.lives (taken (rs ++ r ∷ [])) new.moment
   kept-state new r e same is = rw (is, same) (account-refused e)
 
-  pub account-acts : (new : StateView K V I O) (step : Step K I) (r : Result (Outcome V O) Refused) → Acts cmp f code s new step r → IsAccount new.lives (taken (rs ++ r ∷ [])) new.moment
+  pub account-acts : (new : StateView K V I O) (step : Step K V I) (r : Result (Outcome V O) Refused) → Acts cmp f code s new step r → IsAccount new.lives (taken (rs ++ r ∷ [])) new.moment
   account-acts new step r (nowhere a same is) = kept-state new r _ same is
   account-acts new step r (unasked w v a b c d same is) = kept-state new r _ same is
   account-acts new step r (unknown w v a b c d same is) = kept-state new r _ same is

@@ -54,12 +54,12 @@ module _ {K V I O : Type 0} (cmp : K → K → Ordering) (f : Meanings K V I O) 
     acts-leave slot does ev =
         rw e (leaves p slot old new refl (record { here = here; question = λ w h. absurd (cc); moment = left }) (subst (λ m. Leaves old new slot m (Ok tt)) e does) (subst (λ m. IsLeave old new m) e ev) refl refl)
 
-    pub acts-no_issue : (slot : ℕ) (op : Op K I) (r : Refused) → new ≡ old → Issues code old new slot op next (Err r) → Acts cmp f code s s (Issue p slot op) (Err r)
+    pub acts-no_issue : (slot : ℕ) (op : Op K V I) (r : Refused) → new ≡ old → Issues code old new slot op next (Err r) → Acts cmp f code s s (Issue p slot op) (Err r)
     acts-no_issue slot op r same does =
         refuses_issue p slot op old r refl (record { here = here; question = λ w h. absurd (cc); moment = left })
         (subst (λ m. Issues code old old slot op m (Err r)) e (subst (λ v. Issues code old v slot op next (Err r)) same does)) refl refl
 
-    pub acts-issue : (slot c : ℕ) (op : Op K I) (seat : Seat) → Issues code old new slot op next (Ok c) → IsIssue code old new slot c op next → slice_get s.seats (seat_row p slot) ≡ Some seat
+    pub acts-issue : (slot c : ℕ) (op : Op K V I) (seat : Seat) → Issues code old new slot op next (Ok c) → IsIssue code old new slot c op next → slice_get s.seats (seat_row p slot) ≡ Some seat
         → Acts cmp f code s (record s {
           partitions = slice_set s.partitions p new;
           seats = slice_set s.seats (seat_row p slot) (after_issue seat);
@@ -82,28 +82,28 @@ module _ {K V I O : Type 0} (cmp : K → K → Ordering) (f : Meanings K V I O) 
     acts-give_up does ev =
         rw e (gives_up w old new refl (record { here = here; question = λ u h. absurd (cc); moment = left }) (subst (λ m. GivesUp old new w.slot w.context m (Ok tt)) e does) (subst (λ m. IsGiveUp old new w.slot w.context m) e ev) refl refl)
 
-    pub acts-no_go : (r : Refused) → new ≡ old → Goes cmp f old new w.slot w.context next (Err r) → Acts cmp f code s s (Go w) (Err r)
+    pub acts-no_go : (r : Refused) → new ≡ old → Goes cmp f code old new w.slot w.context next (Err r) → Acts cmp f code s s (Go w) (Err r)
     acts-no_go r same does =
         refuses_go w old r refl (record { here = here; question = λ u h. absurd (cc); moment = left })
-        (subst (λ m. Goes cmp f old old w.slot w.context m (Err r)) e (subst (λ v. Goes cmp f old v w.slot w.context next (Err r)) same does)) refl refl
+        (subst (λ m. Goes cmp f code old old w.slot w.context m (Err r)) e (subst (λ v. Goes cmp f code old v w.slot w.context next (Err r)) same does)) refl refl
 
-    pub acts-go : (progress : Progress K V I O) → Goes cmp f old new w.slot w.context next (Ok progress) → IsEvent cmp f old new w.slot w.context next progress
+    pub acts-go : (progress : Progress K V I O) → Goes cmp f code old new w.slot w.context next (Ok progress) → IsEvent cmp f old new w.slot w.context next progress
         → Acts cmp f code s (record s { partitions = slice_set s.partitions w.partition new; questions = questions_by s.questions (context_row w) progress; lives = lives_by s.lives (life_in s.begun w) next progress; moment = next })
         (Go w) (Ok (told progress))
     acts-go progress does ev =
-        rw e (goes w old new progress refl (record { here = here; question = λ u h. absurd (cc); moment = left }) (subst (λ m. Goes cmp f old new w.slot w.context m (Ok progress)) e does) (subst (λ m. IsEvent cmp f old new w.slot w.context m progress) e ev) refl refl)
+        rw e (goes w old new progress refl (record { here = here; question = λ u h. absurd (cc); moment = left }) (subst (λ m. Goes cmp f code old new w.slot w.context m (Ok progress)) e does) (subst (λ m. IsEvent cmp f old new w.slot w.context m progress) e ev) refl refl)
 
     module _ (ask : Ask K V I) (asks : question_in s.questions w ≡ Some ask) where
-      ready : (u : Place) → ◌≡◌ {A = Step K I} (Install w) (Install u) → IsSome (question_in s.questions u)
+      ready : (u : Place) → ◌≡◌ {A = Step K V I} (Install w) (Install u) → IsSome (question_in s.questions u)
       ready u h = let same : w ≡ u = cc in subst (λ x. IsSome (question_in s.questions x)) same (rw asks refl)
 
-      pub acts-no_install : (r : Refused) → new ≡ old → Installs cmp f old new w.slot w.context ask next (Err r) → Acts cmp f code s s (Install w) (Err r)
+      pub acts-no_install : (r : Refused) → new ≡ old → Installs cmp f code old new w.slot w.context ask next (Err r) → Acts cmp f code s s (Install w) (Err r)
       acts-no_install r same does =
           refuses_install w old ask r refl (record { here = here; question = ready; moment = left }) asks
-          (subst (λ m. Installs cmp f old old w.slot w.context ask m (Err r)) e (subst (λ v. Installs cmp f old v w.slot w.context ask next (Err r)) same does)) refl refl
+          (subst (λ m. Installs cmp f code old old w.slot w.context ask m (Err r)) e (subst (λ v. Installs cmp f code old v w.slot w.context ask next (Err r)) same does)) refl refl
 
-      pub acts-install : (progress : Progress K V I O) → Installs cmp f old new w.slot w.context ask next (Ok progress) → IsEvent cmp f old new w.slot w.context next progress
+      pub acts-install : (progress : Progress K V I O) → Installs cmp f code old new w.slot w.context ask next (Ok progress) → IsEvent cmp f old new w.slot w.context next progress
           → Acts cmp f code s (record s { partitions = slice_set s.partitions w.partition new; questions = questions_by s.questions (context_row w) progress; lives = lives_by s.lives (life_in s.begun w) next progress; moment = next })
           (Install w) (Ok (told progress))
       acts-install progress does ev =
-          rw e (installs w old new ask progress refl (record { here = here; question = ready; moment = left }) asks (subst (λ m. Installs cmp f old new w.slot w.context ask m (Ok progress)) e does) (subst (λ m. IsEvent cmp f old new w.slot w.context m progress) e ev) refl refl)
+          rw e (installs w old new ask progress refl (record { here = here; question = ready; moment = left }) asks (subst (λ m. Installs cmp f code old new w.slot w.context ask m (Ok progress)) e does) (subst (λ m. IsEvent cmp f old new w.slot w.context m progress) e ev) refl refl)

@@ -38,40 +38,40 @@ made-some : {A : Type 0} (f : ℕ → A) (o : Option ℕ) (v : A) → option_map
 made-some f None v h = absurd (cc)
 made-some f (Some i) v h = let same : f i ≡ v = cc in (i, refl, sym same)
 
-pub empty-at : {K V I : Type 0} (config : Config) (n p : ℕ) (v : PartitionView K V I) → slice_get (empty_partitions config n) p ≡ Some v → v ≡ empty_partition config p
-empty-at config n p v h =
-    let m = made-some (empty_partition config) (slice_get (range_with_len 0 n) p) v (sym (slice_get-map (empty_partition config) (range_with_len 0 n) p) ∙ h) in
+pub empty-at : {K V I : Type 0} (config : Config) (size n p : ℕ) (v : PartitionView K V I) → slice_get (empty_partitions config size n) p ≡ Some v → v ≡ empty_partition config size p
+empty-at config size n p v h =
+    let m = made-some (empty_partition config size) (slice_get (range_with_len 0 n) p) v (sym (slice_get-map (empty_partition config size) (range_with_len 0 n) p) ∙ h) in
     let at = range-at 0 n p m.0 m.1 in
     let same : m.0 ≡ p = omega arith in
-    m.2 ∙ ap (empty_partition config) same
+    m.2 ∙ ap (empty_partition config size) same
 
 small : (n : ℕ) → n ≤ 6 → (1 ≤ 2 ^ n) × (2 ^ n ≤ 64)
 small n h = let most : 2 ^ n ≤ 2 ^ 6 = pow_mono h in let least : 0 < 2 ^ n = pow_pos n in (omega arith, omega arith)
 
-module _ {K V I O : Type 0} (cmp : K → K → Ordering) (f : Meanings K V I O) (code : K → ℕ) (config : Config) (within : IsWithinLimits config) where
+module _ {K V I O : Type 0} (cmp : K → K → Ordering) (f : Meanings K V I O) (code : K → ℕ) (config : Config) (size : ℕ) (within : IsWithinLimits config size) where
   views : List (PartitionView K V I)
-  views = empty_partitions config (2 ^ config.partition_bits)
+  views = empty_partitions config size (2 ^ config.partition_bits)
 
-  sized : length (empty_partitions {K = K} {V = V} {I = I} config (2 ^ config.partition_bits)) ≡ 2 ^ config.partition_bits
-  sized = length-map-range_with_len (empty_partition config) 0 (2 ^ config.partition_bits)
+  sized : length (empty_partitions {K = K} {V = V} {I = I} config size (2 ^ config.partition_bits)) ≡ 2 ^ config.partition_bits
+  sized = length-map-range_with_len (empty_partition config size) 0 (2 ^ config.partition_bits)
 
   -- nothing is open in one
-  unasked : (p slot c : ℕ) (x : Asked K I) → asked (empty_partition {K = K} {V = V} {I = I} config p) slot c ≡ Some x → ⊥
+  unasked : (p slot c : ℕ) (x : Asked K V I) → asked (empty_partition {K = K} {V = V} {I = I} config size p) slot c ≡ Some x → ⊥
   unasked p slot c x h = off (unwrap_or (slice_get (replicate 16 false) slot) false) (replicate-false 16 slot) h
     where
       off : (b : Bool) → b ≡ false → option_map (asked_by {K = K} {V = V} {I = I}) (cond (b && nat_lt c 8) (joined (slice_get (replicate 128 None) (slot * 8 + c))) None) ≡ Some x → ⊥
       off true t k = absurd (cc)
       off false t k = absurd (cc)
 
-  none-live : (o : Option (PartitionView K V I)) (k : K) → ((v : PartitionView K V I) → o ≡ Some v → (p : ℕ) × (v ≡ empty_partition config p)) → live_at cmp o k ≡ None
+  none-live : (o : Option (PartitionView K V I)) (k : K) → ((v : PartitionView K V I) → o ≡ Some v → (p : ℕ) × (v ≡ empty_partition config size p)) → live_at cmp o k ≡ None
   none-live None k h = refl
   none-live (Some v) k h = let e = h v refl in ap (λ w. live_at cmp (Some w) k) e.1
 
-  none-asked : (o : Option (PartitionView K V I)) (slot c : ℕ) (x : Asked K I) → ((v : PartitionView K V I) → o ≡ Some v → (p : ℕ) × (v ≡ empty_partition config p)) → asked_at o slot c ≡ Some x → ⊥
+  none-asked : (o : Option (PartitionView K V I)) (slot c : ℕ) (x : Asked K V I) → ((v : PartitionView K V I) → o ≡ Some v → (p : ℕ) × (v ≡ empty_partition config size p)) → asked_at o slot c ≡ Some x → ⊥
   none-asked None slot c x h k = absurd (cc)
   none-asked (Some v) slot c x h k = let e = h v refl in unasked e.0 slot c x (ap (λ w. asked w slot c) (sym e.1) ∙ k)
 
-  pub state-empty : IsState cmp f code (empty_state config)
+  pub state-empty : IsState cmp f code (empty_state config size)
   state-empty = let b = small config.partition_bits within.partition_bits in record {
     tables = record {
       most = rw sized b.1;
@@ -89,17 +89,17 @@ module _ {K V I O : Type 0} (cmp : K → K → Ordering) (f : Meanings K V I O) 
         alone = λ i j x y t u h k a b d. absurd (cc);
         answers = λ j x t h k. absurd (cc);
       };
-      denotes = λ k. (let p = partition_of (length (empty_partitions {K = K} {V = V} {I = I} config (2 ^ config.partition_bits))) (code k) in none-live (slice_get (empty_partitions config (2 ^ config.partition_bits)) p) k (λ v h. (p, empty-at config (2 ^ config.partition_bits) p v h)));
+      denotes = λ k. (let p = partition_of (length (empty_partitions {K = K} {V = V} {I = I} config size (2 ^ config.partition_bits))) (code k) in none-live (slice_get (empty_partitions config size (2 ^ config.partition_bits)) p) k (λ v h. (p, empty-at config size (2 ^ config.partition_bits) p v h)));
       linked = record {
-        linked = λ w x h. absurd (none-asked (slice_get (empty_partitions config (2 ^ config.partition_bits)) w.partition) w.slot w.context x (λ v k. (w.partition, empty-at config (2 ^ config.partition_bits) w.partition v k)) h);
-        apart = λ w u x y h k e. absurd (none-asked (slice_get (empty_partitions config (2 ^ config.partition_bits)) w.partition) w.slot w.context x (λ v q. (w.partition, empty-at config (2 ^ config.partition_bits) w.partition v q)) h);
+        linked = λ w x h. absurd (none-asked (slice_get (empty_partitions config size (2 ^ config.partition_bits)) w.partition) w.slot w.context x (λ v k. (w.partition, empty-at config size (2 ^ config.partition_bits) w.partition v k)) h);
+        apart = λ w u x y h k e. absurd (none-asked (slice_get (empty_partitions config size (2 ^ config.partition_bits)) w.partition) w.slot w.context x (λ v q. (w.partition, empty-at config size (2 ^ config.partition_bits) w.partition v q)) h);
       };
       housed = record {
         some = rw sized b.0;
-        numbered = λ p v h. ap (λ (z : PartitionView K V I). z.number) (empty-at config (2 ^ config.partition_bits) p v h);
-        counted = λ p v h. ap (λ (z : PartitionView K V I). z.count) (empty-at config (2 ^ config.partition_bits) p v h) ∙ sym sized;
-        past = λ p v h. (let e = ap (λ (z : PartitionView K V I). z.moment) (empty-at config (2 ^ config.partition_bits) p v h) in omega arith);
-        routed = λ w x h. absurd (none-asked (slice_get (empty_partitions config (2 ^ config.partition_bits)) w.partition) w.slot w.context x (λ v k. (w.partition, empty-at config (2 ^ config.partition_bits) w.partition v k)) h);
+        numbered = λ p v h. ap (λ (z : PartitionView K V I). z.number) (empty-at config size (2 ^ config.partition_bits) p v h);
+        counted = λ p v h. ap (λ (z : PartitionView K V I). z.count) (empty-at config size (2 ^ config.partition_bits) p v h) ∙ sym sized;
+        past = λ p v h. (let e = ap (λ (z : PartitionView K V I). z.moment) (empty-at config size (2 ^ config.partition_bits) p v h) in omega arith);
+        routed = λ w x h. absurd (none-asked (slice_get (empty_partitions config size (2 ^ config.partition_bits)) w.partition) w.slot w.context x (λ v k. (w.partition, empty-at config size (2 ^ config.partition_bits) w.partition v k)) h);
       };
     };
   }

@@ -6,10 +6,10 @@ use Rattle.std.proofs.lemmas.Slice.Eq.{bytes_eq-Decides}
 use Rattle.std.proofs.lemmas.Option.{same_Some}
 use Rattle.fkv_functions.specs.declared.names.Name.{Name}
 use Rattle.fkv_operations.specs.declared.operations.Op.{Op}
-use Rattle.fkv_operations.specs.declared.operations.Op.TheVariants.{Read, Rmw}
+use Rattle.fkv_operations.specs.declared.operations.Op.TheVariants.{Read, Upsert, Rmw, Delete}
 use Rattle.fkv_steps.specs.Words.{number_of, amount_of}
 use Rattle.fkv_steps.specs.Grammar.{Token, word, number, key, amount, Spells, SpellAll, Spelled, HasText, ReadsWithZero, place, verb, operands, tokens, opening, functions_name}
-use Rattle.fkv_steps.specs.Reading.{◌>>=◌, first_as, end_of, key_of, place_of, enter_of, leave_of, operation_of, issue_of, do_of, line_of, functions_of, store_of, opening_of}
+use Rattle.fkv_steps.specs.Reading.{◌>>=◌, first_as, end_of, key_of, key_alone, key_and_amount, place_of, enter_of, leave_of, operation_of, issue_of, do_of, line_of, functions_of, store_of, opening_of}
 use Rattle.fkv_steps.specs.declared.scripts.lines.FunctionsName.{FunctionsName}
 use Rattle.fkv_steps.specs.declared.scripts.lines.FunctionsName.TheVariants.{Count, Sum, Max}
 use Rattle.fkv_steps.specs.declared.scripts.lines.Opening.{Opening}
@@ -50,22 +50,32 @@ leave_only p s ws h =
     let b = takes_number s [] a.0 a.2 in
     rw (a.1, b.1) (ends b.0 (Leave p s) b.2)
 
-operation_only : (o : Op Name ℤ) (v : List ℕ) (ws : List (List ℕ)) → ReadsWithZero o → Spells v (verb o) → SpellAll ws (operands o) → operation_of v ws ≡ Some o
-unfolding operation_of
-operation_only (Read k i) v ws z e s = let a = takes key_of k (key k) [] ws (key_only k) s in rw (e, a.1, z) (ends a.0 (Read k (pos 0)) a.2)
-operation_only (Rmw k n) v ws z e s =
+key_alone_only : (k : Name) (ws : List (List ℕ)) → SpellAll ws (key k ∷ []) → key_alone ws ≡ Some k
+unfolding key_alone
+key_alone_only k ws s = let a = takes key_of k (key k) [] ws (key_only k) s in rw a.1 (ends a.0 k a.2)
+
+key_and_amount_only : (k : Name) (n : ℤ) (ws : List (List ℕ)) → SpellAll ws (key k ∷ amount n ∷ []) → key_and_amount ws ≡ Some (k, n)
+unfolding key_and_amount
+key_and_amount_only k n ws s =
     let a = takes key_of k (key k) (amount n ∷ []) ws (key_only k) s in
     let b = takes amount_of n (amount n) [] a.0 (λ w f. f) a.2 in
-    rw (e, a.1, b.1) (ends b.0 (Rmw k n) b.2)
+    rw (a.1, b.1) (ends b.0 (k, n) b.2)
 
-issue_only : (p s : ℕ) (o : Op Name ℤ) (v : List ℕ) (ws : List (List ℕ)) → ReadsWithZero o → Spells v (verb o) → SpellAll ws (number p ∷ number s ∷ operands o) → issue_of v ws ≡ Some (Issue p s o)
+operation_only : (o : Op Name ℤ ℤ) (v : List ℕ) (ws : List (List ℕ)) → ReadsWithZero o → Spells v (verb o) → SpellAll ws (operands o) → operation_of v ws ≡ Some o
+unfolding operation_of
+operation_only (Read k i) v ws z e s = rw (e, key_alone_only k ws s, z) refl
+operation_only (Upsert k n) v ws z e s = rw (e, key_and_amount_only k n ws s) refl
+operation_only (Rmw k n) v ws z e s = rw (e, key_and_amount_only k n ws s) refl
+operation_only (Delete k) v ws z e s = rw (e, key_alone_only k ws s) refl
+
+issue_only : (p s : ℕ) (o : Op Name ℤ ℤ) (v : List ℕ) (ws : List (List ℕ)) → ReadsWithZero o → Spells v (verb o) → SpellAll ws (number p ∷ number s ∷ operands o) → issue_of v ws ≡ Some (Issue p s o)
 unfolding issue_of
 issue_only p s o v ws z e h =
     let a = takes_number p (number s ∷ operands o) ws h in
     let b = takes_number s (operands o) a.0 a.2 in
     rw (a.1, b.1, operation_only o v b.0 z e b.2) refl
 
-do_only : (p s : ℕ) (o : Op Name ℤ) (ws : List (List ℕ)) → ReadsWithZero o → SpellAll ws (number p ∷ number s ∷ verb o ∷ operands o) → do_of ws ≡ Some (Do p s o)
+do_only : (p s : ℕ) (o : Op Name ℤ ℤ) (ws : List (List ℕ)) → ReadsWithZero o → SpellAll ws (number p ∷ number s ∷ verb o ∷ operands o) → do_of ws ≡ Some (Do p s o)
 unfolding do_of
 do_only p s o ws z h =
     let a = takes_number p (number s ∷ verb o ∷ operands o) ws h in
@@ -89,9 +99,11 @@ only (Ready p) (v ∷ ws) h = rw (h.0.0, place_only p ws h.0.1) refl
 only (Finish p) (v ∷ ws) h = rw (h.0.0, place_only p ws h.0.1) refl
 only (Issue p s o) (v ∷ ws) h = issued o h.1 h.0.0 h.0.1
   where
-    issued : (o : Op Name ℤ) → ReadsWithZero o → Spells v (verb o) → SpellAll ws (number p ∷ number s ∷ operands o) → line_of (v ∷ ws) ≡ Some (Issue p s o)
+    issued : (o : Op Name ℤ ℤ) → ReadsWithZero o → Spells v (verb o) → SpellAll ws (number p ∷ number s ∷ operands o) → line_of (v ∷ ws) ≡ Some (Issue p s o)
     issued (Read k i) z e f = rw e (issue_only p s (Read k i) (codes "read") ws z refl f)
+    issued (Upsert k n) z e f = rw e (issue_only p s (Upsert k n) (codes "upsert") ws z refl f)
     issued (Rmw k n) z e f = rw e (issue_only p s (Rmw k n) (codes "rmw") ws z refl f)
+    issued (Delete k) z e f = rw e (issue_only p s (Delete k) (codes "delete") ws z refl f)
 only (Enter p) [] h = absurd h.0
 only (Leave p s) [] h = absurd h.0
 only (Do p s o) [] h = absurd h.0
@@ -189,25 +201,45 @@ chosen false x y z e f g = g e
 same_text : (v w : List ℕ) → bytes_eq v w ≡ true → v ≡ w
 same_text v w e = (bytes_eq-Decides v w).0 e
 
-operation_found : (v : List ℕ) (ws : List (List ℕ)) (o : Op Name ℤ) → operation_of v ws ≡ Some o → Spells v (verb o) × SpellAll ws (operands o) × ReadsWithZero o
+key_alone_found : (ws : List (List ℕ)) (k : Name) → key_alone ws ≡ Some k → SpellAll ws (key k ∷ [])
+unfolding key_alone
+key_alone_found ws k e =
+    let a = bind_ok _ _ k e in
+    let b = ended a.0.1 a.0.0 k a.2 in
+    rw (← b.1) (taken key_of key key_found ws a.0 a.1 [] b.0)
+
+key_and_amount_found : (ws : List (List ℕ)) (p : Name × ℤ) → key_and_amount ws ≡ Some p → SpellAll ws (key p.0 ∷ amount p.1 ∷ [])
+unfolding key_and_amount
+key_and_amount_found ws p e =
+    let a = bind_ok _ _ p e in
+    let b = bind_ok _ _ p a.2 in
+    let d = ended b.0.1 (a.0.0, b.0.0) p b.2 in
+    rw (← d.1) (taken key_of key key_found ws a.0 a.1 (amount b.0.0 ∷ []) (taken amount_of amount (λ w x k. k) a.0.1 b.0 b.1 [] d.0))
+
+-- what was read, and what was made of it
+mapped : {A B : Type 0} (o : Option A) (f : A → B) (y : B) → option_map f o ≡ Some y → (x : A) × (o ≡ Some x) × (f x ≡ y)
+mapped None f y e = absurd (let bad : None ≡ Some y = e in cc)
+mapped (Some x) f y e = (x, refl, same_Some (f x) y e)
+
+operation_found : (v : List ℕ) (ws : List (List ℕ)) (o : Op Name ℤ ℤ) → operation_of v ws ≡ Some o → Spells v (verb o) × SpellAll ws (operands o) × ReadsWithZero o
 unfolding operation_of
 operation_found v ws o e =
     chosen (bytes_eq v (codes "read")) _ _ (Some o) e
-    (λ t f. let a = bind_ok _ _ o f in let b = ended a.0.1 (Read a.0.0 (pos 0)) o a.2 in rw (← b.1) (same_text v (codes "read") t, taken key_of key key_found ws a.0 a.1 [] b.0, refl))
+    (λ t f. let a = mapped (key_alone ws) (λ k. Read k (pos 0)) o f in rw (← a.2) (same_text v (codes "read") t, key_alone_found ws a.0 a.1, refl))
+    (λ f. chosen (bytes_eq v (codes "upsert")) _ _ (Some o) f
+    (λ t g. let a = mapped (key_and_amount ws) (λ p. Upsert p.0 p.1) o g in rw (← a.2) (same_text v (codes "upsert") t, key_and_amount_found ws a.0 a.1, tt))
     (λ f. chosen (bytes_eq v (codes "rmw")) _ _ (Some o) f
-    (λ t g.
-    let a = bind_ok _ _ o g in
-    let b = bind_ok _ _ o a.2 in
-    let d = ended b.0.1 (Rmw a.0.0 b.0.0) o b.2 in
-    rw (← d.1) (same_text v (codes "rmw") t, taken key_of key key_found ws a.0 a.1 (amount b.0.0 ∷ []) (taken amount_of amount (λ w x k. k) a.0.1 b.0 b.1 [] d.0), tt))
-    (λ g. absurd (let bad : None ≡ Some o = g in cc)))
+    (λ t g. let a = mapped (key_and_amount ws) (λ p. Rmw p.0 p.1) o g in rw (← a.2) (same_text v (codes "rmw") t, key_and_amount_found ws a.0 a.1, tt))
+    (λ f. chosen (bytes_eq v (codes "delete")) _ _ (Some o) f
+    (λ t g. let a = mapped (key_alone ws) Delete o g in rw (← a.2) (same_text v (codes "delete") t, key_alone_found ws a.0 a.1, tt))
+    (λ g. absurd (let bad : None ≡ Some o = g in cc)))))
 
 issue_found : (v : List ℕ) (ws : List (List ℕ)) (l : Line) → issue_of v ws ≡ Some l → Spelled (v ∷ ws) l
 unfolding issue_of
 issue_found v ws l e =
     let a = bind_ok {A = ℕ × List (List ℕ)} (first_as number_of ws) _ l e in
     let b = bind_ok {A = ℕ × List (List ℕ)} (first_as number_of a.0.1) _ l a.2 in
-    let c = bind_ok {A = Op Name ℤ} (operation_of v b.0.1) _ l b.2 in
+    let c = bind_ok {A = Op Name ℤ ℤ} (operation_of v b.0.1) _ l b.2 in
     let o = operation_found v b.0.1 c.0 c.1 in
     let same : Issue a.0.0 b.0.0 c.0 ≡ l = same_Some (Issue a.0.0 b.0.0 c.0) l c.2 in
     rw (← same) ((o.0, taken_number ws a.0 a.1 _ (taken_number a.0.1 b.0 b.1 _ o.1)), o.2)
@@ -218,7 +250,7 @@ do_found ws l e v t =
     let a = bind_ok {A = ℕ × List (List ℕ)} (first_as number_of ws) _ l e in
     let b = bind_ok {A = ℕ × List (List ℕ)} (first_as number_of a.0.1) _ l a.2 in
     let c = bind_ok {A = List ℕ × List (List ℕ)} (first_as Some b.0.1) _ l b.2 in
-    let d = bind_ok {A = Op Name ℤ} (operation_of c.0.0 c.0.1) _ l c.2 in
+    let d = bind_ok {A = Op Name ℤ ℤ} (operation_of c.0.0 c.0.1) _ l c.2 in
     let o = operation_found c.0.0 c.0.1 d.0 d.1 in
     let same : Do a.0.0 b.0.0 d.0 ≡ l = same_Some (Do a.0.0 b.0.0 d.0) l d.2 in
     rw (← same) ((t, taken_number ws a.0 a.1 (number b.0.0 ∷ verb d.0 ∷ operands d.0) (taken_number a.0.1 b.0 b.1 (verb d.0 ∷ operands d.0) (first_word b.0.1 c.0 c.1 (verb d.0) (operands d.0) o.0 o.1))), o.2)
@@ -245,10 +277,6 @@ found (v ∷ ws) l e =
     (λ f. chosen (bytes_eq v (codes "ready")) _ _ (Some l) f (λ t g. placed_found Ready (codes "ready") (λ p. refl) (λ p. tt) ws l g v (same_text v (codes "ready") t))
     (λ f. chosen (bytes_eq v (codes "finish")) _ _ (Some l) f (λ t g. placed_found Finish (codes "finish") (λ p. refl) (λ p. tt) ws l g v (same_text v (codes "finish") t))
     (λ f. issue_found v ws l f))))))))
-
-pub found_if : (ws : List (List ℕ)) (o : Option Line) → o ≡ line_of ws → IfSome o (λ l. Spelled ws l)
-found_if ws None e = tt
-found_if ws (Some l) e = found ws l (sym e)
 
 functions_found : (w : List ℕ) (f : FunctionsName) → functions_of w ≡ Some f → Spells w (functions_name f)
 unfolding functions_of

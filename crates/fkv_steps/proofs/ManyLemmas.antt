@@ -1,5 +1,5 @@
 -- A step of one partition, seen in the world.
-use Rattle.std.proofs.Common.{◌≡◌, ◌≢◌, Bool, true, false, cond, ℕ, ◌⊎◌, inl, inr, List, length, Option, Some, slice_get, slice_set, refl, sym, ◌∙◌, ap}
+use Rattle.std.proofs.Common.{◌≡◌, ◌≢◌, Bool, true, false, cond, ℕ, ◌⊎◌, inl, inr, List, length, Option, Some, None, slice_get, slice_set, refl, sym, ◌∙◌, ap}
 use Rattle.std.proofs.lemmas.Bool.{cases_eq}
 use Rattle.std.proofs.lemmas.List.{length-set}
 use Rattle.std.specs.declared.cmp.Ordering.{Ordering}
@@ -8,7 +8,7 @@ use Rattle.fkv_functions.specs.Meanings.{Meanings, updated}
 use Rattle.fkv_functions.specs.Plain.{Same, with_at, IsKeyOrder}
 use Rattle.fkv_operations.specs.After.{after, answer, key_of, shown_of}
 use Rattle.fkv_operations.specs.declared.operations.Op.{Op}
-use Rattle.fkv_operations.specs.declared.operations.Op.TheVariants.{Read, Rmw}
+use Rattle.fkv_operations.specs.declared.operations.Op.TheVariants.{Read, Upsert, Rmw, Delete}
 use Rattle.fkv_partition.specs.Views.{PartitionView, live_of, partition_of}
 use Rattle.fkv_partition.specs.Effect.{asked}
 use Rattle.fkv_partition.proofs.ListLemmas.{get-set_same, get-set_other}
@@ -53,14 +53,18 @@ module _ {K V I O : Type 0} (cmp : K → K → Ordering) (o : IsKeyOrder cmp) (f
       off false t n = rw t refl
 
   -- an operation with its key here does to the world what it does to the partition
-  pub live-after : (op : Op K I) → partition_of (length views) (code (key_of op)) ≡ p → Same (live_of cmp new) (after cmp f (live_of cmp old) op) → Same (world_live cmp code (slice_set views p new)) (after cmp f (world_live cmp code views) op)
+  pub live-after : (op : Op K V I) → partition_of (length views) (code (key_of op)) ≡ p → Same (live_of cmp new) (after cmp f (live_of cmp old) op) → Same (world_live cmp code (slice_set views p new)) (after cmp f (world_live cmp code views) op)
   live-after (Read k i) r h = live-quiet h
+  live-after (Upsert k v) r h = live-with_at k (Some v) r h
   live-after (Rmw k i) r h = λ q. live-with_at k (Some (updated f k i (live_of cmp old k))) r h q ∙ ap (λ v. cond (is_at (cmp k) q) (Some (updated f k i v)) (world_live cmp code views q)) (sym (live-here k r))
+  live-after (Delete k) r h = live-with_at k None r h
 
   -- and answers the same
-  pub answer-here : (op : Op K I) → partition_of (length views) (code (key_of op)) ≡ p → answer f (live_of cmp old) op ≡ answer f (world_live cmp code views) op
+  pub answer-here : (op : Op K V I) → partition_of (length views) (code (key_of op)) ≡ p → answer f (live_of cmp old) op ≡ answer f (world_live cmp code views) op
   answer-here (Read k i) r = ap (shown_of f k i) (sym (live-here k r))
+  answer-here (Upsert k v) r = refl
   answer-here (Rmw k i) r = ap (λ (m : Option V). answer f (λ q. m) (Rmw k i)) (sym (live-here k r))
+  answer-here (Delete k) r = refl
 
 -- ---- what the contexts of a world ask
 module _ {K V I : Type 0} (views : List (PartitionView K V I)) (p : ℕ) (old new : PartitionView K V I) (here : slice_get views p ≡ Some old) where

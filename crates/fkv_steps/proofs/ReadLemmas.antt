@@ -6,31 +6,32 @@ use Rattle.std.proofs.lemmas.List.{take_all, length-take, append-nil, take-appen
 use Rattle.std.specs.List.{onto_first}
 use Rattle.std.specs.Io.KnownBytes.{IsAtEnd, prepend_known}
 use Rattle.std.specs.Io.BufRead.{take_through, drop_through, DropsThrough}
-use Rattle.fkv_steps.specs.Grammar.{Says, Opens}
+use Rattle.fkv_steps.specs.Grammar.{Opens}
+use Rattle.fkv_steps.specs.declared.scripts.lines.FunctionsName.{FunctionsName}
 use Rattle.fkv_steps.specs.declared.scripts.lines.Line.{Line}
 use Rattle.fkv_steps.specs.declared.scripts.lines.Opening.{Opening}
-use Rattle.fkv_steps.specs.Script.{is_line_end, lines_of, SayAll, SaysScript, IsBadLine, IsBadAt}
+use Rattle.fkv_steps.specs.Script.{is_line_end, lines_of, SaysTo, SayAll, SaysScript, IsBadLine, IsBadAt}
 
-pub say-more : (front : List (List ℕ)) (ls : List Line) (bytes : List ℕ) (l : Line) → SayAll front ls → Says bytes l → SayAll (front ++ (bytes ∷ [])) (ls ++ (l ∷ []))
-say-more [] [] bytes l s h = (h, tt)
-say-more [] (k ∷ ks) bytes l s h = absurd s
-say-more (b ∷ bs) [] bytes l s h = absurd s
-say-more (b ∷ bs) (k ∷ ks) bytes l s h = (s.0, say-more bs ks bytes l s.1 h)
+pub say-more : (f : FunctionsName) (front : List (List ℕ)) (ls : List Line) (bytes : List ℕ) (l : Line) → SayAll f front ls → SaysTo f bytes l → SayAll f (front ++ (bytes ∷ [])) (ls ++ (l ∷ []))
+say-more f [] [] bytes l s h = (h, tt)
+say-more f [] (k ∷ ks) bytes l s h = absurd s
+say-more f (b ∷ bs) [] bytes l s h = absurd s
+say-more f (b ∷ bs) (k ∷ ks) bytes l s h = (s.0, say-more f bs ks bytes l s.1 h)
 
-pub say-length : (front : List (List ℕ)) (ls : List Line) → SayAll front ls → length front ≡ length ls
-say-length [] [] s = refl
-say-length [] (k ∷ ks) s = absurd s
-say-length (b ∷ bs) [] s = absurd s
-say-length (b ∷ bs) (k ∷ ks) s = ap suc (say-length bs ks s.1)
+pub say-length : (f : FunctionsName) (front : List (List ℕ)) (ls : List Line) → SayAll f front ls → length front ≡ length ls
+say-length f [] [] s = refl
+say-length f [] (k ∷ ks) s = absurd s
+say-length f (b ∷ bs) [] s = absurd s
+say-length f (b ∷ bs) (k ∷ ks) s = ap suc (say-length f bs ks s.1)
 
 -- nothing is left, and so the lines before are all
-pub said-all : (text rest : List ℕ) (limit : ℕ) (front : List (List ℕ)) (ls : List Line) → lines_of text ≡ front ++ lines_of rest → SayAll front ls → length ls < limit → (length rest == 0) ≡ true
-    → SayAll (lines_of text) ls × (length (lines_of text) < limit)
-said-all text [] limit front ls e s h z =
-    let size : length front ≡ length ls = say-length front ls s in
+pub said-all : (f : FunctionsName) (text rest : List ℕ) (limit : ℕ) (front : List (List ℕ)) (ls : List Line) → lines_of text ≡ front ++ lines_of rest → SayAll f front ls → length ls < limit → (length rest == 0) ≡ true
+    → SayAll f (lines_of text) ls × (length (lines_of text) < limit)
+said-all f text [] limit front ls e s h z =
+    let size : length front ≡ length ls = say-length f front ls s in
     let whole : lines_of text ≡ front = e ∙ append-nil front in
     rw whole (s, omega arith)
-said-all text (b ∷ bs) limit front ls e s h z = absurd (let none : length (b ∷ bs) ≡ 0 = grind (arith, nat_tests) in omega arith)
+said-all f text (b ∷ bs) limit front ls e s h z = absurd (let none : length (b ∷ bs) ≡ 0 = grind (arith, nat_tests) in omega arith)
 
 -- a first line that opens no store, or is one too many
 pub bad-first : (limit n : ℕ) (lines : List (List ℕ)) (first : List ℕ) (more : List (List ℕ)) → lines ≡ first ∷ more → 1 ≡ n → ((o : Opening) → Opens first o → ⊥) ⊎ (0 ≡ limit) → IsBadAt limit lines n

@@ -23,7 +23,7 @@ use Rattle.fkv_steps.specs.Worlds.{live_at, world_live}
 use Rattle.fkv_steps.specs.Reports.{with_all, IsKept, RunsTo}
 
 -- ---- steps in turn
-pub runs-append : {K V I O : Type 0} (cmp : K → K → Ordering) (f : Meanings K V I O) (code : K → ℕ) (v u w : WorldView K V I O) (ss : List (Step K I)) (s : Step K I) (r : Result (Outcome V O) Refused)
+pub runs-append : {K V I O : Type 0} (cmp : K → K → Ordering) (f : Meanings K V I O) (code : K → ℕ) (v u w : WorldView K V I O) (ss : List (Step K V I)) (s : Step K V I) (r : Result (Outcome V O) Refused)
     → RunsTo cmp f code v ss u → IsKept cmp f code u w s r → RunsTo cmp f code v (ss ++ s ∷ []) w
 runs-append cmp f code v u w [] s r run kept = (w, r, subst (λ x. IsKept cmp f code x w s r) run kept, refl)
 runs-append cmp f code v u w (t ∷ ss) s r run kept = (run.0, run.1, run.2, runs-append cmp f code run.0 u w ss s r run.3 kept)

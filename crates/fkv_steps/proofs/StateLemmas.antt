@@ -42,9 +42,9 @@ set-unchanged [] i x y h e = refl
 set-unchanged (z ∷ zs) zero x y h e = let same : y ≡ z = cc in ap (λ q. q ∷ zs) same
 set-unchanged (z ∷ zs) (suc i) x y h e = ap (λ qs. z ∷ qs) (set-unchanged zs i x y h e)
 
-pub ended-set : {K I O : Type 0} (lives : List (Life K I O)) (j : ℕ) (x : Life K I O) (e : End O) → slice_get lives j ≡ Some x → slice_set lives j (record x { end = e }) ≡ ended_at lives j e
+pub ended-set : {K V I O : Type 0} (lives : List (Life K V I O)) (j : ℕ) (x : Life K V I O) (e : End O) → slice_get lives j ≡ Some x → slice_set lives j (record x { end = e }) ≡ ended_at lives j e
 ended-set [] j x e h = refl
-ended-set (y ∷ ys) zero x e h = let same : x ≡ y = cc in ap (λ (z : Life _ _ _). record z { end = e } ∷ ys) same
+ended-set (y ∷ ys) zero x e h = let same : x ≡ y = cc in ap (λ (z : Life _ _ _ _). record z { end = e } ∷ ys) same
 ended-set (y ∷ ys) (suc j) x e h = ap (λ qs. y ∷ qs) (ended-set ys j x e h)
 
 -- what `?` answers
@@ -111,7 +111,7 @@ module _ {K V I O : Type 0} (cmp : K → K → Ordering) (o : IsKeyOrder cmp) (f
   }
 
   -- the tables, where the partition changes alone
-  tables-moved : (p : ℕ) (new : PartitionView K V I) (lives : List (Life K I O)) → HasTables (record s { partitions = slice_set s.partitions p new; lives = lives; moment = next })
+  tables-moved : (p : ℕ) (new : PartitionView K V I) (lives : List (Life K V I O)) → HasTables (record s { partitions = slice_set s.partitions p new; lives = lives; moment = next })
   tables-moved p new lives = record {
     most = rw (length-set s.partitions p new) state.tables.most;
     begun = rw (length-set s.partitions p new) state.tables.begun;
@@ -135,7 +135,7 @@ module _ {K V I O : Type 0} (cmp : K → K → Ordering) (o : IsKeyOrder cmp) (f
     tables = tables-moved w.partition new (ended_at s.lives (life_in s.begun w) GivenUp);
   }
 
-  pub state-issue : (p slot c : ℕ) (op : Op K I) (seat : Seat) (old new : PartitionView K V I) → slice_get s.partitions p ≡ Some old → IsIssue code old new slot c op next
+  pub state-issue : (p slot c : ℕ) (op : Op K V I) (seat : Seat) (old new : PartitionView K V I) → slice_get s.partitions p ≡ Some old → IsIssue code old new slot c op next
       → slot < 16 → c < 8 → slice_get s.seats (seat_row p slot) ≡ Some seat
       → IsState cmp f code (record s {
         partitions = slice_set s.partitions p new;
@@ -168,7 +168,7 @@ module _ {K V I O : Type 0} (cmp : K → K → Ordering) (o : IsKeyOrder cmp) (f
         };
       }
 
-  pub tables-progress : (p row : ℕ) (new : PartitionView K V I) (progress : Progress K V I O) (lives : List (Life K I O))
+  pub tables-progress : (p row : ℕ) (new : PartitionView K V I) (progress : Progress K V I O) (lives : List (Life K V I O))
       → HasTables (record s { partitions = slice_set s.partitions p new; questions = questions_by s.questions row progress; lives = lives; moment = next })
   tables-progress p row new progress lives = record {
     most = rw (length-set s.partitions p new) state.tables.most;
@@ -187,7 +187,7 @@ module _ {K V I O : Type 0} (cmp : K → K → Ordering) (o : IsKeyOrder cmp) (f
 
   module _ (w : Place) (old new : PartitionView K V I) (here : slice_get s.partitions w.partition ≡ Some old) where
     -- the life of an open operation stands in the list
-    pub life-within : (x : Asked K I) → asked old w.slot w.context ≡ Some x → life_in s.begun w < length s.lives
+    pub life-within : (x : Asked K V I) → asked old w.slot w.context ≡ Some x → life_in s.begun w < length s.lives
     life-within x h = let l = state.world.linked.linked w x (asked-was s.partitions w.partition old new here w.slot w.context ∙ h) in slice_get_within s.lives (life_in s.begun w) l.life l.here
 
     pub world-progress : (progress : Progress K V I O) → IsEvent cmp f old new w.slot w.context next progress

@@ -11,7 +11,7 @@ use Rattle.fkv_operations.specs.AfterLaws.{same_map}
 use Rattle.fkv_operations.specs.declared.operations.Op.{Op}
 use Rattle.fkv_operations.specs.declared.operations.Answer.{Answer}
 use Rattle.fkv_partition.specs.Views.{PartitionView, live_of, partition_of}
-use Rattle.fkv_partition.specs.Text.{live}
+use Rattle.fkv_hybrid.specs.Text.{live}
 use Rattle.fkv_partition.specs.Effect.{Asked, asked, LeavesOthers, IsEnter, IsLeave, IsIssue, IsGiveUp}
 use Rattle.fkv_partition.proofs.ListLemmas.{get-set_cases, get-append_last}
 use Rattle.fkv_steps.specs.declared.lives.Life.{Life}
@@ -37,16 +37,16 @@ same_where w u = elim (cases_eq w.partition u.partition) [
 ]
 
 -- a life that stands in a longer list, or beside one that ends
-open-append : {K I O : Type 0} (lives : List (Life K I O)) (y : Life K I O) (j : ℕ) (x : Asked K I) → IsOpenLife lives j x → IsOpenLife (lives ++ y ∷ []) j x
+open-append : {K V I O : Type 0} (lives : List (Life K V I O)) (y : Life K V I O) (j : ℕ) (x : Asked K V I) → IsOpenLife lives j x → IsOpenLife (lives ++ y ∷ []) j x
 open-append lives y j x l = record { life = l.life; here = append_old lives y j l.life l.here; op = l.op; issue = l.issue; unended = l.unended }
 
-module _ {K V I O : Type 0} (cmp : K → K → Ordering) (o : IsKeyOrder cmp) (f : Meanings K V I O) (code : K → ℕ) (views : List (PartitionView K V I)) (life_at : Place → ℕ) (lives : List (Life K I O)) (now next : ℕ) (e : next ≡ suc now) (world : IsWorld cmp f code views life_at lives now) where
+module _ {K V I O : Type 0} (cmp : K → K → Ordering) (o : IsKeyOrder cmp) (f : Meanings K V I O) (code : K → ℕ) (views : List (PartitionView K V I)) (life_at : Place → ℕ) (lives : List (Life K V I O)) (now next : ℕ) (e : next ≡ suc now) (world : IsWorld cmp f code views life_at lives now) where
   live-then : world_live cmp code views ≡ map_before cmp f lives (suc now)
   live-then = same_map (world_live cmp code views) (map_before cmp f lives (suc now)) world.denotes
 
   module _ (p : ℕ) (old new : PartitionView K V I) (here : slice_get views p ≡ Some old) (number : new.number ≡ old.number) (count : new.count ≡ old.count) (moment : new.moment ≡ next) where
     -- the partitions stay where they are
-    housed-set : ((w : Place) (x : Asked K I) → asked_in (slice_set views p new) w ≡ Some x → partition_of (length views) (code (key_of x.op)) ≡ w.partition) → IsHoused code (slice_set views p new) next
+    housed-set : ((w : Place) (x : Asked K V I) → asked_in (slice_set views p new) w ≡ Some x → partition_of (length views) (code (key_of x.op)) ≡ w.partition) → IsHoused code (slice_set views p new) next
     housed-set routed = record {
       some = rw (length-set views p new) world.housed.some;
       numbered = λ q v h. elim (get-set_cases views p q new v h) [
@@ -85,7 +85,7 @@ module _ {K V I O : Type 0} (cmp : K → K → Ordering) (o : IsKeyOrder cmp) (f
   world-leave p old new here ev = world-quiet p old new here ev.number ev.count ev.moment (λ k. ap (λ t. live cmp t k) ev.text) (asked-all views p old new here ev.same)
 
   -- an operation is issued: one more life, at the end
-  module _ (p : ℕ) (old new : PartitionView K V I) (slot c : ℕ) (op : Op K I) (here : slice_get views p ≡ Some old) (ev : IsIssue code old new slot c op next) (begun : Life K I O) (is : begun.op ≡ op) (at : begun.issue ≡ next) (unended : begun.end ≡ Open)
+  module _ (p : ℕ) (old new : PartitionView K V I) (slot c : ℕ) (op : Op K V I) (here : slice_get views p ≡ Some old) (ev : IsIssue code old new slot c op next) (begun : Life K V I O) (is : begun.op ≡ op) (at : begun.issue ≡ next) (unended : begun.end ≡ Open)
       (life_at' : Place → ℕ) (place : life_at' (record { partition = p; slot = slot; context = c }) ≡ length lives) (places : (u : Place) → u ≢ record { partition = p; slot = slot; context = c } → life_at' u ≡ life_at u) where
     there : Place
     there = record { partition = p; slot = slot; context = c }
@@ -99,19 +99,19 @@ module _ {K V I O : Type 0} (cmp : K → K → Ordering) (o : IsKeyOrder cmp) (f
     elsewhere : (u : Place) → u ≢ record { partition = p; slot = slot; context = c } → asked_in (slice_set views p new) u ≡ asked_in views u
     elsewhere = asked-others views p old new here slot c ev.frame.others
 
-    is_new : (x : Asked K I) → asked_in (slice_set views p new) (record { partition = p; slot = slot; context = c }) ≡ Some x → record { number = next; op = op } ≡ x
+    is_new : (x : Asked K V I) → asked_in (slice_set views p new) (record { partition = p; slot = slot; context = c }) ≡ Some x → record { number = next; op = op } ≡ x
     is_new x h = let k : Some (record { number = next; op = op }) ≡ Some x = sym opened ∙ h in cc
 
     fresh : IsOpenLife (lives ++ begun ∷ []) (length lives) (record { number = next; op = op })
     fresh = record { life = begun; here = get-append_last lives begun; op = is; issue = at; unended = unended }
 
-    old_place : (u : Place) (x : Asked K I) → asked_in views u ≡ Some x → life_at u < length lives
+    old_place : (u : Place) (x : Asked K V I) → asked_in views u ≡ Some x → life_at u < length lives
     old_place u x h = let l = world.linked.linked u x h in slice_get_within lives (life_at u) l.life l.here
 
     linked-issue : IsLinked (asked_in (slice_set views p new)) life_at' (lives ++ begun ∷ [])
     linked-issue = record {
       linked = λ u x h. elim (same_where u (record { partition = p; slot = slot; context = c })) [
-        | inl s ↦ rw (ap life_at' s ∙ place) (subst (λ (y : Asked K I). IsOpenLife (lives ++ begun ∷ []) (length lives) y) (is_new x (ap (asked_in (slice_set views p new)) (sym s) ∙ h)) fresh)
+        | inl s ↦ rw (ap life_at' s ∙ place) (subst (λ (y : Asked K V I). IsOpenLife (lives ++ begun ∷ []) (length lives) y) (is_new x (ap (asked_in (slice_set views p new)) (sym s) ∙ h)) fresh)
         | inr n ↦ rw (places u n) (open-append lives begun (life_at u) x (world.linked.linked u x (sym (elsewhere u n) ∙ h)))
       ];
       apart = λ u v x y h k q. elim (same_where u (record { partition = p; slot = slot; context = c })) [
@@ -136,7 +136,7 @@ module _ {K V I O : Type 0} (cmp : K → K → Ordering) (o : IsKeyOrder cmp) (f
       linked = linked-issue;
       housed = housed-set p old new here ev.frame.number ev.frame.count ev.frame.moment (λ u x h. elim (same_where u (record { partition = p; slot = slot; context = c })) [
         | inl s ↦ (let same = is_new x (ap (asked_in (slice_set views p new)) (sym s) ∙ h) in
-            ap (λ (y : Asked K I). partition_of (length views) (code (key_of y.op))) (sym same)
+            ap (λ (y : Asked K V I). partition_of (length views) (code (key_of y.op))) (sym same)
             ∙ ap (λ n. partition_of n (code (key_of op))) (sym (world.housed.counted p old here))
             ∙ ev.own ∙ world.housed.numbered p old here ∙ ap (λ (w : Place). w.partition) (sym s))
         | inr n ↦ world.housed.routed u x (sym (elsewhere u n) ∙ h)
@@ -144,7 +144,7 @@ module _ {K V I O : Type 0} (cmp : K → K → Ordering) (o : IsKeyOrder cmp) (f
     }
 
   -- an operation is finished: its life ends with the answer
-  module _ (p : ℕ) (old new : PartitionView K V I) (slot c : ℕ) (x : Asked K I) (a : Answer O) (here : slice_get views p ≡ Some old) (was : asked old slot c ≡ Some x) (closed : asked new slot c ≡ None) (frame : LeavesOthers old new slot c next)
+  module _ (p : ℕ) (old new : PartitionView K V I) (slot c : ℕ) (x : Asked K V I) (a : Answer O) (here : slice_get views p ≡ Some old) (was : asked old slot c ≡ Some x) (closed : asked new slot c ≡ None) (frame : LeavesOthers old new slot c next)
       (map : Same (live_of cmp new) (after cmp f (live_of cmp old) x.op)) (told : a ≡ answer f (live_of cmp old) x.op) where
     asks : asked_in views (record { partition = p; slot = slot; context = c }) ≡ Some x
     asks = asked-was views p old new here slot c ∙ was
@@ -155,10 +155,10 @@ module _ {K V I O : Type 0} (cmp : K → K → Ordering) (o : IsKeyOrder cmp) (f
     open_life : IsOpenLife lives (life_at (record { partition = p; slot = slot; context = c })) x
     open_life = world.linked.linked (record { partition = p; slot = slot; context = c }) x asks
 
-    away : (u : Place) (y : Asked K I) → asked_in (slice_set views p new) u ≡ Some y → u ≢ record { partition = p; slot = slot; context = c }
+    away : (u : Place) (y : Asked K V I) → asked_in (slice_set views p new) u ≡ Some y → u ≢ record { partition = p; slot = slot; context = c }
     away u y h s = let k : None ≡ Some y = sym (asked-here views p old new here slot c ∙ closed) ∙ ap (asked_in (slice_set views p new)) (sym s) ∙ h in absurd (cc)
 
-    then : (u : Place) (y : Asked K I) → asked_in (slice_set views p new) u ≡ Some y → asked_in views u ≡ Some y
+    then : (u : Place) (y : Asked K V I) → asked_in (slice_set views p new) u ≡ Some y → asked_in views u ≡ Some y
     then u y h = sym (asked-others views p old new here slot c frame.others u (away u y h)) ∙ h
 
     pub world-done : IsWorld cmp f code (slice_set views p new) life_at (ended_at lives (life_at (record { partition = p; slot = slot; context = c })) (Finished (record { effect = next; done = next; answer = a }))) next
@@ -190,10 +190,10 @@ module _ {K V I O : Type 0} (cmp : K → K → Ordering) (o : IsKeyOrder cmp) (f
     gives : asked_in views (record { partition = p; slot = slot; context = c }) ≡ Some ev.question
     gives = asked-was views p old new here slot c ∙ ev.was
 
-    not_here : (u : Place) (y : Asked K I) → asked_in (slice_set views p new) u ≡ Some y → u ≢ record { partition = p; slot = slot; context = c }
+    not_here : (u : Place) (y : Asked K V I) → asked_in (slice_set views p new) u ≡ Some y → u ≢ record { partition = p; slot = slot; context = c }
     not_here u y h s = let k : None ≡ Some y = sym (asked-here views p old new here slot c ∙ ev.closed) ∙ ap (asked_in (slice_set views p new)) (sym s) ∙ h in absurd (cc)
 
-    was_asked : (u : Place) (y : Asked K I) → asked_in (slice_set views p new) u ≡ Some y → asked_in views u ≡ Some y
+    was_asked : (u : Place) (y : Asked K V I) → asked_in (slice_set views p new) u ≡ Some y → asked_in views u ≡ Some y
     was_asked u y h = sym (asked-others views p old new here slot c ev.frame.others u (not_here u y h)) ∙ h
 
     pub world-give_up : IsWorld cmp f code (slice_set views p new) life_at (ended_at lives (life_at (record { partition = p; slot = slot; context = c })) GivenUp) next
@@ -215,7 +215,7 @@ module _ {K V I O : Type 0} (cmp : K → K → Ordering) (o : IsKeyOrder cmp) (f
         }
 
   -- an event that finishes nothing
-  pub world-next : (p : ℕ) (old new : PartitionView K V I) (slot c : ℕ) (x : Asked K I) → slice_get views p ≡ Some old → asked old slot c ≡ Some x → asked new slot c ≡ Some x → LeavesOthers old new slot c next → Same (live_of cmp new) (live_of cmp old)
+  pub world-next : (p : ℕ) (old new : PartitionView K V I) (slot c : ℕ) (x : Asked K V I) → slice_get views p ≡ Some old → asked old slot c ≡ Some x → asked new slot c ≡ Some x → LeavesOthers old new slot c next → Same (live_of cmp new) (live_of cmp old)
       → IsWorld cmp f code (slice_set views p new) life_at lives next
   world-next p old new slot c x here was is frame same = world-quiet p old new here frame.number frame.count frame.moment same (λ w. elim (same_where w (record { partition = p; slot = slot; context = c })) [
     | inl s ↦ ap (asked_in (slice_set views p new)) s ∙ asked-here views p old new here slot c ∙ is ∙ sym was ∙ sym (asked-was views p old new here slot c) ∙ ap (asked_in views) (sym s)

@@ -9,10 +9,17 @@ itself : (k : ℕ) → is_at (nat_cmp k) k ≡ true
 itself k = (eq_by_cmp_equiv nat_cmp_total).refl k
 
 pub refuses_invented : RefusesInvented
-refuses_invented f k i now a = (λ p. p.answers 0 _ _ refl refl, λ p. p.answers 0 _ _ refl refl)
+refuses_invented f k i v now a = (λ p. p.answers 0 _ _ refl refl, λ p. p.answers 0 _ _ refl refl, λ p. p.answers 0 _ _ refl refl, λ p. p.answers 0 _ _ refl refl)
 
 pub counts_once : CountsOnce
-counts_once f k i a = (refl, ap (λ b. cond b (Some (f.first k i)) None) (itself k), ap (λ b. cond b (Some (f.first k i)) None) (itself k), refl)
+counts_once f k i v a b = (
+  refl,
+  ap (λ t. cond t (Some (f.first k i)) None) (itself k),
+  ap (λ t. cond t (Some (f.first k i)) None) (itself k),
+  refl,
+  ap (λ t. cond t (Some v) None) (itself k),
+  ap (λ t. cond t None (cond (is_at (nat_cmp k) k) (Some v) None)) (itself k),
+)
 
 pub refuses_shared_steps : RefusesSharedSteps
 refuses_shared_steps f p q i j d e s now a b h =

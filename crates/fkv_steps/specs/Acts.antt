@@ -26,7 +26,7 @@ use Rattle.fkv_steps.specs.Changes.{ended_at}
 use Rattle.fkv_steps.specs.States.{StateView, WorldView, seat_row, context_row, life_in, question_in}
 
 -- the partition of a step
-abbrev pub partition_in : {K I : Type 0} → Step K I → ℕ
+abbrev pub partition_in : {K V I : Type 0} → Step K V I → ℕ
 partition_in (Enter p) = p
 partition_in (Leave p slot) = p
 partition_in (Issue p slot op) = p
@@ -50,11 +50,11 @@ abbrev pub after_issue : Seat → Seat
 after_issue seat = record seat { issues = suc seat.issues }
 
 -- the life that an accepted issue begins
-abbrev pub begun_life : {K I O : Type 0} → ℕ → Seat → Op K I → ℕ → Life K I O
+abbrev pub begun_life : {K V I O : Type 0} → ℕ → Seat → Op K V I → ℕ → Life K V I O
 begun_life p seat op now = record { partition = p; session = seat.session; number = suc seat.issues; op = op; issue = now; end = Open }
 
 -- one more life, which is that of its context
-abbrev pub with_life : {K V I O : Type 0} → StateView K V I O → Place → Seat → Op K I → PartitionView K V I → StateView K V I O
+abbrev pub with_life : {K V I O : Type 0} → StateView K V I O → Place → Seat → Op K V I → PartitionView K V I → StateView K V I O
 with_life s w seat op v = record (with_partition s w.partition v) {
   seats = slice_set s.seats (seat_row w.partition w.slot) (after_issue seat);
   begun = slice_set s.begun (context_row w) (length s.lives);
@@ -63,7 +63,7 @@ with_life s w seat op v = record (with_partition s w.partition v) {
 }
 
 -- the lives after a progress of the one at a place
-abbrev pub lives_by : {K V I O : Type 0} → List (Life K I O) → ℕ → ℕ → Progress K V I O → List (Life K I O)
+abbrev pub lives_by : {K V I O : Type 0} → List (Life K V I O) → ℕ → ℕ → Progress K V I O → List (Life K V I O)
 lives_by lives place now (Done a effect) = ended_at lives place (Finished (record { effect = effect; done = now; answer = a }))
 lives_by lives place now Next = lives
 lives_by lives place now (NeedsBuild ask) = lives
@@ -92,12 +92,12 @@ told Next = outcome.Next
 told (NeedsBuild ask) = outcome.Build ask.source
 
 -- the step is in this partition, an install has a question to answer, and a moment is left
-pub record IsDue {K V I O : Type 0} (s : StateView K V I O) (step : Step K I) (v : PartitionView K V I) : Type 0 where
+pub record IsDue {K V I O : Type 0} (s : StateView K V I O) (step : Step K V I) (v : PartitionView K V I) : Type 0 where
   pub here : slice_get s.partitions (partition_in step) ≡ Some v
   pub question : (w : Place) → step ≡ Install w → IsSome (question_in s.questions w)
   pub moment : s.moment < 2 ^ 64 - 1
 
-pub data Acts {K V I O : Type 0} (cmp : K → K → Ordering) (f : Meanings K V I O) (code : K → ℕ) (old new : StateView K V I O) (step : Step K I) (result : Result (Outcome V O) Refused) : Type 0 where
+pub data Acts {K V I O : Type 0} (cmp : K → K → Ordering) (f : Meanings K V I O) (code : K → ℕ) (old new : StateView K V I O) (step : Step K V I) (result : Result (Outcome V O) Refused) : Type 0 where
   -- there is no such partition
   nowhere : length old.partitions ≤ partition_in step → new ≡ old → result ≡ Err Unknown → Acts cmp f code old new step result
   -- an install of what was not asked for: of an operation, or of none
@@ -109,7 +109,7 @@ pub data Acts {K V I O : Type 0} (cmp : K → K → Ordering) (f : Meanings K V 
   worn : partition_in step < length old.partitions → ((w : Place) → step ≡ Install w → IsSome (question_in old.questions w))
       → old.moment ≡ 2 ^ 64 - 1 → new ≡ old → result ≡ Err Worn → Acts cmp f code old new step result
   -- no memory is left for the life of an issue
-  lifeless : (p slot : ℕ) (op : Op K I) (v : PartitionView K V I) → step ≡ Issue p slot op → IsDue old step v → new ≡ old → result ≡ Err NoMemory
+  lifeless : (p slot : ℕ) (op : Op K V I) (v : PartitionView K V I) → step ≡ Issue p slot op → IsDue old step v → new ≡ old → result ≡ Err NoMemory
       → Acts cmp f code old new step result
   -- what the partition refuses is refused; what it does is done, at the next moment: its rule, and what its event changes
   refuses_enter : (p : ℕ) (v : PartitionView K V I) (e : Refused) → step ≡ Enter p → IsDue old step v → Enters v v (suc old.moment) (Err e)
@@ -120,19 +120,19 @@ pub data Acts {K V I O : Type 0} (cmp : K → K → Ordering) (f : Meanings K V 
       → new ≡ old → result ≡ Err e → Acts cmp f code old new step result
   leaves : (p slot : ℕ) (v v' : PartitionView K V I) → step ≡ Leave p slot → IsDue old step v → Leaves v v' slot (suc old.moment) (Ok tt) → IsLeave v v' (suc old.moment)
       → new ≡ with_partition old p v' → result ≡ Ok outcome.Left → Acts cmp f code old new step result
-  refuses_issue : (p slot : ℕ) (op : Op K I) (v : PartitionView K V I) (e : Refused) → step ≡ Issue p slot op → IsDue old step v → Issues code v v slot op (suc old.moment) (Err e)
+  refuses_issue : (p slot : ℕ) (op : Op K V I) (v : PartitionView K V I) (e : Refused) → step ≡ Issue p slot op → IsDue old step v → Issues code v v slot op (suc old.moment) (Err e)
       → new ≡ old → result ≡ Err e → Acts cmp f code old new step result
-  issues : (p slot c : ℕ) (op : Op K I) (v v' : PartitionView K V I) (seat : Seat) → step ≡ Issue p slot op → IsDue old step v → Issues code v v' slot op (suc old.moment) (Ok c)
+  issues : (p slot c : ℕ) (op : Op K V I) (v v' : PartitionView K V I) (seat : Seat) → step ≡ Issue p slot op → IsDue old step v → Issues code v v' slot op (suc old.moment) (Ok c)
       → IsIssue code v v' slot c op (suc old.moment) → slice_get old.seats (seat_row p slot) ≡ Some seat → new ≡ with_life old (record { partition = p; slot = slot; context = c }) seat op v'
       → result ≡ Ok (outcome.Issued c) → Acts cmp f code old new step result
-  refuses_go : (w : Place) (v : PartitionView K V I) (e : Refused) → step ≡ Go w → IsDue old step v → Goes cmp f v v w.slot w.context (suc old.moment) (Err e)
+  refuses_go : (w : Place) (v : PartitionView K V I) (e : Refused) → step ≡ Go w → IsDue old step v → Goes cmp f code v v w.slot w.context (suc old.moment) (Err e)
       → new ≡ old → result ≡ Err e → Acts cmp f code old new step result
-  goes : (w : Place) (v v' : PartitionView K V I) (progress : Progress K V I O) → step ≡ Go w → IsDue old step v → Goes cmp f v v' w.slot w.context (suc old.moment) (Ok progress)
+  goes : (w : Place) (v v' : PartitionView K V I) (progress : Progress K V I O) → step ≡ Go w → IsDue old step v → Goes cmp f code v v' w.slot w.context (suc old.moment) (Ok progress)
       → IsEvent cmp f v v' w.slot w.context (suc old.moment) progress → new ≡ with_progress old w progress v' → result ≡ Ok (told progress) → Acts cmp f code old new step result
   refuses_install : (w : Place) (v : PartitionView K V I) (ask : Ask K V I) (e : Refused) → step ≡ Install w → IsDue old step v → question_in old.questions w ≡ Some ask
-      → Installs cmp f v v w.slot w.context ask (suc old.moment) (Err e) → new ≡ old → result ≡ Err e → Acts cmp f code old new step result
+      → Installs cmp f code v v w.slot w.context ask (suc old.moment) (Err e) → new ≡ old → result ≡ Err e → Acts cmp f code old new step result
   installs : (w : Place) (v v' : PartitionView K V I) (ask : Ask K V I) (progress : Progress K V I O) → step ≡ Install w → IsDue old step v → question_in old.questions w ≡ Some ask
-      → Installs cmp f v v' w.slot w.context ask (suc old.moment) (Ok progress)
+      → Installs cmp f code v v' w.slot w.context ask (suc old.moment) (Ok progress)
       → IsEvent cmp f v v' w.slot w.context (suc old.moment) progress → new ≡ with_progress old w progress v' → result ≡ Ok (told progress)
       → Acts cmp f code old new step result
   refuses_give_up : (w : Place) (v : PartitionView K V I) (e : Refused) → step ≡ GiveUp w → IsDue old step v → GivesUp v v w.slot w.context (suc old.moment) (Err e)
@@ -142,6 +142,6 @@ pub data Acts {K V I O : Type 0} (cmp : K → K → Ordering) (f : Meanings K V 
 
 -- a step of a world: its outcome is kept, after those of the steps before it; where there is no memory to keep it,
 -- nothing is done
-pub data Steps {K V I O : Type 0} (cmp : K → K → Ordering) (f : Meanings K V I O) (code : K → ℕ) (old new : WorldView K V I O) (step : Step K I) (result : Result (Outcome V O) Refused) : Type 0 where
+pub data Steps {K V I O : Type 0} (cmp : K → K → Ordering) (f : Meanings K V I O) (code : K → ℕ) (old new : WorldView K V I O) (step : Step K V I) (result : Result (Outcome V O) Refused) : Type 0 where
   unkept : new ≡ old → result ≡ Err NoMemory → Steps cmp f code old new step result
   kept : Acts cmp f code old.state new.state step result → new.outcomes ≡ old.outcomes ++ result ∷ [] → Steps cmp f code old new step result

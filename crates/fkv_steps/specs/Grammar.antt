@@ -3,7 +3,7 @@ use Rattle.std.specs.Prelude.{◌≡◌, true, ℕ, ℤ, pos, List, [], ◌∷�
 use Rattle.fkv_functions.specs.Names.{text_of}
 use Rattle.fkv_functions.specs.declared.names.Name.{Name}
 use Rattle.fkv_operations.specs.declared.operations.Op.{Op}
-use Rattle.fkv_operations.specs.declared.operations.Op.TheVariants.{Read, Rmw}
+use Rattle.fkv_operations.specs.declared.operations.Op.TheVariants.{Read, Upsert, Rmw, Delete}
 use Rattle.fkv_steps.specs.Words.{words_of, number_of, amount_of, is_key}
 use Rattle.fkv_steps.specs.declared.scripts.lines.FunctionsName.{FunctionsName}
 use Rattle.fkv_steps.specs.declared.scripts.lines.FunctionsName.TheVariants.{Count, Sum, Max}
@@ -36,13 +36,18 @@ SpellAll (w ∷ ws) (t ∷ ts) = Spells w t × SpellAll ws ts
 abbrev pub place : Place → List Token
 place p = number p.partition ∷ number p.slot ∷ number p.context ∷ []
 
-abbrev pub verb : Op Name ℤ → Token
+-- an operation of a line: what it writes is an amount
+abbrev pub verb : Op Name ℤ ℤ → Token
 verb (Read k i) = word (codes "read")
+verb (Upsert k n) = word (codes "upsert")
 verb (Rmw k n) = word (codes "rmw")
+verb (Delete k) = word (codes "delete")
 
-abbrev pub operands : Op Name ℤ → List Token
+abbrev pub operands : Op Name ℤ ℤ → List Token
 operands (Read k i) = key k ∷ []
+operands (Upsert k n) = key k ∷ amount n ∷ []
 operands (Rmw k n) = key k ∷ amount n ∷ []
+operands (Delete k) = key k ∷ []
 
 -- how each line but the first is written
 abbrev pub tokens : Line → List Token
@@ -57,9 +62,9 @@ tokens (Ready p) = word (codes "ready") ∷ place p
 tokens (Finish p) = word (codes "finish") ∷ place p
 
 -- a read's input is 0, for which there is no word
-abbrev pub ReadsWithZero : Op Name ℤ → Type 0
+abbrev pub ReadsWithZero : Op Name ℤ ℤ → Type 0
 ReadsWithZero (Read k i) = i ≡ pos 0
-ReadsWithZero (Rmw k n) = Unit {0}
+ReadsWithZero other = Unit {0}
 
 -- a line can be written: what it asks a read with is 0
 abbrev pub HasText : Line → Type 0

@@ -17,7 +17,7 @@ finish_in (Finished t) = Some t
 finish_in Failed = None
 finish_in GivenUp = None
 
-abbrev pub finish_of : {K I O : Type 0} → Life K I O → Option (Finish O)
+abbrev pub finish_of : {K V I O : Type 0} → Life K V I O → Option (Finish O)
 finish_of x = finish_in x.end
 
 -- whether the effect is at this step
@@ -26,7 +26,7 @@ has_effect_at s None = false
 has_effect_at s (Some t) = t.effect == s
 
 -- whether this life is an update with its effect at this step
-abbrev pub updates_at : {K I O : Type 0} → ℕ → Life K I O → Bool
+abbrev pub updates_at : {K V I O : Type 0} → ℕ → Life K V I O → Bool
 updates_at s x = is_update x.op && has_effect_at s (finish_of x)
 
 -- what is read of the first that passes a test
@@ -35,15 +35,15 @@ first_by p g [] = None
 first_by p g (x ∷ xs) = cond (p x) (g x) (first_by p g xs)
 
 -- the update with its effect at this step, if there is one
-abbrev pub update_at : {K I O : Type 0} → List (Life K I O) → ℕ → Option (Op K I)
+abbrev pub update_at : {K V I O : Type 0} → List (Life K V I O) → ℕ → Option (Op K V I)
 update_at lives s = first_by (updates_at s) (λ x. Some x.op) lives
 
 -- the map after an operation, if there is one
-abbrev pub after_some : {K V I O : Type 0} → (K → K → Ordering) → Meanings K V I O → PlainMap K V → Option (Op K I) → PlainMap K V
+abbrev pub after_some : {K V I O : Type 0} → (K → K → Ordering) → Meanings K V I O → PlainMap K V → Option (Op K V I) → PlainMap K V
 after_some cmp f m None = m
 after_some cmp f m (Some op) = after cmp f m op
 
 -- the map before a step: the updates with their effect below it, in the order of the steps
-abbrev pub map_before : {K V I O : Type 0} → (K → K → Ordering) → Meanings K V I O → List (Life K I O) → ℕ → PlainMap K V
+abbrev pub map_before : {K V I O : Type 0} → (K → K → Ordering) → Meanings K V I O → List (Life K V I O) → ℕ → PlainMap K V
 map_before cmp f lives zero = λ k. None
 map_before cmp f lives (suc s) = after_some cmp f (map_before cmp f lives s) (update_at lives s)

@@ -6,7 +6,7 @@ use Rattle.fkv_functions.specs.Names.{text_of}
 use Rattle.fkv_functions.specs.RefusalNames.{name_of}
 use Rattle.fkv_functions.specs.declared.names.Name.{Name}
 use Rattle.fkv_functions.specs.declared.refusals.Refused.{Refused}
-use Rattle.fkv_operations.specs.declared.operations.Answer.TheVariants.{Value, Absent}
+use Rattle.fkv_operations.specs.declared.operations.Answer.TheVariants.{Value, Absent, Stored, Deleted}
 use Rattle.fkv_steps.specs.declared.outcomes.Outcome.{Outcome}
 use Rattle.fkv_steps.specs.declared.outcomes.Outcome.TheVariants.{Entered, Left, Issued, Next, Build, Done, GivenUp}
 
@@ -20,6 +20,8 @@ outcome_text value shown (Build None) = codes "build none"
 outcome_text value shown (Build (Some v)) = codes "build " ++ value v
 outcome_text value shown (Done (Value o)) = codes "done value " ++ shown o
 outcome_text value shown (Done Absent) = codes "done absent"
+outcome_text value shown (Done Stored) = codes "done stored"
+outcome_text value shown (Done Deleted) = codes "done deleted"
 outcome_text value shown GivenUp = codes "given up"
 
 -- what a step prints: its outcome, or the name of its refusal

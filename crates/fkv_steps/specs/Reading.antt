@@ -7,7 +7,7 @@ use Rattle.std.proofs.lemmas.Bool.{leb-true}
 use Rattle.fkv_functions.specs.Names.{room_by, padded_by}
 use Rattle.fkv_functions.specs.declared.names.Name.{Name}
 use Rattle.fkv_operations.specs.declared.operations.Op.{Op}
-use Rattle.fkv_operations.specs.declared.operations.Op.TheVariants.{Read, Rmw}
+use Rattle.fkv_operations.specs.declared.operations.Op.TheVariants.{Read, Upsert, Rmw, Delete}
 use Rattle.fkv_steps.specs.Words.{number_of, amount_of, is_key, is_key_byte}
 use Rattle.fkv_steps.specs.declared.scripts.lines.FunctionsName.{FunctionsName}
 use Rattle.fkv_steps.specs.declared.scripts.lines.FunctionsName.TheVariants.{Count, Sum, Max}
@@ -84,16 +84,26 @@ leave_of ws = do
   s ← first_as number_of p.1
   end_of s.1 (Leave p.0 s.0)
 
-unfoldable pub operation_of : List ℕ → List (List ℕ) → Option (Op Name ℤ)
+-- a key, and nothing after it
+unfoldable pub key_alone : List (List ℕ) → Option Name
+key_alone ws = do
+  k ← first_as key_of ws
+  end_of k.1 k.0
+
+-- a key and an amount, and nothing after them
+unfoldable pub key_and_amount : List (List ℕ) → Option (Name × ℤ)
+key_and_amount ws = do
+  k ← first_as key_of ws
+  n ← first_as amount_of k.1
+  end_of n.1 (k.0, n.0)
+
+unfoldable pub operation_of : List ℕ → List (List ℕ) → Option (Op Name ℤ ℤ)
 operation_of verb ws =
-    if bytes_eq verb (codes "read") then (do
-      k ← first_as key_of ws
-      end_of k.1 (Read k.0 (pos 0)))
-    else (if bytes_eq verb (codes "rmw") then (do
-      k ← first_as key_of ws
-      n ← first_as amount_of k.1
-      end_of n.1 (Rmw k.0 n.0))
-    else None)
+    if bytes_eq verb (codes "read") then option_map (λ k. Read k (pos 0)) (key_alone ws)
+    else (if bytes_eq verb (codes "upsert") then option_map (λ p. Upsert p.0 p.1) (key_and_amount ws)
+    else (if bytes_eq verb (codes "rmw") then option_map (λ p. Rmw p.0 p.1) (key_and_amount ws)
+    else (if bytes_eq verb (codes "delete") then option_map Delete (key_alone ws)
+    else None)))
 
 unfoldable pub issue_of : List ℕ → List (List ℕ) → Option Line
 issue_of verb ws = do

@@ -1,5 +1,5 @@
 -- What the lines of a script do, and what a whole script prints.
-use Rattle.std.specs.Prelude.{◌≡◌, ℕ, ℤ, List, [], ◌∷◌, ◌++◌, Result, Ok, Err}
+use Rattle.std.specs.Prelude.{◌≡◌, ℕ, ℤ, pos, negsuc, List, [], ◌∷◌, ◌++◌, Result, Ok, Err}
 use Rattle.std.specs.declared.cmp.Ordering.{Ordering}
 use Rattle.std.specs.Fmt.{decimal, signed_decimal}
 use Rattle.std.specs.BTreeMap.{is_at}
@@ -11,6 +11,8 @@ use Rattle.fkv_functions.specs.Sets.{counts, sums, maxima}
 use Rattle.fkv_functions.specs.Hashes.{fnv_1a}
 use Rattle.fkv_functions.specs.declared.names.Name.{Name}
 use Rattle.fkv_functions.specs.declared.refusals.Refused.{Refused}
+use Rattle.fkv_operations.specs.declared.operations.Op.{Op}
+use Rattle.fkv_operations.specs.declared.operations.Op.TheVariants.{Read, Upsert, Rmw, Delete}
 use Rattle.fkv_partition.specs.declared.limits.Config.{Config}
 use Rattle.fkv_partition.specs.Limits.{IsWithinLimits}
 use Rattle.fkv_steps.specs.declared.outcomes.Outcome.{Outcome}
@@ -46,50 +48,68 @@ FinishesIssued cmp f code p slot mid new told (Ok (Done x)) = (new ≡ mid) × (
 FinishesIssued cmp f code p slot mid new told (Ok GivenUp) = (new ≡ mid) × (told ≡ Ok GivenUp)
 FinishesIssued cmp f code p slot mid new told (Err e) = (new ≡ mid) × (told ≡ Err e)
 
--- what a line does, and tells
-abbrev pub RunsLine : {V O : Type 0} → (Name → Name → Ordering) → Meanings Name V ℤ O → (Name → ℕ) → WorldView Name V ℤ O → WorldView Name V ℤ O → Result (Outcome V O) Refused → Line → Type 0
-RunsLine cmp f code old new told (Enter p) = Steps cmp f code old new (step.Enter p) told
-RunsLine cmp f code old new told (Leave p slot) = Steps cmp f code old new (step.Leave p slot) told
-RunsLine cmp f code old new told (Issue p slot op) = Steps cmp f code old new (step.Issue p slot op) told
-RunsLine {V} {O} cmp f code old new told (Do p slot op) =
-    (mid : WorldView Name V ℤ O) × (issued : Result (Outcome V O) Refused) × Steps cmp f code old mid (step.Issue p slot op) issued × FinishesIssued cmp f code p slot mid new told issued
-RunsLine cmp f code old new told (Go w) = Steps cmp f code old new (step.Go w) told
-RunsLine cmp f code old new told (Install w) = Steps cmp f code old new (step.Install w) told
-RunsLine cmp f code old new told (GiveUp w) = Steps cmp f code old new (step.GiveUp w) told
-RunsLine cmp f code old new told (Ready w) = Pursues cmp f code pursuit.Ready w new told 10000 (step.Go w) old
-RunsLine cmp f code old new told (Finish w) = Pursues cmp f code pursuit.Finish w new told 10000 (step.Go w) old
+-- the operation of a line, on values: an upsert writes the value of its amount
+abbrev pub op_of : {V : Type 0} → (ℤ → V) → Op Name ℤ ℤ → Op Name V ℤ
+op_of written (Read k i) = Read k i
+op_of written (Upsert k n) = Upsert k (written n)
+op_of written (Rmw k n) = Rmw k n
+op_of written (Delete k) = Delete k
+
+-- what a line does, and tells; an amount is written as this value
+abbrev pub RunsLine : {V O : Type 0} → (Name → Name → Ordering) → Meanings Name V ℤ O → (Name → ℕ) → (ℤ → V) → WorldView Name V ℤ O → WorldView Name V ℤ O → Result (Outcome V O) Refused → Line → Type 0
+RunsLine cmp f code written old new told (Enter p) = Steps cmp f code old new (step.Enter p) told
+RunsLine cmp f code written old new told (Leave p slot) = Steps cmp f code old new (step.Leave p slot) told
+RunsLine cmp f code written old new told (Issue p slot op) = Steps cmp f code old new (step.Issue p slot (op_of written op)) told
+RunsLine {V} {O} cmp f code written old new told (Do p slot op) =
+    (mid : WorldView Name V ℤ O) × (issued : Result (Outcome V O) Refused) × Steps cmp f code old mid (step.Issue p slot (op_of written op)) issued × FinishesIssued cmp f code p slot mid new told issued
+RunsLine cmp f code written old new told (Go w) = Steps cmp f code old new (step.Go w) told
+RunsLine cmp f code written old new told (Install w) = Steps cmp f code old new (step.Install w) told
+RunsLine cmp f code written old new told (GiveUp w) = Steps cmp f code old new (step.GiveUp w) told
+RunsLine cmp f code written old new told (Ready w) = Pursues cmp f code pursuit.Ready w new told 10000 (step.Go w) old
+RunsLine cmp f code written old new told (Finish w) = Pursues cmp f code pursuit.Finish w new told 10000 (step.Go w) old
 
 -- lines in turn, and what each of them tells
-abbrev pub RunLines : {V O : Type 0} → (Name → Name → Ordering) → Meanings Name V ℤ O → (Name → ℕ) → WorldView Name V ℤ O → List Line → List (Result (Outcome V O) Refused) → WorldView Name V ℤ O → Type 0
-RunLines cmp f code v [] [] w = w ≡ v
-RunLines cmp f code v [] (t ∷ ts) w = ⊥
-RunLines cmp f code v (l ∷ ls) [] w = ⊥
-RunLines {V} {O} cmp f code v (l ∷ ls) (t ∷ ts) w = (u : WorldView Name V ℤ O) × RunsLine cmp f code v u t l × RunLines cmp f code u ls ts w
+abbrev pub RunLines : {V O : Type 0} → (Name → Name → Ordering) → Meanings Name V ℤ O → (Name → ℕ) → (ℤ → V) → WorldView Name V ℤ O → List Line → List (Result (Outcome V O) Refused) → WorldView Name V ℤ O → Type 0
+RunLines cmp f code written v [] [] w = w ≡ v
+RunLines cmp f code written v [] (t ∷ ts) w = ⊥
+RunLines cmp f code written v (l ∷ ls) [] w = ⊥
+RunLines {V} {O} cmp f code written v (l ∷ ls) (t ∷ ts) w = (u : WorldView Name V ℤ O) × RunsLine cmp f code written v u t l × RunLines cmp f code written u ls ts w
 
 -- the text that a script prints: what each line tells, and then each live key with its value, keys rising, in a world
 -- that keeps the headline
-pub record IsPrintedBy {V O : Type 0} (cmp : Name → Name → Ordering) (f : Meanings Name V ℤ O) (code : Name → ℕ) (value : V → List ℕ) (shown : O → List ℕ) (config : Config) (lines : List Line) (text : List ℕ) : Type 0 where
+pub record IsPrintedBy {V O : Type 0} (cmp : Name → Name → Ordering) (f : Meanings Name V ℤ O) (code : Name → ℕ) (written : ℤ → V) (value : V → List ℕ) (shown : O → List ℕ) (config : Config) (record_size : ℕ) (lines : List Line) (text : List ℕ) : Type 0 where
   pub world : WorldView Name V ℤ O
   pub told : List (Result (Outcome V O) Refused)
   pub pairs : List (Name × V)
-  pub ran : RunLines cmp f code (empty_world config) lines told world
+  pub ran : RunLines cmp f code written (empty_world config record_size) lines told world
   pub headline : IsHeadline cmp f code world
   pub map : (k : Name) → lookup (is_at (cmp k)) pairs ≡ world_live cmp code world.state.partitions k
   pub rising : IsStrictlySortedBy cmp (keys_of pairs)
   pub printed : text ≡ steps_text value shown told ++ map_text value pairs
 
+-- the count that an amount writes; no script writes one below 0
+abbrev pub count_of : ℤ → ℕ
+count_of (pos n) = n
+count_of (negsuc n) = 0
+
+-- how many bytes a record has: 8, those of its key and of its value, and zeros up to a multiple of 8
+abbrev pub record_size : FunctionsName → ℕ
+record_size Count = 48
+record_size Sum = 56
+record_size Max = 48
+
 -- the text that a script prints with the functions that its first line names
 abbrev pub Prints : FunctionsName → Config → List Line → List ℕ → Type 0
-Prints Count config lines text = IsPrintedBy name_cmp counts (λ name. fnv_1a (text_of name)) decimal decimal config lines text
-Prints Sum config lines text = IsPrintedBy name_cmp sums (λ name. fnv_1a (text_of name)) signed_decimal signed_decimal config lines text
-Prints Max config lines text = IsPrintedBy name_cmp maxima (λ name. fnv_1a (text_of name)) signed_decimal signed_decimal config lines text
+Prints Count config lines text = IsPrintedBy name_cmp counts (λ name. fnv_1a (text_of name)) count_of decimal decimal config (record_size Count) lines text
+Prints Sum config lines text = IsPrintedBy name_cmp sums (λ name. fnv_1a (text_of name)) (λ n. n) signed_decimal signed_decimal config (record_size Sum) lines text
+Prints Max config lines text = IsPrintedBy name_cmp maxima (λ name. fnv_1a (text_of name)) (λ n. n) signed_decimal signed_decimal config (record_size Max) lines text
 
 -- the output of an input: it says a script, whose numbers are within the limits, and this is what the script prints
 pub record IsOutputOf (input text : List ℕ) : Type 0 where
   pub opening : Opening
   pub lines : List Line
   pub says : SaysScript (lines_of input) opening lines
-  pub within : IsWithinLimits (config_of opening)
+  pub within : IsWithinLimits (config_of opening) (record_size opening.functions)
   pub prints : Prints opening.functions (config_of opening) lines text
 
 -- an input says a script with a number outside the limits
@@ -97,4 +117,4 @@ pub record HasBadConfig (input : List ℕ) : Type 0 where
   pub opening : Opening
   pub lines : List Line
   pub says : SaysScript (lines_of input) opening lines
-  pub outside : ¬ IsWithinLimits (config_of opening)
+  pub outside : ¬ IsWithinLimits (config_of opening) (record_size opening.functions)

@@ -19,7 +19,7 @@ pub record StateView (K V I O : Type 0) : Type 0 where
   pub questions : List (Option (Ask K V I))
   pub seats : List Seat
   pub enters : List ℕ
-  pub lives : List (Life K I O)
+  pub lives : List (Life K V I O)
   pub moment : ℕ
 
 -- a world: its state, and the outcome of each step, refused ones included
@@ -49,14 +49,14 @@ life_in begun w = cond (is_context w) (unwrap_or (slice_get begun (context_row w
 abbrev pub question_in : {K V I : Type 0} → List (Option (Ask K V I)) → Place → Option (Ask K V I)
 question_in questions w = cond (is_context w) (unwrap_or (slice_get questions (context_row w)) None) None
 
--- partitions with nothing in them
-abbrev pub empty_partitions : {K V I : Type 0} → Config → ℕ → List (PartitionView K V I)
-empty_partitions config n = map (empty_partition config) (range_with_len 0 n)
+-- partitions with nothing in them, for records of this size
+abbrev pub empty_partitions : {K V I : Type 0} → Config → ℕ → ℕ → List (PartitionView K V I)
+empty_partitions config record_size n = map (empty_partition config record_size) (range_with_len 0 n)
 
 -- the world before its first step
-abbrev pub empty_state : {K V I O : Type 0} → Config → StateView K V I O
-empty_state config = record {
-  partitions = empty_partitions config (2 ^ config.partition_bits);
+abbrev pub empty_state : {K V I O : Type 0} → Config → ℕ → StateView K V I O
+empty_state config record_size = record {
+  partitions = empty_partitions config record_size (2 ^ config.partition_bits);
   begun = replicate (2 ^ config.partition_bits * 128) 0;
   questions = replicate (2 ^ config.partition_bits * 128) None;
   seats = replicate (2 ^ config.partition_bits * 16) (record { session = 0; issues = 0 });
@@ -65,5 +65,5 @@ empty_state config = record {
   moment = 0;
 }
 
-abbrev pub empty_world : {K V I O : Type 0} → Config → WorldView K V I O
-empty_world config = record { state = empty_state config; outcomes = [] }
+abbrev pub empty_world : {K V I O : Type 0} → Config → ℕ → WorldView K V I O
+empty_world config record_size = record { state = empty_state config record_size; outcomes = [] }

@@ -28,18 +28,23 @@ pub enum End<O> {
 
 /// What became of one accepted issue.
 #[derive(Clone, Copy, PartialEq, Eq, Debug)]
-pub struct Life<K, I, O> {
+pub struct Life<K, V, I, O> {
     /// The number of the partition.
     pub partition: u64,
     /// The session, by the count of enters in its partition, from 1.
     pub session: u64,
     /// The operation, by the count of issues in its session, from 1.
     pub number: u64,
-    pub op: Op<K, I>,
+    pub op: Op<K, V, I>,
     /// The step of the issue.
     pub issue: u64,
     pub end: End<O>,
 }
 
 /// The lives of one type of functions.
-pub type LifeOf<F> = Life<<F as Functions>::Key, <F as Functions>::Input, <F as Functions>::Output>;
+pub type LifeOf<F> = Life<
+    <F as Functions>::Key,
+    <F as Functions>::Value,
+    <F as Functions>::Input,
+    <F as Functions>::Output,
+>;

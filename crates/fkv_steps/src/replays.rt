@@ -1,5 +1,6 @@
 //! Lists of steps, replayed from nothing.
 ghost use Rattle.std.specs.Prelude.{◌≡◌, ◌≢◌, ◌⊎◌, Err, IfOk, IfErr};
+ghost use Rattle.fkv_records.specs.Records.{size_of};
 ghost use Rattle.fkv_partition.specs.Limits.{IsWithinLimits};
 ghost use Rattle.fkv_steps.specs.Reports.{IsReplay};
 
@@ -19,9 +20,9 @@ pub fn replay<F: Functions>(
     functions: &F,
     steps: &[StepOf<F>],
 ) -> Result<ReportOf<F>, Refused>
-    ensures ok { IfOk result (λ r. IsReplay F.Key.cmp F.meaning F.code config.now steps.now r.outcomes.items r.lives.items r.map.items) }
-    ensures good { result ≢ Err Refused.BadConfig → IsWithinLimits config.now }
-    ensures bad { result ≡ Err Refused.BadConfig → ¬ IsWithinLimits config.now }
+    ensures ok { IfOk result (λ r. IsReplay F.Key.cmp F.meaning F.code config.now (size_of F.Key.SIZE F.Value.SIZE) steps.now r.outcomes.items r.lives.items r.map.items) }
+    ensures good { result ≢ Err Refused.BadConfig → IsWithinLimits config.now (size_of F.Key.SIZE F.Value.SIZE) }
+    ensures bad { result ≡ Err Refused.BadConfig → ¬ IsWithinLimits config.now (size_of F.Key.SIZE F.Value.SIZE) }
     ensures only { IfErr result (λ refused. (refused ≡ Refused.BadConfig) ⊎ (refused ≡ Refused.NoMemory)) }
 {
     let mut world = World::new(alloc, config)?;

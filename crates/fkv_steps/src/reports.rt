@@ -12,6 +12,7 @@ use crate::outcomes::Outcome;
 use crate::states::State;
 use crate::worlds::World;
 use fkv_functions::{Functions, Refused};
+use fkv_partition::pairs_of;
 use std::alloc::Global;
 use std::collections::BTreeMap;
 
@@ -21,7 +22,7 @@ pub struct Report<K, V, I, O> {
     /// The outcome of each step, refused ones included, in order.
     pub outcomes: Vec<Result<Outcome<V, O>, Refused>>,
     /// What became of each operation that was issued, in the order of the issues.
-    pub lives: Vec<Life<K, I, O>>,
+    pub lives: Vec<Life<K, V, I, O>>,
     /// Each live key of all partitions with its value, keys rising.
     pub map: Vec<(K, V)>,
 }
@@ -57,23 +58,6 @@ fn put_all<K: Ord + Copy + Drop, V: Copy + Drop>(
         put(map, pair.0, pair.1)?;
     }
     Ok(())
-}
-
-/// The keys of a map with their values, keys rising. Refused: `NoMemory`.
-fn pairs_of<K: Ord + Copy + Drop, V: Copy + Drop>(
-    alloc: Global,
-    map: &BTreeMap<K, V>,
-) -> Result<Vec<(K, V)>, Refused>
-    ensures ok { IfOk result (λ pairs. pairs.items ≡ map.now.entries) }
-    ensures only { IfErr result (λ refused. refused ≡ Refused.NoMemory) }
-{
-    let mut pairs = Vec::new(alloc);
-    for (key, value) in map {
-        let Ok(()) = pairs.push((*key, *value)) else {
-            return Err(Refused::NoMemory);
-        };
-    }
-    Ok(pairs)
 }
 
 /// A list with the same items. Refused: `NoMemory`.

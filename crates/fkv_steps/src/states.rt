@@ -1,5 +1,6 @@
 //! The state of a world, and what each step does to it.
 ghost use Rattle.std.specs.Prelude.{◌≢◌, ◌⊎◌, ◌*◌, replicate, ◌≡◌, ◌+◌, ◌-◌, ◌^◌, ◌<◌, ◌↔◌, Err, IfOk, IfErr};
+ghost use Rattle.fkv_records.specs.Records.{size_of};
 ghost use Rattle.fkv_partition.specs.Limits.{IsWithinLimits};
 ghost use Rattle.fkv_steps.specs.States.{empty_partitions, empty_state};
 ghost use Rattle.fkv_steps.specs.Sound.{IsState};
@@ -57,9 +58,9 @@ fn empty_partitions<F: Functions>(
     config: &Config,
     count: u64,
 ) -> Result<Vec<Partition<F>>, Refused>
-    requires limits { IsWithinLimits config.now }
+    requires limits { IsWithinLimits config.now (size_of F.Key.SIZE F.Value.SIZE) }
     requires count { count ≡ 2 ^ config.now.partition_bits }
-    ensures ok { IfOk result (λ partitions. partitions.items ≡ empty_partitions config.now count) }
+    ensures ok { IfOk result (λ partitions. partitions.items ≡ empty_partitions config.now (size_of F.Key.SIZE F.Value.SIZE) count) }
     ensures only { IfErr result (λ refused. refused ≡ Refused.NoMemory) }
 {
     let mut partitions = Vec::new(alloc);
@@ -90,12 +91,12 @@ impl<F: Functions> State<F> {
     /// The state before the first step. Refused, in this order: `BadConfig` where a number of the
     /// configuration is outside its limits, `NoMemory`.
     pub fn new(alloc: Global, config: &Config) -> Result<Self, Refused>
-        ensures ok { IfOk result (λ state. state ≡ empty_state config.now) }
-        ensures good { result ≢ Err Refused.BadConfig → IsWithinLimits config.now }
-        ensures bad { result ≡ Err Refused.BadConfig → ¬ IsWithinLimits config.now }
+        ensures ok { IfOk result (λ state. state ≡ empty_state config.now (size_of F.Key.SIZE F.Value.SIZE)) }
+        ensures good { result ≢ Err Refused.BadConfig → IsWithinLimits config.now (size_of F.Key.SIZE F.Value.SIZE) }
+        ensures bad { result ≡ Err Refused.BadConfig → ¬ IsWithinLimits config.now (size_of F.Key.SIZE F.Value.SIZE) }
         ensures only { IfErr result (λ refused. (refused ≡ Refused.BadConfig) ⊎ (refused ≡ Refused.NoMemory)) }
     {
-        if !config.is_within_limits() {
+        if !config.is_within_limits::<F::Key, F::Value>() {
             return Err(Refused::BadConfig);
         }
         let count = config.partitions();

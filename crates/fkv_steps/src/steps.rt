@@ -12,13 +12,13 @@ pub struct Place {
 
 /// A step of a world.
 #[derive(Clone, Copy, PartialEq, Eq, Debug)]
-pub enum Step<K, I> {
+pub enum Step<K, V, I> {
     /// Enters a session in this partition.
     Enter(usize),
     /// Leaves the session of this slot, after its partition.
     Leave(usize, usize),
     /// Issues an operation in the session of this slot, after its partition.
-    Issue(usize, usize, Op<K, I>),
+    Issue(usize, usize, Op<K, V, I>),
     /// Goes on with the operation that is open there.
     Go(Place),
     /// Installs what the operation that is open there asked for last.
@@ -28,4 +28,4 @@ pub enum Step<K, I> {
 }
 
 /// The steps of one type of functions.
-pub type StepOf<F> = Step<<F as Functions>::Key, <F as Functions>::Input>;
+pub type StepOf<F> = Step<<F as Functions>::Key, <F as Functions>::Value, <F as Functions>::Input>;

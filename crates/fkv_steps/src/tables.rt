@@ -45,7 +45,12 @@ impl Seat {
 }
 
 /// The life that an accepted issue begins.
-pub fn begun_life<K, I, O>(partition: usize, seat: &Seat, op: Op<K, I>, now: u64) -> Life<K, I, O>
+pub fn begun_life<K, V, I, O>(
+    partition: usize,
+    seat: &Seat,
+    op: Op<K, V, I>,
+    now: u64,
+) -> Life<K, V, I, O>
     requires { seat.now.issues < 2 ^ 64 - 1 }
     ensures { result ≡ begun_life partition seat.now op now }
 {
@@ -105,8 +110,8 @@ pub fn life_at(begun: &[usize], place: Place) -> usize
 }
 
 /// Ends the life at a place.
-pub fn end_life<K: Copy, I: Copy, O: Copy>(
-    lives: &mut Vec<Life<K, I, O>>,
+pub fn end_life<K: Copy, V: Copy, I: Copy, O: Copy>(
+    lives: &mut Vec<Life<K, V, I, O>>,
     place: usize,
     end: End<O>,
 )
@@ -118,7 +123,7 @@ pub fn end_life<K: Copy, I: Copy, O: Copy>(
 
 /// Ends the life of an operation that is done, or keeps what it asks for, and tells its progress.
 pub fn note_progress<K: Copy, V: Copy, I: Copy, O: Copy>(
-    lives: &mut Vec<Life<K, I, O>>,
+    lives: &mut Vec<Life<K, V, I, O>>,
     life: usize,
     questions: &mut Vec<Option<Ask<K, V, I>>>,
     row: usize,

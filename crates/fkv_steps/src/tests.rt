@@ -19,7 +19,7 @@ fn lives_of_each_end(rt: HostRuntime) {
                 partition: 0,
                 session: 1,
                 number: 1,
-                op: Op::Rmw(7u64, 5u64),
+                op: Op::<u64, u64, u64>::Rmw(7, 5),
                 issue: 2,
                 end: *end,
             };
@@ -27,7 +27,7 @@ fn lives_of_each_end(rt: HostRuntime) {
                 partition: 0,
                 session: 1,
                 number: 1,
-                op: Op::Rmw(7u64, 5u64),
+                op: Op::<u64, u64, u64>::Rmw(7, 5),
                 issue: 2,
                 end: *other,
             };

@@ -1,5 +1,6 @@
 //! A world: partitions that are driven by single steps, with what became of each operation.
 ghost use Rattle.std.specs.Prelude.{◌≡◌, ◌≢◌, ◌⊎◌, ◌∷◌, [], ◌++◌, Err, IfOk, IfErr, IfSome, IfNone};
+ghost use Rattle.fkv_records.specs.Records.{size_of};
 ghost use Rattle.fkv_partition.specs.Limits.{IsWithinLimits};
 ghost use Rattle.fkv_steps.specs.States.{empty_world};
 ghost use Rattle.fkv_steps.specs.Acts.{Acts, Steps};
@@ -37,9 +38,9 @@ impl<F: Functions> World<F> {
     /// A world before its first step. Refused, in this order: `BadConfig` where a number of the
     /// configuration is outside its limits, `NoMemory`.
     pub fn new(alloc: Global, config: &Config) -> Result<Self, Refused>
-        ensures ok { IfOk result (λ world. world ≡ empty_world config.now) }
-        ensures good { result ≢ Err Refused.BadConfig → IsWithinLimits config.now }
-        ensures bad { result ≡ Err Refused.BadConfig → ¬ IsWithinLimits config.now }
+        ensures ok { IfOk result (λ world. world ≡ empty_world config.now (size_of F.Key.SIZE F.Value.SIZE)) }
+        ensures good { result ≢ Err Refused.BadConfig → IsWithinLimits config.now (size_of F.Key.SIZE F.Value.SIZE) }
+        ensures bad { result ≡ Err Refused.BadConfig → ¬ IsWithinLimits config.now (size_of F.Key.SIZE F.Value.SIZE) }
         ensures only { IfErr result (λ refused. (refused ≡ Refused.BadConfig) ⊎ (refused ≡ Refused.NoMemory)) }
     {
         let state = State::new(alloc, config)?;

@@ -1,4 +1,7 @@
-//! What the lines of a script say.
+//! What the lines of a script say, and which of them a store takes.
+ghost use Rattle.std.specs.Prelude.{◌≡◌};
+ghost use Rattle.fkv_steps.specs.Script.{takes_operation, takes};
+
 use crate::steps::Place;
 use fkv_functions::Name;
 use fkv_operations::Op;
@@ -26,7 +29,7 @@ pub struct Opening {
     pub frames: u64,
 }
 
-/// A line of a script, after the first.
+/// A line of a script, after the first. What an operation writes is an amount.
 #[derive(Clone, Copy, PartialEq, Eq, Debug)]
 pub enum Line {
     /// A session enters a partition.
@@ -42,13 +45,13 @@ pub enum Line {
     Issue {
         partition: u64,
         session: u64,
-        op: Op<Name, i64>,
+        op: Op<Name, i64, i64>,
     },
     /// A session issues an operation and finishes it. The input of a read is 0.
     Do {
         partition: u64,
         session: u64,
-        op: Op<Name, i64>,
+        op: Op<Name, i64, i64>,
     },
     /// An operation goes on by one step.
     Go(Place),
@@ -60,6 +63,28 @@ pub enum Line {
     Ready(Place),
     /// An operation goes on, and is answered, until it ends.
     Finish(Place),
+}
+
+impl FunctionsName {
+    /// Whether a store of these functions takes an operation: an amount below 0 is no count.
+    fn takes_operation(self, op: &Op<Name, i64, i64>) -> bool
+        ensures { result ≡ takes_operation self op.now }
+    {
+        match (self, op) {
+            (FunctionsName::Count, Op::Upsert(_, amount)) => *amount >= 0,
+            _ => true,
+        }
+    }
+
+    /// Whether a store of these functions takes a line.
+    pub fn takes(self, line: &Line) -> bool
+        ensures { result ≡ takes self line.now }
+    {
+        match line {
+            Line::Issue { op, .. } | Line::Do { op, .. } => self.takes_operation(op),
+            _ => true,
+        }
+    }
 }
 
 /// What a whole script says.

@@ -11,12 +11,14 @@ pub mod reading;
 pub mod running;
 mod texts;
 mod words;
+pub mod written;
 
 pub use laws::one_reading;
 pub use lines::{FunctionsName, Line, Opening, Script};
 pub use printing::{Printed, text_of, write_out};
 pub use reading::{LIMIT, read_script};
 pub use running::run_script;
+pub use written::Written;
 
 #[cfg(test)]
 mod run_tests;

@@ -4,8 +4,9 @@ ghost use Rattle.std.specs.Str.{bytes_eq};
 ghost use Rattle.fkv_steps.specs.declared.scripts.lines.Line.{Line};
 ghost use Rattle.fkv_steps.specs.declared.scripts.lines.Opening.{Opening};
 ghost use Rattle.fkv_steps.specs.Words.{words_of};
-ghost use Rattle.fkv_steps.specs.Grammar.{Says, Opens};
-ghost use Rattle.fkv_steps.specs.Reading.{Gives, first_as, line_of, enter_of, leave_of, issue_of, do_of, place_of, operation_of, functions_of, store_of, opening_of};
+ghost use Rattle.fkv_steps.specs.Grammar.{Opens};
+ghost use Rattle.fkv_steps.specs.Script.{SaysTo};
+ghost use Rattle.fkv_steps.specs.Reading.{Gives, first_as, line_of, enter_of, leave_of, issue_of, do_of, place_of, key_alone, key_and_amount, operation_of, functions_of, store_of, opening_of};
 
 use crate::scripts::lines::{FunctionsName, Line, Opening};
 use crate::scripts::words::Words;
@@ -13,14 +14,18 @@ use crate::steps::Place;
 use fkv_functions::Name;
 use fkv_operations::Op;
 
-/// What a line after the first says, where it says anything.
-pub fn parse_line(bytes: &[u8]) -> Option<Line>
+/// What a line after the first says to a store of these functions, where it says anything.
+pub fn parse_line(functions: FunctionsName, bytes: &[u8]) -> Option<Line>
     // It says what was found.
-    ensures found { IfSome result (λ l. Says bytes.now l) }
+    ensures found { IfSome result (λ l. SaysTo functions bytes.now l) }
     // What it says is found.
-    ensures only { (l : Line) → Says bytes.now l → result ≡ Some l }
+    ensures only { (l : Line) → SaysTo functions bytes.now l → result ≡ Some l }
 {
-    line(bytes)
+    let said = line(bytes)?;
+    if !functions.takes(&said) {
+        return None;
+    }
+    Some(said)
 }
 
 /// The store that a first line opens, where it opens one.
@@ -160,24 +165,46 @@ fn place(words: &mut Words<'_>) -> Option<Place>
     })
 }
 
+#[tactic(auto, unfolding(crate::specs::Reading::key_alone))]
+fn key_alone(words: &mut Words<'_>) -> Option<Name>
+    ensures { result ≡ key_alone words.old }
+{
+    let key = words.key()?;
+    if !words.is_empty() {
+        return None;
+    }
+    Some(key)
+}
+
+#[tactic(auto, unfolding(crate::specs::Reading::key_and_amount))]
+fn key_and_amount(words: &mut Words<'_>) -> Option<(Name, i64)>
+    ensures { result ≡ key_and_amount words.old }
+{
+    let key = words.key()?;
+    let amount = words.amount()?;
+    if !words.is_empty() {
+        return None;
+    }
+    Some((key, amount))
+}
+
 #[tactic(auto, unfolding(crate::specs::Reading::operation_of))]
-fn operation(verb: &[u8], words: &mut Words<'_>) -> Option<Op<Name, i64>>
+fn operation(verb: &[u8], words: &mut Words<'_>) -> Option<Op<Name, i64, i64>>
     ensures { result ≡ operation_of verb.now words.old }
 {
     if is(verb, "read") {
-        let key = words.key()?;
-        if !words.is_empty() {
-            return None;
-        }
-        return Some(Op::Read(key, 0));
+        return Some(Op::Read(key_alone(words)?, 0));
+    }
+    if is(verb, "upsert") {
+        let (key, amount) = key_and_amount(words)?;
+        return Some(Op::Upsert(key, amount));
     }
     if is(verb, "rmw") {
-        let key = words.key()?;
-        let amount = words.amount()?;
-        if !words.is_empty() {
-            return None;
-        }
+        let (key, amount) = key_and_amount(words)?;
         return Some(Op::Rmw(key, amount));
+    }
+    if is(verb, "delete") {
+        return Some(Op::Delete(key_alone(words)?));
     }
     None
 }

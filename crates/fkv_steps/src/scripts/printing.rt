@@ -40,7 +40,7 @@ impl Printed for i128 {
 }
 
 /// An outcome prints as a script's line does: `entered S`, `left`, `issued C`, `next`, `build none`,
-/// `build V`, `done value V`, `done absent` or `given up`.
+/// `build V`, `done value V`, `done absent`, `done stored`, `done deleted` or `given up`.
 impl<V: Printed, O: Printed> Display for Outcome<V, O> {
     ghost output = { λ o. Some (outcome_text V.text O.text o) };
 
@@ -60,6 +60,8 @@ impl<V: Printed, O: Printed> Display for Outcome<V, O> {
                 write!(f, "done value {shown}")
             }
             Outcome::Done(Answer::Absent) => write!(f, "done absent"),
+            Outcome::Done(Answer::Stored) => write!(f, "done stored"),
+            Outcome::Done(Answer::Deleted) => write!(f, "done deleted"),
             Outcome::GivenUp => write!(f, "given up"),
         }
     }

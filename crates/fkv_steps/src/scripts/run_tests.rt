@@ -1,7 +1,10 @@
 //! Scripts run from bytes to bytes: worked rows, bad scripts, readers and writers that fail.
 use crate::scripts::running::run_script;
 use crate::scripts::tests::{Breaking, Filling};
-use fkv_functions::Refused;
+use fkv_functions::{Functions, Name, Refused, SumFns};
+use fkv_operations::{Answer, Op, OpOf, run_plainly};
+use rand_core::{Rng, SeedableRng};
+use rand_xoshiro::Xoshiro256PlusPlus;
 use std::alloc::Global;
 use std::io::{ErrorKind, Write};
 use std::test::Fail;
@@ -149,6 +152,94 @@ a 2
 }
 
 #[test]
+fn two_partitions(rt: HostRuntime) {
+    let (told, written) = run(
+        rt.alloc(),
+        "store sum 1 8 8 2
+enter 1
+read 1 0 a
+read 2 0 a
+enter 0
+do 0 0 upsert a 4
+do 0 0 delete a
+do 0 0 read a
+giveup 0 0 0
+leave 0 0
+",
+    );
+    assert_eq!(rt; told, Ok(()));
+    let text = "entered 0
+refused Stranger
+refused Unknown
+entered 0
+done stored
+done deleted
+done absent
+refused Unknown
+left
+map 0
+";
+    assert!(rt; written.as_slice() == text.as_bytes());
+}
+
+#[test]
+fn one_class(rt: HostRuntime) -> Result<(), Fail> {
+    let keys = ["a", "b", "c", "d", "e", "f", "g", "h"];
+    let mut script = Vec::new(rt.alloc());
+    let mut text = Vec::new(rt.alloc());
+    writeln!(script, "store sum 0 0 8 8\nenter 0")?;
+    writeln!(text, "entered 0")?;
+    for (i, key) in keys.iter().enumerate() {
+        writeln!(script, "do 0 0 rmw {key} {}", i + 1)?;
+        writeln!(text, "done value {}", i + 1)?;
+    }
+    for (i, key) in keys.iter().enumerate() {
+        writeln!(script, "do 0 0 read {key}")?;
+        writeln!(text, "done value {}", i + 1)?;
+    }
+    writeln!(text, "map 8")?;
+    for (i, key) in keys.iter().enumerate() {
+        writeln!(text, "{key} {}", i + 1)?;
+    }
+    let mut written = Vec::new(rt.alloc());
+    assert_eq!(rt;
+        run_script(rt.alloc(), script.as_slice(), &mut written),
+        Ok(())
+    );
+    assert!(rt; written == text);
+    Ok(())
+}
+
+#[test]
+fn deletes(rt: HostRuntime) {
+    let (told, written) = run(
+        rt.alloc(),
+        "store sum 0 8 8 2
+enter 0
+do 0 0 rmw a 5
+do 0 0 delete a
+do 0 0 read a
+do 0 0 rmw a 2
+do 0 0 delete zz
+do 0 0 upsert b 1
+",
+    );
+    assert_eq!(rt; told, Ok(()));
+    let text = "entered 0
+done value 5
+done deleted
+done absent
+done value 2
+done deleted
+done stored
+map 2
+a 2
+b 1
+";
+    assert!(rt; written.as_slice() == text.as_bytes());
+}
+
+#[test]
 fn session_limits(rt: HostRuntime) -> Result<(), Fail> {
     let mut script = Vec::new(rt.alloc());
     let mut text = Vec::new(rt.alloc());
@@ -191,11 +282,88 @@ fn counts_and_maxima(rt: HostRuntime) {
     assert!(rt; written.as_slice() == text.as_bytes());
     let (told, written) = run(
         rt.alloc(),
-        "store max 0 8 8 2\nenter 0\ndo 0 0 rmw a 5\ndo 0 0 rmw a -2\n",
+        "store count 0 8 8 2\nenter 0\ndo 0 0 upsert a +7\ndo 0 0 rmw a 0\ndo 0 0 upsert b -0\n",
     );
     assert_eq!(rt; told, Ok(()));
-    let text = "entered 0\ndone value 5\ndone value 5\nmap 1\na 5\n";
+    let text = "entered 0\ndone stored\ndone value 8\ndone stored\nmap 2\na 8\nb 0\n";
     assert!(rt; written.as_slice() == text.as_bytes());
+    let (told, written) = run(
+        rt.alloc(),
+        "store max 0 8 8 2\nenter 0\ndo 0 0 rmw a 5\ndo 0 0 rmw a -2\ndo 0 0 upsert a -2\ndo 0 0 rmw a -3\n",
+    );
+    assert_eq!(rt; told, Ok(()));
+    let text = "entered 0\ndone value 5\ndone value 5\ndone stored\ndone value -2\nmap 1\na -2\n";
+    assert!(rt; written.as_slice() == text.as_bytes());
+}
+
+/// An operation that a random word names.
+fn random_op(word: u64, key: Name) -> OpOf<SumFns> {
+    let amount = (word >> 8 & 0xff) as i64 - 100;
+    match word >> 4 & 3 {
+        0 => Op::Read(key, 0),
+        1 => Op::Upsert(key, amount as i128),
+        2 => Op::Rmw(key, amount),
+        _ => Op::Delete(key),
+    }
+}
+
+/// The words of an operation in a line.
+fn words_of(alloc: Global, key: &str, op: OpOf<SumFns>) -> Result<String, Fail> {
+    Ok(match op {
+        Op::Read(_, _) => format!(in alloc; "read {key}")?,
+        Op::Upsert(_, value) => format!(in alloc; "upsert {key} {value}")?,
+        Op::Rmw(_, amount) => format!(in alloc; "rmw {key} {amount}")?,
+        Op::Delete(_) => format!(in alloc; "delete {key}")?,
+    })
+}
+
+/// Sixteen sessions in two partitions do random operations, each of them whole; the same operations are run
+/// by the plain program, and what it answers is what the lines print.
+#[test]
+fn random_lines_beside_the_plain_program(rt: HostRuntime) -> Result<(), Fail> {
+    let keys = ["a", "b", "c", "d", "e"];
+    let mut rng = Xoshiro256PlusPlus::seed_from_u64(7);
+    let mut script = Vec::new(rt.alloc());
+    let mut text = Vec::new(rt.alloc());
+    let mut ops = Vec::new(rt.alloc());
+    writeln!(script, "store sum 1 8 8 2")?;
+    for entered in 0..16u64 {
+        writeln!(script, "enter {}", entered % 2)?;
+        writeln!(text, "entered {}", entered / 2)?;
+    }
+    for _ in 0..500 {
+        let word = rng.next_u64();
+        let key = keys[(word >> 40) as usize % 5];
+        let name = Name::new(key.as_bytes()).ok_or("a name")?;
+        let op = random_op(word, name);
+        let words = words_of(rt.alloc(), key, op)?;
+        let partition = SumFns.hash(&name) % 2;
+        writeln!(script, "do {partition} {} {words}", word >> 1 & 7)?;
+        ops.push(op)?;
+    }
+    let plain = run_plainly(rt.alloc(), &SumFns, &ops)?;
+    for answer in &plain.answers {
+        match answer {
+            Answer::Value(value) => writeln!(text, "done value {value}")?,
+            Answer::Absent => writeln!(text, "done absent")?,
+            Answer::Stored => writeln!(text, "done stored")?,
+            Answer::Deleted => writeln!(text, "done deleted")?,
+        }
+    }
+    writeln!(text, "map {}", plain.map.len())?;
+    for key in keys {
+        let name = Name::new(key.as_bytes()).ok_or("a name")?;
+        if let Some(value) = plain.map.get(&name) {
+            writeln!(text, "{key} {value}")?;
+        }
+    }
+    let mut written = Vec::new(rt.alloc());
+    assert_eq!(rt;
+        run_script(rt.alloc(), script.as_slice(), &mut written),
+        Ok(())
+    );
+    assert!(rt; written == text);
+    Ok(())
 }
 
 #[test]
@@ -204,7 +372,11 @@ fn bad_input(rt: HostRuntime) {
         ("", Refused::BadScript { line: 1 }),
         ("store sum 0 8 8 2\nenter", Refused::BadScript { line: 2 }),
         (
-            "store sum 0 8 8 2\nenter 0\nupsert 0 0 a 1\n",
+            "store sum 0 8 8 2\nenter 0\nupsert 0 0 a\n",
+            Refused::BadScript { line: 3 },
+        ),
+        (
+            "store count 0 8 8 2\nenter 0\ndo 0 0 upsert a -1\n",
             Refused::BadScript { line: 3 },
         ),
         ("store sum 0 8 7 2\nenter\n", Refused::BadScript { line: 2 }),
@@ -240,8 +412,12 @@ fn reader_that_fails(rt: HostRuntime) {
 
 #[test]
 fn writer_that_fails(rt: HostRuntime) {
-    let script = "store sum 0 8 8 2\nenter 0\ndo 0 0 rmw a 5\n";
-    let text = b"entered 0\ndone value 5\nmap 1\na 5\n".as_slice();
+    let script =
+        "store sum 0 0 8 2\nenter 0\ndo 0 0 rmw a 5\ndo 0 0 upsert b 1\ndo 0 0 upsert c 2\n\
+        do 0 0 rmw d 3\ndo 0 0 delete b\n";
+    let text = b"entered 0\ndone value 5\ndone stored\ndone stored\ndone value 3\ndone deleted\n\
+        map 3\na 5\nc 2\nd 3\n"
+        .as_slice();
     for calls in 0..8u64 {
         let mut writer = Filling {
             text: Vec::new(rt.alloc()),

@@ -1,17 +1,19 @@
 //! Running a script from a reader to a writer.
 ghost use Rattle.std.specs.Prelude.{◌≡◌, ◌≢◌, ◌⊎◌, ℕ, List, Err, IfOk, IfErr, IfSome, OnOk};
+ghost use Rattle.fkv_records.specs.Records.{size_of};
 ghost use Rattle.fkv_partition.specs.Limits.{IsWithinLimits};
 ghost use Rattle.fkv_steps.specs.declared.scripts.lines.Line.{Line};
 ghost use Rattle.fkv_functions.specs.Names.{name_cmp};
 ghost use Rattle.std.specs.Io.KnownBytes.{Appends};
 ghost use Rattle.fkv_steps.specs.Printing.{AppendsPrefix};
 ghost use Rattle.fkv_steps.specs.Script.{lines_of, IsBadAt};
-ghost use Rattle.fkv_steps.specs.Running.{config_of, RunsLine, IsPrintedBy, IsOutputOf, HasBadConfig};
+ghost use Rattle.fkv_steps.specs.Running.{config_of, op_of, RunsLine, IsPrintedBy, IsOutputOf, HasBadConfig};
 
 use crate::outcomes::{Outcome, OutcomeOf};
 use crate::scripts::lines::{FunctionsName, Line, Opening};
 use crate::scripts::printing::{Printed, text_of, write_out};
 use crate::scripts::reading::{LIMIT, read_script};
+use crate::scripts::written::Written;
 use crate::steps::{Place, Step};
 use crate::worlds::World;
 use fkv_functions::{CountFns, Functions, MaxFns, Name, Refused, SumFns};
@@ -36,13 +38,27 @@ impl Opening {
     }
 }
 
+/// The operation of a line, on values.
+fn on_values<V: Written>(op: Op<Name, i64, i64>) -> Op<Name, V, i64>
+    ensures { result ≡ op_of V.written op }
+{
+    match op {
+        Op::Read(key, input) => Op::Read(key, input),
+        Op::Upsert(key, amount) => Op::Upsert(key, V::from_amount(amount)),
+        Op::Rmw(key, amount) => Op::Rmw(key, amount),
+        Op::Delete(key) => Op::Delete(key),
+    }
+}
+
 /// Does what a line says, and answers what its last step told.
 fn run_line<F: Functions<Key = Name, Input = i64>>(
     world: &mut World<F>,
     functions: &F,
     line: &Line,
 ) -> Result<OutcomeOf<F>, Refused>
-    ensures { RunsLine name_cmp F.meaning F.code world.old world.new result line.now }
+where
+    F::Value: Written,
+    ensures { RunsLine name_cmp F.meaning F.code F.Value.written world.old world.new result line.now }
 {
     match *line {
         Line::Enter { partition } => world.step(functions, Step::Enter(partition as usize)),
@@ -52,7 +68,7 @@ fn run_line<F: Functions<Key = Name, Input = i64>>(
             op,
         } => world.step(
             functions,
-            Step::Issue(partition as usize, session as usize, op),
+            Step::Issue(partition as usize, session as usize, on_values(op)),
         ),
         Line::Do {
             partition,
@@ -77,11 +93,13 @@ fn do_operation<F: Functions<Key = Name, Input = i64>>(
     functions: &F,
     partition: usize,
     slot: usize,
-    op: Op<Name, i64>,
+    op: Op<Name, i64, i64>,
 ) -> Result<OutcomeOf<F>, Refused>
-    ensures { RunsLine name_cmp F.meaning F.code world.old world.new result (Line.Do partition slot op) }
+where
+    F::Value: Written,
+    ensures { RunsLine name_cmp F.meaning F.code F.Value.written world.old world.new result (Line.Do partition slot op) }
 {
-    let issued = world.step(functions, Step::Issue(partition, slot, op));
+    let issued = world.step(functions, Step::Issue(partition, slot, on_values(op)));
     match issued {
         Ok(Outcome::Issued(context)) => world.finish(
             functions,
@@ -104,11 +122,11 @@ fn printed_by<F: Functions<Key = Name, Input = i64>>(
     lines: &[Line],
 ) -> Result<Vec<u8>, Refused>
 where
-    F::Value: Printed,
+    F::Value: Written + Printed,
     F::Output: Printed,
-    ensures ok { IfOk result (λ text. IsPrintedBy name_cmp F.meaning F.code F.Value.text F.Output.text config.now lines.now text.items) }
-    ensures good { result ≢ Err Refused.BadConfig → IsWithinLimits config.now }
-    ensures bad { result ≡ Err Refused.BadConfig → ¬ IsWithinLimits config.now }
+    ensures ok { IfOk result (λ text. IsPrintedBy name_cmp F.meaning F.code F.Value.written F.Value.text F.Output.text config.now (size_of 32 F.Value.SIZE) lines.now text.items) }
+    ensures good { result ≢ Err Refused.BadConfig → IsWithinLimits config.now (size_of 32 F.Value.SIZE) }
+    ensures bad { result ≡ Err Refused.BadConfig → ¬ IsWithinLimits config.now (size_of 32 F.Value.SIZE) }
     ensures only { IfErr result (λ refused. (refused ≡ Refused.BadConfig) ⊎ (refused ≡ Refused.NoMemory)) }
 {
     let mut world = World::<F>::new(alloc, config)?;

@@ -47,7 +47,11 @@ giveup 1 15 7
 ready 1 15 7
 finish 1 15 7
 do 1 15 read a
-do 1 15 rmw a -0";
+do 1 15 rmw a -0
+upsert 1 15 a -3
+delete 1 15 a
+do 1 15 upsert a +7
+do 1 15 delete a-1";
     let a = name(b"a")?;
     let lines = [
         Line::Enter { partition: 1 },
@@ -84,6 +88,26 @@ do 1 15 rmw a -0";
             partition: 1,
             session: 15,
             op: Op::Rmw(a, 0),
+        },
+        Line::Issue {
+            partition: 1,
+            session: 15,
+            op: Op::Upsert(a, -3),
+        },
+        Line::Issue {
+            partition: 1,
+            session: 15,
+            op: Op::Delete(a),
+        },
+        Line::Do {
+            partition: 1,
+            session: 15,
+            op: Op::Upsert(a, 7),
+        },
+        Line::Do {
+            partition: 1,
+            session: 15,
+            op: Op::Delete(name(b"a-1")?),
         },
     ];
     let script = read(rt.alloc(), text)?;
@@ -155,7 +179,14 @@ fn bad_later_lines(rt: HostRuntime) -> Result<(), Fail> {
         "leave 0 0 0",
         "giveup 0 0",
         "refresh 0 0",
-        "upsert 0 0 a 1",
+        "upsert 0 0 a",
+        "upsert 0 0 a 1 1",
+        "upsert 0 0 a.b 1",
+        "upsert 0 0 a 9223372036854775808",
+        "delete 0 0",
+        "delete 0 0 a 1",
+        "delete 0 a",
+        "Delete 0 0 a",
         "read 0 0",
         "read 0 0 a 0",
         "read 0 0 abcdefghijklmnopqrstuvwxyz012345",
@@ -169,7 +200,10 @@ fn bad_later_lines(rt: HostRuntime) -> Result<(), Fail> {
         "go 0 0",
         "go 0 0 0 0",
         "do 0 0 go 0",
-        "do 0 0 upsert a 1",
+        "do 0 0 upsert a",
+        "do 0 0 upsert a -",
+        "do 0 0 delete a 1",
+        "do 0 0 Upsert a 1",
         "do 0 0 read a 1",
     ];
     for bad in lines.iter() {
@@ -228,6 +262,32 @@ fn broken(alloc: Global, text: &str, left: u64, kind: ErrorKind) -> Option<Refus
 }
 
 #[test]
+fn counts_are_not_written_below_0(rt: HostRuntime) -> Result<(), Fail> {
+    for line in ["upsert 0 0 a", "do 0 0 upsert a"] {
+        for (functions, amount, is_bad) in [
+            ("count", "3", false),
+            ("count", "-0", false),
+            ("count", "-1", true),
+            ("count", "-9223372036854775808", true),
+            ("sum", "-1", false),
+            ("max", "-1", false),
+        ] {
+            // a line that is bad in every store stands behind it
+            let text = format!(in rt.alloc();
+                "store {functions} 0 8 8 2\nrmw 0 0 a -1\n{line} {amount}\n\n"
+            )?;
+            let bad = if is_bad { 3 } else { 4 };
+            assert_eq!(rt;
+                read(rt.alloc(), text.as_str()).err(),
+                Some(Refused::BadScript { line: bad }),
+                "{text}"
+            );
+        }
+    }
+    Ok(())
+}
+
+#[test]
 fn a_reader_that_fails(rt: HostRuntime) {
     let unreadable = Some(Refused::Unreadable { number: 1 });
     // four calls give bytes, and the fifth says that there are no more
@@ -257,7 +317,7 @@ fn a_reader_that_fails(rt: HostRuntime) {
 fn printed_texts(rt: HostRuntime) -> Result<(), Fail> {
     let what = What::Page;
     let (held, came) = (1, 2);
-    let steps: [Result<Outcome<i128, i128>, Refused>; 12] = [
+    let steps: [Result<Outcome<i128, i128>, Refused>; 14] = [
         Ok(Outcome::Entered(0)),
         Ok(Outcome::Issued(7)),
         Ok(Outcome::Next),
@@ -265,6 +325,8 @@ fn printed_texts(rt: HostRuntime) -> Result<(), Fail> {
         Ok(Outcome::Build(Some(-5))),
         Ok(Outcome::Done(Answer::Value(i128::MIN))),
         Ok(Outcome::Done(Answer::Absent)),
+        Ok(Outcome::Done(Answer::Stored)),
+        Ok(Outcome::Done(Answer::Deleted)),
         Err(Refused::NoMemory),
         Err(Refused::Stranger { what, held, came }),
         Err(Refused::Stalled),
@@ -280,6 +342,8 @@ build none
 build -5
 done value -170141183460469231731687303715884105728
 done absent
+done stored
+done deleted
 refused NoMemory
 refused Stranger
 refused Stalled

@@ -1,12 +1,12 @@
 //! What a text says, line by line.
 ghost use Rattle.std.specs.Prelude.{◌≡◌, ◌∷◌, ◌<◌, ◌+◌, ◌≤◌, ◌⊎◌, ◌++◌, ◌^◌, ℕ, List, [], OnOk, IfOk, IfErr, length};
 ghost use Rattle.std.specs.List.{position};
-ghost use Rattle.fkv_steps.specs.Grammar.{Says, Opens};
-ghost use Rattle.fkv_steps.specs.Script.{lines_of, is_line_end, SayAll, SaysScript, IsBadLine, IsBadAt};
+ghost use Rattle.fkv_steps.specs.Grammar.{Opens};
+ghost use Rattle.fkv_steps.specs.Script.{lines_of, is_line_end, SaysTo, SayAll, SaysScript, IsBadLine, IsBadAt};
 ghost use Rattle.fkv_steps.specs.declared.scripts.lines.Line.{Line};
 ghost use Rattle.fkv_steps.specs.declared.scripts.lines.Opening.{Opening};
 
-use crate::scripts::lines::{Line, Script};
+use crate::scripts::lines::{FunctionsName, Line, Script};
 use crate::scripts::parse::{parse_line, parse_opening};
 use fkv_functions::Refused;
 use std::alloc::Global;
@@ -28,17 +28,22 @@ pub fn script_of(alloc: Global, text: &[u8], limit: u32) -> Result<Script, Refus
     let Some(opening) = parse_opening(first) else {
         return Err(Refused::BadScript { line: 1 });
     };
-    let lines = lines_after(alloc, rest, limit)?;
+    let lines = lines_after(alloc, opening.functions, rest, limit)?;
     Ok(Script { opening, lines })
 }
 
-/// What the lines of a text say that stand after a first line. `limit` and the number of a bad line count
-/// that first line too.
-fn lines_after(alloc: Global, text: &[u8], limit: u32) -> Result<Vec<Line>, Refused>
+/// What the lines of a text say that stand after a first line which names these functions. `limit` and the
+/// number of a bad line count that first line too.
+fn lines_after(
+    alloc: Global,
+    functions: FunctionsName,
+    text: &[u8],
+    limit: u32,
+) -> Result<Vec<Line>, Refused>
     requires { 0 < limit }
-    ensures ok { IfOk result (λ lines. SayAll (lines_of text.now) lines.items × (length (lines_of text.now) < limit)) }
-    // Whatever first line stands before.
-    ensures bad { IfErr result (λ e. (n : ℕ) → e ≡ Refused.BadScript n → (first : List ℕ) (o : Opening) → Opens first o → IsBadLine limit (first ∷ lines_of text.now) n) }
+    ensures ok { IfOk result (λ lines. SayAll functions (lines_of text.now) lines.items × (length (lines_of text.now) < limit)) }
+    // Whatever first line of these functions stands before.
+    ensures bad { IfErr result (λ e. (n : ℕ) → e ≡ Refused.BadScript n → (first : List ℕ) (o : Opening) → Opens first o → o.functions ≡ functions → IsBadLine limit (first ∷ lines_of text.now) n) }
     ensures only { IfErr result (λ e. (e ≡ Refused.NoMemory) ⊎ ((n : ℕ) × (e ≡ Refused.BadScript n))) }
 {
     let mut lines = Vec::new(alloc);
@@ -49,20 +54,20 @@ fn lines_after(alloc: Global, text: &[u8], limit: u32) -> Result<Vec<Line>, Refu
             let line = lines.len() as u64 + 2;
             return Err(Refused::BadScript { line });
         }
-        add_line(&mut lines, line)?;
+        add_line(&mut lines, functions, line)?;
         rest = after;
     }
     Ok(lines)
 }
 
 /// Adds what a line says, which stands after a first line and these.
-fn add_line(lines: &mut Vec<Line>, line: &[u8]) -> Result<(), Refused>
+fn add_line(lines: &mut Vec<Line>, functions: FunctionsName, line: &[u8]) -> Result<(), Refused>
     requires { length lines.old.items < 2 ^ 32 }
-    ensures ok { OnOk result ((l : Line) × Says line.now l × (lines.new.items ≡ lines.old.items ++ l ∷ [])) }
-    ensures bad { IfErr result (λ e. (n : ℕ) → e ≡ Refused.BadScript n → (n ≡ length lines.old.items + 2) × ((l : Line) → Says line.now l → ⊥)) }
+    ensures ok { OnOk result ((l : Line) × SaysTo functions line.now l × (lines.new.items ≡ lines.old.items ++ l ∷ [])) }
+    ensures bad { IfErr result (λ e. (n : ℕ) → e ≡ Refused.BadScript n → (n ≡ length lines.old.items + 2) × ((l : Line) → SaysTo functions line.now l → ⊥)) }
     ensures only { IfErr result (λ e. (e ≡ Refused.NoMemory) ⊎ ((n : ℕ) × (e ≡ Refused.BadScript n))) }
 {
-    let Some(said) = parse_line(line) else {
+    let Some(said) = parse_line(functions, line) else {
         let line = lines.len() as u64 + 2;
         return Err(Refused::BadScript { line });
     };

@@ -1,4 +1,4 @@
-use Rattle.std.proofs.Common.{◌≡◌, None, Some, refl, sym, ap, ◌∙◌}
+use Rattle.std.proofs.Common.{refl}
 use Rattle.fkv_partition.specs.Ending.{gives_up}
 use Rattle.fkv_partition.proofs.SoundLemmas.{sound-freed}
 use Rattle.fkv_partition.proofs.EventLemmas.{context-is, event-give_up}

@@ -1,4 +1,4 @@
-use Rattle.std.proofs.Common.{◌≡◌, true, false, None, Some, refl, sym, ap, ◌∙◌, ◌+◌, ◌*◌, position, is_some, slice_range, slice_get, unwrap_or}
+use Rattle.std.proofs.Common.{false, refl, sym, ap, ◌∙◌, ◌+◌, ◌*◌, position, is_some, slice_range, slice_get, unwrap_or}
 use Rattle.fkv_partition.specs.Ending.{busy, leaves}
 use Rattle.fkv_partition.proofs.SoundLemmas.{sound-left}
 use Rattle.fkv_partition.proofs.EventLemmas.{event-leave}

@@ -1,14 +1,17 @@
-use Rattle.std.proofs.Common.{arith}
+use Rattle.std.proofs.Common.{arith, refl, ap, ◌∙◌}
+use Rattle.fkv_operations.specs.RecordsViews.{empty_records}
 use Rattle.fkv_partition.proofs.SoundLemmas.{sound-empty}
 use Rattle.fkv_partition.proofs.partitions.Partition.new.Goals as goal
 
 pub invariant_of-result : goal.invariant_of-result
 invariant_of-result g c =
-    rw (c.partitions-count.ensures.count, c.new.ensures, c.new-2.ensures.empty, c.from.ensures.0, c.in_ok-contexts.ensures.ok)
-    (sound-empty c.args.config.now c.args.number (omega (arith, c.partitions.ensures.count, c.if-number-partitions.false)))
+    let shape = c.in-Some.ensures.some in
+    let empty = c.in_ok-records.ensures.ok ∙ ap (λ b. empty_records c.args.config.now.partition_bits c.args.config.now.bucket_bits b c.in-Some.shape.record_size) shape.0 ∙ ap (empty_records c.args.config.now.partition_bits c.args.config.now.bucket_bits c.args.config.now.page_bits) shape.1 in
+    rw (c.partitions-count.ensures.count, empty, c.from.ensures.0, c.in_ok-contexts.ensures.ok)
+    (sound-empty c.args.config.now _ c.args.number (omega (arith, c.partitions-count.ensures.count, c.if-number-count.false)) (rw empty at c.known.ensures))
 
 pub returns-clause-good : goal.returns-clause-good
 returns-clause-good g c = λ _. record {
-  limits = c.is_within_limits.ensures.0 c.if-not-is_within_limits.false;
-  below = omega (arith, c.partitions.ensures.count, c.if-number-partitions.false);
+  limits = c.in-Some.ensures.range.0 refl;
+  below = omega (arith, c.partitions-count.ensures.count, c.if-number-count.false);
 }

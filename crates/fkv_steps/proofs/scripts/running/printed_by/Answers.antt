@@ -1,6 +1,7 @@
 use Rattle.std.proofs.Common.{◌≡◌, ◌≤◌, ◌+◌, ◌∷◌, [], ◌++◌, take, subst, length, sym, ap, ◌∙◌, add-one, arith}
 use Rattle.std.proofs.Math.Seq.{take-suc}
 use Rattle.fkv_functions.specs.Names.{name_cmp}
+use Rattle.fkv_records.specs.Records.{size_of}
 use Rattle.fkv_steps.specs.States.{empty_world}
 use Rattle.fkv_steps.specs.Running.{RunLines}
 use Rattle.fkv_steps.specs.Printing.{steps_text, map_text}
@@ -18,7 +19,7 @@ loop-line-preserved g c =
     let took : take (c.loop-line.line-index + 1) c.args.lines.now ≡ done ++ line ∷ [] =
     rw add-one (take-suc c.args.lines.now c.loop-line.line-index line c.loop-line-test.true ∙ ap (λ x. done ++ x ∷ []) (sym c.line-item.is)) in
     rw (took, c.in-Ok.ensures.items)
-    (lines-append name_cmp g.F.Functions.meaning g.F.Functions.code (empty_world c.args.config.now) c.loop-line.world c.run_line-one.new.world done c.loop-line.told.items line c.run_line-one.result
+    (lines-append name_cmp g.F.Functions.meaning g.F.Functions.code g.F.Value.Written.written (empty_world c.args.config.now (size_of 32 g.F.Value.Fixed.SIZE)) c.loop-line.world c.run_line-one.new.world done c.loop-line.told.items line c.run_line-one.result
     c.loop-line.invariant c.run_line-one.ensures)
 
 pub returns-clause-ok : goal.returns-clause-ok
@@ -28,7 +29,7 @@ returns-clause-ok g c =
       world = c.loop-line.world;
       told = c.loop-line.told.items;
       pairs = c.in_ok-pairs.pairs.items;
-      ran = subst (λ ls. RunLines name_cmp g.F.Functions.meaning g.F.Functions.code (empty_world c.args.config.now) ls c.loop-line.told.items c.loop-line.world) (take-all c.loop-line.line-index c.args.lines.now past) c.loop-line.invariant;
+      ran = subst (λ ls. RunLines name_cmp g.F.Functions.meaning g.F.Functions.code g.F.Value.Written.written (empty_world c.args.config.now (size_of 32 g.F.Value.Fixed.SIZE)) ls c.loop-line.told.items c.loop-line.world) (take-all c.loop-line.line-index c.args.lines.now past) c.loop-line.invariant;
       headline = c.headline.ensures;
       map = c.in_ok-pairs.ensures.map;
       rising = c.in_ok-pairs.ensures.rising;

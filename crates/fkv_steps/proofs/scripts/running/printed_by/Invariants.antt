@@ -1,9 +1,10 @@
 use Rattle.std.proofs.Common.{take}
 use Rattle.fkv_functions.specs.Names.{name_cmp}
+use Rattle.fkv_records.specs.Records.{size_of}
 use Rattle.fkv_steps.specs.States.{empty_world}
 use Rattle.fkv_steps.specs.Running.{RunLines}
 use Rattle.fkv_steps.proofs.scripts.running.printed_by.Given as goal
 
 -- the lines so far lead to the world, and told this
 abbrev pub invariant-loop-line : goal.invariant-loop-line
-invariant-loop-line g l = RunLines name_cmp g.F.Functions.meaning g.F.Functions.code (empty_world l.config) (take l.line-index l.lines) l.told.items l.world
+invariant-loop-line g l = RunLines name_cmp g.F.Functions.meaning g.F.Functions.code g.F.Value.Written.written (empty_world l.config (size_of 32 g.F.Value.Fixed.SIZE)) (take l.line-index l.lines) l.told.items l.world

@@ -7,7 +7,7 @@ pub returns-in-Leave : goal.returns-in-Leave
 returns-in-Leave g c = rw c.in-Leave.is c.step-in-Leave.ensures.does
 
 pub returns-in-Issue : goal.returns-in-Issue
-returns-in-Issue g c = rw c.in-Issue.is c.step-in-Issue.ensures.does
+returns-in-Issue g c = rw c.in-Issue.is (rw (← c.on_values.ensures) c.step-in-Issue.ensures.does)
 
 pub returns-in-Go : goal.returns-in-Go
 returns-in-Go g c = rw c.in-Go.is c.step-in-Go.ensures.does

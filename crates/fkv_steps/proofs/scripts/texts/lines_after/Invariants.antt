@@ -4,7 +4,7 @@ use Rattle.fkv_steps.proofs.scripts.texts.lines_after.Given as goal
 
 abbrev pub invariant-loop-rest : goal.invariant-loop-rest
 invariant-loop-rest l = record {
-  read : (front : List (List ℕ)) × (lines_of l.text ≡ front ++ lines_of l.rest) × SayAll front l.lines.items;
+  read : (front : List (List ℕ)) × (lines_of l.text ≡ front ++ lines_of l.rest) × SayAll l.functions front l.lines.items;
   few : length l.lines.items < l.limit;
 }
 

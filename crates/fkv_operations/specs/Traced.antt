@@ -1,0 +1,24 @@
+-- What the records of a partition always keep: each record leads to the one before it in its class, and the entry of a
+-- class to the last.
+use Rattle.std.specs.Prelude.{◌≡◌, ℕ, ◌≤◌}
+use Rattle.fkv_records.specs.Records.{IsPrevious}
+use Rattle.fkv_hybrid.specs.Places.{IsLaidOut}
+use Rattle.fkv_hybrid.specs.Text.{IsRising, IsFrom, IsBelow}
+use Rattle.fkv_hybrid.specs.Chains.{last_of_class, Leads, IsChained}
+use Rattle.fkv_operations.specs.declared.classes.Class.{Class}
+use Rattle.fkv_operations.specs.Classes.{same_class}
+use Rattle.fkv_operations.specs.RecordsViews.{RecordsView, class_in, entry_of, address_of}
+
+pub record IsTraced {K V : Type 0} (code : K → ℕ) (v : RecordsView K V) : Type 0 where
+  pub partition_bits : v.partition_bits ≤ 6
+  pub bucket_bits : v.bucket_bits ≤ 20
+  pub begin : v.begin ≡ 64
+  pub laid_out : IsLaidOut v.page_bits v.record_size v.begin v.tail v.text
+  pub rising : IsRising v.text
+  pub from : IsFrom v.begin v.text
+  pub below : IsBelow v.tail v.text
+  pub chained : IsChained (class_in code v) same_class v.begin v.text
+  -- the entry of a class leads to the class's last record, and where it has none there is no entry, or it leads nowhere
+  pub leads : (c : Class) → Leads v.begin (last_of_class (class_in code v) same_class v.text c) (address_of (entry_of v c))
+  -- so it can be the previous address of the next record
+  pub placed : (c : Class) → IsPrevious v.tail (address_of (entry_of v c))
