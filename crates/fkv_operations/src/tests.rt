@@ -80,7 +80,18 @@ fn two_updates_from_one_look_up(rt: HostRuntime) -> Result<(), Fail> {
 fn counts_and_maxima(rt: HostRuntime) -> Result<(), Fail> {
     let a = name(b"a")?;
     let b = name(b"b")?;
-    let ops = [Op::Rmw(a, 5), Op::Rmw(b, 7), Op::Rmw(a, -2), Op::Read(a, 0)];
+    let counted: [OpOf<CountFns>; 4] = [
+        Op::Rmw(a, 5),
+        Op::Rmw(b, 7),
+        Op::Rmw(a, -2),
+        Op::Read(a, 0),
+    ];
+    let compared: [OpOf<MaxFns>; 4] = [
+        Op::Rmw(a, 5),
+        Op::Rmw(b, 7),
+        Op::Rmw(a, -2),
+        Op::Read(a, 0),
+    ];
     let counts = [
         Answer::Value(1),
         Answer::Value(1),
@@ -91,7 +102,7 @@ fn counts_and_maxima(rt: HostRuntime) -> Result<(), Fail> {
         &rt,
         rt.alloc(),
         &CountFns,
-        &ops,
+        &counted,
         &counts,
         &[(a, Some(2)), (b, Some(1))],
     )?;
@@ -105,7 +116,7 @@ fn counts_and_maxima(rt: HostRuntime) -> Result<(), Fail> {
         &rt,
         rt.alloc(),
         &MaxFns,
-        &ops,
+        &compared,
         &maxima,
         &[(a, Some(5)), (b, Some(7))],
     )
