@@ -1,4 +1,3 @@
-pub mod ListLemmas
 pub mod SafeLemmas
 pub mod TimelyLemmas
 pub mod StepLemmas

@@ -12,7 +12,7 @@ use Rattle.fkv_epoch.specs.Moves.{fresh}
 use Rattle.fkv_epoch.specs.Timely.{IsRising, IsTimely}
 use Rattle.fkv_epoch.specs.Calls.{lets_out, after, let_out, put_in}
 use Rattle.fkv_epoch.specs.Runs.{state_after, out_at, in_at, lets_out_at, all_out, all_in, IsFirstSafe, IsOnceInOrder}
-use Rattle.fkv_epoch.proofs.ListLemmas.{none-inside, one-inside}
+use Rattle.fkv_functions.proofs.ListLemmas.{none-inside, one-inside}
 use Rattle.fkv_epoch.proofs.SafeLemmas.{safe-fact, safe-test}
 use Rattle.fkv_epoch.proofs.StepLemmas.{IsStep, step}
 use Rattle.fkv_epoch.proofs.TimelyLemmas.{timely-fresh}

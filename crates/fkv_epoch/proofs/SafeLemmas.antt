@@ -9,7 +9,7 @@ use Rattle.fkv_epoch.specs.EpochState.{EpochState}
 use Rattle.fkv_epoch.specs.Due.{due}
 use Rattle.fkv_epoch.specs.SafeEpoch.{IsSafeEpoch, is_safe_epoch}
 use Rattle.fkv_epoch.specs.Timely.{IsRising}
-use Rattle.fkv_epoch.proofs.ListLemmas.{PassesFirst, filter-front, filter-behind}
+use Rattle.fkv_functions.proofs.ListLemmas.{PassesFirst, filter-front, filter-behind}
 
 -- an epoch below a safe one is safe
 pub safe-below : (slots : List (Option ℕ)) (c d : ℕ) → c ≤ d → is_safe_epoch slots d ≡ true → is_safe_epoch slots c ≡ true

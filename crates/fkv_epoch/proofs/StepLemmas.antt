@@ -14,7 +14,7 @@ use Rattle.fkv_epoch.specs.Due.{due, settled}
 use Rattle.fkv_epoch.specs.Moves.{free_slot, is_entered, renewed, vacated, bumped}
 use Rattle.fkv_epoch.specs.Timely.{IsOrdered, IsTimely}
 use Rattle.fkv_epoch.specs.Calls.{lets_out, after, let_out, put_in}
-use Rattle.fkv_epoch.proofs.ListLemmas.{filter-split}
+use Rattle.fkv_functions.proofs.ListLemmas.{filter-split}
 use Rattle.fkv_epoch.proofs.SafeLemmas.{safe-first}
 use Rattle.fkv_epoch.proofs.TimelyLemmas.{ordered-renewed, ordered-vacated, ordered-bumped, timely-settled, timely-entered}
 

@@ -16,7 +16,7 @@ use Rattle.fkv_epoch.specs.SafeEpoch.{is_safe_epoch}
 use Rattle.fkv_epoch.specs.Due.{settled}
 use Rattle.fkv_epoch.specs.Moves.{fresh, free_slot, renewed, vacated, bumped}
 use Rattle.fkv_epoch.specs.Timely.{IsOrdered, IsTimely}
-use Rattle.fkv_epoch.proofs.ListLemmas.{not-true}
+use Rattle.fkv_functions.proofs.ListLemmas.{not-true}
 
 -- what stands in a list after a write stood there before, or was written
 pub set-cases : {X : Type 0} (xs : List X) (i k : ℕ) (x y : X) → slice_get (set xs i x) k ≡ Some y → (x ≡ y) ⊎ (slice_get xs k ≡ Some y)

@@ -1,7 +1,8 @@
-use Rattle.std.proofs.Common.{◌≡◌, ◌≢◌, ◌<◌, ◌%◌, ℕ, suc, zero, List, [], ◌∷◌, Option, Some, None, set, length, ◌^◌, refl, sym, ◌∙◌, ap, arith, rules, true, false, ◌==◌, eq-eqb, Bool, get_or-set_same, length-set, replicate, bit_and, ◌-◌}
+use Rattle.std.proofs.Common.{◌≡◌, ◌≢◌, ◌<◌, ◌%◌, ℕ, suc, zero, List, [], ◌∷◌, Option, Some, None, set, length, ◌^◌, refl, ◌∙◌, ap, arith, rules, true, false, ◌==◌, eq-eqb, Bool, length-set, replicate, bit_and, ◌-◌}
 use Rattle.std.proofs.lemmas.Nat.{and_mask}
-use Rattle.std.proofs.lemmas.Option.{slice_get_read, slice_get-map}
+use Rattle.std.proofs.lemmas.Option.{slice_get-map}
 use Rattle.std.specs.Prelude.{slice_get}
+use Rattle.fkv_functions.proofs.ListLemmas.{get-set_within, get-set_other}
 use Rattle.fkv_frames.specs.Ring.{Ring}
 use Rattle.fkv_frames.specs.Held.{held, in_slot, LeavesOthers, Opens, Writes, written_at}
 use Rattle.std.proofs.lemmas.List.{map-set, length-map}
@@ -15,18 +16,6 @@ use Rattle.fkv_frames.specs.declared.ring.Frame.{Frame}
 pub masked : (address bits : ℕ) → bit_and address (2 ^ bits - 1) ≡ address % 2 ^ bits
 masked address bits = and_mask address bits
 
-pub get-set_same : {X : Type 0} (xs : List X) (i : ℕ) (x : X) → i < length xs → slice_get (set xs i x) i ≡ Some x
-get-set_same xs i x h =
-    let inside : i < length (set xs i x) = rw length-set h in
-    slice_get_read (set xs i x) (length (set xs i x)) i x refl inside (sym (get_or-set_same xs i x x h))
-
-pub get-set_other : {X : Type 0} (xs : List X) (i j : ℕ) (x : X) → j ≢ i → slice_get (set xs i x) j ≡ slice_get xs j
-get-set_other [] i j x ne = refl
-get-set_other (y ∷ ys) zero zero x ne = absurd (ne refl)
-get-set_other (y ∷ ys) zero (suc j) x ne = refl
-get-set_other (y ∷ ys) (suc i) zero x ne = refl
-get-set_other (y ∷ ys) (suc i) (suc j) x ne = get-set_other ys i j x (λ e. ne (ap suc e))
-
 -- a ring with page n in its slot
 abbrev pub with_page : Ring → ℕ → List ℕ → Ring
 with_page r n bytes = record { bits = r.bits; slots = set r.slots (n % length r.slots) (Some n, bytes) }
@@ -37,7 +26,7 @@ own_page n bytes = rw (eq-eqb n n refl) refl
 pub held-with_page : (r : Ring) (n : ℕ) (bytes : List ℕ) → 0 < length r.slots → held (with_page r n bytes) n ≡ Some bytes
 held-with_page r n bytes h =
     let within : n % length r.slots < length r.slots = omega arith in
-    rw (length-set, get-set_same r.slots (n % length r.slots) (Some n, bytes) within) (own_page n bytes)
+    rw (length-set, get-set_within r.slots (n % length r.slots) (Some n, bytes) within) (own_page n bytes)
 
 -- another page in that slot is gone
 other_page : (n m : ℕ) (bytes : List ℕ) → m ≢ n → in_slot (Some (Some n, bytes)) m ≡ None
@@ -54,7 +43,7 @@ others-with_page r n bytes h =
       bits = refl;
       count = length-set _ _ _;
       others = λ m ne. rw length-set (ap (λ s. in_slot s m) (get-set_other r.slots (n % length r.slots) (m % length r.slots) (Some n, bytes) ne));
-      dropped = λ m e ne. rw (length-set, e, get-set_same r.slots (n % length r.slots) (Some n, bytes) within) (other_page n m bytes ne);
+      dropped = λ m e ne. rw (length-set, e, get-set_within r.slots (n % length r.slots) (Some n, bytes) within) (other_page n m bytes ne);
     }
 
 -- the slot that a frame is

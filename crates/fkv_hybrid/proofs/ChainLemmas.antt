@@ -11,7 +11,7 @@ use Rattle.fkv_functions.specs.Plain.{IsKeyOrder}
 use Rattle.fkv_hybrid.specs.declared.entries.Entry.{Entry}
 use Rattle.fkv_hybrid.specs.Text.{entry_at, has_key, last_of, AllAbove, IsRising, IsFrom, IsBelow}
 use Rattle.fkv_hybrid.specs.Chains.{IsClassTest, has_class, last_of_class, last_below, Leads, IsChained, IsChainFrom, ends, goes, StandsAt, falling}
-use Rattle.fkv_hybrid.proofs.ListLemmas.{get-append_left, get-append_last, get-append_cases}
+use Rattle.fkv_functions.proofs.ListLemmas.{get-append_left, get-append_last, get-append_cases}
 use Rattle.fkv_hybrid.proofs.LastWhere.{last_where-append, last_where-same}
 use Rattle.fkv_hybrid.proofs.TextLemmas.{one_address, entry_at-in}
 

@@ -1,4 +1,3 @@
-pub mod ListLemmas
 pub mod LastWhere
 pub mod TextLemmas
 pub mod PlaceLemmas

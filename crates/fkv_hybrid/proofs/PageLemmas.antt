@@ -19,7 +19,7 @@ use Rattle.fkv_hybrid.specs.Text.{entry_at}
 use Rattle.fkv_hybrid.specs.Views.{LogView}
 use Rattle.fkv_hybrid.specs.Places.{tail_after, IsLaidOut}
 use Rattle.fkv_hybrid.specs.Pages.{record_of, part_of, IsSpelled, IsTextOf, TheOne, HasRoom, written_at, Opens, there, made, Writes, IsLog}
-use Rattle.fkv_hybrid.proofs.ListLemmas.{get-append_left, get-append_cases, get-set_same, get-set_other}
+use Rattle.fkv_functions.proofs.ListLemmas.{get-append_left, get-append_cases, get-set_same, get-set_other}
 use Rattle.fkv_hybrid.proofs.PlaceLemmas.{after_some, after_none, next_way, after, stands, laid_out-append, entry_found, entry_stands}
 
 -- 64 lies in page 0

@@ -8,7 +8,7 @@ use Rattle.fkv_hybrid.specs.declared.entries.Entry.{Entry}
 use Rattle.fkv_hybrid.specs.Places.{IsLaidOut}
 use Rattle.fkv_hybrid.specs.Text.{last_where, has_key, last_of, newest, AllAbove, IsRising, IsFrom, IsBelow}
 use Rattle.fkv_hybrid.specs.Chains.{has_class, last_of_class, Leads, IsChained, IsIn}
-use Rattle.fkv_hybrid.proofs.ListLemmas.{get-append_last}
+use Rattle.fkv_functions.proofs.ListLemmas.{get-append_last}
 use Rattle.fkv_hybrid.proofs.LastWhere.{last_where-append, last_where-found, last_where-in, none-passes, last_where-narrow, last_where-narrow_none}
 use Rattle.fkv_operations.specs.declared.classes.Class.{Class}
 use Rattle.fkv_operations.specs.Classes.{same_class}

@@ -1,9 +1,51 @@
--- Filters of a list at the front of which everything passes.
-use Rattle.std.proofs.Common.{◌≡◌, ◌<◌, ℕ, zero, suc, Bool, true, false, not, List, [], ◌∷◌, ◌++◌, refl, ap, arith, one-add, length, take, drop, get_or}
+-- Lists: by their places, by a filter at the front of which everything passes, and lists of one.
+use Rattle.std.proofs.Common.{◌≡◌, ◌≢◌, ◌<◌, ◌⊎◌, inl, inr, ℕ, zero, suc, Bool, true, false, not, List, [], ◌∷◌, ◌++◌, Some}
+use Rattle.std.proofs.Common.{length, take, drop, get_or, slice_get, slice_set, refl, ap, arith, one-add}
 use Rattle.std.proofs.lemmas.List.{take-append-drop}
-use Rattle.std.specs.List.{filter, prefix_len, All, AllPairs, Contains}
 use Rattle.std.proofs.lemmas.List.Elements.{All-head, All-tail}
+use Rattle.std.specs.List.{filter, prefix_len, All, AllPairs, Contains}
 
+-- ---- by places
+pub get-append_left : {A : Type 0} (xs ys : List A) (i : ℕ) → i < length xs → slice_get (xs ++ ys) i ≡ slice_get xs i
+get-append_left [] ys i h = absurd (omega arith)
+get-append_left (x ∷ xs) ys zero h = refl
+get-append_left (x ∷ xs) ys (suc i) h = get-append_left xs ys i (omega arith)
+
+pub get-append_last : {A : Type 0} (xs : List A) (y : A) → slice_get (xs ++ y ∷ []) (length xs) ≡ Some y
+get-append_last [] y = refl
+get-append_last (x ∷ xs) y = get-append_last xs y
+
+pub get-append_cases : {A : Type 0} (xs : List A) (y : A) (i : ℕ) (w : A) → slice_get (xs ++ y ∷ []) i ≡ Some w → (slice_get xs i ≡ Some w) ⊎ ((i ≡ length xs) × (y ≡ w))
+get-append_cases [] y zero w h = let e : y ≡ w = cc in inr (refl, e)
+get-append_cases [] y (suc i) w h = inl h
+get-append_cases (x ∷ xs) y zero w h = inl h
+get-append_cases (x ∷ xs) y (suc i) w h = elim (get-append_cases xs y i w h) [ inl a ↦ inl a | inr b ↦ inr (ap suc b.0, b.1) ]
+
+pub get-set_cases : {A : Type 0} (xs : List A) (c d : ℕ) (v w : A) → slice_get (slice_set xs c v) d ≡ Some w → ((d ≡ c) × (v ≡ w)) ⊎ (slice_get xs d ≡ Some w)
+get-set_cases [] c d v w h = inr h
+get-set_cases (x ∷ xs) zero zero v w h = let e : v ≡ w = cc in inl (refl, e)
+get-set_cases (x ∷ xs) zero (suc d) v w h = inr h
+get-set_cases (x ∷ xs) (suc c) zero v w h = inr h
+get-set_cases (x ∷ xs) (suc c) (suc d) v w h = elim (get-set_cases xs c d v w h) [ inl a ↦ inl (ap suc a.0, a.1) | inr b ↦ inr b ]
+
+pub get-set_same : {A : Type 0} (xs : List A) (c : ℕ) (x v : A) → slice_get xs c ≡ Some x → slice_get (slice_set xs c v) c ≡ Some v
+get-set_same [] c x v h = absurd (cc)
+get-set_same (y ∷ ys) zero x v h = refl
+get-set_same (y ∷ ys) (suc c) x v h = get-set_same ys c x v h
+
+pub get-set_within : {A : Type 0} (xs : List A) (c : ℕ) (v : A) → c < length xs → slice_get (slice_set xs c v) c ≡ Some v
+get-set_within [] c v h = absurd (omega arith)
+get-set_within (y ∷ ys) zero v h = refl
+get-set_within (y ∷ ys) (suc c) v h = get-set_within ys c v (omega arith)
+
+pub get-set_other : {A : Type 0} (xs : List A) (c d : ℕ) (v : A) → d ≢ c → slice_get (slice_set xs c v) d ≡ slice_get xs d
+get-set_other [] c d v h = refl
+get-set_other (x ∷ xs) zero zero v h = absurd (h refl)
+get-set_other (x ∷ xs) zero (suc d) v h = refl
+get-set_other (x ∷ xs) (suc c) zero v h = refl
+get-set_other (x ∷ xs) (suc c) (suc d) v h = get-set_other xs c d v (λ e. h (ap suc e))
+
+-- ---- a filter at the front of which everything passes
 pub not-true : (b : Bool) → (b ≡ true → ⊥) → b ≡ false
 not-true true h = absurd (h refl)
 not-true false h = refl
