@@ -1,5 +1,6 @@
 //! A device of files, which promises no bytes: a page that was changed is found by its digest.
-ghost use Rattle.std.specs.Prelude.{◌≡◌, ◌≢◌, ◌+◌, ◌*◌, ◌^◌, ◌<◌, ◌≤◌, ℕ, Some, [], length, IsTrue, IfOk, IfErr, IfSome, OnOk};
+ghost use Rattle.std.specs.Prelude.{◌≡◌, ◌≢◌, ◌+◌, ◌*◌, ◌^◌, ◌<◌, ◌≤◌, ℕ, Some, [], length, IsTrue, IfOk, IfErr};
+ghost use Rattle.std.specs.Prelude.{IfSome, OnOk};
 ghost use Rattle.sha2.specs.Sha256.{sha256};
 ghost use Rattle.fkv_functions.specs.declared.refusals.Refused.TheVariants as refused;
 ghost use Rattle.fkv_device.specs.Failing.{FailsOnlyBy, ReadFailsBy};
@@ -202,7 +203,8 @@ impl<F: Read + Seek + Drop + Send> PageReader for FileReader<F> {
         ensures later { self.old.failures ≤ self.new.failures }
         ensures cause { IfErr result (λ e. e ≢ refused.NoMemory → self.old.failures < self.new.failures) }
         ensures codes { IfErr result (λ e. ReadFailsBy receipt.now.page e) }
-        ensures damaged { IfErr result (λ e. e ≡ refused.Damaged receipt.now.page → sha256 out.new ≢ receipt.now.digest) }
+        ensures damaged { IfErr result (λ e. e ≡ refused.Damaged receipt.now.page
+            → sha256 out.new ≢ receipt.now.digest) }
     {
         let page = receipt.page;
         if !self.take(receipt, out) {

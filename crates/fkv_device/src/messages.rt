@@ -52,7 +52,8 @@ impl<D: Disk> Written<D> {
         ensures next { OnOk result (D.Writer.next writer.new ≡ D.Writer.next writer.old + 1) }
         ensures same_next { IfErr result (λ _. D.Writer.next writer.new ≡ D.Writer.next writer.old) }
         ensures later { D.Writer.failures writer.old ≤ D.Writer.failures writer.new }
-        ensures cause { IfErr result (λ e. e ≢ refused.NoMemory → D.Writer.failures writer.old < D.Writer.failures writer.new) }
+        ensures cause { IfErr result (λ e. e ≢ refused.NoMemory
+            → D.Writer.failures writer.old < D.Writer.failures writer.new) }
         ensures codes { IfErr result (λ e. FailsOnlyBy 2 job.page e) }
     {
         let FlushJob { page, bytes } = job;
@@ -122,7 +123,8 @@ impl<D: Disk> Loaded<D> {
         ensures receipt { IfOk result (λ l. D.Receipt.stands l.receipt ≡ D.Receipt.stands receipt.now) }
         ensures size { IfOk result (λ l. length l.bytes ≡ size) }
         ensures later { D.Reader.failures reader.old ≤ D.Reader.failures reader.new }
-        ensures cause { IfErr result (λ e. e ≢ refused.NoMemory → D.Reader.failures reader.old < D.Reader.failures reader.new) }
+        ensures cause { IfErr result (λ e. e ≢ refused.NoMemory
+            → D.Reader.failures reader.old < D.Reader.failures reader.new) }
         ensures codes { IfErr result (λ e. ReadFailsBy (D.Receipt.stands receipt.now).page e) }
     {
         let Ok(mut bytes) = vec![in alloc; 0u8; size] else {

@@ -1,5 +1,6 @@
 -- What the calls change, before anything is let out.
-use Rattle.std.specs.Prelude.{◌+◌, ℕ, Bool, [], ◌∷◌, ◌++◌, Option, Some, None, replicate, slice_get, slice_set, is_some, is_none}
+use Rattle.std.specs.Prelude.{◌+◌, ℕ, Bool, [], ◌∷◌, ◌++◌, Option, Some, None, replicate, slice_get, slice_set, is_some}
+use Rattle.std.specs.Prelude.{is_none}
 use Rattle.std.specs.List.{position}
 use Rattle.std.specs.Option.{option_flatten}
 use Rattle.fkv_epoch.specs.declared.actions.Action.{Action}
@@ -27,4 +28,7 @@ vacated s slot = record s { slots = slice_set s.slots slot None }
 
 -- an action waits, last, for the current epoch, and the next epoch is current
 abbrev pub bumped : EpochState → Action → EpochState
-bumped s action = record s { epoch = s.epoch + 1; waiting = s.waiting ++ record { epoch = s.epoch; action = action } ∷ [] }
+bumped s action = record s {
+  epoch = s.epoch + 1;
+  waiting = s.waiting ++ record { epoch = s.epoch; action = action } ∷ [];
+}

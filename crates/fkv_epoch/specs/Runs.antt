@@ -1,4 +1,5 @@
--- Any list of calls on new epochs: each action comes out once, in order, at the first call after which its epoch is safe.
+-- Any list of calls on new epochs: each action comes out once, in order, at the first call after which its epoch is
+-- safe.
 use Rattle.std.specs.Prelude.{◌≡◌, ◌<◌, ◌≤◌, ◌↔◌, ℕ, suc, Bool, true, false, List, [], ◌∷◌, ◌++◌, slice_get, take}
 use Rattle.std.specs.List.{fold, Contains}
 use Rattle.std.specs.Option.{option_map_or}
@@ -49,4 +50,6 @@ pub record IsOnceInOrder (calls : List Call) : Type 0 where
   -- no two were put in beside the same epoch, so none comes out twice
   pub apart : IsRising (all_in fresh calls)
   -- what call number b put in comes out at call number k exactly where k is the first after which its epoch is safe
-  pub at_first : (b k : ℕ) (w : Waiting) → Contains (in_at fresh calls b) w → (Contains (out_at fresh calls k) w ↔ IsFirstSafe fresh calls b k w.epoch)
+  pub at_first : (b k : ℕ) (w : Waiting)
+      → Contains (in_at fresh calls b) w
+      → (Contains (out_at fresh calls k) w ↔ IsFirstSafe fresh calls b k w.epoch)

@@ -1,5 +1,6 @@
 //! The table of epochs.
-ghost use Rattle.std.specs.Prelude.{◌≡◌, ◌-◌, ◌<◌, ◌^◌, ◌↔◌, length, slice_get, slice_set, is_some, is_none, IsTrue, IsOk, IfOk, IfErr, OnOk, OnErr};
+ghost use Rattle.std.specs.Prelude.{◌≡◌, ◌-◌, ◌<◌, ◌^◌, ◌↔◌, length, slice_get, slice_set, is_some, is_none, IsTrue};
+ghost use Rattle.std.specs.Prelude.{IsOk, IfOk, IfErr, OnOk, OnErr};
 ghost use Rattle.std.specs.List.{position};
 ghost use Rattle.std.specs.Option.{ok_or, option_flatten};
 ghost use Rattle.fkv_epoch.specs.Due.{due, settled, actions_of};

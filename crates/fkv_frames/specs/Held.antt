@@ -1,5 +1,6 @@
 -- Frames as a map from page to bytes.
-use Rattle.std.specs.Prelude.{◌≡◌, ◌≢◌, ◌+◌, ◌%◌, ◌^◌, ◌==◌, ℕ, List, ◌++◌, Option, None, Some, length, take, drop, slice_get, if◌then◌else◌, Bool, false, replicate, IfSome}
+use Rattle.std.specs.Prelude.{◌≡◌, ◌≢◌, ◌+◌, ◌%◌, ◌^◌, ◌==◌, ℕ, List, ◌++◌, Option, None, Some, length, take, drop}
+use Rattle.std.specs.Prelude.{slice_get, if◌then◌else◌, Bool, false, replicate, IfSome}
 use Rattle.fkv_frames.specs.Ring.{Ring}
 
 -- whether a frame holds page n

@@ -1,5 +1,6 @@
 -- Classes of keys, and the chains of their entries. A class is what `class` makes of a key.
-use Rattle.std.specs.Prelude.{◌≡◌, ℕ, ◌<◌, ◌≤◌, Bool, true, ◌&&◌, List, [], ◌∷◌, filter, reverse, Option, Some, None, nat_lt, slice_get}
+use Rattle.std.specs.Prelude.{◌≡◌, ℕ, ◌<◌, ◌≤◌, Bool, true, ◌&&◌, List, [], ◌∷◌, filter, reverse, Option, Some, None}
+use Rattle.std.specs.Prelude.{nat_lt, slice_get}
 use Rattle.fkv_hybrid.specs.declared.entries.Entry.{Entry}
 use Rattle.fkv_hybrid.specs.Text.{last_where, entry_at}
 
@@ -27,7 +28,9 @@ Leads begin (Some e) a = a ≡ e.address
 -- each entry leads to the one before it in its class
 abbrev pub IsChained : {K V C : Type 0} → (K → C) → (C → C → Bool) → ℕ → List (Entry K V) → Type 0
 IsChained {K} {V} class same begin text =
-    (i : ℕ) (e : Entry K V) → slice_get text i ≡ Some e → Leads begin (last_below class same text (class e.key) e.address) e.previous
+    (i : ℕ) (e : Entry K V)
+    → slice_get text i ≡ Some e
+    → Leads begin (last_below class same text (class e.key) e.address) e.previous
 
 -- an element of a list, with its place there
 pub record IsIn {A : Type 0} (xs : List A) (x : A) : Type 0 where
@@ -37,7 +40,11 @@ pub record IsIn {A : Type 0} (xs : List A) (x : A) : Type 0 where
 -- the entries that previous addresses lead through, from an address on until they fall below Begin
 pub data IsChainFrom {K V : Type 0} (begin : ℕ) (text : List (Entry K V)) : ℕ → List (Entry K V) → Type 0 where
   ends : {a : ℕ} → a < begin → IsChainFrom begin text a []
-  goes : {a : ℕ} {e : Entry K V} {es : List (Entry K V)} → begin ≤ a → IsIn text e → e.address ≡ a → IsChainFrom begin text e.previous es
+  goes : {a : ℕ} {e : Entry K V} {es : List (Entry K V)}
+      → begin ≤ a
+      → IsIn text e
+      → e.address ≡ a
+      → IsChainFrom begin text e.previous es
       → IsChainFrom begin text a (e ∷ es)
 
 -- where a chain stands at an address: at the entry there, and it goes on from that entry's previous address

@@ -1,5 +1,6 @@
 -- The text that pages of bytes spell.
-use Rattle.std.specs.Prelude.{◌≡◌, ◌+◌, ◌^◌, ◌<◌, ◌≤◌, ℕ, List, [], ◌∷◌, ◌++◌, length, take, drop, replicate, Some, slice_get, slice_set, slice_range}
+use Rattle.std.specs.Prelude.{◌≡◌, ◌+◌, ◌^◌, ◌<◌, ◌≤◌, ℕ, List, [], ◌∷◌, ◌++◌, length, take, drop, replicate, Some}
+use Rattle.std.specs.Prelude.{slice_get, slice_set, slice_range}
 use mathlib.Core.Equiv.{IsContr}
 use Rattle.fkv_records.specs.Places.{page_at, offset_at, IsPlace}
 use Rattle.fkv_records.specs.Records.{size_of, IsRecord, Spells}
@@ -17,18 +18,23 @@ abbrev pub part_of : List ℕ → ℕ → ℕ → List ℕ
 part_of page offset size = slice_range page offset (offset + size)
 
 -- the bytes at an entry's address are those of its record
-pub record IsSpelled {K V : Type 0} (key : K → List ℕ) (value : V → List ℕ) (is_key : K → Type 0) (is_value : V → Type 0) (ksize vsize bits : ℕ)
+pub record IsSpelled {K V : Type 0} (key : K → List ℕ) (value : V → List ℕ)
+    (is_key : K → Type 0) (is_value : V → Type 0) (ksize vsize bits : ℕ)
     (pages : List (List ℕ)) (e : Entry K V) : Type 0 where
   pub page : List ℕ
   pub here : slice_get pages (page_at bits e.address) ≡ Some page
   pub sound : IsRecord is_key is_value e.address (record_of e)
-  pub spells : Spells key value ksize vsize (part_of page (offset_at bits e.address) (size_of ksize vsize)) (record_of e)
+  pub spells :
+      Spells key value ksize vsize (part_of page (offset_at bits e.address) (size_of ksize vsize)) (record_of e)
 
 -- the text has an entry at each place from 64 to below the tail, and the pages spell each
-pub record IsTextOf {K V : Type 0} (key : K → List ℕ) (value : V → List ℕ) (is_key : K → Type 0) (is_value : V → Type 0) (ksize vsize bits : ℕ)
+pub record IsTextOf {K V : Type 0} (key : K → List ℕ) (value : V → List ℕ)
+    (is_key : K → Type 0) (is_value : V → Type 0) (ksize vsize bits : ℕ)
     (pages : List (List ℕ)) (tail : ℕ) (text : List (Entry K V)) : Type 0 where
   pub laid_out : IsLaidOut bits (size_of ksize vsize) 64 tail text
-  pub spelled : (i : ℕ) (e : Entry K V) → slice_get text i ≡ Some e → IsSpelled key value is_key is_value ksize vsize bits pages e
+  pub spelled : (i : ℕ) (e : Entry K V)
+      → slice_get text i ≡ Some e
+      → IsSpelled key value is_key is_value ksize vsize bits pages e
 
 -- the one value of which something holds
 abbrev pub TheOne : {A : Type 0} → (A → Type 0) → Type 0
@@ -63,7 +69,8 @@ pub record Writes (n offset : ℕ) (bytes : List ℕ) (old new : List (List ℕ)
   pub is : new ≡ slice_set old n (written_at page offset bytes)
 
 -- what a log keeps
-pub record IsLog {K V : Type 0} (key : K → List ℕ) (value : V → List ℕ) (is_key : K → Type 0) (is_value : V → Type 0) (ksize vsize : ℕ)
+pub record IsLog {K V : Type 0} (key : K → List ℕ) (value : V → List ℕ)
+    (is_key : K → Type 0) (is_value : V → Type 0) (ksize vsize : ℕ)
     (shape : Shape) (pages : List (List ℕ)) (tail : ℕ) (text : List (Entry K V)) : Type 0 where
   pub size : shape.record_size ≡ size_of ksize vsize
   pub spelled : IsTextOf key value is_key is_value ksize vsize shape.page_bits pages tail text

@@ -10,4 +10,5 @@ tail_after bits size a = unwrap_or (place_after bits size a) (2 ^ 48)
 -- an entry at each place from an address to below the tail, in their order
 abbrev pub IsLaidOut : {K V : Type 0} → ℕ → ℕ → ℕ → ℕ → List (Entry K V) → Type 0
 IsLaidOut bits size begin tail [] = begin ≡ tail
-IsLaidOut bits size begin tail (e ∷ es) = (e.address ≡ begin) × (begin < tail) × IsLaidOut bits size (tail_after bits size begin) tail es
+IsLaidOut bits size begin tail (e ∷ es) =
+    (e.address ≡ begin) × (begin < tail) × IsLaidOut bits size (tail_after bits size begin) tail es

@@ -1,6 +1,7 @@
 -- What a contract sees of a log.
 use Rattle.std.specs.Prelude.{ℕ, List, [], ◌∷◌, ◌++◌, Option}
 use Rattle.fkv_hybrid.specs.declared.entries.Entry.{Entry}
+use Rattle.fkv_records.specs.declared.shapes.Shape.{Shape}
 use Rattle.fkv_hybrid.specs.Places.{tail_after}
 
 -- a log of pages of 2 ^ bits bytes: its text, which has an entry at each place from `begin` to below `tail`
@@ -9,6 +10,10 @@ pub record LogView (K V : Type 0) : Type 0 where
   pub begin : ℕ
   pub tail : ℕ
   pub text : List (Entry K V)
+
+-- what a log of this shape, tail and text is seen as
+abbrev pub log_view : {K V : Type 0} → Shape → ℕ → List (Entry K V) → LogView K V
+log_view shape tail text = record { bits = shape.page_bits; begin = 64; tail = tail; text = text }
 
 -- a log of no records
 abbrev pub empty_log : {K V : Type 0} → ℕ → LogView K V

@@ -1,5 +1,6 @@
 //! What holds of every text. Each law is what a function without a body ensures.
-ghost use Rattle.std.specs.Prelude.{◌≡◌, ◌≢◌, ◌==◌, ◌<◌, ◌≤◌, ◌↔◌, ℕ, Bool, List, [], ◌∷◌, ◌++◌, find, Some, if◌then◌else◌};
+ghost use Rattle.std.specs.Prelude.{◌≡◌, ◌≢◌, ◌==◌, ◌<◌, ◌≤◌, ◌↔◌, ℕ, Bool, List, [], ◌∷◌, ◌++◌, find, Some};
+ghost use Rattle.std.specs.Prelude.{if◌then◌else◌};
 ghost use Rattle.std.specs.declared.cmp.Ordering.{Ordering};
 ghost use Rattle.fkv_functions.specs.Plain.{Same, with_at, IsKeyOrder};
 ghost use Rattle.fkv_hybrid.specs.declared.entries.Entry.{Entry};
@@ -21,9 +22,11 @@ pub fn appended<K, V>()
     ensures live { (cmp : K → K → Ordering) (text : List (Entry K V)) (e : Entry K V)
         → Same (live cmp (text ++ e ∷ [])) (with_at cmp (live cmp text) e.key e.value) }
     // from its address on it is the newest of its key
-    ensures newest_from { (cmp : K → K → Ordering) (text : List (Entry K V)) (e : Entry K V) (k : K) (a : ℕ) → e.address ≤ a
+    ensures newest_from { (cmp : K → K → Ordering) (text : List (Entry K V)) (e : Entry K V) (k : K) (a : ℕ)
+        → e.address ≤ a
         → newest cmp (text ++ e ∷ []) k a ≡ (if has_key cmp k e then Some e else newest cmp text k a) }
-    ensures newest_below { (cmp : K → K → Ordering) (text : List (Entry K V)) (e : Entry K V) (k : K) (a : ℕ) → a < e.address
+    ensures newest_below { (cmp : K → K → Ordering) (text : List (Entry K V)) (e : Entry K V) (k : K) (a : ℕ)
+        → a < e.address
         → newest cmp (text ++ e ∷ []) k a ≡ newest cmp text k a }
 {}
 
@@ -39,7 +42,8 @@ pub fn chains<K, V, C>()
         → IsClassTest same → IsRising text → IsFrom begin text → IsChained class same begin text
         → Leads begin (last_of_class class same text c) a
         → (es : List (Entry K V)) → IsChainFrom begin text a es ↔ (es ≡ falling class same text c) }
-    ensures found { (cmp : K → K → Ordering) (class : K → C) (same : C → C → Bool) (begin : ℕ) (text : List (Entry K V)) (k : K) (a : ℕ)
+    ensures found { (cmp : K → K → Ordering) (class : K → C) (same : C → C → Bool)
+        (begin : ℕ) (text : List (Entry K V)) (k : K) (a : ℕ)
         → IsKeyOrder cmp → IsClassTest same → IsRising text → IsFrom begin text → IsChained class same begin text
         → Leads begin (last_of_class class same text (class k)) a
         → (es : List (Entry K V)) → IsChainFrom begin text a es → find (has_key cmp k) es ≡ last_of cmp text k }

@@ -1,5 +1,6 @@
 //! The log: pages that spell one text.
-ghost use Rattle.std.specs.Prelude.{◌≡◌, ◌+◌, ◌^◌, ◌<◌, ◌≤◌, ◌↔◌, ◌⊎◌, Some, IfOk, IfErr, OnErr, IsSome, IsTrue, Err, map};
+ghost use Rattle.std.specs.Prelude.{◌≡◌, ◌+◌, ◌^◌, ◌<◌, ◌≤◌, ◌↔◌, ◌⊎◌, Some, IfOk, IfErr, OnErr, IsSome, IsTrue, Err};
+ghost use Rattle.std.specs.Prelude.{map};
 ghost use mathlib.Core.Equiv.{IsContr-prop};
 ghost use Rattle.fkv_records.specs.Places.{offset_at};
 ghost use Rattle.fkv_records.specs.Records.{size_of, IsPrevious};
@@ -26,20 +27,22 @@ pub struct Log<K: Fixed, V: Fixed> {
     pages: Vec<Vec<u8>>,
     keys: PhantomData<K>,
     values: PhantomData<V>,
-    ghost text: { TheOne (λ t. IsTextOf K.bytes_of V.bytes_of K.is_known V.is_known K.SIZE V.SIZE shape.page_bits (map (λ p. p.items) pages.items) tail t) } by { IsContr-prop },
+    ghost text: { TheOne (λ t. IsTextOf K.bytes_of V.bytes_of K.is_known V.is_known K.SIZE V.SIZE
+        shape.page_bits (map (λ p. p.items) pages.items) tail t) } by { IsContr-prop },
 }
 
 impl<K: Fixed, V: Fixed> Model for Log<K, V> {
     ghost use Rattle.std.specs.Prelude.{map};
     ghost use Rattle.fkv_records.specs.Records.{size_of};
-    ghost use Rattle.fkv_hybrid.specs.Views.{LogView};
+    ghost use Rattle.fkv_hybrid.specs.Views.{LogView, log_view};
     ghost use Rattle.fkv_hybrid.specs.Pages.{IsLog};
 
     ghost Value = { LogView K V };
 
-    ghost view = { λ l. record { bits = l.shape.page_bits; begin = 64; tail = l.tail; text = l.text.0.0 } };
+    ghost view = { λ l. log_view l.shape l.tail l.text.0.0 };
 
-    ghost invariant = { λ l. IsLog K.bytes_of V.bytes_of K.is_known V.is_known K.SIZE V.SIZE l.shape (map (λ p. p.items) l.pages.items) l.tail l.text.0.0 };
+    ghost invariant = { λ l. IsLog K.bytes_of V.bytes_of K.is_known V.is_known K.SIZE V.SIZE
+        l.shape (map (λ p. p.items) l.pages.items) l.tail l.text.0.0 };
 }
 
 impl<K: Fixed, V: Fixed> Log<K, V> {
@@ -78,7 +81,8 @@ impl<K: Fixed, V: Fixed> Log<K, V> {
     ) -> Result<Address, Refused>
         requires previous { IsPrevious self.old.tail previous }
         ensures ok { IfOk result (λ address. address ≡ self.old.tail) }
-        ensures appended { IfOk result (λ _. self.new ≡ with_entry (size_of K.SIZE V.SIZE) self.old previous key value) }
+        ensures appended { IfOk result (λ _. self.new
+            ≡ with_entry (size_of K.SIZE V.SIZE) self.old previous key value) }
         ensures worn { (result ≡ Err Refused.Worn) ↔ (self.old.tail ≡ 2 ^ 48) }
         ensures memory { result ≡ Err Refused.NoMemory → offset_at self.old.bits self.old.tail ≡ 0 }
         ensures only { IfErr result (λ refused. (refused ≡ Refused.Worn) ⊎ (refused ≡ Refused.NoMemory)) }

@@ -1,5 +1,6 @@
 //! Pages of bytes, one behind the other.
-ghost use Rattle.std.specs.Prelude.{◌≡◌, ◌+◌, ◌^◌, ◌<◌, ◌≤◌, [], length, map, vec_len, slice_index_or, OnOk, OnErr, IfErr, IfSome};
+ghost use Rattle.std.specs.Prelude.{◌≡◌, ◌+◌, ◌^◌, ◌<◌, ◌≤◌, [], length, map, vec_len, slice_index_or, OnOk, OnErr};
+ghost use Rattle.std.specs.Prelude.{IfErr, IfSome};
 ghost use Rattle.fkv_records.specs.Records.{size_of, record_bytes, Spells};
 ghost use Rattle.fkv_hybrid.specs.Pages.{part_of, written_at, Opens, Writes};
 
@@ -10,7 +11,8 @@ use fkv_records::{Record, write_record};
 /// pages are as they were: `NoMemory`.
 pub(crate) fn open_page(pages: &mut Vec<Vec<u8>>, page: usize, size: usize) -> Result<(), Refused>
     requires { page ≤ vec_len pages.old }
-    ensures ok { OnOk result (Opens page size (map (λ p. p.items) pages.old.items) (map (λ p. p.items) pages.new.items)) }
+    ensures ok { OnOk result (Opens page size
+        (map (λ p. p.items) pages.old.items) (map (λ p. p.items) pages.new.items)) }
     ensures err { OnErr result (pages.new.items ≡ pages.old.items) }
     ensures next { OnErr result (page ≡ vec_len pages.old) }
     ensures only { IfErr result (λ refused. refused ≡ Refused.NoMemory) }
@@ -51,9 +53,11 @@ pub(crate) fn write_at<K: Fixed, V: Fixed>(
     requires page { page < vec_len pages.old }
     requires room { offset + size ≤ length (slice_index_or (map (λ p. p.items) pages.old.items) page []) }
     requires previous { entry.now.previous < 2 ^ 48 }
-    ensures written { Writes page offset (record_bytes K.bytes_of V.bytes_of K.SIZE V.SIZE entry.now) (map (λ p. p.items) pages.old.items) (map (λ p. p.items) pages.new.items) }
+    ensures written { Writes page offset (record_bytes K.bytes_of V.bytes_of K.SIZE V.SIZE entry.now)
+        (map (λ p. p.items) pages.old.items) (map (λ p. p.items) pages.new.items) }
     ensures sized { length (record_bytes K.bytes_of V.bytes_of K.SIZE V.SIZE entry.now) ≡ size }
-    ensures spells { Spells K.bytes_of V.bytes_of K.SIZE V.SIZE (record_bytes K.bytes_of V.bytes_of K.SIZE V.SIZE entry.now) entry.now }
+    ensures spells { Spells K.bytes_of V.bytes_of K.SIZE V.SIZE
+        (record_bytes K.bytes_of V.bytes_of K.SIZE V.SIZE entry.now) entry.now }
     ensures key { K.is_known entry.now.key }
     ensures value { IfSome entry.now.value V.is_known }
 {
@@ -67,9 +71,11 @@ fn write_in<K: Fixed, V: Fixed>(bytes: &mut [u8], offset: usize, size: usize, en
     requires most { size ≤ 192 }
     requires room { offset + size ≤ length bytes.old }
     requires previous { entry.now.previous < 2 ^ 48 }
-    ensures written { bytes.new ≡ written_at bytes.old offset (record_bytes K.bytes_of V.bytes_of K.SIZE V.SIZE entry.now) }
+    ensures written { bytes.new
+        ≡ written_at bytes.old offset (record_bytes K.bytes_of V.bytes_of K.SIZE V.SIZE entry.now) }
     ensures sized { length (record_bytes K.bytes_of V.bytes_of K.SIZE V.SIZE entry.now) ≡ size }
-    ensures spells { Spells K.bytes_of V.bytes_of K.SIZE V.SIZE (record_bytes K.bytes_of V.bytes_of K.SIZE V.SIZE entry.now) entry.now }
+    ensures spells { Spells K.bytes_of V.bytes_of K.SIZE V.SIZE
+        (record_bytes K.bytes_of V.bytes_of K.SIZE V.SIZE entry.now) entry.now }
     ensures key { K.is_known entry.now.key }
     ensures value { IfSome entry.now.value V.is_known }
 {

@@ -30,8 +30,14 @@ pub record Probes (bucket : ℕ) (p : Place) (old new : List (List Word)) : Type
 -- each final entry below `begin` is emptied, and every other word stays
 pub record Sweeps (begin : ℕ) (old new : List (List Word)) : Type 0 where
   pub exact : new ≡ map (map (swept begin)) old
-  pub emptied : (q : Place) → IsTrue (is_final (word_at old q)) → address_of (word_at old q) < begin → IsTrue (is_empty (word_at new q))
-  pub kept : (q : Place) → IsTrue (is_final (word_at old q)) → begin ≤ address_of (word_at old q) → word_at new q ≡ word_at old q
+  pub emptied : (q : Place)
+      → IsTrue (is_final (word_at old q))
+      → address_of (word_at old q) < begin
+      → IsTrue (is_empty (word_at new q))
+  pub kept : (q : Place)
+      → IsTrue (is_final (word_at old q))
+      → begin ≤ address_of (word_at old q)
+      → word_at new q ≡ word_at old q
   pub others : (q : Place) → is_final (word_at old q) ≡ false → word_at new q ≡ word_at old q
   pub places : (q : Place) → IsPlace new q ↔ IsPlace old q
   pub buckets : length new ≡ length old

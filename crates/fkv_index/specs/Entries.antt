@@ -20,10 +20,17 @@ pub record StandsAt (index : List (List Word)) (b t : ℕ) (p : Place) (w : Word
 -- the final entries are a map from (bucket, tag) to address: at most one stands for each pair, and
 -- `entry_at` has the addresses of those that stand, and no others
 pub record IsIndexMap (index : List (List Word)) : Type 0 where
-  pub single : (p q : Place) → p.bucket ≡ q.bucket → IsTrue (is_final (word_at index p)) → IsTrue (is_final (word_at index q))
+  pub single : (p q : Place)
+      → p.bucket ≡ q.bucket
+      → IsTrue (is_final (word_at index p))
+      → IsTrue (is_final (word_at index q))
       → tag_of (word_at index p) ≡ tag_of (word_at index q) → p ≡ q
-  pub entry : (p : Place) → IsTrue (is_final (word_at index p)) → entry_at index p.bucket (tag_of (word_at index p)) ≡ Some (address_of (word_at index p))
-  pub stands : (bucket tag address : ℕ) → entry_at index bucket tag ≡ Some address → (p : Place) × StandsAt index bucket tag p (word_at index p) × (address_of (word_at index p) ≡ address)
+  pub entry : (p : Place)
+      → IsTrue (is_final (word_at index p))
+      → entry_at index p.bucket (tag_of (word_at index p)) ≡ Some (address_of (word_at index p))
+  pub stands : (bucket tag address : ℕ)
+      → entry_at index bucket tag ≡ Some address
+      → (p : Place) × StandsAt index bucket tag p (word_at index p) × (address_of (word_at index p) ≡ address)
 
 -- in one bucket at most one word is a final entry of each tag: what an index keeps, from which it follows
 -- that it is an index map

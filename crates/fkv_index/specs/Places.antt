@@ -1,6 +1,7 @@
 -- Where words stand. An index is seen as a list of buckets, each the list of its words in the order of
 -- their places.
-use Rattle.std.specs.Prelude.{◌≡◌, ◌<◌, ◌++◌, ℕ, List, [], Bool, false, IsTrue, length, slice_set, slice_index_or, replicate}
+use Rattle.std.specs.Prelude.{◌≡◌, ◌<◌, ◌++◌, ℕ, List, [], Bool, false, IsTrue, length, slice_set, slice_index_or}
+use Rattle.std.specs.Prelude.{replicate}
 use Rattle.fkv_index.specs.declared.words.Word.{Word}
 use Rattle.fkv_index.specs.declared.places.Place.{Place}
 use Rattle.fkv_index.specs.Words.{empty}

@@ -21,7 +21,9 @@ pub record AreApart (rows : List Bucket) (blocks : List (List Word)) : Type 0 wh
   pub seven : All (λ row. length row.words ≡ 7) rows
   pub within : All (λ row. row.overflow < length blocks) rows
   pub own : (i j : ℕ) (d : Bucket) → i < length rows → j < length rows
-      → (slice_index_or rows i d).overflow ≡ (slice_index_or rows j d).overflow → 0 < (slice_index_or rows i d).overflow → i ≡ j
+      → (slice_index_or rows i d).overflow ≡ (slice_index_or rows j d).overflow
+      → 0 < (slice_index_or rows i d).overflow
+      → i ≡ j
 
 abbrev pub IsStored : Inside → Type 0
 IsStored s = AreApart s.rows.items (numbered s)

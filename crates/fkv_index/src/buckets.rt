@@ -158,7 +158,8 @@ fn sweep_rows(rows: &mut Vec<Bucket>, begin: u64)
 }
 
 fn sweep_blocks(blocks: &mut Vec<Vec<Word>>, begin: u64)
-    ensures { map (λ block. block.items) blocks.new.items ≡ map (map (swept begin)) (map (λ block. block.items) blocks.old.items) }
+    ensures { map (λ block. block.items) blocks.new.items
+        ≡ map (map (swept begin)) (map (λ block. block.items) blocks.old.items) }
 {
     for at in 0..blocks.len() {
         let block = &mut blocks[at];

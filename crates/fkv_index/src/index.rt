@@ -1,8 +1,10 @@
 //! The index: an entry for each bucket and tag.
-ghost use Rattle.std.specs.Prelude.{ℕ, ◌≡◌, ◌+◌, ◌^◌, ◌<◌, ◌≤◌, ◌↔◌, IsTrue, IfOk, IfErr, OnErr, IfSome, None, replicate, length, option_map, false};
+ghost use Rattle.std.specs.Prelude.{ℕ, ◌≡◌, ◌+◌, ◌^◌, ◌<◌, ◌≤◌, ◌↔◌, IsTrue, IfOk, IfErr, OnErr, IfSome, None};
+ghost use Rattle.std.specs.Prelude.{replicate, length, option_map, false};
 ghost use Rattle.std.specs.List.{list_any};
 ghost use Rattle.std.specs.Bool.{OnTrue, OnFalse};
-ghost use Rattle.fkv_index.specs.Words.{empty, final_word, tentative_word, tag_of, address_of, is_empty, is_tentative, is_final};
+ghost use Rattle.fkv_index.specs.Words.{empty, final_word, tentative_word, tag_of, address_of, is_empty, is_tentative};
+ghost use Rattle.fkv_index.specs.Words.{is_final};
 ghost use Rattle.fkv_index.specs.Places.{words_of, word_at, IsPlace};
 ghost use Rattle.fkv_index.specs.Entries.{entry_at, IsIndexMap, StandsAt, IsAlone};
 ghost use Rattle.fkv_index.specs.Changes.{Writes, Probes, Sweeps, SameEntries, SameTentative, SetsEntry, SweepsEntries};
@@ -131,7 +133,8 @@ impl Index {
         requires bucket { place.bucket ≡ bucket }
         requires tentative { IsTrue (is_tentative (word_at self.old place)) }
         ensures alone { IsTrue result ↔ IsAlone self.old place }
-        ensures confirmed { OnTrue result (Writes place (final_word (tag_of (word_at self.old place)) NO_RECORD) self.old self.new) }
+        ensures confirmed { OnTrue result
+            (Writes place (final_word (tag_of (word_at self.old place)) NO_RECORD) self.old self.new) }
         ensures entry { OnTrue result (SetsEntry bucket (tag_of (word_at self.old place)) NO_RECORD self.old self.new) }
         ensures emptied { OnFalse result (Writes place empty self.old self.new) }
         ensures entries { OnFalse result (SameEntries self.old self.new) }

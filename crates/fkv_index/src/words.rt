@@ -20,7 +20,8 @@ const TENTATIVE: u64 = 0x8000_0000_0000_0000;
 
 #[tactic(auto, unfolding(crate::specs::Words::final_word, crate::specs::Words::tentative_word, crate::specs::Words::address_of, crate::specs::Words::tag_of, crate::specs::Words::is_empty, crate::specs::Words::is_tentative, crate::specs::Words::is_final, crate::specs::Words::is_entry_of, crate::specs::Words::is_final_of, crate::specs::Words::swept))]
 impl Word {
-    ghost use Rattle.fkv_index.specs.Words.{empty, final_word, tentative_word, tag_of, address_of, is_empty, is_tentative, is_final, is_entry_of, is_final_of, swept};
+    ghost use Rattle.fkv_index.specs.Words.{empty, final_word, tentative_word, tag_of, address_of, is_empty};
+    ghost use Rattle.fkv_index.specs.Words.{is_tentative, is_final, is_entry_of, is_final_of, swept};
 
     /// The word of an empty place.
     pub(crate) fn empty() -> Word

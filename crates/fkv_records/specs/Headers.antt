@@ -5,7 +5,8 @@ use Rattle.fkv_records.specs.declared.headers.Header.{Header}
 
 -- bits 0 to 47 are the previous address, bit 48 says tombstone, bit 49 delta, bit 50 is 1 and all above are 0
 abbrev pub header_word : ℕ → Bool → Bool → ℕ
-header_word previous tombstone delta = previous + (4 + 2 * (if delta then 1 else 0) + (if tombstone then 1 else 0)) * 2 ^ 48
+header_word previous tombstone delta =
+    previous + (4 + 2 * (if delta then 1 else 0) + (if tombstone then 1 else 0)) * 2 ^ 48
 
 -- a number as eight bytes, the lowest first
 unfoldable pub word_bytes : ℕ → List ℕ

@@ -1,5 +1,6 @@
 -- Pages and the places of records in them. A page has 2 ^ bits bytes, and a record has as many as its size says.
-use Rattle.std.specs.Prelude.{◌≡◌, ◌+◌, ◌*◌, ◌/◌, ◌%◌, ◌^◌, ◌-◌, ◌<◌, ◌≤◌, ◌==◌, ℕ, Option, Some, None, nat_le, if◌then◌else◌}
+use Rattle.std.specs.Prelude.{◌≡◌, ◌+◌, ◌*◌, ◌/◌, ◌%◌, ◌^◌, ◌-◌, ◌<◌, ◌≤◌, ◌==◌, ℕ, Option, Some, None, nat_le}
+use Rattle.std.specs.Prelude.{if◌then◌else◌}
 
 -- the pages and sizes that there are: pages of 256 bytes to 1 MiB, records of 8 to 192 bytes, by eights
 pub record IsShape (bits size : ℕ) : Type 0 where
@@ -24,13 +25,16 @@ start_at bits page = page * 2 ^ bits
 abbrev pub end_at : ℕ → ℕ → ℕ
 end_at bits address = start_at bits (page_at bits address + 1)
 
--- behind the record at an address: right after it where its page has room for one more, else at the start of the next page
+-- behind the record at an address: right after it where its page has room for one more, else at the start of the
+-- next page
 abbrev pub behind : ℕ → ℕ → ℕ → ℕ
-behind bits size address = if nat_le (address + 2 * size) (end_at bits address) then address + size else end_at bits address
+behind bits size address =
+    if nat_le (address + 2 * size) (end_at bits address) then address + size else end_at bits address
 
 -- the next place, where a record there ends at or below 2^48
 abbrev pub place_after : ℕ → ℕ → ℕ → Option ℕ
-place_after bits size address = if nat_le (behind bits size address + size) (2 ^ 48) then Some (behind bits size address) else None
+place_after bits size address =
+    if nat_le (behind bits size address + size) (2 ^ 48) then Some (behind bits size address) else None
 
 -- how far into a page its first record stands
 abbrev pub first_offset : ℕ → ℕ

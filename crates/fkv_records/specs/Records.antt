@@ -1,5 +1,6 @@
 -- Records as bytes: a header, the key's bytes, the value's bytes, and zeros up to a multiple of 8.
-use Rattle.std.specs.Prelude.{◌≡◌, ◌+◌, ◌*◌, ◌/◌, ◌-◌, ◌^◌, ◌<◌, ◌≤◌, ◌⊎◌, ℕ, List, ◌++◌, Option, None, Some, IfSome, is_none, false, replicate, slice_range, take, drop}
+use Rattle.std.specs.Prelude.{◌≡◌, ◌+◌, ◌*◌, ◌/◌, ◌-◌, ◌^◌, ◌<◌, ◌≤◌, ◌⊎◌, ℕ, List, ◌++◌, Option, None, Some, IfSome}
+use Rattle.std.specs.Prelude.{is_none, false, replicate, slice_range, take, drop}
 use Rattle.fkv_records.specs.Headers.{header_bytes}
 use Rattle.fkv_records.specs.declared.records.Record.{Record}
 
@@ -25,7 +26,8 @@ abbrev pub padding_part : ℕ → ℕ → List ℕ → List ℕ
 padding_part ksize vsize bytes = drop (8 + ksize + vsize) bytes
 
 -- the bytes are those of the record; where it is a tombstone, the value's bytes may be any
-pub record Spells {K V : Type 0} (key : K → List ℕ) (value : V → List ℕ) (ksize vsize : ℕ) (bytes : List ℕ) (r : Record K V) : Type 0 where
+pub record Spells {K V : Type 0} (key : K → List ℕ) (value : V → List ℕ) (ksize vsize : ℕ)
+    (bytes : List ℕ) (r : Record K V) : Type 0 where
   pub header : header_part bytes ≡ header_bytes r.previous (is_none r.value) false
   pub key_same : key_part ksize bytes ≡ key r.key
   pub value_same : IfSome r.value (λ v. value_part ksize vsize bytes ≡ value v)
@@ -36,7 +38,8 @@ abbrev pub IsPrevious : ℕ → ℕ → Type 0
 IsPrevious address previous = (previous ≡ 1) ⊎ ((64 ≤ previous) × (previous < address))
 
 -- a record that may stand at this address: its previous one fits the header (as it does where the address does)
-pub record IsRecord {K V : Type 0} (is_key : K → Type 0) (is_value : V → Type 0) (address : ℕ) (r : Record K V) : Type 0 where
+pub record IsRecord {K V : Type 0} (is_key : K → Type 0) (is_value : V → Type 0)
+    (address : ℕ) (r : Record K V) : Type 0 where
   pub previous : IsPrevious address r.previous
   pub fits : r.previous < 2 ^ 48
   pub key : is_key r.key

@@ -1,5 +1,6 @@
 //! Records and their bytes.
-ghost use Rattle.std.specs.Prelude.{◌≡◌, ◌+◌, ◌^◌, ◌<◌, ◌≤◌, ◌↔◌, ℕ, Bool, false, length, replicate, IfOk, IfSome, IsSome, IsTrue};
+ghost use Rattle.std.specs.Prelude.{◌≡◌, ◌+◌, ◌^◌, ◌<◌, ◌≤◌, ◌↔◌, ℕ, Bool, false, length, replicate, IfOk, IfSome};
+ghost use Rattle.std.specs.Prelude.{IsSome, IsTrue};
 ghost use Rattle.fkv_records.specs.Headers.{header_bytes};
 ghost use Rattle.fkv_records.specs.Records.{size_of, value_part, value_bytes, spelling, record_bytes};
 ghost use Rattle.fkv_records.specs.Records.{IsPrevious, IsRecord, Spells};

@@ -1,6 +1,7 @@
 //! The shape of a log: its pages, and the places of its records.
 ghost use Rattle.std.specs.Prelude.{◌≡◌, ◌+◌, ◌*◌, ◌^◌, ◌<◌, ◌≤◌, ◌↔◌, ◌%◌, ℕ, IfSome, IsSome, IsSomeAnd, IsTrue};
-ghost use Rattle.fkv_records.specs.Places.{IsShape, page_at, offset_at, start_at, place_after, first_offset, StandsInPage, IsPlace};
+ghost use Rattle.fkv_records.specs.Places.{IsShape, page_at, offset_at, start_at, place_after, first_offset};
+ghost use Rattle.fkv_records.specs.Places.{StandsInPage, IsPlace};
 
 use crate::addresses::{Address, END, FIRST};
 
