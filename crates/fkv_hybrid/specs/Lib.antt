@@ -3,3 +3,4 @@ pub mod Places
 pub mod Chains
 pub mod Pages
 pub mod Views
+pub mod WrongTexts

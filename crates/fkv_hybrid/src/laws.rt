@@ -5,6 +5,8 @@ ghost use Rattle.std.specs.declared.cmp.Ordering.{Ordering};
 ghost use Rattle.fkv_functions.specs.Plain.{Same, with_at, IsKeyOrder};
 ghost use Rattle.fkv_hybrid.specs.declared.entries.Entry.{Entry};
 ghost use Rattle.fkv_hybrid.specs.Text.{entry_at, value_at, has_key, last_of, newest, live, IsRising, IsFrom, IsBelow};
+ghost use Rattle.fkv_hybrid.specs.WrongTexts.{LiveTakesTheLast, NewestLooksDown, LinksLeadBack, ChainsFall};
+ghost use Rattle.fkv_hybrid.specs.WrongTexts.{HasEachPlace, AppendsItWhole, SpelledInItsPage};
 ghost use Rattle.fkv_hybrid.specs.Chains.{IsClassTest, last_of_class, Leads, IsChained, IsChainFrom, StandsAt, falling};
 
 /// What a text says of each key and address once an entry is appended.
@@ -56,4 +58,15 @@ pub fn chains<K, V, C>()
         → IsChainFrom begin text a es → begin ≤ a → StandsAt begin text a es }
     ensures ends { (begin : ℕ) (text : List (Entry K V)) (a : ℕ) (es : List (Entry K V))
         → IsChainFrom begin text a es → a < begin → es ≡ [] }
+{}
+
+/// What the definitions of a text refuse, shown on small texts.
+pub fn wrong_texts()
+    ensures live { LiveTakesTheLast }
+    ensures newest { NewestLooksDown }
+    ensures links { LinksLeadBack }
+    ensures chains { ChainsFall }
+    ensures places { HasEachPlace }
+    ensures appended { AppendsItWhole }
+    ensures pages { SpelledInItsPage }
 {}

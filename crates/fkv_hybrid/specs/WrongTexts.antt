@@ -1,0 +1,63 @@
+-- What the definitions refuse, on small texts: keys and values are numbers, and the class of a key is its half.
+use Rattle.std.specs.Prelude.{◌≡◌, ◌<◌, ◌/◌, ◌==◌, ℕ, List, [], ◌∷◌, Option, Some, None}
+use Rattle.std.specs.Ordering.{nat_cmp}
+use Rattle.fkv_records.specs.Records.{Spells}
+use Rattle.fkv_hybrid.specs.declared.entries.Entry.{Entry}
+use Rattle.fkv_hybrid.specs.Text.{newest, live}
+use Rattle.fkv_hybrid.specs.Places.{IsLaidOut}
+use Rattle.fkv_hybrid.specs.Chains.{IsChained, falling}
+use Rattle.fkv_hybrid.specs.Pages.{record_of, part_of, IsSpelled}
+use Rattle.fkv_hybrid.specs.Views.{empty_log, with_entry}
+
+-- an entry by its address, previous address, key and value
+abbrev pub entry : ℕ → ℕ → ℕ → Option ℕ → Entry ℕ ℕ
+entry address previous key value = record { address = address; previous = previous; key = key; value = value }
+
+-- the class of a key
+abbrev pub half : ℕ → ℕ
+half k = k / 2
+
+-- the last entry of a key wins, a tombstone too; a key without entries has no value
+abbrev pub LiveTakesTheLast : Type 0
+LiveTakesTheLast = (v w : Option ℕ)
+    → (live nat_cmp (entry 64 1 3 v ∷ []) 3 ≡ v)
+    × (live nat_cmp (entry 64 1 3 v ∷ []) 4 ≡ None)
+    × (live nat_cmp (entry 64 1 3 v ∷ entry 96 64 3 w ∷ []) 3 ≡ w)
+    × (live nat_cmp (entry 64 1 3 v ∷ entry 96 1 4 w ∷ []) 3 ≡ v)
+
+-- the newest of a key at an address stands there or below it
+abbrev pub NewestLooksDown : Type 0
+NewestLooksDown = (v w : Option ℕ)
+    → (newest nat_cmp (entry 64 1 3 v ∷ entry 96 64 3 w ∷ []) 3 63 ≡ None)
+    × (newest nat_cmp (entry 64 1 3 v ∷ entry 96 64 3 w ∷ []) 3 64 ≡ Some (entry 64 1 3 v))
+    × (newest nat_cmp (entry 64 1 3 v ∷ entry 96 64 3 w ∷ []) 3 95 ≡ Some (entry 64 1 3 v))
+    × (newest nat_cmp (entry 64 1 3 v ∷ entry 96 64 3 w ∷ []) 3 96 ≡ Some (entry 96 64 3 w))
+
+-- a previous address leads to the entry before in its class, and below Begin where there is none
+abbrev pub LinksLeadBack : Type 0
+LinksLeadBack = (p q r : ℕ) (v : Option ℕ)
+    → IsChained half (λ c d. c == d) 64 (entry 64 p 2 v ∷ entry 96 q 4 v ∷ entry 128 r 3 v ∷ [])
+    → (p < 64) × (q < 64) × (r ≡ 64)
+
+-- the chain of a class has the entries of the class and no others, the last one first
+abbrev pub ChainsFall : Type 0
+ChainsFall = (p q r : ℕ) (v : Option ℕ)
+    → falling half (λ c d. c == d) (entry 64 p 2 v ∷ entry 96 q 4 v ∷ entry 128 r 3 v ∷ []) 1
+    ≡ entry 128 r 3 v ∷ entry 64 p 2 v ∷ []
+
+-- a text has an entry at each place: here of records of 32 bytes in pages of 256
+abbrev pub HasEachPlace : Type 0
+HasEachPlace = (d e : Entry ℕ ℕ) (tail : ℕ)
+    → IsLaidOut 8 32 64 tail (d ∷ e ∷ [])
+    → (d.address ≡ 64) × (e.address ≡ 96) × (tail ≡ 128)
+
+-- an appended entry is all that was handed in
+abbrev pub AppendsItWhole : Type 0
+AppendsItWhole = (p k : ℕ) (v : Option ℕ)
+    → with_entry 32 (empty_log 8) p k v ≡ record { bits = 8; begin = 64; tail = 96; text = entry 64 p k v ∷ [] }
+
+-- an entry is spelled in the page of its address
+abbrev pub SpelledInItsPage : Type 0
+SpelledInItsPage = (bytes : ℕ → List ℕ) (a b : List ℕ) (p k : ℕ) (v : Option ℕ)
+    → IsSpelled bytes bytes (λ _. Unit {0}) (λ _. Unit {0}) 8 8 8 (a ∷ b ∷ []) (entry 288 p k v)
+    → Spells bytes bytes 8 8 (part_of b 32 24) (record_of (entry 288 p k v))
