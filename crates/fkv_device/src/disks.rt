@@ -1,6 +1,5 @@
 //! What gives writers and readers for partitions.
-ghost use Rattle.std.specs.Prelude.{◌≡◌, ◌≢◌, ◌<◌, ◌≤◌, ℕ, IfOk, IfErr};
-ghost use Rattle.fkv_functions.specs.declared.refusals.Refused.TheVariants as refused;
+ghost use Rattle.std.specs.Prelude.{◌≡◌, ℕ, Bool, IsTrue, IfOk, IfErr, OnOk};
 ghost use Rattle.fkv_device.specs.Failing.{FailsOnlyBy};
 
 use crate::pages::{PageReader, PageWriter};
@@ -16,10 +15,10 @@ pub trait Disk: Drop + Send {
 
     type Reader: PageReader<Receipt = Self::Receipt>;
 
-    /// The device keeps what it is given: its writers and its readers do.
-    ghost keeps: { Type 0 };
+    /// Whether the device keeps what it is given: its writers and its readers do.
+    ghost keeps: { Bool };
 
-    /// How often a call has failed.
+    /// How often a call has failed: once for each fault that was told.
     ghost failures: { Self → ℕ };
 
     /// A writer of a partition's pages, which begins anew: a partition has one writer.
@@ -29,9 +28,8 @@ pub trait Disk: Drop + Send {
     /// `NoMemory`; `Device` with code 1 and page 0 where the device refuses to open.
     fn writer(&mut self, partition: u64) -> Result<Self::Writer, Refused>
         ensures number { IfOk result (λ w. Self.Writer.next w ≡ 0) }
-        ensures later { failures self.old ≤ failures self.new }
-        ensures cause { IfErr result (λ e. e ≢ refused.NoMemory → failures self.old < failures self.new) }
-        ensures codes { IfErr result (λ e. FailsOnlyBy 1 0 e) };
+        ensures steady { OnOk result (failures self.new ≡ failures self.old) }
+        ensures counted { IfErr result (FailsOnlyBy 1 0 (failures self.old) (failures self.new)) };
 
     /// A reader of a partition's pages.
     ///
@@ -39,13 +37,12 @@ pub trait Disk: Drop + Send {
     ///
     /// As for [`Disk::writer`].
     fn reader(&mut self, partition: u64) -> Result<Self::Reader, Refused>
-        ensures later { failures self.old ≤ failures self.new }
-        ensures cause { IfErr result (λ e. e ≢ refused.NoMemory → failures self.old < failures self.new) }
-        ensures codes { IfErr result (λ e. FailsOnlyBy 1 0 e) };
+        ensures steady { OnOk result (failures self.new ≡ failures self.old) }
+        ensures counted { IfErr result (FailsOnlyBy 1 0 (failures self.old) (failures self.new)) };
 
     /// Its writers keep where it does.
-    ghost writer_keeps: { keeps → Self.Writer.keeps };
+    ghost writer_keeps: { IsTrue keeps → IsTrue Self.Writer.keeps };
 
     /// Its readers keep where it does.
-    ghost reader_keeps: { keeps → Self.Reader.keeps };
+    ghost reader_keeps: { IsTrue keeps → IsTrue Self.Reader.keeps };
 }

@@ -1,6 +1,6 @@
 //! How often a device has failed.
-ghost use Rattle.std.specs.Prelude.{◌≡◌, ◌≢◌, ◌≤◌, ◌<◌, ◌⊎◌, ◌+◌, ℕ, vec_len};
-ghost use Rattle.fkv_functions.specs.declared.refusals.Refused.TheVariants as refused;
+ghost use Rattle.std.specs.Prelude.{◌≡◌, ℕ, vec_len};
+ghost use Rattle.fkv_device.specs.Failing.{Tells};
 
 use fkv_functions::Refused;
 use std::alloc::Global;
@@ -30,11 +30,9 @@ impl Failures {
     }
 
     /// Counts a failure, and gives the refusal that tells of it: this one, or `NoMemory` where the
-    /// count's growth is refused.
+    /// count's growth is refused, and then the count stays.
     pub fn count(&mut self, refusal: Refused) -> Refused
-        ensures later { self.old ≤ self.new }
-        ensures cause { result ≢ refused.NoMemory → self.old < self.new }
-        ensures codes { (result ≡ refused.NoMemory) ⊎ (result ≡ refusal) }
+        ensures { Tells refusal self.old self.new result }
     {
         match self.times.push(()) {
             Ok(()) => refusal,

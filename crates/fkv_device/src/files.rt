@@ -1,6 +1,6 @@
 //! A device of files, which promises no bytes: a page that was changed is found by its digest.
-ghost use Rattle.std.specs.Prelude.{◌≡◌, ◌≢◌, ◌+◌, ◌*◌, ◌^◌, ◌<◌, ◌≤◌, ℕ, Some, [], length, IsTrue, IfOk, IfErr};
-ghost use Rattle.std.specs.Prelude.{IfSome, OnOk};
+ghost use Rattle.std.specs.Prelude.{◌≡◌, ◌≢◌, ◌+◌, ◌*◌, ◌^◌, ℕ, Some, [], length, false};
+ghost use Rattle.std.specs.Prelude.{IsTrue, IsOk, IfOk, IfErr, IfSome, OnOk};
 ghost use Rattle.sha2.specs.Sha256.{sha256};
 ghost use Rattle.fkv_functions.specs.declared.refusals.Refused.TheVariants as refused;
 ghost use Rattle.fkv_device.specs.Failing.{FailsOnlyBy, ReadFailsBy};
@@ -47,7 +47,10 @@ impl Receipt for FileReceipt {
     }
 
     /// A copy, which is never refused.
-    fn again(&self) -> Result<FileReceipt, Refused> {
+    fn again(&self) -> Result<FileReceipt, Refused>
+        ensures done { IsOk result }
+        ensures same { IfOk result (λ r. r ≡ self.now) }
+    {
         Ok(FileReceipt {
             number: self.number,
             page: self.page,
@@ -91,7 +94,8 @@ pub struct FileWriter<F: Write + Seek + Drop> {
 impl<F: Write + Seek + Drop> FileWriter<F> {
     /// A writer whose next receipt has this number.
     pub(crate) fn at(alloc: Global, file: F, page_bits: u32, next: u64) -> FileWriter<F>
-        ensures { result.next ≡ next }
+        ensures next { result.next ≡ next }
+        ensures bits { result.page_bits ≡ page_bits }
     {
         FileWriter {
             file,
@@ -105,6 +109,7 @@ impl<F: Write + Seek + Drop> FileWriter<F> {
     fn put(&mut self, page: u64, bytes: &[u8]) -> bool
         ensures next { self.new.next ≡ self.old.next }
         ensures failures { self.new.failures ≡ self.old.failures }
+        ensures bits { self.new.page_bits ≡ self.old.page_bits }
     {
         2u64.checked_pow(self.page_bits) == Some(bytes.len() as u64)
             && go_to_page(&mut self.file, self.page_bits, page)
@@ -115,7 +120,7 @@ impl<F: Write + Seek + Drop> FileWriter<F> {
 impl<F: Write + Seek + Drop + Send> PageWriter for FileWriter<F> {
     type Receipt = FileReceipt;
 
-    ghost keeps = { ⊥ };
+    ghost keeps = { false };
 
     ghost failures = { λ w. w.failures };
 
@@ -134,9 +139,9 @@ impl<F: Write + Seek + Drop + Send> PageWriter for FileWriter<F> {
         ensures number { IfOk result (λ r. r.number ≡ self.old.next) }
         ensures next { OnOk result (self.new.next ≡ self.old.next + 1) }
         ensures same_next { IfErr result (λ _. self.new.next ≡ self.old.next) }
-        ensures later { self.old.failures ≤ self.new.failures }
-        ensures cause { IfErr result (λ e. e ≢ refused.NoMemory → self.old.failures < self.new.failures) }
-        ensures codes { IfErr result (λ e. FailsOnlyBy 2 page e) }
+        ensures steady { OnOk result (self.new.failures ≡ self.old.failures) }
+        ensures counted { IfErr result (FailsOnlyBy 2 page self.old.failures self.new.failures) }
+        ensures bits { self.new.page_bits ≡ self.old.page_bits }
     {
         let Some(next) = self.next.checked_add(1) else {
             return Err(self.failures.count(Refused::Device { code: 2, page }));
@@ -165,7 +170,9 @@ pub struct FileReader<F: Read + Seek + Drop> {
 
 impl<F: Read + Seek + Drop> FileReader<F> {
     /// A reader of this file.
-    pub(crate) fn new(alloc: Global, file: F, page_bits: u32) -> FileReader<F> {
+    pub(crate) fn new(alloc: Global, file: F, page_bits: u32) -> FileReader<F>
+        ensures { result.page_bits ≡ page_bits }
+    {
         FileReader {
             file,
             page_bits,
@@ -177,6 +184,7 @@ impl<F: Read + Seek + Drop> FileReader<F> {
     fn take(&mut self, receipt: &FileReceipt, out: &mut [u8]) -> bool
         ensures length { IsTrue result → length out.old ≡ receipt.now.length }
         ensures failures { self.new.failures ≡ self.old.failures }
+        ensures bits { self.new.page_bits ≡ self.old.page_bits }
     {
         out.len() == receipt.length
             && go_to_page(&mut self.file, self.page_bits, receipt.page)
@@ -187,7 +195,7 @@ impl<F: Read + Seek + Drop> FileReader<F> {
 impl<F: Read + Seek + Drop + Send> PageReader for FileReader<F> {
     type Receipt = FileReceipt;
 
-    ghost keeps = { ⊥ };
+    ghost keeps = { false };
 
     ghost failures = { λ r. r.failures };
 
@@ -200,9 +208,9 @@ impl<F: Read + Seek + Drop + Send> PageReader for FileReader<F> {
     fn read(&mut self, receipt: &FileReceipt, out: &mut [u8]) -> Result<(), Refused>
         ensures digest { OnOk result (sha256 out.new ≡ receipt.now.digest) }
         ensures length { OnOk result (length out.old ≡ receipt.now.length) }
-        ensures later { self.old.failures ≤ self.new.failures }
-        ensures cause { IfErr result (λ e. e ≢ refused.NoMemory → self.old.failures < self.new.failures) }
-        ensures codes { IfErr result (λ e. ReadFailsBy receipt.now.page e) }
+        ensures steady { OnOk result (self.new.failures ≡ self.old.failures) }
+        ensures counted { IfErr result (ReadFailsBy receipt.now.page self.old.failures self.new.failures) }
+        ensures bits { self.new.page_bits ≡ self.old.page_bits }
         ensures damaged { IfErr result (λ e. e ≡ refused.Damaged receipt.now.page
             → sha256 out.new ≢ receipt.now.digest) }
     {

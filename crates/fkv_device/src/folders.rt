@@ -1,6 +1,5 @@
 //! A device in a folder, with a file for each partition.
-ghost use Rattle.std.specs.Prelude.{◌≡◌, ◌≢◌, ◌<◌, ◌≤◌, ℕ, IfOk, IfErr};
-ghost use Rattle.fkv_functions.specs.declared.refusals.Refused.TheVariants as refused;
+ghost use Rattle.std.specs.Prelude.{◌≡◌, false, IfOk, IfErr, OnOk};
 ghost use Rattle.fkv_device.specs.Failing.{FailsOnlyBy};
 
 use crate::disks::Disk;
@@ -26,7 +25,8 @@ pub struct FileDevice<R: Files + Drop> {
 impl<R: Files + Drop> FileDevice<R> {
     /// A device in this folder, which is made with its first file.
     pub fn new(rt: R, alloc: Global, folder: String, page_bits: u32) -> FileDevice<R>
-        ensures { result.failures ≡ 0 }
+        ensures none { result.failures ≡ 0 }
+        ensures bits { result.page_bits ≡ page_bits }
     {
         FileDevice {
             rt,
@@ -39,9 +39,9 @@ impl<R: Files + Drop> FileDevice<R> {
 
     /// Opens the file of a partition.
     fn open(&mut self, partition: u64, how: &OpenOptions) -> Result<R::File, Refused>
-        ensures later { self.old.failures ≤ self.new.failures }
-        ensures cause { IfErr result (λ e. e ≢ refused.NoMemory → self.old.failures < self.new.failures) }
-        ensures codes { IfErr result (λ e. FailsOnlyBy 1 0 e) }
+        ensures steady { OnOk result (self.new.failures ≡ self.old.failures) }
+        ensures counted { IfErr result (FailsOnlyBy 1 0 self.old.failures self.new.failures) }
+        ensures bits { self.new.page_bits ≡ self.old.page_bits }
     {
         let Ok(name) = format!(in self.alloc; "part-{partition:02}.log") else {
             return Err(Refused::NoMemory);
@@ -66,12 +66,18 @@ where
 
     type Reader = FileReader<R::File>;
 
-    ghost keeps = { ⊥ };
+    ghost keeps = { false };
 
     ghost failures = { λ d. d.failures };
 
     /// Makes the folder where it is not there, and the partition's file anew: an old one is cut to nothing.
-    fn writer(&mut self, partition: u64) -> Result<FileWriter<R::File>, Refused> {
+    fn writer(&mut self, partition: u64) -> Result<FileWriter<R::File>, Refused>
+        ensures number { IfOk result (λ w. w.next ≡ 0) }
+        ensures bits { IfOk result (λ w. w.page_bits ≡ self.old.page_bits) }
+        ensures steady { OnOk result (self.new.failures ≡ self.old.failures) }
+        ensures counted { IfErr result (FailsOnlyBy 1 0 self.old.failures self.new.failures) }
+        ensures same_bits { self.new.page_bits ≡ self.old.page_bits }
+    {
         if create_dir_all(&self.rt, self.folder.as_str()).is_err() {
             return Err(self.failures.count(Refused::Device { code: 1, page: 0 }));
         }
@@ -80,7 +86,12 @@ where
         Ok(FileWriter::at(self.alloc, file, self.page_bits, 0))
     }
 
-    fn reader(&mut self, partition: u64) -> Result<FileReader<R::File>, Refused> {
+    fn reader(&mut self, partition: u64) -> Result<FileReader<R::File>, Refused>
+        ensures bits { IfOk result (λ r. r.page_bits ≡ self.old.page_bits) }
+        ensures steady { OnOk result (self.new.failures ≡ self.old.failures) }
+        ensures counted { IfErr result (FailsOnlyBy 1 0 self.old.failures self.new.failures) }
+        ensures same_bits { self.new.page_bits ≡ self.old.page_bits }
+    {
         let mut how = OpenOptions::new();
         let file = self.open(partition, how.read(true))?;
         Ok(FileReader::new(self.alloc, file, self.page_bits))

@@ -1,8 +1,8 @@
 //! A device in memory, which keeps what it is given.
-ghost use Rattle.std.specs.Prelude.{◌≡◌, ◌≢◌, ◌+◌, ◌^◌, ◌<◌, ◌≤◌, ℕ, List, [], length, ◌↔◌, IfOk, IfErr, OnOk, IsOk, ⊤};
+ghost use Rattle.std.specs.Prelude.{◌≡◌, ◌≢◌, ◌+◌, ◌^◌, ℕ, List, [], length, ◌↔◌, true, IfOk, IfErr, OnOk, IsOk};
 ghost use Rattle.std.specs.Arc.{arc_value};
 ghost use Rattle.fkv_functions.specs.declared.refusals.Refused.TheVariants as refused;
-ghost use Rattle.fkv_device.specs.Failing.{FailsOnlyBy, ReadFailsBy};
+ghost use Rattle.fkv_device.specs.Failing.{FailsOnlyBy};
 
 use crate::disks::Disk;
 use crate::failures::Failures;
@@ -86,7 +86,7 @@ impl MemoryWriter {
 impl PageWriter for MemoryWriter {
     type Receipt = MemoryReceipt;
 
-    ghost keeps = { ⊤ };
+    ghost keeps = { true };
 
     ghost failures = { λ w. w.failures };
 
@@ -103,9 +103,8 @@ impl PageWriter for MemoryWriter {
         ensures number { IfOk result (λ r. r.number ≡ self.old.next) }
         ensures next { OnOk result (self.new.next ≡ self.old.next + 1) }
         ensures same_next { IfErr result (λ _. self.new.next ≡ self.old.next) }
-        ensures later { self.old.failures ≤ self.new.failures }
-        ensures cause { IfErr result (λ e. e ≢ refused.NoMemory → self.old.failures < self.new.failures) }
-        ensures codes { IfErr result (λ e. FailsOnlyBy 2 page e) }
+        ensures steady { OnOk result (self.new.failures ≡ self.old.failures) }
+        ensures counted { IfErr result (FailsOnlyBy 2 page self.old.failures self.new.failures) }
         ensures spent { IfErr result (λ e. e ≢ refused.NoMemory → self.old.next + 1 ≡ 2 ^ 64) }
     {
         let Some(next) = self.next.checked_add(1) else {
@@ -136,7 +135,7 @@ pub struct MemoryReader {
 impl PageReader for MemoryReader {
     type Receipt = MemoryReceipt;
 
-    ghost keeps = { ⊤ };
+    ghost keeps = { true };
 
     ghost failures = { λ r. r.failures };
 
@@ -149,9 +148,8 @@ impl PageReader for MemoryReader {
     fn read(&mut self, receipt: &MemoryReceipt, out: &mut [u8]) -> Result<(), Refused>
         ensures kept { OnOk result (out.new ≡ (arc_value receipt.now.bytes).items) }
         ensures length { IsOk result ↔ (length out.old ≡ length (arc_value receipt.now.bytes).items) }
-        ensures later { self.old.failures ≤ self.new.failures }
-        ensures cause { IfErr result (λ e. e ≢ refused.NoMemory → self.old.failures < self.new.failures) }
-        ensures codes { IfErr result (λ e. ReadFailsBy receipt.now.page e) }
+        ensures steady { OnOk result (self.new.failures ≡ self.old.failures) }
+        ensures counted { IfErr result (FailsOnlyBy 3 receipt.now.page self.old.failures self.new.failures) }
     {
         let bytes = receipt.bytes();
         if out.len() != bytes.len() {
@@ -183,7 +181,7 @@ impl Disk for MemoryDevice {
 
     type Reader = MemoryReader;
 
-    ghost keeps = { ⊤ };
+    ghost keeps = { true };
 
     ghost failures = { λ _. 0 };
 

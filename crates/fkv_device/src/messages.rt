@@ -1,6 +1,5 @@
 //! Pages on their way to a device and back.
-ghost use Rattle.std.specs.Prelude.{◌≡◌, ◌≢◌, ◌+◌, ◌<◌, ◌≤◌, length, IfOk, IfErr, OnOk};
-ghost use Rattle.fkv_functions.specs.declared.refusals.Refused.TheVariants as refused;
+ghost use Rattle.std.specs.Prelude.{◌≡◌, ◌+◌, length, IsTrue, IfOk, IfErr, OnOk};
 ghost use Rattle.fkv_device.specs.Failing.{FailsOnlyBy, ReadFailsBy};
 
 use crate::disks::Disk;
@@ -28,7 +27,7 @@ pub struct Written<D: Disk> {
 }
 
 impl<D: Disk> Model for Written<D> {
-    ghost use Rattle.std.specs.Prelude.{◌≡◌, length};
+    ghost use Rattle.std.specs.Prelude.{◌≡◌, length, IsTrue};
     ghost use Rattle.fkv_device.specs.Standing.{Joined};
 
     ghost Value = { Joined D.Receipt };
@@ -36,7 +35,7 @@ impl<D: Disk> Model for Written<D> {
     ghost view = { λ w. record { bytes = w.bytes.items; receipt = w.receipt } };
 
     ghost invariant = { λ w. ((D.Receipt.stands w.receipt).length ≡ length w.bytes.items)
-        × (D.keeps → (D.Receipt.stands w.receipt).bytes ≡ w.bytes.items) };
+        × (IsTrue D.keeps → (D.Receipt.stands w.receipt).bytes ≡ w.bytes.items) };
 }
 
 impl<D: Disk> Written<D> {
@@ -51,10 +50,9 @@ impl<D: Disk> Written<D> {
         ensures number { IfOk result (λ w. (D.Receipt.stands w.receipt).number ≡ D.Writer.next writer.old) }
         ensures next { OnOk result (D.Writer.next writer.new ≡ D.Writer.next writer.old + 1) }
         ensures same_next { IfErr result (λ _. D.Writer.next writer.new ≡ D.Writer.next writer.old) }
-        ensures later { D.Writer.failures writer.old ≤ D.Writer.failures writer.new }
-        ensures cause { IfErr result (λ e. e ≢ refused.NoMemory
-            → D.Writer.failures writer.old < D.Writer.failures writer.new) }
-        ensures codes { IfErr result (λ e. FailsOnlyBy 2 job.page e) }
+        ensures steady { OnOk result (D.Writer.failures writer.new ≡ D.Writer.failures writer.old) }
+        ensures counted { IfErr result
+            (FailsOnlyBy 2 job.page (D.Writer.failures writer.old) (D.Writer.failures writer.new)) }
     {
         let FlushJob { page, bytes } = job;
         let receipt = writer.write(page, bytes.as_slice())?;
@@ -79,7 +77,7 @@ impl<D: Disk> Written<D> {
     pub fn into_receipt(self) -> D::Receipt
         ensures receipt { result ≡ self.receipt }
         ensures length { (D.Receipt.stands result).length ≡ length self.bytes }
-        ensures kept { D.keeps → (D.Receipt.stands result).bytes ≡ self.bytes }
+        ensures kept { IsTrue D.keeps → (D.Receipt.stands result).bytes ≡ self.bytes }
     {
         let Written { bytes: _, receipt } = self;
         receipt
@@ -97,7 +95,7 @@ pub struct Loaded<D: Disk> {
 }
 
 impl<D: Disk> Model for Loaded<D> {
-    ghost use Rattle.std.specs.Prelude.{◌≡◌, length};
+    ghost use Rattle.std.specs.Prelude.{◌≡◌, length, IsTrue};
     ghost use Rattle.fkv_device.specs.Standing.{Joined};
 
     ghost Value = { Joined D.Receipt };
@@ -105,7 +103,7 @@ impl<D: Disk> Model for Loaded<D> {
     ghost view = { λ l. record { bytes = l.bytes.items; receipt = l.receipt } };
 
     ghost invariant = { λ l. (length l.bytes.items ≡ (D.Receipt.stands l.receipt).length)
-        × (D.keeps → l.bytes.items ≡ (D.Receipt.stands l.receipt).bytes) };
+        × (IsTrue D.keeps → l.bytes.items ≡ (D.Receipt.stands l.receipt).bytes) };
 }
 
 impl<D: Disk> Loaded<D> {
@@ -122,10 +120,9 @@ impl<D: Disk> Loaded<D> {
     ) -> Result<Loaded<D>, Refused>
         ensures receipt { IfOk result (λ l. D.Receipt.stands l.receipt ≡ D.Receipt.stands receipt.now) }
         ensures size { IfOk result (λ l. length l.bytes ≡ size) }
-        ensures later { D.Reader.failures reader.old ≤ D.Reader.failures reader.new }
-        ensures cause { IfErr result (λ e. e ≢ refused.NoMemory
-            → D.Reader.failures reader.old < D.Reader.failures reader.new) }
-        ensures codes { IfErr result (λ e. ReadFailsBy (D.Receipt.stands receipt.now).page e) }
+        ensures steady { OnOk result (D.Reader.failures reader.new ≡ D.Reader.failures reader.old) }
+        ensures counted { IfErr result
+            (ReadFailsBy (D.Receipt.stands receipt.now).page (D.Reader.failures reader.old) (D.Reader.failures reader.new)) }
     {
         let Ok(mut bytes) = vec![in alloc; 0u8; size] else {
             return Err(Refused::NoMemory);
@@ -142,7 +139,7 @@ impl<D: Disk> Loaded<D> {
     pub fn receipt(&self) -> &D::Receipt
         ensures receipt { result.now ≡ self.now.receipt }
         ensures length { (D.Receipt.stands result.now).length ≡ length self.now.bytes }
-        ensures kept { D.keeps → (D.Receipt.stands result.now).bytes ≡ self.now.bytes }
+        ensures kept { IsTrue D.keeps → (D.Receipt.stands result.now).bytes ≡ self.now.bytes }
     {
         &self.receipt
     }

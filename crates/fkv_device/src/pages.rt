@@ -1,6 +1,5 @@
 //! What writes pages and what reads them.
-ghost use Rattle.std.specs.Prelude.{◌≡◌, ◌≢◌, ◌+◌, ◌<◌, ◌≤◌, ℕ, length, IfOk, IfErr, OnOk};
-ghost use Rattle.fkv_functions.specs.declared.refusals.Refused.TheVariants as refused;
+ghost use Rattle.std.specs.Prelude.{◌≡◌, ◌+◌, ℕ, Bool, length, IsTrue, IfOk, IfErr, OnOk};
 ghost use Rattle.fkv_device.specs.Failing.{FailsOnlyBy, ReadFailsBy};
 
 use crate::receipts::Receipt;
@@ -10,10 +9,10 @@ use fkv_functions::Refused;
 pub trait PageWriter: Drop + Send {
     type Receipt: Receipt;
 
-    /// A receipt of this writer stands for the bytes that were written with it.
-    ghost keeps: { Type 0 };
+    /// Whether a receipt of this writer stands for the bytes that were written with it.
+    ghost keeps: { Bool };
 
-    /// How often a call has failed.
+    /// How often a call has failed: once for each fault that was told.
     ghost failures: { Self → ℕ };
 
     /// The number of the next receipt.
@@ -25,25 +24,24 @@ pub trait PageWriter: Drop + Send {
     ///
     /// `NoMemory`; `Device` with code 2 where the device failed or the writer has no number left.
     fn write(&mut self, page: u64, bytes: &[u8]) -> Result<Self::Receipt, Refused>
-        ensures kept { IfOk result (λ r. keeps → (Self.Receipt.stands r).bytes ≡ bytes.now) }
+        ensures kept { IfOk result (λ r. IsTrue keeps → (Self.Receipt.stands r).bytes ≡ bytes.now) }
         ensures page { IfOk result (λ r. (Self.Receipt.stands r).page ≡ page) }
         ensures length { IfOk result (λ r. (Self.Receipt.stands r).length ≡ length bytes.now) }
         ensures number { IfOk result (λ r. (Self.Receipt.stands r).number ≡ next self.old) }
         ensures next { OnOk result (next self.new ≡ next self.old + 1) }
         ensures same_next { IfErr result (λ _. next self.new ≡ next self.old) }
-        ensures later { failures self.old ≤ failures self.new }
-        ensures cause { IfErr result (λ e. e ≢ refused.NoMemory → failures self.old < failures self.new) }
-        ensures codes { IfErr result (λ e. FailsOnlyBy 2 page e) };
+        ensures steady { OnOk result (failures self.new ≡ failures self.old) }
+        ensures counted { IfErr result (FailsOnlyBy 2 page (failures self.old) (failures self.new)) };
 }
 
 /// Reads pages by their receipts.
 pub trait PageReader: Drop + Send {
     type Receipt: Receipt;
 
-    /// A read that answers `Ok` gives the bytes that its receipt stands for.
-    ghost keeps: { Type 0 };
+    /// Whether a read that answers `Ok` gives the bytes that its receipt stands for.
+    ghost keeps: { Bool };
 
-    /// How often a call has failed.
+    /// How often a call has failed: once for each fault that was told.
     ghost failures: { Self → ℕ };
 
     /// Reads a page over all of `out`. After a refusal `out` holds any bytes.
@@ -53,9 +51,8 @@ pub trait PageReader: Drop + Send {
     /// `NoMemory`; `Device` with code 3 where the device failed or `out` is not as long as the page;
     /// `Damaged` where the device gave other bytes than were written.
     fn read(&mut self, receipt: &Self::Receipt, out: &mut [u8]) -> Result<(), Refused>
-        ensures kept { OnOk result (keeps → out.new ≡ (Self.Receipt.stands receipt.now).bytes) }
+        ensures kept { OnOk result (IsTrue keeps → out.new ≡ (Self.Receipt.stands receipt.now).bytes) }
         ensures length { OnOk result (length out.old ≡ (Self.Receipt.stands receipt.now).length) }
-        ensures later { failures self.old ≤ failures self.new }
-        ensures cause { IfErr result (λ e. e ≢ refused.NoMemory → failures self.old < failures self.new) }
-        ensures codes { IfErr result (λ e. ReadFailsBy (Self.Receipt.stands receipt.now).page e) };
+        ensures steady { OnOk result (failures self.new ≡ failures self.old) }
+        ensures counted { IfErr result (ReadFailsBy (Self.Receipt.stands receipt.now).page (failures self.old) (failures self.new)) };
 }

@@ -1,5 +1,5 @@
 //! Pages written and read back, and each refusal once.
-ghost use Rattle.std.specs.Prelude.{◌≡◌, IfOk};
+ghost use Rattle.std.specs.Prelude.{◌≡◌, IsTrue, IfOk};
 
 use crate::disks::Disk;
 use crate::memory::{MemoryDevice, MemoryWriter};
@@ -19,7 +19,7 @@ pub(crate) fn there_and_back<D: Disk>(
     page: u64,
     bytes: Vec<u8>,
 ) -> Result<Vec<u8>, Refused>
-    ensures { IfOk result (λ read. D.keeps → read.items ≡ bytes.items) }
+    ensures { IfOk result (λ read. IsTrue D.keeps → read.items ≡ bytes.items) }
 {
     let mut writer = disk.writer(partition)?;
     let mut reader = disk.reader(partition)?;
