@@ -2,11 +2,12 @@ use Rattle.std.proofs.Common.{◌≡◌, ◌≢◌, ◌<◌, ◌%◌, ℕ, suc, 
 use Rattle.std.proofs.lemmas.Nat.{and_mask}
 use Rattle.std.proofs.lemmas.Option.{slice_get-map}
 use Rattle.std.specs.Prelude.{slice_get}
+use Rattle.std.proofs.lemmas.List.Elements.{All-head, All-tail}
 use Rattle.fkv_functions.proofs.ListLemmas.{get-set_within, get-set_other}
 use Rattle.fkv_frames.specs.Ring.{Ring}
-use Rattle.fkv_frames.specs.Held.{held, in_slot, LeavesOthers, Opens, Writes, written_at}
+use Rattle.fkv_frames.specs.Held.{held, in_slot, with_page, LeavesOthers, Opens, Writes, written_at}
 use Rattle.std.proofs.lemmas.List.{map-set, length-map}
-use Rattle.std.specs.Prelude.{map, IsSome, All}
+use Rattle.std.specs.Prelude.{map, cond, IfSome, IsSome, All}
 use Rattle.std.specs.Vec.{with_item}
 use Rattle.fkv_frames.specs.Inside.{ring_of}
 use Rattle.fkv_frames.specs.declared.ring.Frames.TheInside.{Inside}
@@ -15,10 +16,6 @@ use Rattle.fkv_frames.specs.declared.ring.Frame.{Frame}
 -- an offset by a mask
 pub masked : (address bits : ℕ) → bit_and address (2 ^ bits - 1) ≡ address % 2 ^ bits
 masked address bits = and_mask address bits
-
--- a ring with page n in its slot
-abbrev pub with_page : Ring → ℕ → List ℕ → Ring
-with_page r n bytes = record { bits = r.bits; slots = set r.slots (n % length r.slots) (Some n, bytes) }
 
 pub own_page : (n : ℕ) (bytes : List ℕ) → in_slot (Some (Some n, bytes)) n ≡ Some bytes
 own_page n bytes = rw (eq-eqb n n refl) refl
@@ -63,7 +60,7 @@ pub opens : (f : Inside) (n i : ℕ) (x : Frame) → 0 < length f.frames.items �
 opens f n i x some at p b =
     let some_slot : 0 < length (ring_of f).slots = rw length-map some in
     rw (ring_of-page f n i x (replicate (2 ^ f.page_bits) 0) at p b)
-    (record { opened = held-with_page (ring_of f) n _ some_slot; others = others-with_page (ring_of f) n _ some_slot })
+    (record { exact = refl; opened = held-with_page (ring_of f) n _ some_slot; others = others-with_page (ring_of f) n _ some_slot })
 
 pub none-in_slots : (xs : List Frame) (i n : ℕ) → All (λ x. x.page ≡ None) xs → in_slot (slice_get (map slot xs) i) n ≡ None
 none-in_slots [] i n h = refl
@@ -91,6 +88,7 @@ writes f n i at old new bytes some is found inside p b =
     let own = held_slot (ring_of f) n (slot old) here inside in
     rw (ring_of-page f n i new (written_at old.bytes.items at bytes) is (p ∙ own.0) b)
     (record {
+      exact = rw own.1 refl;
       written = rw own.1 (held-with_page (ring_of f) n _ some_slot);
       others = others-with_page (ring_of f) n _ some_slot;
     })
@@ -98,3 +96,19 @@ writes f n i at old new bytes some is found inside p b =
 -- where no frame holds a page, no page is held
 pub none-in_frames : (f : Inside) (n : ℕ) → All (λ x. x.page ≡ None) f.frames.items → held (ring_of f) n ≡ None
 none-in_frames f n h = none-in_slots f.frames.items (n % length (ring_of f).slots) n h
+
+-- each page that is held has its size
+sized-slot : (o : Option ℕ) (n m : ℕ) (bytes : List ℕ) → length bytes ≡ m → IfSome (in_slot (Some (o, bytes)) n) (λ b. length b ≡ m)
+sized-slot None n m bytes h = tt
+sized-slot (Some k) n m bytes h =
+    elim (k == n) as (λ v. IfSome (cond v (Some bytes) None) (λ b. length b ≡ m)) [ true ↦ h | false ↦ tt ]
+
+sized-in_slots : (xs : List Frame) (i n m : ℕ) → All (λ x. length x.bytes.items ≡ m) xs → IfSome (in_slot (slice_get (map slot xs) i) n) (λ b. length b ≡ m)
+sized-in_slots [] i n m h = tt
+sized-in_slots (x ∷ xs) zero n m h =
+    sized-slot x.page n m x.bytes.items (All-head (λ (y : Frame). length y.bytes.items ≡ m) x xs h)
+sized-in_slots (x ∷ xs) (suc i) n m h = sized-in_slots xs i n m (All-tail (λ (y : Frame). length y.bytes.items ≡ m) x xs h)
+
+pub sized-in_frames : (f : Inside) → All (λ x. length x.bytes.items ≡ 2 ^ f.page_bits) f.frames.items
+    → (n : ℕ) → IfSome (held (ring_of f) n) (λ b. length b ≡ 2 ^ f.page_bits)
+sized-in_frames f h n = sized-in_slots f.frames.items (n % length (ring_of f).slots) n (2 ^ f.page_bits) h

@@ -1,5 +1,5 @@
 //! The ring of frames.
-ghost use Rattle.std.specs.Prelude.{◌≡◌, ◌+◌, ◌^◌, ◌<◌, ◌≤◌, ◌↔◌, ℕ, length, IfOk, IfErr, IsSome, Some, None, is_some};
+ghost use Rattle.std.specs.Prelude.{◌≡◌, ◌+◌, ◌^◌, ◌<◌, ◌≤◌, ◌↔◌, ℕ, length, IfOk, IfErr, IfSome, IsSome, Some, None, is_some};
 ghost use Rattle.fkv_records.specs.Places.{page_at, offset_at};
 ghost use Rattle.fkv_frames.specs.Held.{held, written_at, Opens, Writes};
 
@@ -55,6 +55,22 @@ impl Frames {
             };
         }
         Ok(Frames { page_bits, frames })
+    }
+
+    /// How many frames there are.
+    pub fn count(&self) -> u64
+        ensures { result ≡ length self.now.slots }
+    {
+        self.frames.len() as u64
+    }
+
+    /// Tells a proof what holds of frames at any time. It does nothing when it runs.
+    pub fn known(&self)
+        ensures some { 0 < length self.now.slots }
+        ensures bits { self.now.bits ≤ 20 }
+        ensures sizes { (n : ℕ) → IfSome (held self.now n) (λ bytes. length bytes ≡ 2 ^ self.now.bits) }
+    {
+        let _bits = self.page_bits;
     }
 
     /// Whether a page is in its frame.
