@@ -1,5 +1,5 @@
 -- A tentative entry becomes final, where no other entry of its tag stands.
-use Rattle.std.proofs.Common.{◌≡◌, refl, ◌∷◌, ℕ, zero, suc, List, [], Bool, true, false, get_or, sym, ap, ◌∙◌, ⊎_elim}
+use Rattle.std.proofs.Common.{◌≡◌, refl, ◌∷◌, ℕ, zero, suc, List, [], Bool, true, false, get_or, sym, ap, ◌∙◌, ⊎_elim, None}
 use Rattle.std.specs.List.{list_any}
 use Rattle.std.proofs.lemmas.List.Folds.{list_any_none}
 use Rattle.std.proofs.lemmas.List.{get_or_default}
@@ -8,9 +8,10 @@ use Rattle.fkv_index.specs.declared.words.Word.{Word}
 use Rattle.fkv_index.specs.declared.places.Place.{Place}
 use Rattle.fkv_index.specs.Words.{empty, address_of, tag_of, is_final, is_final_of, is_tentative, is_entry_of}
 use Rattle.fkv_index.specs.Places.{words_of, word_at, IsPlace, with_word}
-use Rattle.fkv_index.specs.Entries.{IsSingle, IsAlone}
+use Rattle.fkv_index.specs.Entries.{entry_at, IsSingle, IsAlone}
 use Rattle.fkv_index.specs.Changes.{SetsEntry}
 use Rattle.fkv_index.proofs.WordFacts.{empty_not_entry, not_entry_of_its_tag, no_entry_of, not_entry_not_final, tentative_not_final, tag_of-final}
+use Rattle.fkv_index.proofs.Found.{entry_at-none}
 use Rattle.fkv_index.proofs.Written.{written_there, written_beside, single_written, sets_entry}
 
 -- no other entry of its tag stands in its bucket, place by place
@@ -62,6 +63,15 @@ module _ (index : List (List Word)) (p : Place) (w : Word) (place : IsPlace inde
 
   pub sets_confirmed : is_tentative (word_at index p) ≡ true → is_final w ≡ true → SetsEntry p.bucket (tag_of w) (address_of w) index (with_word index p w)
   sets_confirmed old new = sets_entry index p w place new (λ t ne. tentative_not_final t (word_at index p) old) others
+
+-- so no final entry of its tag stands there
+pub none_alone : (index : List (List Word)) (p : Place) → NoOther index p → is_tentative (word_at index p) ≡ true
+    → entry_at index p.bucket (tag_of (word_at index p)) ≡ None
+none_alone index p alone old =
+    let tag : ℕ = tag_of (word_at index p) in
+    entry_at-none index p.bucket tag (λ k within.
+    ⊎_elim (λ e. ap (λ (n : ℕ). is_final_of tag (word_at index (record { bucket = p.bucket; at = n }))) e ∙ tentative_not_final tag (word_at index p) old)
+    (λ ne. not_entry_not_final tag _ (alone k ne)) (cases_eq k p.at))
 
 -- what the scan was asked
 pub scan_is : (index after : List (List Word)) (p : Place) (w e : Word) (tag b : ℕ) (r : Bool) → w ≡ word_at index p → tag ≡ tag_of w → after ≡ with_word index p e → e ≡ empty → p.bucket ≡ b

@@ -5,6 +5,6 @@ pub mod WordFacts
 pub mod Written
 pub mod Grown
 pub mod Emptied
-pub mod Confirmed
 pub mod Found
+pub mod Confirmed
 pub mod IndexMaps

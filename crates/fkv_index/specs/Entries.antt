@@ -1,5 +1,6 @@
 -- The index map: the final entries, as a map from (bucket, tag) to address.
 use Rattle.std.specs.Prelude.{◌≡◌, ℕ, List, false, IsTrue, Option, None, Some, option_map, find, nat_lt, if◌then◌else◌}
+use Rattle.std.specs.List.{position}
 use Rattle.fkv_index.specs.declared.words.Word.{Word}
 use Rattle.fkv_index.specs.declared.places.Place.{Place}
 use Rattle.fkv_index.specs.Words.{address_of, tag_of, is_final, is_tentative, is_final_of}
@@ -8,6 +9,11 @@ use Rattle.fkv_index.specs.Places.{words_of, word_at, IsPlace}
 -- the address of the final entry of a tag in a bucket, if there is one
 unfoldable pub entry_at : List (List Word) → ℕ → ℕ → Option ℕ
 entry_at index bucket tag = option_map address_of (find (is_final_of tag) (words_of index bucket))
+
+-- the place of the final entry of a tag in a bucket, if there is one
+unfoldable pub place_of : List (List Word) → ℕ → ℕ → Option Place
+place_of index bucket tag =
+    option_map (λ at. record { bucket = bucket; at = at }) (position (is_final_of tag) (words_of index bucket))
 
 -- a final entry of the tag stands in the bucket: where, and its word
 pub record StandsAt (index : List (List Word)) (b t : ℕ) (p : Place) (w : Word) : Type 0 where

@@ -6,7 +6,7 @@ ghost use Rattle.std.specs.Bool.{OnTrue, OnFalse};
 ghost use Rattle.fkv_index.specs.Words.{empty, final_word, tentative_word, tag_of, address_of, is_empty, is_tentative};
 ghost use Rattle.fkv_index.specs.Words.{is_final};
 ghost use Rattle.fkv_index.specs.Places.{words_of, word_at, IsPlace};
-ghost use Rattle.fkv_index.specs.Entries.{entry_at, IsIndexMap, StandsAt, IsAlone};
+ghost use Rattle.fkv_index.specs.Entries.{entry_at, place_of, IsIndexMap, StandsAt, IsAlone};
 ghost use Rattle.fkv_index.specs.Changes.{Writes, Probes, Sweeps, SameEntries, SameTentative, SetsEntry, SweepsEntries};
 
 use crate::buckets::Buckets;
@@ -58,6 +58,13 @@ impl Index {
         Ok(Index { buckets })
     }
 
+    /// Tells a proof what holds of an index at any time. It does nothing when it runs.
+    pub fn known(&self)
+        ensures { IsIndexMap self.now }
+    {
+        let _buckets = &self.buckets;
+    }
+
     /// How many buckets there are.
     pub fn buckets(&self) -> usize
         ensures { result ≡ length self.now }
@@ -86,6 +93,7 @@ impl Index {
         requires tag { tag < 2 ^ 15 }
         ensures found { IfSome result (λ entry. StandsAt self.now bucket tag entry.0 entry.1) }
         ensures entry { option_map (λ entry. address_of entry.1) result ≡ entry_at self.now bucket tag }
+        ensures place { option_map (λ entry. entry.0) result ≡ place_of self.now bucket tag }
         ensures map { IsIndexMap self.now }
     {
         let (at, word) = first_final(&self.buckets, bucket, tag)?;
@@ -133,6 +141,7 @@ impl Index {
         requires bucket { place.bucket ≡ bucket }
         requires tentative { IsTrue (is_tentative (word_at self.old place)) }
         ensures alone { IsTrue result ↔ IsAlone self.old place }
+        ensures none { OnTrue result (entry_at self.old bucket (tag_of (word_at self.old place)) ≡ None) }
         ensures confirmed { OnTrue result
             (Writes place (final_word (tag_of (word_at self.old place)) NO_RECORD) self.old self.new) }
         ensures entry { OnTrue result (SetsEntry bucket (tag_of (word_at self.old place)) NO_RECORD self.old self.new) }

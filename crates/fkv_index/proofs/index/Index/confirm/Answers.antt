@@ -3,7 +3,7 @@ use Rattle.std.proofs.lemmas.Bool.{false≢true}
 use Rattle.fkv_index.specs.Words.{is_tentative, is_final_of, tag_of, final_word}
 use Rattle.fkv_index.proofs.WordFacts.{empty_not_tentative, empty_not_final, tentative_not_final, final_not_tentative}
 use Rattle.fkv_index.proofs.Written.{place_of-word, bucket_within, buckets_written, place_written, same_entries, single_kept, written_twice, writes, written_there}
-use Rattle.fkv_index.proofs.Confirmed.{alone_by_places, places_alone, alone_from, none_from_alone, scan_is, single_confirmed, sets_confirmed}
+use Rattle.fkv_index.proofs.Confirmed.{alone_by_places, places_alone, alone_from, none_from_alone, scan_is, single_confirmed, sets_confirmed, none_alone}
 use Rattle.fkv_index.proofs.IndexMaps.{index_map}
 use Rattle.fkv_index.proofs.index.Index.confirm.Goals as goal
 
@@ -90,3 +90,10 @@ returns-clause-released c =
     let place = place_of-word is_tentative c.self.inside.buckets c.args.place empty_not_tentative (rw c.self.view_is c.requires.tentative) in
     rw (c.set-2.ensures, c.set.ensures, written_twice c.self.inside.buckets c.args.place c.empty.result c.entry.result place)
     (ap is_tentative (written_there _ c.args.place c.entry.result place) ∙ final_not_tentative c.entry.result c.entry.ensures.is)
+
+pub returns-clause-none : goal.returns-clause-none
+returns-clause-none c =
+    let place = place_of-word is_tentative c.self.inside.buckets c.args.place empty_not_tentative (rw c.self.view_is c.requires.tentative) in
+    let asked = scan_is c.self.inside.buckets c.set.new.self c.args.place c.word.result c.empty.result c.tag-tag.result c.args.bucket c.has_entry.result c.word.ensures c.tag-tag.ensures.value c.set.ensures c.empty.ensures c.requires.bucket c.has_entry.ensures in
+    let alone = alone_from c.self.inside.buckets c.args.place place (sym asked ∙ c.if-has_entry.false) in
+    rw (← c.self.view_is, ← c.requires.bucket) (none_alone c.self.inside.buckets c.args.place alone (rw c.self.view_is c.requires.tentative))

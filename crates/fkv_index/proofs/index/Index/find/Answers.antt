@@ -1,5 +1,5 @@
 use Rattle.std.proofs.Common.{refl, sym, ap, ◌∙◌}
-use Rattle.fkv_index.proofs.Found.{entry_at-first, entry_at-none}
+use Rattle.fkv_index.proofs.Found.{entry_at-first, entry_at-none, place_of-first, place_of-none}
 use Rattle.fkv_index.specs.Words.{is_final_of}
 use Rattle.fkv_index.proofs.WordFacts.{final_is_final, tag_of-final}
 use Rattle.fkv_index.proofs.IndexMaps.{index_map}
@@ -28,3 +28,11 @@ returns-in_err-at-clause-map c = rw (← c.self.view_is) (index_map _ c.self.inv
 
 pub returns-clause-map : goal.returns-clause-map
 returns-clause-map c = rw (← c.self.view_is) (index_map _ c.self.invariant)
+
+pub returns-in_err-at-clause-place : goal.returns-in_err-at-clause-place
+returns-in_err-at-clause-place c =
+    rw (c.from_residual.ensures, ← c.self.view_is) (sym (place_of-none _ c.args.bucket c.args.tag c.in_err-at.ensures.none))
+
+pub returns-clause-place : goal.returns-clause-place
+returns-clause-place c =
+    rw (← c.self.view_is) (place_of-first _ c.args.bucket c.args.tag c.in_ok-at.at c.in_ok-at.ensures.some)
