@@ -25,6 +25,12 @@ pub record Decides {K V I O : Type 0} (cmp : K → K → Ordering) (f : Meanings
   pub fresh : x.phase ≡ Fresh
   pub decided : decision f x.op (met_at cmp code v (key_of x.op)) ≡ d
 
+-- the operation that is open in a context has this key, and so decides
+pub record IsDecided {K V I O : Type 0} (cmp : K → K → Ordering) (f : Meanings K V I O) (code : K → ℕ) (v : PartitionView K V I) (slot c : ℕ) (key : K) (d : Decision V I O) : Type 0 where
+  pub operation : Context K V I
+  pub key_is : key_of operation.op ≡ key
+  pub decides : Decides cmp f code v slot c operation d
+
 pub data Goes {K V I O : Type 0} (cmp : K → K → Ordering) (f : Meanings K V I O) (code : K → ℕ) (old new : PartitionView K V I) (slot c now : ℕ) (result : Result (Progress K V I O) Refused) : Type 0 where
   -- nothing is open there
   unknown : context_at old slot c ≡ None → new ≡ old → result ≡ Err Unknown → Goes cmp f code old new slot c now result

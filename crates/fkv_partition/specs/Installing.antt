@@ -15,6 +15,12 @@ use Rattle.fkv_partition.specs.declared.contexts.Progress.TheVariants.{Done, Nex
 use Rattle.fkv_partition.specs.Contexts.{question_in}
 use Rattle.fkv_partition.specs.Views.{PartitionView, entry_for, context_at, with_context, with_appended}
 
+-- the operation that is open in a context kept this address, and asks this
+pub record Asks {K V I : Type 0} (v : PartitionView K V I) (slot c kept : ℕ) (ask : Ask K V I) : Type 0 where
+  pub operation : Context K V I
+  pub here : context_at v slot c ≡ Some operation
+  pub question : question_in operation ≡ Some (kept, ask)
+
 pub data Installs {K V I O : Type 0} (cmp : K → K → Ordering) (f : Meanings K V I O) (code : K → ℕ) (old new : PartitionView K V I) (slot c : ℕ) (ask : Ask K V I) (now : ℕ) (result : Result (Progress K V I O) Refused) : Type 0 where
   -- nothing is open there
   unknown : context_at old slot c ≡ None → new ≡ old → result ≡ Err Unknown → Installs cmp f code old new slot c ask now result

@@ -3,7 +3,7 @@ ghost use Rattle.std.specs.Prelude.{◌≡◌, ◌<◌, ◌≤◌, IfOk, OnOk, O
 ghost use Rattle.fkv_partition.specs.Ending.{Leaves, GivesUp};
 ghost use Rattle.fkv_partition.specs.Effect.{IsLeave, IsGiveUp};
 
-use crate::contexts::{open_at, open_context, set_context};
+use crate::contexts::open_context;
 use crate::partitions::Partition;
 use crate::sessions::{is_entered, leave_slot};
 use fkv_functions::{Functions, Refused};
@@ -39,11 +39,10 @@ impl<F: Functions> Partition<F> {
         ensures err { OnErr result (self.new ≡ self.old) }
         ensures moment { self.new.moment ≤ now }
     {
-        let Some(_open) = open_at(self.entered.as_slice(), &self.contexts, slot, context) else {
+        let Some(_open) = self.open(slot, context) else {
             return Err(Refused::Unknown);
         };
-        self.moment = now;
-        set_context(&mut self.contexts, slot, context, None);
+        self.free(slot, context, now);
         Ok(())
     }
 }

@@ -7,6 +7,7 @@
 #![tactic(auto)]
 
 pub mod asking;
+mod changes;
 pub mod contexts;
 pub mod ending;
 pub mod going;

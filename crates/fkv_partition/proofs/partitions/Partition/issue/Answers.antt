@@ -25,4 +25,4 @@ returns-clause-does g c = rw (← c.self.view_is, c.set_context.ensures) (issues
 pub returns-clause-event : goal.returns-clause-event
 returns-clause-event g c =
     rw (← c.self.view_is, c.set_context.ensures)
-    (event-issue g.F.Key.Ord.cmp g.F.Functions.meaning g.F.Functions.code _ c.self.invariant c.args.slot c.in-Some.context c.args.now c.args.op (inside g c) (free g c) c.in-Some.ensures.within (own g c))
+    (event-issue g.F.Functions.code _ c.args.slot c.in-Some.context c.args.now c.args.op (inside g c) (free g c) c.in-Some.ensures.within (own g c))
