@@ -73,8 +73,8 @@ impl<F: Functions> Partition<F> {
         requires context { context < 8 }
         requires here { context_at self.old slot context ≡ Some operation.now }
         requires stands { StandsFor F.Key.cmp self.old.records operation.now.op phase }
-        ensures { self.new
-            ≡ with_context self.old slot context (Some (record { number = operation.now.number; op = operation.now.op; phase = phase })) now }
+        ensures { self.new ≡ with_context self.old slot context
+            (Some (record { number = operation.now.number; op = operation.now.op; phase = phase })) now }
     {
         let moved = Context {
             number: operation.number,
@@ -88,7 +88,8 @@ impl<F: Functions> Partition<F> {
     /// Makes an entry for a class that has none. Refused, and then nothing changes: `NoMemory`.
     pub(crate) fn claim(&mut self, class: Class, now: u64) -> Result<(), Refused>
         requires { entry_of self.old.records class ≡ None }
-        ensures ok { OnOk result (self.new ≡ record self.old { records = claimed self.old.records class; moment = now }) }
+        ensures ok { OnOk result
+            (self.new ≡ record self.old { records = claimed self.old.records class; moment = now }) }
         ensures only { IfErr result (λ refused. refused ≡ Refused.NoMemory) }
         ensures err { OnErr result (self.new ≡ self.old) }
     {
@@ -124,8 +125,7 @@ impl<F: Functions> Partition<F> {
             .records
             .append(write.class, write.previous, write.key, write.value)?;
         self.records.known();
-        self.moment = now;
-        set_context(&mut self.contexts, slot, context, None);
+        self.free(slot, context, now);
         Ok(())
     }
 }

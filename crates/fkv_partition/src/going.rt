@@ -34,7 +34,8 @@ impl<F: Functions> Partition<F> {
     ) -> Result<ProgressOf<F>, Refused>
         requires later { self.old.moment < now }
         ensures does { Goes F.Key.cmp F.meaning F.code self.old self.new slot context now result }
-        ensures event { IfOk result (λ progress. IsEvent F.Key.cmp F.meaning self.old self.new slot context now progress) }
+        ensures event { IfOk result
+            (λ progress. IsEvent F.Key.cmp F.meaning self.old self.new slot context now progress) }
         ensures within { IfOk result (λ _. (slot < 16) × (context < 8)) }
         ensures err { OnErr result (self.new ≡ self.old) }
         ensures moment { self.new.moment ≤ now }
@@ -64,7 +65,8 @@ impl<F: Functions> Partition<F> {
         requires here { context_at self.old slot context ≡ Some operation.now }
         requires asks_nothing { question_in operation.now ≡ None }
         ensures does { Goes F.Key.cmp F.meaning F.code self.old self.new slot context now result }
-        ensures event { IfOk result (λ progress. IsEvent F.Key.cmp F.meaning self.old self.new slot context now progress) }
+        ensures event { IfOk result
+            (λ progress. IsEvent F.Key.cmp F.meaning self.old self.new slot context now progress) }
         ensures err { OnErr result (self.new ≡ self.old) }
         ensures moment { self.new.moment ≤ now }
     {
@@ -156,7 +158,8 @@ impl<F: Functions> Partition<F> {
         requires decided { IsDecided F.Key.cmp F.meaning F.code self.old slot context
             write.key (Decision.Append write.value answer) }
         ensures does { Goes F.Key.cmp F.meaning F.code self.old self.new slot context now result }
-        ensures event { IfOk result (λ progress. IsEvent F.Key.cmp F.meaning self.old self.new slot context now progress) }
+        ensures event { IfOk result
+            (λ progress. IsEvent F.Key.cmp F.meaning self.old self.new slot context now progress) }
         ensures err { OnErr result (self.new ≡ self.old) }
         ensures moment { self.new.moment ≤ now }
     {

@@ -40,7 +40,8 @@ impl<F: Functions> Partition<F> {
     ) -> Result<ProgressOf<F>, Refused>
         requires later { self.old.moment < now }
         ensures does { Installs F.Key.cmp F.meaning F.code self.old self.new slot context built now result }
-        ensures event { IfOk result (λ progress. IsEvent F.Key.cmp F.meaning self.old self.new slot context now progress) }
+        ensures event { IfOk result
+            (λ progress. IsEvent F.Key.cmp F.meaning self.old self.new slot context now progress) }
         ensures within { IfOk result (λ _. (slot < 16) × (context < 8)) }
         ensures err { OnErr result (self.new ≡ self.old) }
         ensures moment { self.new.moment ≤ now }
@@ -88,7 +89,8 @@ impl<F: Functions> Partition<F> {
         requires class { class ≡ class_in F.code self.old.records built.key }
         requires leads { entry_for F.code self.old built.key ≡ Some kept }
         ensures does { Installs F.Key.cmp F.meaning F.code self.old self.new slot context built now result }
-        ensures event { IfOk result (λ progress. IsEvent F.Key.cmp F.meaning self.old self.new slot context now progress) }
+        ensures event { IfOk result
+            (λ progress. IsEvent F.Key.cmp F.meaning self.old self.new slot context now progress) }
         ensures err { OnErr result (self.new ≡ self.old) }
         ensures moment { self.new.moment ≤ now }
     {

@@ -32,13 +32,15 @@ pub struct Partition<F: Functions> {
 
 impl<F: Functions> Model for Partition<F> {
     ghost use Rattle.fkv_partition.specs.Views.{PartitionView};
-    ghost use Rattle.fkv_partition.specs.Sound.{IsSound};
 
     ghost Value = { PartitionView F.Key F.Value F.Input };
 
-    ghost view = { λ p. record { number = p.number; count = p.count; records = p.records; entered = p.entered.items; contexts = p.contexts.items; moment = p.moment } };
+    ghost use Rattle.fkv_partition.specs.Inside.{view_of};
+    ghost use Rattle.fkv_partition.specs.Sound.{IsSound};
 
-    ghost invariant = { λ p. IsSound F.Key.cmp F.code (record { number = p.number; count = p.count; records = p.records; entered = p.entered.items; contexts = p.contexts.items; moment = p.moment }) };
+    ghost view = { view_of };
+
+    ghost invariant = { λ p. IsSound F.Key.cmp F.code (view_of p) };
 }
 
 /// Places that hold nothing. Refused: `NoMemory`.
@@ -57,12 +59,14 @@ fn free_places<T: Drop>(alloc: Global) -> Result<Vec<Option<T>>, Refused>
 
 impl<F: Functions> Partition<F> {
     /// The partition of this number, with nothing in it. Refused, in this order: `BadConfig` where a
-    /// number of the configuration is outside its limits, a record is too large, or there is no partition of this number,
-    /// `NoMemory`.
+    /// number of the configuration is outside its limits, a record is too large, or there is no partition
+    /// of this number, `NoMemory`.
     pub fn new(alloc: Global, config: &Config, number: u64) -> Result<Self, Refused>
         ensures ok { IfOk result (λ p. p ≡ empty_partition config.now (size_of F.Key.SIZE F.Value.SIZE) number) }
-        ensures good { result ≢ Err Refused.BadConfig → IsPartitionOf config.now (size_of F.Key.SIZE F.Value.SIZE) number }
-        ensures bad { result ≡ Err Refused.BadConfig → ¬ IsPartitionOf config.now (size_of F.Key.SIZE F.Value.SIZE) number }
+        ensures good { result ≢ Err Refused.BadConfig
+            → IsPartitionOf config.now (size_of F.Key.SIZE F.Value.SIZE) number }
+        ensures bad { result ≡ Err Refused.BadConfig
+            → ¬ IsPartitionOf config.now (size_of F.Key.SIZE F.Value.SIZE) number }
         ensures only { IfErr result (λ refused. (refused ≡ Refused.BadConfig) ⊎ (refused ≡ Refused.NoMemory)) }
     {
         let Some(shape) = config.shape::<F::Key, F::Value>() else {
