@@ -1,17 +1,19 @@
 //! What events change of a partition. Each change keeps what every partition keeps, and says what it leaves.
-ghost use Rattle.std.specs.Prelude.{◌≡◌, ◌^◌, ◌<◌, ◌↔◌, ◌⊎◌, Some, None, Err, IfSome, IfErr, OnOk, OnErr};
+ghost use Rattle.std.specs.Prelude.{◌≡◌, ◌^◌, ◌<◌, ◌↔◌, ◌⊎◌, false, Some, None, Err, IfErr, OnOk, OnErr, slice_set};
 ghost use Rattle.fkv_records.specs.Places.{offset_at};
 ghost use Rattle.fkv_operations.specs.After.{key_of};
 ghost use Rattle.fkv_operations.specs.RecordsViews.{entry_of, claimed};
-ghost use Rattle.fkv_partition.specs.Views.{context_at, partition_of, with_context, with_appended};
-ghost use Rattle.fkv_partition.specs.Sound.{StandsFor, IsSound};
+ghost use Rattle.fkv_partition.specs.Views.{context_at, open_context, partition_of, with_context, with_appended};
+ghost use Rattle.fkv_partition.specs.Sound.{StandsFor};
+ghost use Rattle.fkv_partition.specs.Beginning.{IsEntered};
 ghost use Rattle.fkv_partition.specs.Writes.{IsWrite};
 
-use crate::contexts::{Context, ContextOf, Phase, open_at, set_context};
+use crate::contexts::{Context, ContextOf, Phase, set_context};
 use crate::partitions::Partition;
+use crate::sessions::leave_slot;
 use fkv_functions::{Functions, Refused};
-use fkv_operations::Class;
 use fkv_operations::laws::records_grow;
+use fkv_operations::{Class, OpOf};
 use fkv_records::Address;
 
 /// A record that is to be appended.
@@ -27,22 +29,6 @@ pub(crate) struct Write<K, V> {
 }
 
 impl<F: Functions> Partition<F> {
-    /// What holds of every partition.
-    pub(crate) fn known(&self)
-        ensures { IsSound F.Key.cmp F.code self.now }
-    {
-        let _moment = self.moment;
-    }
-
-    /// The operation that is open in a context.
-    pub(crate) fn open(&self, slot: usize, context: usize) -> Option<ContextOf<F>>
-        ensures value { result ≡ context_at self.now slot context }
-        ensures session { IfSome result (λ _. slot < 16) }
-        ensures context { IfSome result (λ _. context < 8) }
-    {
-        open_at(self.entered.as_slice(), &self.contexts, slot, context)
-    }
-
     /// A moment passes, and nothing else changes.
     pub(crate) fn pass(&mut self, now: u64)
         ensures { self.new ≡ record self.old { moment = now } }
@@ -58,6 +44,24 @@ impl<F: Functions> Partition<F> {
     {
         self.moment = now;
         set_context(&mut self.contexts, slot, context, None);
+    }
+
+    /// Opens an operation in a context.
+    pub(crate) fn start(&mut self, slot: usize, context: usize, op: OpOf<F>, now: u64)
+        requires session { slot < 16 }
+        requires entered { IsEntered self.old slot }
+        requires context { context < 8 }
+        requires own { partition_of self.old.count (F.code (key_of op)) ≡ self.old.number }
+        ensures { self.new ≡ with_context self.old slot context
+            (Some (record { number = now; op = op; phase = Phase.Fresh })) now }
+    {
+        let fresh = Context {
+            number: now,
+            op,
+            phase: Phase::Fresh,
+        };
+        self.moment = now;
+        set_context(&mut self.contexts, slot, context, Some(fresh));
     }
 
     /// Moves the operation that is open in a context to another phase.
@@ -83,6 +87,16 @@ impl<F: Functions> Partition<F> {
         };
         self.moment = now;
         set_context(&mut self.contexts, slot, context, Some(moved));
+    }
+
+    /// Frees the slot of a session that has no open operation.
+    pub(crate) fn vacate(&mut self, slot: usize, now: u64)
+        requires session { slot < 16 }
+        requires idle { open_context self.old slot ≡ None }
+        ensures { self.new ≡ record self.old { entered = slice_set self.old.entered slot false; moment = now } }
+    {
+        self.moment = now;
+        leave_slot(&mut self.entered, slot);
     }
 
     /// Makes an entry for a class that has none. Refused, and then nothing changes: `NoMemory`.

@@ -1,10 +1,9 @@
 //! What an operation does when it goes on.
 ghost use Rattle.std.specs.Prelude.{◌≡◌, ◌<◌, ◌≤◌, Some, None, Ok, IfOk, OnErr};
 ghost use Rattle.fkv_operations.specs.After.{key_of};
-ghost use Rattle.fkv_operations.specs.Decisions.{decision};
-ghost use Rattle.fkv_operations.specs.RecordsViews.{class_in, address_of};
+ghost use Rattle.fkv_operations.specs.RecordsViews.{address_of};
 ghost use Rattle.fkv_partition.specs.Contexts.{question_in};
-ghost use Rattle.fkv_partition.specs.Views.{context_at, entry_for, live_of, met_at};
+ghost use Rattle.fkv_partition.specs.Views.{context_at, entry_for};
 ghost use Rattle.fkv_partition.specs.Writes.{IsWrite};
 ghost use Rattle.fkv_partition.specs.Going.{Decides, IsDecided, Goes};
 ghost use Rattle.fkv_partition.specs.Effect.{IsEvent};
@@ -14,7 +13,7 @@ use crate::contexts::{ContextOf, Phase, Progress, ProgressOf, question_of};
 use crate::partitions::Partition;
 use fkv_functions::{Ask, Functions, Refused};
 use fkv_operations::laws::{entries_lead, records_grow};
-use fkv_operations::{AnswerOf, Class, Decision, DecisionOf, OpOf, decide, met_by};
+use fkv_operations::{AnswerOf, Decision};
 use fkv_records::{Address, NO_RECORD};
 
 impl<F: Functions> Partition<F> {
@@ -105,41 +104,6 @@ impl<F: Functions> Partition<F> {
                 Ok(self.prepare(slot, context, operation, previous, ask, now))
             }
         }
-    }
-
-    /// The class of a key, and where its entry leads.
-    pub(crate) fn find(&self, functions: &F, key: &F::Key) -> (Class, Option<Address>)
-        ensures class { result.0 ≡ class_in F.code self.now.records key.now }
-        ensures entry { result.1 ≡ entry_for F.code self.now key.now }
-    {
-        let class = self.records.class(functions, key);
-        let entry = self.records.entry(&class);
-        (class, entry)
-    }
-
-    /// The value of a key, by the entry of its class.
-    fn value_of(&self, key: &F::Key, entry: Option<Address>) -> Option<F::Value>
-        requires { entry ≡ entry_for F.code self.now key.now }
-        ensures { result ≡ live_of F.Key.cmp self.now key.now }
-    {
-        entries_lead::<F::Key, F::Value>();
-        match entry {
-            None => None,
-            Some(address) => match self.records.trace(address, key) {
-                None => None,
-                Some(last) => last.value,
-            },
-        }
-    }
-
-    /// What an operation does for what it meets, by the entry of its key's class.
-    fn decided(&self, functions: &F, op: &OpOf<F>, entry: Option<Address>) -> DecisionOf<F>
-        requires { entry ≡ entry_for F.code self.now (key_of op.now) }
-        ensures { result ≡ decision F.meaning op.now (met_at F.Key.cmp F.code self.now (key_of op.now)) }
-    {
-        let key = op.key();
-        let met = met_by(entry, self.value_of(&key, entry));
-        decide(functions, op, &met)
     }
 
     /// Appends the record of a write, which is then done. Refused, and then nothing changes: `Worn`, `NoMemory`.

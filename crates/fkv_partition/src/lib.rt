@@ -14,6 +14,7 @@ pub mod going;
 pub mod installing;
 pub mod limits;
 pub mod listing;
+mod looking;
 pub mod partitions;
 pub mod sessions;
 

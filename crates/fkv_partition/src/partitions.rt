@@ -6,9 +6,9 @@ ghost use Rattle.fkv_partition.specs.Views.{empty_partition};
 ghost use Rattle.fkv_partition.specs.Beginning.{Enters, Issues};
 ghost use Rattle.fkv_partition.specs.Effect.{IsEnter, IsIssue};
 
-use crate::contexts::{Context, Phase, free_context, set_context};
+use crate::contexts::Context;
 use crate::limits::Config;
-use crate::sessions::{free_slot, is_entered, take_slot};
+use crate::sessions::{free_slot, take_slot};
 use arrayvec::ArrayVec;
 use fkv_functions::{Functions, Refused, What};
 use fkv_operations::{OpOf, Records};
@@ -124,10 +124,10 @@ impl<F: Functions> Partition<F> {
         ensures err { OnErr result (self.new ≡ self.old) }
         ensures moment { self.new.moment ≤ now }
     {
-        if !is_entered(self.entered.as_slice(), slot) {
+        if !self.is_session(slot) {
             return Err(Refused::Unknown);
         }
-        let came = functions.hash(&op.key()) % self.count;
+        let came = self.home(functions, &op.key());
         if came != self.number {
             return Err(Refused::Stranger {
                 what: What::Partition,
@@ -135,16 +135,10 @@ impl<F: Functions> Partition<F> {
                 came,
             });
         }
-        let Some(context) = free_context(&self.contexts, slot) else {
+        let Some(context) = self.first_free(slot) else {
             return Err(Refused::NoContext);
         };
-        let operation = Context {
-            number: now,
-            op,
-            phase: Phase::Fresh,
-        };
-        self.moment = now;
-        set_context(&mut self.contexts, slot, context, Some(operation));
+        self.start(slot, context, op, now);
         Ok(context)
     }
 }
