@@ -42,11 +42,13 @@ answer f m (Rmw k i) = Value (f.shown k i (updated f k i (m k)))
 answer f m (Delete k) = Deleted
 
 -- the map after a list of operations
-abbrev pub after_all : {K V I O : Type 0} → (K → K → Ordering) → Meanings K V I O → PlainMap K V → List (Op K V I) → PlainMap K V
+abbrev pub after_all : {K V I O : Type 0} → (K → K → Ordering) → Meanings K V I O → PlainMap K V → List (Op K V I)
+    → PlainMap K V
 after_all cmp f m [] = m
 after_all cmp f m (op ∷ ops) = after_all cmp f (after cmp f m op) ops
 
 -- the answers to a list of operations, each from the map that the ones before it leave
-abbrev pub answers : {K V I O : Type 0} → (K → K → Ordering) → Meanings K V I O → PlainMap K V → List (Op K V I) → List (Answer O)
+abbrev pub answers : {K V I O : Type 0} → (K → K → Ordering) → Meanings K V I O → PlainMap K V → List (Op K V I)
+    → List (Answer O)
 answers cmp f m [] = []
 answers cmp f m (op ∷ ops) = answer f m op ∷ answers cmp f (after cmp f m op) ops

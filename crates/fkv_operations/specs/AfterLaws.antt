@@ -13,7 +13,8 @@ pub same_map : {K V : Type 0} (m n : PlainMap K V) → Same m n → m ≡ n
 same_map m n h = λ i k. h k i
 
 -- an operation that is no update leaves the map
-pub after-quiet : {K V I O : Type 0} (cmp : K → K → Ordering) (f : Meanings K V I O) (m : PlainMap K V) (op : Op K V I) → is_update op ≡ false
+pub after-quiet : {K V I O : Type 0} (cmp : K → K → Ordering) (f : Meanings K V I O) (m : PlainMap K V) (op : Op K V I)
+    → is_update op ≡ false
     → after cmp f m op ≡ m
 after-quiet cmp f m (Read k i) h = refl
 after-quiet cmp f m (Upsert k v) h = absurd (cc)
@@ -29,10 +30,12 @@ module _ {K V I O : Type 0} (cmp : K → K → Ordering) (f : Meanings K V I O) 
   answer-same m n op h = ap (λ (p : PlainMap K V). answer f p op) (same_map m n h)
 
   -- one more operation
-  pub after_all-append : (m : PlainMap K V) (ops : List (Op K V I)) (op : Op K V I) → after_all cmp f m (ops ++ op ∷ []) ≡ after cmp f (after_all cmp f m ops) op
+  pub after_all-append : (m : PlainMap K V) (ops : List (Op K V I)) (op : Op K V I)
+      → after_all cmp f m (ops ++ op ∷ []) ≡ after cmp f (after_all cmp f m ops) op
   after_all-append m [] op = refl
   after_all-append m (one ∷ ops) op = after_all-append (after cmp f m one) ops op
 
-  pub answers-append : (m : PlainMap K V) (ops : List (Op K V I)) (op : Op K V I) → answers cmp f m (ops ++ op ∷ []) ≡ answers cmp f m ops ++ answer f (after_all cmp f m ops) op ∷ []
+  pub answers-append : (m : PlainMap K V) (ops : List (Op K V I)) (op : Op K V I)
+      → answers cmp f m (ops ++ op ∷ []) ≡ answers cmp f m ops ++ answer f (after_all cmp f m ops) op ∷ []
   answers-append m [] op = refl
   answers-append m (one ∷ ops) op = ap (λ told. answer f m one ∷ told) (answers-append (after cmp f m one) ops op)

@@ -7,7 +7,8 @@ use Rattle.fkv_operations.specs.declared.classes.Class.{Class}
 
 -- the class of a hash: its lowest bits are the partition's, the next ones the bucket, and its highest 15 the tag
 abbrev pub class_at : ℕ → ℕ → ℕ → Class
-class_at partition_bits bucket_bits hash = record { bucket = hash / 2 ^ partition_bits % 2 ^ bucket_bits; tag = hash / 2 ^ 49 }
+class_at partition_bits bucket_bits hash =
+    record { bucket = hash / 2 ^ partition_bits % 2 ^ bucket_bits; tag = hash / 2 ^ 49 }
 
 -- by bucket, and then by tag
 abbrev pub class_cmp : Class → Class → Ordering

@@ -4,4 +4,5 @@ pub mod Decisions
 pub mod DecisionLaws
 pub mod Classes
 pub mod RecordsViews
+pub mod Inside
 pub mod Traced

@@ -7,8 +7,8 @@ use Rattle.fkv_hybrid.specs.Places.{tail_after}
 use Rattle.fkv_operations.specs.declared.classes.Class.{Class}
 use Rattle.fkv_operations.specs.Classes.{class_at, class_cmp}
 
--- the records of one of 2 ^ partition_bits partitions, whose classes have 2 ^ bucket_bits buckets: a text as a log has it,
--- and the entry of each class that has one, an address
+-- the records of one of 2 ^ partition_bits partitions, whose classes have 2 ^ bucket_bits buckets: a text as a log has
+-- it, and the entry of each class that has one, an address
 pub record RecordsView (K V : Type 0) : Type 0 where
   pub partition_bits : ℕ
   pub bucket_bits : ℕ

@@ -19,6 +19,7 @@ pub record IsTraced {K V : Type 0} (code : K → ℕ) (v : RecordsView K V) : Ty
   pub below : IsBelow v.tail v.text
   pub chained : IsChained (class_in code v) same_class v.begin v.text
   -- the entry of a class leads to the class's last record, and where it has none there is no entry, or it leads nowhere
-  pub leads : (c : Class) → Leads v.begin (last_of_class (class_in code v) same_class v.text c) (address_of (entry_of v c))
+  pub leads : (c : Class)
+      → Leads v.begin (last_of_class (class_in code v) same_class v.text c) (address_of (entry_of v c))
   -- so it can be the previous address of the next record
   pub placed : (c : Class) → IsPrevious v.tail (address_of (entry_of v c))

@@ -26,11 +26,12 @@ pub fn entries_lead<K, V>()
 /// What changes once a record is appended, or an entry is claimed.
 pub fn records_grow<K, V>()
     // what is newest at or below an address that is taken stays
-    ensures kept { (cmp : K → K → Ordering) (v : RecordsView K V) (c : Class) (previous : ℕ) (key : K) (value : Option V)
-        (k : K) (a : ℕ) → a < v.tail
+    ensures kept { (cmp : K → K → Ordering) (v : RecordsView K V) (c : Class) (previous : ℕ) (key : K)
+        (value : Option V) (k : K) (a : ℕ) → a < v.tail
         → newest cmp (with_record v c previous key value).text k a ≡ newest cmp v.text k a }
     // the key gets its value, or none
-    ensures lives { (cmp : K → K → Ordering) (v : RecordsView K V) (c : Class) (previous : ℕ) (key : K) (value : Option V)
+    ensures lives { (cmp : K → K → Ordering) (v : RecordsView K V) (c : Class) (previous : ℕ) (key : K)
+        (value : Option V)
         → Same (live cmp (with_record v c previous key value).text) (with_at cmp (live cmp v.text) key value) }
     // the class's entry leads to the record, and the others stay
     ensures entries { (v : RecordsView K V) (c : Class) (previous : ℕ) (key : K) (value : Option V) (d : Class)

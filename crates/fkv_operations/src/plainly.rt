@@ -39,7 +39,8 @@ pub fn apply_plainly<F: Functions>(
     map: &mut BTreeMap<F::Key, F::Value>,
     op: OpOf<F>,
 ) -> Result<AnswerOf<F>, Refused>
-    ensures map { IfOk result (λ _. Same (get F.Key.cmp map.new) (after F.Key.cmp F.meaning (get F.Key.cmp map.old) op)) }
+    ensures map { IfOk result
+        (λ _. Same (get F.Key.cmp map.new) (after F.Key.cmp F.meaning (get F.Key.cmp map.old) op)) }
     ensures answer { IfOk result (λ told. told ≡ answer F.meaning (get F.Key.cmp map.old) op) }
     ensures err { OnErr result (Same (get F.Key.cmp map.new) (get F.Key.cmp map.old)) }
     ensures only { IfErr result (λ refused. refused ≡ Refused.NoMemory) }
@@ -76,8 +77,10 @@ pub fn run_plainly<F: Functions>(
     functions: &F,
     ops: &[OpOf<F>],
 ) -> Result<PlainRun<F>, Refused>
-    ensures map { IfOk result (λ run. Same (get F.Key.cmp run.map) (after_all F.Key.cmp F.meaning (λ key. None) ops.now)) }
-    ensures answers { IfOk result (λ run. run.answers.items ≡ answers F.Key.cmp F.meaning (λ key. None) ops.now) }
+    ensures map { IfOk result
+        (λ run. Same (get F.Key.cmp run.map) (after_all F.Key.cmp F.meaning (λ key. None) ops.now)) }
+    ensures answers { IfOk result
+        (λ run. run.answers.items ≡ answers F.Key.cmp F.meaning (λ key. None) ops.now) }
     ensures only { IfErr result (λ refused. refused ≡ Refused.NoMemory) }
 {
     let mut map = BTreeMap::new(alloc);

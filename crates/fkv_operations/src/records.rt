@@ -35,15 +35,17 @@ pub struct Records<F: Functions> {
 }
 
 impl<F: Functions> Model for Records<F> {
-    ghost use Rattle.fkv_records.specs.Records.{size_of};
     ghost use Rattle.fkv_operations.specs.RecordsViews.{RecordsView};
-    ghost use Rattle.fkv_operations.specs.Traced.{IsTraced};
 
     ghost Value = { RecordsView F.Key F.Value };
 
-    ghost view = { λ r. record { partition_bits = r.partition_bits; bucket_bits = r.bucket_bits; page_bits = r.log.bits; record_size = size_of F.Key.SIZE F.Value.SIZE; begin = r.log.begin; tail = r.log.tail; text = r.log.text; finals = r.finals.entries } };
+    ghost use Rattle.fkv_records.specs.Records.{size_of};
+    ghost use Rattle.fkv_operations.specs.Inside.{view_of};
+    ghost use Rattle.fkv_operations.specs.Traced.{IsTraced};
 
-    ghost invariant = { λ r. IsTraced F.code (record { partition_bits = r.partition_bits; bucket_bits = r.bucket_bits; page_bits = r.log.bits; record_size = size_of F.Key.SIZE F.Value.SIZE; begin = r.log.begin; tail = r.log.tail; text = r.log.text; finals = r.finals.entries }) };
+    ghost view = { view_of (size_of F.Key.SIZE F.Value.SIZE) };
+
+    ghost invariant = { λ r. IsTraced F.code (view_of (size_of F.Key.SIZE F.Value.SIZE) r) };
 }
 
 impl<F: Functions> Records<F> {
@@ -58,7 +60,8 @@ impl<F: Functions> Records<F> {
         requires partition { partition_bits ≤ 6 }
         requires bucket { bucket_bits ≤ 20 }
         requires size { shape.record_size ≡ size_of F.Key.SIZE F.Value.SIZE }
-        ensures ok { IfOk result (λ records. records ≡ empty_records partition_bits bucket_bits shape.page_bits shape.record_size) }
+        ensures ok { IfOk result
+            (λ records. records ≡ empty_records partition_bits bucket_bits shape.page_bits shape.record_size) }
         ensures only { IfErr result (λ refused. refused ≡ Refused.NoMemory) }
     {
         let log = Log::new(alloc, shape)?;
@@ -100,7 +103,8 @@ impl<F: Functions> Records<F> {
     pub fn claim(&mut self, class: Class) -> Result<(), Refused>
         requires { entry_of self.old class ≡ None }
         ensures ok { OnOk result (self.new ≡ claimed self.old class) }
-        ensures looked { OnOk result ((c : Class) → entry_of self.new c ≡ cond (same_class class c) (Some 1) (entry_of self.old c)) }
+        ensures looked { OnOk result
+            ((c : Class) → entry_of self.new c ≡ cond (same_class class c) (Some 1) (entry_of self.old c)) }
         ensures only { IfErr result (λ refused. refused ≡ Refused.NoMemory) }
         ensures err { OnErr result (self.new ≡ self.old) }
     {

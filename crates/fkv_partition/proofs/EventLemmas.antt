@@ -24,6 +24,7 @@ use Rattle.fkv_partition.specs.declared.contexts.Progress.TheVariants.{Done, Nex
 use Rattle.fkv_partition.specs.Contexts.{question_in, question_by, joined, context_in}
 use Rattle.fkv_partition.specs.Views.{PartitionView, partition_of, entry_for, met_at, context_at, with_context, with_appended, live_of, free_slot, free_context, open_context}
 use Rattle.fkv_partition.specs.Effect.{asked, asked_by, LeavesOthers, IsEnter, IsIssue, IsEvent, IsLeave, IsGiveUp}
+use Rattle.fkv_partition.specs.Going.{Decides}
 use Rattle.fkv_partition.specs.Sound.{StandsFor, IsSound}
 use Rattle.fkv_partition.proofs.ListLemmas.{get-set_other, get-set_same}
 use Rattle.fkv_partition.proofs.AskedLemmas.{open_at, context-inside, context-other, asked-same, asked-other, free-context, free-slot, idle-asked, context-left, context-elsewhere}
@@ -72,13 +73,17 @@ same_or zero (suc c) = inr (λ e. omega arith)
 same_or (suc d) zero = inr (λ e. omega arith)
 same_or (suc d) (suc c) = elim (same_or d c) [ inl e ↦ inl (ap suc e) | inr n ↦ inr (λ e. n (omega arith)) ]
 
-module _ {K V I O : Type 0} (cmp : K → K → Ordering) (f : Meanings K V I O) (code : K → ℕ) (v : PartitionView K V I) (s : IsSound cmp code v) where
+module _ {K V I : Type 0} (cmp : K → K → Ordering) (code : K → ℕ) (v : PartitionView K V I) (s : IsSound cmp code v) where
   -- a context of an entered session stands for what it says
   pub stands-at : (slot c : ℕ) (x : Context K V I) → context_at v slot c ≡ Some x → StandsFor cmp v.records x.op x.phase
   stands-at slot c x h = s.stands (slot * 8 + c) x (open_at v.entered v.contexts slot c x h).here
 
   pub own-at : (slot c : ℕ) (x : Context K V I) → context_at v slot c ≡ Some x → partition_of v.count (code (key_of x.op)) ≡ v.number
   own-at slot c x h = s.asked (slot * 8 + c) x (open_at v.entered v.contexts slot c x h).here
+
+  -- and is fresh where it asks nothing
+  pub fresh-at : (slot c : ℕ) (x : Context K V I) → context_at v slot c ≡ Some x → question_in x ≡ None → x.phase ≡ Fresh
+  fresh-at slot c x h q = fresh-by x.number x.op x.phase cmp v.records (stands-at slot c x h) q
 
   -- the key of an entry that leads where a prepared update saw it has the value that it kept
   pub source-is : (slot c a : ℕ) (x : Context K V I) (ask : Ask K V I) → context_at v slot c ≡ Some x → question_in x ≡ Some (a, ask) → newest cmp v.records.text ask.key a ≡ last_of cmp v.records.text ask.key → ask.source ≡ live_of cmp v ask.key
@@ -87,6 +92,33 @@ module _ {K V I O : Type 0} (cmp : K → K → Ordering) (f : Meanings K V I O) 
       let k : StandsFor cmp v.records (Rmw ask.key ask.input) (Prepared a ask.source) = subst (λ (o : Op K V I). StandsFor cmp v.records o (Prepared a ask.source)) w.op_is (subst (λ (p : Phase V). StandsFor cmp v.records x.op p) w.phase_is (stands-at slot c x h)) in
       sym k.1 ∙ ap value_of held
 
+  -- a session is entered: its contexts hold nothing yet
+  pub event-enter : (slot now : ℕ) → free_slot v ≡ Some slot → IsEnter v (record v { entered = slice_set v.entered slot true; moment = now }) slot now
+  event-enter slot now free = record { same = λ t d. ap (option_map asked_by) (same t d); text = refl; number = refl; count = refl; begin = refl; moment = refl }
+    where
+      same : (t d : ℕ) → context_in (slice_set v.entered slot true) v.contexts t d ≡ context_in v.entered v.contexts t d
+      same t d = elim (same_or t slot) [
+        | inl e ↦ rw e (by_low (nat_lt d 8) refl)
+        | inr n ↦ ap (λ (o : Option Bool). cond (unwrap_or o false && nat_lt d 8) (joined (slice_get v.contexts (t * 8 + d))) None) (get-set_other v.entered slot t true n)
+      ]
+        where
+          is_free : slice_get v.entered slot ≡ Some false
+          is_free = free-slot v slot free
+
+          held : (o : Option (Option (Context K V I))) → slice_get v.contexts (slot * 8 + d) ≡ o → d < 8 → joined (slice_get v.contexts (slot * 8 + d)) ≡ None
+          held None e low = ap joined e
+          held (Some None) e low = ap joined e
+          held (Some (Some x)) e low = absurd (let inside = s.housed slot d x low e in let no : false ≡ true = sym (ap (λ (o : Option Bool). unwrap_or o false) is_free) ∙ inside in cc)
+
+          by_low : (b : Bool) → nat_lt d 8 ≡ b → context_in (slice_set v.entered slot true) v.contexts slot d ≡ context_in v.entered v.contexts slot d
+          by_low true b =
+              let taken : slice_get (slice_set v.entered slot true) slot ≡ Some true = get-set_same v.entered slot false true is_free in
+              rw (taken, is_free, b) (held (slice_get v.contexts (slot * 8 + d)) refl (grind (arith, nat_tests)))
+          by_low false b =
+              let taken : slice_get (slice_set v.entered slot true) slot ≡ Some true = get-set_same v.entered slot false true is_free in
+              rw (taken, is_free, b) refl
+
+module _ {K V I O : Type 0} (cmp : K → K → Ordering) (f : Meanings K V I O) (code : K → ℕ) (v : PartitionView K V I) where
   module _ (slot c now : ℕ) (x : Context K V I) (h : context_at v slot c ≡ Some x) where
     leaves : (y : Option (Context K V I)) → LeavesOthers v (with_context v slot c y now) slot c now
     leaves y = record { others = λ t d o. asked-other v slot c now x h y t d o; number = refl; count = refl; begin = refl; moment = refl }
@@ -116,6 +148,10 @@ module _ {K V I O : Type 0} (cmp : K → K → Ordering) (f : Meanings K V I O) 
         by_entry : (o : Option ℕ) → entry_for code v (key_of x.op) ≡ o → StandsFor cmp v.records x.op (Prepared kept source)
         by_entry None e = absurd (let some = prepare-met f x.op (entry_for code v (key_of x.op)) (live_of cmp v (key_of x.op)) source i d in let no : IsSome {T = ℕ} None = subst (λ (o : Option ℕ). IsSome o) e some in cc)
         by_entry (Some a) e = subst (λ n. StandsFor cmp v.records x.op (Prepared n source)) (sym (is ∙ ap address_of e)) (prepared-stands a source i e (low a e) (held a e) d)
+
+    -- an operation that asks nothing looks its key up, and so decides
+    pub decides-at : IsSound cmp code v → question_in x ≡ None → (d e : Decision V I O) → d ≡ decision f x.op (met_at cmp code v (key_of x.op)) → d ≡ e → Decides cmp f code v slot c x e
+    decides-at s q d e is same = record { here = h; fresh = fresh-at cmp code v s slot c x h q; decided = sym is ∙ same }
 
     -- an operation is done without a write
     pub event-quiet : IsKeyOrder cmp → (entry_for code v (key_of x.op) ≡ None → last_of cmp v.records.text (key_of x.op) ≡ None) → (a : Answer O) → decision f x.op (met_at cmp code v (key_of x.op)) ≡ Decision.Done a → IsEvent cmp f v (with_context v slot c None now) slot c now (Done a now)
@@ -195,12 +231,12 @@ module _ {K V I O : Type 0} (cmp : K → K → Ordering) (f : Meanings K V I O) 
     }
 
     -- the built value is appended
-    pub event-done : (a : ℕ) (ask : Ask K V I) → question_in x ≡ Some (a, ask) → newest cmp v.records.text ask.key a ≡ last_of cmp v.records.text ask.key
+    pub event-done : IsSound cmp code v → (a : ℕ) (ask : Ask K V I) → question_in x ≡ Some (a, ask) → newest cmp v.records.text ask.key a ≡ last_of cmp v.records.text ask.key
         → ((value : Option V) → Same (live cmp (with_record v.records (class_in code v.records ask.key) a ask.key value).text) (with_at cmp (live_of cmp v) ask.key value))
         → IsEvent cmp f v (with_appended code v slot c ask.key (Some (updated f ask.key ask.input ask.source)) a now) slot c now (Done (Value (f.shown ask.key ask.input (updated f ask.key ask.input ask.source))) now)
-    event-done a ask q newest lives =
+    event-done s a ask q newest lives =
         let w = question-of x.number x.op x.phase a ask q in
-        let held : ask.source ≡ live_of cmp v ask.key = source-is slot c a x ask h q newest in
+        let held : ask.source ≡ live_of cmp v ask.key = source-is cmp code v s slot c a x ask h q newest in
         let value : V = updated f ask.key ask.input ask.source in
         let meant : updated f ask.key ask.input ask.source ≡ updated f ask.key ask.input (live_of cmp v ask.key) = ap (updated f ask.key ask.input) held in
         let l = leaves None in
@@ -219,6 +255,7 @@ module _ {K V I O : Type 0} (cmp : K → K → Ordering) (f : Meanings K V I O) 
           frame = record { others = l.others; number = refl; count = refl; begin = refl; moment = refl };
         }
 
+module _ {K V I : Type 0} (code : K → ℕ) (v : PartitionView K V I) where
   -- an operation is issued
   pub event-issue : (slot c now : ℕ) (op : Op K V I) → unwrap_or (slice_get v.entered slot) false ≡ true → free_context v slot ≡ Some c → c < 8 → partition_of v.count (code (key_of op)) ≡ v.number
       → IsIssue code v (with_context v slot c (Some (record { number = now; op = op; phase = Fresh })) now) slot c op now
@@ -239,32 +276,6 @@ module _ {K V I O : Type 0} (cmp : K → K → Ordering) (f : Meanings K V I O) 
           moment = refl;
         };
       }
-
-  -- a session is entered: its contexts hold nothing yet
-  pub event-enter : (slot now : ℕ) → free_slot v ≡ Some slot → IsEnter v (record v { entered = slice_set v.entered slot true; moment = now }) slot now
-  event-enter slot now free = record { same = λ t d. ap (option_map asked_by) (same t d); text = refl; number = refl; count = refl; begin = refl; moment = refl }
-    where
-      same : (t d : ℕ) → context_in (slice_set v.entered slot true) v.contexts t d ≡ context_in v.entered v.contexts t d
-      same t d = elim (same_or t slot) [
-        | inl e ↦ rw e (by_low (nat_lt d 8) refl)
-        | inr n ↦ ap (λ (o : Option Bool). cond (unwrap_or o false && nat_lt d 8) (joined (slice_get v.contexts (t * 8 + d))) None) (get-set_other v.entered slot t true n)
-      ]
-        where
-          is_free : slice_get v.entered slot ≡ Some false
-          is_free = free-slot v slot free
-
-          held : (o : Option (Option (Context K V I))) → slice_get v.contexts (slot * 8 + d) ≡ o → d < 8 → joined (slice_get v.contexts (slot * 8 + d)) ≡ None
-          held None e low = ap joined e
-          held (Some None) e low = ap joined e
-          held (Some (Some x)) e low = absurd (let inside = s.housed slot d x low e in let no : false ≡ true = sym (ap (λ (o : Option Bool). unwrap_or o false) is_free) ∙ inside in cc)
-
-          by_low : (b : Bool) → nat_lt d 8 ≡ b → context_in (slice_set v.entered slot true) v.contexts slot d ≡ context_in v.entered v.contexts slot d
-          by_low true b =
-              let taken : slice_get (slice_set v.entered slot true) slot ≡ Some true = get-set_same v.entered slot false true is_free in
-              rw (taken, is_free, b) (held (slice_get v.contexts (slot * 8 + d)) refl (grind (arith, nat_tests)))
-          by_low false b =
-              let taken : slice_get (slice_set v.entered slot true) slot ≡ Some true = get-set_same v.entered slot false true is_free in
-              rw (taken, is_free, b) refl
 
 -- a session without open operations is left
 pub event-leave : {K V I : Type 0} (v : PartitionView K V I) (slot now : ℕ) → open_context v slot ≡ None → IsLeave v (record v { entered = slice_set v.entered slot false; moment = now }) now

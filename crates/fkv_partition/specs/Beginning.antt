@@ -10,19 +10,37 @@ use Rattle.fkv_partition.specs.Views.{PartitionView, partition_of, with_context,
 
 pub data Enters {K V I : Type 0} (old new : PartitionView K V I) (now : ℕ) (result : Result ℕ Refused) : Type 0 where
   full : free_slot old ≡ None → new ≡ old → result ≡ Err NoSlot → Enters old new now result
-  enters : (slot : ℕ) → free_slot old ≡ Some slot → new ≡ record old { entered = slice_set old.entered slot true; moment = now } → result ≡ Ok slot
+  enters : (slot : ℕ)
+      → free_slot old ≡ Some slot
+      → new ≡ record old { entered = slice_set old.entered slot true; moment = now }
+      → result ≡ Ok slot
       → Enters old new now result
 
 -- whether a slot is that of a session
 abbrev pub IsEntered : {K V I : Type 0} → PartitionView K V I → ℕ → Type 0
 IsEntered v slot = unwrap_or (slice_get v.entered slot) false ≡ true
 
-pub data Issues {K V I : Type 0} (code : K → ℕ) (old new : PartitionView K V I) (slot : ℕ) (op : Op K V I) (now : ℕ) (result : Result ℕ Refused) : Type 0 where
-  unknown : unwrap_or (slice_get old.entered slot) false ≡ false → new ≡ old → result ≡ Err Unknown → Issues code old new slot op now result
-  stranger : IsEntered old slot → partition_of old.count (code (key_of op)) ≢ old.number → new ≡ old
-      → result ≡ Err (Stranger Partition old.number (partition_of old.count (code (key_of op)))) → Issues code old new slot op now result
-  full : IsEntered old slot → partition_of old.count (code (key_of op)) ≡ old.number → free_context old slot ≡ None → new ≡ old
-      → result ≡ Err NoContext → Issues code old new slot op now result
-  issues : (c : ℕ) → IsEntered old slot → partition_of old.count (code (key_of op)) ≡ old.number → free_context old slot ≡ Some c
-      → new ≡ with_context old slot c (Some (record { number = now; op = op; phase = Fresh })) now → result ≡ Ok c
+pub data Issues {K V I : Type 0} (code : K → ℕ) (old new : PartitionView K V I) (slot : ℕ) (op : Op K V I) (now : ℕ)
+    (result : Result ℕ Refused) : Type 0 where
+  unknown : unwrap_or (slice_get old.entered slot) false ≡ false
+      → new ≡ old
+      → result ≡ Err Unknown
+      → Issues code old new slot op now result
+  stranger : IsEntered old slot
+      → partition_of old.count (code (key_of op)) ≢ old.number
+      → new ≡ old
+      → result ≡ Err (Stranger Partition old.number (partition_of old.count (code (key_of op))))
+      → Issues code old new slot op now result
+  full : IsEntered old slot
+      → partition_of old.count (code (key_of op)) ≡ old.number
+      → free_context old slot ≡ None
+      → new ≡ old
+      → result ≡ Err NoContext
+      → Issues code old new slot op now result
+  issues : (c : ℕ)
+      → IsEntered old slot
+      → partition_of old.count (code (key_of op)) ≡ old.number
+      → free_context old slot ≡ Some c
+      → new ≡ with_context old slot c (Some (record { number = now; op = op; phase = Fresh })) now
+      → result ≡ Ok c
       → Issues code old new slot op now result

@@ -14,7 +14,8 @@ joined (Some x) = x
 
 -- the operation that is open in a context of an entered session
 abbrev pub context_in : {K V I : Type 0} → List Bool → List (Option (Context K V I)) → ℕ → ℕ → Option (Context K V I)
-context_in entered contexts slot c = cond (unwrap_or (slice_get entered slot) false && nat_lt c 8) (joined (slice_get contexts (slot * 8 + c))) None
+context_in entered contexts slot c =
+    cond (unwrap_or (slice_get entered slot) false && nat_lt c 8) (joined (slice_get contexts (slot * 8 + c))) None
 
 -- the address that a prepared update kept, and what it asks
 abbrev pub question_by : {K V I : Type 0} → ℕ → Op K V I → Phase V → Option (ℕ × Ask K V I)

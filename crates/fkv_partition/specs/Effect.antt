@@ -24,11 +24,19 @@ asked v slot c = option_map asked_by (context_at v slot c)
 
 -- the effect of an event at this moment, of a context that asked `x` and then asks `is`: a Done does exactly the one
 -- operation and answers as the plain map does just before, and anything else leaves the live map
-abbrev pub HasEffect : {K V I O : Type 0} → (K → K → Ordering) → Meanings K V I O → PlainMap K V → PlainMap K V → ℕ → Asked K V I → Option (Asked K V I)
-    → Progress K V I O → Type 0
-HasEffect cmp f m m' now x is (Done a effect) = (is ≡ None) × (effect ≡ now) × Same m' (after cmp f m x.op) × (a ≡ answer f m x.op)
+abbrev pub HasEffect : {K V I O : Type 0} → (K → K → Ordering) → Meanings K V I O → PlainMap K V → PlainMap K V → ℕ
+    → Asked K V I → Option (Asked K V I) → Progress K V I O → Type 0
+HasEffect cmp f m m' now x is (Done a effect) =
+    (is ≡ None)
+    × (effect ≡ now)
+    × Same m' (after cmp f m x.op)
+    × (a ≡ answer f m x.op)
 HasEffect cmp f m m' now x is Next = (is ≡ Some x) × Same m' m
-HasEffect cmp f m m' now x is (NeedsBuild ask) = (is ≡ Some x) × Same m' m × (ask.number ≡ x.number) × (x.op ≡ Rmw ask.key ask.input)
+HasEffect cmp f m m' now x is (NeedsBuild ask) =
+    (is ≡ Some x)
+    × Same m' m
+    × (ask.number ≡ x.number)
+    × (x.op ≡ Rmw ask.key ask.input)
 
 -- what an event of a session, or of one of its contexts, leaves as it was
 pub record LeavesOthers {K V I : Type 0} (old new : PartitionView K V I) (slot c now : ℕ) : Type 0 where
@@ -48,7 +56,8 @@ pub record IsEnter {K V I : Type 0} (old new : PartitionView K V I) (slot now : 
   pub moment : new.moment ≡ now
 
 -- an operation of a key that belongs here is issued in a context which asked nothing
-pub record IsIssue {K V I : Type 0} (code : K → ℕ) (old new : PartitionView K V I) (slot c : ℕ) (op : Op K V I) (now : ℕ) : Type 0 where
+pub record IsIssue {K V I : Type 0} (code : K → ℕ) (old new : PartitionView K V I) (slot c : ℕ) (op : Op K V I)
+    (now : ℕ) : Type 0 where
   pub closed : asked old slot c ≡ None
   pub opened : asked new slot c ≡ Some (record { number = now; op = op })
   pub own : partition_of old.count (code (key_of op)) ≡ old.number
@@ -57,7 +66,8 @@ pub record IsIssue {K V I : Type 0} (code : K → ℕ) (old new : PartitionView 
   pub frame : LeavesOthers old new slot c now
 
 -- an event of one context
-pub record IsEvent {K V I O : Type 0} (cmp : K → K → Ordering) (f : Meanings K V I O) (old new : PartitionView K V I) (slot c now : ℕ) (progress : Progress K V I O) : Type 0 where
+pub record IsEvent {K V I O : Type 0} (cmp : K → K → Ordering) (f : Meanings K V I O) (old new : PartitionView K V I)
+    (slot c now : ℕ) (progress : Progress K V I O) : Type 0 where
   pub question : Asked K V I
   pub was : asked old slot c ≡ Some question
   pub effect : HasEffect cmp f (live_of cmp old) (live_of cmp new) now question (asked new slot c) progress

@@ -6,12 +6,29 @@ use Rattle.fkv_partition.specs.declared.contexts.Context.{Context}
 use Rattle.fkv_partition.specs.Beginning.{IsEntered}
 use Rattle.fkv_partition.specs.Views.{PartitionView, context_at, with_context, open_context}
 
-pub data Leaves {K V I : Type 0} (old new : PartitionView K V I) (slot now : ℕ) (result : Result (Unit {0}) Refused) : Type 0 where
-  unknown : unwrap_or (slice_get old.entered slot) false ≡ false → new ≡ old → result ≡ Err Unknown → Leaves old new slot now result
-  busy : (c : ℕ) → IsEntered old slot → open_context old slot ≡ Some c → new ≡ old → result ≡ Err Busy → Leaves old new slot now result
-  leaves : IsEntered old slot → open_context old slot ≡ None → new ≡ record old { entered = slice_set old.entered slot false; moment = now } → result ≡ Ok tt
+pub data Leaves {K V I : Type 0} (old new : PartitionView K V I) (slot now : ℕ)
+    (result : Result (Unit {0}) Refused) : Type 0 where
+  unknown : unwrap_or (slice_get old.entered slot) false ≡ false
+      → new ≡ old
+      → result ≡ Err Unknown
+      → Leaves old new slot now result
+  busy : (c : ℕ)
+      → IsEntered old slot
+      → open_context old slot ≡ Some c
+      → new ≡ old
+      → result ≡ Err Busy
+      → Leaves old new slot now result
+  leaves : IsEntered old slot
+      → open_context old slot ≡ None
+      → new ≡ record old { entered = slice_set old.entered slot false; moment = now }
+      → result ≡ Ok tt
       → Leaves old new slot now result
 
-pub data GivesUp {K V I : Type 0} (old new : PartitionView K V I) (slot c now : ℕ) (result : Result (Unit {0}) Refused) : Type 0 where
+pub data GivesUp {K V I : Type 0} (old new : PartitionView K V I) (slot c now : ℕ)
+    (result : Result (Unit {0}) Refused) : Type 0 where
   unknown : context_at old slot c ≡ None → new ≡ old → result ≡ Err Unknown → GivesUp old new slot c now result
-  gives_up : (x : Context K V I) → context_at old slot c ≡ Some x → new ≡ with_context old slot c None now → result ≡ Ok tt → GivesUp old new slot c now result
+  gives_up : (x : Context K V I)
+      → context_at old slot c ≡ Some x
+      → new ≡ with_context old slot c None now
+      → result ≡ Ok tt
+      → GivesUp old new slot c now result

@@ -1,4 +1,5 @@
--- What `go` does: nothing is open; or a prepared update asks again; or the operation looks its key up, and what it meets decides.
+-- What `go` does: nothing is open; or a prepared update asks again; or the operation looks its key up, and what it
+-- meets decides.
 use Rattle.std.specs.Prelude.{◌≡◌, ◌≢◌, ◌^◌, ℕ, Option, Some, None, Result, Ok, Err}
 use Rattle.std.specs.declared.cmp.Ordering.{Ordering}
 use Rattle.fkv_functions.specs.Meanings.{Meanings}
@@ -20,39 +21,75 @@ use Rattle.fkv_partition.specs.Contexts.{question_in}
 use Rattle.fkv_partition.specs.Views.{PartitionView, entry_for, met_at, context_at, with_context, with_appended}
 
 -- an operation that looks its key up in a context, and what it then does
-pub record Decides {K V I O : Type 0} (cmp : K → K → Ordering) (f : Meanings K V I O) (code : K → ℕ) (v : PartitionView K V I) (slot c : ℕ) (x : Context K V I) (d : Decision V I O) : Type 0 where
+pub record Decides {K V I O : Type 0} (cmp : K → K → Ordering) (f : Meanings K V I O) (code : K → ℕ)
+    (v : PartitionView K V I) (slot c : ℕ) (x : Context K V I) (d : Decision V I O) : Type 0 where
   pub here : context_at v slot c ≡ Some x
   pub fresh : x.phase ≡ Fresh
   pub decided : decision f x.op (met_at cmp code v (key_of x.op)) ≡ d
 
-pub data Goes {K V I O : Type 0} (cmp : K → K → Ordering) (f : Meanings K V I O) (code : K → ℕ) (old new : PartitionView K V I) (slot c now : ℕ) (result : Result (Progress K V I O) Refused) : Type 0 where
+-- the operation that is open in a context has this key, and so decides
+pub record IsDecided {K V I O : Type 0} (cmp : K → K → Ordering) (f : Meanings K V I O) (code : K → ℕ)
+    (v : PartitionView K V I) (slot c : ℕ) (key : K) (d : Decision V I O) : Type 0 where
+  pub operation : Context K V I
+  pub key_is : key_of operation.op ≡ key
+  pub decides : Decides cmp f code v slot c operation d
+
+pub data Goes {K V I O : Type 0} (cmp : K → K → Ordering) (f : Meanings K V I O) (code : K → ℕ)
+    (old new : PartitionView K V I) (slot c now : ℕ) (result : Result (Progress K V I O) Refused) : Type 0 where
   -- nothing is open there
   unknown : context_at old slot c ≡ None → new ≡ old → result ≡ Err Unknown → Goes cmp f code old new slot c now result
   -- a prepared update asks the same again
-  asks : (x : Context K V I) (a : ℕ) (ask : Ask K V I) → context_at old slot c ≡ Some x → question_in x ≡ Some (a, ask)
-      → new ≡ record old { moment = now } → result ≡ Ok (NeedsBuild ask)
+  asks : (x : Context K V I) (a : ℕ) (ask : Ask K V I)
+      → context_at old slot c ≡ Some x
+      → question_in x ≡ Some (a, ask)
+      → new ≡ record old { moment = now }
+      → result ≡ Ok (NeedsBuild ask)
       → Goes cmp f code old new slot c now result
   -- it is done without a write, and its context is free
-  done : (x : Context K V I) (a : Answer O) → Decides cmp f code old slot c x (Decision.Done a)
-      → new ≡ with_context old slot c None now → result ≡ Ok (Done a now)
+  done : (x : Context K V I) (a : Answer O)
+      → Decides cmp f code old slot c x (Decision.Done a)
+      → new ≡ with_context old slot c None now
+      → result ≡ Ok (Done a now)
       → Goes cmp f code old new slot c now result
   -- an entry is made, or the memory for it is refused
-  claims : (x : Context K V I) → Decides cmp f code old slot c x Claim
-      → new ≡ record old { records = claimed old.records (class_in code old.records (key_of x.op)); moment = now } → result ≡ Ok Next
+  claims : (x : Context K V I)
+      → Decides cmp f code old slot c x Claim
+      → new ≡ record old { records = claimed old.records (class_in code old.records (key_of x.op)); moment = now }
+      → result ≡ Ok Next
       → Goes cmp f code old new slot c now result
-  unclaimed : (x : Context K V I) → Decides cmp f code old slot c x Claim → new ≡ old → result ≡ Err NoMemory
+  unclaimed : (x : Context K V I)
+      → Decides cmp f code old slot c x Claim
+      → new ≡ old
+      → result ≡ Err NoMemory
       → Goes cmp f code old new slot c now result
-  -- a record is appended, the entry moves to it, and the operation is done; or no address is left; or the record would be
-  -- the first of a page, and memory is refused
-  appends : (x : Context K V I) (value : Option V) (a : Answer O) → Decides cmp f code old slot c x (Append value a) → old.records.tail ≢ 2 ^ 48
-      → new ≡ with_appended code old slot c (key_of x.op) value (address_of (entry_for code old (key_of x.op))) now → result ≡ Ok (Done a now)
+  -- a record is appended, the entry moves to it, and the operation is done; or no address is left; or the record would
+  -- be the first of a page, and memory is refused
+  appends : (x : Context K V I) (value : Option V) (a : Answer O)
+      → Decides cmp f code old slot c x (Append value a)
+      → old.records.tail ≢ 2 ^ 48
+      → new ≡ with_appended code old slot c (key_of x.op) value (address_of (entry_for code old (key_of x.op))) now
+      → result ≡ Ok (Done a now)
       → Goes cmp f code old new slot c now result
-  worn : (x : Context K V I) (value : Option V) (a : Answer O) → Decides cmp f code old slot c x (Append value a) → old.records.tail ≡ 2 ^ 48
-      → new ≡ old → result ≡ Err Worn → Goes cmp f code old new slot c now result
-  unheld : (x : Context K V I) (value : Option V) (a : Answer O) → Decides cmp f code old slot c x (Append value a) → old.records.tail ≢ 2 ^ 48
-      → offset_at old.records.page_bits old.records.tail ≡ 0 → new ≡ old → result ≡ Err NoMemory → Goes cmp f code old new slot c now result
+  worn : (x : Context K V I) (value : Option V) (a : Answer O)
+      → Decides cmp f code old slot c x (Append value a)
+      → old.records.tail ≡ 2 ^ 48
+      → new ≡ old
+      → result ≡ Err Worn
+      → Goes cmp f code old new slot c now result
+  unheld : (x : Context K V I) (value : Option V) (a : Answer O)
+      → Decides cmp f code old slot c x (Append value a)
+      → old.records.tail ≢ 2 ^ 48
+      → offset_at old.records.page_bits old.records.tail ≡ 0
+      → new ≡ old
+      → result ≡ Err NoMemory
+      → Goes cmp f code old new slot c now result
   -- an update keeps the address to which the entry leads and the value that it met, and asks for the new one
-  prepares : (x : Context K V I) (source : Option V) (i : I) → Decides cmp f code old slot c x (Prepare source i)
-      → new ≡ with_context old slot c (Some (record { number = x.number; op = x.op; phase = Prepared (address_of (entry_for code old (key_of x.op))) source })) now
+  prepares : (x : Context K V I) (source : Option V) (i : I)
+      → Decides cmp f code old slot c x (Prepare source i)
+      → new ≡ with_context old slot c (Some (record {
+        number = x.number;
+        op = x.op;
+        phase = Prepared (address_of (entry_for code old (key_of x.op))) source;
+      })) now
       → result ≡ Ok (NeedsBuild (record { number = x.number; key = key_of x.op; source = source; input = i }))
       → Goes cmp f code old new slot c now result

@@ -15,27 +15,68 @@ use Rattle.fkv_partition.specs.declared.contexts.Progress.TheVariants.{Done, Nex
 use Rattle.fkv_partition.specs.Contexts.{question_in}
 use Rattle.fkv_partition.specs.Views.{PartitionView, entry_for, context_at, with_context, with_appended}
 
-pub data Installs {K V I O : Type 0} (cmp : K → K → Ordering) (f : Meanings K V I O) (code : K → ℕ) (old new : PartitionView K V I) (slot c : ℕ) (ask : Ask K V I) (now : ℕ) (result : Result (Progress K V I O) Refused) : Type 0 where
+-- the operation that is open in a context kept this address, and asks this
+pub record Asks {K V I : Type 0} (v : PartitionView K V I) (slot c kept : ℕ) (ask : Ask K V I) : Type 0 where
+  pub operation : Context K V I
+  pub here : context_at v slot c ≡ Some operation
+  pub question : question_in operation ≡ Some (kept, ask)
+
+pub data Installs {K V I O : Type 0} (cmp : K → K → Ordering) (f : Meanings K V I O) (code : K → ℕ)
+    (old new : PartitionView K V I) (slot c : ℕ) (ask : Ask K V I) (now : ℕ)
+    (result : Result (Progress K V I O) Refused) : Type 0 where
   -- nothing is open there
-  unknown : context_at old slot c ≡ None → new ≡ old → result ≡ Err Unknown → Installs cmp f code old new slot c ask now result
+  unknown : context_at old slot c ≡ None
+      → new ≡ old
+      → result ≡ Err Unknown
+      → Installs cmp f code old new slot c ask now result
   -- the context asks for nothing to be built
-  not_ready : (x : Context K V I) → context_at old slot c ≡ Some x → question_in x ≡ None → new ≡ old → result ≡ Err NotReady
+  not_ready : (x : Context K V I)
+      → context_at old slot c ≡ Some x
+      → question_in x ≡ None
+      → new ≡ old
+      → result ≡ Err NotReady
       → Installs cmp f code old new slot c ask now result
   -- the answer is to another question
-  stranger : (x : Context K V I) (a : ℕ) (mine : Ask K V I) → context_at old slot c ≡ Some x → question_in x ≡ Some (a, mine) → ask ≢ mine
-      → new ≡ old → result ≡ Err (Stranger Built mine.number ask.number) → Installs cmp f code old new slot c ask now result
+  stranger : (x : Context K V I) (a : ℕ) (mine : Ask K V I)
+      → context_at old slot c ≡ Some x
+      → question_in x ≡ Some (a, mine)
+      → ask ≢ mine
+      → new ≡ old
+      → result ≡ Err (Stranger Built mine.number ask.number)
+      → Installs cmp f code old new slot c ask now result
   -- the entry of the key's class has moved: the update looks again
-  moved : (x : Context K V I) (a : ℕ) → context_at old slot c ≡ Some x → question_in x ≡ Some (a, ask) → entry_for code old ask.key ≢ Some a
-      → new ≡ with_context old slot c (Some (record { number = x.number; op = x.op; phase = Fresh })) now → result ≡ Ok Next
+  moved : (x : Context K V I) (a : ℕ)
+      → context_at old slot c ≡ Some x
+      → question_in x ≡ Some (a, ask)
+      → entry_for code old ask.key ≢ Some a
+      → new ≡ with_context old slot c (Some (record { number = x.number; op = x.op; phase = Fresh })) now
+      → result ≡ Ok Next
       → Installs cmp f code old new slot c ask now result
   -- no address is left
-  worn : (x : Context K V I) (a : ℕ) → context_at old slot c ≡ Some x → question_in x ≡ Some (a, ask) → entry_for code old ask.key ≡ Some a
-      → old.records.tail ≡ 2 ^ 48 → new ≡ old → result ≡ Err Worn → Installs cmp f code old new slot c ask now result
+  worn : (x : Context K V I) (a : ℕ)
+      → context_at old slot c ≡ Some x
+      → question_in x ≡ Some (a, ask)
+      → entry_for code old ask.key ≡ Some a
+      → old.records.tail ≡ 2 ^ 48
+      → new ≡ old
+      → result ≡ Err Worn
+      → Installs cmp f code old new slot c ask now result
   -- the record would be the first of a page, and memory is refused
-  unheld : (x : Context K V I) (a : ℕ) → context_at old slot c ≡ Some x → question_in x ≡ Some (a, ask) → entry_for code old ask.key ≡ Some a
-      → old.records.tail ≢ 2 ^ 48 → offset_at old.records.page_bits old.records.tail ≡ 0 → new ≡ old → result ≡ Err NoMemory → Installs cmp f code old new slot c ask now result
+  unheld : (x : Context K V I) (a : ℕ)
+      → context_at old slot c ≡ Some x
+      → question_in x ≡ Some (a, ask)
+      → entry_for code old ask.key ≡ Some a
+      → old.records.tail ≢ 2 ^ 48
+      → offset_at old.records.page_bits old.records.tail ≡ 0
+      → new ≡ old
+      → result ≡ Err NoMemory
+      → Installs cmp f code old new slot c ask now result
   -- the new value is appended, the entry moves to it, and the answer shows it
-  done : (x : Context K V I) (a : ℕ) → context_at old slot c ≡ Some x → question_in x ≡ Some (a, ask) → entry_for code old ask.key ≡ Some a
-      → old.records.tail ≢ 2 ^ 48 → new ≡ with_appended code old slot c ask.key (Some (updated f ask.key ask.input ask.source)) a now
+  done : (x : Context K V I) (a : ℕ)
+      → context_at old slot c ≡ Some x
+      → question_in x ≡ Some (a, ask)
+      → entry_for code old ask.key ≡ Some a
+      → old.records.tail ≢ 2 ^ 48
+      → new ≡ with_appended code old slot c ask.key (Some (updated f ask.key ask.input ask.source)) a now
       → result ≡ Ok (Done (Value (f.shown ask.key ask.input (updated f ask.key ask.input ask.source))) now)
       → Installs cmp f code old new slot c ask now result

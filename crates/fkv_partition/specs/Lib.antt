@@ -1,6 +1,8 @@
 pub mod Limits
 pub mod Contexts
 pub mod Views
+pub mod Inside
+pub mod Writes
 pub mod Effect
 pub mod Going
 pub mod Installing

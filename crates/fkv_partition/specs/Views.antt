@@ -10,8 +10,8 @@ use Rattle.fkv_partition.specs.declared.contexts.Context.{Context}
 use Rattle.fkv_partition.specs.declared.limits.Config.{Config}
 use Rattle.fkv_partition.specs.Contexts.{context_in}
 
--- a partition: its number among how many, its records with the entries of their classes, its sessions and contexts, and its
--- last moment
+-- a partition: its number among how many, its records with the entries of their classes, its sessions and contexts, and
+-- its last moment
 pub record PartitionView (K V I : Type 0) : Type 0 where
   pub number : ℕ
   pub count : ℕ
@@ -52,12 +52,14 @@ abbrev pub context_at : {K V I : Type 0} → PartitionView K V I → ℕ → ℕ
 context_at v slot c = context_in v.entered v.contexts slot c
 
 -- the view with this operation, or none, in a context, at another moment
-abbrev pub with_context : {K V I : Type 0} → PartitionView K V I → ℕ → ℕ → Option (Context K V I) → ℕ → PartitionView K V I
+abbrev pub with_context : {K V I : Type 0} → PartitionView K V I → ℕ → ℕ → Option (Context K V I) → ℕ
+    → PartitionView K V I
 with_context v slot c x now = record v { contexts = slice_set v.contexts (slot * 8 + c) x; moment = now }
 
--- the view after a record of this key was appended, behind the one to which its class's entry led, and the entry was moved to
--- it, and the context was freed
-abbrev pub with_appended : {K V I : Type 0} → (K → ℕ) → PartitionView K V I → ℕ → ℕ → K → Option V → ℕ → ℕ → PartitionView K V I
+-- the view after a record of this key was appended, behind the one to which its class's entry led, and the entry was
+-- moved to it, and the context was freed
+abbrev pub with_appended : {K V I : Type 0} → (K → ℕ) → PartitionView K V I → ℕ → ℕ → K → Option V → ℕ → ℕ
+    → PartitionView K V I
 with_appended code v slot c k value previous now = record (with_context v slot c None now) {
   records = with_record v.records (class_in code v.records k) previous k value;
 }

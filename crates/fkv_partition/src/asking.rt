@@ -2,7 +2,6 @@
 ghost use Rattle.std.specs.Prelude.{◌≡◌, Some, None, IfOk, IfErr};
 ghost use Rattle.fkv_partition.specs.Effect.{asked};
 
-use crate::contexts::open_at;
 use crate::partitions::Partition;
 use fkv_functions::{Functions, Refused};
 use fkv_operations::OpOf;
@@ -15,7 +14,7 @@ impl<F: Functions> Partition<F> {
         ensures none { IfErr result (λ _. asked self.now slot context ≡ None) }
         ensures only { IfErr result (λ refused. refused ≡ Refused.Unknown) }
     {
-        let Some(open) = open_at(self.entered.as_slice(), &self.contexts, slot, context) else {
+        let Some(open) = self.open(slot, context) else {
             return Err(Refused::Unknown);
         };
         Ok((open.number, open.op))

@@ -27,6 +27,13 @@ pub struct Context<K, V, I> {
     pub phase: Phase<V>,
 }
 
+/// The open operations of one type of functions.
+pub type ContextOf<F> = Context<
+    <F as Functions>::Key,
+    <F as Functions>::Value,
+    <F as Functions>::Input,
+>;
+
 /// What an event of an operation answers.
 #[derive(Clone, Copy, PartialEq, Eq, Debug)]
 pub enum Progress<K, V, I, O> {

@@ -3,9 +3,7 @@ ghost use Rattle.std.specs.Prelude.{◌≡◌, ◌<◌, ◌≤◌, IfOk, OnOk, O
 ghost use Rattle.fkv_partition.specs.Ending.{Leaves, GivesUp};
 ghost use Rattle.fkv_partition.specs.Effect.{IsLeave, IsGiveUp};
 
-use crate::contexts::{open_at, open_context, set_context};
 use crate::partitions::Partition;
-use crate::sessions::{is_entered, leave_slot};
 use fkv_functions::{Functions, Refused};
 
 impl<F: Functions> Partition<F> {
@@ -18,14 +16,13 @@ impl<F: Functions> Partition<F> {
         ensures err { OnErr result (self.new ≡ self.old) }
         ensures moment { self.new.moment ≤ now }
     {
-        if !is_entered(self.entered.as_slice(), slot) {
+        if !self.is_session(slot) {
             return Err(Refused::Unknown);
         }
-        if let Some(_open) = open_context(&self.contexts, slot) {
+        if let Some(_open) = self.first_open(slot) {
             return Err(Refused::Busy);
         }
-        self.moment = now;
-        leave_slot(&mut self.entered, slot);
+        self.vacate(slot, now);
         Ok(())
     }
 
@@ -39,11 +36,10 @@ impl<F: Functions> Partition<F> {
         ensures err { OnErr result (self.new ≡ self.old) }
         ensures moment { self.new.moment ≤ now }
     {
-        let Some(_open) = open_at(self.entered.as_slice(), &self.contexts, slot, context) else {
+        let Some(_open) = self.open(slot, context) else {
             return Err(Refused::Unknown);
         };
-        self.moment = now;
-        set_context(&mut self.contexts, slot, context, None);
+        self.free(slot, context, now);
         Ok(())
     }
 }

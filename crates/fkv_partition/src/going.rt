@@ -1,32 +1,22 @@
 //! What an operation does when it goes on.
-ghost use Rattle.std.specs.Prelude.{◌≡◌, ◌<◌, ◌≤◌, IfOk, OnErr};
-ghost use Rattle.fkv_partition.specs.Views.{entry_for, live_of};
-ghost use Rattle.fkv_partition.specs.Going.{Goes};
+ghost use Rattle.std.specs.Prelude.{◌≡◌, ◌<◌, ◌≤◌, Some, None, Ok, IfOk, OnErr};
+ghost use Rattle.fkv_operations.specs.After.{key_of};
+ghost use Rattle.fkv_operations.specs.RecordsViews.{address_of};
+ghost use Rattle.fkv_partition.specs.Contexts.{question_in};
+ghost use Rattle.fkv_partition.specs.Views.{context_at, entry_for};
+ghost use Rattle.fkv_partition.specs.Writes.{IsWrite};
+ghost use Rattle.fkv_partition.specs.Going.{Decides, IsDecided, Goes};
 ghost use Rattle.fkv_partition.specs.Effect.{IsEvent};
 
-use crate::contexts::{Context, Phase, Progress, ProgressOf, open_at, question_of, set_context};
+use crate::changes::Write;
+use crate::contexts::{ContextOf, Phase, Progress, ProgressOf, question_of};
 use crate::partitions::Partition;
 use fkv_functions::{Ask, Functions, Refused};
 use fkv_operations::laws::{entries_lead, records_grow};
-use fkv_operations::{Decision, decide, met_by};
+use fkv_operations::{AnswerOf, Decision};
 use fkv_records::{Address, NO_RECORD};
 
 impl<F: Functions> Partition<F> {
-    /// The value of a key, by the entry of its class.
-    fn value_of(&self, key: &F::Key, entry: Option<Address>) -> Option<F::Value>
-        requires { entry ≡ entry_for F.code self.now key.now }
-        ensures { result ≡ live_of F.Key.cmp self.now key.now }
-    {
-        entries_lead::<F::Key, F::Value>();
-        match entry {
-            None => None,
-            Some(address) => match self.records.trace(address, key) {
-                None => None,
-                Some(last) => last.value,
-            },
-        }
-    }
-
     /// Goes on with an operation: it looks its key up, and what it meets decides. A read is finished with
     /// its answer, and a delete of a key without a value. A write of a key without an entry makes one and
     /// answers `Next`; else an upsert, and a delete of a value, append a record and are finished, and an
@@ -43,66 +33,138 @@ impl<F: Functions> Partition<F> {
     ) -> Result<ProgressOf<F>, Refused>
         requires later { self.old.moment < now }
         ensures does { Goes F.Key.cmp F.meaning F.code self.old self.new slot context now result }
-        ensures event { IfOk result (λ progress. IsEvent F.Key.cmp F.meaning self.old self.new slot context now progress) }
+        ensures event { IfOk result
+            (λ progress. IsEvent F.Key.cmp F.meaning self.old self.new slot context now progress) }
         ensures within { IfOk result (λ _. (slot < 16) × (context < 8)) }
         ensures err { OnErr result (self.new ≡ self.old) }
         ensures moment { self.new.moment ≤ now }
     {
-        entries_lead::<F::Key, F::Value>();
-        records_grow::<F::Key, F::Value>();
-        let Some(open) = open_at(self.entered.as_slice(), &self.contexts, slot, context) else {
+        let Some(open) = self.open(slot, context) else {
             return Err(Refused::Unknown);
         };
         if let Some(question) = question_of(&open) {
-            self.moment = now;
+            self.pass(now);
             return Ok(Progress::NeedsBuild(question.1));
         }
-        let number = open.number;
-        let op = open.op;
-        let key = op.key();
-        let class = self.records.class(functions, &key);
-        let entry = self.records.entry(&class);
-        let met = met_by(entry, self.value_of(&key, entry));
-        let kept = entry.unwrap_or(NO_RECORD);
-        match decide(functions, &op, &met) {
+        self.look_up(slot, context, &open, functions, now)
+    }
+
+    /// Looks the key of an operation up, and does what is decided.
+    fn look_up(
+        &mut self,
+        slot: usize,
+        context: usize,
+        operation: &ContextOf<F>,
+        functions: &F,
+        now: u64,
+    ) -> Result<ProgressOf<F>, Refused>
+        requires later { self.old.moment < now }
+        requires session { slot < 16 }
+        requires context { context < 8 }
+        requires here { context_at self.old slot context ≡ Some operation.now }
+        requires asks_nothing { question_in operation.now ≡ None }
+        ensures does { Goes F.Key.cmp F.meaning F.code self.old self.new slot context now result }
+        ensures event { IfOk result
+            (λ progress. IsEvent F.Key.cmp F.meaning self.old self.new slot context now progress) }
+        ensures err { OnErr result (self.new ≡ self.old) }
+        ensures moment { self.new.moment ≤ now }
+    {
+        self.known();
+        entries_lead::<F::Key, F::Value>();
+        let key = operation.op.key();
+        let (class, entry) = self.find(functions, &key);
+        let previous = entry.unwrap_or(NO_RECORD);
+        match self.decided(functions, &operation.op, entry) {
             Decision::Done(answer) => {
-                self.moment = now;
-                set_context(&mut self.contexts, slot, context, None);
+                self.free(slot, context, now);
                 Ok(Progress::Done(answer, now))
             }
             Decision::Claim => {
-                let Ok(()) = self.records.claim(class) else {
+                let Ok(()) = self.claim(class, now) else {
                     return Err(Refused::NoMemory);
                 };
-                self.records.known();
-                self.moment = now;
                 Ok(Progress::Next)
             }
             Decision::Append(value, answer) => {
-                let _address = match self.records.append(class, kept, key, value) {
-                    Ok(address) => address,
-                    Err(refused) => return Err(refused),
+                let write = Write {
+                    class,
+                    previous,
+                    key,
+                    value,
                 };
-                self.records.known();
-                self.moment = now;
-                set_context(&mut self.contexts, slot, context, None);
-                Ok(Progress::Done(answer, now))
+                self.write(slot, context, write, answer, now)
             }
             Decision::Prepare(source, input) => {
-                let prepared = Context {
-                    number,
-                    op,
-                    phase: Phase::Prepared { kept, source },
-                };
-                self.moment = now;
-                set_context(&mut self.contexts, slot, context, Some(prepared));
-                Ok(Progress::NeedsBuild(Ask {
-                    number,
+                let ask = Ask {
+                    number: operation.number,
                     key,
                     source,
                     input,
-                }))
+                };
+                Ok(self.prepare(slot, context, operation, previous, ask, now))
             }
         }
+    }
+
+    /// Appends the record of a write, which is then done. Refused, and then nothing changes: `Worn`, `NoMemory`.
+    fn write(
+        &mut self,
+        slot: usize,
+        context: usize,
+        write: Write<F::Key, F::Value>,
+        answer: AnswerOf<F>,
+        now: u64,
+    ) -> Result<ProgressOf<F>, Refused>
+        requires later { self.old.moment < now }
+        requires session { slot < 16 }
+        requires context { context < 8 }
+        requires write { IsWrite F.code self.old write }
+        requires decided { IsDecided F.Key.cmp F.meaning F.code self.old slot context
+            write.key (Decision.Append write.value answer) }
+        ensures does { Goes F.Key.cmp F.meaning F.code self.old self.new slot context now result }
+        ensures event { IfOk result
+            (λ progress. IsEvent F.Key.cmp F.meaning self.old self.new slot context now progress) }
+        ensures err { OnErr result (self.new ≡ self.old) }
+        ensures moment { self.new.moment ≤ now }
+    {
+        records_grow::<F::Key, F::Value>();
+        match self.append(slot, context, write, now) {
+            Err(refused) => Err(refused),
+            Ok(()) => Ok(Progress::Done(answer, now)),
+        }
+    }
+
+    /// Keeps the address to which the entry leads and the value that was met, and asks for the new one.
+    fn prepare(
+        &mut self,
+        slot: usize,
+        context: usize,
+        operation: &ContextOf<F>,
+        kept: Address,
+        ask: Ask<F::Key, F::Value, F::Input>,
+        now: u64,
+    ) -> ProgressOf<F>
+        requires session { slot < 16 }
+        requires context { context < 8 }
+        requires kept { kept ≡ address_of (entry_for F.code self.old (key_of operation.now.op)) }
+        requires number { ask.number ≡ operation.now.number }
+        requires key { ask.key ≡ key_of operation.now.op }
+        requires decided { Decides F.Key.cmp F.meaning F.code self.old slot context operation.now
+            (Decision.Prepare ask.source ask.input) }
+        ensures does { Goes F.Key.cmp F.meaning F.code self.old self.new slot context now (Ok result) }
+        ensures event { IsEvent F.Key.cmp F.meaning self.old self.new slot context now result }
+        ensures moment { self.new.moment ≤ now }
+    {
+        self.known();
+        entries_lead::<F::Key, F::Value>();
+        let source = ask.source;
+        self.set_phase(
+            slot,
+            context,
+            operation,
+            Phase::Prepared { kept, source },
+            now,
+        );
+        Progress::NeedsBuild(ask)
     }
 }

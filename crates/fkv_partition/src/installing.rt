@@ -1,13 +1,17 @@
 //! How a built value becomes the key's.
 ghost use Rattle.std.specs.Prelude.{◌≡◌, ◌<◌, ◌≤◌, ◌↔◌, Some, IfOk, IsTrue, OnErr};
-ghost use Rattle.fkv_partition.specs.Installing.{Installs};
+ghost use Rattle.fkv_operations.specs.RecordsViews.{class_in};
+ghost use Rattle.fkv_partition.specs.Contexts.{question_in};
+ghost use Rattle.fkv_partition.specs.Views.{context_at, entry_for};
+ghost use Rattle.fkv_partition.specs.Installing.{Asks, Installs};
 ghost use Rattle.fkv_partition.specs.Effect.{IsEvent};
 
-use crate::contexts::{Context, Phase, Progress, ProgressOf, open_at, question_of, set_context};
+use crate::changes::Write;
+use crate::contexts::{ContextOf, Phase, Progress, ProgressOf, question_of};
 use crate::partitions::Partition;
 use fkv_functions::{Built, Functions, Refused, What};
-use fkv_operations::Answer;
 use fkv_operations::laws::{entries_lead, records_grow};
+use fkv_operations::{Answer, Class};
 use fkv_records::Address;
 
 /// Whether an entry leads to this address.
@@ -36,14 +40,13 @@ impl<F: Functions> Partition<F> {
     ) -> Result<ProgressOf<F>, Refused>
         requires later { self.old.moment < now }
         ensures does { Installs F.Key.cmp F.meaning F.code self.old self.new slot context built now result }
-        ensures event { IfOk result (λ progress. IsEvent F.Key.cmp F.meaning self.old self.new slot context now progress) }
+        ensures event { IfOk result
+            (λ progress. IsEvent F.Key.cmp F.meaning self.old self.new slot context now progress) }
         ensures within { IfOk result (λ _. (slot < 16) × (context < 8)) }
         ensures err { OnErr result (self.new ≡ self.old) }
         ensures moment { self.new.moment ≤ now }
     {
-        entries_lead::<F::Key, F::Value>();
-        records_grow::<F::Key, F::Value>();
-        let Some(open) = open_at(self.entered.as_slice(), &self.contexts, slot, context) else {
+        let Some(open) = self.open(slot, context) else {
             return Err(Refused::Unknown);
         };
         let Some(question) = question_of(&open) else {
@@ -59,28 +62,55 @@ impl<F: Functions> Partition<F> {
                 came: ask.number,
             });
         }
-        let class = self.records.class(functions, &ask.key);
-        if !leads_to(self.records.entry(&class), kept) {
-            let number = open.number;
-            let op = open.op;
-            let fresh = Context {
-                number,
-                op,
-                phase: Phase::Fresh,
-            };
-            self.moment = now;
-            set_context(&mut self.contexts, slot, context, Some(fresh));
+        let (class, entry) = self.find(functions, &ask.key);
+        if !leads_to(entry, kept) {
+            self.set_phase(slot, context, &open, Phase::Fresh, now);
             return Ok(Progress::Next);
         }
+        self.append_built(slot, context, class, kept, built, functions, now)
+    }
+
+    /// Appends what was built for an update, which is then done. Refused, and then nothing changes: `Worn`,
+    /// `NoMemory`.
+    fn append_built(
+        &mut self,
+        slot: usize,
+        context: usize,
+        class: Class,
+        kept: Address,
+        built: Built<F>,
+        functions: &F,
+        now: u64,
+    ) -> Result<ProgressOf<F>, Refused>
+        requires later { self.old.moment < now }
+        requires session { slot < 16 }
+        requires context { context < 8 }
+        requires asks { Asks self.old slot context kept built }
+        requires class { class ≡ class_in F.code self.old.records built.key }
+        requires leads { entry_for F.code self.old built.key ≡ Some kept }
+        ensures does { Installs F.Key.cmp F.meaning F.code self.old self.new slot context built now result }
+        ensures event { IfOk result
+            (λ progress. IsEvent F.Key.cmp F.meaning self.old self.new slot context now progress) }
+        ensures err { OnErr result (self.new ≡ self.old) }
+        ensures moment { self.new.moment ≤ now }
+    {
+        self.known();
+        entries_lead::<F::Key, F::Value>();
+        records_grow::<F::Key, F::Value>();
+        let ask = built.ask();
         let value = built.value();
-        let _address = match self.records.append(class, kept, ask.key, Some(value)) {
-            Ok(address) => address,
-            Err(refused) => return Err(refused),
+        let write = Write {
+            class,
+            previous: kept,
+            key: ask.key,
+            value: Some(value),
         };
-        self.records.known();
-        self.moment = now;
-        set_context(&mut self.contexts, slot, context, None);
-        let shown = functions.read(&ask.key, &ask.input, &value);
-        Ok(Progress::Done(Answer::Value(shown), now))
+        match self.append(slot, context, write, now) {
+            Err(refused) => Err(refused),
+            Ok(()) => {
+                let shown = functions.read(&ask.key, &ask.input, &value);
+                Ok(Progress::Done(Answer::Value(shown), now))
+            }
+        }
     }
 }

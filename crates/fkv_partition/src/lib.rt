@@ -7,12 +7,14 @@
 #![tactic(auto)]
 
 pub mod asking;
+mod changes;
 pub mod contexts;
 pub mod ending;
 pub mod going;
 pub mod installing;
 pub mod limits;
 pub mod listing;
+mod looking;
 pub mod partitions;
 pub mod sessions;
 

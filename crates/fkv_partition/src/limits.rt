@@ -44,7 +44,8 @@ impl Config {
 
     /// The shape of a partition's log for records of such keys and values, where all is within its limits.
     pub(crate) fn shape<K: Fixed, V: Fixed>(&self) -> Option<Shape>
-        ensures some { IfSome result (λ s. (s.page_bits ≡ self.now.page_bits) × (s.record_size ≡ size_of K.SIZE V.SIZE)) }
+        ensures some { IfSome result
+            (λ s. (s.page_bits ≡ self.now.page_bits) × (s.record_size ≡ size_of K.SIZE V.SIZE)) }
         ensures range { IsSome result ↔ IsWithinLimits self.now (size_of K.SIZE V.SIZE) }
     {
         if !self.numbers_are_within_limits() {

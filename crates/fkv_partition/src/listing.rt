@@ -31,9 +31,11 @@ impl<F: Functions> Partition<F> {
     /// The live map: each live key with its value, keys rising. All of them belong to this partition.
     /// Refused: `NoMemory`.
     pub fn live(&self, alloc: Global) -> Result<Vec<(F::Key, F::Value)>, Refused>
-        ensures map { IfOk result (λ pairs. (q : F.Key) → lookup (is_at (F.Key.cmp q)) pairs.items ≡ live_of F.Key.cmp self.now q) }
+        ensures map { IfOk result
+            (λ pairs. (q : F.Key) → lookup (is_at (F.Key.cmp q)) pairs.items ≡ live_of F.Key.cmp self.now q) }
         ensures rising { IfOk result (λ pairs. IsStrictlySortedBy F.Key.cmp (keys_of pairs.items)) }
-        ensures own { IfOk result (λ pairs. All (λ k. partition_of self.now.count (F.code k) ≡ self.now.number) (keys_of pairs.items)) }
+        ensures own { IfOk result
+            (λ pairs. All (λ k. partition_of self.now.count (F.code k) ≡ self.now.number) (keys_of pairs.items)) }
         ensures only { IfErr result (λ refused. refused ≡ Refused.NoMemory) }
     {
         let map = self.records.live(alloc)?;

@@ -6,9 +6,9 @@ ghost use Rattle.fkv_partition.specs.Views.{empty_partition};
 ghost use Rattle.fkv_partition.specs.Beginning.{Enters, Issues};
 ghost use Rattle.fkv_partition.specs.Effect.{IsEnter, IsIssue};
 
-use crate::contexts::{Context, Phase, free_context, set_context};
+use crate::contexts::Context;
 use crate::limits::Config;
-use crate::sessions::{free_slot, is_entered, take_slot};
+use crate::sessions::{free_slot, take_slot};
 use arrayvec::ArrayVec;
 use fkv_functions::{Functions, Refused, What};
 use fkv_operations::{OpOf, Records};
@@ -32,13 +32,15 @@ pub struct Partition<F: Functions> {
 
 impl<F: Functions> Model for Partition<F> {
     ghost use Rattle.fkv_partition.specs.Views.{PartitionView};
-    ghost use Rattle.fkv_partition.specs.Sound.{IsSound};
 
     ghost Value = { PartitionView F.Key F.Value F.Input };
 
-    ghost view = { λ p. record { number = p.number; count = p.count; records = p.records; entered = p.entered.items; contexts = p.contexts.items; moment = p.moment } };
+    ghost use Rattle.fkv_partition.specs.Inside.{view_of};
+    ghost use Rattle.fkv_partition.specs.Sound.{IsSound};
 
-    ghost invariant = { λ p. IsSound F.Key.cmp F.code (record { number = p.number; count = p.count; records = p.records; entered = p.entered.items; contexts = p.contexts.items; moment = p.moment }) };
+    ghost view = { view_of };
+
+    ghost invariant = { λ p. IsSound F.Key.cmp F.code (view_of p) };
 }
 
 /// Places that hold nothing. Refused: `NoMemory`.
@@ -57,12 +59,14 @@ fn free_places<T: Drop>(alloc: Global) -> Result<Vec<Option<T>>, Refused>
 
 impl<F: Functions> Partition<F> {
     /// The partition of this number, with nothing in it. Refused, in this order: `BadConfig` where a
-    /// number of the configuration is outside its limits, a record is too large, or there is no partition of this number,
-    /// `NoMemory`.
+    /// number of the configuration is outside its limits, a record is too large, or there is no partition
+    /// of this number, `NoMemory`.
     pub fn new(alloc: Global, config: &Config, number: u64) -> Result<Self, Refused>
         ensures ok { IfOk result (λ p. p ≡ empty_partition config.now (size_of F.Key.SIZE F.Value.SIZE) number) }
-        ensures good { result ≢ Err Refused.BadConfig → IsPartitionOf config.now (size_of F.Key.SIZE F.Value.SIZE) number }
-        ensures bad { result ≡ Err Refused.BadConfig → ¬ IsPartitionOf config.now (size_of F.Key.SIZE F.Value.SIZE) number }
+        ensures good { result ≢ Err Refused.BadConfig
+            → IsPartitionOf config.now (size_of F.Key.SIZE F.Value.SIZE) number }
+        ensures bad { result ≡ Err Refused.BadConfig
+            → ¬ IsPartitionOf config.now (size_of F.Key.SIZE F.Value.SIZE) number }
         ensures only { IfErr result (λ refused. (refused ≡ Refused.BadConfig) ⊎ (refused ≡ Refused.NoMemory)) }
     {
         let Some(shape) = config.shape::<F::Key, F::Value>() else {
@@ -120,10 +124,10 @@ impl<F: Functions> Partition<F> {
         ensures err { OnErr result (self.new ≡ self.old) }
         ensures moment { self.new.moment ≤ now }
     {
-        if !is_entered(self.entered.as_slice(), slot) {
+        if !self.is_session(slot) {
             return Err(Refused::Unknown);
         }
-        let came = functions.hash(&op.key()) % self.count;
+        let came = self.home(functions, &op.key());
         if came != self.number {
             return Err(Refused::Stranger {
                 what: What::Partition,
@@ -131,16 +135,10 @@ impl<F: Functions> Partition<F> {
                 came,
             });
         }
-        let Some(context) = free_context(&self.contexts, slot) else {
+        let Some(context) = self.first_free(slot) else {
             return Err(Refused::NoContext);
         };
-        let operation = Context {
-            number: now,
-            op,
-            phase: Phase::Fresh,
-        };
-        self.moment = now;
-        set_context(&mut self.contexts, slot, context, Some(operation));
+        self.start(slot, context, op, now);
         Ok(context)
     }
 }

@@ -15,4 +15,4 @@ returns-clause-does g c =
 pub returns-clause-event : goal.returns-clause-event
 returns-clause-event g c =
     rw (← c.self.view_is, c.take_slot.ensures)
-    (event-enter g.F.Key.Ord.cmp g.F.Functions.meaning g.F.Functions.code _ c.self.invariant c.in-Some.slot c.args.now (ap (position not) (sym c.as_slice.ensures.value) ∙ sym c.in-Some.ensures.value))
+    (event-enter g.F.Key.Ord.cmp g.F.Functions.code _ c.self.invariant c.in-Some.slot c.args.now (ap (position not) (sym c.as_slice.ensures.value) ∙ sym c.in-Some.ensures.value))

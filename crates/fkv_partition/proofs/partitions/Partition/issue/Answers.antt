@@ -1,28 +1,50 @@
-use Rattle.std.proofs.Common.{◌≡◌, true, false, refl, sym, ap, ◌∙◌, ◌%◌, ◌*◌, ◌+◌, position, is_none, slice_range, slice_get, unwrap_or, Some}
+use Rattle.std.proofs.Common.{◌≡◌, refl, sym, ap, ◌∙◌}
 use Rattle.fkv_operations.specs.After.{key_of}
-use Rattle.fkv_partition.specs.Beginning.{issues}
+use Rattle.fkv_partition.specs.Beginning.{unknown, stranger, full, issues}
 use Rattle.fkv_partition.specs.Views.{partition_of}
-use Rattle.fkv_partition.proofs.SoundLemmas.{sound-context}
 use Rattle.fkv_partition.proofs.EventLemmas.{event-issue}
 use Rattle.fkv_partition.proofs.partitions.Partition.issue.Goals as goal
-use Rattle.fkv_partition.proofs.partitions.Partition.issue.Goals.{After-set_context}
 
-inside : (g : _) (c : After-set_context g) → unwrap_or (slice_get c.self.inside.entered.items c.args.slot) false ≡ true
-inside g c = ap (λ xs. unwrap_or (slice_get xs c.args.slot) false) (sym c.as_slice.ensures.value) ∙ sym c.is_entered.ensures.value ∙ c.if-not-is_entered.false
+pub returns-then-not-is_session-clause-does : goal.returns-then-not-is_session-clause-does
+returns-then-not-is_session-clause-does g c = unknown (sym c.is_session.ensures.value ∙ c.if-not-is_session.true) refl refl
 
-own : (g : _) (c : After-set_context g) → partition_of c.self.inside.count (g.F.Functions.code (key_of c.args.op)) ≡ c.self.inside.number
-own g c = ap (λ k. partition_of c.self.inside.count (g.F.Functions.code k)) (sym c.key.ensures) ∙ ap (λ h. h % c.self.inside.count) (sym c.hash.ensures) ∙ c.if-came-self.false
+pub returns-then-came-self-clause-does : goal.returns-then-came-self-clause-does
+returns-then-came-self-clause-does g c =
+    let number : c.self.inside.number ≡ c.args.self.now.number = ap (λ v. v.number) c.self.view_is in
+    let came : c.home-came.result ≡ partition_of c.args.self.now.count (g.F.Functions.code (key_of c.args.op)) = c.home-came.ensures ∙ ap (λ k. partition_of c.args.self.now.count (g.F.Functions.code k)) c.key.ensures in
+    let inside = sym c.is_session.ensures.value ∙ c.if-not-is_session.false in
+    rw (number, came) (stranger inside (λ e. c.if-came-self.true (came ∙ e ∙ sym number)) refl refl)
 
-free : (g : _) (c : After-set_context g) → position is_none (slice_range c.self.inside.contexts.items (c.args.slot * 8) (c.args.slot * 8 + 8)) ≡ Some c.in-Some.context
-free g c = ap (λ xs. position is_none (slice_range xs (c.args.slot * 8) (c.args.slot * 8 + 8))) (sym c.deref.ensures.value) ∙ sym c.in-Some.ensures.value
+pub returns-in_default-clause-does : goal.returns-in_default-clause-does
+returns-in_default-clause-does g c =
+    let number : c.self.inside.number ≡ c.args.self.now.number = ap (λ v. v.number) c.self.view_is in
+    let came : c.home-came.result ≡ partition_of c.args.self.now.count (g.F.Functions.code (key_of c.args.op)) = c.home-came.ensures ∙ ap (λ k. partition_of c.args.self.now.count (g.F.Functions.code k)) c.key.ensures in
+    let inside = sym c.is_session.ensures.value ∙ c.if-not-is_session.false in
+    let own = sym came ∙ c.if-came-self.false ∙ number in
+    full inside own (sym c.in_default.ensures.value) refl refl
 
-pub invariant_of-self : goal.invariant_of-self
-invariant_of-self g c = rw c.set_context.ensures (sound-context c.self.invariant c.args.slot c.in-Some.context c.args.now _ c.in-Some.ensures.within (inside g c) tt (own g c))
+pub start-requires-clause-entered : goal.start-requires-clause-entered
+start-requires-clause-entered g c κs within = sym c.is_session.ensures.value ∙ c.if-not-is_session.false
+
+pub start-requires-clause-own : goal.start-requires-clause-own
+start-requires-clause-own g c κs within =
+    let number : c.self.inside.number ≡ c.args.self.now.number = ap (λ v. v.number) c.self.view_is in
+    let came : c.home-came.result ≡ partition_of c.args.self.now.count (g.F.Functions.code (key_of c.args.op)) = c.home-came.ensures ∙ ap (λ k. partition_of c.args.self.now.count (g.F.Functions.code k)) c.key.ensures in
+    sym came ∙ c.if-came-self.false ∙ number
 
 pub returns-clause-does : goal.returns-clause-does
-returns-clause-does g c = rw (← c.self.view_is, c.set_context.ensures) (issues c.in-Some.context (inside g c) (own g c) (free g c) refl refl)
+returns-clause-does g c =
+    let number : c.self.inside.number ≡ c.args.self.now.number = ap (λ v. v.number) c.self.view_is in
+    let came : c.home-came.result ≡ partition_of c.args.self.now.count (g.F.Functions.code (key_of c.args.op)) = c.home-came.ensures ∙ ap (λ k. partition_of c.args.self.now.count (g.F.Functions.code k)) c.key.ensures in
+    let inside = sym c.is_session.ensures.value ∙ c.if-not-is_session.false in
+    let own = sym came ∙ c.if-came-self.false ∙ number in
+    rw c.start.ensures (issues c.in-Some.context inside own (sym c.in-Some.ensures.value) refl refl)
 
 pub returns-clause-event : goal.returns-clause-event
 returns-clause-event g c =
-    rw (← c.self.view_is, c.set_context.ensures)
-    (event-issue g.F.Key.Ord.cmp g.F.Functions.meaning g.F.Functions.code _ c.self.invariant c.args.slot c.in-Some.context c.args.now c.args.op (inside g c) (free g c) c.in-Some.ensures.within (own g c))
+    let number : c.self.inside.number ≡ c.args.self.now.number = ap (λ v. v.number) c.self.view_is in
+    let came : c.home-came.result ≡ partition_of c.args.self.now.count (g.F.Functions.code (key_of c.args.op)) = c.home-came.ensures ∙ ap (λ k. partition_of c.args.self.now.count (g.F.Functions.code k)) c.key.ensures in
+    let inside = sym c.is_session.ensures.value ∙ c.if-not-is_session.false in
+    let own = sym came ∙ c.if-came-self.false ∙ number in
+    rw c.start.ensures
+    (event-issue g.F.Functions.code c.args.self.now c.args.slot c.in-Some.context c.args.now c.args.op inside (sym c.in-Some.ensures.value) c.in-Some.ensures.within own)
