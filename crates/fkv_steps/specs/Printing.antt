@@ -7,8 +7,8 @@ use Rattle.fkv_functions.specs.RefusalNames.{name_of}
 use Rattle.fkv_functions.specs.declared.names.Name.{Name}
 use Rattle.fkv_functions.specs.declared.refusals.Refused.{Refused}
 use Rattle.fkv_operations.specs.declared.operations.Answer.TheVariants.{Value, Absent, Stored, Deleted}
-use Rattle.fkv_steps.specs.declared.outcomes.Outcome.{Outcome}
-use Rattle.fkv_steps.specs.declared.outcomes.Outcome.TheVariants.{Entered, Left, Issued, Next, Build, Done, GivenUp}
+use Rattle.fkv_worlds.specs.declared.outcomes.Outcome.{Outcome}
+use Rattle.fkv_worlds.specs.declared.outcomes.Outcome.TheVariants.{Entered, Left, Issued, Next, Build, Done, GivenUp}
 
 -- the text of an outcome, from the texts of values and of what is shown of them
 abbrev pub outcome_text : {V O : Type 0} → (V → List ℕ) → (O → List ℕ) → Outcome V O → List ℕ

@@ -15,21 +15,21 @@ use Rattle.fkv_operations.specs.declared.operations.Op.{Op}
 use Rattle.fkv_operations.specs.declared.operations.Op.TheVariants.{Read, Upsert, Rmw, Delete}
 use Rattle.fkv_partition.specs.declared.limits.Config.{Config}
 use Rattle.fkv_partition.specs.Limits.{IsWithinLimits}
-use Rattle.fkv_steps.specs.declared.outcomes.Outcome.{Outcome}
-use Rattle.fkv_steps.specs.declared.outcomes.Outcome.TheVariants.{Entered, Left, Issued, Next, Build, Done, GivenUp}
-use Rattle.fkv_steps.specs.declared.steps.Step.TheVariants as step
-use Rattle.fkv_steps.specs.declared.pursuits.Pursuit.TheVariants as pursuit
+use Rattle.fkv_worlds.specs.declared.outcomes.Outcome.{Outcome}
+use Rattle.fkv_worlds.specs.declared.outcomes.Outcome.TheVariants.{Entered, Left, Issued, Next, Build, Done, GivenUp}
+use Rattle.fkv_worlds.specs.declared.steps.Step.TheVariants as step
+use Rattle.fkv_worlds.specs.declared.pursuits.Pursuit.TheVariants as pursuit
 use Rattle.fkv_steps.specs.declared.scripts.lines.Line.{Line}
 use Rattle.fkv_steps.specs.declared.scripts.lines.Line.TheVariants.{Enter, Leave, Issue, Do, Go, Install, GiveUp, Ready, Finish}
 use Rattle.fkv_steps.specs.declared.scripts.lines.Opening.{Opening}
 use Rattle.fkv_steps.specs.declared.scripts.lines.FunctionsName.{FunctionsName}
 use Rattle.fkv_steps.specs.declared.scripts.lines.FunctionsName.TheVariants.{Count, Sum, Max}
 use Rattle.fkv_steps.specs.Script.{lines_of, SaysScript}
-use Rattle.fkv_steps.specs.States.{WorldView, empty_world}
-use Rattle.fkv_steps.specs.Acts.{Steps}
-use Rattle.fkv_steps.specs.Headline.{IsHeadline}
-use Rattle.fkv_steps.specs.Worlds.{world_live}
-use Rattle.fkv_steps.specs.Reports.{Pursues}
+use Rattle.fkv_worlds.specs.States.{WorldView, empty_world}
+use Rattle.fkv_worlds.specs.Acts.{Steps}
+use Rattle.fkv_worlds.specs.Headline.{IsHeadline}
+use Rattle.fkv_worlds.specs.Worlds.{world_live}
+use Rattle.fkv_worlds.specs.Reports.{Pursues}
 use Rattle.fkv_steps.specs.Printing.{steps_text, map_text}
 
 -- the configuration that a first line names; its id is 1, and its turns are 1,000,000

@@ -4,9 +4,9 @@ ghost use Rattle.std.specs.Fmt.{decimal, signed_decimal};
 ghost use Rattle.std.specs.Io.KnownBytes.{Appends};
 ghost use Rattle.fkv_steps.specs.Printing.{outcome_text, step_text, steps_text, pair_text, map_text, line, AppendsPrefix};
 
-use crate::outcomes::Outcome;
 use fkv_functions::{Name, Refused};
 use fkv_operations::Answer;
+use fkv_worlds::outcomes::Outcome;
 use std::alloc::Global;
 use std::fmt::{self, Display};
 use std::io::{ErrorKind, Write};

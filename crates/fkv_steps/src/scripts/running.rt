@@ -7,18 +7,18 @@ ghost use Rattle.fkv_functions.specs.Names.{name_cmp};
 ghost use Rattle.std.specs.Io.KnownBytes.{Appends};
 ghost use Rattle.fkv_steps.specs.Printing.{AppendsPrefix};
 ghost use Rattle.fkv_steps.specs.Script.{lines_of, IsBadAt};
-ghost use Rattle.fkv_steps.specs.Running.{config_of, op_of, RunsLine, IsPrintedBy, IsOutputOf, HasBadConfig};
+ghost use Rattle.fkv_steps.specs.Running.{config_of, op_of, RunsLine, RunLines, IsPrintedBy, IsOutputOf, HasBadConfig};
 
-use crate::outcomes::{Outcome, OutcomeOf};
 use crate::scripts::lines::{FunctionsName, Line, Opening};
 use crate::scripts::printing::{Printed, text_of, write_out};
 use crate::scripts::reading::{LIMIT, read_script};
 use crate::scripts::written::Written;
-use crate::steps::{Place, Step};
-use crate::worlds::World;
 use fkv_functions::{CountFns, Functions, MaxFns, Name, Refused, SumFns};
 use fkv_operations::Op;
 use fkv_partition::Config;
+use fkv_worlds::outcomes::{Outcome, OutcomeOf};
+use fkv_worlds::steps::{Place, Step};
+use fkv_worlds::worlds::World;
 use std::alloc::Global;
 use std::io::{Read, Write};
 
@@ -113,6 +113,28 @@ where
     }
 }
 
+/// Does what the lines say, in turn, and answers what the last step of each told. Refused: `NoMemory`.
+fn run_lines<F: Functions<Key = Name, Input = i64>>(
+    alloc: Global,
+    world: &mut World<F>,
+    functions: &F,
+    lines: &[Line],
+) -> Result<Vec<Result<OutcomeOf<F>, Refused>>, Refused>
+where
+    F::Value: Written,
+    ensures ok { IfOk result (λ told. RunLines name_cmp F.meaning F.code F.Value.written world.old lines.now told.items world.new) }
+    ensures only { IfErr result (λ refused. refused ≡ Refused.NoMemory) }
+{
+    let mut told = Vec::new(alloc);
+    for line in lines {
+        let one = run_line(world, functions, line);
+        let Ok(()) = told.push(one) else {
+            return Err(Refused::NoMemory);
+        };
+    }
+    Ok(told)
+}
+
 /// The text that the lines print, run in a world with nothing in it. Refused, in this order: `BadConfig`
 /// where a number of the configuration is outside its limits, `NoMemory`.
 fn printed_by<F: Functions<Key = Name, Input = i64>>(
@@ -130,13 +152,7 @@ where
     ensures only { IfErr result (λ refused. (refused ≡ Refused.BadConfig) ⊎ (refused ≡ Refused.NoMemory)) }
 {
     let mut world = World::<F>::new(alloc, config)?;
-    let mut told = Vec::new(alloc);
-    for line in lines {
-        let one = run_line(&mut world, functions, line);
-        let Ok(()) = told.push(one) else {
-            return Err(Refused::NoMemory);
-        };
-    }
+    let told = run_lines(alloc, &mut world, functions, lines)?;
     world.headline();
     let pairs = world.live(alloc)?;
     let text = text_of(alloc, &told, &pairs)?;
