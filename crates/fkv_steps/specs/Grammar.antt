@@ -86,7 +86,9 @@ functions_name Max = word (codes "max")
 
 -- how the first line is written
 abbrev pub opening : Opening → List Token
-opening o = word (codes "store") ∷ functions_name o.functions ∷ number o.partition_bits ∷ number o.bucket_bits ∷ number o.page_bits ∷ number o.frames ∷ []
+opening o =
+    word (codes "store") ∷ functions_name o.functions
+    ∷ number o.partition_bits ∷ number o.bucket_bits ∷ number o.page_bits ∷ number o.frames ∷ []
 
 -- the bytes of the first line open this store
 abbrev pub Opens : List ℕ → Opening → Type 0

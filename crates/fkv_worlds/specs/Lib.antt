@@ -1,5 +1,6 @@
 pub mod Lives
 pub mod Placed
+pub mod OutcomeTexts
 pub mod Changes
 pub mod WrongLives
 pub mod States

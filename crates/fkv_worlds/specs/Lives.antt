@@ -39,11 +39,13 @@ abbrev pub update_at : {K V I O : Type 0} → List (Life K V I O) → ℕ → Op
 update_at lives s = first_by (updates_at s) (λ x. Some x.op) lives
 
 -- the map after an operation, if there is one
-abbrev pub after_some : {K V I O : Type 0} → (K → K → Ordering) → Meanings K V I O → PlainMap K V → Option (Op K V I) → PlainMap K V
+abbrev pub after_some : {K V I O : Type 0} → (K → K → Ordering) → Meanings K V I O → PlainMap K V → Option (Op K V I)
+    → PlainMap K V
 after_some cmp f m None = m
 after_some cmp f m (Some op) = after cmp f m op
 
 -- the map before a step: the updates with their effect below it, in the order of the steps
-abbrev pub map_before : {K V I O : Type 0} → (K → K → Ordering) → Meanings K V I O → List (Life K V I O) → ℕ → PlainMap K V
+abbrev pub map_before : {K V I O : Type 0} → (K → K → Ordering) → Meanings K V I O → List (Life K V I O) → ℕ
+    → PlainMap K V
 map_before cmp f lives zero = λ k. None
 map_before cmp f lives (suc s) = after_some cmp f (map_before cmp f lives s) (update_at lives s)

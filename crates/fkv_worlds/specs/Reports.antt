@@ -28,24 +28,33 @@ with_all cmp m [] = m
 with_all cmp m (p ∷ ps) = with_all cmp (with_at cmp m p.0 (Some p.1)) ps
 
 -- a report of a world: its outcomes, its lives, and each live key with its value, keys rising
-pub record IsReport {K V I O : Type 0} (cmp : K → K → Ordering) (code : K → ℕ) (w : WorldView K V I O) (told : List (Result (Outcome V O) Refused)) (lived : List (Life K V I O)) (pairs : List (K × V)) : Type 0 where
+pub record IsReport {K V I O : Type 0} (cmp : K → K → Ordering) (code : K → ℕ) (w : WorldView K V I O)
+    (told : List (Result (Outcome V O) Refused)) (lived : List (Life K V I O)) (pairs : List (K × V)) : Type 0 where
   pub outcomes : told ≡ w.outcomes
   pub lives : lived ≡ w.state.lives
   pub map : (k : K) → lookup (is_at (cmp k)) pairs ≡ world_live cmp code w.state.partitions k
   pub rising : IsStrictlySortedBy cmp (keys_of pairs)
 
 -- a step that was done, or refused, and kept
-pub record IsKept {K V I O : Type 0} (cmp : K → K → Ordering) (f : Meanings K V I O) (code : K → ℕ) (old new : WorldView K V I O) (step : Step K V I) (r : Result (Outcome V O) Refused) : Type 0 where
+pub record IsKept {K V I O : Type 0} (cmp : K → K → Ordering) (f : Meanings K V I O) (code : K → ℕ)
+    (old new : WorldView K V I O) (step : Step K V I) (r : Result (Outcome V O) Refused) : Type 0 where
   pub acts : Acts cmp f code old.state new.state step r
   pub outcomes : new.outcomes ≡ old.outcomes ++ r ∷ []
 
 -- the steps of a list, in turn, each of them kept
-abbrev pub RunsTo : {K V I O : Type 0} → (K → K → Ordering) → Meanings K V I O → (K → ℕ) → WorldView K V I O → List (Step K V I) → WorldView K V I O → Type 0
+abbrev pub RunsTo : {K V I O : Type 0} → (K → K → Ordering) → Meanings K V I O → (K → ℕ) → WorldView K V I O
+    → List (Step K V I) → WorldView K V I O → Type 0
 RunsTo cmp f code v [] w = w ≡ v
-RunsTo {K} {V} {I} {O} cmp f code v (s ∷ ss) w = (u : WorldView K V I O) × (r : Result (Outcome V O) Refused) × IsKept cmp f code v u s r × RunsTo cmp f code u ss w
+RunsTo {K} {V} {I} {O} cmp f code v (s ∷ ss) w =
+    (u : WorldView K V I O)
+    × (r : Result (Outcome V O) Refused)
+    × IsKept cmp f code v u s r
+    × RunsTo cmp f code u ss w
 
 -- a replay: the steps in turn from a world with nothing in it, and the report of the world which they lead to
-pub record IsReplay {K V I O : Type 0} (cmp : K → K → Ordering) (f : Meanings K V I O) (code : K → ℕ) (config : Config) (record_size : ℕ) (steps : List (Step K V I)) (told : List (Result (Outcome V O) Refused)) (lived : List (Life K V I O)) (pairs : List (K × V)) : Type 0 where
+pub record IsReplay {K V I O : Type 0} (cmp : K → K → Ordering) (f : Meanings K V I O) (code : K → ℕ) (config : Config)
+    (record_size : ℕ) (steps : List (Step K V I)) (told : List (Result (Outcome V O) Refused))
+    (lived : List (Life K V I O)) (pairs : List (K × V)) : Type 0 where
   pub world : WorldView K V I O
   pub ran : RunsTo cmp f code (empty_world config record_size) steps world
   pub headline : IsHeadline cmp f code world
@@ -68,9 +77,19 @@ follows pursuit place (Err e) = None
 
 -- at most so many steps, the first of them this one, each followed by the one that its outcome leads to; where another
 -- would follow the last of them, the pursuit is Stalled
-pub data Pursues {K V I O : Type 0} (cmp : K → K → Ordering) (f : Meanings K V I O) (code : K → ℕ) (pursuit : Pursuit) (place : Place) (new : WorldView K V I O) (result : Result (Outcome V O) Refused) : ℕ → Step K V I → WorldView K V I O → Type 0 where
-  stalls : (s : Step K V I) (v : WorldView K V I O) → new ≡ v → result ≡ Err Stalled → Pursues cmp f code pursuit place new result zero s v
-  ends : (n : ℕ) (s : Step K V I) (v : WorldView K V I O) → Steps cmp f code v new s result → follows {K = K} {I = I} pursuit place result ≡ None
+pub data Pursues {K V I O : Type 0} (cmp : K → K → Ordering) (f : Meanings K V I O) (code : K → ℕ) (pursuit : Pursuit)
+    (place : Place) (new : WorldView K V I O) (result : Result (Outcome V O) Refused) : ℕ → Step K V I → WorldView K V I
+    O → Type 0 where
+  stalls : (s : Step K V I) (v : WorldView K V I O)
+      → new ≡ v
+      → result ≡ Err Stalled
+      → Pursues cmp f code pursuit place new result zero s v
+  ends : (n : ℕ) (s : Step K V I) (v : WorldView K V I O)
+      → Steps cmp f code v new s result
+      → follows {K = K} {I = I} pursuit place result ≡ None
       → Pursues cmp f code pursuit place new result (suc n) s v
-  goes_on : (n : ℕ) (s t : Step K V I) (v u : WorldView K V I O) (x : Result (Outcome V O) Refused) → Steps cmp f code v u s x → follows pursuit place x ≡ Some t
-      → Pursues cmp f code pursuit place new result n t u → Pursues cmp f code pursuit place new result (suc n) s v
+  goes_on : (n : ℕ) (s t : Step K V I) (v u : WorldView K V I O) (x : Result (Outcome V O) Refused)
+      → Steps cmp f code v u s x
+      → follows pursuit place x ≡ Some t
+      → Pursues cmp f code pursuit place new result n t u
+      → Pursues cmp f code pursuit place new result (suc n) s v

@@ -16,6 +16,7 @@ pub record HasTables {K V I O : Type 0} (s : StateView K V I O) : Type 0 where
   pub counted : (p n : ℕ) → slice_get s.enters p ≡ Some n → n ≤ s.moment
   pub issued : (i : ℕ) (x : Seat) → slice_get s.seats i ≡ Some x → x.issues ≤ s.moment
 
-pub record IsState {K V I O : Type 0} (cmp : K → K → Ordering) (f : Meanings K V I O) (code : K → ℕ) (s : StateView K V I O) : Type 0 where
+pub record IsState {K V I O : Type 0} (cmp : K → K → Ordering) (f : Meanings K V I O) (code : K → ℕ)
+    (s : StateView K V I O) : Type 0 where
   pub tables : HasTables s
   pub world : IsWorld cmp f code s.partitions (life_in s.begun) s.lives s.moment

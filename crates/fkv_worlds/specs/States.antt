@@ -10,9 +10,9 @@ use Rattle.fkv_worlds.specs.declared.outcomes.Outcome.{Outcome}
 use Rattle.fkv_worlds.specs.declared.tables.Seat.{Seat}
 use Rattle.fkv_worlds.specs.declared.steps.Place.{Place}
 
--- the partitions; for each context the place of the life that began there last, and what it asked for last; for each slot
--- its session and how many operations that has issued; for each partition how many sessions entered it; the lives; and
--- the last moment
+-- the partitions; for each context the place of the life that began there last, and what it asked for last; for each
+-- slot its session and how many operations that has issued; for each partition how many sessions entered it; the lives;
+-- and the last moment
 pub record StateView (K V I O : Type 0) : Type 0 where
   pub partitions : List (PartitionView K V I)
   pub begun : List ℕ
@@ -23,8 +23,8 @@ pub record StateView (K V I O : Type 0) : Type 0 where
   pub moment : ℕ
 
 -- a state of these parts, in that order
-abbrev pub state_of : {K V I O : Type 0} → List (PartitionView K V I) → List ℕ → List (Option (Ask K V I)) → List Seat → List ℕ
-    → List (Life K V I O) → ℕ → StateView K V I O
+abbrev pub state_of : {K V I O : Type 0} → List (PartitionView K V I) → List ℕ → List (Option (Ask K V I)) → List Seat
+    → List ℕ → List (Life K V I O) → ℕ → StateView K V I O
 state_of partitions begun questions seats enters lives moment = record {
   partitions = partitions;
   begun = begun;

@@ -44,13 +44,24 @@ issues_from s (Build source ∷ rest) = issues_from (suc s) rest
 issues_from s (Done a ∷ rest) = issues_from (suc s) rest
 issues_from s (GivenUp ∷ rest) = issues_from (suc s) rest
 
--- there is one life for each accepted issue, in their order, and no other; and the answers told are those of the finished
--- lives, each told at its own step and once
-pub record IsAccount {K V I O : Type 0} (lives : List (Life K V I O)) (outcomes : List (Outcome V O)) (now : ℕ) : Type 0 where
+-- there is one life for each accepted issue, in their order, and no other; and the answers told are those of the
+-- finished lives, each told at its own step and once
+pub record IsAccount {K V I O : Type 0} (lives : List (Life K V I O)) (outcomes : List (Outcome V O))
+    (now : ℕ) : Type 0 where
   pub counted : length outcomes ≡ now
   pub issued : map (λ (x : Life K V I O). x.issue) lives ≡ issues_from 1 outcomes
-  pub told : (j : ℕ) (x : Life K V I O) (t : Finish O) → slice_get lives j ≡ Some x → finish_of x ≡ Some t → told_at outcomes t.done ≡ Some t.answer
-  pub once : (i j : ℕ) (x y : Life K V I O) (t u : Finish O) → slice_get lives i ≡ Some x → slice_get lives j ≡ Some y
-      → finish_of x ≡ Some t → finish_of y ≡ Some u → t.done ≡ u.done → i ≡ j
-  pub owned : (s : ℕ) (a : Answer O) → told_at outcomes s ≡ Some a
-      → (j : ℕ) × (x : Life K V I O) × (t : Finish O) × (slice_get lives j ≡ Some x) × (finish_of x ≡ Some t) × (t.done ≡ s) × (t.answer ≡ a)
+  pub told : (j : ℕ) (x : Life K V I O) (t : Finish O)
+      → slice_get lives j ≡ Some x
+      → finish_of x ≡ Some t
+      → told_at outcomes t.done ≡ Some t.answer
+  pub once : (i j : ℕ) (x y : Life K V I O) (t u : Finish O)
+      → slice_get lives i ≡ Some x
+      → slice_get lives j ≡ Some y
+      → finish_of x ≡ Some t
+      → finish_of y ≡ Some u
+      → t.done ≡ u.done
+      → i ≡ j
+  pub owned : (s : ℕ) (a : Answer O)
+      → told_at outcomes s ≡ Some a
+      → (j : ℕ) × (x : Life K V I O) × (t : Finish O) × (slice_get lives j ≡ Some x) × (finish_of x ≡ Some t) ×
+      (t.done ≡ s) × (t.answer ≡ a)

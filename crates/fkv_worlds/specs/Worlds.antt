@@ -38,20 +38,30 @@ pub record IsOpenLife {K V I O : Type 0} (lives : List (Life K V I O)) (j : ℕ)
   pub unended : life.end ≡ Open
 
 -- each open context has a life of its own
-pub record IsLinked {K V I O : Type 0} (question : Place → Option (Asked K V I)) (life_at : Place → ℕ) (lives : List (Life K V I O)) : Type 0 where
+pub record IsLinked {K V I O : Type 0} (question : Place → Option (Asked K V I)) (life_at : Place → ℕ)
+    (lives : List (Life K V I O)) : Type 0 where
   pub linked : (w : Place) (x : Asked K V I) → question w ≡ Some x → IsOpenLife lives (life_at w) x
-  pub apart : (w u : Place) (x y : Asked K V I) → question w ≡ Some x → question u ≡ Some y → life_at w ≡ life_at u → w ≡ u
+  pub apart : (w u : Place) (x y : Asked K V I)
+      → question w ≡ Some x
+      → question u ≡ Some y
+      → life_at w ≡ life_at u
+      → w ≡ u
 
--- the partitions are numbered by their places, their moments are past, and the key of an open operation is its partition's
+-- the partitions are numbered by their places, their moments are past, and the key of an open operation is its
+-- partition's
 pub record IsHoused {K V I : Type 0} (code : K → ℕ) (views : List (PartitionView K V I)) (now : ℕ) : Type 0 where
   pub some : 0 < length views
   pub numbered : (p : ℕ) (v : PartitionView K V I) → slice_get views p ≡ Some v → v.number ≡ p
   pub counted : (p : ℕ) (v : PartitionView K V I) → slice_get views p ≡ Some v → v.count ≡ length views
   pub past : (p : ℕ) (v : PartitionView K V I) → slice_get views p ≡ Some v → v.moment ≤ now
-  pub routed : (w : Place) (x : Asked K V I) → asked_in views w ≡ Some x → partition_of (length views) (code (key_of x.op)) ≡ w.partition
+  pub routed : (w : Place) (x : Asked K V I)
+      → asked_in views w ≡ Some x
+      → partition_of (length views) (code (key_of x.op)) ≡ w.partition
 
--- what holds of every world: its lives are placed, its live records denote their map, and each open context has its life
-pub record IsWorld {K V I O : Type 0} (cmp : K → K → Ordering) (f : Meanings K V I O) (code : K → ℕ) (views : List (PartitionView K V I)) (life_at : Place → ℕ) (lives : List (Life K V I O)) (now : ℕ) : Type 0 where
+-- what holds of every world: its lives are placed, its live records denote their map, and each open context has its
+-- life
+pub record IsWorld {K V I O : Type 0} (cmp : K → K → Ordering) (f : Meanings K V I O) (code : K → ℕ)
+    (views : List (PartitionView K V I)) (life_at : Place → ℕ) (lives : List (Life K V I O)) (now : ℕ) : Type 0 where
   pub placed : IsPlaced cmp f lives now
   pub denotes : Same (world_live cmp code views) (map_before cmp f lives (suc now))
   pub linked : IsLinked (asked_in views) life_at lives

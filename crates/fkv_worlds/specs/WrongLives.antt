@@ -1,4 +1,5 @@
--- What the definitions refuse, on small lists of lives: keys, values, inputs and outputs are numbers, the functions any.
+-- What the definitions refuse, on small lists of lives: keys, values, inputs and outputs are numbers, the functions
+-- any.
 use Rattle.std.specs.Prelude.{◌≡◌, ◌≤◌, ◌<◌, ℕ, [], ◌∷◌, Some, None}
 use Rattle.std.specs.Ordering.{nat_cmp}
 use Rattle.fkv_functions.specs.Meanings.{Meanings}
@@ -17,14 +18,20 @@ Numbers = Meanings ℕ ℕ ℕ ℕ
 
 -- an operation that was issued at one step, took effect at the next number and was answered at the last
 abbrev pub finished : Op ℕ ℕ ℕ → ℕ → ℕ → ℕ → Answer ℕ → Life ℕ ℕ ℕ ℕ
-finished op issue effect done a =
-    record { partition = 0; session = 1; number = 1; op = op; issue = issue; end = Finished (record { effect = effect; done = done; answer = a }) }
+finished op issue effect done a = record {
+  partition = 0;
+  session = 1;
+  number = 1;
+  op = op;
+  issue = issue;
+  end = Finished (record { effect = effect; done = done; answer = a });
+}
 
 abbrev pub opened : Op ℕ ℕ ℕ → ℕ → Life ℕ ℕ ℕ ℕ
 opened op issue = record { partition = 0; session = 1; number = 1; op = op; issue = issue; end = Open }
 
--- an answer that nobody gave: a read of no value is Absent, a first update shows the first value, a blind write is Stored and
--- a delete is Deleted
+-- an answer that nobody gave: a read of no value is Absent, a first update shows the first value, a blind write is
+-- Stored and a delete is Deleted
 abbrev pub RefusesInvented : Type 0
 RefusesInvented = (f : Numbers) (k i v now : ℕ) (a : Answer ℕ)
     → (IsPlaced nat_cmp f (finished (Read k i) 1 2 2 a ∷ []) now → a ≡ Absent)
@@ -32,7 +39,8 @@ RefusesInvented = (f : Numbers) (k i v now : ℕ) (a : Answer ℕ)
     × (IsPlaced nat_cmp f (finished (Upsert k v) 1 2 2 a ∷ []) now → a ≡ Stored)
     × (IsPlaced nat_cmp f (finished (Delete k) 1 2 2 a ∷ []) now → a ≡ Deleted)
 
--- an update that is left out, or counted twice; one that is open counts nothing; a delete after a blind write leaves nothing
+-- an update that is left out, or counted twice; one that is open counts nothing; a delete after a blind write leaves
+-- nothing
 abbrev pub CountsOnce : Type 0
 CountsOnce = (f : Numbers) (k i v : ℕ) (a b : Answer ℕ)
     → (map_before nat_cmp f (finished (Rmw k i) 1 2 2 a ∷ []) 2 k ≡ None)

@@ -9,6 +9,7 @@
 pub mod laws;
 pub mod lives;
 pub mod outcomes;
+pub mod printed;
 pub mod pursuits;
 pub mod replays;
 pub mod reports;
@@ -19,6 +20,7 @@ pub mod worlds;
 
 pub use lives::{End, Finish, Life, LifeOf};
 pub use outcomes::{Outcome, OutcomeOf};
+pub use printed::Printed;
 pub use replays::replay;
 pub use reports::{Report, ReportOf};
 pub use steps::{Place, Step, StepOf};

@@ -74,7 +74,8 @@ fn copied<T: Copy>(alloc: Global, items: &[T]) -> Result<Vec<T>, Refused>
 impl<F: Functions> State<F> {
     /// Each live key of all partitions with its value, keys rising. Refused: `NoMemory`.
     pub fn live(&self, alloc: Global) -> Result<Vec<(F::Key, F::Value)>, Refused>
-        ensures map { IfOk result (λ pairs. (k : F.Key) → lookup (is_at (F.Key.cmp k)) pairs.items ≡ world_live F.Key.cmp F.code self.now.partitions k) }
+        ensures map { IfOk result (λ pairs. (k : F.Key)
+            → lookup (is_at (F.Key.cmp k)) pairs.items ≡ world_live F.Key.cmp F.code self.now.partitions k) }
         ensures rising { IfOk result (λ pairs. IsStrictlySortedBy F.Key.cmp (keys_of pairs.items)) }
         ensures only { IfErr result (λ refused. refused ≡ Refused.NoMemory) }
     {
@@ -91,7 +92,8 @@ impl<F: Functions> State<F> {
 impl<F: Functions> World<F> {
     /// Each live key of all partitions with its value, keys rising. Refused: `NoMemory`.
     pub fn live(&self, alloc: Global) -> Result<Vec<(F::Key, F::Value)>, Refused>
-        ensures map { IfOk result (λ pairs. (k : F.Key) → lookup (is_at (F.Key.cmp k)) pairs.items ≡ world_live F.Key.cmp F.code self.now.state.partitions k) }
+        ensures map { IfOk result (λ pairs. (k : F.Key)
+            → lookup (is_at (F.Key.cmp k)) pairs.items ≡ world_live F.Key.cmp F.code self.now.state.partitions k) }
         ensures rising { IfOk result (λ pairs. IsStrictlySortedBy F.Key.cmp (keys_of pairs.items)) }
         ensures only { IfErr result (λ refused. refused ≡ Refused.NoMemory) }
     {

@@ -39,11 +39,11 @@ impl<F: Functions> Model for State<F> {
 
     ghost Value = { StateView F.Key F.Value F.Input F.Output };
 
-    ghost view = { λ s.
-        state_of s.partitions.items s.begun.items s.questions.items s.seats.items s.enters.items s.lives.items s.moment };
+    ghost view = { λ s. state_of s.partitions.items s.begun.items s.questions.items s.seats.items s.enters.items
+        s.lives.items s.moment };
 
-    ghost invariant = { λ s. IsState F.Key.cmp F.meaning F.code
-        (state_of s.partitions.items s.begun.items s.questions.items s.seats.items s.enters.items s.lives.items s.moment) };
+    ghost invariant = { λ s. IsState F.Key.cmp F.meaning F.code (state_of s.partitions.items s.begun.items s.questions.items
+        s.seats.items s.enters.items s.lives.items s.moment) };
 }
 
 /// The moment after this one, or `Worn` after the last.
@@ -63,7 +63,8 @@ fn empty_partitions<F: Functions>(
 ) -> Result<Vec<Partition<F>>, Refused>
     requires limits { IsWithinLimits config.now (size_of F.Key.SIZE F.Value.SIZE) }
     requires count { count ≡ 2 ^ config.now.partition_bits }
-    ensures ok { IfOk result (λ partitions. partitions.items ≡ empty_partitions config.now (size_of F.Key.SIZE F.Value.SIZE) count) }
+    ensures ok { IfOk result (λ partitions. partitions.items ≡ empty_partitions config.now (size_of F.Key.SIZE F.Value.SIZE)
+        count) }
     ensures only { IfErr result (λ refused. refused ≡ Refused.NoMemory) }
 {
     let mut partitions = Vec::new(alloc);

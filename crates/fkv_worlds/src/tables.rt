@@ -138,8 +138,10 @@ pub fn begin_life<K: Copy, V: Copy, I: Copy, O: Copy>(
     requires begun { place.partition * 128 + 128 ≤ length begun.old.items }
     requires questions { place.partition * 128 + 128 ≤ length questions.old.items }
     requires issues { (seat_at seats.old.items place.partition place.slot).issues < 2 ^ 64 - 1 }
-    ensures lives { lives.new.items ≡ lives.old.items ++ begun_life place.partition (seat_at seats.old.items place.partition place.slot) op now ∷ [] }
-    ensures seats { seats.new.items ≡ slice_set seats.old.items (seat_row place.partition place.slot) (after_issue (seat_at seats.old.items place.partition place.slot)) }
+    ensures lives { lives.new.items ≡ lives.old.items ++ begun_life place.partition
+        (seat_at seats.old.items place.partition place.slot) op now ∷ [] }
+    ensures seats { seats.new.items ≡ slice_set seats.old.items (seat_row place.partition place.slot)
+        (after_issue (seat_at seats.old.items place.partition place.slot)) }
     ensures begun { begun.new.items ≡ slice_set begun.old.items (context_row place) (length lives.old.items) }
     ensures questions { questions.new.items ≡ slice_set questions.old.items (context_row place) None }
 {
