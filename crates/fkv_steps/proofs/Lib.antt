@@ -1,13 +1,3 @@
-pub mod LivesLemmas
-pub mod PlacedLemmas
-pub mod WrongLemmas
-pub mod ManyLemmas
-pub mod WorldLemmas
-pub mod StateLemmas
-pub mod ActsLemmas
-pub mod EmptyLemmas
-pub mod AccountLemmas
-pub mod ReportLemmas
 pub mod WordLemmas
 pub mod KeyLemmas
 pub mod GrammarLemmas

@@ -4,9 +4,9 @@ use Rattle.std.specs.declared.cmp.Ordering.{Ordering}
 use Rattle.fkv_functions.specs.Meanings.{Meanings}
 use Rattle.fkv_functions.specs.declared.names.Name.{Name}
 use Rattle.fkv_functions.specs.declared.refusals.Refused.{Refused}
-use Rattle.fkv_steps.specs.declared.outcomes.Outcome.{Outcome}
+use Rattle.fkv_worlds.specs.declared.outcomes.Outcome.{Outcome}
 use Rattle.fkv_steps.specs.declared.scripts.lines.Line.{Line}
-use Rattle.fkv_steps.specs.States.{WorldView}
+use Rattle.fkv_worlds.specs.States.{WorldView}
 use Rattle.fkv_steps.specs.Running.{RunsLine, RunLines}
 
 pub lines-append : {V O : Type 0} (cmp : Name → Name → Ordering) (f : Meanings Name V ℤ O) (code : Name → ℕ) (written : ℤ → V) (v u w : WorldView Name V ℤ O) (ls : List Line) (ts : List (Result (Outcome V O) Refused)) (l : Line) (t : Result (Outcome V O) Refused)

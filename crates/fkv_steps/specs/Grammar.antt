@@ -8,7 +8,7 @@ use Rattle.fkv_steps.specs.Words.{words_of, number_of, amount_of, is_key}
 use Rattle.fkv_steps.specs.declared.scripts.lines.FunctionsName.{FunctionsName}
 use Rattle.fkv_steps.specs.declared.scripts.lines.FunctionsName.TheVariants.{Count, Sum, Max}
 use Rattle.fkv_steps.specs.declared.scripts.lines.Opening.{Opening}
-use Rattle.fkv_steps.specs.declared.steps.Place.{Place}
+use Rattle.fkv_worlds.specs.declared.steps.Place.{Place}
 use Rattle.fkv_steps.specs.declared.scripts.lines.Line.{Line}
 use Rattle.fkv_steps.specs.declared.scripts.lines.Line.TheVariants.{Enter, Leave, Issue, Do, Go, Install, GiveUp, Ready, Finish}
 
@@ -86,7 +86,9 @@ functions_name Max = word (codes "max")
 
 -- how the first line is written
 abbrev pub opening : Opening → List Token
-opening o = word (codes "store") ∷ functions_name o.functions ∷ number o.partition_bits ∷ number o.bucket_bits ∷ number o.page_bits ∷ number o.frames ∷ []
+opening o =
+    word (codes "store") ∷ functions_name o.functions
+    ∷ number o.partition_bits ∷ number o.bucket_bits ∷ number o.page_bits ∷ number o.frames ∷ []
 
 -- the bytes of the first line open this store
 abbrev pub Opens : List ℕ → Opening → Type 0

@@ -1,14 +1,3 @@
-pub mod Lives
-pub mod Placed
-pub mod Changes
-pub mod WrongLives
-pub mod States
-pub mod Acts
-pub mod Worlds
-pub mod Told
-pub mod Headline
-pub mod Sound
-pub mod Reports
 pub mod Words
 pub mod Grammar
 pub mod Reading
@@ -16,3 +5,6 @@ pub mod Script
 pub mod OneReading
 pub mod Printing
 pub mod Running
+pub use Rattle.fkv_worlds.specs.Placed
+pub use Rattle.fkv_worlds.specs.Headline
+pub use Rattle.fkv_worlds.specs.Reports

@@ -19,4 +19,9 @@ IsBadOnce = (limit n m : ℕ) (lines : List (List ℕ)) → IsBadAt limit lines 
 
 -- a script that says something within its limit is bad at no line
 abbrev pub GoodIsNotBad : Type 0
-GoodIsNotBad = (limit n : ℕ) (lines : List (List ℕ)) (o : Opening) (ls : List Line) → SaysScript lines o ls → length lines ≤ limit → IsBadAt limit lines n → ⊥
+GoodIsNotBad =
+    (limit n : ℕ) (lines : List (List ℕ)) (o : Opening) (ls : List Line)
+    → SaysScript lines o ls
+    → length lines ≤ limit
+    → IsBadAt limit lines n
+    → ⊥

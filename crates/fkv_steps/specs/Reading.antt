@@ -12,7 +12,7 @@ use Rattle.fkv_steps.specs.Words.{number_of, amount_of, is_key, is_key_byte}
 use Rattle.fkv_steps.specs.declared.scripts.lines.FunctionsName.{FunctionsName}
 use Rattle.fkv_steps.specs.declared.scripts.lines.FunctionsName.TheVariants.{Count, Sum, Max}
 use Rattle.fkv_steps.specs.declared.scripts.lines.Opening.{Opening}
-use Rattle.fkv_steps.specs.declared.steps.Place.{Place}
+use Rattle.fkv_worlds.specs.declared.steps.Place.{Place}
 use Rattle.fkv_steps.specs.declared.scripts.lines.Line.{Line}
 use Rattle.fkv_steps.specs.declared.scripts.lines.Line.TheVariants.{Enter, Leave, Issue, Do, Go, Install, GiveUp, Ready, Finish}
 
@@ -36,7 +36,8 @@ sized true false false m n e f h = cc
 sized false b c m n e f h = cc
 
 pub key_sized : (word : List ℕ) → is_key word ≡ true → (1 ≤ length word) × (length word ≤ 31)
-key_sized word h = sized (list_all is_key_byte word) (nat_le 1 (length word)) (nat_le (length word) 31) (length word) 0 refl refl h
+key_sized word h =
+    sized (list_all is_key_byte word) (nat_le 1 (length word)) (nat_le (length word) 31) (length word) 0 refl refl h
 
 abbrev pub key_by : (word : List ℕ) (b : Bool) → is_key word ≡ b → Option Name
 key_by word true h = Some (name_with word (key_sized word h))

@@ -15,31 +15,40 @@ use Rattle.fkv_operations.specs.declared.operations.Op.{Op}
 use Rattle.fkv_operations.specs.declared.operations.Op.TheVariants.{Read, Upsert, Rmw, Delete}
 use Rattle.fkv_partition.specs.declared.limits.Config.{Config}
 use Rattle.fkv_partition.specs.Limits.{IsWithinLimits}
-use Rattle.fkv_steps.specs.declared.outcomes.Outcome.{Outcome}
-use Rattle.fkv_steps.specs.declared.outcomes.Outcome.TheVariants.{Entered, Left, Issued, Next, Build, Done, GivenUp}
-use Rattle.fkv_steps.specs.declared.steps.Step.TheVariants as step
-use Rattle.fkv_steps.specs.declared.pursuits.Pursuit.TheVariants as pursuit
+use Rattle.fkv_worlds.specs.declared.outcomes.Outcome.{Outcome}
+use Rattle.fkv_worlds.specs.declared.outcomes.Outcome.TheVariants.{Entered, Left, Issued, Next, Build, Done, GivenUp}
+use Rattle.fkv_worlds.specs.declared.steps.Step.TheVariants as step
+use Rattle.fkv_worlds.specs.declared.pursuits.Pursuit.TheVariants as pursuit
 use Rattle.fkv_steps.specs.declared.scripts.lines.Line.{Line}
 use Rattle.fkv_steps.specs.declared.scripts.lines.Line.TheVariants.{Enter, Leave, Issue, Do, Go, Install, GiveUp, Ready, Finish}
 use Rattle.fkv_steps.specs.declared.scripts.lines.Opening.{Opening}
 use Rattle.fkv_steps.specs.declared.scripts.lines.FunctionsName.{FunctionsName}
 use Rattle.fkv_steps.specs.declared.scripts.lines.FunctionsName.TheVariants.{Count, Sum, Max}
 use Rattle.fkv_steps.specs.Script.{lines_of, SaysScript}
-use Rattle.fkv_steps.specs.States.{WorldView, empty_world}
-use Rattle.fkv_steps.specs.Acts.{Steps}
-use Rattle.fkv_steps.specs.Headline.{IsHeadline}
-use Rattle.fkv_steps.specs.Worlds.{world_live}
-use Rattle.fkv_steps.specs.Reports.{Pursues}
+use Rattle.fkv_worlds.specs.States.{WorldView, empty_world}
+use Rattle.fkv_worlds.specs.Acts.{Steps}
+use Rattle.fkv_worlds.specs.Headline.{IsHeadline}
+use Rattle.fkv_worlds.specs.Worlds.{world_live}
+use Rattle.fkv_worlds.specs.Reports.{Pursues}
 use Rattle.fkv_steps.specs.Printing.{steps_text, map_text}
 
 -- the configuration that a first line names; its id is 1, and its turns are 1,000,000
 abbrev pub config_of : Opening → Config
-config_of o = record { id = 1; partition_bits = o.partition_bits; bucket_bits = o.bucket_bits; page_bits = o.page_bits; frames = o.frames; turns = 1000000 }
+config_of o = record {
+  id = 1;
+  partition_bits = o.partition_bits;
+  bucket_bits = o.bucket_bits;
+  page_bits = o.page_bits;
+  frames = o.frames;
+  turns = 1000000;
+}
 
 -- after an issue: what was issued is finished, and where nothing was that is what is told
-abbrev pub FinishesIssued : {V O : Type 0} → (Name → Name → Ordering) → Meanings Name V ℤ O → (Name → ℕ) → ℕ → ℕ → WorldView Name V ℤ O → WorldView Name V ℤ O → Result (Outcome V O) Refused → Result (Outcome V O) Refused → Type 0
+abbrev pub FinishesIssued : {V O : Type 0} → (Name → Name → Ordering) → Meanings Name V ℤ O → (Name → ℕ) → ℕ → ℕ
+    → WorldView Name V ℤ O → WorldView Name V ℤ O → Result (Outcome V O) Refused → Result (Outcome V O) Refused → Type 0
 FinishesIssued cmp f code p slot mid new told (Ok (Issued c)) =
-    Pursues cmp f code pursuit.Finish (record { partition = p; slot = slot; context = c }) new told 10000 (step.Go (record { partition = p; slot = slot; context = c })) mid
+    Pursues cmp f code pursuit.Finish (record { partition = p; slot = slot; context = c }) new told 10000
+    (step.Go (record { partition = p; slot = slot; context = c })) mid
 FinishesIssued cmp f code p slot mid new told (Ok (Entered x)) = (new ≡ mid) × (told ≡ Ok (Entered x))
 FinishesIssued cmp f code p slot mid new told (Ok Left) = (new ≡ mid) × (told ≡ Ok Left)
 FinishesIssued cmp f code p slot mid new told (Ok Next) = (new ≡ mid) × (told ≡ Ok Next)
@@ -56,12 +65,17 @@ op_of written (Rmw k n) = Rmw k n
 op_of written (Delete k) = Delete k
 
 -- what a line does, and tells; an amount is written as this value
-abbrev pub RunsLine : {V O : Type 0} → (Name → Name → Ordering) → Meanings Name V ℤ O → (Name → ℕ) → (ℤ → V) → WorldView Name V ℤ O → WorldView Name V ℤ O → Result (Outcome V O) Refused → Line → Type 0
+abbrev pub RunsLine : {V O : Type 0} → (Name → Name → Ordering) → Meanings Name V ℤ O → (Name → ℕ) → (ℤ → V)
+    → WorldView Name V ℤ O → WorldView Name V ℤ O → Result (Outcome V O) Refused → Line → Type 0
 RunsLine cmp f code written old new told (Enter p) = Steps cmp f code old new (step.Enter p) told
 RunsLine cmp f code written old new told (Leave p slot) = Steps cmp f code old new (step.Leave p slot) told
-RunsLine cmp f code written old new told (Issue p slot op) = Steps cmp f code old new (step.Issue p slot (op_of written op)) told
+RunsLine cmp f code written old new told (Issue p slot op) =
+    Steps cmp f code old new (step.Issue p slot (op_of written op)) told
 RunsLine {V} {O} cmp f code written old new told (Do p slot op) =
-    (mid : WorldView Name V ℤ O) × (issued : Result (Outcome V O) Refused) × Steps cmp f code old mid (step.Issue p slot (op_of written op)) issued × FinishesIssued cmp f code p slot mid new told issued
+    (mid : WorldView Name V ℤ O)
+    × (issued : Result (Outcome V O) Refused)
+    × Steps cmp f code old mid (step.Issue p slot (op_of written op)) issued
+    × FinishesIssued cmp f code p slot mid new told issued
 RunsLine cmp f code written old new told (Go w) = Steps cmp f code old new (step.Go w) told
 RunsLine cmp f code written old new told (Install w) = Steps cmp f code old new (step.Install w) told
 RunsLine cmp f code written old new told (GiveUp w) = Steps cmp f code old new (step.GiveUp w) told
@@ -69,15 +83,21 @@ RunsLine cmp f code written old new told (Ready w) = Pursues cmp f code pursuit.
 RunsLine cmp f code written old new told (Finish w) = Pursues cmp f code pursuit.Finish w new told 10000 (step.Go w) old
 
 -- lines in turn, and what each of them tells
-abbrev pub RunLines : {V O : Type 0} → (Name → Name → Ordering) → Meanings Name V ℤ O → (Name → ℕ) → (ℤ → V) → WorldView Name V ℤ O → List Line → List (Result (Outcome V O) Refused) → WorldView Name V ℤ O → Type 0
+abbrev pub RunLines : {V O : Type 0} → (Name → Name → Ordering) → Meanings Name V ℤ O → (Name → ℕ) → (ℤ → V)
+    → WorldView Name V ℤ O → List Line → List (Result (Outcome V O) Refused) → WorldView Name V ℤ O → Type 0
 RunLines cmp f code written v [] [] w = w ≡ v
 RunLines cmp f code written v [] (t ∷ ts) w = ⊥
 RunLines cmp f code written v (l ∷ ls) [] w = ⊥
-RunLines {V} {O} cmp f code written v (l ∷ ls) (t ∷ ts) w = (u : WorldView Name V ℤ O) × RunsLine cmp f code written v u t l × RunLines cmp f code written u ls ts w
+RunLines {V} {O} cmp f code written v (l ∷ ls) (t ∷ ts) w =
+    (u : WorldView Name V ℤ O)
+    × RunsLine cmp f code written v u t l
+    × RunLines cmp f code written u ls ts w
 
 -- the text that a script prints: what each line tells, and then each live key with its value, keys rising, in a world
 -- that keeps the headline
-pub record IsPrintedBy {V O : Type 0} (cmp : Name → Name → Ordering) (f : Meanings Name V ℤ O) (code : Name → ℕ) (written : ℤ → V) (value : V → List ℕ) (shown : O → List ℕ) (config : Config) (record_size : ℕ) (lines : List Line) (text : List ℕ) : Type 0 where
+pub record IsPrintedBy {V O : Type 0} (cmp : Name → Name → Ordering) (f : Meanings Name V ℤ O) (code : Name → ℕ)
+    (written : ℤ → V) (value : V → List ℕ) (shown : O → List ℕ) (config : Config) (record_size : ℕ) (lines : List Line)
+    (text : List ℕ) : Type 0 where
   pub world : WorldView Name V ℤ O
   pub told : List (Result (Outcome V O) Refused)
   pub pairs : List (Name × V)
@@ -98,11 +118,18 @@ record_size Count = 48
 record_size Sum = 56
 record_size Max = 48
 
+-- the hash of a name
+abbrev pub hash_of : Name → ℕ
+hash_of name = fnv_1a (text_of name)
+
 -- the text that a script prints with the functions that its first line names
 abbrev pub Prints : FunctionsName → Config → List Line → List ℕ → Type 0
-Prints Count config lines text = IsPrintedBy name_cmp counts (λ name. fnv_1a (text_of name)) count_of decimal decimal config (record_size Count) lines text
-Prints Sum config lines text = IsPrintedBy name_cmp sums (λ name. fnv_1a (text_of name)) (λ n. n) signed_decimal signed_decimal config (record_size Sum) lines text
-Prints Max config lines text = IsPrintedBy name_cmp maxima (λ name. fnv_1a (text_of name)) (λ n. n) signed_decimal signed_decimal config (record_size Max) lines text
+Prints Count config lines text =
+    IsPrintedBy name_cmp counts hash_of count_of decimal decimal config (record_size Count) lines text
+Prints Sum config lines text =
+    IsPrintedBy name_cmp sums hash_of (λ n. n) signed_decimal signed_decimal config (record_size Sum) lines text
+Prints Max config lines text =
+    IsPrintedBy name_cmp maxima hash_of (λ n. n) signed_decimal signed_decimal config (record_size Max) lines text
 
 -- the output of an input: it says a script, whose numbers are within the limits, and this is what the script prints
 pub record IsOutputOf (input text : List ℕ) : Type 0 where

@@ -56,7 +56,8 @@ abbrev pub SaysNothing : List (List ℕ) → List ℕ → Type 0
 SaysNothing [] here = (o : Opening) → Opens here o → ⊥
 SaysNothing (first ∷ more) here = (o : Opening) (l : Line) → Opens first o → SaysTo o.functions here l → ⊥
 
--- Line n is the first bad one: those before it are the lines of a script and not too many, and it says nothing or is one too many.
+-- Line n is the first bad one: those before it are the lines of a script and not too many, and it says nothing or is
+-- one too many.
 pub record IsBadLine (limit : ℕ) (lines : List (List ℕ)) (n : ℕ) : Type 0 where
   pub before : List (List ℕ)
   pub here : List ℕ

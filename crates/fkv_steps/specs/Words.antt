@@ -32,11 +32,16 @@ fits_64 (negsuc n) = nat_lt n (2 ^ 63)
 
 -- the amount that a word writes: a sign or none, and digits, in 64 bits
 unfoldable pub amount_of : List ℕ → Option ℤ
-amount_of word = if is_numeral (without_leading_sign word) && fits_64 (signed_digits_value 10 word) then Some (signed_digits_value 10 word) else None
+amount_of word =
+    if is_numeral (without_leading_sign word) && fits_64 (signed_digits_value 10 word)
+    then Some (signed_digits_value 10 word)
+    else None
 
 -- an ASCII letter, a digit, an underscore or a hyphen
 abbrev pub is_key_byte : ℕ → Bool
-is_key_byte b = (nat_le 97 b && nat_le b 122) || (nat_le 65 b && nat_le b 90) || (nat_le 48 b && nat_le b 57) || (b == 95) || (b == 45)
+is_key_byte b =
+    (nat_le 97 b && nat_le b 122) || (nat_le 65 b && nat_le b 90) || (nat_le 48 b && nat_le b 57)
+    || (b == 95) || (b == 45)
 
 -- whether a word is a key: 1 to 31 of these bytes
 abbrev pub is_key : List ℕ → Bool

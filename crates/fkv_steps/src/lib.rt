@@ -1,30 +1,14 @@
-//! Worlds of partitions driven by single steps, with the headline over them; replays of lists of steps,
-//! and scripts.
-//!
-//! An accepted issue begins a life. `specs/Placed.antt` says what it means that a list of lives is
-//! placed on the steps: each finished operation takes effect at one step of its own between its issue
-//! and its completion, and answers what the plain map answers there. `specs/Headline.antt` joins that
-//! with the live records and with the outcomes that were told; [`World::step`] keeps it.
+//! Scripts: the text that asks for the steps of a world, and the text that they print; and, by name, the
+//! worlds of `fkv_worlds` that they run in.
 #![tactic(auto)]
 
-pub mod laws;
-pub mod lives;
-pub mod outcomes;
-pub mod pursuits;
-pub mod replays;
-pub mod reports;
 pub mod scripts;
-pub mod states;
-pub mod steps;
-pub mod tables;
-pub mod worlds;
 
-pub use lives::{End, Finish, Life, LifeOf};
-pub use outcomes::{Outcome, OutcomeOf};
-pub use replays::replay;
-pub use reports::{Report, ReportOf};
-pub use steps::{Place, Step, StepOf};
-pub use worlds::World;
+pub use fkv_worlds::laws::wrong_lives;
+pub use fkv_worlds::{
+    End, Finish, Life, LifeOf, Outcome, OutcomeOf, Place, Report, ReportOf, Step, StepOf, World,
+    replay,
+};
 
 #[cfg(test)]
 mod tests;

@@ -1,8 +1,8 @@
 //! A life of each end, and the laws called once.
 use crate::laws::wrong_lives;
-use crate::lives::{End, Finish, Life};
-use crate::outcomes::Outcome;
 use fkv_operations::{Answer, Op};
+use fkv_worlds::lives::{End, Finish, Life};
+use fkv_worlds::outcomes::Outcome;
 
 #[test]
 fn lives_of_each_end(rt: HostRuntime) {

@@ -1,14 +1,14 @@
 //! Worked runs as lists of steps, each refusal of a world, a random run beside the plain program, and
 //! refused growths followed by the same call.
-use crate::lives::{End, Finish, LifeOf};
-use crate::outcomes::{Outcome, OutcomeOf};
-use crate::replays::replay;
-use crate::reports::ReportOf;
-use crate::steps::{Place, Step, StepOf};
-use crate::worlds::World;
 use fkv_functions::{Name, Refused, SumFns, What};
 use fkv_operations::{Answer, Op, apply_plainly};
 use fkv_partition::Config;
+use fkv_worlds::lives::{End, Finish, LifeOf};
+use fkv_worlds::outcomes::{Outcome, OutcomeOf};
+use fkv_worlds::replays::replay;
+use fkv_worlds::reports::ReportOf;
+use fkv_worlds::steps::{Place, Step, StepOf};
+use fkv_worlds::worlds::World;
 use rand_core::{Rng, SeedableRng};
 use rand_xoshiro::Xoshiro256PlusPlus;
 use std::alloc::Global;

@@ -2,9 +2,9 @@
 ghost use Rattle.std.specs.Prelude.{◌≡◌};
 ghost use Rattle.fkv_steps.specs.Script.{takes_operation, takes};
 
-use crate::steps::Place;
 use fkv_functions::Name;
 use fkv_operations::Op;
+use fkv_worlds::steps::Place;
 
 /// The sets of functions that a script can name.
 #[derive(Clone, Copy, PartialEq, Eq, Debug)]

@@ -13,9 +13,10 @@ mod texts;
 mod words;
 pub mod written;
 
+pub use fkv_worlds::Printed;
 pub use laws::one_reading;
 pub use lines::{FunctionsName, Line, Opening, Script};
-pub use printing::{Printed, text_of, write_out};
+pub use printing::{text_of, write_out};
 pub use reading::{LIMIT, read_script};
 pub use running::run_script;
 pub use written::Written;

@@ -10,9 +10,9 @@ ghost use Rattle.fkv_steps.specs.Reading.{Gives, first_as, line_of, enter_of, le
 
 use crate::scripts::lines::{FunctionsName, Line, Opening};
 use crate::scripts::words::Words;
-use crate::steps::Place;
 use fkv_functions::Name;
 use fkv_operations::Op;
+use fkv_worlds::steps::Place;
 
 /// What a line after the first says to a store of these functions, where it says anything.
 pub fn parse_line(functions: FunctionsName, bytes: &[u8]) -> Option<Line>

@@ -1,71 +1,12 @@
 //! What a replay prints, and writing it out.
 ghost use Rattle.std.specs.Prelude.{◌≡◌, ◌++◌, ℕ, List, Some, Err, IfOk, IfErr, OnOk, OnErr};
-ghost use Rattle.std.specs.Fmt.{decimal, signed_decimal};
 ghost use Rattle.std.specs.Io.KnownBytes.{Appends};
-ghost use Rattle.fkv_steps.specs.Printing.{outcome_text, step_text, steps_text, pair_text, map_text, line, AppendsPrefix};
+ghost use Rattle.fkv_steps.specs.Printing.{step_text, steps_text, pair_text, map_text, line, AppendsPrefix};
 
-use crate::outcomes::Outcome;
 use fkv_functions::{Name, Refused};
-use fkv_operations::Answer;
+use fkv_worlds::{Outcome, Printed};
 use std::alloc::Global;
-use std::fmt::{self, Display};
 use std::io::{ErrorKind, Write};
-
-/// A value whose printed text is known.
-pub trait Printed: Display {
-    /// The text that `{}` writes.
-    ghost text: { Self → List ℕ };
-
-    /// Tells a proof that `{}` writes this text.
-    fn printed(&self)
-        ensures { Self.output self.now ≡ Some (text self.now) };
-}
-
-impl Printed for u64 {
-    ghost text = { decimal };
-
-    fn printed(&self) {}
-}
-
-impl Printed for i64 {
-    ghost text = { signed_decimal };
-
-    fn printed(&self) {}
-}
-
-impl Printed for i128 {
-    ghost text = { signed_decimal };
-
-    fn printed(&self) {}
-}
-
-/// An outcome prints as a script's line does: `entered S`, `left`, `issued C`, `next`, `build none`,
-/// `build V`, `done value V`, `done absent`, `done stored`, `done deleted` or `given up`.
-impl<V: Printed, O: Printed> Display for Outcome<V, O> {
-    ghost output = { λ o. Some (outcome_text V.text O.text o) };
-
-    fn fmt<W: fmt::Write>(&self, f: &mut fmt::Formatter<W>) -> fmt::Result {
-        match self {
-            Outcome::Entered(slot) => write!(f, "entered {slot}"),
-            Outcome::Left => write!(f, "left"),
-            Outcome::Issued(context) => write!(f, "issued {context}"),
-            Outcome::Next => write!(f, "next"),
-            Outcome::Build(None) => write!(f, "build none"),
-            Outcome::Build(Some(value)) => {
-                value.printed();
-                write!(f, "build {value}")
-            }
-            Outcome::Done(Answer::Value(shown)) => {
-                shown.printed();
-                write!(f, "done value {shown}")
-            }
-            Outcome::Done(Answer::Absent) => write!(f, "done absent"),
-            Outcome::Done(Answer::Stored) => write!(f, "done stored"),
-            Outcome::Done(Answer::Deleted) => write!(f, "done deleted"),
-            Outcome::GivenUp => write!(f, "given up"),
-        }
-    }
-}
 
 /// The whole text that a replay prints: a line for each step, then the number of live keys, and a line
 /// for each of them in the order given. Refused: `NoMemory`.

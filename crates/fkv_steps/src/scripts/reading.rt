@@ -22,7 +22,8 @@ pub const LIMIT: u32 = 1_000_000;
 pub fn read_script<R: Read + Drop>(alloc: Global, reader: R, limit: u32) -> Result<Script, Refused>
     ensures ok { IfOk result (λ script. IfSome (R.remaining reader)
         (λ text. SaysScript (lines_of text) script.opening script.lines.items × (length (lines_of text) ≤ limit))) }
-    ensures bad { IfErr result (λ e. (n : ℕ) → e ≡ Refused.BadScript n → IfSome (R.remaining reader) (λ text. IsBadAt limit (lines_of text) n)) }
+    ensures bad { IfErr result (λ e. (n : ℕ) → e ≡ Refused.BadScript n
+        → IfSome (R.remaining reader) (λ text. IsBadAt limit (lines_of text) n)) }
     ensures only { IfErr result (λ e. (e ≡ Refused.NoMemory) ⊎ (e ≡ Refused.Unreadable 1) ⊎ ((n : ℕ) × (e ≡ Refused.BadScript n))) }
 {
     let mut reader = buffered(alloc, reader)?;
@@ -44,7 +45,8 @@ fn buffered<R: Read + Drop>(alloc: Global, reader: R) -> Result<BufReader<R>, Re
 
 /// The bytes of the first lines that a reader gives.
 fn read_lines<R: BufRead>(alloc: Global, reader: &mut R, count: usize) -> Result<Vec<u8>, Refused>
-    ensures ok { IfOk result (λ text. IfSome (R.Read.remaining reader.old) (λ xs. lines_of text.items ≡ take count (lines_of xs))) }
+    ensures ok { IfOk result (λ text. IfSome (R.Read.remaining reader.old)
+        (λ xs. lines_of text.items ≡ take count (lines_of xs))) }
     ensures only { IfErr result (λ e. (e ≡ Refused.NoMemory) ⊎ (e ≡ Refused.Unreadable 1)) }
 {
     let mut text = Vec::new(alloc);

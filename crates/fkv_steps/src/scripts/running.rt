@@ -7,18 +7,19 @@ ghost use Rattle.fkv_functions.specs.Names.{name_cmp};
 ghost use Rattle.std.specs.Io.KnownBytes.{Appends};
 ghost use Rattle.fkv_steps.specs.Printing.{AppendsPrefix};
 ghost use Rattle.fkv_steps.specs.Script.{lines_of, IsBadAt};
-ghost use Rattle.fkv_steps.specs.Running.{config_of, op_of, RunsLine, IsPrintedBy, IsOutputOf, HasBadConfig};
+ghost use Rattle.fkv_steps.specs.Running.{config_of, op_of, RunsLine, RunLines, IsPrintedBy, IsOutputOf, HasBadConfig};
 
-use crate::outcomes::{Outcome, OutcomeOf};
 use crate::scripts::lines::{FunctionsName, Line, Opening};
-use crate::scripts::printing::{Printed, text_of, write_out};
+use crate::scripts::printing::{text_of, write_out};
 use crate::scripts::reading::{LIMIT, read_script};
 use crate::scripts::written::Written;
-use crate::steps::{Place, Step};
-use crate::worlds::World;
 use fkv_functions::{CountFns, Functions, MaxFns, Name, Refused, SumFns};
 use fkv_operations::Op;
 use fkv_partition::Config;
+use fkv_worlds::Printed;
+use fkv_worlds::outcomes::{Outcome, OutcomeOf};
+use fkv_worlds::steps::{Place, Step};
+use fkv_worlds::worlds::World;
 use std::alloc::Global;
 use std::io::{Read, Write};
 
@@ -113,6 +114,29 @@ where
     }
 }
 
+/// Does what the lines say, in turn, and answers what the last step of each told. Refused: `NoMemory`.
+fn run_lines<F: Functions<Key = Name, Input = i64>>(
+    alloc: Global,
+    world: &mut World<F>,
+    functions: &F,
+    lines: &[Line],
+) -> Result<Vec<Result<OutcomeOf<F>, Refused>>, Refused>
+where
+    F::Value: Written,
+    ensures ok { IfOk result (λ told. RunLines name_cmp F.meaning F.code F.Value.written world.old lines.now told.items
+        world.new) }
+    ensures only { IfErr result (λ refused. refused ≡ Refused.NoMemory) }
+{
+    let mut told = Vec::new(alloc);
+    for line in lines {
+        let one = run_line(world, functions, line);
+        let Ok(()) = told.push(one) else {
+            return Err(Refused::NoMemory);
+        };
+    }
+    Ok(told)
+}
+
 /// The text that the lines print, run in a world with nothing in it. Refused, in this order: `BadConfig`
 /// where a number of the configuration is outside its limits, `NoMemory`.
 fn printed_by<F: Functions<Key = Name, Input = i64>>(
@@ -124,19 +148,14 @@ fn printed_by<F: Functions<Key = Name, Input = i64>>(
 where
     F::Value: Written + Printed,
     F::Output: Printed,
-    ensures ok { IfOk result (λ text. IsPrintedBy name_cmp F.meaning F.code F.Value.written F.Value.text F.Output.text config.now (size_of 32 F.Value.SIZE) lines.now text.items) }
+    ensures ok { IfOk result (λ text. IsPrintedBy name_cmp F.meaning F.code F.Value.written F.Value.text F.Output.text config.now
+        (size_of 32 F.Value.SIZE) lines.now text.items) }
     ensures good { result ≢ Err Refused.BadConfig → IsWithinLimits config.now (size_of 32 F.Value.SIZE) }
     ensures bad { result ≡ Err Refused.BadConfig → ¬ IsWithinLimits config.now (size_of 32 F.Value.SIZE) }
     ensures only { IfErr result (λ refused. (refused ≡ Refused.BadConfig) ⊎ (refused ≡ Refused.NoMemory)) }
 {
     let mut world = World::<F>::new(alloc, config)?;
-    let mut told = Vec::new(alloc);
-    for line in lines {
-        let one = run_line(&mut world, functions, line);
-        let Ok(()) = told.push(one) else {
-            return Err(Refused::NoMemory);
-        };
-    }
+    let told = run_lines(alloc, &mut world, functions, lines)?;
     world.headline();
     let pairs = world.live(alloc)?;
     let text = text_of(alloc, &told, &pairs)?;
@@ -155,12 +174,17 @@ pub fn run_script<R: Read + Drop, W: Write>(
     reader: R,
     writer: &mut W,
 ) -> Result<(), Refused>
-    ensures ok { OnOk result (IfSome (R.remaining reader) (λ input. (text : List ℕ) × IsOutputOf input text × Appends (W.contents writer.old) (W.contents writer.new) text)) }
-    ensures unwritable { result ≡ Err Refused.Unwritable → IfSome (R.remaining reader) (λ input. (text : List ℕ) × IsOutputOf input text × AppendsPrefix (W.contents writer.old) (W.contents writer.new) text) }
+    ensures ok { OnOk result (IfSome (R.remaining reader) (λ input. (text : List ℕ) × IsOutputOf input text
+        × Appends (W.contents writer.old) (W.contents writer.new) text)) }
+    ensures unwritable { result ≡ Err Refused.Unwritable → IfSome (R.remaining reader)
+        (λ input. (text : List ℕ) × IsOutputOf input text
+        × AppendsPrefix (W.contents writer.old) (W.contents writer.new) text) }
     ensures nothing { IfErr result (λ e. e ≢ Refused.Unwritable → W.contents writer.new ≡ W.contents writer.old) }
-    ensures bad { IfErr result (λ e. (n : ℕ) → e ≡ Refused.BadScript n → IfSome (R.remaining reader) (λ input. IsBadAt 1000000 (lines_of input) n)) }
+    ensures bad { IfErr result (λ e. (n : ℕ) → e ≡ Refused.BadScript n
+        → IfSome (R.remaining reader) (λ input. IsBadAt 1000000 (lines_of input) n)) }
     ensures config { result ≡ Err Refused.BadConfig → IfSome (R.remaining reader) HasBadConfig }
-    ensures only { IfErr result (λ e. (e ≡ Refused.NoMemory) ⊎ (e ≡ Refused.Unreadable 1) ⊎ (e ≡ Refused.BadConfig) ⊎ (e ≡ Refused.Unwritable) ⊎ ((n : ℕ) × (e ≡ Refused.BadScript n))) }
+    ensures only { IfErr result (λ e. (e ≡ Refused.NoMemory) ⊎ (e ≡ Refused.Unreadable 1) ⊎ (e ≡ Refused.BadConfig)
+        ⊎ (e ≡ Refused.Unwritable) ⊎ ((n : ℕ) × (e ≡ Refused.BadScript n))) }
 {
     let script = read_script(alloc, reader, LIMIT)?;
     let config = script.opening.config();

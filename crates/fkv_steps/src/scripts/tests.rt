@@ -1,12 +1,12 @@
 //! Lines of each kind, good and bad; printed texts; readers and writers that fail.
-use crate::outcomes::Outcome;
 use crate::scripts::laws::one_reading;
 use crate::scripts::lines::{FunctionsName, Line, Opening, Script};
 use crate::scripts::printing::{text_of, write_out};
 use crate::scripts::reading::{LIMIT, read_script};
-use crate::steps::Place;
 use fkv_functions::{Name, Refused, What};
 use fkv_operations::{Answer, Op};
+use fkv_worlds::outcomes::Outcome;
+use fkv_worlds::steps::Place;
 use std::alloc::Global;
 use std::io::{self, Error, ErrorKind, Read, Write};
 use std::test::Fail;

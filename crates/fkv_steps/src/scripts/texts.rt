@@ -14,7 +14,8 @@ use std::alloc::Global;
 /// What a text says, if it has at most `limit` lines. Refused: `BadScript` with the first line that says
 /// nothing or is one too many, counted from 1, a text of no bytes in line 1; `NoMemory`.
 pub fn script_of(alloc: Global, text: &[u8], limit: u32) -> Result<Script, Refused>
-    ensures ok { IfOk result (λ script. SaysScript (lines_of text.now) script.opening script.lines.items × (length (lines_of text.now) ≤ limit)) }
+    ensures ok { IfOk result (λ script. SaysScript (lines_of text.now) script.opening script.lines.items
+        × (length (lines_of text.now) ≤ limit)) }
     ensures bad { IfErr result (λ e. (n : ℕ) → e ≡ Refused.BadScript n → IsBadAt limit (lines_of text.now) n) }
     ensures only { IfErr result (λ e. (e ≡ Refused.NoMemory) ⊎ ((n : ℕ) × (e ≡ Refused.BadScript n))) }
 {
@@ -43,7 +44,8 @@ fn lines_after(
     requires { 0 < limit }
     ensures ok { IfOk result (λ lines. SayAll functions (lines_of text.now) lines.items × (length (lines_of text.now) < limit)) }
     // Whatever first line of these functions stands before.
-    ensures bad { IfErr result (λ e. (n : ℕ) → e ≡ Refused.BadScript n → (first : List ℕ) (o : Opening) → Opens first o → o.functions ≡ functions → IsBadLine limit (first ∷ lines_of text.now) n) }
+    ensures bad { IfErr result (λ e. (n : ℕ) → e ≡ Refused.BadScript n → (first : List ℕ) (o : Opening) → Opens first o
+        → o.functions ≡ functions → IsBadLine limit (first ∷ lines_of text.now) n) }
     ensures only { IfErr result (λ e. (e ≡ Refused.NoMemory) ⊎ ((n : ℕ) × (e ≡ Refused.BadScript n))) }
 {
     let mut lines = Vec::new(alloc);
@@ -64,7 +66,8 @@ fn lines_after(
 fn add_line(lines: &mut Vec<Line>, functions: FunctionsName, line: &[u8]) -> Result<(), Refused>
     requires { length lines.old.items < 2 ^ 32 }
     ensures ok { OnOk result ((l : Line) × SaysTo functions line.now l × (lines.new.items ≡ lines.old.items ++ l ∷ [])) }
-    ensures bad { IfErr result (λ e. (n : ℕ) → e ≡ Refused.BadScript n → (n ≡ length lines.old.items + 2) × ((l : Line) → SaysTo functions line.now l → ⊥)) }
+    ensures bad { IfErr result (λ e. (n : ℕ) → e ≡ Refused.BadScript n → (n ≡ length lines.old.items + 2)
+        × ((l : Line) → SaysTo functions line.now l → ⊥)) }
     ensures only { IfErr result (λ e. (e ≡ Refused.NoMemory) ⊎ ((n : ℕ) × (e ≡ Refused.BadScript n))) }
 {
     let Some(said) = parse_line(functions, line) else {

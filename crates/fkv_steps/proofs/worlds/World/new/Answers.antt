@@ -1,5 +1,0 @@
-use Rattle.fkv_steps.proofs.AccountLemmas.{account-empty}
-use Rattle.fkv_steps.proofs.worlds.World.new.Goals as goal
-
-pub invariant_of-result : goal.invariant_of-result
-invariant_of-result g c = rw (c.in_ok-state.ensures.ok, c.new-2.ensures.items) account-empty

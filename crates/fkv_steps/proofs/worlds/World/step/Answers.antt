@@ -1,9 +1,0 @@
-use Rattle.std.proofs.Common.{refl}
-use Rattle.fkv_steps.specs.Acts.{unkept, kept}
-use Rattle.fkv_steps.proofs.worlds.World.step.Goals as goal
-
-pub returns-in_default-clause-does : goal.returns-in_default-clause-does
-returns-in_default-clause-does g c = unkept c.in_default.ensures.none refl
-
-pub returns-clause-does : goal.returns-clause-does
-returns-clause-does g c = kept c.in-Some.ensures.acts c.in-Some.ensures.kept

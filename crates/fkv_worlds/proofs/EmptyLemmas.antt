@@ -1,0 +1,105 @@
+-- A world before its first step.
+use Rattle.std.proofs.Common.{◌≡◌, Bool, true, false, cond, ◌&&◌, ℕ, zero, suc, ◌+◌, ◌*◌, ◌^◌, ◌<◌, ◌≤◌, List, length, replicate, Option, Some, None, option_map, slice_get, unwrap_or, nat_lt, refl, sym, ◌∙◌, ap, arith}
+use Rattle.std.specs.List.{range_with_len}
+use Rattle.std.proofs.lemmas.List.FromFn.{length-map-range_with_len}
+use Rattle.std.proofs.lemmas.List.{length-replicate}
+use Rattle.std.proofs.lemmas.Nat.{pow_pos}
+use Rattle.std.proofs.Math.Pow.{pow_mono}
+use Rattle.std.proofs.lemmas.Option.{slice_get-map}
+use Rattle.std.specs.declared.cmp.Ordering.{Ordering}
+use Rattle.fkv_functions.specs.Meanings.{Meanings}
+use Rattle.fkv_partition.specs.declared.limits.Config.{Config}
+use Rattle.fkv_partition.specs.Limits.{IsWithinLimits}
+use Rattle.fkv_partition.specs.Contexts.{joined}
+use Rattle.fkv_partition.specs.Views.{PartitionView, empty_partition, partition_of}
+use Rattle.fkv_partition.specs.Effect.{Asked, asked, asked_by}
+use Rattle.fkv_worlds.specs.declared.tables.Seat.{Seat}
+use Rattle.fkv_worlds.specs.States.{empty_partitions, empty_state}
+use Rattle.fkv_worlds.specs.Worlds.{live_at, asked_at}
+use Rattle.fkv_worlds.specs.Sound.{IsState}
+
+range-at : (a n p i : ℕ) → slice_get (range_with_len a n) p ≡ Some i → i ≡ a + p
+range-at a zero p i h = absurd (cc)
+range-at a (suc n) zero i h = let same : a ≡ i = cc in omega arith
+range-at a (suc n) (suc p) i h = let k = range-at (a + 1) n p i h in omega arith
+
+replicate-at : {A : Type 0} (n : ℕ) (x y : A) (i : ℕ) → slice_get (replicate n x) i ≡ Some y → y ≡ x
+replicate-at zero x y i h = absurd (cc)
+replicate-at (suc n) x y zero h = let same : x ≡ y = cc in sym same
+replicate-at (suc n) x y (suc i) h = replicate-at n x y i h
+
+replicate-false : (n i : ℕ) → unwrap_or (slice_get (replicate n false) i) false ≡ false
+replicate-false zero i = refl
+replicate-false (suc n) zero = refl
+replicate-false (suc n) (suc i) = replicate-false n i
+
+-- the only partitions are empty ones, each with the number of its place
+made-some : {A : Type 0} (f : ℕ → A) (o : Option ℕ) (v : A) → option_map f o ≡ Some v → (i : ℕ) × (o ≡ Some i) × (v ≡ f i)
+made-some f None v h = absurd (cc)
+made-some f (Some i) v h = let same : f i ≡ v = cc in (i, refl, sym same)
+
+pub empty-at : {K V I : Type 0} (config : Config) (size n p : ℕ) (v : PartitionView K V I) → slice_get (empty_partitions config size n) p ≡ Some v → v ≡ empty_partition config size p
+empty-at config size n p v h =
+    let m = made-some (empty_partition config size) (slice_get (range_with_len 0 n) p) v (sym (slice_get-map (empty_partition config size) (range_with_len 0 n) p) ∙ h) in
+    let at = range-at 0 n p m.0 m.1 in
+    let same : m.0 ≡ p = omega arith in
+    m.2 ∙ ap (empty_partition config size) same
+
+small : (n : ℕ) → n ≤ 6 → (1 ≤ 2 ^ n) × (2 ^ n ≤ 64)
+small n h = let most : 2 ^ n ≤ 2 ^ 6 = pow_mono h in let least : 0 < 2 ^ n = pow_pos n in (omega arith, omega arith)
+
+module _ {K V I O : Type 0} (cmp : K → K → Ordering) (f : Meanings K V I O) (code : K → ℕ) (config : Config) (size : ℕ) (within : IsWithinLimits config size) where
+  views : List (PartitionView K V I)
+  views = empty_partitions config size (2 ^ config.partition_bits)
+
+  sized : length (empty_partitions {K = K} {V = V} {I = I} config size (2 ^ config.partition_bits)) ≡ 2 ^ config.partition_bits
+  sized = length-map-range_with_len (empty_partition config size) 0 (2 ^ config.partition_bits)
+
+  -- nothing is open in one
+  unasked : (p slot c : ℕ) (x : Asked K V I) → asked (empty_partition {K = K} {V = V} {I = I} config size p) slot c ≡ Some x → ⊥
+  unasked p slot c x h = off (unwrap_or (slice_get (replicate 16 false) slot) false) (replicate-false 16 slot) h
+    where
+      off : (b : Bool) → b ≡ false → option_map (asked_by {K = K} {V = V} {I = I}) (cond (b && nat_lt c 8) (joined (slice_get (replicate 128 None) (slot * 8 + c))) None) ≡ Some x → ⊥
+      off true t k = absurd (cc)
+      off false t k = absurd (cc)
+
+  none-live : (o : Option (PartitionView K V I)) (k : K) → ((v : PartitionView K V I) → o ≡ Some v → (p : ℕ) × (v ≡ empty_partition config size p)) → live_at cmp o k ≡ None
+  none-live None k h = refl
+  none-live (Some v) k h = let e = h v refl in ap (λ w. live_at cmp (Some w) k) e.1
+
+  none-asked : (o : Option (PartitionView K V I)) (slot c : ℕ) (x : Asked K V I) → ((v : PartitionView K V I) → o ≡ Some v → (p : ℕ) × (v ≡ empty_partition config size p)) → asked_at o slot c ≡ Some x → ⊥
+  none-asked None slot c x h k = absurd (cc)
+  none-asked (Some v) slot c x h k = let e = h v refl in unasked e.0 slot c x (ap (λ w. asked w slot c) (sym e.1) ∙ k)
+
+  pub state-empty : IsState cmp f code (empty_state config size)
+  state-empty = let b = small config.partition_bits within.partition_bits in record {
+    tables = record {
+      most = rw sized b.1;
+      begun = length-replicate (2 ^ config.partition_bits * 128) 0 ∙ ap (λ n. n * 128) (sym sized);
+      questions = length-replicate (2 ^ config.partition_bits * 128) None ∙ ap (λ n. n * 128) (sym sized);
+      seats = length-replicate (2 ^ config.partition_bits * 16) (record { session = 0; issues = 0 }) ∙ ap (λ n. n * 16) (sym sized);
+      enters = length-replicate (2 ^ config.partition_bits) 0 ∙ sym sized;
+      counted = λ p n h. (let e = replicate-at (2 ^ config.partition_bits) 0 n p h in omega arith);
+      issued = λ i x h. (let e = ap (λ (z : Seat). z.issues) (replicate-at (2 ^ config.partition_bits * 16) _ x i h) in omega arith);
+    };
+    world = record {
+      placed = record {
+        issued = λ j x h. absurd (cc);
+        timely = λ j x t h k. absurd (cc);
+        alone = λ i j x y t u h k a b d. absurd (cc);
+        answers = λ j x t h k. absurd (cc);
+      };
+      denotes = λ k. (let p = partition_of (length (empty_partitions {K = K} {V = V} {I = I} config size (2 ^ config.partition_bits))) (code k) in none-live (slice_get (empty_partitions config size (2 ^ config.partition_bits)) p) k (λ v h. (p, empty-at config size (2 ^ config.partition_bits) p v h)));
+      linked = record {
+        linked = λ w x h. absurd (none-asked (slice_get (empty_partitions config size (2 ^ config.partition_bits)) w.partition) w.slot w.context x (λ v k. (w.partition, empty-at config size (2 ^ config.partition_bits) w.partition v k)) h);
+        apart = λ w u x y h k e. absurd (none-asked (slice_get (empty_partitions config size (2 ^ config.partition_bits)) w.partition) w.slot w.context x (λ v q. (w.partition, empty-at config size (2 ^ config.partition_bits) w.partition v q)) h);
+      };
+      housed = record {
+        some = rw sized b.0;
+        numbered = λ p v h. ap (λ (z : PartitionView K V I). z.number) (empty-at config size (2 ^ config.partition_bits) p v h);
+        counted = λ p v h. ap (λ (z : PartitionView K V I). z.count) (empty-at config size (2 ^ config.partition_bits) p v h) ∙ sym sized;
+        past = λ p v h. (let e = ap (λ (z : PartitionView K V I). z.moment) (empty-at config size (2 ^ config.partition_bits) p v h) in omega arith);
+        routed = λ w x h. absurd (none-asked (slice_get (empty_partitions config size (2 ^ config.partition_bits)) w.partition) w.slot w.context x (λ v k. (w.partition, empty-at config size (2 ^ config.partition_bits) w.partition v k)) h);
+      };
+    };
+  }

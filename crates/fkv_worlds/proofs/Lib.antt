@@ -1,0 +1,10 @@
+pub mod LivesLemmas
+pub mod PlacedLemmas
+pub mod WrongLemmas
+pub mod ManyLemmas
+pub mod WorldLemmas
+pub mod StateLemmas
+pub mod ActsLemmas
+pub mod EmptyLemmas
+pub mod AccountLemmas
+pub mod ReportLemmas

@@ -1,0 +1,35 @@
+-- What the definitions refuse.
+use Rattle.std.proofs.Common.{◌≡◌, ℕ, true, cond, Some, None, refl, ap, arith}
+use Rattle.std.specs.Ordering.{nat_cmp}
+use Rattle.std.specs.Cmp.{nat_cmp_total, eq_by_cmp_equiv}
+use Rattle.std.specs.BTreeMap.{is_at}
+use Rattle.fkv_worlds.specs.WrongLives.{RefusesInvented, CountsOnce, RefusesSharedSteps, RefusesOtherTimes, RefusesEarlyUpdates}
+
+itself : (k : ℕ) → is_at (nat_cmp k) k ≡ true
+itself k = (eq_by_cmp_equiv nat_cmp_total).refl k
+
+pub refuses_invented : RefusesInvented
+refuses_invented f k i v now a = (λ p. p.answers 0 _ _ refl refl, λ p. p.answers 0 _ _ refl refl, λ p. p.answers 0 _ _ refl refl, λ p. p.answers 0 _ _ refl refl)
+
+pub counts_once : CountsOnce
+counts_once f k i v a b = (
+  refl,
+  ap (λ t. cond t (Some (f.first k i)) None) (itself k),
+  ap (λ t. cond t (Some (f.first k i)) None) (itself k),
+  refl,
+  ap (λ t. cond t (Some v) None) (itself k),
+  ap (λ t. cond t None (cond (is_at (nat_cmp k) k) (Some v) None)) (itself k),
+)
+
+pub refuses_shared_steps : RefusesSharedSteps
+refuses_shared_steps f p q i j d e s now a b h =
+    let same : ◌≡◌ {A = ℕ} 0 1 = h.alone 0 1 _ _ _ _ refl refl refl refl refl in
+    absurd (omega arith)
+
+pub refuses_other_times : RefusesOtherTimes
+refuses_other_times f op issue effect done now a h =
+    let t = h.timely 0 _ _ refl refl in
+    (t.later, t.within, t.past)
+
+pub refuses_early_updates : RefusesEarlyUpdates
+refuses_early_updates f k i issue effect done now a h = (h.timely 0 _ _ refl refl).update refl

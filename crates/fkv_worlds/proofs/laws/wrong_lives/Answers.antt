@@ -1,0 +1,11 @@
+use Rattle.fkv_worlds.proofs.WrongLemmas.{refuses_invented, counts_once, refuses_shared_steps, refuses_other_times, refuses_early_updates}
+use Rattle.fkv_worlds.proofs.laws.wrong_lives.Goals as goal
+
+pub returns : goal.returns
+returns c = record {
+  invented = refuses_invented;
+  once = counts_once;
+  shared = refuses_shared_steps;
+  times = refuses_other_times;
+  updates = refuses_early_updates;
+}

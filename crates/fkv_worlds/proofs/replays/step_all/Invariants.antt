@@ -1,0 +1,7 @@
+use Rattle.std.proofs.Common.{take}
+use Rattle.fkv_worlds.specs.Reports.{RunsTo}
+use Rattle.fkv_worlds.proofs.replays.step_all.Given as goal
+
+-- the steps so far lead to the world
+abbrev pub invariant-loop-step : goal.invariant-loop-step
+invariant-loop-step g l = RunsTo g.F.Key.Ord.cmp g.F.Functions.meaning g.F.Functions.code l.fn.world (take l.step-index l.steps) l.world

@@ -1,0 +1,95 @@
+-- What a world reports, and a list of steps done in turn.
+use Rattle.std.specs.Prelude.{◌≡◌, ℕ, zero, suc, List, [], ◌∷◌, ◌++◌, Option, Some, None, Result, Ok, Err}
+use Rattle.std.specs.declared.cmp.Ordering.{Ordering}
+use Rattle.std.specs.BTreeMap.{is_at}
+use Rattle.std.specs.Map.{lookup, keys_of}
+use Rattle.std.specs.List.Sorted.{IsStrictlySortedBy}
+use Rattle.fkv_functions.specs.Meanings.{Meanings}
+use Rattle.fkv_functions.specs.Plain.{PlainMap, with_at}
+use Rattle.fkv_functions.specs.declared.refusals.Refused.{Refused}
+use Rattle.fkv_functions.specs.declared.refusals.Refused.TheVariants.{Stalled}
+use Rattle.fkv_partition.specs.declared.limits.Config.{Config}
+use Rattle.fkv_worlds.specs.declared.lives.Life.{Life}
+use Rattle.fkv_worlds.specs.declared.outcomes.Outcome.{Outcome}
+use Rattle.fkv_worlds.specs.declared.outcomes.Outcome.TheVariants.{Entered, Left, Issued, Next, Build, Done, GivenUp}
+use Rattle.fkv_worlds.specs.declared.steps.Place.{Place}
+use Rattle.fkv_worlds.specs.declared.steps.Step.{Step}
+use Rattle.fkv_worlds.specs.declared.steps.Step.TheVariants.{Go, Install}
+use Rattle.fkv_worlds.specs.declared.pursuits.Pursuit.{Pursuit}
+use Rattle.fkv_worlds.specs.declared.pursuits.Pursuit.TheVariants.{Ready, Finish}
+use Rattle.fkv_worlds.specs.States.{WorldView, empty_world}
+use Rattle.fkv_worlds.specs.Worlds.{world_live}
+use Rattle.fkv_worlds.specs.Acts.{Acts, Steps}
+use Rattle.fkv_worlds.specs.Headline.{IsHeadline}
+
+-- the map with all these pairs, one after the other
+abbrev pub with_all : {K V : Type 0} → (K → K → Ordering) → PlainMap K V → List (K × V) → PlainMap K V
+with_all cmp m [] = m
+with_all cmp m (p ∷ ps) = with_all cmp (with_at cmp m p.0 (Some p.1)) ps
+
+-- a report of a world: its outcomes, its lives, and each live key with its value, keys rising
+pub record IsReport {K V I O : Type 0} (cmp : K → K → Ordering) (code : K → ℕ) (w : WorldView K V I O)
+    (told : List (Result (Outcome V O) Refused)) (lived : List (Life K V I O)) (pairs : List (K × V)) : Type 0 where
+  pub outcomes : told ≡ w.outcomes
+  pub lives : lived ≡ w.state.lives
+  pub map : (k : K) → lookup (is_at (cmp k)) pairs ≡ world_live cmp code w.state.partitions k
+  pub rising : IsStrictlySortedBy cmp (keys_of pairs)
+
+-- a step that was done, or refused, and kept
+pub record IsKept {K V I O : Type 0} (cmp : K → K → Ordering) (f : Meanings K V I O) (code : K → ℕ)
+    (old new : WorldView K V I O) (step : Step K V I) (r : Result (Outcome V O) Refused) : Type 0 where
+  pub acts : Acts cmp f code old.state new.state step r
+  pub outcomes : new.outcomes ≡ old.outcomes ++ r ∷ []
+
+-- the steps of a list, in turn, each of them kept
+abbrev pub RunsTo : {K V I O : Type 0} → (K → K → Ordering) → Meanings K V I O → (K → ℕ) → WorldView K V I O
+    → List (Step K V I) → WorldView K V I O → Type 0
+RunsTo cmp f code v [] w = w ≡ v
+RunsTo {K} {V} {I} {O} cmp f code v (s ∷ ss) w =
+    (u : WorldView K V I O)
+    × (r : Result (Outcome V O) Refused)
+    × IsKept cmp f code v u s r
+    × RunsTo cmp f code u ss w
+
+-- a replay: the steps in turn from a world with nothing in it, and the report of the world which they lead to
+pub record IsReplay {K V I O : Type 0} (cmp : K → K → Ordering) (f : Meanings K V I O) (code : K → ℕ) (config : Config)
+    (record_size : ℕ) (steps : List (Step K V I)) (told : List (Result (Outcome V O) Refused))
+    (lived : List (Life K V I O)) (pairs : List (K × V)) : Type 0 where
+  pub world : WorldView K V I O
+  pub ran : RunsTo cmp f code (empty_world config record_size) steps world
+  pub headline : IsHeadline cmp f code world
+  pub report : IsReport cmp code world told lived pairs
+
+-- the step that follows an outcome, if one does: `ready` goes on after Next, and `finish` installs after Build too
+abbrev pub step_after : {K V I O : Type 0} → Pursuit → Place → Outcome V O → Option (Step K V I)
+step_after pursuit place (Entered slot) = None
+step_after pursuit place Left = None
+step_after pursuit place (Issued context) = None
+step_after pursuit place Next = Some (Go place)
+step_after Ready place (Build source) = None
+step_after Finish place (Build source) = Some (Install place)
+step_after pursuit place (Done a) = None
+step_after pursuit place GivenUp = None
+
+abbrev pub follows : {K V I O : Type 0} → Pursuit → Place → Result (Outcome V O) Refused → Option (Step K V I)
+follows pursuit place (Ok x) = step_after pursuit place x
+follows pursuit place (Err e) = None
+
+-- at most so many steps, the first of them this one, each followed by the one that its outcome leads to; where another
+-- would follow the last of them, the pursuit is Stalled
+pub data Pursues {K V I O : Type 0} (cmp : K → K → Ordering) (f : Meanings K V I O) (code : K → ℕ) (pursuit : Pursuit)
+    (place : Place) (new : WorldView K V I O) (result : Result (Outcome V O) Refused) : ℕ → Step K V I → WorldView K V I
+    O → Type 0 where
+  stalls : (s : Step K V I) (v : WorldView K V I O)
+      → new ≡ v
+      → result ≡ Err Stalled
+      → Pursues cmp f code pursuit place new result zero s v
+  ends : (n : ℕ) (s : Step K V I) (v : WorldView K V I O)
+      → Steps cmp f code v new s result
+      → follows {K = K} {I = I} pursuit place result ≡ None
+      → Pursues cmp f code pursuit place new result (suc n) s v
+  goes_on : (n : ℕ) (s t : Step K V I) (v u : WorldView K V I O) (x : Result (Outcome V O) Refused)
+      → Steps cmp f code v u s x
+      → follows pursuit place x ≡ Some t
+      → Pursues cmp f code pursuit place new result n t u
+      → Pursues cmp f code pursuit place new result (suc n) s v

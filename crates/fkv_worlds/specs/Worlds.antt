@@ -1,0 +1,68 @@
+-- Worlds of several partitions: their live map, what their contexts ask, and how open contexts and lives are linked.
+use Rattle.std.specs.Prelude.{◌≡◌, ℕ, suc, ◌≤◌, ◌<◌, List, Option, Some, None, slice_get, length}
+use Rattle.std.specs.declared.cmp.Ordering.{Ordering}
+use Rattle.fkv_functions.specs.Meanings.{Meanings}
+use Rattle.fkv_functions.specs.Plain.{PlainMap, Same}
+use Rattle.fkv_operations.specs.After.{key_of}
+use Rattle.fkv_partition.specs.Views.{PartitionView, live_of, partition_of}
+use Rattle.fkv_partition.specs.Effect.{Asked, asked}
+use Rattle.fkv_worlds.specs.declared.lives.Life.{Life}
+use Rattle.fkv_worlds.specs.declared.steps.Place.{Place}
+use Rattle.fkv_worlds.specs.declared.lives.End.TheVariants.{Open}
+use Rattle.fkv_worlds.specs.Lives.{map_before}
+use Rattle.fkv_worlds.specs.Placed.{IsPlaced}
+
+-- the live map of the partition at a place; empty where there is none
+abbrev pub live_at : {K V I : Type 0} → (K → K → Ordering) → Option (PartitionView K V I) → PlainMap K V
+live_at cmp None = λ k. None
+live_at cmp (Some v) = live_of cmp v
+
+-- the live map of a world: each key's value in the partition that its hash names
+abbrev pub world_live : {K V I : Type 0} → (K → K → Ordering) → (K → ℕ) → List (PartitionView K V I) → PlainMap K V
+world_live cmp code views k = live_at cmp (slice_get views (partition_of (length views) (code k))) k
+
+abbrev pub asked_at : {K V I : Type 0} → Option (PartitionView K V I) → ℕ → ℕ → Option (Asked K V I)
+asked_at None slot c = None
+asked_at (Some v) slot c = asked v slot c
+
+-- what a context of a world asks
+abbrev pub asked_in : {K V I : Type 0} → List (PartitionView K V I) → Place → Option (Asked K V I)
+asked_in views w = asked_at (slice_get views w.partition) w.slot w.context
+
+-- the open life of what a context asks
+pub record IsOpenLife {K V I O : Type 0} (lives : List (Life K V I O)) (j : ℕ) (x : Asked K V I) : Type 0 where
+  pub life : Life K V I O
+  pub here : slice_get lives j ≡ Some life
+  pub op : life.op ≡ x.op
+  pub issue : life.issue ≡ x.number
+  pub unended : life.end ≡ Open
+
+-- each open context has a life of its own
+pub record IsLinked {K V I O : Type 0} (question : Place → Option (Asked K V I)) (life_at : Place → ℕ)
+    (lives : List (Life K V I O)) : Type 0 where
+  pub linked : (w : Place) (x : Asked K V I) → question w ≡ Some x → IsOpenLife lives (life_at w) x
+  pub apart : (w u : Place) (x y : Asked K V I)
+      → question w ≡ Some x
+      → question u ≡ Some y
+      → life_at w ≡ life_at u
+      → w ≡ u
+
+-- the partitions are numbered by their places, their moments are past, and the key of an open operation is its
+-- partition's
+pub record IsHoused {K V I : Type 0} (code : K → ℕ) (views : List (PartitionView K V I)) (now : ℕ) : Type 0 where
+  pub some : 0 < length views
+  pub numbered : (p : ℕ) (v : PartitionView K V I) → slice_get views p ≡ Some v → v.number ≡ p
+  pub counted : (p : ℕ) (v : PartitionView K V I) → slice_get views p ≡ Some v → v.count ≡ length views
+  pub past : (p : ℕ) (v : PartitionView K V I) → slice_get views p ≡ Some v → v.moment ≤ now
+  pub routed : (w : Place) (x : Asked K V I)
+      → asked_in views w ≡ Some x
+      → partition_of (length views) (code (key_of x.op)) ≡ w.partition
+
+-- what holds of every world: its lives are placed, its live records denote their map, and each open context has its
+-- life
+pub record IsWorld {K V I O : Type 0} (cmp : K → K → Ordering) (f : Meanings K V I O) (code : K → ℕ)
+    (views : List (PartitionView K V I)) (life_at : Place → ℕ) (lives : List (Life K V I O)) (now : ℕ) : Type 0 where
+  pub placed : IsPlaced cmp f lives now
+  pub denotes : Same (world_live cmp code views) (map_before cmp f lives (suc now))
+  pub linked : IsLinked (asked_in views) life_at lives
+  pub housed : IsHoused code views now

@@ -1,0 +1,66 @@
+-- What the definitions refuse, on small lists of lives: keys, values, inputs and outputs are numbers, the functions
+-- any.
+use Rattle.std.specs.Prelude.{◌≡◌, ◌≤◌, ◌<◌, ℕ, [], ◌∷◌, Some, None}
+use Rattle.std.specs.Ordering.{nat_cmp}
+use Rattle.fkv_functions.specs.Meanings.{Meanings}
+use Rattle.fkv_operations.specs.declared.operations.Op.{Op}
+use Rattle.fkv_operations.specs.declared.operations.Op.TheVariants.{Read, Upsert, Rmw, Delete}
+use Rattle.fkv_operations.specs.declared.operations.Answer.{Answer}
+use Rattle.fkv_operations.specs.declared.operations.Answer.TheVariants.{Value, Absent, Stored, Deleted}
+use Rattle.fkv_worlds.specs.declared.lives.Life.{Life}
+use Rattle.fkv_worlds.specs.declared.lives.End.TheVariants.{Open, Finished}
+use Rattle.fkv_worlds.specs.Lives.{map_before}
+use Rattle.fkv_worlds.specs.Placed.{IsPlaced}
+
+-- any functions on numbers
+abbrev pub Numbers : Type 0
+Numbers = Meanings ℕ ℕ ℕ ℕ
+
+-- an operation that was issued at one step, took effect at the next number and was answered at the last
+abbrev pub finished : Op ℕ ℕ ℕ → ℕ → ℕ → ℕ → Answer ℕ → Life ℕ ℕ ℕ ℕ
+finished op issue effect done a = record {
+  partition = 0;
+  session = 1;
+  number = 1;
+  op = op;
+  issue = issue;
+  end = Finished (record { effect = effect; done = done; answer = a });
+}
+
+abbrev pub opened : Op ℕ ℕ ℕ → ℕ → Life ℕ ℕ ℕ ℕ
+opened op issue = record { partition = 0; session = 1; number = 1; op = op; issue = issue; end = Open }
+
+-- an answer that nobody gave: a read of no value is Absent, a first update shows the first value, a blind write is
+-- Stored and a delete is Deleted
+abbrev pub RefusesInvented : Type 0
+RefusesInvented = (f : Numbers) (k i v now : ℕ) (a : Answer ℕ)
+    → (IsPlaced nat_cmp f (finished (Read k i) 1 2 2 a ∷ []) now → a ≡ Absent)
+    × (IsPlaced nat_cmp f (finished (Rmw k i) 1 2 2 a ∷ []) now → a ≡ Value (f.shown k i (f.first k i)))
+    × (IsPlaced nat_cmp f (finished (Upsert k v) 1 2 2 a ∷ []) now → a ≡ Stored)
+    × (IsPlaced nat_cmp f (finished (Delete k) 1 2 2 a ∷ []) now → a ≡ Deleted)
+
+-- an update that is left out, or counted twice; one that is open counts nothing; a delete after a blind write leaves
+-- nothing
+abbrev pub CountsOnce : Type 0
+CountsOnce = (f : Numbers) (k i v : ℕ) (a b : Answer ℕ)
+    → (map_before nat_cmp f (finished (Rmw k i) 1 2 2 a ∷ []) 2 k ≡ None)
+    × (map_before nat_cmp f (finished (Rmw k i) 1 2 2 a ∷ []) 3 k ≡ Some (f.first k i))
+    × (map_before nat_cmp f (finished (Rmw k i) 1 2 2 a ∷ []) 4 k ≡ Some (f.first k i))
+    × (map_before nat_cmp f (opened (Rmw k i) 1 ∷ []) 4 k ≡ None)
+    × (map_before nat_cmp f (finished (Upsert k v) 1 2 2 a ∷ finished (Delete k) 1 4 4 b ∷ []) 4 k ≡ Some v)
+    × (map_before nat_cmp f (finished (Upsert k v) 1 2 2 a ∷ finished (Delete k) 1 4 4 b ∷ []) 5 k ≡ None)
+
+-- two lives with their effects at one step
+abbrev pub RefusesSharedSteps : Type 0
+RefusesSharedSteps = (f : Numbers) (p q : Op ℕ ℕ ℕ) (i j d e s now : ℕ) (a b : Answer ℕ)
+    → IsPlaced nat_cmp f (finished p i s d a ∷ finished q j s e b ∷ []) now → ⊥
+
+-- an effect at the issue, before it, or after the answer; an answer at a step to come
+abbrev pub RefusesOtherTimes : Type 0
+RefusesOtherTimes = (f : Numbers) (op : Op ℕ ℕ ℕ) (issue effect done now : ℕ) (a : Answer ℕ)
+    → IsPlaced nat_cmp f (finished op issue effect done a ∷ []) now → (issue < effect) × (effect ≤ done) × (done ≤ now)
+
+-- an update that takes effect before it is answered
+abbrev pub RefusesEarlyUpdates : Type 0
+RefusesEarlyUpdates = (f : Numbers) (k i issue effect done now : ℕ) (a : Answer ℕ)
+    → IsPlaced nat_cmp f (finished (Rmw k i) issue effect done a ∷ []) now → effect ≡ done

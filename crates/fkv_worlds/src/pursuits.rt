@@ -1,0 +1,84 @@
+//! Steps that are repeated until an operation is where it is wanted.
+ghost use Rattle.std.specs.Prelude.{◌≡◌};
+ghost use Rattle.fkv_worlds.specs.declared.steps.Step.TheVariants.{Go};
+ghost use Rattle.fkv_worlds.specs.declared.pursuits.Pursuit.TheVariants.{Ready, Finish};
+ghost use Rattle.fkv_worlds.specs.Headline.{IsHeadline};
+ghost use Rattle.fkv_worlds.specs.Reports.{follows, Pursues};
+
+use crate::outcomes::{Outcome, OutcomeOf};
+use crate::steps::{Place, Step, StepOf};
+use crate::worlds::World;
+use fkv_functions::{Functions, Refused};
+
+/// The steps after which a pursuit is stalled.
+pub const LIMIT: u64 = 10_000;
+
+/// How far an operation is pursued.
+#[derive(Clone, Copy, PartialEq, Eq, Debug)]
+pub enum Pursuit {
+    /// Until it is not to go on: it is done, or asks for a value.
+    Ready,
+    /// Until it is done.
+    Finish,
+}
+
+/// The step that follows a step with this result, if one does.
+fn following<F: Functions>(
+    pursuit: Pursuit,
+    place: Place,
+    told: &Result<OutcomeOf<F>, Refused>,
+) -> Option<StepOf<F>>
+    ensures { result ≡ follows pursuit place told.now }
+{
+    match told {
+        Ok(Outcome::Next) => Some(Step::Go(place)),
+        Ok(Outcome::Build(_)) => match pursuit {
+            Pursuit::Ready => None,
+            Pursuit::Finish => Some(Step::Install(place)),
+        },
+        _ => None,
+    }
+}
+
+impl<F: Functions> World<F> {
+    /// Goes on with an operation until it answers anything but `Next`, and answers that. It is `Stalled`
+    /// after 10,000 steps, and then the operation stays open as it is; no step tells that, so it is not
+    /// among the outcomes. Else refused as [`World::step`] is.
+    pub fn ready(&mut self, functions: &F, place: Place) -> Result<OutcomeOf<F>, Refused>
+        ensures pursues { Pursues F.Key.cmp F.meaning F.code Ready place self.new result 10000 (Go place) self.old }
+        ensures headline { IsHeadline F.Key.cmp F.meaning F.code self.new }
+    {
+        self.pursue(functions, Pursuit::Ready, place)
+    }
+
+    /// Goes on with an operation, and installs what it asks for, until it is done or refused, and answers
+    /// that. `Stalled` as in [`World::ready`].
+    pub fn finish(&mut self, functions: &F, place: Place) -> Result<OutcomeOf<F>, Refused>
+        ensures pursues { Pursues F.Key.cmp F.meaning F.code Finish place self.new result 10000 (Go place) self.old }
+        ensures headline { IsHeadline F.Key.cmp F.meaning F.code self.new }
+    {
+        self.pursue(functions, Pursuit::Finish, place)
+    }
+
+    /// Does steps, beginning with a `Go`, each followed by the one that its result leads to.
+    fn pursue(
+        &mut self,
+        functions: &F,
+        pursuit: Pursuit,
+        place: Place,
+    ) -> Result<OutcomeOf<F>, Refused>
+        ensures pursues { Pursues F.Key.cmp F.meaning F.code pursuit place self.new result 10000 (Go place) self.old }
+        ensures headline { IsHeadline F.Key.cmp F.meaning F.code self.new }
+    {
+        let mut step = Step::Go(place);
+        for _ in 0..LIMIT {
+            let told = self.step(functions, step);
+            let Some(next) = following::<F>(pursuit, place, &told) else {
+                return told;
+            };
+            step = next;
+        }
+        self.headline();
+        Err(Refused::Stalled)
+    }
+}

@@ -1,0 +1,51 @@
+//! Lists of steps, replayed from nothing.
+ghost use Rattle.std.specs.Prelude.{◌≡◌, ◌≢◌, ◌⊎◌, Err, IfOk, IfErr, OnOk};
+ghost use Rattle.fkv_records.specs.Records.{size_of};
+ghost use Rattle.fkv_partition.specs.Limits.{IsWithinLimits};
+ghost use Rattle.fkv_worlds.specs.Reports.{RunsTo, IsReplay};
+
+use crate::reports::ReportOf;
+use crate::steps::StepOf;
+use crate::worlds::World;
+use fkv_functions::{Functions, Refused};
+use fkv_partition::Config;
+use std::alloc::Global;
+
+/// Does the steps in turn, each of them kept. Refused: `NoMemory` where an outcome could not be kept.
+fn step_all<F: Functions>(
+    world: &mut World<F>,
+    functions: &F,
+    steps: &[StepOf<F>],
+) -> Result<(), Refused>
+    ensures ok { OnOk result (RunsTo F.Key.cmp F.meaning F.code world.old steps.now world.new) }
+    ensures only { IfErr result (λ refused. refused ≡ Refused.NoMemory) }
+{
+    for step in steps {
+        let Some(_told) = world.try_step(functions, *step) else {
+            return Err(Refused::NoMemory);
+        };
+    }
+    Ok(())
+}
+
+/// Does the steps in turn in a world with nothing in it, and reports what became of them. A step that is
+/// refused is an outcome like the others, and the replay goes on. Refused, in this order: `BadConfig`
+/// where a number of the configuration is outside its limits, `NoMemory`.
+pub fn replay<F: Functions>(
+    alloc: Global,
+    config: &Config,
+    functions: &F,
+    steps: &[StepOf<F>],
+) -> Result<ReportOf<F>, Refused>
+    ensures ok { IfOk result (λ r. IsReplay F.Key.cmp F.meaning F.code config.now (size_of F.Key.SIZE F.Value.SIZE) steps.now
+        r.outcomes.items r.lives.items r.map.items) }
+    ensures good { result ≢ Err Refused.BadConfig → IsWithinLimits config.now (size_of F.Key.SIZE F.Value.SIZE) }
+    ensures bad { result ≡ Err Refused.BadConfig → ¬ IsWithinLimits config.now (size_of F.Key.SIZE F.Value.SIZE) }
+    ensures only { IfErr result (λ refused. (refused ≡ Refused.BadConfig) ⊎ (refused ≡ Refused.NoMemory)) }
+{
+    let mut world = World::new(alloc, config)?;
+    step_all(&mut world, functions, steps)?;
+    world.headline();
+    let report = world.report(alloc)?;
+    Ok(report)
+}

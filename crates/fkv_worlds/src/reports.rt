@@ -1,0 +1,117 @@
+//! What a world reports: its outcomes, its lives, and the live map of all partitions.
+ghost use Rattle.std.specs.Prelude.{◌≡◌, IfOk, IfErr, OnOk};
+ghost use Rattle.std.specs.BTreeMap.{get, is_at};
+ghost use Rattle.std.specs.Map.{lookup, keys_of};
+ghost use Rattle.std.specs.List.Sorted.{IsStrictlySortedBy};
+ghost use Rattle.fkv_functions.specs.Plain.{Same, with_at};
+ghost use Rattle.fkv_worlds.specs.Worlds.{world_live};
+ghost use Rattle.fkv_worlds.specs.Reports.{with_all, IsReport};
+
+use crate::lives::Life;
+use crate::outcomes::Outcome;
+use crate::states::State;
+use crate::worlds::World;
+use fkv_functions::{Functions, Refused};
+use fkv_partition::pairs_of;
+use std::alloc::Global;
+use std::collections::BTreeMap;
+
+/// What became of a list of steps.
+#[derive(Drop)]
+pub struct Report<K, V, I, O> {
+    /// The outcome of each step, refused ones included, in order.
+    pub outcomes: Vec<Result<Outcome<V, O>, Refused>>,
+    /// What became of each operation that was issued, in the order of the issues.
+    pub lives: Vec<Life<K, V, I, O>>,
+    /// Each live key of all partitions with its value, keys rising.
+    pub map: Vec<(K, V)>,
+}
+
+/// The reports of one type of functions.
+pub type ReportOf<F> = Report<
+    <F as Functions>::Key,
+    <F as Functions>::Value,
+    <F as Functions>::Input,
+    <F as Functions>::Output,
+>;
+
+/// Gives a key this value. Refused: `NoMemory`.
+fn put<K: Ord + Drop, V: Drop>(map: &mut BTreeMap<K, V>, key: K, value: V) -> Result<(), Refused>
+    ensures ok { OnOk result (Same (get K.cmp map.new) (with_at K.cmp (get K.cmp map.old) key (Some value))) }
+    ensures only { IfErr result (λ refused. refused ≡ Refused.NoMemory) }
+{
+    match map.insert(key, value) {
+        Ok(_) => Ok(()),
+        Err(_) => Err(Refused::NoMemory),
+    }
+}
+
+/// Gives each of these keys its value. Refused: `NoMemory`.
+fn put_all<K: Ord + Copy + Drop, V: Copy + Drop>(
+    map: &mut BTreeMap<K, V>,
+    pairs: &[(K, V)],
+) -> Result<(), Refused>
+    ensures ok { OnOk result (Same (get K.cmp map.new) (with_all K.cmp (get K.cmp map.old) pairs.now)) }
+    ensures only { IfErr result (λ refused. refused ≡ Refused.NoMemory) }
+{
+    for pair in pairs {
+        put(map, pair.0, pair.1)?;
+    }
+    Ok(())
+}
+
+/// A list with the same items. Refused: `NoMemory`.
+fn copied<T: Copy>(alloc: Global, items: &[T]) -> Result<Vec<T>, Refused>
+    ensures ok { IfOk result (λ copy. copy.items ≡ items.now) }
+    ensures only { IfErr result (λ refused. refused ≡ Refused.NoMemory) }
+{
+    match Vec::from_slice(alloc, items) {
+        Ok(copy) => Ok(copy),
+        Err(_) => Err(Refused::NoMemory),
+    }
+}
+
+impl<F: Functions> State<F> {
+    /// Each live key of all partitions with its value, keys rising. Refused: `NoMemory`.
+    pub fn live(&self, alloc: Global) -> Result<Vec<(F::Key, F::Value)>, Refused>
+        ensures map { IfOk result (λ pairs. (k : F.Key)
+            → lookup (is_at (F.Key.cmp k)) pairs.items ≡ world_live F.Key.cmp F.code self.now.partitions k) }
+        ensures rising { IfOk result (λ pairs. IsStrictlySortedBy F.Key.cmp (keys_of pairs.items)) }
+        ensures only { IfErr result (λ refused. refused ≡ Refused.NoMemory) }
+    {
+        let mut map = BTreeMap::new(alloc);
+        for partition in &self.partitions {
+            let pairs = partition.live(alloc)?;
+            put_all(&mut map, &pairs)?;
+        }
+        let _ordered = map.len();
+        pairs_of(alloc, &map)
+    }
+}
+
+impl<F: Functions> World<F> {
+    /// Each live key of all partitions with its value, keys rising. Refused: `NoMemory`.
+    pub fn live(&self, alloc: Global) -> Result<Vec<(F::Key, F::Value)>, Refused>
+        ensures map { IfOk result (λ pairs. (k : F.Key)
+            → lookup (is_at (F.Key.cmp k)) pairs.items ≡ world_live F.Key.cmp F.code self.now.state.partitions k) }
+        ensures rising { IfOk result (λ pairs. IsStrictlySortedBy F.Key.cmp (keys_of pairs.items)) }
+        ensures only { IfErr result (λ refused. refused ≡ Refused.NoMemory) }
+    {
+        self.state.live(alloc)
+    }
+
+    /// The report of the world as it is. Refused: `NoMemory`.
+    pub fn report(&self, alloc: Global) -> Result<ReportOf<F>, Refused>
+        ensures ok { IfOk result (λ r. IsReport F.Key.cmp F.code self.now r.outcomes.items r.lives.items r.map.items) }
+        ensures only { IfErr result (λ refused. refused ≡ Refused.NoMemory) }
+    {
+        let outcomes = copied(alloc, &self.outcomes)?;
+        let lives = copied(alloc, self.state.lives())?;
+        let map = self.state.live(alloc)?;
+        Ok(Report {
+            outcomes,
+            lives,
+            map,
+        })
+    }
+}

@@ -1,0 +1,365 @@
+//! The state of a world, and what each step does to it.
+ghost use Rattle.std.specs.Prelude.{◌≢◌, ◌⊎◌, ◌*◌, replicate, ◌≡◌, ◌+◌, ◌-◌, ◌^◌, ◌<◌, ◌↔◌, Some, None, Err, IfOk, IfErr, length};
+ghost use Rattle.fkv_records.specs.Records.{size_of};
+ghost use Rattle.fkv_partition.specs.Limits.{IsWithinLimits};
+ghost use Rattle.fkv_worlds.specs.States.{empty_partitions, empty_state, question_in};
+ghost use Rattle.fkv_worlds.specs.Sound.{IsState};
+ghost use Rattle.fkv_worlds.specs.Acts.{Acts};
+ghost use Rattle.fkv_worlds.specs.Moments.{IsMomentIn, IsUntimely};
+ghost use Rattle.fkv_worlds.specs.declared.steps.Step.TheVariants.{Enter, Leave, Issue, Go, Install, GiveUp};
+
+use crate::lives::{End, LifeOf};
+use crate::outcomes::{Outcome, OutcomeOf};
+use crate::steps::{Place, Step, StepOf};
+use crate::tables::{
+    CONTEXT_ROWS, SLOTS, Seat, begin_life, end_life, life_at, note_progress, question_at,
+    row_of_slot,
+};
+use fkv_functions::{Ask, Built, Functions, Refused};
+use fkv_operations::{Clock, OpOf};
+use fkv_partition::{Config, Partition};
+use std::alloc::Global;
+use std::marker::Model;
+
+/// The partitions, tables, lives and last moment of a world.
+#[derive(Drop)]
+pub struct State<F: Functions> {
+    pub(crate) partitions: Vec<Partition<F>>,
+    begun: Vec<usize>,
+    questions: Vec<Option<Ask<F::Key, F::Value, F::Input>>>,
+    seats: Vec<Seat>,
+    enters: Vec<u64>,
+    lives: Vec<LifeOf<F>>,
+    moment: u64,
+}
+
+impl<F: Functions> Model for State<F> {
+    ghost use Rattle.fkv_worlds.specs.States.{StateView, state_of};
+    ghost use Rattle.fkv_worlds.specs.Sound.{IsState};
+
+    ghost Value = { StateView F.Key F.Value F.Input F.Output };
+
+    ghost view = { λ s. state_of s.partitions.items s.begun.items s.questions.items s.seats.items s.enters.items
+        s.lives.items s.moment };
+
+    ghost invariant = { λ s. IsState F.Key.cmp F.meaning F.code (state_of s.partitions.items s.begun.items s.questions.items
+        s.seats.items s.enters.items s.lives.items s.moment) };
+}
+
+/// The moment after this one, or `Worn` after the last.
+fn moment_after(moment: u64) -> Result<u64, Refused>
+    ensures ok { IfOk result (λ now. now ≡ moment + 1) }
+    ensures worn { (result ≡ Err Refused.Worn) ↔ (moment ≡ 2 ^ 64 - 1) }
+    ensures only { IfErr result (λ refused. refused ≡ Refused.Worn) }
+{
+    Clock::starting(moment).tick()
+}
+
+/// Partitions with nothing in them, one of each number. Refused: `NoMemory`.
+fn empty_partitions<F: Functions>(
+    alloc: Global,
+    config: &Config,
+    count: u64,
+) -> Result<Vec<Partition<F>>, Refused>
+    requires limits { IsWithinLimits config.now (size_of F.Key.SIZE F.Value.SIZE) }
+    requires count { count ≡ 2 ^ config.now.partition_bits }
+    ensures ok { IfOk result (λ partitions. partitions.items ≡ empty_partitions config.now (size_of F.Key.SIZE F.Value.SIZE)
+        count) }
+    ensures only { IfErr result (λ refused. refused ≡ Refused.NoMemory) }
+{
+    let mut partitions = Vec::new(alloc);
+    for number in 0..count {
+        let Ok(partition) = Partition::new(alloc, config, number) else {
+            return Err(Refused::NoMemory);
+        };
+        let Ok(()) = partitions.push(partition) else {
+            return Err(Refused::NoMemory);
+        };
+    }
+    Ok(partitions)
+}
+
+/// A table of this many rows, all the same. Refused: `NoMemory`.
+fn table<T: Copy>(alloc: Global, rows: usize, row: T) -> Result<Vec<T>, Refused>
+    ensures ok { IfOk result (λ table. table.items ≡ replicate rows row) }
+    ensures only { IfErr result (λ refused. refused ≡ Refused.NoMemory) }
+{
+    let mut table = Vec::new(alloc);
+    let Ok(()) = table.resize(rows, row) else {
+        return Err(Refused::NoMemory);
+    };
+    Ok(table)
+}
+
+impl<F: Functions> State<F> {
+    /// The state before the first step. Refused, in this order: `BadConfig` where a number of the
+    /// configuration is outside its limits, `NoMemory`.
+    pub fn new(alloc: Global, config: &Config) -> Result<Self, Refused>
+        ensures ok { IfOk result (λ state. state ≡ empty_state config.now (size_of F.Key.SIZE F.Value.SIZE)) }
+        ensures good { result ≢ Err Refused.BadConfig → IsWithinLimits config.now (size_of F.Key.SIZE F.Value.SIZE) }
+        ensures bad { result ≡ Err Refused.BadConfig → ¬ IsWithinLimits config.now (size_of F.Key.SIZE F.Value.SIZE) }
+        ensures only { IfErr result (λ refused. (refused ≡ Refused.BadConfig) ⊎ (refused ≡ Refused.NoMemory)) }
+    {
+        if !config.is_within_limits::<F::Key, F::Value>() {
+            return Err(Refused::BadConfig);
+        }
+        let count = config.partitions();
+        let partitions = empty_partitions(alloc, config, count)?;
+        let rows = count as usize;
+        let begun = table(alloc, rows * CONTEXT_ROWS, 0)?;
+        let questions = table(alloc, rows * CONTEXT_ROWS, None)?;
+        let nobody = Seat {
+            session: 0,
+            issues: 0,
+        };
+        let seats = table(alloc, rows * SLOTS, nobody)?;
+        let enters = table(alloc, rows, 0)?;
+        Ok(State {
+            partitions,
+            begun,
+            questions,
+            seats,
+            enters,
+            lives: Vec::new(alloc),
+            moment: 0,
+        })
+    }
+
+    /// The moment of a step in this partition. Refused, in this order: `Unknown` where there is no such
+    /// partition, `Worn` where no moment is left.
+    fn moment_in(&self, partition: usize) -> Result<u64, Refused>
+        ensures ok { IfOk result (IsMomentIn self.now partition) }
+        ensures err { IfErr result (IsUntimely self.now partition) }
+    {
+        if partition >= self.partitions.len() {
+            return Err(Refused::Unknown);
+        }
+        moment_after(self.moment)
+    }
+
+    /// Enters a session.
+    pub fn enter(&mut self, partition: usize) -> Result<OutcomeOf<F>, Refused>
+        ensures does { Acts F.Key.cmp F.meaning F.code self.old self.new (Enter partition) result }
+    {
+        match self.moment_in(partition) {
+            Ok(now) => self.enter_at(partition, now),
+            Err(refused) => Err(refused),
+        }
+    }
+
+    fn enter_at(&mut self, partition: usize, now: u64) -> Result<OutcomeOf<F>, Refused>
+        requires { IsMomentIn self.old partition now }
+        ensures does { Acts F.Key.cmp F.meaning F.code self.old self.new (Enter partition) result }
+    {
+        let slot = self.partitions[partition].enter(now)?;
+        let session = self.enters[partition] + 1;
+        let row = row_of_slot(partition, slot);
+        self.enters[partition] = session;
+        self.seats[row] = Seat { session, issues: 0 };
+        self.moment = now;
+        Ok(Outcome::Entered(slot))
+    }
+
+    /// Leaves a session.
+    pub fn leave(&mut self, partition: usize, slot: usize) -> Result<OutcomeOf<F>, Refused>
+        ensures does { Acts F.Key.cmp F.meaning F.code self.old self.new (Leave partition slot) result }
+    {
+        match self.moment_in(partition) {
+            Ok(now) => self.leave_at(partition, slot, now),
+            Err(refused) => Err(refused),
+        }
+    }
+
+    fn leave_at(&mut self, partition: usize, slot: usize, now: u64) -> Result<OutcomeOf<F>, Refused>
+        requires { IsMomentIn self.old partition now }
+        ensures does { Acts F.Key.cmp F.meaning F.code self.old self.new (Leave partition slot) result }
+    {
+        self.partitions[partition].leave(slot, now)?;
+        self.moment = now;
+        Ok(Outcome::Left)
+    }
+
+    /// Issues an operation.
+    pub fn issue(
+        &mut self,
+        functions: &F,
+        partition: usize,
+        slot: usize,
+        op: OpOf<F>,
+    ) -> Result<OutcomeOf<F>, Refused>
+        ensures does { Acts F.Key.cmp F.meaning F.code self.old self.new (Issue partition slot op) result }
+    {
+        match self.moment_in(partition) {
+            Ok(now) => self.issue_at(functions, partition, slot, op, now),
+            Err(refused) => Err(refused),
+        }
+    }
+
+    fn issue_at(
+        &mut self,
+        functions: &F,
+        partition: usize,
+        slot: usize,
+        op: OpOf<F>,
+        now: u64,
+    ) -> Result<OutcomeOf<F>, Refused>
+        requires { IsMomentIn self.old partition now }
+        ensures does { Acts F.Key.cmp F.meaning F.code self.old self.new (Issue partition slot op) result }
+    {
+        let Ok(()) = self.lives.try_reserve(1) else {
+            return Err(Refused::NoMemory);
+        };
+        let context = self.partitions[partition].issue(slot, op, functions, now)?;
+        let place = Place {
+            partition,
+            slot,
+            context,
+        };
+        begin_life(
+            &mut self.lives,
+            &mut self.seats,
+            &mut self.begun,
+            &mut self.questions,
+            place,
+            op,
+            now,
+        );
+        self.moment = now;
+        Ok(Outcome::Issued(context))
+    }
+
+    /// Goes on with an operation.
+    pub fn go(&mut self, functions: &F, place: Place) -> Result<OutcomeOf<F>, Refused>
+        ensures does { Acts F.Key.cmp F.meaning F.code self.old self.new (Go place) result }
+    {
+        match self.moment_in(place.partition) {
+            Ok(now) => self.go_at(functions, place, now),
+            Err(refused) => Err(refused),
+        }
+    }
+
+    fn go_at(&mut self, functions: &F, place: Place, now: u64) -> Result<OutcomeOf<F>, Refused>
+        requires { IsMomentIn self.old place.partition now }
+        ensures does { Acts F.Key.cmp F.meaning F.code self.old self.new (Go place) result }
+    {
+        let partition = place.partition;
+        let progress = self.partitions[partition].go(place.slot, place.context, functions, now)?;
+        self.moment = now;
+        Ok(note_progress(
+            &mut self.lives,
+            &self.begun,
+            &mut self.questions,
+            place,
+            progress,
+            now,
+        ))
+    }
+
+    /// Installs what an operation asked for last.
+    pub fn install(&mut self, functions: &F, place: Place) -> Result<OutcomeOf<F>, Refused>
+        ensures does { Acts F.Key.cmp F.meaning F.code self.old self.new (Install place) result }
+    {
+        if place.partition >= self.partitions.len() {
+            return Err(Refused::Unknown);
+        }
+        let Some(ask) = question_at(&self.questions, place) else {
+            return Err(self.why_unasked(place));
+        };
+        match self.moment_in(place.partition) {
+            Ok(now) => self.install_at(functions, place, ask, now),
+            Err(refused) => Err(refused),
+        }
+    }
+
+    /// Why there is nothing to install: `NotReady` where an operation is open there, and `Unknown` else.
+    fn why_unasked(&self, place: Place) -> Refused
+        requires there { place.partition < length self.now.partitions }
+        requires unasked { question_in self.now.questions place ≡ None }
+        ensures { Acts F.Key.cmp F.meaning F.code self.now self.now (Install place) (Err result) }
+    {
+        match self.partitions[place.partition].asked(place.slot, place.context) {
+            Ok(_) => Refused::NotReady,
+            Err(_) => Refused::Unknown,
+        }
+    }
+
+    fn install_at(
+        &mut self,
+        functions: &F,
+        place: Place,
+        ask: Ask<F::Key, F::Value, F::Input>,
+        now: u64,
+    ) -> Result<OutcomeOf<F>, Refused>
+        requires moment { IsMomentIn self.old place.partition now }
+        requires asked { question_in self.old.questions place ≡ Some ask }
+        ensures does { Acts F.Key.cmp F.meaning F.code self.old self.new (Install place) result }
+    {
+        let partition = place.partition;
+        let built = Built::make(functions, ask);
+        let progress = self.partitions[partition].install(
+            place.slot,
+            place.context,
+            built,
+            functions,
+            now,
+        )?;
+        self.moment = now;
+        Ok(note_progress(
+            &mut self.lives,
+            &self.begun,
+            &mut self.questions,
+            place,
+            progress,
+            now,
+        ))
+    }
+
+    /// Gives up an operation.
+    pub fn give_up(&mut self, place: Place) -> Result<OutcomeOf<F>, Refused>
+        ensures does { Acts F.Key.cmp F.meaning F.code self.old self.new (GiveUp place) result }
+    {
+        match self.moment_in(place.partition) {
+            Ok(now) => self.give_up_at(place, now),
+            Err(refused) => Err(refused),
+        }
+    }
+
+    fn give_up_at(&mut self, place: Place, now: u64) -> Result<OutcomeOf<F>, Refused>
+        requires { IsMomentIn self.old place.partition now }
+        ensures does { Acts F.Key.cmp F.meaning F.code self.old self.new (GiveUp place) result }
+    {
+        self.partitions[place.partition].give_up(place.slot, place.context, now)?;
+        let life = life_at(&self.begun, place);
+        self.moment = now;
+        end_life(&mut self.lives, life, End::GivenUp);
+        Ok(Outcome::GivenUp)
+    }
+
+    /// Does a step.
+    pub fn act(&mut self, functions: &F, step: StepOf<F>) -> Result<OutcomeOf<F>, Refused>
+        ensures does { Acts F.Key.cmp F.meaning F.code self.old self.new step result }
+    {
+        match step {
+            Step::Enter(partition) => self.enter(partition),
+            Step::Leave(partition, slot) => self.leave(partition, slot),
+            Step::Issue(partition, slot, op) => self.issue(functions, partition, slot, op),
+            Step::Go(place) => self.go(functions, place),
+            Step::Install(place) => self.install(functions, place),
+            Step::GiveUp(place) => self.give_up(place),
+        }
+    }
+
+    /// The lives, in the order of the issues.
+    pub fn lives(&self) -> &[LifeOf<F>]
+        ensures { result.now ≡ self.now.lives }
+    {
+        self.lives.as_slice()
+    }
+
+    /// What holds of every state.
+    pub fn sound(&self)
+        ensures { IsState F.Key.cmp F.meaning F.code self.now }
+    {
+        let _moment = self.moment;
+    }
+}

@@ -1,0 +1,97 @@
+//! A world: partitions that are driven by single steps, with what became of each operation.
+ghost use Rattle.std.specs.Prelude.{◌≡◌, ◌≢◌, ◌⊎◌, ◌∷◌, [], ◌++◌, Err, IfOk, IfErr, IfSome, IfNone};
+ghost use Rattle.fkv_records.specs.Records.{size_of};
+ghost use Rattle.fkv_partition.specs.Limits.{IsWithinLimits};
+ghost use Rattle.fkv_worlds.specs.States.{empty_world};
+ghost use Rattle.fkv_worlds.specs.Acts.{Acts, Steps};
+ghost use Rattle.fkv_worlds.specs.Headline.{IsHeadline};
+
+use crate::outcomes::OutcomeOf;
+use crate::states::State;
+use crate::steps::StepOf;
+use fkv_functions::{Functions, Refused};
+use fkv_partition::Config;
+use std::alloc::Global;
+use std::marker::Model;
+
+/// Partitions that are driven by single steps. Each step that is not refused takes the next moment, its
+/// number from 1. The world keeps what became of each operation that was issued (its lives), and the
+/// outcome of each call of [`World::step`], refused ones included.
+#[derive(Drop)]
+pub struct World<F: Functions> {
+    pub(crate) state: State<F>,
+    pub(crate) outcomes: Vec<Result<OutcomeOf<F>, Refused>>,
+}
+
+impl<F: Functions> Model for World<F> {
+    ghost use Rattle.fkv_worlds.specs.States.{WorldView};
+    ghost use Rattle.fkv_worlds.specs.Told.{IsAccount, taken};
+
+    ghost Value = { WorldView F.Key F.Value F.Input F.Output };
+
+    ghost view = { λ w. record { state = w.state; outcomes = w.outcomes.items } };
+
+    ghost invariant = { λ w. IsAccount w.state.lives (taken w.outcomes.items) w.state.moment };
+}
+
+impl<F: Functions> World<F> {
+    /// A world before its first step. Refused, in this order: `BadConfig` where a number of the
+    /// configuration is outside its limits, `NoMemory`.
+    pub fn new(alloc: Global, config: &Config) -> Result<Self, Refused>
+        ensures ok { IfOk result (λ world. world ≡ empty_world config.now (size_of F.Key.SIZE F.Value.SIZE)) }
+        ensures good { result ≢ Err Refused.BadConfig → IsWithinLimits config.now (size_of F.Key.SIZE F.Value.SIZE) }
+        ensures bad { result ≡ Err Refused.BadConfig → ¬ IsWithinLimits config.now (size_of F.Key.SIZE F.Value.SIZE) }
+        ensures only { IfErr result (λ refused. (refused ≡ Refused.BadConfig) ⊎ (refused ≡ Refused.NoMemory)) }
+    {
+        let state = State::new(alloc, config)?;
+        Ok(World {
+            state,
+            outcomes: Vec::new(alloc),
+        })
+    }
+
+    /// Does a step and keeps its outcome; nothing is done where there is no memory to keep it.
+    pub(crate) fn try_step(
+        &mut self,
+        functions: &F,
+        step: StepOf<F>,
+    ) -> Option<Result<OutcomeOf<F>, Refused>>
+        ensures acts { IfSome result (λ r. Acts F.Key.cmp F.meaning F.code self.old.state self.new.state step r) }
+        ensures kept { IfSome result (λ r. self.new.outcomes ≡ self.old.outcomes ++ r ∷ []) }
+        ensures none { IfNone result (self.new ≡ self.old) }
+    {
+        let Ok(()) = self.outcomes.try_reserve(1) else {
+            return None;
+        };
+        self.state.sound();
+        let result = self.state.act(functions, step);
+        let Ok(()) = self.outcomes.push(result) else {
+            return None;
+        };
+        Some(result)
+    }
+
+    /// Does a step and answers its outcome, which is kept. Refused, in this order: `NoMemory` where there
+    /// is no memory to keep the outcome, and then nothing is done; `Unknown` where there is no such
+    /// partition; `NotReady` where nothing was asked for that is to be installed; `Worn` where no moment
+    /// is left; `NoMemory` where there is none for the life of an issue; and what the partition refuses.
+    /// A refused step changes nothing but the list of outcomes.
+    pub fn step(&mut self, functions: &F, step: StepOf<F>) -> Result<OutcomeOf<F>, Refused>
+        ensures does { Steps F.Key.cmp F.meaning F.code self.old self.new step result }
+        ensures headline { IsHeadline F.Key.cmp F.meaning F.code self.new }
+    {
+        let Some(result) = self.try_step(functions, step) else {
+            self.headline();
+            return Err(Refused::NoMemory);
+        };
+        self.headline();
+        result
+    }
+
+    /// What holds of every world: the headline.
+    pub fn headline(&self)
+        ensures { IsHeadline F.Key.cmp F.meaning F.code self.now }
+    {
+        self.state.sound();
+    }
+}
