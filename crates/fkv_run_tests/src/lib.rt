@@ -12,4 +12,6 @@ mod operations;
 #[cfg(test)]
 mod partition;
 #[cfg(test)]
+mod scripts;
+#[cfg(test)]
 mod worlds;
