@@ -25,8 +25,3 @@ pub use replays::replay;
 pub use reports::{Report, ReportOf};
 pub use steps::{Place, Step, StepOf};
 pub use worlds::World;
-
-#[cfg(test)]
-mod tests;
-#[cfg(test)]
-mod world_tests;

@@ -1,9 +1,4 @@
-//! Records over three pages, a chain, the places at the top, and refused growths.
-ghost use Rattle.std.specs.Prelude.{List, IfOk};
-ghost use Rattle.fkv_functions.specs.declared.names.Name.{Name};
-ghost use Rattle.fkv_hybrid.specs.declared.entries.Entry.{Entry};
-ghost use Rattle.fkv_hybrid.specs.Chains.{IsChainFrom};
-
+//! Records over three pages, the places at the top, and refused growths. Chains are followed where records are.
 use fkv_functions::{Fixed, Name, Refused};
 use fkv_hybrid::{Entry, Log};
 use fkv_records::{Address, END, Shape, record_size};
@@ -142,53 +137,4 @@ fn the_top(rt: HostRuntime) {
 #[test]
 fn refused_growths_are_called_again(rt: HostRuntime) {
     assert!(rt; fills_three_pages(rt.alloc(), &PLACES_OF_56, 5i128));
-}
-
-/// Appends a record behind an entry of a chain, which so grows by it.
-fn append_to_chain<V: Fixed>(
-    log: &mut Log<Name, V>,
-    previous: u64,
-    key: Name,
-    value: Option<V>,
-) -> Result<u64, Refused>
-    requires { (es : List (Entry Name V)) × IsChainFrom log.old.begin log.old.text previous es }
-    ensures { IfOk result (λ a. (es : List (Entry Name V)) × IsChainFrom log.new.begin log.new.text a es) }
-{
-    log.known();
-    let tail = log.tail();
-    if previous != 1 && (previous < 64 || previous >= tail) {
-        return Err(Refused::Unknown);
-    }
-    let address = log.append(previous, key, value)?;
-    Ok(address)
-}
-
-/// Three keys in turn over three pages, in one chain: whether each key's last entry is found, and another key is not.
-fn finds_on_a_chain(alloc: Global) -> Option<bool> {
-    let keys = [Name::new(b"a")?, Name::new(b"b")?, Name::new(b"c")?];
-    let other = Name::new(b"d")?;
-    let mut log = small_log::<i128>(alloc)?;
-    log.known();
-    let mut last = 1;
-    for (at, place) in PLACES_OF_56.iter().enumerate() {
-        let Ok(address) = append_to_chain(&mut log, last, keys[at % 3], Some(at as i128)) else {
-            return None;
-        };
-        last = address;
-        if last != *place {
-            return Some(false);
-        }
-    }
-    for (key, place, value) in [(keys[1], 680, 10), (keys[0], 624, 9), (keys[2], 568, 8)] {
-        match log.first_on_chain(&key, last) {
-            Some(entry) if entry.address == place && entry.value == Some(value) => {}
-            _ => return Some(false),
-        }
-    }
-    Some(log.first_on_chain(&other, last).is_none())
-}
-
-#[test]
-fn first_on_a_chain(rt: HostRuntime) {
-    assert!(rt; finds_on_a_chain(rt.alloc()) == Some(true));
 }

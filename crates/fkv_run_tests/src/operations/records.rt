@@ -205,6 +205,28 @@ fn first_wrong(alloc: Global, bucket_bits: u64, rows: &[Row], live: usize) -> Op
     }
 }
 
+/// Whether a key without a record has none, where another of its class has one.
+fn is_untraced(alloc: Global, rows: &[Row], key: u8) -> Option<bool> {
+    let Ok(mut records) = records(alloc, 0) else {
+        return None;
+    };
+    for row in rows {
+        if !is_written(&mut records, row) {
+            return None;
+        }
+    }
+    let key = name(key)?;
+    let class = records.class(&SumFns, &key);
+    let entry = records.entry(&class)?;
+    Some(records.trace(entry, &key).is_none())
+}
+
+#[test]
+fn another_key_of_the_class(rt: HostRuntime) {
+    assert!(rt; is_untraced(rt.alloc(), &ONE_CLASS, b'i') == Some(true));
+    assert!(rt; is_untraced(rt.alloc(), &TOMBSTONES, b'c') == Some(false));
+}
+
 #[test]
 fn runs_of_records(rt: HostRuntime) {
     let all: [(u64, &[Row], usize); 4] = [
