@@ -164,17 +164,53 @@ const RUNS: [(&str, &str, u8, &str, &str); 17] = [
         "",
         "fkv_cli: bad script line 2\n",
     ),
-    ("fkv_cli replay", "store sum 0 8 7 2\n", 1, "", "fkv_cli: bad configuration\n"),
+    (
+        "fkv_cli replay",
+        "store sum 0 8 7 2\n",
+        1,
+        "",
+        "fkv_cli: bad configuration\n",
+    ),
     // where a line is bad the configuration is not asked
-    ("fkv_cli", "store sum 0 8 7 2\nenter\n", 1, "", "fkv_cli: bad script line 2\n"),
+    (
+        "fkv_cli",
+        "store sum 0 8 7 2\nenter\n",
+        1,
+        "",
+        "fkv_cli: bad script line 2\n",
+    ),
     ("fkv_cli --help", THIN_PATH, 0, HELP, ""),
     ("fkv_cli -h", THIN_PATH, 0, HELP, ""),
     ("fkv_cli help", "", 0, HELP, ""),
     ("fkv_cli replay --help", "", 0, REPLAY_HELP, ""),
-    ("fkv_cli reply", THIN_PATH, 2, "", "error: unrecognized subcommand 'reply'\n"),
-    ("fkv_cli replay more", THIN_PATH, 2, "", "error: unexpected argument 'more' found\n"),
-    ("fkv_cli --workers", THIN_PATH, 2, "", "error: unexpected argument '--workers' found\n"),
-    ("fkv_cli help more", THIN_PATH, 2, "", "error: unrecognized subcommand 'more'\n"),
+    (
+        "fkv_cli reply",
+        THIN_PATH,
+        2,
+        "",
+        "error: unrecognized subcommand 'reply'\n",
+    ),
+    (
+        "fkv_cli replay more",
+        THIN_PATH,
+        2,
+        "",
+        "error: unexpected argument 'more' found\n",
+    ),
+    (
+        "fkv_cli --workers",
+        THIN_PATH,
+        2,
+        "",
+        "error: unexpected argument '--workers' found\n",
+    ),
+    (
+        "fkv_cli help more",
+        THIN_PATH,
+        2,
+        "",
+        "error: unrecognized subcommand 'more'\n",
+    ),
 ];
 
 #[test]
@@ -208,11 +244,19 @@ const FULL: [(&str, usize, &str); 8] = [
     ("fkv_cli", 0, ""),
     ("fkv_cli", 1, "e"),
     ("fkv_cli", 9, "entered 0"),
-    ("fkv_cli", 55, "entered 0\ndone value 5\ndone value 3\ndone value 3\nmap 1\n"),
+    (
+        "fkv_cli",
+        55,
+        "entered 0\ndone value 5\ndone value 3\ndone value 3\nmap 1\n",
+    ),
     ("fkv_cli --help", 0, ""),
     ("fkv_cli --help", 1, "A"),
     ("fkv_cli --help", 9, "A proved "),
-    ("fkv_cli -h", 42, "A proved key-value store for per-key state"),
+    (
+        "fkv_cli -h",
+        42,
+        "A proved key-value store for per-key state",
+    ),
 ];
 
 #[test]
@@ -250,7 +294,10 @@ fn faults_that_can_not_be_told(rt: HostRuntime) {
 const FAULTS: [(Refused, &[u8]); 4] = [
     (Refused::NoMemory, b"fkv_cli: no memory\n"),
     (Refused::Unwritable, b"fkv_cli: cannot write output\n"),
-    (Refused::Unreadable { number: 7 }, b"fkv_cli: cannot read input 7\n"),
+    (
+        Refused::Unreadable { number: 7 },
+        b"fkv_cli: cannot read input 7\n",
+    ),
     (
         Refused::Stranger {
             what: What::Page,

@@ -8,11 +8,10 @@ use crate::pages::{PageReader, PageWriter};
 use crate::receipts::Receipt;
 use fkv_functions::Refused;
 use std::alloc::Global;
-use std::fs;
 use std::fs::File;
-use std::io;
 use std::io::{Error, ErrorKind, Read, Seek, SeekFrom, Write};
 use std::test::Fail;
+use std::{fs, io};
 
 /// A file of sevens, which moves ten bytes at a time and fails once, after so many calls.
 #[derive(Drop)]
@@ -99,7 +98,10 @@ fn each_call_of_a_file_fails_in_turn(rt: HostRuntime) {
         for call in 0..20u64 {
             let (one, other) = written(rt.alloc(), call);
             assert!(rt; (one.err(), other.err()) == faults(call, 2), "write {call}");
-            assert!(rt; read(rt.alloc(), call, &first, &second) == faults(call, 3), "read {call}");
+            assert!(rt;
+                read(rt.alloc(), call, &first, &second) == faults(call, 3),
+                "read {call}"
+            );
         }
     }
 }

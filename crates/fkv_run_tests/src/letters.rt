@@ -48,7 +48,10 @@ where
 /// Whether these are the pairs of a map, in its order.
 pub fn is_map(pairs: &[(Name, i128)], wanted: &[(u8, i128)]) -> bool {
     pairs.len() == wanted.len()
-        && pairs.iter().zip(wanted.iter()).all(|(pair, it)| is_pair(pair, it))
+        && pairs
+            .iter()
+            .zip(wanted.iter())
+            .all(|(pair, it)| is_pair(pair, it))
 }
 
 fn is_pair(pair: &(Name, i128), wanted: &(u8, i128)) -> bool {

@@ -146,7 +146,10 @@ fn keeps_three_pages<D: Disk>(alloc: Global, disk: &mut D, length: usize) -> Opt
 fn memory_gives_back_three_pages(rt: HostRuntime) {
     for length in [0, 1, 64, 4096] {
         let mut disk = MemoryDevice::new(rt.alloc());
-        assert!(rt; keeps_three_pages(rt.alloc(), &mut disk, length) == Some(true), "{length}");
+        assert!(rt;
+            keeps_three_pages(rt.alloc(), &mut disk, length) == Some(true),
+            "{length}"
+        );
     }
 }
 
@@ -188,7 +191,11 @@ fn is_same(alloc: Global, row: &(u64, &[u8], u64, &[u8], bool)) -> Option<bool> 
     let Ok(again) = one.again() else {
         return None;
     };
-    if one.same(&again) { Some(one.same(&other)) } else { None }
+    if one.same(&again) {
+        Some(one.same(&other))
+    } else {
+        None
+    }
 }
 
 /// Whether the second page that a writer writes has a receipt like the first's.
@@ -223,11 +230,7 @@ fn clear(rt: &HostRuntime, folder: &str) -> Result<(), Fail> {
 }
 
 /// A device in a folder, with pages of `2^page_bits` bytes; the folder is named again where memory is refused once.
-fn device(
-    rt: &HostRuntime,
-    folder: &str,
-    page_bits: u32,
-) -> Result<FileDevice<HostRuntime>, Fail> {
+fn device(rt: &HostRuntime, folder: &str, page_bits: u32) -> Result<FileDevice<HostRuntime>, Fail> {
     let named = match String::from_str(rt.alloc(), folder) {
         Ok(named) => named,
         Err(_) => String::from_str(rt.alloc(), folder)?,
@@ -240,7 +243,10 @@ fn is_laid_out(rt: &HostRuntime, page_bits: u32, length: usize) -> Result<bool, 
     let mut disk = device(rt, "device_files/three", page_bits)?;
     let is_kept = keeps_three_pages(rt.alloc(), &mut disk, length) == Some(true);
     let bytes = fs::read(rt, "device_files/three/part-07.log")?;
-    let (Some(zeros), Some(fifth)) = (bytes.get(..4 * length.min(4096)), bytes.get(5 * length.min(4096) - 1)) else {
+    let (Some(zeros), Some(fifth)) = (
+        bytes.get(..4 * length.min(4096)),
+        bytes.get(5 * length.min(4096) - 1),
+    ) else {
         return Ok(false);
     };
     Ok(is_kept && bytes.len() / 7 == length && zeros.iter().all(|byte| *byte == 0) && *fifth == 255)

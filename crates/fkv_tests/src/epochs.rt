@@ -338,7 +338,10 @@ fn random_calls_beside_plain_lists(rt: HostRuntime) {
         several: false,
     };
     for seed in 0..24u64 {
-        assert!(rt; is_random_run_alike(rt.alloc(), seed, &mut seen), "seed {seed}");
+        assert!(rt;
+            is_random_run_alike(rt.alloc(), seed, &mut seen),
+            "seed {seed}"
+        );
     }
     let all = seen.full && seen.crowded && seen.unknown && seen.several;
     assert!(rt; all, "each kind of answer comes");

@@ -21,7 +21,12 @@ fn has_sevens(frames: &Frames, page: u64, offset: usize) -> bool {
     frames.holds(page)
         && frames.bytes(page).len() == 256
         && frames.bytes(page).iter().enumerate().all(|(at, byte)| {
-            *byte == if offset <= at && at - offset < 56 { 7 } else { 0 }
+            *byte
+                == if offset <= at && at - offset < 56 {
+                    7
+                } else {
+                    0
+                }
         })
 }
 
@@ -127,7 +132,10 @@ const ROWS: [(u64, u32, u32); 4] = [(2, 1, 300), (5, 2, 300), (1, 3, 500), (13, 
 #[test]
 fn frames_beside_a_map(rt: HostRuntime) {
     for (count, seed, turns) in ROWS {
-        assert!(rt; runs_beside_a_map(rt.alloc(), count, seed, turns), "{count}");
+        assert!(rt;
+            runs_beside_a_map(rt.alloc(), count, seed, turns),
+            "{count}"
+        );
     }
 }
 

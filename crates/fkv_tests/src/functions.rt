@@ -38,13 +38,19 @@ fn length_of_name(length: usize) -> Option<usize> {
 #[test]
 fn lengths_of_names(rt: HostRuntime) {
     for length in 0..40usize {
-        let wanted = if 1 <= length && length <= 31 { Some(length) } else { None };
+        let wanted = if 1 <= length && length <= 31 {
+            Some(length)
+        } else {
+            None
+        };
         assert!(rt; length_of_name(length) == wanted, "of length {length}");
     }
 }
 
 /// Names, rising.
-const RISING: [&[u8]; 9] = [b"\0", b"\0\0", b"A", b"a", b"a\0", b"a-1", b"aa", b"b", b"\xff"];
+const RISING: [&[u8]; 9] = [
+    b"\0", b"\0\0", b"A", b"a", b"a\0", b"a-1", b"aa", b"b", b"\xff",
+];
 
 /// Whether the first name is below the other, and whether they are the same.
 fn compared(low: &[u8], high: &[u8]) -> Option<(bool, bool)> {
@@ -83,7 +89,10 @@ const AB: [u8; 32] = [
 
 const COUNTS: [(u64, [u8; 8]); 3] = [
     (0x0102_0304_0506_0708, [8, 7, 6, 5, 4, 3, 2, 1]),
-    (18446744073709551615, [255, 255, 255, 255, 255, 255, 255, 255]),
+    (
+        18446744073709551615,
+        [255, 255, 255, 255, 255, 255, 255, 255],
+    ),
     (0, [0, 0, 0, 0, 0, 0, 0, 0]),
 ];
 
@@ -164,7 +173,11 @@ fn first_and_next<F: Functions>(
         input: first,
     };
     let begun = Built::make(functions, fresh);
-    if changed != copied || built.value() != copied || built.ask() != ask || begun.value() != started {
+    if changed != copied
+        || built.value() != copied
+        || built.ask() != ask
+        || begun.value() != started
+    {
         return None;
     }
     Some(functions.read(&key, &next, &copied))
@@ -186,7 +199,13 @@ fn in_either_order<F: OrderFree>(
 const INPUTS: [(i64, i64, u64, i128, i64); 4] = [
     (5, -2, 2, 3, 5),
     (0, 0, 2, 0, 0),
-    (9223372036854775807, 9223372036854775807, 2, 18446744073709551614, 9223372036854775807),
+    (
+        9223372036854775807,
+        9223372036854775807,
+        2,
+        18446744073709551614,
+        9223372036854775807,
+    ),
     (-9223372036854775808, -1, 2, -9223372036854775809, -1),
 ];
 
@@ -241,14 +260,30 @@ const REFUSALS: [(Refused, &str, &str); 20] = [
         "Stranger",
     ),
     (Refused::Worn, "worn out", "Worn"),
-    (Refused::Device { code: 3, page: 12 }, "device fault 3 on page 12", "Device"),
+    (
+        Refused::Device { code: 3, page: 12 },
+        "device fault 3 on page 12",
+        "Device",
+    ),
     (Refused::Damaged { page: 7 }, "damaged page 7", "Damaged"),
     (Refused::Stalled, "stalled", "Stalled"),
     (Refused::Mismatch, "mismatch", "Mismatch"),
-    (Refused::BadRow { feed: 1, row: 2 }, "bad row 2 of feed 1", "BadRow"),
-    (Refused::BadScript { line: 1000001 }, "bad script line 1000001", "BadScript"),
+    (
+        Refused::BadRow { feed: 1, row: 2 },
+        "bad row 2 of feed 1",
+        "BadRow",
+    ),
+    (
+        Refused::BadScript { line: 1000001 },
+        "bad script line 1000001",
+        "BadScript",
+    ),
     (Refused::NotReady, "not ready", "NotReady"),
-    (Refused::Unreadable { number: 1 }, "cannot read input 1", "Unreadable"),
+    (
+        Refused::Unreadable { number: 1 },
+        "cannot read input 1",
+        "Unreadable",
+    ),
     (
         Refused::Unreadable {
             number: 18446744073709551615,

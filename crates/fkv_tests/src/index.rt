@@ -271,11 +271,17 @@ fn bits_of_words(rt: HostRuntime) {
     for (tag, address, bits) in WORDS {
         assert!(rt; is_word(tag, address, bits), "{bits}");
     }
-    let claims = [(0x57b1u16, 0xd7b1_0000_0000_0001u64), (0, 0x8000_0000_0000_0001)];
+    let claims = [
+        (0x57b1u16, 0xd7b1_0000_0000_0001u64),
+        (0, 0x8000_0000_0000_0001),
+    ];
     for (tag, bits) in claims {
         let word = Word { bits };
         assert!(rt; word.tag() == tag && word.address() == NO_RECORD, "{bits}");
-        assert!(rt; word.is_tentative() && !word.is_final() && !word.is_empty(), "{bits}");
+        assert!(rt;
+            word.is_tentative() && !word.is_final() && !word.is_empty(),
+            "{bits}"
+        );
     }
 }
 
@@ -297,7 +303,11 @@ fn is_swept(index: &Index, tag: u16) -> bool {
         Some((_, word)) => Some(word.address()),
         None => None,
     };
-    let wanted = if tag < 0x4000 { None } else { Some(64 + u64::from(tag)) };
+    let wanted = if tag < 0x4000 {
+        None
+    } else {
+        Some(64 + u64::from(tag))
+    };
     address == wanted
 }
 

@@ -24,14 +24,19 @@ fn record_of_a(value: Option<i128>) -> Option<Record<Name, i128>> {
     })
 }
 
+/// Puts other bytes at their places.
+fn change(bytes: &mut [u8], changed: &[(usize, u8)]) {
+    for (at, byte) in changed {
+        if let Some(place) = bytes.get_mut(*at) {
+            *place = *byte;
+        }
+    }
+}
+
 /// The bytes of [`A`] with other ones.
 fn with(changed: &[(usize, u8)]) -> [u8; 56] {
     let mut bytes = A;
-    for (at, byte) in changed {
-        if *at < 56 {
-            bytes[*at] = *byte;
-        }
-    }
+    change(&mut bytes, changed);
     bytes
 }
 
@@ -160,7 +165,10 @@ fn places(rt: HostRuntime) {
     }
     for (address, wanted) in TOP {
         let shape = Shape::new(8, 64);
-        assert!(rt; shape.is_some_and(|shape| shape.is_place(address) == wanted), "{address}");
+        assert!(rt;
+            shape.is_some_and(|shape| shape.is_place(address) == wanted),
+            "{address}"
+        );
     }
 }
 
@@ -257,11 +265,7 @@ fn plain_read<K: Fixed, V: Fixed>(address: u64, bytes: &[u8]) -> Option<Record<K
 }
 
 /// Writes a record, reads it back, and flips each bit of its bytes in turn; whether each is read as the slow way does.
-fn is_read_flipped<K: Fixed, V: Fixed>(
-    address: u64,
-    entry: &Record<K, V>,
-    bytes: &mut [u8],
-) -> bool
+fn is_read_flipped<K: Fixed, V: Fixed>(address: u64, entry: &Record<K, V>, bytes: &mut [u8]) -> bool
     requires most { size_of K.SIZE V.SIZE ≤ 192 }
     requires room { length bytes.old ≡ size_of K.SIZE V.SIZE }
     requires previous { entry.now.previous < 2 ^ 48 }
@@ -323,7 +327,10 @@ const PAIRS: [(u64, u64); 5] = [
 /// Each bit of records of 48, 56, 72 and, rounded up, 24 bytes, whole and as tombstones.
 #[test]
 fn flips(rt: HostRuntime) {
-    let (name, most) = (Name::new(b"some_key"), Name::new(b"a_name_of_thirty-one_bytes_here"));
+    let (name, most) = (
+        Name::new(b"some_key"),
+        Name::new(b"a_name_of_thirty-one_bytes_here"),
+    );
     assert!(rt; name.is_some() && most.is_some());
     if let (Some(key), Some(long)) = (name, most) {
         for place in PAIRS {
@@ -367,7 +374,10 @@ fn sizes(rt: HostRuntime) {
     assert!(rt; record_size::<Name, Name>() == Some(72));
     assert!(rt; record_size::<Byte, i64>() == Some(24));
     for (bits, size, is_shape) in LIMITS {
-        assert!(rt; Shape::new(bits, size).is_some() == is_shape, "{bits} {size}");
+        assert!(rt;
+            Shape::new(bits, size).is_some() == is_shape,
+            "{bits} {size}"
+        );
     }
 }
 
@@ -401,7 +411,12 @@ const HEADERS: [(u64, bool, bool, [u8; 8]); 4] = [
     (0x1234, true, true, [0x34, 0x12, 0, 0, 0, 0, 0x07, 0]),
     (1, false, false, [1, 0, 0, 0, 0, 0, 0x04, 0]),
     (64, true, false, [64, 0, 0, 0, 0, 0, 0x05, 0]),
-    (281474976710655, false, true, [255, 255, 255, 255, 255, 255, 0x06, 0]),
+    (
+        281474976710655,
+        false,
+        true,
+        [255, 255, 255, 255, 255, 255, 0x06, 0],
+    ),
 ];
 
 fn is_header(row: &(u64, bool, bool, [u8; 8])) -> bool {

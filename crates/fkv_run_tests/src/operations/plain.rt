@@ -43,7 +43,11 @@ fn runs_to<F: Functions<Key = Name, Input = i64>>(
     match run_plainly(alloc, functions, &ops) {
         Ok(run) => {
             run.answers.len() == rows.len()
-                && run.answers.iter().zip(rows.iter()).all(|(told, row)| *told == row.1)
+                && run
+                    .answers
+                    .iter()
+                    .zip(rows.iter())
+                    .all(|(told, row)| *told == row.1)
                 && map.iter().all(|(key, value)| held(&run, *key) == *value)
         }
         Err(_) => false,
@@ -88,7 +92,10 @@ fn sums(rt: HostRuntime) {
         (&[], &[(b'a', None)]),
         (&THIN_PATH, &[(b'a', Some(3)), (b'b', None)]),
         (&TWO_UPDATES, &[(b'a', Some(3))]),
-        (&BLIND_WRITES_AND_DELETES, &[(b'a', Some(2)), (b'b', Some(7))]),
+        (
+            &BLIND_WRITES_AND_DELETES,
+            &[(b'a', Some(2)), (b'b', Some(7))],
+        ),
         (&ROUND, &[(b'a', Some(i128::MAX)), (b'c', None)]),
     ];
     for (at, (rows, map)) in all.iter().enumerate() {

@@ -155,8 +155,7 @@ fn is_last(records: &Records<SumFns>, row: &Row) -> bool {
 /// Whether each row is its key's last record, or another row after it is of the key.
 fn are_last(records: &Records<SumFns>, rows: &[Row]) -> bool {
     rows.iter().all(|row| {
-        is_last(records, row)
-            || rows.iter().any(|later| later.0 == row.0 && later.2 > row.2)
+        is_last(records, row) || rows.iter().any(|later| later.0 == row.0 && later.2 > row.2)
     })
 }
 

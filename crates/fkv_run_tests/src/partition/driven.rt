@@ -82,17 +82,29 @@ impl Driven {
         given_up
     }
 
+    /// What follows: it goes on, or builds what is asked for.
+    fn follow(
+        &mut self,
+        slot: usize,
+        context: usize,
+        progress: ProgressOf<SumFns>,
+    ) -> Result<ProgressOf<SumFns>, Refused> {
+        match progress {
+            Progress::NeedsBuild(ask) => self.install(slot, context, ask),
+            _ => self.go(slot, context),
+        }
+    }
+
     /// Goes on, and builds what is asked for, until the operation is answered; at most ten events.
     pub fn finish(&mut self, slot: usize, context: usize) -> Result<Answer<i128>, Refused> {
-        let mut progress = self.go(slot, context)?;
+        let mut told = self.go(slot, context);
         for _ in 0..10 {
-            progress = match progress {
-                Progress::Done(answer, _) => return Ok(answer),
-                Progress::Next => self.go(slot, context)?,
-                Progress::NeedsBuild(ask) => self.install(slot, context, ask)?,
-            };
+            match told {
+                Ok(Progress::Done(answer, _)) => return Ok(answer),
+                Ok(progress) => told = self.follow(slot, context, progress),
+                Err(refused) => return Err(refused),
+            }
         }
         Err(Refused::Stalled)
     }
 }
-

@@ -56,13 +56,83 @@ const TWO_UPDATES_FROM_ONE_LOOK_UP: [Row; 13] = [
     Row::Issue(0, Op::Rmw(b'a', 1), Ok(0)),
     Row::Issue(1, Op::Rmw(b'a', 2), Ok(0)),
     Row::Go(0, 0, Ok(Progress::Next)),
-    Row::Go(0, 0, Ok(Progress::NeedsBuild(Ask { number: 3, key: b'a', source: None, input: 1 }))),
-    Row::Go(1, 0, Ok(Progress::NeedsBuild(Ask { number: 4, key: b'a', source: None, input: 2 }))),
-    Row::Install(0, 0, Ask { number: 3, key: b'a', source: None, input: 1 }, Ok(Progress::Done(Answer::Value(1), 8))),
-    Row::Install(1, 0, Ask { number: 4, key: b'a', source: None, input: 2 }, Ok(Progress::Next)),
-    Row::Go(1, 0, Ok(Progress::NeedsBuild(Ask { number: 4, key: b'a', source: Some(1), input: 2 }))),
-    Row::Install(1, 0, Ask { number: 4, key: b'a', source: None, input: 2 }, Err(Refused::Stranger { what: What::Built, held: 4, came: 4 })),
-    Row::Go(1, 0, Ok(Progress::NeedsBuild(Ask { number: 4, key: b'a', source: Some(1), input: 2 }))),
+    Row::Go(
+        0,
+        0,
+        Ok(Progress::NeedsBuild(Ask {
+            number: 3,
+            key: b'a',
+            source: None,
+            input: 1,
+        })),
+    ),
+    Row::Go(
+        1,
+        0,
+        Ok(Progress::NeedsBuild(Ask {
+            number: 4,
+            key: b'a',
+            source: None,
+            input: 2,
+        })),
+    ),
+    Row::Install(
+        0,
+        0,
+        Ask {
+            number: 3,
+            key: b'a',
+            source: None,
+            input: 1,
+        },
+        Ok(Progress::Done(Answer::Value(1), 8)),
+    ),
+    Row::Install(
+        1,
+        0,
+        Ask {
+            number: 4,
+            key: b'a',
+            source: None,
+            input: 2,
+        },
+        Ok(Progress::Next),
+    ),
+    Row::Go(
+        1,
+        0,
+        Ok(Progress::NeedsBuild(Ask {
+            number: 4,
+            key: b'a',
+            source: Some(1),
+            input: 2,
+        })),
+    ),
+    Row::Install(
+        1,
+        0,
+        Ask {
+            number: 4,
+            key: b'a',
+            source: None,
+            input: 2,
+        },
+        Err(Refused::Stranger {
+            what: What::Built,
+            held: 4,
+            came: 4,
+        }),
+    ),
+    Row::Go(
+        1,
+        0,
+        Ok(Progress::NeedsBuild(Ask {
+            number: 4,
+            key: b'a',
+            source: Some(1),
+            input: 2,
+        })),
+    ),
     Row::Finish(1, 0, Ok(Answer::Value(3))),
 ];
 
@@ -138,21 +208,128 @@ fn leaving_and_giving_up(rt: HostRuntime) {
 
 const REFUSALS: [Row; 16] = [
     Row::Enter(Ok(0)),
-    Row::Issue(0, Op::Rmw(b'a', 1), Err(Refused::Stranger { what: What::Partition, held: 1, came: 0 })),
+    Row::Issue(
+        0,
+        Op::Rmw(b'a', 1),
+        Err(Refused::Stranger {
+            what: What::Partition,
+            held: 1,
+            came: 0,
+        }),
+    ),
     Row::Go(0, 0, Err(Refused::Unknown)),
     Row::Go(1, 0, Err(Refused::Unknown)),
     Row::Go(0, 8, Err(Refused::Unknown)),
-    Row::Go(18446744073709551615, 18446744073709551615, Err(Refused::Unknown)),
+    Row::Go(
+        18446744073709551615,
+        18446744073709551615,
+        Err(Refused::Unknown),
+    ),
     Row::Issue(0, Op::Rmw(b'b', 1), Ok(0)),
-    Row::Install(0, 0, Ask { number: 7, key: b'b', source: None, input: 1 }, Err(Refused::NotReady)),
-    Row::Install(0, 1, Ask { number: 7, key: b'b', source: None, input: 1 }, Err(Refused::Unknown)),
+    Row::Install(
+        0,
+        0,
+        Ask {
+            number: 7,
+            key: b'b',
+            source: None,
+            input: 1,
+        },
+        Err(Refused::NotReady),
+    ),
+    Row::Install(
+        0,
+        1,
+        Ask {
+            number: 7,
+            key: b'b',
+            source: None,
+            input: 1,
+        },
+        Err(Refused::Unknown),
+    ),
     Row::Go(0, 0, Ok(Progress::Next)),
-    Row::Go(0, 0, Ok(Progress::NeedsBuild(Ask { number: 7, key: b'b', source: None, input: 1 }))),
-    Row::Install(0, 0, Ask { number: 6, key: b'b', source: None, input: 1 }, Err(Refused::Stranger { what: What::Built, held: 7, came: 6 })),
-    Row::Install(0, 0, Ask { number: 7, key: b'a', source: None, input: 1 }, Err(Refused::Stranger { what: What::Built, held: 7, came: 7 })),
-    Row::Install(0, 0, Ask { number: 7, key: b'b', source: Some(0), input: 1 }, Err(Refused::Stranger { what: What::Built, held: 7, came: 7 })),
-    Row::Install(0, 0, Ask { number: 7, key: b'b', source: None, input: 2 }, Err(Refused::Stranger { what: What::Built, held: 7, came: 7 })),
-    Row::Install(0, 0, Ask { number: 7, key: b'b', source: None, input: 1 }, Ok(Progress::Done(Answer::Value(1), 16))),
+    Row::Go(
+        0,
+        0,
+        Ok(Progress::NeedsBuild(Ask {
+            number: 7,
+            key: b'b',
+            source: None,
+            input: 1,
+        })),
+    ),
+    Row::Install(
+        0,
+        0,
+        Ask {
+            number: 6,
+            key: b'b',
+            source: None,
+            input: 1,
+        },
+        Err(Refused::Stranger {
+            what: What::Built,
+            held: 7,
+            came: 6,
+        }),
+    ),
+    Row::Install(
+        0,
+        0,
+        Ask {
+            number: 7,
+            key: b'a',
+            source: None,
+            input: 1,
+        },
+        Err(Refused::Stranger {
+            what: What::Built,
+            held: 7,
+            came: 7,
+        }),
+    ),
+    Row::Install(
+        0,
+        0,
+        Ask {
+            number: 7,
+            key: b'b',
+            source: Some(0),
+            input: 1,
+        },
+        Err(Refused::Stranger {
+            what: What::Built,
+            held: 7,
+            came: 7,
+        }),
+    ),
+    Row::Install(
+        0,
+        0,
+        Ask {
+            number: 7,
+            key: b'b',
+            source: None,
+            input: 2,
+        },
+        Err(Refused::Stranger {
+            what: What::Built,
+            held: 7,
+            came: 7,
+        }),
+    ),
+    Row::Install(
+        0,
+        0,
+        Ask {
+            number: 7,
+            key: b'b',
+            source: None,
+            input: 1,
+        },
+        Ok(Progress::Done(Answer::Value(1), 16)),
+    ),
 ];
 
 #[test]
@@ -240,18 +417,64 @@ const ENTRY_MOVES_UNDER_AN_UPDATE: [Row; 9] = [
     Row::Enter(Ok(0)),
     Row::Issue(0, Op::Rmw(b'a', 5), Ok(0)),
     Row::Go(0, 0, Ok(Progress::Next)),
-    Row::Go(0, 0, Ok(Progress::NeedsBuild(Ask { number: 2, key: b'a', source: None, input: 5 }))),
+    Row::Go(
+        0,
+        0,
+        Ok(Progress::NeedsBuild(Ask {
+            number: 2,
+            key: b'a',
+            source: None,
+            input: 5,
+        })),
+    ),
     Row::Issue(0, Op::Upsert(b'b', 7), Ok(1)),
     Row::Go(0, 1, Ok(Progress::Done(Answer::Stored, 6))),
-    Row::Install(0, 0, Ask { number: 2, key: b'a', source: None, input: 5 }, Ok(Progress::Next)),
-    Row::Go(0, 0, Ok(Progress::NeedsBuild(Ask { number: 2, key: b'a', source: None, input: 5 }))),
-    Row::Install(0, 0, Ask { number: 2, key: b'a', source: None, input: 5 }, Ok(Progress::Done(Answer::Value(5), 9))),
+    Row::Install(
+        0,
+        0,
+        Ask {
+            number: 2,
+            key: b'a',
+            source: None,
+            input: 5,
+        },
+        Ok(Progress::Next),
+    ),
+    Row::Go(
+        0,
+        0,
+        Ok(Progress::NeedsBuild(Ask {
+            number: 2,
+            key: b'a',
+            source: None,
+            input: 5,
+        })),
+    ),
+    Row::Install(
+        0,
+        0,
+        Ask {
+            number: 2,
+            key: b'a',
+            source: None,
+            input: 5,
+        },
+        Ok(Progress::Done(Answer::Value(5), 9)),
+    ),
 ];
 
 #[test]
 fn entry_moves_under_an_update(rt: HostRuntime) {
     let map = [(b'a', 5), (b'b', 7)];
-    assert!(rt; first_wrong(rt.alloc(), &ONE_BUCKET, 0, &ENTRY_MOVES_UNDER_AN_UPDATE, &map) == None);
+    assert!(rt;
+        first_wrong(
+            rt.alloc(),
+            &ONE_BUCKET,
+            0,
+            &ENTRY_MOVES_UNDER_AN_UPDATE,
+            &map
+        ) == None
+    );
 }
 
 /// Operations on keys of one class over three pages.

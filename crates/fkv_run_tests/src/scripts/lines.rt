@@ -2,9 +2,7 @@
 use fkv_functions::{Name, Refused};
 use fkv_operations::Op;
 use fkv_steps::Place;
-use fkv_steps::scripts::{
-    FunctionsName, LIMIT, Line, Opening, Script, one_reading, read_script,
-};
+use fkv_steps::scripts::{FunctionsName, LIMIT, Line, Opening, Script, one_reading, read_script};
 use std::alloc::Global;
 
 fn read(alloc: Global, text: &str) -> Result<Script, Refused> {
@@ -38,8 +36,20 @@ do 1 15 delete a-1";
 const SAID: [Said; 16] = [
     ("enter", 1, 0, 0, None),
     ("issue", 1, 15, 0, Some(('r', b"a", 0))),
-    ("issue", 1, 15, 0, Some(('m', b"a_Z-9", -9223372036854775808))),
-    ("issue", 1, 15, 0, Some(('m', b"abcdefghijklmnopqrstuvwxyz01234", 5))),
+    (
+        "issue",
+        1,
+        15,
+        0,
+        Some(('m', b"a_Z-9", -9223372036854775808)),
+    ),
+    (
+        "issue",
+        1,
+        15,
+        0,
+        Some(('m', b"abcdefghijklmnopqrstuvwxyz01234", 5)),
+    ),
     ("go", 1, 15, 7, None),
     ("install", 1, 15, 7, None),
     ("leave", 1, 15, 0, None),
@@ -85,13 +95,21 @@ fn says(line: &Line, said: &Said) -> bool {
         Line::Leave { partition, session } => {
             return said.0 == "leave" && *partition == said.1 && *session == said.2;
         }
-        Line::Issue { partition, session, op } => {
+        Line::Issue {
+            partition,
+            session,
+            op,
+        } => {
             return said.0 == "issue"
                 && *partition == said.1
                 && *session == said.2
                 && is_op(op, said.4);
         }
-        Line::Do { partition, session, op } => {
+        Line::Do {
+            partition,
+            session,
+            op,
+        } => {
             return said.0 == "do"
                 && *partition == said.1
                 && *session == said.2
@@ -120,7 +138,11 @@ fn is_read(alloc: Global, text: &str, said: &[Said]) -> bool {
         Ok(script) => {
             script.opening == OPENING
                 && script.lines.len() == said.len()
-                && script.lines.iter().zip(said.iter()).all(|(line, said)| says(line, said))
+                && script
+                    .lines
+                    .iter()
+                    .zip(said.iter())
+                    .all(|(line, said)| says(line, said))
         }
         Err(_) => false,
     }
@@ -145,7 +167,10 @@ const FUNCTIONS: [(&str, FunctionsName); 3] = [
 fn functions_of_each_name(rt: HostRuntime) {
     for (text, functions) in FUNCTIONS {
         let script = read(rt.alloc(), text);
-        assert!(rt; script.is_ok_and(|script| script.opening.functions == functions), "{text}");
+        assert!(rt;
+            script.is_ok_and(|script| script.opening.functions == functions),
+            "{text}"
+        );
     }
 }
 
@@ -161,7 +186,11 @@ const LIMITED: [(&[u8], u32, Option<u64>); 11] = [
     (b"store sum 0 8 8 2\nenter 0\nenter 0\n", 4294967295, None),
     (b"store sum 0 8 8 2\xff", 1_000_000, Some(1)),
     (b"store sum 0 8 8 2\nenter 0\n\x80\n", 1_000_000, Some(3)),
-    (b"store sum 0 8 8 2\nenter 0\ndo 0 0 read a\0\n", 1_000_000, Some(3)),
+    (
+        b"store sum 0 8 8 2\nenter 0\ndo 0 0 read a\0\n",
+        1_000_000,
+        Some(3),
+    ),
 ];
 
 #[test]
@@ -171,6 +200,9 @@ fn the_line_after_the_limit(rt: HostRuntime) {
             Some(line) => Some(Refused::BadScript { line }),
             None => None,
         };
-        assert!(rt; read_script(rt.alloc(), *bytes, *limit).err() == wanted, "row {at}");
+        assert!(rt;
+            read_script(rt.alloc(), *bytes, *limit).err() == wanted,
+            "row {at}"
+        );
     }
 }

@@ -17,7 +17,10 @@ const UNREADABLE: Option<Refused> = Some(Refused::Unreadable { number: 1 });
 /// says that there are no more.
 const TEXTS: [(&str, Option<Refused>); 2] = [
     ("store sum 0 8 8 2\n", None),
-    ("x\nenter 0\nenter 0\n", Some(Refused::BadScript { line: 1 })),
+    (
+        "x\nenter 0\nenter 0\n",
+        Some(Refused::BadScript { line: 1 }),
+    ),
 ];
 
 #[test]
@@ -93,12 +96,20 @@ const TAKEN: [(u64, &[u8]); 7] = [
 #[test]
 fn a_writer_that_fails(rt: HostRuntime) {
     for (call, taken) in TAKEN {
-        let told = if call < 5 { Err(Refused::Unwritable) } else { Ok(()) };
+        let told = if call < 5 {
+            Err(Refused::Unwritable)
+        } else {
+            Ok(())
+        };
         let other = Some(ErrorKind::Other);
         assert!(rt; is_written(rt.alloc(), call, other, told, taken), "{call}");
         assert!(rt; is_written(rt.alloc(), call, None, told, taken), "{call}");
         // a call that is interrupted is made again, but for a flush
-        let told = if call == 4 { Err(Refused::Unwritable) } else { Ok(()) };
+        let told = if call == 4 {
+            Err(Refused::Unwritable)
+        } else {
+            Ok(())
+        };
         let again = Some(ErrorKind::Interrupted);
         assert!(rt; is_written(rt.alloc(), call, again, told, BYTES), "{call}");
     }

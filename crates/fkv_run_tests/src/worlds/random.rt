@@ -111,7 +111,10 @@ fn is_plain(alloc: Global, report: &ReportOf<SumFns>) -> bool {
         }
     }
     plain.len() == report.map.len()
-        && report.map.iter().all(|(key, value)| plain.get(key).copied() == Some(*value))
+        && report
+            .map
+            .iter()
+            .all(|(key, value)| plain.get(key).copied() == Some(*value))
 }
 
 /// The kind of an operation: 0 a read, 1 an upsert, 2 an update, 3 a delete.
@@ -127,10 +130,8 @@ fn kind_of(op: &OpOf<SumFns>) -> u64 {
 /// Whether more than twenty operations of each kind were answered.
 fn is_lively(report: &ReportOf<SumFns>) -> bool {
     (0..4u64).all(|kind| {
-        let answered = report
-            .lives
-            .iter()
-            .filter(|life| kind_of(&life.op) == kind && matches!(life.end, End::Finished(_)));
+        let answered = report.lives.iter().filter(|life| kind_of(&life.op) == kind
+            && matches!(life.end, End::Finished(_)));
         answered.count() > 20
     })
 }
@@ -177,6 +178,9 @@ fn random_steps_beside_the_plain_program(rt: HostRuntime) {
             contexts,
             keys,
         };
-        assert!(rt; is_random_run_plain(rt.alloc(), seed, bucket_bits, range), "seed {seed}");
+        assert!(rt;
+            is_random_run_plain(rt.alloc(), seed, bucket_bits, range),
+            "seed {seed}"
+        );
     }
 }

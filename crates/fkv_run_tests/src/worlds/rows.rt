@@ -3,9 +3,7 @@ use crate::letters::{by_letter, is_map, on_name};
 use fkv_functions::{Refused, SumFns};
 use fkv_operations::{Answer, Op};
 use fkv_partition::Config;
-use fkv_steps::{
-    End, Finish, LifeOf, Outcome, Place, ReportOf, Step, StepOf, World, replay,
-};
+use fkv_steps::{End, Finish, LifeOf, Outcome, Place, ReportOf, Step, StepOf, World, replay};
 use std::alloc::Global;
 
 /// What a step or a pursuit tells.
@@ -16,7 +14,14 @@ pub type Row = (Step<u8, i128, i64>, Told);
 
 /// What became of an operation: the numbers of its partition, its session and its own; what it is; the step of its
 /// issue; and the step at which it took effect and was answered, with the answer, or another end.
-pub type LifeRow = (u64, u64, u64, Op<u8, i128, i64>, u64, Result<(u64, Answer<i128>), End<i128>>);
+pub type LifeRow = (
+    u64,
+    u64,
+    u64,
+    Op<u8, i128, i64>,
+    u64,
+    Result<(u64, Answer<i128>), End<i128>>,
+);
 
 /// A call on a world.
 #[derive(Clone, Copy)]
@@ -63,7 +68,11 @@ fn is_life(life: &LifeOf<SumFns>, wanted: &LifeRow) -> bool {
 /// Whether a report has these lives and this map.
 pub fn is_report(report: &ReportOf<SumFns>, lives: &[LifeRow], map: &[(u8, i128)]) -> bool {
     report.lives.len() == lives.len()
-        && report.lives.iter().zip(lives.iter()).all(|(life, wanted)| is_life(life, wanted))
+        && report
+            .lives
+            .iter()
+            .zip(lives.iter())
+            .all(|(life, wanted)| is_life(life, wanted))
         && is_map(report.map.as_slice(), map)
 }
 
@@ -93,7 +102,11 @@ pub fn is_replayed(
     match replay(alloc, config, &SumFns, &steps) {
         Ok(report) => {
             report.outcomes.len() == rows.len()
-                && report.outcomes.iter().zip(rows.iter()).all(|(told, row)| *told == row.1)
+                && report
+                    .outcomes
+                    .iter()
+                    .zip(rows.iter())
+                    .all(|(told, row)| *told == row.1)
                 && is_report(&report, lives, map)
         }
         Err(_) => false,

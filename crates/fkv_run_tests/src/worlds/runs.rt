@@ -112,7 +112,10 @@ const BETWEEN: [Row; 16] = [
     (Step::Enter(0), Ok(Outcome::Entered(1))),
     (Step::Issue(0, 0, Op::Delete(b'a')), Ok(Outcome::Issued(0))),
     (Step::Go(FIRST), Ok(Outcome::Done(Answer::Deleted))),
-    (Step::Issue(0, 0, Op::Upsert(b'a', 4)), Ok(Outcome::Issued(0))),
+    (
+        Step::Issue(0, 0, Op::Upsert(b'a', 4)),
+        Ok(Outcome::Issued(0)),
+    ),
     (Step::Issue(0, 1, Op::Rmw(b'a', 5)), Ok(Outcome::Issued(0))),
     (Step::Go(FIRST), Ok(Outcome::Next)),
     (Step::Go(FIRST), Ok(Outcome::Done(Answer::Stored))),
@@ -122,7 +125,10 @@ const BETWEEN: [Row; 16] = [
     (Step::Install(SECOND), Ok(Outcome::Next)),
     (Step::Go(SECOND), Ok(Outcome::Build(None))),
     (Step::Install(SECOND), Ok(Outcome::Done(Answer::Value(5)))),
-    (Step::Issue(0, 0, Op::Upsert(b'a', -3)), Ok(Outcome::Issued(0))),
+    (
+        Step::Issue(0, 0, Op::Upsert(b'a', -3)),
+        Ok(Outcome::Issued(0)),
+    ),
     (Step::Go(FIRST), Ok(Outcome::Done(Answer::Stored))),
 ];
 
@@ -145,7 +151,10 @@ const GIVEN_UP: [Row; 17] = [
     (Step::GiveUp(FIRST), Ok(Outcome::GivenUp)),
     (Step::Install(FIRST), Err(Refused::Unknown)),
     (Step::GiveUp(FIRST), Err(Refused::Unknown)),
-    (Step::Issue(0, 0, Op::Upsert(b'a', 7)), Ok(Outcome::Issued(0))),
+    (
+        Step::Issue(0, 0, Op::Upsert(b'a', 7)),
+        Ok(Outcome::Issued(0)),
+    ),
     (Step::Go(FIRST), Ok(Outcome::Done(Answer::Stored))),
     (Step::Leave(0, 0), Ok(Outcome::Left)),
     (Step::Issue(0, 0, Op::Read(b'a', 0)), Err(Refused::Unknown)),
@@ -162,6 +171,16 @@ const GIVEN_UP_LIVES: [LifeRow; 4] = [
     (0, 2, 2, Op::Read(b'a', 0), 11, Err(End::Open)),
 ];
 
+/// Whether the rows tell so step by step.
+fn are_told(world: &mut World<SumFns>, rows: &[Row]) -> bool {
+    for (step, told) in rows {
+        if told_by(world, *step) != *told {
+            return false;
+        }
+    }
+    true
+}
+
 /// Whether the rows tell so as they are replayed, and step by step, and leave these lives and this map.
 fn is_run(
     alloc: Global,
@@ -173,10 +192,8 @@ fn is_run(
     let Ok(mut world) = world(alloc, config) else {
         return false;
     };
-    for (step, told) in rows {
-        if told_by(&mut world, *step) != *told {
-            return false;
-        }
+    if !are_told(&mut world, rows) {
+        return false;
     }
     match report(&world, alloc) {
         Ok(report) => {
@@ -186,8 +203,10 @@ fn is_run(
     }
 }
 
-/// The runs.
-const RUNS: [(&[Row], &[LifeRow], &[(u8, i128)]); 5] = [
+/// A run: its rows, and the lives and the map that it leaves.
+type Run = (&'static [Row], &'static [LifeRow], &'static [(u8, i128)]);
+
+const RUNS: [Run; 5] = [
     (&[], &[], &[]),
     (&THIN_PATH, &THIN_PATH_LIVES, &[(b'a', 3)]),
     (&TWO_UPDATES, &TWO_UPDATES_LIVES, &[(b'a', 3)]),
@@ -195,28 +214,75 @@ const RUNS: [(&[Row], &[LifeRow], &[(u8, i128)]); 5] = [
     (&GIVEN_UP, &GIVEN_UP_LIVES, &[(b'a', 7)]),
 ];
 
+/// The number of the first run that goes otherwise.
+fn first_wrong(alloc: Global, config: &Config, runs: &[Run]) -> Option<usize> {
+    runs.iter().position(|(rows, lives, map)| !is_run(alloc, config, rows, lives, map))
+}
+
 #[test]
 fn runs(rt: HostRuntime) {
-    for (at, (rows, lives, map)) in RUNS.iter().enumerate() {
-        assert!(rt; is_run(rt.alloc(), &ONE, rows, lives, map), "run {at}");
-        assert!(rt; is_run(rt.alloc(), &ONE_BUCKET, rows, lives, map), "run {at}");
-    }
+    assert!(rt; first_wrong(rt.alloc(), &ONE, &RUNS) == None);
+    assert!(rt; first_wrong(rt.alloc(), &ONE_BUCKET, &RUNS) == None);
 }
 
 const TWO_PARTITIONS: [(Call, Told); 18] = [
     (Call::Step(Step::Enter(1)), Ok(Outcome::Entered(0))),
-    (Call::Step(Step::Issue(1, 0, Op::Read(b'a', 0))), Err(Refused::Stranger { what: What::Partition, held: 1, came: 0 })),
-    (Call::Step(Step::Issue(0, 0, Op::Read(b'a', 0))), Err(Refused::Unknown)),
+    (
+        Call::Step(Step::Issue(1, 0, Op::Read(b'a', 0))),
+        Err(Refused::Stranger {
+            what: What::Partition,
+            held: 1,
+            came: 0,
+        }),
+    ),
+    (
+        Call::Step(Step::Issue(0, 0, Op::Read(b'a', 0))),
+        Err(Refused::Unknown),
+    ),
     (Call::Step(Step::Enter(2)), Err(Refused::Unknown)),
     (Call::Step(Step::Leave(2, 0)), Err(Refused::Unknown)),
-    (Call::Step(Step::GiveUp(Place { partition: 2, slot: 0, context: 0 })), Err(Refused::Unknown)),
-    (Call::Step(Step::Go(Place { partition: 2, slot: 0, context: 0 })), Err(Refused::Unknown)),
+    (
+        Call::Step(Step::GiveUp(Place {
+            partition: 2,
+            slot: 0,
+            context: 0,
+        })),
+        Err(Refused::Unknown),
+    ),
+    (
+        Call::Step(Step::Go(Place {
+            partition: 2,
+            slot: 0,
+            context: 0,
+        })),
+        Err(Refused::Unknown),
+    ),
     (Call::Step(Step::Enter(0)), Ok(Outcome::Entered(0))),
-    (Call::Step(Step::Issue(0, 0, Op::Rmw(b'a', 4))), Ok(Outcome::Issued(0))),
-    (Call::Step(Step::Issue(1, 0, Op::Rmw(b'b', 7))), Ok(Outcome::Issued(0))),
+    (
+        Call::Step(Step::Issue(0, 0, Op::Rmw(b'a', 4))),
+        Ok(Outcome::Issued(0)),
+    ),
+    (
+        Call::Step(Step::Issue(1, 0, Op::Rmw(b'b', 7))),
+        Ok(Outcome::Issued(0)),
+    ),
     (Call::Step(Step::Install(OTHER)), Err(Refused::NotReady)),
-    (Call::Step(Step::Install(Place { partition: 1, slot: 0, context: 1 })), Err(Refused::Unknown)),
-    (Call::Step(Step::Install(Place { partition: 1, slot: 16, context: 0 })), Err(Refused::Unknown)),
+    (
+        Call::Step(Step::Install(Place {
+            partition: 1,
+            slot: 0,
+            context: 1,
+        })),
+        Err(Refused::Unknown),
+    ),
+    (
+        Call::Step(Step::Install(Place {
+            partition: 1,
+            slot: 16,
+            context: 0,
+        })),
+        Err(Refused::Unknown),
+    ),
     (Call::Ready(OTHER), Ok(Outcome::Build(None))),
     (Call::Finish(FIRST), Ok(Outcome::Done(Answer::Value(4)))),
     (Call::Finish(OTHER), Ok(Outcome::Done(Answer::Value(7)))),
@@ -276,11 +342,20 @@ const GROWTHS: [Row; 13] = [
     (Step::Go(FIRST), Ok(Outcome::Next)),
     (Step::Go(FIRST), Ok(Outcome::Build(None))),
     (Step::Install(FIRST), Ok(Outcome::Done(Answer::Value(5)))),
-    (Step::Issue(0, 0, Op::Upsert(b'b', 1)), Ok(Outcome::Issued(0))),
+    (
+        Step::Issue(0, 0, Op::Upsert(b'b', 1)),
+        Ok(Outcome::Issued(0)),
+    ),
     (Step::Go(FIRST), Ok(Outcome::Done(Answer::Stored))),
-    (Step::Issue(0, 0, Op::Upsert(b'c', 2)), Ok(Outcome::Issued(0))),
+    (
+        Step::Issue(0, 0, Op::Upsert(b'c', 2)),
+        Ok(Outcome::Issued(0)),
+    ),
     (Step::Go(FIRST), Ok(Outcome::Done(Answer::Stored))),
-    (Step::Issue(0, 0, Op::Upsert(b'd', 3)), Ok(Outcome::Issued(0))),
+    (
+        Step::Issue(0, 0, Op::Upsert(b'd', 3)),
+        Ok(Outcome::Issued(0)),
+    ),
     (Step::Go(FIRST), Ok(Outcome::Done(Answer::Stored))),
     (Step::Issue(0, 0, Op::Delete(b'b')), Ok(Outcome::Issued(0))),
     (Step::Go(FIRST), Ok(Outcome::Done(Answer::Deleted))),
@@ -291,10 +366,8 @@ fn is_grown(alloc: Global, rows: &[Row], lives: usize, map: &[(u8, i128)]) -> bo
     let Ok(mut world) = world(alloc, &ONE_BUCKET) else {
         return false;
     };
-    for (step, told) in rows {
-        if told_by(&mut world, *step) != *told {
-            return false;
-        }
+    if !are_told(&mut world, rows) {
+        return false;
     }
     match report(&world, alloc) {
         Ok(report) => report.lives.len() == lives && is_map(report.map.as_slice(), map),
