@@ -23,8 +23,4 @@ pub use pages::{PageReader, PageWriter};
 pub use receipts::Receipt;
 
 #[cfg(test)]
-mod fault_tests;
-#[cfg(test)]
-mod file_tests;
-#[cfg(test)]
 mod tests;

@@ -1,147 +1,144 @@
-//! Pages written and read back, and each refusal once.
-ghost use Rattle.std.specs.Prelude.{◌≡◌, IsTrue, IfOk};
-
+//! What only this crate can reach: writers and readers over any file, of which each call fails in turn, and writers at
+//! their last numbers.
 use crate::disks::Disk;
-use crate::memory::{MemoryDevice, MemoryWriter};
-use crate::messages::{FlushJob, Loaded, Written};
+use crate::files::{FileReader, FileReceipt, FileWriter};
+use crate::folders::FileDevice;
+use crate::memory::MemoryWriter;
 use crate::pages::{PageReader, PageWriter};
 use crate::receipts::Receipt;
 use fkv_functions::Refused;
 use std::alloc::Global;
+use std::fs::File;
+use std::io::{Error, ErrorKind, Read, Seek, SeekFrom, Write};
 use std::test::Fail;
+use std::{fs, io};
 
-/// What a program over any device learns from the clauses: on one that keeps, a page that is written
-/// and fetched again is the page.
-pub(crate) fn there_and_back<D: Disk>(
+/// A file of sevens, which moves ten bytes at a time and fails once, after so many calls.
+#[derive(Drop)]
+struct Faulty {
+    left: u64,
+}
+
+impl Faulty {
+    fn call(&mut self) -> io::Result<()> {
+        let (left, fails) = self.left.overflowing_sub(1);
+        self.left = left;
+        if fails {
+            return Err(Error::from(ErrorKind::Other));
+        }
+        Ok(())
+    }
+}
+
+impl Read for Faulty {
+    fn read(&mut self, buf: &mut [u8]) -> io::Result<usize> {
+        self.call()?;
+        let count = buf.len().min(10);
+        buf[..count].fill(7);
+        Ok(count)
+    }
+}
+
+impl Write for Faulty {
+    fn write(&mut self, buf: &[u8]) -> io::Result<usize> {
+        self.call()?;
+        Ok(buf.len().min(10))
+    }
+
+    fn flush(&mut self) -> io::Result<()> {
+        self.call()
+    }
+}
+
+impl Seek for Faulty {
+    fn seek(&mut self, _to: SeekFrom) -> io::Result<u64> {
+        self.call()?;
+        Ok(0)
+    }
+}
+
+/// What writing pages 0 and 1 is answered by, where the call after so many fails.
+fn written(
     alloc: Global,
-    disk: &mut D,
-    partition: u64,
-    page: u64,
-    bytes: Vec<u8>,
-) -> Result<Vec<u8>, Refused>
-    ensures { IfOk result (λ read. IsTrue D.keeps → read.items ≡ bytes.items) }
-{
-    let mut writer = disk.writer(partition)?;
-    let mut reader = disk.reader(partition)?;
-    let size = bytes.len();
-    let receipt = Written::<D>::write(&mut writer, FlushJob { page, bytes })?.into_receipt();
-    let again = receipt.again()?;
-    let loaded = Loaded::<D>::fetch(alloc, &mut reader, &again, size)?;
-    match loaded.bytes().to_vec(alloc) {
-        Ok(read) => Ok(read),
-        Err(_) => Err(Refused::NoMemory),
-    }
+    left: u64,
+) -> (Result<FileReceipt, Refused>, Result<FileReceipt, Refused>) {
+    let mut writer = FileWriter::at(alloc, Faulty { left }, 6, 0);
+    let first = writer.write(0, [7u8; 64].as_slice());
+    (first, writer.write(1, [7u8; 64].as_slice()))
 }
 
-fn page(alloc: Global, number: u8, length: usize) -> Result<Vec<u8>, Fail> {
-    let mut bytes = vec![in alloc; number; length]?;
-    if let Some(last) = bytes.last_mut() {
-        *last = 255;
-    }
-    Ok(bytes)
-}
-
-/// Writes three pages and reads them in another order, each receipt with its own bytes, then into a
-/// buffer that is too short.
-pub(crate) fn three_pages<D: Disk>(
+/// What reading two pages is refused by, where the call after so many fails.
+fn read(
     alloc: Global,
-    disk: &mut D,
-    length: usize,
-) -> Result<bool, Fail> {
-    let mut writer = disk.writer(7)?;
-    let mut receipts = Vec::new(alloc);
-    for number in 0..3u8 {
-        let job = FlushJob {
-            page: u64::from(number) + 4,
-            bytes: page(alloc, number, length)?,
-        };
-        let written = Written::<D>::write(&mut writer, job)?;
-        if written.page() != u64::from(number) + 4
-            || written.bytes() != page(alloc, number, length)?.as_slice()
-        {
-            return Ok(false);
-        }
-        receipts.push(written.into_receipt())?;
-    }
-    let mut reader = disk.reader(7)?;
-    for number in [1u8, 2, 0] {
-        let Some(receipt) = receipts.get(usize::from(number)) else {
-            return Ok(false);
-        };
-        let loaded = Loaded::<D>::fetch(alloc, &mut reader, receipt, length)?;
-        if receipt.number() != u64::from(number)
-            || receipt.page() != u64::from(number) + 4
-            || !loaded.receipt().same(receipt)
-            || loaded.bytes() != page(alloc, number, length)?.as_slice()
-        {
-            return Ok(false);
-        }
-        let fault = Refused::Device {
-            code: 3,
-            page: receipt.page(),
-        };
-        if length != 0 && reader.read(receipt, &mut page(alloc, 0, length - 1)?) != Err(fault) {
-            return Ok(false);
+    left: u64,
+    first: &FileReceipt,
+    second: &FileReceipt,
+) -> (Option<Refused>, Option<Refused>) {
+    let mut reader = FileReader::new(alloc, Faulty { left }, 6);
+    let mut out = [0u8; 64];
+    let one = reader.read(first, &mut out).err();
+    (one, reader.read(second, &mut out).err())
+}
+
+/// A device fault of this code on page 0, where the failing call is one of the first page's, or on page 1. A page is a
+/// seek and seven pieces.
+fn faults(call: u64, code: u64) -> (Option<Refused>, Option<Refused>) {
+    let first = Refused::Device { code, page: 0 };
+    let second = Refused::Device { code, page: 1 };
+    let (on_first, on_second) = (call < 8, 8 <= call && call < 16);
+    (on_first.then_some(first), on_second.then_some(second))
+}
+
+#[test]
+fn each_call_of_a_file_fails_in_turn(rt: HostRuntime) {
+    let (first, second) = written(rt.alloc(), 100);
+    assert!(rt; first.is_ok() && second.is_ok());
+    if let (Ok(first), Ok(second)) = (first, second) {
+        assert!(rt; first.number() == 0 && second.number() == 1);
+        for call in 0..20u64 {
+            let (one, other) = written(rt.alloc(), call);
+            assert!(rt; (one.err(), other.err()) == faults(call, 2), "write {call}");
+            assert!(rt;
+                read(rt.alloc(), call, &first, &second) == faults(call, 3),
+                "read {call}"
+            );
         }
     }
-    Ok(true)
+}
+
+/// The numbers of the receipts that a writer gives in turn, or what it refuses by.
+fn numbers<W: PageWriter>(writer: &mut W, page: u64) -> [Result<u64, Refused>; 3] {
+    let mut told = [Ok(0); 3];
+    for at in 0..3 {
+        told[at] = match writer.write(page, [7u8; 64].as_slice()) {
+            Ok(receipt) => Ok(receipt.number()),
+            Err(refused) => Err(refused),
+        };
+    }
+    told
 }
 
 #[test]
-fn memory_gives_back_three_pages(rt: HostRuntime) -> Result<(), Fail> {
-    for length in [0, 1, 64, 4096] {
-        assert!(rt; three_pages(rt.alloc(), &mut MemoryDevice::new(rt.alloc()), length)?);
-    }
-    let bytes = vec![in rt.alloc(); 9u8; 64]?;
-    let read = there_and_back(rt.alloc(), &mut MemoryDevice::new(rt.alloc()), 0, 3, bytes)?;
-    assert_eq!(rt; read.as_slice(), [9u8; 64].as_slice());
-    Ok(())
+fn numbers_are_used_up(rt: HostRuntime) {
+    let fault = Err(Refused::Device { code: 2, page: 6 });
+    let last = [Ok(u64::MAX - 1), fault, fault];
+    let mut memory = MemoryWriter::at(rt.alloc(), u64::MAX - 1);
+    assert!(rt; numbers(&mut memory, 6) == last);
+    let mut file = FileWriter::at(rt.alloc(), Faulty { left: 100 }, 6, u64::MAX - 1);
+    assert!(rt; numbers(&mut file, 6) == last);
+    let mut spent = FileWriter::at(rt.alloc(), Faulty { left: 100 }, 6, u64::MAX);
+    assert!(rt; numbers(&mut spent, 6) == [fault; 3]);
 }
 
 #[test]
-fn same_is_of_number_page_and_bytes(rt: HostRuntime) -> Result<(), Fail> {
-    let mut disk = MemoryDevice::new(rt.alloc());
-    let (mut one, mut other) = (disk.writer(0)?, disk.writer(1)?);
-    let first = one.write(3, b"page")?;
-    // the other writer's first receipt has the same number
-    assert!(rt; first.same(&first.again()?));
-    assert!(rt; first.same(&other.write(3, b"page")?));
-    assert!(rt; !first.same(&other.write(3, b"page")?));
-    assert!(rt; !first.same(&disk.writer(2)?.write(4, b"page")?));
-    assert!(rt; !first.same(&disk.writer(3)?.write(3, b"Page")?));
-    Ok(())
-}
-
-#[test]
-fn numbers_are_used_up(rt: HostRuntime) -> Result<(), Fail> {
-    let mut writer = MemoryWriter::at(rt.alloc(), u64::MAX - 1);
-    assert_eq!(rt; writer.write(5, b"page")?.number(), u64::MAX - 1);
-    for _ in 0..2 {
-        let refused = writer.write(6, b"page").err();
-        assert_eq!(rt; refused, Some(Refused::Device { code: 2, page: 6 }));
-    }
-    Ok(())
-}
-
-/// A page of nines, made again where memory is refused.
-fn nines(alloc: Global) -> Result<Vec<u8>, Fail> {
-    match vec![in alloc; 9u8; 64] {
-        Ok(bytes) => Ok(bytes),
-        Err(_) => Ok(vec![in alloc; 9u8; 64]?),
-    }
-}
-
-/// A page that is written and fetched, all of it again where memory is refused.
-pub(crate) fn there_and_back_again<D: Disk>(alloc: Global, disk: &mut D) -> Result<Vec<u8>, Fail> {
-    match there_and_back(alloc, disk, 5, 0, nines(alloc)?) {
-        Err(Refused::NoMemory) => Ok(there_and_back(alloc, disk, 5, 0, nines(alloc)?)?),
-        read => Ok(read?),
-    }
-}
-
-#[test]
-fn refused_growths_are_called_again(rt: HostRuntime) -> Result<(), Fail> {
-    let read = there_and_back_again(rt.alloc(), &mut MemoryDevice::new(rt.alloc()))?;
-    assert_eq!(rt; read.as_slice(), [9u8; 64].as_slice());
+fn a_file_that_is_open_to_be_read_alone(rt: HostRuntime) -> Result<(), Fail> {
+    let folder = String::from_str(rt.alloc(), "device_files/alone")?;
+    let mut disk = FileDevice::new(rt.clone()?, rt.alloc(), folder, 6);
+    let _writer = disk.writer(0)?;
+    let file = File::open(&rt, "device_files/alone/part-00.log")?;
+    let mut writer = FileWriter::at(rt.alloc(), file, 6, 0);
+    let fault = Err(Refused::Device { code: 2, page: 8 });
+    assert!(rt; numbers(&mut writer, 8) == [fault; 3]);
+    fs::remove_dir_all(&rt, "device_files/alone")?;
     Ok(())
 }

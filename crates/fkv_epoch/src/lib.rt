@@ -17,6 +17,3 @@ pub mod table;
 pub use actions::{Action, Due, ROOM, SLOTS, Waiting};
 pub use calls::Call;
 pub use table::Epochs;
-
-#[cfg(test)]
-mod tests;

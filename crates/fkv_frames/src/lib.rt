@@ -8,6 +8,3 @@
 pub mod ring;
 
 pub use ring::Frames;
-
-#[cfg(test)]
-mod tests;

@@ -24,6 +24,3 @@ pub use refusals::{Refused, What};
 pub use sums::SumFns;
 pub use updates::{Functions, OrderFree};
 pub use values::{Fixed, Known};
-
-#[cfg(test)]
-mod tests;

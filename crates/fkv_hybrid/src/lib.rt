@@ -11,8 +11,6 @@ pub mod entries;
 pub mod laws;
 pub mod log;
 mod pages;
-#[cfg(test)]
-mod tests;
 
 pub use entries::Entry;
 pub use log::Log;

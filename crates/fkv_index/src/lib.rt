@@ -23,6 +23,3 @@ mod words;
 pub use index::Index;
 pub use places::Place;
 pub use words::{NO_RECORD, Word};
-
-#[cfg(test)]
-mod tests;

@@ -20,8 +20,3 @@ pub use decisions::{Decision, DecisionOf, Met, decide, met_by};
 pub use operations::{Answer, AnswerOf, Op, OpOf};
 pub use plainly::{PlainRun, apply_plainly, run_plainly, shown};
 pub use records::Records;
-
-#[cfg(test)]
-mod records_tests;
-#[cfg(test)]
-mod tests;

@@ -6,7 +6,7 @@ use Rattle.fkv_partition.specs.declared.contexts.Context.{Context}
 use Rattle.fkv_partition.specs.Contexts.{joined, context_in}
 use Rattle.fkv_partition.specs.Views.{PartitionView, context_at, with_context, free_slot, free_context, open_context}
 use Rattle.fkv_partition.specs.Effect.{asked, asked_by}
-use Rattle.fkv_partition.proofs.ListLemmas.{get-set_same, get-set_other}
+use Rattle.fkv_functions.proofs.ListLemmas.{get-set_same, get-set_other}
 
 joined-some : {A : Type 0} (o : Option (Option A)) (x : A) → joined o ≡ Some x → o ≡ Some (Some x)
 joined-some None x h = absurd (cc)

@@ -26,7 +26,7 @@ use Rattle.fkv_partition.specs.Views.{PartitionView, partition_of, entry_for, me
 use Rattle.fkv_partition.specs.Effect.{asked, asked_by, LeavesOthers, IsEnter, IsIssue, IsEvent, IsLeave, IsGiveUp}
 use Rattle.fkv_partition.specs.Going.{Decides}
 use Rattle.fkv_partition.specs.Sound.{StandsFor, IsSound}
-use Rattle.fkv_partition.proofs.ListLemmas.{get-set_other, get-set_same}
+use Rattle.fkv_functions.proofs.ListLemmas.{get-set_other, get-set_same}
 use Rattle.fkv_partition.proofs.AskedLemmas.{open_at, context-inside, context-other, asked-same, asked-other, free-context, free-slot, idle-asked, context-left, context-elsewhere}
 
 -- a context that asks nothing to be built is fresh

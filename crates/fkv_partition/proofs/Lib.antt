@@ -1,4 +1,3 @@
-pub mod ListLemmas
 pub mod SoundLemmas
 pub mod AskedLemmas
 pub mod EventLemmas

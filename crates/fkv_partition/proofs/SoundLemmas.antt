@@ -17,7 +17,7 @@ use Rattle.fkv_partition.specs.declared.contexts.Phase.{Phase}
 use Rattle.fkv_partition.specs.declared.contexts.Phase.TheVariants.{Fresh, Prepared}
 use Rattle.fkv_partition.specs.Views.{PartitionView, empty_partition, partition_of, with_context, open_context}
 use Rattle.fkv_partition.specs.Sound.{StandsFor, IsSound}
-use Rattle.fkv_partition.proofs.ListLemmas.{get-set_cases, get-set_other, get-append_last, get-append_cases}
+use Rattle.fkv_functions.proofs.ListLemmas.{get-set_cases, get-set_other, get-append_last, get-append_cases}
 use Rattle.fkv_partition.proofs.AskedLemmas.{idle}
 
 -- records that grow leave what is newest at or below each address that is taken, and the tail does not fall

@@ -22,6 +22,3 @@ pub use contexts::{Context, Phase, Progress, ProgressOf};
 pub use limits::Config;
 pub use listing::pairs_of;
 pub use partitions::Partition;
-
-#[cfg(test)]
-mod tests;

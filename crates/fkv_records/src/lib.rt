@@ -12,8 +12,6 @@ pub mod edits;
 pub mod headers;
 pub mod records;
 pub mod shapes;
-#[cfg(test)]
-mod tests;
 
 pub use addresses::{Address, END, FIRST, NO_RECORD};
 pub use edits::{set_tombstone, write_value};

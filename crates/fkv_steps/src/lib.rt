@@ -9,8 +9,3 @@ pub use fkv_worlds::{
     End, Finish, Life, LifeOf, Outcome, OutcomeOf, Place, Report, ReportOf, Step, StepOf, World,
     replay,
 };
-
-#[cfg(test)]
-mod tests;
-#[cfg(test)]
-mod world_tests;

@@ -10,7 +10,7 @@ use Rattle.fkv_partition.specs.declared.contexts.Progress.{Progress}
 use Rattle.fkv_partition.specs.declared.contexts.Progress.TheVariants.{Done, Next, NeedsBuild}
 use Rattle.fkv_partition.specs.Views.{PartitionView}
 use Rattle.fkv_partition.specs.Effect.{IsEvent}
-use Rattle.fkv_partition.proofs.ListLemmas.{get-append_left, get-append_last}
+use Rattle.fkv_functions.proofs.ListLemmas.{get-append_left, get-append_last}
 use Rattle.fkv_worlds.specs.declared.lives.Life.{Life}
 use Rattle.fkv_worlds.specs.declared.lives.Finish.{Finish}
 use Rattle.fkv_worlds.specs.declared.lives.End.{End}

@@ -12,7 +12,7 @@ use Rattle.fkv_partition.specs.declared.contexts.Progress.{Progress}
 use Rattle.fkv_partition.specs.declared.contexts.Progress.TheVariants.{Done, Next, NeedsBuild}
 use Rattle.fkv_partition.specs.Views.{PartitionView}
 use Rattle.fkv_partition.specs.Effect.{Asked, asked, IsEnter, IsLeave, IsIssue, IsEvent, IsGiveUp}
-use Rattle.fkv_partition.proofs.ListLemmas.{get-set_cases, get-set_other, get-set_within}
+use Rattle.fkv_functions.proofs.ListLemmas.{get-set_cases, get-set_other, get-set_within}
 use Rattle.fkv_worlds.specs.declared.lives.Life.{Life}
 use Rattle.fkv_worlds.specs.declared.lives.End.{End}
 use Rattle.fkv_worlds.specs.declared.lives.End.TheVariants.{GivenUp}

@@ -13,7 +13,7 @@ use Rattle.fkv_operations.specs.declared.operations.Answer.{Answer}
 use Rattle.fkv_partition.specs.Views.{PartitionView, live_of, partition_of}
 use Rattle.fkv_hybrid.specs.Text.{live}
 use Rattle.fkv_partition.specs.Effect.{Asked, asked, LeavesOthers, IsEnter, IsLeave, IsIssue, IsGiveUp}
-use Rattle.fkv_partition.proofs.ListLemmas.{get-set_cases, get-append_last}
+use Rattle.fkv_functions.proofs.ListLemmas.{get-set_cases, get-append_last}
 use Rattle.fkv_worlds.specs.declared.lives.Life.{Life}
 use Rattle.fkv_worlds.specs.declared.lives.End.TheVariants.{Open, Finished, GivenUp}
 use Rattle.fkv_worlds.specs.Lives.{finish_of, map_before}

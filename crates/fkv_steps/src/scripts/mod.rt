@@ -20,8 +20,3 @@ pub use printing::{text_of, write_out};
 pub use reading::{LIMIT, read_script};
 pub use running::run_script;
 pub use written::Written;
-
-#[cfg(test)]
-mod run_tests;
-#[cfg(test)]
-mod tests;

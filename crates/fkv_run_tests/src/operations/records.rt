@@ -1,0 +1,276 @@
+//! Eight keys in one class and in classes of their own, over several pages, and refused growths.
+use crate::letters::name;
+use fkv_functions::{Functions, Name, Refused, SumFns};
+use fkv_operations::{Class, Records, class_of};
+use fkv_records::{Address, Shape, record_size};
+use std::alloc::Global;
+
+/// The hash of `a`, and that of `b`.
+const HASH_OF_A: u64 = 0xaf63_dc4c_8601_ec8c;
+
+const HASH_OF_B: u64 = 0xaf63_df4c_8601_f1a5;
+
+/// A hash, the bits of partitions and of buckets, and the class.
+const CLASSES: [(u64, u64, u64, u64, u64); 5] = [
+    (HASH_OF_A, 0, 8, 140, 22449),
+    (HASH_OF_A, 0, 0, 0, 22449),
+    (HASH_OF_A, 2, 3, 3, 22449),
+    (HASH_OF_B, 2, 3, 1, 22449),
+    (u64::MAX, 6, 20, 1_048_575, 32767),
+];
+
+#[test]
+fn classes_of_hashes(rt: HostRuntime) {
+    for (hash, partitions, buckets, bucket, tag) in CLASSES {
+        assert!(rt; partitions <= 6 && buckets <= 20);
+        assert!(rt; class_of(hash, partitions, buckets) == Class { bucket, tag });
+    }
+}
+
+/// A record: its key, its value or none for a tombstone, where it stands, and the one before it in its class.
+type Row = (u8, Option<i128>, Address, Address);
+
+/// Two rounds of eight keys of one class, records of 56 bytes on pages of 256 bytes.
+const ONE_CLASS: [Row; 16] = [
+    (b'a', Some(0), 64, 1),
+    (b'b', Some(1), 120, 64),
+    (b'c', Some(2), 176, 120),
+    (b'd', Some(3), 256, 176),
+    (b'e', Some(4), 312, 256),
+    (b'f', Some(5), 368, 312),
+    (b'g', Some(6), 424, 368),
+    (b'h', Some(7), 512, 424),
+    (b'a', Some(8), 568, 512),
+    (b'b', Some(9), 624, 568),
+    (b'c', Some(10), 680, 624),
+    (b'd', Some(11), 768, 680),
+    (b'e', Some(12), 824, 768),
+    (b'f', Some(13), 880, 824),
+    (b'g', Some(14), 936, 880),
+    (b'h', Some(15), 1024, 936),
+];
+
+/// The same keys with buckets of their own: the second record of each leads to its first.
+const A_CLASS_EACH: [Row; 16] = [
+    (b'a', Some(0), 64, 1),
+    (b'b', Some(1), 120, 1),
+    (b'c', Some(2), 176, 1),
+    (b'd', Some(3), 256, 1),
+    (b'e', Some(4), 312, 1),
+    (b'f', Some(5), 368, 1),
+    (b'g', Some(6), 424, 1),
+    (b'h', Some(7), 512, 1),
+    (b'a', Some(8), 568, 64),
+    (b'b', Some(9), 624, 120),
+    (b'c', Some(10), 680, 176),
+    (b'd', Some(11), 768, 256),
+    (b'e', Some(12), 824, 312),
+    (b'f', Some(13), 880, 368),
+    (b'g', Some(14), 936, 424),
+    (b'h', Some(15), 1024, 512),
+];
+
+/// A tombstone is a key's last record like another, and takes the key out of the live map.
+const TOMBSTONES: [Row; 11] = [
+    (b'a', Some(0), 64, 1),
+    (b'b', Some(1), 120, 64),
+    (b'c', Some(2), 176, 120),
+    (b'd', Some(3), 256, 176),
+    (b'e', Some(4), 312, 256),
+    (b'f', Some(5), 368, 312),
+    (b'g', Some(6), 424, 368),
+    (b'h', Some(7), 512, 424),
+    (b'c', None, 568, 512),
+    (b'f', None, 624, 568),
+    (b'f', Some(-5), 680, 624),
+];
+
+/// Records of sums in one partition, on pages of 256 bytes.
+fn records(alloc: Global, bucket_bits: u64) -> Result<Records<SumFns>, Refused> {
+    let Some(size) = record_size::<Name, i128>() else {
+        return Err(Refused::BadConfig);
+    };
+    let Some(shape) = Shape::new(8, size) else {
+        return Err(Refused::BadConfig);
+    };
+    if bucket_bits > 20 {
+        return Err(Refused::BadConfig);
+    }
+    Records::new(alloc, 0, bucket_bits, shape)
+}
+
+/// Writes a key, after it made an entry for the key's class where there is none.
+fn write(
+    records: &mut Records<SumFns>,
+    key: Name,
+    value: Option<i128>,
+) -> Result<Address, Refused> {
+    let class = records.class(&SumFns, &key);
+    if let None = records.entry(&class) {
+        records.claim(class)?;
+    }
+    let class = records.class(&SumFns, &key);
+    let Some(entry) = records.entry(&class) else {
+        return Err(Refused::Unknown);
+    };
+    records.append(class, entry, key, value)
+}
+
+/// Writes a row, again where memory is refused once, and says whether it stands where it is to.
+fn is_written(records: &mut Records<SumFns>, row: &Row) -> bool {
+    let Some(key) = name(row.0) else {
+        return false;
+    };
+    if records.tail() != row.2 {
+        return false;
+    }
+    match write(records, key, row.1) {
+        Err(Refused::NoMemory) => {
+            records.tail() == row.2 && write(records, key, row.1) == Ok(row.2)
+        }
+        told => told == Ok(row.2),
+    }
+}
+
+/// Whether the row is the key's last record.
+fn is_last(records: &Records<SumFns>, row: &Row) -> bool {
+    let Some(key) = name(row.0) else {
+        return false;
+    };
+    let class = records.class(&SumFns, &key);
+    let Some(entry) = records.entry(&class) else {
+        return false;
+    };
+    match records.trace(entry, &key) {
+        Some(last) => {
+            last.address == row.2
+                && last.previous == row.3
+                && last.key == key
+                && last.value == row.1
+        }
+        None => false,
+    }
+}
+
+/// Whether each row is its key's last record, or another row after it is of the key.
+fn are_last(records: &Records<SumFns>, rows: &[Row]) -> bool {
+    rows.iter().all(|row| {
+        is_last(records, row) || rows.iter().any(|later| later.0 == row.0 && later.2 > row.2)
+    })
+}
+
+/// How many keys are live, asked for again where memory is refused once, if each row's key has the value of its
+/// last row.
+fn live_keys(records: &Records<SumFns>, alloc: Global, rows: &[Row]) -> Option<usize> {
+    let live = match records.live(alloc) {
+        Err(Refused::NoMemory) => records.live(alloc),
+        live => live,
+    };
+    let Ok(live) = live else {
+        return None;
+    };
+    for row in rows {
+        let is_over = rows.iter().any(|later| later.0 == row.0 && later.2 > row.2);
+        let held = match name(row.0) {
+            Some(key) => live.get(&key).copied(),
+            None => None,
+        };
+        if !is_over && held != row.1 {
+            return None;
+        }
+    }
+    Some(live.len())
+}
+
+/// The number of the first row after which a look-up finds another record; that of the rows where another
+/// number of keys is live at the end; and none where all is as wanted.
+fn first_wrong(alloc: Global, bucket_bits: u64, rows: &[Row], live: usize) -> Option<usize> {
+    let made = match records(alloc, bucket_bits) {
+        Err(Refused::NoMemory) => records(alloc, bucket_bits),
+        made => made,
+    };
+    let Ok(mut records) = made else {
+        return Some(0);
+    };
+    for (at, row) in rows.iter().enumerate() {
+        if !is_written(&mut records, row) || !are_last(&records, &rows[..=at]) {
+            return Some(at);
+        }
+    }
+    if live_keys(&records, alloc, rows) == Some(live) {
+        None
+    } else {
+        Some(rows.len())
+    }
+}
+
+/// Whether a key without a record has none, where another of its class has one.
+fn is_untraced(alloc: Global, rows: &[Row], key: u8) -> Option<bool> {
+    let Ok(mut records) = records(alloc, 0) else {
+        return None;
+    };
+    for row in rows {
+        if !is_written(&mut records, row) {
+            return None;
+        }
+    }
+    let key = name(key)?;
+    let class = records.class(&SumFns, &key);
+    let entry = records.entry(&class)?;
+    Some(records.trace(entry, &key).is_none())
+}
+
+#[test]
+fn another_key_of_the_class(rt: HostRuntime) {
+    assert!(rt; is_untraced(rt.alloc(), &ONE_CLASS, b'i') == Some(true));
+    assert!(rt; is_untraced(rt.alloc(), &TOMBSTONES, b'c') == Some(false));
+}
+
+#[test]
+fn runs_of_records(rt: HostRuntime) {
+    let all: [(u64, &[Row], usize); 4] = [
+        (0, &[], 0),
+        (0, &ONE_CLASS, 8),
+        (8, &A_CLASS_EACH, 8),
+        (0, &TOMBSTONES, 7),
+    ];
+    for (at, (bucket_bits, rows, live)) in all.iter().enumerate() {
+        let wrong = first_wrong(rt.alloc(), *bucket_bits, rows, *live);
+        assert!(rt; wrong == None, "run {at}");
+    }
+}
+
+/// Run also with each allocation refused in turn, by `rt try --test --fail-alloc N`: what was refused changed
+/// nothing, is called again, and each key is found.
+#[test]
+fn refused_growths_are_called_again(rt: HostRuntime) {
+    assert!(rt; first_wrong(rt.alloc(), 8, &A_CLASS_EACH, 8) == None);
+}
+
+/// Claims the class of a key, and answers the address that its entry then has, and whether the key has a
+/// record.
+fn claimed(records: &mut Records<SumFns>, key: Name) -> Option<(Address, bool)> {
+    let class = records.class(&SumFns, &key);
+    if let Some(_) = records.entry(&class) {
+        return None;
+    }
+    if records.claim(class).is_err() {
+        return None;
+    }
+    let class = records.class(&SumFns, &key);
+    let entry = records.entry(&class)?;
+    Some((entry, records.trace(entry, &key).is_some()))
+}
+
+/// An entry that was claimed leads to no record.
+#[test]
+fn claimed_alone(rt: HostRuntime) {
+    let made = records(rt.alloc(), 0);
+    assert!(rt; made.is_ok());
+    let key = name(b'a');
+    assert!(rt; key.is_some());
+    if let (Ok(mut records), Some(key)) = (made, key) {
+        assert!(rt; claimed(&mut records, key) == Some((1, false)));
+        assert!(rt; records.live(rt.alloc()).is_ok_and(|live| live.is_empty()));
+    }
+}

@@ -1,0 +1,110 @@
+//! A partition with a clock of its own: each call is made at the next moment.
+ghost use Rattle.std.specs.Prelude.{◌≤◌};
+
+use fkv_functions::{Ask, Built, Name, Refused, SumFns};
+use fkv_operations::{Answer, OpOf};
+use fkv_partition::{Config, Partition, Progress, ProgressOf};
+use std::alloc::Global;
+
+/// A partition with the last moment that it was given.
+#[derive(Drop)]
+pub struct Driven {
+    pub partition: Partition<SumFns>,
+    pub now: u64,
+    ghost timely: { partition.moment ≤ now },
+}
+
+impl Driven {
+    pub fn new(alloc: Global, config: &Config, number: u64) -> Result<Driven, Refused> {
+        Ok(Driven {
+            partition: Partition::new(alloc, config, number)?,
+            now: 0,
+        })
+    }
+
+    pub fn enter(&mut self) -> Result<usize, Refused> {
+        let Some(now) = self.now.checked_add(1) else {
+            return Err(Refused::Worn);
+        };
+        let entered = self.partition.enter(now);
+        self.now = now;
+        entered
+    }
+
+    pub fn issue(&mut self, slot: usize, op: OpOf<SumFns>) -> Result<usize, Refused> {
+        let Some(now) = self.now.checked_add(1) else {
+            return Err(Refused::Worn);
+        };
+        let issued = self.partition.issue(slot, op, &SumFns, now);
+        self.now = now;
+        issued
+    }
+
+    pub fn go(&mut self, slot: usize, context: usize) -> Result<ProgressOf<SumFns>, Refused> {
+        let Some(now) = self.now.checked_add(1) else {
+            return Err(Refused::Worn);
+        };
+        let progress = self.partition.go(slot, context, &SumFns, now);
+        self.now = now;
+        progress
+    }
+
+    pub fn install(
+        &mut self,
+        slot: usize,
+        context: usize,
+        ask: Ask<Name, i128, i64>,
+    ) -> Result<ProgressOf<SumFns>, Refused> {
+        let Some(now) = self.now.checked_add(1) else {
+            return Err(Refused::Worn);
+        };
+        let built = Built::make(&SumFns, ask);
+        let progress = self.partition.install(slot, context, built, &SumFns, now);
+        self.now = now;
+        progress
+    }
+
+    pub fn leave(&mut self, slot: usize) -> Result<(), Refused> {
+        let Some(now) = self.now.checked_add(1) else {
+            return Err(Refused::Worn);
+        };
+        let left = self.partition.leave(slot, now);
+        self.now = now;
+        left
+    }
+
+    pub fn give_up(&mut self, slot: usize, context: usize) -> Result<(), Refused> {
+        let Some(now) = self.now.checked_add(1) else {
+            return Err(Refused::Worn);
+        };
+        let given_up = self.partition.give_up(slot, context, now);
+        self.now = now;
+        given_up
+    }
+
+    /// What follows: it goes on, or builds what is asked for.
+    fn follow(
+        &mut self,
+        slot: usize,
+        context: usize,
+        progress: ProgressOf<SumFns>,
+    ) -> Result<ProgressOf<SumFns>, Refused> {
+        match progress {
+            Progress::NeedsBuild(ask) => self.install(slot, context, ask),
+            _ => self.go(slot, context),
+        }
+    }
+
+    /// Goes on, and builds what is asked for, until the operation is answered; at most ten events.
+    pub fn finish(&mut self, slot: usize, context: usize) -> Result<Answer<i128>, Refused> {
+        let mut told = self.go(slot, context);
+        for _ in 0..10 {
+            match told {
+                Ok(Progress::Done(answer, _)) => return Ok(answer),
+                Ok(progress) => told = self.follow(slot, context, progress),
+                Err(refused) => return Err(refused),
+            }
+        }
+        Err(Refused::Stalled)
+    }
+}

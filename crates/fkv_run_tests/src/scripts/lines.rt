@@ -1,0 +1,208 @@
+//! What a line of each kind says, the line after the limit, and bytes that are no text.
+use fkv_functions::{Name, Refused};
+use fkv_operations::Op;
+use fkv_steps::Place;
+use fkv_steps::scripts::{FunctionsName, LIMIT, Line, Opening, Script, one_reading, read_script};
+use std::alloc::Global;
+
+fn read(alloc: Global, text: &str) -> Result<Script, Refused> {
+    read_script(alloc, text.as_bytes(), LIMIT)
+}
+
+/// What an operation is, its key and its amount.
+type Asked = (char, &'static [u8], i64);
+
+/// What a line is, and its numbers: partition, session and context.
+type Said = (&'static str, u64, u64, u64, Option<Asked>);
+
+const TEXT: &str = "store sum 1 8 0 18446744073709551615
+enter 000000000000000000000001
+read 1 15 a
+rmw 1 15 a_Z-9 -9223372036854775808
+rmw 1 15 abcdefghijklmnopqrstuvwxyz01234 +0005
+go 1 15 7
+install 1 15 7
+leave 1 15
+giveup 1 15 7
+ready 1 15 7
+finish 1 15 7
+do 1 15 read a
+do 1 15 rmw a -0
+upsert 1 15 a -3
+delete 1 15 a
+do 1 15 upsert a +7
+do 1 15 delete a-1";
+
+const SAID: [Said; 16] = [
+    ("enter", 1, 0, 0, None),
+    ("issue", 1, 15, 0, Some(('r', b"a", 0))),
+    (
+        "issue",
+        1,
+        15,
+        0,
+        Some(('m', b"a_Z-9", -9223372036854775808)),
+    ),
+    (
+        "issue",
+        1,
+        15,
+        0,
+        Some(('m', b"abcdefghijklmnopqrstuvwxyz01234", 5)),
+    ),
+    ("go", 1, 15, 7, None),
+    ("install", 1, 15, 7, None),
+    ("leave", 1, 15, 0, None),
+    ("giveup", 1, 15, 7, None),
+    ("ready", 1, 15, 7, None),
+    ("finish", 1, 15, 7, None),
+    ("do", 1, 15, 0, Some(('r', b"a", 0))),
+    ("do", 1, 15, 0, Some(('m', b"a", 0))),
+    ("issue", 1, 15, 0, Some(('u', b"a", -3))),
+    ("issue", 1, 15, 0, Some(('d', b"a", 0))),
+    ("do", 1, 15, 0, Some(('u', b"a", 7))),
+    ("do", 1, 15, 0, Some(('d', b"a-1", 0))),
+];
+
+/// Whether an operation is what was asked.
+fn is_op(op: &Op<Name, i64, i64>, asked: Option<Asked>) -> bool {
+    let Some((kind, key, amount)) = asked else {
+        return false;
+    };
+    let (is_kind, held) = match op {
+        Op::Read(_, input) => (kind == 'r', *input),
+        Op::Upsert(_, value) => (kind == 'u', *value),
+        Op::Rmw(_, input) => (kind == 'm', *input),
+        Op::Delete(_) => (kind == 'd', 0),
+    };
+    is_kind && held == amount && op.key().bytes() == key
+}
+
+/// Whether a place is that of these numbers.
+fn is_place(place: &Place, said: &Said) -> bool {
+    place.partition as u64 == said.1
+        && place.slot as u64 == said.2
+        && place.context as u64 == said.3
+        && said.4 == None
+}
+
+/// Whether a line says this.
+fn says(line: &Line, said: &Said) -> bool {
+    let name = match line {
+        Line::Enter { partition } => {
+            return said.0 == "enter" && *partition == said.1 && said.4 == None;
+        }
+        Line::Leave { partition, session } => {
+            return said.0 == "leave" && *partition == said.1 && *session == said.2;
+        }
+        Line::Issue {
+            partition,
+            session,
+            op,
+        } => {
+            return said.0 == "issue"
+                && *partition == said.1
+                && *session == said.2
+                && is_op(op, said.4);
+        }
+        Line::Do {
+            partition,
+            session,
+            op,
+        } => {
+            return said.0 == "do"
+                && *partition == said.1
+                && *session == said.2
+                && is_op(op, said.4);
+        }
+        Line::Go(place) => ("go", place),
+        Line::Install(place) => ("install", place),
+        Line::GiveUp(place) => ("giveup", place),
+        Line::Ready(place) => ("ready", place),
+        Line::Finish(place) => ("finish", place),
+    };
+    said.0 == name.0 && is_place(name.1, said)
+}
+
+const OPENING: Opening = Opening {
+    functions: FunctionsName::Sum,
+    partition_bits: 1,
+    bucket_bits: 8,
+    page_bits: 0,
+    frames: 18446744073709551615,
+};
+
+/// Whether a text opens the store of [`OPENING`], and its lines say this.
+fn is_read(alloc: Global, text: &str, said: &[Said]) -> bool {
+    match read(alloc, text) {
+        Ok(script) => {
+            script.opening == OPENING
+                && script.lines.len() == said.len()
+                && script
+                    .lines
+                    .iter()
+                    .zip(said.iter())
+                    .all(|(line, said)| says(line, said))
+        }
+        Err(_) => false,
+    }
+}
+
+#[test]
+fn lines_of_each_kind(rt: HostRuntime) {
+    one_reading();
+    assert!(rt; is_read(rt.alloc(), TEXT, &SAID));
+    // a last line with its line feed is the same line
+    assert!(rt; is_read(rt.alloc(), "store sum 1 8 0 18446744073709551615\n", &[]));
+}
+
+/// A first line's functions.
+const FUNCTIONS: [(&str, FunctionsName); 3] = [
+    ("store count 0 8 8 2", FunctionsName::Count),
+    ("store sum 0 8 8 2", FunctionsName::Sum),
+    ("store max 0 8 8 2", FunctionsName::Max),
+];
+
+#[test]
+fn functions_of_each_name(rt: HostRuntime) {
+    for (text, functions) in FUNCTIONS {
+        let script = read(rt.alloc(), text);
+        assert!(rt;
+            script.is_ok_and(|script| script.opening.functions == functions),
+            "{text}"
+        );
+    }
+}
+
+/// Bytes, the most lines, and the line that is bad, if one is.
+const LIMITED: [(&[u8], u32, Option<u64>); 11] = [
+    (b"store sum 0 8 8 2\nenter 0\nenter 0\nenter\n", 0, Some(1)),
+    (b"store sum 0 8 8 2\nenter 0\nenter 0\nenter\n", 1, Some(2)),
+    (b"store sum 0 8 8 2\nenter 0\nenter 0\nenter\n", 2, Some(3)),
+    (b"store sum 0 8 8 2\nenter 0\nenter 0\nenter\n", 3, Some(4)),
+    (b"store sum 0 8 8 2\nenter 0\nenter 0\nenter\n", 4, Some(4)),
+    (b"store sum 0 8 8 2\nenter 0\nenter 0\n", 2, Some(3)),
+    (b"store sum 0 8 8 2\nenter 0\nenter 0\n", 3, None),
+    (b"store sum 0 8 8 2\nenter 0\nenter 0\n", 4294967295, None),
+    (b"store sum 0 8 8 2\xff", 1_000_000, Some(1)),
+    (b"store sum 0 8 8 2\nenter 0\n\x80\n", 1_000_000, Some(3)),
+    (
+        b"store sum 0 8 8 2\nenter 0\ndo 0 0 read a\0\n",
+        1_000_000,
+        Some(3),
+    ),
+];
+
+#[test]
+fn the_line_after_the_limit(rt: HostRuntime) {
+    for (at, (bytes, limit, bad)) in LIMITED.iter().enumerate() {
+        let wanted = match *bad {
+            Some(line) => Some(Refused::BadScript { line }),
+            None => None,
+        };
+        assert!(rt;
+            read_script(rt.alloc(), *bytes, *limit).err() == wanted,
+            "row {at}"
+        );
+    }
+}

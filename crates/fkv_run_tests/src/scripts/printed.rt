@@ -1,0 +1,111 @@
+//! What outcomes, refusals and maps print.
+use fkv_functions::{Name, Refused, What};
+use fkv_operations::Answer;
+use fkv_steps::Outcome;
+use fkv_steps::scripts::{LIMIT, read_script, text_of};
+use std::alloc::Global;
+
+type Told = Result<Outcome<i128, i128>, Refused>;
+
+const STEPS: [Told; 16] = [
+    Ok(Outcome::Entered(0)),
+    Ok(Outcome::Issued(7)),
+    Ok(Outcome::Next),
+    Ok(Outcome::Build(None)),
+    Ok(Outcome::Build(Some(-5))),
+    Ok(Outcome::Done(Answer::Value(-170141183460469231731687303715884105728))),
+    Ok(Outcome::Done(Answer::Absent)),
+    Ok(Outcome::Done(Answer::Stored)),
+    Ok(Outcome::Done(Answer::Deleted)),
+    Ok(Outcome::GivenUp),
+    Ok(Outcome::Left),
+    Err(Refused::NoMemory),
+    Err(Refused::Stranger {
+        what: What::Page,
+        held: 1,
+        came: 2,
+    }),
+    Err(Refused::Stalled),
+    Err(Refused::BadScript { line: 3 }),
+    Err(Refused::NotReady),
+];
+
+const PAIRS: [(&[u8], i128); 2] = [
+    (b"a", 12),
+    (b"a-1", 170141183460469231731687303715884105727),
+];
+
+const TEXT: &str = "entered 0
+issued 7
+next
+build none
+build -5
+done value -170141183460469231731687303715884105728
+done absent
+done stored
+done deleted
+given up
+left
+refused NoMemory
+refused Stranger
+refused Stalled
+refused BadScript
+refused NotReady
+map 2
+a 12
+a-1 170141183460469231731687303715884105727
+";
+
+/// Names with their values, asked for again where memory is refused once.
+fn pairs_of(alloc: Global, pairs: &[(&[u8], i128)]) -> Option<Vec<(Name, i128)>> {
+    let mut named = Vec::new(alloc);
+    for (key, value) in pairs {
+        let pair = (Name::new(key)?, *value);
+        if named.push(pair).is_err() && named.push(pair).is_err() {
+            return None;
+        }
+    }
+    Some(named)
+}
+
+/// Whether outcomes and pairs print this, again where memory is refused once.
+fn prints(alloc: Global, steps: &[Told], pairs: &[(&[u8], i128)], wanted: &str) -> bool {
+    let Some(pairs) = pairs_of(alloc, pairs) else {
+        return false;
+    };
+    let text = match text_of(alloc, steps, pairs.as_slice()) {
+        Err(Refused::NoMemory) => text_of(alloc, steps, pairs.as_slice()),
+        text => text,
+    };
+    match text {
+        Ok(text) => text.as_slice() == wanted.as_bytes(),
+        Err(_) => false,
+    }
+}
+
+#[test]
+fn printed_texts(rt: HostRuntime) {
+    assert!(rt; prints(rt.alloc(), &STEPS, &PAIRS, TEXT));
+    assert!(rt; prints(rt.alloc(), &[], &[], "map 0\n"));
+    let none: [Result<Outcome<u64, i64>, Refused>; 0] = [];
+    assert!(rt; text_of(rt.alloc(), none.as_slice(), &[]).is_ok_and(|text| text.len() == 6));
+}
+
+/// Whether a script of so many lines is read, again where memory is refused once.
+fn is_read(alloc: Global, text: &str, lines: usize) -> bool {
+    let script = match read_script(alloc, text.as_bytes(), LIMIT) {
+        Err(Refused::NoMemory) => read_script(alloc, text.as_bytes(), LIMIT),
+        script => script,
+    };
+    match script {
+        Ok(script) => script.lines.len() == lines,
+        Err(_) => false,
+    }
+}
+
+/// Run also with each allocation refused in turn, by `rt try --test --fail-alloc N`.
+#[test]
+fn refused_growths_are_called_again(rt: HostRuntime) {
+    assert!(rt; is_read(rt.alloc(), "store sum 0 8 8 2\nenter 0\nrmw 0 0 a 5\n", 2));
+    assert!(rt; prints(rt.alloc(), &STEPS, &PAIRS, TEXT));
+}

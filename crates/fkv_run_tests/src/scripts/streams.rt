@@ -1,0 +1,176 @@
+//! Readers and writers that fail, and refused growths.
+use super::failing::{Breaking, Filling};
+use fkv_functions::Refused;
+use fkv_steps::scripts::{LIMIT, read_script, run_script, write_out};
+use std::alloc::Global;
+use std::io::ErrorKind;
+
+/// What reading a text is refused by, where the call after so many fails.
+fn broken(alloc: Global, text: &str, left: u64, kind: ErrorKind) -> Option<Refused> {
+    let text = text.as_bytes();
+    read_script(alloc, Breaking { text, left, kind }, LIMIT).err()
+}
+
+const UNREADABLE: Option<Refused> = Some(Refused::Unreadable { number: 1 });
+
+/// Texts, and what reading them is refused by where nothing fails. Four calls give the bytes, and the fifth
+/// says that there are no more.
+const TEXTS: [(&str, Option<Refused>); 2] = [
+    ("store sum 0 8 8 2\n", None),
+    (
+        "x\nenter 0\nenter 0\n",
+        Some(Refused::BadScript { line: 1 }),
+    ),
+];
+
+#[test]
+fn a_reader_that_fails(rt: HostRuntime) {
+    for (text, refused) in TEXTS {
+        for call in 0..7u64 {
+            let wanted = if call < 5 { UNREADABLE } else { refused };
+            let told = broken(rt.alloc(), text, call, ErrorKind::Other);
+            assert!(rt; told == wanted, "{call}");
+            let again = broken(rt.alloc(), text, call, ErrorKind::Interrupted);
+            assert!(rt; again == refused, "{call}");
+        }
+    }
+}
+
+/// Whether a script is refused as one that can't be read, and nothing is written.
+fn is_unreadable(alloc: Global, text: &str, left: u64) -> bool {
+    let mut written = Vec::new(alloc);
+    let text = text.as_bytes();
+    let kind = ErrorKind::Other;
+    let told = run_script(alloc, Breaking { text, left, kind }, &mut written);
+    told == Err(Refused::Unreadable { number: 1 }) && written.is_empty()
+}
+
+const UNREAD: [(&str, u64); 4] = [
+    ("", 0),
+    ("bad\n", 1),
+    ("store sum 0 8 8 2\nenter 0\n", 2),
+    ("store sum 0 8 8 2\nenter 0\n", 6),
+];
+
+#[test]
+fn scripts_that_can_not_be_read(rt: HostRuntime) {
+    for (text, left) in UNREAD {
+        assert!(rt; is_unreadable(rt.alloc(), text, left), "{text}");
+    }
+}
+
+/// A writer that fails so after so many calls.
+fn filling(alloc: Global, left: u64, kind: Option<ErrorKind>) -> Filling {
+    Filling {
+        text: Vec::new(alloc),
+        left,
+        kind,
+    }
+}
+
+const BYTES: &[u8] = b"0123456789";
+
+/// Whether ten bytes are written to this end, and these are what the writer took.
+fn is_written(
+    alloc: Global,
+    left: u64,
+    kind: Option<ErrorKind>,
+    told: Result<(), Refused>,
+    taken: &[u8],
+) -> bool {
+    let mut writer = filling(alloc, left, kind);
+    write_out(&mut writer, BYTES) == told && writer.text.as_slice() == taken
+}
+
+/// The call that fails, and what the writer took before it: four calls take bytes, and the fifth flushes.
+const TAKEN: [(u64, &[u8]); 7] = [
+    (0, b""),
+    (1, b"012"),
+    (2, b"012345"),
+    (3, b"012345678"),
+    (4, b"0123456789"),
+    (5, b"0123456789"),
+    (6, b"0123456789"),
+];
+
+#[test]
+fn a_writer_that_fails(rt: HostRuntime) {
+    for (call, taken) in TAKEN {
+        let told = if call < 5 {
+            Err(Refused::Unwritable)
+        } else {
+            Ok(())
+        };
+        let other = Some(ErrorKind::Other);
+        assert!(rt; is_written(rt.alloc(), call, other, told, taken), "{call}");
+        assert!(rt; is_written(rt.alloc(), call, None, told, taken), "{call}");
+        // a call that is interrupted is made again, but for a flush
+        let told = if call == 4 {
+            Err(Refused::Unwritable)
+        } else {
+            Ok(())
+        };
+        let again = Some(ErrorKind::Interrupted);
+        assert!(rt; is_written(rt.alloc(), call, again, told, BYTES), "{call}");
+    }
+}
+
+const SCRIPT: &str = "store sum 0 0 8 2
+enter 0
+do 0 0 rmw a 5
+do 0 0 upsert b 1
+do 0 0 upsert c 2
+do 0 0 rmw d 3
+do 0 0 delete b
+";
+
+const PRINTED: &str = "entered 0
+done value 5
+done stored
+done stored
+done value 3
+done deleted
+map 3
+a 5
+c 2
+d 3
+";
+
+/// Whether a script whose writer fails after so many calls is refused, and the front of the output is written.
+fn is_unwritable(alloc: Global, left: u64) -> bool {
+    let mut writer = filling(alloc, left, Some(ErrorKind::Other));
+    let told = run_script(alloc, SCRIPT.as_bytes(), &mut writer);
+    told == Err(Refused::Unwritable)
+        && writer.text.len() as u64 == 3 * left.min(1000)
+        && PRINTED.as_bytes().starts_with(writer.text.as_slice())
+}
+
+#[test]
+fn scripts_that_can_not_be_written(rt: HostRuntime) {
+    for left in 0..28u64 {
+        assert!(rt; is_unwritable(rt.alloc(), left), "{left}");
+    }
+}
+
+/// Whether the script prints its text, run again where memory was refused once, before which nothing was
+/// written.
+fn is_run(alloc: Global) -> bool {
+    let mut written = Vec::new(alloc);
+    let told = match run_script(alloc, SCRIPT.as_bytes(), &mut written) {
+        Err(Refused::NoMemory) if written.is_empty() => {
+            run_script(alloc, SCRIPT.as_bytes(), &mut written)
+        }
+        told => told,
+    };
+    // a writer that takes memory may itself be the one that is refused
+    match told {
+        Err(Refused::Unwritable) => PRINTED.as_bytes().starts_with(written.as_slice()),
+        told => told == Ok(()) && written.as_slice() == PRINTED.as_bytes(),
+    }
+}
+
+/// Run also with each allocation refused in turn, by `rt try --test --fail-alloc N`.
+#[test]
+fn refused_growths_are_called_again(rt: HostRuntime) {
+    assert!(rt; is_run(rt.alloc()));
+}
