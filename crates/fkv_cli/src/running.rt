@@ -30,9 +30,14 @@ pub fn run<R: Read + Drop, W: Write, E: Write>(
     writer: &mut W,
     faults: &mut E,
 ) -> u8
-    ensures done { result ≡ 0 → (AsksReplay (map string_bytes words.now) × PrintsAll (R.remaining reader) (W.contents writer.old) (W.contents writer.new)) ⊎ MayAskHelp (map string_bytes words.now) }
+    ensures done { result ≡ 0 → (AsksReplay (map string_bytes words.now)
+        × PrintsAll (R.remaining reader) (W.contents writer.old) (W.contents writer.new))
+        ⊎ MayAskHelp (map string_bytes words.now) }
     ensures quiet { result ≡ 0 → E.contents faults.new ≡ E.contents faults.old }
-    ensures fault { result ≡ 1 → (W.contents writer.new ≡ W.contents writer.old) ⊎ (AsksReplay (map string_bytes words.now) × PrintsPart (R.remaining reader) (W.contents writer.old) (W.contents writer.new)) ⊎ MayAskHelp (map string_bytes words.now) }
+    ensures fault { result ≡ 1 → (W.contents writer.new ≡ W.contents writer.old)
+        ⊎ (AsksReplay (map string_bytes words.now)
+        × PrintsPart (R.remaining reader) (W.contents writer.old) (W.contents writer.new))
+        ⊎ MayAskHelp (map string_bytes words.now) }
     ensures mistake { result ≡ 2 → MayBeMistaken (map string_bytes words.now) × (W.contents writer.new ≡ W.contents writer.old) }
     ensures only { (result ≡ 0) ⊎ (result ≡ 1) ⊎ (result ≡ 2) }
 {
@@ -64,7 +69,8 @@ pub fn tell<E: Write>(faults: &mut E, refused: Refused) -> u8
 /// Refuses a command line with a word that is no text, in clap's own words, and answers its status.
 pub fn refuse_words<E: Write>(faults: &mut E) -> u8
     ensures status { result ≡ 2 }
-    ensures told { AppendsPrefix (E.contents faults.old) (E.contents faults.new) (line (codes "error: invalid UTF-8 was detected in one or more arguments")) }
+    ensures told { AppendsPrefix (E.contents faults.old) (E.contents faults.new)
+        (line (codes "error: invalid UTF-8 was detected in one or more arguments")) }
 {
     let text = "error: invalid UTF-8 was detected in one or more arguments\n";
     let _untold = write_out(faults, text.as_bytes());
