@@ -50,8 +50,9 @@ impl<F: Functions> World<F> {
         })
     }
 
-    /// Does a step and keeps its outcome; nothing is done where there is no memory to keep it.
-    pub(crate) fn try_step(
+    /// Does a step and keeps its outcome, which it answers; `None` where there is no memory to keep it, and
+    /// then nothing is done. [`World::step`] has what is refused.
+    pub fn try_step(
         &mut self,
         functions: &F,
         step: StepOf<F>,
