@@ -1,5 +1,5 @@
 -- What the lines of a script do, and what a whole script prints.
-use Rattle.std.specs.Prelude.{◌≡◌, ℕ, ℤ, pos, negsuc, List, [], ◌∷◌, ◌++◌, map, Option, Some, Result, Ok, Err}
+use Rattle.std.specs.Prelude.{◌≡◌, ◌≤◌, length, ℕ, ℤ, pos, negsuc, List, [], ◌∷◌, ◌++◌, map, Option, Some, Result, Ok, Err}
 use Rattle.std.specs.declared.cmp.Ordering.{Ordering}
 use Rattle.std.specs.Fmt.{decimal, signed_decimal}
 use Rattle.std.specs.BTreeMap.{is_at}
@@ -140,17 +140,20 @@ Prints Sum config lines text =
 Prints Max config lines text =
     IsPrintedBy name_cmp maxima hash_of (λ n. n) signed_decimal signed_decimal config (record_size Max) lines text
 
--- the output of an input: it says a script, whose numbers are within the limits, and this is what the script prints
+-- the output of an input: it says a script of at most 1,000,000 lines, whose numbers are within the limits, and this is what
+-- the script prints
 pub record IsOutputOf (input text : List ℕ) : Type 0 where
   pub opening : Opening
   pub lines : List Line
+  pub short : length (lines_of input) ≤ 1000000
   pub says : SaysScript (lines_of input) opening lines
   pub within : IsWithinLimits (config_of opening) (record_size opening.functions)
   pub prints : Prints opening.functions (config_of opening) lines text
 
--- an input says a script with a number outside the limits
+-- an input says a script of at most 1,000,000 lines with a number outside the limits
 pub record HasBadConfig (input : List ℕ) : Type 0 where
   pub opening : Opening
   pub lines : List Line
+  pub short : length (lines_of input) ≤ 1000000
   pub says : SaysScript (lines_of input) opening lines
   pub outside : ¬ IsWithinLimits (config_of opening) (record_size opening.functions)

@@ -9,7 +9,7 @@ loop-init g c = λ n new result all p. subst (λ k. Pursues g.F.Key.Ord.cmp g.F.
 
 pub loop-preserved : goal.loop-preserved
 loop-preserved g c = λ n new result all p. c.loop.invariant (suc n) new result (omega arith)
-    (goes_on n c.loop.step c.in-Some-following.next c.loop.self c.try_step.new.self c.in-Some.told (record { acts = c.in-Some.ensures.acts; outcomes = c.in-Some.ensures.kept }) (sym c.in-Some-following.ensures) p)
+    (goes_on n c.loop.step c.in-Some-following.next c.loop.self c.try_step.new.self c.in-Some.told c.in-Some.ensures.kept (sym c.in-Some-following.ensures) p)
 
 pub returns-in_default-clause-pursues : goal.returns-in_default-clause-pursues
 returns-in_default-clause-pursues g c =
@@ -21,7 +21,7 @@ pub returns-in_default-following-clause-pursues : goal.returns-in_default-follow
 returns-in_default-following-clause-pursues g c =
     let within = c.loop-test.true in
     c.loop.invariant (suc (10000 - suc c.loop.counter)) c.try_step.new.self (Some c.in-Some.told) (omega arith)
-    (ends (10000 - suc c.loop.counter) c.loop.step c.loop.self c.in-Some.told (record { acts = c.in-Some.ensures.acts; outcomes = c.in-Some.ensures.kept }) (sym c.in_default-following.ensures) refl)
+    (ends (10000 - suc c.loop.counter) c.loop.step c.loop.self c.in-Some.told c.in-Some.ensures.kept (sym c.in_default-following.ensures) refl)
 
 pub returns-clause-pursues : goal.returns-clause-pursues
 returns-clause-pursues g c =
