@@ -1,13 +1,22 @@
 -- Lines of a script in turn.
-use Rattle.std.proofs.Common.{ℕ, ℤ, List, [], ◌∷◌, ◌++◌, Result, refl, subst}
+use Rattle.std.proofs.Common.{◌≡◌, ℕ, ℤ, suc, List, [], ◌∷◌, ◌++◌, Option, Some, None, Result, Ok, Err, refl, sym, ◌∙◌, ap, subst}
 use Rattle.std.specs.declared.cmp.Ordering.{Ordering}
 use Rattle.fkv_functions.specs.Meanings.{Meanings}
 use Rattle.fkv_functions.specs.declared.names.Name.{Name}
 use Rattle.fkv_functions.specs.declared.refusals.Refused.{Refused}
+use Rattle.fkv_functions.specs.declared.refusals.Refused.TheVariants.{Stalled}
+use Rattle.fkv_operations.specs.declared.operations.Answer.{Answer}
 use Rattle.fkv_worlds.specs.declared.outcomes.Outcome.{Outcome}
+use Rattle.fkv_worlds.specs.declared.outcomes.Outcome.TheVariants as outcome
+use Rattle.fkv_worlds.specs.declared.pursuits.Pursuit.{Pursuit}
+use Rattle.fkv_worlds.specs.declared.steps.Place.{Place}
+use Rattle.fkv_worlds.specs.declared.steps.Step.{Step}
+use Rattle.fkv_worlds.specs.Histories.{answer_by, answers_in}
+use Rattle.fkv_worlds.specs.Reports.{IsKept, RunsTo, Pursues, unkept, stalls, ends, goes_on, follows}
 use Rattle.fkv_steps.specs.declared.scripts.lines.Line.{Line}
+use Rattle.fkv_steps.specs.declared.scripts.lines.Line.TheVariants.{Enter, Leave, Issue, Do, Go, Install, GiveUp, Ready, Finish}
 use Rattle.fkv_worlds.specs.States.{WorldView}
-use Rattle.fkv_steps.specs.Running.{RunsLine, RunLines}
+use Rattle.fkv_steps.specs.Running.{FinishesIssued, RunsLine, RunLines}
 
 pub lines-append : {V O : Type 0} (cmp : Name → Name → Ordering) (f : Meanings Name V ℤ O) (code : Name → ℕ) (written : ℤ → V) (v u w : WorldView Name V ℤ O) (ls : List Line) (ts : List (Result (Outcome V O) Refused)) (l : Line) (t : Result (Outcome V O) Refused)
     → RunLines cmp f code written v ls ts u → RunsLine cmp f code written u w t l → RunLines cmp f code written v (ls ++ l ∷ []) (ts ++ t ∷ []) w
@@ -15,3 +24,109 @@ lines-append cmp f code written v u w [] [] l t run one = (w, subst (λ x. RunsL
 lines-append cmp f code written v u w [] (s ∷ ts) l t run one = absurd run
 lines-append cmp f code written v u w (k ∷ ls) [] l t run one = absurd run
 lines-append cmp f code written v u w (k ∷ ls) (s ∷ ts) l t run one = (run.0, run.1, lines-append cmp f code written run.0 u w ls ts l t run.2 one)
+
+-- ---- the steps of lines, and the answers that they told
+append-nothing : {A : Type 0} (xs : List A) → xs ++ [] ≡ xs
+append-nothing [] = refl
+append-nothing (x ∷ xs) = ap (λ ys. x ∷ ys) (append-nothing xs)
+
+append-assoc : {A : Type 0} (xs ys zs : List A) → (xs ++ ys) ++ zs ≡ xs ++ (ys ++ zs)
+append-assoc [] ys zs = refl
+append-assoc (x ∷ xs) ys zs = ap (λ ws. x ∷ ws) (append-assoc xs ys zs)
+
+answer-joined : {V O : Type 0} (t : Result (Outcome V O) Refused) (xs ys : List (Answer O)) → answer_by t (xs ++ ys) ≡ answer_by t xs ++ ys
+answer-joined (Ok (outcome.Entered slot)) xs ys = refl
+answer-joined (Ok outcome.Left) xs ys = refl
+answer-joined (Ok (outcome.Issued c)) xs ys = refl
+answer-joined (Ok outcome.Next) xs ys = refl
+answer-joined (Ok (outcome.Build source)) xs ys = refl
+answer-joined (Ok (outcome.Done a)) xs ys = refl
+answer-joined (Ok outcome.GivenUp) xs ys = refl
+answer-joined (Err e) xs ys = refl
+
+answers-joined : {V O : Type 0} (ts us : List (Result (Outcome V O) Refused)) → answers_in (ts ++ us) ≡ answers_in ts ++ answers_in us
+answers-joined [] us = refl
+answers-joined (t ∷ ts) us = ap (answer_by t) (answers-joined ts us) ∙ answer-joined t (answers_in ts) (answers_in us)
+
+-- a step that another follows told no answer
+silent : {K V I O : Type 0} (pursuit : Pursuit) (place : Place) (x : Result (Outcome V O) Refused) (t : Step K V I) → follows pursuit place x ≡ Some t → answers_in (x ∷ []) ≡ []
+silent pursuit place (Ok (outcome.Entered slot)) t h = refl
+silent pursuit place (Ok outcome.Left) t h = refl
+silent pursuit place (Ok (outcome.Issued c)) t h = refl
+silent pursuit place (Ok outcome.Next) t h = refl
+silent pursuit place (Ok (outcome.Build source)) t h = refl
+silent pursuit place (Ok (outcome.Done a)) t h = absurd (cc)
+silent pursuit place (Ok outcome.GivenUp) t h = refl
+silent pursuit place (Err e) t h = refl
+
+-- steps from one world to another, of which these are all the answers
+pub record IsRun {K V I O : Type 0} (cmp : K → K → Ordering) (f : Meanings K V I O) (code : K → ℕ) (v w : WorldView K V I O) (told : List (Result (Outcome V O) Refused)) : Type 0 where
+  pub steps : List (Step K V I)
+  pub ran : RunsTo cmp f code v steps w
+  pub answers : answers_in w.outcomes ≡ answers_in v.outcomes ++ answers_in told
+
+module _ {K V I O : Type 0} (cmp : K → K → Ordering) (f : Meanings K V I O) (code : K → ℕ) where
+  runs-joined : (v u w : WorldView K V I O) (ss rs : List (Step K V I)) → RunsTo cmp f code v ss u → RunsTo cmp f code u rs w → RunsTo cmp f code v (ss ++ rs) w
+  runs-joined v u w [] rs one two = subst (λ x. RunsTo cmp f code x rs w) one two
+  runs-joined v u w (s ∷ ss) rs one two = (one.0, one.1, one.2, runs-joined one.0 u w ss rs one.3 two)
+
+  run-nothing : (v : WorldView K V I O) → IsRun cmp f code v v []
+  run-nothing v = record { steps = []; ran = refl; answers = sym (append-nothing (answers_in v.outcomes)) }
+
+  run-one : (v w : WorldView K V I O) (s : Step K V I) (t : Result (Outcome V O) Refused) → IsKept cmp f code v w s t → IsRun cmp f code v w (t ∷ [])
+  run-one v w s t kept = record { steps = s ∷ []; ran = (w, t, kept, refl); answers = ap answers_in kept.outcomes ∙ answers-joined v.outcomes (t ∷ []) }
+
+  run-joined : (v u w : WorldView K V I O) (ts us : List (Result (Outcome V O) Refused)) → IsRun cmp f code v u ts → IsRun cmp f code u w us → IsRun cmp f code v w (ts ++ us)
+  run-joined v u w ts us one two = record {
+    steps = one.steps ++ two.steps;
+    ran = runs-joined v u w one.steps two.steps one.ran two.ran;
+    answers = two.answers ∙ ap (λ xs. xs ++ answers_in us) one.answers ∙ append-assoc (answers_in v.outcomes) (answers_in ts) (answers_in us) ∙ ap (λ xs. answers_in v.outcomes ++ xs) (sym (answers-joined ts us));
+  }
+
+  -- steps that told the same answers
+  run-told : (v w : WorldView K V I O) (ts us : List (Result (Outcome V O) Refused)) → answers_in ts ≡ answers_in us → IsRun cmp f code v w ts → IsRun cmp f code v w us
+  run-told v w ts us same run = record { steps = run.steps; ran = run.ran; answers = run.answers ∙ ap (λ xs. answers_in v.outcomes ++ xs) same }
+
+  run-pursued : (pursuit : Pursuit) (place : Place) (w : WorldView K V I O) (result : Option (Result (Outcome V O) Refused)) (n : ℕ) (s : Step K V I) (v : WorldView K V I O) (t : Result (Outcome V O) Refused)
+      → Pursues cmp f code pursuit place w result n s v → result ≡ Some t → IsRun cmp f code v w (t ∷ [])
+  run-pursued pursuit place w result n s v t (unkept m s' v' same is) h = absurd (cc)
+  run-pursued pursuit place w result n s v t (stalls s' v' same is) h =
+      let e : t ≡ Err Stalled = cc in
+      rw (same, e) (run-told v v [] (Err Stalled ∷ []) refl (run-nothing v))
+  run-pursued pursuit place w result n s v t (ends m s' v' x kept last is) h =
+      let e : x ≡ t = cc in
+      subst (λ y. IsRun cmp f code v w (y ∷ [])) e (run-one v w s x kept)
+  run-pursued pursuit place w result n s v t (goes_on m s' next v' u x kept follow rest) h =
+      run-told v w (x ∷ t ∷ []) (t ∷ []) (answers-joined (x ∷ []) (t ∷ []) ∙ ap (λ xs. xs ++ answers_in (t ∷ [])) (silent pursuit place x next follow))
+      (run-joined v u w (x ∷ []) (t ∷ []) (run-one v u s x kept) (run-pursued pursuit place w result m next u t rest h))
+
+module _ {V O : Type 0} (cmp : Name → Name → Ordering) (f : Meanings Name V ℤ O) (code : Name → ℕ) (written : ℤ → V) where
+  run-issued : (p slot : ℕ) (mid w : WorldView Name V ℤ O) (told issued : Result (Outcome V O) Refused) (v : WorldView Name V ℤ O) (s : Step Name V ℤ)
+      → IsKept cmp f code v mid s issued → FinishesIssued cmp f code p slot mid w told issued → IsRun cmp f code v w (told ∷ [])
+  run-issued p slot mid w told (Ok (outcome.Issued c)) v s kept h =
+      run-told cmp f code v w (Ok (outcome.Issued c) ∷ told ∷ []) (told ∷ []) refl
+      (run-joined cmp f code v mid w (Ok (outcome.Issued c) ∷ []) (told ∷ []) (run-one cmp f code v mid s (Ok (outcome.Issued c)) kept) (run-pursued cmp f code _ _ w (Some told) 10000 _ mid told h refl))
+  run-issued p slot mid w told (Ok (outcome.Entered x)) v s kept h = rw (h.0, h.1) (run-one cmp f code v mid s _ kept)
+  run-issued p slot mid w told (Ok outcome.Left) v s kept h = rw (h.0, h.1) (run-one cmp f code v mid s _ kept)
+  run-issued p slot mid w told (Ok outcome.Next) v s kept h = rw (h.0, h.1) (run-one cmp f code v mid s _ kept)
+  run-issued p slot mid w told (Ok (outcome.Build x)) v s kept h = rw (h.0, h.1) (run-one cmp f code v mid s _ kept)
+  run-issued p slot mid w told (Ok (outcome.Done x)) v s kept h = rw (h.0, h.1) (run-one cmp f code v mid s _ kept)
+  run-issued p slot mid w told (Ok outcome.GivenUp) v s kept h = rw (h.0, h.1) (run-one cmp f code v mid s _ kept)
+  run-issued p slot mid w told (Err e) v s kept h = rw (h.0, h.1) (run-one cmp f code v mid s _ kept)
+
+  run-line : (v w : WorldView Name V ℤ O) (t : Result (Outcome V O) Refused) (l : Line) → RunsLine cmp f code written v w t l → IsRun cmp f code v w (t ∷ [])
+  run-line v w t (Enter p) h = run-one cmp f code v w _ t h
+  run-line v w t (Leave p slot) h = run-one cmp f code v w _ t h
+  run-line v w t (Issue p slot op) h = run-one cmp f code v w _ t h
+  run-line v w t (Do p slot op) h = run-issued p slot h.0 w t h.1 v _ h.2 h.3
+  run-line v w t (Go place) h = run-one cmp f code v w _ t h
+  run-line v w t (Install place) h = run-one cmp f code v w _ t h
+  run-line v w t (GiveUp place) h = run-one cmp f code v w _ t h
+  run-line v w t (Ready place) h = run-pursued cmp f code _ place w (Some t) 10000 _ v t h refl
+  run-line v w t (Finish place) h = run-pursued cmp f code _ place w (Some t) 10000 _ v t h refl
+
+  pub run-lines : (v w : WorldView Name V ℤ O) (ls : List Line) (ts : List (Result (Outcome V O) Refused)) → RunLines cmp f code written v ls ts w → IsRun cmp f code v w ts
+  run-lines v w [] [] h = rw h (run-nothing cmp f code v)
+  run-lines v w [] (t ∷ ts) h = absurd h
+  run-lines v w (l ∷ ls) [] h = absurd h
+  run-lines v w (l ∷ ls) (t ∷ ts) h = run-joined cmp f code v h.0 w (t ∷ []) ts (run-line v h.0 t l h.1) (run-lines h.0 w ls ts h.2)

@@ -1,5 +1,5 @@
 -- What the lines of a script do, and what a whole script prints.
-use Rattle.std.specs.Prelude.{◌≡◌, ℕ, ℤ, pos, negsuc, List, [], ◌∷◌, ◌++◌, Result, Ok, Err}
+use Rattle.std.specs.Prelude.{◌≡◌, ◌≤◌, length, ℕ, ℤ, pos, negsuc, List, [], ◌∷◌, ◌++◌, map, Option, Some, Result, Ok, Err}
 use Rattle.std.specs.declared.cmp.Ordering.{Ordering}
 use Rattle.std.specs.Fmt.{decimal, signed_decimal}
 use Rattle.std.specs.BTreeMap.{is_at}
@@ -17,6 +17,7 @@ use Rattle.fkv_partition.specs.declared.limits.Config.{Config}
 use Rattle.fkv_partition.specs.Limits.{IsWithinLimits}
 use Rattle.fkv_worlds.specs.declared.outcomes.Outcome.{Outcome}
 use Rattle.fkv_worlds.specs.declared.outcomes.Outcome.TheVariants.{Entered, Left, Issued, Next, Build, Done, GivenUp}
+use Rattle.fkv_worlds.specs.declared.steps.Step.{Step}
 use Rattle.fkv_worlds.specs.declared.steps.Step.TheVariants as step
 use Rattle.fkv_worlds.specs.declared.pursuits.Pursuit.TheVariants as pursuit
 use Rattle.fkv_steps.specs.declared.scripts.lines.Line.{Line}
@@ -26,10 +27,10 @@ use Rattle.fkv_steps.specs.declared.scripts.lines.FunctionsName.{FunctionsName}
 use Rattle.fkv_steps.specs.declared.scripts.lines.FunctionsName.TheVariants.{Count, Sum, Max}
 use Rattle.fkv_steps.specs.Script.{lines_of, SaysScript}
 use Rattle.fkv_worlds.specs.States.{WorldView, empty_world}
-use Rattle.fkv_worlds.specs.Acts.{Steps}
+use Rattle.fkv_worlds.specs.Histories.{backwards, issues_in, issue_of, answers_in}
 use Rattle.fkv_worlds.specs.Headline.{IsHeadline}
 use Rattle.fkv_worlds.specs.Worlds.{world_live}
-use Rattle.fkv_worlds.specs.Reports.{Pursues}
+use Rattle.fkv_worlds.specs.Reports.{IsKept, RunsTo, Pursues}
 use Rattle.fkv_steps.specs.Printing.{steps_text, map_text}
 
 -- the configuration that a first line names; its id is 1, and its turns are 1,000,000
@@ -47,7 +48,7 @@ config_of o = record {
 abbrev pub FinishesIssued : {V O : Type 0} → (Name → Name → Ordering) → Meanings Name V ℤ O → (Name → ℕ) → ℕ → ℕ
     → WorldView Name V ℤ O → WorldView Name V ℤ O → Result (Outcome V O) Refused → Result (Outcome V O) Refused → Type 0
 FinishesIssued cmp f code p slot mid new told (Ok (Issued c)) =
-    Pursues cmp f code pursuit.Finish (record { partition = p; slot = slot; context = c }) new told 10000
+    Pursues cmp f code pursuit.Finish (record { partition = p; slot = slot; context = c }) new (Some told) 10000
     (step.Go (record { partition = p; slot = slot; context = c })) mid
 FinishesIssued cmp f code p slot mid new told (Ok (Entered x)) = (new ≡ mid) × (told ≡ Ok (Entered x))
 FinishesIssued cmp f code p slot mid new told (Ok Left) = (new ≡ mid) × (told ≡ Ok Left)
@@ -64,23 +65,25 @@ op_of written (Upsert k n) = Upsert k (written n)
 op_of written (Rmw k n) = Rmw k n
 op_of written (Delete k) = Delete k
 
--- what a line does, and tells; an amount is written as this value
+-- what a line does, and tells: a step, or several, each of them kept; an amount is written as this value
 abbrev pub RunsLine : {V O : Type 0} → (Name → Name → Ordering) → Meanings Name V ℤ O → (Name → ℕ) → (ℤ → V)
     → WorldView Name V ℤ O → WorldView Name V ℤ O → Result (Outcome V O) Refused → Line → Type 0
-RunsLine cmp f code written old new told (Enter p) = Steps cmp f code old new (step.Enter p) told
-RunsLine cmp f code written old new told (Leave p slot) = Steps cmp f code old new (step.Leave p slot) told
+RunsLine cmp f code written old new told (Enter p) = IsKept cmp f code old new (step.Enter p) told
+RunsLine cmp f code written old new told (Leave p slot) = IsKept cmp f code old new (step.Leave p slot) told
 RunsLine cmp f code written old new told (Issue p slot op) =
-    Steps cmp f code old new (step.Issue p slot (op_of written op)) told
+    IsKept cmp f code old new (step.Issue p slot (op_of written op)) told
 RunsLine {V} {O} cmp f code written old new told (Do p slot op) =
     (mid : WorldView Name V ℤ O)
     × (issued : Result (Outcome V O) Refused)
-    × Steps cmp f code old mid (step.Issue p slot (op_of written op)) issued
+    × IsKept cmp f code old mid (step.Issue p slot (op_of written op)) issued
     × FinishesIssued cmp f code p slot mid new told issued
-RunsLine cmp f code written old new told (Go w) = Steps cmp f code old new (step.Go w) told
-RunsLine cmp f code written old new told (Install w) = Steps cmp f code old new (step.Install w) told
-RunsLine cmp f code written old new told (GiveUp w) = Steps cmp f code old new (step.GiveUp w) told
-RunsLine cmp f code written old new told (Ready w) = Pursues cmp f code pursuit.Ready w new told 10000 (step.Go w) old
-RunsLine cmp f code written old new told (Finish w) = Pursues cmp f code pursuit.Finish w new told 10000 (step.Go w) old
+RunsLine cmp f code written old new told (Go w) = IsKept cmp f code old new (step.Go w) told
+RunsLine cmp f code written old new told (Install w) = IsKept cmp f code old new (step.Install w) told
+RunsLine cmp f code written old new told (GiveUp w) = IsKept cmp f code old new (step.GiveUp w) told
+RunsLine cmp f code written old new told (Ready w) =
+    Pursues cmp f code pursuit.Ready w new (Some told) 10000 (step.Go w) old
+RunsLine cmp f code written old new told (Finish w) =
+    Pursues cmp f code pursuit.Finish w new (Some told) 10000 (step.Go w) old
 
 -- lines in turn, and what each of them tells
 abbrev pub RunLines : {V O : Type 0} → (Name → Name → Ordering) → Meanings Name V ℤ O → (Name → ℕ) → (ℤ → V)
@@ -103,6 +106,12 @@ pub record IsPrintedBy {V O : Type 0} (cmp : Name → Name → Ordering) (f : Me
   pub pairs : List (Name × V)
   pub ran : RunLines cmp f code written (empty_world config record_size) lines told world
   pub headline : IsHeadline cmp f code world
+  -- the steps that the lines asked for, each of them kept; the lives are those of their accepted issues, in order; and the
+  -- answers that are printed are those that the steps told, no more and no fewer
+  pub steps : List (Step Name V ℤ)
+  pub stepped : RunsTo cmp f code (empty_world config record_size) steps world
+  pub issued : map issue_of world.state.lives ≡ issues_in (backwards steps world.outcomes [])
+  pub answers : answers_in told ≡ answers_in world.outcomes
   pub map : (k : Name) → lookup (is_at (cmp k)) pairs ≡ world_live cmp code world.state.partitions k
   pub rising : IsStrictlySortedBy cmp (keys_of pairs)
   pub printed : text ≡ steps_text value shown told ++ map_text value pairs
@@ -131,17 +140,20 @@ Prints Sum config lines text =
 Prints Max config lines text =
     IsPrintedBy name_cmp maxima hash_of (λ n. n) signed_decimal signed_decimal config (record_size Max) lines text
 
--- the output of an input: it says a script, whose numbers are within the limits, and this is what the script prints
+-- the output of an input: it says a script of at most 1,000,000 lines, whose numbers are within the limits, and this is what
+-- the script prints
 pub record IsOutputOf (input text : List ℕ) : Type 0 where
   pub opening : Opening
   pub lines : List Line
+  pub short : length (lines_of input) ≤ 1000000
   pub says : SaysScript (lines_of input) opening lines
   pub within : IsWithinLimits (config_of opening) (record_size opening.functions)
   pub prints : Prints opening.functions (config_of opening) lines text
 
--- an input says a script with a number outside the limits
+-- an input says a script of at most 1,000,000 lines with a number outside the limits
 pub record HasBadConfig (input : List ℕ) : Type 0 where
   pub opening : Opening
   pub lines : List Line
+  pub short : length (lines_of input) ≤ 1000000
   pub says : SaysScript (lines_of input) opening lines
   pub outside : ¬ IsWithinLimits (config_of opening) (record_size opening.functions)

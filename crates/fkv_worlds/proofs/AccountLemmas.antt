@@ -223,7 +223,7 @@ module _ {K V I O : Type 0} (cmp : K → K → Ordering) (f : Meanings K V I O) 
   account-acts new step r (worn a b c same is) = kept-state new r _ same is
   account-acts new step r (lifeless p slot op v a b same is) = kept-state new r _ same is
   account-acts new step r (refuses_enter p v e a b c same is) = kept-state new r _ same is
-  account-acts new step r (enters p slot n v v' a b c d g to is) = rw (is, to, taken-ok rs (outcome.Entered slot)) (account-quiet s.lives (taken rs) s.moment account (outcome.Entered slot) refl refl)
+  account-acts new step r (enters p slot n v v' a b c d low g to is) = rw (is, to, taken-ok rs (outcome.Entered slot)) (account-quiet s.lives (taken rs) s.moment account (outcome.Entered slot) refl refl)
   account-acts new step r (refuses_leave p slot v e a b c same is) = kept-state new r _ same is
   account-acts new step r (leaves p slot v v' a b c ev to is) = rw (is, to, taken-ok rs outcome.Left) (account-quiet s.lives (taken rs) s.moment account outcome.Left refl refl)
   account-acts new step r (refuses_give_up w v e a b c same is) = kept-state new r _ same is
@@ -232,7 +232,7 @@ module _ {K V I O : Type 0} (cmp : K → K → Ordering) (f : Meanings K V I O) 
       let l = state.world.linked.linked w ev.question (asked-was s.partitions w.partition v v' here w.slot w.context ∙ ev.was) in
       rw (is, to, taken-ok rs outcome.GivenUp) (account-given_up s.lives (taken rs) s.moment account (life_in s.begun w) l.life l.here (ap (λ n. finish_of (record (l.life) { end = n })) l.unended))
   account-acts new step r (refuses_issue p slot op v e a b c same is) = kept-state new r _ same is
-  account-acts new step r (issues p slot c op v v' seat a b d ev at to is) = rw (is, to, taken-ok rs (outcome.Issued c)) (account-issue s.lives (taken rs) s.moment account c _ refl refl)
+  account-acts new step r (issues p slot c op v v' seat a b d ev low at to is) = rw (is, to, taken-ok rs (outcome.Issued c)) (account-issue s.lives (taken rs) s.moment account c _ refl refl)
   account-acts new step r (refuses_go w v e a b c same is) = kept-state new r _ same is
   account-acts new step r (goes w v v' p a due c ev to is) =
       let here : slice_get s.partitions w.partition ≡ Some v = ap (λ q. slice_get s.partitions (partition_in q)) (sym a) ∙ due.here in

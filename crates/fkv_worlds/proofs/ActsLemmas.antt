@@ -41,11 +41,11 @@ module _ {K V I O : Type 0} (cmp : K → K → Ordering) (f : Meanings K V I O) 
         refuses_enter p old r refl (record { here = here; question = λ w h. absurd (cc); moment = left })
         (subst (λ m. Enters old old m (Err r)) e (subst (λ v. Enters old v next (Err r)) same does)) refl refl
 
-    pub acts-enter : (slot n : ℕ) → Enters old new next (Ok slot) → IsEnter old new slot next → slice_get s.enters p ≡ Some n
+    pub acts-enter : (slot n : ℕ) → Enters old new next (Ok slot) → IsEnter old new slot next → slot < 16 → slice_get s.enters p ≡ Some n
         → Acts cmp f code s (record s { partitions = slice_set s.partitions p new; enters = slice_set s.enters p (n + 1); seats = slice_set s.seats (seat_row p slot) (record { session = n + 1; issues = 0 }); moment = next }) (Enter p) (Ok (outcome.Entered slot))
-    acts-enter slot n does ev count =
+    acts-enter slot n does ev low count =
         let up : n + 1 ≡ suc n = omega arith in
-        rw (e, up) (enters p slot n old new refl (record { here = here; question = λ w h. absurd (cc); moment = left }) (subst (λ m. Enters old new m (Ok slot)) e does) (subst (λ m. IsEnter old new slot m) e ev) count refl refl)
+        rw (e, up) (enters p slot n old new refl (record { here = here; question = λ w h. absurd (cc); moment = left }) (subst (λ m. Enters old new m (Ok slot)) e does) (subst (λ m. IsEnter old new slot m) e ev) low count refl refl)
 
     pub acts-no_leave : (slot : ℕ) (r : Refused) → new ≡ old → Leaves old new slot next (Err r) → Acts cmp f code s s (Leave p slot) (Err r)
     acts-no_leave slot r same does =
@@ -61,7 +61,7 @@ module _ {K V I O : Type 0} (cmp : K → K → Ordering) (f : Meanings K V I O) 
         refuses_issue p slot op old r refl (record { here = here; question = λ w h. absurd (cc); moment = left })
         (subst (λ m. Issues code old old slot op m (Err r)) e (subst (λ v. Issues code old v slot op next (Err r)) same does)) refl refl
 
-    pub acts-issue : (slot c : ℕ) (op : Op K V I) (seat : Seat) → Issues code old new slot op next (Ok c) → IsIssue code old new slot c op next → slice_get s.seats (seat_row p slot) ≡ Some seat
+    pub acts-issue : (slot c : ℕ) (op : Op K V I) (seat : Seat) → Issues code old new slot op next (Ok c) → IsIssue code old new slot c op next → slot < 16 → slice_get s.seats (seat_row p slot) ≡ Some seat
         → Acts cmp f code s (record s {
           partitions = slice_set s.partitions p new;
           seats = slice_set s.seats (seat_row p slot) (after_issue seat);
@@ -70,8 +70,8 @@ module _ {K V I O : Type 0} (cmp : K → K → Ordering) (f : Meanings K V I O) 
           lives = s.lives ++ begun_life p seat op next ∷ [];
           moment = next;
         }) (Issue p slot op) (Ok (outcome.Issued c))
-    acts-issue slot c op seat does ev at =
-        rw e (issues p slot c op old new seat refl (record { here = here; question = λ w h. absurd (cc); moment = left }) (subst (λ m. Issues code old new slot op m (Ok c)) e does) (subst (λ m. IsIssue code old new slot c op m) e ev) at refl refl)
+    acts-issue slot c op seat does ev low at =
+        rw e (issues p slot c op old new seat refl (record { here = here; question = λ w h. absurd (cc); moment = left }) (subst (λ m. Issues code old new slot op m (Ok c)) e does) (subst (λ m. IsIssue code old new slot c op m) e ev) low at refl refl)
 
   module _ (w : Place) (old new : PartitionView K V I) (here : slice_get s.partitions w.partition ≡ Some old) where
     pub acts-no_give_up : (r : Refused) → new ≡ old → GivesUp old new w.slot w.context next (Err r) → Acts cmp f code s s (GiveUp w) (Err r)

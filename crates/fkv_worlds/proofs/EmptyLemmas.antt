@@ -23,7 +23,7 @@ range-at a zero p i h = absurd (cc)
 range-at a (suc n) zero i h = let same : a ≡ i = cc in omega arith
 range-at a (suc n) (suc p) i h = let k = range-at (a + 1) n p i h in omega arith
 
-replicate-at : {A : Type 0} (n : ℕ) (x y : A) (i : ℕ) → slice_get (replicate n x) i ≡ Some y → y ≡ x
+pub replicate-at : {A : Type 0} (n : ℕ) (x y : A) (i : ℕ) → slice_get (replicate n x) i ≡ Some y → y ≡ x
 replicate-at zero x y i h = absurd (cc)
 replicate-at (suc n) x y zero h = let same : x ≡ y = cc in sym same
 replicate-at (suc n) x y (suc i) h = replicate-at n x y i h

@@ -8,3 +8,4 @@ pub mod ActsLemmas
 pub mod EmptyLemmas
 pub mod AccountLemmas
 pub mod ReportLemmas
+pub mod HistoryLemmas

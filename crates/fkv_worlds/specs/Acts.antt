@@ -154,6 +154,7 @@ pub data Acts {K V I O : Type 0} (cmp : K → K → Ordering) (f : Meanings K V 
       → IsDue old step v
       → Enters v v' (suc old.moment) (Ok slot)
       → IsEnter v v' slot (suc old.moment)
+      → slot < 16
       → slice_get old.enters p ≡ Some n
       → new ≡ with_session old p slot n v'
       → result ≡ Ok (outcome.Entered slot)
@@ -185,6 +186,7 @@ pub data Acts {K V I O : Type 0} (cmp : K → K → Ordering) (f : Meanings K V 
       → IsDue old step v
       → Issues code v v' slot op (suc old.moment) (Ok c)
       → IsIssue code v v' slot c op (suc old.moment)
+      → slot < 16
       → slice_get old.seats (seat_row p slot) ≡ Some seat
       → new ≡ with_life old (record { partition = p; slot = slot; context = c }) seat op v'
       → result ≡ Ok (outcome.Issued c)

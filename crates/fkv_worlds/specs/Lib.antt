@@ -10,4 +10,5 @@ pub mod Worlds
 pub mod Told
 pub mod Headline
 pub mod Sound
+pub mod Histories
 pub mod Reports

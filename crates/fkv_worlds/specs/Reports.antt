@@ -1,5 +1,5 @@
 -- What a world reports, and a list of steps done in turn.
-use Rattle.std.specs.Prelude.{◌≡◌, ℕ, zero, suc, List, [], ◌∷◌, ◌++◌, Option, Some, None, Result, Ok, Err}
+use Rattle.std.specs.Prelude.{◌≡◌, ℕ, zero, suc, List, [], ◌∷◌, ◌++◌, Option, Some, None, Result, Ok, Err, map, unwrap_or}
 use Rattle.std.specs.declared.cmp.Ordering.{Ordering}
 use Rattle.std.specs.BTreeMap.{is_at}
 use Rattle.std.specs.Map.{lookup, keys_of}
@@ -7,7 +7,7 @@ use Rattle.std.specs.List.Sorted.{IsStrictlySortedBy}
 use Rattle.fkv_functions.specs.Meanings.{Meanings}
 use Rattle.fkv_functions.specs.Plain.{PlainMap, with_at}
 use Rattle.fkv_functions.specs.declared.refusals.Refused.{Refused}
-use Rattle.fkv_functions.specs.declared.refusals.Refused.TheVariants.{Stalled}
+use Rattle.fkv_functions.specs.declared.refusals.Refused.TheVariants.{Stalled, NoMemory}
 use Rattle.fkv_partition.specs.declared.limits.Config.{Config}
 use Rattle.fkv_worlds.specs.declared.lives.Life.{Life}
 use Rattle.fkv_worlds.specs.declared.outcomes.Outcome.{Outcome}
@@ -19,7 +19,8 @@ use Rattle.fkv_worlds.specs.declared.pursuits.Pursuit.{Pursuit}
 use Rattle.fkv_worlds.specs.declared.pursuits.Pursuit.TheVariants.{Ready, Finish}
 use Rattle.fkv_worlds.specs.States.{WorldView, empty_world}
 use Rattle.fkv_worlds.specs.Worlds.{world_live}
-use Rattle.fkv_worlds.specs.Acts.{Acts, Steps}
+use Rattle.fkv_worlds.specs.Acts.{Acts}
+use Rattle.fkv_worlds.specs.Histories.{backwards, issues_in, issue_of}
 use Rattle.fkv_worlds.specs.Headline.{IsHeadline}
 
 -- the map with all these pairs, one after the other
@@ -59,6 +60,8 @@ pub record IsReplay {K V I O : Type 0} (cmp : K → K → Ordering) (f : Meaning
   pub ran : RunsTo cmp f code (empty_world config record_size) steps world
   pub headline : IsHeadline cmp f code world
   pub report : IsReport cmp code world told lived pairs
+  -- the lives are those of the accepted issues of the steps, in order
+  pub issued : map issue_of lived ≡ issues_in (backwards steps told [])
 
 -- the step that follows an outcome, if one does: `ready` goes on after Next, and `finish` installs after Build too
 abbrev pub step_after : {K V I O : Type 0} → Pursuit → Place → Outcome V O → Option (Step K V I)
@@ -75,21 +78,34 @@ abbrev pub follows : {K V I O : Type 0} → Pursuit → Place → Result (Outcom
 follows pursuit place (Ok x) = step_after pursuit place x
 follows pursuit place (Err e) = None
 
--- at most so many steps, the first of them this one, each followed by the one that its outcome leads to; where another
--- would follow the last of them, the pursuit is Stalled
+-- at most so many steps, each of them kept, the first of them this one, and each followed by the one that its outcome leads
+-- to; where another would follow the last of them, the pursuit is Stalled. It answers what its last step told, and nothing
+-- where there was no memory to keep a step's outcome: that step was not done.
 pub data Pursues {K V I O : Type 0} (cmp : K → K → Ordering) (f : Meanings K V I O) (code : K → ℕ) (pursuit : Pursuit)
-    (place : Place) (new : WorldView K V I O) (result : Result (Outcome V O) Refused) : ℕ → Step K V I → WorldView K V I
-    O → Type 0 where
+    (place : Place) (new : WorldView K V I O) (result : Option (Result (Outcome V O) Refused))
+    : ℕ → Step K V I → WorldView K V I O → Type 0 where
+  unkept : (n : ℕ) (s : Step K V I) (v : WorldView K V I O)
+      → new ≡ v
+      → result ≡ None
+      → Pursues cmp f code pursuit place new result (suc n) s v
   stalls : (s : Step K V I) (v : WorldView K V I O)
       → new ≡ v
-      → result ≡ Err Stalled
+      → result ≡ Some (Err Stalled)
       → Pursues cmp f code pursuit place new result zero s v
-  ends : (n : ℕ) (s : Step K V I) (v : WorldView K V I O)
-      → Steps cmp f code v new s result
-      → follows {K = K} {I = I} pursuit place result ≡ None
+  ends : (n : ℕ) (s : Step K V I) (v : WorldView K V I O) (x : Result (Outcome V O) Refused)
+      → IsKept cmp f code v new s x
+      → follows {K = K} {I = I} pursuit place x ≡ None
+      → result ≡ Some x
       → Pursues cmp f code pursuit place new result (suc n) s v
   goes_on : (n : ℕ) (s t : Step K V I) (v u : WorldView K V I O) (x : Result (Outcome V O) Refused)
-      → Steps cmp f code v u s x
+      → IsKept cmp f code v u s x
       → follows pursuit place x ≡ Some t
       → Pursues cmp f code pursuit place new result n t u
       → Pursues cmp f code pursuit place new result (suc n) s v
+
+-- a pursuit that begins with a Go, of at most 10,000 steps, and what it answers: NoMemory where an outcome could not be kept
+pub record IsPursued {K V I O : Type 0} (cmp : K → K → Ordering) (f : Meanings K V I O) (code : K → ℕ) (pursuit : Pursuit)
+    (place : Place) (old new : WorldView K V I O) (result : Result (Outcome V O) Refused) : Type 0 where
+  pub kept : Option (Result (Outcome V O) Refused)
+  pub pursues : Pursues cmp f code pursuit place new kept 10000 (Go place) old
+  pub answers : result ≡ unwrap_or kept (Err NoMemory)

@@ -3,7 +3,7 @@ ghost use Rattle.std.specs.Prelude.{◌≡◌};
 ghost use Rattle.fkv_worlds.specs.declared.steps.Step.TheVariants.{Go};
 ghost use Rattle.fkv_worlds.specs.declared.pursuits.Pursuit.TheVariants.{Ready, Finish};
 ghost use Rattle.fkv_worlds.specs.Headline.{IsHeadline};
-ghost use Rattle.fkv_worlds.specs.Reports.{follows, Pursues};
+ghost use Rattle.fkv_worlds.specs.Reports.{follows, Pursues, IsPursued};
 
 use crate::outcomes::{Outcome, OutcomeOf};
 use crate::steps::{Place, Step, StepOf};
@@ -43,42 +43,51 @@ fn following<F: Functions>(
 impl<F: Functions> World<F> {
     /// Goes on with an operation until it answers anything but `Next`, and answers that. It is `Stalled`
     /// after 10,000 steps, and then the operation stays open as it is; no step tells that, so it is not
-    /// among the outcomes. Else refused as [`World::step`] is.
+    /// among the outcomes. Refused with `NoMemory` where an outcome could not be kept, and else as
+    /// [`World::step`] is.
     pub fn ready(&mut self, functions: &F, place: Place) -> Result<OutcomeOf<F>, Refused>
-        ensures pursues { Pursues F.Key.cmp F.meaning F.code Ready place self.new result 10000 (Go place) self.old }
+        ensures pursues { IsPursued F.Key.cmp F.meaning F.code Ready place self.old self.new result }
         ensures headline { IsHeadline F.Key.cmp F.meaning F.code self.new }
     {
         self.pursue(functions, Pursuit::Ready, place)
+            .unwrap_or(Err(Refused::NoMemory))
     }
 
     /// Goes on with an operation, and installs what it asks for, until it is done or refused, and answers
-    /// that. `Stalled` as in [`World::ready`].
+    /// that. `Stalled` and `NoMemory` as in [`World::ready`].
     pub fn finish(&mut self, functions: &F, place: Place) -> Result<OutcomeOf<F>, Refused>
-        ensures pursues { Pursues F.Key.cmp F.meaning F.code Finish place self.new result 10000 (Go place) self.old }
+        ensures pursues { IsPursued F.Key.cmp F.meaning F.code Finish place self.old self.new result }
         ensures headline { IsHeadline F.Key.cmp F.meaning F.code self.new }
     {
         self.pursue(functions, Pursuit::Finish, place)
+            .unwrap_or(Err(Refused::NoMemory))
     }
 
-    /// Does steps, beginning with a `Go`, each followed by the one that its result leads to.
-    fn pursue(
+    /// Does steps, beginning with a `Go`, each followed by the one that its result leads to, and answers
+    /// what the last of them told; `None` where there is no memory to keep the next one's outcome, which
+    /// then isn't done.
+    pub fn pursue(
         &mut self,
         functions: &F,
         pursuit: Pursuit,
         place: Place,
-    ) -> Result<OutcomeOf<F>, Refused>
+    ) -> Option<Result<OutcomeOf<F>, Refused>>
         ensures pursues { Pursues F.Key.cmp F.meaning F.code pursuit place self.new result 10000 (Go place) self.old }
         ensures headline { IsHeadline F.Key.cmp F.meaning F.code self.new }
     {
         let mut step = Step::Go(place);
         for _ in 0..LIMIT {
-            let told = self.step(functions, step);
+            let Some(told) = self.try_step(functions, step) else {
+                self.headline();
+                return None;
+            };
             let Some(next) = following::<F>(pursuit, place, &told) else {
-                return told;
+                self.headline();
+                return Some(told);
             };
             step = next;
         }
         self.headline();
-        Err(Refused::Stalled)
+        Some(Err(Refused::Stalled))
     }
 }

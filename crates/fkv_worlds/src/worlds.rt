@@ -3,7 +3,8 @@ ghost use Rattle.std.specs.Prelude.{◌≡◌, ◌≢◌, ◌⊎◌, ◌∷◌, 
 ghost use Rattle.fkv_records.specs.Records.{size_of};
 ghost use Rattle.fkv_partition.specs.Limits.{IsWithinLimits};
 ghost use Rattle.fkv_worlds.specs.States.{empty_world};
-ghost use Rattle.fkv_worlds.specs.Acts.{Acts, Steps};
+ghost use Rattle.fkv_worlds.specs.Acts.{Steps};
+ghost use Rattle.fkv_worlds.specs.Reports.{IsKept};
 ghost use Rattle.fkv_worlds.specs.Headline.{IsHeadline};
 
 use crate::outcomes::OutcomeOf;
@@ -50,14 +51,14 @@ impl<F: Functions> World<F> {
         })
     }
 
-    /// Does a step and keeps its outcome; nothing is done where there is no memory to keep it.
-    pub(crate) fn try_step(
+    /// Does a step and keeps its outcome, which it answers; `None` where there is no memory to keep it, and
+    /// then nothing is done. [`World::step`] has what is refused.
+    pub fn try_step(
         &mut self,
         functions: &F,
         step: StepOf<F>,
     ) -> Option<Result<OutcomeOf<F>, Refused>>
-        ensures acts { IfSome result (λ r. Acts F.Key.cmp F.meaning F.code self.old.state self.new.state step r) }
-        ensures kept { IfSome result (λ r. self.new.outcomes ≡ self.old.outcomes ++ r ∷ []) }
+        ensures kept { IfSome result (IsKept F.Key.cmp F.meaning F.code self.old self.new step) }
         ensures none { IfNone result (self.new ≡ self.old) }
     {
         let Ok(()) = self.outcomes.try_reserve(1) else {

@@ -18,6 +18,7 @@ use fkv_operations::Op;
 use fkv_partition::Config;
 use fkv_worlds::Printed;
 use fkv_worlds::outcomes::{Outcome, OutcomeOf};
+use fkv_worlds::pursuits::Pursuit;
 use fkv_worlds::steps::{Place, Step};
 use fkv_worlds::worlds::World;
 use std::alloc::Global;
@@ -51,23 +52,24 @@ fn on_values<V: Written>(op: Op<Name, i64, i64>) -> Op<Name, V, i64>
     }
 }
 
-/// Does what a line says, and answers what its last step told.
+/// Does what a line says, and answers what its last step told; `None` where there is no memory to keep a
+/// step's outcome.
 fn run_line<F: Functions<Key = Name, Input = i64>>(
     world: &mut World<F>,
     functions: &F,
     line: &Line,
-) -> Result<OutcomeOf<F>, Refused>
+) -> Option<Result<OutcomeOf<F>, Refused>>
 where
     F::Value: Written,
-    ensures { RunsLine name_cmp F.meaning F.code F.Value.written world.old world.new result line.now }
+    ensures { IfSome result (λ told. RunsLine name_cmp F.meaning F.code F.Value.written world.old world.new told line.now) }
 {
     match *line {
-        Line::Enter { partition } => world.step(functions, Step::Enter(partition as usize)),
+        Line::Enter { partition } => world.try_step(functions, Step::Enter(partition as usize)),
         Line::Issue {
             partition,
             session,
             op,
-        } => world.step(
+        } => world.try_step(
             functions,
             Step::Issue(partition as usize, session as usize, on_values(op)),
         ),
@@ -76,15 +78,15 @@ where
             session,
             op,
         } => do_operation(world, functions, partition as usize, session as usize, op),
-        Line::Leave { partition, session } => world.step(
+        Line::Leave { partition, session } => world.try_step(
             functions,
             Step::Leave(partition as usize, session as usize),
         ),
-        Line::Go(place) => world.step(functions, Step::Go(place)),
-        Line::Install(place) => world.step(functions, Step::Install(place)),
-        Line::GiveUp(place) => world.step(functions, Step::GiveUp(place)),
-        Line::Ready(place) => world.ready(functions, place),
-        Line::Finish(place) => world.finish(functions, place),
+        Line::Go(place) => world.try_step(functions, Step::Go(place)),
+        Line::Install(place) => world.try_step(functions, Step::Install(place)),
+        Line::GiveUp(place) => world.try_step(functions, Step::GiveUp(place)),
+        Line::Ready(place) => world.pursue(functions, Pursuit::Ready, place),
+        Line::Finish(place) => world.pursue(functions, Pursuit::Finish, place),
     }
 }
 
@@ -95,22 +97,26 @@ fn do_operation<F: Functions<Key = Name, Input = i64>>(
     partition: usize,
     slot: usize,
     op: Op<Name, i64, i64>,
-) -> Result<OutcomeOf<F>, Refused>
+) -> Option<Result<OutcomeOf<F>, Refused>>
 where
     F::Value: Written,
-    ensures { RunsLine name_cmp F.meaning F.code F.Value.written world.old world.new result (Line.Do partition slot op) }
+    ensures { IfSome result (λ told. RunsLine name_cmp F.meaning F.code F.Value.written world.old world.new told
+        (Line.Do partition slot op)) }
 {
-    let issued = world.step(functions, Step::Issue(partition, slot, on_values(op)));
+    let Some(issued) = world.try_step(functions, Step::Issue(partition, slot, on_values(op))) else {
+        return None;
+    };
     match issued {
-        Ok(Outcome::Issued(context)) => world.finish(
+        Ok(Outcome::Issued(context)) => world.pursue(
             functions,
+            Pursuit::Finish,
             Place {
                 partition,
                 slot,
                 context,
             },
         ),
-        _ => issued,
+        _ => Some(issued),
     }
 }
 
@@ -129,7 +135,9 @@ where
 {
     let mut told = Vec::new(alloc);
     for line in lines {
-        let one = run_line(world, functions, line);
+        let Some(one) = run_line(world, functions, line) else {
+            return Err(Refused::NoMemory);
+        };
         let Ok(()) = told.push(one) else {
             return Err(Refused::NoMemory);
         };

@@ -11,7 +11,7 @@ loop-step-preserved g c =
     let took : take (c.loop-step.step-index + 1) c.args.steps.now ≡ done ++ step ∷ [] =
     rw add-one (take-suc c.args.steps.now c.loop-step.step-index step c.loop-step-test.true ∙ ap (λ x. done ++ x ∷ []) (sym c.step-item.is)) in
     rw took (runs-append g.F.Key.Ord.cmp g.F.Functions.meaning g.F.Functions.code c.args.world.now c.loop-step.world c.try_step.new.self done step c.in-Some._told c.loop-step.invariant
-    (record { acts = c.in-Some.ensures.acts; outcomes = c.in-Some.ensures.kept }))
+    c.in-Some.ensures.kept)
 
 pub returns-clause-ok : goal.returns-clause-ok
 returns-clause-ok g c =

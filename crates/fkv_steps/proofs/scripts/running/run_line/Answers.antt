@@ -1,19 +1,19 @@
 use Rattle.fkv_steps.proofs.scripts.running.run_line.Goals as goal
 
 pub returns-in-Enter : goal.returns-in-Enter
-returns-in-Enter g c = rw c.in-Enter.is c.step.ensures.does
+returns-in-Enter g c = rw c.in-Enter.is c.try_step.ensures.kept
 
 pub returns-in-Leave : goal.returns-in-Leave
-returns-in-Leave g c = rw c.in-Leave.is c.step-in-Leave.ensures.does
+returns-in-Leave g c = rw c.in-Leave.is c.try_step-in-Leave.ensures.kept
 
 pub returns-in-Issue : goal.returns-in-Issue
-returns-in-Issue g c = rw c.in-Issue.is (rw (← c.on_values.ensures) c.step-in-Issue.ensures.does)
+returns-in-Issue g c = rw c.in-Issue.is (rw (← c.on_values.ensures) c.try_step-in-Issue.ensures.kept)
 
 pub returns-in-Go : goal.returns-in-Go
-returns-in-Go g c = rw c.in-Go.is c.step-in-Go.ensures.does
+returns-in-Go g c = rw c.in-Go.is c.try_step-in-Go.ensures.kept
 
 pub returns-in-Install : goal.returns-in-Install
-returns-in-Install g c = rw c.in-Install.is c.step-in-Install.ensures.does
+returns-in-Install g c = rw c.in-Install.is c.try_step-in-Install.ensures.kept
 
 pub returns-in-GiveUp : goal.returns-in-GiveUp
-returns-in-GiveUp g c = rw c.in-GiveUp.is c.step-in-GiveUp.ensures.does
+returns-in-GiveUp g c = rw c.in-GiveUp.is c.try_step-in-GiveUp.ensures.kept

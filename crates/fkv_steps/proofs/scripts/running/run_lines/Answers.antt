@@ -13,8 +13,8 @@ loop-line-preserved g c =
     let took : take (c.loop-line.line-index + 1) c.args.lines.now ≡ done ++ line ∷ [] =
     rw add-one (take-suc c.args.lines.now c.loop-line.line-index line c.loop-line-test.true ∙ ap (λ x. done ++ x ∷ []) (sym c.line-item.is)) in
     rw (took, c.in-Ok.ensures.items)
-    (lines-append name_cmp g.F.Functions.meaning g.F.Functions.code g.F.Value.Written.written c.args.world.now c.loop-line.world c.run_line-one.new.world done c.loop-line.told.items line c.run_line-one.result
-    c.loop-line.invariant c.run_line-one.ensures)
+    (lines-append name_cmp g.F.Functions.meaning g.F.Functions.code g.F.Value.Written.written c.args.world.now c.loop-line.world c.run_line.new.world done c.loop-line.told.items line c.in-Some.one
+    c.loop-line.invariant c.in-Some.ensures)
 
 pub returns-clause-ok : goal.returns-clause-ok
 returns-clause-ok g c =

@@ -61,4 +61,4 @@ returns g c =
     let rows = c.self.invariant.tables.enters in
     let count = at-index c.self.inside.enters.items c.args.partition c.index.result.now (omega arith) c.index.ensures in
     rw (← c.self.view_is, c.row_of_slot-row.ensures)
-    (record { does = acts-enter g.F.Key.Ord.cmp g.F.Functions.meaning g.F.Functions.code _ c.args.now due.next due.fits c.args.partition c.index_mut.result.now c.enter.new.self here c.in_ok-slot.slot c.index.result.now c.in_ok-slot.ensures.does c.in_ok-slot.ensures.event count })
+    (record { does = acts-enter g.F.Key.Ord.cmp g.F.Functions.meaning g.F.Functions.code _ c.args.now due.next due.fits c.args.partition c.index_mut.result.now c.enter.new.self here c.in_ok-slot.slot c.index.result.now c.in_ok-slot.ensures.does c.in_ok-slot.ensures.event c.in_ok-slot.ensures.within count })

@@ -75,4 +75,4 @@ returns g c =
     let rows = c.self.invariant.tables.seats in
     let seat = seat-is c.self.inside.seats.items c.args.partition c.args.slot within.0 (omega arith) in
     rw (← c.self.view_is, c.begin_life.ensures.lives, c.begin_life.ensures.seats, c.begin_life.ensures.begun, c.begin_life.ensures.questions, c.try_reserve.ensures.items)
-    (record { does = acts-issue g.F.Key.Ord.cmp g.F.Functions.meaning g.F.Functions.code _ c.args.now due.next due.fits c.args.partition c.index_mut.result.now c.issue.new.self here c.args.slot c.in_ok-context.context c.args.op (seat_at c.self.inside.seats.items c.args.partition c.args.slot) c.in_ok-context.ensures.does c.in_ok-context.ensures.event seat })
+    (record { does = acts-issue g.F.Key.Ord.cmp g.F.Functions.meaning g.F.Functions.code _ c.args.now due.next due.fits c.args.partition c.index_mut.result.now c.issue.new.self here c.args.slot c.in_ok-context.context c.args.op (seat_at c.self.inside.seats.items c.args.partition c.args.slot) c.in_ok-context.ensures.does c.in_ok-context.ensures.event within.0 seat })

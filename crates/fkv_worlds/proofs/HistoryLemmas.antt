@@ -1,0 +1,224 @@
+-- What the tables and the lives of a world have of its history, and what a step adds to it.
+use Rattle.std.proofs.Common.{◌≡◌, ◌≢◌, ℕ, zero, suc, ◌+◌, ◌*◌, ◌^◌, ◌<◌, ◌==◌, ◌&&◌, Bool, true, false, cond, inl, inr, ◌⊎◌, List, [], ◌∷◌, ◌++◌, map, Option, Some, None, Result, Ok, Err, slice_get, slice_set, refl, sym, ◌∙◌, ap, subst, arith}
+use Rattle.std.proofs.lemmas.Bool.{cases_eq}
+use Rattle.std.proofs.lemmas.Bool.Decides.{nat_tests}
+use Rattle.std.specs.declared.cmp.Ordering.{Ordering}
+use Rattle.fkv_functions.specs.Meanings.{Meanings}
+use Rattle.fkv_functions.specs.declared.refusals.Refused.{Refused}
+use Rattle.fkv_operations.specs.declared.operations.Op.{Op}
+use Rattle.fkv_partition.specs.declared.contexts.Progress.{Progress}
+use Rattle.fkv_partition.specs.declared.contexts.Progress.TheVariants.{Done, Next, NeedsBuild}
+use Rattle.fkv_functions.proofs.ListLemmas.{get-set_other}
+use Rattle.fkv_worlds.specs.declared.lives.Life.{Life}
+use Rattle.fkv_worlds.specs.declared.lives.End.{End}
+use Rattle.fkv_worlds.specs.declared.outcomes.Outcome.{Outcome}
+use Rattle.fkv_worlds.specs.declared.outcomes.Outcome.TheVariants as outcome
+use Rattle.fkv_worlds.specs.declared.steps.Step.{Step}
+use Rattle.fkv_worlds.specs.declared.steps.Step.TheVariants as step
+use Rattle.fkv_worlds.specs.declared.tables.Seat.{Seat}
+use Rattle.fkv_worlds.specs.Changes.{ended_at}
+use Rattle.fkv_partition.specs.declared.limits.Config.{Config}
+use Rattle.fkv_worlds.specs.States.{StateView, WorldView, seat_row, empty_state, empty_world}
+use Rattle.fkv_worlds.proofs.EmptyLemmas.{replicate-at}
+use Rattle.fkv_worlds.specs.Acts.{Acts, begun_life, lives_by, told, nowhere, unasked, unknown, worn, lifeless, refuses_enter, enters, refuses_leave, leaves, refuses_give_up, gives_up, refuses_issue, issues, refuses_go, goes, refuses_install, installs}
+use Rattle.fkv_worlds.specs.Histories.{Event, backwards, entered_at, issued_at, moments, enters_in, session_in, issue_by, issues_in, issue_of}
+use Rattle.fkv_worlds.specs.Reports.{IsKept, RunsTo}
+
+-- ---- lists
+append-nothing : {A : Type 0} (xs : List A) → xs ++ [] ≡ xs
+append-nothing [] = refl
+append-nothing (x ∷ xs) = ap (λ ys. x ∷ ys) (append-nothing xs)
+
+append-joined : {A : Type 0} (xs : List A) (y : A) (zs : List A) → (xs ++ y ∷ []) ++ zs ≡ xs ++ (y ∷ zs)
+append-joined [] y zs = refl
+append-joined (x ∷ xs) y zs = ap (λ ws. x ∷ ws) (append-joined xs y zs)
+
+get-set_here : {A : Type 0} (xs : List A) (c : ℕ) (v w : A) → slice_get (slice_set xs c v) c ≡ Some w → v ≡ w
+get-set_here [] c v w h = absurd (cc)
+get-set_here (x ∷ xs) zero v w h = cc
+get-set_here (x ∷ xs) (suc c) v w h = get-set_here xs c v w h
+
+map-last : {A B : Type 0} (f : A → B) (xs : List A) (y : A) → map f (xs ++ y ∷ []) ≡ map f xs ++ f y ∷ []
+map-last f [] y = refl
+map-last f (x ∷ xs) y = ap (λ ys. f x ∷ ys) (map-last f xs y)
+
+-- ---- tests of two numbers
+same-true : (a b : ℕ) → a ≡ b → (a == b) ≡ true
+same-true a b h = grind (arith, nat_tests)
+
+pair-false : (a b c d : ℕ) → (a ≡ b → c ≡ d → ⊥) → ((a == b) && (c == d)) ≡ false
+pair-false a b c d apart = by_cases (a == b) (c == d) refl refl
+  where
+    by_cases : (x y : Bool) → (a == b) ≡ x → (c == d) ≡ y → (x && y) ≡ false
+    by_cases true true e k = let p : a ≡ b = grind (arith, nat_tests) in let q : c ≡ d = grind (arith, nat_tests) in absurd (apart p q)
+    by_cases true false e k = refl
+    by_cases false y e k = refl
+
+-- ---- the issues of lives
+ended-issue_of : {K V I O : Type 0} (lives : List (Life K V I O)) (j : ℕ) (e : End O) → map issue_of (ended_at lives j e) ≡ map issue_of lives
+ended-issue_of [] j e = refl
+ended-issue_of (x ∷ xs) zero e = refl
+ended-issue_of (x ∷ xs) (suc j) e = ap (λ ys. issue_of x ∷ ys) (ended-issue_of xs j e)
+
+progress-issue_of : {K V I O : Type 0} (lives : List (Life K V I O)) (j now : ℕ) (p : Progress K V I O) → map issue_of (lives_by lives j now p) ≡ map issue_of lives
+progress-issue_of lives j now (Done a effect) = ended-issue_of lives j _
+progress-issue_of lives j now Next = refl
+progress-issue_of lives j now (NeedsBuild ask) = refl
+
+-- the moment, the tables and the lives are those of the history
+pub record HasHistory {K V I O : Type 0} (s : StateView K V I O) (h : List (Event K V I O)) : Type 0 where
+  pub moment : s.moment ≡ moments h
+  pub enters : (p n : ℕ) → slice_get s.enters p ≡ Some n → n ≡ enters_in p h
+  pub seats : (p slot : ℕ) (x : Seat) → slot < 16 → slice_get s.seats (seat_row p slot) ≡ Some x → x.session ≡ session_in p slot h
+  pub lives : map issue_of s.lives ≡ issues_in h
+
+module _ {K V I O : Type 0} (s : StateView K V I O) (h : List (Event K V I O)) (history : HasHistory s h) where
+  refused : (t : Step K V I) (e : Refused) → HasHistory s (record { step = t; told = Err e } ∷ h)
+  refused t e = record { moment = history.moment; enters = history.enters; seats = history.seats; lives = history.lives ∙ sym (append-nothing (issues_in h)) }
+
+  kept-state : (new : StateView K V I O) (t : Step K V I) (r : Result (Outcome V O) Refused) (e : Refused) → new ≡ s → r ≡ Err e → HasHistory new (record { step = t; told = r } ∷ h)
+  kept-state new t r e same is = rw (is, same) (refused t e)
+
+  -- a step by which nobody enters and nothing is issued
+  quiet : (new : StateView K V I O) (t : Step K V I) (x : Outcome V O) → entered_at (Ok x) t ≡ None → issued_at (Ok x) t ≡ None
+      → new.moment ≡ suc s.moment → new.enters ≡ s.enters → new.seats ≡ s.seats → map issue_of new.lives ≡ map issue_of s.lives
+      → HasHistory new (record { step = t; told = Ok x } ∷ h)
+  quiet new t x nobody nothing now tables seated lived = record {
+    moment = now ∙ ap suc history.moment;
+    enters = λ p n k. rw nobody (history.enters p n (ap (λ xs. slice_get xs p) (sym tables) ∙ k));
+    seats = λ p slot y low k. rw nobody (history.seats p slot y low (ap (λ xs. slice_get xs (seat_row p slot)) (sym seated) ∙ k));
+    lives = rw nothing (lived ∙ history.lives ∙ sym (append-nothing (issues_in h)));
+  }
+
+  -- a session enters
+  entering : (new : StateView K V I O) (p slot n : ℕ) → slot < 16 → slice_get s.enters p ≡ Some n → new.moment ≡ suc s.moment → new.enters ≡ slice_set s.enters p (suc n)
+      → new.seats ≡ slice_set s.seats (seat_row p slot) (record { session = suc n; issues = 0 }) → new.lives ≡ s.lives
+      → HasHistory new (record { step = step.Enter p; told = Ok (outcome.Entered slot) } ∷ h)
+  entering new p slot n low count now tables seated lived = record {
+    moment = now ∙ ap suc history.moment;
+    enters = λ q m k. counted q m (ap (λ xs. slice_get xs q) (sym tables) ∙ k);
+    seats = λ q t x within k. sitting q t x within (ap (λ xs. slice_get xs (seat_row q t)) (sym seated) ∙ k);
+    lives = ap (map issue_of) lived ∙ history.lives ∙ sym (append-nothing (issues_in h));
+  }
+    where
+      counted : (q m : ℕ) → slice_get (slice_set s.enters p (suc n)) q ≡ Some m → m ≡ cond (p == q) (suc (enters_in q h)) (enters_in q h)
+      counted q m k = elim (cases_eq q p) [
+        | inl e ↦ (let at : slice_get (slice_set s.enters p (suc n)) p ≡ Some m = ap (slice_get (slice_set s.enters p (suc n))) (sym e) ∙ k in
+            let one : suc n ≡ m = get-set_here s.enters p (suc n) m at in
+            let all : n ≡ enters_in p h = history.enters p n count in
+            rw (same-true p q (sym e)) (sym one ∙ ap suc all ∙ ap (λ x. suc (enters_in x h)) (sym e)))
+        | inr a ↦ (let other : (p == q) ≡ false = grind (arith, nat_tests) in
+            rw other (history.enters q m (sym (get-set_other s.enters p q (suc n) a) ∙ k)))
+      ]
+
+      sitting : (q t : ℕ) (x : Seat) → t < 16 → slice_get (slice_set s.seats (seat_row p slot) (record { session = suc n; issues = 0 })) (seat_row q t) ≡ Some x
+          → x.session ≡ cond ((p == q) && (slot == t)) (suc (enters_in q h)) (session_in q t h)
+      sitting q t x within k = elim (cases_eq (seat_row q t) (seat_row p slot)) [
+        | inl e ↦ (let a : q ≡ p = omega arith in let b : t ≡ slot = omega arith in
+            let at : slice_get (slice_set s.seats (seat_row p slot) (record { session = suc n; issues = 0 })) (seat_row p slot) ≡ Some x = ap (slice_get (slice_set s.seats (seat_row p slot) (record { session = suc n; issues = 0 }))) (sym e) ∙ k in
+            let one : suc n ≡ x.session = ap (λ (z : Seat). z.session) (get-set_here s.seats (seat_row p slot) _ x at) in
+            rw (same-true p q (sym a), same-true slot t (sym b)) (sym one ∙ ap suc (history.enters p n count) ∙ ap (λ z. suc (enters_in z h)) (sym a)))
+        | inr a ↦ rw (pair-false p q slot t (λ c d. a (omega arith))) (history.seats q t x within (sym (get-set_other s.seats (seat_row p slot) (seat_row q t) _ a) ∙ k))
+      ]
+
+  -- an operation is issued
+  issuing : (new : StateView K V I O) (p slot c : ℕ) (op : Op K V I) (seat after : Seat) → slot < 16 → slice_get s.seats (seat_row p slot) ≡ Some seat → after.session ≡ seat.session
+      → new.moment ≡ suc s.moment → new.enters ≡ s.enters → new.seats ≡ slice_set s.seats (seat_row p slot) after
+      → new.lives ≡ s.lives ++ begun_life p seat op (suc s.moment) ∷ []
+      → HasHistory new (record { step = step.Issue p slot op; told = Ok (outcome.Issued c) } ∷ h)
+  issuing new p slot c op seat after low at keeps now tables seated lived = record {
+    moment = now ∙ ap suc history.moment;
+    enters = λ q m k. history.enters q m (ap (λ xs. slice_get xs q) (sym tables) ∙ k);
+    seats = λ q t x within k. sitting q t x within (ap (λ xs. slice_get xs (seat_row q t)) (sym seated) ∙ k);
+    lives = ap (map issue_of) lived ∙ map-last issue_of s.lives (begun_life p seat op (suc s.moment)) ∙ ap (λ xs. xs ++ issue_of (begun_life {O = O} p seat op (suc s.moment)) ∷ []) history.lives
+        ∙ ap (λ z. issues_in h ++ record { partition = p; session = z; op = op; issue = suc s.moment } ∷ []) (history.seats p slot seat low at)
+        ∙ ap (λ z. issues_in h ++ record { partition = p; session = session_in p slot h; op = op; issue = suc z } ∷ []) history.moment;
+  }
+    where
+      sitting : (q t : ℕ) (x : Seat) → t < 16 → slice_get (slice_set s.seats (seat_row p slot) after) (seat_row q t) ≡ Some x → x.session ≡ session_in q t h
+      sitting q t x within k = elim (cases_eq (seat_row q t) (seat_row p slot)) [
+        | inl e ↦ (let a : q ≡ p = omega arith in let b : t ≡ slot = omega arith in
+            let there : slice_get (slice_set s.seats (seat_row p slot) after) (seat_row p slot) ≡ Some x = ap (slice_get (slice_set s.seats (seat_row p slot) after)) (sym e) ∙ k in
+            let one : after.session ≡ x.session = ap (λ (z : Seat). z.session) (get-set_here s.seats (seat_row p slot) after x there) in
+            sym one ∙ keeps ∙ history.seats p slot seat low at ∙ ap (λ z. session_in z slot h) (sym a) ∙ ap (λ z. session_in q z h) (sym b))
+        | inr a ↦ history.seats q t x within (sym (get-set_other s.seats (seat_row p slot) (seat_row q t) after a) ∙ k)
+      ]
+
+-- ---- each step adds itself
+module _ {K V I O : Type 0} (cmp : K → K → Ordering) (f : Meanings K V I O) (code : K → ℕ) (s : StateView K V I O) (h : List (Event K V I O)) (history : HasHistory s h) where
+  progressing : (new : StateView K V I O) (t : Step K V I) (r : Result (Outcome V O) Refused) (j : ℕ) (p : Progress K V I O)
+      → entered_at (Ok (told p)) t ≡ None → issued_at (Ok (told p)) t ≡ None
+      → new.moment ≡ suc s.moment → new.enters ≡ s.enters → new.seats ≡ s.seats → new.lives ≡ lives_by s.lives j (suc s.moment) p → r ≡ Ok (told p)
+      → HasHistory new (record { step = t; told = r } ∷ h)
+  progressing new t r j p nobody nothing now tables seated lived is =
+      rw is (quiet s h history new t (told p) nobody nothing now tables seated (ap (map issue_of) lived ∙ progress-issue_of s.lives j (suc s.moment) p))
+
+  nobody_goes : (p : Progress K V I O) (w : _) → entered_at {K = K} {I = I} (Ok (told p)) (step.Go w) ≡ None
+  nobody_goes (Done a effect) w = refl
+  nobody_goes Next w = refl
+  nobody_goes (NeedsBuild ask) w = refl
+
+  nobody_installs : (p : Progress K V I O) (w : _) → entered_at {K = K} {I = I} (Ok (told p)) (step.Install w) ≡ None
+  nobody_installs (Done a effect) w = refl
+  nobody_installs Next w = refl
+  nobody_installs (NeedsBuild ask) w = refl
+
+  pub history-acts : (new : StateView K V I O) (t : Step K V I) (r : Result (Outcome V O) Refused) → Acts cmp f code s new t r → HasHistory new (record { step = t; told = r } ∷ h)
+  history-acts new t r (nowhere a same is) = kept-state s h history new t r _ same is
+  history-acts new t r (unasked w v a b c d same is) = kept-state s h history new t r _ same is
+  history-acts new t r (unknown w v a b c d same is) = kept-state s h history new t r _ same is
+  history-acts new t r (worn a b c same is) = kept-state s h history new t r _ same is
+  history-acts new t r (lifeless p slot op v a b same is) = kept-state s h history new t r _ same is
+  history-acts new t r (refuses_enter p v e a b c same is) = kept-state s h history new t r _ same is
+  history-acts new t r (enters p slot n v v' a b c d low count to is) =
+      rw (a, is) (entering s h history new p slot n low count (ap (λ (z : StateView K V I O). z.moment) to) (ap (λ (z : StateView K V I O). z.enters) to) (ap (λ (z : StateView K V I O). z.seats) to) (ap (λ (z : StateView K V I O). z.lives) to))
+  history-acts new t r (refuses_leave p slot v e a b c same is) = kept-state s h history new t r _ same is
+  history-acts new t r (leaves p slot v v' a b c ev to is) =
+      rw (a, is) (quiet s h history new (step.Leave p slot) outcome.Left refl refl (ap (λ (z : StateView K V I O). z.moment) to) (ap (λ (z : StateView K V I O). z.enters) to) (ap (λ (z : StateView K V I O). z.seats) to) (ap (λ (z : StateView K V I O). map issue_of z.lives) to))
+  history-acts new t r (refuses_give_up w v e a b c same is) = kept-state s h history new t r _ same is
+  history-acts new t r (gives_up w v v' a due c ev to is) =
+      rw (a, is) (quiet s h history new (step.GiveUp w) outcome.GivenUp refl refl (ap (λ (z : StateView K V I O). z.moment) to) (ap (λ (z : StateView K V I O). z.enters) to) (ap (λ (z : StateView K V I O). z.seats) to) (ap (λ (z : StateView K V I O). map issue_of z.lives) to ∙ ended-issue_of s.lives _ _))
+  history-acts new t r (refuses_issue p slot op v e a b c same is) = kept-state s h history new t r _ same is
+  history-acts new t r (issues p slot c op v v' seat a b d ev low at to is) =
+      rw (a, is) (issuing s h history new p slot c op seat _ low at refl (ap (λ (z : StateView K V I O). z.moment) to) (ap (λ (z : StateView K V I O). z.enters) to) (ap (λ (z : StateView K V I O). z.seats) to) (ap (λ (z : StateView K V I O). z.lives) to))
+  history-acts new t r (refuses_go w v e a b c same is) = kept-state s h history new t r _ same is
+  history-acts new t r (goes w v v' p a due c ev to is) =
+      rw a (progressing new (step.Go w) r _ p (nobody_goes p w) refl (ap (λ (z : StateView K V I O). z.moment) to) (ap (λ (z : StateView K V I O). z.enters) to) (ap (λ (z : StateView K V I O). z.seats) to) (ap (λ (z : StateView K V I O). z.lives) to) is)
+  history-acts new t r (refuses_install w v ask e a b c d same is) = kept-state s h history new t r _ same is
+  history-acts new t r (installs w v v' ask p a due c d ev to is) =
+      rw a (progressing new (step.Install w) r _ p (nobody_installs p w) refl (ap (λ (z : StateView K V I O). z.moment) to) (ap (λ (z : StateView K V I O). z.enters) to) (ap (λ (z : StateView K V I O). z.seats) to) (ap (λ (z : StateView K V I O). z.lives) to) is)
+
+-- ---- steps in turn
+-- what the steps were told, after what was told before, and the history that they make
+pub record IsHistory {K V I O : Type 0} (v w : WorldView K V I O) (ss : List (Step K V I)) (h : List (Event K V I O)) : Type 0 where
+  pub told : List (Result (Outcome V O) Refused)
+  pub outcomes : w.outcomes ≡ v.outcomes ++ told
+  pub history : HasHistory w.state (backwards ss told h)
+
+pub history-runs : {K V I O : Type 0} (cmp : K → K → Ordering) (f : Meanings K V I O) (code : K → ℕ) (v w : WorldView K V I O) (ss : List (Step K V I)) (h : List (Event K V I O))
+    → HasHistory v.state h → RunsTo cmp f code v ss w → IsHistory v w ss h
+history-runs cmp f code v w [] h history run = record { told = []; outcomes = ap (λ (z : WorldView _ _ _ _). z.outcomes) run ∙ sym (append-nothing v.outcomes); history = subst (λ (z : WorldView _ _ _ _). HasHistory z.state h) (sym run) history }
+history-runs cmp f code v w (s ∷ ss) h history run =
+    let one = history-acts cmp f code v.state h history (run.0).state s run.1 run.2.acts in
+    let more = history-runs cmp f code run.0 w ss (record { step = s; told = run.1 } ∷ h) one run.3 in
+    record {
+      told = run.1 ∷ more.told;
+      outcomes = more.outcomes ∙ ap (λ xs. xs ++ more.told) run.2.outcomes ∙ append-joined v.outcomes run.1 more.told;
+      history = more.history;
+    }
+
+-- a world before its first step has no history
+pub history-empty : {K V I O : Type 0} (config : Config) (size : ℕ) → HasHistory {K = K} {V = V} {I = I} {O = O} (empty_state config size) []
+history-empty config size = record {
+  moment = refl;
+  enters = λ p n k. replicate-at (2 ^ config.partition_bits) 0 n p k;
+  seats = λ p slot x low k. ap (λ (z : Seat). z.session) (replicate-at (2 ^ config.partition_bits * 16) (record { session = 0; issues = 0 }) x (seat_row p slot) k);
+  lives = refl;
+}
+
+-- the lives of a world that steps lead to from nothing are those of their accepted issues
+pub issued-runs : {K V I O : Type 0} (cmp : K → K → Ordering) (f : Meanings K V I O) (code : K → ℕ) (config : Config) (size : ℕ) (w : WorldView K V I O) (ss : List (Step K V I))
+    → RunsTo cmp f code (empty_world config size) ss w → map issue_of w.state.lives ≡ issues_in (backwards ss w.outcomes [])
+issued-runs cmp f code config size w ss run =
+    let h = history-runs cmp f code (empty_world config size) w ss [] (history-empty config size) run in
+    h.history.lives ∙ ap (λ ts. issues_in (backwards ss ts [])) (sym h.outcomes)
