@@ -10,6 +10,7 @@ pub mod clocks;
 pub mod decisions;
 mod finals;
 pub mod laws;
+mod maps;
 pub mod operations;
 pub mod plainly;
 pub mod records;

@@ -1,9 +1,11 @@
 //! The plain, slow program: operations on a sorted map, one after the other.
-ghost use Rattle.std.specs.Prelude.{◌≡◌, Option, None, Ok, Err, IfOk, IfErr, OnErr};
+ghost use Rattle.std.specs.Prelude.{◌≡◌, [], ◌∷◌, ◌++◌, Option, None, Ok, Err, IfOk, IfErr, OnOk, OnErr};
 ghost use Rattle.std.specs.BTreeMap.{get, IsOrdered};
+ghost use Rattle.fkv_functions.specs.Meanings.{updated};
 ghost use Rattle.fkv_functions.specs.Plain.{Same};
 ghost use Rattle.fkv_operations.specs.After.{after, answer, after_all, answers, shown_of};
 
+use crate::maps::give;
 use crate::operations::{Answer, AnswerOf, Op, OpOf};
 use fkv_functions::{Functions, Refused};
 use std::alloc::Global;
@@ -50,25 +52,78 @@ pub fn apply_plainly<F: Functions>(
             let held = map.get(&key).copied();
             Ok(shown(functions, &key, &input, held))
         }
-        Op::Rmw(key, input) => {
-            let value = match map.get(&key) {
-                None => functions.initial(&key, &input),
-                Some(held) => functions.copy(&key, &input, held),
-            };
-            match map.insert(key, value) {
-                Ok(_) => Ok(Answer::Value(functions.read(&key, &input, &value))),
-                Err(_) => Err(Refused::NoMemory),
-            }
-        }
-        Op::Upsert(key, written) => match map.insert(key, written) {
-            Ok(_) => Ok(Answer::Stored),
-            Err(_) => Err(Refused::NoMemory),
+        Op::Rmw(key, input) => update_plainly(functions, map, key, input),
+        Op::Upsert(key, written) => match give(map, key, written) {
+            Err(refused) => Err(refused),
+            Ok(()) => Ok(Answer::Stored),
         },
         Op::Delete(key) => {
             map.remove(&key);
             Ok(Answer::Deleted)
         }
     }
+}
+
+/// Changes the value of a key by an input, or gives it its first one. Refused: `NoMemory`, and then the map is as it
+/// was.
+fn update_plainly<F: Functions>(
+    functions: &F,
+    map: &mut BTreeMap<F::Key, F::Value>,
+    key: F::Key,
+    input: F::Input,
+) -> Result<AnswerOf<F>, Refused>
+    ensures map { IfOk result
+        (λ _. Same (get F.Key.cmp map.new) (after F.Key.cmp F.meaning (get F.Key.cmp map.old) (Op.Rmw key input))) }
+    ensures answer { IfOk result (λ told. told ≡ answer F.meaning (get F.Key.cmp map.old) (Op.Rmw key input)) }
+    ensures err { OnErr result (Same (get F.Key.cmp map.new) (get F.Key.cmp map.old)) }
+    ensures only { IfErr result (λ refused. refused ≡ Refused.NoMemory) }
+{
+    let held = map.get(&key).copied();
+    let value = updated(functions, &key, &input, held);
+    match give(map, key, value) {
+        Err(refused) => Err(refused),
+        Ok(()) => Ok(Answer::Value(functions.read(&key, &input, &value))),
+    }
+}
+
+/// What an update makes of the value that its key has, or of none.
+fn updated<F: Functions>(
+    functions: &F,
+    key: &F::Key,
+    input: &F::Input,
+    held: Option<F::Value>,
+) -> F::Value
+    ensures { result ≡ updated F.meaning key.now input.now held }
+{
+    match held {
+        None => functions.initial(key, input),
+        Some(value) => functions.copy(key, input, &value),
+    }
+}
+
+/// Does one operation, and adds what it answers to what was told. Refused: `NoMemory`.
+fn tell<F: Functions>(
+    functions: &F,
+    map: &mut BTreeMap<F::Key, F::Value>,
+    told: &mut Vec<AnswerOf<F>>,
+    op: OpOf<F>,
+) -> Result<(), Refused>
+    ensures map { OnOk result (Same (get F.Key.cmp map.new) (after F.Key.cmp F.meaning (get F.Key.cmp map.old) op)) }
+    ensures told { OnOk result
+        (told.new.items ≡ told.old.items ++ answer F.meaning (get F.Key.cmp map.old) op ∷ []) }
+    ensures only { IfErr result (λ refused. refused ≡ Refused.NoMemory) }
+{
+    if told.reserve(1).is_err() {
+        return Err(Refused::NoMemory);
+    }
+    let one = match apply_plainly(functions, map, op) {
+        Err(refused) => return Err(refused),
+        Ok(one) => one,
+    };
+    if told.push(one).is_err() {
+        return Err(Refused::NoMemory);
+    }
+    Ok(())
 }
 
 /// Does the operations in order, from no keys. Refused: `NoMemory`.
@@ -86,13 +141,7 @@ pub fn run_plainly<F: Functions>(
     let mut map = BTreeMap::new(alloc);
     let mut told = Vec::new(alloc);
     for op in ops {
-        if told.reserve(1).is_err() {
-            return Err(Refused::NoMemory);
-        }
-        let one = apply_plainly(functions, &mut map, *op)?;
-        if told.push(one).is_err() {
-            return Err(Refused::NoMemory);
-        }
+        tell(functions, &mut map, &mut told, *op)?;
     }
     Ok(PlainRun { map, answers: told })
 }

@@ -17,6 +17,7 @@ ghost use Rattle.fkv_operations.specs.Traced.{IsTraced};
 
 use crate::classes::{Class, class_of};
 use crate::finals::{make_entry, move_entry};
+use crate::maps::give;
 use fkv_functions::{Fixed, Functions, Refused};
 use fkv_hybrid::laws::{appended, chains};
 use fkv_hybrid::{Entry, Log};
@@ -132,7 +133,10 @@ impl<F: Functions> Records<F> {
         ensures err { OnErr result (self.new ≡ self.old) }
     {
         chains::<F::Key, F::Value, Class>();
-        let address = self.log.append(entry, key, value)?;
+        let address = match self.log.append(entry, key, value) {
+            Err(refused) => return Err(refused),
+            Ok(address) => address,
+        };
         self.log.known();
         move_entry(&mut self.finals, class, address);
         Ok(address)
@@ -170,7 +174,7 @@ impl<F: Functions> Records<F> {
     }
 }
 
-/// Gives a key this value, or none. Refused, and then the map is as it was: `NoMemory`.
+/// Gives a key this value, or none. Refused: `NoMemory`.
 fn put<K: Fixed + Ord, V: Fixed>(
     map: &mut BTreeMap<K, V>,
     key: K,
@@ -184,9 +188,6 @@ fn put<K: Fixed + Ord, V: Fixed>(
             map.remove(&key);
             Ok(())
         }
-        Some(value) => match map.insert(key, value) {
-            Ok(_) => Ok(()),
-            Err(_) => Err(Refused::NoMemory),
-        },
+        Some(value) => give(map, key, value),
     }
 }
