@@ -53,6 +53,9 @@ fn writes(value: Option<i128>, bytes: &[u8; 56]) -> bool {
     let Some(entry) = record_of_a(value) else {
         return false;
     };
+    if entry.previous >= END {
+        return false;
+    }
     let mut out = [0xffu8; 56];
     write_record(&entry, &mut out);
     out == *bytes
