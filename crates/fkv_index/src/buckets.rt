@@ -8,6 +8,7 @@ use crate::places::Place;
 use crate::words::Word;
 use std::alloc::{AllocError, Global};
 use std::marker::Model;
+use std::mem::size_of;
 
 /// A bucket: seven words, and the number of the block of its overflow buckets, from 1; 0 where it has
 /// none.
@@ -16,6 +17,9 @@ pub struct Bucket {
     words: [Word; 7],
     overflow: usize,
 }
+
+// a bucket is a line of the cache
+const _: () = prove!(size_of::<Bucket>() == 64);
 
 /// The buckets, and a block for each bucket that overflowed. The overflow buckets of one bucket stand
 /// side by side in its block, so a scan of a bucket reads at most two pieces of memory.

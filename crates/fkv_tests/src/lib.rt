@@ -1,19 +1,13 @@
-//! Tests of functions, records, epochs, the index, devices, frames and logs, over what these crates hand out.
+//! Tests of functions, records, epochs and logs, over what these crates hand out.
 //!
 //! What is to come is written as constant rows, and a helper a kind says whether a row comes so. No crate below
 //! is proved a second time for its tests.
 #![tactic(auto)]
 
 #[cfg(test)]
-mod devices;
-#[cfg(test)]
 mod epochs;
 #[cfg(test)]
-mod frames;
-#[cfg(test)]
 mod functions;
-#[cfg(test)]
-mod index;
 #[cfg(test)]
 mod logs;
 #[cfg(test)]

@@ -53,6 +53,9 @@ fn writes(value: Option<i128>, bytes: &[u8; 56]) -> bool {
     let Some(entry) = record_of_a(value) else {
         return false;
     };
+    if entry.previous >= END {
+        return false;
+    }
     let mut out = [0xffu8; 56];
     write_record(&entry, &mut out);
     out == *bytes
@@ -226,10 +229,9 @@ fn read_back<K: Fixed, V: Fixed>(
     read_record(address, out)
 }
 
-/// A record read the slow way, a bit after the other.
-fn plain_read<K: Fixed, V: Fixed>(address: u64, bytes: &[u8]) -> Option<Record<K, V>>
-    requires most { size_of K.SIZE V.SIZE ≤ 192 }
-    requires room { length bytes.now ≡ size_of K.SIZE V.SIZE }
+/// A header read the slow way, a bit after the other: the previous address, and whether it is a tombstone's.
+fn plain_header(bytes: &[u8]) -> Option<(u64, bool)>
+    requires { 8 ≤ length bytes.now }
 {
     let mut previous = 0u64;
     for at in 0..6 {
@@ -240,16 +242,24 @@ fn plain_read<K: Fixed, V: Fixed>(address: u64, bytes: &[u8]) -> Option<Record<K
     let is_delta = flags / 2 % 2 == 1;
     let is_marked = flags / 4 % 2 == 1;
     if is_delta || !is_marked || flags / 8 != 0 || bytes[7] != 0 {
-        return None;
+        None
+    } else {
+        Some((previous, is_tombstone))
     }
+}
+
+/// A record read the slow way.
+fn plain_read<K: Fixed, V: Fixed>(address: u64, bytes: &[u8]) -> Option<Record<K, V>>
+    requires most { size_of K.SIZE V.SIZE ≤ 192 }
+    requires room { length bytes.now ≡ size_of K.SIZE V.SIZE }
+{
+    let (previous, is_tombstone) = plain_header(bytes)?;
     if previous != 1 && !(64..address).contains(&previous) {
         return None;
     }
     let value_end = 8 + K::SIZE + V::SIZE;
-    for at in value_end..bytes.len() {
-        if bytes[at] != 0 {
-            return None;
-        }
+    if !bytes[value_end..].iter().all(|byte| *byte == 0) {
+        return None;
     }
     let key = K::take(&bytes[8..8 + K::SIZE])?;
     let value = if is_tombstone {

@@ -10,7 +10,7 @@ fn read(alloc: Global, text: &str) -> Result<Script, Refused> {
 }
 
 /// What an operation is, its key and its amount.
-type Asked = (char, &'static [u8], i64);
+type Asked = (char, &'static str, i64);
 
 /// What a line is, and its numbers: partition, session and context.
 type Said = (&'static str, u64, u64, u64, Option<Asked>);
@@ -35,20 +35,20 @@ do 1 15 delete a-1";
 
 const SAID: [Said; 16] = [
     ("enter", 1, 0, 0, None),
-    ("issue", 1, 15, 0, Some(('r', b"a", 0))),
+    ("issue", 1, 15, 0, Some(('r', "a", 0))),
     (
         "issue",
         1,
         15,
         0,
-        Some(('m', b"a_Z-9", -9223372036854775808)),
+        Some(('m', "a_Z-9", -9223372036854775808)),
     ),
     (
         "issue",
         1,
         15,
         0,
-        Some(('m', b"abcdefghijklmnopqrstuvwxyz01234", 5)),
+        Some(('m', "abcdefghijklmnopqrstuvwxyz01234", 5)),
     ),
     ("go", 1, 15, 7, None),
     ("install", 1, 15, 7, None),
@@ -56,12 +56,12 @@ const SAID: [Said; 16] = [
     ("giveup", 1, 15, 7, None),
     ("ready", 1, 15, 7, None),
     ("finish", 1, 15, 7, None),
-    ("do", 1, 15, 0, Some(('r', b"a", 0))),
-    ("do", 1, 15, 0, Some(('m', b"a", 0))),
-    ("issue", 1, 15, 0, Some(('u', b"a", -3))),
-    ("issue", 1, 15, 0, Some(('d', b"a", 0))),
-    ("do", 1, 15, 0, Some(('u', b"a", 7))),
-    ("do", 1, 15, 0, Some(('d', b"a-1", 0))),
+    ("do", 1, 15, 0, Some(('r', "a", 0))),
+    ("do", 1, 15, 0, Some(('m', "a", 0))),
+    ("issue", 1, 15, 0, Some(('u', "a", -3))),
+    ("issue", 1, 15, 0, Some(('d', "a", 0))),
+    ("do", 1, 15, 0, Some(('u', "a", 7))),
+    ("do", 1, 15, 0, Some(('d', "a-1", 0))),
 ];
 
 /// Whether an operation is what was asked.
@@ -75,7 +75,7 @@ fn is_op(op: &Op<Name, i64, i64>, asked: Option<Asked>) -> bool {
         Op::Rmw(_, input) => (kind == 'm', *input),
         Op::Delete(_) => (kind == 'd', 0),
     };
-    is_kind && held == amount && op.key().bytes() == key
+    is_kind && held == amount && op.key().bytes() == key.as_bytes()
 }
 
 /// Whether a place is that of these numbers.
@@ -174,35 +174,66 @@ fn functions_of_each_name(rt: HostRuntime) {
     }
 }
 
-/// Bytes, the most lines, and the line that is bad, if one is.
-const LIMITED: [(&[u8], u32, Option<u64>); 11] = [
-    (b"store sum 0 8 8 2\nenter 0\nenter 0\nenter\n", 0, Some(1)),
-    (b"store sum 0 8 8 2\nenter 0\nenter 0\nenter\n", 1, Some(2)),
-    (b"store sum 0 8 8 2\nenter 0\nenter 0\nenter\n", 2, Some(3)),
-    (b"store sum 0 8 8 2\nenter 0\nenter 0\nenter\n", 3, Some(4)),
-    (b"store sum 0 8 8 2\nenter 0\nenter 0\nenter\n", 4, Some(4)),
-    (b"store sum 0 8 8 2\nenter 0\nenter 0\n", 2, Some(3)),
-    (b"store sum 0 8 8 2\nenter 0\nenter 0\n", 3, None),
-    (b"store sum 0 8 8 2\nenter 0\nenter 0\n", 4294967295, None),
-    (b"store sum 0 8 8 2\xff", 1_000_000, Some(1)),
-    (b"store sum 0 8 8 2\nenter 0\n\x80\n", 1_000_000, Some(3)),
+/// A text, the most lines, and the line that is bad, if one is.
+const LIMITED: [(&str, u32, Option<u64>); 9] = [
+    ("store sum 0 8 8 2\nenter 0\nenter 0\nenter\n", 0, Some(1)),
+    ("store sum 0 8 8 2\nenter 0\nenter 0\nenter\n", 1, Some(2)),
+    ("store sum 0 8 8 2\nenter 0\nenter 0\nenter\n", 2, Some(3)),
+    ("store sum 0 8 8 2\nenter 0\nenter 0\nenter\n", 3, Some(4)),
+    ("store sum 0 8 8 2\nenter 0\nenter 0\nenter\n", 4, Some(4)),
+    ("store sum 0 8 8 2\nenter 0\nenter 0\n", 2, Some(3)),
+    ("store sum 0 8 8 2\nenter 0\nenter 0\n", 3, None),
+    ("store sum 0 8 8 2\nenter 0\nenter 0\n", 4294967295, None),
     (
-        b"store sum 0 8 8 2\nenter 0\ndo 0 0 read a\0\n",
+        "store sum 0 8 8 2\nenter 0\ndo 0 0 read a\0\n",
         1_000_000,
         Some(3),
     ),
 ];
 
+/// The bad line of bytes, if one is.
+fn bad_line(alloc: Global, bytes: &[u8], limit: u32) -> Result<Option<u64>, Refused> {
+    match read_script(alloc, bytes, limit) {
+        Ok(_) => Ok(None),
+        Err(Refused::BadScript { line }) => Ok(Some(line)),
+        Err(refused) => Err(refused),
+    }
+}
+
 #[test]
 fn the_line_after_the_limit(rt: HostRuntime) {
-    for (at, (bytes, limit, bad)) in LIMITED.iter().enumerate() {
-        let wanted = match *bad {
-            Some(line) => Some(Refused::BadScript { line }),
-            None => None,
-        };
+    for (text, limit, bad) in LIMITED {
         assert!(rt;
-            read_script(rt.alloc(), *bytes, *limit).err() == wanted,
-            "row {at}"
+            bad_line(rt.alloc(), text.as_bytes(), limit) == Ok(bad),
+            "{limit} {text}"
+        );
+    }
+}
+
+/// A script whose last byte is this one.
+fn with_last(alloc: Global, text: &str, last: u8) -> Option<Vec<u8>> {
+    let mut bytes = Vec::new(alloc);
+    if bytes.extend_from_slice(text.as_bytes()).is_err() || bytes.push(last).is_err() {
+        return None;
+    }
+    Some(bytes)
+}
+
+/// Texts, the byte behind them, and the line that is bad for it.
+const NO_TEXT: [(&str, u8, u64); 3] = [
+    ("store sum 0 8 8 2", 0xff, 1),
+    ("store sum 0 8 8 2\nenter 0\n", 0x80, 3),
+    ("store sum 0 8 8 2\nenter 0\nread 0 0 a", 0xc3, 3),
+];
+
+#[test]
+fn bytes_that_are_no_text(rt: HostRuntime) {
+    for (text, last, line) in NO_TEXT {
+        let bytes = with_last(rt.alloc(), text, last);
+        assert!(rt;
+            bytes.is_some_and(|bytes| {
+                bad_line(rt.alloc(), bytes.as_slice(), LIMIT) == Ok(Some(line))
+            })
         );
     }
 }

@@ -243,13 +243,16 @@ fn is_laid_out(rt: &HostRuntime, page_bits: u32, length: usize) -> Result<bool, 
     let mut disk = device(rt, "device_files/three", page_bits)?;
     let is_kept = keeps_three_pages(rt.alloc(), &mut disk, length) == Some(true);
     let bytes = fs::read(rt, "device_files/three/part-07.log")?;
-    let (Some(zeros), Some(fifth)) = (
-        bytes.get(..4 * length.min(4096)),
-        bytes.get(5 * length.min(4096) - 1),
-    ) else {
+    let size = length.min(4096);
+    let (zeros, fifth) = (
+        bytes.get(..4 * size),
+        bytes.get(4 * size + size.saturating_sub(1)),
+    );
+    let (Some(zeros), Some(fifth)) = (zeros, fifth) else {
         return Ok(false);
     };
-    Ok(is_kept && bytes.len() / 7 == length && zeros.iter().all(|byte| *byte == 0) && *fifth == 255)
+    let is_empty = zeros.iter().all(|byte| *byte == 0);
+    Ok(is_kept && is_empty && bytes.len() % 7 == 0 && bytes.len() / 7 == length && *fifth == 255)
 }
 
 #[test]

@@ -1,0 +1,12 @@
+//! Tests of the index, devices and frames, over what these crates hand out.
+//!
+//! What is to come is written as constant rows, and a helper a kind says whether a row comes so. No crate below
+//! is proved a second time for its tests.
+#![tactic(auto)]
+
+#[cfg(test)]
+mod devices;
+#[cfg(test)]
+mod frames;
+#[cfg(test)]
+mod index;
