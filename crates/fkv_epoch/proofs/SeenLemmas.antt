@@ -1,5 +1,5 @@
 -- What waits agrees with what the sessions have seen.
-use Rattle.std.proofs.Common.{◌≡◌, ◌≢◌, ◌<◌, ℕ, zero, suc, Bool, not, List, [], ◌∷◌, Option, Some, None, ◌⊎◌, inl, inr, refl, sym, ◌∙◌, ap, arith, length, get_or, set}
+use Rattle.std.proofs.Common.{◌≡◌, ◌≢◌, ◌<◌, ℕ, Bool, not, List, Option, Some, None, ◌⊎◌, inl, inr, sym, ◌∙◌, arith, length, get_or, set}
 use Rattle.std.specs.Prelude.{slice_get, IsTrue}
 use Rattle.std.proofs.lemmas.List.Elements.{All-nil, All-push, All-filter, filter_passes}
 use Rattle.std.specs.List.{All}
@@ -12,7 +12,8 @@ use Rattle.fkv_epoch.specs.Moves.{fresh, renewed, vacated, bumped}
 use Rattle.fkv_epoch.specs.Timely.{IsOrdered}
 use Rattle.fkv_epoch.specs.Seen.{SeenByAll, WaitsAgree, IsSeenFirst}
 use Rattle.fkv_epoch.proofs.SafeLemmas.{safe-fact}
-use Rattle.fkv_epoch.proofs.TimelyLemmas.{set-cases}
+use Rattle.std.proofs.lemmas.Bool.{cases_eq}
+use Rattle.fkv_functions.proofs.ListLemmas.{get-set_cases, get-set_other}
 
 -- a session whose epoch is greater than c has seen the action
 abbrev SeenFrom : (ℕ → Action → Type 0) → List (Option ℕ) → ℕ → Action → Type 0
@@ -21,33 +22,22 @@ SeenFrom Seen slots c a = (slot e : ℕ) → slice_get slots slot ≡ Some (Some
 pub agree-fresh : (Seen : ℕ → Action → Type 0) → WaitsAgree Seen fresh
 agree-fresh Seen = record { agree = All-nil (λ (w : Waiting). SeenFrom Seen fresh.slots w.epoch w.action) }
 
--- another slot is as it was
-set-other : {X : Type 0} (xs : List X) (i k : ℕ) (x : X) → (i ≡ k) ⊎ ((k ≢ i) × (slice_get (set xs i x) k ≡ slice_get xs k))
-set-other [] zero zero x = inl refl
-set-other [] zero (suc k) x = inr (λ e. cc, refl)
-set-other [] (suc i) zero x = inr (λ e. cc, refl)
-set-other [] (suc i) (suc k) x = elim (set-other [] i k x) [ inl e ↦ inl (ap suc e) | inr p ↦ inr (λ e. p.0 (cc), refl) ]
-set-other (z ∷ zs) zero zero x = inl refl
-set-other (z ∷ zs) zero (suc k) x = inr (λ e. cc, refl)
-set-other (z ∷ zs) (suc i) zero x = inr (λ e. cc, refl)
-set-other (z ∷ zs) (suc i) (suc k) x = elim (set-other zs i k x) [ inl e ↦ inl (ap suc e) | inr p ↦ inr (λ e. p.0 (cc), p.1) ]
-
 -- a session that enters or refreshes, and sees all that waits
 pub agree-renewed : (Seen Now : ℕ → Action → Type 0) (s : EpochState) (slot : ℕ) → WaitsAgree Seen s → ((i : ℕ) (a : Action) → i ≢ slot → Seen i a → Now i a)
     → All (λ w. Now slot w.action) s.waiting → WaitsAgree Now (renewed s slot)
 agree-renewed Seen Now s slot h others sees = record {
-  agree = λ k d l i e g m. by k d l i e g m (set-other s.slots slot i (Some s.epoch));
+  agree = λ k d l i e g m. by k d l i e g m (cases_eq i slot);
 }
   where
     by : (k : ℕ) (d : Waiting) → k < length s.waiting → (i e : ℕ) → slice_get (set s.slots slot (Some s.epoch)) i ≡ Some (Some e) → (get_or s.waiting k d).epoch < e
-        → (slot ≡ i) ⊎ ((i ≢ slot) × (slice_get (set s.slots slot (Some s.epoch)) i ≡ slice_get s.slots i)) → Now i (get_or s.waiting k d).action
-    by k d l i e g m (inl same) = rw (← same) (sees k d l)
-    by k d l i e g m (inr (other, same)) = others i (get_or s.waiting k d).action other (h.agree k d l i e (sym same ∙ g) m)
+        → (i ≡ slot) ⊎ (i ≢ slot) → Now i (get_or s.waiting k d).action
+    by k d l i e g m (inl same) = rw same (sees k d l)
+    by k d l i e g m (inr other) = others i (get_or s.waiting k d).action other (h.agree k d l i e (sym (get-set_other s.slots slot i (Some s.epoch) other) ∙ g) m)
 
 -- a session that leaves
 pub agree-vacated : (Seen : ℕ → Action → Type 0) (s : EpochState) (slot : ℕ) → WaitsAgree Seen s → WaitsAgree Seen (vacated s slot)
 agree-vacated Seen s slot h = record {
-  agree = λ k d l i e g m. h.agree k d l i e (elim (set-cases s.slots slot i None (Some e) g) [ inl bad ↦ absurd (cc) | inr old ↦ old ]) m;
+  agree = λ k d l i e g m. h.agree k d l i e (elim (get-set_cases s.slots slot i None (Some e) g) [ inl bad ↦ absurd (cc) | inr old ↦ old ]) m;
 }
 
 -- a new action: no session has a greater epoch yet

@@ -1,5 +1,5 @@
 -- What holds at any time stays so.
-use Rattle.std.proofs.Common.{◌≡◌, ◌+◌, ◌<◌, ◌≤◌, ℕ, zero, suc, Bool, true, false, not, List, [], ◌∷◌, Option, Some, None, ◌⊎◌, inl, inr, refl, sym, ◌∙◌, ap, arith, subst, length, get_or, nat_lt, set, length-set, length-append, replicate}
+use Rattle.std.proofs.Common.{◌≡◌, ◌+◌, ◌<◌, ◌≤◌, ℕ, zero, suc, Bool, true, false, not, List, [], ◌∷◌, Option, Some, None, inl, inr, refl, sym, ◌∙◌, ap, arith, subst, length, get_or, nat_lt, set, length-set, length-append, replicate}
 use Rattle.std.specs.Prelude.{slice_get, is_none}
 use Rattle.std.proofs.lemmas.Bool.{and_from, and_parts}
 use Rattle.std.proofs.lemmas.Option.{slice_get-get_or}
@@ -16,22 +16,14 @@ use Rattle.fkv_epoch.specs.SafeEpoch.{is_safe_epoch}
 use Rattle.fkv_epoch.specs.Due.{settled}
 use Rattle.fkv_epoch.specs.Moves.{fresh, free_slot, renewed, vacated, bumped}
 use Rattle.fkv_epoch.specs.Timely.{IsOrdered, IsTimely}
-use Rattle.fkv_functions.proofs.ListLemmas.{not-true}
-
--- what stands in a list after a write stood there before, or was written
-pub set-cases : {X : Type 0} (xs : List X) (i k : ℕ) (x y : X) → slice_get (set xs i x) k ≡ Some y → (x ≡ y) ⊎ (slice_get xs k ≡ Some y)
-set-cases [] i k x y h = inr h
-set-cases (z ∷ zs) zero zero x y h = inl (cc)
-set-cases (z ∷ zs) zero (suc k) x y h = inr h
-set-cases (z ∷ zs) (suc i) zero x y h = inr h
-set-cases (z ∷ zs) (suc i) (suc k) x y h = set-cases zs i k x y h
+use Rattle.fkv_functions.proofs.ListLemmas.{not-true, get-set_cases}
 
 -- a slot may take any epoch up to the current one, or none
 pub ordered-set : (s : EpochState) (slot : ℕ) (o : Option ℕ) → IsOrdered s → ((e : ℕ) → o ≡ Some e → e ≤ s.epoch) → IsOrdered (record s { slots = set s.slots slot o })
 ordered-set s slot o h small = record {
   slots = rw length-set h.slots;
   room = h.room;
-  entered = λ k e g. elim (set-cases s.slots slot k o (Some e) g) [ inl p ↦ small e p | inr q ↦ h.entered k e q ];
+  entered = λ k e g. elim (get-set_cases s.slots slot k o (Some e) g) [ inl p ↦ small e p.1 | inr q ↦ h.entered k e q ];
   past = h.past;
   rising = h.rising;
 }
