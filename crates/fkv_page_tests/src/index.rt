@@ -37,14 +37,9 @@ fn claim(index: &mut Index, bucket: usize, tag: u16) -> Option<Place> {
     Some(place)
 }
 
-/// Whether a tentative entry stands there.
-fn is_claimed_at(index: &Index, place: Place) -> bool {
-    index.is_place(place) && index.word(place).is_tentative()
-}
-
 /// Confirms a claim, if one stands there.
 fn confirm(index: &mut Index, place: Place) -> Option<bool> {
-    if !is_claimed_at(index, place) {
+    if !index.is_place(place) || !index.word(place).is_tentative() {
         return None;
     }
     Some(index.confirm(place.bucket, place))
@@ -52,7 +47,7 @@ fn confirm(index: &mut Index, place: Place) -> Option<bool> {
 
 /// Cancels a claim, and says whether its place is empty then.
 fn cancel(index: &mut Index, place: Place) -> bool {
-    if !is_claimed_at(index, place) {
+    if !index.is_place(place) || !index.word(place).is_tentative() {
         return false;
     }
     index.cancel(place);

@@ -1,8 +1,8 @@
-//! Tests of operations, partitions, worlds and scripts, over what these crates hand out.
+//! Tests of operations, partitions and worlds, over what these crates hand out.
 //!
 //! A worked run is a list of constant rows, and one interpreter a kind says which row is answered otherwise
 //! than it stands there. So a run costs the proofs one loop and one assert, and no crate below is proved a
-//! second time for its tests. Scripts that need no more than their own text stand in `fkv_rows`.
+//! second time for its tests. Scripts stand in `fkv_rows` and `fkv_script_tests`.
 #![tactic(auto)]
 
 #[cfg(test)]
@@ -11,7 +11,5 @@ mod letters;
 mod operations;
 #[cfg(test)]
 mod partition;
-#[cfg(test)]
-mod scripts;
 #[cfg(test)]
 mod worlds;

@@ -1,5 +1,5 @@
 //! Readers and writers that fail, and refused growths.
-use super::failing::{Breaking, Filling};
+use crate::failing::{Breaking, Filling};
 use fkv_functions::Refused;
 use fkv_steps::scripts::{LIMIT, read_script, run_script, write_out};
 use std::alloc::Global;
