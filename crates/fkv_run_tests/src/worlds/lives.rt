@@ -1,7 +1,7 @@
 //! A life of each end, and the laws called once.
 use fkv_operations::{Answer, Op};
-use fkv_steps::laws::wrong_lives;
-use fkv_steps::{End, Finish, Life, Outcome};
+use fkv_worlds::laws::wrong_lives;
+use fkv_worlds::{End, Finish, Life, Outcome};
 
 const ENDS: [End<u64>; 4] = [
     End::Open,

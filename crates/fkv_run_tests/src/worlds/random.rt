@@ -3,7 +3,7 @@ use crate::letters::name;
 use fkv_functions::{Name, SumFns};
 use fkv_operations::{Op, OpOf, apply_plainly};
 use fkv_partition::Config;
-use fkv_steps::{End, LifeOf, Place, ReportOf, Step, StepOf, replay};
+use fkv_worlds::{End, LifeOf, Place, ReportOf, Step, StepOf, replay};
 use rand_core::{Rng, SeedableRng};
 use rand_xoshiro::Xoshiro256PlusPlus;
 use std::alloc::Global;

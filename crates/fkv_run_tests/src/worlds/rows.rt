@@ -3,7 +3,7 @@ use crate::letters::{by_letter, is_map, on_name};
 use fkv_functions::{Refused, SumFns};
 use fkv_operations::{Answer, Op};
 use fkv_partition::Config;
-use fkv_steps::{End, Finish, LifeOf, Outcome, Place, ReportOf, Step, StepOf, World, replay};
+use fkv_worlds::{End, Finish, LifeOf, Outcome, Place, ReportOf, Step, StepOf, World, replay};
 use std::alloc::Global;
 
 /// What a step or a pursuit tells.

@@ -6,7 +6,7 @@ use crate::letters::is_map;
 use fkv_functions::{Refused, SumFns, What};
 use fkv_operations::{Answer, Op};
 use fkv_partition::Config;
-use fkv_steps::{End, Outcome, Place, Step, StepOf, World, replay};
+use fkv_worlds::{End, Outcome, Place, Step, StepOf, World, replay};
 use std::alloc::Global;
 
 /// One partition.
