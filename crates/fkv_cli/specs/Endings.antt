@@ -4,7 +4,8 @@ use Rattle.std.specs.Io.KnownBytes.{Appends}
 use Rattle.fkv_steps.specs.Printing.{AppendsPrefix}
 use Rattle.fkv_steps.specs.Running.{IsOutputOf}
 
--- the whole output of the input was written, and nothing else; known bytes are those of a reader and of a writer in memory
+-- the whole output of the input was written, and nothing else; known bytes are those of a reader and of a writer in
+-- memory
 abbrev pub PrintsAll : Option (List ℕ) → Option (List ℕ) → Option (List ℕ) → Type 0
 PrintsAll input old new = IfSome input (λ bytes. (text : List ℕ) × IsOutputOf bytes text × Appends old new text)
 

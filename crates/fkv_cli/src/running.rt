@@ -38,7 +38,8 @@ pub fn run<R: Read + Drop, W: Write, E: Write>(
         ⊎ (AsksReplay (map string_bytes words.now)
         × PrintsPart (R.remaining reader) (W.contents writer.old) (W.contents writer.new))
         ⊎ MayAskHelp (map string_bytes words.now) }
-    ensures mistake { result ≡ 2 → MayBeMistaken (map string_bytes words.now) × (W.contents writer.new ≡ W.contents writer.old) }
+    ensures mistake { result ≡ 2 → MayBeMistaken (map string_bytes words.now)
+        × (W.contents writer.new ≡ W.contents writer.old) }
     ensures only { (result ≡ 0) ⊎ (result ≡ 1) ⊎ (result ≡ 2) }
 {
     match request_of(alloc, words) {

@@ -122,7 +122,8 @@ impl<D: Disk> Loaded<D> {
         ensures size { IfOk result (λ l. length l.bytes ≡ size) }
         ensures steady { OnOk result (D.Reader.failures reader.new ≡ D.Reader.failures reader.old) }
         ensures counted { IfErr result
-            (ReadFailsBy (D.Receipt.stands receipt.now).page (D.Reader.failures reader.old) (D.Reader.failures reader.new)) }
+            (ReadFailsBy (D.Receipt.stands receipt.now).page (D.Reader.failures reader.old)
+            (D.Reader.failures reader.new)) }
     {
         let Ok(mut bytes) = vec![in alloc; 0u8; size] else {
             return Err(Refused::NoMemory);

@@ -54,5 +54,6 @@ pub trait PageReader: Drop + Send {
         ensures kept { OnOk result (IsTrue keeps → out.new ≡ (Self.Receipt.stands receipt.now).bytes) }
         ensures length { OnOk result (length out.old ≡ (Self.Receipt.stands receipt.now).length) }
         ensures steady { OnOk result (failures self.new ≡ failures self.old) }
-        ensures counted { IfErr result (ReadFailsBy (Self.Receipt.stands receipt.now).page (failures self.old) (failures self.new)) };
+        ensures counted { IfErr result (ReadFailsBy (Self.Receipt.stands receipt.now).page
+            (failures self.old) (failures self.new)) };
 }

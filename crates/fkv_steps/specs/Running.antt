@@ -106,8 +106,8 @@ pub record IsPrintedBy {V O : Type 0} (cmp : Name → Name → Ordering) (f : Me
   pub pairs : List (Name × V)
   pub ran : RunLines cmp f code written (empty_world config record_size) lines told world
   pub headline : IsHeadline cmp f code world
-  -- the steps that the lines asked for, each of them kept; the lives are those of their accepted issues, in order; and the
-  -- answers that are printed are those that the steps told, no more and no fewer
+  -- the steps that the lines asked for, each of them kept; the lives are those of their accepted issues, in order; and
+  -- the answers that are printed are those that the steps told, no more and no fewer
   pub steps : List (Step Name V ℤ)
   pub stepped : RunsTo cmp f code (empty_world config record_size) steps world
   pub issued : map issue_of world.state.lives ≡ issues_in (backwards steps world.outcomes [])
@@ -140,8 +140,8 @@ Prints Sum config lines text =
 Prints Max config lines text =
     IsPrintedBy name_cmp maxima hash_of (λ n. n) signed_decimal signed_decimal config (record_size Max) lines text
 
--- the output of an input: it says a script of at most 1,000,000 lines, whose numbers are within the limits, and this is what
--- the script prints
+-- the output of an input: it says a script of at most 1,000,000 lines, whose numbers are within the limits, and this is
+-- what the script prints
 pub record IsOutputOf (input text : List ℕ) : Type 0 where
   pub opening : Opening
   pub lines : List Line

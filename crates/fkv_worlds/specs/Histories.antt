@@ -58,7 +58,8 @@ session_by p slot (Some w) here before = cond (w.0 == p && w.1 == slot) here bef
 
 abbrev pub session_in : {K V I O : Type 0} → ℕ → ℕ → List (Event K V I O) → ℕ
 session_in p slot [] = 0
-session_in p slot (e ∷ before) = session_by p slot (entered_at e.told e.step) (suc (enters_in p before)) (session_in p slot before)
+session_in p slot (e ∷ before) =
+    session_by p slot (entered_at e.told e.step) (suc (enters_in p before)) (session_in p slot before)
 
 -- an accepted issue: in which partition, by which session, of what, at which step
 pub record IssuedOp (K V I : Type 0) : Type 0 where

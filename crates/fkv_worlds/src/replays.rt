@@ -37,7 +37,8 @@ pub fn replay<F: Functions>(
     functions: &F,
     steps: &[StepOf<F>],
 ) -> Result<ReportOf<F>, Refused>
-    ensures ok { IfOk result (λ r. IsReplay F.Key.cmp F.meaning F.code config.now (size_of F.Key.SIZE F.Value.SIZE) steps.now
+    ensures ok { IfOk result (λ r. IsReplay F.Key.cmp F.meaning F.code config.now (size_of F.Key.SIZE F.Value.SIZE)
+        steps.now
         r.outcomes.items r.lives.items r.map.items) }
     ensures good { result ≢ Err Refused.BadConfig → IsWithinLimits config.now (size_of F.Key.SIZE F.Value.SIZE) }
     ensures bad { result ≡ Err Refused.BadConfig → ¬ IsWithinLimits config.now (size_of F.Key.SIZE F.Value.SIZE) }

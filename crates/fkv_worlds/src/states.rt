@@ -42,8 +42,8 @@ impl<F: Functions> Model for State<F> {
     ghost view = { λ s. state_of s.partitions.items s.begun.items s.questions.items s.seats.items s.enters.items
         s.lives.items s.moment };
 
-    ghost invariant = { λ s. IsState F.Key.cmp F.meaning F.code (state_of s.partitions.items s.begun.items s.questions.items
-        s.seats.items s.enters.items s.lives.items s.moment) };
+    ghost invariant = { λ s. IsState F.Key.cmp F.meaning F.code (state_of s.partitions.items s.begun.items
+        s.questions.items s.seats.items s.enters.items s.lives.items s.moment) };
 }
 
 /// The moment after this one, or `Worn` after the last.

@@ -24,7 +24,8 @@ pub fn read_script<R: Read + Drop>(alloc: Global, reader: R, limit: u32) -> Resu
         (λ text. SaysScript (lines_of text) script.opening script.lines.items × (length (lines_of text) ≤ limit))) }
     ensures bad { IfErr result (λ e. (n : ℕ) → e ≡ Refused.BadScript n
         → IfSome (R.remaining reader) (λ text. IsBadAt limit (lines_of text) n)) }
-    ensures only { IfErr result (λ e. (e ≡ Refused.NoMemory) ⊎ (e ≡ Refused.Unreadable 1) ⊎ ((n : ℕ) × (e ≡ Refused.BadScript n))) }
+    ensures only { IfErr result (λ e. (e ≡ Refused.NoMemory) ⊎ (e ≡ Refused.Unreadable 1)
+        ⊎ ((n : ℕ) × (e ≡ Refused.BadScript n))) }
 {
     let mut reader = buffered(alloc, reader)?;
     let text = read_lines(alloc, &mut reader, limit as usize + 1)?;

@@ -61,7 +61,8 @@ fn run_line<F: Functions<Key = Name, Input = i64>>(
 ) -> Option<Result<OutcomeOf<F>, Refused>>
 where
     F::Value: Written,
-    ensures { IfSome result (λ told. RunsLine name_cmp F.meaning F.code F.Value.written world.old world.new told line.now) }
+    ensures { IfSome result (λ told. RunsLine name_cmp F.meaning F.code F.Value.written world.old world.new
+        told line.now) }
 {
     match *line {
         Line::Enter { partition } => world.try_step(functions, Step::Enter(partition as usize)),
@@ -156,7 +157,8 @@ fn printed_by<F: Functions<Key = Name, Input = i64>>(
 where
     F::Value: Written + Printed,
     F::Output: Printed,
-    ensures ok { IfOk result (λ text. IsPrintedBy name_cmp F.meaning F.code F.Value.written F.Value.text F.Output.text config.now
+    ensures ok { IfOk result (λ text. IsPrintedBy name_cmp F.meaning F.code F.Value.written F.Value.text
+        F.Output.text config.now
         (size_of 32 F.Value.SIZE) lines.now text.items) }
     ensures good { result ≢ Err Refused.BadConfig → IsWithinLimits config.now (size_of 32 F.Value.SIZE) }
     ensures bad { result ≡ Err Refused.BadConfig → ¬ IsWithinLimits config.now (size_of 32 F.Value.SIZE) }

@@ -42,7 +42,8 @@ fn lines_after(
     limit: u32,
 ) -> Result<Vec<Line>, Refused>
     requires { 0 < limit }
-    ensures ok { IfOk result (λ lines. SayAll functions (lines_of text.now) lines.items × (length (lines_of text.now) < limit)) }
+    ensures ok { IfOk result (λ lines. SayAll functions (lines_of text.now) lines.items
+        × (length (lines_of text.now) < limit)) }
     // Whatever first line of these functions stands before.
     ensures bad { IfErr result (λ e. (n : ℕ) → e ≡ Refused.BadScript n → (first : List ℕ) (o : Opening) → Opens first o
         → o.functions ≡ functions → IsBadLine limit (first ∷ lines_of text.now) n) }
@@ -65,7 +66,8 @@ fn lines_after(
 /// Adds what a line says, which stands after a first line and these.
 fn add_line(lines: &mut Vec<Line>, functions: FunctionsName, line: &[u8]) -> Result<(), Refused>
     requires { length lines.old.items < 2 ^ 32 }
-    ensures ok { OnOk result ((l : Line) × SaysTo functions line.now l × (lines.new.items ≡ lines.old.items ++ l ∷ [])) }
+    ensures ok { OnOk result ((l : Line) × SaysTo functions line.now l
+        × (lines.new.items ≡ lines.old.items ++ l ∷ [])) }
     ensures bad { IfErr result (λ e. (n : ℕ) → e ≡ Refused.BadScript n → (n ≡ length lines.old.items + 2)
         × ((l : Line) → SaysTo functions line.now l → ⊥)) }
     ensures only { IfErr result (λ e. (e ≡ Refused.NoMemory) ⊎ ((n : ℕ) × (e ≡ Refused.BadScript n))) }
