@@ -79,8 +79,8 @@ follows pursuit place (Ok x) = step_after pursuit place x
 follows pursuit place (Err e) = None
 
 -- at most so many steps, each of them kept, the first of them this one, and each followed by the one that its outcome
--- leads to; where another would follow the last of them, the pursuit is Stalled. It answers what its last step told, and
--- nothing where there was no memory to keep a step's outcome: that step was not done.
+-- leads to; where another would follow the last of them, the pursuit is Stalled. It answers what its last step told,
+-- and nothing where there was no memory to keep a step's outcome: that step was not done.
 pub data Pursues {K V I O : Type 0} (cmp : K → K → Ordering) (f : Meanings K V I O) (code : K → ℕ) (pursuit : Pursuit)
     (place : Place) (new : WorldView K V I O) (result : Option (Result (Outcome V O) Refused))
     : ℕ → Step K V I → WorldView K V I O → Type 0 where
@@ -106,7 +106,8 @@ pub data Pursues {K V I O : Type 0} (cmp : K → K → Ordering) (f : Meanings K
 -- a pursuit that begins with a Go, of at most 10,000 steps, and what it answers: NoMemory where an outcome could not be
 -- kept
 pub record IsPursued {K V I O : Type 0} (cmp : K → K → Ordering) (f : Meanings K V I O) (code : K → ℕ)
-    (pursuit : Pursuit) (place : Place) (old new : WorldView K V I O) (result : Result (Outcome V O) Refused) : Type 0 where
+    (pursuit : Pursuit) (place : Place) (old new : WorldView K V I O)
+    (result : Result (Outcome V O) Refused) : Type 0 where
   pub kept : Option (Result (Outcome V O) Refused)
   pub pursues : Pursues cmp f code pursuit place new kept 10000 (Go place) old
   pub answers : result ≡ unwrap_or kept (Err NoMemory)

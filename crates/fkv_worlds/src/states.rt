@@ -63,7 +63,8 @@ fn empty_partitions<F: Functions>(
 ) -> Result<Vec<Partition<F>>, Refused>
     requires limits { IsWithinLimits config.now (size_of F.Key.SIZE F.Value.SIZE) }
     requires count { count ≡ 2 ^ config.now.partition_bits }
-    ensures ok { IfOk result (λ partitions. partitions.items ≡ empty_partitions config.now (size_of F.Key.SIZE F.Value.SIZE)
+    ensures ok { IfOk result (λ partitions. partitions.items ≡
+        empty_partitions config.now (size_of F.Key.SIZE F.Value.SIZE)
         count) }
     ensures only { IfErr result (λ refused. refused ≡ Refused.NoMemory) }
 {
