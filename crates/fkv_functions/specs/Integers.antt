@@ -1,5 +1,6 @@
 -- Whole numbers as bytes: little-endian, two's complement.
-use Rattle.std.specs.Prelude.{◌≡◌, ◌==◌, ◌+◌, ◌*◌, ◌/◌, ◌%◌, ◌^◌, ◌<◌, ◌++◌, ℕ, ℤ, List, length, take, drop, true, FitsSigned}
+use Rattle.std.specs.Prelude.{◌≡◌, ◌==◌, ◌+◌, ◌*◌, ◌/◌, ◌%◌, ◌^◌, ◌<◌, ◌++◌, ℕ, ℤ, List, length, take, drop, true}
+use Rattle.std.specs.Prelude.{FitsSigned}
 use Rattle.std.specs.Int.{w64, w128, to_le_bytes, from_le_bytes, cast_unsigned, cast_signed}
 use Rattle.std.specs.Ordering.{int_eq}
 use Rattle.std.proofs.Common.{arith, refl, rules, sym, ◌∙◌, ap}
@@ -27,7 +28,8 @@ pub int_exact : (a b : ℤ) → int_eq a b ≡ true → a ≡ b
 int_exact a b e = (Decides-int_eq a b).0 e
 
 pub word_readable : (a b : ℕ) → a < 2 ^ 64 → b < 2 ^ 64 → to_le_bytes w64 a ≡ to_le_bytes w64 b → a ≡ b
-word_readable a b h k e = sym (from_le_bytes-to_le_bytes_8 a h) ∙ ap (from_le_bytes w64) e ∙ from_le_bytes-to_le_bytes_8 b k
+word_readable a b h k e =
+    sym (from_le_bytes-to_le_bytes_8 a h) ∙ ap (from_le_bytes w64) e ∙ from_le_bytes-to_le_bytes_8 b k
 
 pub signed_readable : (a b : ℤ) → FitsSigned w64 a → FitsSigned w64 b → signed_bytes a ≡ signed_bytes b → a ≡ b
 signed_readable a b h k e =
@@ -38,7 +40,8 @@ pub halves_sized : (n : ℕ) → length (halves n) ≡ 16
 unfolding halves
 halves_sized n = refl
 
-pub halves_of : (low high : ℕ) → low < 2 ^ 64 → halves (low + high * 2 ^ 64) ≡ to_le_bytes w64 low ++ to_le_bytes w64 high
+pub halves_of : (low high : ℕ) → low < 2 ^ 64
+    → halves (low + high * 2 ^ 64) ≡ to_le_bytes w64 low ++ to_le_bytes w64 high
 unfolding halves
 halves_of low high h =
     let a : (low + high * 2 ^ 64) % 2 ^ 64 ≡ low = omega arith in
@@ -57,11 +60,14 @@ words_again n low high bytes fits h k e f g =
 halves_readable : (n m : ℕ) → n < 2 ^ 128 → m < 2 ^ 128 → halves n ≡ halves m → n ≡ m
 unfolding halves
 halves_readable n m h k e =
-    let first : n % 2 ^ 64 ≡ m % 2 ^ 64 = word_readable (n % 2 ^ 64) (m % 2 ^ 64) (omega arith) (omega arith) (ap (take 8) e) in
-    let second : n / 2 ^ 64 ≡ m / 2 ^ 64 = word_readable (n / 2 ^ 64) (m / 2 ^ 64) (omega arith) (omega arith) (ap (drop 8) e) in
+    let first : n % 2 ^ 64 ≡ m % 2 ^ 64 =
+    word_readable (n % 2 ^ 64) (m % 2 ^ 64) (omega arith) (omega arith) (ap (take 8) e) in
+    let second : n / 2 ^ 64 ≡ m / 2 ^ 64 =
+    word_readable (n / 2 ^ 64) (m / 2 ^ 64) (omega arith) (omega arith) (ap (drop 8) e) in
     omega arith
 
 pub long_readable : (a b : ℤ) → FitsSigned w128 a → FitsSigned w128 b → long_bytes a ≡ long_bytes b → a ≡ b
 long_readable a b h k e =
-    let words = halves_readable (cast_unsigned w128 a) (cast_unsigned w128 b) ((Fits-of_z h).fits) ((Fits-of_z k).fits) e in
+    let words =
+    halves_readable (cast_unsigned w128 a) (cast_unsigned w128 b) ((Fits-of_z h).fits) ((Fits-of_z k).fits) e in
     sym (to_z-of_z w128 a h) ∙ ap (cast_signed w128) words ∙ to_z-of_z w128 b k

@@ -1,6 +1,8 @@
 -- Names by their bytes.
-use Rattle.std.specs.Prelude.{◌≡◌, ◌-◌, ◌≤◌, ◌++◌, ◌∷◌, ℕ, List, Bool, true, nat_eq, take, drop, length, replicate, slice_index_or}
-use Rattle.std.specs.Cmp.{IsEquivalence, IsPartialEquivalence, IsPartialOrder, IsTotalOrder, partial_equiv_from_equiv, partial_order_from_agreeing_total}
+use Rattle.std.specs.Prelude.{◌≡◌, ◌-◌, ◌≤◌, ◌++◌, ◌∷◌, ℕ, List, Bool, true, nat_eq, take, drop, length, replicate}
+use Rattle.std.specs.Prelude.{slice_index_or}
+use Rattle.std.specs.Cmp.{IsEquivalence, IsPartialEquivalence, IsPartialOrder, IsTotalOrder, partial_equiv_from_equiv}
+use Rattle.std.specs.Cmp.{partial_order_from_agreeing_total}
 use Rattle.std.specs.Cmp.Lexicographic.{slice_cmp, on_texts, on_texts_equal, texts_ties, bytes_decides}
 use Rattle.std.specs.Ordering.{on, nat_cmp, as_partial_cmp, eq_by_cmp}
 use Rattle.std.specs.declared.cmp.Ordering.{Ordering}
@@ -50,7 +52,9 @@ same_fields a b f e = λ i. record {
   some = is_prop→PathP (λ j. 1 ≤ f j) (λ j. le_prop) a.some b.some i;
   most = is_prop→PathP (λ j. f j ≤ 31) (λ j. le_prop) a.most b.most i;
   room = is_prop→PathP (λ j. length (e j) ≡ 31) (λ j. ℕ_set _ _) a.room b.room i;
-  padded = is_prop→PathP (λ j. drop (f j) (e j) ≡ replicate (31 - f j) 0) (λ j. Coded-set (coded_list coded_ℕ) _ _) a.padded b.padded i;
+  padded =
+      is_prop→PathP (λ j. drop (f j) (e j) ≡ replicate (31 - f j) 0) (λ j. Coded-set (coded_list coded_ℕ) _ _)
+      a.padded b.padded i;
 }
 
 -- a name's bytes and their number are its fields
@@ -64,7 +68,8 @@ whole a = rw (← a.padded) (take-append-drop a.len a.bytes)
 pub name_at_once : (a b : Name) → text_of a ≡ text_of b → a ≡ b
 name_at_once a b e =
     let f : a.len ≡ b.len = sym (length-text a) ∙ ap length e ∙ length-text b in
-    same_fields a b f (sym (whole a) ∙ ap (λ t. t ++ replicate (31 - a.len) 0) e ∙ ap (λ n. text_of b ++ replicate (31 - n) 0) f ∙ whole b)
+    same_fields a b f (sym (whole a) ∙ ap (λ t. t ++ replicate (31 - a.len) 0) e
+    ∙ ap (λ n. text_of b ++ replicate (31 - n) 0) f ∙ whole b)
 
 pub name_exact : (a b : Name) → same_names a b ≡ true → a ≡ b
 name_exact a b e = name_at_once a b ((bytes_decides (text_of a) (text_of b)).0 e)
@@ -83,7 +88,11 @@ name_readable a b e =
     same_fields a b f g
 
 -- a name read from bytes is the one whose bytes they are
-pub name_again : (a v : Name) (front back all : List ℕ) → name_bytes v ≡ all → front ≡ take 1 all → back ≡ drop 1 all → a.len ≡ slice_index_or front 0 0
+pub name_again : (a v : Name) (front back all : List ℕ)
+    → name_bytes v ≡ all
+    → front ≡ take 1 all
+    → back ≡ drop 1 all
+    → a.len ≡ slice_index_or front 0 0
     → a.bytes ≡ back → a ≡ v
 name_again a v front back all e f g h k =
     let len : a.len ≡ v.len = h ∙ ap (λ t. slice_index_or t 0 0) (f ∙ ap (take 1) (sym e)) in
@@ -91,7 +100,8 @@ name_again a v front back all e f g h k =
     same_fields a v len bytes
 
 -- bytes and zeros are the fields of a name
-pub padded_by : (bytes : List ℕ) → length bytes ≤ 31 → drop (length bytes) (bytes ++ drop (length bytes) (replicate 31 0)) ≡ replicate (31 - length bytes) 0
+pub padded_by : (bytes : List ℕ) → length bytes ≤ 31
+    → drop (length bytes) (bytes ++ drop (length bytes) (replicate 31 0)) ≡ replicate (31 - length bytes) 0
 padded_by bytes most =
     let zeros : drop (length bytes) (replicate 31 0) ≡ replicate (31 - length bytes) 0 = simp drop-replicate in
     rw drop-append_seam zeros

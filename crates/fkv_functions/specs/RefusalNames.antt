@@ -1,7 +1,10 @@
 -- The names of refusals, as scripts print them.
 use Rattle.std.specs.Prelude.{ℕ, List, codes}
 use Rattle.fkv_functions.specs.declared.refusals.Refused.{Refused}
-use Rattle.fkv_functions.specs.declared.refusals.Refused.TheVariants.{NoMemory, BadConfig, NoSlot, NoContext, Unknown, Busy, NotDue, DrainFull, Stranger, Worn, Device, Damaged, Stalled, Mismatch, BadRow, BadScript, NotReady, Unreadable, Unwritable}
+use Rattle.fkv_functions.specs.declared.refusals.Refused.TheVariants.{NoMemory, BadConfig, NoSlot, NoContext, Unknown}
+use Rattle.fkv_functions.specs.declared.refusals.Refused.TheVariants.{Busy, NotDue, DrainFull, Stranger, Worn, Device}
+use Rattle.fkv_functions.specs.declared.refusals.Refused.TheVariants.{Damaged, Stalled, Mismatch, BadRow, BadScript}
+use Rattle.fkv_functions.specs.declared.refusals.Refused.TheVariants.{NotReady, Unreadable, Unwritable}
 
 abbrev pub name_of : Refused → List ℕ
 name_of NoMemory = codes "NoMemory"

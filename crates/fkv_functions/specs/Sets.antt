@@ -42,7 +42,8 @@ sum_next_known v i =
 pub sum_from_none : (i j : ℤ) → int_wrapping_add w128 i j ≡ int_wrapping_add w128 j i
 sum_from_none i j = search (rules, wraps)
 
-pub sum_from_any : (v i j : ℤ) → int_wrapping_add w128 (int_wrapping_add w128 v i) j ≡ int_wrapping_add w128 (int_wrapping_add w128 v j) i
+pub sum_from_any : (v i j : ℤ)
+    → int_wrapping_add w128 (int_wrapping_add w128 v i) j ≡ int_wrapping_add w128 (int_wrapping_add w128 v j) i
 sum_from_any v i j = search (rules, wraps)
 
 -- a maximum's laws

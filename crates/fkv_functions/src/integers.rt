@@ -1,7 +1,8 @@
 //! Whole numbers as values: little-endian, two's complement.
 ghost use Rattle.std.specs.Prelude.{◌≡◌, ◌+◌, ◌*◌, ◌^◌, ◌<◌, ℕ, ℤ, List, length, true, refl, FitsSigned};
 ghost use Rattle.std.specs.Int.{w64, w128, to_le_bytes, from_le_bytes, cast_unsigned};
-ghost use Rattle.fkv_functions.specs.Integers.{signed_bytes, long_bytes, halves_sized, nat_exact, int_exact, word_readable, signed_readable, long_readable};
+ghost use Rattle.fkv_functions.specs.Integers.{signed_bytes, long_bytes, halves_sized, nat_exact, int_exact};
+ghost use Rattle.fkv_functions.specs.Integers.{word_readable, signed_readable, long_readable};
 
 use crate::values::{Fixed, Known};
 

@@ -1,5 +1,6 @@
 //! Names: keys of 1 to 31 bytes.
-ghost use Rattle.std.specs.Prelude.{◌≡◌, ◌+◌, ◌-◌, ◌<◌, ◌≤◌, ◌↔◌, ℕ, List, ◌∷◌, ◌++◌, length, drop, take, replicate, refl, IfSome, IsSome, IsTrue, Some};
+ghost use Rattle.std.specs.Prelude.{◌≡◌, ◌+◌, ◌-◌, ◌<◌, ◌≤◌, ◌↔◌, ℕ, List, ◌∷◌, ◌++◌, length, drop, take, replicate};
+ghost use Rattle.std.specs.Prelude.{refl, IfSome, IsSome, IsTrue, Some};
 
 use crate::values::{Fixed, Known};
 use std::cmp::Ordering;
