@@ -82,7 +82,7 @@ fn read(
 
 /// A device fault of this code on page 0, where the failing call is one of the first page's, or on page 1. A page is a
 /// seek and seven pieces.
-fn faults(call: u64, code: u64) -> (Option<Refused>, Option<Refused>) {
+fn faults(call: u64, code: u8) -> (Option<Refused>, Option<Refused>) {
     let first = Refused::Device { code, page: 0 };
     let second = Refused::Device { code, page: 1 };
     let (on_first, on_second) = (call < 8, 8 <= call && call < 16);
