@@ -97,7 +97,7 @@ impl Write for Filling {
 /// A run: its command line, its input, the calls after which that fails, and the bytes after which the output and
 /// what stands beside it are full.
 #[derive(Clone, Copy)]
-struct Start {
+struct Launch {
     line: &'static str,
     input: &'static str,
     calls: u64,
@@ -106,8 +106,8 @@ struct Start {
 }
 
 /// A run in which nothing fails.
-const fn start(line: &'static str, input: &'static str) -> Start {
-    Start {
+const fn start(line: &'static str, input: &'static str) -> Launch {
+    Launch {
         line,
         input,
         calls: 1_000_000,
@@ -117,7 +117,7 @@ const fn start(line: &'static str, input: &'static str) -> Start {
 }
 
 /// Whether a run ends with this status, and prints this and tells what begins so.
-fn ends(alloc: Global, start: Start, status: u8, printed: &str, told: &str) -> bool {
+fn ends(alloc: Global, start: Launch, status: u8, printed: &str, told: &str) -> bool {
     let Ok(words) = words_of(alloc, start.line) else {
         return false;
     };
@@ -226,7 +226,7 @@ fn runs(rt: HostRuntime) {
 #[test]
 fn a_reader_that_fails(rt: HostRuntime) {
     for calls in 0..13u64 {
-        let start = Start {
+        let start = Launch {
             calls,
             ..start("fkv_cli", THIN_PATH)
         };
@@ -262,7 +262,7 @@ const FULL: [(&str, usize, &str); 8] = [
 #[test]
 fn a_writer_that_fails(rt: HostRuntime) {
     for (line, room, printed) in FULL {
-        let start = Start {
+        let start = Launch {
             room,
             ..start(line, THIN_PATH)
         };
@@ -270,7 +270,7 @@ fn a_writer_that_fails(rt: HostRuntime) {
         assert!(rt; ends(rt.alloc(), start, 1, printed, told), "{line} {room}");
     }
     for (line, printed) in [("fkv_cli", THIN_PATH_TOLD), ("fkv_cli --help", HELP)] {
-        let start = Start {
+        let start = Launch {
             room: printed.len(),
             ..start(line, THIN_PATH)
         };
@@ -282,7 +282,7 @@ fn a_writer_that_fails(rt: HostRuntime) {
 #[test]
 fn faults_that_can_not_be_told(rt: HostRuntime) {
     for (line, status, told) in [("fkv_cli", 1, "fkv_"), ("fkv_cli reply", 2, "erro")] {
-        let start = Start {
+        let start = Launch {
             beside: 4,
             ..start(line, "")
         };

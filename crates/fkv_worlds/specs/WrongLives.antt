@@ -86,7 +86,7 @@ RefusesUnissued = (now : ℕ) (x : Life ℕ ℕ ℕ ℕ) → IsAccount (x ∷ []
 abbrev pub ReadsIssues : Type 0
 ReadsIssues = (p q : Op ℕ ℕ ℕ)
     → issues_in {O = ℕ} (backwards
-      (Enter 1 ∷ Enter 0 ∷ Enter 1 ∷ Issue 1 1 p ∷ Leave 1 1 ∷ Enter 1 ∷ Issue 0 3 p ∷ Issue 1 1 q ∷ [])
-      (Ok (Entered 0) ∷ Ok (Entered 0) ∷ Ok (Entered 1) ∷ Ok (Issued 0) ∷ Ok Left ∷ Ok (Entered 1) ∷ Err Unknown
-        ∷ Ok (Issued 0) ∷ []) [])
+    (Enter 1 ∷ Enter 0 ∷ Enter 1 ∷ Issue 1 1 p ∷ Leave 1 1 ∷ Enter 1 ∷ Issue 0 3 p ∷ Issue 1 1 q ∷ [])
+    (Ok (Entered 0) ∷ Ok (Entered 0) ∷ Ok (Entered 1) ∷ Ok (Issued 0) ∷ Ok Left ∷ Ok (Entered 1) ∷ Err Unknown
+    ∷ Ok (Issued 0) ∷ []) [])
     ≡ record { partition = 1; session = 2; op = p; issue = 4 } ∷ record { partition = 1; session = 3; op = q; issue = 7 } ∷ []
