@@ -67,13 +67,13 @@ fn add_empty<F: Functions>(
         ++ empty_partition config.now (size_of F.Key.SIZE F.Value.SIZE) number ∷ []) }
     ensures only { IfErr result (λ refused. refused ≡ Refused.NoMemory) }
 {
-    match Partition::new(alloc, config, number) {
-        Err(_) => Err(Refused::NoMemory),
-        Ok(partition) => match partitions.push(partition) {
-            Err(_) => Err(Refused::NoMemory),
-            Ok(()) => Ok(()),
-        },
-    }
+    let Ok(partition) = Partition::new(alloc, config, number) else {
+        return Err(Refused::NoMemory);
+    };
+    let Ok(()) = partitions.push(partition) else {
+        return Err(Refused::NoMemory);
+    };
+    Ok(())
 }
 
 /// Partitions with nothing in them, one of each number. Refused: `NoMemory`.
