@@ -3,9 +3,6 @@ ghost use Rattle.std.specs.Prelude.{◌≡◌, ◌<◌, true, false, not, length
 
 use arrayvec::ArrayVec;
 
-/// How many sessions a partition has.
-pub const SESSIONS: usize = 16;
-
 /// Whether a slot is that of a session.
 pub fn is_entered(entered: &[bool], slot: usize) -> bool
     ensures value { result ≡ unwrap_or (slice_get entered.now slot) false }

@@ -1,9 +1,9 @@
 -- What the definitions refuse.
-use Rattle.std.proofs.Common.{◌≡◌, ℕ, true, cond, Some, None, refl, ap, arith}
+use Rattle.std.proofs.Common.{◌≡◌, ℕ, true, cond, [], Some, None, slice_get, refl, ap, arith}
 use Rattle.std.specs.Ordering.{nat_cmp}
 use Rattle.std.specs.Cmp.{nat_cmp_total, eq_by_cmp_equiv}
 use Rattle.std.specs.BTreeMap.{is_at}
-use Rattle.fkv_worlds.specs.WrongLives.{RefusesInvented, CountsOnce, RefusesSharedSteps, RefusesOtherTimes, RefusesEarlyUpdates}
+use Rattle.fkv_worlds.specs.WrongLives.{RefusesInvented, CountsOnce, RefusesSharedSteps, RefusesOtherTimes, RefusesEarlyUpdates, RefusesUnowned, RefusesUnissued, ReadsIssues}
 
 itself : (k : ℕ) → is_at (nat_cmp k) k ≡ true
 itself k = (eq_by_cmp_equiv nat_cmp_total).refl k
@@ -32,4 +32,16 @@ refuses_other_times f op issue effect done now a h =
     (t.later, t.within, t.past)
 
 pub refuses_early_updates : RefusesEarlyUpdates
-refuses_early_updates f k i issue effect done now a h = (h.timely 0 _ _ refl refl).update refl
+refuses_early_updates f op issue effect done now a update h = (h.timely 0 _ _ refl refl).update update
+
+none-there : {A : Type 0} (j : ℕ) (x : A) → slice_get [] j ≡ Some x → ⊥
+none-there j x h = absurd (cc)
+
+pub refuses_unowned : RefusesUnowned
+refuses_unowned now a h = let w = h.owned 1 a refl in none-there w.0 w.1 w.3
+
+pub refuses_unissued : RefusesUnissued
+refuses_unissued now x h = let e = h.issued in absurd (cc)
+
+pub reads_issues : ReadsIssues
+reads_issues p q = refl

@@ -1,6 +1,6 @@
 -- What the definitions refuse, on small lists of lives: keys, values, inputs and outputs are numbers, the functions
 -- any.
-use Rattle.std.specs.Prelude.{◌≡◌, ◌≤◌, ◌<◌, ℕ, [], ◌∷◌, Some, None}
+use Rattle.std.specs.Prelude.{◌≡◌, ◌≤◌, ◌<◌, true, ℕ, [], ◌∷◌, Some, None, Ok, Err}
 use Rattle.std.specs.Ordering.{nat_cmp}
 use Rattle.fkv_functions.specs.Meanings.{Meanings}
 use Rattle.fkv_operations.specs.declared.operations.Op.{Op}
@@ -9,6 +9,12 @@ use Rattle.fkv_operations.specs.declared.operations.Answer.{Answer}
 use Rattle.fkv_operations.specs.declared.operations.Answer.TheVariants.{Value, Absent, Stored, Deleted}
 use Rattle.fkv_worlds.specs.declared.lives.Life.{Life}
 use Rattle.fkv_worlds.specs.declared.lives.End.TheVariants.{Open, Finished}
+use Rattle.fkv_functions.specs.declared.refusals.Refused.TheVariants.{Unknown}
+use Rattle.fkv_operations.specs.After.{is_update}
+use Rattle.fkv_worlds.specs.declared.outcomes.Outcome.TheVariants.{Entered, Left, Issued, Done}
+use Rattle.fkv_worlds.specs.declared.steps.Step.TheVariants.{Enter, Leave, Issue}
+use Rattle.fkv_worlds.specs.Histories.{backwards, issues_in}
+use Rattle.fkv_worlds.specs.Told.{IsAccount}
 use Rattle.fkv_worlds.specs.Lives.{map_before}
 use Rattle.fkv_worlds.specs.Placed.{IsPlaced}
 
@@ -60,7 +66,27 @@ abbrev pub RefusesOtherTimes : Type 0
 RefusesOtherTimes = (f : Numbers) (op : Op ℕ ℕ ℕ) (issue effect done now : ℕ) (a : Answer ℕ)
     → IsPlaced nat_cmp f (finished op issue effect done a ∷ []) now → (issue < effect) × (effect ≤ done) × (done ≤ now)
 
--- an update that takes effect before it is answered
+-- an update, blind write or delete that takes effect before it is answered
 abbrev pub RefusesEarlyUpdates : Type 0
-RefusesEarlyUpdates = (f : Numbers) (k i issue effect done now : ℕ) (a : Answer ℕ)
-    → IsPlaced nat_cmp f (finished (Rmw k i) issue effect done a ∷ []) now → effect ≡ done
+RefusesEarlyUpdates = (f : Numbers) (op : Op ℕ ℕ ℕ) (issue effect done now : ℕ) (a : Answer ℕ)
+    → is_update op ≡ true
+    → IsPlaced nat_cmp f (finished op issue effect done a ∷ []) now
+    → effect ≡ done
+
+-- an answer that was told without a life
+abbrev pub RefusesUnowned : Type 0
+RefusesUnowned = (now : ℕ) (a : Answer ℕ) → IsAccount {K = ℕ} {V = ℕ} {I = ℕ} [] (Done a ∷ []) now → ⊥
+
+-- a life without an issue
+abbrev pub RefusesUnissued : Type 0
+RefusesUnissued = (now : ℕ) (x : Life ℕ ℕ ℕ ℕ) → IsAccount (x ∷ []) [] now → ⊥
+
+-- what was issued is read off the steps: of two sessions in a partition the second issues, leaves, and a third takes its
+-- slot and issues; of another partition nothing is read
+abbrev pub ReadsIssues : Type 0
+ReadsIssues = (p q : Op ℕ ℕ ℕ)
+    → issues_in {O = ℕ} (backwards
+    (Enter 1 ∷ Enter 0 ∷ Enter 1 ∷ Issue 1 1 p ∷ Leave 1 1 ∷ Enter 1 ∷ Issue 0 3 p ∷ Issue 1 1 q ∷ [])
+    (Ok (Entered 0) ∷ Ok (Entered 0) ∷ Ok (Entered 1) ∷ Ok (Issued 0) ∷ Ok Left ∷ Ok (Entered 1) ∷ Err Unknown
+    ∷ Ok (Issued 0) ∷ []) [])
+    ≡ record { partition = 1; session = 2; op = p; issue = 4 } ∷ record { partition = 1; session = 3; op = q; issue = 7 } ∷ []

@@ -1,12 +1,18 @@
 //! What the definitions of placed lives refuse: laws with no code, shown on small lists.
 ghost use Rattle.fkv_worlds.specs.WrongLives.{RefusesInvented, CountsOnce, RefusesSharedSteps, RefusesOtherTimes, RefusesEarlyUpdates};
+ghost use Rattle.fkv_worlds.specs.WrongLives.{RefusesUnowned, RefusesUnissued, ReadsIssues};
 
 /// Placed lives have no invented answer, no update that is left out or counted twice, no step that two
-/// lives share, and no effect outside its times. A life with an effect and no answer can't be written.
+/// lives share, and no effect outside its times; a life with an effect and no answer can't be written.
+/// Where lives account for outcomes, each answer told has its life, and each life its issue; and what was
+/// issued is read off the steps, the session of a slot by its last enter.
 pub fn wrong_lives()
     ensures invented { RefusesInvented }
     ensures once { CountsOnce }
     ensures shared { RefusesSharedSteps }
     ensures times { RefusesOtherTimes }
     ensures updates { RefusesEarlyUpdates }
+    ensures owned { RefusesUnowned }
+    ensures issued { RefusesUnissued }
+    ensures read { ReadsIssues }
 {}

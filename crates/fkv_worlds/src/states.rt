@@ -1,7 +1,8 @@
 //! The state of a world, and what each step does to it.
-ghost use Rattle.std.specs.Prelude.{◌≢◌, ◌⊎◌, ◌*◌, replicate, ◌≡◌, ◌+◌, ◌-◌, ◌^◌, ◌<◌, ◌↔◌, Some, None, Err, IfOk, IfErr, length};
+ghost use Rattle.std.specs.Prelude.{◌≢◌, ◌⊎◌, ◌*◌, replicate, ◌≡◌, ◌+◌, ◌-◌, ◌^◌, ◌<◌, ◌↔◌, ◌∷◌, [], ◌++◌, Some, None, Err, IfOk, IfErr, OnOk, length};
 ghost use Rattle.fkv_records.specs.Records.{size_of};
 ghost use Rattle.fkv_partition.specs.Limits.{IsWithinLimits};
+ghost use Rattle.fkv_partition.specs.Views.{empty_partition};
 ghost use Rattle.fkv_worlds.specs.States.{empty_partitions, empty_state, question_in};
 ghost use Rattle.fkv_worlds.specs.Sound.{IsState};
 ghost use Rattle.fkv_worlds.specs.Acts.{Acts};
@@ -55,27 +56,39 @@ fn moment_after(moment: u64) -> Result<u64, Refused>
     Clock::starting(moment).tick()
 }
 
+/// Adds the partition of this number, with nothing in it. Refused: `NoMemory`.
+fn add_empty<F: Functions>(
+    partitions: &mut Vec<Partition<F>>,
+    alloc: Global,
+    config: &Config,
+    number: u64,
+) -> Result<(), Refused>
+    ensures ok { OnOk result (partitions.new.items ≡ partitions.old.items
+        ++ empty_partition config.now (size_of F.Key.SIZE F.Value.SIZE) number ∷ []) }
+    ensures only { IfErr result (λ refused. refused ≡ Refused.NoMemory) }
+{
+    let Ok(partition) = Partition::new(alloc, config, number) else {
+        return Err(Refused::NoMemory);
+    };
+    let Ok(()) = partitions.push(partition) else {
+        return Err(Refused::NoMemory);
+    };
+    Ok(())
+}
+
 /// Partitions with nothing in them, one of each number. Refused: `NoMemory`.
 fn empty_partitions<F: Functions>(
     alloc: Global,
     config: &Config,
     count: u64,
 ) -> Result<Vec<Partition<F>>, Refused>
-    requires limits { IsWithinLimits config.now (size_of F.Key.SIZE F.Value.SIZE) }
-    requires count { count ≡ 2 ^ config.now.partition_bits }
-    ensures ok { IfOk result (λ partitions. partitions.items ≡
-        empty_partitions config.now (size_of F.Key.SIZE F.Value.SIZE)
-        count) }
+    ensures ok { IfOk result (λ partitions. partitions.items
+        ≡ empty_partitions config.now (size_of F.Key.SIZE F.Value.SIZE) count) }
     ensures only { IfErr result (λ refused. refused ≡ Refused.NoMemory) }
 {
     let mut partitions = Vec::new(alloc);
     for number in 0..count {
-        let Ok(partition) = Partition::new(alloc, config, number) else {
-            return Err(Refused::NoMemory);
-        };
-        let Ok(()) = partitions.push(partition) else {
-            return Err(Refused::NoMemory);
-        };
+        add_empty(&mut partitions, alloc, config, number)?;
     }
     Ok(partitions)
 }
@@ -105,7 +118,6 @@ impl<F: Functions> State<F> {
             return Err(Refused::BadConfig);
         }
         let count = config.partitions();
-        let partitions = empty_partitions(alloc, config, count)?;
         let rows = count as usize;
         let begun = table(alloc, rows * CONTEXT_ROWS, 0)?;
         let questions = table(alloc, rows * CONTEXT_ROWS, None)?;
@@ -115,6 +127,8 @@ impl<F: Functions> State<F> {
         };
         let seats = table(alloc, rows * SLOTS, nobody)?;
         let enters = table(alloc, rows, 0)?;
+        // last, since only what is made before it is dropped where something is refused
+        let partitions = empty_partitions(alloc, config, count)?;
         Ok(State {
             partitions,
             begun,

@@ -160,13 +160,14 @@ fn is_random_run_plain(alloc: Global, seed: u64, bucket_bits: u64, range: Range)
 }
 
 /// Seeds, bits of buckets, and steps, slots, contexts and keys.
-const ROWS: [(u64, u64, u64, u64, u64, u64); 6] = [
+const ROWS: [(u64, u64, u64, u64, u64, u64); 7] = [
     (20, 0, 3_000, 2, 2, 4),
     (20, 8, 3_000, 2, 2, 4),
     (21, 0, 12_000, 16, 2, 8),
     (22, 8, 12_000, 16, 2, 8),
     (23, 0, 6_000, 3, 8, 2),
     (24, 1, 12_000, 17, 3, 8),
+    (25, 20, 60_000, 16, 8, 8),
 ];
 
 #[test]

@@ -1,4 +1,4 @@
-use Rattle.fkv_worlds.proofs.WrongLemmas.{refuses_invented, counts_once, refuses_shared_steps, refuses_other_times, refuses_early_updates}
+use Rattle.fkv_worlds.proofs.WrongLemmas.{refuses_invented, counts_once, refuses_shared_steps, refuses_other_times, refuses_early_updates, refuses_unowned, refuses_unissued, reads_issues}
 use Rattle.fkv_worlds.proofs.laws.wrong_lives.Goals as goal
 
 pub returns : goal.returns
@@ -8,4 +8,7 @@ returns c = record {
   shared = refuses_shared_steps;
   times = refuses_other_times;
   updates = refuses_early_updates;
+  owned = refuses_unowned;
+  issued = refuses_unissued;
+  read = reads_issues;
 }
