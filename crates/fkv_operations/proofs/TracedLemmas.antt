@@ -1,6 +1,8 @@
 -- What the records of a partition keep, over each change, and what an entry says of a key.
-use Rattle.std.proofs.Common.{◌≡◌, Bool, true, false, cond, ℕ, zero, suc, ◌<◌, ◌≤◌, inl, inr, List, [], ◌∷◌, ◌++◌, length, Option, Some, None, slice_get, nat_le, refl, sym, ◌∙◌, ap, subst, arith, lit<}
+use Rattle.std.proofs.Common.{◌≡◌, Bool, true, false, cond, ℕ, zero, suc, ◌<◌, ◌≤◌, ◌^◌, inl, inr, List, [], ◌∷◌, ◌++◌, length, replicate, Option, Some, None, slice_get, nat_le, refl, sym, ◌∙◌, ap, subst, arith, lit<}
 use Rattle.std.proofs.lemmas.Bool.Decides.{nat_tests}
+use Rattle.std.proofs.lemmas.List.{length-replicate}
+use Rattle.std.specs.Bool.{OnTrue, OnFalse}
 use Rattle.std.specs.declared.cmp.Ordering.{Ordering}
 use Rattle.fkv_functions.specs.Plain.{IsKeyOrder}
 use Rattle.fkv_records.specs.Records.{IsPrevious}
@@ -10,18 +12,18 @@ use Rattle.fkv_hybrid.specs.Text.{last_where, has_key, last_of, newest, AllAbove
 use Rattle.fkv_hybrid.specs.Chains.{has_class, last_of_class, Leads, IsChained, IsIn}
 use Rattle.fkv_functions.proofs.ListLemmas.{get-append_last}
 use Rattle.fkv_hybrid.proofs.LastWhere.{last_where-append, last_where-found, last_where-in, none-passes, last_where-narrow, last_where-narrow_none}
+use Rattle.fkv_index.specs.declared.words.Word.{Word}
+use Rattle.fkv_index.specs.declared.places.Place.{Place}
+use Rattle.fkv_index.specs.Words.{empty, final_word, address_of, tag_of, is_final}
+use Rattle.fkv_index.specs.Places.{word_at}
+use Rattle.fkv_index.specs.Entries.{entry_at, StandsAt, IsIndexMap}
+use Rattle.fkv_index.specs.Changes.{Writes, SetsEntry, SameEntries}
 use Rattle.fkv_operations.specs.declared.classes.Class.{Class}
+use Rattle.fkv_operations.specs.declared.entries.IndexEntry.{IndexEntry}
 use Rattle.fkv_operations.specs.Classes.{same_class}
-use Rattle.fkv_operations.specs.RecordsViews.{RecordsView, empty_records, class_in, entry_of, address_of, with_record, claimed}
+use Rattle.fkv_operations.specs.RecordsViews.{RecordsView, empty_records, class_in, entry_of, leads_to, with_record}
 use Rattle.fkv_operations.specs.Traced.{IsTraced}
-use Rattle.fkv_operations.proofs.ClassLemmas.{class_total, class_test, lookup-insert_entry}
-
--- ---- the changes of entries
-pub entry_of-record : {K V : Type 0} (v : RecordsView K V) (c : Class) (previous : ℕ) (key : K) (value : Option V) (d : Class) → entry_of (with_record v c previous key value) d ≡ cond (same_class c d) (Some v.tail) (entry_of v d)
-entry_of-record v c previous key value d = lookup-insert_entry class_total c v.tail d v.finals
-
-pub entry_of-claimed : {K V : Type 0} (v : RecordsView K V) (c d : Class) → entry_of (claimed v c) d ≡ cond (same_class c d) (Some 1) (entry_of v d)
-entry_of-claimed v c d = lookup-insert_entry class_total c 1 d v.finals
+use Rattle.fkv_operations.proofs.ClassLemmas.{class_test, entry-set}
 
 -- ---- the tail
 low_tail : {K V : Type 0} (bits size begin tail : ℕ) (text : List (Entry K V)) → IsLaidOut bits size begin tail text → begin ≤ tail
@@ -32,8 +34,13 @@ pub tail_from : {K V : Type 0} {code : K → ℕ} {v : RecordsView K V} → IsTr
 tail_from {v = v} t = let low = low_tail v.page_bits v.record_size v.begin v.tail v.text t.laid_out in omega (arith, t.begin)
 
 -- ---- no records
-pub traced-empty : {K V : Type 0} {code : K → ℕ} (partition_bits bucket_bits page_bits record_size : ℕ) → partition_bits ≤ 6 → bucket_bits ≤ 20 → IsTraced {V = V} code (empty_records partition_bits bucket_bits page_bits record_size)
-traced-empty p k bits size few small = record {
+pub traced-empty : {K V : Type 0} {code : K → ℕ} (partition_bits bucket_bits page_bits record_size : ℕ)
+    → partition_bits ≤ 6
+    → bucket_bits ≤ 20
+    → IsIndexMap (empty_records {K = K} {V = V} partition_bits bucket_bits page_bits record_size).words
+    → ((b t : ℕ) → entry_at (empty_records {K = K} {V = V} partition_bits bucket_bits page_bits record_size).words b t ≡ None)
+    → IsTraced {V = V} code (empty_records partition_bits bucket_bits page_bits record_size)
+traced-empty p k bits size few small map none = record {
   partition_bits = few;
   bucket_bits = small;
   begin = refl;
@@ -42,68 +49,143 @@ traced-empty p k bits size few small = record {
   from = λ i e h. absurd (cc);
   below = λ i e h. absurd (cc);
   chained = λ i e h. absurd (cc);
-  leads = λ c. lit< tt;
-  placed = λ c. inl refl;
+  buckets = length-replicate (2 ^ k) (replicate 7 empty);
+  map = map;
+  leads = λ c. rw (none c.bucket c.tag) (lit< tt);
+  placed = λ c. rw (none c.bucket c.tag) (inl refl);
 }
 
--- ---- an entry is claimed
-claimed-by : (b : Bool) (p : Option ℕ) → (b ≡ true → p ≡ None) → address_of (cond b (Some 1) p) ≡ address_of p
-claimed-by true p none = ap address_of (sym (none refl))
-claimed-by false p none = refl
+-- ---- entries change, and lead where they led
+pub traced-words : {K V : Type 0} {code : K → ℕ} (v : RecordsView K V) (words : List (List Word))
+    → length words ≡ length v.words
+    → IsIndexMap words
+    → ((c : Class) → leads_to (entry_at words c.bucket c.tag) ≡ leads_to (entry_of v c))
+    → IsTraced code v
+    → IsTraced code (record v { words = words })
+traced-words v words buckets map same t = record {
+  partition_bits = t.partition_bits;
+  bucket_bits = t.bucket_bits;
+  begin = t.begin;
+  laid_out = t.laid_out;
+  rising = t.rising;
+  from = t.from;
+  below = t.below;
+  chained = t.chained;
+  buckets = buckets ∙ t.buckets;
+  map = map;
+  leads = λ d. rw (same d) (t.leads d);
+  placed = λ d. rw (same d) (t.placed d);
+}
 
-pub traced-claimed : {K V : Type 0} {code : K → ℕ} (v : RecordsView K V) (c : Class) → entry_of v c ≡ None → IsTraced code v → IsTraced code (claimed v c)
-traced-claimed {code = code} v c none t =
-    let same : (d : Class) → address_of (entry_of (claimed v c) d) ≡ address_of (entry_of v d) =
-    λ d. ap address_of (entry_of-claimed v c d) ∙ claimed-by (same_class c d) (entry_of v d) (λ h. ap (entry_of v) (sym (class_test.only c d h)) ∙ none) in
-    record {
-      partition_bits = t.partition_bits;
-      bucket_bits = t.bucket_bits;
-      begin = t.begin;
-      laid_out = t.laid_out;
-      rising = t.rising;
-      from = t.from;
-      below = t.below;
-      chained = t.chained;
-      leads = λ d. rw (same d) (t.leads d);
-      placed = λ d. rw (same d) (t.placed d);
-    }
+-- an entry that leads nowhere is made for a class that has none
+confirmed-by : (b : Bool) (p : Option ℕ) → (b ≡ true → p ≡ None) → leads_to (cond b (Some 1) p) ≡ leads_to p
+confirmed-by true p none = ap leads_to (sym (none refl))
+confirmed-by false p none = refl
+
+pub leads-confirmed : (old new : List (List Word)) (bucket tag : ℕ)
+    → entry_at old bucket tag ≡ None
+    → SetsEntry bucket tag 1 old new
+    → (d : Class) → leads_to (entry_at new d.bucket d.tag) ≡ leads_to (entry_at old d.bucket d.tag)
+leads-confirmed old new bucket tag none sets d =
+    let c : Class = record { bucket = bucket; tag = tag } in
+    ap leads_to (entry-set old new c 1 sets d)
+    ∙ confirmed-by (same_class c d) (entry_at old d.bucket d.tag)
+    (λ h. ap (λ (x : Class). entry_at old x.bucket x.tag) (sym (class_test.only c d h)) ∙ none)
+
+-- a tentative entry is confirmed, or backs off
+pub traced-confirm : {K V : Type 0} {code : K → ℕ} (v : RecordsView K V) (words : List (List Word)) (p : Place) (final : Bool)
+    → OnTrue final (Writes p (final_word (tag_of (word_at v.words p)) 1) v.words words)
+    → OnTrue final (SetsEntry p.bucket (tag_of (word_at v.words p)) 1 v.words words)
+    → OnTrue final (entry_at v.words p.bucket (tag_of (word_at v.words p)) ≡ None)
+    → OnFalse final (Writes p empty v.words words)
+    → OnFalse final (SameEntries v.words words)
+    → IsIndexMap words
+    → IsTraced code v
+    → IsTraced code (record v { words = words })
+traced-confirm v words p true writes sets none emptied same map t =
+    traced-words v words writes.buckets map (leads-confirmed v.words words p.bucket (tag_of (word_at v.words p)) none sets) t
+traced-confirm v words p false writes sets none emptied same map t =
+    traced-words v words emptied.buckets map (λ c. ap leads_to (same c.bucket c.tag)) t
+
+-- ---- the entry that stands as that of a class
+pub entry-stands : (words : List (List Word)) (b t : ℕ) (p : Place) (w : Word) → IsIndexMap words → StandsAt words b t p w
+    → entry_at words b t ≡ Some (address_of w)
+entry-stands words b t p w map s =
+    let final = ap is_final s.word ∙ s.final in
+    ap (λ n. entry_at words n t) (sym s.bucket)
+    ∙ ap (entry_at words p.bucket) (sym (ap tag_of s.word ∙ s.tag))
+    ∙ map.entry p final
+    ∙ ap (λ (x : Word). Some (address_of x)) s.word
 
 -- ---- a record is appended
-leads-by : {K V : Type 0} (begin : ℕ) (b : Bool) (e : Entry K V) (l : Option (Entry K V)) (p : Option ℕ) → Leads begin l (address_of p) → Leads begin (cond b (Some e) l) (address_of (cond b (Some e.address) p))
+leads-by : {K V : Type 0} (begin : ℕ) (b : Bool) (e : Entry K V) (l : Option (Entry K V)) (p : Option ℕ) → Leads begin l (leads_to p) → Leads begin (cond b (Some e) l) (leads_to (cond b (Some e.address) p))
 leads-by begin true e l p h = refl
 leads-by begin false e l p h = h
 
-placed-by : (b : Bool) (tail next : ℕ) (p : Option ℕ) → 64 ≤ tail → tail < next → IsPrevious tail (address_of p) → IsPrevious next (address_of (cond b (Some tail) p))
+placed-by : (b : Bool) (tail next : ℕ) (p : Option ℕ) → 64 ≤ tail → tail < next → IsPrevious tail (leads_to p) → IsPrevious next (leads_to (cond b (Some tail) p))
 placed-by true tail next p low rises h = inr (low, rises)
 placed-by false tail next p low rises (inl none) = inl none
 placed-by false tail next p low rises (inr some) = inr (some.0, omega (arith, some.1))
 
--- what a log says of its text, and that the text is chained, leave the entries to be shown
-pub traced-record : {K V : Type 0} {code : K → ℕ} (v : RecordsView K V) (c : Class) (previous : ℕ) (key : K) (value : Option V) → c ≡ class_in code v key → IsTraced code v
-    → (let w = with_record v c previous key value in IsLaidOut w.page_bits w.record_size w.begin w.tail w.text × IsRising w.text × IsFrom w.begin w.text × IsBelow w.tail w.text × IsChained (class_in code v) same_class w.begin w.text)
-    → IsTraced code (with_record v c previous key value)
-traced-record {K} {V} {code} v c previous key value own t new =
-    let e : Entry K V = record { address = v.tail; previous = previous; key = key; value = value } in
-    let rises = new.3 (length v.text) e (get-append_last v.text e) in
+-- what a log says of its text, and that the text is chained
+pub record IsTextOf {K V : Type 0} (code : K → ℕ) (w : RecordsView K V) : Type 0 where
+  pub laid_out : IsLaidOut w.page_bits w.record_size w.begin w.tail w.text
+  pub rising : IsRising w.text
+  pub from : IsFrom w.begin w.text
+  pub below : IsBelow w.tail w.text
+  pub chained : IsChained (class_in code w) same_class w.begin w.text
+
+-- and what an index says of its words once an entry has moved
+pub record AreMoved (c : Class) (a : ℕ) (old new : List (List Word)) : Type 0 where
+  pub sets : SetsEntry c.bucket c.tag a old new
+  pub map : IsIndexMap new
+  pub buckets : length new ≡ length old
+
+pub moved-there : (c : Class) (p : Place) (w : Word) (a : ℕ) (old new : List (List Word))
+    → p.bucket ≡ c.bucket
+    → tag_of w ≡ c.tag
+    → SetsEntry p.bucket (tag_of w) a old new
+    → IsIndexMap new
+    → length new ≡ length old
+    → AreMoved c a old new
+moved-there c p w a old new bucket tag sets map buckets = record {
+  sets = subst (λ t. SetsEntry c.bucket t a old new) tag (subst (λ b. SetsEntry b (tag_of w) a old new) bucket sets);
+  map = map;
+  buckets = buckets;
+}
+
+pub traced-record : {K V : Type 0} {code : K → ℕ} (v : RecordsView K V) (e : IndexEntry) (key : K) (value : Option V)
+    → IsTraced code v
+    → IsTextOf code (with_record v e key value)
+    → AreMoved (class_in code v key) v.tail v.words (with_record v e key value).words
+    → IsTraced code (with_record v e key value)
+traced-record {K} {V} {code} v e key value t new moved =
+    let c : Class = class_in code v key in
+    let w : RecordsView K V = with_record v e key value in
+    let x : Entry K V = record { address = v.tail; previous = address_of e.word; key = key; value = value } in
+    let rises = new.below (length v.text) x (get-append_last v.text x) in
+    let entry = entry-set v.words w.words c v.tail moved.sets in
     record {
       partition_bits = t.partition_bits;
       bucket_bits = t.bucket_bits;
       begin = t.begin;
-      laid_out = new.0;
-      rising = new.1;
-      from = new.2;
-      below = new.3;
-      chained = new.4;
+      laid_out = new.laid_out;
+      rising = new.rising;
+      from = new.from;
+      below = new.below;
+      chained = new.chained;
+      buckets = moved.buckets ∙ t.buckets;
+      map = moved.map;
       leads = λ d.
-          let last : last_of_class (class_in code v) same_class (v.text ++ e ∷ []) d ≡ cond (same_class c d) (Some e) (last_of_class (class_in code v) same_class v.text d) =
-          last_where-append (has_class (class_in code v) same_class d) v.text e ∙ ap (λ x. cond (same_class x d) (Some e) (last_of_class (class_in code v) same_class v.text d)) (sym own) in
-          rw (last, entry_of-record v c previous key value d) (leads-by v.begin (same_class c d) e (last_of_class (class_in code v) same_class v.text d) (entry_of v d) (t.leads d));
-      placed = λ d. rw (entry_of-record v c previous key value d) (placed-by (same_class c d) v.tail _ (entry_of v d) (tail_from t) rises (t.placed d));
+          let last : last_of_class (class_in code v) same_class (v.text ++ x ∷ []) d ≡ cond (same_class c d) (Some x) (last_of_class (class_in code v) same_class v.text d) =
+          last_where-append (has_class (class_in code v) same_class d) v.text x in
+          rw (last, entry d) (leads-by v.begin (same_class c d) x (last_of_class (class_in code v) same_class v.text d) (entry_of v d) (t.leads d));
+      placed = λ d. rw (entry d) (placed-by (same_class c d) v.tail _ (entry_of v d) (tail_from t) rises (t.placed d));
     }
 
 -- ---- what an entry says of the keys of its class
 pub leads_of : {K V : Type 0} {code : K → ℕ} {v : RecordsView K V} → IsTraced code v → (c : Class) (a : ℕ) → entry_of v c ≡ Some a → Leads v.begin (last_of_class (class_in code v) same_class v.text c) a
-leads_of {K} {V} {code} {v} t c a entry = subst (λ p. Leads v.begin (last_of_class (class_in code v) same_class v.text c) (address_of p)) entry (t.leads c)
+leads_of {K} {V} {code} {v} t c a entry = subst (λ p. Leads v.begin (last_of_class (class_in code v) same_class v.text c) (leads_to p)) entry (t.leads c)
 
 above_in : {K V : Type 0} (a : ℕ) (xs : List (Entry K V)) → AllAbove a xs → (i : ℕ) (x : Entry K V) → slice_get xs i ≡ Some x → a < x.address
 above_in a [] h i x e = absurd (cc)
@@ -146,7 +228,7 @@ module _ {K V : Type 0} (cmp : K → K → Ordering) (code : K → ℕ) (v : Rec
     pub last : Entry K V
     pub is : last_of_class (class_in code v) same_class v.text (class_in code v k) ≡ Some last
     pub high : x.address ≤ last.address
-    pub entry : address_of (entry_of v (class_in code v k)) ≡ last.address
+    pub entry : leads_to (entry_of v (class_in code v k)) ≡ last.address
 
   held_at : (x : Entry K V) → last_of cmp v.text k ≡ Some x → IsHeldAt x
   held_at x found = by_last (last_of_class (class_in code v) same_class v.text (class_in code v k)) refl
@@ -163,7 +245,7 @@ module _ {K V : Type 0} (cmp : K → K → Ordering) (code : K → ℕ) (v : Rec
         last = e;
         is = h;
         high = highest (has_class (class_in code v) same_class (class_in code v k)) v.text t.rising e h m.place x m.here own;
-        entry = subst (λ (l : Option (Entry K V)). Leads v.begin l (address_of (entry_of v (class_in code v k)))) h (t.leads (class_in code v k));
+        entry = subst (λ (l : Option (Entry K V)). Leads v.begin l (leads_to (entry_of v (class_in code v k)))) h (t.leads (class_in code v k));
       }
 
   pub traced-held : (a : ℕ) → entry_of v (class_in code v k) ≡ Some a → newest cmp v.text k a ≡ last_of cmp v.text k
@@ -173,7 +255,7 @@ module _ {K V : Type 0} (cmp : K → K → Ordering) (code : K → ℕ) (v : Rec
       by_last None h = last_where-narrow_none (has_key cmp k) (λ e. nat_le e.address a) v.text h ∙ sym h
       by_last (Some x) h =
           let at = held_at x h in
-          let there : a ≡ at.last.address = sym (ap address_of entry) ∙ at.entry in
+          let there : a ≡ at.last.address = sym (ap leads_to entry) ∙ at.entry in
           let high : x.address ≤ at.last.address = at.high in
           let low : nat_le x.address a ≡ true = grind (arith, nat_tests) in
           last_where-narrow (has_key cmp k) (λ e. nat_le e.address a) v.text x h low ∙ sym h
@@ -187,10 +269,10 @@ module _ {K V : Type 0} (cmp : K → K → Ordering) (code : K → ℕ) (v : Rec
           let at = held_at x h in
           let m = last_where-in (has_class (class_in code v) same_class (class_in code v k)) v.text at.last at.is in
           let high = t.from m.place at.last m.here in
-          let there : 1 ≡ at.last.address = sym (ap address_of entry) ∙ at.entry in
+          let there : 1 ≡ at.last.address = sym (ap leads_to entry) ∙ at.entry in
           absurd (omega (arith, t.begin))
 
 pub traced-low : {K V : Type 0} {code : K → ℕ} (v : RecordsView K V) (c : Class) (a : ℕ) → IsTraced code v → entry_of v c ≡ Some a → a < v.tail
 traced-low v c a t entry =
     let some = tail_from t in
-    elim (subst (λ p. IsPrevious v.tail (address_of p)) entry (t.placed c)) [ inl one ↦ omega arith | inr placed ↦ omega (arith, placed.1) ]
+    elim (subst (λ p. IsPrevious v.tail (leads_to p)) entry (t.placed c)) [ inl one ↦ omega arith | inr placed ↦ omega (arith, placed.1) ]

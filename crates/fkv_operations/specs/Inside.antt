@@ -13,5 +13,5 @@ view_of record_size r = record {
   begin = r.log.begin;
   tail = r.log.tail;
   text = r.log.text;
-  finals = r.finals.entries;
+  words = r.index;
 }

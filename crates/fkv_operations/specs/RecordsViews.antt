@@ -1,14 +1,19 @@
 -- What a contract sees of the records of a partition.
-use Rattle.std.specs.Prelude.{ℕ, List, [], ◌∷◌, ◌++◌, Option, Some, None}
-use Rattle.std.specs.BTreeMap.{insert_entry, is_at}
-use Rattle.std.specs.Map.{lookup}
+use Rattle.std.specs.Prelude.{◌≡◌, ◌^◌, ℕ, IsTrue, List, [], ◌∷◌, ◌++◌, Option, Some, None, option_map, replicate}
 use Rattle.fkv_hybrid.specs.declared.entries.Entry.{Entry}
 use Rattle.fkv_hybrid.specs.Places.{tail_after}
+use Rattle.fkv_index.specs.declared.words.Word.{Word}
+use Rattle.fkv_index.specs.declared.places.Place.{Place}
+use Rattle.fkv_index.specs.Words.{empty, final_word, tentative_word, address_of, tag_of, is_final}
+use Rattle.fkv_index.specs.Places.{word_at, IsPlace, with_word}
+use Rattle.fkv_index.specs.Entries.{entry_at, place_of, StandsAt}
+use Rattle.fkv_index.specs.Changes.{Probes}
 use Rattle.fkv_operations.specs.declared.classes.Class.{Class}
-use Rattle.fkv_operations.specs.Classes.{class_at, class_cmp}
+use Rattle.fkv_operations.specs.declared.entries.IndexEntry.{IndexEntry}
+use Rattle.fkv_operations.specs.Classes.{class_at}
 
 -- the records of one of 2 ^ partition_bits partitions, whose classes have 2 ^ bucket_bits buckets: a text as a log has
--- it, and the entry of each class that has one, an address
+-- it, and the words of an index, bucket by bucket
 pub record RecordsView (K V : Type 0) : Type 0 where
   pub partition_bits : ℕ
   pub bucket_bits : ℕ
@@ -17,7 +22,7 @@ pub record RecordsView (K V : Type 0) : Type 0 where
   pub begin : ℕ
   pub tail : ℕ
   pub text : List (Entry K V)
-  pub finals : List (Class × ℕ)
+  pub words : List (List Word)
 
 -- no records and no entries
 abbrev pub empty_records : {K V : Type 0} → ℕ → ℕ → ℕ → ℕ → RecordsView K V
@@ -29,30 +34,60 @@ empty_records partition_bits bucket_bits page_bits record_size = record {
   begin = 64;
   tail = 64;
   text = [];
-  finals = [];
+  words = replicate (2 ^ bucket_bits) (replicate 7 empty);
 }
 
 -- the class of a key
 abbrev pub class_in : {K V : Type 0} → (K → ℕ) → RecordsView K V → K → Class
 class_in code v k = class_at v.partition_bits v.bucket_bits (code k)
 
--- the entry of a class
+-- the address of the final entry of a class
 abbrev pub entry_of : {K V : Type 0} → RecordsView K V → Class → Option ℕ
-entry_of v c = lookup (is_at (class_cmp c)) v.finals
+entry_of v c = entry_at v.words c.bucket c.tag
 
 -- where an entry leads, 1 standing for nowhere
-abbrev pub address_of : Option ℕ → ℕ
-address_of None = 1
-address_of (Some a) = a
+abbrev pub leads_to : Option ℕ → ℕ
+leads_to None = 1
+leads_to (Some a) = a
 
--- with a record at the tail, to which its class's entry is moved
-abbrev pub with_record : {K V : Type 0} → RecordsView K V → Class → ℕ → K → Option V → RecordsView K V
-with_record v c previous key value = record v {
-  text = v.text ++ record { address = v.tail; previous = previous; key = key; value = value } ∷ [];
+-- the final entry of a class: its place, and the word there
+abbrev pub found_in : {K V : Type 0} → RecordsView K V → Class → Option IndexEntry
+found_in v c = option_map (λ p. record { place = p; word = word_at v.words p }) (place_of v.words c.bucket c.tag)
+
+-- an entry stands as that of a class
+abbrev pub IsEntryOf : {K V : Type 0} → RecordsView K V → Class → IndexEntry → Type 0
+IsEntryOf v c e = StandsAt v.words c.bucket c.tag e.place e.word
+
+-- an entry was once found as that of a class: its place is one of the class's bucket, its word a final one of its tag
+pub record WasEntryOf {K V : Type 0} (v : RecordsView K V) (c : Class) (e : IndexEntry) : Type 0 where
+  pub place : IsPlace v.words e.place
+  pub bucket : e.place.bucket ≡ c.bucket
+  pub final : IsTrue (is_final e.word)
+  pub tag : tag_of e.word ≡ c.tag
+
+-- with a record at the tail, behind the one to which the entry leads, and the entry moved to it
+abbrev pub with_record : {K V : Type 0} → RecordsView K V → IndexEntry → K → Option V → RecordsView K V
+with_record v e key value = record v {
+  text = v.text ++ record { address = v.tail; previous = address_of e.word; key = key; value = value } ∷ [];
   tail = tail_after v.page_bits v.record_size v.tail;
-  finals = insert_entry class_cmp v.finals c v.tail;
+  words = with_word v.words e.place (final_word (tag_of e.word) v.tail);
 }
 
--- with an entry for a class, which leads nowhere yet
-abbrev pub claimed : {K V : Type 0} → RecordsView K V → Class → RecordsView K V
-claimed v c = record v { finals = insert_entry class_cmp v.finals c 1 }
+-- a tentative entry is made for a class, at the first empty place of its bucket
+pub record Claims {K V : Type 0} (old new : RecordsView K V) (c : Class) (p : Place) : Type 0 where
+  pub probed : List (List Word)
+  pub probes : Probes c.bucket p old.words probed
+  pub is : new ≡ record old { words = with_word probed p (tentative_word c.tag) }
+
+-- a tentative entry becomes final, and leads to no record yet
+abbrev pub confirmed : {K V : Type 0} → RecordsView K V → Place → RecordsView K V
+confirmed v p = record v { words = with_word v.words p (final_word (tag_of (word_at v.words p)) 1) }
+
+-- a place is emptied
+abbrev pub released : {K V : Type 0} → RecordsView K V → Place → RecordsView K V
+released v p = record v { words = with_word v.words p empty }
+
+-- words change at one place alone, and no place goes
+pub record ChangesAt (p : Place) (old new : List (List Word)) : Type 0 where
+  pub others : (q : Place) → (q ≡ p → ⊥) → word_at new q ≡ word_at old q
+  pub places : (q : Place) → IsPlace old q → IsPlace new q

@@ -1,13 +1,14 @@
 -- What the records of a partition always keep: each record leads to the one before it in its class, and the entry of a
 -- class to the last.
-use Rattle.std.specs.Prelude.{◌≡◌, ℕ, ◌≤◌}
+use Rattle.std.specs.Prelude.{◌≡◌, ◌^◌, ◌≤◌, ℕ, length}
 use Rattle.fkv_records.specs.Records.{IsPrevious}
 use Rattle.fkv_hybrid.specs.Places.{IsLaidOut}
 use Rattle.fkv_hybrid.specs.Text.{IsRising, IsFrom, IsBelow}
 use Rattle.fkv_hybrid.specs.Chains.{last_of_class, Leads, IsChained}
+use Rattle.fkv_index.specs.Entries.{IsIndexMap}
 use Rattle.fkv_operations.specs.declared.classes.Class.{Class}
 use Rattle.fkv_operations.specs.Classes.{same_class}
-use Rattle.fkv_operations.specs.RecordsViews.{RecordsView, class_in, entry_of, address_of}
+use Rattle.fkv_operations.specs.RecordsViews.{RecordsView, class_in, entry_of, leads_to}
 
 pub record IsTraced {K V : Type 0} (code : K → ℕ) (v : RecordsView K V) : Type 0 where
   pub partition_bits : v.partition_bits ≤ 6
@@ -18,8 +19,11 @@ pub record IsTraced {K V : Type 0} (code : K → ℕ) (v : RecordsView K V) : Ty
   pub from : IsFrom v.begin v.text
   pub below : IsBelow v.tail v.text
   pub chained : IsChained (class_in code v) same_class v.begin v.text
+  -- the final entries are a map from class to address
+  pub buckets : length v.words ≡ 2 ^ v.bucket_bits
+  pub map : IsIndexMap v.words
   -- the entry of a class leads to the class's last record, and where it has none there is no entry, or it leads nowhere
   pub leads : (c : Class)
-      → Leads v.begin (last_of_class (class_in code v) same_class v.text c) (address_of (entry_of v c))
+      → Leads v.begin (last_of_class (class_in code v) same_class v.text c) (leads_to (entry_of v c))
   -- so it can be the previous address of the next record
-  pub placed : (c : Class) → IsPrevious v.tail (address_of (entry_of v c))
+  pub placed : (c : Class) → IsPrevious v.tail (leads_to (entry_of v c))

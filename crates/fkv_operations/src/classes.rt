@@ -1,14 +1,15 @@
 //! The class of a key within its partition.
 ghost use Rattle.std.specs.Prelude.{◌≡◌, ◌≤◌};
-ghost use Rattle.fkv_operations.specs.Classes.{class_at};
+ghost use Rattle.fkv_operations.specs.Classes.{class_at, IsClass};
 
-/// What a partition tells keys apart by when it looks for their records: all keys of one class share one entry.
-#[derive(Clone, Copy, PartialEq, Eq, PartialOrd, Ord, Debug)]
+/// What a partition tells keys apart by when it looks for their records: all keys of one class share one entry of
+/// the index.
+#[derive(Clone, Copy, Debug)]
 pub struct Class {
     /// Below 2^bucket_bits.
-    pub bucket: u64,
+    pub bucket: usize,
     /// Below 2^15.
-    pub tag: u64,
+    pub tag: u16,
 }
 
 /// How many bits of a hash stand below its tag.
@@ -18,11 +19,14 @@ const TAG_SHIFT: u64 = 49;
 pub fn class_of(hash: u64, partition_bits: u64, bucket_bits: u64) -> Class
     requires partition { partition_bits ≤ 6 }
     requires bucket { bucket_bits ≤ 20 }
-    ensures { result ≡ class_at partition_bits bucket_bits hash }
+    ensures value { result ≡ class_at partition_bits bucket_bits hash }
+    ensures range { IsClass bucket_bits result }
 {
     let buckets = 1u64 << bucket_bits;
+    let bucket = (hash >> partition_bits) & (buckets - 1);
+    let tag = hash >> TAG_SHIFT;
     Class {
-        bucket: (hash >> partition_bits) & (buckets - 1),
-        tag: hash >> TAG_SHIFT,
+        bucket: bucket as usize,
+        tag: tag as u16,
     }
 }

@@ -1,12 +1,12 @@
-//! What the records of a partition say of each key, and what an appended record and a claimed entry change of it.
+//! What the records of a partition say of each key, and what an appended record changes of it.
 //! Each law is what a function without a body ensures.
-ghost use Rattle.std.specs.Prelude.{◌≡◌, ◌<◌, ℕ, Option, Some, None, cond};
+ghost use Rattle.std.specs.Prelude.{◌≡◌, ◌<◌, ℕ, Option, Some, None};
 ghost use Rattle.std.specs.declared.cmp.Ordering.{Ordering};
 ghost use Rattle.fkv_functions.specs.Plain.{Same, with_at, IsKeyOrder};
 ghost use Rattle.fkv_hybrid.specs.Text.{last_of, newest, live};
 ghost use Rattle.fkv_operations.specs.declared.classes.Class.{Class};
-ghost use Rattle.fkv_operations.specs.Classes.{same_class};
-ghost use Rattle.fkv_operations.specs.RecordsViews.{RecordsView, class_in, entry_of, with_record, claimed};
+ghost use Rattle.fkv_operations.specs.declared.entries.IndexEntry.{IndexEntry};
+ghost use Rattle.fkv_operations.specs.RecordsViews.{RecordsView, class_in, entry_of, with_record};
 ghost use Rattle.fkv_operations.specs.Traced.{IsTraced};
 
 /// What the entry of a key's class says of the key.
@@ -23,19 +23,13 @@ pub fn entries_lead<K, V>()
         → IsTraced code v → entry_of v c ≡ Some a → a < v.tail }
 {}
 
-/// What changes once a record is appended, or an entry is claimed.
+/// What changes once a record is appended.
 pub fn records_grow<K, V>()
     // what is newest at or below an address that is taken stays
-    ensures kept { (cmp : K → K → Ordering) (v : RecordsView K V) (c : Class) (previous : ℕ) (key : K)
-        (value : Option V) (k : K) (a : ℕ) → a < v.tail
-        → newest cmp (with_record v c previous key value).text k a ≡ newest cmp v.text k a }
+    ensures kept { (cmp : K → K → Ordering) (v : RecordsView K V) (e : IndexEntry) (key : K) (value : Option V)
+        (k : K) (a : ℕ) → a < v.tail
+        → newest cmp (with_record v e key value).text k a ≡ newest cmp v.text k a }
     // the key gets its value, or none
-    ensures lives { (cmp : K → K → Ordering) (v : RecordsView K V) (c : Class) (previous : ℕ) (key : K)
-        (value : Option V)
-        → Same (live cmp (with_record v c previous key value).text) (with_at cmp (live cmp v.text) key value) }
-    // the class's entry leads to the record, and the others stay
-    ensures entries { (v : RecordsView K V) (c : Class) (previous : ℕ) (key : K) (value : Option V) (d : Class)
-        → entry_of (with_record v c previous key value) d ≡ cond (same_class c d) (Some v.tail) (entry_of v d) }
-    ensures claimed { (v : RecordsView K V) (c : Class) (d : Class)
-        → entry_of (claimed v c) d ≡ cond (same_class c d) (Some 1) (entry_of v d) }
+    ensures lives { (cmp : K → K → Ordering) (v : RecordsView K V) (e : IndexEntry) (key : K) (value : Option V)
+        → Same (live cmp (with_record v e key value).text) (with_at cmp (live cmp v.text) key value) }
 {}

@@ -8,7 +8,7 @@
 pub mod classes;
 pub mod clocks;
 pub mod decisions;
-mod finals;
+pub mod entries;
 pub mod laws;
 mod maps;
 pub mod operations;
@@ -18,6 +18,7 @@ pub mod records;
 pub use classes::{Class, class_of};
 pub use clocks::Clock;
 pub use decisions::{Decision, DecisionOf, Met, decide, met_by};
+pub use entries::IndexEntry;
 pub use operations::{Answer, AnswerOf, Op, OpOf};
 pub use plainly::{PlainRun, apply_plainly, run_plainly, shown};
 pub use records::Records;
