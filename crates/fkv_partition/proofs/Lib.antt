@@ -1,4 +1,6 @@
+pub mod ClaimLemmas
 pub mod SoundLemmas
 pub mod AskedLemmas
 pub mod EventLemmas
 pub mod ListingLemmas
+pub mod ChangeLemmas

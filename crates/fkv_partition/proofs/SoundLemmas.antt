@@ -1,36 +1,55 @@
--- What an append, a claim and a change of contexts keep.
-use Rattle.std.proofs.Common.{◌≡◌, true, false, ℕ, zero, suc, ◌+◌, ◌*◌, ◌^◌, ◌<◌, ◌≤◌, inl, inr, List, [], ◌∷◌, length, replicate, Bool, Option, Some, None, slice_get, slice_set, unwrap_or, refl, sym, ◌∙◌, ap, subst, arith}
+-- What the changes of a partition keep.
+use Rattle.std.proofs.Common.{◌≡◌, ◌≢◌, true, false, ℕ, zero, suc, ◌+◌, ◌*◌, ◌^◌, ◌<◌, ◌≤◌, inl, inr, IsTrue, List, [], ◌∷◌, length, replicate, Bool, Option, Some, None, slice_get, slice_set, unwrap_or, refl, sym, ◌∙◌, ap, subst, arith}
 use Rattle.std.proofs.lemmas.List.{length-set}
 use Rattle.std.proofs.lemmas.Bool.{cases_eq}
 use Rattle.std.specs.declared.cmp.Ordering.{Ordering}
 use Rattle.fkv_hybrid.specs.declared.entries.Entry.{Entry}
 use Rattle.fkv_hybrid.specs.Text.{newest, value_of}
+use Rattle.fkv_index.specs.declared.words.Word.{Word}
+use Rattle.fkv_index.specs.declared.places.Place.{Place}
+use Rattle.fkv_index.specs.Words.{address_of, is_tentative, is_final}
+use Rattle.fkv_index.specs.Places.{word_at, IsPlace}
+use Rattle.fkv_index.specs.Changes.{SameTentative}
+use Rattle.fkv_index.proofs.WordFacts.{final_not_tentative}
 use Rattle.fkv_operations.specs.After.{key_of}
-use Rattle.fkv_operations.specs.RecordsViews.{RecordsView, with_record}
+use Rattle.fkv_operations.specs.RecordsViews.{RecordsView, class_in, WasEntryOf, IsEntryOf, with_record, ChangesAt}
 use Rattle.fkv_operations.specs.Traced.{IsTraced}
 use Rattle.fkv_operations.specs.declared.classes.Class.{Class}
+use Rattle.fkv_operations.specs.declared.entries.IndexEntry.{IndexEntry}
 use Rattle.fkv_operations.specs.declared.operations.Op.{Op}
 use Rattle.fkv_operations.specs.declared.operations.Op.TheVariants.{Read, Upsert, Rmw, Delete}
 use Rattle.fkv_partition.specs.declared.limits.Config.{Config}
 use Rattle.fkv_partition.specs.declared.contexts.Context.{Context}
 use Rattle.fkv_partition.specs.declared.contexts.Phase.{Phase}
-use Rattle.fkv_partition.specs.declared.contexts.Phase.TheVariants.{Fresh, Prepared}
-use Rattle.fkv_partition.specs.Views.{PartitionView, empty_partition, partition_of, with_context, open_context}
-use Rattle.fkv_partition.specs.Sound.{StandsFor, IsSound}
-use Rattle.fkv_functions.proofs.ListLemmas.{get-set_cases, get-set_other, get-append_last, get-append_cases}
+use Rattle.fkv_partition.specs.declared.contexts.Phase.TheVariants.{Fresh, Confirm, Prepared}
+use Rattle.fkv_partition.specs.Contexts.{joined, at_phase, claim_by, claim_of, claim_at}
+use Rattle.fkv_partition.specs.Claiming.{IsClaimOf, AreOwned}
+use Rattle.fkv_partition.specs.Views.{PartitionView, empty_partition, partition_of, with_context, with_appended, open_context}
+use Rattle.fkv_partition.specs.Sound.{IsKept, StandsFor, IsSound}
+use Rattle.fkv_functions.proofs.ListLemmas.{get-set_cases, get-set_same, get-set_other, get-append_last, get-append_cases}
 use Rattle.fkv_partition.proofs.AskedLemmas.{idle}
+use Rattle.fkv_partition.proofs.ClaimLemmas.{owned-quiet, owned-claimed, owned-freed}
 
--- records that grow leave what is newest at or below each address that is taken, and the tail does not fall
-pub record IsGrown {K V : Type 0} (cmp : K → K → Ordering) (old new : RecordsView K V) : Type 0 where
+-- records change, and the words of their index at one place alone: what is newest at or below each address that is
+-- taken stays, the tail does not fall, and no class changes
+pub record IsGrown {K V : Type 0} (cmp : K → K → Ordering) (code : K → ℕ) (q : Place) (old new : RecordsView K V) : Type 0 where
+  pub class : (k : K) → class_in code new k ≡ class_in code old k
   pub tail : old.tail ≤ new.tail
   pub kept : (k : K) (a : ℕ) → a < old.tail → newest cmp new.text k a ≡ newest cmp old.text k a
+  pub words : ChangesAt q old.words new.words
 
-stands-grown : {K V I : Type 0} (cmp : K → K → Ordering) (old new : RecordsView K V) (op : Op K V I) (phase : Phase V) → IsGrown cmp old new → StandsFor cmp old op phase → StandsFor cmp new op phase
-stands-grown cmp old new op Fresh g h = tt
-stands-grown cmp old new (Read k i) (Prepared a s) g h = h
-stands-grown cmp old new (Upsert k v) (Prepared a s) g h = h
-stands-grown cmp old new (Rmw k i) (Prepared a s) g h = ((let low : a < old.tail = h.0 in let up = g.tail in omega arith), ap value_of (g.kept k a h.0) ∙ h.1)
-stands-grown cmp old new (Delete k) (Prepared a s) g h = h
+stands-grown : {K V I : Type 0} (cmp : K → K → Ordering) (code : K → ℕ) (q : Place) (old new : RecordsView K V) (op : Op K V I) (phase : Phase V) → IsGrown cmp code q old new → claim_by phase ≢ Some q → StandsFor cmp code old op phase → StandsFor cmp code new op phase
+stands-grown cmp code q old new op Fresh g n h = tt
+stands-grown cmp code q old new op (Confirm p) g n h =
+    rw (g.class (key_of op)) (record { bucket = h.bucket; word = g.words.others p (λ e. n (ap Some e)) ∙ h.word })
+stands-grown cmp code q old new (Read k i) (Prepared e s) g n h = h
+stands-grown cmp code q old new (Upsert k v) (Prepared e s) g n h = h
+stands-grown cmp code q old new (Rmw k i) (Prepared e s) g n h = record {
+  entry = rw (g.class k) (record { place = g.words.places e.place h.entry.place; bucket = h.entry.bucket; final = h.entry.final; tag = h.entry.tag });
+  low = (let low : address_of e.word < old.tail = h.low in let up = g.tail in omega arith);
+  value = ap value_of (g.kept k (address_of e.word) h.low) ∙ h.value;
+}
+stands-grown cmp code q old new (Delete k) (Prepared e s) g n h = h
 
 entered-stays : (entered : List Bool) (slot t : ℕ) → unwrap_or (slice_get entered t) false ≡ true → unwrap_or (slice_get (slice_set entered slot true) t) false ≡ true
 entered-stays [] slot t h = h
@@ -39,16 +58,26 @@ entered-stays (b ∷ bs) zero (suc t) h = h
 entered-stays (b ∷ bs) (suc slot) zero h = h
 entered-stays (b ∷ bs) (suc slot) (suc t) h = entered-stays bs slot t h
 
+-- what was set is what is there
+set-at : {A : Type 0} (xs : List (Option A)) (i : ℕ) (y : Option A) (x : A) → slice_get xs i ≡ Some (Some x) → slice_get (slice_set xs i y) i ≡ Some (Some x) → y ≡ Some x
+set-at xs i y x was is = let set : slice_get (slice_set xs i y) i ≡ Some y = get-set_same xs i (Some x) y was in let same : Some y ≡ Some (Some x) = sym set ∙ is in cc
+
 -- ---- whole partitions
 module _ {K V I : Type 0} {cmp : K → K → Ordering} {code : K → ℕ} where
-  pub sound-empty : (config : Config) (size number : ℕ) → number < 2 ^ config.partition_bits → IsTraced {V = V} code (empty_partition {I = I} config size number).records → IsSound {V = V} {I = I} cmp code (empty_partition config size number)
-  sound-empty config size number h traced = record {
+  pub sound-empty : (config : Config) (size number : ℕ) → number < 2 ^ config.partition_bits → IsTraced {V = V} code (empty_partition {I = I} config size number).records
+      → ((q : Place) → is_tentative (word_at (empty_partition {K = K} {V = V} {I = I} config size number).records.words q) ≡ false) → IsSound {V = V} {I = I} cmp code (empty_partition config size number)
+  sound-empty config size number h traced quiet = record {
     own = h;
     counted = refl;
     sessions = refl;
     places = refl;
     traced = traced;
     stands = λ p x e. absurd (none_in 128 p x e);
+    owned = record {
+      tentative = λ p q e. absurd (none_claims 128 p q e);
+      owner = λ q e. absurd (let no = sym (quiet q) ∙ e in cc);
+      one = λ p r q e f. absurd (none_claims 128 p q e);
+    };
     routed = λ i e k. absurd (cc);
     asked = λ p x e. absurd (none_in 128 p x e);
     housed = λ slot c x h e. absurd (none_in 128 (slot * 8 + c) x e);
@@ -59,9 +88,14 @@ module _ {K V I : Type 0} {cmp : K → K → Ordering} {code : K → ℕ} where
       none_in (suc n) zero x e = cc
       none_in (suc n) (suc p) x e = none_in n p x e
 
+      none_claims : (n p : ℕ) (q : Place) → claim_at {K = K} {V = V} {I = I} (replicate n None) p ≡ Some q → ⊥
+      none_claims zero p q e = cc
+      none_claims (suc n) zero q e = cc
+      none_claims (suc n) (suc p) q e = none_claims n p q e
+
   module _ {v : PartitionView K V I} (s : IsSound cmp code v) where
     pub sound-moment : (now : ℕ) → IsSound cmp code (record v { moment = now })
-    sound-moment now = record { own = s.own; counted = s.counted; sessions = s.sessions; places = s.places; traced = s.traced; stands = s.stands; routed = s.routed; asked = s.asked; housed = s.housed }
+    sound-moment now = record { own = s.own; counted = s.counted; sessions = s.sessions; places = s.places; traced = s.traced; stands = s.stands; owned = s.owned; routed = s.routed; asked = s.asked; housed = s.housed }
 
     pub sound-entered : (slot now : ℕ) → IsSound cmp code (record v { entered = slice_set v.entered slot true; moment = now })
     sound-entered slot now = record {
@@ -71,6 +105,7 @@ module _ {K V I : Type 0} {cmp : K → K → Ordering} {code : K → ℕ} where
       places = s.places;
       traced = s.traced;
       stands = s.stands;
+      owned = s.owned;
       routed = s.routed;
       asked = s.asked;
       housed = λ t c x h e. entered-stays v.entered slot t (s.housed t c x h e);
@@ -85,6 +120,7 @@ module _ {K V I : Type 0} {cmp : K → K → Ordering} {code : K → ℕ} where
       places = s.places;
       traced = s.traced;
       stands = s.stands;
+      owned = s.owned;
       routed = s.routed;
       asked = s.asked;
       housed = λ t c x h e. elim (cases_eq t slot) [
@@ -93,76 +129,151 @@ module _ {K V I : Type 0} {cmp : K → K → Ordering} {code : K → ℕ} where
       ];
     }
 
-    -- an operation in a context, which stands for what it says and belongs here
-    pub sound-context : (slot c now : ℕ) (x : Context K V I) → c < 8 → unwrap_or (slice_get v.entered slot) false ≡ true → StandsFor cmp v.records x.op x.phase → partition_of v.count (code (key_of x.op)) ≡ v.number → IsSound cmp code (with_context v slot c (Some x) now)
-    sound-context slot c now x low inside k r = record {
-      own = s.own;
-      counted = s.counted;
-      sessions = s.sessions;
-      places = length-set v.contexts (slot * 8 + c) (Some x) ∙ s.places;
-      traced = s.traced;
-      stands = λ p y h. elim (get-set_cases v.contexts (slot * 8 + c) p (Some x) (Some y) h) [
-        | inl e ↦ (let same : x ≡ y = (let w = e.1 in cc) in subst (λ (z : Context K V I). StandsFor cmp v.records z.op z.phase) same k)
-        | inr o ↦ s.stands p y o
-      ];
-      routed = s.routed;
-      asked = λ p y h. elim (get-set_cases v.contexts (slot * 8 + c) p (Some x) (Some y) h) [
-        | inl e ↦ (let same : x ≡ y = (let w = e.1 in cc) in subst (λ (z : Context K V I). partition_of v.count (code (key_of z.op)) ≡ v.number) same r)
-        | inr o ↦ s.asked p y o
-      ];
-      housed = λ t d y h e. elim (get-set_cases v.contexts (slot * 8 + c) (t * 8 + d) (Some x) (Some y) e) [
-        | inl p ↦ (let one : t ≡ slot = (let q : t * 8 + d ≡ slot * 8 + c = p.0 in omega arith) in ap (λ n. unwrap_or (slice_get v.entered n) false) one ∙ inside)
-        | inr o ↦ s.housed t d y h o
-      ];
-    }
+    -- an operation that may stand in a context of a session that is entered
+    pub record Fits (r : RecordsView K V) (slot c : ℕ) (x : Context K V I) : Type 0 where
+      pub stands : StandsFor cmp code r x.op x.phase
+      pub own : partition_of v.count (code (key_of x.op)) ≡ v.number
+      pub inside : unwrap_or (slice_get v.entered slot) false ≡ true
+      pub low : c < 8
 
-    pub sound-freed : (slot c now : ℕ) → IsSound cmp code (with_context v slot c None now)
-    sound-freed slot c now = record {
-      own = s.own;
-      counted = s.counted;
-      sessions = s.sessions;
-      places = length-set v.contexts (slot * 8 + c) None ∙ s.places;
-      traced = s.traced;
-      stands = λ p y h. elim (get-set_cases v.contexts (slot * 8 + c) p None (Some y) h) [ inl e ↦ (let w = e.1 in absurd (cc)) | inr o ↦ s.stands p y o ];
-      routed = s.routed;
-      asked = λ p y h. elim (get-set_cases v.contexts (slot * 8 + c) p None (Some y) h) [ inl e ↦ (let w = e.1 in absurd (cc)) | inr o ↦ s.asked p y o ];
-      housed = λ t d y h e. elim (get-set_cases v.contexts (slot * 8 + c) (t * 8 + d) None (Some y) e) [ inl p ↦ (let w = p.1 in absurd (cc)) | inr o ↦ s.housed t d y h o ];
-    }
+    -- what is asked of records that take the place of others, where a context is set
+    pub record Suits (r : RecordsView K V) (slot c : ℕ) (y : Option (Context K V I)) : Type 0 where
+      pub traced : IsTraced code r
+      pub bits : r.partition_bits ≡ v.records.partition_bits
+      pub routed : (i : ℕ) (e : Entry K V) → slice_get r.text i ≡ Some e → partition_of v.count (code e.key) ≡ v.number
+      pub others : (p : ℕ) (x : Context K V I) → p ≢ slot * 8 + c → slice_get v.contexts p ≡ Some (Some x) → StandsFor cmp code r x.op x.phase
+      pub owned : AreOwned r.words (slice_set v.contexts (slot * 8 + c) y)
 
-    -- an entry for a class that has none
-    pub sound-claimed : (records : RecordsView K V) (now : ℕ) → IsTraced code records → records.partition_bits ≡ v.records.partition_bits → records.tail ≡ v.records.tail → records.text ≡ v.records.text → IsSound cmp code (record v { records = records; moment = now })
-    sound-claimed records now traced bits tail text = record {
+    -- a context is set, and the records change
+    pub sound-changed : (r : RecordsView K V) (slot c now : ℕ) (y : Option (Context K V I)) → Suits r slot c y → ((x : Context K V I) → y ≡ Some x → Fits r slot c x)
+        → IsSound cmp code (record (with_context v slot c y now) { records = r })
+    sound-changed r slot c now y suits fits = record {
       own = s.own;
-      counted = s.counted ∙ ap (λ n. 2 ^ n) (sym bits);
+      counted = s.counted ∙ ap (λ n. 2 ^ n) (sym suits.bits);
       sessions = s.sessions;
-      places = s.places;
-      traced = traced;
-      stands = λ p x e. stands-grown cmp v.records records x.op x.phase (record { tail = rw tail (omega arith); kept = λ k a h. ap (λ t. newest cmp t k a) text }) (s.stands p x e);
-      routed = λ i e h. s.routed i e (ap (λ t. slice_get t i) (sym text) ∙ h);
-      asked = s.asked;
-      housed = s.housed;
-    }
-
-    -- a record at the tail, of a key that belongs here
-    pub sound-appended : (c : Class) (previous : ℕ) (k : K) (value : Option V) → IsTraced code (with_record v.records c previous k value) → ((q : K) (a : ℕ) → a < v.records.tail → newest cmp (with_record v.records c previous k value).text q a ≡ newest cmp v.records.text q a) → partition_of v.count (code k) ≡ v.number
-        → IsSound cmp code (record v { records = with_record v.records c previous k value })
-    sound-appended c previous k value traced kept own = record {
-      own = s.own;
-      counted = s.counted;
-      sessions = s.sessions;
-      places = s.places;
-      traced = traced;
-      stands = λ p x e. stands-grown cmp v.records (with_record v.records c previous k value) x.op x.phase grown (s.stands p x e);
-      routed = λ i e h. elim (get-append_cases v.records.text (record { address = v.records.tail; previous = previous; key = k; value = value }) i e h) [
-        | inl old ↦ s.routed i e old
-        | inr new ↦ subst (λ (x : Entry K V). partition_of v.count (code x.key) ≡ v.number) new.1 own
+      places = length-set v.contexts (slot * 8 + c) y ∙ s.places;
+      traced = suits.traced;
+      stands = λ p x h. elim (cases_eq p (slot * 8 + c)) [
+        | inl here ↦ (fits x (new p x here h)).stands
+        | inr other ↦ suits.others p x other (sym (get-set_other v.contexts (slot * 8 + c) p y other) ∙ h)
       ];
-      asked = s.asked;
-      housed = s.housed;
+      owned = suits.owned;
+      routed = suits.routed;
+      asked = λ p x h. elim (get-set_cases v.contexts (slot * 8 + c) p y (Some x) h) [
+        | inl e ↦ (fits x e.1).own
+        | inr o ↦ s.asked p x o
+      ];
+      housed = λ t d x h e. elim (get-set_cases v.contexts (slot * 8 + c) (t * 8 + d) y (Some x) e) [
+        | inl p ↦ (let f = fits x p.1 in
+            let low : c < 8 = f.low in
+            let one : t ≡ slot = (let q : t * 8 + d ≡ slot * 8 + c = p.0 in omega arith) in
+            ap (λ n. unwrap_or (slice_get v.entered n) false) one ∙ f.inside)
+        | inr o ↦ s.housed t d x h o
+      ];
     }
       where
-        last : Entry K V
-        last = record { address = v.records.tail; previous = previous; key = k; value = value }
+        new : (p : ℕ) (x : Context K V I) → p ≡ slot * 8 + c → slice_get (slice_set v.contexts (slot * 8 + c) y) p ≡ Some (Some x) → y ≡ Some x
+        new p x here h = elim (get-set_cases v.contexts (slot * 8 + c) p y (Some x) h) [
+          | inl e ↦ e.1
+          | inr o ↦ set-at v.contexts (slot * 8 + c) y x (ap (slice_get v.contexts) (sym here) ∙ o) (ap (slice_get (slice_set v.contexts (slot * 8 + c) y)) (sym here) ∙ h)
+        ]
 
-        grown : IsGrown cmp v.records (with_record v.records c previous k value)
-        grown = record { tail = (let up : v.records.tail < (with_record v.records c previous k value).tail = traced.below (length v.records.text) last (get-append_last v.records.text last) in omega arith); kept = kept }
+    -- nothing but a context is set, to one that claims nothing as the one before
+    same-records : (slot c : ℕ) (y : Option (Context K V I)) → claim_at v.contexts (slot * 8 + c) ≡ None → claim_of y ≡ None → Suits v.records slot c y
+    same-records slot c y old quiet = record {
+      traced = s.traced;
+      bits = refl;
+      routed = s.routed;
+      others = λ p x n h. s.stands p x h;
+      owned = owned-quiet v.records.words v.records.words v.contexts (slot * 8 + c) y s.owned (λ q. refl) old quiet;
+    }
+
+    pub sound-context : (slot c now : ℕ) (x : Context K V I) → claim_at v.contexts (slot * 8 + c) ≡ None → claim_by x.phase ≡ None → Fits v.records slot c x → IsSound cmp code (with_context v slot c (Some x) now)
+    sound-context slot c now x old quiet fits =
+        sound-changed v.records slot c now (Some x) (same-records slot c (Some x) old quiet) (λ y e. (let same : x ≡ y = cc in subst (Fits v.records slot c) same fits))
+
+    pub sound-freed : (slot c now : ℕ) → claim_at v.contexts (slot * 8 + c) ≡ None → IsSound cmp code (with_context v slot c None now)
+    sound-freed slot c now old = sound-changed v.records slot c now None (same-records slot c None old refl) (λ y e. absurd (cc))
+
+    -- ---- the records change too
+    -- an operation in another context claims another place
+    module _ (r : RecordsView K V) (slot c : ℕ) (q : Place) (grown : IsGrown cmp code q v.records r) where
+      others-stand : ((p : ℕ) → p ≢ slot * 8 + c → claim_at v.contexts p ≢ Some q) → (p : ℕ) (x : Context K V I) → p ≢ slot * 8 + c → slice_get v.contexts p ≡ Some (Some x) → StandsFor cmp code r x.op x.phase
+      others-stand none p x n h =
+          stands-grown cmp code q v.records r x.op x.phase grown (λ e. none p n (ap (λ o. claim_of (joined o)) h ∙ e)) (s.stands p x h)
+
+    -- a tentative entry is made
+    pub sound-claimed : (r : RecordsView K V) (slot c now : ℕ) (x : Context K V I) (q : Place)
+        → IsTraced code r
+        → IsGrown cmp code q v.records r
+        → r.partition_bits ≡ v.records.partition_bits
+        → r.text ≡ v.records.text
+        → is_tentative (word_at v.records.words q) ≡ false
+        → IsTrue (is_tentative (word_at r.words q))
+        → slice_get v.contexts (slot * 8 + c) ≡ Some (Some x)
+        → claim_by x.phase ≡ None
+        → Fits r slot c (at_phase x (Confirm q))
+        → IsSound cmp code (record (with_context v slot c (Some (at_phase x (Confirm q))) now) { records = r })
+    sound-claimed r slot c now x q traced grown bits text was is here quiet fits =
+        sound-changed r slot c now (Some (at_phase x (Confirm q))) (record {
+          traced = traced;
+          bits = bits;
+          routed = λ i e h. s.routed i e (ap (λ t. slice_get t i) (sym text) ∙ h);
+          others = others-stand r slot c q grown (λ p n e. (let no = sym was ∙ s.owned.tentative p q e in absurd (cc)));
+          owned = owned-claimed v.records.words r.words v.contexts (slot * 8 + c) (Some (at_phase x (Confirm q))) s.owned q (Some x) grown.words was is here quiet refl;
+        }) (λ y e. (let same : at_phase x (Confirm q) ≡ y = cc in subst (Fits r slot c) same fits))
+
+    -- and the operation that made it claims it no more
+    pub sound-settled : (r : RecordsView K V) (slot c now : ℕ) (x : Context K V I) (q : Place) (y : Option (Context K V I))
+        → IsTraced code r
+        → IsGrown cmp code q v.records r
+        → r.partition_bits ≡ v.records.partition_bits
+        → r.text ≡ v.records.text
+        → is_tentative (word_at r.words q) ≡ false
+        → slice_get v.contexts (slot * 8 + c) ≡ Some (Some x)
+        → x.phase ≡ Confirm q
+        → claim_of y ≡ None
+        → ((z : Context K V I) → y ≡ Some z → Fits r slot c z)
+        → IsSound cmp code (record (with_context v slot c y now) { records = r })
+    sound-settled r slot c now x q y traced grown bits text freed here phase quiet fits =
+        let mine : claim_at v.contexts (slot * 8 + c) ≡ Some q = ap (λ o. claim_of (joined o)) here ∙ ap claim_by phase in
+        sound-changed r slot c now y (record {
+          traced = traced;
+          bits = bits;
+          routed = λ i e h. s.routed i e (ap (λ t. slice_get t i) (sym text) ∙ h);
+          others = others-stand r slot c q grown (λ p n e. n (s.owned.one p (slot * 8 + c) q e mine));
+          owned = owned-freed v.records.words r.words v.contexts (slot * 8 + c) y s.owned q (Some x) grown.words freed here (ap claim_by phase) quiet;
+        }) fits
+
+    -- a record at the tail, of a key that belongs here
+    pub sound-appended : (slot c now : ℕ) (e : IndexEntry) (k : K) (value : Option V)
+        → claim_at v.contexts (slot * 8 + c) ≡ None
+        → IsEntryOf v.records (class_in code v.records k) e
+        → IsTraced code (with_record v.records e k value)
+        → ((q : K) (a : ℕ) → a < v.records.tail → newest cmp (with_record v.records e k value).text q a ≡ newest cmp v.records.text q a)
+        → ChangesAt e.place v.records.words (with_record v.records e k value).words
+        → SameTentative v.records.words (with_record v.records e k value).words
+        → partition_of v.count (code k) ≡ v.number
+        → IsSound cmp code (with_appended v slot c e k value now)
+    sound-appended slot c now e k value old entry traced kept words same own =
+        sound-changed (with_record v.records e k value) slot c now None (record {
+          traced = traced;
+          bits = refl;
+          routed = λ i x h. elim (get-append_cases v.records.text last i x h) [
+            | inl was ↦ s.routed i x was
+            | inr new ↦ subst (λ (y : Entry K V). partition_of v.count (code y.key) ≡ v.number) new.1 own
+          ];
+          others = others-stand (with_record v.records e k value) slot c e.place grown (λ p n h. (let no = sym (final_not_tentative (word_at v.records.words e.place) (ap is_final entry.word ∙ entry.final)) ∙ s.owned.tentative p e.place h in absurd (cc)));
+          owned = owned-quiet v.records.words (with_record v.records e k value).words v.contexts (slot * 8 + c) None s.owned same old refl;
+        }) (λ y h. absurd (cc))
+      where
+        last : Entry K V
+        last = record { address = v.records.tail; previous = address_of e.word; key = k; value = value }
+
+        grown : IsGrown cmp code e.place v.records (with_record v.records e k value)
+        grown = record {
+          class = λ q. refl;
+          tail = (let up : v.records.tail < (with_record v.records e k value).tail = traced.below (length v.records.text) last (get-append_last v.records.text last) in omega arith);
+          kept = kept;
+          words = words;
+        }

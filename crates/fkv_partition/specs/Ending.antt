@@ -3,6 +3,10 @@ use Rattle.std.specs.Prelude.{◌≡◌, false, ℕ, Some, None, Result, Ok, Err
 use Rattle.fkv_functions.specs.declared.refusals.Refused.{Refused}
 use Rattle.fkv_functions.specs.declared.refusals.Refused.TheVariants.{Unknown, Busy}
 use Rattle.fkv_partition.specs.declared.contexts.Context.{Context}
+use Rattle.fkv_index.specs.declared.places.Place.{Place}
+use Rattle.fkv_operations.specs.RecordsViews.{released}
+use Rattle.fkv_partition.specs.declared.contexts.Phase.TheVariants.{Confirm}
+use Rattle.fkv_partition.specs.Contexts.{claim_by}
 use Rattle.fkv_partition.specs.Beginning.{IsEntered}
 use Rattle.fkv_partition.specs.Views.{PartitionView, context_at, with_context, open_context}
 
@@ -29,6 +33,14 @@ pub data GivesUp {K V I : Type 0} (old new : PartitionView K V I) (slot c now : 
   unknown : context_at old slot c ≡ None → new ≡ old → result ≡ Err Unknown → GivesUp old new slot c now result
   gives_up : (x : Context K V I)
       → context_at old slot c ≡ Some x
+      → claim_by x.phase ≡ None
       → new ≡ with_context old slot c None now
+      → result ≡ Ok tt
+      → GivesUp old new slot c now result
+  -- and its tentative entry is gone with it
+  cancels : (x : Context K V I) (p : Place)
+      → context_at old slot c ≡ Some x
+      → x.phase ≡ Confirm p
+      → new ≡ record (with_context old slot c None now) { records = released old.records p }
       → result ≡ Ok tt
       → GivesUp old new slot c now result

@@ -1,6 +1,7 @@
--- What `go` does: nothing is open; or a prepared update asks again; or the operation looks its key up, and what it
--- meets decides.
-use Rattle.std.specs.Prelude.{◌≡◌, ◌≢◌, ◌^◌, ℕ, Option, Some, None, Result, Ok, Err}
+-- What `go` does: nothing is open; or a prepared update asks again; or a tentative entry is confirmed; or the operation
+-- looks its key up, and what it meets decides.
+use Rattle.std.specs.Prelude.{◌≡◌, ◌≢◌, ◌^◌, ℕ, false, Option, Some, None, Result, Ok, Err}
+use Rattle.std.specs.List.{list_any}
 use Rattle.std.specs.declared.cmp.Ordering.{Ordering}
 use Rattle.fkv_functions.specs.Meanings.{Meanings}
 use Rattle.fkv_functions.specs.declared.asks.Ask.{Ask}
@@ -8,17 +9,23 @@ use Rattle.fkv_functions.specs.declared.refusals.Refused.{Refused}
 use Rattle.fkv_functions.specs.declared.refusals.Refused.TheVariants.{Unknown, Worn, NoMemory}
 use Rattle.fkv_operations.specs.After.{key_of}
 use Rattle.fkv_records.specs.Places.{offset_at}
-use Rattle.fkv_operations.specs.RecordsViews.{class_in, address_of, claimed}
+use Rattle.fkv_index.specs.declared.places.Place.{Place}
+use Rattle.fkv_index.specs.Words.{is_empty}
+use Rattle.fkv_index.specs.Places.{words_of}
+use Rattle.fkv_index.specs.Entries.{IsAlone}
+use Rattle.fkv_operations.specs.declared.entries.IndexEntry.{IndexEntry}
+use Rattle.fkv_operations.specs.RecordsViews.{class_in, confirmed, released}
 use Rattle.fkv_operations.specs.Decisions.{decision}
 use Rattle.fkv_operations.specs.declared.operations.Answer.{Answer}
 use Rattle.fkv_operations.specs.declared.decisions.Decision.{Decision}
 use Rattle.fkv_operations.specs.declared.decisions.Decision.TheVariants.{Claim, Append, Prepare}
 use Rattle.fkv_partition.specs.declared.contexts.Context.{Context}
-use Rattle.fkv_partition.specs.declared.contexts.Phase.TheVariants.{Fresh, Prepared}
+use Rattle.fkv_partition.specs.declared.contexts.Phase.TheVariants.{Fresh, Confirm, Prepared}
 use Rattle.fkv_partition.specs.declared.contexts.Progress.{Progress}
 use Rattle.fkv_partition.specs.declared.contexts.Progress.TheVariants.{Done, Next, NeedsBuild}
-use Rattle.fkv_partition.specs.Contexts.{question_in}
-use Rattle.fkv_partition.specs.Views.{PartitionView, entry_for, met_at, context_at, with_context, with_appended}
+use Rattle.fkv_partition.specs.Contexts.{question_in, at_phase}
+use Rattle.fkv_partition.specs.Claiming.{IsClaimed}
+use Rattle.fkv_partition.specs.Views.{PartitionView, found_for, met_at, context_at, with_context, with_appended}
 
 -- an operation that looks its key up in a context, and what it then does
 pub record Decides {K V I O : Type 0} (cmp : K → K → Ordering) (f : Meanings K V I O) (code : K → ℕ)
@@ -39,11 +46,27 @@ pub data Goes {K V I O : Type 0} (cmp : K → K → Ordering) (f : Meanings K V 
   -- nothing is open there
   unknown : context_at old slot c ≡ None → new ≡ old → result ≡ Err Unknown → Goes cmp f code old new slot c now result
   -- a prepared update asks the same again
-  asks : (x : Context K V I) (a : ℕ) (ask : Ask K V I)
+  asks : (x : Context K V I) (e : IndexEntry) (ask : Ask K V I)
       → context_at old slot c ≡ Some x
-      → question_in x ≡ Some (a, ask)
+      → question_in x ≡ Some (e, ask)
       → new ≡ record old { moment = now }
       → result ≡ Ok (NeedsBuild ask)
+      → Goes cmp f code old new slot c now result
+  -- a tentative entry becomes final where no other entry of its tag stands in its bucket, and its place is emptied
+  -- else; either way the operation is to look again
+  confirms : (x : Context K V I) (p : Place)
+      → context_at old slot c ≡ Some x
+      → x.phase ≡ Confirm p
+      → IsAlone old.records.words p
+      → new ≡ record (with_context old slot c (Some (at_phase x Fresh)) now) { records = confirmed old.records p }
+      → result ≡ Ok Next
+      → Goes cmp f code old new slot c now result
+  backs_off : (x : Context K V I) (p : Place)
+      → context_at old slot c ≡ Some x
+      → x.phase ≡ Confirm p
+      → ¬ IsAlone old.records.words p
+      → new ≡ record (with_context old slot c (Some (at_phase x Fresh)) now) { records = released old.records p }
+      → result ≡ Ok Next
       → Goes cmp f code old new slot c now result
   -- it is done without a write, and its context is free
   done : (x : Context K V I) (a : Answer O)
@@ -51,23 +74,25 @@ pub data Goes {K V I O : Type 0} (cmp : K → K → Ordering) (f : Meanings K V 
       → new ≡ with_context old slot c None now
       → result ≡ Ok (Done a now)
       → Goes cmp f code old new slot c now result
-  -- an entry is made, or the memory for it is refused
+  -- a tentative entry is made, or no place of its bucket is empty and the memory for more is refused
   claims : (x : Context K V I)
       → Decides cmp f code old slot c x Claim
-      → new ≡ record old { records = claimed old.records (class_in code old.records (key_of x.op)); moment = now }
+      → IsClaimed code old new slot c x now
       → result ≡ Ok Next
       → Goes cmp f code old new slot c now result
   unclaimed : (x : Context K V I)
       → Decides cmp f code old slot c x Claim
+      → list_any is_empty (words_of old.records.words (class_in code old.records (key_of x.op)).bucket) ≡ false
       → new ≡ old
       → result ≡ Err NoMemory
       → Goes cmp f code old new slot c now result
   -- a record is appended, the entry moves to it, and the operation is done; or no address is left; or the record would
   -- be the first of a page, and memory is refused
-  appends : (x : Context K V I) (value : Option V) (a : Answer O)
+  appends : (x : Context K V I) (value : Option V) (a : Answer O) (e : IndexEntry)
       → Decides cmp f code old slot c x (Append value a)
+      → found_for code old (key_of x.op) ≡ Some e
       → old.records.tail ≢ 2 ^ 48
-      → new ≡ with_appended code old slot c (key_of x.op) value (address_of (entry_for code old (key_of x.op))) now
+      → new ≡ with_appended old slot c e (key_of x.op) value now
       → result ≡ Ok (Done a now)
       → Goes cmp f code old new slot c now result
   worn : (x : Context K V I) (value : Option V) (a : Answer O)
@@ -83,13 +108,10 @@ pub data Goes {K V I O : Type 0} (cmp : K → K → Ordering) (f : Meanings K V 
       → new ≡ old
       → result ≡ Err NoMemory
       → Goes cmp f code old new slot c now result
-  -- an update keeps the address to which the entry leads and the value that it met, and asks for the new one
-  prepares : (x : Context K V I) (source : Option V) (i : I)
+  -- an update keeps the entry as it stands and the value that it met, and asks for the new one
+  prepares : (x : Context K V I) (source : Option V) (i : I) (e : IndexEntry)
       → Decides cmp f code old slot c x (Prepare source i)
-      → new ≡ with_context old slot c (Some (record {
-        number = x.number;
-        op = x.op;
-        phase = Prepared (address_of (entry_for code old (key_of x.op))) source;
-      })) now
+      → found_for code old (key_of x.op) ≡ Some e
+      → new ≡ with_context old slot c (Some (at_phase x (Prepared e source))) now
       → result ≡ Ok (NeedsBuild (record { number = x.number; key = key_of x.op; source = source; input = i }))
       → Goes cmp f code old new slot c now result

@@ -7,16 +7,18 @@ use Rattle.fkv_functions.specs.declared.refusals.Refused.{Refused}
 use Rattle.fkv_functions.specs.declared.refusals.Refused.TheVariants.{Unknown, NotReady, Stranger, Worn, NoMemory}
 use Rattle.fkv_functions.specs.declared.refusals.What.TheVariants.{Built}
 use Rattle.fkv_records.specs.Places.{offset_at}
+use Rattle.fkv_index.specs.Places.{word_at}
+use Rattle.fkv_operations.specs.declared.entries.IndexEntry.{IndexEntry}
 use Rattle.fkv_operations.specs.declared.operations.Answer.TheVariants.{Value}
 use Rattle.fkv_partition.specs.declared.contexts.Context.{Context}
 use Rattle.fkv_partition.specs.declared.contexts.Phase.TheVariants.{Fresh}
 use Rattle.fkv_partition.specs.declared.contexts.Progress.{Progress}
 use Rattle.fkv_partition.specs.declared.contexts.Progress.TheVariants.{Done, Next}
-use Rattle.fkv_partition.specs.Contexts.{question_in}
-use Rattle.fkv_partition.specs.Views.{PartitionView, entry_for, context_at, with_context, with_appended}
+use Rattle.fkv_partition.specs.Contexts.{question_in, at_phase}
+use Rattle.fkv_partition.specs.Views.{PartitionView, context_at, with_context, with_appended}
 
--- the operation that is open in a context kept this address, and asks this
-pub record Asks {K V I : Type 0} (v : PartitionView K V I) (slot c kept : ℕ) (ask : Ask K V I) : Type 0 where
+-- the operation that is open in a context kept this entry, and asks this
+pub record Asks {K V I : Type 0} (v : PartitionView K V I) (slot c : ℕ) (kept : IndexEntry) (ask : Ask K V I) : Type 0 where
   pub operation : Context K V I
   pub here : context_at v slot c ≡ Some operation
   pub question : question_in operation ≡ Some (kept, ask)
@@ -37,46 +39,46 @@ pub data Installs {K V I O : Type 0} (cmp : K → K → Ordering) (f : Meanings 
       → result ≡ Err NotReady
       → Installs cmp f code old new slot c ask now result
   -- the answer is to another question
-  stranger : (x : Context K V I) (a : ℕ) (mine : Ask K V I)
+  stranger : (x : Context K V I) (e : IndexEntry) (mine : Ask K V I)
       → context_at old slot c ≡ Some x
-      → question_in x ≡ Some (a, mine)
+      → question_in x ≡ Some (e, mine)
       → ask ≢ mine
       → new ≡ old
       → result ≡ Err (Stranger Built mine.number ask.number)
       → Installs cmp f code old new slot c ask now result
-  -- the entry of the key's class has moved: the update looks again
-  moved : (x : Context K V I) (a : ℕ)
+  -- the place of the entry does not hold the kept word any more: the update looks again
+  moved : (x : Context K V I) (e : IndexEntry)
       → context_at old slot c ≡ Some x
-      → question_in x ≡ Some (a, ask)
-      → entry_for code old ask.key ≢ Some a
-      → new ≡ with_context old slot c (Some (record { number = x.number; op = x.op; phase = Fresh })) now
+      → question_in x ≡ Some (e, ask)
+      → word_at old.records.words e.place ≢ e.word
+      → new ≡ with_context old slot c (Some (at_phase x Fresh)) now
       → result ≡ Ok Next
       → Installs cmp f code old new slot c ask now result
   -- no address is left
-  worn : (x : Context K V I) (a : ℕ)
+  worn : (x : Context K V I) (e : IndexEntry)
       → context_at old slot c ≡ Some x
-      → question_in x ≡ Some (a, ask)
-      → entry_for code old ask.key ≡ Some a
+      → question_in x ≡ Some (e, ask)
+      → word_at old.records.words e.place ≡ e.word
       → old.records.tail ≡ 2 ^ 48
       → new ≡ old
       → result ≡ Err Worn
       → Installs cmp f code old new slot c ask now result
   -- the record would be the first of a page, and memory is refused
-  unheld : (x : Context K V I) (a : ℕ)
+  unheld : (x : Context K V I) (e : IndexEntry)
       → context_at old slot c ≡ Some x
-      → question_in x ≡ Some (a, ask)
-      → entry_for code old ask.key ≡ Some a
+      → question_in x ≡ Some (e, ask)
+      → word_at old.records.words e.place ≡ e.word
       → old.records.tail ≢ 2 ^ 48
       → offset_at old.records.page_bits old.records.tail ≡ 0
       → new ≡ old
       → result ≡ Err NoMemory
       → Installs cmp f code old new slot c ask now result
   -- the new value is appended, the entry moves to it, and the answer shows it
-  done : (x : Context K V I) (a : ℕ)
+  done : (x : Context K V I) (e : IndexEntry)
       → context_at old slot c ≡ Some x
-      → question_in x ≡ Some (a, ask)
-      → entry_for code old ask.key ≡ Some a
+      → question_in x ≡ Some (e, ask)
+      → word_at old.records.words e.place ≡ e.word
       → old.records.tail ≢ 2 ^ 48
-      → new ≡ with_appended code old slot c ask.key (Some (updated f ask.key ask.input ask.source)) a now
+      → new ≡ with_appended old slot c e ask.key (Some (updated f ask.key ask.input ask.source)) now
       → result ≡ Ok (Done (Value (f.shown ask.key ask.input (updated f ask.key ask.input ask.source))) now)
       → Installs cmp f code old new slot c ask now result

@@ -6,6 +6,7 @@ pub mod Writes
 pub mod Effect
 pub mod Going
 pub mod Installing
+pub mod Claiming
 pub mod Sound
 pub mod Beginning
 pub mod Ending

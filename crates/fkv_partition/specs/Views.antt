@@ -3,7 +3,8 @@ use Rattle.std.specs.Prelude.{◌+◌, ◌*◌, ◌%◌, ◌^◌, Bool, false, n
 use Rattle.std.specs.declared.cmp.Ordering.{Ordering}
 use Rattle.fkv_functions.specs.Plain.{PlainMap}
 use Rattle.fkv_hybrid.specs.Text.{live}
-use Rattle.fkv_operations.specs.RecordsViews.{RecordsView, empty_records, class_in, entry_of, with_record}
+use Rattle.fkv_operations.specs.declared.entries.IndexEntry.{IndexEntry}
+use Rattle.fkv_operations.specs.RecordsViews.{RecordsView, empty_records, class_in, entry_of, found_in, with_record}
 use Rattle.fkv_operations.specs.Decisions.{met_by}
 use Rattle.fkv_operations.specs.declared.decisions.Met.{Met}
 use Rattle.fkv_partition.specs.declared.contexts.Context.{Context}
@@ -39,7 +40,10 @@ partition_of count code = code % count
 abbrev pub live_of : {K V I : Type 0} → (K → K → Ordering) → PartitionView K V I → PlainMap K V
 live_of cmp v = live cmp v.records.text
 
--- the address to which the entry of a key's class leads
+-- the final entry of a key's class, and the address to which it leads
+abbrev pub found_for : {K V I : Type 0} → (K → ℕ) → PartitionView K V I → K → Option IndexEntry
+found_for code v k = found_in v.records (class_in code v.records k)
+
 abbrev pub entry_for : {K V I : Type 0} → (K → ℕ) → PartitionView K V I → K → Option ℕ
 entry_for code v k = entry_of v.records (class_in code v.records k)
 
@@ -58,10 +62,10 @@ with_context v slot c x now = record v { contexts = slice_set v.contexts (slot *
 
 -- the view after a record of this key was appended, behind the one to which its class's entry led, and the entry was
 -- moved to it, and the context was freed
-abbrev pub with_appended : {K V I : Type 0} → (K → ℕ) → PartitionView K V I → ℕ → ℕ → K → Option V → ℕ → ℕ
+abbrev pub with_appended : {K V I : Type 0} → PartitionView K V I → ℕ → ℕ → IndexEntry → K → Option V → ℕ
     → PartitionView K V I
-with_appended code v slot c k value previous now = record (with_context v slot c None now) {
-  records = with_record v.records (class_in code v.records k) previous k value;
+with_appended v slot c e k value now = record (with_context v slot c None now) {
+  records = with_record v.records e k value;
 }
 
 -- the lowest free slot, and the lowest free context of a slot

@@ -1,28 +1,34 @@
 //! What events change of a partition. Each change keeps what every partition keeps, and says what it leaves.
-ghost use Rattle.std.specs.Prelude.{◌≡◌, ◌^◌, ◌<◌, ◌↔◌, ◌⊎◌, false, Some, None, Err, IfErr, OnOk, OnErr, slice_set};
+ghost use Rattle.std.specs.Prelude.{◌≡◌, ◌+◌, ◌*◌, ◌^◌, ◌<◌, ◌↔◌, ◌⊎◌, false, IsTrue, Some, None, Err, IfErr, OnOk, OnErr, slice_set};
+ghost use Rattle.std.specs.List.{list_any};
+ghost use Rattle.std.specs.Bool.{OnTrue, OnFalse};
 ghost use Rattle.fkv_records.specs.Places.{offset_at};
+ghost use Rattle.fkv_index.specs.Words.{is_empty};
+ghost use Rattle.fkv_index.specs.Places.{words_of};
+ghost use Rattle.fkv_index.specs.Entries.{IsAlone};
 ghost use Rattle.fkv_operations.specs.After.{key_of};
-ghost use Rattle.fkv_operations.specs.RecordsViews.{entry_of, claimed};
+ghost use Rattle.fkv_operations.specs.Classes.{IsClass};
+ghost use Rattle.fkv_operations.specs.RecordsViews.{class_in, confirmed, released};
+ghost use Rattle.fkv_partition.specs.Contexts.{at_phase, claim_by, claim_at};
+ghost use Rattle.fkv_partition.specs.Claiming.{IsClaimed};
 ghost use Rattle.fkv_partition.specs.Views.{context_at, open_context, partition_of, with_context, with_appended};
 ghost use Rattle.fkv_partition.specs.Sound.{StandsFor};
 ghost use Rattle.fkv_partition.specs.Beginning.{IsEntered};
 ghost use Rattle.fkv_partition.specs.Writes.{IsWrite};
 
-use crate::contexts::{Context, ContextOf, Phase, set_context};
+use crate::contexts::{Context, ContextOf, Phase, in_phase, set_context};
 use crate::partitions::Partition;
 use crate::sessions::leave_slot;
 use fkv_functions::{Functions, Refused};
+use fkv_index::Place;
 use fkv_operations::laws::records_grow;
-use fkv_operations::{Class, OpOf};
-use fkv_records::Address;
+use fkv_operations::{Class, IndexEntry, OpOf};
 
 /// A record that is to be appended.
 #[derive(Clone, Copy)]
 pub(crate) struct Write<K, V> {
-    /// The class of the key.
-    pub class: Class,
-    /// Where the entry of the class leads.
-    pub previous: Address,
+    /// The entry of the key's class, as it stands.
+    pub entry: IndexEntry,
     pub key: K,
     /// None for a tombstone.
     pub value: Option<V>,
@@ -36,21 +42,23 @@ impl<F: Functions> Partition<F> {
         self.moment = now;
     }
 
-    /// Frees a context.
+    /// Frees a context whose operation, if any, waits to confirm no entry.
     pub(crate) fn free(&mut self, slot: usize, context: usize, now: u64)
         requires session { slot < 16 }
         requires context { context < 8 }
+        requires unclaimed { claim_at self.old.contexts (slot * 8 + context) ≡ None }
         ensures { self.new ≡ with_context self.old slot context None now }
     {
         self.moment = now;
         set_context(&mut self.contexts, slot, context, None);
     }
 
-    /// Opens an operation in a context.
+    /// Opens an operation in a free context.
     pub(crate) fn start(&mut self, slot: usize, context: usize, op: OpOf<F>, now: u64)
         requires session { slot < 16 }
         requires entered { IsEntered self.old slot }
         requires context { context < 8 }
+        requires unclaimed { claim_at self.old.contexts (slot * 8 + context) ≡ None }
         requires own { partition_of self.old.count (F.code (key_of op)) ≡ self.old.number }
         ensures { self.new ≡ with_context self.old slot context
             (Some (record { number = now; op = op; phase = Phase.Fresh })) now }
@@ -64,7 +72,7 @@ impl<F: Functions> Partition<F> {
         set_context(&mut self.contexts, slot, context, Some(fresh));
     }
 
-    /// Moves the operation that is open in a context to another phase.
+    /// Moves the operation that is open in a context to another phase. Before and after it waits to confirm no entry.
     pub(crate) fn set_phase(
         &mut self,
         slot: usize,
@@ -76,16 +84,13 @@ impl<F: Functions> Partition<F> {
         requires session { slot < 16 }
         requires context { context < 8 }
         requires here { context_at self.old slot context ≡ Some operation.now }
-        requires stands { StandsFor F.Key.cmp self.old.records operation.now.op phase }
-        ensures { self.new ≡ with_context self.old slot context
-            (Some (record { number = operation.now.number; op = operation.now.op; phase = phase })) now }
+        requires unclaimed { claim_by operation.now.phase ≡ None }
+        requires claims_nothing { claim_by phase ≡ None }
+        requires stands { StandsFor F.Key.cmp F.code self.old.records operation.now.op phase }
+        ensures { self.new ≡ with_context self.old slot context (Some (at_phase operation.now phase)) now }
     {
-        let moved = Context {
-            number: operation.number,
-            op: operation.op,
-            phase,
-        };
         self.moment = now;
+        let moved = in_phase(operation, phase);
         set_context(&mut self.contexts, slot, context, Some(moved));
     }
 
@@ -99,23 +104,93 @@ impl<F: Functions> Partition<F> {
         leave_slot(&mut self.entered, slot);
     }
 
-    /// Makes an entry for a class that has none. Refused, and then nothing changes: `NoMemory`.
-    pub(crate) fn claim(&mut self, class: Class, now: u64) -> Result<(), Refused>
-        requires { entry_of self.old.records class ≡ None }
-        ensures ok { OnOk result
-            (self.new ≡ record self.old { records = claimed self.old.records class; moment = now }) }
+    /// Makes a tentative entry for the class of an operation's key, which the operation then waits to confirm. Refused,
+    /// and then nothing changes: `NoMemory`, which comes only where no place of the bucket is empty.
+    pub(crate) fn claim(
+        &mut self,
+        slot: usize,
+        context: usize,
+        operation: &ContextOf<F>,
+        class: Class,
+        now: u64,
+    ) -> Result<(), Refused>
+        requires session { slot < 16 }
+        requires context { context < 8 }
+        requires here { context_at self.old slot context ≡ Some operation.now }
+        requires unclaimed { claim_by operation.now.phase ≡ None }
+        requires class { class ≡ class_in F.code self.old.records (key_of operation.now.op) }
+        requires range { IsClass self.old.records.bucket_bits class }
+        ensures ok { OnOk result (IsClaimed F.code self.old self.new slot context operation.now now) }
+        ensures full { OnErr result (list_any is_empty (words_of self.old.records.words class.bucket) ≡ false) }
         ensures only { IfErr result (λ refused. refused ≡ Refused.NoMemory) }
         ensures err { OnErr result (self.new ≡ self.old) }
     {
-        self.records.claim(class)?;
+        let place = match self.records.claim(class) {
+            Err(refused) => return Err(refused),
+            Ok(place) => place,
+        };
         self.records.known();
         self.moment = now;
+        let waiting = in_phase(operation, Phase::Confirm { place });
+        set_context(&mut self.contexts, slot, context, Some(waiting));
         Ok(())
     }
 
-    /// Appends a record, moves the entry of its class to it, and frees the context. Refused, and then nothing
-    /// changes: `Worn` where no address is left, `NoMemory`, which comes only where the record would be the first of
-    /// its page.
+    /// Makes a tentative entry final where no other entry of its tag stands in its bucket, and empties its place else;
+    /// the operation that waited for it is to look again. Answers whether the entry is final.
+    pub(crate) fn confirm(
+        &mut self,
+        slot: usize,
+        context: usize,
+        operation: &ContextOf<F>,
+        place: Place,
+        now: u64,
+    ) -> bool
+        requires session { slot < 16 }
+        requires context { context < 8 }
+        requires here { context_at self.old slot context ≡ Some operation.now }
+        requires phase { operation.now.phase ≡ Phase.Confirm place }
+        ensures alone { IsTrue result ↔ IsAlone self.old.records.words place }
+        ensures final_now { OnTrue result (self.new
+            ≡ record (with_context self.old slot context (Some (at_phase operation.now Phase.Fresh)) now)
+            { records = confirmed self.old.records place }) }
+        ensures backed_off { OnFalse result (self.new
+            ≡ record (with_context self.old slot context (Some (at_phase operation.now Phase.Fresh)) now)
+            { records = released self.old.records place }) }
+    {
+        let is_final = self.records.confirm(place);
+        self.records.known();
+        self.moment = now;
+        let fresh = in_phase(operation, Phase::Fresh);
+        set_context(&mut self.contexts, slot, context, Some(fresh));
+        is_final
+    }
+
+    /// Frees the context of an operation that waits to confirm an entry, and empties the place of the entry.
+    pub(crate) fn cancel(
+        &mut self,
+        slot: usize,
+        context: usize,
+        operation: &ContextOf<F>,
+        place: Place,
+        now: u64,
+    )
+        requires session { slot < 16 }
+        requires context { context < 8 }
+        requires here { context_at self.old slot context ≡ Some operation.now }
+        requires phase { operation.now.phase ≡ Phase.Confirm place }
+        ensures { self.new ≡ record (with_context self.old slot context None now)
+            { records = released self.old.records place } }
+    {
+        self.records.cancel(place);
+        self.records.known();
+        self.moment = now;
+        set_context(&mut self.contexts, slot, context, None);
+    }
+
+    /// Appends a record, moves the entry of its class to it, and frees the context, whose operation waits to confirm no
+    /// entry. Refused, and then nothing changes: `Worn` where no address is left, `NoMemory`, which comes only where
+    /// the record would be the first of its page.
     pub(crate) fn append(
         &mut self,
         slot: usize,
@@ -125,9 +200,10 @@ impl<F: Functions> Partition<F> {
     ) -> Result<(), Refused>
         requires session { slot < 16 }
         requires context { context < 8 }
+        requires unclaimed { claim_at self.old.contexts (slot * 8 + context) ≡ None }
         requires write { IsWrite F.code self.old write }
         ensures ok { OnOk result
-            (self.new ≡ with_appended F.code self.old slot context write.key write.value write.previous now) }
+            (self.new ≡ with_appended self.old slot context write.entry write.key write.value now) }
         ensures worn { (result ≡ Err Refused.Worn) ↔ (self.old.records.tail ≡ 2 ^ 48) }
         ensures memory { result ≡ Err Refused.NoMemory
             → offset_at self.old.records.page_bits self.old.records.tail ≡ 0 }
@@ -135,11 +211,13 @@ impl<F: Functions> Partition<F> {
         ensures err { OnErr result (self.new ≡ self.old) }
     {
         records_grow::<F::Key, F::Value>();
-        let _address = self
-            .records
-            .append(write.class, write.previous, write.key, write.value)?;
+        match self.records.append(write.entry, write.key, write.value) {
+            Err(refused) => return Err(refused),
+            Ok(_address) => (),
+        }
         self.records.known();
-        self.free(slot, context, now);
+        self.moment = now;
+        set_context(&mut self.contexts, slot, context, None);
         Ok(())
     }
 }

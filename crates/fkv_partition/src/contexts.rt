@@ -1,25 +1,28 @@
 //! The open operations of a partition: how far each is, and what an event of it answers.
 ghost use Rattle.std.specs.Prelude.{◌≡◌, ◌+◌, ◌*◌, ◌<◌, ◌≤◌, ◌⊎◌, ◌↔◌, length, Option, Some, None, IsTrue, IfSome, IfNone, slice_range, slice_set, position, is_none, is_some};
-ghost use Rattle.fkv_partition.specs.Contexts.{context_in, question_in};
+ghost use Rattle.fkv_partition.specs.Contexts.{context_in, at_phase, question_in, claim_by};
 
 use crate::sessions::is_entered;
 use fkv_functions::{Ask, Functions, Known};
-use fkv_operations::{Answer, Op};
+use fkv_index::Place;
+use fkv_operations::{Answer, IndexEntry, Op};
 
 /// How many operations of a session may be open.
 pub const CONTEXTS: usize = 8;
 
 /// How far an operation is.
-#[derive(Clone, Copy, PartialEq, Eq, Debug)]
+#[derive(Clone, Copy)]
 pub enum Phase<V> {
     /// Nothing is known.
     Fresh,
-    /// An update waits for its new value, built from this source; the index then led to this address.
-    Prepared { kept: u64, source: Option<V> },
+    /// It made a tentative entry at this place of the index, and is to confirm it.
+    Confirm { place: Place },
+    /// An update waits for its new value, built from this source; the entry of its key's class then stood so.
+    Prepared { kept: IndexEntry, source: Option<V> },
 }
 
 /// An open operation.
-#[derive(Clone, Copy, PartialEq, Eq, Debug)]
+#[derive(Clone, Copy)]
 pub struct Context<K, V, I> {
     /// The moment of its issue, which no other operation has.
     pub number: u64,
@@ -52,6 +55,20 @@ pub type ProgressOf<F> = Progress<
     <F as Functions>::Input,
     <F as Functions>::Output,
 >;
+
+/// An operation in another phase.
+pub fn in_phase<K: Copy, V: Copy, I: Copy>(
+    operation: &Context<K, V, I>,
+    phase: Phase<V>,
+) -> Context<K, V, I>
+    ensures { result ≡ at_phase operation.now phase }
+{
+    Context {
+        number: operation.number,
+        op: operation.op,
+        phase,
+    }
+}
 
 /// The operation that is open in a context of an entered session.
 pub fn open_at<K: Copy, V: Copy, I: Copy>(
@@ -118,17 +135,28 @@ pub fn set_context<K: Copy, V: Copy, I: Copy>(
     contexts[slot * CONTEXTS + context] = operation;
 }
 
-/// The question that a prepared update asks.
+/// The place of the tentative entry that an operation made, and waits to confirm.
+pub fn claim_of<V>(phase: &Phase<V>) -> Option<Place>
+    ensures { result ≡ claim_by phase.now }
+{
+    match phase {
+        Phase::Fresh => None,
+        Phase::Confirm { place } => Some(*place),
+        Phase::Prepared { .. } => None,
+    }
+}
+
+/// The question that a prepared update asks, behind the entry that it kept.
 pub fn question_of<K: Copy, V: Copy, I: Copy>(
     context: &Context<K, V, I>,
-) -> Option<(u64, Ask<K, V, I>)>
+) -> Option<(IndexEntry, Ask<K, V, I>)>
     ensures { result ≡ question_in context.now }
 {
     let number = context.number;
     let op = context.op;
     let phase = context.phase;
     match phase {
-        Phase::Fresh => None,
+        Phase::Fresh | Phase::Confirm { .. } => None,
         Phase::Prepared { kept, source } => match op {
             Op::Read(_, _) | Op::Upsert(_, _) | Op::Delete(_) => None,
             Op::Rmw(key, input) => Some((

@@ -3,6 +3,7 @@ ghost use Rattle.std.specs.Prelude.{◌≡◌, ◌<◌, ◌≤◌, IfOk, OnOk, O
 ghost use Rattle.fkv_partition.specs.Ending.{Leaves, GivesUp};
 ghost use Rattle.fkv_partition.specs.Effect.{IsLeave, IsGiveUp};
 
+use crate::contexts::claim_of;
 use crate::partitions::Partition;
 use fkv_functions::{Functions, Refused};
 
@@ -26,7 +27,8 @@ impl<F: Functions> Partition<F> {
         Ok(())
     }
 
-    /// Gives up an operation, which ends without effect, and frees its context. Refused, and then nothing
+    /// Gives up an operation, which ends without effect, and frees its context; an entry that it waited to confirm is
+    /// taken back. Refused, and then nothing
     /// changes: `Unknown` where no operation is open there.
     pub fn give_up(&mut self, slot: usize, context: usize, now: u64) -> Result<(), Refused>
         requires later { self.old.moment < now }
@@ -36,9 +38,13 @@ impl<F: Functions> Partition<F> {
         ensures err { OnErr result (self.new ≡ self.old) }
         ensures moment { self.new.moment ≤ now }
     {
-        let Some(_open) = self.open(slot, context) else {
+        let Some(open) = self.open(slot, context) else {
             return Err(Refused::Unknown);
         };
+        if let Some(place) = claim_of(&open.phase) {
+            self.cancel(slot, context, &open, place, now);
+            return Ok(());
+        }
         self.free(slot, context, now);
         Ok(())
     }

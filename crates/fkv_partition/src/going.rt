@@ -1,29 +1,30 @@
 //! What an operation does when it goes on.
 ghost use Rattle.std.specs.Prelude.{◌≡◌, ◌<◌, ◌≤◌, Some, None, Ok, IfOk, OnErr};
 ghost use Rattle.fkv_operations.specs.After.{key_of};
-ghost use Rattle.fkv_operations.specs.RecordsViews.{address_of};
-ghost use Rattle.fkv_partition.specs.Contexts.{question_in};
-ghost use Rattle.fkv_partition.specs.Views.{context_at, entry_for};
+ghost use Rattle.fkv_operations.specs.RecordsViews.{class_in, IsEntryOf};
+ghost use Rattle.fkv_partition.specs.Contexts.{question_in, claim_by};
+ghost use Rattle.fkv_partition.specs.Views.{context_at, found_for};
 ghost use Rattle.fkv_partition.specs.Writes.{IsWrite};
 ghost use Rattle.fkv_partition.specs.Going.{Decides, IsDecided, Goes};
 ghost use Rattle.fkv_partition.specs.Effect.{IsEvent};
 
 use crate::changes::Write;
-use crate::contexts::{ContextOf, Phase, Progress, ProgressOf, question_of};
+use crate::contexts::{ContextOf, Phase, Progress, ProgressOf, claim_of, question_of};
 use crate::partitions::Partition;
 use fkv_functions::{Ask, Functions, Refused};
+use fkv_index::Place;
 use fkv_operations::laws::{entries_lead, records_grow};
-use fkv_operations::{AnswerOf, Decision};
-use fkv_records::{Address, NO_RECORD};
+use fkv_operations::{AnswerOf, Decision, IndexEntry};
 
 impl<F: Functions> Partition<F> {
     /// Goes on with an operation: it looks its key up, and what it meets decides. A read is finished with
-    /// its answer, and a delete of a key without a value. A write of a key without an entry makes one and
-    /// answers `Next`; else an upsert, and a delete of a value, append a record and are finished, and an
-    /// update keeps the entry's address and the key's value and asks for the new one, the same again
-    /// until it is installed. Refused, in this order, and then nothing changes: `Unknown` where no
-    /// operation is open there; `Worn` where a record is to be appended and no address is left;
-    /// `NoMemory` where an entry or a record is to be made.
+    /// its answer, and a delete of a key without a value. A write of a class without an entry makes a tentative one
+    /// and answers `Next`; the next call confirms it, or takes it back where another entry of its tag stands in the
+    /// bucket, and answers `Next` too. Where there is an entry an upsert, and a delete of a value, append a record and
+    /// are finished, and an update keeps the entry and the key's value and asks for the new one, the same again until
+    /// it is installed. Refused, in this order, and then nothing changes: `Unknown` where no operation is open there;
+    /// `Worn` where a record is to be appended and no address is left; `NoMemory` where an entry is to be made and no
+    /// place of its bucket is empty, or where the record would be the first of its page.
     pub fn go(
         &mut self,
         slot: usize,
@@ -46,7 +47,31 @@ impl<F: Functions> Partition<F> {
             self.pass(now);
             return Ok(Progress::NeedsBuild(question.1));
         }
+        if let Some(place) = claim_of(&open.phase) {
+            return Ok(self.settle(slot, context, &open, place, now));
+        }
         self.look_up(slot, context, &open, functions, now)
+    }
+
+    /// Confirms the entry that an operation made, or takes it back; the operation is to look again.
+    fn settle(
+        &mut self,
+        slot: usize,
+        context: usize,
+        operation: &ContextOf<F>,
+        place: Place,
+        now: u64,
+    ) -> ProgressOf<F>
+        requires session { slot < 16 }
+        requires context { context < 8 }
+        requires here { context_at self.old slot context ≡ Some operation.now }
+        requires phase { claim_by operation.now.phase ≡ Some place }
+        ensures does { Goes F.Key.cmp F.meaning F.code self.old self.new slot context now (Ok result) }
+        ensures event { IsEvent F.Key.cmp F.meaning self.old self.new slot context now result }
+        ensures moment { self.new.moment ≤ now }
+    {
+        let _is_final = self.confirm(slot, context, operation, place, now);
+        Progress::Next
     }
 
     /// Looks the key of an operation up, and does what is decided.
@@ -63,6 +88,7 @@ impl<F: Functions> Partition<F> {
         requires context { context < 8 }
         requires here { context_at self.old slot context ≡ Some operation.now }
         requires asks_nothing { question_in operation.now ≡ None }
+        requires unclaimed { claim_by operation.now.phase ≡ None }
         ensures does { Goes F.Key.cmp F.meaning F.code self.old self.new slot context now result }
         ensures event { IfOk result
             (λ progress. IsEvent F.Key.cmp F.meaning self.old self.new slot context now progress) }
@@ -73,35 +99,31 @@ impl<F: Functions> Partition<F> {
         entries_lead::<F::Key, F::Value>();
         let key = operation.op.key();
         let (class, entry) = self.find(functions, &key);
-        let previous = entry.unwrap_or(NO_RECORD);
-        match self.decided(functions, &operation.op, entry) {
+        match self.decided(functions, &operation.op, &entry) {
             Decision::Done(answer) => {
                 self.free(slot, context, now);
                 Ok(Progress::Done(answer, now))
             }
             Decision::Claim => {
-                let Ok(()) = self.claim(class, now) else {
+                let Ok(()) = self.claim(slot, context, operation, class, now) else {
                     return Err(Refused::NoMemory);
                 };
                 Ok(Progress::Next)
             }
             Decision::Append(value, answer) => {
-                let write = Write {
-                    class,
-                    previous,
-                    key,
-                    value,
-                };
+                let Some(entry) = entry else { unreachable!() };
+                let write = Write { entry, key, value };
                 self.write(slot, context, write, answer, now)
             }
             Decision::Prepare(source, input) => {
+                let Some(kept) = entry else { unreachable!() };
                 let ask = Ask {
                     number: operation.number,
                     key,
                     source,
                     input,
                 };
-                Ok(self.prepare(slot, context, operation, previous, ask, now))
+                Ok(self.prepare(slot, context, operation, kept, ask, now))
             }
         }
     }
@@ -119,6 +141,7 @@ impl<F: Functions> Partition<F> {
         requires session { slot < 16 }
         requires context { context < 8 }
         requires write { IsWrite F.code self.old write }
+        requires entry { found_for F.code self.old write.key ≡ Some write.entry }
         requires decided { IsDecided F.Key.cmp F.meaning F.code self.old slot context
             write.key (Decision.Append write.value answer) }
         ensures does { Goes F.Key.cmp F.meaning F.code self.old self.new slot context now result }
@@ -134,19 +157,21 @@ impl<F: Functions> Partition<F> {
         }
     }
 
-    /// Keeps the address to which the entry leads and the value that was met, and asks for the new one.
+    /// Keeps the entry as it stands and the value that was met, and asks for the new one.
     fn prepare(
         &mut self,
         slot: usize,
         context: usize,
         operation: &ContextOf<F>,
-        kept: Address,
+        kept: IndexEntry,
         ask: Ask<F::Key, F::Value, F::Input>,
         now: u64,
     ) -> ProgressOf<F>
         requires session { slot < 16 }
         requires context { context < 8 }
-        requires kept { kept ≡ address_of (entry_for F.code self.old (key_of operation.now.op)) }
+        requires kept { found_for F.code self.old (key_of operation.now.op) ≡ Some kept }
+        requires stands { IsEntryOf self.old.records
+            (class_in F.code self.old.records (key_of operation.now.op)) kept }
         requires number { ask.number ≡ operation.now.number }
         requires key { ask.key ≡ key_of operation.now.op }
         requires decided { Decides F.Key.cmp F.meaning F.code self.old slot context operation.now

@@ -1,8 +1,8 @@
 //! How a built value becomes the key's.
-ghost use Rattle.std.specs.Prelude.{◌≡◌, ◌<◌, ◌≤◌, ◌↔◌, Some, IfOk, IsTrue, OnErr};
-ghost use Rattle.fkv_operations.specs.RecordsViews.{class_in};
+ghost use Rattle.std.specs.Prelude.{◌≡◌, ◌<◌, ◌≤◌, Some, IfOk, OnErr};
+ghost use Rattle.fkv_index.specs.Places.{word_at};
 ghost use Rattle.fkv_partition.specs.Contexts.{question_in};
-ghost use Rattle.fkv_partition.specs.Views.{context_at, entry_for};
+ghost use Rattle.fkv_partition.specs.Views.{context_at};
 ghost use Rattle.fkv_partition.specs.Installing.{Asks, Installs};
 ghost use Rattle.fkv_partition.specs.Effect.{IsEvent};
 
@@ -11,24 +11,13 @@ use crate::contexts::{ContextOf, Phase, Progress, ProgressOf, question_of};
 use crate::partitions::Partition;
 use fkv_functions::{Built, Functions, Refused, What};
 use fkv_operations::laws::{entries_lead, records_grow};
-use fkv_operations::{Answer, Class};
-use fkv_records::Address;
-
-/// Whether an entry leads to this address.
-fn leads_to(entry: Option<Address>, address: Address) -> bool
-    ensures { IsTrue result ↔ (entry ≡ Some address) }
-{
-    match entry {
-        None => false,
-        Some(found) => found == address,
-    }
-}
+use fkv_operations::{Answer, IndexEntry};
 
 impl<F: Functions> Partition<F> {
-    /// Appends what was built for an update, where the entry of its key's class is as it was when the update asked;
-    /// else the update is to look again, and the answer is `Next`. Refused, in this order, and then
+    /// Appends what was built for an update, where the place of its key's entry still holds the word that it held when
+    /// the update asked; else the update is to look again, and the answer is `Next`. Refused, in this order, and then
     /// nothing changes: `Unknown` where no operation is open there, `NotReady` where it asks for nothing
-    /// to be built, `Stranger` where this answers another question; where the entry is as it was, `Worn`
+    /// to be built, `Stranger` where this answers another question; where it does, `Worn`
     /// where no address is left, `NoMemory`.
     pub fn install(
         &mut self,
@@ -62,12 +51,11 @@ impl<F: Functions> Partition<F> {
                 came: ask.number,
             });
         }
-        let (class, entry) = self.find(functions, &ask.key);
-        if !leads_to(entry, kept) {
+        if !self.records.holds(&kept) {
             self.set_phase(slot, context, &open, Phase::Fresh, now);
             return Ok(Progress::Next);
         }
-        self.append_built(slot, context, class, kept, built, functions, now)
+        self.append_built(slot, context, kept, built, functions, now)
     }
 
     /// Appends what was built for an update, which is then done. Refused, and then nothing changes: `Worn`,
@@ -76,8 +64,7 @@ impl<F: Functions> Partition<F> {
         &mut self,
         slot: usize,
         context: usize,
-        class: Class,
-        kept: Address,
+        kept: IndexEntry,
         built: Built<F>,
         functions: &F,
         now: u64,
@@ -86,8 +73,7 @@ impl<F: Functions> Partition<F> {
         requires session { slot < 16 }
         requires context { context < 8 }
         requires asks { Asks self.old slot context kept built }
-        requires class { class ≡ class_in F.code self.old.records built.key }
-        requires leads { entry_for F.code self.old built.key ≡ Some kept }
+        requires stands { word_at self.old.records.words kept.place ≡ kept.word }
         ensures does { Installs F.Key.cmp F.meaning F.code self.old self.new slot context built now result }
         ensures event { IfOk result
             (λ progress. IsEvent F.Key.cmp F.meaning self.old self.new slot context now progress) }
@@ -100,8 +86,7 @@ impl<F: Functions> Partition<F> {
         let ask = built.ask();
         let value = built.value();
         let write = Write {
-            class,
-            previous: kept,
+            entry: kept,
             key: ask.key,
             value: Some(value),
         };

@@ -1,3 +1,4 @@
+//! One partition of a store: sessions, their open operations, and what each event does.
 //!
 //! A contract sees a partition by its text, its index, its sessions and contexts, and its last moment
 //! (`specs/Views.antt`). The live map is the last record of each key in the text; nothing in that

@@ -1,9 +1,11 @@
 //! What events look at in a partition. None of these changes it.
-ghost use Rattle.std.specs.Prelude.{◌≡◌, ◌<◌, false, IsTrue, IfSome, slice_get, unwrap_or};
+ghost use Rattle.std.specs.Prelude.{◌≡◌, ◌<◌, false, IsTrue, IfSome, option_map, slice_get, unwrap_or};
+ghost use Rattle.fkv_index.specs.Words.{address_of};
 ghost use Rattle.fkv_operations.specs.After.{key_of};
 ghost use Rattle.fkv_operations.specs.Decisions.{decision};
-ghost use Rattle.fkv_operations.specs.RecordsViews.{class_in};
-ghost use Rattle.fkv_partition.specs.Views.{context_at, entry_for, free_context, live_of, met_at, open_context, partition_of};
+ghost use Rattle.fkv_operations.specs.Classes.{IsClass};
+ghost use Rattle.fkv_operations.specs.RecordsViews.{class_in, IsEntryOf};
+ghost use Rattle.fkv_partition.specs.Views.{context_at, entry_for, found_for, free_context, live_of, met_at, open_context, partition_of};
 ghost use Rattle.fkv_partition.specs.Sound.{IsSound};
 
 use crate::contexts::{ContextOf, free_context, open_at, open_context};
@@ -11,8 +13,18 @@ use crate::partitions::Partition;
 use crate::sessions::is_entered;
 use fkv_functions::Functions;
 use fkv_operations::laws::entries_lead;
-use fkv_operations::{Class, DecisionOf, OpOf, decide, met_by};
+use fkv_operations::{Class, DecisionOf, IndexEntry, OpOf, decide, met_by};
 use fkv_records::Address;
+
+/// Where an entry leads.
+fn address_of(entry: &Option<IndexEntry>) -> Option<Address>
+    ensures { result ≡ option_map (λ e. address_of e.word) entry.now }
+{
+    match entry {
+        None => None,
+        Some(entry) => Some(entry.address()),
+    }
+}
 
 impl<F: Functions> Partition<F> {
     /// What holds of every partition.
@@ -63,17 +75,21 @@ impl<F: Functions> Partition<F> {
         functions.hash(key) % self.count
     }
 
-    /// The class of a key, and where its entry leads.
-    pub(crate) fn find(&self, functions: &F, key: &F::Key) -> (Class, Option<Address>)
+    /// The class of a key, and its final entry.
+    pub(crate) fn find(&self, functions: &F, key: &F::Key) -> (Class, Option<IndexEntry>)
         ensures class { result.0 ≡ class_in F.code self.now.records key.now }
-        ensures entry { result.1 ≡ entry_for F.code self.now key.now }
+        ensures range { IsClass self.now.records.bucket_bits result.0 }
+        ensures entry { result.1 ≡ found_for F.code self.now key.now }
+        ensures address { option_map (λ e. address_of e.word) result.1 ≡ entry_for F.code self.now key.now }
+        ensures stands { IfSome result.1
+            (λ e. IsEntryOf self.now.records (class_in F.code self.now.records key.now) e) }
     {
         let class = self.records.class(functions, key);
         let entry = self.records.entry(&class);
         (class, entry)
     }
 
-    /// The value of a key, by the entry of its class.
+    /// The value of a key, by the address to which the entry of its class leads.
     fn value_of(&self, key: &F::Key, entry: Option<Address>) -> Option<F::Value>
         requires { entry ≡ entry_for F.code self.now key.now }
         ensures { result ≡ live_of F.Key.cmp self.now key.now }
@@ -93,13 +109,14 @@ impl<F: Functions> Partition<F> {
         &self,
         functions: &F,
         op: &OpOf<F>,
-        entry: Option<Address>,
+        entry: &Option<IndexEntry>,
     ) -> DecisionOf<F>
-        requires { entry ≡ entry_for F.code self.now (key_of op.now) }
+        requires { option_map (λ e. address_of e.word) entry.now ≡ entry_for F.code self.now (key_of op.now) }
         ensures { result ≡ decision F.meaning op.now (met_at F.Key.cmp F.code self.now (key_of op.now)) }
     {
         let key = op.key();
-        let met = met_by(entry, self.value_of(&key, entry));
+        let leads = address_of(entry);
+        let met = met_by(leads, self.value_of(&key, leads));
         decide(functions, op, &met)
     }
 }

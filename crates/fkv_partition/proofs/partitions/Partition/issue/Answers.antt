@@ -2,7 +2,7 @@ use Rattle.std.proofs.Common.{◌≡◌, refl, sym, ap, ◌∙◌}
 use Rattle.fkv_operations.specs.After.{key_of}
 use Rattle.fkv_partition.specs.Beginning.{unknown, stranger, full, issues}
 use Rattle.fkv_partition.specs.Views.{partition_of}
-use Rattle.fkv_partition.proofs.EventLemmas.{event-issue}
+use Rattle.fkv_partition.proofs.EventLemmas.{event-issue, free-claims}
 use Rattle.fkv_partition.proofs.partitions.Partition.issue.Goals as goal
 
 pub returns-then-not-is_session-clause-does : goal.returns-then-not-is_session-clause-does
@@ -25,6 +25,9 @@ returns-in_default-clause-does g c =
 
 pub start-requires-clause-entered : goal.start-requires-clause-entered
 start-requires-clause-entered g c κs within = sym c.is_session.ensures.value ∙ c.if-not-is_session.false
+
+pub start-requires-clause-unclaimed : goal.start-requires-clause-unclaimed
+start-requires-clause-unclaimed g c κs within = free-claims c.args.self.now c.args.slot c.in-Some.context (sym c.in-Some.ensures.value)
 
 pub start-requires-clause-own : goal.start-requires-clause-own
 start-requires-clause-own g c κs within =

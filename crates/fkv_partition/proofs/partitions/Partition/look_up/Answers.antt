@@ -1,17 +1,18 @@
-use Rattle.std.proofs.Common.{◌≡◌, None, Some, Err, inl, inr, refl, sym, ap, ◌∙◌}
+use Rattle.std.proofs.Common.{◌≡◌, None, Some, Err, refl, sym, ap, ◌∙◌}
 use Rattle.fkv_functions.proofs.KeyOrder.{key_order}
 use Rattle.fkv_operations.specs.After.{key_of}
-use Rattle.fkv_operations.specs.DecisionLaws.{claim-met}
-use Rattle.fkv_operations.specs.RecordsViews.{class_in, address_of}
-use Rattle.fkv_partition.specs.Views.{partition_of}
+use Rattle.fkv_operations.specs.RecordsViews.{class_in}
 use Rattle.fkv_partition.specs.Going.{done, claims, unclaimed}
-use Rattle.fkv_partition.proofs.EventLemmas.{decides-at, event-quiet, event-claims}
+use Rattle.fkv_partition.proofs.EventLemmas.{decides-at, event-quiet, event-claims, claims-none}
 use Rattle.fkv_partition.proofs.partitions.Partition.look_up.Goals as goal
+
+pub free-requires-clause-unclaimed : goal.free-requires-clause-unclaimed
+free-requires-clause-unclaimed g c κs within = claims-none c.args.self.now c.args.slot c.args.context c.args.operation.now c.requires.here c.requires.unclaimed
 
 pub returns-in-Done-clause-does : goal.returns-in-Done-clause-does
 returns-in-Done-clause-does g c =
     let x = c.args.operation.now in
-    let d = decides-at g.F.Key.Ord.cmp g.F.Functions.meaning g.F.Functions.code _ c.args.slot c.args.context c.args.now x c.requires.here c.known.ensures c.requires.asks_nothing _ _ c.decided.ensures c.in-Done.is in
+    let d = decides-at g.F.Key.Ord.cmp g.F.Functions.meaning g.F.Functions.code _ c.args.slot c.args.context c.args.now x c.requires.here c.known.ensures c.requires.asks_nothing c.requires.unclaimed _ _ c.decided.ensures c.in-Done.is in
     rw c.free.ensures (done x c.in-Done.answer d refl refl)
 
 pub returns-in-Done-clause-event : goal.returns-in-Done-clause-event
@@ -25,23 +26,24 @@ returns-in-Done-clause-event g c =
     (event-quiet g.F.Key.Ord.cmp g.F.Functions.meaning g.F.Functions.code v c.args.slot c.args.context c.args.now x c.requires.here order
     (λ e. c.entries_lead.ensures.none g.F.Key.Ord.cmp g.F.Functions.code v.records (key_of x.op) order c.known.ensures.traced e) c.in-Done.answer (sym c.decided.ensures ∙ c.in-Done.is))
 
+pub claim-requires-clause-class : goal.claim-requires-clause-class
+claim-requires-clause-class g c κs within = c.find-entry.ensures.class ∙ ap (class_in g.F.Functions.code c.args.self.now.records) c.key-key.ensures
+
 pub returns-in_default-clause-does : goal.returns-in_default-clause-does
 returns-in_default-clause-does g c =
     let x = c.args.operation.now in
-    let d = decides-at g.F.Key.Ord.cmp g.F.Functions.meaning g.F.Functions.code _ c.args.slot c.args.context c.args.now x c.requires.here c.known.ensures c.requires.asks_nothing _ _ c.decided.ensures c.in-Claim.is in
-    rw c.in_default.ensures.err (unclaimed x d refl refl)
+    let d = decides-at g.F.Key.Ord.cmp g.F.Functions.meaning g.F.Functions.code _ c.args.slot c.args.context c.args.now x c.requires.here c.known.ensures c.requires.asks_nothing c.requires.unclaimed _ _ c.decided.ensures c.in-Claim.is in
+    rw c.in_default.ensures.err (unclaimed x d (rw (c.find-entry.ensures.class, c.key-key.ensures) at c.in_default.ensures.full) refl refl)
 
 pub returns-in-Ok-clause-does : goal.returns-in-Ok-clause-does
 returns-in-Ok-clause-does g c =
-    let v = c.args.self.now in
     let x = c.args.operation.now in
-    let d = decides-at g.F.Key.Ord.cmp g.F.Functions.meaning g.F.Functions.code _ c.args.slot c.args.context c.args.now x c.requires.here c.known.ensures c.requires.asks_nothing _ _ c.decided.ensures c.in-Claim.is in
-    rw (c.in-Ok.ensures.ok, c.find-entry.ensures.class, c.key-key.ensures) (claims x d refl refl)
+    let d = decides-at g.F.Key.Ord.cmp g.F.Functions.meaning g.F.Functions.code _ c.args.slot c.args.context c.args.now x c.requires.here c.known.ensures c.requires.asks_nothing c.requires.unclaimed _ _ c.decided.ensures c.in-Claim.is in
+    claims x d c.in-Ok.ensures.ok refl
 
 pub returns-in-Ok-clause-event : goal.returns-in-Ok-clause-event
 returns-in-Ok-clause-event g c =
-    rw c.in-Ok.ensures.ok
-    (event-claims g.F.Key.Ord.cmp g.F.Functions.meaning g.F.Functions.code c.args.self.now c.args.slot c.args.context c.args.now c.args.operation.now c.requires.here _ refl refl)
+    event-claims g.F.Key.Ord.cmp g.F.Functions.meaning g.F.Functions.code c.args.self.now c.args.slot c.args.context c.args.now c.args.operation.now c.requires.here _ c.in-Ok.ensures.ok
 
 pub write-requires-clause-decided : goal.write-requires-clause-decided
 write-requires-clause-decided g c κs within =
@@ -49,5 +51,5 @@ write-requires-clause-decided g c κs within =
     record {
       operation = x;
       key_is = sym c.key-key.ensures;
-      decides = decides-at g.F.Key.Ord.cmp g.F.Functions.meaning g.F.Functions.code _ c.args.slot c.args.context c.args.now x c.requires.here c.known.ensures c.requires.asks_nothing _ _ c.decided.ensures c.in-Append.is;
+      decides = decides-at g.F.Key.Ord.cmp g.F.Functions.meaning g.F.Functions.code _ c.args.slot c.args.context c.args.now x c.requires.here c.known.ensures c.requires.asks_nothing c.requires.unclaimed _ _ c.decided.ensures c.in-Append.is;
     }

@@ -1,10 +1,16 @@
 use Rattle.std.proofs.Common.{refl, sym, ap, ◌∙◌}
 use Rattle.fkv_functions.proofs.KeyOrder.{key_order}
+use Rattle.fkv_index.specs.Words.{address_of}
 use Rattle.fkv_operations.specs.After.{key_of}
+use Rattle.fkv_operations.specs.RecordsViews.{class_in}
 use Rattle.fkv_operations.specs.declared.operations.Op.TheVariants.{Rmw}
+use Rattle.fkv_partition.specs.Contexts.{claim_by}
 use Rattle.fkv_partition.specs.Going.{prepares}
-use Rattle.fkv_partition.proofs.EventLemmas.{asks-rmw, prepared-at, event-prepares}
+use Rattle.fkv_partition.proofs.EventLemmas.{asks-rmw, prepared-stands, event-prepares}
 use Rattle.fkv_partition.proofs.partitions.Partition.prepare.Goals as goal
+
+pub set_phase-requires-clause-unclaimed : goal.set_phase-requires-clause-unclaimed
+set_phase-requires-clause-unclaimed g c κs within = ap claim_by c.requires.decided.fresh
 
 pub set_phase-requires-clause-stands : goal.set_phase-requires-clause-stands
 set_phase-requires-clause-stands g c κs within =
@@ -14,14 +20,20 @@ set_phase-requires-clause-stands g c κs within =
     let v = c.args.self.now in
     let x = c.args.operation.now in
     let d = c.requires.decided in
-    prepared-at g.F.Key.Ord.cmp g.F.Functions.meaning g.F.Functions.code v c.args.slot c.args.context c.args.now x d.here c.args.kept c.args.ask.source c.args.ask.input c.requires.kept
-    (λ a e. c.entries_lead.ensures.low g.F.Functions.code v.records _ a c.known.ensures.traced e)
-    (λ a e. c.entries_lead.ensures.held g.F.Key.Ord.cmp g.F.Functions.code v.records (key_of x.op) a order c.known.ensures.traced e)
+    let class = class_in g.F.Functions.code v.records (key_of x.op) in
+    let a = address_of c.args.kept.word in
+    let leads = c.entries_lead.ensures.found g.F.Functions.code v.records class c.args.kept c.known.ensures.traced c.requires.stands in
+    prepared-stands g.F.Key.Ord.cmp g.F.Functions.meaning g.F.Functions.code v c.args.slot c.args.context c.args.now x d.here c.args.kept c.args.ask.source c.args.ask.input
+    c.requires.stands
+    leads
+    (c.entries_lead.ensures.low g.F.Functions.code v.records class a c.known.ensures.traced leads)
+    (c.entries_lead.ensures.held g.F.Key.Ord.cmp g.F.Functions.code v.records (key_of x.op) a order c.known.ensures.traced leads)
     d.decided
 
 pub returns-clause-does : goal.returns-clause-does
 returns-clause-does g c =
-    rw (c.set_phase.ensures, c.requires.kept, c.requires.number, c.requires.key) (prepares c.args.operation.now c.args.ask.source c.args.ask.input c.requires.decided refl refl)
+    rw (c.set_phase.ensures, c.requires.number, c.requires.key)
+    (prepares c.args.operation.now c.args.ask.source c.args.ask.input c.args.kept c.requires.decided c.requires.kept refl refl)
 
 pub returns-clause-event : goal.returns-clause-event
 returns-clause-event g c =

@@ -1,10 +1,14 @@
 use Rattle.std.proofs.Common.{◌≡◌, Err, inl, inr, refl, sym, ap, ◌∙◌}
 use Rattle.fkv_operations.specs.After.{key_of}
-use Rattle.fkv_operations.specs.RecordsViews.{class_in, address_of}
-use Rattle.fkv_partition.specs.Views.{entry_for}
+use Rattle.fkv_partition.specs.Contexts.{claim_by}
 use Rattle.fkv_partition.specs.Going.{appends, worn, unheld}
-use Rattle.fkv_partition.proofs.EventLemmas.{event-appends}
+use Rattle.fkv_partition.proofs.EventLemmas.{event-appends, claims-none}
 use Rattle.fkv_partition.proofs.partitions.Partition.write.Goals as goal
+
+pub append-requires-clause-unclaimed : goal.append-requires-clause-unclaimed
+append-requires-clause-unclaimed g c κs within =
+    let d = c.requires.decided in
+    claims-none c.args.self.now c.args.slot c.args.context d.operation d.decides.here (ap claim_by d.decides.fresh)
 
 pub returns-in-Err-clause-does : goal.returns-in-Err-clause-does
 returns-in-Err-clause-does g c =
@@ -19,8 +23,8 @@ pub returns-in-Ok-clause-does : goal.returns-in-Ok-clause-does
 returns-in-Ok-clause-does g c =
     let w = c.args.write in
     let d = c.requires.decided in
-    let leads : w.previous ≡ address_of (entry_for g.F.Functions.code c.args.self.now w.key) = sym (ap address_of c.requires.write.leads) in
-    rw (c.in-Ok.ensures.ok, leads, ← d.key_is) (appends d.operation w.value c.args.answer d.decides (λ h. let no = c.in-Ok.ensures.worn.1 h in cc) refl refl)
+    rw (c.in-Ok.ensures.ok, ← d.key_is)
+    (appends d.operation w.value c.args.answer w.entry d.decides (rw (← d.key_is) at c.requires.entry) (λ h. let no = c.in-Ok.ensures.worn.1 h in cc) refl refl)
 
 pub returns-in-Ok-clause-event : goal.returns-in-Ok-clause-event
 returns-in-Ok-clause-event g c =
@@ -28,5 +32,5 @@ returns-in-Ok-clause-event g c =
     let d = c.requires.decided in
     let v = c.args.self.now in
     rw (c.in-Ok.ensures.ok, ← d.key_is)
-    (event-appends g.F.Key.Ord.cmp g.F.Functions.meaning g.F.Functions.code v c.args.slot c.args.context c.args.now d.operation d.decides.here w.previous w.value c.args.answer
-    (c.records_grow.ensures.lives g.F.Key.Ord.cmp v.records (class_in g.F.Functions.code v.records (key_of d.operation.op)) w.previous (key_of d.operation.op) w.value) d.decides.decided)
+    (event-appends g.F.Key.Ord.cmp g.F.Functions.meaning g.F.Functions.code v c.args.slot c.args.context c.args.now d.operation d.decides.here w.entry w.value c.args.answer
+    (c.records_grow.ensures.lives g.F.Key.Ord.cmp v.records w.entry (key_of d.operation.op) w.value) d.decides.decided)
