@@ -1,7 +1,7 @@
 //! Eight keys in one class and in classes of their own, over several pages, and refused growths.
 use crate::letters::name;
 use fkv_functions::{Functions, Name, Refused, SumFns};
-use fkv_operations::{Class, Records, class_of};
+use fkv_operations::{IndexEntry, Records, class_of};
 use fkv_records::{Address, Shape, record_size};
 use std::alloc::Global;
 
@@ -11,7 +11,7 @@ const HASH_OF_A: u64 = 0xaf63_dc4c_8601_ec8c;
 const HASH_OF_B: u64 = 0xaf63_df4c_8601_f1a5;
 
 /// A hash, the bits of partitions and of buckets, and the class.
-const CLASSES: [(u64, u64, u64, u64, u64); 5] = [
+const CLASSES: [(u64, u64, u64, usize, u16); 5] = [
     (HASH_OF_A, 0, 8, 140, 22449),
     (HASH_OF_A, 0, 0, 0, 22449),
     (HASH_OF_A, 2, 3, 3, 22449),
@@ -23,7 +23,8 @@ const CLASSES: [(u64, u64, u64, u64, u64); 5] = [
 fn classes_of_hashes(rt: HostRuntime) {
     for (hash, partitions, buckets, bucket, tag) in CLASSES {
         assert!(rt; partitions <= 6 && buckets <= 20);
-        assert!(rt; class_of(hash, partitions, buckets) == Class { bucket, tag });
+        let class = class_of(hash, partitions, buckets);
+        assert!(rt; class.bucket == bucket && class.tag == tag);
     }
 }
 
@@ -99,6 +100,12 @@ fn records(alloc: Global, bucket_bits: u64) -> Result<Records<SumFns>, Refused> 
     Records::new(alloc, 0, bucket_bits, shape)
 }
 
+/// The entry of a key's class.
+fn entry_of(records: &Records<SumFns>, key: &Name) -> Option<IndexEntry> {
+    let class = records.class(&SumFns, key);
+    records.entry(&class)
+}
+
 /// Writes a key, after it made an entry for the key's class where there is none.
 fn write(
     records: &mut Records<SumFns>,
@@ -107,13 +114,16 @@ fn write(
 ) -> Result<Address, Refused> {
     let class = records.class(&SumFns, &key);
     if let None = records.entry(&class) {
-        records.claim(class)?;
+        let place = records.claim(class)?;
+        if !records.confirm(place) {
+            return Err(Refused::Busy);
+        }
     }
     let class = records.class(&SumFns, &key);
     let Some(entry) = records.entry(&class) else {
         return Err(Refused::Unknown);
     };
-    records.append(class, entry, key, value)
+    records.append(entry, key, value)
 }
 
 /// Writes a row, again where memory is refused once, and says whether it stands where it is to.
@@ -137,11 +147,10 @@ fn is_last(records: &Records<SumFns>, row: &Row) -> bool {
     let Some(key) = name(row.0) else {
         return false;
     };
-    let class = records.class(&SumFns, &key);
-    let Some(entry) = records.entry(&class) else {
+    let Some(entry) = entry_of(records, &key) else {
         return false;
     };
-    match records.trace(entry, &key) {
+    match records.trace(entry.address(), &key) {
         Some(last) => {
             last.address == row.2
                 && last.previous == row.3
@@ -215,9 +224,8 @@ fn is_untraced(alloc: Global, rows: &[Row], key: u8) -> Option<bool> {
         }
     }
     let key = name(key)?;
-    let class = records.class(&SumFns, &key);
-    let entry = records.entry(&class)?;
-    Some(records.trace(entry, &key).is_none())
+    let entry = entry_of(&records, &key)?;
+    Some(records.trace(entry.address(), &key).is_none())
 }
 
 #[test]
@@ -247,30 +255,43 @@ fn refused_growths_are_called_again(rt: HostRuntime) {
     assert!(rt; first_wrong(rt.alloc(), 8, &A_CLASS_EACH, 8) == None);
 }
 
-/// Claims the class of a key, and answers the address that its entry then has, and whether the key has a
-/// record.
-fn claimed(records: &mut Records<SumFns>, key: Name) -> Option<(Address, bool)> {
-    let class = records.class(&SumFns, &key);
-    if let Some(_) = records.entry(&class) {
-        return None;
+/// The final word of the class of `a` in one of 256 buckets: its tag, and where its first record stands.
+const WORD_OF_A: u64 = 0x57b1_0000_0000_0040;
+
+/// The bits of the entry of a key's class.
+fn bits_of(records: &Records<SumFns>, key: &Name) -> Option<u64> {
+    match entry_of(records, key) {
+        Some(entry) => Some(entry.word.bits),
+        None => None,
     }
-    if records.claim(class).is_err() {
-        return None;
-    }
-    let class = records.class(&SumFns, &key);
-    let entry = records.entry(&class)?;
-    Some((entry, records.trace(entry, &key).is_some()))
 }
 
-/// An entry that was claimed leads to no record.
+/// Claims the class of a key: the entry isn't seen until it is confirmed, leads to no record then, and to the key's
+/// record once there is one.
+fn is_claimed(records: &mut Records<SumFns>, key: Name) -> bool {
+    let class = records.class(&SumFns, &key);
+    let Ok(place) = records.claim(class) else {
+        return false;
+    };
+    if bits_of(records, &key) != None || !records.confirm(place) {
+        return false;
+    }
+    let Some(entry) = entry_of(records, &key) else {
+        return false;
+    };
+    entry.address() == 1
+        && records.trace(entry.address(), &key).is_none()
+        && records.append(entry, key, Some(5)) == Ok(64)
+        && bits_of(records, &key) == Some(WORD_OF_A)
+}
+
 #[test]
-fn claimed_alone(rt: HostRuntime) {
-    let made = records(rt.alloc(), 0);
+fn claimed_and_confirmed(rt: HostRuntime) {
+    let made = records(rt.alloc(), 8);
     assert!(rt; made.is_ok());
     let key = name(b'a');
     assert!(rt; key.is_some());
     if let (Ok(mut records), Some(key)) = (made, key) {
-        assert!(rt; claimed(&mut records, key) == Some((1, false)));
-        assert!(rt; records.live(rt.alloc()).is_ok_and(|live| live.is_empty()));
+        assert!(rt; is_claimed(&mut records, key));
     }
 }

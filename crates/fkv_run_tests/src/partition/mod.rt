@@ -1,4 +1,5 @@
 //! One partition, event by event.
+mod claims;
 mod driven;
 mod limits;
 mod many;

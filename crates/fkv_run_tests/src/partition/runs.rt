@@ -50,11 +50,12 @@ fn thin_path(rt: HostRuntime) {
     assert!(rt; first_wrong(rt.alloc(), &SMALL, 0, &THIN_PATH, &map) == None);
 }
 
-const TWO_UPDATES_FROM_ONE_LOOK_UP: [Row; 13] = [
+const TWO_UPDATES_FROM_ONE_LOOK_UP: [Row; 14] = [
     Row::Enter(Ok(0)),
     Row::Enter(Ok(1)),
     Row::Issue(0, Op::Rmw(b'a', 1), Ok(0)),
     Row::Issue(1, Op::Rmw(b'a', 2), Ok(0)),
+    Row::Go(0, 0, Ok(Progress::Next)),
     Row::Go(0, 0, Ok(Progress::Next)),
     Row::Go(
         0,
@@ -85,7 +86,7 @@ const TWO_UPDATES_FROM_ONE_LOOK_UP: [Row; 13] = [
             source: None,
             input: 1,
         },
-        Ok(Progress::Done(Answer::Value(1), 8)),
+        Ok(Progress::Done(Answer::Value(1), 9)),
     ),
     Row::Install(
         1,
@@ -206,7 +207,7 @@ fn leaving_and_giving_up(rt: HostRuntime) {
     assert!(rt; first_wrong(rt.alloc(), &SMALL, 0, &LEAVING_AND_GIVING_UP, &map) == None);
 }
 
-const REFUSALS: [Row; 16] = [
+const REFUSALS: [Row; 17] = [
     Row::Enter(Ok(0)),
     Row::Issue(
         0,
@@ -248,6 +249,7 @@ const REFUSALS: [Row; 16] = [
         },
         Err(Refused::Unknown),
     ),
+    Row::Go(0, 0, Ok(Progress::Next)),
     Row::Go(0, 0, Ok(Progress::Next)),
     Row::Go(
         0,
@@ -328,7 +330,7 @@ const REFUSALS: [Row; 16] = [
             source: None,
             input: 1,
         },
-        Ok(Progress::Done(Answer::Value(1), 16)),
+        Ok(Progress::Done(Answer::Value(1), 17)),
     ),
 ];
 
@@ -392,19 +394,20 @@ fn blind_writes_and_deletes(rt: HostRuntime) {
     assert!(rt; first_wrong(rt.alloc(), &SMALL, 0, &BLIND_WRITES_AND_DELETES, &map) == None);
 }
 
-/// Which single events an upsert and a delete take: a key without an entry needs one more.
-const SINGLE_EVENTS: [Row; 11] = [
+/// Which single events an upsert and a delete take: a class without an entry needs two more.
+const SINGLE_EVENTS: [Row; 12] = [
     Row::Enter(Ok(0)),
     Row::Issue(0, Op::Delete(b'a'), Ok(0)),
     Row::Go(0, 0, Ok(Progress::Done(Answer::Deleted, 3))),
     Row::Issue(0, Op::Upsert(b'a', 4), Ok(0)),
     Row::Go(0, 0, Ok(Progress::Next)),
-    Row::Go(0, 0, Ok(Progress::Done(Answer::Stored, 6))),
+    Row::Go(0, 0, Ok(Progress::Next)),
+    Row::Go(0, 0, Ok(Progress::Done(Answer::Stored, 7))),
     Row::Go(0, 0, Err(Refused::Unknown)),
     Row::Issue(0, Op::Upsert(b'a', 5), Ok(0)),
-    Row::Go(0, 0, Ok(Progress::Done(Answer::Stored, 9))),
+    Row::Go(0, 0, Ok(Progress::Done(Answer::Stored, 10))),
     Row::Issue(0, Op::Delete(b'a'), Ok(0)),
-    Row::Go(0, 0, Ok(Progress::Done(Answer::Deleted, 11))),
+    Row::Go(0, 0, Ok(Progress::Done(Answer::Deleted, 12))),
 ];
 
 #[test]
@@ -413,9 +416,10 @@ fn single_events(rt: HostRuntime) {
 }
 
 /// A write of another key moves the entry of the class that they share, so the update looks again.
-const ENTRY_MOVES_UNDER_AN_UPDATE: [Row; 9] = [
+const ENTRY_MOVES_UNDER_AN_UPDATE: [Row; 10] = [
     Row::Enter(Ok(0)),
     Row::Issue(0, Op::Rmw(b'a', 5), Ok(0)),
+    Row::Go(0, 0, Ok(Progress::Next)),
     Row::Go(0, 0, Ok(Progress::Next)),
     Row::Go(
         0,
@@ -428,7 +432,7 @@ const ENTRY_MOVES_UNDER_AN_UPDATE: [Row; 9] = [
         })),
     ),
     Row::Issue(0, Op::Upsert(b'b', 7), Ok(1)),
-    Row::Go(0, 1, Ok(Progress::Done(Answer::Stored, 6))),
+    Row::Go(0, 1, Ok(Progress::Done(Answer::Stored, 7))),
     Row::Install(
         0,
         0,
@@ -459,7 +463,7 @@ const ENTRY_MOVES_UNDER_AN_UPDATE: [Row; 9] = [
             source: None,
             input: 5,
         },
-        Ok(Progress::Done(Answer::Value(5), 9)),
+        Ok(Progress::Done(Answer::Value(5), 10)),
     ),
 ];
 

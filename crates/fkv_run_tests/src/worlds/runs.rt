@@ -68,9 +68,10 @@ const OTHER: Place = Place {
     context: 0,
 };
 
-const THIN_PATH: [Row; 10] = [
+const THIN_PATH: [Row; 11] = [
     (Step::Enter(0), Ok(Outcome::Entered(0))),
     (Step::Issue(0, 0, Op::Rmw(b'a', 5)), Ok(Outcome::Issued(0))),
+    (Step::Go(FIRST), Ok(Outcome::Next)),
     (Step::Go(FIRST), Ok(Outcome::Next)),
     (Step::Go(FIRST), Ok(Outcome::Build(None))),
     (Step::Install(FIRST), Ok(Outcome::Done(Answer::Value(5)))),
@@ -82,16 +83,17 @@ const THIN_PATH: [Row; 10] = [
 ];
 
 const THIN_PATH_LIVES: [LifeRow; 3] = [
-    (0, 1, 1, Op::Rmw(b'a', 5), 2, Ok((5, Answer::Value(5)))),
-    (0, 1, 2, Op::Rmw(b'a', -2), 6, Ok((8, Answer::Value(3)))),
-    (0, 1, 3, Op::Read(b'a', 0), 9, Ok((10, Answer::Value(3)))),
+    (0, 1, 1, Op::Rmw(b'a', 5), 2, Ok((6, Answer::Value(5)))),
+    (0, 1, 2, Op::Rmw(b'a', -2), 7, Ok((9, Answer::Value(3)))),
+    (0, 1, 3, Op::Read(b'a', 0), 10, Ok((11, Answer::Value(3)))),
 ];
 
-const TWO_UPDATES: [Row; 11] = [
+const TWO_UPDATES: [Row; 12] = [
     (Step::Enter(0), Ok(Outcome::Entered(0))),
     (Step::Enter(0), Ok(Outcome::Entered(1))),
     (Step::Issue(0, 0, Op::Rmw(b'a', 1)), Ok(Outcome::Issued(0))),
     (Step::Issue(0, 1, Op::Rmw(b'a', 2)), Ok(Outcome::Issued(0))),
+    (Step::Go(FIRST), Ok(Outcome::Next)),
     (Step::Go(FIRST), Ok(Outcome::Next)),
     (Step::Go(FIRST), Ok(Outcome::Build(None))),
     (Step::Go(SECOND), Ok(Outcome::Build(None))),
@@ -102,12 +104,12 @@ const TWO_UPDATES: [Row; 11] = [
 ];
 
 const TWO_UPDATES_LIVES: [LifeRow; 2] = [
-    (0, 1, 1, Op::Rmw(b'a', 1), 3, Ok((8, Answer::Value(1)))),
-    (0, 2, 1, Op::Rmw(b'a', 2), 4, Ok((11, Answer::Value(3)))),
+    (0, 1, 1, Op::Rmw(b'a', 1), 3, Ok((9, Answer::Value(1)))),
+    (0, 2, 1, Op::Rmw(b'a', 2), 4, Ok((12, Answer::Value(3)))),
 ];
 
 /// Blind writes and a delete between an update's look-up and its install.
-const BETWEEN: [Row; 16] = [
+const BETWEEN: [Row; 17] = [
     (Step::Enter(0), Ok(Outcome::Entered(0))),
     (Step::Enter(0), Ok(Outcome::Entered(1))),
     (Step::Issue(0, 0, Op::Delete(b'a')), Ok(Outcome::Issued(0))),
@@ -117,6 +119,7 @@ const BETWEEN: [Row; 16] = [
         Ok(Outcome::Issued(0)),
     ),
     (Step::Issue(0, 1, Op::Rmw(b'a', 5)), Ok(Outcome::Issued(0))),
+    (Step::Go(FIRST), Ok(Outcome::Next)),
     (Step::Go(FIRST), Ok(Outcome::Next)),
     (Step::Go(FIRST), Ok(Outcome::Done(Answer::Stored))),
     (Step::Go(SECOND), Ok(Outcome::Build(Some(4)))),
@@ -134,17 +137,18 @@ const BETWEEN: [Row; 16] = [
 
 const BETWEEN_LIVES: [LifeRow; 5] = [
     (0, 1, 1, Op::Delete(b'a'), 3, Ok((4, Answer::Deleted))),
-    (0, 1, 2, Op::Upsert(b'a', 4), 5, Ok((8, Answer::Stored))),
-    (0, 2, 1, Op::Rmw(b'a', 5), 6, Ok((14, Answer::Value(5)))),
-    (0, 1, 3, Op::Delete(b'a'), 10, Ok((11, Answer::Deleted))),
-    (0, 1, 4, Op::Upsert(b'a', -3), 15, Ok((16, Answer::Stored))),
+    (0, 1, 2, Op::Upsert(b'a', 4), 5, Ok((9, Answer::Stored))),
+    (0, 2, 1, Op::Rmw(b'a', 5), 6, Ok((15, Answer::Value(5)))),
+    (0, 1, 3, Op::Delete(b'a'), 11, Ok((12, Answer::Deleted))),
+    (0, 1, 4, Op::Upsert(b'a', -3), 16, Ok((17, Answer::Stored))),
 ];
 
 /// Refused steps take no moment; a session's number counts the enters before it, and its operations from 1.
-const GIVEN_UP: [Row; 17] = [
+const GIVEN_UP: [Row; 18] = [
     (Step::Leave(0, 0), Err(Refused::Unknown)),
     (Step::Enter(0), Ok(Outcome::Entered(0))),
     (Step::Issue(0, 0, Op::Rmw(b'a', 5)), Ok(Outcome::Issued(0))),
+    (Step::Go(FIRST), Ok(Outcome::Next)),
     (Step::Go(FIRST), Ok(Outcome::Next)),
     (Step::Go(FIRST), Ok(Outcome::Build(None))),
     (Step::Leave(0, 0), Err(Refused::Busy)),
@@ -166,9 +170,9 @@ const GIVEN_UP: [Row; 17] = [
 
 const GIVEN_UP_LIVES: [LifeRow; 4] = [
     (0, 1, 1, Op::Rmw(b'a', 5), 2, Err(End::GivenUp)),
-    (0, 1, 2, Op::Upsert(b'a', 7), 6, Ok((7, Answer::Stored))),
-    (0, 2, 1, Op::Read(b'a', 0), 10, Ok((12, Answer::Value(7)))),
-    (0, 2, 2, Op::Read(b'a', 0), 11, Err(End::Open)),
+    (0, 1, 2, Op::Upsert(b'a', 7), 7, Ok((8, Answer::Stored))),
+    (0, 2, 1, Op::Read(b'a', 0), 11, Ok((13, Answer::Value(7)))),
+    (0, 2, 2, Op::Read(b'a', 0), 12, Err(End::Open)),
 ];
 
 /// Whether the rows tell so step by step.
@@ -291,8 +295,8 @@ const TWO_PARTITIONS: [(Call, Told); 18] = [
 ];
 
 const TWO_PARTITIONS_LIVES: [LifeRow; 2] = [
-    (0, 1, 1, Op::Rmw(b'a', 4), 3, Ok((9, Answer::Value(4)))),
-    (1, 1, 1, Op::Rmw(b'b', 7), 4, Ok((11, Answer::Value(7)))),
+    (0, 1, 1, Op::Rmw(b'a', 4), 3, Ok((11, Answer::Value(4)))),
+    (1, 1, 1, Op::Rmw(b'b', 7), 4, Ok((13, Answer::Value(7)))),
 ];
 
 /// Whether the calls tell so, and leave so many outcomes, these lives and this map.
@@ -323,7 +327,7 @@ fn is_driven(
 fn two_partitions(rt: HostRuntime) {
     let map = [(b'a', 4), (b'b', 7)];
     let lives = &TWO_PARTITIONS_LIVES;
-    assert!(rt; is_driven(rt.alloc(), &TWO, &TWO_PARTITIONS, 22, lives, &map));
+    assert!(rt; is_driven(rt.alloc(), &TWO, &TWO_PARTITIONS, 24, lives, &map));
 }
 
 #[test]
@@ -336,9 +340,10 @@ fn limits(rt: HostRuntime) {
 }
 
 /// Four keys of one class, whose records take two pages.
-const GROWTHS: [Row; 13] = [
+const GROWTHS: [Row; 14] = [
     (Step::Enter(0), Ok(Outcome::Entered(0))),
     (Step::Issue(0, 0, Op::Rmw(b'a', 5)), Ok(Outcome::Issued(0))),
+    (Step::Go(FIRST), Ok(Outcome::Next)),
     (Step::Go(FIRST), Ok(Outcome::Next)),
     (Step::Go(FIRST), Ok(Outcome::Build(None))),
     (Step::Install(FIRST), Ok(Outcome::Done(Answer::Value(5)))),
