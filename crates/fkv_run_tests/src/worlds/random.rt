@@ -11,6 +11,18 @@ use std::collections::BTreeMap;
 
 const KEYS: [u8; 8] = [b'a', b'b', b'c', b'd', b'e', b'f', b'g', b'h'];
 
+const FIRST: Place = Place {
+    partition: 0,
+    slot: 0,
+    context: 0,
+};
+
+const OTHER: Place = Place {
+    partition: 1,
+    slot: 0,
+    context: 0,
+};
+
 /// How many random steps there are, and what they are drawn from: so many slots of each of two partitions,
 /// contexts and keys.
 #[derive(Clone, Copy)]
@@ -55,10 +67,30 @@ fn random_step(word: u64, range: Range) -> Option<StepOf<SumFns>> {
     })
 }
 
-/// Random steps.
+/// The steps that make an entry for the class of `a` in the first partition, and of `b` in the second. Where all keys
+/// are of one class, many sessions that claim its first entry at random back off from each other nearly always.
+fn opening() -> Option<[StepOf<SumFns>; 10]> {
+    Some([
+        Step::Enter(0),
+        Step::Issue(0, 0, Op::Upsert(name(b'a')?, 1)),
+        Step::Go(FIRST),
+        Step::Go(FIRST),
+        Step::Go(FIRST),
+        Step::Enter(1),
+        Step::Issue(1, 0, Op::Upsert(name(b'b')?, 1)),
+        Step::Go(OTHER),
+        Step::Go(OTHER),
+        Step::Go(OTHER),
+    ])
+}
+
+/// The opening, and random steps.
 fn random_steps(alloc: Global, seed: u64, range: Range) -> Option<Vec<StepOf<SumFns>>> {
     let mut rng = Xoshiro256PlusPlus::seed_from_u64(seed);
     let mut steps = Vec::new(alloc);
+    if steps.extend_from_slice(&opening()?).is_err() {
+        return None;
+    }
     for _ in 0..range.steps {
         let step = random_step(rng.next_u64(), range)?;
         if steps.push(step).is_err() {
@@ -151,7 +183,7 @@ fn is_random_run_plain(alloc: Global, seed: u64, bucket_bits: u64, range: Range)
     };
     match replay(alloc, &config, &SumFns, &steps) {
         Ok(report) => {
-            report.outcomes.len() as u64 == range.steps
+            report.outcomes.len() as u64 == range.steps + 10
                 && is_lively(&report)
                 && is_plain(alloc, &report)
         }
