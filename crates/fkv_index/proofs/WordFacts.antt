@@ -1,8 +1,9 @@
 -- Words by their tests.
-use Rattle.std.proofs.Common.{◌≡◌, ◌≤◌, ⊎_elim, ◌^◌, ◌<◌, ◌==◌, ◌&&◌, ℕ, true, false, not, nat_lt, refl, sym, ap, ◌∙◌, arith, cond}
-use Rattle.std.proofs.lemmas.Bool.{and_parts, and_from, and_left, and_right, and_cases, lt-leb, leb-false, lt-ltb, ltb-true, cases_Bool, eqb-true, eq-eqb, leb-true, le-ltb, not-false, false_from_ne_true, false≢true}
+use Rattle.std.proofs.Common.{◌≡◌, ◌≤◌, ⊎_elim, ◌+◌, ◌*◌, ◌^◌, ◌<◌, ◌==◌, ◌&&◌, ℕ, true, false, not, nat_lt, refl, sym, ap, ◌∙◌, arith, cond}
+use Rattle.std.proofs.lemmas.Bool.{and_parts, and_from, and_left, and_right, and_cases, lt-leb, leb-false, lt-ltb, ltb-true, cases_Bool, eqb-true, eq-eqb, leb-true, le-leb, le-ltb, not-false, false_from_ne_true, false≢true}
+use Rattle.std.proofs.lemmas.Bool.Decides.{nat_tests}
 use Rattle.fkv_index.specs.declared.words.Word.{Word}
-use Rattle.fkv_index.specs.Words.{empty, address_of, tag_of, is_empty, is_tentative, is_final, is_final_of, is_entry_of, swept}
+use Rattle.fkv_index.specs.Words.{empty, final_word, tentative_word, address_of, tag_of, is_empty, is_tentative, is_final, is_final_of, is_entry_of, swept}
 
 pub empty_not_final : (t : ℕ) → is_final_of t empty ≡ false
 unfolding is_final_of is_final
@@ -114,3 +115,24 @@ swept_final begin w e low = rw (e, lt-ltb (address_of w) begin low) empty_is_emp
 
 pub swept_kept : (begin : ℕ) (w : Word) → begin ≤ address_of w → swept begin w ≡ w
 swept_kept begin w high = swept_high begin w (le-ltb (address_of w) begin high)
+
+-- the words that are written
+pub tentative-tag : (t : ℕ) → t < 2 ^ 15 → tag_of (tentative_word t) ≡ t
+unfolding tag_of tentative_word
+tentative-tag t small = omega arith
+
+pub tentative-is : (t : ℕ) → is_tentative (tentative_word t) ≡ true
+unfolding is_tentative tentative_word
+tentative-is t = le-leb (2 ^ 63) (2 ^ 63 + (t * 2 ^ 48 + 1)) (omega arith)
+
+pub made-tag : (t : ℕ) → t < 2 ^ 15 → tag_of (final_word t 1) ≡ t
+unfolding tag_of final_word
+made-tag t small = omega arith
+
+pub made-address : (t : ℕ) → address_of (final_word t 1) ≡ 1
+unfolding address_of final_word
+made-address t = omega arith
+
+pub made-is : (t : ℕ) → t < 2 ^ 15 → is_final (final_word t 1) ≡ true
+unfolding is_final final_word
+made-is t small = grind (arith, nat_tests)

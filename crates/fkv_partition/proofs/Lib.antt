@@ -4,3 +4,4 @@ pub mod AskedLemmas
 pub mod EventLemmas
 pub mod ListingLemmas
 pub mod ChangeLemmas
+pub mod AloneLemmas

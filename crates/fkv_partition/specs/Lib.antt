@@ -8,5 +8,6 @@ pub mod Going
 pub mod Installing
 pub mod Claiming
 pub mod Sound
+pub mod Alone
 pub mod Beginning
 pub mod Ending

@@ -13,6 +13,7 @@ pub mod contexts;
 pub mod ending;
 pub mod going;
 pub mod installing;
+pub mod laws;
 pub mod limits;
 pub mod listing;
 mod looking;
