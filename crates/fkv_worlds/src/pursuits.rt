@@ -14,7 +14,7 @@ use fkv_functions::{Functions, Refused};
 pub const LIMIT: u64 = 10_000;
 
 /// How far an operation is pursued.
-#[derive(Clone, Copy, PartialEq, Eq, Debug)]
+#[derive(Clone, Copy)]
 pub enum Pursuit {
     /// Until it is not to go on: it is done, or asks for a value.
     Ready,

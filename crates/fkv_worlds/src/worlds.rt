@@ -44,11 +44,13 @@ impl<F: Functions> World<F> {
         ensures bad { result ≡ Err Refused.BadConfig → ¬ IsWithinLimits config.now (size_of F.Key.SIZE F.Value.SIZE) }
         ensures only { IfErr result (λ refused. (refused ≡ Refused.BadConfig) ⊎ (refused ≡ Refused.NoMemory)) }
     {
-        let state = State::new(alloc, config)?;
-        Ok(World {
-            state,
-            outcomes: Vec::new(alloc),
-        })
+        match State::new(alloc, config) {
+            Ok(state) => Ok(World {
+                state,
+                outcomes: Vec::new(alloc),
+            }),
+            Err(refused) => Err(refused),
+        }
     }
 
     /// Does a step and keeps its outcome, which it answers; `None` where there is no memory to keep it, and

@@ -7,5 +7,5 @@ use Rattle.fkv_worlds.proofs.states.empty_partitions.Goals as goal
 pub loop-number-preserved : goal.loop-number-preserved
 loop-number-preserved g c =
     let empty = empty_partition c.args.config.now (size_of g.F.Key.Fixed.SIZE g.F.Value.Fixed.SIZE) in
-    c.in_ok-add_empty.ensures.ok ∙ ap (λ xs. xs ++ empty c.loop-number.number ∷ []) c.loop-number.invariant
+    c.in-Ok.ensures.ok ∙ ap (λ xs. xs ++ empty c.loop-number.number ∷ []) c.loop-number.invariant
     ∙ sym (map-range_with_len_more empty 0 c.loop-number.number c.loop-number.number (omega arith))
