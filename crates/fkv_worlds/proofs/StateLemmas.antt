@@ -1,5 +1,5 @@
 -- What each step keeps of a world's state, and which rule it is.
-use Rattle.std.proofs.Common.{◌≡◌, ◌≢◌, Bool, true, false, cond, ◌&&◌, ℕ, zero, suc, ◌+◌, ◌*◌, ◌<◌, inl, inr, List, [], ◌∷◌, ◌++◌, length, Some, None, Result, Ok, Err, slice_get, slice_set, slice_index_or, unwrap_or, nat_lt, refl, sym, ◌∙◌, ap, arith}
+use Rattle.std.proofs.Common.{◌≡◌, ◌≢◌, Bool, true, false, cond, ◌&&◌, ℕ, zero, suc, ◌+◌, ◌*◌, ◌<◌, inl, inr, List, [], ◌∷◌, ◌++◌, length, Option, Some, None, Result, Ok, Err, slice_get, slice_set, slice_index_or, unwrap_or, nat_lt, refl, sym, ◌∙◌, ap, arith}
 use Rattle.std.proofs.lemmas.Bool.Decides.{nat_tests}
 use Rattle.std.proofs.lemmas.List.{length-set}
 use Rattle.std.proofs.lemmas.Option.{slice_get_within}
@@ -7,6 +7,7 @@ use Rattle.std.specs.Result.{IsErr, IsErrAnd}
 use Rattle.std.specs.declared.cmp.Ordering.{Ordering}
 use Rattle.fkv_functions.specs.Meanings.{Meanings}
 use Rattle.fkv_functions.specs.Plain.{IsKeyOrder}
+use Rattle.fkv_functions.specs.declared.asks.Ask.{Ask}
 use Rattle.fkv_operations.specs.declared.operations.Op.{Op}
 use Rattle.fkv_partition.specs.declared.contexts.Progress.{Progress}
 use Rattle.fkv_partition.specs.declared.contexts.Progress.TheVariants.{Done, Next, NeedsBuild}
@@ -19,7 +20,7 @@ use Rattle.fkv_worlds.specs.declared.lives.End.TheVariants.{GivenUp}
 use Rattle.fkv_worlds.specs.declared.steps.Place.{Place}
 use Rattle.fkv_worlds.specs.declared.tables.Seat.{Seat}
 use Rattle.fkv_worlds.specs.Changes.{ended_at}
-use Rattle.fkv_worlds.specs.States.{StateView, is_context, context_row, seat_row, seat_at, life_in}
+use Rattle.fkv_worlds.specs.States.{StateView, is_context, context_row, seat_row, seat_at, life_in, question_in}
 use Rattle.fkv_worlds.specs.Acts.{lives_by, questions_by, begun_life, after_issue}
 use Rattle.fkv_worlds.specs.Worlds.{IsWorld}
 use Rattle.fkv_worlds.specs.Sound.{HasTables, IsState}
@@ -80,6 +81,10 @@ life_in-other begun w u x a b n = by_cases (is_context u) refl
     by_cases : (t : Bool) → is_context u ≡ t → life_in (slice_set begun (context_row w) x) u ≡ life_in begun u
     by_cases true t = let h = is_context-bounds u t in ap (λ o. cond (is_context u) (unwrap_or o 0) 0) (get-set_other begun (context_row w) (context_row u) x (row-apart w u a b h.0 h.1 n))
     by_cases false t = rw t refl
+
+-- what a context asked for last
+pub question-is : {K V I : Type 0} (questions : List (Option (Ask K V I))) (w : Place) (x : Option (Ask K V I)) → is_context w ≡ true → slice_get questions (context_row w) ≡ Some x → question_in questions w ≡ x
+question-is questions w x on h = rw (on, h) refl
 
 -- the seat of a slot that there is
 pub seat-is : (seats : List Seat) (p slot : ℕ) → slot < 16 → seat_row p slot < length seats → slice_get seats (seat_row p slot) ≡ Some (seat_at seats p slot)

@@ -52,6 +52,17 @@ fn moment_after(moment: u64) -> Result<u64, Refused>
     Clock::starting(moment).tick()
 }
 
+/// Adds an item. Refused: `NoMemory`.
+fn keep<T: Drop>(items: &mut Vec<T>, item: T) -> Result<(), Refused>
+    ensures ok { OnOk result (items.new.items ≡ items.old.items ++ item ∷ []) }
+    ensures only { IfErr result (λ refused. refused ≡ Refused.NoMemory) }
+{
+    match items.push(item) {
+        Ok(()) => Ok(()),
+        Err(_) => Err(Refused::NoMemory),
+    }
+}
+
 /// Adds the partition of this number, with nothing in it. Refused: `NoMemory`.
 fn add_empty<F: Functions>(
     partitions: &mut Vec<Partition<F>>,
@@ -63,13 +74,10 @@ fn add_empty<F: Functions>(
         ++ empty_partition config.now (size_of F.Key.SIZE F.Value.SIZE) number ∷ []) }
     ensures only { IfErr result (λ refused. refused ≡ Refused.NoMemory) }
 {
-    let Ok(partition) = Partition::new(alloc, config, number) else {
-        return Err(Refused::NoMemory);
-    };
-    let Ok(()) = partitions.push(partition) else {
-        return Err(Refused::NoMemory);
-    };
-    Ok(())
+    match Partition::new(alloc, config, number) {
+        Ok(partition) => keep(partitions, partition),
+        Err(_) => Err(Refused::NoMemory),
+    }
 }
 
 /// Partitions with nothing in them, one of each number. Refused: `NoMemory`.

@@ -1,6 +1,6 @@
 //! The tables of a world: who sits in a slot, what began in a context, and what it asked for last.
 ghost use Rattle.std.specs.Prelude.{◌≡◌, ◌+◌, ◌-◌, ◌*◌, ◌^◌, ◌<◌, ◌≤◌, ◌∷◌, [], ◌++◌, length, replicate, vec_capacity, Some, None, slice_get, slice_set, unwrap_or, IfOk, IfErr, OnOk};
-ghost use Rattle.fkv_worlds.specs.States.{seat_row, seat_at, context_row, life_in, question_in};
+ghost use Rattle.fkv_worlds.specs.States.{is_context, seat_row, seat_at, context_row, life_in, question_in};
 ghost use Rattle.fkv_worlds.specs.Changes.{ended_at};
 ghost use Rattle.fkv_worlds.specs.Acts.{after_issue, begun_life, lives_by, questions_by, told};
 
@@ -194,6 +194,13 @@ pub fn row_of(place: Place) -> usize
     place.partition * CONTEXT_ROWS + place.slot * CONTEXTS + place.context
 }
 
+/// Whether there is such a context in a partition.
+fn is_context(place: Place) -> bool
+    ensures { result ≡ is_context place }
+{
+    place.slot < SLOTS && place.context < CONTEXTS
+}
+
 /// What a context asked for last; nothing where there is no such context.
 pub fn question_at<K: Copy, V: Copy, I: Copy>(
     questions: &[Option<Ask<K, V, I>>],
@@ -203,7 +210,7 @@ pub fn question_at<K: Copy, V: Copy, I: Copy>(
     requires rows { place.partition * 128 + 128 ≤ length questions.now }
     ensures { result ≡ question_in questions.now place }
 {
-    if place.slot >= SLOTS || place.context >= CONTEXTS {
+    if !is_context(place) {
         return None;
     }
     questions[row_of(place)]
