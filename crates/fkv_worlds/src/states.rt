@@ -234,26 +234,27 @@ impl<F: Functions> State<F> {
     fn install(&mut self, functions: &F, place: Place) -> Result<OutcomeOf<F>, Refused>
         ensures does { Acts F.Key.cmp F.meaning F.code self.old self.new (Install place) result }
     {
-        if place.partition >= self.partitions.len() {
-            return Err(Refused::Unknown);
-        }
-        match question_at(&self.tables.questions, place) {
-            Some(ask) => self.install_asked(functions, place, ask),
-            None => Err(self.why_unasked(place)),
+        match self.asked(place) {
+            Ok((ask, now)) => self.install_at(functions, place, ask, now),
+            Err(refused) => Err(refused),
         }
     }
 
-    fn install_asked(
-        &mut self,
-        functions: &F,
-        place: Place,
-        ask: Ask<F::Key, F::Value, F::Input>,
-    ) -> Result<OutcomeOf<F>, Refused>
-        requires { question_in self.old.questions place ≡ Some ask }
-        ensures does { Acts F.Key.cmp F.meaning F.code self.old self.new (Install place) result }
+    /// What an operation asked for last, and the moment at which it is installed; else why nothing is.
+    fn asked(&self, place: Place) -> Result<(Ask<F::Key, F::Value, F::Input>, u64), Refused>
+        ensures ok { IfOk result (λ due. (question_in self.now.questions place ≡ Some due.0)
+            × IsMomentIn self.now place.partition due.1) }
+        ensures err { IfErr result
+            (λ refused. Acts F.Key.cmp F.meaning F.code self.now self.now (Install place) (Err refused)) }
     {
+        if place.partition >= self.partitions.len() {
+            return Err(Refused::Unknown);
+        }
+        let Some(ask) = question_at(&self.tables.questions, place) else {
+            return Err(self.why_unasked(place));
+        };
         match self.moment_in(place.partition) {
-            Ok(now) => self.install_at(functions, place, ask, now),
+            Ok(now) => Ok((ask, now)),
             Err(refused) => Err(refused),
         }
     }
