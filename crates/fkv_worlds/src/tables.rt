@@ -1,6 +1,6 @@
 //! The tables of a world: who sits in a slot, what began in a context, and what it asked for last.
 ghost use Rattle.std.specs.Prelude.{◌≡◌, ◌+◌, ◌-◌, ◌*◌, ◌^◌, ◌<◌, ◌≤◌, ◌∷◌, [], ◌++◌, length, replicate, vec_capacity, Some, None, slice_get, slice_set, unwrap_or, IfOk, IfErr, OnOk};
-ghost use Rattle.fkv_worlds.specs.States.{is_context, seat_row, seat_at, context_row, life_in, question_in};
+ghost use Rattle.fkv_worlds.specs.States.{IsBlank, is_context, seat_row, seat_at, context_row, life_in, question_in};
 ghost use Rattle.fkv_worlds.specs.Changes.{ended_at};
 ghost use Rattle.fkv_worlds.specs.Acts.{after_issue, begun_life, lives_by, questions_by, told};
 
@@ -72,11 +72,8 @@ impl<K: Copy, V: Copy, I: Copy> Tables<K, V, I> {
     /// The tables of so many partitions, before the first step. Refused: `NoMemory`.
     pub fn new(alloc: Global, partitions: usize) -> Result<Self, Refused>
         requires { partitions ≤ 64 }
-        ensures begun { IfOk result (λ tables. tables.begun.items ≡ replicate (partitions * 128) 0) }
-        ensures questions { IfOk result (λ tables. tables.questions.items ≡ replicate (partitions * 128) None) }
-        ensures seats { IfOk result (λ tables. tables.seats.items
-            ≡ replicate (partitions * 16) (record { session = 0; issues = 0 })) }
-        ensures enters { IfOk result (λ tables. tables.enters.items ≡ replicate partitions 0) }
+        ensures ok { IfOk result (λ tables. IsBlank partitions tables.begun.items tables.questions.items
+            tables.seats.items tables.enters.items) }
         ensures only { IfErr result (λ refused. refused ≡ Refused.NoMemory) }
     {
         let mut tables = Tables {
@@ -98,11 +95,8 @@ impl<K: Copy, V: Copy, I: Copy> Tables<K, V, I> {
         requires questions { self.old.questions.items ≡ [] }
         requires seats { self.old.seats.items ≡ [] }
         requires enters { self.old.enters.items ≡ [] }
-        ensures begun { OnOk result (self.new.begun.items ≡ replicate (partitions * 128) 0) }
-        ensures questions { OnOk result (self.new.questions.items ≡ replicate (partitions * 128) None) }
-        ensures seats { OnOk result (self.new.seats.items
-            ≡ replicate (partitions * 16) (record { session = 0; issues = 0 })) }
-        ensures enters { OnOk result (self.new.enters.items ≡ replicate partitions 0) }
+        ensures ok { OnOk result (IsBlank partitions self.new.begun.items self.new.questions.items
+            self.new.seats.items self.new.enters.items) }
         ensures only { IfErr result (λ refused. refused ≡ Refused.NoMemory) }
     {
         let nobody = Seat {

@@ -1,4 +1,4 @@
-use Rattle.std.proofs.Common.{◌≡◌, Err, ap}
+use Rattle.std.proofs.Common.{◌≡◌, Err, refl, ap}
 use Rattle.fkv_functions.specs.declared.refusals.Refused.TheVariants.{BadConfig}
 use Rattle.fkv_worlds.proofs.AccountLemmas.{account-empty}
 use Rattle.fkv_worlds.proofs.worlds.World.new.Goals as goal
@@ -17,3 +17,12 @@ returns-in-Err-clause-bad g c = λ e. c.in-Err.ensures.bad (let same : c.in-Err.
 
 pub returns-in-Err-clause-only : goal.returns-in-Err-clause-only
 returns-in-Err-clause-only g c = c.in-Err.ensures.only
+
+pub returns-in-Ok-clause-ok : goal.returns-in-Ok-clause-ok
+returns-in-Ok-clause-ok g c = rw (c.in-Ok.ensures.ok, c.new-in-Ok.ensures.items) refl
+
+pub returns-in-Ok-clause-bad : goal.returns-in-Ok-clause-bad
+returns-in-Ok-clause-bad g c = λ e. absurd (cc)
+
+pub returns-in-Ok-clause-only : goal.returns-in-Ok-clause-only
+returns-in-Ok-clause-only g c = tt
