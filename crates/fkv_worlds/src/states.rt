@@ -149,7 +149,7 @@ impl<F: Functions> State<F> {
     }
 
     fn enter_at(&mut self, partition: usize, now: u64) -> Result<OutcomeOf<F>, Refused>
-        requires { IsMomentIn self.old partition now }
+        requires due { IsMomentIn self.old partition now }
         ensures does { Acts F.Key.cmp F.meaning F.code self.old self.new (Enter partition) result }
     {
         match self.partitions[partition].enter(now) {
@@ -168,7 +168,7 @@ impl<F: Functions> State<F> {
     }
 
     fn leave_at(&mut self, partition: usize, slot: usize, now: u64) -> Result<OutcomeOf<F>, Refused>
-        requires { IsMomentIn self.old partition now }
+        requires due { IsMomentIn self.old partition now }
         ensures does { Acts F.Key.cmp F.meaning F.code self.old self.new (Leave partition slot) result }
     {
         match self.partitions[partition].leave(slot, now) {
@@ -188,7 +188,7 @@ impl<F: Functions> State<F> {
         op: OpOf<F>,
         now: u64,
     ) -> Result<OutcomeOf<F>, Refused>
-        requires { IsMomentIn self.old partition now }
+        requires due { IsMomentIn self.old partition now }
         ensures does { Acts F.Key.cmp F.meaning F.code self.old self.new (Issue partition slot op) result }
     {
         let Ok(()) = self.lives.try_reserve(1) else {
@@ -210,7 +210,7 @@ impl<F: Functions> State<F> {
     }
 
     fn go_at(&mut self, functions: &F, place: Place, now: u64) -> Result<OutcomeOf<F>, Refused>
-        requires { IsMomentIn self.old place.partition now }
+        requires due { IsMomentIn self.old place.partition now }
         ensures does { Acts F.Key.cmp F.meaning F.code self.old self.new (Go place) result }
     {
         let partition = place.partition;
@@ -301,7 +301,7 @@ impl<F: Functions> State<F> {
     }
 
     fn give_up_at(&mut self, place: Place, now: u64) -> Result<OutcomeOf<F>, Refused>
-        requires { IsMomentIn self.old place.partition now }
+        requires due { IsMomentIn self.old place.partition now }
         ensures does { Acts F.Key.cmp F.meaning F.code self.old self.new (GiveUp place) result }
     {
         match self.partitions[place.partition].give_up(place.slot, place.context, now) {
@@ -330,7 +330,7 @@ impl<F: Functions> State<F> {
     }
 
     fn act_at(&mut self, functions: &F, step: StepOf<F>, now: u64) -> Result<OutcomeOf<F>, Refused>
-        requires { IsMomentIn self.old (partition_in step) now }
+        requires due { IsMomentIn self.old (partition_in step) now }
         ensures does { Acts F.Key.cmp F.meaning F.code self.old self.new step result }
     {
         match step {

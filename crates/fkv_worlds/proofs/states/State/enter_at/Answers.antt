@@ -4,12 +4,12 @@ use Rattle.fkv_worlds.proofs.states.State.enter_at.Goals as goal
 
 pub enter-requires-clause-later : goal.enter-requires-clause-later
 enter-requires-clause-later g c κs within =
-    let due = rw (← c.self.view_is) at c.requires in
+    let due = rw (← c.self.view_is) at c.requires.due in
     event-later g.F.Key.Ord.cmp g.F.Functions.meaning g.F.Functions.code _ c.self.invariant c.args.partition c.args.now due c.index_mut.result.now c.index_mut.ensures.value
 
 pub seat_session-requires-clause-partition : goal.seat_session-requires-clause-partition
 seat_session-requires-clause-partition g c =
-    let due = rw (← c.self.view_is) at c.requires in
+    let due = rw (← c.self.view_is) at c.requires.due in
     (rows g.F.Key.Ord.cmp g.F.Functions.meaning g.F.Functions.code _ c.self.invariant c.args.partition c.args.now due).0
 
 pub seat_session-requires-clause-slot : goal.seat_session-requires-clause-slot
@@ -18,27 +18,27 @@ seat_session-requires-clause-slot g c =
 
 pub seat_session-requires-clause-enters : goal.seat_session-requires-clause-enters
 seat_session-requires-clause-enters g c =
-    let due = rw (← c.self.view_is) at c.requires in
+    let due = rw (← c.self.view_is) at c.requires.due in
     (rows g.F.Key.Ord.cmp g.F.Functions.meaning g.F.Functions.code _ c.self.invariant c.args.partition c.args.now due).1
 
 pub seat_session-requires-clause-seats : goal.seat_session-requires-clause-seats
 seat_session-requires-clause-seats g c =
-    let due = rw (← c.self.view_is) at c.requires in
+    let due = rw (← c.self.view_is) at c.requires.due in
     (rows g.F.Key.Ord.cmp g.F.Functions.meaning g.F.Functions.code _ c.self.invariant c.args.partition c.args.now due).2
 
 pub seat_session-requires-clause-count : goal.seat_session-requires-clause-count
 seat_session-requires-clause-count g c =
-    let due = rw (← c.self.view_is) at c.requires in
+    let due = rw (← c.self.view_is) at c.requires.due in
     enters-fit g.F.Key.Ord.cmp g.F.Functions.meaning g.F.Functions.code _ c.self.invariant c.args.partition c.args.now due
 
 pub invariant_of-self-in-Err : goal.invariant_of-self-in-Err
 invariant_of-self-in-Err g c =
-    let due = rw (← c.self.view_is) at c.requires in
+    let due = rw (← c.self.view_is) at c.requires.due in
     refused-state g.F.Key.Ord.cmp g.F.Functions.meaning g.F.Functions.code _ c.self.invariant c.args.partition c.args.now due c.index_mut.result.now c.index_mut.ensures.value c.enter.new.self c.in-Err.ensures.err
 
 pub returns-in-Err : goal.returns-in-Err
 returns-in-Err g c =
-    let due = rw (← c.self.view_is) at c.requires in
+    let due = rw (← c.self.view_is) at c.requires.due in
     rw (← c.self.view_is) (record { does = refused-enter g.F.Key.Ord.cmp g.F.Functions.meaning g.F.Functions.code _ c.self.invariant c.args.partition c.args.now due c.index_mut.result.now c.index_mut.ensures.value c.enter.new.self c.in-Err.refused c.in-Err.ensures.err c.in-Err.ensures.does })
 
 pub invariant_of-self : goal.invariant_of-self
@@ -46,12 +46,12 @@ invariant_of-self g c =
     let ord = g.met.F.Key.Ord g.world.𝓛 g.world.𝓜 g.world.𝓡 ((λ s x. x), (λ x. x), (λ x. x), λ x. x) in
     let known = g.met.F.Key.Known g.world.𝓛 g.world.𝓜 g.world.𝓡 ((λ s x. x), (λ x. x), (λ x. x), λ x. x) in
     let order = key_order g.F.Key.PartialEq.eq g.F.Key.Ord.cmp ord.matches_eq known.exact ord.total in
-    let due = rw (← c.self.view_is) at c.requires in
+    let due = rw (← c.self.view_is) at c.requires.due in
     rw (c.seat_session.ensures.enters, c.seat_session.ensures.seats)
     (entered-state g.F.Key.Ord.cmp g.F.Functions.meaning g.F.Functions.code _ c.self.invariant c.args.partition c.args.now due c.index_mut.result.now c.index_mut.ensures.value c.enter.new.self order c.in-Ok.slot c.in-Ok.ensures.event)
 
 pub returns-in-Ok : goal.returns-in-Ok
 returns-in-Ok g c =
-    let due = rw (← c.self.view_is) at c.requires in
+    let due = rw (← c.self.view_is) at c.requires.due in
     rw (← c.self.view_is, c.seat_session.ensures.enters, c.seat_session.ensures.seats)
     (record { does = does-enter g.F.Key.Ord.cmp g.F.Functions.meaning g.F.Functions.code _ c.self.invariant c.args.partition c.args.now due c.index_mut.result.now c.index_mut.ensures.value c.enter.new.self c.in-Ok.slot c.in-Ok.ensures.does c.in-Ok.ensures.event c.in-Ok.ensures.within })

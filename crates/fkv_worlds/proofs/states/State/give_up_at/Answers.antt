@@ -6,22 +6,22 @@ use Rattle.fkv_worlds.proofs.states.State.give_up_at.Goals as goal
 
 pub give_up-requires-clause-later : goal.give_up-requires-clause-later
 give_up-requires-clause-later g c κs within =
-    let due = rw (← c.self.view_is) at c.requires in
+    let due = rw (← c.self.view_is) at c.requires.due in
     event-later g.F.Key.Ord.cmp g.F.Functions.meaning g.F.Functions.code _ c.self.invariant c.args.place.partition c.args.now due c.index_mut.result.now c.index_mut.ensures.value
 
 pub invariant_of-self-in-Err : goal.invariant_of-self-in-Err
 invariant_of-self-in-Err g c =
-    let due = rw (← c.self.view_is) at c.requires in
+    let due = rw (← c.self.view_is) at c.requires.due in
     refused-state g.F.Key.Ord.cmp g.F.Functions.meaning g.F.Functions.code _ c.self.invariant c.args.place.partition c.args.now due c.index_mut.result.now c.index_mut.ensures.value c.give_up.new.self c.in-Err.ensures.err
 
 pub returns-in-Err : goal.returns-in-Err
 returns-in-Err g c =
-    let due = rw (← c.self.view_is) at c.requires in
+    let due = rw (← c.self.view_is) at c.requires.due in
     rw (← c.self.view_is) (record { does = refused-give_up g.F.Key.Ord.cmp g.F.Functions.meaning g.F.Functions.code _ c.self.invariant c.args.place c.args.now due c.index_mut.result.now c.index_mut.ensures.value c.give_up.new.self c.in-Err.refused c.in-Err.ensures.err c.in-Err.ensures.does })
 
 pub life_at-life-requires-clause-partition : goal.life_at-life-requires-clause-partition
 life_at-life-requires-clause-partition g c =
-    let due = rw (← c.self.view_is) at c.requires in
+    let due = rw (← c.self.view_is) at c.requires.due in
     (rows g.F.Key.Ord.cmp g.F.Functions.meaning g.F.Functions.code _ c.self.invariant c.args.place.partition c.args.now due).0
 
 pub life_at-life-requires-clause-slot : goal.life_at-life-requires-clause-slot
@@ -34,12 +34,12 @@ life_at-life-requires-clause-context g c =
 
 pub life_at-life-requires-clause-rows : goal.life_at-life-requires-clause-rows
 life_at-life-requires-clause-rows g c =
-    let due = rw (← c.self.view_is) at c.requires in
+    let due = rw (← c.self.view_is) at c.requires.due in
     rw c.deref.ensures.value (rows g.F.Key.Ord.cmp g.F.Functions.meaning g.F.Functions.code _ c.self.invariant c.args.place.partition c.args.now due).3
 
 pub end_life-requires : goal.end_life-requires
 end_life-requires g c =
-    let due = rw (← c.self.view_is) at c.requires in
+    let due = rw (← c.self.view_is) at c.requires.due in
     let life = c.life_at-life.ensures ∙ ap (λ xs. life_in xs c.args.place) c.deref.ensures.value in
     let ev = c.in-Ok.ensures.event in
     rw life (life-there g.F.Key.Ord.cmp g.F.Functions.meaning g.F.Functions.code _ c.self.invariant c.args.place c.args.now due c.index_mut.result.now c.index_mut.ensures.value ev.question ev.was)
@@ -49,13 +49,13 @@ invariant_of-self g c =
     let ord = g.met.F.Key.Ord g.world.𝓛 g.world.𝓜 g.world.𝓡 ((λ s x. x), (λ x. x), (λ x. x), λ x. x) in
     let known = g.met.F.Key.Known g.world.𝓛 g.world.𝓜 g.world.𝓡 ((λ s x. x), (λ x. x), (λ x. x), λ x. x) in
     let order = key_order g.F.Key.PartialEq.eq g.F.Key.Ord.cmp ord.matches_eq known.exact ord.total in
-    let due = rw (← c.self.view_is) at c.requires in
+    let due = rw (← c.self.view_is) at c.requires.due in
     let life = c.life_at-life.ensures ∙ ap (λ xs. life_in xs c.args.place) c.deref.ensures.value in
     rw (c.end_life.ensures, life) (given_up-state g.F.Key.Ord.cmp g.F.Functions.meaning g.F.Functions.code _ c.self.invariant c.args.place c.args.now due c.index_mut.result.now c.index_mut.ensures.value c.give_up.new.self order c.in-Ok.ensures.event)
 
 pub returns-in-Ok : goal.returns-in-Ok
 returns-in-Ok g c =
-    let due = rw (← c.self.view_is) at c.requires in
+    let due = rw (← c.self.view_is) at c.requires.due in
     let life = c.life_at-life.ensures ∙ ap (λ xs. life_in xs c.args.place) c.deref.ensures.value in
     rw (← c.self.view_is, c.end_life.ensures, life)
     (record { does = does-give_up g.F.Key.Ord.cmp g.F.Functions.meaning g.F.Functions.code _ c.self.invariant c.args.place c.args.now due c.index_mut.result.now c.index_mut.ensures.value c.give_up.new.self c.in-Ok.ensures.does c.in-Ok.ensures.event })

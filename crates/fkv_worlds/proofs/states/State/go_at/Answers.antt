@@ -4,22 +4,22 @@ use Rattle.fkv_worlds.proofs.states.State.go_at.Goals as goal
 
 pub go-requires-clause-later : goal.go-requires-clause-later
 go-requires-clause-later g c κs within =
-    let due = rw (← c.self.view_is) at c.requires in
+    let due = rw (← c.self.view_is) at c.requires.due in
     event-later g.F.Key.Ord.cmp g.F.Functions.meaning g.F.Functions.code _ c.self.invariant c.args.place.partition c.args.now due c.index_mut.result.now c.index_mut.ensures.value
 
 pub invariant_of-self-in-Err : goal.invariant_of-self-in-Err
 invariant_of-self-in-Err g c =
-    let due = rw (← c.self.view_is) at c.requires in
+    let due = rw (← c.self.view_is) at c.requires.due in
     refused-state g.F.Key.Ord.cmp g.F.Functions.meaning g.F.Functions.code _ c.self.invariant c.args.place.partition c.args.now due c.index_mut.result.now c.index_mut.ensures.value c.go.new.self c.in-Err.ensures.err
 
 pub returns-in-Err : goal.returns-in-Err
 returns-in-Err g c =
-    let due = rw (← c.self.view_is) at c.requires in
+    let due = rw (← c.self.view_is) at c.requires.due in
     rw (← c.self.view_is) (record { does = refused-go g.F.Key.Ord.cmp g.F.Functions.meaning g.F.Functions.code _ c.self.invariant c.args.place c.args.now due c.index_mut.result.now c.index_mut.ensures.value c.go.new.self c.in-Err.refused c.in-Err.ensures.err c.in-Err.ensures.does })
 
 pub note_progress-requires-clause-partition : goal.note_progress-requires-clause-partition
 note_progress-requires-clause-partition g c =
-    let due = rw (← c.self.view_is) at c.requires in
+    let due = rw (← c.self.view_is) at c.requires.due in
     (rows g.F.Key.Ord.cmp g.F.Functions.meaning g.F.Functions.code _ c.self.invariant c.args.place.partition c.args.now due).0
 
 pub note_progress-requires-clause-slot : goal.note_progress-requires-clause-slot
@@ -32,17 +32,17 @@ note_progress-requires-clause-context g c =
 
 pub note_progress-requires-clause-questions : goal.note_progress-requires-clause-questions
 note_progress-requires-clause-questions g c =
-    let due = rw (← c.self.view_is) at c.requires in
+    let due = rw (← c.self.view_is) at c.requires.due in
     (rows g.F.Key.Ord.cmp g.F.Functions.meaning g.F.Functions.code _ c.self.invariant c.args.place.partition c.args.now due).4
 
 pub note_progress-requires-clause-begun : goal.note_progress-requires-clause-begun
 note_progress-requires-clause-begun g c =
-    let due = rw (← c.self.view_is) at c.requires in
+    let due = rw (← c.self.view_is) at c.requires.due in
     rw c.deref.ensures.value (rows g.F.Key.Ord.cmp g.F.Functions.meaning g.F.Functions.code _ c.self.invariant c.args.place.partition c.args.now due).3
 
 pub note_progress-requires-clause-life : goal.note_progress-requires-clause-life
 note_progress-requires-clause-life g c =
-    let due = rw (← c.self.view_is) at c.requires in
+    let due = rw (← c.self.view_is) at c.requires.due in
     let ev = c.in-Ok.ensures.event in
     rw c.deref.ensures.value (life-there g.F.Key.Ord.cmp g.F.Functions.meaning g.F.Functions.code _ c.self.invariant c.args.place c.args.now due c.index_mut.result.now c.index_mut.ensures.value ev.question ev.was)
 
@@ -51,12 +51,12 @@ invariant_of-self g c =
     let ord = g.met.F.Key.Ord g.world.𝓛 g.world.𝓜 g.world.𝓡 ((λ s x. x), (λ x. x), (λ x. x), λ x. x) in
     let known = g.met.F.Key.Known g.world.𝓛 g.world.𝓜 g.world.𝓡 ((λ s x. x), (λ x. x), (λ x. x), λ x. x) in
     let order = key_order g.F.Key.PartialEq.eq g.F.Key.Ord.cmp ord.matches_eq known.exact ord.total in
-    let due = rw (← c.self.view_is) at c.requires in
+    let due = rw (← c.self.view_is) at c.requires.due in
     rw (c.note_progress.ensures.lives, c.note_progress.ensures.questions, c.deref.ensures.value)
     (progressed-state g.F.Key.Ord.cmp g.F.Functions.meaning g.F.Functions.code _ c.self.invariant c.args.place c.args.now due c.index_mut.result.now c.index_mut.ensures.value c.go.new.self order c.in-Ok.progress c.in-Ok.ensures.event)
 
 pub returns-in-Ok : goal.returns-in-Ok
 returns-in-Ok g c =
-    let due = rw (← c.self.view_is) at c.requires in
+    let due = rw (← c.self.view_is) at c.requires.due in
     rw (← c.self.view_is, c.note_progress.ensures.lives, c.note_progress.ensures.questions, c.note_progress.ensures.told, c.deref.ensures.value)
     (record { does = does-go g.F.Key.Ord.cmp g.F.Functions.meaning g.F.Functions.code _ c.self.invariant c.args.place c.args.now due c.index_mut.result.now c.index_mut.ensures.value c.go.new.self c.in-Ok.progress c.in-Ok.ensures.does c.in-Ok.ensures.event })

@@ -4,17 +4,17 @@ use Rattle.fkv_worlds.proofs.states.State.issue_at.Goals as goal
 
 pub issue-requires-clause-later : goal.issue-requires-clause-later
 issue-requires-clause-later g c κs within =
-    let due = rw (← c.self.view_is) at c.requires in
+    let due = rw (← c.self.view_is) at c.requires.due in
     event-later g.F.Key.Ord.cmp g.F.Functions.meaning g.F.Functions.code _ c.self.invariant c.args.partition c.args.now due c.index_mut.result.now c.index_mut.ensures.value
 
 pub returns-in_default : goal.returns-in_default
 returns-in_default g c =
-    let due = rw (← c.self.view_is) at c.requires in
+    let due = rw (← c.self.view_is) at c.requires.due in
     rw (← c.self.view_is, c.try_reserve.ensures.items) (record { does = lifeless-issue g.F.Key.Ord.cmp g.F.Functions.meaning g.F.Functions.code _ c.self.invariant c.args.partition c.args.now due c.args.slot c.args.op })
 
 pub begin_life-requires-clause-partition : goal.begin_life-requires-clause-partition
 begin_life-requires-clause-partition g c =
-    let due = rw (← c.self.view_is) at c.requires in
+    let due = rw (← c.self.view_is) at c.requires.due in
     (rows g.F.Key.Ord.cmp g.F.Functions.meaning g.F.Functions.code _ c.self.invariant c.args.partition c.args.now due).0
 
 pub begin_life-requires-clause-slot : goal.begin_life-requires-clause-slot
@@ -27,32 +27,32 @@ begin_life-requires-clause-context g c =
 
 pub begin_life-requires-clause-seats : goal.begin_life-requires-clause-seats
 begin_life-requires-clause-seats g c =
-    let due = rw (← c.self.view_is) at c.requires in
+    let due = rw (← c.self.view_is) at c.requires.due in
     (rows g.F.Key.Ord.cmp g.F.Functions.meaning g.F.Functions.code _ c.self.invariant c.args.partition c.args.now due).2
 
 pub begin_life-requires-clause-begun : goal.begin_life-requires-clause-begun
 begin_life-requires-clause-begun g c =
-    let due = rw (← c.self.view_is) at c.requires in
+    let due = rw (← c.self.view_is) at c.requires.due in
     (rows g.F.Key.Ord.cmp g.F.Functions.meaning g.F.Functions.code _ c.self.invariant c.args.partition c.args.now due).3
 
 pub begin_life-requires-clause-questions : goal.begin_life-requires-clause-questions
 begin_life-requires-clause-questions g c =
-    let due = rw (← c.self.view_is) at c.requires in
+    let due = rw (← c.self.view_is) at c.requires.due in
     (rows g.F.Key.Ord.cmp g.F.Functions.meaning g.F.Functions.code _ c.self.invariant c.args.partition c.args.now due).4
 
 pub begin_life-requires-clause-issues : goal.begin_life-requires-clause-issues
 begin_life-requires-clause-issues g c =
-    let due = rw (← c.self.view_is) at c.requires in
+    let due = rw (← c.self.view_is) at c.requires.due in
     issues-fit g.F.Key.Ord.cmp g.F.Functions.meaning g.F.Functions.code _ c.self.invariant c.args.partition c.args.now due c.args.slot c.in-Ok-issue.ensures.within.0
 
 pub invariant_of-self-in-Err : goal.invariant_of-self-in-Err
 invariant_of-self-in-Err g c =
-    let due = rw (← c.self.view_is) at c.requires in
+    let due = rw (← c.self.view_is) at c.requires.due in
     rw c.try_reserve.ensures.items (refused-state g.F.Key.Ord.cmp g.F.Functions.meaning g.F.Functions.code _ c.self.invariant c.args.partition c.args.now due c.index_mut.result.now c.index_mut.ensures.value c.issue.new.self c.in-Err.ensures.err)
 
 pub returns-in-Err : goal.returns-in-Err
 returns-in-Err g c =
-    let due = rw (← c.self.view_is) at c.requires in
+    let due = rw (← c.self.view_is) at c.requires.due in
     rw (← c.self.view_is, c.try_reserve.ensures.items) (record { does = refused-issue g.F.Key.Ord.cmp g.F.Functions.meaning g.F.Functions.code _ c.self.invariant c.args.partition c.args.now due c.index_mut.result.now c.index_mut.ensures.value c.issue.new.self c.args.slot c.args.op c.in-Err.refused c.in-Err.ensures.err c.in-Err.ensures.does })
 
 pub invariant_of-self-in-Ok-issue : goal.invariant_of-self-in-Ok-issue
@@ -60,13 +60,13 @@ invariant_of-self-in-Ok-issue g c =
     let ord = g.met.F.Key.Ord g.world.𝓛 g.world.𝓜 g.world.𝓡 ((λ s x. x), (λ x. x), (λ x. x), λ x. x) in
     let known = g.met.F.Key.Known g.world.𝓛 g.world.𝓜 g.world.𝓡 ((λ s x. x), (λ x. x), (λ x. x), λ x. x) in
     let order = key_order g.F.Key.PartialEq.eq g.F.Key.Ord.cmp ord.matches_eq known.exact ord.total in
-    let due = rw (← c.self.view_is) at c.requires in
+    let due = rw (← c.self.view_is) at c.requires.due in
     let within = c.in-Ok-issue.ensures.within in
     rw (c.begin_life.ensures.lives, c.begin_life.ensures.seats, c.begin_life.ensures.begun, c.begin_life.ensures.questions, c.begin_life.ensures.enters, c.try_reserve.ensures.items)
     (issued-state g.F.Key.Ord.cmp g.F.Functions.meaning g.F.Functions.code _ c.self.invariant c.args.partition c.args.now due c.index_mut.result.now c.index_mut.ensures.value c.issue.new.self order c.args.slot c.in-Ok-issue.context c.args.op c.in-Ok-issue.ensures.event within.0 within.1)
 
 pub returns-in-Ok-issue : goal.returns-in-Ok-issue
 returns-in-Ok-issue g c =
-    let due = rw (← c.self.view_is) at c.requires in
+    let due = rw (← c.self.view_is) at c.requires.due in
     rw (← c.self.view_is, c.begin_life.ensures.lives, c.begin_life.ensures.seats, c.begin_life.ensures.begun, c.begin_life.ensures.questions, c.begin_life.ensures.enters, c.try_reserve.ensures.items)
     (record { does = does-issue g.F.Key.Ord.cmp g.F.Functions.meaning g.F.Functions.code _ c.self.invariant c.args.partition c.args.now due c.index_mut.result.now c.index_mut.ensures.value c.issue.new.self c.args.slot c.in-Ok-issue.context c.args.op c.in-Ok-issue.ensures.does c.in-Ok-issue.ensures.event c.in-Ok-issue.ensures.within.0 })
