@@ -1,6 +1,6 @@
 -- What the call of a partition at the moment of a step comes to in its world: a refusal leaves the state, and an event
 -- is the step's rule and keeps what every state keeps.
-use Rattle.std.proofs.Common.{◌≡◌, ℕ, ◌+◌, ◌*◌, ◌-◌, ◌^◌, ◌<◌, ◌≤◌, List, [], ◌∷◌, ◌++◌, length, None, Some, Ok, Err, slice_get, slice_set, slice_index_or, unwrap_or, refl, ◌∙◌, arith}
+use Rattle.std.proofs.Common.{◌≡◌, ℕ, ◌+◌, ◌*◌, ◌-◌, ◌^◌, ◌<◌, ◌≤◌, [], ◌∷◌, ◌++◌, length, None, Some, Ok, Err, slice_get, slice_set, slice_index_or, unwrap_or, refl, ◌∙◌, arith}
 use Rattle.std.specs.declared.cmp.Ordering.{Ordering}
 use Rattle.fkv_functions.specs.Meanings.{Meanings}
 use Rattle.fkv_functions.specs.Plain.{IsKeyOrder}

@@ -1,4 +1,4 @@
-use Rattle.std.proofs.Common.{◌≡◌, inl, inr, refl}
+use Rattle.std.proofs.Common.{◌≡◌, inr}
 use Rattle.std.proofs.lemmas.Result.{IfErr-weaker}
 use Rattle.fkv_functions.specs.declared.refusals.Refused.TheVariants.{BadConfig, NoMemory}
 use Rattle.fkv_worlds.proofs.states.State.new.Goals as goal
