@@ -1,5 +1,5 @@
 -- Which rule of a step a call is, in the words of the code.
-use Rattle.std.proofs.Common.{◌≡◌, ℕ, List, suc, ◌+◌, ◌-◌, ◌^◌, ◌<◌, ◌∷◌, [], ◌++◌, length, Some, None, Ok, Err, IsSome, slice_get, slice_set, refl, ap, subst, arith}
+use Rattle.std.proofs.Common.{◌≡◌, ℕ, suc, ◌+◌, ◌-◌, ◌^◌, ◌<◌, ◌∷◌, [], ◌++◌, length, Some, None, Ok, Err, IsSome, slice_get, slice_set, refl, ap, subst, arith}
 use Rattle.std.specs.declared.cmp.Ordering.{Ordering}
 use Rattle.fkv_functions.specs.Meanings.{Meanings}
 use Rattle.fkv_functions.specs.declared.asks.Ask.{Ask}
@@ -23,10 +23,6 @@ use Rattle.fkv_worlds.specs.States.{StateView, seat_row, context_row, question_i
 use Rattle.fkv_worlds.specs.Moments.{IsUntimely, nowhere, worn}
 use Rattle.fkv_worlds.specs.Acts as acts
 use Rattle.fkv_worlds.specs.Acts.{Acts, partition_in, begun_life, after_issue, lives_by, questions_by, told, refuses_enter, enters, refuses_leave, leaves, refuses_give_up, gives_up, refuses_issue, issues, refuses_go, goes, refuses_install, installs}
-
--- a state with the partitions that it has
-pub same-state : {K V I O : Type 0} (s : StateView K V I O) (xs : List (PartitionView K V I)) → xs ≡ s.partitions → record s { partitions = xs } ≡ s
-same-state s xs h = ap (λ ys. record s { partitions = ys }) h
 
 module _ {K V I O : Type 0} (cmp : K → K → Ordering) (f : Meanings K V I O) (code : K → ℕ) (s : StateView K V I O) (next : ℕ) (then : next ≡ s.moment + 1) (fits : next < 2 ^ 64) where
   e : next ≡ suc s.moment

@@ -1,7 +1,7 @@
 -- A world before its first step.
-use Rattle.std.proofs.Common.{◌≡◌, Bool, true, false, cond, ◌&&◌, ℕ, zero, suc, ◌+◌, ◌*◌, ◌^◌, ◌<◌, ◌≤◌, List, length, replicate, Option, Some, None, option_map, slice_get, unwrap_or, nat_lt, refl, sym, ◌∙◌, ap, arith}
+use Rattle.std.proofs.Common.{◌≡◌, Bool, true, false, cond, ◌&&◌, ℕ, zero, suc, ◌+◌, ◌*◌, ◌^◌, ◌<◌, ◌≤◌, List, [], ◌∷◌, ◌++◌, length, replicate, Option, Some, None, option_map, slice_get, unwrap_or, nat_lt, refl, sym, ◌∙◌, ap, arith}
 use Rattle.std.specs.List.{range_with_len}
-use Rattle.std.proofs.lemmas.List.FromFn.{length-map-range_with_len}
+use Rattle.std.proofs.lemmas.List.FromFn.{length-map-range_with_len, map-range_with_len_more}
 use Rattle.std.proofs.lemmas.List.{length-replicate}
 use Rattle.std.proofs.lemmas.Nat.{pow_pos}
 use Rattle.std.proofs.Math.Pow.{pow_mono}
@@ -45,7 +45,12 @@ empty-at config size n p v h =
     let same : m.0 ≡ p = omega arith in
     m.2 ∙ ap (empty_partition config size) same
 
-small : (n : ℕ) → n ≤ 6 → (1 ≤ 2 ^ n) × (2 ^ n ≤ 64)
+-- one partition more
+pub partitions-more : {K V I : Type 0} (config : Config) (size n : ℕ) (xs ys : List (PartitionView K V I)) → xs ≡ empty_partitions config size n → ys ≡ xs ++ empty_partition config size n ∷ [] → ys ≡ empty_partitions config size (n + 1)
+partitions-more config size n xs ys before one =
+    one ∙ ap (λ zs. zs ++ empty_partition config size n ∷ []) before ∙ sym (map-range_with_len_more (empty_partition config size) 0 n n (omega arith))
+
+pub small : (n : ℕ) → n ≤ 6 → (1 ≤ 2 ^ n) × (2 ^ n ≤ 64)
 small n h = let most : 2 ^ n ≤ 2 ^ 6 = pow_mono h in let least : 0 < 2 ^ n = pow_pos n in (omega arith, omega arith)
 
 module _ {K V I O : Type 0} (cmp : K → K → Ordering) (f : Meanings K V I O) (code : K → ℕ) (config : Config) (size : ℕ) (within : IsWithinLimits config size) where

@@ -1,5 +1,5 @@
 -- What the tables and the lives of a world have of its history, and what a step adds to it.
-use Rattle.std.proofs.Common.{◌≡◌, ◌≢◌, ℕ, zero, suc, ◌+◌, ◌*◌, ◌^◌, ◌<◌, ◌==◌, ◌&&◌, Bool, true, false, cond, inl, inr, ◌⊎◌, List, [], ◌∷◌, ◌++◌, map, Option, Some, None, Result, Ok, Err, slice_get, slice_set, refl, sym, ◌∙◌, ap, subst, arith}
+use Rattle.std.proofs.Common.{◌≡◌, ℕ, zero, suc, ◌*◌, ◌^◌, ◌<◌, ◌==◌, ◌&&◌, Bool, true, false, cond, inl, inr, List, [], ◌∷◌, ◌++◌, map, Some, None, Result, Ok, Err, slice_get, slice_set, refl, sym, ◌∙◌, ap, subst, arith}
 use Rattle.std.proofs.lemmas.Bool.{cases_eq}
 use Rattle.std.proofs.lemmas.Bool.Decides.{nat_tests}
 use Rattle.std.specs.declared.cmp.Ordering.{Ordering}
@@ -21,8 +21,8 @@ use Rattle.fkv_partition.specs.declared.limits.Config.{Config}
 use Rattle.fkv_worlds.specs.States.{StateView, WorldView, seat_row, empty_state, empty_world}
 use Rattle.fkv_worlds.proofs.EmptyLemmas.{replicate-at}
 use Rattle.fkv_worlds.specs.Acts.{Acts, begun_life, lives_by, told, nowhere, unasked, unknown, worn, lifeless, refuses_enter, enters, refuses_leave, leaves, refuses_give_up, gives_up, refuses_issue, issues, refuses_go, goes, refuses_install, installs}
-use Rattle.fkv_worlds.specs.Histories.{Event, backwards, entered_at, issued_at, moments, enters_in, session_in, issue_by, issues_in, issue_of}
-use Rattle.fkv_worlds.specs.Reports.{IsKept, RunsTo}
+use Rattle.fkv_worlds.specs.Histories.{Event, backwards, entered_at, issued_at, moments, enters_in, session_in, issues_in, issue_of}
+use Rattle.fkv_worlds.specs.Reports.{RunsTo}
 
 -- ---- lists
 append-nothing : {A : Type 0} (xs : List A) → xs ++ [] ≡ xs

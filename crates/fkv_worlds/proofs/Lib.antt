@@ -5,6 +5,7 @@ pub mod ManyLemmas
 pub mod WorldLemmas
 pub mod StateLemmas
 pub mod ActsLemmas
+pub mod EventLemmas
 pub mod EmptyLemmas
 pub mod AccountLemmas
 pub mod ReportLemmas

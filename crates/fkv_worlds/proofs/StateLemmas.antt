@@ -1,17 +1,17 @@
 -- What each step keeps of a world's state, and which rule it is.
-use Rattle.std.proofs.Common.{◌≡◌, ◌≢◌, Bool, true, false, cond, ◌&&◌, ℕ, zero, suc, ◌+◌, ◌*◌, ◌<◌, inl, inr, List, [], ◌∷◌, ◌++◌, length, Some, None, Result, Ok, Err, slice_get, slice_set, slice_index_or, unwrap_or, nat_lt, refl, sym, ◌∙◌, ap, arith}
+use Rattle.std.proofs.Common.{◌≡◌, ◌≢◌, Bool, true, false, cond, ◌&&◌, ℕ, zero, suc, ◌+◌, ◌*◌, ◌<◌, inl, inr, List, [], ◌∷◌, ◌++◌, length, Option, Some, None, slice_get, slice_set, slice_index_or, unwrap_or, nat_lt, refl, sym, ◌∙◌, ap, arith}
 use Rattle.std.proofs.lemmas.Bool.Decides.{nat_tests}
 use Rattle.std.proofs.lemmas.List.{length-set}
 use Rattle.std.proofs.lemmas.Option.{slice_get_within}
-use Rattle.std.specs.Result.{IsErr, IsErrAnd}
 use Rattle.std.specs.declared.cmp.Ordering.{Ordering}
 use Rattle.fkv_functions.specs.Meanings.{Meanings}
 use Rattle.fkv_functions.specs.Plain.{IsKeyOrder}
+use Rattle.fkv_functions.specs.declared.asks.Ask.{Ask}
 use Rattle.fkv_operations.specs.declared.operations.Op.{Op}
 use Rattle.fkv_partition.specs.declared.contexts.Progress.{Progress}
 use Rattle.fkv_partition.specs.declared.contexts.Progress.TheVariants.{Done, Next, NeedsBuild}
 use Rattle.fkv_partition.specs.Views.{PartitionView}
-use Rattle.fkv_partition.specs.Effect.{Asked, asked, IsEnter, IsLeave, IsIssue, IsEvent, IsGiveUp}
+use Rattle.fkv_partition.specs.Effect.{IsEnter, IsLeave, IsIssue, IsEvent, IsGiveUp}
 use Rattle.fkv_functions.proofs.ListLemmas.{get-set_cases, get-set_other, get-set_within}
 use Rattle.fkv_worlds.specs.declared.lives.Life.{Life}
 use Rattle.fkv_worlds.specs.declared.lives.End.{End}
@@ -19,11 +19,10 @@ use Rattle.fkv_worlds.specs.declared.lives.End.TheVariants.{GivenUp}
 use Rattle.fkv_worlds.specs.declared.steps.Place.{Place}
 use Rattle.fkv_worlds.specs.declared.tables.Seat.{Seat}
 use Rattle.fkv_worlds.specs.Changes.{ended_at}
-use Rattle.fkv_worlds.specs.States.{StateView, is_context, context_row, seat_row, seat_at, life_in}
+use Rattle.fkv_worlds.specs.States.{StateView, is_context, context_row, seat_row, seat_at, life_in, question_in}
 use Rattle.fkv_worlds.specs.Acts.{lives_by, questions_by, begun_life, after_issue}
 use Rattle.fkv_worlds.specs.Worlds.{IsWorld}
 use Rattle.fkv_worlds.specs.Sound.{HasTables, IsState}
-use Rattle.fkv_worlds.proofs.ManyLemmas.{asked-was}
 use Rattle.fkv_worlds.proofs.WorldLemmas.{world-enter, world-leave, world-issue, world-done, world-give_up, world-next}
 
 -- ---- lists by their places
@@ -46,11 +45,6 @@ pub ended-set : {K V I O : Type 0} (lives : List (Life K V I O)) (j : ℕ) (x : 
 ended-set [] j x e h = refl
 ended-set (y ∷ ys) zero x e h = let same : x ≡ y = cc in ap (λ (z : Life _ _ _ _). record z { end = e } ∷ ys) same
 ended-set (y ∷ ys) (suc j) x e h = ap (λ qs. y ∷ qs) (ended-set ys j x e h)
-
--- what `?` answers
-pub err-is : {A E : Type 0} (r : Result A E) (e : E) → IsErr r → IsErrAnd r (λ x. x ≡ e) → r ≡ Err e
-err-is (Ok a) e h k = absurd (cc)
-err-is (Err x) e h k = ap Err k
 
 -- ---- rows of contexts
 pub is_context-within : (w : Place) → w.slot < 16 → w.context < 8 → is_context w ≡ true
@@ -81,6 +75,10 @@ life_in-other begun w u x a b n = by_cases (is_context u) refl
     by_cases true t = let h = is_context-bounds u t in ap (λ o. cond (is_context u) (unwrap_or o 0) 0) (get-set_other begun (context_row w) (context_row u) x (row-apart w u a b h.0 h.1 n))
     by_cases false t = rw t refl
 
+-- what a context asked for last
+pub question-is : {K V I : Type 0} (questions : List (Option (Ask K V I))) (w : Place) (x : Option (Ask K V I)) → is_context w ≡ true → slice_get questions (context_row w) ≡ Some x → question_in questions w ≡ x
+question-is questions w x on h = rw (on, h) refl
+
 -- the seat of a slot that there is
 pub seat-is : (seats : List Seat) (p slot : ℕ) → slot < 16 → seat_row p slot < length seats → slice_get seats (seat_row p slot) ≡ Some (seat_at seats p slot)
 seat-is seats p slot low h =
@@ -92,9 +90,6 @@ seat-is seats p slot low h =
 module _ {K V I O : Type 0} (cmp : K → K → Ordering) (o : IsKeyOrder cmp) (f : Meanings K V I O) (code : K → ℕ) (s : StateView K V I O) (state : IsState cmp f code s) (next : ℕ) (then : next ≡ s.moment + 1) where
   e : next ≡ suc s.moment
   e = omega arith
-
-  pub later : (p : ℕ) (v : PartitionView K V I) → slice_get s.partitions p ≡ Some v → v.moment < next
-  later p v h = let m = state.world.housed.past p v h in omega arith
 
   pub state-enter : (p slot n : ℕ) (old new : PartitionView K V I) → slice_get s.partitions p ≡ Some old → IsEnter old new slot next → slice_get s.enters p ≡ Some n
       → IsState cmp f code (record s { partitions = slice_set s.partitions p new; enters = slice_set s.enters p (n + 1); seats = slice_set s.seats (seat_row p slot) (record { session = n + 1; issues = 0 }); moment = next })
@@ -193,10 +188,6 @@ module _ {K V I O : Type 0} (cmp : K → K → Ordering) (o : IsKeyOrder cmp) (f
       kept (NeedsBuild ask) = length-set s.questions row (Some ask)
 
   module _ (w : Place) (old new : PartitionView K V I) (here : slice_get s.partitions w.partition ≡ Some old) where
-    -- the life of an open operation stands in the list
-    pub life-within : (x : Asked K V I) → asked old w.slot w.context ≡ Some x → life_in s.begun w < length s.lives
-    life-within x h = let l = state.world.linked.linked w x (asked-was s.partitions w.partition old new here w.slot w.context ∙ h) in slice_get_within s.lives (life_in s.begun w) l.life l.here
-
     pub world-progress : (progress : Progress K V I O) → IsEvent cmp f old new w.slot w.context next progress
         → IsWorld cmp f code (slice_set s.partitions w.partition new) (life_in s.begun) (lives_by s.lives (life_in s.begun w) next progress) next
     world-progress (Done a effect) ev =

@@ -1,5 +1,5 @@
 -- What a contract sees of a world.
-use Rattle.std.specs.Prelude.{Bool, ◌+◌, ◌*◌, ◌^◌, ◌&&◌, cond, ℕ, List, [], Option, None, Result, map, replicate, slice_get, unwrap_or, nat_lt}
+use Rattle.std.specs.Prelude.{Bool, ◌≡◌, ◌+◌, ◌*◌, ◌^◌, ◌&&◌, cond, ℕ, List, [], Option, None, Result, map, replicate, slice_get, unwrap_or, nat_lt}
 use Rattle.std.specs.List.{range_with_len}
 use Rattle.fkv_functions.specs.declared.asks.Ask.{Ask}
 use Rattle.fkv_functions.specs.declared.refusals.Refused.{Refused}
@@ -63,6 +63,14 @@ life_in begun w = cond (is_context w) (unwrap_or (slice_get begun (context_row w
 -- what a context asked for last
 abbrev pub question_in : {K V I : Type 0} → List (Option (Ask K V I)) → Place → Option (Ask K V I)
 question_in questions w = cond (is_context w) (unwrap_or (slice_get questions (context_row w)) None) None
+
+-- the tables of so many partitions before the first step
+pub record IsBlank {K V I : Type 0} (partitions : ℕ) (places : List ℕ) (asks : List (Option (Ask K V I)))
+    (slots : List Seat) (counts : List ℕ) : Type 0 where
+  pub begun : places ≡ replicate (partitions * 128) 0
+  pub questions : asks ≡ replicate (partitions * 128) None
+  pub seats : slots ≡ replicate (partitions * 16) (record { session = 0; issues = 0 })
+  pub enters : counts ≡ replicate partitions 0
 
 -- partitions with nothing in them, for records of this size
 abbrev pub empty_partitions : {K V I : Type 0} → Config → ℕ → ℕ → List (PartitionView K V I)

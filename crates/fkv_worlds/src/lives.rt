@@ -1,9 +1,12 @@
 //! What became of the operations that were issued.
+ghost use Rattle.std.specs.Prelude.{◌≡◌, ⊤};
+
 use fkv_functions::Functions;
 use fkv_operations::{Answer, Op};
+use std::alloc::AllocError;
 
 /// How an operation was finished.
-#[derive(Clone, Copy, PartialEq, Eq, Debug)]
+#[derive(Copy, PartialEq, Eq)]
 pub struct Finish<O> {
     /// The one step at which the operation takes effect.
     pub effect: u64,
@@ -13,8 +16,18 @@ pub struct Finish<O> {
     pub answer: Answer<O>,
 }
 
+impl<O: Copy> Clone for Finish<O> {
+    ghost is_clone = { λ x y. y ≡ x };
+
+    ghost is_infallible = { λ _. ⊤ };
+
+    fn clone(&self) -> Result<Self, AllocError> {
+        Ok(*self)
+    }
+}
+
 /// How an operation ended, or that it is open.
-#[derive(Clone, Copy, PartialEq, Eq, Debug)]
+#[derive(Copy, PartialEq, Eq)]
 pub enum End<O> {
     /// The operation is open.
     Open,
@@ -26,8 +39,18 @@ pub enum End<O> {
     GivenUp,
 }
 
+impl<O: Copy> Clone for End<O> {
+    ghost is_clone = { λ x y. y ≡ x };
+
+    ghost is_infallible = { λ _. ⊤ };
+
+    fn clone(&self) -> Result<Self, AllocError> {
+        Ok(*self)
+    }
+}
+
 /// What became of one accepted issue.
-#[derive(Clone, Copy, PartialEq, Eq, Debug)]
+#[derive(Copy, PartialEq, Eq)]
 pub struct Life<K, V, I, O> {
     /// The number of the partition.
     pub partition: u64,
@@ -39,6 +62,16 @@ pub struct Life<K, V, I, O> {
     /// The step of the issue.
     pub issue: u64,
     pub end: End<O>,
+}
+
+impl<K: Copy, V: Copy, I: Copy, O: Copy> Clone for Life<K, V, I, O> {
+    ghost is_clone = { λ x y. y ≡ x };
+
+    ghost is_infallible = { λ _. ⊤ };
+
+    fn clone(&self) -> Result<Self, AllocError> {
+        Ok(*self)
+    }
 }
 
 /// The lives of one type of functions.

@@ -1,9 +1,12 @@
 //! What a step that was not refused answers.
+ghost use Rattle.std.specs.Prelude.{◌≡◌, ⊤};
+
 use fkv_functions::Functions;
 use fkv_operations::Answer;
+use std::alloc::AllocError;
 
 /// What a step that was not refused answers.
-#[derive(Clone, Copy, PartialEq, Eq, Debug)]
+#[derive(Copy, PartialEq, Eq)]
 pub enum Outcome<V, O> {
     /// The session has this slot.
     Entered(usize),
@@ -19,6 +22,16 @@ pub enum Outcome<V, O> {
     Done(Answer<O>),
     /// The operation is given up.
     GivenUp,
+}
+
+impl<V: Copy, O: Copy> Clone for Outcome<V, O> {
+    ghost is_clone = { λ x y. y ≡ x };
+
+    ghost is_infallible = { λ _. ⊤ };
+
+    fn clone(&self) -> Result<Self, AllocError> {
+        Ok(*self)
+    }
 }
 
 /// The outcomes of one type of functions.

@@ -1,6 +1,7 @@
 //! The text of an outcome, which scripts print.
 ghost use Rattle.std.specs.Prelude.{◌≡◌, ℕ, List, Some};
-ghost use Rattle.std.specs.Fmt.{decimal, signed_decimal};
+ghost use Rattle.std.specs.Fmt.{DisplaysOnOk, decimal, signed_decimal};
+ghost use Rattle.fkv_worlds.specs.declared.outcomes.Outcome.TheVariants.{Build, Done};
 ghost use Rattle.fkv_worlds.specs.OutcomeTexts.{outcome_text};
 
 use crate::outcomes::Outcome;
@@ -35,6 +36,40 @@ impl Printed for i128 {
     fn printed(&self) {}
 }
 
+/// Writes what an operation asks for.
+fn write_build<V: Printed, O: Printed, W: fmt::Write>(
+    source: &Option<V>,
+    f: &mut fmt::Formatter<W>,
+) -> fmt::Result
+    ensures { DisplaysOnOk W.write_str_gives f.old result (Some (outcome_text V.text O.text (Build source.now))) f.new }
+{
+    match source {
+        None => write!(f, "build none"),
+        Some(value) => {
+            value.printed();
+            write!(f, "build {value}")
+        }
+    }
+}
+
+/// Writes an answer.
+fn write_done<V: Printed, O: Printed, W: fmt::Write>(
+    answer: &Answer<O>,
+    f: &mut fmt::Formatter<W>,
+) -> fmt::Result
+    ensures { DisplaysOnOk W.write_str_gives f.old result (Some (outcome_text V.text O.text (Done answer.now))) f.new }
+{
+    match answer {
+        Answer::Value(shown) => {
+            shown.printed();
+            write!(f, "done value {shown}")
+        }
+        Answer::Absent => write!(f, "done absent"),
+        Answer::Stored => write!(f, "done stored"),
+        Answer::Deleted => write!(f, "done deleted"),
+    }
+}
+
 /// An outcome prints as a script's line does: `entered S`, `left`, `issued C`, `next`, `build none`,
 /// `build V`, `done value V`, `done absent`, `done stored`, `done deleted` or `given up`.
 impl<V: Printed, O: Printed> Display for Outcome<V, O> {
@@ -46,18 +81,8 @@ impl<V: Printed, O: Printed> Display for Outcome<V, O> {
             Outcome::Left => write!(f, "left"),
             Outcome::Issued(context) => write!(f, "issued {context}"),
             Outcome::Next => write!(f, "next"),
-            Outcome::Build(None) => write!(f, "build none"),
-            Outcome::Build(Some(value)) => {
-                value.printed();
-                write!(f, "build {value}")
-            }
-            Outcome::Done(Answer::Value(shown)) => {
-                shown.printed();
-                write!(f, "done value {shown}")
-            }
-            Outcome::Done(Answer::Absent) => write!(f, "done absent"),
-            Outcome::Done(Answer::Stored) => write!(f, "done stored"),
-            Outcome::Done(Answer::Deleted) => write!(f, "done deleted"),
+            Outcome::Build(source) => write_build::<V, O, W>(source, f),
+            Outcome::Done(answer) => write_done::<V, O, W>(answer, f),
             Outcome::GivenUp => write!(f, "given up"),
         }
     }

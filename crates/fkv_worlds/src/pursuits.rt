@@ -14,7 +14,7 @@ use fkv_functions::{Functions, Refused};
 pub const LIMIT: u64 = 10_000;
 
 /// How far an operation is pursued.
-#[derive(Clone, Copy, PartialEq, Eq, Debug)]
+#[derive(Clone, Copy)]
 pub enum Pursuit {
     /// Until it is not to go on: it is done, or asks for a value.
     Ready,
@@ -75,19 +75,30 @@ impl<F: Functions> World<F> {
         ensures pursues { Pursues F.Key.cmp F.meaning F.code pursuit place self.new result 10000 (Go place) self.old }
         ensures headline { IsHeadline F.Key.cmp F.meaning F.code self.new }
     {
+        let told = self.follow(functions, pursuit, place);
+        self.headline();
+        told
+    }
+
+    /// Does the steps of a pursuit.
+    fn follow(
+        &mut self,
+        functions: &F,
+        pursuit: Pursuit,
+        place: Place,
+    ) -> Option<Result<OutcomeOf<F>, Refused>>
+        ensures { Pursues F.Key.cmp F.meaning F.code pursuit place self.new result 10000 (Go place) self.old }
+    {
         let mut step = Step::Go(place);
         for _ in 0..LIMIT {
             let Some(told) = self.try_step(functions, step) else {
-                self.headline();
                 return None;
             };
             let Some(next) = following::<F>(pursuit, place, &told) else {
-                self.headline();
                 return Some(told);
             };
             step = next;
         }
-        self.headline();
         Some(Err(Refused::Stalled))
     }
 }

@@ -2,7 +2,8 @@
 ghost use Rattle.std.specs.Prelude.{◌≡◌, ◌≢◌, ◌⊎◌, Err, IfOk, IfErr, OnOk};
 ghost use Rattle.fkv_records.specs.Records.{size_of};
 ghost use Rattle.fkv_partition.specs.Limits.{IsWithinLimits};
-ghost use Rattle.fkv_worlds.specs.Reports.{RunsTo, IsReplay};
+ghost use Rattle.fkv_worlds.specs.Headline.{IsHeadline};
+ghost use Rattle.fkv_worlds.specs.Reports.{RunsTo, IsReport, IsReplay};
 
 use crate::reports::ReportOf;
 use crate::steps::StepOf;
@@ -28,6 +29,26 @@ fn step_all<F: Functions>(
     Ok(())
 }
 
+/// Does the steps in turn, and reports what became of the world. Refused: `NoMemory`.
+fn run<F: Functions>(
+    world: &mut World<F>,
+    alloc: Global,
+    functions: &F,
+    steps: &[StepOf<F>],
+) -> Result<ReportOf<F>, Refused>
+    ensures ok { IfOk result (λ r. RunsTo F.Key.cmp F.meaning F.code world.old steps.now world.new
+        × IsReport F.Key.cmp F.code world.new r.outcomes.items r.lives.items r.map.items) }
+    ensures headline { IsHeadline F.Key.cmp F.meaning F.code world.new }
+    ensures only { IfErr result (λ refused. refused ≡ Refused.NoMemory) }
+{
+    let done = step_all(world, functions, steps);
+    world.headline();
+    match done {
+        Ok(()) => world.report(alloc),
+        Err(refused) => Err(refused),
+    }
+}
+
 /// Does the steps in turn in a world with nothing in it, and reports what became of them. A step that is
 /// refused is an outcome like the others, and the replay goes on. Refused, in this order: `BadConfig`
 /// where a number of the configuration is outside its limits, `NoMemory`.
@@ -44,9 +65,8 @@ pub fn replay<F: Functions>(
     ensures bad { result ≡ Err Refused.BadConfig → ¬ IsWithinLimits config.now (size_of F.Key.SIZE F.Value.SIZE) }
     ensures only { IfErr result (λ refused. (refused ≡ Refused.BadConfig) ⊎ (refused ≡ Refused.NoMemory)) }
 {
-    let mut world = World::new(alloc, config)?;
-    step_all(&mut world, functions, steps)?;
-    world.headline();
-    let report = world.report(alloc)?;
-    Ok(report)
+    match World::new(alloc, config) {
+        Ok(mut world) => run(&mut world, alloc, functions, steps),
+        Err(refused) => Err(refused),
+    }
 }

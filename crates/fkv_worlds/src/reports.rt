@@ -1,5 +1,5 @@
 //! What a world reports: its outcomes, its lives, and the live map of all partitions.
-ghost use Rattle.std.specs.Prelude.{◌≡◌, IfOk, IfErr, OnOk};
+ghost use Rattle.std.specs.Prelude.{◌≡◌, [], IfOk, IfErr, OnOk};
 ghost use Rattle.std.specs.BTreeMap.{get, is_at};
 ghost use Rattle.std.specs.Map.{lookup, keys_of};
 ghost use Rattle.std.specs.List.Sorted.{IsStrictlySortedBy};
@@ -55,7 +55,9 @@ fn put_all<K: Ord + Copy + Drop, V: Copy + Drop>(
     ensures only { IfErr result (λ refused. refused ≡ Refused.NoMemory) }
 {
     for pair in pairs {
-        put(map, pair.0, pair.1)?;
+        let Ok(()) = put(map, pair.0, pair.1) else {
+            return Err(Refused::NoMemory);
+        };
     }
     Ok(())
 }
@@ -71,6 +73,30 @@ fn copied<T: Copy>(alloc: Global, items: &[T]) -> Result<Vec<T>, Refused>
     }
 }
 
+/// A report of these outcomes, lives and pairs. Refused: `NoMemory`.
+fn report_of<K: Copy + Drop, V: Copy + Drop, I: Copy, O: Copy>(
+    alloc: Global,
+    outcomes: &[Result<Outcome<V, O>, Refused>],
+    lives: &[Life<K, V, I, O>],
+    map: Vec<(K, V)>,
+) -> Result<Report<K, V, I, O>, Refused>
+    ensures ok { IfOk result (λ r. (r.outcomes.items ≡ outcomes.now) × (r.lives.items ≡ lives.now)
+        × (r.map.items ≡ map.items)) }
+    ensures only { IfErr result (λ refused. refused ≡ Refused.NoMemory) }
+{
+    let Ok(outcomes) = copied(alloc, outcomes) else {
+        return Err(Refused::NoMemory);
+    };
+    let Ok(lives) = copied(alloc, lives) else {
+        return Err(Refused::NoMemory);
+    };
+    Ok(Report {
+        outcomes,
+        lives,
+        map,
+    })
+}
+
 impl<F: Functions> State<F> {
     /// Each live key of all partitions with its value, keys rising. Refused: `NoMemory`.
     pub fn live(&self, alloc: Global) -> Result<Vec<(F::Key, F::Value)>, Refused>
@@ -80,12 +106,31 @@ impl<F: Functions> State<F> {
         ensures only { IfErr result (λ refused. refused ≡ Refused.NoMemory) }
     {
         let mut map = BTreeMap::new(alloc);
-        for partition in &self.partitions {
-            let pairs = partition.live(alloc)?;
-            put_all(&mut map, &pairs)?;
+        match self.gather(&mut map, alloc) {
+            Ok(()) => {
+                let _ordered = map.len();
+                pairs_of(alloc, &map)
+            }
+            Err(refused) => Err(refused),
         }
-        let _ordered = map.len();
-        pairs_of(alloc, &map)
+    }
+
+    /// Puts each live key of all partitions with its value into an empty map. Refused: `NoMemory`.
+    fn gather(&self, map: &mut BTreeMap<F::Key, F::Value>, alloc: Global) -> Result<(), Refused>
+        requires { map.old.entries ≡ [] }
+        ensures ok { OnOk result
+            (Same (get F.Key.cmp map.new) (world_live F.Key.cmp F.code self.now.partitions)) }
+        ensures only { IfErr result (λ refused. refused ≡ Refused.NoMemory) }
+    {
+        for partition in &self.partitions {
+            let Ok(pairs) = partition.live(alloc) else {
+                return Err(Refused::NoMemory);
+            };
+            let Ok(()) = put_all(map, &pairs) else {
+                return Err(Refused::NoMemory);
+            };
+        }
+        Ok(())
     }
 }
 
@@ -105,13 +150,9 @@ impl<F: Functions> World<F> {
         ensures ok { IfOk result (λ r. IsReport F.Key.cmp F.code self.now r.outcomes.items r.lives.items r.map.items) }
         ensures only { IfErr result (λ refused. refused ≡ Refused.NoMemory) }
     {
-        let outcomes = copied(alloc, &self.outcomes)?;
-        let lives = copied(alloc, self.state.lives())?;
-        let map = self.state.live(alloc)?;
-        Ok(Report {
-            outcomes,
-            lives,
-            map,
-        })
+        match self.state.live(alloc) {
+            Ok(map) => report_of(alloc, &self.outcomes, self.state.lives(), map),
+            Err(refused) => Err(refused),
+        }
     }
 }

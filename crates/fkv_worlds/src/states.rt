@@ -1,11 +1,11 @@
 //! The state of a world, and what each step does to it.
-ghost use Rattle.std.specs.Prelude.{◌≢◌, ◌⊎◌, ◌*◌, replicate, ◌≡◌, ◌+◌, ◌-◌, ◌^◌, ◌<◌, ◌↔◌, ◌∷◌, [], ◌++◌, Some, None, Err, IfOk, IfErr, OnOk, length};
+ghost use Rattle.std.specs.Prelude.{◌≢◌, ◌⊎◌, ◌≡◌, ◌+◌, ◌-◌, ◌^◌, ◌<◌, ◌↔◌, ◌∷◌, [], ◌++◌, Some, None, Err, IfOk, IfErr, OnOk, length};
 ghost use Rattle.fkv_records.specs.Records.{size_of};
 ghost use Rattle.fkv_partition.specs.Limits.{IsWithinLimits};
 ghost use Rattle.fkv_partition.specs.Views.{empty_partition};
 ghost use Rattle.fkv_worlds.specs.States.{empty_partitions, empty_state, question_in};
 ghost use Rattle.fkv_worlds.specs.Sound.{IsState};
-ghost use Rattle.fkv_worlds.specs.Acts.{Acts};
+ghost use Rattle.fkv_worlds.specs.Acts.{Acts, partition_in};
 ghost use Rattle.fkv_worlds.specs.Moments.{IsMomentIn, IsUntimely};
 ghost use Rattle.fkv_worlds.specs.declared.steps.Step.TheVariants.{Enter, Leave, Issue, Go, Install, GiveUp};
 
@@ -13,8 +13,7 @@ use crate::lives::{End, LifeOf};
 use crate::outcomes::{Outcome, OutcomeOf};
 use crate::steps::{Place, Step, StepOf};
 use crate::tables::{
-    CONTEXT_ROWS, SLOTS, Seat, begin_life, end_life, life_at, note_progress, question_at,
-    row_of_slot,
+    Tables, begin_life, end_life, life_at, note_progress, question_at, seat_session,
 };
 use fkv_functions::{Ask, Built, Functions, Refused};
 use fkv_operations::{Clock, OpOf};
@@ -26,10 +25,7 @@ use std::marker::Model;
 #[derive(Drop)]
 pub struct State<F: Functions> {
     pub(crate) partitions: Vec<Partition<F>>,
-    begun: Vec<usize>,
-    questions: Vec<Option<Ask<F::Key, F::Value, F::Input>>>,
-    seats: Vec<Seat>,
-    enters: Vec<u64>,
+    tables: Tables<F::Key, F::Value, F::Input>,
     lives: Vec<LifeOf<F>>,
     moment: u64,
 }
@@ -40,11 +36,11 @@ impl<F: Functions> Model for State<F> {
 
     ghost Value = { StateView F.Key F.Value F.Input F.Output };
 
-    ghost view = { λ s. state_of s.partitions.items s.begun.items s.questions.items s.seats.items s.enters.items
-        s.lives.items s.moment };
+    ghost view = { λ s. state_of s.partitions.items s.tables.begun.items s.tables.questions.items
+        s.tables.seats.items s.tables.enters.items s.lives.items s.moment };
 
-    ghost invariant = { λ s. IsState F.Key.cmp F.meaning F.code (state_of s.partitions.items s.begun.items
-        s.questions.items s.seats.items s.enters.items s.lives.items s.moment) };
+    ghost invariant = { λ s. IsState F.Key.cmp F.meaning F.code (state_of s.partitions.items s.tables.begun.items
+        s.tables.questions.items s.tables.seats.items s.tables.enters.items s.lives.items s.moment) };
 }
 
 /// The moment after this one, or `Worn` after the last.
@@ -54,6 +50,17 @@ fn moment_after(moment: u64) -> Result<u64, Refused>
     ensures only { IfErr result (λ refused. refused ≡ Refused.Worn) }
 {
     Clock::starting(moment).tick()
+}
+
+/// Adds an item. Refused: `NoMemory`.
+fn keep<T: Drop>(items: &mut Vec<T>, item: T) -> Result<(), Refused>
+    ensures ok { OnOk result (items.new.items ≡ items.old.items ++ item ∷ []) }
+    ensures only { IfErr result (λ refused. refused ≡ Refused.NoMemory) }
+{
+    match items.push(item) {
+        Ok(()) => Ok(()),
+        Err(_) => Err(Refused::NoMemory),
+    }
 }
 
 /// Adds the partition of this number, with nothing in it. Refused: `NoMemory`.
@@ -67,13 +74,10 @@ fn add_empty<F: Functions>(
         ++ empty_partition config.now (size_of F.Key.SIZE F.Value.SIZE) number ∷ []) }
     ensures only { IfErr result (λ refused. refused ≡ Refused.NoMemory) }
 {
-    let Ok(partition) = Partition::new(alloc, config, number) else {
-        return Err(Refused::NoMemory);
-    };
-    let Ok(()) = partitions.push(partition) else {
-        return Err(Refused::NoMemory);
-    };
-    Ok(())
+    match Partition::new(alloc, config, number) {
+        Ok(partition) => keep(partitions, partition),
+        Err(_) => Err(Refused::NoMemory),
+    }
 }
 
 /// Partitions with nothing in them, one of each number. Refused: `NoMemory`.
@@ -88,21 +92,11 @@ fn empty_partitions<F: Functions>(
 {
     let mut partitions = Vec::new(alloc);
     for number in 0..count {
-        add_empty(&mut partitions, alloc, config, number)?;
+        let Ok(()) = add_empty(&mut partitions, alloc, config, number) else {
+            return Err(Refused::NoMemory);
+        };
     }
     Ok(partitions)
-}
-
-/// A table of this many rows, all the same. Refused: `NoMemory`.
-fn table<T: Copy>(alloc: Global, rows: usize, row: T) -> Result<Vec<T>, Refused>
-    ensures ok { IfOk result (λ table. table.items ≡ replicate rows row) }
-    ensures only { IfErr result (λ refused. refused ≡ Refused.NoMemory) }
-{
-    let mut table = Vec::new(alloc);
-    let Ok(()) = table.resize(rows, row) else {
-        return Err(Refused::NoMemory);
-    };
-    Ok(table)
 }
 
 impl<F: Functions> State<F> {
@@ -117,24 +111,26 @@ impl<F: Functions> State<F> {
         if !config.is_within_limits::<F::Key, F::Value>() {
             return Err(Refused::BadConfig);
         }
+        State::empty(alloc, config)
+    }
+
+    /// The state before the first step, of a configuration within its limits. Refused: `NoMemory`.
+    fn empty(alloc: Global, config: &Config) -> Result<Self, Refused>
+        requires { IsWithinLimits config.now (size_of F.Key.SIZE F.Value.SIZE) }
+        ensures ok { IfOk result (λ state. state ≡ empty_state config.now (size_of F.Key.SIZE F.Value.SIZE)) }
+        ensures only { IfErr result (λ refused. refused ≡ Refused.NoMemory) }
+    {
         let count = config.partitions();
-        let rows = count as usize;
-        let begun = table(alloc, rows * CONTEXT_ROWS, 0)?;
-        let questions = table(alloc, rows * CONTEXT_ROWS, None)?;
-        let nobody = Seat {
-            session: 0,
-            issues: 0,
+        let Ok(tables) = Tables::new(alloc, count as usize) else {
+            return Err(Refused::NoMemory);
         };
-        let seats = table(alloc, rows * SLOTS, nobody)?;
-        let enters = table(alloc, rows, 0)?;
         // last, since only what is made before it is dropped where something is refused
-        let partitions = empty_partitions(alloc, config, count)?;
+        let Ok(partitions) = empty_partitions(alloc, config, count) else {
+            return Err(Refused::NoMemory);
+        };
         Ok(State {
             partitions,
-            begun,
-            questions,
-            seats,
-            enters,
+            tables,
             lives: Vec::new(alloc),
             moment: 0,
         })
@@ -152,60 +148,34 @@ impl<F: Functions> State<F> {
         moment_after(self.moment)
     }
 
-    /// Enters a session.
-    pub fn enter(&mut self, partition: usize) -> Result<OutcomeOf<F>, Refused>
-        ensures does { Acts F.Key.cmp F.meaning F.code self.old self.new (Enter partition) result }
-    {
-        match self.moment_in(partition) {
-            Ok(now) => self.enter_at(partition, now),
-            Err(refused) => Err(refused),
-        }
-    }
-
     fn enter_at(&mut self, partition: usize, now: u64) -> Result<OutcomeOf<F>, Refused>
-        requires { IsMomentIn self.old partition now }
+        requires due { IsMomentIn self.old partition now }
         ensures does { Acts F.Key.cmp F.meaning F.code self.old self.new (Enter partition) result }
     {
-        let slot = self.partitions[partition].enter(now)?;
-        let session = self.enters[partition] + 1;
-        let row = row_of_slot(partition, slot);
-        self.enters[partition] = session;
-        self.seats[row] = Seat { session, issues: 0 };
-        self.moment = now;
-        Ok(Outcome::Entered(slot))
-    }
-
-    /// Leaves a session.
-    pub fn leave(&mut self, partition: usize, slot: usize) -> Result<OutcomeOf<F>, Refused>
-        ensures does { Acts F.Key.cmp F.meaning F.code self.old self.new (Leave partition slot) result }
-    {
-        match self.moment_in(partition) {
-            Ok(now) => self.leave_at(partition, slot, now),
+        match self.partitions[partition].enter(now) {
+            Ok(slot) => {
+                self.moment = now;
+                seat_session(
+                    &mut self.tables.enters,
+                    &mut self.tables.seats,
+                    partition,
+                    slot,
+                );
+                Ok(Outcome::Entered(slot))
+            }
             Err(refused) => Err(refused),
         }
     }
 
     fn leave_at(&mut self, partition: usize, slot: usize, now: u64) -> Result<OutcomeOf<F>, Refused>
-        requires { IsMomentIn self.old partition now }
+        requires due { IsMomentIn self.old partition now }
         ensures does { Acts F.Key.cmp F.meaning F.code self.old self.new (Leave partition slot) result }
     {
-        self.partitions[partition].leave(slot, now)?;
-        self.moment = now;
-        Ok(Outcome::Left)
-    }
-
-    /// Issues an operation.
-    pub fn issue(
-        &mut self,
-        functions: &F,
-        partition: usize,
-        slot: usize,
-        op: OpOf<F>,
-    ) -> Result<OutcomeOf<F>, Refused>
-        ensures does { Acts F.Key.cmp F.meaning F.code self.old self.new (Issue partition slot op) result }
-    {
-        match self.moment_in(partition) {
-            Ok(now) => self.issue_at(functions, partition, slot, op, now),
+        match self.partitions[partition].leave(slot, now) {
+            Ok(()) => {
+                self.moment = now;
+                Ok(Outcome::Left)
+            }
             Err(refused) => Err(refused),
         }
     }
@@ -218,70 +188,73 @@ impl<F: Functions> State<F> {
         op: OpOf<F>,
         now: u64,
     ) -> Result<OutcomeOf<F>, Refused>
-        requires { IsMomentIn self.old partition now }
+        requires due { IsMomentIn self.old partition now }
         ensures does { Acts F.Key.cmp F.meaning F.code self.old self.new (Issue partition slot op) result }
     {
         let Ok(()) = self.lives.try_reserve(1) else {
             return Err(Refused::NoMemory);
         };
-        let context = self.partitions[partition].issue(slot, op, functions, now)?;
-        let place = Place {
-            partition,
-            slot,
-            context,
-        };
-        begin_life(
-            &mut self.lives,
-            &mut self.seats,
-            &mut self.begun,
-            &mut self.questions,
-            place,
-            op,
-            now,
-        );
-        self.moment = now;
-        Ok(Outcome::Issued(context))
-    }
-
-    /// Goes on with an operation.
-    pub fn go(&mut self, functions: &F, place: Place) -> Result<OutcomeOf<F>, Refused>
-        ensures does { Acts F.Key.cmp F.meaning F.code self.old self.new (Go place) result }
-    {
-        match self.moment_in(place.partition) {
-            Ok(now) => self.go_at(functions, place, now),
+        match self.partitions[partition].issue(slot, op, functions, now) {
+            Ok(context) => {
+                self.moment = now;
+                let place = Place {
+                    partition,
+                    slot,
+                    context,
+                };
+                begin_life(&mut self.lives, &mut self.tables, place, op, now);
+                Ok(Outcome::Issued(context))
+            }
             Err(refused) => Err(refused),
         }
     }
 
     fn go_at(&mut self, functions: &F, place: Place, now: u64) -> Result<OutcomeOf<F>, Refused>
-        requires { IsMomentIn self.old place.partition now }
+        requires due { IsMomentIn self.old place.partition now }
         ensures does { Acts F.Key.cmp F.meaning F.code self.old self.new (Go place) result }
     {
         let partition = place.partition;
-        let progress = self.partitions[partition].go(place.slot, place.context, functions, now)?;
-        self.moment = now;
-        Ok(note_progress(
-            &mut self.lives,
-            &self.begun,
-            &mut self.questions,
-            place,
-            progress,
-            now,
-        ))
+        match self.partitions[partition].go(place.slot, place.context, functions, now) {
+            Ok(progress) => {
+                self.moment = now;
+                Ok(note_progress(
+                    &mut self.lives,
+                    &self.tables.begun,
+                    &mut self.tables.questions,
+                    place,
+                    progress,
+                    now,
+                ))
+            }
+            Err(refused) => Err(refused),
+        }
     }
 
     /// Installs what an operation asked for last.
-    pub fn install(&mut self, functions: &F, place: Place) -> Result<OutcomeOf<F>, Refused>
+    fn install(&mut self, functions: &F, place: Place) -> Result<OutcomeOf<F>, Refused>
         ensures does { Acts F.Key.cmp F.meaning F.code self.old self.new (Install place) result }
+    {
+        match self.asked(place) {
+            Ok((ask, now)) => self.install_at(functions, place, ask, now),
+            Err(refused) => Err(refused),
+        }
+    }
+
+    /// What an operation asked for last, and the moment at which it is installed; else why nothing is.
+    fn asked(&self, place: Place) -> Result<(Ask<F::Key, F::Value, F::Input>, u64), Refused>
+        ensures ok { IfOk result (λ due. (question_in self.now.questions place ≡ Some due.0)
+            × IsMomentIn self.now place.partition due.1) }
+        ensures err { IfErr result
+            (λ refused. Acts F.Key.cmp F.meaning F.code self.now self.now (Install place) (Err refused)) }
     {
         if place.partition >= self.partitions.len() {
             return Err(Refused::Unknown);
         }
-        let Some(ask) = question_at(&self.questions, place) else {
+        let Some(ask) = question_at(&self.tables.questions, place) else {
             return Err(self.why_unasked(place));
         };
         match self.moment_in(place.partition) {
-            Ok(now) => self.install_at(functions, place, ask, now),
+            Ok(now) => Ok((ask, now)),
             Err(refused) => Err(refused),
         }
     }
@@ -311,56 +284,62 @@ impl<F: Functions> State<F> {
     {
         let partition = place.partition;
         let built = Built::make(functions, ask);
-        let progress = self.partitions[partition].install(
-            place.slot,
-            place.context,
-            built,
-            functions,
-            now,
-        )?;
-        self.moment = now;
-        Ok(note_progress(
-            &mut self.lives,
-            &self.begun,
-            &mut self.questions,
-            place,
-            progress,
-            now,
-        ))
-    }
-
-    /// Gives up an operation.
-    pub fn give_up(&mut self, place: Place) -> Result<OutcomeOf<F>, Refused>
-        ensures does { Acts F.Key.cmp F.meaning F.code self.old self.new (GiveUp place) result }
-    {
-        match self.moment_in(place.partition) {
-            Ok(now) => self.give_up_at(place, now),
+        match self.partitions[partition].install(place.slot, place.context, built, functions, now) {
+            Ok(progress) => {
+                self.moment = now;
+                Ok(note_progress(
+                    &mut self.lives,
+                    &self.tables.begun,
+                    &mut self.tables.questions,
+                    place,
+                    progress,
+                    now,
+                ))
+            }
             Err(refused) => Err(refused),
         }
     }
 
     fn give_up_at(&mut self, place: Place, now: u64) -> Result<OutcomeOf<F>, Refused>
-        requires { IsMomentIn self.old place.partition now }
+        requires due { IsMomentIn self.old place.partition now }
         ensures does { Acts F.Key.cmp F.meaning F.code self.old self.new (GiveUp place) result }
     {
-        self.partitions[place.partition].give_up(place.slot, place.context, now)?;
-        let life = life_at(&self.begun, place);
-        self.moment = now;
-        end_life(&mut self.lives, life, End::GivenUp);
-        Ok(Outcome::GivenUp)
+        match self.partitions[place.partition].give_up(place.slot, place.context, now) {
+            Ok(()) => {
+                self.moment = now;
+                let life = life_at(&self.tables.begun, place);
+                end_life(&mut self.lives, life, End::GivenUp);
+                Ok(Outcome::GivenUp)
+            }
+            Err(refused) => Err(refused),
+        }
     }
 
     /// Does a step.
     pub fn act(&mut self, functions: &F, step: StepOf<F>) -> Result<OutcomeOf<F>, Refused>
         ensures does { Acts F.Key.cmp F.meaning F.code self.old self.new step result }
     {
+        // whether there is a question comes before whether there is a moment
+        if let Step::Install(place) = step {
+            return self.install(functions, place);
+        }
+        match self.moment_in(step.partition()) {
+            Ok(now) => self.act_at(functions, step, now),
+            Err(refused) => Err(refused),
+        }
+    }
+
+    fn act_at(&mut self, functions: &F, step: StepOf<F>, now: u64) -> Result<OutcomeOf<F>, Refused>
+        requires due { IsMomentIn self.old (partition_in step) now }
+        ensures does { Acts F.Key.cmp F.meaning F.code self.old self.new step result }
+    {
         match step {
-            Step::Enter(partition) => self.enter(partition),
-            Step::Leave(partition, slot) => self.leave(partition, slot),
-            Step::Issue(partition, slot, op) => self.issue(functions, partition, slot, op),
-            Step::Go(place) => self.go(functions, place),
+            Step::Enter(partition) => self.enter_at(partition, now),
+            Step::Leave(partition, slot) => self.leave_at(partition, slot, now),
+            Step::Issue(partition, slot, op) => self.issue_at(functions, partition, slot, op, now),
+            Step::Go(place) => self.go_at(functions, place, now),
             Step::Install(place) => self.install(functions, place),
-            Step::GiveUp(place) => self.give_up(place),
+            Step::GiveUp(place) => self.give_up_at(place, now),
         }
     }
 

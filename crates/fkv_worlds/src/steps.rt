@@ -1,6 +1,9 @@
 //! Single steps of a world.
+ghost use Rattle.std.specs.Prelude.{◌≡◌, ⊤};
+
 use fkv_functions::Functions;
 use fkv_operations::Op;
+use std::alloc::AllocError;
 
 /// A context of a world: the number of its partition, the slot of its session, and its own number there.
 #[derive(Clone, Copy, PartialEq, Eq, Debug)]
@@ -11,7 +14,7 @@ pub struct Place {
 }
 
 /// A step of a world.
-#[derive(Clone, Copy, PartialEq, Eq, Debug)]
+#[derive(Copy)]
 pub enum Step<K, V, I> {
     /// Enters a session in this partition.
     Enter(usize),
@@ -25,6 +28,34 @@ pub enum Step<K, V, I> {
     Install(Place),
     /// Gives up the operation that is open there.
     GiveUp(Place),
+}
+
+impl<K: Copy, V: Copy, I: Copy> Clone for Step<K, V, I> {
+    ghost is_clone = { λ x y. y ≡ x };
+
+    ghost is_infallible = { λ _. ⊤ };
+
+    fn clone(&self) -> Result<Self, AllocError> {
+        Ok(*self)
+    }
+}
+
+impl<K: Copy, V: Copy, I: Copy> Step<K, V, I> {
+    ghost use Rattle.fkv_worlds.specs.Acts.{partition_in};
+
+    /// The number of the partition that it is in.
+    pub fn partition(&self) -> usize
+        ensures { result ≡ partition_in self.now }
+    {
+        match self {
+            Step::Enter(partition) => *partition,
+            Step::Leave(partition, _) => *partition,
+            Step::Issue(partition, _, _) => *partition,
+            Step::Go(place) => place.partition,
+            Step::Install(place) => place.partition,
+            Step::GiveUp(place) => place.partition,
+        }
+    }
 }
 
 /// The steps of one type of functions.

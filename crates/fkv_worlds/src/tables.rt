@@ -1,15 +1,16 @@
 //! The tables of a world: who sits in a slot, what began in a context, and what it asked for last.
-ghost use Rattle.std.specs.Prelude.{◌≡◌, ◌+◌, ◌-◌, ◌*◌, ◌^◌, ◌<◌, ◌≤◌, ◌∷◌, [], ◌++◌, length, vec_capacity, Some, None, slice_get, slice_set};
-ghost use Rattle.fkv_worlds.specs.States.{seat_row, seat_at, context_row, life_in, question_in};
+ghost use Rattle.std.specs.Prelude.{◌≡◌, ◌+◌, ◌-◌, ◌*◌, ◌^◌, ◌<◌, ◌≤◌, ◌∷◌, [], ◌++◌, length, replicate, vec_capacity, Some, None, slice_get, slice_set, unwrap_or, IfOk, IfErr, OnOk};
+ghost use Rattle.fkv_worlds.specs.States.{IsBlank, is_context, seat_row, seat_at, context_row, life_in, question_in};
 ghost use Rattle.fkv_worlds.specs.Changes.{ended_at};
 ghost use Rattle.fkv_worlds.specs.Acts.{after_issue, begun_life, lives_by, questions_by, told};
 
 use crate::lives::{End, Finish, Life};
 use crate::outcomes::Outcome;
 use crate::steps::Place;
-use fkv_functions::Ask;
+use fkv_functions::{Ask, Refused};
 use fkv_operations::Op;
 use fkv_partition::Progress;
+use std::alloc::Global;
 
 /// The slots of a partition.
 pub const SLOTS: usize = 16;
@@ -21,7 +22,7 @@ pub const CONTEXTS: usize = 8;
 pub const CONTEXT_ROWS: usize = SLOTS * CONTEXTS;
 
 /// The session of a slot.
-#[derive(Clone, Copy, PartialEq, Eq, Debug)]
+#[derive(Clone, Copy)]
 pub struct Seat {
     /// The session, by the count of enters in its partition, from 1; 0 before the first.
     pub session: u64,
@@ -40,6 +41,112 @@ impl Seat {
             issues: self.issues + 1,
         }
     }
+}
+
+/// What a world keeps of its partitions, slots and contexts, a row for each.
+#[derive(Drop)]
+pub struct Tables<K, V, I> {
+    /// For each context the place of the life that began there last.
+    pub begun: Vec<usize>,
+    /// For each context what it asked for last.
+    pub questions: Vec<Option<Ask<K, V, I>>>,
+    /// The session of each slot.
+    pub seats: Vec<Seat>,
+    /// For each partition how many sessions entered it.
+    pub enters: Vec<u64>,
+}
+
+/// Makes an empty table one of so many rows, all the same. Refused: `NoMemory`.
+fn fill<T: Copy>(table: &mut Vec<T>, rows: usize, row: T) -> Result<(), Refused>
+    requires { table.old.items ≡ [] }
+    ensures ok { OnOk result (table.new.items ≡ replicate rows row) }
+    ensures only { IfErr result (λ refused. refused ≡ Refused.NoMemory) }
+{
+    match table.resize(rows, row) {
+        Ok(()) => Ok(()),
+        Err(_) => Err(Refused::NoMemory),
+    }
+}
+
+impl<K: Copy, V: Copy, I: Copy> Tables<K, V, I> {
+    /// The tables of so many partitions, before the first step. Refused: `NoMemory`.
+    pub fn new(alloc: Global, partitions: usize) -> Result<Self, Refused>
+        requires { partitions ≤ 64 }
+        ensures ok { IfOk result (λ tables. IsBlank partitions tables.begun.items tables.questions.items
+            tables.seats.items tables.enters.items) }
+        ensures only { IfErr result (λ refused. refused ≡ Refused.NoMemory) }
+    {
+        let mut tables = Tables {
+            begun: Vec::new(alloc),
+            questions: Vec::new(alloc),
+            seats: Vec::new(alloc),
+            enters: Vec::new(alloc),
+        };
+        match tables.fill(partitions) {
+            Ok(()) => Ok(tables),
+            Err(refused) => Err(refused),
+        }
+    }
+
+    /// Makes empty tables those of so many partitions. Refused: `NoMemory`.
+    fn fill(&mut self, partitions: usize) -> Result<(), Refused>
+        requires most { partitions ≤ 64 }
+        requires begun { self.old.begun.items ≡ [] }
+        requires questions { self.old.questions.items ≡ [] }
+        requires seats { self.old.seats.items ≡ [] }
+        requires enters { self.old.enters.items ≡ [] }
+        ensures ok { OnOk result (IsBlank partitions self.new.begun.items self.new.questions.items
+            self.new.seats.items self.new.enters.items) }
+        ensures only { IfErr result (λ refused. refused ≡ Refused.NoMemory) }
+    {
+        let nobody = Seat {
+            session: 0,
+            issues: 0,
+        };
+        let Ok(()) = fill(&mut self.begun, partitions * CONTEXT_ROWS, 0) else {
+            return Err(Refused::NoMemory);
+        };
+        let Ok(()) = fill(&mut self.questions, partitions * CONTEXT_ROWS, None) else {
+            return Err(Refused::NoMemory);
+        };
+        let Ok(()) = fill(&mut self.seats, partitions * SLOTS, nobody) else {
+            return Err(Refused::NoMemory);
+        };
+        fill(&mut self.enters, partitions, 0)
+    }
+}
+
+/// Counts the session that entered a slot, which has issued nothing yet.
+pub fn seat_session(enters: &mut Vec<u64>, seats: &mut Vec<Seat>, partition: usize, slot: usize)
+    requires partition { partition < 64 }
+    requires slot { slot < 16 }
+    requires enters { partition < length enters.old.items }
+    requires seats { partition * 16 + 16 ≤ length seats.old.items }
+    requires count { unwrap_or (slice_get enters.old.items partition) 0 < 2 ^ 64 - 1 }
+    ensures enters { enters.new.items
+        ≡ slice_set enters.old.items partition (unwrap_or (slice_get enters.old.items partition) 0 + 1) }
+    ensures seats { seats.new.items ≡ slice_set seats.old.items (seat_row partition slot)
+        (record { session = unwrap_or (slice_get enters.old.items partition) 0 + 1; issues = 0 }) }
+{
+    let session = enters[partition] + 1;
+    enters[partition] = session;
+    seats[row_of_slot(partition, slot)] = Seat { session, issues: 0 };
+}
+
+/// Counts one more issue of the session of a slot, and answers its seat before.
+fn take_number(seats: &mut Vec<Seat>, partition: usize, slot: usize) -> Seat
+    requires partition { partition < 64 }
+    requires slot { slot < 16 }
+    requires seats { partition * 16 + 16 ≤ length seats.old.items }
+    requires issues { (seat_at seats.old.items partition slot).issues < 2 ^ 64 - 1 }
+    ensures before { result ≡ seat_at seats.old.items partition slot }
+    ensures seats { seats.new.items
+        ≡ slice_set seats.old.items (seat_row partition slot) (after_issue (seat_at seats.old.items partition slot)) }
+{
+    let row = row_of_slot(partition, slot);
+    let seat = seats[row];
+    seats[row] = seat.after_issue();
+    seat
 }
 
 /// The life that an accepted issue begins.
@@ -81,6 +188,13 @@ pub fn row_of(place: Place) -> usize
     place.partition * CONTEXT_ROWS + place.slot * CONTEXTS + place.context
 }
 
+/// Whether there is such a context in a partition.
+fn is_context(place: Place) -> bool
+    ensures { result ≡ is_context place }
+{
+    place.slot < SLOTS && place.context < CONTEXTS
+}
+
 /// What a context asked for last; nothing where there is no such context.
 pub fn question_at<K: Copy, V: Copy, I: Copy>(
     questions: &[Option<Ask<K, V, I>>],
@@ -90,7 +204,7 @@ pub fn question_at<K: Copy, V: Copy, I: Copy>(
     requires rows { place.partition * 128 + 128 ≤ length questions.now }
     ensures { result ≡ question_in questions.now place }
 {
-    if place.slot >= SLOTS || place.context >= CONTEXTS {
+    if !is_context(place) {
         return None;
     }
     questions[row_of(place)]
@@ -123,9 +237,7 @@ pub fn end_life<K: Copy, V: Copy, I: Copy, O: Copy>(
 /// nothing yet, and one more of its session.
 pub fn begin_life<K: Copy, V: Copy, I: Copy, O: Copy>(
     lives: &mut Vec<Life<K, V, I, O>>,
-    seats: &mut Vec<Seat>,
-    begun: &mut Vec<usize>,
-    questions: &mut Vec<Option<Ask<K, V, I>>>,
+    tables: &mut Tables<K, V, I>,
     place: Place,
     op: Op<K, V, I>,
     now: u64,
@@ -134,27 +246,25 @@ pub fn begin_life<K: Copy, V: Copy, I: Copy, O: Copy>(
     requires slot { place.slot < 16 }
     requires context { place.context < 8 }
     requires room { length lives.old.items < vec_capacity lives.old }
-    requires seats { place.partition * 16 + 16 ≤ length seats.old.items }
-    requires begun { place.partition * 128 + 128 ≤ length begun.old.items }
-    requires questions { place.partition * 128 + 128 ≤ length questions.old.items }
-    requires issues { (seat_at seats.old.items place.partition place.slot).issues < 2 ^ 64 - 1 }
+    requires seats { place.partition * 16 + 16 ≤ length tables.old.seats.items }
+    requires begun { place.partition * 128 + 128 ≤ length tables.old.begun.items }
+    requires questions { place.partition * 128 + 128 ≤ length tables.old.questions.items }
+    requires issues { (seat_at tables.old.seats.items place.partition place.slot).issues < 2 ^ 64 - 1 }
     ensures lives { lives.new.items ≡ lives.old.items ++ begun_life place.partition
-        (seat_at seats.old.items place.partition place.slot) op now ∷ [] }
-    ensures seats { seats.new.items ≡ slice_set seats.old.items (seat_row place.partition place.slot)
-        (after_issue (seat_at seats.old.items place.partition place.slot)) }
-    ensures begun { begun.new.items ≡ slice_set begun.old.items (context_row place) (length lives.old.items) }
-    ensures questions { questions.new.items ≡ slice_set questions.old.items (context_row place) None }
+        (seat_at tables.old.seats.items place.partition place.slot) op now ∷ [] }
+    ensures seats { tables.new.seats.items ≡ slice_set tables.old.seats.items (seat_row place.partition place.slot)
+        (after_issue (seat_at tables.old.seats.items place.partition place.slot)) }
+    ensures begun { tables.new.begun.items
+        ≡ slice_set tables.old.begun.items (context_row place) (length lives.old.items) }
+    ensures questions { tables.new.questions.items ≡ slice_set tables.old.questions.items (context_row place) None }
+    ensures enters { tables.new.enters.items ≡ tables.old.enters.items }
 {
-    let row = row_of_slot(place.partition, place.slot);
-    let seat = seats[row];
-    let life = lives.len();
-    let Ok(()) = lives.push(begun_life(place.partition, &seat, op, now)) else {
-        return;
-    };
+    let seat = take_number(&mut tables.seats, place.partition, place.slot);
     let context = row_of(place);
-    seats[row] = seat.after_issue();
-    begun[context] = life;
-    questions[context] = None;
+    tables.begun[context] = lives.len();
+    tables.questions[context] = None;
+    // there is room for it
+    let _pushed = lives.push(begun_life(place.partition, &seat, op, now));
 }
 
 /// Ends the life of an operation that is done, or keeps what it asks for, and tells its progress.

@@ -44,11 +44,13 @@ impl<F: Functions> World<F> {
         ensures bad { result ≡ Err Refused.BadConfig → ¬ IsWithinLimits config.now (size_of F.Key.SIZE F.Value.SIZE) }
         ensures only { IfErr result (λ refused. (refused ≡ Refused.BadConfig) ⊎ (refused ≡ Refused.NoMemory)) }
     {
-        let state = State::new(alloc, config)?;
-        Ok(World {
-            state,
-            outcomes: Vec::new(alloc),
-        })
+        match State::new(alloc, config) {
+            Ok(state) => Ok(World {
+                state,
+                outcomes: Vec::new(alloc),
+            }),
+            Err(refused) => Err(refused),
+        }
     }
 
     /// Does a step and keeps its outcome, which it answers; `None` where there is no memory to keep it, and
@@ -66,9 +68,8 @@ impl<F: Functions> World<F> {
         };
         self.state.sound();
         let result = self.state.act(functions, step);
-        let Ok(()) = self.outcomes.push(result) else {
-            return None;
-        };
+        // there is room for it
+        let _kept = self.outcomes.push(result);
         Some(result)
     }
 
@@ -81,12 +82,12 @@ impl<F: Functions> World<F> {
         ensures does { Steps F.Key.cmp F.meaning F.code self.old self.new step result }
         ensures headline { IsHeadline F.Key.cmp F.meaning F.code self.new }
     {
-        let Some(result) = self.try_step(functions, step) else {
-            self.headline();
-            return Err(Refused::NoMemory);
-        };
+        let told = self.try_step(functions, step);
         self.headline();
-        result
+        match told {
+            Some(result) => result,
+            None => Err(Refused::NoMemory),
+        }
     }
 
     /// What holds of every world: the headline.

@@ -1,4 +1,6 @@
-use Rattle.std.proofs.Common.{map, [], sym, ap, ◌∙◌}
+use Rattle.std.proofs.Common.{◌≡◌, inr, Err, map, [], sym, ap, ◌∙◌}
+use Rattle.std.proofs.lemmas.Result.{IfOk-weaker, IfErr-weaker}
+use Rattle.fkv_functions.specs.declared.refusals.Refused.TheVariants.{BadConfig, NoMemory}
 use Rattle.fkv_records.specs.Records.{size_of}
 use Rattle.fkv_worlds.specs.Histories.{backwards, issues_in, issue_of}
 use Rattle.fkv_worlds.specs.Reports.{RunsTo}
@@ -6,20 +8,35 @@ use Rattle.fkv_worlds.specs.States.{empty_world}
 use Rattle.fkv_worlds.proofs.HistoryLemmas.{issued-runs}
 use Rattle.fkv_worlds.proofs.replays.replay.Goals as goal
 
-pub returns-clause-ok : goal.returns-clause-ok
-returns-clause-ok g c =
+pub returns-in-Ok-clause-ok : goal.returns-in-Ok-clause-ok
+returns-in-Ok-clause-ok g c =
     let size = size_of g.F.Key.Fixed.SIZE g.F.Value.Fixed.SIZE in
-    let ran : RunsTo g.F.Key.Ord.cmp g.F.Functions.meaning g.F.Functions.code (empty_world c.args.config.now size) c.args.steps.now c.step_all.new.world = rw (← c.in_ok-world.ensures.ok) c.in_ok-step_all.ensures.ok in
-    let report = c.in_ok-report.ensures.ok in
+    IfOk-weaker c.run.result _ _ (λ v h.
+    let ran : RunsTo g.F.Key.Ord.cmp g.F.Functions.meaning g.F.Functions.code (empty_world c.args.config.now size) c.args.steps.now c.run.new.world = rw (← c.in-Ok.ensures.ok) h.0 in
     record {
-      world = c.step_all.new.world;
+      world = c.run.new.world;
       ran = ran;
-      headline = c.headline.ensures;
-      report = report;
-      issued = ap (map issue_of) report.lives
-          ∙ issued-runs g.F.Key.Ord.cmp g.F.Functions.meaning g.F.Functions.code c.args.config.now size c.step_all.new.world c.args.steps.now ran
-          ∙ ap (λ ts. issues_in (backwards c.args.steps.now ts [])) (sym report.outcomes);
-    }
+      headline = c.run.ensures.headline;
+      report = h.1;
+      issued = ap (map issue_of) h.1.lives
+          ∙ issued-runs g.F.Key.Ord.cmp g.F.Functions.meaning g.F.Functions.code c.args.config.now size c.run.new.world c.args.steps.now ran
+          ∙ ap (λ ts. issues_in (backwards c.args.steps.now ts [])) (sym h.1.outcomes);
+    }) c.run.ensures.ok
 
-pub returns-clause-good : goal.returns-clause-good
-returns-clause-good g c = λ _. c.in_ok-world.ensures.good (λ e. absurd (cc))
+pub returns-in-Ok-clause-good : goal.returns-in-Ok-clause-good
+returns-in-Ok-clause-good g c = λ _. c.in-Ok.ensures.good (λ e. absurd (cc))
+
+pub returns-in-Ok-clause-bad : goal.returns-in-Ok-clause-bad
+returns-in-Ok-clause-bad g c = λ e. absurd (let h : BadConfig ≡ NoMemory = rw e at c.run.ensures.only in cc)
+
+pub returns-in-Ok-clause-only : goal.returns-in-Ok-clause-only
+returns-in-Ok-clause-only g c = IfErr-weaker c.run.result _ _ (λ e h. inr h) c.run.ensures.only
+
+pub returns-in-Err-clause-good : goal.returns-in-Err-clause-good
+returns-in-Err-clause-good g c = λ n. c.in-Err.ensures.good (λ e. n (let same : c.in-Err.refused ≡ BadConfig = cc in ap Err same))
+
+pub returns-in-Err-clause-bad : goal.returns-in-Err-clause-bad
+returns-in-Err-clause-bad g c = λ e. c.in-Err.ensures.bad (let same : c.in-Err.refused ≡ BadConfig = cc in ap Err same)
+
+pub returns-in-Err-clause-only : goal.returns-in-Err-clause-only
+returns-in-Err-clause-only g c = c.in-Err.ensures.only

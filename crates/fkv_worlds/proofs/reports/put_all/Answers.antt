@@ -12,4 +12,4 @@ loop-pair-preserved g c =
     let pair = c.pair-item.result in
     let took : take (c.loop-pair.pair-index + 1) c.args.pairs.now ≡ done ++ pair ∷ [] =
     rw add-one (take-suc c.args.pairs.now c.loop-pair.pair-index pair c.loop-pair-test.true ∙ ap (λ x. done ++ x ∷ []) (sym c.pair-item.is)) in
-    rw took (λ q. c.in_ok-put.ensures.ok q ∙ ap (cond (is_at (cmp pair.0) q) (Some pair.1)) (c.loop-pair.invariant q) ∙ ap (λ m. m q) (sym (with_all-append cmp start done pair)))
+    rw took (λ q. c.in-Ok.ensures.ok q ∙ ap (cond (is_at (cmp pair.0) q) (Some pair.1)) (c.loop-pair.invariant q) ∙ ap (λ m. m q) (sym (with_all-append cmp start done pair)))

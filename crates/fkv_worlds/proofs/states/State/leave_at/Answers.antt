@@ -1,48 +1,31 @@
-use Rattle.std.proofs.Common.{◌<◌, length, Err, refl, ap, arith}
 use Rattle.fkv_functions.proofs.KeyOrder.{key_order}
-use Rattle.fkv_worlds.proofs.StateLemmas.{err-is, at-index, set-unchanged, later, state-leave}
-use Rattle.fkv_worlds.proofs.ActsLemmas.{acts-no_leave, acts-leave}
+use Rattle.fkv_worlds.proofs.EventLemmas.{event-later, refused-state, refused-leave, does-leave, left-state}
 use Rattle.fkv_worlds.proofs.states.State.leave_at.Goals as goal
 
 pub leave-requires-clause-later : goal.leave-requires-clause-later
 leave-requires-clause-later g c κs within =
-    let ord = g.met.F.Key.Ord g.world.𝓛 g.world.𝓜 g.world.𝓡 ((λ s x. x), (λ x. x), (λ x. x), λ x. x) in
-    let known = g.met.F.Key.Known g.world.𝓛 g.world.𝓜 g.world.𝓡 ((λ s x. x), (λ x. x), (λ x. x), λ x. x) in
-    let order = key_order g.F.Key.PartialEq.eq g.F.Key.Ord.cmp ord.matches_eq known.exact ord.total in
-    let due = rw (← c.self.view_is) at c.requires in
-    let there = due.there in
-    let here = at-index c.self.inside.partitions.items c.args.partition c.index_mut.result.now there c.index_mut.ensures.value in
-    later g.F.Key.Ord.cmp order g.F.Functions.meaning g.F.Functions.code _ c.self.invariant c.args.now due.next c.args.partition c.index_mut.result.now here
+    let due = rw (← c.self.view_is) at c.requires.due in
+    event-later g.F.Key.Ord.cmp g.F.Functions.meaning g.F.Functions.code _ c.self.invariant c.args.partition c.args.now due c.index_mut.result.now c.index_mut.ensures.value
+
+pub invariant_of-self-in-Err : goal.invariant_of-self-in-Err
+invariant_of-self-in-Err g c =
+    let due = rw (← c.self.view_is) at c.requires.due in
+    refused-state g.F.Key.Ord.cmp g.F.Functions.meaning g.F.Functions.code _ c.self.invariant c.args.partition c.args.now due c.index_mut.result.now c.index_mut.ensures.value c.leave.new.self c.in-Err.ensures.err
+
+pub returns-in-Err : goal.returns-in-Err
+returns-in-Err g c =
+    let due = rw (← c.self.view_is) at c.requires.due in
+    rw (← c.self.view_is) (record { does = refused-leave g.F.Key.Ord.cmp g.F.Functions.meaning g.F.Functions.code _ c.self.invariant c.args.partition c.args.now due c.index_mut.result.now c.index_mut.ensures.value c.leave.new.self c.args.slot c.in-Err.refused c.in-Err.ensures.err c.in-Err.ensures.does })
 
 pub invariant_of-self : goal.invariant_of-self
 invariant_of-self g c =
-    let due = rw (← c.self.view_is) at c.requires in
-    let there = due.there in
-    let here = at-index c.self.inside.partitions.items c.args.partition c.index_mut.result.now there c.index_mut.ensures.value in
-    rw (set-unchanged c.self.inside.partitions.items c.args.partition c.index_mut.result.now c.leave.new.self here c.in_err-leave.ensures.err) c.self.invariant
-
-pub returns-in_err-leave : goal.returns-in_err-leave
-returns-in_err-leave g c =
-    let due = rw (← c.self.view_is) at c.requires in
-    let there = due.there in
-    let here = at-index c.self.inside.partitions.items c.args.partition c.index_mut.result.now there c.index_mut.ensures.value in
-    let is = err-is c.from_residual.result c.in_err-leave.field-0.0 c.from_residual.ensures.0 c.from_residual.ensures.1 in
-    let kept = set-unchanged c.self.inside.partitions.items c.args.partition c.index_mut.result.now c.leave.new.self here c.in_err-leave.ensures.err in
-    rw (← c.self.view_is, is, kept) (record { does = acts-no_leave g.F.Key.Ord.cmp g.F.Functions.meaning g.F.Functions.code _ c.args.now due.next due.fits c.args.partition c.index_mut.result.now c.leave.new.self here c.args.slot c.in_err-leave.field-0.0 c.in_err-leave.ensures.err c.in_err-leave.ensures.does })
-
-pub invariant_of-self-2 : goal.invariant_of-self-2
-invariant_of-self-2 g c =
     let ord = g.met.F.Key.Ord g.world.𝓛 g.world.𝓜 g.world.𝓡 ((λ s x. x), (λ x. x), (λ x. x), λ x. x) in
     let known = g.met.F.Key.Known g.world.𝓛 g.world.𝓜 g.world.𝓡 ((λ s x. x), (λ x. x), (λ x. x), λ x. x) in
     let order = key_order g.F.Key.PartialEq.eq g.F.Key.Ord.cmp ord.matches_eq known.exact ord.total in
-    let due = rw (← c.self.view_is) at c.requires in
-    let there = due.there in
-    let here = at-index c.self.inside.partitions.items c.args.partition c.index_mut.result.now there c.index_mut.ensures.value in
-    state-leave g.F.Key.Ord.cmp order g.F.Functions.meaning g.F.Functions.code _ c.self.invariant c.args.now due.next c.args.partition c.index_mut.result.now c.leave.new.self here c.in_ok-leave.ensures.event
+    let due = rw (← c.self.view_is) at c.requires.due in
+    left-state g.F.Key.Ord.cmp g.F.Functions.meaning g.F.Functions.code _ c.self.invariant c.args.partition c.args.now due c.index_mut.result.now c.index_mut.ensures.value c.leave.new.self order c.in-Ok.ensures.event
 
-pub returns : goal.returns
-returns g c =
-    let due = rw (← c.self.view_is) at c.requires in
-    let there = due.there in
-    let here = at-index c.self.inside.partitions.items c.args.partition c.index_mut.result.now there c.index_mut.ensures.value in
-    rw (← c.self.view_is) (record { does = acts-leave g.F.Key.Ord.cmp g.F.Functions.meaning g.F.Functions.code _ c.args.now due.next due.fits c.args.partition c.index_mut.result.now c.leave.new.self here c.args.slot c.in_ok-leave.ensures.does c.in_ok-leave.ensures.event })
+pub returns-in-Ok : goal.returns-in-Ok
+returns-in-Ok g c =
+    let due = rw (← c.self.view_is) at c.requires.due in
+    rw (← c.self.view_is) (record { does = does-leave g.F.Key.Ord.cmp g.F.Functions.meaning g.F.Functions.code _ c.self.invariant c.args.partition c.args.now due c.index_mut.result.now c.index_mut.ensures.value c.leave.new.self c.args.slot c.in-Ok.ensures.does c.in-Ok.ensures.event })

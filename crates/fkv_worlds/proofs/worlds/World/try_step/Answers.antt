@@ -1,3 +1,4 @@
+use Rattle.std.proofs.Common.{refl, arith}
 use Rattle.fkv_worlds.proofs.AccountLemmas.{account-acts}
 use Rattle.fkv_worlds.proofs.worlds.World.try_step.Goals as goal
 
@@ -6,5 +7,11 @@ invariant_of-self g c = rw c.try_reserve.ensures.items c.self.invariant
 
 pub invariant_of-self-2 : goal.invariant_of-self-2
 invariant_of-self-2 g c =
-    rw (c.in-Ok-push.ensures.items, c.try_reserve.ensures.items)
+    let pushed = c.push-kept.ensures.succeeds (let room = c.in-Ok.ensures.ok in omega arith) in
+    rw (c.push-kept.ensures.items, pushed, c.try_reserve.ensures.items)
     (account-acts g.F.Key.Ord.cmp g.F.Functions.meaning g.F.Functions.code c.self.inside.state c.sound.ensures c.self.inside.outcomes.items c.self.invariant c.act-result.new.self c.args.step c.act-result.result c.act-result.ensures.does)
+
+pub returns-clause-kept : goal.returns-clause-kept
+returns-clause-kept g c =
+    let pushed = c.push-kept.ensures.succeeds (let room = c.in-Ok.ensures.ok in omega arith) in
+    rw (← c.self.view_is) (record { acts = c.act-result.ensures.does; outcomes = rw (c.push-kept.ensures.items, pushed, c.try_reserve.ensures.items) refl })

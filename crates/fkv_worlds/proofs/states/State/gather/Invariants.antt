@@ -3,7 +3,7 @@ use Rattle.std.specs.BTreeMap.{get}
 use Rattle.fkv_functions.specs.Plain.{Same}
 use Rattle.fkv_partition.specs.Views.{partition_of}
 use Rattle.fkv_worlds.specs.Worlds.{world_live}
-use Rattle.fkv_worlds.proofs.states.State.live.Given as goal
+use Rattle.fkv_worlds.proofs.states.State.gather.Given as goal
 
 -- the map has what is live in the partitions so far
 abbrev pub invariant-loop-partition : goal.invariant-loop-partition

@@ -2,7 +2,7 @@ use Rattle.std.proofs.Common.{◌-◌, zero, suc, Some, None, Err, refl, sym, su
 use Rattle.fkv_functions.specs.declared.refusals.Refused.TheVariants.{Stalled}
 use Rattle.fkv_worlds.specs.declared.steps.Step.TheVariants.{Go}
 use Rattle.fkv_worlds.specs.Reports.{Pursues, unkept, stalls, ends, goes_on}
-use Rattle.fkv_worlds.proofs.worlds.World.pursue.Goals as goal
+use Rattle.fkv_worlds.proofs.worlds.World.follow.Goals as goal
 
 pub loop-init : goal.loop-init
 loop-init g c = λ n new result all p. subst (λ k. Pursues g.F.Key.Ord.cmp g.F.Functions.meaning g.F.Functions.code c.args.pursuit c.args.place new result k (Go c.args.place) c.args.self.now) (omega arith) p
@@ -11,20 +11,20 @@ pub loop-preserved : goal.loop-preserved
 loop-preserved g c = λ n new result all p. c.loop.invariant (suc n) new result (omega arith)
     (goes_on n c.loop.step c.in-Some-following.next c.loop.self c.try_step.new.self c.in-Some.told c.in-Some.ensures.kept (sym c.in-Some-following.ensures) p)
 
-pub returns-in_default-clause-pursues : goal.returns-in_default-clause-pursues
-returns-in_default-clause-pursues g c =
+pub returns-in_default : goal.returns-in_default
+returns-in_default g c =
     let within = c.loop-test.true in
     c.loop.invariant (suc (10000 - suc c.loop.counter)) c.try_step.new.self None (omega arith)
     (unkept (10000 - suc c.loop.counter) c.loop.step c.loop.self c.in_default.ensures.none refl)
 
-pub returns-in_default-following-clause-pursues : goal.returns-in_default-following-clause-pursues
-returns-in_default-following-clause-pursues g c =
+pub returns-in_default-following : goal.returns-in_default-following
+returns-in_default-following g c =
     let within = c.loop-test.true in
     c.loop.invariant (suc (10000 - suc c.loop.counter)) c.try_step.new.self (Some c.in-Some.told) (omega arith)
     (ends (10000 - suc c.loop.counter) c.loop.step c.loop.self c.in-Some.told c.in-Some.ensures.kept (sym c.in_default-following.ensures) refl)
 
-pub returns-clause-pursues : goal.returns-clause-pursues
-returns-clause-pursues g c =
+pub returns : goal.returns
+returns g c =
     let past = c.loop-test.false in
     let end = c.loop.auto in
     c.loop.invariant zero c.loop.self (Some (Err Stalled)) (omega arith) (stalls c.loop.step c.loop.self refl refl)

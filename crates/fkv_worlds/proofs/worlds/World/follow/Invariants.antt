@@ -4,7 +4,7 @@ use Rattle.fkv_worlds.specs.declared.outcomes.Outcome.{Outcome}
 use Rattle.fkv_worlds.specs.declared.steps.Step.TheVariants.{Go}
 use Rattle.fkv_worlds.specs.States.{WorldView}
 use Rattle.fkv_worlds.specs.Reports.{Pursues}
-use Rattle.fkv_worlds.proofs.worlds.World.pursue.Given as goal
+use Rattle.fkv_worlds.proofs.worlds.World.follow.Given as goal
 
 -- whatever the steps that are left come to, all of them come to
 abbrev pub invariant-loop : goal.invariant-loop

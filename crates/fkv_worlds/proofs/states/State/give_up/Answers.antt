@@ -1,8 +1,0 @@
-use Rattle.fkv_worlds.specs.declared.steps.Step.TheVariants.{GiveUp}
-use Rattle.fkv_worlds.proofs.ActsLemmas.{acts-untimely}
-use Rattle.fkv_worlds.proofs.states.State.give_up.Goals as goal
-
-pub returns-in-Err : goal.returns-in-Err
-returns-in-Err g c = record {
-  does = acts-untimely g.F.Key.Ord.cmp g.F.Functions.meaning g.F.Functions.code c.args.self.now (GiveUp c.args.place) c.in-Err.refused (λ w h. absurd (cc)) c.in-Err.ensures.err;
-}
