@@ -13,8 +13,8 @@ use Rattle.fkv_worlds.specs.declared.steps.Place.{Place}
 use Rattle.fkv_worlds.specs.declared.steps.Step.{Step}
 use Rattle.fkv_worlds.specs.Histories.{answer_by, answers_in}
 use Rattle.fkv_worlds.specs.Reports.{IsKept, RunsTo, Pursues, unkept, stalls, ends, goes_on, follows}
-use Rattle.fkv_steps.specs.declared.scripts.lines.Line.{Line}
-use Rattle.fkv_steps.specs.declared.scripts.lines.Line.TheVariants.{Enter, Leave, Issue, Do, Go, Install, GiveUp, Ready, Finish}
+use Rattle.fkv_scripts.specs.declared.lines.Line.{Line}
+use Rattle.fkv_scripts.specs.declared.lines.Line.TheVariants.{Enter, Leave, Issue, Do, Go, Install, GiveUp, Ready, Finish}
 use Rattle.fkv_worlds.specs.States.{WorldView}
 use Rattle.fkv_steps.specs.Running.{FinishesIssued, RunsLine, RunLines}
 

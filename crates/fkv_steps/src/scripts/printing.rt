@@ -1,12 +1,11 @@
-//! What a replay prints, and writing it out.
-ghost use Rattle.std.specs.Prelude.{◌≡◌, ◌++◌, ℕ, List, Some, Err, IfOk, IfErr, OnOk, OnErr};
-ghost use Rattle.std.specs.Io.KnownBytes.{Appends};
-ghost use Rattle.fkv_steps.specs.Printing.{step_text, steps_text, pair_text, map_text, line, AppendsPrefix};
+//! What a replay prints.
+ghost use Rattle.std.specs.Prelude.{◌≡◌, ◌++◌, IfOk, IfErr, OnOk};
+ghost use Rattle.fkv_steps.specs.Printing.{step_text, steps_text, pair_text, map_text, line};
 
 use fkv_functions::{Name, Refused};
 use fkv_worlds::{Outcome, Printed};
 use std::alloc::Global;
-use std::io::{ErrorKind, Write};
+use std::io::Write;
 
 /// The whole text that a replay prints: a line for each step, then the number of live keys, and a line
 /// for each of them in the order given. Refused: `NoMemory`.
@@ -73,32 +72,4 @@ fn add_pair<V: Printed>(text: &mut Vec<u8>, key: &Name, value: &V) -> Result<(),
         return Err(Refused::NoMemory);
     };
     Ok(())
-}
-
-/// Writes these bytes, in order and no others. `Unwritable` where the writer fails or takes no more: then
-/// the bytes that it took are the first of them.
-pub fn write_out<W: Write>(writer: &mut W, bytes: &[u8]) -> Result<(), Refused>
-    ensures ok { OnOk result (Appends (W.contents writer.old) (W.contents writer.new) bytes.now) }
-    ensures only { IfErr result (λ refused. refused ≡ Refused.Unwritable) }
-    ensures err { OnErr result (AppendsPrefix (W.contents writer.old) (W.contents writer.new) bytes.now) }
-{
-    let mut done = 0;
-    for _try in 0..u64::MAX {
-        if done == bytes.len() {
-            return match writer.flush() {
-                Ok(()) => Ok(()),
-                Err(_) => Err(Refused::Unwritable),
-            };
-        }
-        match writer.write(&bytes[done..]) {
-            Ok(0) => return Err(Refused::Unwritable),
-            Ok(count) => done += count,
-            Err(error) => {
-                if error.kind() != ErrorKind::Interrupted {
-                    return Err(Refused::Unwritable);
-                }
-            }
-        }
-    }
-    Err(Refused::Unwritable)
 }
