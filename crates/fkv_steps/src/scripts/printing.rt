@@ -19,10 +19,15 @@ pub fn text_of<V: Printed, O: Printed>(
 {
     let mut text = Vec::new(alloc);
     for step in steps {
-        add_step(&mut text, step)?;
+        match add_step(&mut text, step) {
+            Ok(()) => {}
+            Err(refused) => return Err(refused),
+        }
     }
-    add_map(&mut text, pairs)?;
-    Ok(text)
+    match add_map(&mut text, pairs) {
+        Ok(()) => Ok(text),
+        Err(refused) => Err(refused),
+    }
 }
 
 /// Adds the line of a step.
@@ -54,7 +59,10 @@ fn add_map<V: Printed>(text: &mut Vec<u8>, pairs: &[(Name, V)]) -> Result<(), Re
         return Err(Refused::NoMemory);
     };
     for (key, value) in pairs {
-        add_pair(text, key, value)?;
+        match add_pair(text, key, value) {
+            Ok(()) => {}
+            Err(refused) => return Err(refused),
+        }
     }
     Ok(())
 }

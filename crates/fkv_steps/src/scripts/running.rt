@@ -2,6 +2,8 @@
 ghost use Rattle.std.specs.Prelude.{◌≡◌, ◌≢◌, ◌⊎◌, ℕ, List, Err, true, IfOk, IfErr, IfSome, OnOk};
 ghost use Rattle.fkv_records.specs.Records.{size_of};
 ghost use Rattle.fkv_partition.specs.Limits.{IsWithinLimits};
+ghost use Rattle.fkv_partition.specs.declared.limits.Config.{Config};
+ghost use Rattle.fkv_worlds.specs.States.{empty_world};
 ghost use Rattle.fkv_scripts.specs.declared.lines.Line.{Line};
 ghost use Rattle.fkv_functions.specs.Names.{name_cmp};
 ghost use Rattle.std.specs.Io.KnownBytes.{Appends};
@@ -149,12 +151,37 @@ where
     ensures bad { result ≡ Err Refused.BadConfig → ¬ IsWithinLimits config.now (size_of 32 F.Value.SIZE) }
     ensures only { IfErr result (λ refused. (refused ≡ Refused.BadConfig) ⊎ (refused ≡ Refused.NoMemory)) }
 {
-    let mut world = World::<F>::new(alloc, config)?;
-    let told = run_lines(alloc, &mut world, functions, lines)?;
+    match World::<F>::new(alloc, config) {
+        Ok(mut world) => printed_in(alloc, &mut world, functions, lines),
+        Err(refused) => Err(refused),
+    }
+}
+
+/// The text that the lines print, run in this world. Refused: `NoMemory`.
+fn printed_in<F: Functions<Key = Name, Input = i64>>(
+    alloc: Global,
+    world: &mut World<F>,
+    functions: &F,
+    lines: &[Line],
+) -> Result<Vec<u8>, Refused>
+where
+    F::Value: Written + Printed,
+    F::Output: Printed,
+    // Of whatever configuration the world is, with nothing in it.
+    ensures ok { IfOk result (λ text. (config : Config) (size : ℕ) → world.old ≡ empty_world config size
+        → IsPrintedBy name_cmp F.meaning F.code F.Value.written F.Value.text F.Output.text config size
+        lines.now text.items) }
+    ensures only { IfErr result (λ refused. refused ≡ Refused.NoMemory) }
+{
+    let told = match run_lines(alloc, world, functions, lines) {
+        Ok(told) => told,
+        Err(refused) => return Err(refused),
+    };
     world.headline();
-    let pairs = world.live(alloc)?;
-    let text = text_of(alloc, &told, &pairs)?;
-    Ok(text)
+    match world.live(alloc) {
+        Ok(pairs) => text_of(alloc, told.as_slice(), pairs.as_slice()),
+        Err(refused) => Err(refused),
+    }
 }
 
 /// Reads a script to its end, does what its lines say, and writes what they tell: a line for each, then
