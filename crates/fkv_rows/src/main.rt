@@ -6,6 +6,7 @@
 #![tactic(auto)]
 
 use fkv_steps::scripts::run_script;
+use fkv_streams::{CountedReader, CountedWriter};
 use std::io::{self, Write};
 
 fn main(rt: HostRuntime) -> io::Result<()> {
@@ -16,7 +17,12 @@ fn main(rt: HostRuntime) -> io::Result<()> {
             continue;
         };
         writeln!(writer, "==== {title}")?;
-        if let Err(refused) = run_script(rt.alloc(), script.as_bytes(), &mut writer) {
+        let told = run_script(
+            rt.alloc(),
+            &mut CountedReader::new(script.as_bytes()),
+            &mut CountedWriter::new(&mut writer),
+        );
+        if let Err(refused) = told {
             writeln!(writer, "{refused}")?;
         }
     }

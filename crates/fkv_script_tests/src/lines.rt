@@ -3,10 +3,11 @@ use fkv_functions::{Name, Refused};
 use fkv_operations::Op;
 use fkv_steps::Place;
 use fkv_steps::scripts::{FunctionsName, LIMIT, Line, Opening, Script, one_reading, read_script};
+use fkv_streams::CountedReader;
 use std::alloc::Global;
 
 fn read(alloc: Global, text: &str) -> Result<Script, Refused> {
-    read_script(alloc, text.as_bytes(), LIMIT)
+    read_script(alloc, &mut CountedReader::new(text.as_bytes()), LIMIT)
 }
 
 /// What an operation is, its key and its amount.
@@ -193,7 +194,7 @@ const LIMITED: [(&str, u32, Option<u64>); 9] = [
 
 /// The bad line of bytes, if one is.
 fn bad_line(alloc: Global, bytes: &[u8], limit: u32) -> Result<Option<u64>, Refused> {
-    match read_script(alloc, bytes, limit) {
+    match read_script(alloc, &mut CountedReader::new(bytes), limit) {
         Ok(_) => Ok(None),
         Err(Refused::BadScript { line }) => Ok(Some(line)),
         Err(refused) => Err(refused),

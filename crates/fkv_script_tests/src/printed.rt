@@ -3,6 +3,7 @@ use fkv_functions::{Name, Refused, What};
 use fkv_operations::Answer;
 use fkv_steps::Outcome;
 use fkv_steps::scripts::{LIMIT, read_script, text_of};
+use fkv_streams::CountedReader;
 use std::alloc::Global;
 
 type Told = Result<Outcome<i128, i128>, Refused>;
@@ -93,8 +94,12 @@ fn printed_texts(rt: HostRuntime) {
 
 /// Whether a script of so many lines is read, again where memory is refused once.
 fn is_read(alloc: Global, text: &str, lines: usize) -> bool {
-    let script = match read_script(alloc, text.as_bytes(), LIMIT) {
-        Err(Refused::NoMemory) => read_script(alloc, text.as_bytes(), LIMIT),
+    let script = match read_script(alloc, &mut CountedReader::new(text.as_bytes()), LIMIT) {
+        Err(Refused::NoMemory) => read_script(
+            alloc,
+            &mut CountedReader::new(text.as_bytes()),
+            LIMIT,
+        ),
         script => script,
     };
     match script {

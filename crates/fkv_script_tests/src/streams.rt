@@ -1,14 +1,16 @@
 //! Readers and writers that fail, and refused growths.
 use crate::failing::{Breaking, Filling};
 use fkv_functions::Refused;
-use fkv_steps::scripts::{LIMIT, read_script, run_script, write_out};
+use fkv_steps::scripts::{LIMIT, read_script, run_script};
+use fkv_streams::{CountedReader, CountedWriter, write_out};
 use std::alloc::Global;
-use std::io::ErrorKind;
+use std::io::{ErrorKind, Write};
 
 /// What reading a text is refused by, where the call after so many fails.
 fn broken(alloc: Global, text: &str, left: u64, kind: ErrorKind) -> Option<Refused> {
     let text = text.as_bytes();
-    read_script(alloc, Breaking { text, left, kind }, LIMIT).err()
+    let mut reader = CountedReader::new(Breaking { text, left, kind });
+    read_script(alloc, &mut reader, LIMIT).err()
 }
 
 const UNREADABLE: Option<Refused> = Some(Refused::Unreadable { number: 1 });
@@ -41,7 +43,8 @@ fn is_unreadable(alloc: Global, text: &str, left: u64) -> bool {
     let mut written = Vec::new(alloc);
     let text = text.as_bytes();
     let kind = ErrorKind::Other;
-    let told = run_script(alloc, Breaking { text, left, kind }, &mut written);
+    let mut reader = CountedReader::new(Breaking { text, left, kind });
+    let told = run_script(alloc, &mut reader, &mut CountedWriter::new(&mut written));
     told == Err(Refused::Unreadable { number: 1 }) && written.is_empty()
 }
 
@@ -79,7 +82,8 @@ fn is_written(
     taken: &[u8],
 ) -> bool {
     let mut writer = filling(alloc, left, kind);
-    write_out(&mut writer, BYTES) == told && writer.text.as_slice() == taken
+    let ended = write_out(&mut CountedWriter::new(&mut writer), BYTES);
+    ended == told && writer.text.as_slice() == taken
 }
 
 /// The call that fails, and what the writer took before it: four calls take bytes, and the fifth flushes.
@@ -136,10 +140,16 @@ c 2
 d 3
 ";
 
+/// Runs a script from memory.
+fn run_on<W: Write>(alloc: Global, script: &str, writer: &mut W) -> Result<(), Refused> {
+    let mut reader = CountedReader::new(script.as_bytes());
+    run_script(alloc, &mut reader, &mut CountedWriter::new(writer))
+}
+
 /// Whether a script whose writer fails after so many calls is refused, and the front of the output is written.
 fn is_unwritable(alloc: Global, left: u64) -> bool {
     let mut writer = filling(alloc, left, Some(ErrorKind::Other));
-    let told = run_script(alloc, SCRIPT.as_bytes(), &mut writer);
+    let told = run_on(alloc, SCRIPT, &mut writer);
     told == Err(Refused::Unwritable)
         && writer.text.len() as u64 == 3 * left.min(1000)
         && PRINTED.as_bytes().starts_with(writer.text.as_slice())
@@ -156,10 +166,8 @@ fn scripts_that_can_not_be_written(rt: HostRuntime) {
 /// written.
 fn is_run(alloc: Global) -> bool {
     let mut written = Vec::new(alloc);
-    let told = match run_script(alloc, SCRIPT.as_bytes(), &mut written) {
-        Err(Refused::NoMemory) if written.is_empty() => {
-            run_script(alloc, SCRIPT.as_bytes(), &mut written)
-        }
+    let told = match run_on(alloc, SCRIPT, &mut written) {
+        Err(Refused::NoMemory) if written.is_empty() => run_on(alloc, SCRIPT, &mut written),
         told => told,
     };
     // a writer that takes memory may itself be the one that is refused
@@ -173,4 +181,42 @@ fn is_run(alloc: Global) -> bool {
 #[test]
 fn refused_growths_are_called_again(rt: HostRuntime) {
     assert!(rt; is_run(rt.alloc()));
+}
+
+/// A script of so many lines, each of which is refused.
+fn long_script(alloc: Global, lines: u32) -> Option<Vec<u8>> {
+    let mut text = Vec::new(alloc);
+    if text.extend_from_slice(b"store sum 0 8 8 2\n").is_err() {
+        return None;
+    }
+    for _line in 0..lines {
+        if text.extend_from_slice(b"enter 7\n").is_err() {
+            return None;
+        }
+    }
+    Some(text)
+}
+
+/// What a long script that is read five bytes at a time is refused by, where the call after so many fails, and the
+/// number of bytes that it prints.
+fn long_run(alloc: Global, lines: u32, left: u64) -> Option<(Result<(), Refused>, usize)> {
+    let Some(script) = long_script(alloc, lines) else {
+        return None;
+    };
+    let mut reader = CountedReader::new(Breaking {
+        text: script.as_slice(),
+        left,
+        kind: ErrorKind::Other,
+    });
+    let mut written = Vec::new(alloc);
+    let told = run_script(alloc, &mut reader, &mut CountedWriter::new(&mut written));
+    Some((told, written.len()))
+}
+
+/// 12,000 lines are 96,018 bytes, and print 16 bytes each and six more.
+#[test]
+fn long_streams(rt: HostRuntime) {
+    assert!(rt; long_run(rt.alloc(), 12_000, 1_000_000) == Some((Ok(()), 192_006)));
+    let unreadable = Err(Refused::Unreadable { number: 1 });
+    assert!(rt; long_run(rt.alloc(), 12_000, 15_000) == Some((unreadable, 0)));
 }

@@ -1,8 +1,2 @@
-pub mod WordLemmas
-pub mod KeyLemmas
-pub mod GrammarLemmas
-pub mod LineLemmas
-pub mod ReadLemmas
-pub mod WriteLemmas
-pub mod OneReadingLemmas
+pub mod PrintingLemmas
 pub mod RunningLemmas

@@ -1,5 +1,5 @@
 -- Lines of a script in turn.
-use Rattle.std.proofs.Common.{◌≡◌, ℕ, ℤ, suc, List, [], ◌∷◌, ◌++◌, Option, Some, None, Result, Ok, Err, refl, sym, ◌∙◌, ap, subst}
+use Rattle.std.proofs.Common.{◌≡◌, ℕ, ℤ, List, [], ◌∷◌, ◌++◌, Option, Some, Result, Ok, Err, refl, sym, ◌∙◌, ap, subst}
 use Rattle.std.specs.declared.cmp.Ordering.{Ordering}
 use Rattle.fkv_functions.specs.Meanings.{Meanings}
 use Rattle.fkv_functions.specs.declared.names.Name.{Name}
@@ -13,10 +13,20 @@ use Rattle.fkv_worlds.specs.declared.steps.Place.{Place}
 use Rattle.fkv_worlds.specs.declared.steps.Step.{Step}
 use Rattle.fkv_worlds.specs.Histories.{answer_by, answers_in}
 use Rattle.fkv_worlds.specs.Reports.{IsKept, RunsTo, Pursues, unkept, stalls, ends, goes_on, follows}
-use Rattle.fkv_steps.specs.declared.scripts.lines.Line.{Line}
-use Rattle.fkv_steps.specs.declared.scripts.lines.Line.TheVariants.{Enter, Leave, Issue, Do, Go, Install, GiveUp, Ready, Finish}
-use Rattle.fkv_worlds.specs.States.{WorldView}
-use Rattle.fkv_steps.specs.Running.{FinishesIssued, RunsLine, RunLines}
+use Rattle.fkv_scripts.specs.declared.lines.Line.{Line}
+use Rattle.fkv_scripts.specs.declared.lines.Line.TheVariants.{Enter, Leave, Issue, Do, Go, Install, GiveUp, Ready, Finish}
+use Rattle.std.specs.Prelude.{IfOk}
+use Rattle.std.specs.BTreeMap.{is_at}
+use Rattle.std.specs.Map.{lookup, keys_of}
+use Rattle.std.specs.List.Sorted.{IsStrictlySortedBy}
+use Rattle.fkv_functions.specs.Names.{name_cmp}
+use Rattle.fkv_partition.specs.declared.limits.Config.{Config}
+use Rattle.fkv_worlds.specs.States.{WorldView, empty_world}
+use Rattle.fkv_worlds.specs.Headline.{IsHeadline}
+use Rattle.fkv_worlds.specs.Worlds.{world_live}
+use Rattle.fkv_worlds.proofs.HistoryLemmas.{issued-runs}
+use Rattle.fkv_steps.specs.Printing.{steps_text, map_text}
+use Rattle.fkv_steps.specs.Running.{FinishesIssued, RunsLine, RunLines, IsPrintedBy}
 
 pub lines-append : {V O : Type 0} (cmp : Name → Name → Ordering) (f : Meanings Name V ℤ O) (code : Name → ℕ) (written : ℤ → V) (v u w : WorldView Name V ℤ O) (ls : List Line) (ts : List (Result (Outcome V O) Refused)) (l : Line) (t : Result (Outcome V O) Refused)
     → RunLines cmp f code written v ls ts u → RunsLine cmp f code written u w t l → RunLines cmp f code written v (ls ++ l ∷ []) (ts ++ t ∷ []) w
@@ -130,3 +140,36 @@ module _ {V O : Type 0} (cmp : Name → Name → Ordering) (f : Meanings Name V 
   run-lines v w [] (t ∷ ts) h = absurd h
   run-lines v w (l ∷ ls) [] h = absurd h
   run-lines v w (l ∷ ls) (t ∷ ts) h = run-joined cmp f code v h.0 w (t ∷ []) ts (run-line v h.0 t l h.1) (run-lines h.0 w ls ts h.2)
+
+-- what holds of each value of one kind holds of the value that is there
+pub if-ok : {T E : Type 0} (P Q : T → Type 0) (r : Result T E) → ((x : T) → P x → Q x) → IfOk r P → IfOk r Q
+if-ok P Q (Ok x) f h = f x h
+if-ok P Q (Err e) f h = tt
+
+module _ {V O : Type 0} (f : Meanings Name V ℤ O) (code : Name → ℕ) (written : ℤ → V) (value : V → List ℕ) (shown : O → List ℕ) where
+  -- lines that were run in a world with nothing in it, and the text of what they told and of the live map
+  pub prints : (config : Config) (size : ℕ) (lines : List Line) (text : List ℕ) (v w : WorldView Name V ℤ O) (told : List (Result (Outcome V O) Refused)) (pairs : List (Name × V))
+      → v ≡ empty_world config size
+      → RunLines name_cmp f code written v lines told w
+      → IsHeadline name_cmp f code w
+      → ((k : Name) → lookup (is_at (name_cmp k)) pairs ≡ world_live name_cmp code w.state.partitions k)
+      → IsStrictlySortedBy name_cmp (keys_of pairs)
+      → text ≡ steps_text value shown told ++ map_text value pairs
+      → IsPrintedBy name_cmp f code written value shown config size lines text
+  prints config size lines text v w told pairs empty ran headline map rising printed =
+      let ran_there : RunLines name_cmp f code written (empty_world config size) lines told w = rw empty at ran in
+      let run = run-lines name_cmp f code written (empty_world config size) w lines told ran_there in
+      record {
+        world = w;
+        told = told;
+        pairs = pairs;
+        ran = ran_there;
+        headline = headline;
+        steps = run.steps;
+        stepped = run.ran;
+        issued = issued-runs name_cmp f code config size w run.steps run.ran;
+        answers = sym run.answers;
+        map = map;
+        rising = rising;
+        printed = printed;
+      }

@@ -1,10 +1,10 @@
-pub mod Words
-pub mod Grammar
-pub mod Reading
-pub mod Script
-pub mod OneReading
 pub mod Printing
 pub mod Running
+pub use Rattle.fkv_scripts.specs.Words
+pub use Rattle.fkv_scripts.specs.Grammar
+pub use Rattle.fkv_scripts.specs.Script
+pub use Rattle.fkv_scripts.specs.Configs
+pub use Rattle.fkv_scripts.specs.OneReading
 pub use Rattle.fkv_worlds.specs.Placed
 pub use Rattle.fkv_worlds.specs.Headline
 pub use Rattle.fkv_worlds.specs.Reports

@@ -1,7 +1,6 @@
 -- The text that a replay prints.
-use Rattle.std.specs.Prelude.{ℕ, List, Option, Result, Ok, Err, ◌++◌, ◌∷◌, [], length, take, codes, decimal}
+use Rattle.std.specs.Prelude.{ℕ, List, Result, Ok, Err, ◌++◌, ◌∷◌, [], length, codes, decimal}
 use Rattle.std.specs.List.{flat_map}
-use Rattle.std.specs.Io.KnownBytes.{Appends}
 use Rattle.fkv_functions.specs.Names.{text_of}
 use Rattle.fkv_functions.specs.RefusalNames.{name_of}
 use Rattle.fkv_functions.specs.declared.names.Name.{Name}
@@ -29,7 +28,3 @@ steps_text value shown steps = flat_map (λ r. line (step_text value shown r)) s
 -- how many keys are live, and a line for each in order
 abbrev pub map_text : {V : Type 0} → (V → List ℕ) → List (Name × V) → List ℕ
 map_text value pairs = line (codes "map " ++ decimal (length pairs)) ++ flat_map (λ p. line (pair_text value p)) pairs
-
--- bytes from the front of these were written, and no others
-abbrev pub AppendsPrefix : Option (List ℕ) → Option (List ℕ) → List ℕ → Type 0
-AppendsPrefix old new bytes = (n : ℕ) × Appends old new (take n bytes)

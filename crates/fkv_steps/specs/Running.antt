@@ -1,5 +1,5 @@
 -- What the lines of a script do, and what a whole script prints.
-use Rattle.std.specs.Prelude.{◌≡◌, ◌≤◌, length, ℕ, ℤ, pos, negsuc, List, [], ◌∷◌, ◌++◌, map, Option, Some, Result, Ok, Err}
+use Rattle.std.specs.Prelude.{◌≡◌, ◌≤◌, length, ℕ, ℤ, pos, negsuc, List, [], ◌∷◌, ◌++◌, map, Some, Result, Ok, Err}
 use Rattle.std.specs.declared.cmp.Ordering.{Ordering}
 use Rattle.std.specs.Fmt.{decimal, signed_decimal}
 use Rattle.std.specs.BTreeMap.{is_at}
@@ -20,29 +20,19 @@ use Rattle.fkv_worlds.specs.declared.outcomes.Outcome.TheVariants.{Entered, Left
 use Rattle.fkv_worlds.specs.declared.steps.Step.{Step}
 use Rattle.fkv_worlds.specs.declared.steps.Step.TheVariants as step
 use Rattle.fkv_worlds.specs.declared.pursuits.Pursuit.TheVariants as pursuit
-use Rattle.fkv_steps.specs.declared.scripts.lines.Line.{Line}
-use Rattle.fkv_steps.specs.declared.scripts.lines.Line.TheVariants.{Enter, Leave, Issue, Do, Go, Install, GiveUp, Ready, Finish}
-use Rattle.fkv_steps.specs.declared.scripts.lines.Opening.{Opening}
-use Rattle.fkv_steps.specs.declared.scripts.lines.FunctionsName.{FunctionsName}
-use Rattle.fkv_steps.specs.declared.scripts.lines.FunctionsName.TheVariants.{Count, Sum, Max}
-use Rattle.fkv_steps.specs.Script.{lines_of, SaysScript}
+use Rattle.fkv_scripts.specs.declared.lines.Line.{Line}
+use Rattle.fkv_scripts.specs.declared.lines.Line.TheVariants.{Enter, Leave, Issue, Do, Go, Install, GiveUp, Ready, Finish}
+use Rattle.fkv_scripts.specs.declared.lines.Opening.{Opening}
+use Rattle.fkv_scripts.specs.declared.lines.FunctionsName.{FunctionsName}
+use Rattle.fkv_scripts.specs.declared.lines.FunctionsName.TheVariants.{Count, Sum, Max}
+use Rattle.fkv_scripts.specs.Configs.{config_of}
+use Rattle.fkv_scripts.specs.Script.{lines_of, SaysScript}
 use Rattle.fkv_worlds.specs.States.{WorldView, empty_world}
 use Rattle.fkv_worlds.specs.Histories.{backwards, issues_in, issue_of, answers_in}
 use Rattle.fkv_worlds.specs.Headline.{IsHeadline}
 use Rattle.fkv_worlds.specs.Worlds.{world_live}
 use Rattle.fkv_worlds.specs.Reports.{IsKept, RunsTo, Pursues}
 use Rattle.fkv_steps.specs.Printing.{steps_text, map_text}
-
--- the configuration that a first line names; its id is 1, and its turns are 1,000,000
-abbrev pub config_of : Opening → Config
-config_of o = record {
-  id = 1;
-  partition_bits = o.partition_bits;
-  bucket_bits = o.bucket_bits;
-  page_bits = o.page_bits;
-  frames = o.frames;
-  turns = 1000000;
-}
 
 -- after an issue: what was issued is finished, and where nothing was that is what is told
 abbrev pub FinishesIssued : {V O : Type 0} → (Name → Name → Ordering) → Meanings Name V ℤ O → (Name → ℕ) → ℕ → ℕ

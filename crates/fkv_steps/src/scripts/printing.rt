@@ -1,12 +1,11 @@
-//! What a replay prints, and writing it out.
-ghost use Rattle.std.specs.Prelude.{◌≡◌, ◌++◌, ℕ, List, Some, Err, IfOk, IfErr, OnOk, OnErr};
-ghost use Rattle.std.specs.Io.KnownBytes.{Appends};
-ghost use Rattle.fkv_steps.specs.Printing.{step_text, steps_text, pair_text, map_text, line, AppendsPrefix};
+//! What a replay prints.
+ghost use Rattle.std.specs.Prelude.{◌≡◌, ◌++◌, IfOk, IfErr, OnOk};
+ghost use Rattle.fkv_steps.specs.Printing.{step_text, steps_text, pair_text, map_text, line};
 
 use fkv_functions::{Name, Refused};
 use fkv_worlds::{Outcome, Printed};
 use std::alloc::Global;
-use std::io::{ErrorKind, Write};
+use std::io::Write;
 
 /// The whole text that a replay prints: a line for each step, then the number of live keys, and a line
 /// for each of them in the order given. Refused: `NoMemory`.
@@ -20,10 +19,15 @@ pub fn text_of<V: Printed, O: Printed>(
 {
     let mut text = Vec::new(alloc);
     for step in steps {
-        add_step(&mut text, step)?;
+        match add_step(&mut text, step) {
+            Ok(()) => {}
+            Err(refused) => return Err(refused),
+        }
     }
-    add_map(&mut text, pairs)?;
-    Ok(text)
+    match add_map(&mut text, pairs) {
+        Ok(()) => Ok(text),
+        Err(refused) => Err(refused),
+    }
 }
 
 /// Adds the line of a step.
@@ -55,7 +59,10 @@ fn add_map<V: Printed>(text: &mut Vec<u8>, pairs: &[(Name, V)]) -> Result<(), Re
         return Err(Refused::NoMemory);
     };
     for (key, value) in pairs {
-        add_pair(text, key, value)?;
+        match add_pair(text, key, value) {
+            Ok(()) => {}
+            Err(refused) => return Err(refused),
+        }
     }
     Ok(())
 }
@@ -73,32 +80,4 @@ fn add_pair<V: Printed>(text: &mut Vec<u8>, key: &Name, value: &V) -> Result<(),
         return Err(Refused::NoMemory);
     };
     Ok(())
-}
-
-/// Writes these bytes, in order and no others. `Unwritable` where the writer fails or takes no more: then
-/// the bytes that it took are the first of them.
-pub fn write_out<W: Write>(writer: &mut W, bytes: &[u8]) -> Result<(), Refused>
-    ensures ok { OnOk result (Appends (W.contents writer.old) (W.contents writer.new) bytes.now) }
-    ensures only { IfErr result (λ refused. refused ≡ Refused.Unwritable) }
-    ensures err { OnErr result (AppendsPrefix (W.contents writer.old) (W.contents writer.new) bytes.now) }
-{
-    let mut done = 0;
-    for _try in 0..u64::MAX {
-        if done == bytes.len() {
-            return match writer.flush() {
-                Ok(()) => Ok(()),
-                Err(_) => Err(Refused::Unwritable),
-            };
-        }
-        match writer.write(&bytes[done..]) {
-            Ok(0) => return Err(Refused::Unwritable),
-            Ok(count) => done += count,
-            Err(error) => {
-                if error.kind() != ErrorKind::Interrupted {
-                    return Err(Refused::Unwritable);
-                }
-            }
-        }
-    }
-    Err(Refused::Unwritable)
 }

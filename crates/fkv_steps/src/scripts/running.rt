@@ -1,44 +1,31 @@
 //! Running a script from a reader to a writer.
-ghost use Rattle.std.specs.Prelude.{◌≡◌, ◌≢◌, ◌⊎◌, ℕ, List, Err, IfOk, IfErr, IfSome, OnOk};
+ghost use Rattle.std.specs.Prelude.{◌≡◌, ◌≢◌, ◌⊎◌, ℕ, List, Err, true, IfOk, IfErr, IfSome, OnOk};
 ghost use Rattle.fkv_records.specs.Records.{size_of};
 ghost use Rattle.fkv_partition.specs.Limits.{IsWithinLimits};
-ghost use Rattle.fkv_steps.specs.declared.scripts.lines.Line.{Line};
+ghost use Rattle.fkv_partition.specs.declared.limits.Config.{Config};
+ghost use Rattle.fkv_worlds.specs.States.{empty_world};
+ghost use Rattle.fkv_scripts.specs.declared.lines.Line.{Line};
 ghost use Rattle.fkv_functions.specs.Names.{name_cmp};
 ghost use Rattle.std.specs.Io.KnownBytes.{Appends};
-ghost use Rattle.fkv_steps.specs.Printing.{AppendsPrefix};
-ghost use Rattle.fkv_steps.specs.Script.{lines_of, IsBadAt};
-ghost use Rattle.fkv_steps.specs.Running.{config_of, op_of, RunsLine, RunLines, IsPrintedBy, IsOutputOf, HasBadConfig};
+ghost use Rattle.fkv_streams.specs.Counting.{CountsOnly};
+ghost use Rattle.fkv_streams.specs.Streams.{AppendsPrefix};
+ghost use Rattle.fkv_scripts.specs.Configs.{config_of};
+ghost use Rattle.fkv_scripts.specs.Script.{lines_of, IsBadAt};
+ghost use Rattle.fkv_steps.specs.Running.{op_of, record_size, RunsLine, RunLines, IsPrintedBy, Prints, IsOutputOf, HasBadConfig};
 
-use crate::scripts::lines::{FunctionsName, Line, Opening};
-use crate::scripts::printing::{text_of, write_out};
-use crate::scripts::reading::{LIMIT, read_script};
+use crate::scripts::printing::text_of;
 use crate::scripts::written::Written;
 use fkv_functions::{CountFns, Functions, MaxFns, Name, Refused, SumFns};
 use fkv_operations::Op;
 use fkv_partition::Config;
+use fkv_scripts::{FunctionsName, LIMIT, Line, Script, read_script};
+use fkv_streams::{Sink, Source, write_out};
 use fkv_worlds::Printed;
 use fkv_worlds::outcomes::{Outcome, OutcomeOf};
 use fkv_worlds::pursuits::Pursuit;
 use fkv_worlds::steps::{Place, Step};
 use fkv_worlds::worlds::World;
 use std::alloc::Global;
-use std::io::{Read, Write};
-
-impl Opening {
-    /// The configuration that the line names. Its id is 1, and its turns are 1,000,000.
-    pub fn config(&self) -> Config
-        ensures { result ≡ config_of self.now }
-    {
-        Config {
-            id: 1,
-            partition_bits: self.partition_bits,
-            bucket_bits: self.bucket_bits,
-            page_bits: self.page_bits,
-            frames: self.frames,
-            turns: 1_000_000,
-        }
-    }
-}
 
 /// The operation of a line, on values.
 fn on_values<V: Written>(op: Op<Name, i64, i64>) -> Op<Name, V, i64>
@@ -164,12 +151,37 @@ where
     ensures bad { result ≡ Err Refused.BadConfig → ¬ IsWithinLimits config.now (size_of 32 F.Value.SIZE) }
     ensures only { IfErr result (λ refused. (refused ≡ Refused.BadConfig) ⊎ (refused ≡ Refused.NoMemory)) }
 {
-    let mut world = World::<F>::new(alloc, config)?;
-    let told = run_lines(alloc, &mut world, functions, lines)?;
+    match World::<F>::new(alloc, config) {
+        Ok(mut world) => printed_in(alloc, &mut world, functions, lines),
+        Err(refused) => Err(refused),
+    }
+}
+
+/// The text that the lines print, run in this world. Refused: `NoMemory`.
+fn printed_in<F: Functions<Key = Name, Input = i64>>(
+    alloc: Global,
+    world: &mut World<F>,
+    functions: &F,
+    lines: &[Line],
+) -> Result<Vec<u8>, Refused>
+where
+    F::Value: Written + Printed,
+    F::Output: Printed,
+    // Of whatever configuration the world is, with nothing in it.
+    ensures ok { IfOk result (λ text. (config : Config) (size : ℕ) → world.old ≡ empty_world config size
+        → IsPrintedBy name_cmp F.meaning F.code F.Value.written F.Value.text F.Output.text config size
+        lines.now text.items) }
+    ensures only { IfErr result (λ refused. refused ≡ Refused.NoMemory) }
+{
+    let told = match run_lines(alloc, world, functions, lines) {
+        Ok(told) => told,
+        Err(refused) => return Err(refused),
+    };
     world.headline();
-    let pairs = world.live(alloc)?;
-    let text = text_of(alloc, &told, &pairs)?;
-    Ok(text)
+    match world.live(alloc) {
+        Ok(pairs) => text_of(alloc, told.as_slice(), pairs.as_slice()),
+        Err(refused) => Err(refused),
+    }
 }
 
 /// Reads a script to its end, does what its lines say, and writes what they tell: a line for each, then
@@ -179,29 +191,54 @@ where
 /// line that is bad; `BadConfig` where a number of the first line is outside its limits; `NoMemory`; and
 /// `Unwritable` where the writer fails: then the bytes that it took are the first of them. After any other
 /// refusal nothing is written.
-pub fn run_script<R: Read + Drop, W: Write>(
+pub fn run_script<R: Source, W: Sink>(
     alloc: Global,
-    reader: R,
+    reader: &mut R,
     writer: &mut W,
 ) -> Result<(), Refused>
-    ensures ok { OnOk result (IfSome (R.remaining reader) (λ input. (text : List ℕ) × IsOutputOf input text
+    ensures ok { OnOk result (IfSome (R.remaining reader.old) (λ input. (text : List ℕ) × IsOutputOf input text
         × Appends (W.contents writer.old) (W.contents writer.new) text)) }
-    ensures unwritable { result ≡ Err Refused.Unwritable → IfSome (R.remaining reader)
+    ensures unwritable { result ≡ Err Refused.Unwritable → IfSome (R.remaining reader.old)
         (λ input. (text : List ℕ) × IsOutputOf input text
         × AppendsPrefix (W.contents writer.old) (W.contents writer.new) text) }
     ensures nothing { IfErr result (λ e. e ≢ Refused.Unwritable → W.contents writer.new ≡ W.contents writer.old) }
     ensures bad { IfErr result (λ e. (n : ℕ) → e ≡ Refused.BadScript n
-        → IfSome (R.remaining reader) (λ input. IsBadAt 1000000 (lines_of input) n)) }
-    ensures config { result ≡ Err Refused.BadConfig → IfSome (R.remaining reader) HasBadConfig }
+        → IfSome (R.remaining reader.old) (λ input. IsBadAt 1000000 (lines_of input) n)) }
+    ensures config { result ≡ Err Refused.BadConfig → IfSome (R.remaining reader.old) HasBadConfig }
     ensures only { IfErr result (λ e. (e ≡ Refused.NoMemory) ⊎ (e ≡ Refused.Unreadable 1) ⊎ (e ≡ Refused.BadConfig)
         ⊎ (e ≡ Refused.Unwritable) ⊎ ((n : ℕ) × (e ≡ Refused.BadScript n))) }
+    // What was written is out.
+    ensures out { OnOk result (W.is_out writer.new ≡ true) }
+    // A stream is blamed where it counted a failure, and nowhere else.
+    ensures unread { CountsOnly (Refused.Unreadable 1) result (R.failures reader.old) (R.failures reader.new) }
+    ensures unwritten { CountsOnly Refused.Unwritable result (W.failures writer.old) (W.failures writer.new) }
 {
-    let script = read_script(alloc, reader, LIMIT)?;
-    let config = script.opening.config();
-    let text = match script.opening.functions {
-        FunctionsName::Count => printed_by(alloc, &CountFns, &config, &script.lines)?,
-        FunctionsName::Sum => printed_by(alloc, &SumFns, &config, &script.lines)?,
-        FunctionsName::Max => printed_by(alloc, &MaxFns, &config, &script.lines)?,
+    let script = match read_script(alloc, reader, LIMIT) {
+        Ok(script) => script,
+        Err(refused) => return Err(refused),
     };
-    write_out(writer, text.as_slice())
+    match output_of(alloc, &script) {
+        Ok(text) => write_out(writer, text.as_slice()),
+        Err(refused) => Err(refused),
+    }
+}
+
+/// The text that a script prints, with the functions that its first line names. Refused, in this order:
+/// `BadConfig` where a number of that line is outside its limits, `NoMemory`.
+fn output_of(alloc: Global, script: &Script) -> Result<Vec<u8>, Refused>
+    ensures ok { IfOk result (λ text. Prints script.now.opening.functions (config_of script.now.opening)
+        script.now.lines.items text.items) }
+    ensures good { result ≢ Err Refused.BadConfig → IsWithinLimits (config_of script.now.opening)
+        (record_size script.now.opening.functions) }
+    ensures bad { result ≡ Err Refused.BadConfig → ¬ IsWithinLimits (config_of script.now.opening)
+        (record_size script.now.opening.functions) }
+    ensures only { IfErr result (λ refused. (refused ≡ Refused.BadConfig) ⊎ (refused ≡ Refused.NoMemory)) }
+{
+    let config = script.opening.config();
+    let lines = script.lines.as_slice();
+    match script.opening.functions {
+        FunctionsName::Count => printed_by(alloc, &CountFns, &config, lines),
+        FunctionsName::Sum => printed_by(alloc, &SumFns, &config, lines),
+        FunctionsName::Max => printed_by(alloc, &MaxFns, &config, lines),
+    }
 }

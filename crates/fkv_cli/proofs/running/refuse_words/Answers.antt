@@ -1,6 +1,0 @@
-use Rattle.std.proofs.Common.{rules}
-use Rattle.fkv_cli.proofs.TellingLemmas.{told_from_front}
-use Rattle.fkv_cli.proofs.running.refuse_words.Goals as goal
-
-pub returns-clause-told : goal.returns-clause-told
-returns-clause-told g c = told_from_front _ _ _ _ (search rules) c.write_out-untold.result c.write_out-untold.ensures.ok c.write_out-untold.ensures.err

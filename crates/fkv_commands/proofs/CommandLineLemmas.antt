@@ -1,0 +1,24 @@
+-- What command lines that are written out ask for: by clap's rules, computed.
+use Rattle.std.proofs.Common.{refl}
+use Rattle.clap.proofs.OnLiterals.{clap_on_literals}
+use Rattle.fkv_commands.specs.CommandLines.{AsksByNoWord, AsksByReplay, AsksHelpByOption, IsMistakenWord, IsMistakenMore}
+
+pub no_word : AsksByNoWord
+unfolding clap_on_literals
+no_word name = refl
+
+pub replay_word : AsksByReplay
+unfolding clap_on_literals
+replay_word name = refl
+
+pub help_option : AsksHelpByOption
+unfolding clap_on_literals
+help_option name = refl
+
+pub other_word : IsMistakenWord
+unfolding clap_on_literals
+other_word name = refl
+
+pub one_more_word : IsMistakenMore
+unfolding clap_on_literals
+one_more_word name = refl

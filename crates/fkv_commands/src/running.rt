@@ -1,0 +1,98 @@
+//! Doing what a command line asks for.
+ghost use Rattle.std.specs.Prelude.{◌≡◌, ◌⊎◌, true, OnOk, map, codes, string_bytes};
+ghost use Rattle.fkv_streams.specs.Streams.{AppendsPrefix};
+ghost use Rattle.fkv_steps.specs.Printing.{line};
+ghost use Rattle.fkv_commands.specs.Requests.{AsksReplay, MayAskHelp, MayBeMistaken};
+ghost use Rattle.fkv_commands.specs.Endings.{PrintsAll, PrintsPart};
+
+use crate::requests::{Request, request_of};
+use crate::telling::Telling;
+use clap::Error;
+use fkv_functions::Refused;
+use fkv_steps::scripts::run_script;
+use fkv_streams::{Sink, Source, write_out};
+use std::alloc::Global;
+use std::io::Write;
+
+/// The status of a run that did what was asked.
+const DONE: u8 = 0;
+/// The status of a run that a fault ended.
+const FAULT: u8 = 1;
+/// The status of a run whose command line is mistaken.
+const MISTAKE: u8 = 2;
+
+/// Does what the words ask for, of which the first is the program's name, and answers the run's status.
+///
+/// `replay`, and no word, run the script that the reader gives and write what it tells. Status 0: it was
+/// done, whatever its lines were refused. Status 1: it was refused; `fkv_cli: ` and why stand on `faults`,
+/// and nothing was written, or where the writer failed the front of the output. `--help` writes help,
+/// status 0. Words that ask for nothing that the program does: clap's text on `faults`, status 2.
+pub fn run<R: Source, W: Sink, E: Sink>(
+    alloc: Global,
+    words: &[String],
+    reader: &mut R,
+    writer: &mut W,
+    faults: &mut E,
+) -> u8
+    ensures done { result ≡ 0 → (AsksReplay (map string_bytes words.now)
+        × PrintsAll (R.remaining reader.old) (W.contents writer.old) (W.contents writer.new))
+        ⊎ MayAskHelp (map string_bytes words.now) }
+    ensures quiet { result ≡ 0 → E.contents faults.new ≡ E.contents faults.old }
+    // What was written is out, and no failure of a stream is hidden.
+    ensures out { result ≡ 0 → W.is_out writer.new ≡ true }
+    ensures steady { result ≡ 0 → (R.failures reader.new ≡ R.failures reader.old)
+        × (W.failures writer.new ≡ W.failures writer.old) }
+    ensures fault { result ≡ 1 → (W.contents writer.new ≡ W.contents writer.old)
+        ⊎ (AsksReplay (map string_bytes words.now)
+        × PrintsPart (R.remaining reader.old) (W.contents writer.old) (W.contents writer.new))
+        ⊎ MayAskHelp (map string_bytes words.now) }
+    ensures mistake { result ≡ 2 → MayBeMistaken (map string_bytes words.now)
+        × (W.contents writer.new ≡ W.contents writer.old) }
+    ensures only { (result ≡ 0) ⊎ (result ≡ 1) ⊎ (result ≡ 2) }
+{
+    match request_of(alloc, words) {
+        Ok(Request::Replay) => match run_script(alloc, reader, writer) {
+            Ok(()) => DONE,
+            Err(refused) => tell(faults, refused),
+        },
+        Ok(Request::Help(text)) => match help(alloc, writer, &text) {
+            Ok(()) => DONE,
+            Err(refused) => tell(faults, refused),
+        },
+        Ok(Request::Mistake(text)) => {
+            let _untold = write!(Telling { sink: faults }, "{text}");
+            MISTAKE
+        }
+        Err(refused) => tell(faults, refused),
+    }
+}
+
+/// Writes help. Refused: `NoMemory`; `Unwritable` where the writer fails.
+fn help<W: Sink>(alloc: Global, writer: &mut W, text: &Error) -> Result<(), Refused>
+    ensures out { OnOk result (W.is_out writer.new ≡ true) }
+    ensures steady { OnOk result (W.failures writer.new ≡ W.failures writer.old) }
+{
+    let Ok(text) = format!(in alloc; "{text}") else {
+        return Err(Refused::NoMemory);
+    };
+    write_out(writer, text.as_bytes())
+}
+
+/// Tells a fault, and answers its status. Where it can not be told, the status tells it alone.
+pub fn tell<E: Sink>(faults: &mut E, refused: Refused) -> u8
+    ensures { result ≡ 1 }
+{
+    let _untold = writeln!(Telling { sink: faults }, "fkv_cli: {refused}");
+    FAULT
+}
+
+/// Refuses a command line with a word that is no text, in clap's own words, and answers its status.
+pub fn refuse_words<E: Sink>(faults: &mut E) -> u8
+    ensures status { result ≡ 2 }
+    ensures told { AppendsPrefix (E.contents faults.old) (E.contents faults.new)
+        (line (codes "error: invalid UTF-8 was detected in one or more arguments")) }
+{
+    let text = "error: invalid UTF-8 was detected in one or more arguments\n";
+    let _untold = write_out(faults, text.as_bytes());
+    MISTAKE
+}

@@ -1,0 +1,343 @@
+//! Whole runs as rows: their statuses, their texts, and streams that fail. Scripts stand in `fkv_rows`.
+use crate::laws::command_lines;
+use crate::running::{refuse_words, run, tell};
+use crate::words::words_of;
+use fkv_functions::{Refused, What};
+use fkv_streams::{CountedReader, CountedWriter};
+use std::alloc::{AllocError, Global};
+use std::env;
+use std::io::{self, Error, ErrorKind, Read, Write};
+
+const THIN_PATH: &str = "store sum 0 8 8 2
+enter 0
+do 0 0 rmw a 5
+do 0 0 rmw a -2
+do 0 0 read a
+";
+
+const THIN_PATH_TOLD: &str = "entered 0
+done value 5
+done value 3
+done value 3
+map 1
+a 3
+";
+
+const HELP: &str = "A proved key-value store for per-key state
+
+Usage: fkv_cli [COMMAND]
+
+Commands:
+  replay  Runs the script on standard input, and prints what it tells
+  help    Print this message or the help of the given subcommand(s)
+
+Options:
+  -h, --help  Print help
+";
+
+const REPLAY_HELP: &str = "Runs the script on standard input, and prints what it tells
+
+Usage: fkv_cli replay
+
+Options:
+  -h, --help  Print help
+";
+
+/// The words of a command line, parted by spaces.
+fn split(alloc: Global, line: &str) -> Result<Vec<String>, AllocError> {
+    let mut words = Vec::new(alloc);
+    for word in line.split(' ') {
+        let word = String::from_str(alloc, word)?;
+        words.push(word)?;
+    }
+    Ok(words)
+}
+
+/// Gives a text seven bytes at a time, and fails after so many calls.
+#[derive(Drop)]
+struct Breaking<'a> {
+    text: &'a [u8],
+    left: u64,
+}
+
+impl Read for Breaking<'_> {
+    fn read(&mut self, buf: &mut [u8]) -> io::Result<usize> {
+        if self.left == 0 {
+            return Err(Error::from(ErrorKind::Other));
+        }
+        self.left -= 1;
+        let count = buf.len().min(self.text.len()).min(7);
+        let (given, rest) = self.text.split_at(count);
+        buf[..count].copy_from_slice(given);
+        self.text = rest;
+        Ok(count)
+    }
+}
+
+/// Takes so many bytes, and fails where there are more.
+#[derive(Drop)]
+struct Filling {
+    text: Vec<u8>,
+    left: usize,
+}
+
+impl Write for Filling {
+    fn write(&mut self, buf: &[u8]) -> io::Result<usize> {
+        let count = buf.len().min(self.left);
+        if count == 0 && !buf.is_empty() {
+            return Err(Error::from(ErrorKind::Other));
+        }
+        self.text.extend_from_slice(&buf[..count])?;
+        self.left -= count;
+        Ok(count)
+    }
+
+    fn flush(&mut self) -> io::Result<()> {
+        Ok(())
+    }
+}
+
+/// A run: its command line, its input, the calls after which that fails, and the bytes after which the output and
+/// what stands beside it are full.
+#[derive(Clone, Copy)]
+struct Launch {
+    line: &'static str,
+    input: &'static str,
+    calls: u64,
+    room: usize,
+    beside: usize,
+}
+
+/// A run in which nothing fails.
+const fn start(line: &'static str, input: &'static str) -> Launch {
+    Launch {
+        line,
+        input,
+        calls: 1_000_000,
+        room: 1_000_000,
+        beside: 1_000_000,
+    }
+}
+
+/// Whether a run ends with this status, and prints this and tells what begins so.
+fn ends(alloc: Global, start: Launch, status: u8, printed: &str, told: &str) -> bool {
+    let Ok(words) = split(alloc, start.line) else {
+        return false;
+    };
+    let reader = Breaking {
+        text: start.input.as_bytes(),
+        left: start.calls,
+    };
+    let mut writer = Filling {
+        text: Vec::new(alloc),
+        left: start.room,
+    };
+    let mut faults = Filling {
+        text: Vec::new(alloc),
+        left: start.beside,
+    };
+    let ended = run(
+        alloc,
+        words.as_slice(),
+        &mut CountedReader::new(reader),
+        &mut CountedWriter::new(&mut writer),
+        &mut CountedWriter::new(&mut faults),
+    );
+    let is_told = if status == 2 {
+        faults.text.starts_with(told.as_bytes())
+    } else {
+        faults.text.as_slice() == told.as_bytes()
+    };
+    ended == status && writer.text.as_slice() == printed.as_bytes() && is_told
+}
+
+/// Command lines, inputs, statuses, what is printed, and what is told beside it; of a mistake its first line.
+const RUNS: [(&str, &str, u8, &str, &str); 17] = [
+    ("fkv_cli", THIN_PATH, 0, THIN_PATH_TOLD, ""),
+    ("fkv_cli replay", THIN_PATH, 0, THIN_PATH_TOLD, ""),
+    ("fkv_cli --", THIN_PATH, 0, THIN_PATH_TOLD, ""),
+    ("fkv_cli replay", "store sum 0 8 8 2", 0, "map 0\n", ""),
+    // a replay with refused steps is done
+    (
+        "fkv_cli",
+        "store sum 0 8 8 2\nread 0 0 a\nenter 0\nenter 1\n",
+        0,
+        "refused Unknown\nentered 0\nrefused Unknown\nmap 0\n",
+        "",
+    ),
+    ("fkv_cli replay", "", 1, "", "fkv_cli: bad script line 1\n"),
+    (
+        "fkv_cli replay",
+        "store sum 0 8 8 2\nenter\nenter 0\n",
+        1,
+        "",
+        "fkv_cli: bad script line 2\n",
+    ),
+    (
+        "fkv_cli replay",
+        "store sum 0 8 7 2\n",
+        1,
+        "",
+        "fkv_cli: bad configuration\n",
+    ),
+    // where a line is bad the configuration is not asked
+    (
+        "fkv_cli",
+        "store sum 0 8 7 2\nenter\n",
+        1,
+        "",
+        "fkv_cli: bad script line 2\n",
+    ),
+    ("fkv_cli --help", THIN_PATH, 0, HELP, ""),
+    ("fkv_cli -h", THIN_PATH, 0, HELP, ""),
+    ("fkv_cli help", "", 0, HELP, ""),
+    ("fkv_cli replay --help", "", 0, REPLAY_HELP, ""),
+    (
+        "fkv_cli reply",
+        THIN_PATH,
+        2,
+        "",
+        "error: unrecognized subcommand 'reply'\n",
+    ),
+    (
+        "fkv_cli replay more",
+        THIN_PATH,
+        2,
+        "",
+        "error: unexpected argument 'more' found\n",
+    ),
+    (
+        "fkv_cli --workers",
+        THIN_PATH,
+        2,
+        "",
+        "error: unexpected argument '--workers' found\n",
+    ),
+    (
+        "fkv_cli help more",
+        THIN_PATH,
+        2,
+        "",
+        "error: unrecognized subcommand 'more'\n",
+    ),
+];
+
+#[test]
+fn runs(rt: HostRuntime) {
+    command_lines();
+    for (at, (line, input, status, printed, told)) in RUNS.iter().enumerate() {
+        let start = start(line, input);
+        assert!(rt; ends(rt.alloc(), start, *status, printed, told), "run {at}");
+    }
+}
+
+/// Eleven calls give the text, and the twelfth its end.
+#[test]
+fn a_reader_that_fails(rt: HostRuntime) {
+    for calls in 0..13u64 {
+        let start = Launch {
+            calls,
+            ..start("fkv_cli", THIN_PATH)
+        };
+        let is_ended = if calls < 12 {
+            ends(rt.alloc(), start, 1, "", "fkv_cli: cannot read input 1\n")
+        } else {
+            ends(rt.alloc(), start, 0, THIN_PATH_TOLD, "")
+        };
+        assert!(rt; is_ended, "{calls}");
+    }
+}
+
+/// What a run prints whose output is full after so many bytes, and how it is told.
+const FULL: [(&str, usize, &str); 8] = [
+    ("fkv_cli", 0, ""),
+    ("fkv_cli", 1, "e"),
+    ("fkv_cli", 9, "entered 0"),
+    (
+        "fkv_cli",
+        55,
+        "entered 0\ndone value 5\ndone value 3\ndone value 3\nmap 1\n",
+    ),
+    ("fkv_cli --help", 0, ""),
+    ("fkv_cli --help", 1, "A"),
+    ("fkv_cli --help", 9, "A proved "),
+    (
+        "fkv_cli -h",
+        42,
+        "A proved key-value store for per-key state",
+    ),
+];
+
+#[test]
+fn a_writer_that_fails(rt: HostRuntime) {
+    for (line, room, printed) in FULL {
+        let start = Launch {
+            room,
+            ..start(line, THIN_PATH)
+        };
+        let told = "fkv_cli: cannot write output\n";
+        assert!(rt; ends(rt.alloc(), start, 1, printed, told), "{line} {room}");
+    }
+    for (line, printed) in [("fkv_cli", THIN_PATH_TOLD), ("fkv_cli --help", HELP)] {
+        let start = Launch {
+            room: printed.len(),
+            ..start(line, THIN_PATH)
+        };
+        assert!(rt; ends(rt.alloc(), start, 0, printed, ""), "{line}");
+    }
+}
+
+/// A run whose faults can not be told ends with its status.
+#[test]
+fn faults_that_can_not_be_told(rt: HostRuntime) {
+    for (line, status, told) in [("fkv_cli", 1, "fkv_"), ("fkv_cli reply", 2, "erro")] {
+        let start = Launch {
+            beside: 4,
+            ..start(line, "")
+        };
+        assert!(rt; ends(rt.alloc(), start, status, "", told), "{line}");
+    }
+}
+
+/// Refusals, and how they are told.
+const FAULTS: [(Refused, &[u8]); 4] = [
+    (Refused::NoMemory, b"fkv_cli: no memory\n"),
+    (Refused::Unwritable, b"fkv_cli: cannot write output\n"),
+    (
+        Refused::Unreadable { number: 7 },
+        b"fkv_cli: cannot read input 7\n",
+    ),
+    (
+        Refused::Stranger {
+            what: What::Page,
+            held: 2,
+            came: 0,
+        },
+        b"fkv_cli: stranger: held 2, came 0\n",
+    ),
+];
+
+/// Whether a refusal is told so, with status 1.
+fn is_told(alloc: Global, refused: Refused, text: &[u8]) -> bool {
+    let mut told = Vec::new(alloc);
+    let status = tell(&mut CountedWriter::new(&mut told), refused);
+    status == 1 && told.as_slice() == text
+}
+
+#[test]
+fn faults_are_told_by_their_texts(rt: HostRuntime) {
+    for (at, (refused, text)) in FAULTS.iter().enumerate() {
+        assert!(rt; is_told(rt.alloc(), *refused, text), "row {at}");
+    }
+    let mut told = Vec::new(rt.alloc());
+    assert!(rt; refuse_words(&mut CountedWriter::new(&mut told)) == 2);
+    let text = b"error: invalid UTF-8 was detected in one or more arguments\n";
+    assert!(rt; told.as_slice() == text.as_slice());
+}
+
+/// The words of the run that tests.
+#[test]
+fn words_of_the_process(rt: HostRuntime) {
+    let words = words_of(rt.alloc(), env::args(&rt));
+    assert!(rt; words.is_ok_and(|words| !words.is_empty()));
+}

@@ -1,0 +1,9 @@
+//! The program of the store, run with a word that asks for nothing that it does: status 2, and nothing on standard
+//! output. It is the same call as that of `fkv_cli`.
+#![tactic(auto)]
+
+use std::process::ExitCode;
+
+fn main(rt: HostRuntime) -> ExitCode {
+    fkv_commands::start(&rt, &rt.stderr())
+}

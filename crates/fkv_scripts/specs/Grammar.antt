@@ -1,0 +1,95 @@
+-- How each line of a script is written: its words, one by one.
+use Rattle.std.specs.Prelude.{◌≡◌, true, ℕ, ℤ, pos, List, [], ◌∷◌, Some, codes}
+use Rattle.fkv_functions.specs.Names.{text_of}
+use Rattle.fkv_functions.specs.declared.names.Name.{Name}
+use Rattle.fkv_operations.specs.declared.operations.Op.{Op}
+use Rattle.fkv_operations.specs.declared.operations.Op.TheVariants.{Read, Upsert, Rmw, Delete}
+use Rattle.fkv_scripts.specs.Words.{words_of, number_of, amount_of, is_key}
+use Rattle.fkv_scripts.specs.declared.lines.FunctionsName.{FunctionsName}
+use Rattle.fkv_scripts.specs.declared.lines.FunctionsName.TheVariants.{Count, Sum, Max}
+use Rattle.fkv_scripts.specs.declared.lines.Opening.{Opening}
+use Rattle.fkv_worlds.specs.declared.steps.Place.{Place}
+use Rattle.fkv_scripts.specs.declared.lines.Line.{Line}
+use Rattle.fkv_scripts.specs.declared.lines.Line.TheVariants.{Enter, Leave, Issue, Do, Go, Install, GiveUp, Ready, Finish}
+
+-- what a word of a line stands for
+pub data Token : Type 0 where
+  word : List ℕ → Token
+  number : ℕ → Token
+  key : Name → Token
+  amount : ℤ → Token
+
+-- this word stands for that
+abbrev pub Spells : List ℕ → Token → Type 0
+Spells text (word w) = text ≡ w
+Spells text (number n) = number_of text ≡ Some n
+Spells text (key k) = (is_key text ≡ true) × (text_of k ≡ text)
+Spells text (amount z) = amount_of text ≡ Some z
+
+-- each word stands for the token beside it, and there are as many
+abbrev pub SpellAll : List (List ℕ) → List Token → Type 0
+SpellAll [] [] = Unit {0}
+SpellAll [] (t ∷ ts) = ⊥
+SpellAll (w ∷ ws) [] = ⊥
+SpellAll (w ∷ ws) (t ∷ ts) = Spells w t × SpellAll ws ts
+
+abbrev pub place : Place → List Token
+place p = number p.partition ∷ number p.slot ∷ number p.context ∷ []
+
+-- an operation of a line: what it writes is an amount
+abbrev pub verb : Op Name ℤ ℤ → Token
+verb (Read k i) = word (codes "read")
+verb (Upsert k n) = word (codes "upsert")
+verb (Rmw k n) = word (codes "rmw")
+verb (Delete k) = word (codes "delete")
+
+abbrev pub operands : Op Name ℤ ℤ → List Token
+operands (Read k i) = key k ∷ []
+operands (Upsert k n) = key k ∷ amount n ∷ []
+operands (Rmw k n) = key k ∷ amount n ∷ []
+operands (Delete k) = key k ∷ []
+
+-- how each line but the first is written
+abbrev pub tokens : Line → List Token
+tokens (Enter p) = word (codes "enter") ∷ number p ∷ []
+tokens (Leave p s) = word (codes "leave") ∷ number p ∷ number s ∷ []
+tokens (Issue p s o) = verb o ∷ number p ∷ number s ∷ operands o
+tokens (Do p s o) = word (codes "do") ∷ number p ∷ number s ∷ verb o ∷ operands o
+tokens (Go p) = word (codes "go") ∷ place p
+tokens (Install p) = word (codes "install") ∷ place p
+tokens (GiveUp p) = word (codes "giveup") ∷ place p
+tokens (Ready p) = word (codes "ready") ∷ place p
+tokens (Finish p) = word (codes "finish") ∷ place p
+
+-- a read's input is 0, for which there is no word
+abbrev pub ReadsWithZero : Op Name ℤ ℤ → Type 0
+ReadsWithZero (Read k i) = i ≡ pos 0
+ReadsWithZero other = Unit {0}
+
+-- a line can be written: what it asks a read with is 0
+abbrev pub HasText : Line → Type 0
+HasText (Issue p s o) = ReadsWithZero o
+HasText (Do p s o) = ReadsWithZero o
+HasText other = Unit {0}
+
+abbrev pub Spelled : List (List ℕ) → Line → Type 0
+Spelled ws l = SpellAll ws (tokens l) × HasText l
+
+-- the bytes of a line say this
+abbrev pub Says : List ℕ → Line → Type 0
+Says bytes l = Spelled (words_of bytes) l
+
+abbrev pub functions_name : FunctionsName → Token
+functions_name Count = word (codes "count")
+functions_name Sum = word (codes "sum")
+functions_name Max = word (codes "max")
+
+-- how the first line is written
+abbrev pub opening : Opening → List Token
+opening o =
+    word (codes "store") ∷ functions_name o.functions
+    ∷ number o.partition_bits ∷ number o.bucket_bits ∷ number o.page_bits ∷ number o.frames ∷ []
+
+-- the bytes of the first line open this store
+abbrev pub Opens : List ℕ → Opening → Type 0
+Opens bytes o = SpellAll (words_of bytes) (opening o)

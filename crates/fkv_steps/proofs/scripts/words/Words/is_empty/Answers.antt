@@ -1,5 +1,0 @@
-use Rattle.fkv_steps.proofs.WordLemmas.{empty_words}
-use Rattle.fkv_steps.proofs.scripts.words.Words.is_empty.Goals as goal
-
-pub returns : goal.returns
-returns c = rw (← c.self.view_is) (empty_words c.self.inside.rest c.is_none.result c.is_none.ensures)
