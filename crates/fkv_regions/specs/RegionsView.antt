@@ -74,6 +74,11 @@ pub record IsHeadDue (s : RegionsView) (page : ℕ) : Type 0 where
   pub higher : s.offsets.head < start_at s.bits page
   pub flushed : page ≤ s.flushed
 
+-- when all pages below one may be flushed: they are frozen, and no fewer than were flushed before
+pub record IsFlushDue (s : RegionsView) (page : ℕ) : Type 0 where
+  pub higher : s.flushed ≤ page
+  pub frozen : page ≤ page_at s.bits s.offsets.safe_read_only
+
 -- one more action may wait
 abbrev pub IsRoomy : RegionsView → Type 0
 IsRoomy s = length s.epochs.waiting < 16

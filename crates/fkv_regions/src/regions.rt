@@ -2,13 +2,13 @@
 ghost use Rattle.std.specs.Prelude.{◌≡◌, ◌<◌, ◌≤◌, ◌^◌, ◌↔◌, ◌⊎◌, length, slice_set, IsTrue, IsOk, IfOk, IfErr};
 ghost use Rattle.std.specs.Prelude.{OnOk, OnErr, Err};
 ghost use Rattle.std.specs.Option.{ok_or};
-ghost use Rattle.fkv_records.specs.Places.{page_at, start_at};
+ghost use Rattle.fkv_records.specs.Places.{start_at};
 ghost use Rattle.fkv_epoch.specs.Moves.{free_slot, is_entered};
 ghost use Rattle.fkv_epoch.specs.Timely.{IsTimely};
 ghost use Rattle.fkv_regions.specs.declared.offsets.Region.TheVariants.{OnDisk, ReadOnly, Mutable};
 ghost use Rattle.fkv_regions.specs.Offsets.{region_of, view_at};
-ghost use Rattle.fkv_regions.specs.RegionsView.{IsReadOnlyDue, IsHeadDue, IsRoomy, fresh_regions, entered, refreshed};
-ghost use Rattle.fkv_regions.specs.RegionsView.{left, with_read_only, with_head, with_flushed};
+ghost use Rattle.fkv_regions.specs.RegionsView.{IsReadOnlyDue, IsHeadDue, IsFlushDue, IsRoomy, fresh_regions, entered};
+ghost use Rattle.fkv_regions.specs.RegionsView.{refreshed, left, with_read_only, with_head, with_flushed};
 ghost use Rattle.fkv_regions.specs.Agree.{IsRegions, IsMoved, ViewAgrees};
 
 use crate::offsets::{Offsets, Region, View, run};
@@ -155,10 +155,16 @@ impl Regions {
         view_in(&self.views, slot).region(address)
     }
 
-    /// Takes in that all pages below this one are flushed.
+    /// Whether all pages below this one may be flushed now: they are frozen, and no fewer than were flushed before.
+    pub fn is_flush_due(&self, page: u64) -> bool
+        ensures { IsTrue result ↔ IsFlushDue self.now page }
+    {
+        self.flushed <= page && page <= self.shape.page_of(self.offsets.safe_read_only)
+    }
+
+    /// Takes in that all pages below this one are flushed ([`Regions::is_flush_due`]).
     pub fn raise_flushed(&mut self, page: u64)
-        requires higher { self.old.flushed ≤ page }
-        requires frozen { page ≤ page_at self.old.bits self.old.offsets.safe_read_only }
+        requires { IsFlushDue self.old page }
         ensures { self.new ≡ with_flushed self.old page }
     {
         self.flushed = page;

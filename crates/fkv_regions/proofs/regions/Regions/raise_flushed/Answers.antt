@@ -4,6 +4,5 @@ use Rattle.fkv_regions.proofs.regions.Regions.raise_flushed.Goals as goal
 
 pub invariant_of-self : goal.invariant_of-self
 invariant_of-self c =
-    let up = rw (← c.self.view_is) at c.requires.higher in
-    let most = rw (← c.self.view_is) at c.requires.frozen in
-    regions-flushed (state_of c.self.inside) c.args.page up most c.self.invariant
+    let due = rw (← c.self.view_is) at c.requires in
+    regions-flushed (state_of c.self.inside) c.args.page due.higher due.frozen c.self.invariant
