@@ -1,12 +1,12 @@
 -- What a text says once an entry has another value, or is a tombstone.
-use Rattle.std.proofs.Common.{◌≡◌, ◌≢◌, Bool, true, false, cond, ◌&&◌, ℕ, ◌<◌, ◌≤◌, ◌==◌, List, [], ◌∷◌, Option, Some, None, option_map, slice_get, refl, sym, ◌∙◌, ap, subst, arith, nat_le, nat_lt}
-use Rattle.std.proofs.lemmas.Bool.{and_parts, leb-true, eq-eqb, eqb-true, ne_eqb}
+use Rattle.std.proofs.Common.{◌≡◌, ◌≢◌, Bool, true, false, cond, ◌&&◌, ℕ, ◌<◌, ◌≤◌, ◌==◌, List, [], ◌∷◌, inl, inr, Option, Some, None, IsSome, option_map, slice_get, refl, sym, ◌∙◌, ap, subst, arith, nat_le, nat_lt}
+use Rattle.std.proofs.lemmas.Bool.{cases_eq, and_parts, leb-true, eq-eqb, eqb-true, ne_eqb}
 use Rattle.std.proofs.lemmas.Option.{slice_get-map}
 use Rattle.std.specs.declared.cmp.Ordering.{Ordering}
 use Rattle.std.specs.BTreeMap.{is_at}
 use Rattle.fkv_functions.specs.Plain.{Same, with_at, IsKeyOrder}
 use Rattle.fkv_hybrid.specs.declared.entries.Entry.{Entry}
-use Rattle.fkv_hybrid.specs.Text.{last_where, entry_at, has_key, last_of, value_of, live, newest, set_at, changed, AllAbove, IsRising, IsFrom, IsBelow}
+use Rattle.fkv_hybrid.specs.Text.{last_where, entry_at, value_at, has_key, last_of, value_of, live, newest, set_at, changed, AllAbove, IsRising, IsFrom, IsBelow}
 use Rattle.fkv_hybrid.specs.Places.{tail_after, IsLaidOut}
 use Rattle.fkv_hybrid.specs.Chains.{has_class, last_of_class, last_below, Leads, IsChained}
 use Rattle.fkv_hybrid.proofs.LastWhere.{last_where-map, last_where-found, last_where-in, none-passes}
@@ -85,6 +85,11 @@ module _ {K V : Type 0} (a : ℕ) (v : Option V) where
           let m = last_where-in p text e n in
           rw n (ap Some (set_at-other e (off m.place e m.here (last_where-found p text e n))))
 
+  -- and so does one that stands elsewhere
+  pub last-elsewhere : (p : Entry K V → Bool) → ((x : Entry K V) → p (set_at a v x) ≡ p x) → (text : List (Entry K V)) (e : Entry K V)
+      → last_where p text ≡ Some e → e.address ≢ a → last_where p (changed text a v) ≡ Some e
+  last-elsewhere p h text e is ne = last-changed p h text ∙ ap (option_map (set_at a v)) is ∙ ap Some (set_at-other e ne)
+
   address-test : (b : ℕ) (x : Entry K V) → ((set_at a v x).address == b) ≡ (x.address == b)
   address-test b x = ap (λ n. n == b) (set_at-address x)
 
@@ -100,6 +105,23 @@ module _ {K V : Type 0} (a : ℕ) (v : Option V) where
   entry_at-elsewhere text b ne =
       last-stays (λ x. x.address == b) (address-test b) text (λ i x g t e. ne (sym (eqb-true x.address b t) ∙ e))
 
+  value-here : (text : List (Entry K V)) → IsSome (entry_at text a) → value_at (changed text a v) a ≡ v
+  value-here text some = by_entry (entry_at text a) refl some
+    where
+      by_entry : (o : Option (Entry K V)) → entry_at text a ≡ o → IsSome o → value_at (changed text a v) a ≡ v
+      by_entry None is n = absurd (cc)
+      by_entry (Some e) is n = ap value_of (entry_at-here text e is)
+
+  pub value_at-changed : (text : List (Entry K V)) (b : ℕ) → IsSome (entry_at text a) → value_at (changed text a v) b ≡ cond (a == b) v (value_at text b)
+  value_at-changed text b some = elim (cases_eq b a) [
+    | inl same ↦
+        (let yes : (a == b) ≡ true = eq-eqb a b (sym same) in
+        rw yes (ap (value_at (changed text a v)) same ∙ value-here text some))
+    | inr ne ↦
+        (let no : (a == b) ≡ false = ne_eqb a b (λ q. ne (sym q)) in
+        rw no (ap value_of (entry_at-elsewhere text b ne)))
+  ]
+
   -- ---- keys
   module _ (cmp : K → K → Ordering) where
     key-test : (k : K) (x : Entry K V) → has_key cmp k (set_at a v x) ≡ has_key cmp k x
@@ -113,6 +135,12 @@ module _ {K V : Type 0} (a : ℕ) (v : Option V) where
 
     pub newest-changed : (text : List (Entry K V)) (k : K) (b : ℕ) → newest cmp (changed text a v) k b ≡ option_map (set_at a v) (newest cmp text k b)
     newest-changed text k b = last-changed (λ x. nat_le x.address b && has_key cmp k x) (newest-test k b) text
+
+    pub last_of-elsewhere : (text : List (Entry K V)) (k : K) (e : Entry K V) → last_of cmp text k ≡ Some e → e.address ≢ a → last_of cmp (changed text a v) k ≡ Some e
+    last_of-elsewhere text k e is ne = last-elsewhere (has_key cmp k) (key-test k) text e is ne
+
+    pub newest-elsewhere : (text : List (Entry K V)) (k : K) (b : ℕ) (e : Entry K V) → newest cmp text k b ≡ Some e → e.address ≢ a → newest cmp (changed text a v) k b ≡ Some e
+    newest-elsewhere text k b e is ne = last-elsewhere (λ x. nat_le x.address b && has_key cmp k x) (newest-test k b) text e is ne
 
     -- what is newest below the address stays
     pub newest-lower : (text : List (Entry K V)) (k : K) (b : ℕ) → b < a → newest cmp (changed text a v) k b ≡ newest cmp text k b

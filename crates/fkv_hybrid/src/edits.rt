@@ -1,5 +1,6 @@
 //! Entries that change where they stand: their value, or whether they are tombstones.
-ghost use Rattle.std.specs.Prelude.{◌≡◌, ◌+◌, ◌^◌, ◌<◌, ◌≤◌, [], length, map, vec_len, slice_index_or, IsSome, Some, None};
+ghost use Rattle.std.specs.Prelude.{◌≡◌, ◌+◌, ◌^◌, ◌<◌, ◌≤◌, [], length, map, vec_len, slice_index_or, IsSome};
+ghost use Rattle.std.specs.Prelude.{Some, None};
 ghost use Rattle.fkv_records.specs.Records.{size_of};
 ghost use Rattle.fkv_hybrid.specs.Edits.{EditsPart, Edits};
 ghost use Rattle.fkv_hybrid.specs.Text.{entry_at, value_at};
