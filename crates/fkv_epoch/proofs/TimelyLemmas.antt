@@ -98,7 +98,8 @@ timely-entered s slot h free = record {
       s.waiting h.held;
 }
 
-none-entered : (n k e : ℕ) → slice_get (replicate n None) k ≡ Some (Some e) → ⊥
+-- no session is entered at a free slot
+pub none-entered : (n k e : ℕ) → slice_get (replicate n None) k ≡ Some (Some e) → ⊥
 none-entered zero k e h = cc
 none-entered (suc n) zero e h = cc
 none-entered (suc n) (suc k) e h = none-entered n k e h

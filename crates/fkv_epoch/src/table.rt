@@ -61,6 +61,13 @@ impl Epochs {
         let _epoch = self.epoch;
     }
 
+    /// Whether a session is entered at a slot.
+    pub fn is_entered(&self, slot: usize) -> bool
+        ensures { result ≡ is_entered self.now slot }
+    {
+        has_session(&self.slots, slot)
+    }
+
     /// Enters a session: the lowest free slot gets the current epoch.
     ///
     /// `NoSlot` where sixteen sessions are entered.

@@ -1,7 +1,7 @@
 -- A chain meets the entries of its class, the last one first.
-use Rattle.std.proofs.Common.{◌≡◌, Bool, true, false, cond, ◌&&◌, ℕ, zero, suc, ◌<◌, ◌≤◌, inl, inr, List, [], ◌∷◌, ◌++◌, length, filter, Option, Some, slice_get, refl, sym, ◌∙◌, ap, subst, arith, nat_lt, append_assoc, append-nil}
+use Rattle.std.proofs.Common.{◌≡◌, Bool, true, false, cond, ◌&&◌, ℕ, zero, suc, ◌<◌, ◌≤◌, ◌⊎◌, inl, inr, List, [], ◌∷◌, ◌++◌, length, filter, Option, Some, None, slice_get, refl, sym, ◌∙◌, ap, subst, arith, nat_lt, nat_le, append_assoc, append-nil}
 use Rattle.std.proofs.lemmas.Bool.Decides.{nat_tests}
-use Rattle.std.proofs.lemmas.Bool.{lt-ltb}
+use Rattle.std.proofs.lemmas.Bool.{lt-ltb, ltb-true, le-leb, and_parts}
 use Rattle.std.proofs.lemmas.Option.{slice_get_within}
 use Rattle.std.proofs.lemmas.List.Elements.{filter-append}
 use Rattle.std.proofs.lemmas.List.{reverse-append}
@@ -9,11 +9,11 @@ use Rattle.std.specs.List.{find}
 use Rattle.std.specs.declared.cmp.Ordering.{Ordering}
 use Rattle.fkv_functions.specs.Plain.{IsKeyOrder}
 use Rattle.fkv_hybrid.specs.declared.entries.Entry.{Entry}
-use Rattle.fkv_hybrid.specs.Text.{entry_at, has_key, last_of, AllAbove, IsRising, IsFrom, IsBelow}
+use Rattle.fkv_hybrid.specs.Text.{entry_at, has_key, last_of, newest, AllAbove, IsRising, IsFrom, IsBelow}
 use Rattle.fkv_hybrid.specs.Chains.{IsClassTest, has_class, last_of_class, last_below, Leads, IsChained, IsChainFrom, ends, goes, StandsAt, falling}
 use Rattle.fkv_functions.proofs.ListLemmas.{get-append_left, get-append_last, get-append_cases}
-use Rattle.fkv_hybrid.proofs.LastWhere.{last_where-append, last_where-same}
-use Rattle.fkv_hybrid.proofs.TextLemmas.{one_address, entry_at-in}
+use Rattle.fkv_hybrid.proofs.LastWhere.{last_where-append, last_where-same, last_where-found}
+use Rattle.fkv_hybrid.proofs.TextLemmas.{one_address, entry_at-in, newest-below}
 
 -- what holds of no elements, and of one more wherever it holds, holds of any list
 by_appends : {A : Type 0} (P : List A → Type 0) → ((xs : List A) (x : A) → P xs → P (xs ++ x ∷ [])) → (done rest : List A) → P done → P (done ++ rest)
@@ -171,3 +171,63 @@ module _ {K V C : Type 0} (class : K → C) (same : C → C → Bool) (begin : �
       (λ q. ap (λ x. same (class x) (class k)) (order.same e.key k q) ∙ test.self (class k)) h
       ∙ sym (last_where-append (has_key cmp k) t e))
       [] text refl
+
+  -- ---- a chain from any entry
+  -- what leads to an entry below an address leads below it, or below Begin
+  leads-low : (text : List (Entry K V)) (c : C) (bound p : ℕ) → Leads begin (last_below class same text c bound) p → (p < begin) ⊎ (p < bound)
+  leads-low text c bound p h = by_last (last_below class same text c bound) refl h
+    where
+      by_last : (l : Option (Entry K V)) → last_below class same text c bound ≡ l → Leads begin l p → (p < begin) ⊎ (p < bound)
+      by_last None e q = inl q
+      by_last (Some x) e q =
+          let parts = and_parts (nat_lt x.address bound) (has_class class same c x) (last_where-found (λ y. nat_lt y.address bound && has_class class same c y) text x e) in
+          let low : x.address < bound = ltb-true x.address bound parts.0 in
+          inr (rw q low)
+
+  -- a chain that begins below an appended entry is one of the text without it
+  shorter : (text : List (Entry K V)) (e : Entry K V) → IsChained class same begin (text ++ e ∷ []) → (a : ℕ) (es : List (Entry K V)) → (a < begin) ⊎ (a < e.address)
+      → IsChainFrom begin (text ++ e ∷ []) a es → IsChainFrom begin text a es
+  shorter text e chained a es below (ends low) = ends low
+  shorter text e chained a es below (goes {e = x} {es = xs} high m at rest) =
+      let under : a < e.address = elim below [ inl low ↦ absurd (omega arith) | inr low ↦ low ] in
+      let link = leads-low (text ++ e ∷ []) (class x.key) x.address x.previous (chained m.place x m.here) in
+      let next : (x.previous < begin) ⊎ (x.previous < e.address) = elim link [ inl low ↦ inl low | inr low ↦ inr (omega (arith, at)) ] in
+      elim (get-append_cases text e m.place x m.here) [
+        | inl old ↦ goes high (record { place = m.place; here = old }) at (shorter text e chained x.previous xs next rest)
+        | inr last ↦ absurd (let same_place : e.address ≡ x.address = ap (λ (y : Entry K V). y.address) last.1 in omega arith)
+      ]
+
+  -- the first of a key that it meets is the newest of the key from there
+  abbrev MetFrom : (K → K → Ordering) → K → List (Entry K V) → Type 0
+  MetFrom cmp k text =
+      IsRising text → IsFrom begin text → IsChained class same begin text → (i : ℕ) (e : Entry K V) → slice_get text i ≡ Some e → class e.key ≡ class k
+      → (es : List (Entry K V)) → IsChainFrom begin text e.address es → find (has_key cmp k) es ≡ newest cmp text k e.address
+
+  newest-all : (cmp : K → K → Ordering) (k : K) (text : List (Entry K V)) (a : ℕ) → ((i : ℕ) (x : Entry K V) → slice_get text i ≡ Some x → x.address ≤ a) → newest cmp text k a ≡ last_of cmp text k
+  newest-all cmp k text a low = last_where-same (λ x. nat_le x.address a && has_key cmp k x) (has_key cmp k) text (λ i x h. rw (le-leb x.address a (low i x h)) refl)
+
+  met-append : (cmp : K → K → Ordering) → IsKeyOrder cmp → IsClassTest same → (k : K) (text : List (Entry K V)) (x : Entry K V) → MetFrom cmp k text → MetFrom cmp k (text ++ x ∷ [])
+  met-append cmp order test k text x before r f chained i e g own es chain = elim (get-append_cases text x i e g) [
+    | inl old ↦
+        (let s = rising-append text x r in
+        let lt : e.address < x.address = s.1 i e old in
+        before s.0 (λ j y h. f j y (shorter-get text x j y h)) (chained-shorter text x s.1 chained) i e old own es (shorter text x chained e.address es (inr lt) chain)
+        ∙ sym (newest-below cmp text x k e.address lt))
+    | inr last ↦
+        (let s = rising-append text x r in
+        let own_x : class x.key ≡ class k = ap (λ (y : Entry K V). class y.key) last.1 ∙ own in
+        let yes : has_class class same (class k) x ≡ true = ap (λ c. same c (class k)) own_x ∙ test.self (class k) in
+        let is : last_of_class class same (text ++ x ∷ []) (class k) ≡ Some x = last_where-append (has_class class same (class k)) text x ∙ rw yes refl in
+        let leads : Leads begin (last_of_class class same (text ++ x ∷ []) (class k)) e.address =
+        subst (λ (l : Option (Entry K V)). Leads begin l e.address) (sym is) (sym (ap (λ (y : Entry K V). y.address) last.1)) in
+        let whole = meets test (text ++ x ∷ []) r f chained (class k) e.address leads in
+        ap (find (has_key cmp k)) (one_chain begin (text ++ x ∷ []) r e.address es (falling class same (text ++ x ∷ []) (class k)) chain whole)
+        ∙ finds cmp order test k (text ++ x ∷ [])
+        ∙ sym (newest-all cmp k (text ++ x ∷ []) e.address (λ j y h. elim (get-append_cases text x j y h) [
+          | inl old ↦ (let lt : y.address < x.address = s.1 j y old in let here : x.address ≡ e.address = ap (λ (z : Entry K V). z.address) last.1 in omega arith)
+          | inr new ↦ (let here : x.address ≡ e.address = ap (λ (z : Entry K V). z.address) last.1 in let there : x.address ≡ y.address = ap (λ (z : Entry K V). z.address) new.1 in omega arith)
+        ])))
+  ]
+
+  pub met_from : (cmp : K → K → Ordering) → IsKeyOrder cmp → IsClassTest same → (k : K) (text : List (Entry K V)) → MetFrom cmp k text
+  met_from cmp order test k text = by_appends (MetFrom cmp k) (met-append cmp order test k) [] text (λ r f chained i e g own es chain. absurd (cc))

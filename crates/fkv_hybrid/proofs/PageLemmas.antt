@@ -14,6 +14,7 @@ use Rattle.fkv_records.specs.Records.{size_of, IsRecord, IsPrevious, Spells}
 use Rattle.fkv_records.specs.declared.shapes.Shape.{Shape}
 use Rattle.fkv_records.proofs.PlaceLemmas.{place_room, page_sized, next_start}
 use Rattle.fkv_records.proofs.RecordLemmas.{same_record, part_at}
+use Rattle.fkv_regions.specs.RegionsView.{RegionsView}
 use Rattle.fkv_hybrid.specs.declared.entries.Entry.{Entry}
 use Rattle.fkv_hybrid.specs.Text.{entry_at}
 use Rattle.fkv_hybrid.specs.Views.{LogView}
@@ -162,15 +163,15 @@ module _ {K V : Type 0} (key : K → List ℕ) (value : V → List ℕ) (is_key 
       → at ≡ tail → IsLog key value is_key is_value ksize vsize shape pages tail text → IsLog key value is_key is_value ksize vsize shape pages at (o.0).0
   log_at shape pages tail at o text e l = log_of shape pages at o text (subst (λ (n : ℕ). IsLog key value is_key is_value ksize vsize shape pages n text) (sym e) l)
 
-  pub view_at : (shape : Shape) (pages : List (List ℕ)) (tail at size : ℕ) (o : TheOne (λ t. IsTextOf key value is_key is_value ksize vsize shape.page_bits pages at t))
+  pub view_at : (shape : Shape) (pages : List (List ℕ)) (tail at size : ℕ) (regions : RegionsView) (o : TheOne (λ t. IsTextOf key value is_key is_value ksize vsize shape.page_bits pages at t))
       (old : List (Entry K V)) (e : Entry K V) → shape.record_size ≡ size → at ≡ tail_after shape.page_bits shape.record_size tail
       → IsLog key value is_key is_value ksize vsize shape pages (tail_after shape.page_bits shape.record_size tail) (old ++ e ∷ []) → e.address ≡ tail
-      → ◌≡◌ {A = LogView K V} (record { bits = shape.page_bits; begin = 64; tail = at; text = (o.0).0 })
-      (record { bits = shape.page_bits; begin = 64; tail = tail_after shape.page_bits size tail; text = old ++ e ∷ [] })
-  view_at shape pages tail at size o old e same is l here =
+      → ◌≡◌ {A = LogView K V} (record { bits = shape.page_bits; begin = 64; tail = at; regions = regions; text = (o.0).0 })
+      (record { bits = shape.page_bits; begin = 64; tail = tail_after shape.page_bits size tail; regions = regions; text = old ++ e ∷ [] })
+  view_at shape pages tail at size regions o old e same is l here =
       let text = text_is shape.page_bits pages at o (old ++ e ∷ []) (subst (λ (n : ℕ). IsTextOf key value is_key is_value ksize vsize shape.page_bits pages n (old ++ e ∷ [])) (sym is) l.spelled) in
       let tail_same : at ≡ tail_after shape.page_bits size tail = is ∙ ap (λ (n : ℕ). tail_after shape.page_bits n tail) same in
-      λ j. record { bits = shape.page_bits; begin = 64; tail = tail_same j; text = text j }
+      λ j. record { bits = shape.page_bits; begin = 64; tail = tail_same j; regions = regions; text = text j }
 
   -- ---- a page of zeros spells the text of no entries
   pub empty-log : (shape : Shape) (pages : List (List ℕ)) → shape.record_size ≡ size_of ksize vsize → Opens 0 (2 ^ shape.page_bits) [] pages

@@ -1,5 +1,5 @@
 -- Where the entries of a text stand: at places, one behind the other, and each place below the tail has one.
-use Rattle.std.proofs.Common.{◌≡◌, ◌+◌, ◌*◌, ◌^◌, ◌<◌, ◌≤◌, ◌⊎◌, inl, inr, ℕ, zero, suc, true, false, cond, List, [], ◌∷◌, ◌++◌, Option, Some, None, IsSome, slice_get, refl, sym, ◌∙◌, ap, subst, arith, nat_le, IsSomeAnd, ◌==◌}
+use Rattle.std.proofs.Common.{◌≡◌, ◌≢◌, ◌+◌, ◌*◌, ◌^◌, ◌<◌, ◌≤◌, ◌⊎◌, inl, inr, ℕ, zero, suc, true, false, cond, List, [], ◌∷◌, ◌++◌, Option, Some, None, IsSome, slice_get, refl, sym, ◌∙◌, ap, subst, arith, nat_le, IsSomeAnd, ◌==◌}
 use Rattle.std.proofs.lemmas.Bool.Decides.{nat_tests}
 use Rattle.std.proofs.lemmas.Bool.{cases_lt, eqb-true, eq-eqb}
 use Rattle.fkv_records.specs.Places.{IsShape, place_after, IsPlace, next}
@@ -44,6 +44,9 @@ module _ (bits size : ℕ) (s : IsShape bits size) where
           let ends = place_ends bits size s b there in
           rw (after_some bits size a b e) (record { above = omega (arith, rises, s.some); behind = rises; most = omega (arith, ends); place = λ h. there })
 
+  pub tail_rises : (a : ℕ) → IsPlace bits size a → a ≤ tail_after bits size a
+  tail_rises a p = let t = after a p in omega (arith, t.above)
+
   -- and no place is passed over
   after-nearest : (a b : ℕ) → IsPlace bits size a → IsPlace bits size b → a < b → tail_after bits size a ≤ b
   after-nearest a b p q less = by_next (place_after bits size a) refl (place_nearest bits size s a b p q less)
@@ -51,6 +54,17 @@ module _ (bits size : ℕ) (s : IsShape bits size) where
       by_next : (o : Option ℕ) → place_after bits size a ≡ o → IsSomeAnd (place_after bits size a) (λ c. c ≤ b) → tail_after bits size a ≤ b
       by_next None e n = let none : IsSomeAnd None (λ c. c ≤ b) = rw e at n in absurd none
       by_next (Some c) e n = let le : c ≤ b = rw e at n in rw (after_some bits size a c e) le
+
+  -- two records lie apart
+  pub apart : (a b : ℕ) → IsPlace bits size a → IsPlace bits size b → a ≢ b → (a + size ≤ b) ⊎ (b + size ≤ a)
+  apart a b p q ne = elim (cases_lt a b) [
+    | inl less ↦ (let t = after a p in let n = after-nearest a b p q less in inl (omega (arith, t.behind)))
+    | inr more ↦
+        (let less : b < a = grind (arith, ne) in
+        let t = after b q in
+        let n = after-nearest b a q p less in
+        inr (omega (arith, t.behind)))
+  ]
 
   -- where an entry of a text stands
   pub record Stands (begin tail a : ℕ) : Type 0 where

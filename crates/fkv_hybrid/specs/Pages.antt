@@ -7,6 +7,7 @@ use Rattle.fkv_records.specs.Records.{size_of, IsRecord, Spells}
 use Rattle.fkv_records.specs.declared.records.Record.{Record}
 use Rattle.fkv_records.specs.declared.shapes.Shape.{Shape}
 use Rattle.fkv_hybrid.specs.declared.entries.Entry.{Entry}
+use Rattle.fkv_regions.specs.RegionsView.{RegionsView}
 use Rattle.fkv_hybrid.specs.Places.{IsLaidOut}
 
 -- the record of an entry
@@ -75,3 +76,9 @@ pub record IsLog {K V : Type 0} (key : K → List ℕ) (value : V → List ℕ)
   pub size : shape.record_size ≡ size_of ksize vsize
   pub spelled : IsTextOf key value is_key is_value ksize vsize shape.page_bits pages tail text
   pub paged : IsPaged shape.page_bits shape.record_size pages tail
+
+-- the regions of a log: ReadOnly is at most the tail, and no page is flushed, since all of them stay in memory
+pub record AreRegionsOf (page_bits tail : ℕ) (regions : RegionsView) : Type 0 where
+  pub bits : regions.bits ≡ page_bits
+  pub begun : regions.offsets.read_only ≤ tail
+  pub flushed : regions.flushed ≡ 0

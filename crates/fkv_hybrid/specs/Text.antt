@@ -1,6 +1,6 @@
 -- The text of a log: the list of its entries in rising address, and what it says of a key.
 use Rattle.std.specs.Prelude.{◌≡◌, ℕ, ◌<◌, ◌≤◌, Bool, cond, ◌&&◌, ◌==◌, List, [], ◌∷◌, Option, Some, None, nat_le}
-use Rattle.std.specs.Prelude.{slice_get}
+use Rattle.std.specs.Prelude.{slice_get, map}
 use Rattle.std.specs.Option.{option_or}
 use Rattle.std.specs.declared.cmp.Ordering.{Ordering}
 use Rattle.std.specs.BTreeMap.{is_at}
@@ -40,6 +40,14 @@ value_at text a = value_of (entry_at text a)
 -- the live map: the last entry of a key wins
 abbrev pub live : {K V : Type 0} → (K → K → Ordering) → List (Entry K V) → PlainMap K V
 live cmp text k = value_of (last_of cmp text k)
+
+-- an entry with another value, or a tombstone, where it stands at this address
+abbrev pub set_at : {K V : Type 0} → ℕ → Option V → Entry K V → Entry K V
+set_at a v e = cond (e.address == a) (record e { value = v }) e
+
+-- the text whose entry at an address has this value, or is a tombstone; all else is as it was
+abbrev pub changed : {K V : Type 0} → List (Entry K V) → ℕ → Option V → List (Entry K V)
+changed text a v = map (set_at a v) text
 
 -- all entries stand above an address
 abbrev pub AllAbove : {K V : Type 0} → ℕ → List (Entry K V) → Type 0

@@ -2,8 +2,9 @@
 use Rattle.std.specs.Prelude.{◌≡◌, ◌<◌, ◌/◌, ◌==◌, ℕ, List, [], ◌∷◌, Option, Some, None}
 use Rattle.std.specs.Ordering.{nat_cmp}
 use Rattle.fkv_records.specs.Records.{Spells}
+use Rattle.fkv_regions.specs.RegionsView.{fresh_regions}
 use Rattle.fkv_hybrid.specs.declared.entries.Entry.{Entry}
-use Rattle.fkv_hybrid.specs.Text.{newest, live}
+use Rattle.fkv_hybrid.specs.Text.{newest, live, changed}
 use Rattle.fkv_hybrid.specs.Places.{IsLaidOut}
 use Rattle.fkv_hybrid.specs.Chains.{IsChained, falling}
 use Rattle.fkv_hybrid.specs.Pages.{record_of, part_of, IsSpelled}
@@ -54,7 +55,14 @@ HasEachPlace = (d e : Entry ℕ ℕ) (tail : ℕ)
 -- an appended entry is all that was handed in
 abbrev pub AppendsItWhole : Type 0
 AppendsItWhole = (p k : ℕ) (v : Option ℕ)
-    → with_entry 32 (empty_log 8) p k v ≡ record { bits = 8; begin = 64; tail = 96; text = entry 64 p k v ∷ [] }
+    → with_entry 32 (empty_log 8) p k v
+    ≡ record { bits = 8; begin = 64; tail = 96; regions = fresh_regions 8; text = entry 64 p k v ∷ [] }
+
+-- a change is of the one entry at its address, and of its value alone
+abbrev pub ChangesOne : Type 0
+ChangesOne = (p q : ℕ) (v w x : Option ℕ)
+    → (changed (entry 64 p 3 v ∷ entry 96 q 3 w ∷ []) 96 x ≡ entry 64 p 3 v ∷ entry 96 q 3 x ∷ [])
+    × (changed (entry 64 p 3 v ∷ entry 96 q 3 w ∷ []) 95 x ≡ entry 64 p 3 v ∷ entry 96 q 3 w ∷ [])
 
 -- an entry is spelled in the page of its address
 abbrev pub SpelledInItsPage : Type 0

@@ -4,6 +4,8 @@ ghost use Rattle.std.specs.Prelude.{map};
 ghost use mathlib.Core.Equiv.{IsContr-prop};
 ghost use Rattle.fkv_records.specs.Places.{offset_at};
 ghost use Rattle.fkv_records.specs.Records.{size_of, IsPrevious};
+ghost use Rattle.fkv_epoch.specs.Timely.{IsTimely};
+ghost use Rattle.fkv_regions.specs.Agree.{IsRegions};
 ghost use Rattle.fkv_hybrid.specs.Pages.{TheOne, IsTextOf};
 ghost use Rattle.fkv_hybrid.specs.Places.{IsLaidOut, tail_after};
 ghost use Rattle.fkv_hybrid.specs.Text.{entry_at, IsRising, IsFrom, IsBelow};
@@ -13,6 +15,7 @@ use crate::entries::{Entry, entry_of};
 use crate::pages::{open_page, part, write_at};
 use fkv_functions::{Fixed, Refused};
 use fkv_records::{Address, END, FIRST, Record, Shape, read_record};
+use fkv_regions::Regions;
 use std::alloc::Global;
 use std::marker::{Model, PhantomData};
 
@@ -22,9 +25,10 @@ use std::marker::{Model, PhantomData};
 /// spell: there is exactly one.
 #[derive(Drop)]
 pub struct Log<K: Fixed, V: Fixed> {
-    shape: Shape,
-    tail: Address,
-    pages: Vec<Vec<u8>>,
+    pub(crate) shape: Shape,
+    pub(crate) tail: Address,
+    pub(crate) regions: Regions,
+    pub(crate) pages: Vec<Vec<u8>>,
     keys: PhantomData<K>,
     values: PhantomData<V>,
     ghost text: { TheOne (λ t. IsTextOf K.bytes_of V.bytes_of K.is_known V.is_known K.SIZE V.SIZE
@@ -35,14 +39,15 @@ impl<K: Fixed, V: Fixed> Model for Log<K, V> {
     ghost use Rattle.std.specs.Prelude.{map};
     ghost use Rattle.fkv_records.specs.Records.{size_of};
     ghost use Rattle.fkv_hybrid.specs.Views.{LogView, log_view};
-    ghost use Rattle.fkv_hybrid.specs.Pages.{IsLog};
+    ghost use Rattle.fkv_hybrid.specs.Pages.{IsLog, AreRegionsOf};
 
     ghost Value = { LogView K V };
 
-    ghost view = { λ l. log_view l.shape l.tail l.text.0.0 };
+    ghost view = { λ l. log_view l.shape l.tail l.regions l.text.0.0 };
 
     ghost invariant = { λ l. IsLog K.bytes_of V.bytes_of K.is_known V.is_known K.SIZE V.SIZE
-        l.shape (map (λ p. p.items) l.pages.items) l.tail l.text.0.0 };
+        l.shape (map (λ p. p.items) l.pages.items) l.tail l.text.0.0
+        × AreRegionsOf l.shape.page_bits l.tail l.regions };
 }
 
 impl<K: Fixed, V: Fixed> Log<K, V> {
@@ -57,6 +62,7 @@ impl<K: Fixed, V: Fixed> Log<K, V> {
         Ok(Log {
             shape,
             tail: FIRST,
+            regions: Regions::new(shape),
             pages,
             keys: PhantomData,
             values: PhantomData,
@@ -137,14 +143,21 @@ impl<K: Fixed, V: Fixed> Log<K, V> {
         self.shape.next_place(address).unwrap_or(END)
     }
 
-    /// What holds of every log: its text has one entry at each place from Begin to below the tail.
+    /// What holds of every log: its text has one entry at each place from Begin to below the tail, and the views of
+    /// its sessions agree with its offsets.
     pub fn known(&self)
         ensures begin { self.now.begin ≡ 64 }
         ensures laid_out { IsLaidOut self.now.bits (size_of K.SIZE V.SIZE) self.now.begin self.now.tail self.now.text }
         ensures rising { IsRising self.now.text }
         ensures from { IsFrom self.now.begin self.now.text }
         ensures below { IsBelow self.now.tail self.now.text }
+        ensures regions { IsRegions self.now.regions }
+        ensures epochs { IsTimely self.now.regions.epochs }
+        ensures bits { self.now.regions.bits ≡ self.now.bits }
+        ensures read_only { self.now.regions.offsets.read_only ≤ self.now.tail }
+        // every page is in memory
+        ensures head { self.now.regions.offsets.head ≡ 64 }
     {
-        let _tail = self.tail;
+        self.regions.known();
     }
 }

@@ -244,7 +244,7 @@ impl Plain {
 }
 
 /// The next number of a fixed sequence, below `limit`.
-fn draw(state: &mut u64, limit: u64) -> u64
+pub(crate) fn draw(state: &mut u64, limit: u64) -> u64
     requires { 0 < limit }
 {
     *state = state

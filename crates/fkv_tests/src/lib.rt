@@ -1,4 +1,4 @@
-//! Tests of functions, records, epochs and logs, over what these crates hand out.
+//! Tests of functions, records, epochs, regions and logs, over what these crates hand out.
 //!
 //! What is to come is written as constant rows, and a helper a kind says whether a row comes so. No crate below
 //! is proved a second time for its tests.
@@ -12,3 +12,7 @@ mod functions;
 mod logs;
 #[cfg(test)]
 mod records;
+#[cfg(test)]
+mod regions;
+#[cfg(test)]
+mod sessions;

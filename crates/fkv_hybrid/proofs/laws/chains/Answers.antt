@@ -3,7 +3,7 @@ use Rattle.std.specs.List.{find}
 use Rattle.fkv_hybrid.specs.declared.entries.Entry.{Entry}
 use Rattle.fkv_hybrid.specs.Text.{has_key}
 use Rattle.fkv_hybrid.specs.Chains.{IsChainFrom, falling}
-use Rattle.fkv_hybrid.proofs.ChainLemmas.{chained-append, meets, one_chain, finds, stands_at, ended, grown}
+use Rattle.fkv_hybrid.proofs.ChainLemmas.{chained-append, meets, one_chain, finds, stands_at, ended, grown, met_from}
 use Rattle.fkv_hybrid.proofs.laws.chains.Goals as goal
 
 pub returns : goal.returns
@@ -15,6 +15,7 @@ returns g c = record {
   found = λ cmp class same begin text k a order test r f chained leads es h.
       let chain = meets class same begin test text r f chained (class k) a leads in
       ap (find (has_key cmp k)) (one_chain begin text r a es (falling class same text (class k)) h chain) ∙ finds class same begin cmp order test k text;
+  found_from = λ cmp class same begin text k i e order test r f chained g own es h. met_from class same begin cmp order test k text r f chained i e g own es h;
   grown = grown;
   stands = stands_at;
   ends = ended;

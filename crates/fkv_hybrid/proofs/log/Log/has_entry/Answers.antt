@@ -7,7 +7,7 @@ use Rattle.fkv_hybrid.proofs.log.Log.has_entry.Goals as goal
 
 pub returns-then-address-self : goal.returns-then-address-self
 returns-then-address-self g c =
-    let l = c.self.invariant in
+    let l = c.self.invariant.0 in
     let s = c.self.inside.shape in
     let laid = rw (← l.size) at l.spelled.laid_out in
     rw (← c.self.view_is) (
@@ -17,7 +17,7 @@ returns-then-address-self g c =
 
 pub returns-else-address-self : goal.returns-else-address-self
 returns-else-address-self g c =
-    let l = c.self.invariant in
+    let l = c.self.invariant.0 in
     let s = c.self.inside.shape in
     let laid = rw (← l.size) at l.spelled.laid_out in
     rw (← c.self.view_is) (

@@ -1,4 +1,4 @@
-use Rattle.std.proofs.Common.{List, [], ap}
+use Rattle.std.proofs.Common.{[], refl, arith}
 use Rattle.fkv_hybrid.proofs.PageLemmas.{the_text, log_of, text_is, empty-log}
 use Rattle.fkv_hybrid.proofs.log.Log.new.Goals as goal
 
@@ -13,12 +13,14 @@ invariant_of-result g c =
 pub invariant_of-result-2 : goal.invariant_of-result-2
 invariant_of-result-2 g c =
     let opened = rw (c.page_size.ensures, c.new-pages.ensures.items) at c.in_ok-open_page.ensures.ok in
-    let l = empty-log g.K.Fixed.bytes_of g.V.Fixed.bytes_of g.K.Known.is_known g.V.Known.is_known g.K.Fixed.SIZE g.V.Fixed.SIZE c.args.shape _ c.requires opened in
-    log_of g.K.Fixed.bytes_of g.V.Fixed.bytes_of g.K.Known.is_known g.V.Known.is_known g.K.Fixed.SIZE g.V.Fixed.SIZE c.args.shape _ 64 c.result-1.given.0 [] l
+    let l = empty-log g.K.Fixed.bytes_of g.V.Fixed.bytes_of g.K.Known.is_known g.V.Known.is_known g.K.Fixed.SIZE g.V.Fixed.SIZE c.args.shape _ c.requires opened in (
+      log_of g.K.Fixed.bytes_of g.V.Fixed.bytes_of g.K.Known.is_known g.V.Known.is_known g.K.Fixed.SIZE g.V.Fixed.SIZE c.args.shape _ 64 c.result-1.given.0 [] l,
+      rw c.new.ensures (record { bits = refl; begun = omega arith; flushed = refl }),
+    )
 
 pub returns-clause-ok : goal.returns-clause-ok
 returns-clause-ok g c =
     let opened = rw (c.page_size.ensures, c.new-pages.ensures.items) at c.in_ok-open_page.ensures.ok in
     let l = empty-log g.K.Fixed.bytes_of g.V.Fixed.bytes_of g.K.Known.is_known g.V.Known.is_known g.K.Fixed.SIZE g.V.Fixed.SIZE c.args.shape _ c.requires opened in
-    ap (λ (t : List _). record { bits = c.args.shape.page_bits; begin = 64; tail = 64; text = t })
-    (text_is g.K.Fixed.bytes_of g.V.Fixed.bytes_of g.K.Known.is_known g.V.Known.is_known g.K.Fixed.SIZE g.V.Fixed.SIZE c.args.shape.page_bits _ 64 c.result-1.given.0 [] l.spelled)
+    let text = text_is g.K.Fixed.bytes_of g.V.Fixed.bytes_of g.K.Known.is_known g.V.Known.is_known g.K.Fixed.SIZE g.V.Fixed.SIZE c.args.shape.page_bits _ 64 c.result-1.given.0 [] l.spelled in
+    λ j. record { bits = c.args.shape.page_bits; begin = 64; tail = 64; regions = c.new.ensures j; text = text j }

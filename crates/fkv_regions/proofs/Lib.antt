@@ -1,0 +1,3 @@
+pub mod OffsetLemmas
+pub mod RegionLemmas
+pub mod MoveLemmas
