@@ -10,12 +10,10 @@
 #![tactic(auto)]
 
 mod chains;
-mod edits;
 pub mod entries;
 pub mod laws;
 pub mod log;
 mod pages;
-mod sessions;
 
 pub use entries::Entry;
 pub use log::Log;

@@ -11,6 +11,9 @@ ghost use Rattle.fkv_hybrid.specs.Places.{IsLaidOut, tail_after};
 ghost use Rattle.fkv_hybrid.specs.Text.{entry_at, IsRising, IsFrom, IsBelow};
 ghost use Rattle.fkv_hybrid.specs.Views.{empty_log, with_entry};
 
+mod edits;
+mod sessions;
+
 use crate::entries::{Entry, entry_of};
 use crate::pages::{open_page, part, write_at};
 use fkv_functions::{Fixed, Refused};
@@ -25,10 +28,10 @@ use std::marker::{Model, PhantomData};
 /// spell: there is exactly one.
 #[derive(Drop)]
 pub struct Log<K: Fixed, V: Fixed> {
-    pub(crate) shape: Shape,
-    pub(crate) tail: Address,
-    pub(crate) regions: Regions,
-    pub(crate) pages: Vec<Vec<u8>>,
+    shape: Shape,
+    tail: Address,
+    regions: Regions,
+    pages: Vec<Vec<u8>>,
     keys: PhantomData<K>,
     values: PhantomData<V>,
     ghost text: { TheOne (λ t. IsTextOf K.bytes_of V.bytes_of K.is_known V.is_known K.SIZE V.SIZE

@@ -51,7 +51,9 @@ fn is_answered(regions: &mut Regions, call: Call) -> bool {
         Call::Flush(page, wanted) => flush(regions, page) == wanted,
         Call::ShiftHead(page, wanted) => regions.shift_head(page) == wanted,
         Call::Sees(slot, address, wanted) => {
-            regions.is_entered(slot) && regions.region(slot, address) == wanted
+            regions.is_entered(slot)
+                && regions.region(slot, address) == wanted
+                && regions.view(slot).region(address) == wanted
         }
         Call::Offsets(closed, head, safe, read_only) => {
             let offsets = regions.offsets();

@@ -2,7 +2,7 @@ use Rattle.std.proofs.Common.{◌≡◌, ◌+◌, ℕ, List, ◌++◌, length, t
 use Rattle.std.proofs.lemmas.Grind.{common_steps}
 use Rattle.fkv_records.specs.Records.{size_of, Spells}
 use Rattle.fkv_hybrid.specs.Pages.{part_of}
-use Rattle.fkv_hybrid.proofs.edits.put_tombstone_in.Goals as goal
+use Rattle.fkv_hybrid.proofs.log.edits.put_tombstone_in.Goals as goal
 
 pub returns : goal.returns
 returns g c =
