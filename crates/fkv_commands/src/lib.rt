@@ -12,8 +12,6 @@ pub mod requests;
 pub mod running;
 pub mod starting;
 mod telling;
-#[cfg(test)]
-mod tests;
 pub mod words;
 
 pub use ending::end;

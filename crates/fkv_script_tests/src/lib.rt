@@ -1,7 +1,9 @@
-//! Tests of scripts: what lines say, what is printed, and readers and writers that fail. Whole scripts stand in
-//! `fkv_rows`.
+//! Tests of scripts and of the command line: what lines say, what is printed, how runs end, and readers and writers
+//! that fail. Whole scripts stand in `fkv_rows`.
 #![tactic(auto)]
 
+#[cfg(test)]
+mod commands;
 #[cfg(test)]
 mod failing;
 #[cfg(test)]

@@ -1,7 +1,6 @@
 //! Whole runs as rows: their statuses, their texts, and streams that fail. Scripts stand in `fkv_rows`.
-use crate::laws::command_lines;
-use crate::running::{refuse_words, run, tell};
-use crate::words::words_of;
+use fkv_commands::running::{refuse_words, run, tell};
+use fkv_commands::{command_lines, words_of};
 use fkv_functions::{Refused, What};
 use fkv_streams::{CountedReader, CountedWriter};
 use std::alloc::{AllocError, Global};
