@@ -285,14 +285,14 @@ impl<F: Functions> State<F> {
         let partition = place.partition;
         let built = Built::make(functions, ask);
         match self.partitions[partition].install(place.slot, place.context, built, functions, now) {
-            Ok(progress) => {
+            Ok(installed) => {
                 self.moment = now;
                 Ok(note_progress(
                     &mut self.lives,
                     &self.tables.begun,
                     &mut self.tables.questions,
                     place,
-                    progress,
+                    installed,
                     now,
                 ))
             }

@@ -55,11 +55,11 @@ invariant_of-self g c =
     let order = key_order g.F.Key.PartialEq.eq g.F.Key.Ord.cmp ord.matches_eq known.exact ord.total in
     let due = rw (← c.self.view_is) at c.requires.moment in
     rw (c.note_progress.ensures.lives, c.note_progress.ensures.questions, c.deref.ensures.value)
-    (progressed-state g.F.Key.Ord.cmp g.F.Functions.meaning g.F.Functions.code _ c.self.invariant c.args.place c.args.now due c.index_mut.result.now c.index_mut.ensures.value c.install.new.self order c.in-Ok.progress c.in-Ok.ensures.event)
+    (progressed-state g.F.Key.Ord.cmp g.F.Functions.meaning g.F.Functions.code _ c.self.invariant c.args.place c.args.now due c.index_mut.result.now c.index_mut.ensures.value c.install.new.self order c.in-Ok.installed c.in-Ok.ensures.event)
 
 pub returns-in-Ok : goal.returns-in-Ok
 returns-in-Ok g c =
     let due = rw (← c.self.view_is) at c.requires.moment in
     let asks = rw (← c.self.view_is) at c.requires.asked ∙ ap Some (sym c.make-built.ensures) in
     rw (← c.self.view_is, c.note_progress.ensures.lives, c.note_progress.ensures.questions, c.note_progress.ensures.told, c.deref.ensures.value)
-    (record { does = does-install g.F.Key.Ord.cmp g.F.Functions.meaning g.F.Functions.code _ c.self.invariant c.args.place c.args.now due c.index_mut.result.now c.index_mut.ensures.value c.install.new.self c.make-built.result asks c.in-Ok.progress c.in-Ok.ensures.does c.in-Ok.ensures.event })
+    (record { does = does-install g.F.Key.Ord.cmp g.F.Functions.meaning g.F.Functions.code _ c.self.invariant c.args.place c.args.now due c.index_mut.result.now c.index_mut.ensures.value c.install.new.self c.make-built.result asks c.in-Ok.installed c.in-Ok.ensures.does c.in-Ok.ensures.event })
