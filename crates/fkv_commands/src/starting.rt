@@ -9,8 +9,8 @@ use std::env::{self, Env};
 use std::io;
 use std::process::ExitCode;
 
-/// Does what the process's own words ask for, with its own streams, and ends with [`end`]'s status: 0, 1 or 2. Faults go
-/// to `faults`.
+/// Does what the process's own words ask for, with its own streams, and ends with [`end`]'s status: 0, 1
+/// or 2. Faults go to `faults`.
 pub fn start<R: Env + Input + Print + AllocGlobal, E: Print>(rt: &R, faults: &E) -> ExitCode
     ensures { (exit_status result ≡ 0) ⊎ (exit_status result ≡ 1) ⊎ (exit_status result ≡ 2) }
 {
