@@ -1,7 +1,7 @@
 //! Eight keys in one class and in classes of their own, over several pages, and refused growths.
 use crate::letters::name;
 use fkv_functions::{Functions, Name, Refused, SumFns};
-use fkv_operations::{IndexEntry, Records, class_of};
+use fkv_operations::{Records, class_of};
 use fkv_records::{Address, Shape, record_size};
 use std::alloc::Global;
 
@@ -100,12 +100,6 @@ fn records(alloc: Global, bucket_bits: u64) -> Result<Records<SumFns>, Refused> 
     Records::new(alloc, 0, bucket_bits, shape)
 }
 
-/// The entry of a key's class.
-fn entry_of(records: &Records<SumFns>, key: &Name) -> Option<IndexEntry> {
-    let class = records.class(&SumFns, key);
-    records.entry(&class)
-}
-
 /// Writes a key, after it made an entry for the key's class where there is none.
 fn write(
     records: &mut Records<SumFns>,
@@ -147,7 +141,8 @@ fn is_last(records: &Records<SumFns>, row: &Row) -> bool {
     let Some(key) = name(row.0) else {
         return false;
     };
-    let Some(entry) = entry_of(records, &key) else {
+    let class = records.class(&SumFns, &key);
+    let Some(entry) = records.entry(&class) else {
         return false;
     };
     match records.trace(entry.address(), &key) {
@@ -224,7 +219,8 @@ fn is_untraced(alloc: Global, rows: &[Row], key: u8) -> Option<bool> {
         }
     }
     let key = name(key)?;
-    let entry = entry_of(&records, &key)?;
+    let class = records.class(&SumFns, &key);
+    let entry = records.entry(&class)?;
     Some(records.trace(entry.address(), &key).is_none())
 }
 
@@ -260,28 +256,36 @@ const WORD_OF_A: u64 = 0x57b1_0000_0000_0040;
 
 /// The bits of the entry of a key's class.
 fn bits_of(records: &Records<SumFns>, key: &Name) -> Option<u64> {
-    match entry_of(records, key) {
+    let class = records.class(&SumFns, key);
+    match records.entry(&class) {
         Some(entry) => Some(entry.word.bits),
         None => None,
     }
 }
 
-/// Claims the class of a key: the entry isn't seen until it is confirmed, leads to no record then, and to the key's
-/// record once there is one.
-fn is_claimed(records: &mut Records<SumFns>, key: Name) -> bool {
-    let class = records.class(&SumFns, &key);
+/// Claims the class of a key, whose entry isn't seen until it is confirmed.
+fn is_confirmed(records: &mut Records<SumFns>, key: &Name) -> bool {
+    let class = records.class(&SumFns, key);
     let Ok(place) = records.claim(class) else {
         return false;
     };
-    if bits_of(records, &key) != None || !records.confirm(place) {
-        return false;
-    }
-    let Some(entry) = entry_of(records, &key) else {
+    bits_of(records, key) == None && records.confirm(place)
+}
+
+/// Whether the entry of a key's class leads to no record, and the key has none.
+fn is_without_record(records: &Records<SumFns>, key: &Name) -> bool {
+    let class = records.class(&SumFns, key);
+    let Some(entry) = records.entry(&class) else {
         return false;
     };
-    entry.address() == 1
-        && records.trace(entry.address(), &key).is_none()
-        && records.append(entry, key, Some(5)) == Ok(64)
+    entry.address() == 1 && records.trace(entry.address(), key).is_none()
+}
+
+/// An entry that was confirmed leads to no record, and to the key's record once there is one.
+fn is_claimed(records: &mut Records<SumFns>, key: Name) -> bool {
+    is_confirmed(records, &key)
+        && is_without_record(records, &key)
+        && write(records, key, Some(5)) == Ok(64)
         && bits_of(records, &key) == Some(WORD_OF_A)
 }
 

@@ -183,7 +183,7 @@ fn is_random_run_plain(alloc: Global, seed: u64, bucket_bits: u64, range: Range)
     };
     match replay(alloc, &config, &SumFns, &steps) {
         Ok(report) => {
-            report.outcomes.len() as u64 == range.steps + 10
+            range.steps.checked_add(10) == Some(report.outcomes.len() as u64)
                 && is_lively(&report)
                 && is_plain(alloc, &report)
         }
