@@ -1,29 +1,10 @@
 //! Entries made in two phases: what each event of an operation answers, and which operation is the first.
 use super::rows::{Row, first_wrong};
+use super::runs::{ONE_BUCKET, SMALL};
 use fkv_functions::{Ask, Refused};
 use fkv_operations::{Answer, Op};
 use fkv_partition::{Config, Progress};
 use std::alloc::Global;
-
-/// One bucket: all keys of one lower-case letter have one tag, and so one class.
-const ONE_BUCKET: Config = Config {
-    id: 1,
-    partition_bits: 0,
-    bucket_bits: 0,
-    page_bits: 8,
-    frames: 8,
-    turns: 1_000_000,
-};
-
-/// A bucket each.
-const BUCKETS: Config = Config {
-    id: 1,
-    partition_bits: 0,
-    bucket_bits: 8,
-    page_bits: 8,
-    frames: 2,
-    turns: 1_000_000,
-};
 
 const FIRST_QUESTION: Ask<u8, i128, i64> = Ask {
     number: 2,
@@ -102,11 +83,11 @@ const UNSEEN: [Row; 9] = [
 type Run = (Config, &'static [Row], &'static [(u8, i128)]);
 
 const RUNS: [Run; 6] = [
-    (BUCKETS, &FIVE_EVENTS, &[(b'a', 5)]),
+    (SMALL, &FIVE_EVENTS, &[(b'a', 5)]),
     (ONE_BUCKET, &FIVE_EVENTS, &[(b'a', 5)]),
-    (BUCKETS, &TWO_CLAIMS, &[(b'a', 2)]),
+    (SMALL, &TWO_CLAIMS, &[(b'a', 2)]),
     (ONE_BUCKET, &GIVEN_UP, &[(b'a', 2)]),
-    (BUCKETS, &GIVEN_UP, &[(b'a', 2)]),
+    (SMALL, &GIVEN_UP, &[(b'a', 2)]),
     (ONE_BUCKET, &UNSEEN, &[(b'a', 1)]),
 ];
 

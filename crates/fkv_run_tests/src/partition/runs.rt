@@ -4,7 +4,8 @@ use fkv_functions::{Ask, Refused, What};
 use fkv_operations::{Answer, Op};
 use fkv_partition::{Config, Progress};
 
-const SMALL: Config = Config {
+/// A bucket for each key of one letter.
+pub const SMALL: Config = Config {
     id: 1,
     partition_bits: 0,
     bucket_bits: 8,
@@ -14,7 +15,7 @@ const SMALL: Config = Config {
 };
 
 /// One bucket: all keys of one lower-case letter have one tag, and so one class.
-const ONE_BUCKET: Config = Config {
+pub const ONE_BUCKET: Config = Config {
     id: 1,
     partition_bits: 0,
     bucket_bits: 0,
