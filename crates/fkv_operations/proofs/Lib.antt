@@ -1,3 +1,4 @@
 pub mod ClassLemmas
 pub mod TracedLemmas
 pub mod ScanLemmas
+pub mod RegionLemmas

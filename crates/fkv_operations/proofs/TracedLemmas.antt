@@ -11,6 +11,8 @@ use Rattle.fkv_hybrid.specs.Places.{IsLaidOut}
 use Rattle.fkv_hybrid.specs.Text.{last_where, has_key, last_of, newest, AllAbove, IsRising, IsFrom, IsBelow}
 use Rattle.fkv_hybrid.specs.Chains.{has_class, last_of_class, Leads, IsChained, IsIn}
 use Rattle.fkv_functions.proofs.ListLemmas.{get-append_last}
+use Rattle.fkv_regions.specs.RegionsView.{RegionsView, fresh_regions}
+use Rattle.fkv_hybrid.proofs.ChangeLemmas.{laid_out-changed, rising-changed, from-changed, below-changed, chained-changed, leads-changed}
 use Rattle.fkv_hybrid.proofs.LastWhere.{last_where-append, last_where-found, last_where-in, none-passes, last_where-narrow, last_where-narrow_none}
 use Rattle.fkv_index.specs.declared.words.Word.{Word}
 use Rattle.fkv_index.specs.declared.places.Place.{Place}
@@ -21,8 +23,8 @@ use Rattle.fkv_index.specs.Changes.{Writes, SetsEntry, SameEntries}
 use Rattle.fkv_operations.specs.declared.classes.Class.{Class}
 use Rattle.fkv_operations.specs.declared.entries.IndexEntry.{IndexEntry}
 use Rattle.fkv_operations.specs.Classes.{same_class}
-use Rattle.fkv_operations.specs.RecordsViews.{RecordsView, empty_records, class_in, entry_of, leads_to, with_record}
-use Rattle.fkv_operations.specs.Traced.{IsTraced}
+use Rattle.fkv_operations.specs.RecordsViews.{RecordsView, empty_records, class_in, entry_of, leads_to, with_record, with_value, with_regions, ChangesAt}
+use Rattle.fkv_operations.specs.Traced.{AreRegionsBelow, IsTraced}
 use Rattle.fkv_operations.proofs.ClassLemmas.{class_test, entry-set}
 
 -- ---- the tail
@@ -37,10 +39,11 @@ tail_from {v = v} t = let low = low_tail v.page_bits v.record_size v.begin v.tai
 pub traced-empty : {K V : Type 0} {code : K → ℕ} (partition_bits bucket_bits page_bits record_size : ℕ)
     → partition_bits ≤ 6
     → bucket_bits ≤ 20
+    → AreRegionsBelow page_bits 64 (fresh_regions page_bits)
     → IsIndexMap (empty_records {K = K} {V = V} partition_bits bucket_bits page_bits record_size).words
     → ((b t : ℕ) → entry_at (empty_records {K = K} {V = V} partition_bits bucket_bits page_bits record_size).words b t ≡ None)
     → IsTraced {V = V} code (empty_records partition_bits bucket_bits page_bits record_size)
-traced-empty p k bits size few small map none = record {
+traced-empty p k bits size few small regions map none = record {
   partition_bits = few;
   bucket_bits = small;
   begin = refl;
@@ -48,6 +51,7 @@ traced-empty p k bits size few small map none = record {
   rising = tt;
   from = λ i e h. absurd (cc);
   below = λ i e h. absurd (cc);
+  regions = regions;
   chained = λ i e h. absurd (cc);
   buckets = length-replicate (2 ^ k) (replicate 7 empty);
   map = map;
@@ -70,6 +74,7 @@ traced-words v words buckets map same t = record {
   rising = t.rising;
   from = t.from;
   below = t.below;
+  regions = t.regions;
   chained = t.chained;
   buckets = buckets ∙ t.buckets;
   map = map;
@@ -117,7 +122,65 @@ entry-stands words b t p w map s =
     ∙ map.entry p final
     ∙ ap (λ (x : Word). Some (address_of x)) s.word
 
+-- words change at its place alone, whether it was confirmed or emptied
+pub changes-by : (final : Bool) (p : Place) (w : Word) (old new : List (List Word))
+    → OnTrue final (Writes p w old new)
+    → OnFalse final (Writes p empty old new)
+    → ChangesAt p old new
+changes-by true p w old new writes emptied = record { others = writes.elsewhere; places = λ q h. (writes.places q).1 h }
+changes-by false p w old new writes emptied = record { others = emptied.elsewhere; places = λ q h. (emptied.places q).1 h }
+
+-- ---- the regions move
+pub traced-regions : {K V : Type 0} {code : K → ℕ} (v : RecordsView K V) (regions : RegionsView)
+    → AreRegionsBelow v.page_bits v.tail regions
+    → IsTraced code v
+    → IsTraced code (with_regions v regions)
+traced-regions v regions new t = record {
+  partition_bits = t.partition_bits;
+  bucket_bits = t.bucket_bits;
+  begin = t.begin;
+  laid_out = t.laid_out;
+  rising = t.rising;
+  from = t.from;
+  below = t.below;
+  regions = new;
+  chained = t.chained;
+  buckets = t.buckets;
+  map = t.map;
+  leads = t.leads;
+  placed = t.placed;
+}
+
+-- ---- a record gets another value, or becomes a tombstone
+pub traced-value : {K V : Type 0} {code : K → ℕ} (v : RecordsView K V) (a : ℕ) (value : Option V)
+    → IsTraced code v
+    → IsTraced code (with_value v a value)
+traced-value {code = code} v a value t = record {
+  partition_bits = t.partition_bits;
+  bucket_bits = t.bucket_bits;
+  begin = t.begin;
+  laid_out = laid_out-changed a value v.page_bits v.record_size v.begin v.tail v.text t.laid_out;
+  rising = rising-changed a value v.text t.rising;
+  from = from-changed a value v.begin v.text t.from;
+  below = below-changed a value v.tail v.text t.below;
+  regions = t.regions;
+  chained = chained-changed a value (class_in code v) same_class v.begin v.text t.chained;
+  buckets = t.buckets;
+  map = t.map;
+  leads = λ c. leads-changed a value (class_in code v) same_class v.begin v.text c (leads_to (entry_of v c)) (t.leads c);
+  placed = t.placed;
+}
+
 -- ---- a record is appended
+below-tail : {page_bits low high : ℕ} {regions : RegionsView} → AreRegionsBelow page_bits low regions → low < high → AreRegionsBelow page_bits high regions
+below-tail r up = record {
+  agree = r.agree;
+  timely = r.timely;
+  bits = r.bits;
+  read_only = (let most = r.read_only in omega arith);
+  head = r.head;
+}
+
 leads-by : {K V : Type 0} (begin : ℕ) (b : Bool) (e : Entry K V) (l : Option (Entry K V)) (p : Option ℕ) → Leads begin l (leads_to p) → Leads begin (cond b (Some e) l) (leads_to (cond b (Some e.address) p))
 leads-by begin true e l p h = refl
 leads-by begin false e l p h = h
@@ -173,6 +236,7 @@ traced-record {K} {V} {code} v e key value t new moved =
       rising = new.rising;
       from = new.from;
       below = new.below;
+      regions = below-tail t.regions rises;
       chained = new.chained;
       buckets = moved.buckets ∙ t.buckets;
       map = moved.map;

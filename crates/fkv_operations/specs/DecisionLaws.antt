@@ -1,20 +1,25 @@
 -- What a decision comes to, on the plain map that says of the key what was met.
-use Rattle.std.specs.Prelude.{◌≡◌, Bool, true, false, cond, ℕ, Option, Some, None, IsSome}
+use Rattle.std.specs.Prelude.{◌≡◌, Bool, true, false, cond, ℕ, ◌⊎◌, Option, Some, None}
 use Rattle.std.specs.declared.cmp.Ordering.{Ordering}
 use Rattle.std.specs.BTreeMap.{is_at}
-use Rattle.std.proofs.Common.{refl, sym, ap, ◌∙◌}
+use Rattle.std.proofs.Common.{refl, sym, ap, ◌∙◌, inl, inr}
 use Rattle.fkv_functions.specs.Meanings.{Meanings}
 use Rattle.fkv_functions.specs.Plain.{PlainMap, Same, IsKeyOrder, with_at}
+use Rattle.fkv_hybrid.specs.declared.entries.Entry.{Entry}
+use Rattle.fkv_hybrid.specs.Text.{value_of}
+use Rattle.fkv_regions.specs.declared.offsets.View.{View}
+use Rattle.fkv_regions.specs.declared.offsets.Region.{Region}
+use Rattle.fkv_regions.specs.declared.offsets.Region.TheVariants as region
+use Rattle.fkv_regions.specs.Offsets.{region_of}
 use Rattle.fkv_operations.specs.After.{key_of, after, answer, shown_of}
-use Rattle.fkv_operations.specs.Decisions.{met_by, held_of, decision}
+use Rattle.fkv_operations.specs.Decisions.{met_in, met_last, met_by, held_of, decision}
 use Rattle.fkv_operations.specs.declared.operations.Op.{Op}
 use Rattle.fkv_operations.specs.declared.operations.Op.TheVariants.{Read, Upsert, Rmw, Delete}
 use Rattle.fkv_operations.specs.declared.operations.Answer.{Answer}
-use Rattle.fkv_operations.specs.declared.operations.Answer.TheVariants.{Stored, Deleted}
+use Rattle.fkv_operations.specs.declared.operations.Answer.TheVariants as told
 use Rattle.fkv_operations.specs.declared.decisions.Met.{Met}
-use Rattle.fkv_operations.specs.declared.decisions.Met.TheVariants.{NoEntry, NoValue, Value}
-use Rattle.fkv_operations.specs.declared.decisions.Decision.{Decision}
-use Rattle.fkv_operations.specs.declared.decisions.Decision.TheVariants.{Done, Claim, Append, Prepare}
+use Rattle.fkv_operations.specs.declared.decisions.Met.TheVariants.{NoEntry, NoValue, ReadOnly, Fuzzy, Mutable}
+use Rattle.fkv_operations.specs.declared.decisions.Decision.TheVariants.{Done, Claim, Append, Replace, Prepare, Wait}
 
 -- a key that has no value is removed without a change
 removed : {V : Type 0} (b : Bool) (l : Option V) → (b ≡ true → l ≡ None) → l ≡ cond b None l
@@ -29,33 +34,42 @@ module _ {K V I O : Type 0} (cmp : K → K → Ordering) (f : Meanings K V I O) 
       → decision f op met ≡ Done a
       → Same (after cmp f m op) m
   quiet-after order (Read k i) met a h d q = refl
-  quiet-after order (Upsert k v) NoEntry a h d q = absurd (cc)
-  quiet-after order (Upsert k v) NoValue a h d q = absurd (cc)
-  quiet-after order (Upsert k v) (Value w) a h d q = absurd (cc)
+  quiet-after order (Upsert k u) NoEntry a h d q = absurd (cc)
+  quiet-after order (Upsert k u) NoValue a h d q = absurd (cc)
+  quiet-after order (Upsert k u) (ReadOnly w) a h d q = absurd (cc)
+  quiet-after order (Upsert k u) (Fuzzy w) a h d q = absurd (cc)
+  quiet-after order (Upsert k u) (Mutable w) a h d q = absurd (cc)
   quiet-after order (Rmw k i) NoEntry a h d q = absurd (cc)
   quiet-after order (Rmw k i) NoValue a h d q = absurd (cc)
-  quiet-after order (Rmw k i) (Value w) a h d q = absurd (cc)
-  quiet-after order (Delete k) NoEntry a h d q =
-      sym (removed (is_at (cmp k) q) (m q) (λ t. ap m (sym (order.same k q t)) ∙ h))
-  quiet-after order (Delete k) NoValue a h d q =
-      sym (removed (is_at (cmp k) q) (m q) (λ t. ap m (sym (order.same k q t)) ∙ h))
-  quiet-after order (Delete k) (Value w) a h d q = absurd (cc)
+  quiet-after order (Rmw k i) (ReadOnly w) a h d q = absurd (cc)
+  quiet-after order (Rmw k i) (Fuzzy w) a h d q = absurd (cc)
+  quiet-after order (Rmw k i) (Mutable w) a h d q = absurd (cc)
+  quiet-after order (Delete k) NoEntry a h d q = sym (removed (is_at (cmp k) q) (m q) (λ t. ap m (sym (order.same k q t)) ∙ h))
+  quiet-after order (Delete k) NoValue a h d q = sym (removed (is_at (cmp k) q) (m q) (λ t. ap m (sym (order.same k q t)) ∙ h))
+  quiet-after order (Delete k) (ReadOnly w) a h d q = absurd (cc)
+  quiet-after order (Delete k) (Fuzzy w) a h d q = absurd (cc)
+  quiet-after order (Delete k) (Mutable w) a h d q = absurd (cc)
 
   pub quiet-answer : (op : Op K V I) (met : Met V) (a : Answer O)
       → m (key_of op) ≡ held_of met
       → decision f op met ≡ Done a
       → a ≡ answer f m op
-  quiet-answer (Read k i) met a h d =
-      let told : shown_of f k i (held_of met) ≡ a = cc in sym told ∙ ap (shown_of f k i) (sym h)
-  quiet-answer (Upsert k v) NoEntry a h d = absurd (cc)
-  quiet-answer (Upsert k v) NoValue a h d = absurd (cc)
-  quiet-answer (Upsert k v) (Value w) a h d = absurd (cc)
+  quiet-answer (Read k i) met a h d = let shows : shown_of f k i (held_of met) ≡ a = cc in sym shows ∙ ap (shown_of f k i) (sym h)
+  quiet-answer (Upsert k u) NoEntry a h d = absurd (cc)
+  quiet-answer (Upsert k u) NoValue a h d = absurd (cc)
+  quiet-answer (Upsert k u) (ReadOnly w) a h d = absurd (cc)
+  quiet-answer (Upsert k u) (Fuzzy w) a h d = absurd (cc)
+  quiet-answer (Upsert k u) (Mutable w) a h d = absurd (cc)
   quiet-answer (Rmw k i) NoEntry a h d = absurd (cc)
   quiet-answer (Rmw k i) NoValue a h d = absurd (cc)
-  quiet-answer (Rmw k i) (Value w) a h d = absurd (cc)
+  quiet-answer (Rmw k i) (ReadOnly w) a h d = absurd (cc)
+  quiet-answer (Rmw k i) (Fuzzy w) a h d = absurd (cc)
+  quiet-answer (Rmw k i) (Mutable w) a h d = absurd (cc)
   quiet-answer (Delete k) NoEntry a h d = cc
   quiet-answer (Delete k) NoValue a h d = cc
-  quiet-answer (Delete k) (Value w) a h d = absurd (cc)
+  quiet-answer (Delete k) (ReadOnly w) a h d = absurd (cc)
+  quiet-answer (Delete k) (Fuzzy w) a h d = absurd (cc)
+  quiet-answer (Delete k) (Mutable w) a h d = absurd (cc)
 
   -- one that appends does to the map what its record does, and answers as the map does
   pub append-after : (op : Op K V I) (met : Met V) (v : Option V) (a : Answer O)
@@ -64,13 +78,19 @@ module _ {K V I O : Type 0} (cmp : K → K → Ordering) (f : Meanings K V I O) 
   append-after (Read k i) met v a d = absurd (cc)
   append-after (Upsert k u) NoEntry v a d = absurd (cc)
   append-after (Upsert k u) NoValue v a d = let same : Some u ≡ v = cc in ap (with_at cmp m k) same
-  append-after (Upsert k u) (Value w) v a d = let same : Some u ≡ v = cc in ap (with_at cmp m k) same
+  append-after (Upsert k u) (ReadOnly w) v a d = let same : Some u ≡ v = cc in ap (with_at cmp m k) same
+  append-after (Upsert k u) (Fuzzy w) v a d = let same : Some u ≡ v = cc in ap (with_at cmp m k) same
+  append-after (Upsert k u) (Mutable w) v a d = absurd (cc)
   append-after (Rmw k i) NoEntry v a d = absurd (cc)
   append-after (Rmw k i) NoValue v a d = absurd (cc)
-  append-after (Rmw k i) (Value w) v a d = absurd (cc)
+  append-after (Rmw k i) (ReadOnly w) v a d = absurd (cc)
+  append-after (Rmw k i) (Fuzzy w) v a d = absurd (cc)
+  append-after (Rmw k i) (Mutable w) v a d = absurd (cc)
   append-after (Delete k) NoEntry v a d = absurd (cc)
   append-after (Delete k) NoValue v a d = absurd (cc)
-  append-after (Delete k) (Value w) v a d = let same : None ≡ v = cc in ap (with_at cmp m k) same
+  append-after (Delete k) (ReadOnly w) v a d = let same : None ≡ v = cc in ap (with_at cmp m k) same
+  append-after (Delete k) (Fuzzy w) v a d = let same : None ≡ v = cc in ap (with_at cmp m k) same
+  append-after (Delete k) (Mutable w) v a d = absurd (cc)
 
   pub append-answer : (op : Op K V I) (met : Met V) (v : Option V) (a : Answer O)
       → decision f op met ≡ Append v a
@@ -78,90 +98,327 @@ module _ {K V I O : Type 0} (cmp : K → K → Ordering) (f : Meanings K V I O) 
   append-answer (Read k i) met v a d = absurd (cc)
   append-answer (Upsert k u) NoEntry v a d = absurd (cc)
   append-answer (Upsert k u) NoValue v a d = cc
-  append-answer (Upsert k u) (Value w) v a d = cc
+  append-answer (Upsert k u) (ReadOnly w) v a d = cc
+  append-answer (Upsert k u) (Fuzzy w) v a d = cc
+  append-answer (Upsert k u) (Mutable w) v a d = absurd (cc)
   append-answer (Rmw k i) NoEntry v a d = absurd (cc)
   append-answer (Rmw k i) NoValue v a d = absurd (cc)
-  append-answer (Rmw k i) (Value w) v a d = absurd (cc)
+  append-answer (Rmw k i) (ReadOnly w) v a d = absurd (cc)
+  append-answer (Rmw k i) (Fuzzy w) v a d = absurd (cc)
+  append-answer (Rmw k i) (Mutable w) v a d = absurd (cc)
   append-answer (Delete k) NoEntry v a d = absurd (cc)
   append-answer (Delete k) NoValue v a d = absurd (cc)
-  append-answer (Delete k) (Value w) v a d = cc
+  append-answer (Delete k) (ReadOnly w) v a d = cc
+  append-answer (Delete k) (Fuzzy w) v a d = cc
+  append-answer (Delete k) (Mutable w) v a d = absurd (cc)
+
+  -- and so does one that changes the last record of its key in place
+  pub replace-after : (op : Op K V I) (met : Met V) (v : Option V) (a : Answer O)
+      → m (key_of op) ≡ held_of met
+      → decision f op met ≡ Replace v a
+      → after cmp f m op ≡ with_at cmp m (key_of op) v
+  replace-after (Read k i) met v a h d = absurd (cc)
+  replace-after (Upsert k u) NoEntry v a h d = absurd (cc)
+  replace-after (Upsert k u) NoValue v a h d = absurd (cc)
+  replace-after (Upsert k u) (ReadOnly w) v a h d = absurd (cc)
+  replace-after (Upsert k u) (Fuzzy w) v a h d = absurd (cc)
+  replace-after (Upsert k u) (Mutable w) v a h d = let same : Some u ≡ v = cc in ap (with_at cmp m k) same
+  replace-after (Rmw k i) NoEntry v a h d = absurd (cc)
+  replace-after (Rmw k i) NoValue v a h d = absurd (cc)
+  replace-after (Rmw k i) (ReadOnly w) v a h d = absurd (cc)
+  replace-after (Rmw k i) (Fuzzy w) v a h d = absurd (cc)
+  replace-after (Rmw k i) (Mutable w) v a h d = let same : Some (f.next k w i) ≡ v = cc in rw h (ap (with_at cmp m k) same)
+  replace-after (Delete k) NoEntry v a h d = absurd (cc)
+  replace-after (Delete k) NoValue v a h d = absurd (cc)
+  replace-after (Delete k) (ReadOnly w) v a h d = absurd (cc)
+  replace-after (Delete k) (Fuzzy w) v a h d = absurd (cc)
+  replace-after (Delete k) (Mutable w) v a h d = let same : None ≡ v = cc in ap (with_at cmp m k) same
+
+  pub replace-answer : (op : Op K V I) (met : Met V) (v : Option V) (a : Answer O)
+      → m (key_of op) ≡ held_of met
+      → decision f op met ≡ Replace v a
+      → a ≡ answer f m op
+  replace-answer (Read k i) met v a h d = absurd (cc)
+  replace-answer (Upsert k u) NoEntry v a h d = absurd (cc)
+  replace-answer (Upsert k u) NoValue v a h d = absurd (cc)
+  replace-answer (Upsert k u) (ReadOnly w) v a h d = absurd (cc)
+  replace-answer (Upsert k u) (Fuzzy w) v a h d = absurd (cc)
+  replace-answer (Upsert k u) (Mutable w) v a h d = cc
+  replace-answer (Rmw k i) NoEntry v a h d = absurd (cc)
+  replace-answer (Rmw k i) NoValue v a h d = absurd (cc)
+  replace-answer (Rmw k i) (ReadOnly w) v a h d = absurd (cc)
+  replace-answer (Rmw k i) (Fuzzy w) v a h d = absurd (cc)
+  replace-answer (Rmw k i) (Mutable w) v a h d = let same : told.Value (f.shown k i (f.next k w i)) ≡ a = cc in rw h (sym same)
+  replace-answer (Delete k) NoEntry v a h d = absurd (cc)
+  replace-answer (Delete k) NoValue v a h d = absurd (cc)
+  replace-answer (Delete k) (ReadOnly w) v a h d = absurd (cc)
+  replace-answer (Delete k) (Fuzzy w) v a h d = absurd (cc)
+  replace-answer (Delete k) (Mutable w) v a h d = cc
 
 module _ {K V I O : Type 0} (f : Meanings K V I O) where
-  -- one that asks for a value is an update by an input, and its source is what was met
+  -- one that asks for a value is an update by an input, and its source is what was met: none, or a value that changes no
+  -- more
   pub prepare-op : (op : Op K V I) (met : Met V) (s : Option V) (i : I)
       → decision f op met ≡ Prepare s i
       → op ≡ Rmw (key_of op) i
   prepare-op (Read k j) met s i d = absurd (cc)
-  prepare-op (Upsert k v) NoEntry s i d = absurd (cc)
-  prepare-op (Upsert k v) NoValue s i d = absurd (cc)
-  prepare-op (Upsert k v) (Value w) s i d = absurd (cc)
+  prepare-op (Upsert k u) NoEntry s i d = absurd (cc)
+  prepare-op (Upsert k u) NoValue s i d = absurd (cc)
+  prepare-op (Upsert k u) (ReadOnly w) s i d = absurd (cc)
+  prepare-op (Upsert k u) (Fuzzy w) s i d = absurd (cc)
+  prepare-op (Upsert k u) (Mutable w) s i d = absurd (cc)
   prepare-op (Rmw k j) NoEntry s i d = absurd (cc)
   prepare-op (Rmw k j) NoValue s i d = let same : j ≡ i = cc in ap (Rmw k) same
-  prepare-op (Rmw k j) (Value w) s i d = let same : j ≡ i = cc in ap (Rmw k) same
+  prepare-op (Rmw k j) (ReadOnly w) s i d = let same : j ≡ i = cc in ap (Rmw k) same
+  prepare-op (Rmw k j) (Fuzzy w) s i d = absurd (cc)
+  prepare-op (Rmw k j) (Mutable w) s i d = absurd (cc)
   prepare-op (Delete k) NoEntry s i d = absurd (cc)
   prepare-op (Delete k) NoValue s i d = absurd (cc)
-  prepare-op (Delete k) (Value w) s i d = absurd (cc)
+  prepare-op (Delete k) (ReadOnly w) s i d = absurd (cc)
+  prepare-op (Delete k) (Fuzzy w) s i d = absurd (cc)
+  prepare-op (Delete k) (Mutable w) s i d = absurd (cc)
 
   pub prepare-source : (op : Op K V I) (met : Met V) (s : Option V) (i : I)
       → decision f op met ≡ Prepare s i
       → s ≡ held_of met
   prepare-source (Read k j) met s i d = absurd (cc)
-  prepare-source (Upsert k v) NoEntry s i d = absurd (cc)
-  prepare-source (Upsert k v) NoValue s i d = absurd (cc)
-  prepare-source (Upsert k v) (Value w) s i d = absurd (cc)
+  prepare-source (Upsert k u) NoEntry s i d = absurd (cc)
+  prepare-source (Upsert k u) NoValue s i d = absurd (cc)
+  prepare-source (Upsert k u) (ReadOnly w) s i d = absurd (cc)
+  prepare-source (Upsert k u) (Fuzzy w) s i d = absurd (cc)
+  prepare-source (Upsert k u) (Mutable w) s i d = absurd (cc)
   prepare-source (Rmw k j) NoEntry s i d = absurd (cc)
   prepare-source (Rmw k j) NoValue s i d = cc
-  prepare-source (Rmw k j) (Value w) s i d = cc
+  prepare-source (Rmw k j) (ReadOnly w) s i d = cc
+  prepare-source (Rmw k j) (Fuzzy w) s i d = absurd (cc)
+  prepare-source (Rmw k j) (Mutable w) s i d = absurd (cc)
   prepare-source (Delete k) NoEntry s i d = absurd (cc)
   prepare-source (Delete k) NoValue s i d = absurd (cc)
-  prepare-source (Delete k) (Value w) s i d = absurd (cc)
+  prepare-source (Delete k) (ReadOnly w) s i d = absurd (cc)
+  prepare-source (Delete k) (Fuzzy w) s i d = absurd (cc)
+  prepare-source (Delete k) (Mutable w) s i d = absurd (cc)
 
--- what is met says what the key holds, where a key without an entry holds nothing
-pub held-met : {V : Type 0} (entry : Option ℕ) (held : Option V)
-    → (entry ≡ None → held ≡ None)
-    → held ≡ held_of (met_by entry held)
-held-met None held h = h refl
-held-met (Some a) None h = refl
-held-met (Some a) (Some v) h = refl
+  pub prepare-met : (op : Op K V I) (met : Met V) (s : Option V) (i : I)
+      → decision f op met ≡ Prepare s i
+      → (met ≡ NoValue) ⊎ ((w : V) × (met ≡ ReadOnly w))
+  prepare-met (Read k j) met s i d = absurd (cc)
+  prepare-met (Upsert k u) NoEntry s i d = absurd (cc)
+  prepare-met (Upsert k u) NoValue s i d = absurd (cc)
+  prepare-met (Upsert k u) (ReadOnly w) s i d = absurd (cc)
+  prepare-met (Upsert k u) (Fuzzy w) s i d = absurd (cc)
+  prepare-met (Upsert k u) (Mutable w) s i d = absurd (cc)
+  prepare-met (Rmw k j) NoEntry s i d = absurd (cc)
+  prepare-met (Rmw k j) NoValue s i d = inl refl
+  prepare-met (Rmw k j) (ReadOnly w) s i d = inr (w, refl)
+  prepare-met (Rmw k j) (Fuzzy w) s i d = absurd (cc)
+  prepare-met (Rmw k j) (Mutable w) s i d = absurd (cc)
+  prepare-met (Delete k) NoEntry s i d = absurd (cc)
+  prepare-met (Delete k) NoValue s i d = absurd (cc)
+  prepare-met (Delete k) (ReadOnly w) s i d = absurd (cc)
+  prepare-met (Delete k) (Fuzzy w) s i d = absurd (cc)
+  prepare-met (Delete k) (Mutable w) s i d = absurd (cc)
 
--- a write finds an entry, but where it makes one
-pub append-met : {K V I O : Type 0} (f : Meanings K V I O) (op : Op K V I) (entry : Option ℕ)
-    (held v : Option V) (a : Answer O)
-    → decision f op (met_by entry held) ≡ Append v a
-    → IsSome entry
-append-met f (Read k i) entry held v a d = absurd (cc)
-append-met f (Upsert k u) None held v a d = absurd (cc)
-append-met f (Upsert k u) (Some e) held v a d = refl
-append-met f (Rmw k i) None held v a d = absurd (cc)
-append-met f (Rmw k i) (Some e) None v a d = absurd (cc)
-append-met f (Rmw k i) (Some e) (Some w) v a d = absurd (cc)
-append-met f (Delete k) None held v a d = absurd (cc)
-append-met f (Delete k) (Some e) held v a d = refl
+  -- one that changes a record in place met a value that may be changed so
+  pub replace-met : (op : Op K V I) (met : Met V) (v : Option V) (a : Answer O)
+      → decision f op met ≡ Replace v a
+      → (w : V) × (met ≡ Mutable w)
+  replace-met (Read k i) met v a d = absurd (cc)
+  replace-met (Upsert k u) NoEntry v a d = absurd (cc)
+  replace-met (Upsert k u) NoValue v a d = absurd (cc)
+  replace-met (Upsert k u) (ReadOnly w) v a d = absurd (cc)
+  replace-met (Upsert k u) (Fuzzy w) v a d = absurd (cc)
+  replace-met (Upsert k u) (Mutable w) v a d = (w, refl)
+  replace-met (Rmw k i) NoEntry v a d = absurd (cc)
+  replace-met (Rmw k i) NoValue v a d = absurd (cc)
+  replace-met (Rmw k i) (ReadOnly w) v a d = absurd (cc)
+  replace-met (Rmw k i) (Fuzzy w) v a d = absurd (cc)
+  replace-met (Rmw k i) (Mutable w) v a d = (w, refl)
+  replace-met (Delete k) NoEntry v a d = absurd (cc)
+  replace-met (Delete k) NoValue v a d = absurd (cc)
+  replace-met (Delete k) (ReadOnly w) v a d = absurd (cc)
+  replace-met (Delete k) (Fuzzy w) v a d = absurd (cc)
+  replace-met (Delete k) (Mutable w) v a d = (w, refl)
 
-pub prepare-met : {K V I O : Type 0} (f : Meanings K V I O) (op : Op K V I) (entry : Option ℕ)
-    (held s : Option V) (i : I)
-    → decision f op (met_by entry held) ≡ Prepare s i
-    → IsSome entry
-prepare-met f (Read k j) entry held s i d = absurd (cc)
-prepare-met f (Upsert k u) None held s i d = absurd (cc)
-prepare-met f (Upsert k u) (Some e) None s i d = absurd (cc)
-prepare-met f (Upsert k u) (Some e) (Some w) s i d = absurd (cc)
-prepare-met f (Rmw k j) None held s i d = absurd (cc)
-prepare-met f (Rmw k j) (Some e) held s i d = refl
-prepare-met f (Delete k) None held s i d = absurd (cc)
-prepare-met f (Delete k) (Some e) None s i d = absurd (cc)
-prepare-met f (Delete k) (Some e) (Some w) s i d = absurd (cc)
+  -- only an update waits, and it met a value that others may still change
+  pub wait-op : (op : Op K V I) (met : Met V)
+      → decision f op met ≡ Wait
+      → (i : I) × (op ≡ Rmw (key_of op) i)
+  wait-op (Read k i) met d = absurd (cc)
+  wait-op (Upsert k u) NoEntry d = absurd (cc)
+  wait-op (Upsert k u) NoValue d = absurd (cc)
+  wait-op (Upsert k u) (ReadOnly w) d = absurd (cc)
+  wait-op (Upsert k u) (Fuzzy w) d = absurd (cc)
+  wait-op (Upsert k u) (Mutable w) d = absurd (cc)
+  wait-op (Rmw k i) NoEntry d = absurd (cc)
+  wait-op (Rmw k i) NoValue d = absurd (cc)
+  wait-op (Rmw k i) (ReadOnly w) d = absurd (cc)
+  wait-op (Rmw k i) (Fuzzy w) d = (i, refl)
+  wait-op (Rmw k i) (Mutable w) d = absurd (cc)
+  wait-op (Delete k) NoEntry d = absurd (cc)
+  wait-op (Delete k) NoValue d = absurd (cc)
+  wait-op (Delete k) (ReadOnly w) d = absurd (cc)
+  wait-op (Delete k) (Fuzzy w) d = absurd (cc)
+  wait-op (Delete k) (Mutable w) d = absurd (cc)
 
-pub claim-met : {K V I O : Type 0} (f : Meanings K V I O) (op : Op K V I) (entry : Option ℕ) (held : Option V)
-    → decision f op (met_by entry held) ≡ Claim
-    → entry ≡ None
-claim-met f (Read k j) entry held d = absurd (cc)
-claim-met f (Upsert k u) None held d = refl
-claim-met f (Upsert k u) (Some e) None d = absurd (cc)
-claim-met f (Upsert k u) (Some e) (Some w) d = absurd (cc)
-claim-met f (Rmw k j) None held d = refl
-claim-met f (Rmw k j) (Some e) None d = absurd (cc)
-claim-met f (Rmw k j) (Some e) (Some w) d = absurd (cc)
-claim-met f (Delete k) None held d = absurd (cc)
-claim-met f (Delete k) (Some e) None d = absurd (cc)
-claim-met f (Delete k) (Some e) (Some w) d = absurd (cc)
+  pub wait-met : (op : Op K V I) (met : Met V)
+      → decision f op met ≡ Wait
+      → (w : V) × (met ≡ Fuzzy w)
+  wait-met (Read k i) met d = absurd (cc)
+  wait-met (Upsert k u) NoEntry d = absurd (cc)
+  wait-met (Upsert k u) NoValue d = absurd (cc)
+  wait-met (Upsert k u) (ReadOnly w) d = absurd (cc)
+  wait-met (Upsert k u) (Fuzzy w) d = absurd (cc)
+  wait-met (Upsert k u) (Mutable w) d = absurd (cc)
+  wait-met (Rmw k i) NoEntry d = absurd (cc)
+  wait-met (Rmw k i) NoValue d = absurd (cc)
+  wait-met (Rmw k i) (ReadOnly w) d = absurd (cc)
+  wait-met (Rmw k i) (Fuzzy w) d = (w, refl)
+  wait-met (Rmw k i) (Mutable w) d = absurd (cc)
+  wait-met (Delete k) NoEntry d = absurd (cc)
+  wait-met (Delete k) NoValue d = absurd (cc)
+  wait-met (Delete k) (ReadOnly w) d = absurd (cc)
+  wait-met (Delete k) (Fuzzy w) d = absurd (cc)
+  wait-met (Delete k) (Mutable w) d = absurd (cc)
+
+  -- a write finds an entry, but where it makes one
+  pub append-met : (op : Op K V I) (met : Met V) (v : Option V) (a : Answer O)
+      → decision f op met ≡ Append v a
+      → met ≡ NoEntry
+      → ⊥
+  append-met op met v a d e = let none : decision f op NoEntry ≡ Append v a = ap (decision f op) (sym e) ∙ d in at_none op v a none
+    where
+      at_none : (op : Op K V I) (v : Option V) (a : Answer O) → decision f op NoEntry ≡ Append v a → ⊥
+      at_none (Read k i) v a d = cc
+      at_none (Upsert k u) v a d = cc
+      at_none (Rmw k i) v a d = cc
+      at_none (Delete k) v a d = cc
+
+  pub claim-met : (op : Op K V I) (met : Met V)
+      → decision f op met ≡ Claim
+      → met ≡ NoEntry
+  claim-met (Read k i) met d = absurd (cc)
+  claim-met (Upsert k u) NoEntry d = refl
+  claim-met (Upsert k u) NoValue d = absurd (cc)
+  claim-met (Upsert k u) (ReadOnly w) d = absurd (cc)
+  claim-met (Upsert k u) (Fuzzy w) d = absurd (cc)
+  claim-met (Upsert k u) (Mutable w) d = absurd (cc)
+  claim-met (Rmw k i) NoEntry d = refl
+  claim-met (Rmw k i) NoValue d = absurd (cc)
+  claim-met (Rmw k i) (ReadOnly w) d = absurd (cc)
+  claim-met (Rmw k i) (Fuzzy w) d = absurd (cc)
+  claim-met (Rmw k i) (Mutable w) d = absurd (cc)
+  claim-met (Delete k) NoEntry d = absurd (cc)
+  claim-met (Delete k) NoValue d = absurd (cc)
+  claim-met (Delete k) (ReadOnly w) d = absurd (cc)
+  claim-met (Delete k) (Fuzzy w) d = absurd (cc)
+  claim-met (Delete k) (Mutable w) d = absurd (cc)
+
+-- ---- what was met
+held-in : {V : Type 0} (r : Region) (v : V) → held_of (met_in r v) ≡ Some v
+held-in region.OnDisk v = refl
+held-in region.ReadOnly v = refl
+held-in region.Fuzzy v = refl
+held-in region.Mutable v = refl
+
+held-last : {V : Type 0} (view : View) (a : ℕ) (value : Option V) → value ≡ held_of (met_last view a value)
+held-last view a None = refl
+held-last view a (Some v) = sym (held-in (region_of view a) v)
+
+mutable-only : {V : Type 0} (r : Region) (v w : V) → met_in r v ≡ Mutable w → (v ≡ w) × (r ≡ region.Mutable)
+mutable-only region.OnDisk v w h = absurd (cc)
+mutable-only region.ReadOnly v w h = absurd (cc)
+mutable-only region.Fuzzy v w h = absurd (cc)
+mutable-only region.Mutable v w h = ((cc), refl)
+
+fuzzy-only : {V : Type 0} (r : Region) (v w : V) → met_in r v ≡ Fuzzy w → (v ≡ w) × (r ≡ region.Fuzzy)
+fuzzy-only region.OnDisk v w h = absurd (cc)
+fuzzy-only region.ReadOnly v w h = absurd (cc)
+fuzzy-only region.Fuzzy v w h = ((cc), refl)
+fuzzy-only region.Mutable v w h = absurd (cc)
+
+frozen-only : {V : Type 0} (r : Region) (v w : V) → met_in r v ≡ ReadOnly w → (v ≡ w) × ((r ≡ region.ReadOnly) ⊎ (r ≡ region.OnDisk))
+frozen-only region.OnDisk v w h = ((cc), inr refl)
+frozen-only region.ReadOnly v w h = ((cc), inl refl)
+frozen-only region.Fuzzy v w h = absurd (cc)
+frozen-only region.Mutable v w h = absurd (cc)
+
+module _ {K V : Type 0} (view : View) where
+  -- what is met says what the key holds, where a key without an entry holds nothing
+  pub held-met : (entry : Option ℕ) (last : Option (Entry K V))
+      → (entry ≡ None → last ≡ None)
+      → value_of last ≡ held_of (met_by entry view last)
+  held-met None last h = ap value_of (h refl)
+  held-met (Some a) None h = refl
+  held-met (Some a) (Some e) h = held-last view e.address e.value
+
+  -- where there is no entry, and only there, none is met
+  pub none-met : (entry : Option ℕ) (last : Option (Entry K V)) → met_by entry view last ≡ NoEntry → entry ≡ None
+  none-met None last h = refl
+  none-met (Some a) None h = absurd (cc)
+  none-met (Some a) (Some e) h = absurd (by_value e.value h)
+    where
+      by_region : (r : Region) (v : V) → met_in r v ≡ NoEntry → ⊥
+      by_region region.OnDisk v h = cc
+      by_region region.ReadOnly v h = cc
+      by_region region.Fuzzy v h = cc
+      by_region region.Mutable v h = cc
+
+      by_value : (o : Option V) → met_last view e.address o ≡ NoEntry → ⊥
+      by_value None h = cc
+      by_value (Some v) h = by_region (region_of view e.address) v h
+
+  -- a value is met in the region of the last record
+  pub record IsMetIn (last : Option (Entry K V)) (w : V) (r : Region) : Type 0 where
+    pub entry : Entry K V
+    pub is : last ≡ Some entry
+    pub value : entry.value ≡ Some w
+    pub region : region_of view entry.address ≡ r
+
+  in-region : {P : Region → Type 0} (met : V → Met V)
+      → ((r : Region) (v w : V) → met_in r v ≡ met w → (v ≡ w) × P r)
+      → ((w : V) → NoEntry ≡ met w → ⊥)
+      → ((w : V) → NoValue ≡ met w → ⊥)
+      → (entry : Option ℕ) (last : Option (Entry K V)) (w : V)
+      → met_by entry view last ≡ met w
+      → (r : Region) × P r × IsMetIn last w r
+  in-region met is no_entry no_value None last w h = absurd (no_entry w h)
+  in-region met is no_entry no_value (Some a) None w h = absurd (no_value w h)
+  in-region {P} met is no_entry no_value (Some a) (Some e) w h = by_value e.value refl h
+    where
+      by_value : (o : Option V) → e.value ≡ o → met_last view e.address o ≡ met w → (r : Region) × P r × IsMetIn (Some e) w r
+      by_value None q h = absurd (no_value w h)
+      by_value (Some v) q h =
+          let i = is (region_of view e.address) v w h in
+          (region_of view e.address, i.1, record { entry = e; is = refl; value = q ∙ ap Some i.0; region = refl })
+
+  pub mutable-met : (entry : Option ℕ) (last : Option (Entry K V)) (w : V) → met_by entry view last ≡ Mutable w → IsMetIn last w region.Mutable
+  mutable-met entry last w h =
+      let m = in-region {P = λ r. r ≡ region.Mutable} Mutable mutable-only (λ w e. cc) (λ w e. cc) entry last w h in
+      let i = m.2 in
+      record { entry = i.entry; is = i.is; value = i.value; region = i.region ∙ m.1 }
+
+  pub fuzzy-met : (entry : Option ℕ) (last : Option (Entry K V)) (w : V) → met_by entry view last ≡ Fuzzy w → IsMetIn last w region.Fuzzy
+  fuzzy-met entry last w h =
+      let m = in-region {P = λ r. r ≡ region.Fuzzy} Fuzzy fuzzy-only (λ w e. cc) (λ w e. cc) entry last w h in
+      let i = m.2 in
+      record { entry = i.entry; is = i.is; value = i.value; region = i.region ∙ m.1 }
+
+  pub frozen-met : (entry : Option ℕ) (last : Option (Entry K V)) (w : V) → met_by entry view last ≡ ReadOnly w
+      → (r : Region) × ((r ≡ region.ReadOnly) ⊎ (r ≡ region.OnDisk)) × IsMetIn last w r
+  frozen-met entry last w h = in-region {P = λ r. (r ≡ region.ReadOnly) ⊎ (r ≡ region.OnDisk)} ReadOnly frozen-only (λ w e. cc) (λ w e. cc) entry last w h
+
+  -- where a key has no value there is no record of it, or a tombstone
+  pub absent-met : (entry : Option ℕ) (last : Option (Entry K V)) → met_by entry view last ≡ NoValue → value_of last ≡ None
+  absent-met None last h = absurd (cc)
+  absent-met (Some a) None h = refl
+  absent-met (Some a) (Some e) h = by_value e.value refl h
+    where
+      by_region : (r : Region) (v : V) → met_in r v ≡ NoValue → ⊥
+      by_region region.OnDisk v h = cc
+      by_region region.ReadOnly v h = cc
+      by_region region.Fuzzy v h = cc
+      by_region region.Mutable v h = cc
+
+      by_value : (o : Option V) → e.value ≡ o → met_last view e.address o ≡ NoValue → e.value ≡ None
+      by_value None q h = q
+      by_value (Some v) q h = absurd (by_region (region_of view e.address) v h)

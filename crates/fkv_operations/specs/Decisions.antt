@@ -1,36 +1,64 @@
 -- What the look-up of a key meets, and what an operation then does.
 use Rattle.std.specs.Prelude.{ℕ, Option, Some, None}
 use Rattle.fkv_functions.specs.Meanings.{Meanings}
+use Rattle.fkv_hybrid.specs.declared.entries.Entry.{Entry}
+use Rattle.fkv_regions.specs.declared.offsets.View.{View}
+use Rattle.fkv_regions.specs.declared.offsets.Region.{Region}
+use Rattle.fkv_regions.specs.declared.offsets.Region.TheVariants as region
+use Rattle.fkv_regions.specs.Offsets.{region_of}
 use Rattle.fkv_operations.specs.After.{shown_of}
 use Rattle.fkv_operations.specs.declared.operations.Op.{Op}
 use Rattle.fkv_operations.specs.declared.operations.Op.TheVariants.{Read, Upsert, Rmw, Delete}
+use Rattle.fkv_operations.specs.declared.operations.Answer.TheVariants as answer
 use Rattle.fkv_operations.specs.declared.operations.Answer.TheVariants.{Stored, Deleted}
 use Rattle.fkv_operations.specs.declared.decisions.Met.{Met}
-use Rattle.fkv_operations.specs.declared.decisions.Met.TheVariants.{NoEntry, NoValue, Value}
+use Rattle.fkv_operations.specs.declared.decisions.Met.TheVariants.{NoEntry, NoValue, ReadOnly, Fuzzy, Mutable}
 use Rattle.fkv_operations.specs.declared.decisions.Decision.{Decision}
-use Rattle.fkv_operations.specs.declared.decisions.Decision.TheVariants.{Done, Claim, Append, Prepare}
+use Rattle.fkv_operations.specs.declared.decisions.Decision.TheVariants.{Done, Claim, Append, Replace, Prepare, Wait}
 
--- what is met, by the address to which the key's entry leads, and by the key's value in the live map
-abbrev pub met_by : {V : Type 0} → Option ℕ → Option V → Met V
-met_by None held = NoEntry
-met_by (Some a) None = NoValue
-met_by (Some a) (Some v) = Value v
+-- a value in the region where its record stands; no session finds one on disk, since it looks no lower than its view of
+-- Head
+abbrev pub met_in : {V : Type 0} → Region → V → Met V
+met_in region.OnDisk v = ReadOnly v
+met_in region.ReadOnly v = ReadOnly v
+met_in region.Fuzzy v = Fuzzy v
+met_in region.Mutable v = Mutable v
+
+-- the last record of a key, by a view: its value in its region, or none for a tombstone
+abbrev pub met_last : {V : Type 0} → View → ℕ → Option V → Met V
+met_last view a None = NoValue
+met_last view a (Some v) = met_in (region_of view a) v
+
+-- what is met, by the address to which the entry of the key's class leads, by the session's view, and by the last record
+-- of the key
+abbrev pub met_by : {K V : Type 0} → Option ℕ → View → Option (Entry K V) → Met V
+met_by None view last = NoEntry
+met_by (Some a) view None = NoValue
+met_by (Some a) view (Some e) = met_last view e.address e.value
 
 -- the value that was met
 abbrev pub held_of : {V : Type 0} → Met V → Option V
 held_of NoEntry = None
 held_of NoValue = None
-held_of (Value v) = Some v
+held_of (ReadOnly v) = Some v
+held_of (Fuzzy v) = Some v
+held_of (Mutable v) = Some v
 
 -- the table: what an operation does for what it met
 abbrev pub decision : {K V I O : Type 0} → Meanings K V I O → Op K V I → Met V → Decision V I O
 decision f (Read k i) met = Done (shown_of f k i (held_of met))
 decision f (Upsert k v) NoEntry = Claim
 decision f (Upsert k v) NoValue = Append (Some v) Stored
-decision f (Upsert k v) (Value w) = Append (Some v) Stored
+decision f (Upsert k v) (ReadOnly w) = Append (Some v) Stored
+decision f (Upsert k v) (Fuzzy w) = Append (Some v) Stored
+decision f (Upsert k v) (Mutable w) = Replace (Some v) Stored
 decision f (Rmw k i) NoEntry = Claim
 decision f (Rmw k i) NoValue = Prepare None i
-decision f (Rmw k i) (Value w) = Prepare (Some w) i
+decision f (Rmw k i) (ReadOnly w) = Prepare (Some w) i
+decision f (Rmw k i) (Fuzzy w) = Wait
+decision f (Rmw k i) (Mutable w) = Replace (Some (f.next k w i)) (answer.Value (f.shown k i (f.next k w i)))
 decision f (Delete k) NoEntry = Done Deleted
 decision f (Delete k) NoValue = Done Deleted
-decision f (Delete k) (Value w) = Append None Deleted
+decision f (Delete k) (ReadOnly w) = Append None Deleted
+decision f (Delete k) (Fuzzy w) = Append None Deleted
+decision f (Delete k) (Mutable w) = Replace None Deleted

@@ -12,6 +12,7 @@ view_of record_size r = record {
   record_size = record_size;
   begin = r.log.begin;
   tail = r.log.tail;
+  regions = r.log.regions;
   text = r.log.text;
   words = r.index;
 }

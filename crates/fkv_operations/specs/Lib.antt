@@ -6,3 +6,4 @@ pub mod Classes
 pub mod RecordsViews
 pub mod Inside
 pub mod Traced
+pub mod Still

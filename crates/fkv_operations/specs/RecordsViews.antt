@@ -2,6 +2,8 @@
 use Rattle.std.specs.Prelude.{◌≡◌, ◌^◌, ℕ, IsTrue, List, [], ◌∷◌, ◌++◌, Option, Some, None, option_map, replicate}
 use Rattle.fkv_hybrid.specs.declared.entries.Entry.{Entry}
 use Rattle.fkv_hybrid.specs.Places.{tail_after}
+use Rattle.fkv_hybrid.specs.Text.{changed}
+use Rattle.fkv_regions.specs.RegionsView.{RegionsView, fresh_regions}
 use Rattle.fkv_index.specs.declared.words.Word.{Word}
 use Rattle.fkv_index.specs.declared.places.Place.{Place}
 use Rattle.fkv_index.specs.Words.{empty, final_word, tentative_word, address_of, tag_of, is_final}
@@ -13,7 +15,8 @@ use Rattle.fkv_operations.specs.declared.entries.IndexEntry.{IndexEntry}
 use Rattle.fkv_operations.specs.Classes.{class_at}
 
 -- the records of one of 2 ^ partition_bits partitions, whose classes have 2 ^ bucket_bits buckets: a text as a log has
--- it, and the words of an index, bucket by bucket
+-- it, the regions of that log, with its sessions and what each has seen of them, and the words of an index, bucket by
+-- bucket
 pub record RecordsView (K V : Type 0) : Type 0 where
   pub partition_bits : ℕ
   pub bucket_bits : ℕ
@@ -21,10 +24,11 @@ pub record RecordsView (K V : Type 0) : Type 0 where
   pub record_size : ℕ
   pub begin : ℕ
   pub tail : ℕ
+  pub regions : RegionsView
   pub text : List (Entry K V)
   pub words : List (List Word)
 
--- no records and no entries
+-- no records, no sessions and no entries
 abbrev pub empty_records : {K V : Type 0} → ℕ → ℕ → ℕ → ℕ → RecordsView K V
 empty_records partition_bits bucket_bits page_bits record_size = record {
   partition_bits = partition_bits;
@@ -33,6 +37,7 @@ empty_records partition_bits bucket_bits page_bits record_size = record {
   record_size = record_size;
   begin = 64;
   tail = 64;
+  regions = fresh_regions page_bits;
   text = [];
   words = replicate (2 ^ bucket_bits) (replicate 7 empty);
 }
@@ -72,6 +77,14 @@ with_record v e key value = record v {
   tail = tail_after v.page_bits v.record_size v.tail;
   words = with_word v.words e.place (final_word (tag_of e.word) v.tail);
 }
+
+-- with another value in the record at an address, or with a tombstone there
+abbrev pub with_value : {K V : Type 0} → RecordsView K V → ℕ → Option V → RecordsView K V
+with_value v a value = record v { text = changed v.text a value }
+
+-- with these regions
+abbrev pub with_regions : {K V : Type 0} → RecordsView K V → RegionsView → RecordsView K V
+with_regions v regions = record v { regions = regions }
 
 -- a tentative entry is made for a class, at the first empty place of its bucket
 pub record Claims {K V : Type 0} (old new : RecordsView K V) (c : Class) (p : Place) : Type 0 where

@@ -1,14 +1,25 @@
 -- What the records of a partition always keep: each record leads to the one before it in its class, and the entry of a
--- class to the last.
+-- class to the last; and the views of the sessions agree with the offsets of the log.
 use Rattle.std.specs.Prelude.{◌≡◌, ◌^◌, ◌≤◌, ℕ, length}
 use Rattle.fkv_records.specs.Records.{IsPrevious}
 use Rattle.fkv_hybrid.specs.Places.{IsLaidOut}
 use Rattle.fkv_hybrid.specs.Text.{IsRising, IsFrom, IsBelow}
 use Rattle.fkv_hybrid.specs.Chains.{last_of_class, Leads, IsChained}
+use Rattle.fkv_epoch.specs.Timely.{IsTimely}
+use Rattle.fkv_regions.specs.RegionsView.{RegionsView}
+use Rattle.fkv_regions.specs.Agree.{IsRegions}
 use Rattle.fkv_index.specs.Entries.{IsIndexMap}
 use Rattle.fkv_operations.specs.declared.classes.Class.{Class}
 use Rattle.fkv_operations.specs.Classes.{same_class}
 use Rattle.fkv_operations.specs.RecordsViews.{RecordsView, class_in, entry_of, leads_to}
+
+-- regions of a log with this tail: every page is in memory, and what is frozen lies below the tail
+pub record AreRegionsBelow (page_bits tail : ℕ) (regions : RegionsView) : Type 0 where
+  pub agree : IsRegions regions
+  pub timely : IsTimely regions.epochs
+  pub bits : regions.bits ≡ page_bits
+  pub read_only : regions.offsets.read_only ≤ tail
+  pub head : regions.offsets.head ≡ 64
 
 pub record IsTraced {K V : Type 0} (code : K → ℕ) (v : RecordsView K V) : Type 0 where
   pub partition_bits : v.partition_bits ≤ 6
@@ -18,6 +29,7 @@ pub record IsTraced {K V : Type 0} (code : K → ℕ) (v : RecordsView K V) : Ty
   pub rising : IsRising v.text
   pub from : IsFrom v.begin v.text
   pub below : IsBelow v.tail v.text
+  pub regions : AreRegionsBelow v.page_bits v.tail v.regions
   pub chained : IsChained (class_in code v) same_class v.begin v.text
   -- the final entries are a map from class to address
   pub buckets : length v.words ≡ 2 ^ v.bucket_bits

@@ -1,30 +1,52 @@
 //! What an operation does for what it meets: the table of decisions.
 ghost use Rattle.std.specs.Prelude.{◌≡◌};
-ghost use Rattle.fkv_operations.specs.Decisions.{met_by, decision, held_of};
+ghost use Rattle.fkv_operations.specs.Decisions.{met_by, met_in, decision, held_of};
 
 use crate::operations::{Answer, Op, OpOf};
 use crate::plainly::shown;
 use fkv_functions::Functions;
+use fkv_hybrid::Entry;
+use fkv_regions::{Region, View};
 
-/// What the look-up of a key meets.
+/// What the look-up of a key meets, as the session sees it that looks.
 #[derive(Clone, Copy, PartialEq, Eq, Debug)]
 pub enum Met<V> {
     /// The index has no entry for the key.
     NoEntry,
     /// There is an entry, and the key has no value: it has no record, or its last one is a tombstone.
     NoValue,
-    /// The last record of the key holds this value.
-    Value(V),
+    /// The last record of the key holds this value, and changes no more.
+    ReadOnly(V),
+    /// It holds this value, and sessions with an older view may still change it in place.
+    Fuzzy(V),
+    /// It holds this value, and may be changed in place.
+    Mutable(V),
 }
 
-/// What is met, by the address to which the key's entry leads, and by the key's value.
-pub fn met_by<V: Copy>(entry: Option<u64>, held: Option<V>) -> Met<V>
-    ensures { result ≡ met_by entry held }
+/// What is met, by the address to which the key's entry leads, by the session's view, and by the last record of the key.
+pub fn met_by<K, V: Copy>(entry: Option<u64>, view: &View, last: &Option<Entry<K, V>>) -> Met<V>
+    ensures { result ≡ met_by entry view.now last.now }
 {
-    match (entry, held) {
-        (None, _) => Met::NoEntry,
-        (Some(_), None) => Met::NoValue,
-        (Some(_), Some(value)) => Met::Value(value),
+    let Some(_address) = entry else {
+        return Met::NoEntry;
+    };
+    let Some(last) = last else {
+        return Met::NoValue;
+    };
+    match last.value {
+        None => Met::NoValue,
+        Some(value) => met_in(view.region(last.address), value),
+    }
+}
+
+/// A value in the region where its record stands.
+fn met_in<V>(region: Region, value: V) -> Met<V>
+    ensures { result ≡ met_in region value }
+{
+    match region {
+        Region::OnDisk | Region::ReadOnly => Met::ReadOnly(value),
+        Region::Fuzzy => Met::Fuzzy(value),
+        Region::Mutable => Met::Mutable(value),
     }
 }
 
@@ -34,9 +56,8 @@ impl<V: Copy> Met<V> {
         ensures { result ≡ held_of self.now }
     {
         match self {
-            Met::NoEntry => None,
-            Met::NoValue => None,
-            Met::Value(value) => Some(*value),
+            Met::NoEntry | Met::NoValue => None,
+            Met::ReadOnly(value) | Met::Fuzzy(value) | Met::Mutable(value) => Some(*value),
         }
     }
 }
@@ -50,8 +71,12 @@ pub enum Decision<V, I, O> {
     Claim,
     /// It appends this value, or a tombstone, and is done.
     Append(Option<V>, Answer<O>),
+    /// It gives the last record of its key this value where it stands, or makes it a tombstone, and is done.
+    Replace(Option<V>, Answer<O>),
     /// It asks for the new value, which this input makes of this source.
     Prepare(Option<V>, I),
+    /// It waits until every session has seen that the last record of its key changes no more.
+    Wait,
 }
 
 /// The decisions of one type of functions.
@@ -61,7 +86,7 @@ pub type DecisionOf<F> = Decision<
     <F as Functions>::Output,
 >;
 
-/// What an operation does for what it met. Values are never changed in place.
+/// What an operation does for what it met.
 pub fn decide<F: Functions>(functions: &F, op: &OpOf<F>, met: &Met<F::Value>) -> DecisionOf<F>
     ensures { result ≡ decision F.meaning op.now met.now }
 {
@@ -69,15 +94,35 @@ pub fn decide<F: Functions>(functions: &F, op: &OpOf<F>, met: &Met<F::Value>) ->
         Op::Read(key, input) => Decision::Done(shown(functions, key, input, met.held())),
         Op::Upsert(_, value) => match met {
             Met::NoEntry => Decision::Claim,
+            Met::Mutable(_) => Decision::Replace(Some(*value), Answer::Stored),
             _ => Decision::Append(Some(*value), Answer::Stored),
         },
-        Op::Rmw(_, input) => match met {
+        Op::Rmw(key, input) => match met {
             Met::NoEntry => Decision::Claim,
-            _ => Decision::Prepare(met.held(), *input),
+            Met::NoValue => Decision::Prepare(None, *input),
+            Met::ReadOnly(value) => Decision::Prepare(Some(*value), *input),
+            Met::Fuzzy(_) => Decision::Wait,
+            Met::Mutable(value) => update(functions, key, input, *value),
         },
         Op::Delete(_) => match met {
-            Met::Value(_) => Decision::Append(None, Answer::Deleted),
-            _ => Decision::Done(Answer::Deleted),
+            Met::NoEntry | Met::NoValue => Decision::Done(Answer::Deleted),
+            Met::ReadOnly(_) | Met::Fuzzy(_) => Decision::Append(None, Answer::Deleted),
+            Met::Mutable(_) => Decision::Replace(None, Answer::Deleted),
         },
     }
+}
+
+/// What an update does to a value that may be changed in place.
+fn update<F: Functions>(
+    functions: &F,
+    key: &F::Key,
+    input: &F::Input,
+    held: F::Value,
+) -> DecisionOf<F>
+    ensures { result ≡ decision F.meaning (Op.Rmw key.now input.now) (Met.Mutable held) }
+{
+    let mut value = held;
+    functions.in_place(key, input, &mut value);
+    let shown = functions.read(key, input, &value);
+    Decision::Replace(Some(value), Answer::Value(shown))
 }

@@ -4,6 +4,9 @@
 //! the entry of its class and the records of that class alone ([`Records::trace`]). A record and the move of the
 //! entry that leads to it come in one call ([`Records::append`]).
 //!
+//! A session may give a record another value where it stands, or make it a tombstone, as long as the record is mutable
+//! in its view of the log's regions; which sessions there are, and what each has seen, stands in `sessions.rt`.
+//!
 //! An entry is made in two phases, so that of two operations that make one for the same class only one succeeds:
 //! [`Records::claim`] makes it tentative, and look-ups pass over it until [`Records::confirm`] makes it final.
 ghost use Rattle.std.specs.Prelude.{◌≡◌, ◌^◌, ◌≤◌, ◌↔◌, ◌⊎◌, None, Some, Err, IsTrue, IfSome, IfOk, IfErr, OnOk, OnErr, cond, false, option_map};
@@ -13,7 +16,7 @@ ghost use Rattle.std.specs.BTreeMap.{get};
 ghost use Rattle.fkv_functions.specs.Plain.{Same, with_at};
 ghost use Rattle.fkv_records.specs.Places.{offset_at};
 ghost use Rattle.fkv_records.specs.Records.{size_of};
-ghost use Rattle.fkv_hybrid.specs.Text.{last_of, live};
+ghost use Rattle.fkv_hybrid.specs.Text.{entry_at, last_of, live};
 ghost use Rattle.fkv_index.specs.Words.{address_of, tag_of, tentative_word, is_empty, is_tentative};
 ghost use Rattle.fkv_index.specs.Places.{words_of, word_at, IsPlace};
 ghost use Rattle.fkv_index.specs.Entries.{IsAlone};
@@ -34,6 +37,8 @@ use fkv_records::{Address, FIRST, Shape};
 use std::alloc::Global;
 use std::collections::BTreeMap;
 use std::marker::Model;
+
+mod sessions;
 
 /// The records of one partition, and the index of their classes.
 #[derive(Drop)]
@@ -78,6 +83,7 @@ impl<F: Functions> Records<F> {
         ensures only { IfErr result (λ refused. refused ≡ Refused.NoMemory) }
     {
         let log = Log::new(alloc, shape)?;
+        log.known();
         let index = Index::new(alloc, bucket_bits as u32)?;
         Ok(Records {
             log,
@@ -120,7 +126,8 @@ impl<F: Functions> Records<F> {
     /// on; `None` where the key has no record.
     pub fn trace(&self, entry: Address, key: &F::Key) -> Option<Entry<F::Key, F::Value>>
         requires { entry_of self.now (class_in F.code self.now key.now) ≡ Some entry }
-        ensures { result ≡ last_of F.Key.cmp self.now.text key.now }
+        ensures last { result ≡ last_of F.Key.cmp self.now.text key.now }
+        ensures stands { IfSome result (λ e. entry_at self.now.text e.address ≡ Some e) }
     {
         chains::<F::Key, F::Value, Class>();
         self.log.first_on_chain(key, entry)

@@ -4,6 +4,7 @@ ghost use Rattle.std.specs.Option.{ok_or};
 ghost use Rattle.fkv_records.specs.Places.{start_at};
 ghost use Rattle.fkv_epoch.specs.Moves.{free_slot, is_entered};
 ghost use Rattle.fkv_regions.specs.RegionsView.{IsReadOnlyDue, IsRoomy, entered, refreshed, left, with_read_only};
+ghost use Rattle.fkv_regions.specs.Agree.{IsRaised};
 ghost use Rattle.fkv_hybrid.specs.Views.{with_regions};
 
 use crate::log::Log;
@@ -36,6 +37,7 @@ impl<K: Fixed, V: Fixed> Log<K, V> {
     pub fn refresh(&mut self, slot: usize) -> Result<(), Refused>
         ensures unknown { IsOk result ↔ IsTrue (is_entered self.old.regions.epochs slot) }
         ensures effect { OnOk result (self.new ≡ with_regions self.old (refreshed self.old.regions slot)) }
+        ensures raised { IsRaised self.old.regions.offsets self.new.regions.offsets }
         ensures refused { IfErr result (λ why. (why ≡ Refused.Unknown) × (self.new ≡ self.old)) }
     {
         self.regions.refresh(slot)
@@ -47,6 +49,7 @@ impl<K: Fixed, V: Fixed> Log<K, V> {
     pub fn leave(&mut self, slot: usize) -> Result<(), Refused>
         ensures unknown { IsOk result ↔ IsTrue (is_entered self.old.regions.epochs slot) }
         ensures effect { OnOk result (self.new ≡ with_regions self.old (left self.old.regions slot)) }
+        ensures raised { IsRaised self.old.regions.offsets self.new.regions.offsets }
         ensures refused { IfErr result (λ why. (why ≡ Refused.Unknown) × (self.new ≡ self.old)) }
     {
         self.regions.leave(slot)
@@ -60,6 +63,7 @@ impl<K: Fixed, V: Fixed> Log<K, V> {
             ↔ (IsReadOnlyDue self.old.regions page self.old.tail × IsRoomy self.old.regions) }
         ensures effect { OnOk result (self.new
             ≡ with_regions self.old (with_read_only self.old.regions (start_at self.old.regions.bits page))) }
+        ensures raised { IsRaised self.old.regions.offsets self.new.regions.offsets }
         ensures not_due { (result ≡ Err Refused.NotDue) ↔ ¬ IsReadOnlyDue self.old.regions page self.old.tail }
         ensures full { (result ≡ Err Refused.DrainFull)
             ↔ (IsReadOnlyDue self.old.regions page self.old.tail

@@ -1,4 +1,5 @@
-use Rattle.fkv_hybrid.proofs.TextLemmas.{live-append, newest-below}
+use Rattle.std.proofs.Common.{arith}
+use Rattle.fkv_hybrid.proofs.TextLemmas.{live-append, newest-below, entry_at-old}
 use Rattle.fkv_index.specs.Words.{address_of}
 use Rattle.fkv_operations.proofs.laws.records_grow.Goals as goal
 
@@ -8,4 +9,8 @@ returns g c = record {
       newest-below cmp v.text (record { address = v.tail; previous = address_of e.word; key = key; value = value }) k a low;
   lives = λ cmp v e key value.
       live-append cmp v.text (record { address = v.tail; previous = address_of e.word; key = key; value = value });
+  frozen = λ code v e key value a t low.
+      let most = t.regions.read_only in
+      let safe = t.regions.agree.in_order.safe in
+      entry_at-old v.text (record { address = v.tail; previous = address_of e.word; key = key; value = value }) a (λ same. omega arith);
 }

@@ -1,6 +1,5 @@
-use Rattle.std.proofs.Common.{◌≡◌, ◌≢◌, ◌^◌, Some, subst, sym, ap, ◌∙◌, arith}
+use Rattle.std.proofs.Common.{◌≢◌, ◌^◌, subst, sym, ◌∙◌, arith}
 use Rattle.fkv_records.specs.Records.{IsPrevious}
-use Rattle.fkv_hybrid.specs.Chains.{Leads, last_of_class}
 use Rattle.fkv_index.specs.Words.{address_of}
 use Rattle.fkv_operations.specs.Classes.{class_at, same_class}
 use Rattle.fkv_operations.specs.RecordsViews.{leads_to}
