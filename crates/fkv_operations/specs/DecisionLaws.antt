@@ -1,5 +1,5 @@
 -- What a decision comes to, on the plain map that says of the key what was met.
-use Rattle.std.specs.Prelude.{◌≡◌, Bool, true, false, cond, ℕ, ◌⊎◌, Option, Some, None}
+use Rattle.std.specs.Prelude.{◌≡◌, Bool, true, false, cond, ℕ, ◌⊎◌, Option, Some, None, IsSome}
 use Rattle.std.specs.declared.cmp.Ordering.{Ordering}
 use Rattle.std.specs.BTreeMap.{is_at}
 use Rattle.std.proofs.Common.{refl, sym, ap, ◌∙◌, inl, inr}
@@ -280,18 +280,30 @@ module _ {K V I O : Type 0} (f : Meanings K V I O) where
   wait-met (Delete k) (Fuzzy w) d = absurd (cc)
   wait-met (Delete k) (Mutable w) d = absurd (cc)
 
-  -- a write finds an entry, but where it makes one
-  pub append-met : (op : Op K V I) (met : Met V) (v : Option V) (a : Answer O)
-      → decision f op met ≡ Append v a
-      → met ≡ NoEntry
-      → ⊥
-  append-met op met v a d e = let none : decision f op NoEntry ≡ Append v a = ap (decision f op) (sym e) ∙ d in at_none op v a none
-    where
-      at_none : (op : Op K V I) (v : Option V) (a : Answer O) → decision f op NoEntry ≡ Append v a → ⊥
-      at_none (Read k i) v a d = cc
-      at_none (Upsert k u) v a d = cc
-      at_none (Rmw k i) v a d = cc
-      at_none (Delete k) v a d = cc
+  -- without an entry nothing is written but an entry
+  append-none : (op : Op K V I) (v : Option V) (a : Answer O) → decision f op NoEntry ≡ Append v a → ⊥
+  append-none (Read k i) v a d = cc
+  append-none (Upsert k u) v a d = cc
+  append-none (Rmw k i) v a d = cc
+  append-none (Delete k) v a d = cc
+
+  pub append-entry : (op : Op K V I) (entry : Option ℕ) (view : View) (last : Option (Entry K V)) (v : Option V) (a : Answer O)
+      → decision f op (met_by entry view last) ≡ Append v a
+      → IsSome entry
+  append-entry op None view last v a d = absurd (append-none op v a d)
+  append-entry op (Some e) view last v a d = refl
+
+  prepare-none : (op : Op K V I) (s : Option V) (i : I) → decision f op NoEntry ≡ Prepare s i → ⊥
+  prepare-none (Read k j) s i d = cc
+  prepare-none (Upsert k u) s i d = cc
+  prepare-none (Rmw k j) s i d = cc
+  prepare-none (Delete k) s i d = cc
+
+  pub prepare-entry : (op : Op K V I) (entry : Option ℕ) (view : View) (last : Option (Entry K V)) (s : Option V) (i : I)
+      → decision f op (met_by entry view last) ≡ Prepare s i
+      → IsSome entry
+  prepare-entry op None view last s i d = absurd (prepare-none op s i d)
+  prepare-entry op (Some e) view last s i d = refl
 
   pub claim-met : (op : Op K V I) (met : Met V)
       → decision f op met ≡ Claim

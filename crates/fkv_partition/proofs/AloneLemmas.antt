@@ -1,5 +1,5 @@
 -- What the rules leave to an update whose events follow each other.
-use Rattle.std.proofs.Common.{◌≡◌, ◌≢◌, true, false, ℕ, ◌+◌, ◌*◌, ◌^◌, ◌<◌, Option, Some, None, Ok, option_map, IsTrue, List, slice_get, slice_set, refl, sym, ◌∙◌, ap, subst, inl, inr}
+use Rattle.std.proofs.Common.{◌≡◌, true, false, ℕ, ◌+◌, ◌*◌, ◌^◌, ◌<◌, Option, Some, None, Ok, option_map, List, slice_set, refl, sym, ◌∙◌, ap, subst}
 use Rattle.std.specs.declared.cmp.Ordering.{Ordering}
 use Rattle.fkv_functions.specs.Meanings.{Meanings, updated}
 use Rattle.fkv_functions.specs.declared.asks.Ask.{Ask}
@@ -8,53 +8,72 @@ use Rattle.fkv_index.specs.declared.words.Word.{Word}
 use Rattle.fkv_index.specs.declared.places.Place.{Place}
 use Rattle.fkv_index.specs.Words.{final_word, tentative_word, address_of, tag_of, is_final, is_tentative}
 use Rattle.fkv_index.specs.Places.{word_at, with_word, IsPlace}
-use Rattle.fkv_index.specs.Entries.{entry_at, place_of, IsAlone, IsIndexMap}
+use Rattle.fkv_index.specs.Entries.{entry_at, IsAlone, IsIndexMap}
 use Rattle.fkv_index.proofs.Written.{writes, place_written}
 use Rattle.fkv_index.proofs.Confirmed.{places_alone, sets_confirmed}
 use Rattle.fkv_index.proofs.WordFacts.{tentative-tag, tentative-is, made-tag, made-address, made-is}
 use Rattle.fkv_operations.specs.After.{key_of}
 use Rattle.fkv_operations.specs.Classes.{IsClass}
+use Rattle.fkv_functions.specs.Plain.{IsKeyOrder}
+use Rattle.fkv_regions.specs.declared.offsets.View.{View}
+use Rattle.fkv_hybrid.specs.declared.entries.Entry.{Entry}
+use Rattle.fkv_hybrid.specs.Text.{last_of}
+use Rattle.fkv_operations.specs.Traced.{IsTraced}
+use Rattle.fkv_operations.proofs.TracedLemmas.{traced-none}
 use Rattle.fkv_operations.specs.Decisions.{met_by, decision}
+use Rattle.fkv_operations.specs.DecisionLaws.{claim-met, none-met, replace-met, mutable-met, wait-met, fuzzy-met, prepare-op}
+use Rattle.fkv_operations.specs.declared.decisions.Met.{Met}
+use Rattle.fkv_operations.specs.declared.decisions.Met.TheVariants.{NoEntry, NoValue, ReadOnly, Fuzzy, Mutable}
 use Rattle.fkv_operations.specs.RecordsViews.{RecordsView, class_in, Claims, confirmed}
 use Rattle.fkv_operations.specs.declared.classes.Class.{Class}
 use Rattle.fkv_operations.specs.declared.entries.IndexEntry.{IndexEntry}
-use Rattle.fkv_operations.specs.declared.operations.Op.{Op}
 use Rattle.fkv_operations.specs.declared.operations.Op.TheVariants.{Rmw}
 use Rattle.fkv_operations.specs.declared.operations.Answer.{Answer}
 use Rattle.fkv_operations.specs.declared.operations.Answer.TheVariants.{Value}
 use Rattle.fkv_operations.specs.declared.decisions.Decision.{Decision}
 use Rattle.fkv_operations.specs.declared.decisions.Decision.TheVariants.{Claim, Append, Prepare}
+use Rattle.fkv_operations.specs.declared.decisions.Decision.TheVariants as decided
 use Rattle.fkv_partition.specs.declared.contexts.Context.{Context}
 use Rattle.fkv_partition.specs.declared.contexts.Phase.TheVariants.{Fresh, Confirm, Prepared}
 use Rattle.fkv_partition.specs.declared.contexts.Progress.{Progress}
-use Rattle.fkv_partition.specs.declared.contexts.Progress.TheVariants.{Done, Next, NeedsBuild}
+use Rattle.fkv_partition.specs.declared.contexts.Progress.TheVariants.{Done, Next, NeedsBuild, Waits}
+use Rattle.fkv_partition.specs.declared.contexts.Wait.TheVariants as wait
 use Rattle.fkv_partition.specs.Contexts.{question_in, at_phase, joined}
 use Rattle.fkv_partition.specs.Claiming.{IsClaimed}
-use Rattle.fkv_partition.specs.Views.{PartitionView, context_at, with_context, entry_for, found_for, met_at, live_of}
-use Rattle.fkv_partition.specs.Going.{Decides, Goes, unknown, asks, confirms, backs_off, done, claims, unclaimed, appends, worn, unheld, prepares}
+use Rattle.fkv_partition.specs.Views.{PartitionView, slots_of, seen_at, context_at, with_context, entry_for, met_at}
+use Rattle.fkv_partition.specs.Going.{Decides, Goes, unknown, asks, confirms, backs_off, done, claims, unclaimed, appends, worn, unheld, replaces, prepares}
 use Rattle.fkv_partition.specs.Installing.{Installs}
-use Rattle.fkv_partition.specs.Alone.{IsIssued, AsksLast}
+use Rattle.fkv_partition.specs.Alone.{IsIssued, AsksLast, Proceeds}
 use Rattle.fkv_partition.proofs.AskedLemmas.{open_at, context-inside}
 
 -- what was put into an open context is open there
 context-same : {K V I : Type 0} (v : PartitionView K V I) (slot c now : ℕ) (x y : Context K V I) → context_at v slot c ≡ Some x → context_at (with_context v slot c (Some y) now) slot c ≡ Some y
 context-same v slot c now x y h =
-    let o = open_at v.entered v.contexts slot c x h in
-    context-inside v.entered (slice_set v.contexts (slot * 8 + c) (Some y)) slot c o.inside o.low ∙ ap joined (get-set_same v.contexts (slot * 8 + c) (Some x) (Some y) o.here)
+    let o = open_at (slots_of v) v.contexts slot c x h in
+    context-inside (slots_of v) (slice_set v.contexts (slot * 8 + c) (Some y)) slot c o.inside o.low ∙ ap joined (get-set_same v.contexts (slot * 8 + c) (Some x) (Some y) o.here)
 
 -- two operations of one context are one
 one-operation : {X : Type 0} (o : Option X) (x y : X) → o ≡ Some x → o ≡ Some y → x ≡ y
 one-operation o x y h k = let same : Some x ≡ Some y = sym h ∙ k in cc
 
--- the table, for an update by whether there is an entry
-update-claims : {K V I O : Type 0} (f : Meanings K V I O) (k : K) (i : I) (entry : Option ℕ) (held : Option V) → entry ≡ None → decision f (Rmw k i) (met_by entry held) ≡ Claim
-update-claims f k i None held e = refl
-update-claims f k i (Some a) held e = absurd (cc)
+-- the table, for an update
+never-done : {K V I O : Type 0} (f : Meanings K V I O) (k : K) (i : I) (met : Met V) (a : Answer O) → decision f (Rmw k i) met ≡ decided.Done a → ⊥
+never-done f k i NoEntry a d = cc
+never-done f k i NoValue a d = cc
+never-done f k i (ReadOnly w) a d = cc
+never-done f k i (Fuzzy w) a d = cc
+never-done f k i (Mutable w) a d = cc
 
-update-prepares : {K V I O : Type 0} (f : Meanings K V I O) (k : K) (i : I) (a : ℕ) (entry : Option ℕ) (held : Option V) → entry ≡ Some a → decision f (Rmw k i) (met_by entry held) ≡ Prepare held i
-update-prepares f k i a None held e = absurd (cc)
-update-prepares f k i a (Some b) None e = refl
-update-prepares f k i a (Some b) (Some v) e = refl
+never-appends : {K V I O : Type 0} (f : Meanings K V I O) (k : K) (i : I) (met : Met V) (v : Option V) (a : Answer O) → decision f (Rmw k i) met ≡ Append v a → ⊥
+never-appends f k i NoEntry v a d = cc
+never-appends f k i NoValue v a d = cc
+never-appends f k i (ReadOnly w) v a d = cc
+never-appends f k i (Fuzzy w) v a d = cc
+never-appends f k i (Mutable w) v a d = cc
+
+update-claims : {K V I O : Type 0} (f : Meanings K V I O) (k : K) (i : I) (view : View) (entry : Option ℕ) (last : Option (Entry K V)) → entry ≡ None → decision f (Rmw k i) (met_by entry view last) ≡ Claim
+update-claims f k i view None last e = refl
+update-claims f k i view (Some a) last e = absurd (cc)
 
 -- an entry that is found stands
 found-stands : (words : List (List Word)) (o : Option Place) (e : IndexEntry) → option_map (λ p. record { place = p; word = word_at words p }) o ≡ Some e → word_at words e.place ≡ e.word
@@ -85,25 +104,34 @@ module _ {K V I O : Type 0} (cmp : K → K → Ordering) (f : Meanings K V I O) 
       let told : Answer O = Value (f.shown ask.key ask.input (updated f ask.key ask.input ask.source)) in
       (told, (let same : q ≡ Done told now = cc in same))
 
-  -- an update of a class with an entry asks, and is done by the next event
+  -- an update of a class with an entry is done, or waits, or asks and is done by the next event
   pub goes-last : (v w : PartitionView K V I) (slot c now : ℕ) (key : K) (input : I) (a : ℕ) (p : Progress K V I O)
       → IsIssued v slot c key input
       → entry_for code v key ≡ Some a
       → Goes cmp f code v w slot c now (Ok p)
-      → AsksLast cmp f code w slot c p
+      → Proceeds cmp f code v w slot c now key p
   goes-last v w slot c now key input a p i entry goes = by_rule goes
     where
       x : Context K V I
       x = i.operation
 
-      -- what the table says
-      told : decision f x.op (met_at cmp code v (key_of x.op)) ≡ Prepare (live_of cmp v key) input
-      told = rw i.update (update-prepares f key input a (entry_for code v key) (live_of cmp v key) entry)
+      met : Met V
+      met = met_at cmp code v slot key
 
-      other : (y : Context K V I) (d : Decision V I O) → Decides cmp f code v slot c y d → d ≡ Prepare (live_of cmp v key) input
-      other y d e =
+      last : Option (Entry K V)
+      last = last_of cmp v.records.text key
+
+      -- what the table says
+      mine : (y : Context K V I) (d : Decision V I O) → Decides cmp f code v slot c y d → decision f (Rmw key input) met ≡ d
+      mine y d e =
           let same : x ≡ y = one-operation (context_at v slot c) x y i.here e.here in
-          sym e.decided ∙ ap (λ (z : Context K V I). decision f z.op (met_at cmp code v (key_of z.op))) (sym same) ∙ told
+          let op : y.op ≡ Rmw key input = ap (λ (z : Context K V I). z.op) (sym same) ∙ i.update in
+          ap (λ o. decision f o (met_at cmp code v slot (key_of o))) (sym op) ∙ e.decided
+
+      own : (y : Context K V I) (d : Decision V I O) → Decides cmp f code v slot c y d → key_of y.op ≡ key
+      own y d e =
+          let same : x ≡ y = one-operation (context_at v slot c) x y i.here e.here in
+          ap (λ (z : Context K V I). key_of z.op) (sym same) ∙ ap key_of i.update
 
       fresh : (y : Context K V I) → context_at v slot c ≡ Some y → y.phase ≡ Fresh
       fresh y h = ap (λ (z : Context K V I). z.phase) (sym (one-operation (context_at v slot c) x y i.here h)) ∙ i.fresh
@@ -111,32 +139,42 @@ module _ {K V I O : Type 0} (cmp : K → K → Ordering) (f : Meanings K V I O) 
       quiet : (y : Context K V I) (e : IndexEntry) (ask : Ask K V I) → y.phase ≡ Fresh → question_in y ≡ Some (e, ask) → ⊥
       quiet y e ask h q = (let no : None ≡ Some (e, ask) = rw h at q in absurd (cc))
 
-      by_rule : Goes cmp f code v w slot c now (Ok p) → AsksLast cmp f code w slot c p
+      by_rule : Goes cmp f code v w slot c now (Ok p) → Proceeds cmp f code v w slot c now key p
       by_rule (unknown h is r) = absurd (cc)
       by_rule (asks y e ask h q is r) = absurd (quiet y e ask (fresh y h) q)
       by_rule (confirms y q h phase alone is r) = absurd (let no = sym (fresh y h) ∙ phase in cc)
       by_rule (backs_off y q h phase alone is r) = absurd (let no = sym (fresh y h) ∙ phase in cc)
-      by_rule (done y b d is r) = absurd (let no = other y _ d in cc)
-      by_rule (claims y d is r) = absurd (let no = other y _ d in cc)
+      by_rule (done y b d is r) = absurd (never-done f key input met b (mine y _ d))
+      by_rule (claims y d is r) = absurd (
+          let none = none-met (seen_at v slot) (entry_for code v key) last (claim-met f (Rmw key input) met (mine y _ d)) in
+          let no : None ≡ Some a = sym none ∙ entry in cc)
       by_rule (unclaimed y d full is r) = absurd (cc)
-      by_rule (appends y value b e d found t is r) = absurd (let no = other y _ d in cc)
+      by_rule (appends y value b e d found t is r) = absurd (never-appends f key input met value b (mine y _ d))
       by_rule (worn y value b d t is r) = absurd (cc)
       by_rule (unheld y value b d t o is r) = absurd (cc)
+      by_rule (replaces y value b e d found is r) =
+          let m = replace-met f (Rmw key input) met value b (mine y _ d) in
+          let at = mutable-met (seen_at v slot) (entry_for code v key) last m.0 m.1 in
+          Proceeds.in_place at.entry b at.is at.region (let told : p ≡ Done b now = cc in told)
+      by_rule (Goes.waits y d is r) =
+          let m = wait-met f (Rmw key input) met (mine y _ d) in
+          let at = fuzzy-met (seen_at v slot) (entry_for code v key) last m.0 m.1 in
+          Proceeds.waits at.entry at.is at.region (let told : p ≡ Waits wait.Fuzzy = cc in told)
       by_rule (prepares y source j e d found is r) =
           let kept : Context K V I = at_phase y (Prepared e source) in
           let asked : Ask K V I = record { number = y.number; key = key_of y.op; source = source; input = j } in
           let same : x ≡ y = one-operation (context_at v slot c) x y i.here d.here in
           let op : y.op ≡ Rmw key input = ap (λ (z : Context K V I). z.op) (sym same) ∙ i.update in
-          let input_is : Prepare source j ≡ Prepare (live_of cmp v key) input = other y _ d in
+          let input_is = prepare-op f (Rmw key input) met source j (mine y _ d) in
           let j_is : j ≡ input = cc in
           let here : context_at w slot c ≡ Some kept = rw is (context-same v slot c now y kept d.here) in
           let question : question_in kept ≡ Some (e, asked) = rw (op, j_is) refl in
           let stands : word_at w.records.words e.place ≡ e.word = rw is (found-stands v.records.words _ e found) in
-          record {
+          Proceeds.asks (record {
             ask = asked;
             asks = (let same : p ≡ NeedsBuild asked = cc in same);
             done = λ u m q installs. installs-last w u slot c m kept e asked q here question stands installs;
-          }
+          })
 
   -- an update of a class without an entry claims one
   goes-claims : (v w : PartitionView K V I) (slot c now : ℕ) (key : K) (input : I) (p : Progress K V I O) (i : IsIssued v slot c key input)
@@ -148,13 +186,13 @@ module _ {K V I O : Type 0} (cmp : K → K → Ordering) (f : Meanings K V I O) 
       x : Context K V I
       x = i.operation
 
-      told : decision f x.op (met_at cmp code v (key_of x.op)) ≡ Claim
-      told = rw i.update (update-claims f key input (entry_for code v key) (live_of cmp v key) entry)
+      told : decision f x.op (met_at cmp code v slot (key_of x.op)) ≡ Claim
+      told = rw i.update (update-claims f key input (seen_at v slot) (entry_for code v key) (last_of cmp v.records.text key) entry)
 
       other : (y : Context K V I) (d : Decision V I O) → Decides cmp f code v slot c y d → d ≡ Claim
       other y d e =
           let same : x ≡ y = one-operation (context_at v slot c) x y i.here e.here in
-          sym e.decided ∙ ap (λ (z : Context K V I). decision f z.op (met_at cmp code v (key_of z.op))) (sym same) ∙ told
+          sym e.decided ∙ ap (λ (z : Context K V I). decision f z.op (met_at cmp code v slot (key_of z.op))) (sym same) ∙ told
 
       fresh : (y : Context K V I) → context_at v slot c ≡ Some y → y.phase ≡ Fresh
       fresh y h = ap (λ (z : Context K V I). z.phase) (sym (one-operation (context_at v slot c) x y i.here h)) ∙ i.fresh
@@ -174,6 +212,8 @@ module _ {K V I O : Type 0} (cmp : K → K → Ordering) (f : Meanings K V I O) 
       by_rule (appends y value b e d found t is r) = absurd (let no = other y _ d in cc)
       by_rule (worn y value b d t is r) = absurd (cc)
       by_rule (unheld y value b d t o is r) = absurd (cc)
+      by_rule (replaces y value b e d found is r) = absurd (let no = other y _ d in cc)
+      by_rule (Goes.waits y d is r) = absurd (let no = other y _ d in cc)
       by_rule (prepares y source j e d found is r) = absurd (let no = other y _ d in cc)
 
   -- one that waits to confirm an entry that is alone confirms it
@@ -206,6 +246,8 @@ module _ {K V I O : Type 0} (cmp : K → K → Ordering) (f : Meanings K V I O) 
       by_rule (appends y value b e d found t is r) = absurd (let no = sym d.fresh ∙ waits y d.here in cc)
       by_rule (worn y value b d t is r) = absurd (cc)
       by_rule (unheld y value b d t o is r) = absurd (cc)
+      by_rule (replaces y value b e d found is r) = absurd (let no = sym d.fresh ∙ waits y d.here in cc)
+      by_rule (Goes.waits y d is r) = absurd (let no = sym d.fresh ∙ waits y d.here in cc)
       by_rule (prepares y source j e d found is r) = absurd (let no = sym d.fresh ∙ waits y d.here in cc)
 
 -- ---- an entry that was claimed where no other was tentative is alone, and once it is confirmed its class has it
@@ -263,9 +305,16 @@ module _ {K V I O : Type 0} (cmp : K → K → Ordering) (f : Meanings K V I O) 
       let made : List (List Word) = with_word ws i.place (final_word (tag_of (word_at ws i.place)) 1) in
       rw (i.is, probes.is) (record { here = holds; alone = alone; entry = ap (λ b. entry_at made b class.tag) (sym bucket) ∙ entry })
 
+  -- an update of a key without a record asks
+  asks-only : (v w : PartitionView K V I) (slot c now : ℕ) (key : K) (p : Progress K V I O) → last_of cmp v.records.text key ≡ None → Proceeds cmp f code v w slot c now key p → AsksLast cmp f code w slot c p
+  asks-only v w slot c now key p none (Proceeds.in_place e a is r t) = absurd (let no = sym none ∙ is in cc)
+  asks-only v w slot c now key p none (Proceeds.waits e is r t) = absurd (let no = sym none ∙ is in cc)
+  asks-only v w slot c now key p none (Proceeds.asks h) = h
+
   -- so the third of its events asks, and the next one finishes it
   pub goes-first : (v w u t : PartitionView K V I) (slot c m n now : ℕ) (key : K) (input : I) (p q r : Progress K V I O)
-      → IsIndexMap v.records.words
+      → IsKeyOrder cmp
+      → IsTraced code v.records
       → IsClass v.records.bucket_bits (class_in code v.records key)
       → ((z : Place) → is_tentative (word_at v.records.words z) ≡ false)
       → IsIssued v slot c key input
@@ -274,12 +323,12 @@ module _ {K V I O : Type 0} (cmp : K → K → Ordering) (f : Meanings K V I O) 
       → Goes cmp f code w u slot c n (Ok q)
       → Goes cmp f code u t slot c now (Ok r)
       → (p ≡ Next) × (q ≡ Next) × AsksLast cmp f code t slot c r
-  goes-first v w u t slot c m n now key input p q r map range quiet i none one two three =
+  goes-first v w u t slot c m n now key input p q r order traced range quiet i none one two three =
       let x : Context K V I = i.operation in
       let first = goes-claims cmp f code v w slot c m key input p i none one in
       let z : Place = first.1.place in
       let waiting : Context K V I = at_phase x (Confirm z) in
-      let after = after-claim v w slot c m x key first.1 i.here (ap key_of i.update) map range quiet none in
+      let after = after-claim v w slot c m x key first.1 i.here (ap key_of i.update) traced.map range quiet none in
       let second = goes-confirms cmp f code w u slot c n waiting z q after.here refl after.alone two in
       let is = second.1 in
       let issued : IsIssued u slot c key input = record {
@@ -289,4 +338,6 @@ module _ {K V I O : Type 0} (cmp : K → K → Ordering) (f : Meanings K V I O) 
         update = i.update;
       } in
       let entry : entry_for code u key ≡ Some 1 = rw is after.entry in
-      (first.0, second.0, goes-last cmp f code u t slot c now key input 1 r issued entry three)
+      let text : u.records.text ≡ v.records.text = ap (λ (y : PartitionView K V I). y.records.text) is ∙ ap (λ (y : PartitionView K V I). y.records.text) first.1.is ∙ ap (λ (y : RecordsView K V). y.text) first.1.claims.is in
+      let absent : last_of cmp u.records.text key ≡ None = ap (λ l. last_of cmp l key) text ∙ traced-none cmp code v.records key order traced none in
+      (first.0, second.0, asks-only u t slot c now key r absent (goes-last cmp f code u t slot c now key input 1 r issued entry three))

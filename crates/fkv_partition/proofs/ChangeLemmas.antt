@@ -1,5 +1,5 @@
 -- What each change of records and of one context keeps of a partition.
-use Rattle.std.proofs.Common.{◌≡◌, true, false, ℕ, ◌+◌, ◌*◌, ◌<◌, ◌≤◌, Bool, IsTrue, List, Option, Some, None, slice_get, refl, sym, ◌∙◌, ap, subst, arith}
+use Rattle.std.proofs.Common.{◌≡◌, true, false, ℕ, ◌+◌, ◌*◌, Bool, IsTrue, Some, None, refl, sym, ◌∙◌, ap, subst, arith}
 use Rattle.std.specs.Bool.{OnTrue, OnFalse}
 use Rattle.std.proofs.lemmas.Bool.{OnTrue_at, OnFalse_at}
 use Rattle.std.specs.declared.cmp.Ordering.{Ordering}
@@ -15,7 +15,7 @@ use Rattle.fkv_partition.specs.declared.contexts.Context.{Context}
 use Rattle.fkv_partition.specs.declared.contexts.Phase.TheVariants.{Fresh, Confirm}
 use Rattle.fkv_partition.specs.Contexts.{joined, at_phase, claim_by, claim_of, claim_at}
 use Rattle.fkv_partition.specs.Claiming.{IsClaimOf}
-use Rattle.fkv_partition.specs.Views.{PartitionView, context_at, with_context}
+use Rattle.fkv_partition.specs.Views.{PartitionView, slots_of, context_at, with_context}
 use Rattle.fkv_partition.specs.Sound.{IsSound}
 use Rattle.fkv_partition.proofs.AskedLemmas.{open_at}
 use Rattle.fkv_partition.proofs.EventLemmas.{own-at}
@@ -25,17 +25,18 @@ use Rattle.fkv_partition.proofs.SoundLemmas.{IsGrown, Fits, sound-claimed, sound
 abbrev pub IsReworded : {K V : Type 0} → RecordsView K V → RecordsView K V → Type 0
 IsReworded old new = new ≡ record old { words = new.words }
 
-grown-words : {K V : Type 0} (cmp : K → K → Ordering) (code : K → ℕ) (q : Place) (old new : RecordsView K V) → IsReworded old new → ChangesAt q old.words new.words → IsGrown cmp code q old new
+grown-words : {K V : Type 0} (cmp : K → K → Ordering) (code : K → ℕ) (q : Place) (old new : RecordsView K V) → IsReworded old new → ChangesAt q old.words new.words → IsGrown cmp code old new
 grown-words cmp code q old new is words = record {
   class = λ k. ap (λ (r : RecordsView _ _). class_in code r k) is;
   tail = (let same : new.tail ≡ old.tail = ap (λ (r : RecordsView _ _). r.tail) is in omega arith);
-  kept = λ k a h. ap (λ (r : RecordsView _ _). newest cmp r.text k a) is;
-  words = words;
+  safe = (let same : new.regions.offsets.safe_read_only ≡ old.regions.offsets.safe_read_only = ap (λ (r : RecordsView _ _). r.regions.offsets.safe_read_only) is in omega arith);
+  kept = λ k a h still. ap (λ (r : RecordsView _ _). newest cmp r.text k a) is;
+  places = words.places;
 }
 
 -- the place that an operation claims
 pub claims-place : {K V I : Type 0} (v : PartitionView K V I) (slot c : ℕ) (x : Context K V I) (q : Place) → context_at v slot c ≡ Some x → x.phase ≡ Confirm q → claim_at v.contexts (slot * 8 + c) ≡ Some q
-claims-place v slot c x q h phase = ap (λ o. claim_of (joined o)) (open_at v.entered v.contexts slot c x h).here ∙ ap claim_by phase
+claims-place v slot c x q h phase = ap (λ o. claim_of (joined o)) (open_at (slots_of v) v.contexts slot c x h).here ∙ ap claim_by phase
 
 module _ {K V I : Type 0} (cmp : K → K → Ordering) (code : K → ℕ) (v : PartitionView K V I) (s : IsSound cmp code v) (slot c now : ℕ) (x : Context K V I) (h : context_at v slot c ≡ Some x) where
   pub is-tentative : (q : Place) → x.phase ≡ Confirm q → IsTrue (is_tentative (word_at v.records.words q))
@@ -55,11 +56,12 @@ module _ {K V I : Type 0} (cmp : K → K → Ordering) (code : K → ℕ) (v : P
       → IsSound cmp code (record (with_context v slot c (Some (at_phase x (Confirm q))) now) { records = r })
   sound-claims r class q quiet own claims words was bucket word is traced =
       let reworded : IsReworded v.records r = claims.is ∙ ap (λ (w : RecordsView K V). record v.records { words = w.words }) (sym claims.is) in
-      let o = open_at v.entered v.contexts slot c x h in
+      let o = open_at (slots_of v) v.contexts slot c x h in
       let same : class ≡ class_in code r (key_of x.op) = own ∙ ap (λ (w : RecordsView K V). class_in code w (key_of x.op)) (sym reworded) in
       let claimed : IsClaimOf r class q = record { bucket = bucket; word = word } in
-      sound-claimed s r slot c now x q traced (grown-words cmp code q v.records r reworded words)
+      sound-claimed s r slot c now x q traced (grown-words cmp code q v.records r reworded words) words
       (ap (λ (w : RecordsView K V). w.partition_bits) reworded)
+      (ap (λ (w : RecordsView K V). w.regions) reworded)
       (ap (λ (w : RecordsView K V). w.text) reworded)
       was is o.here quiet
       (record { stands = subst (λ d. IsClaimOf r d q) same claimed; own = own-at cmp code v s slot c x h; inside = o.inside; low = o.low })
@@ -73,10 +75,11 @@ module _ {K V I : Type 0} (cmp : K → K → Ordering) (code : K → ℕ) (v : P
       → IsTraced code r
       → IsSound cmp code (record (with_context v slot c (Some (at_phase x Fresh)) now) { records = r })
   sound-settles r q phase reworded words freed traced =
-      let o = open_at v.entered v.contexts slot c x h in
+      let o = open_at (slots_of v) v.contexts slot c x h in
       let fits : Fits s r slot c (at_phase x Fresh) = record { stands = tt; own = own-at cmp code v s slot c x h; inside = o.inside; low = o.low } in
-      sound-settled s r slot c now x q (Some (at_phase x Fresh)) traced (grown-words cmp code q v.records r reworded words)
+      sound-settled s r slot c now x q (Some (at_phase x Fresh)) traced (grown-words cmp code q v.records r reworded words) words
       (ap (λ (w : RecordsView K V). w.partition_bits) reworded)
+      (ap (λ (w : RecordsView K V). w.regions) reworded)
       (ap (λ (w : RecordsView K V). w.text) reworded)
       freed o.here phase refl
       (λ z e. (let same : at_phase x Fresh ≡ z = cc in subst (Fits s r slot c) same fits))
@@ -90,9 +93,10 @@ module _ {K V I : Type 0} (cmp : K → K → Ordering) (code : K → ℕ) (v : P
       → IsTraced code r
       → IsSound cmp code (record (with_context v slot c None now) { records = r })
   sound-cancels r q phase reworded words freed traced =
-      let o = open_at v.entered v.contexts slot c x h in
-      sound-settled s r slot c now x q None traced (grown-words cmp code q v.records r reworded words)
+      let o = open_at (slots_of v) v.contexts slot c x h in
+      sound-settled s r slot c now x q None traced (grown-words cmp code q v.records r reworded words) words
       (ap (λ (w : RecordsView K V). w.partition_bits) reworded)
+      (ap (λ (w : RecordsView K V). w.regions) reworded)
       (ap (λ (w : RecordsView K V). w.text) reworded)
       freed o.here phase refl
       (λ z e. absurd (cc))

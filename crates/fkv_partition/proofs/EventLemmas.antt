@@ -1,18 +1,19 @@
 -- What each event is to those who see no more than the live map and what the contexts ask.
-use Rattle.std.proofs.Common.{◌≡◌, ◌≢◌, Bool, true, false, cond, ◌&&◌, nat_lt, ℕ, zero, suc, ◌+◌, ◌*◌, ◌<◌, ◌⊎◌, inl, inr, List, Option, Some, None, option_map, IsSome, IsTrue, ◌↔◌, Ok, slice_get, slice_set, unwrap_or, refl, sym, ◌∙◌, ap, subst, arith}
+use Rattle.std.proofs.Common.{◌≡◌, ◌≢◌, Bool, true, false, cond, nat_lt, ℕ, zero, suc, ◌+◌, ◌*◌, ◌<◌, ◌⊎◌, inl, inr, List, Option, Some, None, option_map, IsTrue, ◌↔◌, ◌≤◌, length, Result, Ok, Err, IsOk, IfOk, OnOk, slice_get, slice_set, is_some, refl, sym, ◌∙◌, ap, subst, arith}
 use Rattle.std.proofs.lemmas.Bool.Decides.{nat_tests}
-use Rattle.std.proofs.lemmas.Bool.{OnTrue_at, OnFalse_at}
+use Rattle.std.proofs.lemmas.Bool.{OnTrue_at, OnFalse_at, cases_eq}
 use Rattle.std.specs.Bool.{OnTrue, OnFalse}
 use Rattle.std.specs.declared.cmp.Ordering.{Ordering}
 use Rattle.std.specs.BTreeMap.{is_at}
+use Rattle.std.specs.Option.{option_flatten, ok_or}
 use Rattle.fkv_functions.specs.Meanings.{Meanings, updated}
 use Rattle.fkv_functions.specs.declared.asks.Ask.{Ask}
 use Rattle.fkv_functions.specs.Plain.{PlainMap, Same, IsKeyOrder, with_at}
 use Rattle.fkv_operations.specs.After.{key_of, after, answer}
 use Rattle.fkv_operations.specs.Decisions.{held_of, decision}
-use Rattle.fkv_operations.specs.DecisionLaws.{quiet-after, quiet-answer, append-after, append-answer, prepare-op, prepare-source, held-met}
+use Rattle.fkv_operations.specs.DecisionLaws.{quiet-after, quiet-answer, append-after, append-answer, replace-after, replace-answer, prepare-op, prepare-source, held-met}
 use Rattle.fkv_operations.specs.declared.decisions.Decision.{Decision}
-use Rattle.fkv_operations.specs.declared.decisions.Decision.TheVariants.{Append, Prepare}
+use Rattle.fkv_operations.specs.declared.decisions.Decision.TheVariants.{Append, Replace, Prepare}
 use Rattle.fkv_operations.specs.declared.operations.Op.{Op}
 use Rattle.fkv_operations.specs.declared.operations.Op.TheVariants.{Read, Upsert, Rmw, Delete}
 use Rattle.fkv_operations.specs.declared.operations.Answer.{Answer}
@@ -23,19 +24,25 @@ use Rattle.fkv_index.specs.Words.{address_of}
 use Rattle.fkv_index.specs.Places.{word_at}
 use Rattle.fkv_index.specs.Entries.{IsAlone}
 use Rattle.fkv_operations.specs.declared.entries.IndexEntry.{IndexEntry}
-use Rattle.fkv_operations.specs.RecordsViews.{RecordsView, class_in, IsEntryOf, with_record, confirmed, released}
+use Rattle.fkv_regions.specs.RegionsView.{RegionsView, IsReadOnlyDue, entered, refreshed, left, with_read_only}
+use Rattle.fkv_operations.specs.RecordsViews.{RecordsView, class_in, IsEntryOf, with_record, with_value, confirmed, released}
+use Rattle.fkv_operations.specs.Still.{IsStill}
 use Rattle.fkv_partition.specs.declared.contexts.Context.{Context}
 use Rattle.fkv_partition.specs.declared.contexts.Phase.{Phase}
 use Rattle.fkv_partition.specs.declared.contexts.Phase.TheVariants.{Fresh, Confirm, Prepared}
-use Rattle.fkv_partition.specs.declared.contexts.Progress.TheVariants.{Done, Next, NeedsBuild}
-use Rattle.fkv_partition.specs.Contexts.{question_in, question_by, joined, context_in, at_phase, claim_by, claim_of, claim_at}
-use Rattle.fkv_partition.specs.Views.{PartitionView, partition_of, entry_for, met_at, context_at, with_context, with_appended, live_of, free_slot, free_context, open_context}
-use Rattle.fkv_partition.specs.Effect.{asked, asked_by, LeavesOthers, IsEnter, IsIssue, IsEvent, IsLeave, IsGiveUp}
+use Rattle.fkv_partition.specs.declared.contexts.Progress.TheVariants.{Done, Next, NeedsBuild, Waits}
+use Rattle.fkv_partition.specs.declared.contexts.Wait.{Wait}
+use Rattle.fkv_partition.specs.Contexts.{is_session, question_in, question_by, joined, context_in, at_phase, claim_by, claim_of, claim_at}
+use Rattle.fkv_partition.specs.Views.{PartitionView, slots_of, seen_at, in_regions, with_replaced, partition_of, entry_for, met_at, context_at, with_context, with_appended, live_of, free_slot, free_context, open_context}
+use Rattle.fkv_partition.specs.Effect.{asked, asked_by, LeavesOthers, IsQuiet, IsIssue, IsEvent, IsGiveUp}
 use Rattle.fkv_partition.specs.Claiming.{IsClaimed}
+use Rattle.fkv_partition.specs.Looking.{Shifts}
+use Rattle.fkv_functions.specs.declared.refusals.Refused.{Refused}
+use Rattle.fkv_functions.specs.declared.refusals.Refused.TheVariants.{NoSlot, NotDue, DrainFull}
 use Rattle.fkv_partition.specs.Going.{Decides, Goes, confirms, backs_off}
 use Rattle.fkv_partition.specs.Sound.{IsKept, StandsFor, IsSound}
 use Rattle.fkv_functions.proofs.ListLemmas.{get-set_other, get-set_same}
-use Rattle.fkv_partition.proofs.AskedLemmas.{open_at, context-inside, context-other, asked-same, asked-other, free-context, free-slot, idle-asked, context-left, context-elsewhere}
+use Rattle.fkv_partition.proofs.AskedLemmas.{open_at, context-inside, context-other, asked-same, asked-other, free-context, free-slot, idle, idle-asked, context-left, context-elsewhere, context-renewed}
 
 -- a context that asks nothing to be built and claims nothing is fresh
 pub fresh-by : {K V I : Type 0} (n : ℕ) (op : Op K V I) (phase : Phase V) (cmp : K → K → Ordering) (code : K → ℕ) (r : RecordsView K V) → StandsFor cmp code r op phase → question_by n op phase ≡ None → claim_by phase ≡ None → phase ≡ Fresh
@@ -78,7 +85,7 @@ question-of {K} {V} {I} n (Rmw k i) (Prepared b s) e ask h =
 pub question-quiet : {K V I : Type 0} (x : Context K V I) (e : IndexEntry) (ask : Ask K V I) → question_in x ≡ Some (e, ask) → claim_by x.phase ≡ None
 question-quiet x e ask h = ap claim_by (question-of x.number x.op x.phase e ask h).phase_is
 
-pub context-is : {K V I : Type 0} (entered xs : List Bool) (contexts ys : List (Option (Context K V I))) (slot c : ℕ) (x : Context K V I) → xs ≡ entered → ys ≡ contexts → Some x ≡ context_in xs ys slot c
+pub context-is : {K V I : Type 0} (entered xs : List (Option ℕ)) (contexts ys : List (Option (Context K V I))) (slot c : ℕ) (x : Context K V I) → xs ≡ entered → ys ≡ contexts → Some x ≡ context_in xs ys slot c
     → context_in entered contexts slot c ≡ Some x
 context-is entered xs contexts ys slot c x e h k = ap (λ a. context_in a contexts slot c) (sym e) ∙ ap (λ b. context_in xs b slot c) (sym h) ∙ sym k
 
@@ -88,13 +95,19 @@ same_or zero (suc c) = inr (λ e. omega arith)
 same_or (suc d) zero = inr (λ e. omega arith)
 same_or (suc d) (suc c) = elim (same_or d c) [ inl e ↦ inl (ap suc e) | inr n ↦ inr (λ e. n (omega arith)) ]
 
+-- the regions move, and no context asks anything else
+pub quiet-regions : {K V I : Type 0} (v : PartitionView K V I) (regions : RegionsView) (now : ℕ)
+    → ((t d : ℕ) → context_in regions.epochs.slots v.contexts t d ≡ context_in (slots_of v) v.contexts t d)
+    → IsQuiet v (in_regions v regions now) now
+quiet-regions v regions now h = record { same = λ t d. ap (option_map asked_by) (h t d); text = refl; number = refl; count = refl; begin = refl; moment = refl }
+
 module _ {K V I : Type 0} (cmp : K → K → Ordering) (code : K → ℕ) (v : PartitionView K V I) (s : IsSound cmp code v) where
   -- a context of an entered session stands for what it says
   pub stands-at : (slot c : ℕ) (x : Context K V I) → context_at v slot c ≡ Some x → StandsFor cmp code v.records x.op x.phase
-  stands-at slot c x h = s.stands (slot * 8 + c) x (open_at v.entered v.contexts slot c x h).here
+  stands-at slot c x h = s.stands (slot * 8 + c) x (open_at (slots_of v) v.contexts slot c x h).here
 
   pub own-at : (slot c : ℕ) (x : Context K V I) → context_at v slot c ≡ Some x → partition_of v.count (code (key_of x.op)) ≡ v.number
-  own-at slot c x h = s.asked (slot * 8 + c) x (open_at v.entered v.contexts slot c x h).here
+  own-at slot c x h = s.asked (slot * 8 + c) x (open_at (slots_of v) v.contexts slot c x h).here
 
   -- and is fresh where it asks nothing and claims nothing
   pub fresh-at : (slot c : ℕ) (x : Context K V I) → context_at v slot c ≡ Some x → question_in x ≡ None → claim_by x.phase ≡ None → x.phase ≡ Fresh
@@ -117,85 +130,103 @@ module _ {K V I : Type 0} (cmp : K → K → Ordering) (code : K → ℕ) (v : P
   source-is slot c x e ask h q held = sym (kept-at slot c x e ask h q).value ∙ ap value_of held
 
   -- a session is entered: its contexts hold nothing yet
-  pub event-enter : (slot now : ℕ) → free_slot v ≡ Some slot → IsEnter v (record v { entered = slice_set v.entered slot true; moment = now }) slot now
-  event-enter slot now free = record { same = λ t d. ap (option_map asked_by) (same t d); text = refl; number = refl; count = refl; begin = refl; moment = refl }
+  pub event-enter : (slot now : ℕ) → free_slot v ≡ Some slot → IsQuiet v (in_regions v (entered v.records.regions slot) now) now
+  event-enter slot now free = quiet-regions v (entered v.records.regions slot) now same
     where
-      same : (t d : ℕ) → context_in (slice_set v.entered slot true) v.contexts t d ≡ context_in v.entered v.contexts t d
+      mine : Option ℕ
+      mine = Some v.records.regions.epochs.epoch
+
+      same : (t d : ℕ) → context_in (slice_set (slots_of v) slot mine) v.contexts t d ≡ context_in (slots_of v) v.contexts t d
       same t d = elim (same_or t slot) [
         | inl e ↦ rw e (by_low (nat_lt d 8) refl)
-        | inr n ↦ ap (λ (o : Option Bool). cond (unwrap_or o false && nat_lt d 8) (joined (slice_get v.contexts (t * 8 + d))) None) (get-set_other v.entered slot t true n)
+        | inr n ↦ context-elsewhere (slots_of v) v.contexts slot t d mine n
       ]
         where
-          is_free : slice_get v.entered slot ≡ Some false
+          is_free : slice_get (slots_of v) slot ≡ Some None
           is_free = free-slot v slot free
 
           held : (o : Option (Option (Context K V I))) → slice_get v.contexts (slot * 8 + d) ≡ o → d < 8 → joined (slice_get v.contexts (slot * 8 + d)) ≡ None
           held None e low = ap joined e
           held (Some None) e low = ap joined e
-          held (Some (Some x)) e low = absurd (let inside = s.housed slot d x low e in let no : false ≡ true = sym (ap (λ (o : Option Bool). unwrap_or o false) is_free) ∙ inside in cc)
+          held (Some (Some x)) e low = absurd (let inside = s.housed slot d x low e in let no : false ≡ true = sym (ap (λ o. is_some (option_flatten o)) is_free) ∙ inside in cc)
 
-          by_low : (b : Bool) → nat_lt d 8 ≡ b → context_in (slice_set v.entered slot true) v.contexts slot d ≡ context_in v.entered v.contexts slot d
+          by_low : (b : Bool) → nat_lt d 8 ≡ b → context_in (slice_set (slots_of v) slot mine) v.contexts slot d ≡ context_in (slots_of v) v.contexts slot d
           by_low true b =
-              let taken : slice_get (slice_set v.entered slot true) slot ≡ Some true = get-set_same v.entered slot false true is_free in
+              let taken : slice_get (slice_set (slots_of v) slot mine) slot ≡ Some mine = get-set_same (slots_of v) slot None mine is_free in
               rw (taken, is_free, b) (held (slice_get v.contexts (slot * 8 + d)) refl (grind (arith, nat_tests)))
           by_low false b =
-              let taken : slice_get (slice_set v.entered slot true) slot ≡ Some true = get-set_same v.entered slot false true is_free in
+              let taken : slice_get (slice_set (slots_of v) slot mine) slot ≡ Some mine = get-set_same (slots_of v) slot None mine is_free in
               rw (taken, is_free, b) refl
 
 module _ {K V I O : Type 0} (cmp : K → K → Ordering) (f : Meanings K V I O) (code : K → ℕ) (v : PartitionView K V I) where
   module _ (slot c now : ℕ) (x : Context K V I) (h : context_at v slot c ≡ Some x) where
+    leaves-in : (y : Option (Context K V I)) (r : RecordsView K V) → r.begin ≡ v.records.begin → r.regions ≡ v.records.regions
+        → LeavesOthers v (record (with_context v slot c y now) { records = r }) slot c now
+    leaves-in y r begin regions = record {
+      others = λ t d o. ap (λ (g : RegionsView). option_map asked_by (context_in g.epochs.slots (slice_set v.contexts (slot * 8 + c) y) t d)) regions ∙ asked-other v slot c now x h y t d o;
+      number = refl;
+      count = refl;
+      begin = begin;
+      regions = regions;
+      moment = refl;
+    }
+
+    asked-in : (y : Option (Context K V I)) (r : RecordsView K V) → r.regions ≡ v.records.regions → asked (record (with_context v slot c y now) { records = r }) slot c ≡ option_map asked_by y
+    asked-in y r regions = ap (λ (g : RegionsView). option_map asked_by (context_in g.epochs.slots (slice_set v.contexts (slot * 8 + c) y) slot c)) regions ∙ asked-same v slot c now x h y
+
     leaves : (y : Option (Context K V I)) → LeavesOthers v (with_context v slot c y now) slot c now
-    leaves y = record { others = λ t d o. asked-other v slot c now x h y t d o; number = refl; count = refl; begin = refl; moment = refl }
+    leaves y = leaves-in y v.records refl refl
 
     was-asked : asked v slot c ≡ Some (asked_by x)
     was-asked = ap (option_map asked_by) h
 
     -- what an operation meets says what its key holds
-    pub held-is : (entry_for code v (key_of x.op) ≡ None → last_of cmp v.records.text (key_of x.op) ≡ None) → live_of cmp v (key_of x.op) ≡ held_of (met_at cmp code v (key_of x.op))
-    held-is none = held-met (entry_for code v (key_of x.op)) (live_of cmp v (key_of x.op)) (λ e. ap value_of (none e))
+    pub held-is : (entry_for code v (key_of x.op) ≡ None → last_of cmp v.records.text (key_of x.op) ≡ None) → live_of cmp v (key_of x.op) ≡ held_of (met_at cmp code v slot (key_of x.op))
+    held-is none = held-met (seen_at v slot) (entry_for code v (key_of x.op)) (last_of cmp v.records.text (key_of x.op)) none
 
     -- what an operation asks
-    pub asks-rmw : (source : Option V) (i : I) → decision f x.op (met_at cmp code v (key_of x.op)) ≡ Prepare source i → x.op ≡ Rmw (key_of x.op) i
-    asks-rmw source i d = prepare-op f x.op (met_at cmp code v (key_of x.op)) source i d
+    pub asks-rmw : (source : Option V) (i : I) → decision f x.op (met_at cmp code v slot (key_of x.op)) ≡ Prepare source i → x.op ≡ Rmw (key_of x.op) i
+    asks-rmw source i d = prepare-op f x.op (met_at cmp code v slot (key_of x.op)) source i d
 
     pub prepared-stands : (e : IndexEntry) (source : Option V) (i : I)
         → IsEntryOf v.records (class_in code v.records (key_of x.op)) e
         → entry_for code v (key_of x.op) ≡ Some (address_of e.word)
         → address_of e.word < v.records.tail
         → newest cmp v.records.text (key_of x.op) (address_of e.word) ≡ last_of cmp v.records.text (key_of x.op)
-        → decision f x.op (met_at cmp code v (key_of x.op)) ≡ Prepare source i
+        → IsStill v.records.regions.offsets.safe_read_only (last_of cmp v.records.text (key_of x.op))
+        → decision f x.op (met_at cmp code v slot (key_of x.op)) ≡ Prepare source i
         → StandsFor cmp code v.records x.op (Prepared e source)
-    prepared-stands e source i entry leads low newest d =
+    prepared-stands e source i entry leads low newest still d =
         let k : K = key_of x.op in
-        let held : live_of cmp v k ≡ source = held-met (entry_for code v k) (live_of cmp v k) (λ none. let no : None ≡ Some (address_of e.word) = sym none ∙ leads in absurd (cc)) ∙ sym (prepare-source f x.op (met_at cmp code v k) source i d) in
+        let held : live_of cmp v k ≡ source = held-met (seen_at v slot) (entry_for code v k) (last_of cmp v.records.text k) (λ none. let no : None ≡ Some (address_of e.word) = sym none ∙ leads in absurd (cc)) ∙ sym (prepare-source f x.op (met_at cmp code v slot k) source i d) in
         let kept : IsKept cmp code v.records k e source = record {
           entry = record { place = entry.place; bucket = entry.bucket; final = entry.final; tag = entry.tag };
           low = low;
           value = ap value_of newest ∙ held;
+          still = rw newest still;
         } in
         subst (λ (o : Op K V I). StandsFor cmp code v.records o (Prepared e source)) (sym (asks-rmw source i d)) kept
 
     -- an operation that asks nothing and claims nothing looks its key up, and so decides
-    pub decides-at : IsSound cmp code v → question_in x ≡ None → claim_by x.phase ≡ None → (d e : Decision V I O) → d ≡ decision f x.op (met_at cmp code v (key_of x.op)) → d ≡ e → Decides cmp f code v slot c x e
+    pub decides-at : IsSound cmp code v → question_in x ≡ None → claim_by x.phase ≡ None → (d e : Decision V I O) → d ≡ decision f x.op (met_at cmp code v slot (key_of x.op)) → d ≡ e → Decides cmp f code v slot c x e
     decides-at s q n d e is same = record { here = h; fresh = fresh-at cmp code v s slot c x h q n; decided = sym is ∙ same }
 
     -- an operation is done without a write
-    pub event-quiet : IsKeyOrder cmp → (entry_for code v (key_of x.op) ≡ None → last_of cmp v.records.text (key_of x.op) ≡ None) → (a : Answer O) → decision f x.op (met_at cmp code v (key_of x.op)) ≡ Decision.Done a → IsEvent cmp f v (with_context v slot c None now) slot c now (Done a now)
+    pub event-quiet : IsKeyOrder cmp → (entry_for code v (key_of x.op) ≡ None → last_of cmp v.records.text (key_of x.op) ≡ None) → (a : Answer O) → decision f x.op (met_at cmp code v slot (key_of x.op)) ≡ Decision.Done a → IsEvent cmp f v (with_context v slot c None now) slot c now (Done a now)
     event-quiet order none a d = record {
       question = asked_by x;
       was = was-asked;
       effect = (
         asked-same v slot c now x h None,
         refl,
-        (λ q. sym (quiet-after cmp f (live_of cmp v) order x.op (met_at cmp code v (key_of x.op)) a (held-is none) d q)),
-        quiet-answer cmp f (live_of cmp v) x.op (met_at cmp code v (key_of x.op)) a (held-is none) d,
+        (λ q. sym (quiet-after cmp f (live_of cmp v) order x.op (met_at cmp code v slot (key_of x.op)) a (held-is none) d q)),
+        quiet-answer cmp f (live_of cmp v) x.op (met_at cmp code v slot (key_of x.op)) a (held-is none) d,
       );
-      entered = refl;
       frame = leaves None;
     }
 
     -- or appends a record
-    pub event-appends : (e : IndexEntry) (value : Option V) (a : Answer O) → Same (live cmp (with_record v.records e (key_of x.op) value).text) (with_at cmp (live_of cmp v) (key_of x.op) value) → decision f x.op (met_at cmp code v (key_of x.op)) ≡ Append value a
+    pub event-appends : (e : IndexEntry) (value : Option V) (a : Answer O) → Same (live cmp (with_record v.records e (key_of x.op) value).text) (with_at cmp (live_of cmp v) (key_of x.op) value) → decision f x.op (met_at cmp code v slot (key_of x.op)) ≡ Append value a
         → IsEvent cmp f v (with_appended v slot c e (key_of x.op) value now) slot c now (Done a now)
     event-appends e value a lives d =
         let l = leaves None in
@@ -206,30 +237,52 @@ module _ {K V I O : Type 0} (cmp : K → K → Ordering) (f : Meanings K V I O) 
             asked-same v slot c now x h None,
             refl,
             (λ q. lives q
-                ∙ ap (λ (m : PlainMap K V). m q) (sym (append-after cmp f (live_of cmp v) x.op (met_at cmp code v (key_of x.op)) value a d))),
-            append-answer cmp f (live_of cmp v) x.op (met_at cmp code v (key_of x.op)) value a d,
+                ∙ ap (λ (m : PlainMap K V). m q) (sym (append-after cmp f (live_of cmp v) x.op (met_at cmp code v slot (key_of x.op)) value a d))),
+            append-answer cmp f (live_of cmp v) x.op (met_at cmp code v slot (key_of x.op)) value a d,
           );
-          entered = refl;
-          frame = record { others = l.others; number = refl; count = refl; begin = refl; moment = refl };
+              frame = record { others = l.others; number = refl; count = refl; begin = refl; regions = refl; moment = refl };
         }
 
+    -- or gives the last record of its key another value where it stands, or makes it a tombstone
+    pub event-replaces : (at : ℕ) (value : Option V) (a : Answer O) → (entry_for code v (key_of x.op) ≡ None → last_of cmp v.records.text (key_of x.op) ≡ None)
+        → Same (live cmp (with_value v.records at value).text) (with_at cmp (live_of cmp v) (key_of x.op) value) → decision f x.op (met_at cmp code v slot (key_of x.op)) ≡ Replace value a
+        → IsEvent cmp f v (with_replaced v slot c at value now) slot c now (Done a now)
+    event-replaces at value a none lives d = record {
+      question = asked_by x;
+      was = was-asked;
+      effect = (
+        asked-same v slot c now x h None,
+        refl,
+        (λ q. lives q
+            ∙ ap (λ (m : PlainMap K V). m q) (sym (replace-after cmp f (live_of cmp v) x.op (met_at cmp code v slot (key_of x.op)) value a (held-is none) d))),
+        replace-answer cmp f (live_of cmp v) x.op (met_at cmp code v slot (key_of x.op)) value a (held-is none) d,
+      );
+      frame = leaves-in None (with_value v.records at value) refl refl;
+    }
+
+    -- it waits, and nothing changes
+    pub event-waits : (why : Wait) → IsEvent cmp f v (record v { moment = now }) slot c now (Waits why)
+    event-waits why = record {
+      question = asked_by x;
+      was = was-asked;
+      effect = (was-asked, (λ q. refl));
+      frame = record { others = λ t d o. refl; number = refl; count = refl; begin = refl; regions = refl; moment = refl };
+    }
+
     -- the operation is to look again, in another phase, and the text of the records stays
-    pub event-next : (phase : Phase V) (records : RecordsView K V) → records.text ≡ v.records.text → records.begin ≡ v.records.begin
+    pub event-next : (phase : Phase V) (records : RecordsView K V) → records.text ≡ v.records.text → records.begin ≡ v.records.begin → records.regions ≡ v.records.regions
         → IsEvent cmp f v (record (with_context v slot c (Some (at_phase x phase)) now) { records = records }) slot c now Next
-    event-next phase records text begin =
-        let l = leaves (Some (at_phase x phase)) in
-        record {
-          question = asked_by x;
-          was = was-asked;
-          effect = (asked-same v slot c now x h (Some (at_phase x phase)), λ q. ap (λ t. live cmp t q) text);
-          entered = refl;
-          frame = record { others = l.others; number = refl; count = refl; begin = begin; moment = refl };
-        }
+    event-next phase records text begin regions = record {
+      question = asked_by x;
+      was = was-asked;
+      effect = (asked-in (Some (at_phase x phase)) records regions, λ q. ap (λ t. live cmp t q) text);
+      frame = leaves-in (Some (at_phase x phase)) records begin regions;
+    }
 
     -- a tentative entry is made
     pub event-claims : (new : PartitionView K V I) → IsClaimed code v new slot c x now → IsEvent cmp f v new slot c now Next
     event-claims new i =
-        rw i.is (event-next (Confirm i.place) i.records (ap (λ (r : RecordsView K V). r.text) i.claims.is) (ap (λ (r : RecordsView K V). r.begin) i.claims.is))
+        rw i.is (event-next (Confirm i.place) i.records (ap (λ (r : RecordsView K V). r.text) i.claims.is) (ap (λ (r : RecordsView K V). r.begin) i.claims.is) (ap (λ (r : RecordsView K V). r.regions) i.claims.is))
 
     -- a question is asked, from another phase
     pub event-prepares : (phase : Phase V) (ask : Ask K V I) → ask.number ≡ x.number → x.op ≡ Rmw ask.key ask.input
@@ -238,7 +291,6 @@ module _ {K V I O : Type 0} (cmp : K → K → Ordering) (f : Meanings K V I O) 
       question = asked_by x;
       was = was-asked;
       effect = (asked-same v slot c now x h (Some (record { number = x.number; op = x.op; phase = phase })), (λ q. refl), n, is);
-      entered = refl;
       frame = leaves (Some (record { number = x.number; op = x.op; phase = phase }));
     }
 
@@ -250,8 +302,7 @@ module _ {K V I O : Type 0} (cmp : K → K → Ordering) (f : Meanings K V I O) 
           question = asked_by x;
           was = was-asked;
           effect = (was-asked, (λ q. refl), w.number, w.op_is);
-          entered = refl;
-          frame = record { others = λ t d o. refl; number = refl; count = refl; begin = refl; moment = refl };
+              frame = record { others = λ t d o. refl; number = refl; count = refl; begin = refl; regions = refl; moment = refl };
         }
 
     -- the built value is appended
@@ -275,64 +326,71 @@ module _ {K V I O : Type 0} (cmp : K → K → Ordering) (f : Meanings K V I O) 
                 ∙ ap (λ o. after cmp f (live_of cmp v) o p) (sym w.op_is)),
             ap (λ (u : V). Value (f.shown ask.key ask.input u)) meant ∙ ap (answer f (live_of cmp v)) (sym w.op_is),
           );
-          entered = refl;
-          frame = record { others = l.others; number = refl; count = refl; begin = refl; moment = refl };
+              frame = record { others = l.others; number = refl; count = refl; begin = refl; regions = refl; moment = refl };
         }
 
 module _ {K V I : Type 0} (code : K → ℕ) (v : PartitionView K V I) where
   -- an operation is issued
-  pub event-issue : (slot c now : ℕ) (op : Op K V I) → unwrap_or (slice_get v.entered slot) false ≡ true → free_context v slot ≡ Some c → c < 8 → partition_of v.count (code (key_of op)) ≡ v.number
+  pub event-issue : (slot c now : ℕ) (op : Op K V I) → is_session (slots_of v) slot ≡ true → free_context v slot ≡ Some c → c < 8 → partition_of v.count (code (key_of op)) ≡ v.number
       → IsIssue code v (with_context v slot c (Some (record { number = now; op = op; phase = Fresh })) now) slot c op now
   event-issue slot c now op inside free low own =
       let here = free-context v slot c free in
       let x : Option (Context K V I) = Some (record { number = now; op = op; phase = Fresh }) in
       record {
-        closed = ap (option_map asked_by) (context-inside v.entered v.contexts slot c inside low ∙ ap joined here);
-        opened = ap (option_map asked_by) (context-inside v.entered (slice_set v.contexts (slot * 8 + c) x) slot c inside low ∙ ap joined (get-set_same v.contexts (slot * 8 + c) None x here));
+        closed = ap (option_map asked_by) (context-inside (slots_of v) v.contexts slot c inside low ∙ ap joined here);
+        opened = ap (option_map asked_by) (context-inside (slots_of v) (slice_set v.contexts (slot * 8 + c) x) slot c inside low ∙ ap joined (get-set_same v.contexts (slot * 8 + c) None x here));
         own = own;
         text = refl;
-        entered = refl;
-        frame = record {
-          others = λ t d o. ap (option_map asked_by) (context-other v.entered v.contexts slot c t d x low o);
+          frame = record {
+          others = λ t d o. ap (option_map asked_by) (context-other (slots_of v) v.contexts slot c t d x low o);
           number = refl;
           count = refl;
           begin = refl;
+          regions = refl;
           moment = refl;
         };
       }
 
 -- a session without open operations is left
-pub event-leave : {K V I : Type 0} (v : PartitionView K V I) (slot now : ℕ) → open_context v slot ≡ None → IsLeave v (record v { entered = slice_set v.entered slot false; moment = now }) now
-event-leave v slot now none = record {
-  same = λ t d. elim (same_or t slot) [
-    | inl e ↦ ap (option_map asked_by) (ap (λ n. context_in (slice_set v.entered slot false) v.contexts n d) e ∙ context-left v.entered v.contexts slot d ∙ sym (idle-asked v slot d none) ∙ ap (λ n. context_at v n d) (sym e))
-    | inr n ↦ ap (option_map asked_by) (context-elsewhere v.entered v.contexts slot t d false n)
-  ];
-  text = refl;
-  number = refl;
-  count = refl;
-  begin = refl;
-  moment = refl;
-}
+pub event-leave : {K V I : Type 0} (v : PartitionView K V I) (slot now : ℕ) → open_context v slot ≡ None → IsQuiet v (in_regions v (left v.records.regions slot) now) now
+event-leave v slot now none = quiet-regions v (left v.records.regions slot) now (λ t d. elim (same_or t slot) [
+  | inl e ↦ ap (λ n. context_in (slice_set (slots_of v) slot None) v.contexts n d) e ∙ context-left (slots_of v) v.contexts slot d ∙ sym (idle-asked v slot d none) ∙ ap (λ n. context_at v n d) (sym e)
+  | inr n ↦ context-elsewhere (slots_of v) v.contexts slot t d None n
+])
+
+-- one is refreshed
+pub event-refresh : {K V I : Type 0} (v : PartitionView K V I) (slot now : ℕ) → is_session (slots_of v) slot ≡ true → IsQuiet v (in_regions v (refreshed v.records.regions slot) now) now
+event-refresh v slot now entered = quiet-regions v (refreshed v.records.regions slot) now (λ t d. context-renewed (slots_of v) v.contexts slot v.records.regions.epochs.epoch t d entered)
+
+-- the read-only offset moves
+pub event-shift : {K V I : Type 0} (v : PartitionView K V I) (a now : ℕ) → IsQuiet v (in_regions v (with_read_only v.records.regions a) now) now
+event-shift v a now = quiet-regions v (with_read_only v.records.regions a) now (λ t d. refl)
 
 -- an operation is given up, and the text of the records stays
 pub event-give_up : {K V I : Type 0} (v : PartitionView K V I) (slot c now : ℕ) (x : Context K V I) (records : RecordsView K V)
     → context_at v slot c ≡ Some x
     → records.text ≡ v.records.text
     → records.begin ≡ v.records.begin
+    → records.regions ≡ v.records.regions
     → IsGiveUp v (record (with_context v slot c None now) { records = records }) slot c now
-event-give_up v slot c now x records h text begin = record {
+event-give_up v slot c now x records h text begin regions = record {
   question = asked_by x;
   was = ap (option_map asked_by) h;
-  closed = asked-same v slot c now x h None;
+  closed = ap (λ (g : RegionsView). option_map asked_by (context_in g.epochs.slots (slice_set v.contexts (slot * 8 + c) None) slot c)) regions ∙ asked-same v slot c now x h None;
   text = text;
-  entered = refl;
-  frame = record { others = λ t d o. asked-other v slot c now x h None t d o; number = refl; count = refl; begin = begin; moment = refl };
+  frame = record {
+    others = λ t d o. ap (λ (g : RegionsView). option_map asked_by (context_in g.epochs.slots (slice_set v.contexts (slot * 8 + c) None) t d)) regions ∙ asked-other v slot c now x h None t d o;
+    number = refl;
+    count = refl;
+    begin = begin;
+    regions = regions;
+    moment = refl;
+  };
 }
 
 -- a context that is open and claims nothing
 pub claims-none : {K V I : Type 0} (v : PartitionView K V I) (slot c : ℕ) (x : Context K V I) → context_at v slot c ≡ Some x → claim_by x.phase ≡ None → claim_at v.contexts (slot * 8 + c) ≡ None
-claims-none v slot c x h quiet = ap (λ o. claim_of (joined o)) (open_at v.entered v.contexts slot c x h).here ∙ quiet
+claims-none v slot c x h quiet = ap (λ o. claim_of (joined o)) (open_at (slots_of v) v.contexts slot c x h).here ∙ quiet
 
 -- and one that is free
 pub free-claims : {K V I : Type 0} (v : PartitionView K V I) (slot c : ℕ) → free_context v slot ≡ Some c → claim_at v.contexts (slot * 8 + c) ≡ None
@@ -349,10 +407,56 @@ module _ {K V I O : Type 0} (cmp : K → K → Ordering) (f : Meanings K V I O) 
   settle-event : OnTrue final (new ≡ record (with_context old slot c (Some (at_phase x Fresh)) now) { records = confirmed old.records p })
       → OnFalse final (new ≡ record (with_context old slot c (Some (at_phase x Fresh)) now) { records = released old.records p })
       → (b : Bool) → final ≡ b → IsEvent cmp f old new slot c now Next
-  settle-event made emptied true e = rw (OnTrue_at e made) (event-next cmp f code old slot c now x h Fresh (confirmed old.records p) refl refl)
-  settle-event made emptied false e = rw (OnFalse_at e emptied) (event-next cmp f code old slot c now x h Fresh (released old.records p) refl refl)
+  settle-event made emptied true e = rw (OnTrue_at e made) (event-next cmp f code old slot c now x h Fresh (confirmed old.records p) refl refl refl)
+  settle-event made emptied false e = rw (OnFalse_at e emptied) (event-next cmp f code old slot c now x h Fresh (released old.records p) refl refl refl)
 
   pub settles : OnTrue final (new ≡ record (with_context old slot c (Some (at_phase x Fresh)) now) { records = confirmed old.records p })
       → OnFalse final (new ≡ record (with_context old slot c (Some (at_phase x Fresh)) now) { records = released old.records p })
       → Goes cmp f code old new slot c now (Ok Next) × IsEvent cmp f old new slot c now Next
   settles made emptied = (settle-does made emptied final refl, settle-event made emptied final refl)
+
+-- ---- what the records answer
+pub slot-none : (o : Option ℕ) (why : Refused) → Err why ≡ ok_or o NoSlot → (o ≡ None) × (why ≡ NoSlot)
+slot-none None why h = (refl, (let same : why ≡ NoSlot = cc in same))
+slot-none (Some n) why h = absurd (cc)
+
+pub slot-some : (o : Option ℕ) (slot : ℕ) → Ok slot ≡ ok_or o NoSlot → o ≡ Some slot
+slot-some None slot h = absurd (cc)
+slot-some (Some n) slot h = let same : n ≡ slot = cc in ap Some same
+
+pub ok-on : {T E P : Type 0} (r : Result T E) → IsOk r → OnOk r P → P
+ok-on (Ok x) is h = h
+ok-on (Err e) is h = absurd (cc)
+
+pub not-entered : (slots : List (Option ℕ)) (slot : ℕ) → (IsTrue (is_session slots slot) → ⊥) → is_session slots slot ≡ false
+not-entered slots slot h = by_test (is_session slots slot) refl
+  where
+    by_test : (b : Bool) → is_session slots slot ≡ b → is_session slots slot ≡ false
+    by_test true e = absurd (h e)
+    by_test false e = e
+
+-- the session of another open operation stays where one without any leaves
+pub idle-other : {K V I : Type 0} (v : PartitionView K V I) (slot t d : ℕ) (x : Context K V I) → open_context v slot ≡ None → d < 8 → slice_get v.contexts (t * 8 + d) ≡ Some (Some x) → is_session (slots_of v) t ≡ true → is_session (slice_set (slots_of v) slot None) t ≡ true
+idle-other v slot t d x none low here inside = elim (cases_eq t slot) [
+  | inl same ↦ absurd (idle v slot d x none low (ap (λ n. slice_get v.contexts (n * 8 + d)) (sym same) ∙ here))
+  | inr other ↦ ap (λ o. is_some (option_flatten o)) (get-set_other (slots_of v) slot t None other) ∙ inside
+]
+
+pub last-is : {A : Type 0} (o : Option A) (x y : A) → o ≡ Some x → o ≡ Some y → x ≡ y
+last-is o x y h k = let same : Some x ≡ Some y = sym h ∙ k in cc
+
+-- a shift that is refused
+pub shift-refused : {K V I : Type 0} (v : PartitionView K V I) (page now : ℕ) (result : Result (Unit {0}) Refused) (why : Refused)
+    → result ≡ Err why
+    → ((result ≡ Err NotDue) ↔ ¬ IsReadOnlyDue v.records.regions page v.records.tail)
+    → ((result ≡ Err DrainFull) ↔ (IsReadOnlyDue v.records.regions page v.records.tail × (16 ≤ length v.records.regions.epochs.waiting)))
+    → (why ≡ NotDue) ⊎ (why ≡ DrainFull)
+    → Shifts v v page now result
+shift-refused v page now result why is not_due full only = elim only [
+  | inl e ↦ Shifts.not_due (not_due.0 (is ∙ ap Err e)) refl (is ∙ ap Err e)
+  | inr e ↦ (let due = full.0 (is ∙ ap Err e) in Shifts.full due.0 due.1 refl (is ∙ ap Err e))
+]
+
+pub if-all : {T E P : Type 0} (r : Result T E) → P → IfOk r (λ x. P)
+if-all (Ok x) p = p
+if-all (Err e) p = tt

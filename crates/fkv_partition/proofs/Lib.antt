@@ -5,3 +5,4 @@ pub mod EventLemmas
 pub mod ListingLemmas
 pub mod ChangeLemmas
 pub mod AloneLemmas
+pub mod FrozenLemmas

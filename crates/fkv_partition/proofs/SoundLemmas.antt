@@ -1,20 +1,20 @@
 -- What the changes of a partition keep.
-use Rattle.std.proofs.Common.{◌≡◌, ◌≢◌, true, false, ℕ, zero, suc, ◌+◌, ◌*◌, ◌^◌, ◌<◌, ◌≤◌, inl, inr, IsTrue, List, [], ◌∷◌, length, replicate, Bool, Option, Some, None, slice_get, slice_set, unwrap_or, refl, sym, ◌∙◌, ap, subst, arith}
+use Rattle.std.proofs.Common.{◌≡◌, ◌≢◌, true, false, ℕ, zero, suc, ◌+◌, ◌*◌, ◌^◌, ◌<◌, ◌≤◌, inl, inr, IsTrue, List, length, replicate, Option, Some, None, slice_get, slice_set, refl, sym, ◌∙◌, ap, subst, arith}
 use Rattle.std.proofs.lemmas.List.{length-set}
 use Rattle.std.proofs.lemmas.Bool.{cases_eq}
 use Rattle.std.specs.declared.cmp.Ordering.{Ordering}
 use Rattle.fkv_hybrid.specs.declared.entries.Entry.{Entry}
 use Rattle.fkv_hybrid.specs.Text.{newest, value_of}
-use Rattle.fkv_index.specs.declared.words.Word.{Word}
+use Rattle.fkv_regions.specs.RegionsView.{RegionsView}
 use Rattle.fkv_index.specs.declared.places.Place.{Place}
 use Rattle.fkv_index.specs.Words.{address_of, is_tentative, is_final}
 use Rattle.fkv_index.specs.Places.{word_at, IsPlace}
 use Rattle.fkv_index.specs.Changes.{SameTentative}
 use Rattle.fkv_index.proofs.WordFacts.{final_not_tentative}
 use Rattle.fkv_operations.specs.After.{key_of}
-use Rattle.fkv_operations.specs.RecordsViews.{RecordsView, class_in, WasEntryOf, IsEntryOf, with_record, ChangesAt}
+use Rattle.fkv_operations.specs.RecordsViews.{RecordsView, class_in, IsEntryOf, with_record, with_value, with_regions, ChangesAt}
 use Rattle.fkv_operations.specs.Traced.{IsTraced}
-use Rattle.fkv_operations.specs.declared.classes.Class.{Class}
+use Rattle.fkv_operations.specs.Still.{IsStill}
 use Rattle.fkv_operations.specs.declared.entries.IndexEntry.{IndexEntry}
 use Rattle.fkv_operations.specs.declared.operations.Op.{Op}
 use Rattle.fkv_operations.specs.declared.operations.Op.TheVariants.{Read, Upsert, Rmw, Delete}
@@ -22,41 +22,47 @@ use Rattle.fkv_partition.specs.declared.limits.Config.{Config}
 use Rattle.fkv_partition.specs.declared.contexts.Context.{Context}
 use Rattle.fkv_partition.specs.declared.contexts.Phase.{Phase}
 use Rattle.fkv_partition.specs.declared.contexts.Phase.TheVariants.{Fresh, Confirm, Prepared}
-use Rattle.fkv_partition.specs.Contexts.{joined, at_phase, claim_by, claim_of, claim_at}
-use Rattle.fkv_partition.specs.Claiming.{IsClaimOf, AreOwned}
-use Rattle.fkv_partition.specs.Views.{PartitionView, empty_partition, partition_of, with_context, with_appended, open_context}
-use Rattle.fkv_partition.specs.Sound.{IsKept, StandsFor, IsSound}
+use Rattle.fkv_partition.specs.Contexts.{joined, is_session, at_phase, claim_by, claim_of, claim_at}
+use Rattle.fkv_partition.specs.Claiming.{AreOwned}
+use Rattle.fkv_partition.specs.Views.{PartitionView, slots_of, empty_partition, partition_of, with_context, with_appended, with_replaced, in_regions}
+use Rattle.fkv_partition.specs.Sound.{StandsFor, IsSound}
 use Rattle.fkv_functions.proofs.ListLemmas.{get-set_cases, get-set_same, get-set_other, get-append_last, get-append_cases}
-use Rattle.fkv_partition.proofs.AskedLemmas.{idle}
+use Rattle.fkv_hybrid.proofs.ChangeLemmas.{was_at, set_at-key}
 use Rattle.fkv_partition.proofs.ClaimLemmas.{owned-quiet, owned-claimed, owned-freed}
 
--- records change, and the words of their index at one place alone: what is newest at or below each address that is
--- taken stays, the tail does not fall, and no class changes
-pub record IsGrown {K V : Type 0} (cmp : K → K → Ordering) (code : K → ℕ) (q : Place) (old new : RecordsView K V) : Type 0 where
+-- records change: what is newest at or below each address that is taken stays where it is still, what is frozen is
+-- frozen, the tail does not fall, no place of the index goes, and no class changes
+pub record IsGrown {K V : Type 0} (cmp : K → K → Ordering) (code : K → ℕ) (old new : RecordsView K V) : Type 0 where
   pub class : (k : K) → class_in code new k ≡ class_in code old k
   pub tail : old.tail ≤ new.tail
-  pub kept : (k : K) (a : ℕ) → a < old.tail → newest cmp new.text k a ≡ newest cmp old.text k a
-  pub words : ChangesAt q old.words new.words
+  pub safe : old.regions.offsets.safe_read_only ≤ new.regions.offsets.safe_read_only
+  pub kept : (k : K) (a : ℕ)
+      → a < old.tail
+      → IsStill old.regions.offsets.safe_read_only (newest cmp old.text k a)
+      → newest cmp new.text k a ≡ newest cmp old.text k a
+  pub places : (p : Place) → IsPlace old.words p → IsPlace new.words p
 
-stands-grown : {K V I : Type 0} (cmp : K → K → Ordering) (code : K → ℕ) (q : Place) (old new : RecordsView K V) (op : Op K V I) (phase : Phase V) → IsGrown cmp code q old new → claim_by phase ≢ Some q → StandsFor cmp code old op phase → StandsFor cmp code new op phase
-stands-grown cmp code q old new op Fresh g n h = tt
-stands-grown cmp code q old new op (Confirm p) g n h =
-    rw (g.class (key_of op)) (record { bucket = h.bucket; word = g.words.others p (λ e. n (ap Some e)) ∙ h.word })
-stands-grown cmp code q old new (Read k i) (Prepared e s) g n h = h
-stands-grown cmp code q old new (Upsert k v) (Prepared e s) g n h = h
-stands-grown cmp code q old new (Rmw k i) (Prepared e s) g n h = record {
-  entry = rw (g.class k) (record { place = g.words.places e.place h.entry.place; bucket = h.entry.bucket; final = h.entry.final; tag = h.entry.tag });
-  low = (let low : address_of e.word < old.tail = h.low in let up = g.tail in omega arith);
-  value = ap value_of (g.kept k (address_of e.word) h.low) ∙ h.value;
-}
-stands-grown cmp code q old new (Delete k) (Prepared e s) g n h = h
+still-raised : {K V : Type 0} (a b : ℕ) (l : Option (Entry K V)) → a ≤ b → IsStill a l → IsStill b l
+still-raised a b None up h = tt
+still-raised a b (Some e) up (inl none) = inl none
+still-raised a b (Some e) up (inr low) = inr (omega arith)
 
-entered-stays : (entered : List Bool) (slot t : ℕ) → unwrap_or (slice_get entered t) false ≡ true → unwrap_or (slice_get (slice_set entered slot true) t) false ≡ true
-entered-stays [] slot t h = h
-entered-stays (b ∷ bs) zero zero h = refl
-entered-stays (b ∷ bs) zero (suc t) h = h
-entered-stays (b ∷ bs) (suc slot) zero h = h
-entered-stays (b ∷ bs) (suc slot) (suc t) h = entered-stays bs slot t h
+-- an operation stands for what it stood for, where the word that it claims stays
+stands-grown : {K V I : Type 0} (cmp : K → K → Ordering) (code : K → ℕ) (old new : RecordsView K V) (op : Op K V I) (phase : Phase V) → IsGrown cmp code old new → ((p : Place) → claim_by phase ≡ Some p → word_at new.words p ≡ word_at old.words p) → StandsFor cmp code old op phase → StandsFor cmp code new op phase
+stands-grown cmp code old new op Fresh g n h = tt
+stands-grown cmp code old new op (Confirm p) g n h =
+    rw (g.class (key_of op)) (record { bucket = h.bucket; word = n p refl ∙ h.word })
+stands-grown cmp code old new (Read k i) (Prepared e s) g n h = h
+stands-grown cmp code old new (Upsert k v) (Prepared e s) g n h = h
+stands-grown cmp code old new (Rmw k i) (Prepared e s) g n h =
+    let same = g.kept k (address_of e.word) h.low h.still in
+    record {
+      entry = rw (g.class k) (record { place = g.places e.place h.entry.place; bucket = h.entry.bucket; final = h.entry.final; tag = h.entry.tag });
+      low = (let low : address_of e.word < old.tail = h.low in let up = g.tail in omega arith);
+      value = ap value_of same ∙ h.value;
+      still = rw same (still-raised old.regions.offsets.safe_read_only new.regions.offsets.safe_read_only (newest cmp old.text k (address_of e.word)) g.safe h.still);
+    }
+stands-grown cmp code old new (Delete k) (Prepared e s) g n h = h
 
 -- what was set is what is there
 set-at : {A : Type 0} (xs : List (Option A)) (i : ℕ) (y : Option A) (x : A) → slice_get xs i ≡ Some (Some x) → slice_get (slice_set xs i y) i ≡ Some (Some x) → y ≡ Some x
@@ -69,7 +75,6 @@ module _ {K V I : Type 0} {cmp : K → K → Ordering} {code : K → ℕ} where
   sound-empty config size number h traced quiet = record {
     own = h;
     counted = refl;
-    sessions = refl;
     places = refl;
     traced = traced;
     stands = λ p x e. absurd (none_in 128 p x e);
@@ -95,51 +100,41 @@ module _ {K V I : Type 0} {cmp : K → K → Ordering} {code : K → ℕ} where
 
   module _ {v : PartitionView K V I} (s : IsSound cmp code v) where
     pub sound-moment : (now : ℕ) → IsSound cmp code (record v { moment = now })
-    sound-moment now = record { own = s.own; counted = s.counted; sessions = s.sessions; places = s.places; traced = s.traced; stands = s.stands; owned = s.owned; routed = s.routed; asked = s.asked; housed = s.housed }
+    sound-moment now = record { own = s.own; counted = s.counted; places = s.places; traced = s.traced; stands = s.stands; owned = s.owned; routed = s.routed; asked = s.asked; housed = s.housed }
 
-    pub sound-entered : (slot now : ℕ) → IsSound cmp code (record v { entered = slice_set v.entered slot true; moment = now })
-    sound-entered slot now = record {
+    -- the regions move, sessions come and go, and none with an open operation goes
+    pub sound-regions : (regions : RegionsView) (now : ℕ)
+        → IsTraced code (with_regions v.records regions)
+        → v.records.regions.offsets.safe_read_only ≤ regions.offsets.safe_read_only
+        → ((t c : ℕ) (x : Context K V I) → c < 8 → slice_get v.contexts (t * 8 + c) ≡ Some (Some x) → is_session regions.epochs.slots t ≡ true)
+        → IsSound cmp code (in_regions v regions now)
+    sound-regions regions now traced up housed = record {
       own = s.own;
       counted = s.counted;
-      sessions = length-set v.entered slot true ∙ s.sessions;
       places = s.places;
-      traced = s.traced;
-      stands = s.stands;
+      traced = traced;
+      stands = λ p x h. stands-grown cmp code v.records (with_regions v.records regions) x.op x.phase grown (λ q e. refl) (s.stands p x h);
       owned = s.owned;
       routed = s.routed;
       asked = s.asked;
-      housed = λ t c x h e. entered-stays v.entered slot t (s.housed t c x h e);
+      housed = housed;
     }
-
-    -- a session without open operations is left
-    pub sound-left : (slot now : ℕ) → open_context v slot ≡ None → IsSound cmp code (record v { entered = slice_set v.entered slot false; moment = now })
-    sound-left slot now none = record {
-      own = s.own;
-      counted = s.counted;
-      sessions = length-set v.entered slot false ∙ s.sessions;
-      places = s.places;
-      traced = s.traced;
-      stands = s.stands;
-      owned = s.owned;
-      routed = s.routed;
-      asked = s.asked;
-      housed = λ t c x h e. elim (cases_eq t slot) [
-        | inl same ↦ absurd (idle v slot c x none h (ap (λ n. slice_get v.contexts (n * 8 + c)) (sym same) ∙ e))
-        | inr other ↦ ap (λ o. unwrap_or o false) (get-set_other v.entered slot t false other) ∙ s.housed t c x h e
-      ];
-    }
+      where
+        grown : IsGrown cmp code v.records (with_regions v.records regions)
+        grown = record { class = λ k. refl; tail = omega arith; safe = up; kept = λ k a low still. refl; places = λ p h. h }
 
     -- an operation that may stand in a context of a session that is entered
     pub record Fits (r : RecordsView K V) (slot c : ℕ) (x : Context K V I) : Type 0 where
       pub stands : StandsFor cmp code r x.op x.phase
       pub own : partition_of v.count (code (key_of x.op)) ≡ v.number
-      pub inside : unwrap_or (slice_get v.entered slot) false ≡ true
+      pub inside : is_session (slots_of v) slot ≡ true
       pub low : c < 8
 
     -- what is asked of records that take the place of others, where a context is set
     pub record Suits (r : RecordsView K V) (slot c : ℕ) (y : Option (Context K V I)) : Type 0 where
       pub traced : IsTraced code r
       pub bits : r.partition_bits ≡ v.records.partition_bits
+      pub regions : r.regions ≡ v.records.regions
       pub routed : (i : ℕ) (e : Entry K V) → slice_get r.text i ≡ Some e → partition_of v.count (code e.key) ≡ v.number
       pub others : (p : ℕ) (x : Context K V I) → p ≢ slot * 8 + c → slice_get v.contexts p ≡ Some (Some x) → StandsFor cmp code r x.op x.phase
       pub owned : AreOwned r.words (slice_set v.contexts (slot * 8 + c) y)
@@ -150,7 +145,6 @@ module _ {K V I : Type 0} {cmp : K → K → Ordering} {code : K → ℕ} where
     sound-changed r slot c now y suits fits = record {
       own = s.own;
       counted = s.counted ∙ ap (λ n. 2 ^ n) (sym suits.bits);
-      sessions = s.sessions;
       places = length-set v.contexts (slot * 8 + c) y ∙ s.places;
       traced = suits.traced;
       stands = λ p x h. elim (cases_eq p (slot * 8 + c)) [
@@ -167,8 +161,8 @@ module _ {K V I : Type 0} {cmp : K → K → Ordering} {code : K → ℕ} where
         | inl p ↦ (let f = fits x p.1 in
             let low : c < 8 = f.low in
             let one : t ≡ slot = (let q : t * 8 + d ≡ slot * 8 + c = p.0 in omega arith) in
-            ap (λ n. unwrap_or (slice_get v.entered n) false) one ∙ f.inside)
-        | inr o ↦ s.housed t d x h o
+            ap (λ (g : RegionsView). is_session g.epochs.slots t) suits.regions ∙ ap (λ n. is_session (slots_of v) n) one ∙ f.inside)
+        | inr o ↦ ap (λ (g : RegionsView). is_session g.epochs.slots t) suits.regions ∙ s.housed t d x h o
       ];
     }
       where
@@ -183,6 +177,7 @@ module _ {K V I : Type 0} {cmp : K → K → Ordering} {code : K → ℕ} where
     same-records slot c y old quiet = record {
       traced = s.traced;
       bits = refl;
+      regions = refl;
       routed = s.routed;
       others = λ p x n h. s.stands p x h;
       owned = owned-quiet v.records.words v.records.words v.contexts (slot * 8 + c) y s.owned (λ q. refl) old quiet;
@@ -196,17 +191,21 @@ module _ {K V I : Type 0} {cmp : K → K → Ordering} {code : K → ℕ} where
     sound-freed slot c now old = sound-changed v.records slot c now None (same-records slot c None old refl) (λ y e. absurd (cc))
 
     -- ---- the records change too
-    -- an operation in another context claims another place
-    module _ (r : RecordsView K V) (slot c : ℕ) (q : Place) (grown : IsGrown cmp code q v.records r) where
-      others-stand : ((p : ℕ) → p ≢ slot * 8 + c → claim_at v.contexts p ≢ Some q) → (p : ℕ) (x : Context K V I) → p ≢ slot * 8 + c → slice_get v.contexts p ≡ Some (Some x) → StandsFor cmp code r x.op x.phase
-      others-stand none p x n h =
-          stands-grown cmp code q v.records r x.op x.phase grown (λ e. none p n (ap (λ o. claim_of (joined o)) h ∙ e)) (s.stands p x h)
+    -- the words change at one place alone, and an operation in another context claims another
+    others-stand : (r : RecordsView K V) (slot c : ℕ) (q : Place) → IsGrown cmp code v.records r → ChangesAt q v.records.words r.words
+        → ((p : ℕ) → p ≢ slot * 8 + c → claim_at v.contexts p ≢ Some q)
+        → (p : ℕ) (x : Context K V I) → p ≢ slot * 8 + c → slice_get v.contexts p ≡ Some (Some x) → StandsFor cmp code r x.op x.phase
+    others-stand r slot c q grown words none p x n h =
+        let mine : claim_at v.contexts p ≡ claim_by x.phase = ap (λ o. claim_of (joined o)) h in
+        stands-grown cmp code v.records r x.op x.phase grown (λ z e. words.others z (λ same. none p n (mine ∙ e ∙ ap Some same))) (s.stands p x h)
 
     -- a tentative entry is made
     pub sound-claimed : (r : RecordsView K V) (slot c now : ℕ) (x : Context K V I) (q : Place)
         → IsTraced code r
-        → IsGrown cmp code q v.records r
+        → IsGrown cmp code v.records r
+        → ChangesAt q v.records.words r.words
         → r.partition_bits ≡ v.records.partition_bits
+        → r.regions ≡ v.records.regions
         → r.text ≡ v.records.text
         → is_tentative (word_at v.records.words q) ≡ false
         → IsTrue (is_tentative (word_at r.words q))
@@ -214,20 +213,23 @@ module _ {K V I : Type 0} {cmp : K → K → Ordering} {code : K → ℕ} where
         → claim_by x.phase ≡ None
         → Fits r slot c (at_phase x (Confirm q))
         → IsSound cmp code (record (with_context v slot c (Some (at_phase x (Confirm q))) now) { records = r })
-    sound-claimed r slot c now x q traced grown bits text was is here quiet fits =
+    sound-claimed r slot c now x q traced grown words bits regions text was is here quiet fits =
         sound-changed r slot c now (Some (at_phase x (Confirm q))) (record {
           traced = traced;
           bits = bits;
+          regions = regions;
           routed = λ i e h. s.routed i e (ap (λ t. slice_get t i) (sym text) ∙ h);
-          others = others-stand r slot c q grown (λ p n e. (let no = sym was ∙ s.owned.tentative p q e in absurd (cc)));
-          owned = owned-claimed v.records.words r.words v.contexts (slot * 8 + c) (Some (at_phase x (Confirm q))) s.owned q (Some x) grown.words was is here quiet refl;
+          others = others-stand r slot c q grown words (λ p n e. (let no = sym was ∙ s.owned.tentative p q e in absurd (cc)));
+          owned = owned-claimed v.records.words r.words v.contexts (slot * 8 + c) (Some (at_phase x (Confirm q))) s.owned q (Some x) words was is here quiet refl;
         }) (λ y e. (let same : at_phase x (Confirm q) ≡ y = cc in subst (Fits r slot c) same fits))
 
     -- and the operation that made it claims it no more
     pub sound-settled : (r : RecordsView K V) (slot c now : ℕ) (x : Context K V I) (q : Place) (y : Option (Context K V I))
         → IsTraced code r
-        → IsGrown cmp code q v.records r
+        → IsGrown cmp code v.records r
+        → ChangesAt q v.records.words r.words
         → r.partition_bits ≡ v.records.partition_bits
+        → r.regions ≡ v.records.regions
         → r.text ≡ v.records.text
         → is_tentative (word_at r.words q) ≡ false
         → slice_get v.contexts (slot * 8 + c) ≡ Some (Some x)
@@ -235,14 +237,15 @@ module _ {K V I : Type 0} {cmp : K → K → Ordering} {code : K → ℕ} where
         → claim_of y ≡ None
         → ((z : Context K V I) → y ≡ Some z → Fits r slot c z)
         → IsSound cmp code (record (with_context v slot c y now) { records = r })
-    sound-settled r slot c now x q y traced grown bits text freed here phase quiet fits =
+    sound-settled r slot c now x q y traced grown words bits regions text freed here phase quiet fits =
         let mine : claim_at v.contexts (slot * 8 + c) ≡ Some q = ap (λ o. claim_of (joined o)) here ∙ ap claim_by phase in
         sound-changed r slot c now y (record {
           traced = traced;
           bits = bits;
+          regions = regions;
           routed = λ i e h. s.routed i e (ap (λ t. slice_get t i) (sym text) ∙ h);
-          others = others-stand r slot c q grown (λ p n e. n (s.owned.one p (slot * 8 + c) q e mine));
-          owned = owned-freed v.records.words r.words v.contexts (slot * 8 + c) y s.owned q (Some x) grown.words freed here (ap claim_by phase) quiet;
+          others = others-stand r slot c q grown words (λ p n e. n (s.owned.one p (slot * 8 + c) q e mine));
+          owned = owned-freed v.records.words r.words v.contexts (slot * 8 + c) y s.owned q (Some x) words freed here (ap claim_by phase) quiet;
         }) fits
 
     -- a record at the tail, of a key that belongs here
@@ -259,21 +262,45 @@ module _ {K V I : Type 0} {cmp : K → K → Ordering} {code : K → ℕ} where
         sound-changed (with_record v.records e k value) slot c now None (record {
           traced = traced;
           bits = refl;
+          regions = refl;
           routed = λ i x h. elim (get-append_cases v.records.text last i x h) [
             | inl was ↦ s.routed i x was
             | inr new ↦ subst (λ (y : Entry K V). partition_of v.count (code y.key) ≡ v.number) new.1 own
           ];
-          others = others-stand (with_record v.records e k value) slot c e.place grown (λ p n h. (let no = sym (final_not_tentative (word_at v.records.words e.place) (ap is_final entry.word ∙ entry.final)) ∙ s.owned.tentative p e.place h in absurd (cc)));
+          others = others-stand (with_record v.records e k value) slot c e.place grown words (λ p n h. (let no = sym (final_not_tentative (word_at v.records.words e.place) (ap is_final entry.word ∙ entry.final)) ∙ s.owned.tentative p e.place h in absurd (cc)));
           owned = owned-quiet v.records.words (with_record v.records e k value).words v.contexts (slot * 8 + c) None s.owned same old refl;
         }) (λ y h. absurd (cc))
       where
         last : Entry K V
         last = record { address = v.records.tail; previous = address_of e.word; key = k; value = value }
 
-        grown : IsGrown cmp code e.place v.records (with_record v.records e k value)
+        grown : IsGrown cmp code v.records (with_record v.records e k value)
         grown = record {
           class = λ q. refl;
+          safe = omega arith;
           tail = (let up : v.records.tail < (with_record v.records e k value).tail = traced.below (length v.records.text) last (get-append_last v.records.text last) in omega arith);
-          kept = kept;
-          words = words;
+          kept = λ q a low still. kept q a low;
+          places = words.places;
         }
+
+    -- a record gets another value where it stands, or becomes a tombstone
+    pub sound-replaced : (slot c now a : ℕ) (value : Option V)
+        → claim_at v.contexts (slot * 8 + c) ≡ None
+        → IsTraced code (with_value v.records a value)
+        → ((q : K) (b : ℕ) → IsStill v.records.regions.offsets.safe_read_only (newest cmp v.records.text q b) → newest cmp (with_value v.records a value).text q b ≡ newest cmp v.records.text q b)
+        → IsSound cmp code (with_replaced v slot c a value now)
+    sound-replaced slot c now a value old traced kept =
+        sound-changed (with_value v.records a value) slot c now None (record {
+          traced = traced;
+          bits = refl;
+          regions = refl;
+          routed = λ i e h.
+              let was = was_at a value v.records.text i e h in
+              subst (λ (y : Entry K V). partition_of v.count (code y.key) ≡ v.number) was.is
+              (ap (λ k. partition_of v.count (code k)) (set_at-key a value was.entry) ∙ s.routed i was.entry was.here);
+          others = λ p x n h. stands-grown cmp code v.records (with_value v.records a value) x.op x.phase grown (λ q e. refl) (s.stands p x h);
+          owned = owned-quiet v.records.words v.records.words v.contexts (slot * 8 + c) None s.owned (λ q. refl) old refl;
+        }) (λ y h. absurd (cc))
+      where
+        grown : IsGrown cmp code v.records (with_value v.records a value)
+        grown = record { class = λ q. refl; tail = omega arith; safe = omega arith; kept = λ q b low still. kept q b still; places = λ p h. h }

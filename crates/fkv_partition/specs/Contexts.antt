@@ -1,5 +1,6 @@
 -- Open operations by session and context.
-use Rattle.std.specs.Prelude.{Bool, false, cond, ◌&&◌, ◌+◌, ◌*◌, ℕ, List, Option, Some, None, nat_lt, slice_get, unwrap_or}
+use Rattle.std.specs.Prelude.{Bool, cond, ◌&&◌, ◌+◌, ◌*◌, ℕ, List, Option, Some, None, nat_lt, slice_get, is_some}
+use Rattle.std.specs.Option.{option_flatten}
 use Rattle.fkv_functions.specs.declared.asks.Ask.{Ask}
 use Rattle.fkv_index.specs.declared.places.Place.{Place}
 use Rattle.fkv_operations.specs.declared.entries.IndexEntry.{IndexEntry}
@@ -14,10 +15,15 @@ abbrev pub joined : {A : Type 0} → Option (Option A) → Option A
 joined None = None
 joined (Some x) = x
 
+-- whether a session is entered at a slot: the slots with their epochs
+abbrev pub is_session : List (Option ℕ) → ℕ → Bool
+is_session slots slot = is_some (option_flatten (slice_get slots slot))
+
 -- the operation that is open in a context of an entered session
-abbrev pub context_in : {K V I : Type 0} → List Bool → List (Option (Context K V I)) → ℕ → ℕ → Option (Context K V I)
-context_in entered contexts slot c =
-    cond (unwrap_or (slice_get entered slot) false && nat_lt c 8) (joined (slice_get contexts (slot * 8 + c))) None
+abbrev pub context_in : {K V I : Type 0} → List (Option ℕ) → List (Option (Context K V I)) → ℕ → ℕ
+    → Option (Context K V I)
+context_in slots contexts slot c =
+    cond (is_session slots slot && nat_lt c 8) (joined (slice_get contexts (slot * 8 + c))) None
 
 -- an operation in another phase
 abbrev pub at_phase : {K V I : Type 0} → Context K V I → Phase V → Context K V I

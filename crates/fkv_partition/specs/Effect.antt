@@ -8,7 +8,7 @@ use Rattle.fkv_operations.specs.declared.operations.Op.{Op}
 use Rattle.fkv_operations.specs.declared.operations.Op.TheVariants.{Rmw}
 use Rattle.fkv_partition.specs.declared.contexts.Context.{Context}
 use Rattle.fkv_partition.specs.declared.contexts.Progress.{Progress}
-use Rattle.fkv_partition.specs.declared.contexts.Progress.TheVariants.{Done, Next, NeedsBuild}
+use Rattle.fkv_partition.specs.declared.contexts.Progress.TheVariants.{Done, Next, NeedsBuild, Waits}
 use Rattle.fkv_partition.specs.Views.{PartitionView, context_at, live_of, partition_of}
 
 -- what an open context asks: the moment of its issue, and its operation
@@ -32,6 +32,7 @@ HasEffect cmp f m m' now x is (Done a effect) =
     × Same m' (after cmp f m x.op)
     × (a ≡ answer f m x.op)
 HasEffect cmp f m m' now x is Next = (is ≡ Some x) × Same m' m
+HasEffect cmp f m m' now x is (Waits why) = (is ≡ Some x) × Same m' m
 HasEffect cmp f m m' now x is (NeedsBuild ask) =
     (is ≡ Some x)
     × Same m' m
@@ -44,10 +45,12 @@ pub record LeavesOthers {K V I : Type 0} (old new : PartitionView K V I) (slot c
   pub number : new.number ≡ old.number
   pub count : new.count ≡ old.count
   pub begin : new.records.begin ≡ old.records.begin
+  pub regions : new.records.regions ≡ old.records.regions
   pub moment : new.moment ≡ now
 
--- a session is entered: no context asks anything new
-pub record IsEnter {K V I : Type 0} (old new : PartitionView K V I) (slot now : ℕ) : Type 0 where
+-- a session is entered, refreshed or left, or the read-only offset moves: no context asks anything else, and the text
+-- stays
+pub record IsQuiet {K V I : Type 0} (old new : PartitionView K V I) (now : ℕ) : Type 0 where
   pub same : (s d : ℕ) → asked new s d ≡ asked old s d
   pub text : new.records.text ≡ old.records.text
   pub number : new.number ≡ old.number
@@ -62,7 +65,6 @@ pub record IsIssue {K V I : Type 0} (code : K → ℕ) (old new : PartitionView 
   pub opened : asked new slot c ≡ Some (record { number = now; op = op })
   pub own : partition_of old.count (code (key_of op)) ≡ old.number
   pub text : new.records.text ≡ old.records.text
-  pub entered : new.entered ≡ old.entered
   pub frame : LeavesOthers old new slot c now
 
 -- an event of one context
@@ -71,17 +73,7 @@ pub record IsEvent {K V I O : Type 0} (cmp : K → K → Ordering) (f : Meanings
   pub question : Asked K V I
   pub was : asked old slot c ≡ Some question
   pub effect : HasEffect cmp f (live_of cmp old) (live_of cmp new) now question (asked new slot c) progress
-  pub entered : new.entered ≡ old.entered
   pub frame : LeavesOthers old new slot c now
-
--- a session is left: no context asks anything else
-pub record IsLeave {K V I : Type 0} (old new : PartitionView K V I) (now : ℕ) : Type 0 where
-  pub same : (s d : ℕ) → asked new s d ≡ asked old s d
-  pub text : new.records.text ≡ old.records.text
-  pub number : new.number ≡ old.number
-  pub count : new.count ≡ old.count
-  pub begin : new.records.begin ≡ old.records.begin
-  pub moment : new.moment ≡ now
 
 -- an operation is given up, without effect
 pub record IsGiveUp {K V I : Type 0} (old new : PartitionView K V I) (slot c now : ℕ) : Type 0 where
@@ -89,5 +81,4 @@ pub record IsGiveUp {K V I : Type 0} (old new : PartitionView K V I) (slot c now
   pub was : asked old slot c ≡ Some question
   pub closed : asked new slot c ≡ None
   pub text : new.records.text ≡ old.records.text
-  pub entered : new.entered ≡ old.entered
   pub frame : LeavesOthers old new slot c now

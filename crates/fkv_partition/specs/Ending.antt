@@ -1,18 +1,19 @@
 -- What `leave` and `give_up` do: a rule for each case, in the order of the tests.
-use Rattle.std.specs.Prelude.{◌≡◌, false, ℕ, Some, None, Result, Ok, Err, slice_get, slice_set, unwrap_or}
+use Rattle.std.specs.Prelude.{◌≡◌, false, ℕ, Some, None, Result, Ok, Err}
 use Rattle.fkv_functions.specs.declared.refusals.Refused.{Refused}
 use Rattle.fkv_functions.specs.declared.refusals.Refused.TheVariants.{Unknown, Busy}
 use Rattle.fkv_partition.specs.declared.contexts.Context.{Context}
 use Rattle.fkv_index.specs.declared.places.Place.{Place}
 use Rattle.fkv_operations.specs.RecordsViews.{released}
 use Rattle.fkv_partition.specs.declared.contexts.Phase.TheVariants.{Confirm}
-use Rattle.fkv_partition.specs.Contexts.{claim_by}
+use Rattle.fkv_regions.specs.RegionsView.{left}
+use Rattle.fkv_partition.specs.Contexts.{is_session, claim_by}
 use Rattle.fkv_partition.specs.Beginning.{IsEntered}
-use Rattle.fkv_partition.specs.Views.{PartitionView, context_at, with_context, open_context}
+use Rattle.fkv_partition.specs.Views.{PartitionView, context_at, slots_of, with_context, in_regions, open_context}
 
 pub data Leaves {K V I : Type 0} (old new : PartitionView K V I) (slot now : ℕ)
     (result : Result (Unit {0}) Refused) : Type 0 where
-  unknown : unwrap_or (slice_get old.entered slot) false ≡ false
+  unknown : is_session (slots_of old) slot ≡ false
       → new ≡ old
       → result ≡ Err Unknown
       → Leaves old new slot now result
@@ -24,7 +25,7 @@ pub data Leaves {K V I : Type 0} (old new : PartitionView K V I) (slot now : ℕ
       → Leaves old new slot now result
   leaves : IsEntered old slot
       → open_context old slot ≡ None
-      → new ≡ record old { entered = slice_set old.entered slot false; moment = now }
+      → new ≡ in_regions old (left old.records.regions slot) now
       → result ≡ Ok tt
       → Leaves old new slot now result
 

@@ -1,5 +1,5 @@
 -- What `go` does: nothing is open; or a prepared update asks again; or a tentative entry is confirmed; or the operation
--- looks its key up, and what it meets decides.
+-- looks its key up, and what it meets by its session's view decides.
 use Rattle.std.specs.Prelude.{◌≡◌, ◌≢◌, ◌^◌, ℕ, false, Option, Some, None, Result, Ok, Err}
 use Rattle.std.specs.List.{list_any}
 use Rattle.std.specs.declared.cmp.Ordering.{Ordering}
@@ -18,21 +18,24 @@ use Rattle.fkv_operations.specs.RecordsViews.{class_in, confirmed, released}
 use Rattle.fkv_operations.specs.Decisions.{decision}
 use Rattle.fkv_operations.specs.declared.operations.Answer.{Answer}
 use Rattle.fkv_operations.specs.declared.decisions.Decision.{Decision}
-use Rattle.fkv_operations.specs.declared.decisions.Decision.TheVariants.{Claim, Append, Prepare}
+use Rattle.fkv_operations.specs.declared.decisions.Decision.TheVariants.{Claim, Append, Replace, Prepare, Wait}
 use Rattle.fkv_partition.specs.declared.contexts.Context.{Context}
 use Rattle.fkv_partition.specs.declared.contexts.Phase.TheVariants.{Fresh, Confirm, Prepared}
 use Rattle.fkv_partition.specs.declared.contexts.Progress.{Progress}
-use Rattle.fkv_partition.specs.declared.contexts.Progress.TheVariants.{Done, Next, NeedsBuild}
+use Rattle.fkv_partition.specs.declared.contexts.Progress.TheVariants.{Done, Next, NeedsBuild, Waits}
+use Rattle.fkv_partition.specs.declared.contexts.Wait.TheVariants.{Fuzzy}
 use Rattle.fkv_partition.specs.Contexts.{question_in, at_phase}
 use Rattle.fkv_partition.specs.Claiming.{IsClaimed}
-use Rattle.fkv_partition.specs.Views.{PartitionView, found_for, met_at, context_at, with_context, with_appended}
+use Rattle.fkv_hybrid.specs.declared.entries.Entry.{Entry}
+use Rattle.fkv_hybrid.specs.Text.{last_of}
+use Rattle.fkv_partition.specs.Views.{PartitionView, found_for, met_at, context_at, with_context, with_appended, with_replaced}
 
 -- an operation that looks its key up in a context, and what it then does
 pub record Decides {K V I O : Type 0} (cmp : K → K → Ordering) (f : Meanings K V I O) (code : K → ℕ)
     (v : PartitionView K V I) (slot c : ℕ) (x : Context K V I) (d : Decision V I O) : Type 0 where
   pub here : context_at v slot c ≡ Some x
   pub fresh : x.phase ≡ Fresh
-  pub decided : decision f x.op (met_at cmp code v (key_of x.op)) ≡ d
+  pub decided : decision f x.op (met_at cmp code v slot (key_of x.op)) ≡ d
 
 -- the operation that is open in a context has this key, and so decides
 pub record IsDecided {K V I O : Type 0} (cmp : K → K → Ordering) (f : Meanings K V I O) (code : K → ℕ)
@@ -107,6 +110,19 @@ pub data Goes {K V I O : Type 0} (cmp : K → K → Ordering) (f : Meanings K V 
       → offset_at old.records.page_bits old.records.tail ≡ 0
       → new ≡ old
       → result ≡ Err NoMemory
+      → Goes cmp f code old new slot c now result
+  -- the last record of the key gets another value where it stands, or becomes a tombstone, and the operation is done
+  replaces : (x : Context K V I) (value : Option V) (a : Answer O) (e : Entry K V)
+      → Decides cmp f code old slot c x (Replace value a)
+      → last_of cmp old.records.text (key_of x.op) ≡ Some e
+      → new ≡ with_replaced old slot c e.address value now
+      → result ≡ Ok (Done a now)
+      → Goes cmp f code old new slot c now result
+  -- it stays as it is until every session has seen that the record changes no more
+  waits : (x : Context K V I)
+      → Decides cmp f code old slot c x Wait
+      → new ≡ record old { moment = now }
+      → result ≡ Ok (Waits Fuzzy)
       → Goes cmp f code old new slot c now result
   -- an update keeps the entry as it stands and the value that it met, and asks for the new one
   prepares : (x : Context K V I) (source : Option V) (i : I) (e : IndexEntry)

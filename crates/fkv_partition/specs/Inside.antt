@@ -7,7 +7,6 @@ view_of p = record {
   number = p.number;
   count = p.count;
   records = p.records;
-  entered = p.entered.items;
   contexts = p.contexts.items;
   moment = p.moment;
 }

@@ -11,3 +11,5 @@ pub mod Sound
 pub mod Alone
 pub mod Beginning
 pub mod Ending
+pub mod Looking
+pub mod Frozen

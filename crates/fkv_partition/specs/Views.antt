@@ -1,23 +1,27 @@
 -- What a contract sees of a partition.
-use Rattle.std.specs.Prelude.{◌+◌, ◌*◌, ◌%◌, ◌^◌, Bool, false, not, ℕ, List, Option, None, replicate, slice_set, slice_range, position, is_none, is_some}
+use Rattle.std.specs.Prelude.{◌+◌, ◌*◌, ◌%◌, ◌^◌, ℕ, List, Option, None, replicate, slice_set, slice_range, position, is_none, is_some}
 use Rattle.std.specs.declared.cmp.Ordering.{Ordering}
 use Rattle.fkv_functions.specs.Plain.{PlainMap}
-use Rattle.fkv_hybrid.specs.Text.{live}
+use Rattle.fkv_epoch.specs.Moves as epochs
+use Rattle.fkv_regions.specs.declared.offsets.View.{View}
+use Rattle.fkv_regions.specs.Offsets.{view_at}
+use Rattle.fkv_regions.specs.RegionsView.{RegionsView}
+use Rattle.fkv_hybrid.specs.Text.{last_of, live}
 use Rattle.fkv_operations.specs.declared.entries.IndexEntry.{IndexEntry}
-use Rattle.fkv_operations.specs.RecordsViews.{RecordsView, empty_records, class_in, entry_of, found_in, with_record}
+use Rattle.fkv_operations.specs.RecordsViews.{RecordsView, empty_records, class_in, entry_of, found_in}
+use Rattle.fkv_operations.specs.RecordsViews.{with_record, with_value, with_regions}
 use Rattle.fkv_operations.specs.Decisions.{met_by}
 use Rattle.fkv_operations.specs.declared.decisions.Met.{Met}
 use Rattle.fkv_partition.specs.declared.contexts.Context.{Context}
 use Rattle.fkv_partition.specs.declared.limits.Config.{Config}
 use Rattle.fkv_partition.specs.Contexts.{context_in}
 
--- a partition: its number among how many, its records with the entries of their classes, its sessions and contexts, and
--- its last moment
+-- a partition: its number among how many; its records with the entries of their classes, the regions of their log and
+-- its sessions; the open operations of these; and its last moment
 pub record PartitionView (K V I : Type 0) : Type 0 where
   pub number : ℕ
   pub count : ℕ
   pub records : RecordsView K V
-  pub entered : List Bool
   pub contexts : List (Option (Context K V I))
   pub moment : ℕ
 
@@ -27,7 +31,6 @@ empty_partition config record_size number = record {
   number = number;
   count = 2 ^ config.partition_bits;
   records = empty_records config.partition_bits config.bucket_bits config.page_bits record_size;
-  entered = replicate 16 false;
   contexts = replicate 128 None;
   moment = 0;
 }
@@ -47,13 +50,21 @@ found_for code v k = found_in v.records (class_in code v.records k)
 abbrev pub entry_for : {K V I : Type 0} → (K → ℕ) → PartitionView K V I → K → Option ℕ
 entry_for code v k = entry_of v.records (class_in code v.records k)
 
--- what the look-up of a key meets
-abbrev pub met_at : {K V I : Type 0} → (K → K → Ordering) → (K → ℕ) → PartitionView K V I → K → Met V
-met_at cmp code v k = met_by (entry_for code v k) (live_of cmp v k)
+-- each slot with its epoch, where a session is entered there
+abbrev pub slots_of : {K V I : Type 0} → PartitionView K V I → List (Option ℕ)
+slots_of v = v.records.regions.epochs.slots
+
+-- what the session at a slot saw when it last looked
+abbrev pub seen_at : {K V I : Type 0} → PartitionView K V I → ℕ → View
+seen_at v slot = view_at v.records.regions.views slot
+
+-- what the session at a slot meets when it looks a key up
+abbrev pub met_at : {K V I : Type 0} → (K → K → Ordering) → (K → ℕ) → PartitionView K V I → ℕ → K → Met V
+met_at cmp code v slot k = met_by (entry_for code v k) (seen_at v slot) (last_of cmp v.records.text k)
 
 -- the operation that is open in a context of an entered session
 abbrev pub context_at : {K V I : Type 0} → PartitionView K V I → ℕ → ℕ → Option (Context K V I)
-context_at v slot c = context_in v.entered v.contexts slot c
+context_at v slot c = context_in (slots_of v) v.contexts slot c
 
 -- the view with this operation, or none, in a context, at another moment
 abbrev pub with_context : {K V I : Type 0} → PartitionView K V I → ℕ → ℕ → Option (Context K V I) → ℕ
@@ -68,9 +79,17 @@ with_appended v slot c e k value now = record (with_context v slot c None now) {
   records = with_record v.records e k value;
 }
 
+-- the view after the record at an address got another value, or became a tombstone, and the context was freed
+abbrev pub with_replaced : {K V I : Type 0} → PartitionView K V I → ℕ → ℕ → ℕ → Option V → ℕ → PartitionView K V I
+with_replaced v slot c a value now = record (with_context v slot c None now) { records = with_value v.records a value }
+
+-- the view with these regions
+abbrev pub in_regions : {K V I : Type 0} → PartitionView K V I → RegionsView → ℕ → PartitionView K V I
+in_regions v regions now = record v { records = with_regions v.records regions; moment = now }
+
 -- the lowest free slot, and the lowest free context of a slot
 abbrev pub free_slot : {K V I : Type 0} → PartitionView K V I → Option ℕ
-free_slot v = position not v.entered
+free_slot v = epochs.free_slot v.records.regions.epochs
 
 abbrev pub free_context : {K V I : Type 0} → PartitionView K V I → ℕ → Option ℕ
 free_context v slot = position is_none (slice_range v.contexts (slot * 8) (slot * 8 + 8))

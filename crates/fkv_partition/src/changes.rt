@@ -1,5 +1,5 @@
 //! What events change of a partition. Each change keeps what every partition keeps, and says what it leaves.
-ghost use Rattle.std.specs.Prelude.{◌≡◌, ◌+◌, ◌*◌, ◌^◌, ◌<◌, ◌↔◌, ◌⊎◌, false, IsTrue, Some, None, Err, IfErr, OnOk, OnErr, slice_set};
+ghost use Rattle.std.specs.Prelude.{◌≡◌, ◌+◌, ◌*◌, ◌^◌, ◌<◌, ◌≤◌, ◌↔◌, ◌⊎◌, false, IsSome, IsTrue, Some, None, Err, IfErr, OnOk, OnErr};
 ghost use Rattle.std.specs.List.{list_any};
 ghost use Rattle.std.specs.Bool.{OnTrue, OnFalse};
 ghost use Rattle.fkv_records.specs.Places.{offset_at};
@@ -11,18 +11,20 @@ ghost use Rattle.fkv_operations.specs.Classes.{IsClass};
 ghost use Rattle.fkv_operations.specs.RecordsViews.{class_in, confirmed, released};
 ghost use Rattle.fkv_partition.specs.Contexts.{at_phase, claim_by, claim_at};
 ghost use Rattle.fkv_partition.specs.Claiming.{IsClaimed};
-ghost use Rattle.fkv_partition.specs.Views.{context_at, open_context, partition_of, with_context, with_appended};
+ghost use Rattle.fkv_regions.specs.RegionsView.{left};
+ghost use Rattle.fkv_hybrid.specs.Text.{value_at};
+ghost use Rattle.fkv_partition.specs.Views.{context_at, in_regions, open_context, partition_of, with_context, with_appended, with_replaced};
 ghost use Rattle.fkv_partition.specs.Sound.{StandsFor};
 ghost use Rattle.fkv_partition.specs.Beginning.{IsEntered};
 ghost use Rattle.fkv_partition.specs.Writes.{IsWrite};
 
 use crate::contexts::{Context, ContextOf, Phase, in_phase, set_context};
 use crate::partitions::Partition;
-use crate::sessions::leave_slot;
 use fkv_functions::{Functions, Refused};
 use fkv_index::Place;
-use fkv_operations::laws::records_grow;
+use fkv_operations::laws::{records_change, records_grow};
 use fkv_operations::{Class, IndexEntry, OpOf};
+use fkv_records::Address;
 
 /// A record that is to be appended.
 #[derive(Clone, Copy)]
@@ -94,14 +96,40 @@ impl<F: Functions> Partition<F> {
         set_context(&mut self.contexts, slot, context, Some(moved));
     }
 
-    /// Frees the slot of a session that has no open operation.
+    /// Frees the slot of a session that has no open operation, and moves the offsets that are due then.
     pub(crate) fn vacate(&mut self, slot: usize, now: u64)
-        requires session { slot < 16 }
+        requires entered { IsEntered self.old slot }
         requires idle { open_context self.old slot ≡ None }
-        ensures { self.new ≡ record self.old { entered = slice_set self.old.entered slot false; moment = now } }
+        ensures { self.new ≡ in_regions self.old (left self.old.records.regions slot) now }
     {
+        let _left = self.records.leave(slot);
+        self.records.known();
         self.moment = now;
-        leave_slot(&mut self.entered, slot);
+    }
+
+    /// Gives the record at an address, which has a value, another one where it stands, or makes it a tombstone, and frees
+    /// the context, whose operation waits to confirm no entry.
+    pub(crate) fn replace(
+        &mut self,
+        slot: usize,
+        context: usize,
+        address: Address,
+        value: Option<F::Value>,
+        now: u64,
+    )
+        requires session { slot < 16 }
+        requires context { context < 8 }
+        requires unclaimed { claim_at self.old.contexts (slot * 8 + context) ≡ None }
+        requires value { IsSome (value_at self.old.records.text address) }
+        requires mutable { self.old.records.regions.offsets.safe_read_only ≤ address }
+        ensures { self.new ≡ with_replaced self.old slot context address value now }
+    {
+        records_change::<F::Key, F::Value>();
+        self.records.known();
+        self.records.replace(address, value);
+        self.records.known();
+        self.moment = now;
+        set_context(&mut self.contexts, slot, context, None);
     }
 
     /// Makes a tentative entry for the class of an operation's key, which the operation then waits to confirm. Refused,

@@ -1,8 +1,7 @@
 //! The open operations of a partition: how far each is, and what an event of it answers.
-ghost use Rattle.std.specs.Prelude.{◌≡◌, ◌+◌, ◌*◌, ◌<◌, ◌≤◌, ◌⊎◌, ◌↔◌, length, Option, Some, None, IsTrue, IfSome, IfNone, slice_range, slice_set, position, is_none, is_some};
-ghost use Rattle.fkv_partition.specs.Contexts.{context_in, at_phase, question_in, claim_by};
+ghost use Rattle.std.specs.Prelude.{◌≡◌, ◌+◌, ◌*◌, ◌<◌, ◌≤◌, ◌⊎◌, ◌↔◌, length, Option, Some, None, IfSome, IfNone, cond, nat_lt, slice_get, slice_range, slice_set, position, is_none, is_some};
+ghost use Rattle.fkv_partition.specs.Contexts.{joined, at_phase, question_in, claim_by};
 
-use crate::sessions::is_entered;
 use fkv_functions::{Ask, Functions, Known};
 use fkv_index::Place;
 use fkv_operations::{Answer, IndexEntry, Op};
@@ -46,6 +45,16 @@ pub enum Progress<K, V, I, O> {
     Next,
     /// The operation needs this question answered.
     NeedsBuild(Ask<K, V, I>),
+    /// The operation can't go on yet, for this reason; it is to be tried again.
+    Waits(Wait),
+}
+
+/// Why an operation waits.
+#[derive(Clone, Copy, PartialEq, Eq, Debug)]
+pub enum Wait {
+    /// The last record of its key lies where sessions with an older view may still change it: until these are refreshed
+    /// or left, and then its own session is refreshed.
+    Fuzzy,
 }
 
 /// The progress of one type of functions.
@@ -70,20 +79,18 @@ pub fn in_phase<K: Copy, V: Copy, I: Copy>(
     }
 }
 
-/// The operation that is open in a context of an entered session.
+/// The operation that is open in a context of a session.
 pub fn open_at<K: Copy, V: Copy, I: Copy>(
-    entered: &[bool],
     contexts: &[Option<Context<K, V, I>>],
     slot: usize,
     context: usize,
 ) -> Option<Context<K, V, I>>
-    requires sessions { length entered.now ≡ 16 }
+    requires session { slot < 16 }
     requires places { length contexts.now ≡ 128 }
-    ensures value { result ≡ context_in entered.now contexts.now slot context }
-    ensures session { IfSome result (λ _. slot < 16) }
+    ensures value { result ≡ cond (nat_lt context 8) (joined (slice_get contexts.now (slot * 8 + context))) None }
     ensures context { IfSome result (λ _. context < 8) }
 {
-    if !is_entered(entered, slot) || context >= CONTEXTS {
+    if context >= CONTEXTS {
         return None;
     }
     contexts[slot * CONTEXTS + context]

@@ -1,7 +1,8 @@
 //! What an operation does when it goes on.
-ghost use Rattle.std.specs.Prelude.{◌≡◌, ◌<◌, ◌≤◌, Some, None, Ok, IfOk, OnErr};
+ghost use Rattle.std.specs.Prelude.{◌≡◌, ◌<◌, ◌≤◌, IsSome, Option, Some, None, Ok, IfOk, OnErr};
 ghost use Rattle.fkv_operations.specs.After.{key_of};
 ghost use Rattle.fkv_operations.specs.RecordsViews.{class_in, IsEntryOf};
+ghost use Rattle.fkv_hybrid.specs.Text.{entry_at, last_of};
 ghost use Rattle.fkv_partition.specs.Contexts.{question_in, claim_by};
 ghost use Rattle.fkv_partition.specs.Views.{context_at, found_for};
 ghost use Rattle.fkv_partition.specs.Writes.{IsWrite};
@@ -9,20 +10,23 @@ ghost use Rattle.fkv_partition.specs.Going.{Decides, IsDecided, Goes};
 ghost use Rattle.fkv_partition.specs.Effect.{IsEvent};
 
 use crate::changes::Write;
-use crate::contexts::{ContextOf, Phase, Progress, ProgressOf, claim_of, question_of};
+use crate::contexts::{ContextOf, Phase, Progress, ProgressOf, Wait, claim_of, question_of};
 use crate::partitions::Partition;
 use fkv_functions::{Ask, Functions, Refused};
 use fkv_index::Place;
-use fkv_operations::laws::{entries_lead, records_grow};
+use fkv_hybrid::Entry;
+use fkv_operations::laws::{entries_lead, records_change, records_grow, regions_hold};
 use fkv_operations::{AnswerOf, Decision, IndexEntry};
 
 impl<F: Functions> Partition<F> {
     /// Goes on with an operation: it looks its key up, and what it meets decides. A read is finished with
     /// its answer, and a delete of a key without a value. A write of a class without an entry makes a tentative one
     /// and answers `Next`; the next call confirms it, or takes it back where another entry of its tag stands in the
-    /// bucket, and answers `Next` too. Where there is an entry an upsert, and a delete of a value, append a record and
-    /// are finished, and an update keeps the entry and the key's value and asks for the new one, the same again until
-    /// it is installed. Refused, in this order, and then nothing changes: `Unknown` where no operation is open there;
+    /// bucket, and answers `Next` too. Where there is an entry, the region of the key's last record by the session's view
+    /// decides. A mutable value is changed where it stands, by an upsert, an update or a delete, which is finished.
+    /// Else an upsert, and a delete of a value, append a record and are finished; and an update keeps the entry and the
+    /// key's value and asks for the new one, the same again until it is installed, but over a fuzzy value it answers
+    /// `Waits`. Refused, in this order, and then nothing changes: `Unknown` where no operation is open there;
     /// `Worn` where a record is to be appended and no address is left; `NoMemory` where an entry is to be made and no
     /// place of its bucket is empty, or where the record would be the first of its page.
     pub fn go(
@@ -99,7 +103,8 @@ impl<F: Functions> Partition<F> {
         entries_lead::<F::Key, F::Value>();
         let key = operation.op.key();
         let (class, entry) = self.find(functions, &key);
-        match self.decided(functions, &operation.op, &entry) {
+        let last = self.last_record(&key, &entry);
+        match self.decided(slot, functions, &operation.op, &entry, &last) {
             Decision::Done(answer) => {
                 self.free(slot, context, now);
                 Ok(Progress::Done(answer, now))
@@ -114,6 +119,14 @@ impl<F: Functions> Partition<F> {
                 let Some(entry) = entry else { unreachable!() };
                 let write = Write { entry, key, value };
                 self.write(slot, context, write, answer, now)
+            }
+            Decision::Replace(value, answer) => {
+                let Some(last) = last else { unreachable!() };
+                Ok(self.rewrite(slot, context, operation, last, value, answer, now))
+            }
+            Decision::Wait => {
+                self.pass(now);
+                Ok(Progress::Waits(Wait::Fuzzy))
             }
             Decision::Prepare(source, input) => {
                 let Some(kept) = entry else { unreachable!() };
@@ -157,6 +170,35 @@ impl<F: Functions> Partition<F> {
         }
     }
 
+    /// Gives the last record of a key another value where it stands, or makes it a tombstone; the operation is then done.
+    fn rewrite(
+        &mut self,
+        slot: usize,
+        context: usize,
+        operation: &ContextOf<F>,
+        last: Entry<F::Key, F::Value>,
+        value: Option<F::Value>,
+        answer: AnswerOf<F>,
+        now: u64,
+    ) -> ProgressOf<F>
+        requires session { slot < 16 }
+        requires context { context < 8 }
+        requires last { last_of F.Key.cmp self.old.records.text (key_of operation.now.op) ≡ Some last }
+        requires stands { entry_at self.old.records.text last.address ≡ Some last }
+        requires decided { Decides F.Key.cmp F.meaning F.code self.old slot context operation.now
+            (Decision.Replace value answer) }
+        ensures does { Goes F.Key.cmp F.meaning F.code self.old self.new slot context now (Ok result) }
+        ensures event { IsEvent F.Key.cmp F.meaning self.old self.new slot context now result }
+        ensures moment { self.new.moment ≤ now }
+    {
+        self.known();
+        entries_lead::<F::Key, F::Value>();
+        records_change::<F::Key, F::Value>();
+        regions_hold::<F::Key, F::Value, F::Input, F::Output>();
+        self.replace(slot, context, last.address, value, now);
+        Progress::Done(answer, now)
+    }
+
     /// Keeps the entry as it stands and the value that was met, and asks for the new one.
     fn prepare(
         &mut self,
@@ -182,6 +224,7 @@ impl<F: Functions> Partition<F> {
     {
         self.known();
         entries_lead::<F::Key, F::Value>();
+        regions_hold::<F::Key, F::Value, F::Input, F::Output>();
         let source = ask.source;
         self.set_phase(
             slot,

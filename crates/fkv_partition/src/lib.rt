@@ -1,10 +1,10 @@
 //! One partition of a store: sessions, their open operations, and what each event does.
 //!
-//! A contract sees a partition by its text, its index, its sessions and contexts, and its last moment
+//! A contract sees a partition by its text, its regions and sessions, its index, its contexts, and its last moment
 //! (`specs/Views.antt`). The live map is the last record of each key in the text; nothing in that
 //! definition follows an index. Each event changes it by nothing, or by the one operation that it
 //! finishes (`specs/Effect.antt`); what an event does, row by row, stands in `specs/Going.antt` and
-//! `specs/Installing.antt`.
+//! `specs/Installing.antt`. No event changes a record below the safe read-only offset (`specs/Frozen.antt`).
 #![tactic(auto)]
 
 pub mod asking;
@@ -18,9 +18,9 @@ pub mod limits;
 pub mod listing;
 mod looking;
 pub mod partitions;
-pub mod sessions;
+pub mod regions;
 
-pub use contexts::{Context, Phase, Progress, ProgressOf};
+pub use contexts::{Context, Phase, Progress, ProgressOf, Wait};
 pub use limits::Config;
 pub use listing::pairs_of;
 pub use partitions::Partition;

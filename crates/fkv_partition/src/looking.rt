@@ -1,17 +1,20 @@
 //! What events look at in a partition. None of these changes it.
-ghost use Rattle.std.specs.Prelude.{◌≡◌, ◌<◌, false, IsTrue, IfSome, option_map, slice_get, unwrap_or};
+ghost use Rattle.std.specs.Prelude.{◌≡◌, ◌<◌, Some, IsTrue, IfSome, option_map};
 ghost use Rattle.fkv_index.specs.Words.{address_of};
 ghost use Rattle.fkv_operations.specs.After.{key_of};
 ghost use Rattle.fkv_operations.specs.Decisions.{decision};
 ghost use Rattle.fkv_operations.specs.Classes.{IsClass};
 ghost use Rattle.fkv_operations.specs.RecordsViews.{class_in, IsEntryOf};
-ghost use Rattle.fkv_partition.specs.Views.{context_at, entry_for, found_for, free_context, live_of, met_at, open_context, partition_of};
+ghost use Rattle.fkv_hybrid.specs.Text.{entry_at, last_of};
+ghost use Rattle.fkv_partition.specs.Contexts.{is_session};
+ghost use Rattle.fkv_partition.specs.Beginning.{IsEntered};
+ghost use Rattle.fkv_partition.specs.Views.{context_at, entry_for, found_for, free_context, met_at, open_context, partition_of, slots_of};
 ghost use Rattle.fkv_partition.specs.Sound.{IsSound};
 
 use crate::contexts::{ContextOf, free_context, open_at, open_context};
 use crate::partitions::Partition;
-use crate::sessions::is_entered;
 use fkv_functions::Functions;
+use fkv_hybrid::Entry;
 use fkv_operations::laws::entries_lead;
 use fkv_operations::{Class, DecisionOf, IndexEntry, OpOf, decide, met_by};
 use fkv_records::Address;
@@ -40,15 +43,18 @@ impl<F: Functions> Partition<F> {
         ensures session { IfSome result (λ _. slot < 16) }
         ensures context { IfSome result (λ _. context < 8) }
     {
-        open_at(self.entered.as_slice(), &self.contexts, slot, context)
+        if !self.records.is_entered(slot) {
+            return None;
+        }
+        open_at(&self.contexts, slot, context)
     }
 
     /// Whether a slot is that of a session.
     pub(crate) fn is_session(&self, slot: usize) -> bool
-        ensures value { result ≡ unwrap_or (slice_get self.now.entered slot) false }
+        ensures value { result ≡ is_session (slots_of self.now) slot }
         ensures within { IsTrue result → slot < 16 }
     {
-        is_entered(self.entered.as_slice(), slot)
+        self.records.is_entered(slot)
     }
 
     /// The lowest free context of a session.
@@ -89,34 +95,40 @@ impl<F: Functions> Partition<F> {
         (class, entry)
     }
 
-    /// The value of a key, by the address to which the entry of its class leads.
-    fn value_of(&self, key: &F::Key, entry: Option<Address>) -> Option<F::Value>
-        requires { entry ≡ entry_for F.code self.now key.now }
-        ensures { result ≡ live_of F.Key.cmp self.now key.now }
+    /// The last record of a key, by the entry of its class.
+    pub(crate) fn last_record(
+        &self,
+        key: &F::Key,
+        entry: &Option<IndexEntry>,
+    ) -> Option<Entry<F::Key, F::Value>>
+        requires { option_map (λ e. address_of e.word) entry.now ≡ entry_for F.code self.now key.now }
+        ensures last { result ≡ last_of F.Key.cmp self.now.records.text key.now }
+        ensures stands { IfSome result (λ e. entry_at self.now.records.text e.address ≡ Some e) }
     {
         entries_lead::<F::Key, F::Value>();
-        match entry {
+        match address_of(entry) {
             None => None,
-            Some(address) => match self.records.trace(address, key) {
-                None => None,
-                Some(last) => last.value,
-            },
+            Some(address) => self.records.trace(address, key),
         }
     }
 
-    /// What an operation does for what it meets, by the entry of its key's class.
+    /// What an operation of the session at a slot does for what it meets: the entry of its key's class, and the last
+    /// record of its key.
     pub(crate) fn decided(
         &self,
+        slot: usize,
         functions: &F,
         op: &OpOf<F>,
         entry: &Option<IndexEntry>,
+        last: &Option<Entry<F::Key, F::Value>>,
     ) -> DecisionOf<F>
-        requires { option_map (λ e. address_of e.word) entry.now ≡ entry_for F.code self.now (key_of op.now) }
-        ensures { result ≡ decision F.meaning op.now (met_at F.Key.cmp F.code self.now (key_of op.now)) }
+        requires entered { IsEntered self.now slot }
+        requires entry { option_map (λ e. address_of e.word) entry.now ≡ entry_for F.code self.now (key_of op.now) }
+        requires last { last.now ≡ last_of F.Key.cmp self.now.records.text (key_of op.now) }
+        ensures { result ≡ decision F.meaning op.now (met_at F.Key.cmp F.code self.now slot (key_of op.now)) }
     {
-        let key = op.key();
-        let leads = address_of(entry);
-        let met = met_by(leads, self.value_of(&key, leads));
+        let view = self.records.view(slot);
+        let met = met_by(address_of(entry), &view, last);
         decide(functions, op, &met)
     }
 }

@@ -1,15 +1,13 @@
 //! A partition: its parts, and what its sessions and operations begin with.
-ghost use Rattle.std.specs.Prelude.{◌≡◌, ◌≢◌, ◌+◌, ◌*◌, ◌<◌, ◌≤◌, ◌⊎◌, true, Option, Some, None, Ok, Err, IfOk, IfErr, OnErr, slice_set, unwrap_or, slice_get, false, replicate};
+ghost use Rattle.std.specs.Prelude.{◌≡◌, ◌≢◌, ◌<◌, ◌≤◌, ◌⊎◌, Option, Some, None, Ok, Err, IfOk, IfErr, OnErr, replicate};
 ghost use Rattle.fkv_records.specs.Records.{size_of};
 ghost use Rattle.fkv_partition.specs.Limits.{IsPartitionOf};
 ghost use Rattle.fkv_partition.specs.Views.{empty_partition};
 ghost use Rattle.fkv_partition.specs.Beginning.{Enters, Issues};
-ghost use Rattle.fkv_partition.specs.Effect.{IsEnter, IsIssue};
+ghost use Rattle.fkv_partition.specs.Effect.{IsQuiet, IsIssue};
 
 use crate::contexts::Context;
 use crate::limits::Config;
-use crate::sessions::{free_slot, take_slot};
-use arrayvec::ArrayVec;
 use fkv_functions::{Functions, Refused, What};
 use fkv_operations::{OpOf, Records};
 use std::alloc::Global;
@@ -18,14 +16,13 @@ use std::marker::Model;
 /// The open operations that one partition may have.
 const PLACES: usize = 128;
 
-/// One partition of a store: its records with their entries, sessions, and their open operations. Each call that
+/// One partition of a store: its records with their entries and sessions, and the open operations of these. Each call that
 /// takes a moment is one event; the moments of a partition rise.
 #[derive(Drop)]
 pub struct Partition<F: Functions> {
     pub(crate) number: u64,
     pub(crate) count: u64,
     pub(crate) records: Records<F>,
-    pub(crate) entered: ArrayVec<bool, 16>,
     pub(crate) contexts: Vec<Option<Context<F::Key, F::Value, F::Input>>>,
     pub(crate) moment: u64,
 }
@@ -83,27 +80,27 @@ impl<F: Functions> Partition<F> {
             number,
             count,
             records,
-            entered: ArrayVec::from([false; 16]),
             contexts,
             moment: 0,
         })
     }
 
-    /// Enters a session and answers its slot, the lowest free one. Refused: `NoSlot`, and then nothing
-    /// changes.
+    /// Enters a session, which has the view of now, and answers its slot, the lowest free one. Refused, and then
+    /// nothing changes: `NoSlot` where sixteen sessions are entered.
     pub fn enter(&mut self, now: u64) -> Result<usize, Refused>
         requires later { self.old.moment < now }
         ensures does { Enters self.old self.new now result }
-        ensures event { IfOk result (λ slot. IsEnter self.old self.new slot now) }
+        ensures event { IfOk result (λ _. IsQuiet self.old self.new now) }
         ensures within { IfOk result (λ slot. slot < 16) }
         ensures err { OnErr result (self.new ≡ self.old) }
         ensures moment { self.new.moment ≤ now }
     {
-        let Some(slot) = free_slot(self.entered.as_slice()) else {
-            return Err(Refused::NoSlot);
+        let slot = match self.records.enter() {
+            Err(refused) => return Err(refused),
+            Ok(slot) => slot,
         };
+        self.records.known();
         self.moment = now;
-        take_slot(&mut self.entered, slot);
         Ok(slot)
     }
 

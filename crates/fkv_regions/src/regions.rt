@@ -183,6 +183,7 @@ impl Regions {
         ensures not_due { (result ≡ Err Refused.NotDue) ↔ ¬ IsReadOnlyDue self.old page tail }
         ensures full { (result ≡ Err Refused.DrainFull)
             ↔ (IsReadOnlyDue self.old page tail × (16 ≤ length self.old.epochs.waiting)) }
+        ensures only { IfErr result (λ why. (why ≡ Refused.NotDue) ⊎ (why ≡ Refused.DrainFull)) }
         ensures refused { OnErr result (self.new ≡ self.old) }
     {
         if !self.is_read_only_due(page, tail) {
@@ -206,6 +207,7 @@ impl Regions {
         ensures not_due { (result ≡ Err Refused.NotDue) ↔ ¬ IsHeadDue self.old page }
         ensures full { (result ≡ Err Refused.DrainFull)
             ↔ (IsHeadDue self.old page × (16 ≤ length self.old.epochs.waiting)) }
+        ensures only { IfErr result (λ why. (why ≡ Refused.NotDue) ⊎ (why ≡ Refused.DrainFull)) }
         ensures refused { OnErr result (self.new ≡ self.old) }
     {
         if !self.is_head_due(page) {

@@ -1,5 +1,5 @@
 //! What sessions see of a log, and how its regions move.
-ghost use Rattle.std.specs.Prelude.{◌≡◌, ◌<◌, ◌≤◌, ◌↔◌, length, IsTrue, IsOk, IfOk, IfErr, OnOk, OnErr, Err};
+ghost use Rattle.std.specs.Prelude.{◌≡◌, ◌<◌, ◌≤◌, ◌↔◌, ◌⊎◌, length, IsTrue, IsOk, IfOk, IfErr, OnOk, OnErr, Err};
 ghost use Rattle.std.specs.Option.{ok_or};
 ghost use Rattle.fkv_records.specs.Places.{start_at};
 ghost use Rattle.fkv_epoch.specs.Moves.{free_slot, is_entered};
@@ -68,6 +68,7 @@ impl<K: Fixed, V: Fixed> Log<K, V> {
         ensures full { (result ≡ Err Refused.DrainFull)
             ↔ (IsReadOnlyDue self.old.regions page self.old.tail
             × (16 ≤ length self.old.regions.epochs.waiting)) }
+        ensures only { IfErr result (λ why. (why ≡ Refused.NotDue) ⊎ (why ≡ Refused.DrainFull)) }
         ensures refused { OnErr result (self.new ≡ self.old) }
     {
         self.regions.shift_read_only(page, self.tail)

@@ -83,6 +83,7 @@ impl<F: Functions> Records<F> {
         ensures full { (result ≡ Err Refused.DrainFull)
             ↔ (IsReadOnlyDue self.old.regions page self.old.tail
             × (16 ≤ length self.old.regions.epochs.waiting)) }
+        ensures only { IfErr result (λ why. (why ≡ Refused.NotDue) ⊎ (why ≡ Refused.DrainFull)) }
         ensures refused { OnErr result (self.new ≡ self.old) }
     {
         let moved = self.log.shift_read_only(page);

@@ -6,5 +6,5 @@ returns-clause-known g c = λ cmp f code v w slot at now key input a p issued en
 
 pub returns-clause-first : goal.returns-clause-first
 returns-clause-first g c =
-    λ cmp f code v w u t slot at m n now key input p q r traced range quiet issued none one two three.
-    goes-first cmp f code v w u t slot at m n now key input p q r traced.map range quiet issued none one two three
+    λ cmp f code v w u t slot at m n now key input p q r order traced range quiet issued none one two three.
+    goes-first cmp f code v w u t slot at m n now key input p q r order traced range quiet issued none one two three

@@ -9,7 +9,7 @@ use Rattle.fkv_partition.proofs.partitions.Partition.claim.Goals as goal
 pub invariant_of-self-2 : goal.invariant_of-self-2
 invariant_of-self-2 g c =
     let x = c.args.operation.now in
-    let at : context_in c.self.inside.entered.items c.self.inside.contexts.items c.args.slot c.args.context ≡ Some x = rw (← c.self.view_is) at c.requires.here in
+    let at : context_in c.self.inside.records.regions.epochs.slots c.self.inside.contexts.items c.args.slot c.args.context ≡ Some x = rw (← c.self.view_is) at c.requires.here in
     let made = c.in-Ok.ensures in
     rw (c.set_context.ensures, c.in_phase-waiting.ensures)
     (sound-claims g.F.Key.Ord.cmp g.F.Functions.code (view_of c.self.inside) c.self.invariant c.args.slot c.args.context c.args.now x at

@@ -15,7 +15,7 @@ returns-in-Some-claim_of-clause-does g c =
 pub returns-in-Some-claim_of-clause-event : goal.returns-in-Some-claim_of-clause-event
 returns-in-Some-claim_of-clause-event g c =
     let v = c.args.self.now in
-    rw c.cancel.ensures (event-give_up v c.args.slot c.args.context c.args.now c.in-Some.open (released v.records c.in-Some-claim_of.place) (sym c.in-Some.ensures.value) refl refl)
+    rw c.cancel.ensures (event-give_up v c.args.slot c.args.context c.args.now c.in-Some.open (released v.records c.in-Some-claim_of.place) (sym c.in-Some.ensures.value) refl refl refl)
 
 pub free-requires-clause-unclaimed : goal.free-requires-clause-unclaimed
 free-requires-clause-unclaimed g c κs within =
@@ -27,4 +27,4 @@ returns-clause-does g c = rw c.free.ensures (gives_up c.in-Some.open (sym c.in-S
 pub returns-clause-event : goal.returns-clause-event
 returns-clause-event g c =
     let v = c.args.self.now in
-    rw c.free.ensures (event-give_up v c.args.slot c.args.context c.args.now c.in-Some.open v.records (sym c.in-Some.ensures.value) refl refl)
+    rw c.free.ensures (event-give_up v c.args.slot c.args.context c.args.now c.in-Some.open v.records (sym c.in-Some.ensures.value) refl refl refl)

@@ -4,7 +4,7 @@ use Rattle.fkv_partition.specs.declared.contexts.Phase.TheVariants.{Fresh}
 use Rattle.fkv_partition.specs.Contexts.{context_in, question_in}
 use Rattle.fkv_partition.specs.Inside.{view_of}
 use Rattle.fkv_partition.specs.Installing.{not_ready, stranger, moved}
-use Rattle.fkv_partition.proofs.EventLemmas.{event-next, kept-at, question-quiet}
+use Rattle.fkv_partition.proofs.EventLemmas.{event-next, kept-at, question-quiet, if-all}
 use Rattle.fkv_partition.proofs.partitions.Partition.install.Goals as goal
 
 pub returns-in_default-question_of-clause-does : goal.returns-in_default-question_of-clause-does
@@ -19,7 +19,7 @@ returns-then-not-is-clause-does g c =
 pub holds-requires-after_bounds : goal.holds-requires-after_bounds
 holds-requires-after_bounds g c κs within =
     let q = c.in-Some-question_of.question in
-    let at : context_in c.self.inside.entered.items c.self.inside.contexts.items c.args.slot c.args.context ≡ Some c.in-Some.open = rw (← c.self.view_is) at (sym c.in-Some.ensures.value) in
+    let at : context_in c.self.inside.records.regions.epochs.slots c.self.inside.contexts.items c.args.slot c.args.context ≡ Some c.in-Some.open = rw (← c.self.view_is) at (sym c.in-Some.ensures.value) in
     (kept-at g.F.Key.Ord.cmp g.F.Functions.code (view_of c.self.inside) c.self.invariant c.args.slot c.args.context c.in-Some.open q.0 q.1 at (sym c.in-Some-question_of.ensures)).entry.place
 
 pub set_phase-requires-clause-unclaimed : goal.set_phase-requires-clause-unclaimed
@@ -38,7 +38,7 @@ pub returns-then-not-holds-clause-event : goal.returns-then-not-holds-clause-eve
 returns-then-not-holds-clause-event g c =
     let v = c.args.self.now in
     rw c.set_phase.ensures
-    (event-next g.F.Key.Ord.cmp g.F.Functions.meaning g.F.Functions.code v c.args.slot c.args.context c.args.now c.in-Some.open (sym c.in-Some.ensures.value) Fresh v.records refl refl)
+    (event-next g.F.Key.Ord.cmp g.F.Functions.meaning g.F.Functions.code v c.args.slot c.args.context c.args.now c.in-Some.open (sym c.in-Some.ensures.value) Fresh v.records refl refl refl)
 
 pub append_built-requires-clause-asks : goal.append_built-requires-clause-asks
 append_built-requires-clause-asks g c κs within =
@@ -53,3 +53,6 @@ pub append_built-requires-clause-stands : goal.append_built-requires-clause-stan
 append_built-requires-clause-stands g c κs within =
     let q = c.in-Some-question_of.question in
     ap (λ v. word_at v.records.words q.0.place) (sym c.self.view_is) ∙ c.holds.ensures.0 c.if-not-holds.false
+
+pub returns-clause-within : goal.returns-clause-within
+returns-clause-within g c = if-all c.append_built.result (c.in-Some.ensures.session, c.in-Some.ensures.context)

@@ -9,6 +9,9 @@ returns-then-not-is_session-clause-does g c = unknown (sym c.is_session.ensures.
 pub returns-in-Some-clause-does : goal.returns-in-Some-clause-does
 returns-in-Some-clause-does g c = busy c.in-Some._open (sym c.is_session.ensures.value ∙ c.if-not-is_session.false) (sym c.in-Some.ensures) refl refl
 
+pub vacate-requires-clause-entered : goal.vacate-requires-clause-entered
+vacate-requires-clause-entered g c κs within = sym c.is_session.ensures.value ∙ c.if-not-is_session.false
+
 pub returns-clause-does : goal.returns-clause-does
 returns-clause-does g c = rw c.vacate.ensures (leaves (sym c.is_session.ensures.value ∙ c.if-not-is_session.false) (sym c.in_default.ensures) refl refl)
 

@@ -1,9 +1,10 @@
-use Rattle.std.proofs.Common.{◌≡◌, None, Some, Err, refl, sym, ap, ◌∙◌}
+use Rattle.std.proofs.Common.{refl, sym, ap, ◌∙◌}
 use Rattle.fkv_functions.proofs.KeyOrder.{key_order}
 use Rattle.fkv_operations.specs.After.{key_of}
 use Rattle.fkv_operations.specs.RecordsViews.{class_in}
-use Rattle.fkv_partition.specs.Going.{done, claims, unclaimed}
-use Rattle.fkv_partition.proofs.EventLemmas.{decides-at, event-quiet, event-claims, claims-none}
+use Rattle.fkv_partition.specs.declared.contexts.Wait.TheVariants.{Fuzzy}
+use Rattle.fkv_partition.specs.Going.{done, claims, unclaimed, waits}
+use Rattle.fkv_partition.proofs.EventLemmas.{decides-at, event-quiet, event-claims, event-waits, claims-none}
 use Rattle.fkv_partition.proofs.partitions.Partition.look_up.Goals as goal
 
 pub free-requires-clause-unclaimed : goal.free-requires-clause-unclaimed
@@ -53,3 +54,18 @@ write-requires-clause-decided g c κs within =
       key_is = sym c.key-key.ensures;
       decides = decides-at g.F.Key.Ord.cmp g.F.Functions.meaning g.F.Functions.code _ c.args.slot c.args.context c.args.now x c.requires.here c.known.ensures c.requires.asks_nothing c.requires.unclaimed _ _ c.decided.ensures c.in-Append.is;
     }
+
+pub rewrite-requires-clause-decided : goal.rewrite-requires-clause-decided
+rewrite-requires-clause-decided g c κs within =
+    let x = c.args.operation.now in
+    decides-at g.F.Key.Ord.cmp g.F.Functions.meaning g.F.Functions.code _ c.args.slot c.args.context c.args.now x c.requires.here c.known.ensures c.requires.asks_nothing c.requires.unclaimed _ _ c.decided.ensures c.in-Replace.is
+
+pub returns-in-Wait-clause-does : goal.returns-in-Wait-clause-does
+returns-in-Wait-clause-does g c =
+    let x = c.args.operation.now in
+    let d = decides-at g.F.Key.Ord.cmp g.F.Functions.meaning g.F.Functions.code _ c.args.slot c.args.context c.args.now x c.requires.here c.known.ensures c.requires.asks_nothing c.requires.unclaimed _ _ c.decided.ensures c.in-Wait.is in
+    rw c.pass.ensures (waits x d refl refl)
+
+pub returns-in-Wait-clause-event : goal.returns-in-Wait-clause-event
+returns-in-Wait-clause-event g c =
+    rw c.pass.ensures (event-waits g.F.Key.Ord.cmp g.F.Functions.meaning g.F.Functions.code c.args.self.now c.args.slot c.args.context c.args.now c.args.operation.now c.requires.here Fuzzy)

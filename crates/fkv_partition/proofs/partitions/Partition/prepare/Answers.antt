@@ -5,6 +5,9 @@ use Rattle.fkv_operations.specs.After.{key_of}
 use Rattle.fkv_operations.specs.RecordsViews.{class_in}
 use Rattle.fkv_operations.specs.declared.operations.Op.TheVariants.{Rmw}
 use Rattle.fkv_partition.specs.Contexts.{claim_by}
+use Rattle.fkv_hybrid.specs.Text.{last_of}
+use Rattle.fkv_partition.specs.Views.{entry_for, slots_of}
+use Rattle.fkv_partition.proofs.AskedLemmas.{open_at}
 use Rattle.fkv_partition.specs.Going.{prepares}
 use Rattle.fkv_partition.proofs.EventLemmas.{asks-rmw, prepared-stands, event-prepares}
 use Rattle.fkv_partition.proofs.partitions.Partition.prepare.Goals as goal
@@ -28,6 +31,8 @@ set_phase-requires-clause-stands g c κs within =
     leads
     (c.entries_lead.ensures.low g.F.Functions.code v.records class a c.known.ensures.traced leads)
     (c.entries_lead.ensures.held g.F.Key.Ord.cmp g.F.Functions.code v.records (key_of x.op) a order c.known.ensures.traced leads)
+    (c.regions_hold.ensures.prepared g.F.Functions.meaning g.F.Functions.code v.records c.args.slot x.op (entry_for g.F.Functions.code v (key_of x.op)) (last_of g.F.Key.Ord.cmp v.records.text (key_of x.op)) c.args.ask.source c.args.ask.input c.known.ensures.traced
+    (open_at (slots_of v) v.contexts c.args.slot c.args.context x d.here).inside d.decided)
     d.decided
 
 pub returns-clause-does : goal.returns-clause-does

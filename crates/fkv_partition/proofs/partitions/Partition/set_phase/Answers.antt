@@ -9,8 +9,8 @@ use Rattle.fkv_partition.proofs.partitions.Partition.set_phase.Goals as goal
 pub invariant_of-self : goal.invariant_of-self
 invariant_of-self g c =
     let x = c.args.operation.now in
-    let at : context_in c.self.inside.entered.items c.self.inside.contexts.items c.args.slot c.args.context ≡ Some x = rw (← c.self.view_is) at c.requires.here in
-    let here = open_at c.self.inside.entered.items c.self.inside.contexts.items c.args.slot c.args.context x at in
+    let at : context_in c.self.inside.records.regions.epochs.slots c.self.inside.contexts.items c.args.slot c.args.context ≡ Some x = rw (← c.self.view_is) at c.requires.here in
+    let here = open_at c.self.inside.records.regions.epochs.slots c.self.inside.contexts.items c.args.slot c.args.context x at in
     rw (c.set_context.ensures, c.in_phase-moved.ensures)
     (sound-context c.self.invariant c.args.slot c.args.context c.args.now (at_phase x c.args.phase)
     (claims-none (view_of c.self.inside) c.args.slot c.args.context x at c.requires.unclaimed) c.requires.claims_nothing

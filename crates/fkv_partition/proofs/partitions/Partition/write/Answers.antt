@@ -1,4 +1,4 @@
-use Rattle.std.proofs.Common.{◌≡◌, Err, inl, inr, refl, sym, ap, ◌∙◌}
+use Rattle.std.proofs.Common.{Err, inl, inr, refl, sym, ap, ◌∙◌}
 use Rattle.fkv_operations.specs.After.{key_of}
 use Rattle.fkv_partition.specs.Contexts.{claim_by}
 use Rattle.fkv_partition.specs.Going.{appends, worn, unheld}
