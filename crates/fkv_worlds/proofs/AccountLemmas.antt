@@ -7,7 +7,7 @@ use Rattle.fkv_functions.specs.Meanings.{Meanings}
 use Rattle.fkv_functions.specs.declared.refusals.Refused.{Refused}
 use Rattle.fkv_operations.specs.declared.operations.Answer.{Answer}
 use Rattle.fkv_partition.specs.declared.contexts.Progress.{Progress}
-use Rattle.fkv_partition.specs.declared.contexts.Progress.TheVariants.{Done, Next, NeedsBuild}
+use Rattle.fkv_partition.specs.declared.contexts.Progress.TheVariants.{Done, Next, NeedsBuild, Waits}
 use Rattle.fkv_partition.specs.Views.{PartitionView}
 use Rattle.fkv_partition.specs.Effect.{IsEvent}
 use Rattle.fkv_functions.proofs.ListLemmas.{get-append_left, get-append_last}
@@ -22,7 +22,7 @@ use Rattle.fkv_worlds.specs.declared.steps.Step.{Step}
 use Rattle.fkv_worlds.specs.Lives.{finish_of}
 use Rattle.fkv_worlds.specs.Changes.{ended_at}
 use Rattle.fkv_worlds.specs.States.{StateView, life_in}
-use Rattle.fkv_worlds.specs.Acts.{Acts, partition_in, lives_by, told, nowhere, unasked, unknown, worn, lifeless, refuses_enter, enters, refuses_leave, leaves, refuses_give_up, gives_up, refuses_issue, issues, refuses_go, goes, refuses_install, installs}
+use Rattle.fkv_worlds.specs.Acts.{Acts, partition_in, lives_by, told, nowhere, unasked, unknown, worn, lifeless, refuses_enter, enters, refuses_leave, leaves, refuses_refresh, refreshes, refuses_shift, shifts, refuses_give_up, gives_up, refuses_issue, issues, refuses_go, goes, refuses_install, installs}
 use Rattle.fkv_worlds.specs.Told.{IsAccount, taken, answer_in, answer_some, told_at, issues_from}
 use Rattle.fkv_worlds.specs.Sound.{IsState}
 use Rattle.fkv_worlds.proofs.LivesLemmas.{append_cases, append_old, ended_cases, ended_here, ended_other}
@@ -58,6 +58,9 @@ issues-append : {V O : Type 0} (s n : ℕ) (os : List (Outcome V O)) (o : Outcom
 issues-append s n [] o h = let e : s ≡ n = omega arith in ap (λ m. issues_from m (o ∷ [])) e
 issues-append s n (outcome.Entered x ∷ os) o h = issues-append (suc s) n os o (omega arith)
 issues-append s n (outcome.Left ∷ os) o h = issues-append (suc s) n os o (omega arith)
+issues-append s n (outcome.Refreshed ∷ os) o h = issues-append (suc s) n os o (omega arith)
+issues-append s n (outcome.Shifted ∷ os) o h = issues-append (suc s) n os o (omega arith)
+issues-append s n (outcome.Waits x ∷ os) o h = issues-append (suc s) n os o (omega arith)
 issues-append s n (outcome.GivenUp ∷ os) o h = issues-append (suc s) n os o (omega arith)
 issues-append s n (outcome.Issued x ∷ os) o h = ap (λ xs. s ∷ xs) (issues-append (suc s) n os o (omega arith))
 issues-append s n (outcome.Next ∷ os) o h = issues-append (suc s) n os o (omega arith)
@@ -208,6 +211,7 @@ module _ {K V I O : Type 0} (cmp : K → K → Ordering) (f : Meanings K V I O) 
       let l = state.world.linked.linked w ev.question (asked-was s.partitions w.partition v v' here w.slot w.context ∙ ev.was) in
       account-done s.lives (taken rs) s.moment account past_done (life_in s.begun w) l.life l.here (ap (λ n. finish_of (record (l.life) { end = n })) l.unended) effect a
   account-progress w v v' Next here ev = account-quiet s.lives (taken rs) s.moment account outcome.Next refl refl
+  account-progress w v v' (Waits why) here ev = account-quiet s.lives (taken rs) s.moment account (outcome.Waits why) refl refl
   account-progress w v v' (NeedsBuild ask) here ev = account-quiet s.lives (taken rs) s.moment account (outcome.Build ask.source) refl refl
 
   account-refused : (e : Refused) → IsAccount s.lives (taken (rs ++ Err e ∷ [])) s.moment
@@ -226,6 +230,10 @@ module _ {K V I O : Type 0} (cmp : K → K → Ordering) (f : Meanings K V I O) 
   account-acts new step r (enters p slot n v v' a b c d low g to is) = rw (is, to, taken-ok rs (outcome.Entered slot)) (account-quiet s.lives (taken rs) s.moment account (outcome.Entered slot) refl refl)
   account-acts new step r (refuses_leave p slot v e a b c same is) = kept-state new r _ same is
   account-acts new step r (leaves p slot v v' a b c ev to is) = rw (is, to, taken-ok rs outcome.Left) (account-quiet s.lives (taken rs) s.moment account outcome.Left refl refl)
+  account-acts new step r (refuses_refresh p slot v e a b c same is) = kept-state new r _ same is
+  account-acts new step r (refreshes p slot v v' a b c ev to is) = rw (is, to, taken-ok rs outcome.Refreshed) (account-quiet s.lives (taken rs) s.moment account outcome.Refreshed refl refl)
+  account-acts new step r (refuses_shift p page v e a b c same is) = kept-state new r _ same is
+  account-acts new step r (shifts p page v v' a b c ev to is) = rw (is, to, taken-ok rs outcome.Shifted) (account-quiet s.lives (taken rs) s.moment account outcome.Shifted refl refl)
   account-acts new step r (refuses_give_up w v e a b c same is) = kept-state new r _ same is
   account-acts new step r (gives_up w v v' a due c ev to is) =
       let here : slice_get s.partitions w.partition ≡ Some v = ap (λ q. slice_get s.partitions (partition_in q)) (sym a) ∙ due.here in

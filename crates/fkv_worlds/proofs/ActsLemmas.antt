@@ -8,21 +8,22 @@ use Rattle.fkv_operations.specs.declared.operations.Op.{Op}
 use Rattle.fkv_partition.specs.declared.contexts.Progress.{Progress}
 use Rattle.fkv_partition.specs.Views.{PartitionView}
 use Rattle.fkv_partition.specs.Beginning.{Enters, Issues}
-use Rattle.fkv_partition.specs.Effect.{IsEnter, IsLeave, IsIssue, IsEvent, IsGiveUp}
+use Rattle.fkv_partition.specs.Effect.{IsQuiet, IsIssue, IsEvent, IsGiveUp}
 use Rattle.fkv_partition.specs.Going.{Goes}
 use Rattle.fkv_partition.specs.Installing.{Installs}
 use Rattle.fkv_partition.specs.Ending.{Leaves, GivesUp}
+use Rattle.fkv_partition.specs.Looking.{Refreshes, Shifts}
 use Rattle.fkv_worlds.specs.declared.lives.End.TheVariants.{GivenUp}
 use Rattle.fkv_worlds.specs.Changes.{ended_at}
 use Rattle.fkv_worlds.specs.declared.outcomes.Outcome.TheVariants as outcome
 use Rattle.fkv_worlds.specs.declared.steps.Place.{Place}
 use Rattle.fkv_worlds.specs.declared.steps.Step.{Step}
-use Rattle.fkv_worlds.specs.declared.steps.Step.TheVariants.{Enter, Leave, Issue, Go, Install, GiveUp}
+use Rattle.fkv_worlds.specs.declared.steps.Step.TheVariants.{Enter, Leave, Refresh, ReadOnly, Issue, Go, Install, GiveUp}
 use Rattle.fkv_worlds.specs.declared.tables.Seat.{Seat}
 use Rattle.fkv_worlds.specs.States.{StateView, seat_row, context_row, question_in, life_in}
 use Rattle.fkv_worlds.specs.Moments.{IsUntimely, nowhere, worn}
 use Rattle.fkv_worlds.specs.Acts as acts
-use Rattle.fkv_worlds.specs.Acts.{Acts, partition_in, begun_life, after_issue, lives_by, questions_by, told, refuses_enter, enters, refuses_leave, leaves, refuses_give_up, gives_up, refuses_issue, issues, refuses_go, goes, refuses_install, installs}
+use Rattle.fkv_worlds.specs.Acts.{Acts, partition_in, begun_life, after_issue, lives_by, questions_by, told, refuses_enter, enters, refuses_leave, leaves, refuses_refresh, refreshes, refuses_shift, shifts, refuses_give_up, gives_up, refuses_issue, issues, refuses_go, goes, refuses_install, installs}
 
 module _ {K V I O : Type 0} (cmp : K → K → Ordering) (f : Meanings K V I O) (code : K → ℕ) (s : StateView K V I O) (next : ℕ) (then : next ≡ s.moment + 1) (fits : next < 2 ^ 64) where
   e : next ≡ suc s.moment
@@ -37,20 +38,38 @@ module _ {K V I O : Type 0} (cmp : K → K → Ordering) (f : Meanings K V I O) 
         refuses_enter p old r refl (record { here = here; question = λ w h. absurd (cc); moment = left })
         (subst (λ m. Enters old old m (Err r)) e (subst (λ v. Enters old v next (Err r)) same does)) refl refl
 
-    pub acts-enter : (slot n : ℕ) → Enters old new next (Ok slot) → IsEnter old new slot next → slot < 16 → slice_get s.enters p ≡ Some n
+    pub acts-enter : (slot n : ℕ) → Enters old new next (Ok slot) → IsQuiet old new next → slot < 16 → slice_get s.enters p ≡ Some n
         → Acts cmp f code s (record s { partitions = slice_set s.partitions p new; enters = slice_set s.enters p (n + 1); seats = slice_set s.seats (seat_row p slot) (record { session = n + 1; issues = 0 }); moment = next }) (Enter p) (Ok (outcome.Entered slot))
     acts-enter slot n does ev low count =
         let up : n + 1 ≡ suc n = omega arith in
-        rw (e, up) (enters p slot n old new refl (record { here = here; question = λ w h. absurd (cc); moment = left }) (subst (λ m. Enters old new m (Ok slot)) e does) (subst (λ m. IsEnter old new slot m) e ev) low count refl refl)
+        rw (e, up) (enters p slot n old new refl (record { here = here; question = λ w h. absurd (cc); moment = left }) (subst (λ m. Enters old new m (Ok slot)) e does) (subst (λ m. IsQuiet old new m) e ev) low count refl refl)
 
     pub acts-no_leave : (slot : ℕ) (r : Refused) → new ≡ old → Leaves old new slot next (Err r) → Acts cmp f code s s (Leave p slot) (Err r)
     acts-no_leave slot r same does =
         refuses_leave p slot old r refl (record { here = here; question = λ w h. absurd (cc); moment = left })
         (subst (λ m. Leaves old old slot m (Err r)) e (subst (λ v. Leaves old v slot next (Err r)) same does)) refl refl
 
-    pub acts-leave : (slot : ℕ) → Leaves old new slot next (Ok tt) → IsLeave old new next → Acts cmp f code s (record s { partitions = slice_set s.partitions p new; moment = next }) (Leave p slot) (Ok outcome.Left)
+    pub acts-leave : (slot : ℕ) → Leaves old new slot next (Ok tt) → IsQuiet old new next → Acts cmp f code s (record s { partitions = slice_set s.partitions p new; moment = next }) (Leave p slot) (Ok outcome.Left)
     acts-leave slot does ev =
-        rw e (leaves p slot old new refl (record { here = here; question = λ w h. absurd (cc); moment = left }) (subst (λ m. Leaves old new slot m (Ok tt)) e does) (subst (λ m. IsLeave old new m) e ev) refl refl)
+        rw e (leaves p slot old new refl (record { here = here; question = λ w h. absurd (cc); moment = left }) (subst (λ m. Leaves old new slot m (Ok tt)) e does) (subst (λ m. IsQuiet old new m) e ev) refl refl)
+
+    pub acts-no_refresh : (slot : ℕ) (r : Refused) → new ≡ old → Refreshes old new slot next (Err r) → Acts cmp f code s s (Refresh p slot) (Err r)
+    acts-no_refresh slot r same does =
+        refuses_refresh p slot old r refl (record { here = here; question = λ w h. absurd (cc); moment = left })
+        (subst (λ m. Refreshes old old slot m (Err r)) e (subst (λ v. Refreshes old v slot next (Err r)) same does)) refl refl
+
+    pub acts-refresh : (slot : ℕ) → Refreshes old new slot next (Ok tt) → IsQuiet old new next → Acts cmp f code s (record s { partitions = slice_set s.partitions p new; moment = next }) (Refresh p slot) (Ok outcome.Refreshed)
+    acts-refresh slot does ev =
+        rw e (refreshes p slot old new refl (record { here = here; question = λ w h. absurd (cc); moment = left }) (subst (λ m. Refreshes old new slot m (Ok tt)) e does) (subst (λ m. IsQuiet old new m) e ev) refl refl)
+
+    pub acts-no_shift : (page : ℕ) (r : Refused) → new ≡ old → Shifts old new page next (Err r) → Acts cmp f code s s (ReadOnly p page) (Err r)
+    acts-no_shift page r same does =
+        refuses_shift p page old r refl (record { here = here; question = λ w h. absurd (cc); moment = left })
+        (subst (λ m. Shifts old old page m (Err r)) e (subst (λ v. Shifts old v page next (Err r)) same does)) refl refl
+
+    pub acts-shift : (page : ℕ) → Shifts old new page next (Ok tt) → IsQuiet old new next → Acts cmp f code s (record s { partitions = slice_set s.partitions p new; moment = next }) (ReadOnly p page) (Ok outcome.Shifted)
+    acts-shift page does ev =
+        rw e (shifts p page old new refl (record { here = here; question = λ w h. absurd (cc); moment = left }) (subst (λ m. Shifts old new page m (Ok tt)) e does) (subst (λ m. IsQuiet old new m) e ev) refl refl)
 
     pub acts-no_issue : (slot : ℕ) (op : Op K V I) (r : Refused) → new ≡ old → Issues code old new slot op next (Err r) → Acts cmp f code s s (Issue p slot op) (Err r)
     acts-no_issue slot op r same does =

@@ -1,5 +1,5 @@
 -- A world before its first step.
-use Rattle.std.proofs.Common.{◌≡◌, Bool, true, false, cond, ◌&&◌, ℕ, zero, suc, ◌+◌, ◌*◌, ◌^◌, ◌<◌, ◌≤◌, List, [], ◌∷◌, ◌++◌, length, replicate, Option, Some, None, option_map, slice_get, unwrap_or, nat_lt, refl, sym, ◌∙◌, ap, arith}
+use Rattle.std.proofs.Common.{◌≡◌, Bool, true, false, cond, ◌&&◌, ℕ, zero, suc, ◌+◌, ◌*◌, ◌^◌, ◌<◌, ◌≤◌, List, [], ◌∷◌, ◌++◌, length, replicate, Option, Some, None, option_map, slice_get, nat_lt, refl, sym, ◌∙◌, ap, arith}
 use Rattle.std.specs.List.{range_with_len}
 use Rattle.std.proofs.lemmas.List.FromFn.{length-map-range_with_len, map-range_with_len_more}
 use Rattle.std.proofs.lemmas.List.{length-replicate}
@@ -10,7 +10,7 @@ use Rattle.std.specs.declared.cmp.Ordering.{Ordering}
 use Rattle.fkv_functions.specs.Meanings.{Meanings}
 use Rattle.fkv_partition.specs.declared.limits.Config.{Config}
 use Rattle.fkv_partition.specs.Limits.{IsWithinLimits}
-use Rattle.fkv_partition.specs.Contexts.{joined}
+use Rattle.fkv_partition.specs.Contexts.{joined, is_session}
 use Rattle.fkv_partition.specs.Views.{PartitionView, empty_partition, partition_of}
 use Rattle.fkv_partition.specs.Effect.{Asked, asked, asked_by}
 use Rattle.fkv_worlds.specs.declared.tables.Seat.{Seat}
@@ -28,10 +28,10 @@ replicate-at zero x y i h = absurd (cc)
 replicate-at (suc n) x y zero h = let same : x ≡ y = cc in sym same
 replicate-at (suc n) x y (suc i) h = replicate-at n x y i h
 
-replicate-false : (n i : ℕ) → unwrap_or (slice_get (replicate n false) i) false ≡ false
-replicate-false zero i = refl
-replicate-false (suc n) zero = refl
-replicate-false (suc n) (suc i) = replicate-false n i
+replicate-none : (n slot : ℕ) → is_session (replicate n None) slot ≡ false
+replicate-none zero slot = refl
+replicate-none (suc n) zero = refl
+replicate-none (suc n) (suc slot) = replicate-none n slot
 
 -- the only partitions are empty ones, each with the number of its place
 made-some : {A : Type 0} (f : ℕ → A) (o : Option ℕ) (v : A) → option_map f o ≡ Some v → (i : ℕ) × (o ≡ Some i) × (v ≡ f i)
@@ -62,7 +62,7 @@ module _ {K V I O : Type 0} (cmp : K → K → Ordering) (f : Meanings K V I O) 
 
   -- nothing is open in one
   unasked : (p slot c : ℕ) (x : Asked K V I) → asked (empty_partition {K = K} {V = V} {I = I} config size p) slot c ≡ Some x → ⊥
-  unasked p slot c x h = off (unwrap_or (slice_get (replicate 16 false) slot) false) (replicate-false 16 slot) h
+  unasked p slot c x h = off (is_session (replicate 16 None) slot) (replicate-none 16 slot) h
     where
       off : (b : Bool) → b ≡ false → option_map (asked_by {K = K} {V = V} {I = I}) (cond (b && nat_lt c 8) (joined (slice_get (replicate 128 None) (slot * 8 + c))) None) ≡ Some x → ⊥
       off true t k = absurd (cc)

@@ -11,22 +11,23 @@ use Rattle.fkv_operations.specs.declared.operations.Op.{Op}
 use Rattle.fkv_partition.specs.declared.contexts.Progress.{Progress}
 use Rattle.fkv_partition.specs.Views.{PartitionView}
 use Rattle.fkv_partition.specs.Beginning.{Enters, Issues}
-use Rattle.fkv_partition.specs.Effect.{Asked, asked, IsEnter, IsLeave, IsIssue, IsEvent, IsGiveUp}
+use Rattle.fkv_partition.specs.Effect.{Asked, asked, IsQuiet, IsIssue, IsEvent, IsGiveUp}
 use Rattle.fkv_partition.specs.Going.{Goes}
 use Rattle.fkv_partition.specs.Installing.{Installs}
 use Rattle.fkv_partition.specs.Ending.{Leaves, GivesUp}
+use Rattle.fkv_partition.specs.Looking.{Refreshes, Shifts}
 use Rattle.fkv_worlds.specs.declared.lives.End.TheVariants.{GivenUp}
 use Rattle.fkv_worlds.specs.declared.outcomes.Outcome.TheVariants as outcome
 use Rattle.fkv_worlds.specs.declared.steps.Place.{Place}
-use Rattle.fkv_worlds.specs.declared.steps.Step.TheVariants.{Enter, Leave, Issue, Go, Install, GiveUp}
+use Rattle.fkv_worlds.specs.declared.steps.Step.TheVariants.{Enter, Leave, Refresh, ReadOnly, Issue, Go, Install, GiveUp}
 use Rattle.fkv_worlds.specs.Changes.{ended_at}
 use Rattle.fkv_worlds.specs.States.{StateView, seat_row, seat_at, context_row, life_in, question_in}
 use Rattle.fkv_worlds.specs.Moments.{IsMomentIn}
 use Rattle.fkv_worlds.specs.Acts.{Acts, after_issue, begun_life, lives_by, questions_by, told, lifeless}
 use Rattle.fkv_worlds.specs.Sound.{IsState}
 use Rattle.fkv_worlds.proofs.ManyLemmas.{asked-was}
-use Rattle.fkv_worlds.proofs.StateLemmas.{at-index, some-at, set-unchanged, seat-is, state-enter, state-leave, state-issue, state-give_up, state-progress}
-use Rattle.fkv_worlds.proofs.ActsLemmas.{acts-no_enter, acts-enter, acts-no_leave, acts-leave, acts-no_issue, acts-issue, acts-no_give_up, acts-give_up, acts-no_go, acts-go, acts-no_install, acts-install}
+use Rattle.fkv_worlds.proofs.StateLemmas.{at-index, some-at, set-unchanged, seat-is, state-enter, state-quiet, state-issue, state-give_up, state-progress}
+use Rattle.fkv_worlds.proofs.ActsLemmas.{acts-no_enter, acts-enter, acts-no_leave, acts-leave, acts-no_refresh, acts-refresh, acts-no_shift, acts-shift, acts-no_issue, acts-issue, acts-no_give_up, acts-give_up, acts-no_go, acts-go, acts-no_install, acts-install}
 use Rattle.std.proofs.lemmas.Option.{slice_get_within}
 
 module _ {K V I O : Type 0} (cmp : K → K → Ordering) (f : Meanings K V I O) (code : K → ℕ) (s : StateView K V I O) (state : IsState cmp f code s) (p now : ℕ) (due : IsMomentIn s p now) where
@@ -92,11 +93,17 @@ module _ {K V I O : Type 0} (cmp : K → K → Ordering) (f : Meanings K V I O) 
       pub refused-leave : (slot : ℕ) (r : Refused) → new ≡ old → Leaves old new slot now (Err r) → Acts cmp f code s (record s { partitions = slice_set s.partitions p new }) (Leave p slot) (Err r)
       refused-leave slot r same does = rw (kept same) (acts-no_leave cmp f code s now due.next due.fits p old new here slot r same does)
 
+      pub refused-refresh : (slot : ℕ) (r : Refused) → new ≡ old → Refreshes old new slot now (Err r) → Acts cmp f code s (record s { partitions = slice_set s.partitions p new }) (Refresh p slot) (Err r)
+      refused-refresh slot r same does = rw (kept same) (acts-no_refresh cmp f code s now due.next due.fits p old new here slot r same does)
+
+      pub refused-shift : (page : ℕ) (r : Refused) → new ≡ old → Shifts old new page now (Err r) → Acts cmp f code s (record s { partitions = slice_set s.partitions p new }) (ReadOnly p page) (Err r)
+      refused-shift page r same does = rw (kept same) (acts-no_shift cmp f code s now due.next due.fits p old new here page r same does)
+
       pub refused-issue : (slot : ℕ) (op : Op K V I) (r : Refused) → new ≡ old → Issues code old new slot op now (Err r) → Acts cmp f code s (record s { partitions = slice_set s.partitions p new }) (Issue p slot op) (Err r)
       refused-issue slot op r same does = rw (kept same) (acts-no_issue cmp f code s now due.next due.fits p old new here slot op r same does)
 
       -- what is done is the step's rule
-      pub does-enter : (slot : ℕ) → Enters old new now (Ok slot) → IsEnter old new slot now → slot < 16
+      pub does-enter : (slot : ℕ) → Enters old new now (Ok slot) → IsQuiet old new now → slot < 16
           → Acts cmp f code s (record s {
             partitions = slice_set s.partitions p new;
             enters = slice_set s.enters p (unwrap_or (slice_get s.enters p) 0 + 1);
@@ -105,8 +112,14 @@ module _ {K V I O : Type 0} (cmp : K → K → Ordering) (f : Meanings K V I O) 
           }) (Enter p) (Ok (outcome.Entered slot))
       does-enter slot does ev low = let n = entered in rw n.1 (acts-enter cmp f code s now due.next due.fits p old new here slot n.0 does ev low n.1)
 
-      pub does-leave : (slot : ℕ) → Leaves old new slot now (Ok tt) → IsLeave old new now → Acts cmp f code s (record s { partitions = slice_set s.partitions p new; moment = now }) (Leave p slot) (Ok outcome.Left)
+      pub does-leave : (slot : ℕ) → Leaves old new slot now (Ok tt) → IsQuiet old new now → Acts cmp f code s (record s { partitions = slice_set s.partitions p new; moment = now }) (Leave p slot) (Ok outcome.Left)
       does-leave slot does ev = acts-leave cmp f code s now due.next due.fits p old new here slot does ev
+
+      pub does-refresh : (slot : ℕ) → Refreshes old new slot now (Ok tt) → IsQuiet old new now → Acts cmp f code s (record s { partitions = slice_set s.partitions p new; moment = now }) (Refresh p slot) (Ok outcome.Refreshed)
+      does-refresh slot does ev = acts-refresh cmp f code s now due.next due.fits p old new here slot does ev
+
+      pub does-shift : (page : ℕ) → Shifts old new page now (Ok tt) → IsQuiet old new now → Acts cmp f code s (record s { partitions = slice_set s.partitions p new; moment = now }) (ReadOnly p page) (Ok outcome.Shifted)
+      does-shift page does ev = acts-shift cmp f code s now due.next due.fits p old new here page does ev
 
       pub does-issue : (slot c : ℕ) (op : Op K V I) → Issues code old new slot op now (Ok c) → IsIssue code old new slot c op now → slot < 16
           → Acts cmp f code s (record s {
@@ -121,7 +134,7 @@ module _ {K V I O : Type 0} (cmp : K → K → Ordering) (f : Meanings K V I O) 
 
       -- and keeps what every state keeps
       module _ (o : IsKeyOrder cmp) where
-        pub entered-state : (slot : ℕ) → IsEnter old new slot now
+        pub entered-state : (slot : ℕ) → IsQuiet old new now
             → IsState cmp f code (record s {
               partitions = slice_set s.partitions p new;
               enters = slice_set s.enters p (unwrap_or (slice_get s.enters p) 0 + 1);
@@ -130,8 +143,8 @@ module _ {K V I O : Type 0} (cmp : K → K → Ordering) (f : Meanings K V I O) 
             })
         entered-state slot ev = let n = entered in rw n.1 (state-enter cmp o f code s state now due.next p slot n.0 old new here ev n.1)
 
-        pub left-state : IsLeave old new now → IsState cmp f code (record s { partitions = slice_set s.partitions p new; moment = now })
-        left-state ev = state-leave cmp o f code s state now due.next p old new here ev
+        pub quiet-state : IsQuiet old new now → IsState cmp f code (record s { partitions = slice_set s.partitions p new; moment = now })
+        quiet-state ev = state-quiet cmp o f code s state now due.next p old new here ev
 
         pub issued-state : (slot c : ℕ) (op : Op K V I) → IsIssue code old new slot c op now → slot < 16 → c < 8
             → IsState cmp f code (record s {

@@ -7,7 +7,7 @@ use Rattle.fkv_functions.specs.Meanings.{Meanings}
 use Rattle.fkv_functions.specs.declared.refusals.Refused.{Refused}
 use Rattle.fkv_operations.specs.declared.operations.Op.{Op}
 use Rattle.fkv_partition.specs.declared.contexts.Progress.{Progress}
-use Rattle.fkv_partition.specs.declared.contexts.Progress.TheVariants.{Done, Next, NeedsBuild}
+use Rattle.fkv_partition.specs.declared.contexts.Progress.TheVariants.{Done, Next, NeedsBuild, Waits}
 use Rattle.fkv_functions.proofs.ListLemmas.{get-set_other}
 use Rattle.fkv_worlds.specs.declared.lives.Life.{Life}
 use Rattle.fkv_worlds.specs.declared.lives.End.{End}
@@ -20,7 +20,7 @@ use Rattle.fkv_worlds.specs.Changes.{ended_at}
 use Rattle.fkv_partition.specs.declared.limits.Config.{Config}
 use Rattle.fkv_worlds.specs.States.{StateView, WorldView, seat_row, empty_state, empty_world}
 use Rattle.fkv_worlds.proofs.EmptyLemmas.{replicate-at}
-use Rattle.fkv_worlds.specs.Acts.{Acts, begun_life, lives_by, told, nowhere, unasked, unknown, worn, lifeless, refuses_enter, enters, refuses_leave, leaves, refuses_give_up, gives_up, refuses_issue, issues, refuses_go, goes, refuses_install, installs}
+use Rattle.fkv_worlds.specs.Acts.{Acts, begun_life, lives_by, told, nowhere, unasked, unknown, worn, lifeless, refuses_enter, enters, refuses_leave, leaves, refuses_refresh, refreshes, refuses_shift, shifts, refuses_give_up, gives_up, refuses_issue, issues, refuses_go, goes, refuses_install, installs}
 use Rattle.fkv_worlds.specs.Histories.{Event, backwards, entered_at, issued_at, moments, enters_in, session_in, issues_in, issue_of}
 use Rattle.fkv_worlds.specs.Reports.{RunsTo}
 
@@ -64,6 +64,7 @@ progress-issue_of : {K V I O : Type 0} (lives : List (Life K V I O)) (j now : �
 progress-issue_of lives j now (Done a effect) = ended-issue_of lives j _
 progress-issue_of lives j now Next = refl
 progress-issue_of lives j now (NeedsBuild ask) = refl
+progress-issue_of lives j now (Waits why) = refl
 
 -- the moment, the tables and the lives are those of the history
 pub record HasHistory {K V I O : Type 0} (s : StateView K V I O) (h : List (Event K V I O)) : Type 0 where
@@ -157,11 +158,13 @@ module _ {K V I O : Type 0} (cmp : K → K → Ordering) (f : Meanings K V I O) 
   nobody_goes (Done a effect) w = refl
   nobody_goes Next w = refl
   nobody_goes (NeedsBuild ask) w = refl
+  nobody_goes (Waits why) w = refl
 
   nobody_installs : (p : Progress K V I O) (w : _) → entered_at {K = K} {I = I} (Ok (told p)) (step.Install w) ≡ None
   nobody_installs (Done a effect) w = refl
   nobody_installs Next w = refl
   nobody_installs (NeedsBuild ask) w = refl
+  nobody_installs (Waits why) w = refl
 
   pub history-acts : (new : StateView K V I O) (t : Step K V I) (r : Result (Outcome V O) Refused) → Acts cmp f code s new t r → HasHistory new (record { step = t; told = r } ∷ h)
   history-acts new t r (nowhere a same is) = kept-state s h history new t r _ same is
@@ -175,6 +178,12 @@ module _ {K V I O : Type 0} (cmp : K → K → Ordering) (f : Meanings K V I O) 
   history-acts new t r (refuses_leave p slot v e a b c same is) = kept-state s h history new t r _ same is
   history-acts new t r (leaves p slot v v' a b c ev to is) =
       rw (a, is) (quiet s h history new (step.Leave p slot) outcome.Left refl refl (ap (λ (z : StateView K V I O). z.moment) to) (ap (λ (z : StateView K V I O). z.enters) to) (ap (λ (z : StateView K V I O). z.seats) to) (ap (λ (z : StateView K V I O). map issue_of z.lives) to))
+  history-acts new t r (refuses_refresh p slot v e a b c same is) = kept-state s h history new t r _ same is
+  history-acts new t r (refreshes p slot v v' a b c ev to is) =
+      rw (a, is) (quiet s h history new (step.Refresh p slot) outcome.Refreshed refl refl (ap (λ (z : StateView K V I O). z.moment) to) (ap (λ (z : StateView K V I O). z.enters) to) (ap (λ (z : StateView K V I O). z.seats) to) (ap (λ (z : StateView K V I O). map issue_of z.lives) to))
+  history-acts new t r (refuses_shift p page v e a b c same is) = kept-state s h history new t r _ same is
+  history-acts new t r (shifts p page v v' a b c ev to is) =
+      rw (a, is) (quiet s h history new (step.ReadOnly p page) outcome.Shifted refl refl (ap (λ (z : StateView K V I O). z.moment) to) (ap (λ (z : StateView K V I O). z.enters) to) (ap (λ (z : StateView K V I O). z.seats) to) (ap (λ (z : StateView K V I O). map issue_of z.lives) to))
   history-acts new t r (refuses_give_up w v e a b c same is) = kept-state s h history new t r _ same is
   history-acts new t r (gives_up w v v' a due c ev to is) =
       rw (a, is) (quiet s h history new (step.GiveUp w) outcome.GivenUp refl refl (ap (λ (z : StateView K V I O). z.moment) to) (ap (λ (z : StateView K V I O). z.enters) to) (ap (λ (z : StateView K V I O). z.seats) to) (ap (λ (z : StateView K V I O). map issue_of z.lives) to ∙ ended-issue_of s.lives _ _))

@@ -9,9 +9,9 @@ use Rattle.fkv_functions.specs.Plain.{IsKeyOrder}
 use Rattle.fkv_functions.specs.declared.asks.Ask.{Ask}
 use Rattle.fkv_operations.specs.declared.operations.Op.{Op}
 use Rattle.fkv_partition.specs.declared.contexts.Progress.{Progress}
-use Rattle.fkv_partition.specs.declared.contexts.Progress.TheVariants.{Done, Next, NeedsBuild}
+use Rattle.fkv_partition.specs.declared.contexts.Progress.TheVariants.{Done, Next, NeedsBuild, Waits}
 use Rattle.fkv_partition.specs.Views.{PartitionView}
-use Rattle.fkv_partition.specs.Effect.{IsEnter, IsLeave, IsIssue, IsEvent, IsGiveUp}
+use Rattle.fkv_partition.specs.Effect.{IsQuiet, IsIssue, IsEvent, IsGiveUp}
 use Rattle.fkv_functions.proofs.ListLemmas.{get-set_cases, get-set_other, get-set_within}
 use Rattle.fkv_worlds.specs.declared.lives.Life.{Life}
 use Rattle.fkv_worlds.specs.declared.lives.End.{End}
@@ -23,7 +23,7 @@ use Rattle.fkv_worlds.specs.States.{StateView, is_context, context_row, seat_row
 use Rattle.fkv_worlds.specs.Acts.{lives_by, questions_by, begun_life, after_issue}
 use Rattle.fkv_worlds.specs.Worlds.{IsWorld}
 use Rattle.fkv_worlds.specs.Sound.{HasTables, IsState}
-use Rattle.fkv_worlds.proofs.WorldLemmas.{world-enter, world-leave, world-issue, world-done, world-give_up, world-next}
+use Rattle.fkv_worlds.proofs.WorldLemmas.{world-silent, world-issue, world-done, world-give_up, world-next}
 
 -- ---- lists by their places
 pub at-index : {A : Type 0} (xs : List A) (i : ℕ) (x : A) → i < length xs → x ≡ slice_index_or xs i x → slice_get xs i ≡ Some x
@@ -91,10 +91,10 @@ module _ {K V I O : Type 0} (cmp : K → K → Ordering) (o : IsKeyOrder cmp) (f
   e : next ≡ suc s.moment
   e = omega arith
 
-  pub state-enter : (p slot n : ℕ) (old new : PartitionView K V I) → slice_get s.partitions p ≡ Some old → IsEnter old new slot next → slice_get s.enters p ≡ Some n
+  pub state-enter : (p slot n : ℕ) (old new : PartitionView K V I) → slice_get s.partitions p ≡ Some old → IsQuiet old new next → slice_get s.enters p ≡ Some n
       → IsState cmp f code (record s { partitions = slice_set s.partitions p new; enters = slice_set s.enters p (n + 1); seats = slice_set s.seats (seat_row p slot) (record { session = n + 1; issues = 0 }); moment = next })
   state-enter p slot n old new here ev at = record {
-    world = world-enter cmp o f code s.partitions (life_in s.begun) s.lives s.moment next e state.world p old new slot here ev;
+    world = world-silent cmp o f code s.partitions (life_in s.begun) s.lives s.moment next e state.world p old new here ev;
     tables = record {
       most = rw (length-set s.partitions p new) state.tables.most;
       begun = rw (length-set s.partitions p new) state.tables.begun;
@@ -124,9 +124,9 @@ module _ {K V I O : Type 0} (cmp : K → K → Ordering) (o : IsKeyOrder cmp) (f
     issued = λ i x h. (let k = state.tables.issued i x h in omega arith);
   }
 
-  pub state-leave : (p : ℕ) (old new : PartitionView K V I) → slice_get s.partitions p ≡ Some old → IsLeave old new next → IsState cmp f code (record s { partitions = slice_set s.partitions p new; moment = next })
-  state-leave p old new here ev = record {
-    world = world-leave cmp o f code s.partitions (life_in s.begun) s.lives s.moment next e state.world p old new here ev;
+  pub state-quiet : (p : ℕ) (old new : PartitionView K V I) → slice_get s.partitions p ≡ Some old → IsQuiet old new next → IsState cmp f code (record s { partitions = slice_set s.partitions p new; moment = next })
+  state-quiet p old new here ev = record {
+    world = world-silent cmp o f code s.partitions (life_in s.begun) s.lives s.moment next e state.world p old new here ev;
     tables = tables-moved p new s.lives;
   }
 
@@ -185,6 +185,7 @@ module _ {K V I O : Type 0} (cmp : K → K → Ordering) (o : IsKeyOrder cmp) (f
       kept : (z : Progress K V I O) → length (questions_by s.questions row z) ≡ length s.questions
       kept (Done a effect) = refl
       kept Next = refl
+      kept (Waits why) = refl
       kept (NeedsBuild ask) = length-set s.questions row (Some ask)
 
   module _ (w : Place) (old new : PartitionView K V I) (here : slice_get s.partitions w.partition ≡ Some old) where
@@ -193,6 +194,8 @@ module _ {K V I O : Type 0} (cmp : K → K → Ordering) (o : IsKeyOrder cmp) (f
     world-progress (Done a effect) ev =
         rw ev.effect.1 (world-done cmp o f code s.partitions (life_in s.begun) s.lives s.moment next e state.world w.partition old new w.slot w.context ev.question a here ev.was ev.effect.0 ev.frame ev.effect.2 ev.effect.3)
     world-progress Next ev =
+        world-next cmp o f code s.partitions (life_in s.begun) s.lives s.moment next e state.world w.partition old new w.slot w.context ev.question here ev.was ev.effect.0 ev.frame ev.effect.1
+    world-progress (Waits why) ev =
         world-next cmp o f code s.partitions (life_in s.begun) s.lives s.moment next e state.world w.partition old new w.slot w.context ev.question here ev.was ev.effect.0 ev.frame ev.effect.1
     world-progress (NeedsBuild ask) ev =
         world-next cmp o f code s.partitions (life_in s.begun) s.lives s.moment next e state.world w.partition old new w.slot w.context ev.question here ev.was ev.effect.0 ev.frame ev.effect.1

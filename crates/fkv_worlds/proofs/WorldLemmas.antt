@@ -12,7 +12,7 @@ use Rattle.fkv_operations.specs.declared.operations.Op.{Op}
 use Rattle.fkv_operations.specs.declared.operations.Answer.{Answer}
 use Rattle.fkv_partition.specs.Views.{PartitionView, live_of, partition_of}
 use Rattle.fkv_hybrid.specs.Text.{live}
-use Rattle.fkv_partition.specs.Effect.{Asked, asked, LeavesOthers, IsEnter, IsLeave, IsIssue, IsGiveUp}
+use Rattle.fkv_partition.specs.Effect.{Asked, asked, LeavesOthers, IsQuiet, IsIssue, IsGiveUp}
 use Rattle.fkv_functions.proofs.ListLemmas.{get-set_cases, get-append_last}
 use Rattle.fkv_worlds.specs.declared.lives.Life.{Life}
 use Rattle.fkv_worlds.specs.declared.lives.End.TheVariants.{Open, Finished, GivenUp}
@@ -76,13 +76,9 @@ module _ {K V I O : Type 0} (cmp : K → K → Ordering) (o : IsKeyOrder cmp) (f
       housed = housed-set (λ w x h. world.housed.routed w x (sym (questions w) ∙ h));
     }
 
-  -- a session is entered
-  pub world-enter : (p : ℕ) (old new : PartitionView K V I) (slot : ℕ) → slice_get views p ≡ Some old → IsEnter old new slot next → IsWorld cmp f code (slice_set views p new) life_at lives next
-  world-enter p old new slot here ev = world-quiet p old new here ev.number ev.count ev.moment (λ k. ap (λ t. live cmp t k) ev.text) (asked-all views p old new here ev.same)
-
-  -- a session is left
-  pub world-leave : (p : ℕ) (old new : PartitionView K V I) → slice_get views p ≡ Some old → IsLeave old new next → IsWorld cmp f code (slice_set views p new) life_at lives next
-  world-leave p old new here ev = world-quiet p old new here ev.number ev.count ev.moment (λ k. ap (λ t. live cmp t k) ev.text) (asked-all views p old new here ev.same)
+  -- a session comes, goes or looks, or the read-only offset moves
+  pub world-silent : (p : ℕ) (old new : PartitionView K V I) → slice_get views p ≡ Some old → IsQuiet old new next → IsWorld cmp f code (slice_set views p new) life_at lives next
+  world-silent p old new here ev = world-quiet p old new here ev.number ev.count ev.moment (λ k. ap (λ t. live cmp t k) ev.text) (asked-all views p old new here ev.same)
 
   -- an operation is issued: one more life, at the end
   module _ (p : ℕ) (old new : PartitionView K V I) (slot c : ℕ) (op : Op K V I) (here : slice_get views p ≡ Some old) (ev : IsIssue code old new slot c op next) (begun : Life K V I O) (is : begun.op ≡ op) (at : begun.issue ≡ next) (unended : begun.end ≡ Open)

@@ -7,13 +7,14 @@ use Rattle.fkv_functions.specs.declared.refusals.Refused.{Refused}
 use Rattle.fkv_functions.specs.declared.refusals.Refused.TheVariants.{NoMemory, Unknown, NotReady, Worn}
 use Rattle.fkv_operations.specs.declared.operations.Op.{Op}
 use Rattle.fkv_partition.specs.declared.contexts.Progress.{Progress}
-use Rattle.fkv_partition.specs.declared.contexts.Progress.TheVariants.{Done, Next, NeedsBuild}
+use Rattle.fkv_partition.specs.declared.contexts.Progress.TheVariants.{Done, Next, NeedsBuild, Waits}
 use Rattle.fkv_partition.specs.Views.{PartitionView}
-use Rattle.fkv_partition.specs.Effect.{asked, IsEnter, IsLeave, IsIssue, IsEvent, IsGiveUp}
+use Rattle.fkv_partition.specs.Effect.{asked, IsQuiet, IsIssue, IsEvent, IsGiveUp}
 use Rattle.fkv_partition.specs.Beginning.{Enters, Issues}
 use Rattle.fkv_partition.specs.Going.{Goes}
 use Rattle.fkv_partition.specs.Installing.{Installs}
 use Rattle.fkv_partition.specs.Ending.{Leaves, GivesUp}
+use Rattle.fkv_partition.specs.Looking.{Refreshes, Shifts}
 use Rattle.fkv_worlds.specs.declared.lives.Life.{Life}
 use Rattle.fkv_worlds.specs.declared.lives.End.TheVariants.{Open, Finished, GivenUp}
 use Rattle.fkv_worlds.specs.declared.outcomes.Outcome.{Outcome}
@@ -21,7 +22,7 @@ use Rattle.fkv_worlds.specs.declared.outcomes.Outcome.TheVariants as outcome
 use Rattle.fkv_worlds.specs.declared.tables.Seat.{Seat}
 use Rattle.fkv_worlds.specs.declared.steps.Place.{Place}
 use Rattle.fkv_worlds.specs.declared.steps.Step.{Step}
-use Rattle.fkv_worlds.specs.declared.steps.Step.TheVariants.{Enter, Leave, Issue, Go, Install, GiveUp}
+use Rattle.fkv_worlds.specs.declared.steps.Step.TheVariants.{Enter, Leave, Refresh, ReadOnly, Issue, Go, Install, GiveUp}
 use Rattle.fkv_worlds.specs.Changes.{ended_at}
 use Rattle.fkv_worlds.specs.States.{StateView, WorldView, seat_row, context_row, life_in, question_in}
 
@@ -29,6 +30,8 @@ use Rattle.fkv_worlds.specs.States.{StateView, WorldView, seat_row, context_row,
 abbrev pub partition_in : {K V I : Type 0} → Step K V I → ℕ
 partition_in (Enter p) = p
 partition_in (Leave p slot) = p
+partition_in (Refresh p slot) = p
+partition_in (ReadOnly p page) = p
 partition_in (Issue p slot op) = p
 partition_in (Go w) = w.partition
 partition_in (Install w) = w.partition
@@ -69,6 +72,7 @@ abbrev pub lives_by : {K V I O : Type 0} → List (Life K V I O) → ℕ → ℕ
 lives_by lives place now (Done a effect) =
     ended_at lives place (Finished (record { effect = effect; done = now; answer = a }))
 lives_by lives place now Next = lives
+lives_by lives place now (Waits why) = lives
 lives_by lives place now (NeedsBuild ask) = lives
 
 -- what the contexts asked for last, after a progress in one of them
@@ -76,6 +80,7 @@ abbrev pub questions_by : {K V I O : Type 0} → List (Option (Ask K V I)) → �
     → List (Option (Ask K V I))
 questions_by questions row (Done a effect) = questions
 questions_by questions row Next = questions
+questions_by questions row (Waits why) = questions
 questions_by questions row (NeedsBuild ask) = slice_set questions row (Some ask)
 
 -- an operation's progress: its life ends where it is done, and its context's question is kept
@@ -94,6 +99,7 @@ with_given_up s w v = record (with_partition s w.partition v) { lives = ended_at
 abbrev pub told : {K V I O : Type 0} → Progress K V I O → Outcome V O
 told (Done a effect) = outcome.Done a
 told Next = outcome.Next
+told (Waits why) = outcome.Waits why
 told (NeedsBuild ask) = outcome.Build ask.source
 
 -- the step is in this partition, an install has a question to answer, and a moment is left
@@ -153,7 +159,7 @@ pub data Acts {K V I O : Type 0} (cmp : K → K → Ordering) (f : Meanings K V 
       → step ≡ Enter p
       → IsDue old step v
       → Enters v v' (suc old.moment) (Ok slot)
-      → IsEnter v v' slot (suc old.moment)
+      → IsQuiet v v' (suc old.moment)
       → slot < 16
       → slice_get old.enters p ≡ Some n
       → new ≡ with_session old p slot n v'
@@ -170,9 +176,39 @@ pub data Acts {K V I O : Type 0} (cmp : K → K → Ordering) (f : Meanings K V 
       → step ≡ Leave p slot
       → IsDue old step v
       → Leaves v v' slot (suc old.moment) (Ok tt)
-      → IsLeave v v' (suc old.moment)
+      → IsQuiet v v' (suc old.moment)
       → new ≡ with_partition old p v'
       → result ≡ Ok outcome.Left
+      → Acts cmp f code old new step result
+  refuses_refresh : (p slot : ℕ) (v : PartitionView K V I) (e : Refused)
+      → step ≡ Refresh p slot
+      → IsDue old step v
+      → Refreshes v v slot (suc old.moment) (Err e)
+      → new ≡ old
+      → result ≡ Err e
+      → Acts cmp f code old new step result
+  refreshes : (p slot : ℕ) (v v' : PartitionView K V I)
+      → step ≡ Refresh p slot
+      → IsDue old step v
+      → Refreshes v v' slot (suc old.moment) (Ok tt)
+      → IsQuiet v v' (suc old.moment)
+      → new ≡ with_partition old p v'
+      → result ≡ Ok outcome.Refreshed
+      → Acts cmp f code old new step result
+  refuses_shift : (p page : ℕ) (v : PartitionView K V I) (e : Refused)
+      → step ≡ ReadOnly p page
+      → IsDue old step v
+      → Shifts v v page (suc old.moment) (Err e)
+      → new ≡ old
+      → result ≡ Err e
+      → Acts cmp f code old new step result
+  shifts : (p page : ℕ) (v v' : PartitionView K V I)
+      → step ≡ ReadOnly p page
+      → IsDue old step v
+      → Shifts v v' page (suc old.moment) (Ok tt)
+      → IsQuiet v v' (suc old.moment)
+      → new ≡ with_partition old p v'
+      → result ≡ Ok outcome.Shifted
       → Acts cmp f code old new step result
   refuses_issue : (p slot : ℕ) (op : Op K V I) (v : PartitionView K V I) (e : Refused)
       → step ≡ Issue p slot op

@@ -5,7 +5,7 @@ use Rattle.fkv_operations.specs.declared.operations.Answer.{Answer}
 use Rattle.fkv_operations.specs.declared.operations.Op.{Op}
 use Rattle.fkv_worlds.specs.declared.lives.Life.{Life}
 use Rattle.fkv_worlds.specs.declared.outcomes.Outcome.{Outcome}
-use Rattle.fkv_worlds.specs.declared.outcomes.Outcome.TheVariants.{Entered, Left, Issued, Next, Build, Done, GivenUp}
+use Rattle.fkv_worlds.specs.declared.outcomes.Outcome.TheVariants.{Entered, Left, Refreshed, Shifted, Issued, Next, Build, Waits, Done, GivenUp}
 use Rattle.fkv_worlds.specs.declared.steps.Step.{Step}
 use Rattle.fkv_worlds.specs.declared.steps.Step.TheVariants as step
 
@@ -86,9 +86,12 @@ issue_of x = record { partition = x.partition; session = x.session; op = x.op; i
 abbrev pub answer_by : {V O : Type 0} → Result (Outcome V O) Refused → List (Answer O) → List (Answer O)
 answer_by (Ok (Entered slot)) rest = rest
 answer_by (Ok Left) rest = rest
+answer_by (Ok Refreshed) rest = rest
+answer_by (Ok Shifted) rest = rest
 answer_by (Ok (Issued c)) rest = rest
 answer_by (Ok Next) rest = rest
 answer_by (Ok (Build source)) rest = rest
+answer_by (Ok (Waits why)) rest = rest
 answer_by (Ok (Done a)) rest = a ∷ rest
 answer_by (Ok GivenUp) rest = rest
 answer_by (Err e) rest = rest

@@ -11,7 +11,7 @@ use Rattle.fkv_functions.specs.declared.refusals.Refused.TheVariants.{Stalled, N
 use Rattle.fkv_partition.specs.declared.limits.Config.{Config}
 use Rattle.fkv_worlds.specs.declared.lives.Life.{Life}
 use Rattle.fkv_worlds.specs.declared.outcomes.Outcome.{Outcome}
-use Rattle.fkv_worlds.specs.declared.outcomes.Outcome.TheVariants.{Entered, Left, Issued, Next, Build, Done, GivenUp}
+use Rattle.fkv_worlds.specs.declared.outcomes.Outcome.TheVariants.{Entered, Left, Refreshed, Shifted, Issued, Next, Build, Waits, Done, GivenUp}
 use Rattle.fkv_worlds.specs.declared.steps.Place.{Place}
 use Rattle.fkv_worlds.specs.declared.steps.Step.{Step}
 use Rattle.fkv_worlds.specs.declared.steps.Step.TheVariants.{Go, Install}
@@ -67,10 +67,13 @@ pub record IsReplay {K V I O : Type 0} (cmp : K → K → Ordering) (f : Meaning
 abbrev pub step_after : {K V I O : Type 0} → Pursuit → Place → Outcome V O → Option (Step K V I)
 step_after pursuit place (Entered slot) = None
 step_after pursuit place Left = None
+step_after pursuit place Refreshed = None
+step_after pursuit place Shifted = None
 step_after pursuit place (Issued context) = None
 step_after pursuit place Next = Some (Go place)
 step_after Ready place (Build source) = None
 step_after Finish place (Build source) = Some (Install place)
+step_after pursuit place (Waits why) = None
 step_after pursuit place (Done a) = None
 step_after pursuit place GivenUp = None
 

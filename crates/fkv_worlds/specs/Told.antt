@@ -5,7 +5,7 @@ use Rattle.fkv_operations.specs.declared.operations.Answer.{Answer}
 use Rattle.fkv_worlds.specs.declared.lives.Life.{Life}
 use Rattle.fkv_worlds.specs.declared.lives.Finish.{Finish}
 use Rattle.fkv_worlds.specs.declared.outcomes.Outcome.{Outcome}
-use Rattle.fkv_worlds.specs.declared.outcomes.Outcome.TheVariants.{Entered, Left, Issued, Next, Build, Done, GivenUp}
+use Rattle.fkv_worlds.specs.declared.outcomes.Outcome.TheVariants.{Entered, Left, Refreshed, Shifted, Issued, Next, Build, Waits, Done, GivenUp}
 use Rattle.fkv_worlds.specs.Lives.{finish_of}
 
 -- the outcomes of the steps that were not refused, in order: that of step s stands at s - 1
@@ -18,9 +18,12 @@ taken (Err e ∷ rest) = taken rest
 abbrev pub answer_in : {V O : Type 0} → Outcome V O → Option (Answer O)
 answer_in (Entered slot) = None
 answer_in Left = None
+answer_in Refreshed = None
+answer_in Shifted = None
 answer_in (Issued context) = None
 answer_in Next = None
 answer_in (Build source) = None
+answer_in (Waits why) = None
 answer_in (Done a) = Some a
 answer_in GivenUp = None
 
@@ -38,9 +41,12 @@ abbrev pub issues_from : {V O : Type 0} → ℕ → List (Outcome V O) → List 
 issues_from s [] = []
 issues_from s (Entered slot ∷ rest) = issues_from (suc s) rest
 issues_from s (Left ∷ rest) = issues_from (suc s) rest
+issues_from s (Refreshed ∷ rest) = issues_from (suc s) rest
+issues_from s (Shifted ∷ rest) = issues_from (suc s) rest
 issues_from s (Issued context ∷ rest) = s ∷ issues_from (suc s) rest
 issues_from s (Next ∷ rest) = issues_from (suc s) rest
 issues_from s (Build source ∷ rest) = issues_from (suc s) rest
+issues_from s (Waits why ∷ rest) = issues_from (suc s) rest
 issues_from s (Done a ∷ rest) = issues_from (suc s) rest
 issues_from s (GivenUp ∷ rest) = issues_from (suc s) rest
 

@@ -3,6 +3,7 @@ ghost use Rattle.std.specs.Prelude.{◌≡◌, ⊤};
 
 use fkv_functions::Functions;
 use fkv_operations::Answer;
+use fkv_partition::Wait;
 use std::alloc::AllocError;
 
 /// What a step that was not refused answers.
@@ -12,12 +13,18 @@ pub enum Outcome<V, O> {
     Entered(usize),
     /// The session is left.
     Left,
+    /// The session is refreshed.
+    Refreshed,
+    /// The read-only offset has moved.
+    Shifted,
     /// The operation has this context.
     Issued(usize),
     /// The operation is to go on.
     Next,
     /// The operation asks for a value to be built from this one, if there is one.
     Build(Option<V>),
+    /// The operation can't go on yet, for this reason.
+    Waits(Wait),
     /// The operation is finished with this answer.
     Done(Answer<O>),
     /// The operation is given up.

@@ -6,6 +6,7 @@ ghost use Rattle.fkv_worlds.specs.OutcomeTexts.{outcome_text};
 
 use crate::outcomes::Outcome;
 use fkv_operations::Answer;
+use fkv_partition::Wait;
 use std::fmt::{self, Display};
 
 /// A value whose printed text is known.
@@ -70,8 +71,8 @@ fn write_done<V: Printed, O: Printed, W: fmt::Write>(
     }
 }
 
-/// An outcome prints as a script's line does: `entered S`, `left`, `issued C`, `next`, `build none`,
-/// `build V`, `done value V`, `done absent`, `done stored`, `done deleted` or `given up`.
+/// An outcome prints as a script's line does: `entered S`, `left`, `refreshed`, `shifted`, `issued C`, `next`, `build none`,
+/// `build V`, `wait fuzzy`, `done value V`, `done absent`, `done stored`, `done deleted` or `given up`.
 impl<V: Printed, O: Printed> Display for Outcome<V, O> {
     ghost output = { λ o. Some (outcome_text V.text O.text o) };
 
@@ -79,9 +80,12 @@ impl<V: Printed, O: Printed> Display for Outcome<V, O> {
         match self {
             Outcome::Entered(slot) => write!(f, "entered {slot}"),
             Outcome::Left => write!(f, "left"),
+            Outcome::Refreshed => write!(f, "refreshed"),
+            Outcome::Shifted => write!(f, "shifted"),
             Outcome::Issued(context) => write!(f, "issued {context}"),
             Outcome::Next => write!(f, "next"),
             Outcome::Build(source) => write_build::<V, O, W>(source, f),
+            Outcome::Waits(Wait::Fuzzy) => write!(f, "wait fuzzy"),
             Outcome::Done(answer) => write_done::<V, O, W>(answer, f),
             Outcome::GivenUp => write!(f, "given up"),
         }

@@ -16,9 +16,9 @@ pub const LIMIT: u64 = 10_000;
 /// How far an operation is pursued.
 #[derive(Clone, Copy)]
 pub enum Pursuit {
-    /// Until it is not to go on: it is done, or asks for a value.
+    /// Until it is not to go on: it is done, or waits, or asks for a value.
     Ready,
-    /// Until it is done.
+    /// Until it is done, or waits.
     Finish,
 }
 
@@ -53,7 +53,7 @@ impl<F: Functions> World<F> {
             .unwrap_or(Err(Refused::NoMemory))
     }
 
-    /// Goes on with an operation, and installs what it asks for, until it is done or refused, and answers
+    /// Goes on with an operation, and installs what it asks for, until it is done, waits, or is refused, and answers
     /// that. `Stalled` and `NoMemory` as in [`World::ready`].
     pub fn finish(&mut self, functions: &F, place: Place) -> Result<OutcomeOf<F>, Refused>
         ensures pursues { IsPursued F.Key.cmp F.meaning F.code Finish place self.old self.new result }

@@ -7,7 +7,7 @@ ghost use Rattle.fkv_worlds.specs.States.{empty_partitions, empty_state, questio
 ghost use Rattle.fkv_worlds.specs.Sound.{IsState};
 ghost use Rattle.fkv_worlds.specs.Acts.{Acts, partition_in};
 ghost use Rattle.fkv_worlds.specs.Moments.{IsMomentIn, IsUntimely};
-ghost use Rattle.fkv_worlds.specs.declared.steps.Step.TheVariants.{Enter, Leave, Issue, Go, Install, GiveUp};
+ghost use Rattle.fkv_worlds.specs.declared.steps.Step.TheVariants.{Enter, Leave, Refresh, ReadOnly, Issue, Go, Install, GiveUp};
 
 use crate::lives::{End, LifeOf};
 use crate::outcomes::{Outcome, OutcomeOf};
@@ -180,6 +180,32 @@ impl<F: Functions> State<F> {
         }
     }
 
+    fn refresh_at(&mut self, partition: usize, slot: usize, now: u64) -> Result<OutcomeOf<F>, Refused>
+        requires due { IsMomentIn self.old partition now }
+        ensures does { Acts F.Key.cmp F.meaning F.code self.old self.new (Refresh partition slot) result }
+    {
+        match self.partitions[partition].refresh(slot, now) {
+            Ok(()) => {
+                self.moment = now;
+                Ok(Outcome::Refreshed)
+            }
+            Err(refused) => Err(refused),
+        }
+    }
+
+    fn shift_at(&mut self, partition: usize, page: u64, now: u64) -> Result<OutcomeOf<F>, Refused>
+        requires due { IsMomentIn self.old partition now }
+        ensures does { Acts F.Key.cmp F.meaning F.code self.old self.new (ReadOnly partition page) result }
+    {
+        match self.partitions[partition].shift_read_only(page, now) {
+            Ok(()) => {
+                self.moment = now;
+                Ok(Outcome::Shifted)
+            }
+            Err(refused) => Err(refused),
+        }
+    }
+
     fn issue_at(
         &mut self,
         functions: &F,
@@ -336,6 +362,8 @@ impl<F: Functions> State<F> {
         match step {
             Step::Enter(partition) => self.enter_at(partition, now),
             Step::Leave(partition, slot) => self.leave_at(partition, slot, now),
+            Step::Refresh(partition, slot) => self.refresh_at(partition, slot, now),
+            Step::ReadOnly(partition, page) => self.shift_at(partition, page, now),
             Step::Issue(partition, slot, op) => self.issue_at(functions, partition, slot, op, now),
             Step::Go(place) => self.go_at(functions, place, now),
             Step::Install(place) => self.install(functions, place),

@@ -20,6 +20,10 @@ pub enum Step<K, V, I> {
     Enter(usize),
     /// Leaves the session of this slot, after its partition.
     Leave(usize, usize),
+    /// Refreshes the session of this slot, after its partition.
+    Refresh(usize, usize),
+    /// Moves the read-only offset of this partition to the start of this page.
+    ReadOnly(usize, u64),
     /// Issues an operation in the session of this slot, after its partition.
     Issue(usize, usize, Op<K, V, I>),
     /// Goes on with the operation that is open there.
@@ -50,6 +54,8 @@ impl<K: Copy, V: Copy, I: Copy> Step<K, V, I> {
         match self {
             Step::Enter(partition) => *partition,
             Step::Leave(partition, _) => *partition,
+            Step::Refresh(partition, _) => *partition,
+            Step::ReadOnly(partition, _) => *partition,
             Step::Issue(partition, _, _) => *partition,
             Step::Go(place) => place.partition,
             Step::Install(place) => place.partition,

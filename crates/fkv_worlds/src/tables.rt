@@ -297,6 +297,7 @@ pub fn note_progress<K: Copy, V: Copy, I: Copy, O: Copy>(
             Outcome::Done(answer)
         }
         Progress::Next => Outcome::Next,
+        Progress::Waits(why) => Outcome::Waits(why),
         Progress::NeedsBuild(ask) => {
             questions[row_of(place)] = Some(ask);
             Outcome::Build(ask.source)

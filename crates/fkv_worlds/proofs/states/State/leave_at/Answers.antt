@@ -1,5 +1,5 @@
 use Rattle.fkv_functions.proofs.KeyOrder.{key_order}
-use Rattle.fkv_worlds.proofs.EventLemmas.{event-later, refused-state, refused-leave, does-leave, left-state}
+use Rattle.fkv_worlds.proofs.EventLemmas.{event-later, refused-state, refused-leave, does-leave, quiet-state}
 use Rattle.fkv_worlds.proofs.states.State.leave_at.Goals as goal
 
 pub leave-requires-clause-later : goal.leave-requires-clause-later
@@ -23,7 +23,7 @@ invariant_of-self g c =
     let known = g.met.F.Key.Known g.world.𝓛 g.world.𝓜 g.world.𝓡 ((λ s x. x), (λ x. x), (λ x. x), λ x. x) in
     let order = key_order g.F.Key.PartialEq.eq g.F.Key.Ord.cmp ord.matches_eq known.exact ord.total in
     let due = rw (← c.self.view_is) at c.requires.due in
-    left-state g.F.Key.Ord.cmp g.F.Functions.meaning g.F.Functions.code _ c.self.invariant c.args.partition c.args.now due c.index_mut.result.now c.index_mut.ensures.value c.leave.new.self order c.in-Ok.ensures.event
+    quiet-state g.F.Key.Ord.cmp g.F.Functions.meaning g.F.Functions.code _ c.self.invariant c.args.partition c.args.now due c.index_mut.result.now c.index_mut.ensures.value c.leave.new.self order c.in-Ok.ensures.event
 
 pub returns-in-Ok : goal.returns-in-Ok
 returns-in-Ok g c =
