@@ -9,13 +9,13 @@ use Rattle.fkv_operations.specs.declared.operations.Op.{Op}
 use Rattle.fkv_operations.specs.declared.operations.Op.TheVariants.{Read, Upsert, Rmw, Delete}
 use Rattle.fkv_scripts.specs.Words.{number_of, amount_of}
 use Rattle.fkv_scripts.specs.Grammar.{Token, word, number, key, amount, Spells, SpellAll, Spelled, HasText, ReadsWithZero, place, verb, operands, tokens, opening, functions_name}
-use Rattle.fkv_scripts.specs.Reading.{◌>>=◌, first_as, end_of, key_of, key_alone, key_and_amount, place_of, enter_of, leave_of, operation_of, issue_of, do_of, line_of, functions_of, store_of, opening_of}
+use Rattle.fkv_scripts.specs.Reading.{◌>>=◌, first_as, end_of, key_of, key_alone, key_and_amount, place_of, enter_of, pair_of, operation_of, issue_of, do_of, line_of, functions_of, store_of, opening_of}
 use Rattle.fkv_scripts.specs.declared.lines.FunctionsName.{FunctionsName}
 use Rattle.fkv_scripts.specs.declared.lines.FunctionsName.TheVariants.{Count, Sum, Max}
 use Rattle.fkv_scripts.specs.declared.lines.Opening.{Opening}
 use Rattle.fkv_worlds.specs.declared.steps.Place.{Place}
 use Rattle.fkv_scripts.specs.declared.lines.Line.{Line}
-use Rattle.fkv_scripts.specs.declared.lines.Line.TheVariants.{Enter, Leave, Issue, Do, Go, Install, GiveUp, Ready, Finish}
+use Rattle.fkv_scripts.specs.declared.lines.Line.TheVariants.{Enter, Leave, Refresh, ReadOnly, Issue, Do, Go, Install, GiveUp, Ready, Finish}
 use Rattle.fkv_scripts.proofs.KeyLemmas.{key_only, key_found}
 
 -- a word that stands for the first token is read as its value
@@ -43,12 +43,12 @@ enter_only : (p : ℕ) (ws : List (List ℕ)) → SpellAll ws (number p ∷ []) 
 unfolding enter_of
 enter_only p ws s = let a = takes_number p [] ws s in rw a.1 (ends a.0 (Enter p) a.2)
 
-leave_only : (p s : ℕ) (ws : List (List ℕ)) → SpellAll ws (number p ∷ number s ∷ []) → leave_of ws ≡ Some (Leave p s)
-unfolding leave_of
-leave_only p s ws h =
-    let a = takes_number p (number s ∷ []) ws h in
-    let b = takes_number s [] a.0 a.2 in
-    rw (a.1, b.1) (ends b.0 (Leave p s) b.2)
+pair_only : (m n : ℕ) (ws : List (List ℕ)) → SpellAll ws (number m ∷ number n ∷ []) → pair_of ws ≡ Some (m, n)
+unfolding pair_of
+pair_only m n ws h =
+    let a = takes_number m (number n ∷ []) ws h in
+    let b = takes_number n [] a.0 a.2 in
+    rw (a.1, b.1) (ends b.0 (m, n) b.2)
 
 key_alone_only : (k : Name) (ws : List (List ℕ)) → SpellAll ws (key k ∷ []) → key_alone ws ≡ Some k
 unfolding key_alone
@@ -90,7 +90,9 @@ do_only p s o ws z h =
 pub only : (l : Line) (ws : List (List ℕ)) → Spelled ws l → line_of ws ≡ Some l
 unfolding line_of
 only (Enter p) (v ∷ ws) h = rw h.0.0 (enter_only p ws h.0.1)
-only (Leave p s) (v ∷ ws) h = rw h.0.0 (leave_only p s ws h.0.1)
+only (Leave p s) (v ∷ ws) h = rw (h.0.0, pair_only p s ws h.0.1) refl
+only (Refresh p s) (v ∷ ws) h = rw (h.0.0, pair_only p s ws h.0.1) refl
+only (ReadOnly p n) (v ∷ ws) h = rw (h.0.0, pair_only p n ws h.0.1) refl
 only (Do p s o) (v ∷ ws) h = rw h.0.0 (do_only p s o ws h.1 h.0.1)
 only (Go p) (v ∷ ws) h = rw (h.0.0, place_only p ws h.0.1) refl
 only (Install p) (v ∷ ws) h = rw (h.0.0, place_only p ws h.0.1) refl
@@ -106,6 +108,8 @@ only (Issue p s o) (v ∷ ws) h = issued o h.1 h.0.0 h.0.1
     issued (Delete k) z e f = rw e (issue_only p s (Delete k) (codes "delete") ws z refl f)
 only (Enter p) [] h = absurd h.0
 only (Leave p s) [] h = absurd h.0
+only (Refresh p s) [] h = absurd h.0
+only (ReadOnly p n) [] h = absurd h.0
 only (Do p s o) [] h = absurd h.0
 only (Go p) [] h = absurd h.0
 only (Install p) [] h = absurd h.0
@@ -167,13 +171,22 @@ enter_found ws l e v t =
     let b = ended a.0.1 (Enter a.0.0) l a.2 in
     rw (← b.1) ((t, taken_number ws a.0 a.1 [] b.0), tt)
 
-leave_found : (ws : List (List ℕ)) (l : Line) → leave_of ws ≡ Some l → (v : List ℕ) → v ≡ codes "leave" → Spelled (v ∷ ws) l
-unfolding leave_of
-leave_found ws l e v t =
-    let a = bind_ok _ _ l e in
-    let b = bind_ok _ _ l a.2 in
-    let c = ended b.0.1 (Leave a.0.0 b.0.0) l b.2 in
-    rw (← c.1) ((t, taken_number ws a.0 a.1 _ (taken_number a.0.1 b.0 b.1 [] c.0)), tt)
+pair_found : (ws : List (List ℕ)) (p : ℕ × ℕ) → pair_of ws ≡ Some p → SpellAll ws (number p.0 ∷ number p.1 ∷ [])
+unfolding pair_of
+pair_found ws p e =
+    let a = bind_ok _ _ p e in
+    let b = bind_ok _ _ p a.2 in
+    let c = ended b.0.1 (a.0.0, b.0.0) p b.2 in
+    rw (← c.1) (taken_number ws a.0 a.1 _ (taken_number a.0.1 b.0 b.1 [] c.0))
+
+-- a line of a verb and two numbers
+paired_found : (make : ℕ × ℕ → Line) (text : List ℕ) → ((p : ℕ × ℕ) → tokens (make p) ≡ word text ∷ number p.0 ∷ number p.1 ∷ []) → ((p : ℕ × ℕ) → HasText (make p)) → (ws : List (List ℕ)) (l : Line) → option_map make (pair_of ws) ≡ Some l
+    → (v : List ℕ) → v ≡ text → Spelled (v ∷ ws) l
+paired_found make text h k ws l e v t = by (pair_of ws) refl e
+  where
+    by : (o : Option (ℕ × ℕ)) → pair_of ws ≡ o → option_map make o ≡ Some l → Spelled (v ∷ ws) l
+    by None f g = absurd (let bad : None ≡ Some l = g in cc)
+    by (Some p) f g = rw (← same_Some (make p) l g, h p) ((t, pair_found ws p f), k p)
 
 place_found : (ws : List (List ℕ)) (p : Place) → place_of ws ≡ Some p → SpellAll ws (place p)
 unfolding place_of
@@ -269,14 +282,16 @@ unfolding line_of
 found [] l e = absurd (let bad : None ≡ Some l = e in cc)
 found (v ∷ ws) l e =
     chosen (bytes_eq v (codes "enter")) _ _ (Some l) e (λ t f. enter_found ws l f v (same_text v (codes "enter") t))
-    (λ f. chosen (bytes_eq v (codes "leave")) _ _ (Some l) f (λ t g. leave_found ws l g v (same_text v (codes "leave") t))
+    (λ f. chosen (bytes_eq v (codes "leave")) _ _ (Some l) f (λ t g. paired_found (λ p. Leave p.0 p.1) (codes "leave") (λ p. refl) (λ p. tt) ws l g v (same_text v (codes "leave") t))
+    (λ f. chosen (bytes_eq v (codes "refresh")) _ _ (Some l) f (λ t g. paired_found (λ p. Refresh p.0 p.1) (codes "refresh") (λ p. refl) (λ p. tt) ws l g v (same_text v (codes "refresh") t))
+    (λ f. chosen (bytes_eq v (codes "readonly")) _ _ (Some l) f (λ t g. paired_found (λ p. ReadOnly p.0 p.1) (codes "readonly") (λ p. refl) (λ p. tt) ws l g v (same_text v (codes "readonly") t))
     (λ f. chosen (bytes_eq v (codes "do")) _ _ (Some l) f (λ t g. do_found ws l g v (same_text v (codes "do") t))
     (λ f. chosen (bytes_eq v (codes "go")) _ _ (Some l) f (λ t g. placed_found Go (codes "go") (λ p. refl) (λ p. tt) ws l g v (same_text v (codes "go") t))
     (λ f. chosen (bytes_eq v (codes "install")) _ _ (Some l) f (λ t g. placed_found Install (codes "install") (λ p. refl) (λ p. tt) ws l g v (same_text v (codes "install") t))
     (λ f. chosen (bytes_eq v (codes "giveup")) _ _ (Some l) f (λ t g. placed_found GiveUp (codes "giveup") (λ p. refl) (λ p. tt) ws l g v (same_text v (codes "giveup") t))
     (λ f. chosen (bytes_eq v (codes "ready")) _ _ (Some l) f (λ t g. placed_found Ready (codes "ready") (λ p. refl) (λ p. tt) ws l g v (same_text v (codes "ready") t))
     (λ f. chosen (bytes_eq v (codes "finish")) _ _ (Some l) f (λ t g. placed_found Finish (codes "finish") (λ p. refl) (λ p. tt) ws l g v (same_text v (codes "finish") t))
-    (λ f. issue_found v ws l f))))))))
+    (λ f. issue_found v ws l f))))))))))
 
 functions_found : (w : List ℕ) (f : FunctionsName) → functions_of w ≡ Some f → Spells w (functions_name f)
 unfolding functions_of

@@ -10,7 +10,7 @@ use Rattle.fkv_scripts.specs.declared.lines.FunctionsName.TheVariants.{Count, Su
 use Rattle.fkv_scripts.specs.declared.lines.Opening.{Opening}
 use Rattle.fkv_worlds.specs.declared.steps.Place.{Place}
 use Rattle.fkv_scripts.specs.declared.lines.Line.{Line}
-use Rattle.fkv_scripts.specs.declared.lines.Line.TheVariants.{Enter, Leave, Issue, Do, Go, Install, GiveUp, Ready, Finish}
+use Rattle.fkv_scripts.specs.declared.lines.Line.TheVariants.{Enter, Leave, Refresh, ReadOnly, Issue, Do, Go, Install, GiveUp, Ready, Finish}
 
 -- what a word of a line stands for
 pub data Token : Type 0 where
@@ -53,6 +53,8 @@ operands (Delete k) = key k ∷ []
 abbrev pub tokens : Line → List Token
 tokens (Enter p) = word (codes "enter") ∷ number p ∷ []
 tokens (Leave p s) = word (codes "leave") ∷ number p ∷ number s ∷ []
+tokens (Refresh p s) = word (codes "refresh") ∷ number p ∷ number s ∷ []
+tokens (ReadOnly p n) = word (codes "readonly") ∷ number p ∷ number n ∷ []
 tokens (Issue p s o) = verb o ∷ number p ∷ number s ∷ operands o
 tokens (Do p s o) = word (codes "do") ∷ number p ∷ number s ∷ verb o ∷ operands o
 tokens (Go p) = word (codes "go") ∷ place p

@@ -14,7 +14,7 @@ use Rattle.fkv_scripts.specs.declared.lines.FunctionsName.TheVariants.{Count, Su
 use Rattle.fkv_scripts.specs.declared.lines.Opening.{Opening}
 use Rattle.fkv_worlds.specs.declared.steps.Place.{Place}
 use Rattle.fkv_scripts.specs.declared.lines.Line.{Line}
-use Rattle.fkv_scripts.specs.declared.lines.Line.TheVariants.{Enter, Leave, Issue, Do, Go, Install, GiveUp, Ready, Finish}
+use Rattle.fkv_scripts.specs.declared.lines.Line.TheVariants.{Enter, Leave, Refresh, ReadOnly, Issue, Do, Go, Install, GiveUp, Ready, Finish}
 
 -- the name of 1 to 31 bytes
 abbrev pub name_with : (bytes : List ℕ) → (1 ≤ length bytes) × (length bytes ≤ 31) → Name
@@ -79,11 +79,12 @@ enter_of ws = do
   p ← first_as number_of ws
   end_of p.1 (Enter p.0)
 
-unfoldable pub leave_of : List (List ℕ) → Option Line
-leave_of ws = do
-  p ← first_as number_of ws
-  s ← first_as number_of p.1
-  end_of s.1 (Leave p.0 s.0)
+-- two numbers, and nothing after them
+unfoldable pub pair_of : List (List ℕ) → Option (ℕ × ℕ)
+pair_of ws = do
+  m ← first_as number_of ws
+  n ← first_as number_of m.1
+  end_of n.1 (m.0, n.0)
 
 -- a key, and nothing after it
 unfoldable pub key_alone : List (List ℕ) → Option Name
@@ -125,14 +126,16 @@ unfoldable pub line_of : List (List ℕ) → Option Line
 line_of [] = None
 line_of (v ∷ ws) =
     if bytes_eq v (codes "enter") then enter_of ws
-    else (if bytes_eq v (codes "leave") then leave_of ws
+    else (if bytes_eq v (codes "leave") then option_map (λ p. Leave p.0 p.1) (pair_of ws)
+    else (if bytes_eq v (codes "refresh") then option_map (λ p. Refresh p.0 p.1) (pair_of ws)
+    else (if bytes_eq v (codes "readonly") then option_map (λ p. ReadOnly p.0 p.1) (pair_of ws)
     else (if bytes_eq v (codes "do") then do_of ws
     else (if bytes_eq v (codes "go") then option_map Go (place_of ws)
     else (if bytes_eq v (codes "install") then option_map Install (place_of ws)
     else (if bytes_eq v (codes "giveup") then option_map GiveUp (place_of ws)
     else (if bytes_eq v (codes "ready") then option_map Ready (place_of ws)
     else (if bytes_eq v (codes "finish") then option_map Finish (place_of ws)
-    else issue_of v ws)))))))
+    else issue_of v ws)))))))))
 
 unfoldable pub functions_of : List ℕ → Option FunctionsName
 functions_of word =

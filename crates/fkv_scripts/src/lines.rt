@@ -43,6 +43,16 @@ pub enum Line {
         partition: u64,
         session: u64,
     },
+    /// A session is refreshed.
+    Refresh {
+        partition: u64,
+        session: u64,
+    },
+    /// The read-only offset moves to the start of a page.
+    ReadOnly {
+        partition: u64,
+        page: u64,
+    },
     /// A session issues an operation. The input of a read is 0.
     Issue {
         partition: u64,

@@ -6,7 +6,7 @@ ghost use Rattle.fkv_scripts.specs.declared.lines.Opening.{Opening};
 ghost use Rattle.fkv_scripts.specs.Words.{words_of};
 ghost use Rattle.fkv_scripts.specs.Grammar.{Opens};
 ghost use Rattle.fkv_scripts.specs.Script.{SaysTo};
-ghost use Rattle.fkv_scripts.specs.Reading.{Gives, first_as, line_of, enter_of, leave_of, issue_of, do_of, place_of, key_alone, key_and_amount, operation_of, functions_of, store_of, opening_of};
+ghost use Rattle.fkv_scripts.specs.Reading.{Gives, first_as, line_of, enter_of, pair_of, issue_of, do_of, place_of, key_alone, key_and_amount, operation_of, functions_of, store_of, opening_of};
 
 use crate::lines::{FunctionsName, Line, Opening};
 use crate::words::Words;
@@ -46,7 +46,16 @@ fn line(bytes: &[u8]) -> Option<Line>
         return enter(&mut words);
     }
     if is(verb, "leave") {
-        return leave(&mut words);
+        let (partition, session) = pair(&mut words)?;
+        return Some(Line::Leave { partition, session });
+    }
+    if is(verb, "refresh") {
+        let (partition, session) = pair(&mut words)?;
+        return Some(Line::Refresh { partition, session });
+    }
+    if is(verb, "readonly") {
+        let (partition, page) = pair(&mut words)?;
+        return Some(Line::ReadOnly { partition, page });
     }
     if is(verb, "do") {
         return do_line(&mut words);
@@ -136,16 +145,17 @@ fn enter(words: &mut Words<'_>) -> Option<Line>
     Some(Line::Enter { partition })
 }
 
-#[tactic(auto, unfolding(crate::specs::Reading::leave_of))]
-fn leave(words: &mut Words<'_>) -> Option<Line>
-    ensures { result ≡ leave_of words.old }
+/// Two numbers, and nothing after them.
+#[tactic(auto, unfolding(crate::specs::Reading::pair_of))]
+fn pair(words: &mut Words<'_>) -> Option<(u64, u64)>
+    ensures { result ≡ pair_of words.old }
 {
-    let partition = words.number()?;
-    let session = words.number()?;
+    let one = words.number()?;
+    let other = words.number()?;
     if !words.is_empty() {
         return None;
     }
-    Some(Line::Leave { partition, session })
+    Some((one, other))
 }
 
 #[tactic(auto, unfolding(crate::specs::Reading::place_of))]

@@ -14,7 +14,7 @@ use Rattle.fkv_worlds.specs.declared.steps.Step.{Step}
 use Rattle.fkv_worlds.specs.Histories.{answer_by, answers_in}
 use Rattle.fkv_worlds.specs.Reports.{IsKept, RunsTo, Pursues, unkept, stalls, ends, goes_on, follows}
 use Rattle.fkv_scripts.specs.declared.lines.Line.{Line}
-use Rattle.fkv_scripts.specs.declared.lines.Line.TheVariants.{Enter, Leave, Issue, Do, Go, Install, GiveUp, Ready, Finish}
+use Rattle.fkv_scripts.specs.declared.lines.Line.TheVariants.{Enter, Leave, Refresh, ReadOnly, Issue, Do, Go, Install, GiveUp, Ready, Finish}
 use Rattle.std.specs.Prelude.{IfOk}
 use Rattle.std.specs.BTreeMap.{is_at}
 use Rattle.std.specs.Map.{lookup, keys_of}
@@ -47,6 +47,9 @@ append-assoc (x ∷ xs) ys zs = ap (λ ws. x ∷ ws) (append-assoc xs ys zs)
 answer-joined : {V O : Type 0} (t : Result (Outcome V O) Refused) (xs ys : List (Answer O)) → answer_by t (xs ++ ys) ≡ answer_by t xs ++ ys
 answer-joined (Ok (outcome.Entered slot)) xs ys = refl
 answer-joined (Ok outcome.Left) xs ys = refl
+answer-joined (Ok outcome.Refreshed) xs ys = refl
+answer-joined (Ok outcome.Shifted) xs ys = refl
+answer-joined (Ok (outcome.Waits why)) xs ys = refl
 answer-joined (Ok (outcome.Issued c)) xs ys = refl
 answer-joined (Ok outcome.Next) xs ys = refl
 answer-joined (Ok (outcome.Build source)) xs ys = refl
@@ -65,6 +68,9 @@ silent pursuit place (Ok outcome.Left) t h = refl
 silent pursuit place (Ok (outcome.Issued c)) t h = refl
 silent pursuit place (Ok outcome.Next) t h = refl
 silent pursuit place (Ok (outcome.Build source)) t h = refl
+silent pursuit place (Ok outcome.Refreshed) t h = refl
+silent pursuit place (Ok outcome.Shifted) t h = refl
+silent pursuit place (Ok (outcome.Waits why)) t h = absurd (cc)
 silent pursuit place (Ok (outcome.Done a)) t h = absurd (cc)
 silent pursuit place (Ok outcome.GivenUp) t h = refl
 silent pursuit place (Err e) t h = refl
@@ -118,6 +124,9 @@ module _ {V O : Type 0} (cmp : Name → Name → Ordering) (f : Meanings Name V 
       (run-joined cmp f code v mid w (Ok (outcome.Issued c) ∷ []) (told ∷ []) (run-one cmp f code v mid s (Ok (outcome.Issued c)) kept) (run-pursued cmp f code _ _ w (Some told) 10000 _ mid told h refl))
   run-issued p slot mid w told (Ok (outcome.Entered x)) v s kept h = rw (h.0, h.1) (run-one cmp f code v mid s _ kept)
   run-issued p slot mid w told (Ok outcome.Left) v s kept h = rw (h.0, h.1) (run-one cmp f code v mid s _ kept)
+  run-issued p slot mid w told (Ok outcome.Refreshed) v s kept h = rw (h.0, h.1) (run-one cmp f code v mid s _ kept)
+  run-issued p slot mid w told (Ok outcome.Shifted) v s kept h = rw (h.0, h.1) (run-one cmp f code v mid s _ kept)
+  run-issued p slot mid w told (Ok (outcome.Waits x)) v s kept h = rw (h.0, h.1) (run-one cmp f code v mid s _ kept)
   run-issued p slot mid w told (Ok outcome.Next) v s kept h = rw (h.0, h.1) (run-one cmp f code v mid s _ kept)
   run-issued p slot mid w told (Ok (outcome.Build x)) v s kept h = rw (h.0, h.1) (run-one cmp f code v mid s _ kept)
   run-issued p slot mid w told (Ok (outcome.Done x)) v s kept h = rw (h.0, h.1) (run-one cmp f code v mid s _ kept)
@@ -127,6 +136,8 @@ module _ {V O : Type 0} (cmp : Name → Name → Ordering) (f : Meanings Name V 
   run-line : (v w : WorldView Name V ℤ O) (t : Result (Outcome V O) Refused) (l : Line) → RunsLine cmp f code written v w t l → IsRun cmp f code v w (t ∷ [])
   run-line v w t (Enter p) h = run-one cmp f code v w _ t h
   run-line v w t (Leave p slot) h = run-one cmp f code v w _ t h
+  run-line v w t (Refresh p slot) h = run-one cmp f code v w _ t h
+  run-line v w t (ReadOnly p page) h = run-one cmp f code v w _ t h
   run-line v w t (Issue p slot op) h = run-one cmp f code v w _ t h
   run-line v w t (Do p slot op) h = run-issued p slot h.0 w t h.1 v _ h.2 h.3
   run-line v w t (Go place) h = run-one cmp f code v w _ t h

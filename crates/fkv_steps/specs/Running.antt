@@ -16,12 +16,12 @@ use Rattle.fkv_operations.specs.declared.operations.Op.TheVariants.{Read, Upsert
 use Rattle.fkv_partition.specs.declared.limits.Config.{Config}
 use Rattle.fkv_partition.specs.Limits.{IsWithinLimits}
 use Rattle.fkv_worlds.specs.declared.outcomes.Outcome.{Outcome}
-use Rattle.fkv_worlds.specs.declared.outcomes.Outcome.TheVariants.{Entered, Left, Issued, Next, Build, Done, GivenUp}
+use Rattle.fkv_worlds.specs.declared.outcomes.Outcome.TheVariants.{Entered, Left, Refreshed, Shifted, Issued, Next, Build, Waits, Done, GivenUp}
 use Rattle.fkv_worlds.specs.declared.steps.Step.{Step}
 use Rattle.fkv_worlds.specs.declared.steps.Step.TheVariants as step
 use Rattle.fkv_worlds.specs.declared.pursuits.Pursuit.TheVariants as pursuit
 use Rattle.fkv_scripts.specs.declared.lines.Line.{Line}
-use Rattle.fkv_scripts.specs.declared.lines.Line.TheVariants.{Enter, Leave, Issue, Do, Go, Install, GiveUp, Ready, Finish}
+use Rattle.fkv_scripts.specs.declared.lines.Line.TheVariants.{Enter, Leave, Refresh, ReadOnly, Issue, Do, Go, Install, GiveUp, Ready, Finish}
 use Rattle.fkv_scripts.specs.declared.lines.Opening.{Opening}
 use Rattle.fkv_scripts.specs.declared.lines.FunctionsName.{FunctionsName}
 use Rattle.fkv_scripts.specs.declared.lines.FunctionsName.TheVariants.{Count, Sum, Max}
@@ -42,6 +42,9 @@ FinishesIssued cmp f code p slot mid new told (Ok (Issued c)) =
     (step.Go (record { partition = p; slot = slot; context = c })) mid
 FinishesIssued cmp f code p slot mid new told (Ok (Entered x)) = (new ≡ mid) × (told ≡ Ok (Entered x))
 FinishesIssued cmp f code p slot mid new told (Ok Left) = (new ≡ mid) × (told ≡ Ok Left)
+FinishesIssued cmp f code p slot mid new told (Ok Refreshed) = (new ≡ mid) × (told ≡ Ok Refreshed)
+FinishesIssued cmp f code p slot mid new told (Ok Shifted) = (new ≡ mid) × (told ≡ Ok Shifted)
+FinishesIssued cmp f code p slot mid new told (Ok (Waits why)) = (new ≡ mid) × (told ≡ Ok (Waits why))
 FinishesIssued cmp f code p slot mid new told (Ok Next) = (new ≡ mid) × (told ≡ Ok Next)
 FinishesIssued cmp f code p slot mid new told (Ok (Build x)) = (new ≡ mid) × (told ≡ Ok (Build x))
 FinishesIssued cmp f code p slot mid new told (Ok (Done x)) = (new ≡ mid) × (told ≡ Ok (Done x))
@@ -60,6 +63,8 @@ abbrev pub RunsLine : {V O : Type 0} → (Name → Name → Ordering) → Meanin
     → WorldView Name V ℤ O → WorldView Name V ℤ O → Result (Outcome V O) Refused → Line → Type 0
 RunsLine cmp f code written old new told (Enter p) = IsKept cmp f code old new (step.Enter p) told
 RunsLine cmp f code written old new told (Leave p slot) = IsKept cmp f code old new (step.Leave p slot) told
+RunsLine cmp f code written old new told (Refresh p slot) = IsKept cmp f code old new (step.Refresh p slot) told
+RunsLine cmp f code written old new told (ReadOnly p page) = IsKept cmp f code old new (step.ReadOnly p page) told
 RunsLine cmp f code written old new told (Issue p slot op) =
     IsKept cmp f code old new (step.Issue p slot (op_of written op)) told
 RunsLine {V} {O} cmp f code written old new told (Do p slot op) =

@@ -70,6 +70,13 @@ where
             functions,
             Step::Leave(partition as usize, session as usize),
         ),
+        Line::Refresh { partition, session } => world.try_step(
+            functions,
+            Step::Refresh(partition as usize, session as usize),
+        ),
+        Line::ReadOnly { partition, page } => {
+            world.try_step(functions, Step::ReadOnly(partition as usize, page))
+        }
         Line::Go(place) => world.try_step(functions, Step::Go(place)),
         Line::Install(place) => world.try_step(functions, Step::Install(place)),
         Line::GiveUp(place) => world.try_step(functions, Step::GiveUp(place)),

@@ -6,6 +6,12 @@ returns-in-Enter g c = rw c.in-Enter.is c.try_step.ensures.kept
 pub returns-in-Leave : goal.returns-in-Leave
 returns-in-Leave g c = rw c.in-Leave.is c.try_step-in-Leave.ensures.kept
 
+pub returns-in-Refresh : goal.returns-in-Refresh
+returns-in-Refresh g c = rw c.in-Refresh.is c.try_step-in-Refresh.ensures.kept
+
+pub returns-in-ReadOnly : goal.returns-in-ReadOnly
+returns-in-ReadOnly g c = rw c.in-ReadOnly.is c.try_step-in-ReadOnly.ensures.kept
+
 pub returns-in-Issue : goal.returns-in-Issue
 returns-in-Issue g c = rw c.in-Issue.is (rw (← c.on_values.ensures) c.try_step-in-Issue.ensures.kept)
 
