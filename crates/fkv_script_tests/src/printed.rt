@@ -1,14 +1,14 @@
 //! What outcomes, refusals and maps print.
 use fkv_functions::{Name, Refused, What};
 use fkv_operations::Answer;
-use fkv_steps::Outcome;
+use fkv_steps::{Outcome, Wait};
 use fkv_steps::scripts::{LIMIT, read_script, text_of};
 use fkv_streams::CountedReader;
 use std::alloc::Global;
 
 type Told = Result<Outcome<i128, i128>, Refused>;
 
-const STEPS: [Told; 16] = [
+const STEPS: [Told; 19] = [
     Ok(Outcome::Entered(0)),
     Ok(Outcome::Issued(7)),
     Ok(Outcome::Next),
@@ -20,6 +20,9 @@ const STEPS: [Told; 16] = [
     Ok(Outcome::Done(Answer::Deleted)),
     Ok(Outcome::GivenUp),
     Ok(Outcome::Left),
+    Ok(Outcome::Refreshed),
+    Ok(Outcome::Shifted),
+    Ok(Outcome::Waits(Wait::Fuzzy)),
     Err(Refused::NoMemory),
     Err(Refused::Stranger {
         what: What::Page,
@@ -47,6 +50,9 @@ done stored
 done deleted
 given up
 left
+refreshed
+shifted
+wait fuzzy
 refused NoMemory
 refused Stranger
 refused Stalled

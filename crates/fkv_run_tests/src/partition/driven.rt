@@ -73,6 +73,24 @@ impl Driven {
         left
     }
 
+    pub fn refresh(&mut self, slot: usize) -> Result<(), Refused> {
+        let Some(now) = self.now.checked_add(1) else {
+            return Err(Refused::Worn);
+        };
+        let refreshed = self.partition.refresh(slot, now);
+        self.now = now;
+        refreshed
+    }
+
+    pub fn shift_read_only(&mut self, page: u64) -> Result<(), Refused> {
+        let Some(now) = self.now.checked_add(1) else {
+            return Err(Refused::Worn);
+        };
+        let shifted = self.partition.shift_read_only(page, now);
+        self.now = now;
+        shifted
+    }
+
     pub fn give_up(&mut self, slot: usize, context: usize) -> Result<(), Refused> {
         let Some(now) = self.now.checked_add(1) else {
             return Err(Refused::Worn);
@@ -95,12 +113,14 @@ impl Driven {
         }
     }
 
-    /// Goes on, and builds what is asked for, until the operation is answered; at most ten events.
+    /// Goes on, and builds what is asked for, until the operation is answered; at most ten events, and `NotDue` where it
+    /// waits.
     pub fn finish(&mut self, slot: usize, context: usize) -> Result<Answer<i128>, Refused> {
         let mut told = self.go(slot, context);
         for _ in 0..10 {
             match told {
                 Ok(Progress::Done(answer, _)) => return Ok(answer),
+                Ok(Progress::Waits(_)) => return Err(Refused::NotDue),
                 Ok(progress) => told = self.follow(slot, context, progress),
                 Err(refused) => return Err(refused),
             }

@@ -20,6 +20,9 @@ pub enum Row {
     /// Issues in slot 0 and finishes, again where memory is refused once.
     Do(Op<u8, i128, i64>, Answer<i128>),
     Leave(usize, Result<(), Refused>),
+    Refresh(usize, Result<(), Refused>),
+    /// Moves the read-only offset to the start of a page.
+    Shift(u64, Result<(), Refused>),
     GiveUp(usize, usize, Result<(), Refused>),
 }
 
@@ -28,6 +31,7 @@ fn by_letters(told: Result<ProgressOf<SumFns>, Refused>) -> Result<Told, Refused
     match told {
         Ok(Progress::Done(answer, now)) => Ok(Progress::Done(answer, now)),
         Ok(Progress::Next) => Ok(Progress::Next),
+        Ok(Progress::Waits(why)) => Ok(Progress::Waits(why)),
         Ok(Progress::NeedsBuild(ask)) => Ok(Progress::NeedsBuild(Ask {
             number: ask.number,
             key: letter(&ask.key),
@@ -81,6 +85,8 @@ fn is_answered(driven: &mut Driven, row: &Row) -> bool {
         Row::Finish(slot, context, wanted) => driven.finish(slot, context) == wanted,
         Row::Do(op, wanted) => done(driven, op) == Ok(wanted),
         Row::Leave(slot, wanted) => driven.leave(slot) == wanted,
+        Row::Refresh(slot, wanted) => driven.refresh(slot) == wanted,
+        Row::Shift(page, wanted) => driven.shift_read_only(page) == wanted,
         Row::GiveUp(slot, context, wanted) => driven.give_up(slot, context) == wanted,
     }
 }

@@ -2,7 +2,7 @@
 use super::rows::{Row, first_wrong};
 use fkv_functions::{Ask, Refused, What};
 use fkv_operations::{Answer, Op};
-use fkv_partition::{Config, Progress};
+use fkv_partition::{Config, Progress, Wait};
 
 /// A bucket for each key of one letter.
 pub const SMALL: Config = Config {
@@ -51,7 +51,7 @@ fn thin_path(rt: HostRuntime) {
     assert!(rt; first_wrong(rt.alloc(), &SMALL, 0, &THIN_PATH, &map) == None);
 }
 
-const TWO_UPDATES_FROM_ONE_LOOK_UP: [Row; 14] = [
+const TWO_UPDATES_FROM_ONE_LOOK_UP: [Row; 11] = [
     Row::Enter(Ok(0)),
     Row::Enter(Ok(1)),
     Row::Issue(0, Op::Rmw(b'a', 1), Ok(0)),
@@ -100,48 +100,107 @@ const TWO_UPDATES_FROM_ONE_LOOK_UP: [Row; 14] = [
         },
         Ok(Progress::Next),
     ),
-    Row::Go(
-        1,
-        0,
-        Ok(Progress::NeedsBuild(Ask {
-            number: 4,
-            key: b'a',
-            source: Some(1),
-            input: 2,
-        })),
-    ),
-    Row::Install(
-        1,
-        0,
-        Ask {
-            number: 4,
-            key: b'a',
-            source: None,
-            input: 2,
-        },
-        Err(Refused::Stranger {
-            what: What::Built,
-            held: 4,
-            came: 4,
-        }),
-    ),
-    Row::Go(
-        1,
-        0,
-        Ok(Progress::NeedsBuild(Ask {
-            number: 4,
-            key: b'a',
-            source: Some(1),
-            input: 2,
-        })),
-    ),
-    Row::Finish(1, 0, Ok(Answer::Value(3))),
+    Row::Go(1, 0, Ok(Progress::Done(Answer::Value(3), 11))),
 ];
 
 #[test]
 fn two_updates_from_one_look_up(rt: HostRuntime) {
     let map = [(b'a', 3)];
     assert!(rt; first_wrong(rt.alloc(), &SMALL, 0, &TWO_UPDATES_FROM_ONE_LOOK_UP, &map) == None);
+}
+
+/// What the first session asks, and the second, of a value that changes no more.
+const ASKED_FIRST: Ask<u8, i128, i64> = Ask {
+    number: 17,
+    key: b'a',
+    source: Some(1),
+    input: 2,
+};
+
+const ASKED_SECOND: Ask<u8, i128, i64> = Ask {
+    number: 18,
+    key: b'a',
+    source: Some(1),
+    input: 3,
+};
+
+/// The first question without its source.
+const SOURCELESS: Ask<u8, i128, i64> = Ask {
+    number: 17,
+    key: b'a',
+    source: None,
+    input: 2,
+};
+
+/// Two updates of a frozen value: both ask, the first is installed, and the second finds the new value, which is mutable.
+const TWO_UPDATES_OF_A_FROZEN_VALUE: [Row; 15] = [
+    Row::Enter(Ok(0)),
+    Row::Do(Op::Upsert(b'a', 1), Answer::Stored),
+    Row::Do(Op::Upsert(b'b', 1), Answer::Stored),
+    Row::Do(Op::Upsert(b'c', 1), Answer::Stored),
+    Row::Shift(1, Ok(())),
+    Row::Refresh(0, Ok(())),
+    Row::Enter(Ok(1)),
+    Row::Issue(0, Op::Rmw(b'a', 2), Ok(0)),
+    Row::Issue(1, Op::Rmw(b'a', 3), Ok(0)),
+    Row::Go(0, 0, Ok(Progress::NeedsBuild(ASKED_FIRST))),
+    Row::Go(1, 0, Ok(Progress::NeedsBuild(ASKED_SECOND))),
+    Row::Install(
+        0,
+        0,
+        SOURCELESS,
+        Err(Refused::Stranger {
+            what: What::Built,
+            held: 17,
+            came: 17,
+        }),
+    ),
+    Row::Install(
+        0,
+        0,
+        ASKED_FIRST,
+        Ok(Progress::Done(Answer::Value(3), 22)),
+    ),
+    Row::Install(1, 0, ASKED_SECOND, Ok(Progress::Next)),
+    Row::Go(1, 0, Ok(Progress::Done(Answer::Value(6), 24))),
+];
+
+#[test]
+fn two_updates_of_a_frozen_value(rt: HostRuntime) {
+    let map = [(b'a', 6), (b'b', 1), (b'c', 1)];
+    assert!(rt; first_wrong(rt.alloc(), &SMALL, 0, &TWO_UPDATES_OF_A_FROZEN_VALUE, &map) == None);
+}
+
+/// While the first session holds an old view, an update of the second waits; the first changes the value in place
+/// meanwhile, and nothing is lost.
+const FUZZY_WAIT: [Row; 21] = [
+    Row::Enter(Ok(0)),
+    Row::Enter(Ok(1)),
+    Row::Do(Op::Upsert(b'a', 10), Answer::Stored),
+    Row::Do(Op::Upsert(b'b', 1), Answer::Stored),
+    Row::Do(Op::Upsert(b'c', 1), Answer::Stored),
+    Row::Shift(1, Ok(())),
+    Row::Shift(1, Err(Refused::NotDue)),
+    Row::Refresh(1, Ok(())),
+    Row::Refresh(2, Err(Refused::Unknown)),
+    Row::Issue(1, Op::Rmw(b'a', 1), Ok(0)),
+    Row::Go(1, 0, Ok(Progress::Waits(Wait::Fuzzy))),
+    Row::Do(Op::Rmw(b'a', 5), Answer::Value(15)),
+    Row::Finish(1, 0, Err(Refused::NotDue)),
+    Row::Refresh(0, Ok(())),
+    Row::Go(1, 0, Ok(Progress::Waits(Wait::Fuzzy))),
+    Row::Refresh(1, Ok(())),
+    Row::Finish(1, 0, Ok(Answer::Value(16))),
+    Row::Issue(1, Op::Delete(b'b'), Ok(0)),
+    Row::Finish(1, 0, Ok(Answer::Deleted)),
+    Row::Leave(1, Ok(())),
+    Row::Do(Op::Read(b'b', 0), Answer::Absent),
+];
+
+#[test]
+fn fuzzy_wait(rt: HostRuntime) {
+    let map = [(b'a', 16), (b'c', 1)];
+    assert!(rt; first_wrong(rt.alloc(), &SMALL, 0, &FUZZY_WAIT, &map) == None);
 }
 
 const SESSIONS_AND_CONTEXTS: [Row; 30] = [

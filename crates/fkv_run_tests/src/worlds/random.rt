@@ -60,6 +60,8 @@ fn random_step(word: u64, range: Range) -> Option<StepOf<SumFns>> {
     Some(match word >> 5 & 7 {
         0 if word >> 16 & 7 == 0 => Step::Leave(place.partition, place.slot),
         0 if word >> 16 & 7 == 1 => Step::GiveUp(place),
+        0 if word >> 16 & 7 == 2 => Step::ReadOnly(place.partition, (word >> 24 & 0xff) % 12),
+        0 if word >> 16 & 7 > 4 => Step::Refresh(place.partition, place.slot),
         0 => Step::Enter(place.partition),
         1 | 2 | 3 => Step::Issue(place.partition, place.slot, random_op(word, key)),
         4 | 5 => Step::Install(place),

@@ -36,6 +36,8 @@ fn step_of(step: Step<u8, i128, i64>) -> Option<StepOf<SumFns>> {
     Some(match step {
         Step::Enter(partition) => Step::Enter(partition),
         Step::Leave(partition, slot) => Step::Leave(partition, slot),
+        Step::Refresh(partition, slot) => Step::Refresh(partition, slot),
+        Step::ReadOnly(partition, page) => Step::ReadOnly(partition, page),
         Step::Issue(partition, slot, op) => Step::Issue(partition, slot, on_name(op)?),
         Step::Go(place) => Step::Go(place),
         Step::Install(place) => Step::Install(place),

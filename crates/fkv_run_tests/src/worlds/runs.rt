@@ -5,7 +5,7 @@ use super::rows::{
 use crate::letters::is_map;
 use fkv_functions::{Refused, SumFns, What};
 use fkv_operations::{Answer, Op};
-use fkv_partition::Config;
+use fkv_partition::{Config, Wait};
 use fkv_worlds::{End, Outcome, Place, Step, StepOf, World, replay};
 use std::alloc::Global;
 
@@ -68,7 +68,7 @@ const OTHER: Place = Place {
     context: 0,
 };
 
-const THIN_PATH: [Row; 11] = [
+const THIN_PATH: [Row; 10] = [
     (Step::Enter(0), Ok(Outcome::Entered(0))),
     (Step::Issue(0, 0, Op::Rmw(b'a', 5)), Ok(Outcome::Issued(0))),
     (Step::Go(FIRST), Ok(Outcome::Next)),
@@ -76,19 +76,18 @@ const THIN_PATH: [Row; 11] = [
     (Step::Go(FIRST), Ok(Outcome::Build(None))),
     (Step::Install(FIRST), Ok(Outcome::Done(Answer::Value(5)))),
     (Step::Issue(0, 0, Op::Rmw(b'a', -2)), Ok(Outcome::Issued(0))),
-    (Step::Go(FIRST), Ok(Outcome::Build(Some(5)))),
-    (Step::Install(FIRST), Ok(Outcome::Done(Answer::Value(3)))),
+    (Step::Go(FIRST), Ok(Outcome::Done(Answer::Value(3)))),
     (Step::Issue(0, 0, Op::Read(b'a', 0)), Ok(Outcome::Issued(0))),
     (Step::Go(FIRST), Ok(Outcome::Done(Answer::Value(3)))),
 ];
 
 const THIN_PATH_LIVES: [LifeRow; 3] = [
     (0, 1, 1, Op::Rmw(b'a', 5), 2, Ok((6, Answer::Value(5)))),
-    (0, 1, 2, Op::Rmw(b'a', -2), 7, Ok((9, Answer::Value(3)))),
-    (0, 1, 3, Op::Read(b'a', 0), 10, Ok((11, Answer::Value(3)))),
+    (0, 1, 2, Op::Rmw(b'a', -2), 7, Ok((8, Answer::Value(3)))),
+    (0, 1, 3, Op::Read(b'a', 0), 9, Ok((10, Answer::Value(3)))),
 ];
 
-const TWO_UPDATES: [Row; 12] = [
+const TWO_UPDATES: [Row; 11] = [
     (Step::Enter(0), Ok(Outcome::Entered(0))),
     (Step::Enter(0), Ok(Outcome::Entered(1))),
     (Step::Issue(0, 0, Op::Rmw(b'a', 1)), Ok(Outcome::Issued(0))),
@@ -99,17 +98,16 @@ const TWO_UPDATES: [Row; 12] = [
     (Step::Go(SECOND), Ok(Outcome::Build(None))),
     (Step::Install(FIRST), Ok(Outcome::Done(Answer::Value(1)))),
     (Step::Install(SECOND), Ok(Outcome::Next)),
-    (Step::Go(SECOND), Ok(Outcome::Build(Some(1)))),
-    (Step::Install(SECOND), Ok(Outcome::Done(Answer::Value(3)))),
+    (Step::Go(SECOND), Ok(Outcome::Done(Answer::Value(3)))),
 ];
 
 const TWO_UPDATES_LIVES: [LifeRow; 2] = [
     (0, 1, 1, Op::Rmw(b'a', 1), 3, Ok((9, Answer::Value(1)))),
-    (0, 2, 1, Op::Rmw(b'a', 2), 4, Ok((12, Answer::Value(3)))),
+    (0, 2, 1, Op::Rmw(b'a', 2), 4, Ok((11, Answer::Value(3)))),
 ];
 
-/// Blind writes and a delete between an update's look-up and its install.
-const BETWEEN: [Row; 17] = [
+/// An update in place, and a blind write between another one's look-up and its install.
+const BETWEEN: [Row; 18] = [
     (Step::Enter(0), Ok(Outcome::Entered(0))),
     (Step::Enter(0), Ok(Outcome::Entered(1))),
     (Step::Issue(0, 0, Op::Delete(b'a')), Ok(Outcome::Issued(0))),
@@ -122,25 +120,27 @@ const BETWEEN: [Row; 17] = [
     (Step::Go(FIRST), Ok(Outcome::Next)),
     (Step::Go(FIRST), Ok(Outcome::Next)),
     (Step::Go(FIRST), Ok(Outcome::Done(Answer::Stored))),
-    (Step::Go(SECOND), Ok(Outcome::Build(Some(4)))),
+    (Step::Go(SECOND), Ok(Outcome::Done(Answer::Value(9)))),
     (Step::Issue(0, 0, Op::Delete(b'a')), Ok(Outcome::Issued(0))),
     (Step::Go(FIRST), Ok(Outcome::Done(Answer::Deleted))),
-    (Step::Install(SECOND), Ok(Outcome::Next)),
+    (Step::Issue(0, 1, Op::Rmw(b'a', 5)), Ok(Outcome::Issued(0))),
     (Step::Go(SECOND), Ok(Outcome::Build(None))),
-    (Step::Install(SECOND), Ok(Outcome::Done(Answer::Value(5)))),
     (
         Step::Issue(0, 0, Op::Upsert(b'a', -3)),
         Ok(Outcome::Issued(0)),
     ),
     (Step::Go(FIRST), Ok(Outcome::Done(Answer::Stored))),
+    (Step::Install(SECOND), Ok(Outcome::Next)),
+    (Step::Go(SECOND), Ok(Outcome::Done(Answer::Value(2)))),
 ];
 
-const BETWEEN_LIVES: [LifeRow; 5] = [
+const BETWEEN_LIVES: [LifeRow; 6] = [
     (0, 1, 1, Op::Delete(b'a'), 3, Ok((4, Answer::Deleted))),
     (0, 1, 2, Op::Upsert(b'a', 4), 5, Ok((9, Answer::Stored))),
-    (0, 2, 1, Op::Rmw(b'a', 5), 6, Ok((15, Answer::Value(5)))),
+    (0, 2, 1, Op::Rmw(b'a', 5), 6, Ok((10, Answer::Value(9)))),
     (0, 1, 3, Op::Delete(b'a'), 11, Ok((12, Answer::Deleted))),
-    (0, 1, 4, Op::Upsert(b'a', -3), 16, Ok((17, Answer::Stored))),
+    (0, 2, 2, Op::Rmw(b'a', 5), 13, Ok((18, Answer::Value(2)))),
+    (0, 1, 4, Op::Upsert(b'a', -3), 15, Ok((16, Answer::Stored))),
 ];
 
 /// Refused steps take no moment; a session's number counts the enters before it, and its operations from 1.
@@ -214,7 +214,7 @@ const RUNS: [Run; 5] = [
     (&[], &[], &[]),
     (&THIN_PATH, &THIN_PATH_LIVES, &[(b'a', 3)]),
     (&TWO_UPDATES, &TWO_UPDATES_LIVES, &[(b'a', 3)]),
-    (&BETWEEN, &BETWEEN_LIVES, &[(b'a', -3)]),
+    (&BETWEEN, &BETWEEN_LIVES, &[(b'a', 2)]),
     (&GIVEN_UP, &GIVEN_UP_LIVES, &[(b'a', 7)]),
 ];
 
@@ -227,6 +227,59 @@ fn first_wrong(alloc: Global, config: &Config, runs: &[Run]) -> Option<usize> {
 fn runs(rt: HostRuntime) {
     assert!(rt; first_wrong(rt.alloc(), &ONE, &RUNS) == None);
     assert!(rt; first_wrong(rt.alloc(), &ONE_BUCKET, &RUNS) == None);
+}
+
+/// An update waits over a record that a session with an older view may still change, which it does meanwhile; once both
+/// are refreshed the update asks for its value.
+const FUZZY_WAIT: [Row; 25] = [
+    (Step::Enter(0), Ok(Outcome::Entered(0))),
+    (Step::Enter(0), Ok(Outcome::Entered(1))),
+    (
+        Step::Issue(0, 0, Op::Upsert(b'a', 10)),
+        Ok(Outcome::Issued(0)),
+    ),
+    (Step::Go(FIRST), Ok(Outcome::Next)),
+    (Step::Go(FIRST), Ok(Outcome::Next)),
+    (Step::Go(FIRST), Ok(Outcome::Done(Answer::Stored))),
+    (
+        Step::Issue(0, 0, Op::Upsert(b'b', 1)),
+        Ok(Outcome::Issued(0)),
+    ),
+    (Step::Go(FIRST), Ok(Outcome::Next)),
+    (Step::Go(FIRST), Ok(Outcome::Next)),
+    (Step::Go(FIRST), Ok(Outcome::Done(Answer::Stored))),
+    (
+        Step::Issue(0, 0, Op::Upsert(b'c', 1)),
+        Ok(Outcome::Issued(0)),
+    ),
+    (Step::Go(FIRST), Ok(Outcome::Next)),
+    (Step::Go(FIRST), Ok(Outcome::Next)),
+    (Step::Go(FIRST), Ok(Outcome::Done(Answer::Stored))),
+    (Step::ReadOnly(0, 1), Ok(Outcome::Shifted)),
+    (Step::Refresh(0, 1), Ok(Outcome::Refreshed)),
+    (Step::Issue(0, 1, Op::Rmw(b'a', 1)), Ok(Outcome::Issued(0))),
+    (Step::Go(SECOND), Ok(Outcome::Waits(Wait::Fuzzy))),
+    (Step::Issue(0, 0, Op::Rmw(b'a', 5)), Ok(Outcome::Issued(0))),
+    (Step::Go(FIRST), Ok(Outcome::Done(Answer::Value(15)))),
+    (Step::Refresh(0, 0), Ok(Outcome::Refreshed)),
+    (Step::Go(SECOND), Ok(Outcome::Waits(Wait::Fuzzy))),
+    (Step::Refresh(0, 1), Ok(Outcome::Refreshed)),
+    (Step::Go(SECOND), Ok(Outcome::Build(Some(15)))),
+    (Step::Install(SECOND), Ok(Outcome::Done(Answer::Value(16)))),
+];
+
+const FUZZY_WAIT_LIVES: [LifeRow; 5] = [
+    (0, 1, 1, Op::Upsert(b'a', 10), 3, Ok((6, Answer::Stored))),
+    (0, 1, 2, Op::Upsert(b'b', 1), 7, Ok((10, Answer::Stored))),
+    (0, 1, 3, Op::Upsert(b'c', 1), 11, Ok((14, Answer::Stored))),
+    (0, 2, 1, Op::Rmw(b'a', 1), 17, Ok((25, Answer::Value(16)))),
+    (0, 1, 4, Op::Rmw(b'a', 5), 19, Ok((20, Answer::Value(15)))),
+];
+
+#[test]
+fn fuzzy_wait(rt: HostRuntime) {
+    let map = [(b'a', 16), (b'b', 1), (b'c', 1)];
+    assert!(rt; is_run(rt.alloc(), &ONE, &FUZZY_WAIT, &FUZZY_WAIT_LIVES, &map));
 }
 
 const TWO_PARTITIONS: [(Call, Told); 18] = [
