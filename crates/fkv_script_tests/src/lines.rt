@@ -24,6 +24,8 @@ rmw 1 15 abcdefghijklmnopqrstuvwxyz01234 +0005
 go 1 15 7
 install 1 15 7
 leave 1 15
+refresh 1 15
+readonly 1 18446744073709551615
 giveup 1 15 7
 ready 1 15 7
 finish 1 15 7
@@ -34,7 +36,7 @@ delete 1 15 a
 do 1 15 upsert a +7
 do 1 15 delete a-1";
 
-const SAID: [Said; 16] = [
+const SAID: [Said; 18] = [
     ("enter", 1, 0, 0, None),
     ("issue", 1, 15, 0, Some(('r', "a", 0))),
     (
@@ -54,6 +56,8 @@ const SAID: [Said; 16] = [
     ("go", 1, 15, 7, None),
     ("install", 1, 15, 7, None),
     ("leave", 1, 15, 0, None),
+    ("refresh", 1, 15, 0, None),
+    ("readonly", 1, 18446744073709551615, 0, None),
     ("giveup", 1, 15, 7, None),
     ("ready", 1, 15, 7, None),
     ("finish", 1, 15, 7, None),
@@ -95,6 +99,12 @@ fn says(line: &Line, said: &Said) -> bool {
         }
         Line::Leave { partition, session } => {
             return said.0 == "leave" && *partition == said.1 && *session == said.2;
+        }
+        Line::Refresh { partition, session } => {
+            return said.0 == "refresh" && *partition == said.1 && *session == said.2;
+        }
+        Line::ReadOnly { partition, page } => {
+            return said.0 == "readonly" && *partition == said.1 && *page == said.2;
         }
         Line::Issue {
             partition,
