@@ -51,6 +51,10 @@ impl Fixed for u64 {
         Some(word_of(bytes))
     }
 
+    fn stands_in(&self, bytes: &[u8]) -> bool {
+        bytes == self.to_le_bytes().as_slice()
+    }
+
     ghost sized = { λ v h. refl };
 
     ghost readable = { word_readable };
@@ -69,6 +73,10 @@ impl Fixed for i64 {
 
     fn take(bytes: &[u8]) -> Option<i64> {
         Some(word_of(bytes).cast_signed())
+    }
+
+    fn stands_in(&self, bytes: &[u8]) -> bool {
+        bytes == self.cast_unsigned().to_le_bytes().as_slice()
     }
 
     ghost sized = { λ v h. refl };
@@ -95,6 +103,14 @@ impl Fixed for i128 {
         let (low, high) = bytes.split_at(8);
         let bits = u128::from(word_of(low)) + (u128::from(word_of(high)) << 64);
         Some(bits.cast_signed())
+    }
+
+    fn stands_in(&self, bytes: &[u8]) -> bool {
+        self.known();
+        match i128::take(bytes) {
+            Some(value) => value == *self,
+            None => false,
+        }
     }
 
     ghost sized = { λ v h. halves_sized (cast_unsigned w128 v) };

@@ -135,6 +135,11 @@ impl Fixed for Name {
         Some(Name { len, bytes: all })
     }
 
+    fn stands_in(&self, bytes: &[u8]) -> bool {
+        let (length, rest) = bytes.split_at(1);
+        length[0] == self.len && rest == self.bytes.as_slice()
+    }
+
     ghost sized = { λ v h. name_sized v };
 
     ghost readable = { λ v w h k e. name_readable v w e };

@@ -1,5 +1,5 @@
 //! Values that a store holds: known to proofs, told apart by `==`, and of a fixed number of bytes.
-ghost use Rattle.std.specs.Prelude.{◌≡◌, ℕ, List, length, IfSome, Some};
+ghost use Rattle.std.specs.Prelude.{◌≡◌, ◌↔◌, ℕ, List, length, IfSome, IsTrue, Some};
 ghost use Rattle.fkv_functions.specs.Meanings.{Exact};
 
 /// A value that proofs can tell: one in hand is one of its type, and `==` is identity.
@@ -35,6 +35,11 @@ pub trait Fixed: Known {
         requires { length bytes.now ≡ SIZE }
         ensures found { IfSome result (λ v. Self.is_known v × (bytes_of v ≡ bytes.now)) }
         ensures only { (v : Self) → Self.is_known v → bytes_of v ≡ bytes.now → result ≡ Some v };
+
+    /// Whether these bytes are those of the value.
+    fn stands_in(&self, bytes: &[u8]) -> bool
+        requires { length bytes.now ≡ SIZE }
+        ensures { IsTrue result ↔ (bytes.now ≡ bytes_of self.now) };
 
     /// The bytes of a value are as many as `SIZE` says.
     ghost sized: { (v : Self) → Self.is_known v → length (bytes_of v) ≡ SIZE };

@@ -25,3 +25,20 @@ pub fn entry_of<K, V>(address: Address, found: Record<K, V>) -> Entry<K, V>
         value: found.value,
     }
 }
+
+/// An entry of a key in hand.
+pub fn entry_with<K: Copy, V>(
+    address: Address,
+    previous: Address,
+    key: &K,
+    value: Option<V>,
+) -> Entry<K, V>
+    ensures { result ≡ record { address = address; previous = previous; key = key.now; value = value } }
+{
+    Entry {
+        address,
+        previous,
+        key: *key,
+        value,
+    }
+}

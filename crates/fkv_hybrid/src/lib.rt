@@ -9,7 +9,6 @@
 //! read-only offset may get another value or become a tombstone where it stands; an entry below it never changes.
 #![tactic(auto)]
 
-mod chains;
 pub mod entries;
 pub mod laws;
 pub mod log;

@@ -11,6 +11,7 @@ ghost use Rattle.fkv_hybrid.specs.Places.{IsLaidOut, tail_after};
 ghost use Rattle.fkv_hybrid.specs.Text.{entry_at, IsRising, IsFrom, IsBelow};
 ghost use Rattle.fkv_hybrid.specs.Views.{empty_log, with_entry};
 
+mod chains;
 mod edits;
 mod sessions;
 

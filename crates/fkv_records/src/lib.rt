@@ -2,14 +2,15 @@
 //!
 //! A log is bytes, in memory as on a device. This crate is the one place where a record and its bytes meet,
 //! both ways, so everything above speaks of records. Its contracts speak of three things: these bytes spell
-//! this record ([`write_record`], [`read_record`], and the changes [`write_value`] and [`set_tombstone`]), the
-//! place after an address, and the set of all places ([`Shape`]). No call takes memory, and none reads or writes
+//! this record ([`write_record`], [`read_record`], its parts in [`reading`], and the changes [`write_value`] and
+//! [`set_tombstone`]), the place after an address, and the set of all places ([`Shape`]). No call takes memory, and none reads or writes
 //! outside the bytes that it is given.
 #![tactic(auto)]
 
 pub mod addresses;
 pub mod edits;
 pub mod headers;
+pub mod reading;
 pub mod records;
 pub mod shapes;
 

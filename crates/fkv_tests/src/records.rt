@@ -209,6 +209,10 @@ impl Fixed for Byte {
         Some(Byte(bytes[0]))
     }
 
+    fn stands_in(&self, bytes: &[u8]) -> bool {
+        bytes == [self.0].as_slice()
+    }
+
     ghost sized = { λ v h. refl };
 
     ghost readable = { λ v w h k e. Prim.search rules };

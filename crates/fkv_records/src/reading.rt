@@ -1,0 +1,44 @@
+//! Parts of a record that is known to stand in these bytes, each read without the others.
+ghost use Rattle.std.specs.Prelude.{◌≡◌, ◌^◌, ◌<◌, ◌≤◌, ◌↔◌, length, is_none, IsTrue, Some};
+ghost use Rattle.fkv_records.specs.Records.{size_of, Spells};
+ghost use Rattle.fkv_records.specs.declared.records.Record.{Record};
+
+use crate::addresses::{Address, NO_RECORD};
+use crate::headers::Header;
+use fkv_functions::Fixed;
+
+/// Whether the record is one of this key: the key's bytes are compared, and no key is read.
+pub fn is_of<K: Fixed, V: Fixed>(bytes: &[u8], key: &K) -> bool
+    requires most { size_of K.SIZE V.SIZE ≤ 192 }
+    requires room { length bytes.now ≡ size_of K.SIZE V.SIZE }
+    ensures { (r : Record K V) → K.is_known r.key → Spells K.bytes_of V.bytes_of K.SIZE V.SIZE bytes.now r
+        → (IsTrue result ↔ (r.key ≡ key.now)) }
+{
+    key.known();
+    key.stands_in(&bytes[8..8 + K::SIZE])
+}
+
+/// The record's previous address, and whether it is a tombstone.
+pub fn link_of<K: Fixed, V: Fixed>(bytes: &[u8]) -> (Address, bool)
+    requires most { size_of K.SIZE V.SIZE ≤ 192 }
+    requires room { length bytes.now ≡ size_of K.SIZE V.SIZE }
+    ensures { (r : Record K V) → r.previous < 2 ^ 48 → Spells K.bytes_of V.bytes_of K.SIZE V.SIZE bytes.now r
+        → (result.0 ≡ r.previous) × (result.1 ≡ is_none r.value) }
+{
+    match Header::from_bytes(&bytes[..8]) {
+        Some(header) => (header.previous, header.is_tombstone),
+        None => (NO_RECORD, true),
+    }
+}
+
+/// The record's value, where it is no tombstone.
+pub fn value_of<K: Fixed, V: Fixed>(bytes: &[u8]) -> Option<V>
+    requires most { size_of K.SIZE V.SIZE ≤ 192 }
+    requires room { length bytes.now ≡ size_of K.SIZE V.SIZE }
+    ensures { (r : Record K V) (v : V) → r.value ≡ Some v → V.is_known v
+        → Spells K.bytes_of V.bytes_of K.SIZE V.SIZE bytes.now r
+        → result ≡ Some v }
+{
+    let start = 8 + K::SIZE;
+    V::take(&bytes[start..start + V::SIZE])
+}
