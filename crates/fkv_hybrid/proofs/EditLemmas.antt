@@ -10,16 +10,16 @@ use Rattle.fkv_records.specs.Records.{size_of, Spells}
 use Rattle.fkv_records.specs.declared.records.Record.{Record}
 use Rattle.fkv_records.specs.declared.shapes.Shape.{Shape}
 use Rattle.fkv_functions.proofs.ListLemmas.{get-set_same, get-set_other}
-use Rattle.fkv_hybrid.specs.declared.entries.Entry.{Entry}
-use Rattle.fkv_hybrid.specs.Text.{entry_at, value_of, value_at, set_at, changed}
-use Rattle.fkv_hybrid.specs.Places.{IsLaidOut}
+use Rattle.fkv_texts.specs.declared.entries.Entry.{Entry}
+use Rattle.fkv_texts.specs.Text.{entry_at, value_of, value_at, set_at, changed}
+use Rattle.fkv_texts.specs.Places.{IsLaidOut}
 use Rattle.fkv_hybrid.specs.Pages.{record_of, part_of, written_at, IsSpelled, IsLog}
 use Rattle.fkv_hybrid.specs.Edits.{Edits}
-use Rattle.fkv_hybrid.proofs.PlaceLemmas.{Stands, stands, rising, apart, entry_found}
+use Rattle.fkv_texts.proofs.PlaceLemmas.{Stands, stands, rising, apart, entry_found}
 use Rattle.fkv_records.proofs.PlaceLemmas.{place_room}
-use Rattle.fkv_hybrid.proofs.TextLemmas.{one_address}
+use Rattle.fkv_texts.proofs.TextLemmas.{one_address}
 use Rattle.fkv_hybrid.proofs.PageLemmas.{written-length, written-here, written-below}
-use Rattle.fkv_hybrid.proofs.ChangeLemmas.{set_at-here, set_at-other, was_at, laid_out-changed}
+use Rattle.fkv_texts.proofs.ChangeLemmas.{set_at-here, set_at-other, was_at, laid_out-changed}
 
 -- a part above the written one stays
 pub written-above : (page bytes : List ℕ) (offset at size : ℕ) → offset + length bytes ≤ length page → offset + length bytes ≤ at → part_of (written_at page offset bytes) at size ≡ part_of page at size

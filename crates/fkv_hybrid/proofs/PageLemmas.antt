@@ -15,13 +15,13 @@ use Rattle.fkv_records.specs.declared.shapes.Shape.{Shape}
 use Rattle.fkv_records.proofs.PlaceLemmas.{place_room, page_sized, next_start}
 use Rattle.fkv_records.proofs.RecordLemmas.{same_record, part_at}
 use Rattle.fkv_regions.specs.RegionsView.{RegionsView}
-use Rattle.fkv_hybrid.specs.declared.entries.Entry.{Entry}
-use Rattle.fkv_hybrid.specs.Text.{entry_at}
+use Rattle.fkv_texts.specs.declared.entries.Entry.{Entry}
+use Rattle.fkv_texts.specs.Text.{entry_at}
 use Rattle.fkv_hybrid.specs.Views.{LogView}
-use Rattle.fkv_hybrid.specs.Places.{tail_after, IsLaidOut}
+use Rattle.fkv_texts.specs.Places.{tail_after, IsLaidOut}
 use Rattle.fkv_hybrid.specs.Pages.{record_of, part_of, IsSpelled, IsTextOf, TheOne, HasRoom, written_at, Opens, there, made, Writes, IsLog}
 use Rattle.fkv_functions.proofs.ListLemmas.{get-append_left, get-append_cases, get-set_same, get-set_other}
-use Rattle.fkv_hybrid.proofs.PlaceLemmas.{after_some, after_none, next_way, after, stands, laid_out-append, entry_found, entry_stands}
+use Rattle.fkv_texts.proofs.PlaceLemmas.{after_some, after_none, next_way, after, stands, laid_out-append, entry_found, entry_stands}
 
 -- 64 lies in page 0
 small_page : (p : ℕ) → 256 ≤ p → 64 / p ≡ 0

@@ -5,7 +5,7 @@ use Rattle.std.specs.Prelude.{OnOk, OnErr, IfOk, IfErr, Result, Ok, Err}
 use Rattle.fkv_records.specs.declared.shapes.Shape.{Shape}
 use Rattle.fkv_regions.specs.RegionsView.{RegionsView}
 use Rattle.fkv_regions.specs.Agree.{IsRegions, IsMoved}
-use Rattle.fkv_hybrid.specs.declared.entries.Entry.{Entry}
+use Rattle.fkv_texts.specs.declared.entries.Entry.{Entry}
 use Rattle.fkv_hybrid.specs.Views.{log_view, with_regions}
 use Rattle.fkv_hybrid.specs.Pages.{TheOne, IsTextOf, IsLog, AreRegionsOf}
 use Rattle.fkv_hybrid.proofs.PageLemmas.{text_is}

@@ -6,9 +6,9 @@ use Rattle.fkv_records.specs.Places.{page_at, offset_at, IsPlace}
 use Rattle.fkv_records.specs.Records.{size_of, IsRecord, Spells}
 use Rattle.fkv_records.specs.declared.records.Record.{Record}
 use Rattle.fkv_records.specs.declared.shapes.Shape.{Shape}
-use Rattle.fkv_hybrid.specs.declared.entries.Entry.{Entry}
+use Rattle.fkv_texts.specs.declared.entries.Entry.{Entry}
 use Rattle.fkv_regions.specs.RegionsView.{RegionsView}
-use Rattle.fkv_hybrid.specs.Places.{IsLaidOut}
+use Rattle.fkv_texts.specs.Places.{IsLaidOut}
 
 -- the record of an entry
 abbrev pub record_of : {K V : Type 0} → Entry K V → Record K V

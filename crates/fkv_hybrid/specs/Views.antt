@@ -1,10 +1,10 @@
 -- What a contract sees of a log.
 use Rattle.std.specs.Prelude.{◌≡◌, ◌<◌, ℕ, List, [], ◌∷◌, ◌++◌, Option}
-use Rattle.fkv_hybrid.specs.declared.entries.Entry.{Entry}
+use Rattle.fkv_texts.specs.declared.entries.Entry.{Entry}
 use Rattle.fkv_records.specs.declared.shapes.Shape.{Shape}
 use Rattle.fkv_regions.specs.RegionsView.{RegionsView, fresh_regions}
-use Rattle.fkv_hybrid.specs.Places.{tail_after}
-use Rattle.fkv_hybrid.specs.Text.{entry_at, changed}
+use Rattle.fkv_texts.specs.Places.{tail_after}
+use Rattle.fkv_texts.specs.Text.{entry_at, changed}
 
 -- a log of pages of 2 ^ bits bytes: its text, which has an entry at each place from `begin` to below `tail`; and its
 -- regions, with what each session has seen of them

@@ -9,10 +9,8 @@
 //! read-only offset may get another value or become a tombstone where it stands; an entry below it never changes.
 #![tactic(auto)]
 
-pub mod entries;
 pub mod laws;
 pub mod log;
 mod pages;
 
-pub use entries::Entry;
 pub use log::Log;

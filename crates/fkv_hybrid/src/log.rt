@@ -7,19 +7,20 @@ ghost use Rattle.fkv_records.specs.Records.{size_of, IsPrevious};
 ghost use Rattle.fkv_epoch.specs.Timely.{IsTimely};
 ghost use Rattle.fkv_regions.specs.Agree.{IsRegions};
 ghost use Rattle.fkv_hybrid.specs.Pages.{TheOne, IsTextOf};
-ghost use Rattle.fkv_hybrid.specs.Places.{IsLaidOut, tail_after};
-ghost use Rattle.fkv_hybrid.specs.Text.{entry_at, IsRising, IsFrom, IsBelow};
+ghost use Rattle.fkv_texts.specs.Places.{IsLaidOut, tail_after};
+ghost use Rattle.fkv_texts.specs.Text.{entry_at, IsRising, IsFrom, IsBelow};
 ghost use Rattle.fkv_hybrid.specs.Views.{empty_log, with_entry};
 
 mod chains;
 mod edits;
 mod sessions;
 
-use crate::entries::{Entry, entry_of};
 use crate::pages::{open_page, part, write_at};
 use fkv_functions::{Fixed, Refused};
 use fkv_records::{Address, END, FIRST, Record, Shape, read_record};
 use fkv_regions::Regions;
+use fkv_texts::Entry;
+use fkv_texts::entries::entry_of;
 use std::alloc::Global;
 use std::marker::{Model, PhantomData};
 

@@ -1,7 +1,7 @@
 -- The test of classes tells all of them apart, and what the entries of all classes are once one was set.
 use Rattle.std.proofs.Common.{◌≡◌, ◌==◌, Bool, true, false, cond, ℕ, List, Some, refl, sym, ◌∙◌, ap}
 use Rattle.std.proofs.lemmas.Bool.{and_parts, and_from, eqb-true, eq-eqb}
-use Rattle.fkv_hybrid.specs.Chains.{IsClassTest}
+use Rattle.fkv_texts.specs.Chains.{IsClassTest}
 use Rattle.fkv_index.specs.declared.words.Word.{Word}
 use Rattle.fkv_index.specs.Entries.{entry_at}
 use Rattle.fkv_index.specs.Changes.{SetsEntry}

@@ -7,11 +7,11 @@ use Rattle.fkv_regions.specs.declared.offsets.Region.TheVariants as region
 use Rattle.fkv_regions.specs.Offsets.{region_of, view_at}
 use Rattle.fkv_regions.specs.Agree.{IsByRegion}
 use Rattle.fkv_epoch.specs.Moves.{is_entered}
-use Rattle.fkv_hybrid.specs.declared.entries.Entry.{Entry}
-use Rattle.fkv_hybrid.specs.Text.{entry_at, value_at, value_of, has_key, last_of, newest, IsRising, set_at, changed}
-use Rattle.fkv_hybrid.proofs.LastWhere.{last_where-in}
-use Rattle.fkv_hybrid.proofs.TextLemmas.{entry_at-in}
-use Rattle.fkv_hybrid.proofs.ChangeLemmas.{newest-changed, newest-elsewhere}
+use Rattle.fkv_texts.specs.declared.entries.Entry.{Entry}
+use Rattle.fkv_texts.specs.Text.{entry_at, value_at, value_of, has_key, last_of, newest, IsRising, set_at, changed}
+use Rattle.fkv_texts.proofs.LastWhere.{last_where-in}
+use Rattle.fkv_texts.proofs.TextLemmas.{entry_at-in}
+use Rattle.fkv_texts.proofs.ChangeLemmas.{newest-changed, newest-elsewhere}
 use Rattle.fkv_regions.specs.RegionsView.{RegionsView}
 use Rattle.fkv_hybrid.specs.Views.{LogView}
 use Rattle.fkv_hybrid.specs.Views as log

@@ -2,10 +2,10 @@
 use Rattle.std.proofs.Common.{◌≡◌, ℕ, ◌<◌, ◌≤◌, List, [], ◌∷◌, ◌++◌, length, Some, IsSome, slice_get, refl, sym, ◌∙◌, ap, subst, arith, append_assoc, append-nil}
 use Rattle.std.specs.declared.cmp.Ordering.{Ordering}
 use Rattle.fkv_functions.specs.Plain.{PlainMap, Same, with_at}
-use Rattle.fkv_hybrid.specs.declared.entries.Entry.{Entry}
-use Rattle.fkv_hybrid.specs.Places.{IsLaidOut, tail_after}
-use Rattle.fkv_hybrid.specs.Text.{entry_at, live, IsRising}
-use Rattle.fkv_hybrid.proofs.TextLemmas.{entry_at-in}
+use Rattle.fkv_texts.specs.declared.entries.Entry.{Entry}
+use Rattle.fkv_texts.specs.Places.{IsLaidOut, tail_after}
+use Rattle.fkv_texts.specs.Text.{entry_at, live, IsRising}
+use Rattle.fkv_texts.proofs.TextLemmas.{entry_at-in}
 
 -- the entries below an address are done, and the map is their live one
 pub record IsScanned {K V : Type 0} (cmp : K → K → Ordering) (bits size tail : ℕ) (text : List (Entry K V)) (address : ℕ) (map : PlainMap K V) : Type 0 where

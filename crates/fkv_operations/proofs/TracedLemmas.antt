@@ -6,14 +6,14 @@ use Rattle.std.specs.Bool.{OnTrue, OnFalse}
 use Rattle.std.specs.declared.cmp.Ordering.{Ordering}
 use Rattle.fkv_functions.specs.Plain.{IsKeyOrder}
 use Rattle.fkv_records.specs.Records.{IsPrevious}
-use Rattle.fkv_hybrid.specs.declared.entries.Entry.{Entry}
-use Rattle.fkv_hybrid.specs.Places.{IsLaidOut}
-use Rattle.fkv_hybrid.specs.Text.{last_where, has_key, last_of, newest, AllAbove, IsRising, IsFrom, IsBelow}
-use Rattle.fkv_hybrid.specs.Chains.{has_class, last_of_class, Leads, IsChained, IsIn}
+use Rattle.fkv_texts.specs.declared.entries.Entry.{Entry}
+use Rattle.fkv_texts.specs.Places.{IsLaidOut}
+use Rattle.fkv_texts.specs.Text.{last_where, has_key, last_of, newest, AllAbove, IsRising, IsFrom, IsBelow}
+use Rattle.fkv_texts.specs.Chains.{has_class, last_of_class, Leads, IsChained, IsIn}
 use Rattle.fkv_functions.proofs.ListLemmas.{get-append_last}
 use Rattle.fkv_regions.specs.RegionsView.{RegionsView, fresh_regions}
-use Rattle.fkv_hybrid.proofs.ChangeLemmas.{laid_out-changed, rising-changed, from-changed, below-changed, chained-changed, leads-changed}
-use Rattle.fkv_hybrid.proofs.LastWhere.{last_where-append, last_where-found, last_where-in, none-passes, last_where-narrow, last_where-narrow_none}
+use Rattle.fkv_texts.proofs.ChangeLemmas.{laid_out-changed, rising-changed, from-changed, below-changed, chained-changed, leads-changed}
+use Rattle.fkv_texts.proofs.LastWhere.{last_where-append, last_where-found, last_where-in, none-passes, last_where-narrow, last_where-narrow_none}
 use Rattle.fkv_index.specs.declared.words.Word.{Word}
 use Rattle.fkv_index.specs.declared.places.Place.{Place}
 use Rattle.fkv_index.specs.Words.{empty, final_word, address_of, tag_of, is_final}

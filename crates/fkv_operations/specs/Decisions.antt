@@ -1,7 +1,7 @@
 -- What the look-up of a key meets, and what an operation then does.
 use Rattle.std.specs.Prelude.{ℕ, Option, Some, None}
 use Rattle.fkv_functions.specs.Meanings.{Meanings}
-use Rattle.fkv_hybrid.specs.declared.entries.Entry.{Entry}
+use Rattle.fkv_texts.specs.declared.entries.Entry.{Entry}
 use Rattle.fkv_regions.specs.declared.offsets.View.{View}
 use Rattle.fkv_regions.specs.declared.offsets.Region.{Region}
 use Rattle.fkv_regions.specs.declared.offsets.Region.TheVariants as region

@@ -1,8 +1,8 @@
 -- What a contract sees of the records of a partition.
 use Rattle.std.specs.Prelude.{◌≡◌, ◌^◌, ℕ, IsTrue, List, [], ◌∷◌, ◌++◌, Option, Some, None, option_map, replicate}
-use Rattle.fkv_hybrid.specs.declared.entries.Entry.{Entry}
-use Rattle.fkv_hybrid.specs.Places.{tail_after}
-use Rattle.fkv_hybrid.specs.Text.{changed}
+use Rattle.fkv_texts.specs.declared.entries.Entry.{Entry}
+use Rattle.fkv_texts.specs.Places.{tail_after}
+use Rattle.fkv_texts.specs.Text.{changed}
 use Rattle.fkv_regions.specs.RegionsView.{RegionsView, fresh_regions}
 use Rattle.fkv_index.specs.declared.words.Word.{Word}
 use Rattle.fkv_index.specs.declared.places.Place.{Place}

@@ -1,6 +1,6 @@
 -- Records that nobody changes where they stand.
 use Rattle.std.specs.Prelude.{◌≡◌, ◌<◌, ◌⊎◌, ℕ, Option, Some, None}
-use Rattle.fkv_hybrid.specs.declared.entries.Entry.{Entry}
+use Rattle.fkv_texts.specs.declared.entries.Entry.{Entry}
 
 -- the last record of a key, or its newest at or below an address: there is none, or it is a tombstone, or it lies below
 -- the safe read-only offset

@@ -2,9 +2,9 @@
 -- class to the last; and the views of the sessions agree with the offsets of the log.
 use Rattle.std.specs.Prelude.{◌≡◌, ◌^◌, ◌≤◌, ℕ, length}
 use Rattle.fkv_records.specs.Records.{IsPrevious}
-use Rattle.fkv_hybrid.specs.Places.{IsLaidOut}
-use Rattle.fkv_hybrid.specs.Text.{IsRising, IsFrom, IsBelow}
-use Rattle.fkv_hybrid.specs.Chains.{last_of_class, Leads, IsChained}
+use Rattle.fkv_texts.specs.Places.{IsLaidOut}
+use Rattle.fkv_texts.specs.Text.{IsRising, IsFrom, IsBelow}
+use Rattle.fkv_texts.specs.Chains.{last_of_class, Leads, IsChained}
 use Rattle.fkv_epoch.specs.Timely.{IsTimely}
 use Rattle.fkv_regions.specs.RegionsView.{RegionsView}
 use Rattle.fkv_regions.specs.Agree.{IsRegions}

@@ -5,8 +5,8 @@ ghost use Rattle.fkv_operations.specs.Decisions.{met_by, met_in, decision, held_
 use crate::operations::{Answer, Op, OpOf};
 use crate::plainly::shown;
 use fkv_functions::Functions;
-use fkv_hybrid::Entry;
 use fkv_regions::{Region, View};
+use fkv_texts::Entry;
 
 /// What the look-up of a key meets, as the session sees it that looks.
 #[derive(Clone, Copy, PartialEq, Eq, Debug)]

@@ -7,8 +7,8 @@ ghost use Rattle.fkv_functions.specs.Meanings.{Meanings};
 ghost use Rattle.fkv_epoch.specs.Moves.{is_entered};
 ghost use Rattle.fkv_regions.specs.declared.offsets.Region.TheVariants.{Fuzzy, Mutable};
 ghost use Rattle.fkv_regions.specs.Offsets.{region_of, view_at};
-ghost use Rattle.fkv_hybrid.specs.declared.entries.Entry.{Entry};
-ghost use Rattle.fkv_hybrid.specs.Text.{entry_at, value_at, last_of, newest, live};
+ghost use Rattle.fkv_texts.specs.declared.entries.Entry.{Entry};
+ghost use Rattle.fkv_texts.specs.Text.{entry_at, value_at, last_of, newest, live};
 ghost use Rattle.fkv_index.specs.Words.{address_of};
 ghost use Rattle.fkv_operations.specs.declared.classes.Class.{Class};
 ghost use Rattle.fkv_operations.specs.declared.entries.IndexEntry.{IndexEntry};
@@ -81,8 +81,8 @@ pub fn regions_hold<K, V, I, O>()
         → IsTraced code v → IsTrue (is_entered v.regions.epochs slot)
         → decision f op (met_by entry (view_at v.regions.views slot) last) ≡ Replace value a
         → (e : Entry K V) × (last ≡ Some e) × IsSome e.value
-            × (region_of (view_at v.regions.views slot) e.address ≡ Mutable)
-            × (v.regions.offsets.safe_read_only ≤ e.address) }
+        × (region_of (view_at v.regions.views slot) e.address ≡ Mutable)
+        × (v.regions.offsets.safe_read_only ≤ e.address) }
     // the source of an update that asks for its new value is still
     ensures prepared { (f : Meanings K V I O) (code : K → ℕ) (v : RecordsView K V) (slot : ℕ) (op : Op K V I)
         (entry : Option ℕ) (last : Option (Entry K V)) (source : Option V) (i : I)
@@ -94,8 +94,8 @@ pub fn regions_hold<K, V, I, O>()
         (entry : Option ℕ) (last : Option (Entry K V))
         → decision f op (met_by entry (view_at v.regions.views slot) last) ≡ Wait
         → (i : I) × (op ≡ Rmw (key_of op) i)
-            × ((e : Entry K V) × (last ≡ Some e) × IsSome e.value
-            × (region_of (view_at v.regions.views slot) e.address ≡ Fuzzy)) }
+        × ((e : Entry K V) × (last ≡ Some e) × IsSome e.value
+        × (region_of (view_at v.regions.views slot) e.address ≡ Fuzzy)) }
 {
     by_region();
 }

@@ -16,8 +16,8 @@ use Rattle.fkv_operations.specs.After.{key_of}
 use Rattle.fkv_operations.specs.Classes.{IsClass}
 use Rattle.fkv_functions.specs.Plain.{IsKeyOrder}
 use Rattle.fkv_regions.specs.declared.offsets.View.{View}
-use Rattle.fkv_hybrid.specs.declared.entries.Entry.{Entry}
-use Rattle.fkv_hybrid.specs.Text.{last_of}
+use Rattle.fkv_texts.specs.declared.entries.Entry.{Entry}
+use Rattle.fkv_texts.specs.Text.{last_of}
 use Rattle.fkv_operations.specs.Traced.{IsTraced}
 use Rattle.fkv_operations.proofs.TracedLemmas.{traced-none}
 use Rattle.fkv_operations.specs.Decisions.{met_by, decision}

@@ -3,7 +3,7 @@ use Rattle.std.proofs.Common.{◌≡◌, true, false, ℕ, ◌+◌, ◌*◌, Boo
 use Rattle.std.specs.Bool.{OnTrue, OnFalse}
 use Rattle.std.proofs.lemmas.Bool.{OnTrue_at, OnFalse_at}
 use Rattle.std.specs.declared.cmp.Ordering.{Ordering}
-use Rattle.fkv_hybrid.specs.Text.{newest}
+use Rattle.fkv_texts.specs.Text.{newest}
 use Rattle.fkv_index.specs.declared.places.Place.{Place}
 use Rattle.fkv_index.specs.Words.{tentative_word, is_tentative}
 use Rattle.fkv_index.specs.Places.{word_at}

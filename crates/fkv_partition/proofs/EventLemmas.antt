@@ -18,7 +18,7 @@ use Rattle.fkv_operations.specs.declared.operations.Op.{Op}
 use Rattle.fkv_operations.specs.declared.operations.Op.TheVariants.{Read, Upsert, Rmw, Delete}
 use Rattle.fkv_operations.specs.declared.operations.Answer.{Answer}
 use Rattle.fkv_operations.specs.declared.operations.Answer.TheVariants.{Value}
-use Rattle.fkv_hybrid.specs.Text.{last_of, newest, value_of, live}
+use Rattle.fkv_texts.specs.Text.{last_of, newest, value_of, live}
 use Rattle.fkv_index.specs.declared.places.Place.{Place}
 use Rattle.fkv_index.specs.Words.{address_of}
 use Rattle.fkv_index.specs.Places.{word_at}
@@ -240,7 +240,7 @@ module _ {K V I O : Type 0} (cmp : K → K → Ordering) (f : Meanings K V I O) 
                 ∙ ap (λ (m : PlainMap K V). m q) (sym (append-after cmp f (live_of cmp v) x.op (met_at cmp code v slot (key_of x.op)) value a d))),
             append-answer cmp f (live_of cmp v) x.op (met_at cmp code v slot (key_of x.op)) value a d,
           );
-              frame = record { others = l.others; number = refl; count = refl; begin = refl; regions = refl; moment = refl };
+          frame = record { others = l.others; number = refl; count = refl; begin = refl; regions = refl; moment = refl };
         }
 
     -- or gives the last record of its key another value where it stands, or makes it a tombstone
@@ -302,7 +302,7 @@ module _ {K V I O : Type 0} (cmp : K → K → Ordering) (f : Meanings K V I O) 
           question = asked_by x;
           was = was-asked;
           effect = (was-asked, (λ q. refl), w.number, w.op_is);
-              frame = record { others = λ t d o. refl; number = refl; count = refl; begin = refl; regions = refl; moment = refl };
+          frame = record { others = λ t d o. refl; number = refl; count = refl; begin = refl; regions = refl; moment = refl };
         }
 
     -- the built value is appended
@@ -326,7 +326,7 @@ module _ {K V I O : Type 0} (cmp : K → K → Ordering) (f : Meanings K V I O) 
                 ∙ ap (λ o. after cmp f (live_of cmp v) o p) (sym w.op_is)),
             ap (λ (u : V). Value (f.shown ask.key ask.input u)) meant ∙ ap (answer f (live_of cmp v)) (sym w.op_is),
           );
-              frame = record { others = l.others; number = refl; count = refl; begin = refl; regions = refl; moment = refl };
+          frame = record { others = l.others; number = refl; count = refl; begin = refl; regions = refl; moment = refl };
         }
 
 module _ {K V I : Type 0} (code : K → ℕ) (v : PartitionView K V I) where
@@ -341,7 +341,7 @@ module _ {K V I : Type 0} (code : K → ℕ) (v : PartitionView K V I) where
         opened = ap (option_map asked_by) (context-inside (slots_of v) (slice_set v.contexts (slot * 8 + c) x) slot c inside low ∙ ap joined (get-set_same v.contexts (slot * 8 + c) None x here));
         own = own;
         text = refl;
-          frame = record {
+        frame = record {
           others = λ t d o. ap (option_map asked_by) (context-other (slots_of v) v.contexts slot c t d x low o);
           number = refl;
           count = refl;

@@ -4,8 +4,8 @@ use Rattle.std.specs.declared.cmp.Ordering.{Ordering}
 use Rattle.fkv_functions.specs.Meanings.{Meanings}
 use Rattle.fkv_functions.specs.declared.asks.Ask.{Ask}
 use Rattle.fkv_functions.specs.declared.refusals.Refused.{Refused}
-use Rattle.fkv_hybrid.specs.declared.entries.Entry.{Entry}
-use Rattle.fkv_hybrid.specs.Text.{entry_at, last_of}
+use Rattle.fkv_texts.specs.declared.entries.Entry.{Entry}
+use Rattle.fkv_texts.specs.Text.{entry_at, last_of}
 use Rattle.fkv_operations.specs.After.{key_of}
 use Rattle.fkv_operations.specs.RecordsViews.{RecordsView, with_record, with_value}
 use Rattle.fkv_operations.specs.declared.entries.IndexEntry.{IndexEntry}
@@ -26,7 +26,7 @@ module _ {K V I O : Type 0} (cmp : K → K → Ordering) (f : Meanings K V I O) 
   pub goes-frozen : (now : ℕ) (result : Result (Progress K V I O) Refused)
       → ((e : IndexEntry) (key : K) (value : Option V) (a : ℕ) → a < old.records.regions.offsets.safe_read_only → entry_at (with_record old.records e key value).text a ≡ entry_at old.records.text a)
       → ((x : Context K V I) (value : Option V) (told : Answer O) (e : Entry K V) → Decides cmp f code old slot c x (decided.Replace value told) → last_of cmp old.records.text (key_of x.op) ≡ Some e
-          → (a : ℕ) → a < old.records.regions.offsets.safe_read_only → entry_at (with_value old.records e.address value).text a ≡ entry_at old.records.text a)
+      → (a : ℕ) → a < old.records.regions.offsets.safe_read_only → entry_at (with_value old.records e.address value).text a ≡ entry_at old.records.text a)
       → Goes cmp f code old new slot c now result
       → FrozenStay old new
   goes-frozen now result grows changes (Goes.unknown h is r) = as-text _ is (λ a low. refl)

@@ -7,8 +7,8 @@ use Rattle.std.specs.Map.{lookup, keys_of}
 use Rattle.std.specs.Cmp.{IsTotalOrder, eq_by_cmp_equiv}
 use Rattle.std.proofs.lemmas.Map.Views.{All-keys_from_lookup}
 use Rattle.fkv_functions.specs.Plain.{IsKeyOrder}
-use Rattle.fkv_hybrid.specs.declared.entries.Entry.{Entry}
-use Rattle.fkv_hybrid.specs.Text.{last_of, value_of, live}
+use Rattle.fkv_texts.specs.declared.entries.Entry.{Entry}
+use Rattle.fkv_texts.specs.Text.{last_of, value_of, live}
 
 module _ {K V : Type 0} (cmp : K → K → Ordering) (order : IsKeyOrder cmp) (P : K → Type 0) where
   by_case : (x : Entry K V) (q : K) (l : Option (Entry K V)) (b : Bool) → is_at (cmp x.key) q ≡ b → (IsSome l → P q) → P x.key → IsSome (option_or l (cond b (Some x) None)) → P q

@@ -3,8 +3,8 @@ use Rattle.std.proofs.Common.{◌≡◌, ◌≢◌, true, false, ℕ, zero, suc,
 use Rattle.std.proofs.lemmas.List.{length-set}
 use Rattle.std.proofs.lemmas.Bool.{cases_eq}
 use Rattle.std.specs.declared.cmp.Ordering.{Ordering}
-use Rattle.fkv_hybrid.specs.declared.entries.Entry.{Entry}
-use Rattle.fkv_hybrid.specs.Text.{newest, value_of}
+use Rattle.fkv_texts.specs.declared.entries.Entry.{Entry}
+use Rattle.fkv_texts.specs.Text.{newest, value_of}
 use Rattle.fkv_regions.specs.RegionsView.{RegionsView}
 use Rattle.fkv_index.specs.declared.places.Place.{Place}
 use Rattle.fkv_index.specs.Words.{address_of, is_tentative, is_final}
@@ -27,7 +27,7 @@ use Rattle.fkv_partition.specs.Claiming.{AreOwned}
 use Rattle.fkv_partition.specs.Views.{PartitionView, slots_of, empty_partition, partition_of, with_context, with_appended, with_replaced, in_regions}
 use Rattle.fkv_partition.specs.Sound.{StandsFor, IsSound}
 use Rattle.fkv_functions.proofs.ListLemmas.{get-set_cases, get-set_same, get-set_other, get-append_last, get-append_cases}
-use Rattle.fkv_hybrid.proofs.ChangeLemmas.{was_at, set_at-key}
+use Rattle.fkv_texts.proofs.ChangeLemmas.{was_at, set_at-key}
 use Rattle.fkv_partition.proofs.ClaimLemmas.{owned-quiet, owned-claimed, owned-freed}
 
 -- records change: what is newest at or below each address that is taken stays where it is still, what is frozen is

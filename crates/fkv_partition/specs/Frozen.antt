@@ -1,6 +1,6 @@
 -- What is frozen: the records below the safe read-only offset.
 use Rattle.std.specs.Prelude.{◌≡◌, ◌<◌, ℕ}
-use Rattle.fkv_hybrid.specs.Text.{entry_at}
+use Rattle.fkv_texts.specs.Text.{entry_at}
 use Rattle.fkv_partition.specs.Views.{PartitionView}
 
 -- each frozen record stays in the text as it is

@@ -26,8 +26,8 @@ use Rattle.fkv_partition.specs.declared.contexts.Progress.TheVariants.{Done, Nex
 use Rattle.fkv_partition.specs.declared.contexts.Wait.TheVariants.{Fuzzy}
 use Rattle.fkv_partition.specs.Contexts.{question_in, at_phase}
 use Rattle.fkv_partition.specs.Claiming.{IsClaimed}
-use Rattle.fkv_hybrid.specs.declared.entries.Entry.{Entry}
-use Rattle.fkv_hybrid.specs.Text.{last_of}
+use Rattle.fkv_texts.specs.declared.entries.Entry.{Entry}
+use Rattle.fkv_texts.specs.Text.{last_of}
 use Rattle.fkv_partition.specs.Views.{PartitionView, found_for, met_at, context_at, with_context, with_appended, with_replaced}
 
 -- an operation that looks its key up in a context, and what it then does

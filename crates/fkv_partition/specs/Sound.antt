@@ -3,8 +3,8 @@
 -- value where it stands; and each tentative entry belongs to one operation, which waits to confirm it.
 use Rattle.std.specs.Prelude.{◌≡◌, true, ◌+◌, ◌*◌, ◌^◌, ◌<◌, ℕ, length, Option, Some, slice_get}
 use Rattle.std.specs.declared.cmp.Ordering.{Ordering}
-use Rattle.fkv_hybrid.specs.declared.entries.Entry.{Entry}
-use Rattle.fkv_hybrid.specs.Text.{newest, value_of}
+use Rattle.fkv_texts.specs.declared.entries.Entry.{Entry}
+use Rattle.fkv_texts.specs.Text.{newest, value_of}
 use Rattle.fkv_index.specs.Words.{address_of}
 use Rattle.fkv_operations.specs.After.{key_of}
 use Rattle.fkv_operations.specs.RecordsViews.{RecordsView, class_in, WasEntryOf}

@@ -6,7 +6,7 @@ use Rattle.fkv_epoch.specs.Moves as epochs
 use Rattle.fkv_regions.specs.declared.offsets.View.{View}
 use Rattle.fkv_regions.specs.Offsets.{view_at}
 use Rattle.fkv_regions.specs.RegionsView.{RegionsView}
-use Rattle.fkv_hybrid.specs.Text.{last_of, live}
+use Rattle.fkv_texts.specs.Text.{last_of, live}
 use Rattle.fkv_operations.specs.declared.entries.IndexEntry.{IndexEntry}
 use Rattle.fkv_operations.specs.RecordsViews.{RecordsView, empty_records, class_in, entry_of, found_in}
 use Rattle.fkv_operations.specs.RecordsViews.{with_record, with_value, with_regions}

@@ -12,7 +12,7 @@ ghost use Rattle.fkv_operations.specs.RecordsViews.{class_in, confirmed, release
 ghost use Rattle.fkv_partition.specs.Contexts.{at_phase, claim_by, claim_at};
 ghost use Rattle.fkv_partition.specs.Claiming.{IsClaimed};
 ghost use Rattle.fkv_regions.specs.RegionsView.{left};
-ghost use Rattle.fkv_hybrid.specs.Text.{value_at};
+ghost use Rattle.fkv_texts.specs.Text.{value_at};
 ghost use Rattle.fkv_partition.specs.Views.{context_at, in_regions, open_context, partition_of, with_context, with_appended, with_replaced};
 ghost use Rattle.fkv_partition.specs.Sound.{StandsFor};
 ghost use Rattle.fkv_partition.specs.Beginning.{IsEntered};

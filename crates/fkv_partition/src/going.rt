@@ -2,7 +2,7 @@
 ghost use Rattle.std.specs.Prelude.{◌≡◌, ◌<◌, ◌≤◌, IsSome, Option, Some, None, Ok, IfOk, OnErr};
 ghost use Rattle.fkv_operations.specs.After.{key_of};
 ghost use Rattle.fkv_operations.specs.RecordsViews.{class_in, IsEntryOf};
-ghost use Rattle.fkv_hybrid.specs.Text.{entry_at, last_of};
+ghost use Rattle.fkv_texts.specs.Text.{entry_at, last_of};
 ghost use Rattle.fkv_partition.specs.Contexts.{question_in, claim_by};
 ghost use Rattle.fkv_partition.specs.Views.{context_at, found_for};
 ghost use Rattle.fkv_partition.specs.Writes.{IsWrite};
@@ -14,9 +14,9 @@ use crate::contexts::{ContextOf, Phase, Progress, ProgressOf, Wait, claim_of, qu
 use crate::partitions::Partition;
 use fkv_functions::{Ask, Functions, Refused};
 use fkv_index::Place;
-use fkv_hybrid::Entry;
 use fkv_operations::laws::{entries_lead, records_change, records_grow, regions_hold};
 use fkv_operations::{AnswerOf, Decision, IndexEntry};
+use fkv_texts::Entry;
 
 impl<F: Functions> Partition<F> {
     /// Goes on with an operation: it looks its key up, and what it meets decides. A read is finished with

@@ -5,7 +5,7 @@ ghost use Rattle.fkv_operations.specs.After.{key_of};
 ghost use Rattle.fkv_operations.specs.Decisions.{decision};
 ghost use Rattle.fkv_operations.specs.Classes.{IsClass};
 ghost use Rattle.fkv_operations.specs.RecordsViews.{class_in, IsEntryOf};
-ghost use Rattle.fkv_hybrid.specs.Text.{entry_at, last_of};
+ghost use Rattle.fkv_texts.specs.Text.{entry_at, last_of};
 ghost use Rattle.fkv_partition.specs.Contexts.{is_session};
 ghost use Rattle.fkv_partition.specs.Beginning.{IsEntered};
 ghost use Rattle.fkv_partition.specs.Views.{context_at, entry_for, found_for, free_context, met_at, open_context, partition_of, slots_of};
@@ -14,10 +14,10 @@ ghost use Rattle.fkv_partition.specs.Sound.{IsSound};
 use crate::contexts::{ContextOf, free_context, open_at, open_context};
 use crate::partitions::Partition;
 use fkv_functions::Functions;
-use fkv_hybrid::Entry;
 use fkv_operations::laws::entries_lead;
 use fkv_operations::{Class, DecisionOf, IndexEntry, OpOf, decide, met_by};
 use fkv_records::Address;
+use fkv_texts::Entry;
 
 /// Where an entry leads.
 fn address_of(entry: &Option<IndexEntry>) -> Option<Address>

@@ -1,7 +1,8 @@
 //! Records over three pages, the places at the top, and refused growths. Chains are followed where records are.
 use fkv_functions::{Fixed, Name, Refused};
-use fkv_hybrid::{Entry, Log};
+use fkv_hybrid::Log;
 use fkv_records::{Address, END, Shape, record_size};
+use fkv_texts::Entry;
 use std::alloc::Global;
 
 /// Where records of 48 bytes stand on three pages of 256 bytes.

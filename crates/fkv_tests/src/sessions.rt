@@ -1,8 +1,10 @@
 //! Sessions of a log: what they see of its regions, and entries that change where they stand.
 use fkv_functions::{Name, Refused};
-use fkv_hybrid::{Log, laws};
+use fkv_hybrid::Log;
+use fkv_hybrid::laws::frozen_stay;
 use fkv_records::{Address, NO_RECORD, Shape, record_size};
 use fkv_regions::Region;
+use fkv_texts::laws::{changed, changed_chains};
 use std::alloc::Global;
 
 /// A call on a log, with what it has to answer, or what has to hold of the log.
@@ -193,9 +195,9 @@ fn regions_and_changes(rt: HostRuntime) {
     assert!(rt; first_wrong(rt.alloc(), 350, &TWO_VIEWS) == None);
     assert!(rt; first_wrong(rt.alloc(), 800, &LEFT_BEHIND) == None);
     assert!(rt; first_wrong(rt.alloc(), 400, &CHANGES) == None);
-    laws::changed::<Name, u64>();
-    laws::changed_chains::<Name, u64, u64>();
-    laws::frozen_stay::<Name, u64>();
+    changed::<Name, u64>();
+    changed_chains::<Name, u64, u64>();
+    frozen_stay::<Name, u64>();
 }
 
 /// What comes once sixteen shifts wait for one session: the seventeenth is refused, a page that is not due as before,

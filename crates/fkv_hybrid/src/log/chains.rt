@@ -1,16 +1,17 @@
 //! The way along previous addresses.
 ghost use Rattle.std.specs.Prelude.{◌≡◌, List, find, Some, IsSome, IfSome, IfOk, IfErr};
 ghost use Rattle.fkv_records.specs.Records.{IsPrevious};
-ghost use Rattle.fkv_hybrid.specs.declared.entries.Entry.{Entry};
-ghost use Rattle.fkv_hybrid.specs.Text.{entry_at, has_key};
-ghost use Rattle.fkv_hybrid.specs.Chains.{IsChainFrom};
+ghost use Rattle.fkv_texts.specs.declared.entries.Entry.{Entry};
+ghost use Rattle.fkv_texts.specs.Text.{entry_at, has_key};
+ghost use Rattle.fkv_texts.specs.Chains.{IsChainFrom};
 
-use crate::entries::{Entry, entry_with};
 use crate::log::Log;
 use crate::pages::part;
 use fkv_functions::Fixed;
 use fkv_records::reading::{is_of, link_of, value_of};
 use fkv_records::{Address, FIRST};
+use fkv_texts::Entry;
+use fkv_texts::entries::entry_with;
 
 impl<K: Fixed + Ord, V: Fixed> Log<K, V> {
     /// The first entry of a key on the chain from an address, or `None` where the chain has none.
@@ -50,11 +51,6 @@ impl<K: Fixed + Ord, V: Fixed> Log<K, V> {
         if is_tombstone {
             return Ok(entry_with(address, previous, key, None));
         }
-        Ok(entry_with(
-            address,
-            previous,
-            key,
-            value_of::<K, V>(bytes),
-        ))
+        Ok(entry_with(address, previous, key, value_of::<K, V>(bytes)))
     }
 }

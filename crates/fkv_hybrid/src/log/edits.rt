@@ -3,7 +3,7 @@ ghost use Rattle.std.specs.Prelude.{◌≡◌, ◌+◌, ◌^◌, ◌<◌, ◌≤
 ghost use Rattle.std.specs.Prelude.{Some, None};
 ghost use Rattle.fkv_records.specs.Records.{size_of};
 ghost use Rattle.fkv_hybrid.specs.Edits.{EditsPart, Edits};
-ghost use Rattle.fkv_hybrid.specs.Text.{entry_at, value_at};
+ghost use Rattle.fkv_texts.specs.Text.{entry_at, value_at};
 ghost use Rattle.fkv_hybrid.specs.Views.{with_value};
 
 use crate::log::Log;

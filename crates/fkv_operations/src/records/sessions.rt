@@ -5,7 +5,7 @@ ghost use Rattle.fkv_records.specs.Places.{start_at};
 ghost use Rattle.fkv_epoch.specs.Moves.{free_slot, is_entered};
 ghost use Rattle.fkv_regions.specs.Offsets.{view_at};
 ghost use Rattle.fkv_regions.specs.RegionsView.{IsReadOnlyDue, IsRoomy, entered, refreshed, left, with_read_only};
-ghost use Rattle.fkv_hybrid.specs.Text.{value_at};
+ghost use Rattle.fkv_texts.specs.Text.{value_at};
 ghost use Rattle.fkv_operations.specs.RecordsViews.{with_regions, with_value};
 
 use crate::records::Records;

@@ -1,15 +1,18 @@
 //! The table of decisions, row by row, for a sum, and what a session's view makes of the last record of a key.
 use crate::letters::on_name;
 use fkv_functions::SumFns;
-use fkv_hybrid::Entry;
 use fkv_operations::{Answer, Decision, Met, Op, decide, met_by};
 use fkv_regions::View;
+use fkv_texts::Entry;
 
 type Row = (Op<u8, i128, i64>, Met<i128>, Decision<i128, i64, i128>);
 
 const READ: Op<u8, i128, i64> = Op::Read(b'a', 0);
+
 const UPSERT: Op<u8, i128, i64> = Op::Upsert(b'a', 4);
+
 const UPDATE: Op<u8, i128, i64> = Op::Rmw(b'a', 5);
+
 const DELETE: Op<u8, i128, i64> = Op::Delete(b'a');
 
 const ROWS: [Row; 20] = [

@@ -155,12 +155,7 @@ const TWO_UPDATES_OF_A_FROZEN_VALUE: [Row; 15] = [
             came: 17,
         }),
     ),
-    Row::Install(
-        0,
-        0,
-        ASKED_FIRST,
-        Ok(Progress::Done(Answer::Value(3), 22)),
-    ),
+    Row::Install(0, 0, ASKED_FIRST, Ok(Progress::Done(Answer::Value(3), 22))),
     Row::Install(1, 0, ASKED_SECOND, Ok(Progress::Next)),
     Row::Go(1, 0, Ok(Progress::Done(Answer::Value(6), 24))),
 ];

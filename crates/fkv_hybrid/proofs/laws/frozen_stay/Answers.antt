@@ -1,6 +1,6 @@
 use Rattle.std.proofs.Common.{refl, arith}
-use Rattle.fkv_hybrid.proofs.TextLemmas.{entry_at-old}
-use Rattle.fkv_hybrid.proofs.ChangeLemmas.{entry_at-elsewhere}
+use Rattle.fkv_texts.proofs.TextLemmas.{entry_at-old}
+use Rattle.fkv_texts.proofs.ChangeLemmas.{entry_at-elsewhere}
 use Rattle.fkv_hybrid.proofs.laws.frozen_stay.Goals as goal
 
 pub returns : goal.returns

@@ -1,5 +1,5 @@
 use Rattle.std.proofs.Common.{refl, arith}
-use Rattle.fkv_hybrid.proofs.ChangeLemmas.{live-changed, entry_at-elsewhere}
+use Rattle.fkv_texts.proofs.ChangeLemmas.{live-changed, entry_at-elsewhere}
 use Rattle.fkv_operations.proofs.RegionLemmas.{still-stays}
 use Rattle.fkv_operations.proofs.laws.records_change.Goals as goal
 

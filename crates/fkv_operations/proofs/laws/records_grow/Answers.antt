@@ -1,5 +1,5 @@
 use Rattle.std.proofs.Common.{arith}
-use Rattle.fkv_hybrid.proofs.TextLemmas.{live-append, newest-below, entry_at-old}
+use Rattle.fkv_texts.proofs.TextLemmas.{live-append, newest-below, entry_at-old}
 use Rattle.fkv_index.specs.Words.{address_of}
 use Rattle.fkv_operations.proofs.laws.records_grow.Goals as goal
 

@@ -1,7 +1,7 @@
 use Rattle.std.proofs.Common.{◌<◌, ◌^◌, List, ap, ◌∙◌, refl, arith, [], ◌∷◌, ◌++◌}
 use Rattle.fkv_hybrid.proofs.PageLemmas.{the_text, log_of, text_is, grown, open_at, sound_record, tail_is, on_err, log_at, view_at}
-use Rattle.fkv_hybrid.specs.Places.{tail_after}
-use Rattle.fkv_hybrid.proofs.PlaceLemmas.{tail_rises}
+use Rattle.fkv_texts.specs.Places.{tail_after}
+use Rattle.fkv_texts.proofs.PlaceLemmas.{tail_rises}
 use Rattle.fkv_hybrid.proofs.SessionLemmas.{regions_above}
 use Rattle.fkv_hybrid.proofs.log.Log.append.Goals as goal
 

@@ -1,10 +1,10 @@
 use Rattle.std.proofs.Common.{◌≡◌, ◌≤◌, Bool, true, false, Option, Some, None, IfSome, ap, sym, subst, ◌∙◌, arith, refl}
 use Rattle.std.specs.BTreeMap.{is_at}
 use Rattle.fkv_functions.proofs.KeyOrder.{key_order}
-use Rattle.fkv_hybrid.specs.Chains.{IsChainFrom}
+use Rattle.fkv_texts.specs.Chains.{IsChainFrom}
 use Rattle.std.specs.List.{find}
-use Rattle.fkv_hybrid.specs.Text.{has_key}
-use Rattle.fkv_hybrid.proofs.ChainLemmas.{one_chain, stands_at, met_here, passed_here, goes_on}
+use Rattle.fkv_texts.specs.Text.{has_key}
+use Rattle.fkv_texts.proofs.ChainLemmas.{one_chain, stands_at, met_here, passed_here, goes_on}
 use Rattle.fkv_hybrid.proofs.log.Log.first_on_chain.Goals as goal
 
 by-test : (b : Bool) → (b ≡ true → ⊥) → b ≡ false

@@ -1,8 +1,8 @@
 use Rattle.std.proofs.Common.{◌≡◌, List}
 use Rattle.std.specs.List.{find}
-use Rattle.fkv_hybrid.specs.declared.entries.Entry.{Entry}
-use Rattle.fkv_hybrid.specs.Text.{has_key}
-use Rattle.fkv_hybrid.specs.Chains.{IsChainFrom}
+use Rattle.fkv_texts.specs.declared.entries.Entry.{Entry}
+use Rattle.fkv_texts.specs.Text.{has_key}
+use Rattle.fkv_texts.specs.Chains.{IsChainFrom}
 use Rattle.fkv_hybrid.proofs.log.Log.first_on_chain.Given as goal
 
 -- what is left of the chain, in which the first of the key is that of the whole

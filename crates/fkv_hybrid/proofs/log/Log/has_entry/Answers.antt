@@ -2,7 +2,7 @@ use Rattle.std.proofs.Common.{arith}
 use Rattle.std.proofs.lemmas.Bool.{lt-ltb}
 use Rattle.std.proofs.lemmas.Bool.Decides.{nat_tests}
 use Rattle.fkv_records.specs.Places.{first}
-use Rattle.fkv_hybrid.proofs.PlaceLemmas.{entry_there, entry_stands}
+use Rattle.fkv_texts.proofs.PlaceLemmas.{entry_there, entry_stands}
 use Rattle.fkv_hybrid.proofs.log.Log.has_entry.Goals as goal
 
 pub returns-then-address-self : goal.returns-then-address-self

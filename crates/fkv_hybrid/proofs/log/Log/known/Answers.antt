@@ -1,6 +1,6 @@
 use Rattle.std.proofs.Common.{arith}
 use Rattle.fkv_records.specs.Places.{first}
-use Rattle.fkv_hybrid.proofs.PlaceLemmas.{rising, stands}
+use Rattle.fkv_texts.proofs.PlaceLemmas.{rising, stands}
 use Rattle.fkv_hybrid.proofs.SessionLemmas.{head_first}
 use Rattle.fkv_hybrid.proofs.log.Log.known.Goals as goal
 

@@ -1,6 +1,6 @@
 use Rattle.std.proofs.Common.{arith, Some, IsSome}
 use Rattle.std.proofs.lemmas.List.{length-map}
-use Rattle.fkv_hybrid.specs.Text.{changed}
+use Rattle.fkv_texts.specs.Text.{changed}
 use Rattle.fkv_hybrid.proofs.PageLemmas.{the_text, log_of, text_is, held}
 use Rattle.fkv_hybrid.proofs.EditLemmas.{edited, entry_of_value, value_there}
 use Rattle.fkv_hybrid.proofs.log.Log.write_value.Goals as goal

@@ -1,6 +1,6 @@
 use Rattle.std.proofs.Common.{refl, ◌∙◌}
 use Rattle.fkv_functions.proofs.KeyOrder.{key_order}
-use Rattle.fkv_hybrid.specs.Chains.{falling}
+use Rattle.fkv_texts.specs.Chains.{falling}
 use Rattle.fkv_operations.specs.Classes.{class_at, same_class}
 use Rattle.fkv_operations.proofs.ClassLemmas.{class_test}
 use Rattle.fkv_operations.proofs.TracedLemmas.{leads_of}

@@ -5,7 +5,7 @@ use Rattle.fkv_operations.specs.After.{key_of}
 use Rattle.fkv_operations.specs.RecordsViews.{class_in}
 use Rattle.fkv_operations.specs.declared.operations.Op.TheVariants.{Rmw}
 use Rattle.fkv_partition.specs.Contexts.{claim_by}
-use Rattle.fkv_hybrid.specs.Text.{last_of}
+use Rattle.fkv_texts.specs.Text.{last_of}
 use Rattle.fkv_partition.specs.Views.{entry_for, slots_of}
 use Rattle.fkv_partition.proofs.AskedLemmas.{open_at}
 use Rattle.fkv_partition.specs.Going.{prepares}

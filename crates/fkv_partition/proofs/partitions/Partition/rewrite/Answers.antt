@@ -1,6 +1,6 @@
 use Rattle.std.proofs.Common.{refl, ap}
 use Rattle.fkv_functions.proofs.KeyOrder.{key_order}
-use Rattle.fkv_hybrid.specs.Text.{value_of, last_of}
+use Rattle.fkv_texts.specs.Text.{value_of, last_of}
 use Rattle.fkv_operations.specs.After.{key_of}
 use Rattle.fkv_partition.specs.Contexts.{claim_by}
 use Rattle.fkv_partition.specs.Views.{entry_for, slots_of}

@@ -1,6 +1,6 @@
 use Rattle.std.proofs.Common.{refl}
-use Rattle.fkv_hybrid.specs.WrongTexts.{entry}
-use Rattle.fkv_hybrid.proofs.laws.wrong_texts.Goals as goal
+use Rattle.fkv_texts.specs.WrongTexts.{entry}
+use Rattle.fkv_texts.proofs.laws.wrong_texts.Goals as goal
 
 pub returns-clause-links : goal.returns-clause-links
 returns-clause-links c =

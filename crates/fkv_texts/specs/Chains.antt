@@ -1,8 +1,10 @@
 -- Classes of keys, and the chains of their entries. A class is what `class` makes of a key.
 use Rattle.std.specs.Prelude.{◌≡◌, ℕ, ◌<◌, ◌≤◌, Bool, true, ◌&&◌, List, [], ◌∷◌, filter, reverse, Option, Some, None}
 use Rattle.std.specs.Prelude.{nat_lt, slice_get}
-use Rattle.fkv_hybrid.specs.declared.entries.Entry.{Entry}
-use Rattle.fkv_hybrid.specs.Text.{last_where, entry_at}
+use Rattle.fkv_texts.specs.declared.entries.Entry.{Entry}
+use Rattle.fkv_texts.specs.declared.entries.Reached.{Reached}
+use Rattle.fkv_texts.specs.declared.entries.Reached.TheVariants.{Found, Below}
+use Rattle.fkv_texts.specs.Text.{last_where, entry_at}
 
 -- a test for the same class, exact
 pub record IsClassTest {C : Type 0} (same : C → C → Bool) : Type 0 where
@@ -58,3 +60,13 @@ pub record StandsAt {K V : Type 0} (begin : ℕ) (text : List (Entry K V)) (a : 
 -- the entries of a class, the last one first
 abbrev pub falling : {K V C : Type 0} → (K → C) → (C → C → Bool) → List (Entry K V) → C → List (Entry K V)
 falling class same text c = reverse (filter (has_class class same c) text)
+
+-- where previous addresses lead, from an address through these entries
+abbrev pub leads_to : {K V : Type 0} → ℕ → List (Entry K V) → ℕ
+leads_to a [] = a
+leads_to a (e ∷ es) = leads_to e.previous es
+
+-- what a reader of a chain comes to: the entry that it looks for, or where the chain leads where that is not on it
+abbrev pub reached : {K V : Type 0} → Option (Entry K V) → ℕ → Reached K V
+reached None a = Below a
+reached (Some e) a = Found e

@@ -1,11 +1,11 @@
 -- The text of a log: the list of its entries in rising address, and what it says of a key.
 use Rattle.std.specs.Prelude.{◌≡◌, ℕ, ◌<◌, ◌≤◌, Bool, cond, ◌&&◌, ◌==◌, List, [], ◌∷◌, Option, Some, None, nat_le}
-use Rattle.std.specs.Prelude.{slice_get, map}
+use Rattle.std.specs.Prelude.{slice_get, map, filter}
 use Rattle.std.specs.Option.{option_or}
 use Rattle.std.specs.declared.cmp.Ordering.{Ordering}
 use Rattle.std.specs.BTreeMap.{is_at}
 use Rattle.fkv_functions.specs.Plain.{PlainMap}
-use Rattle.fkv_hybrid.specs.declared.entries.Entry.{Entry}
+use Rattle.fkv_texts.specs.declared.entries.Entry.{Entry}
 
 -- the last that passes a test
 abbrev pub last_where : {A : Type 0} → (A → Bool) → List A → Option A
@@ -48,6 +48,10 @@ set_at a v e = cond (e.address == a) (record e { value = v }) e
 -- the text whose entry at an address has this value, or is a tombstone; all else is as it was
 abbrev pub changed : {K V : Type 0} → List (Entry K V) → ℕ → Option V → List (Entry K V)
 changed text a v = map (set_at a v) text
+
+-- the entries from an address on
+abbrev pub text_from : {K V : Type 0} → ℕ → List (Entry K V) → List (Entry K V)
+text_from a text = filter (λ e. nat_le a e.address) text
 
 -- all entries stand above an address
 abbrev pub AllAbove : {K V : Type 0} → ℕ → List (Entry K V) → Type 0

@@ -1,7 +1,7 @@
 -- Where the entries of a text stand.
 use Rattle.std.specs.Prelude.{◌≡◌, ◌^◌, ◌<◌, ℕ, List, [], ◌∷◌, unwrap_or}
 use Rattle.fkv_records.specs.Places.{place_after}
-use Rattle.fkv_hybrid.specs.declared.entries.Entry.{Entry}
+use Rattle.fkv_texts.specs.declared.entries.Entry.{Entry}
 
 -- where the log ends once a record stands at an address: the next place, or 2^48 where there is none
 abbrev pub tail_after : ℕ → ℕ → ℕ → ℕ

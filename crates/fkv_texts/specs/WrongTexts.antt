@@ -1,14 +1,10 @@
 -- What the definitions refuse, on small texts: keys and values are numbers, and the class of a key is its half.
-use Rattle.std.specs.Prelude.{◌≡◌, ◌<◌, ◌/◌, ◌==◌, ℕ, List, [], ◌∷◌, Option, Some, None}
+use Rattle.std.specs.Prelude.{◌≡◌, ◌<◌, ◌/◌, ◌==◌, ℕ, [], ◌∷◌, Option, Some, None}
 use Rattle.std.specs.Ordering.{nat_cmp}
-use Rattle.fkv_records.specs.Records.{Spells}
-use Rattle.fkv_regions.specs.RegionsView.{fresh_regions}
-use Rattle.fkv_hybrid.specs.declared.entries.Entry.{Entry}
-use Rattle.fkv_hybrid.specs.Text.{newest, live, changed}
-use Rattle.fkv_hybrid.specs.Places.{IsLaidOut}
-use Rattle.fkv_hybrid.specs.Chains.{IsChained, falling}
-use Rattle.fkv_hybrid.specs.Pages.{record_of, part_of, IsSpelled}
-use Rattle.fkv_hybrid.specs.Views.{empty_log, with_entry}
+use Rattle.fkv_texts.specs.declared.entries.Entry.{Entry}
+use Rattle.fkv_texts.specs.Text.{newest, live, changed, text_from}
+use Rattle.fkv_texts.specs.Places.{IsLaidOut}
+use Rattle.fkv_texts.specs.Chains.{IsChained, falling, leads_to}
 
 -- an entry by its address, previous address, key and value
 abbrev pub entry : ℕ → ℕ → ℕ → Option ℕ → Entry ℕ ℕ
@@ -52,20 +48,20 @@ HasEachPlace = (d e : Entry ℕ ℕ) (tail : ℕ)
     → IsLaidOut 8 32 64 tail (d ∷ e ∷ [])
     → (d.address ≡ 64) × (e.address ≡ 96) × (tail ≡ 128)
 
--- an appended entry is all that was handed in
-abbrev pub AppendsItWhole : Type 0
-AppendsItWhole = (p k : ℕ) (v : Option ℕ)
-    → with_entry 32 (empty_log 8) p k v
-    ≡ record { bits = 8; begin = 64; tail = 96; regions = fresh_regions 8; text = entry 64 p k v ∷ [] }
-
 -- a change is of the one entry at its address, and of its value alone
 abbrev pub ChangesOne : Type 0
 ChangesOne = (p q : ℕ) (v w x : Option ℕ)
     → (changed (entry 64 p 3 v ∷ entry 96 q 3 w ∷ []) 96 x ≡ entry 64 p 3 v ∷ entry 96 q 3 x ∷ [])
     × (changed (entry 64 p 3 v ∷ entry 96 q 3 w ∷ []) 95 x ≡ entry 64 p 3 v ∷ entry 96 q 3 w ∷ [])
 
--- an entry is spelled in the page of its address
-abbrev pub SpelledInItsPage : Type 0
-SpelledInItsPage = (bytes : ℕ → List ℕ) (a b : List ℕ) (p k : ℕ) (v : Option ℕ)
-    → IsSpelled bytes bytes (λ _. Unit {0}) (λ _. Unit {0}) 8 8 8 (a ∷ b ∷ []) (entry 288 p k v)
-    → Spells bytes bytes 8 8 (part_of b 32 24) (record_of (entry 288 p k v))
+-- a text from an address on has the entries there and above, and no others
+abbrev pub CutsBelow : Type 0
+CutsBelow = (p q : ℕ) (v w : Option ℕ)
+    → (text_from 96 (entry 64 p 3 v ∷ entry 96 q 3 w ∷ []) ≡ entry 96 q 3 w ∷ [])
+    × (text_from 97 (entry 64 p 3 v ∷ entry 96 q 3 w ∷ []) ≡ [])
+
+-- from an address through a chain's entries, to where the last of them leads
+abbrev pub LeadsThrough : Type 0
+LeadsThrough = (p : ℕ) (v : Option ℕ)
+    → (leads_to 96 (entry 96 64 2 v ∷ entry 64 p 3 v ∷ []) ≡ p)
+    × (leads_to {K = ℕ} {V = ℕ} 96 [] ≡ 96)

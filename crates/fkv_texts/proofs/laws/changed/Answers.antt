@@ -1,5 +1,5 @@
-use Rattle.fkv_hybrid.proofs.ChangeLemmas.{value_at-changed, last_of-elsewhere, newest-elsewhere, entry_at-here, entry_at-elsewhere, laid_out-changed, rising-changed, from-changed, below-changed, last_of-changed, newest-changed, newest-lower, last_of-other, newest-other, live-changed}
-use Rattle.fkv_hybrid.proofs.laws.changed.Goals as goal
+use Rattle.fkv_texts.proofs.ChangeLemmas.{value_at-changed, last_of-elsewhere, newest-elsewhere, entry_at-here, entry_at-elsewhere, laid_out-changed, rising-changed, from-changed, below-changed, last_of-changed, newest-changed, newest-lower, last_of-other, newest-other, live-changed}
+use Rattle.fkv_texts.proofs.laws.changed.Goals as goal
 
 pub returns : goal.returns
 returns g c = record {

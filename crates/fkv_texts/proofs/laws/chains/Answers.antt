@@ -1,10 +1,10 @@
 use Rattle.std.proofs.Common.{List, subst, sym, ap, ◌∙◌}
 use Rattle.std.specs.List.{find}
-use Rattle.fkv_hybrid.specs.declared.entries.Entry.{Entry}
-use Rattle.fkv_hybrid.specs.Text.{has_key}
-use Rattle.fkv_hybrid.specs.Chains.{IsChainFrom, falling}
-use Rattle.fkv_hybrid.proofs.ChainLemmas.{chained-append, meets, one_chain, finds, stands_at, ended, grown, met_from}
-use Rattle.fkv_hybrid.proofs.laws.chains.Goals as goal
+use Rattle.fkv_texts.specs.declared.entries.Entry.{Entry}
+use Rattle.fkv_texts.specs.Text.{has_key}
+use Rattle.fkv_texts.specs.Chains.{IsChainFrom, falling}
+use Rattle.fkv_texts.proofs.ChainLemmas.{chained-append, meets, one_chain, finds, stands_at, ended, grown, met_from}
+use Rattle.fkv_texts.proofs.laws.chains.Goals as goal
 
 pub returns : goal.returns
 returns g c = record {

@@ -1,5 +1,5 @@
-use Rattle.fkv_hybrid.proofs.TextLemmas.{entry_at-new, entry_at-old, value_at-append, last_of-append, live-append, newest-from, newest-below}
-use Rattle.fkv_hybrid.proofs.laws.appended.Goals as goal
+use Rattle.fkv_texts.proofs.TextLemmas.{entry_at-new, entry_at-old, value_at-append, last_of-append, live-append, newest-from, newest-below}
+use Rattle.fkv_texts.proofs.laws.appended.Goals as goal
 
 pub returns : goal.returns
 returns g c = record {

@@ -5,10 +5,10 @@ use Rattle.std.proofs.lemmas.Bool.{ne_eqb, eq-eqb, eqb-true}
 use Rattle.std.specs.declared.cmp.Ordering.{Ordering}
 use Rattle.std.specs.BTreeMap.{is_at}
 use Rattle.fkv_functions.specs.Plain.{Same, with_at}
-use Rattle.fkv_hybrid.specs.declared.entries.Entry.{Entry}
-use Rattle.fkv_hybrid.specs.Text.{entry_at, has_key, last_of, value_of, value_at, live, newest, AllAbove, IsRising}
-use Rattle.fkv_hybrid.specs.Chains.{IsIn}
-use Rattle.fkv_hybrid.proofs.LastWhere.{last_where-append, last_where-found, last_where-in, none-passes}
+use Rattle.fkv_texts.specs.declared.entries.Entry.{Entry}
+use Rattle.fkv_texts.specs.Text.{entry_at, has_key, last_of, value_of, value_at, live, newest, AllAbove, IsRising}
+use Rattle.fkv_texts.specs.Chains.{IsIn}
+use Rattle.fkv_texts.proofs.LastWhere.{last_where-append, last_where-found, last_where-in, none-passes}
 
 -- ---- addresses
 above-in : {K V : Type 0} (a : ℕ) (xs : List (Entry K V)) → AllAbove a xs → (i : ℕ) (x : Entry K V) → slice_get xs i ≡ Some x → a < x.address

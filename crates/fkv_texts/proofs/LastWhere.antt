@@ -1,8 +1,8 @@
 -- Lemmas on the last element that passes a test.
 use Rattle.std.proofs.Common.{◌≡◌, Bool, true, false, cond, ◌&&◌, ℕ, zero, suc, ◌⊎◌, inl, inr, List, [], ◌∷◌, ◌++◌, map, filter, Option, Some, None, option_map, slice_get, refl, sym, ◌∙◌, ap}
 use Rattle.std.specs.Option.{option_or}
-use Rattle.fkv_hybrid.specs.Text.{last_where}
-use Rattle.fkv_hybrid.specs.Chains.{IsIn}
+use Rattle.fkv_texts.specs.Text.{last_where}
+use Rattle.fkv_texts.specs.Chains.{IsIn}
 
 pub option_or-cond : {A : Type 0} (b : Bool) (v : A) (l y : Option A) → option_or (cond b (Some v) l) y ≡ cond b (Some v) (option_or l y)
 option_or-cond true v l y = refl

@@ -1,5 +1,5 @@
-use Rattle.fkv_hybrid.proofs.ChangeLemmas.{chained-changed, last_of_class-changed, leads-changed}
-use Rattle.fkv_hybrid.proofs.laws.changed_chains.Goals as goal
+use Rattle.fkv_texts.proofs.ChangeLemmas.{chained-changed, last_of_class-changed, leads-changed}
+use Rattle.fkv_texts.proofs.laws.changed_chains.Goals as goal
 
 pub returns : goal.returns
 returns g c = record {

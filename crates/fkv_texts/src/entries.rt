@@ -14,6 +14,15 @@ pub struct Entry<K, V> {
     pub value: Option<V>,
 }
 
+/// What a reader of a chain comes to.
+#[derive(Clone, Copy, Debug, PartialEq, Eq)]
+pub enum Reached<K, V> {
+    /// The entry that it looks for.
+    Found(Entry<K, V>),
+    /// Where the chain goes on, below the entries that were read: the entry is not among those.
+    Below(Address),
+}
+
 /// The entry that a record is at an address.
 pub fn entry_of<K, V>(address: Address, found: Record<K, V>) -> Entry<K, V>
     ensures { result ≡ record { address = address; previous = found.previous; key = found.key; value = found.value } }

@@ -4,11 +4,11 @@ use Rattle.std.proofs.lemmas.Bool.Decides.{nat_tests}
 use Rattle.std.proofs.lemmas.Bool.{cases_lt, eqb-true, eq-eqb}
 use Rattle.fkv_records.specs.Places.{IsShape, place_after, IsPlace, next}
 use Rattle.fkv_records.proofs.PlaceLemmas.{place_rises, place_ends, place_nearest}
-use Rattle.fkv_hybrid.specs.declared.entries.Entry.{Entry}
-use Rattle.fkv_hybrid.specs.Text.{entry_at, AllAbove, IsRising}
-use Rattle.fkv_hybrid.specs.Chains.{IsIn}
-use Rattle.fkv_hybrid.specs.Places.{tail_after, IsLaidOut}
-use Rattle.fkv_hybrid.proofs.LastWhere.{last_where-found, last_where-in, none-passes}
+use Rattle.fkv_texts.specs.declared.entries.Entry.{Entry}
+use Rattle.fkv_texts.specs.Text.{entry_at, AllAbove, IsRising}
+use Rattle.fkv_texts.specs.Chains.{IsIn}
+use Rattle.fkv_texts.specs.Places.{tail_after, IsLaidOut}
+use Rattle.fkv_texts.proofs.LastWhere.{last_where-found, last_where-in, none-passes}
 
 -- the tail after a record, by the next place
 pub after_some : (bits size a b : ℕ) → place_after bits size a ≡ Some b → tail_after bits size a ≡ b
@@ -48,7 +48,7 @@ module _ (bits size : ℕ) (s : IsShape bits size) where
   tail_rises a p = let t = after a p in omega (arith, t.above)
 
   -- and no place is passed over
-  after-nearest : (a b : ℕ) → IsPlace bits size a → IsPlace bits size b → a < b → tail_after bits size a ≤ b
+  pub after-nearest : (a b : ℕ) → IsPlace bits size a → IsPlace bits size b → a < b → tail_after bits size a ≤ b
   after-nearest a b p q less = by_next (place_after bits size a) refl (place_nearest bits size s a b p q less)
     where
       by_next : (o : Option ℕ) → place_after bits size a ≡ o → IsSomeAnd (place_after bits size a) (λ c. c ≤ b) → tail_after bits size a ≤ b

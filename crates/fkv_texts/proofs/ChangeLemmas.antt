@@ -5,12 +5,12 @@ use Rattle.std.proofs.lemmas.Option.{slice_get-map}
 use Rattle.std.specs.declared.cmp.Ordering.{Ordering}
 use Rattle.std.specs.BTreeMap.{is_at}
 use Rattle.fkv_functions.specs.Plain.{Same, with_at, IsKeyOrder}
-use Rattle.fkv_hybrid.specs.declared.entries.Entry.{Entry}
-use Rattle.fkv_hybrid.specs.Text.{last_where, entry_at, value_at, has_key, last_of, value_of, live, newest, set_at, changed, AllAbove, IsRising, IsFrom, IsBelow}
-use Rattle.fkv_hybrid.specs.Places.{tail_after, IsLaidOut}
-use Rattle.fkv_hybrid.specs.Chains.{has_class, last_of_class, last_below, Leads, IsChained}
-use Rattle.fkv_hybrid.proofs.LastWhere.{last_where-map, last_where-found, last_where-in, none-passes}
-use Rattle.fkv_hybrid.proofs.TextLemmas.{one_address}
+use Rattle.fkv_texts.specs.declared.entries.Entry.{Entry}
+use Rattle.fkv_texts.specs.Text.{last_where, entry_at, value_at, has_key, last_of, value_of, live, newest, set_at, changed, AllAbove, IsRising, IsFrom, IsBelow}
+use Rattle.fkv_texts.specs.Places.{tail_after, IsLaidOut}
+use Rattle.fkv_texts.specs.Chains.{has_class, last_of_class, last_below, Leads, IsChained}
+use Rattle.fkv_texts.proofs.LastWhere.{last_where-map, last_where-found, last_where-in, none-passes}
+use Rattle.fkv_texts.proofs.TextLemmas.{one_address}
 
 module _ {K V : Type 0} (a : ℕ) (v : Option V) where
   -- ---- an entry

@@ -8,12 +8,12 @@ use Rattle.std.proofs.lemmas.List.{reverse-append}
 use Rattle.std.specs.List.{find}
 use Rattle.std.specs.declared.cmp.Ordering.{Ordering}
 use Rattle.fkv_functions.specs.Plain.{IsKeyOrder}
-use Rattle.fkv_hybrid.specs.declared.entries.Entry.{Entry}
-use Rattle.fkv_hybrid.specs.Text.{entry_at, has_key, last_of, newest, AllAbove, IsRising, IsFrom, IsBelow}
-use Rattle.fkv_hybrid.specs.Chains.{IsClassTest, has_class, last_of_class, last_below, Leads, IsChained, IsChainFrom, ends, goes, StandsAt, falling}
+use Rattle.fkv_texts.specs.declared.entries.Entry.{Entry}
+use Rattle.fkv_texts.specs.Text.{entry_at, has_key, last_of, newest, AllAbove, IsRising, IsFrom, IsBelow}
+use Rattle.fkv_texts.specs.Chains.{IsClassTest, has_class, last_of_class, last_below, Leads, IsChained, IsChainFrom, ends, goes, StandsAt, falling}
 use Rattle.fkv_functions.proofs.ListLemmas.{get-append_left, get-append_last, get-append_cases}
-use Rattle.fkv_hybrid.proofs.LastWhere.{last_where-append, last_where-same, last_where-found}
-use Rattle.fkv_hybrid.proofs.TextLemmas.{one_address, entry_at-in, newest-below}
+use Rattle.fkv_texts.proofs.LastWhere.{last_where-append, last_where-same, last_where-found}
+use Rattle.fkv_texts.proofs.TextLemmas.{one_address, entry_at-in, newest-below}
 
 -- what holds of no elements, and of one more wherever it holds, holds of any list
 by_appends : {A : Type 0} (P : List A → Type 0) → ((xs : List A) (x : A) → P xs → P (xs ++ x ∷ [])) → (done rest : List A) → P done → P (done ++ rest)

@@ -1,0 +1,4 @@
+pub mod Text
+pub mod Places
+pub mod Chains
+pub mod WrongTexts

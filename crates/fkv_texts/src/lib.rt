@@ -1,0 +1,11 @@
+//! The text of a log: the list of its entries in rising address, and what it says.
+//!
+//! Each entry has its address, the address of the entry before it in its class, its key, and its value or none for a
+//! tombstone. What is said of a text, and how it changes, is said here once, for whatever keeps one: a text says the
+//! same wherever its bytes are.
+#![tactic(auto)]
+
+pub mod entries;
+pub mod laws;
+
+pub use entries::{Entry, Reached};
