@@ -1,0 +1,69 @@
+-- What the definitions refuse, on small pages: keys and values are numbers.
+use Rattle.std.specs.Prelude.{◌≡◌, ℕ, List, [], ◌∷◌, Option, Some, None, true, false}
+use Rattle.fkv_functions.specs.declared.refusals.Refused.TheVariants.{NotDue, Stranger}
+use Rattle.fkv_functions.specs.declared.refusals.What.TheVariants.{Page, Bytes}
+use Rattle.fkv_records.specs.Records.{Spells}
+use Rattle.fkv_device.specs.Standing.{Standing}
+use Rattle.fkv_frames.specs.Ring.{Ring}
+use Rattle.fkv_texts.specs.WrongTexts.{entry}
+use Rattle.fkv_pages.specs.Views.{PagesView, text_begin, empty_pages, with_entry, with_receipt, seen_from}
+use Rattle.fkv_pages.specs.Spelled.{record_of, part_of, IsSpelled}
+use Rattle.fkv_pages.specs.Pages.{page_in, pages_from}
+use Rattle.fkv_pages.specs.Flushes.{difference, flush_refusal}
+
+-- a receipt of a page, by its number and bytes
+abbrev pub receipt : ℕ → List ℕ → Standing
+receipt n bytes = record { number = n; page = n; length = 256; bytes = bytes; mark = [] }
+
+-- an appended entry is all that was handed in
+abbrev pub AppendsItWhole : Type 0
+AppendsItWhole = (p k : ℕ) (v : Option ℕ)
+    → with_entry 32 (empty_pages 8 2) p k v ≡ record (empty_pages 8 2) { tail = 96; text = entry 64 p k v ∷ [] }
+
+-- an entry is spelled in the page of its address
+abbrev pub SpelledInItsPage : Type 0
+SpelledInItsPage = (bytes : ℕ → List ℕ) (a b : List ℕ) (p k : ℕ) (v : Option ℕ)
+    → IsSpelled bytes bytes (λ _. Unit {0}) (λ _. Unit {0}) 8 8 8
+    (page_in 1 (receipt 0 a ∷ []) (record { bits = 8; slots = (Some 2, a) ∷ (Some 1, b) ∷ [] })) (entry 288 p k v)
+    → Spells bytes bytes 8 8 (part_of b 32 24) (record_of (entry 288 p k v))
+
+-- a page below the first is its receipt's, though its frame has another; a page above is its frame's, though it has a
+-- receipt; and a page that is in no frame is nowhere
+abbrev pub TakesPagesInTurn : Type 0
+TakesPagesInTurn = (a b c d : List ℕ)
+    → (ring : Ring)
+    → ring ≡ record { bits = 8; slots = (Some 2, c) ∷ (Some 1, d) ∷ [] }
+    → (page_in 1 (receipt 0 a ∷ receipt 1 b ∷ []) ring 0 ≡ Some a)
+    × (page_in 1 (receipt 0 a ∷ receipt 1 b ∷ []) ring 1 ≡ Some d)
+    × (page_in 1 (receipt 0 a ∷ receipt 1 b ∷ []) ring 2 ≡ Some c)
+    × (page_in 0 (receipt 0 a ∷ receipt 1 b ∷ []) ring 0 ≡ None)
+    × (pages_from ring 1 2 ≡ d ∷ c ∷ [])
+
+-- the text begins at Begin where the device keeps, else where frames are closed
+abbrev pub BeginsWhereKnown : Type 0
+BeginsWhereKnown =
+    (text_begin true 64 256 ≡ 64) × (text_begin false 64 256 ≡ 256) × (text_begin false 512 256 ≡ 512)
+
+-- what is left of a text where frames are closed: all of it on a device that keeps
+abbrev pub ClosesFrames : Type 0
+ClosesFrames = (p q : ℕ) (v w : Option ℕ) (pages : PagesView ℕ ℕ)
+    → pages.text ≡ entry 64 p 3 v ∷ entry 256 q 3 w ∷ []
+    → ((seen_from true pages 64 256).text ≡ entry 64 p 3 v ∷ entry 256 q 3 w ∷ [])
+    × ((seen_from false pages 64 256).text ≡ entry 256 q 3 w ∷ [])
+
+-- two pages differ by the first bytes that do, and before these by their lengths
+abbrev pub DiffersFirst : Type 0
+DiffersFirst =
+    (difference (1 ∷ 2 ∷ 3 ∷ []) (1 ∷ 5 ∷ 6 ∷ []) ≡ Some (2, 5))
+    × (difference (1 ∷ 2 ∷ []) (4 ∷ 2 ∷ 3 ∷ []) ≡ Some (2, 3))
+    × (difference (1 ∷ 2 ∷ []) (1 ∷ 2 ∷ []) ≡ None)
+
+-- the lowest page that is not flushed is taken in, where it waits, with its own bytes
+abbrev pub RefusesInTurn : Type 0
+RefusesInTurn = (pages : PagesView ℕ ℕ) (s : Standing)
+    → pages.receipts ≡ s ∷ []
+    → pages.waiting ≡ (1 ∷ 2 ∷ []) ∷ []
+    → (flush_refusal pages 0 (1 ∷ 2 ∷ []) ≡ Some (Stranger Page 1 0))
+    × (flush_refusal pages 1 (1 ∷ 3 ∷ []) ≡ Some (Stranger Bytes 2 3))
+    × (flush_refusal pages 1 (1 ∷ 2 ∷ []) ≡ None)
+    × (flush_refusal (with_receipt pages s) 2 (1 ∷ 2 ∷ []) ≡ Some NotDue)

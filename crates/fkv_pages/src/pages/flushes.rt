@@ -1,0 +1,113 @@
+//! Pages on their way to a device.
+ghost use Rattle.std.specs.Prelude.{◌≡◌, ◌<◌, ◌++◌, ◌∷◌, ◌↔◌, ◌⊎◌, [], Some, None, Err, IfOk, IfErr, IfSome, OnOk, OnErr};
+ghost use Rattle.std.specs.Prelude.{length, slice_get, IsTrue, false};
+ghost use Rattle.fkv_records.specs.Places.{page_at};
+ghost use Rattle.fkv_pages.specs.Views.{with_receipt};
+ghost use Rattle.fkv_pages.specs.Loads.{IsHeldBy};
+ghost use Rattle.fkv_pages.specs.Flushes.{flush_refusal};
+
+use crate::differences::refusal_of_bytes;
+use crate::pages::Pages;
+use fkv_device::{Disk, FlushJob, Receipt, Written};
+use fkv_functions::{Fixed, Refused, What};
+use std::alloc::Global;
+
+impl<K: Fixed, V: Fixed, D: Disk> Pages<K, V, D> {
+    /// The lowest page that is not flushed.
+    pub fn unflushed(&self) -> u64
+        ensures { result ≡ length self.now.receipts }
+    {
+        self.receipts.len() as u64
+    }
+
+    /// Whether the lowest page that is not flushed ends at or below what is frozen, so that it waits.
+    pub fn is_flush_due(&self) -> bool
+        ensures waits { (result ≡ false) ↔ (self.now.waiting ≡ []) }
+        ensures due { IsTrue result → length self.now.receipts < page_at self.now.bits self.now.frozen }
+    {
+        self.unflushed() < self.shape.page_of(self.frozen)
+    }
+
+    /// A copy of the lowest page that is not flushed. Refused: `NotDue` where it does not end at or below what is
+    /// frozen, `NoMemory`.
+    pub fn flush_take(&self, alloc: Global) -> Result<FlushJob, Refused>
+        ensures page { IfOk result (λ job. job.page ≡ length self.now.receipts) }
+        ensures bytes { IfOk result (λ job. slice_get self.now.waiting 0 ≡ Some job.bytes.items) }
+        ensures due { (result ≡ Err Refused.NotDue) ↔ (self.now.waiting ≡ []) }
+        ensures only { IfErr result (λ refused. (refused ≡ Refused.NotDue) ⊎ (refused ≡ Refused.NoMemory)) }
+    {
+        if !self.is_flush_due() {
+            return Err(Refused::NotDue);
+        }
+        let page = self.unflushed();
+        let held = self.frames.bytes(page);
+        let Ok(bytes) = held.to_vec(alloc) else {
+            return Err(Refused::NoMemory);
+        };
+        Ok(FlushJob { page, bytes })
+    }
+
+    /// Why a written page would not be taken in, but for want of memory: `Stranger` where another page is the lowest
+    /// that is not flushed, `NotDue` where that one does not wait, `Stranger` where its bytes are others.
+    pub fn flush_refusal(&self, written: &Written<D>) -> Option<Refused>
+        ensures { result ≡ flush_refusal self.now (D.Receipt.stands written.now.receipt).page written.now.bytes }
+    {
+        let page = self.unflushed();
+        if written.page() != page {
+            return Some(Refused::Stranger {
+                what: What::Page,
+                held: page,
+                came: written.page(),
+            });
+        }
+        if !self.is_flush_due() {
+            return Some(Refused::NotDue);
+        }
+        refusal_of_bytes(self.frames.bytes(page), written.bytes())
+    }
+
+    /// Takes in that the lowest page that is not flushed was written, and keeps its receipt. Refused, and then nothing
+    /// changes: as [`Pages::flush_refusal`] says, and then `NoMemory`.
+    pub fn flush_done(&mut self, written: Written<D>) -> Result<(), Refused>
+        ensures refused { IfSome (flush_refusal self.old (D.Receipt.stands written.receipt).page written.bytes)
+            (λ why. result ≡ Err why) }
+        ensures only { flush_refusal self.old (D.Receipt.stands written.receipt).page written.bytes ≡ None
+            → IfErr result (λ why. why ≡ Refused.NoMemory) }
+        ensures done { OnOk result (self.new ≡ with_receipt self.old (D.Receipt.stands written.receipt)) }
+        ensures err { OnErr result (self.new ≡ self.old) }
+    {
+        if let Some(refused) = self.flush_refusal(&written) {
+            return Err(refused);
+        }
+        keep(&mut self.receipts, written.into_receipt())
+    }
+
+    /// A receipt of a flushed page, by which it can be read. Refused: `NoMemory`.
+    pub fn receipt(&self, page: u64) -> Result<D::Receipt, Refused>
+        requires { page < length self.now.receipts }
+        ensures stands { IfOk result (λ r. IsHeldBy self.now.receipts page (D.Receipt.stands r)) }
+        ensures memory { IfErr result (λ refused. refused ≡ Refused.NoMemory) }
+    {
+        self.kept(page).again()
+    }
+
+    /// The receipt that is kept of a flushed page.
+    pub(crate) fn kept(&self, page: u64) -> &D::Receipt
+        requires { page < length self.now.receipts }
+        ensures { IsHeldBy self.now.receipts page (D.Receipt.stands result.now) }
+    {
+        &self.receipts[page as usize]
+    }
+}
+
+/// Keeps one more receipt. Refused, and then the receipts are as they were: `NoMemory`.
+fn keep<R: Receipt>(receipts: &mut Vec<R>, receipt: R) -> Result<(), Refused>
+    ensures ok { OnOk result (receipts.new.items ≡ receipts.old.items ++ receipt ∷ []) }
+    ensures err { OnErr result (receipts.new.items ≡ receipts.old.items) }
+    ensures only { IfErr result (λ refused. refused ≡ Refused.NoMemory) }
+{
+    match receipts.push(receipt) {
+        Ok(()) => Ok(()),
+        Err(_) => Err(Refused::NoMemory),
+    }
+}

@@ -1,0 +1,107 @@
+//! Entries of flushed pages, read from what a device gave.
+ghost use Rattle.std.specs.Prelude.{◌≡◌, ◌≢◌, ◌<◌, ℕ, List, Ok, Err, IfOk, IfErr, IfSome, OnOk, IsTrue, find, length};
+ghost use Rattle.std.specs.Prelude.{slice_get};
+ghost use Rattle.fkv_records.specs.Places.{page_at};
+ghost use Rattle.fkv_texts.specs.Text.{entry_at, has_key};
+ghost use Rattle.fkv_texts.specs.Chains.{IsChainFrom, leads_to, reached};
+ghost use Rattle.fkv_texts.specs.declared.entries.Entry.{Entry};
+ghost use Rattle.fkv_pages.specs.Spelled.{IsEntryIn};
+ghost use Rattle.fkv_pages.specs.Loads.{IsHeldBy, IsReached, first_place};
+
+use crate::loads::{entry_in, reached_in};
+use crate::pages::Pages;
+use fkv_device::{Disk, Loaded, Receipt};
+use fkv_functions::{Fixed, Refused, What};
+use fkv_records::{Address, FIRST};
+use fkv_texts::{Entry, Reached};
+
+impl<K: Fixed, V: Fixed, D: Disk> Pages<K, V, D> {
+    /// The entry at an address of a flushed page, from the page as a device gave it. On a device that keeps it is the
+    /// text's. Refused: `Stranger` where the page was read by another receipt than the one that is kept of it,
+    /// `Damaged` where its bytes spell no entry there.
+    pub fn record_in(&self, loaded: &Loaded<D>, address: Address) -> Result<Entry<K, V>, Refused>
+        requires flushed { page_at self.now.bits address < length self.now.receipts }
+        ensures stranger { IfSome (slice_get self.now.receipts (page_at self.now.bits address)) (λ s.
+            s ≢ D.Receipt.stands loaded.now.receipt
+            → result ≡ Err (Refused.Stranger What.Receipt s.number (D.Receipt.stands loaded.now.receipt).number)) }
+        ensures only { IsHeldBy self.now.receipts (page_at self.now.bits address) (D.Receipt.stands loaded.now.receipt)
+            → IfOk result (IsEntryIn K.bytes_of V.bytes_of K.is_known V.is_known K.SIZE V.SIZE self.now.bits
+            loaded.now.bytes address) }
+        ensures found { IsHeldBy self.now.receipts (page_at self.now.bits address) (D.Receipt.stands loaded.now.receipt)
+            → (e : Entry K V)
+            → IsEntryIn K.bytes_of V.bytes_of K.is_known V.is_known K.SIZE V.SIZE self.now.bits
+            loaded.now.bytes address e
+            → result ≡ Ok e }
+        ensures damaged { IsHeldBy self.now.receipts (page_at self.now.bits address)
+            (D.Receipt.stands loaded.now.receipt)
+            → IfErr result (λ refused. refused ≡ Refused.Damaged (page_at self.now.bits address)) }
+        ensures kept { IsTrue D.keeps
+            → IsHeldBy self.now.receipts (page_at self.now.bits address) (D.Receipt.stands loaded.now.receipt)
+            → IfSome (entry_at self.now.text address) (λ e. result ≡ Ok e) }
+    {
+        let page = self.shape.page_of(address);
+        if let Err(refused) = self.is_own(loaded, page) {
+            return Err(refused);
+        }
+        entry_in(self.shape, loaded.bytes(), address)
+    }
+
+    /// Whether a page was read by the receipt that is kept of it, and not by another: `Stranger`.
+    fn is_own(&self, loaded: &Loaded<D>, page: u64) -> Result<(), Refused>
+        requires { page < length self.now.receipts }
+        ensures own { OnOk result (IsHeldBy self.now.receipts page (D.Receipt.stands loaded.now.receipt)) }
+        ensures stranger { IfErr result (λ refused. IfSome (slice_get self.now.receipts page) (λ s.
+            (s ≢ D.Receipt.stands loaded.now.receipt)
+            × (refused ≡ Refused.Stranger What.Receipt s.number (D.Receipt.stands loaded.now.receipt).number))) }
+        // what is known of any page that was read
+        ensures length { (D.Receipt.stands loaded.now.receipt).length ≡ length loaded.now.bytes }
+        ensures kept { IsTrue D.keeps → (D.Receipt.stands loaded.now.receipt).bytes ≡ loaded.now.bytes }
+    {
+        let held = self.kept(page);
+        if !loaded.receipt().same(held) {
+            return Err(Refused::Stranger {
+                what: What::Receipt,
+                held: held.number(),
+                came: loaded.receipt().number(),
+            });
+        }
+        Ok(())
+    }
+}
+
+impl<K: Fixed + Ord, V: Fixed, D: Disk> Pages<K, V, D> {
+    /// Goes from an address of a flushed page along previous addresses, in the page as a device gave it, to the first
+    /// entry of a key, or out of the page. Refused as [`Pages::record_in`].
+    pub fn first_in_page(
+        &self,
+        loaded: &Loaded<D>,
+        key: &K,
+        from: Address,
+    ) -> Result<Reached<K, V>, Refused>
+        requires flushed { page_at self.now.bits from < length self.now.receipts }
+        ensures stranger { IfSome (slice_get self.now.receipts (page_at self.now.bits from)) (λ s.
+            s ≢ D.Receipt.stands loaded.now.receipt
+            → result ≡ Err (Refused.Stranger What.Receipt s.number (D.Receipt.stands loaded.now.receipt).number)) }
+        ensures read { IsHeldBy self.now.receipts (page_at self.now.bits from) (D.Receipt.stands loaded.now.receipt)
+            → IsReached (IsEntryIn K.bytes_of V.bytes_of K.is_known V.is_known K.SIZE V.SIZE self.now.bits
+            loaded.now.bytes) K.cmp key.now self.now.bits (first_place self.now.bits (page_at self.now.bits from))
+            from result }
+        // on a device that keeps, it is the text's chain
+        ensures kept { IsTrue D.keeps
+            → IsHeldBy self.now.receipts (page_at self.now.bits from) (D.Receipt.stands loaded.now.receipt)
+            → (es : List (Entry K V))
+            → IsChainFrom (first_place self.now.bits (page_at self.now.bits from)) self.now.text from es
+            → result ≡ Ok (reached (find (has_key K.cmp key.now) es) (leads_to from es)) }
+    {
+        let page = self.shape.page_of(from);
+        if let Err(refused) = self.is_own(loaded, page) {
+            return Err(refused);
+        }
+        let low = if page == 0 {
+            FIRST
+        } else {
+            self.shape.start(page)
+        };
+        reached_in(self.shape, loaded.bytes(), key, from, low)
+    }
+}
