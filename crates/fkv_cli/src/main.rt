@@ -1,5 +1,5 @@
-//! The program of the store: a script comes in on standard input, and what it tells goes out on standard
-//! output.
+//! The program of the store: feeds come in from files or on standard input and a table goes out on standard output, or a
+//! script comes in and what it tells goes out.
 #![tactic(auto)]
 
 use std::process::ExitCode;

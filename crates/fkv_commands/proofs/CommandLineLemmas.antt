@@ -5,11 +5,11 @@ use Rattle.fkv_commands.specs.CommandLines.{AsksByNoWord, AsksByReplay, AsksHelp
 
 pub no_word : AsksByNoWord
 unfolding clap_on_literals
-no_word name = refl
+no_word name = (refl, refl)
 
 pub replay_word : AsksByReplay
 unfolding clap_on_literals
-replay_word name = refl
+replay_word name = (refl, refl)
 
 pub help_option : AsksHelpByOption
 unfolding clap_on_literals

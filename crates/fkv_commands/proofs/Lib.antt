@@ -1,2 +1,4 @@
 pub mod CommandLineLemmas
 pub mod TellingLemmas
+pub mod OptionLemmas
+pub mod RequestLemmas

@@ -1,10 +1,17 @@
 -- Texts that were told, whole or in part.
-use Rattle.std.proofs.Common.{◌≡◌, ℕ, List, Option, Result, Ok, Err, OnOk, OnErr, length}
+use Rattle.std.proofs.Common.{◌≡◌, ◌≢◌, ◌⊎◌, inl, inr, refl, ℕ, List, Option, Result, Ok, Err, OnOk, OnErr, length}
 use Rattle.std.proofs.Math.Seq.{take-length}
 use Rattle.std.specs.Io.KnownBytes.{Appends}
+use Rattle.fkv_functions.specs.declared.refusals.Refused.{Refused}
+use Rattle.fkv_functions.specs.declared.refusals.Refused.TheVariants.{Unwritable}
 use Rattle.fkv_streams.specs.Streams.{AppendsPrefix}
 
 -- a text that was told whole was told from its front
 pub told_from_front : {T E : Type 0} (old new : Option (List ℕ)) (bytes text : List ℕ) → text ≡ bytes → (r : Result T E) → OnOk r (Appends old new bytes) → OnErr r (AppendsPrefix old new bytes) → AppendsPrefix old new text
 told_from_front old new bytes text same (Ok _) whole front = rw same (length bytes, rw (take-length bytes) whole)
 told_from_front old new bytes text same (Err _) whole front = rw same front
+
+-- a refusal blames the writer, or does not
+pub unwritable_or : (e : Refused) → (e ≡ Unwritable) ⊎ (e ≢ Unwritable)
+unwritable_or Unwritable = inl refl
+unwritable_or other = inr (λ e. absurd (cc))

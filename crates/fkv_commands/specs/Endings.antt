@@ -1,10 +1,19 @@
 -- What a run leaves on its output, by what was read.
-use Rattle.std.specs.Prelude.{◌≡◌, ◌⊎◌, List, ℕ, Option, IfSome}
+use Rattle.std.specs.Prelude.{◌≡◌, ◌⊎◌, List, [], ◌∷◌, map, ℕ, ℤ, Option, IfSome, string_bytes}
+use Rattle.std.specs.Fmt.{decimal, signed_decimal}
 use Rattle.clap.specs.Words.{Text}
-use Rattle.fkv_commands.specs.Requests.{AsksReplay, MayAskHelp, MayBeMistaken}
+use Rattle.fkv_functions.specs.Meanings.{Meanings}
+use Rattle.fkv_functions.specs.Sets.{counts, sums, maxima}
+use Rattle.fkv_functions.specs.declared.names.Name.{Name}
+use Rattle.fkv_commands.specs.declared.requests.Shown.{Shown}
+use Rattle.fkv_commands.specs.declared.requests.Shown.TheVariants.{Count, Sum, Max}
+use Rattle.fkv_commands.specs.declared.requests.TableRequest.{TableRequest}
+use Rattle.fkv_commands.specs.Requests.{AsksReplay, AsksTable, MayAskHelp, MayBeMistaken}
 use Rattle.std.specs.Io.KnownBytes.{Appends}
 use Rattle.fkv_streams.specs.Streams.{AppendsPrefix}
 use Rattle.fkv_steps.specs.Running.{IsOutputOf}
+use Rattle.fkv_feeds.specs.Tables.{IsTableOf}
+use Rattle.fkv_feeds.specs.Writing.{table_text}
 
 -- the whole output of the input was written, and nothing else; known bytes are those of a reader and of a writer in
 -- memory
@@ -15,12 +24,55 @@ PrintsAll input old new = IfSome input (λ bytes. (text : List ℕ) × IsOutputO
 abbrev pub PrintsPart : Option (List ℕ) → Option (List ℕ) → Option (List ℕ) → Type 0
 PrintsPart input old new = IfSome input (λ bytes. (text : List ℕ) × IsOutputOf bytes text × AppendsPrefix old new text)
 
--- what a run of these words ends with: status 0 where help is asked for, or where a replay was done whole, and then no fault
--- was told; status 1 where nothing was written, or the front of what a replay prints; status 2 where the words are mistaken,
--- and then nothing was written
+-- the text of a table of these meanings; where no path is named, it is that of the input, and nothing is known of files
+abbrev pub IsTableBy : {V : Type 0} → Meanings Name V ℤ V → (V → List ℕ) → List Text → Option (List ℕ) → List ℕ
+    → Type 0
+IsTableBy {V} f value paths input text =
+    (pairs : List (Name × V))
+    × (paths ≡ [] → IsTableOf f (input ∷ []) pairs)
+    × (text ≡ table_text value pairs)
+
+-- the text of the table that is asked for
+abbrev pub IsTableText : Shown → List Text → Option (List ℕ) → List ℕ → Type 0
+IsTableText Count paths input text = IsTableBy counts decimal paths input text
+IsTableText Sum paths input text = IsTableBy sums signed_decimal paths input text
+IsTableText Max paths input text = IsTableBy maxima signed_decimal paths input text
+
+-- that text was written whole, and nothing else; or a part of it, from its front
+abbrev pub PrintsTable : Shown → List Text → Option (List ℕ) → Option (List ℕ) → Option (List ℕ) → Type 0
+PrintsTable shown paths input old new = (text : List ℕ) × IsTableText shown paths input text × Appends old new text
+
+abbrev pub PrintsTablePart : Shown → List Text → Option (List ℕ) → Option (List ℕ) → Option (List ℕ) → Type 0
+PrintsTablePart shown paths input old new =
+    (text : List ℕ)
+    × IsTableText shown paths input text
+    × AppendsPrefix old new text
+
+-- The output of a run of these words, which was done; help is not told.
+abbrev pub IsDone : List Text → Option (List ℕ) → Option (List ℕ) → Option (List ℕ) → Type 0
+IsDone words input old new =
+    (AsksReplay words × PrintsAll input old new)
+    ⊎ ((table : TableRequest)
+    × AsksTable words table
+    × PrintsTable table.shown (map string_bytes table.paths.items) input old new)
+    ⊎ MayAskHelp words
+
+-- the output of a run of these words, which a fault ended: nothing, or the front of what is asked for
+abbrev pub IsStopped : List Text → Option (List ℕ) → Option (List ℕ) → Option (List ℕ) → Type 0
+IsStopped words input old new =
+    (new ≡ old)
+    ⊎ (AsksReplay words × PrintsPart input old new)
+    ⊎ ((table : TableRequest)
+    × AsksTable words table
+    × PrintsTablePart table.shown (map string_bytes table.paths.items) input old new)
+    ⊎ MayAskHelp words
+
+-- what a run of these words ends with: status 0 where help is asked for, or where a replay or a table was done whole, and
+-- then no fault was told; status 1 where nothing was written, or the front of what is asked for; status 2 where the words
+-- are mistaken, and then nothing was written
 pub record IsEnding (words : List Text) (input old new told_old told_new : Option (List ℕ)) (status : ℕ) : Type 0 where
-  pub done : status ≡ 0 → (AsksReplay words × PrintsAll input old new) ⊎ MayAskHelp words
+  pub done : status ≡ 0 → IsDone words input old new
   pub quiet : status ≡ 0 → told_new ≡ told_old
-  pub fault : status ≡ 1 → (new ≡ old) ⊎ (AsksReplay words × PrintsPart input old new) ⊎ MayAskHelp words
+  pub fault : status ≡ 1 → IsStopped words input old new
   pub mistake : status ≡ 2 → MayBeMistaken words × (new ≡ old)
   pub only : (status ≡ 0) ⊎ (status ≡ 1) ⊎ (status ≡ 2)

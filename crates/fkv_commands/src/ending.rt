@@ -8,14 +8,16 @@ use crate::running::{refuse_words, run, tell};
 use fkv_functions::Refused;
 use fkv_streams::{Sink, Source};
 use std::alloc::Global;
+use std::fs::Files;
 use std::io::{self, ErrorKind};
 use std::process::ExitCode;
 
 /// Does what the words ask for, of which the first is the program's name, and ends with its status, as
 /// [`run`] has it. Where the words could not be had the output is as it was: status 2 where one of them is
 /// no text, and 1 where there was no memory for them.
-pub fn end<R: Source, W: Sink, E: Sink>(
+pub fn end<R: Source, W: Sink, E: Sink, H: Files>(
     alloc: Global,
+    files: &H,
     words: io::Result<Vec<String>>,
     reader: &mut R,
     writer: &mut W,
@@ -32,10 +34,28 @@ pub fn end<R: Source, W: Sink, E: Sink>(
     ensures steady { exit_status result ≡ 0 → (R.failures reader.new ≡ R.failures reader.old)
         × (W.failures writer.new ≡ W.failures writer.old) }
 {
-    let status = match words {
-        Ok(words) => run(alloc, words.as_slice(), reader, writer, faults),
-        Err(error) => unworded(&error, faults),
-    };
+    match words {
+        Ok(words) => ended(alloc, files, words.as_slice(), reader, writer, faults),
+        Err(error) => ExitCode::from(unworded(&error, faults)),
+    }
+}
+
+/// Does what the words ask for, and ends with its status, as [`run`] has it.
+fn ended<R: Source, W: Sink, E: Sink, H: Files>(
+    alloc: Global,
+    files: &H,
+    words: &[String],
+    reader: &mut R,
+    writer: &mut W,
+    faults: &mut E,
+) -> ExitCode
+    ensures ends { IsEnding (map string_bytes words.now) (R.remaining reader.old) (W.contents writer.old)
+        (W.contents writer.new) (E.contents faults.old) (E.contents faults.new) (exit_status result) }
+    ensures out { exit_status result ≡ 0 → W.is_out writer.new ≡ true }
+    ensures steady { exit_status result ≡ 0 → (R.failures reader.new ≡ R.failures reader.old)
+        × (W.failures writer.new ≡ W.failures writer.old) }
+{
+    let status = run(alloc, files, words, reader, writer, faults);
     ExitCode::from(status)
 }
 

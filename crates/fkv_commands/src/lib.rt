@@ -11,6 +11,7 @@ pub mod laws;
 pub mod requests;
 pub mod running;
 pub mod starting;
+mod tabulating;
 mod telling;
 pub mod words;
 

@@ -2,16 +2,18 @@
 ghost use Rattle.std.specs.Prelude.{◌≡◌, ◌⊎◌, true, OnOk, map, codes, string_bytes};
 ghost use Rattle.fkv_streams.specs.Streams.{AppendsPrefix};
 ghost use Rattle.fkv_steps.specs.Printing.{line};
-ghost use Rattle.fkv_commands.specs.Requests.{AsksReplay, MayAskHelp, MayBeMistaken};
-ghost use Rattle.fkv_commands.specs.Endings.{PrintsAll, PrintsPart};
+ghost use Rattle.fkv_commands.specs.Requests.{MayBeMistaken};
+ghost use Rattle.fkv_commands.specs.Endings.{IsDone, IsStopped};
 
 use crate::requests::{Request, request_of};
+use crate::tabulating::tabulate;
 use crate::telling::Telling;
 use clap::Error;
 use fkv_functions::Refused;
 use fkv_steps::scripts::run_script;
 use fkv_streams::{Sink, Source, write_out};
 use std::alloc::Global;
+use std::fs::Files;
 use std::io::Write;
 
 /// The status of a run that did what was asked.
@@ -24,34 +26,37 @@ const MISTAKE: u8 = 2;
 /// Does what the words ask for, of which the first is the program's name, and answers the run's status.
 ///
 /// `replay`, and no word, run the script that the reader gives and write what it tells. Status 0: it was
-/// done, whatever its lines were refused. Status 1: it was refused; `fkv_cli: ` and why stand on `faults`,
+/// done, whatever its lines were refused. `count`, `sum` and `max` write the table of the feeds that they name, or of
+/// the reader, status 0. Status 1: it was refused; `fkv_cli: ` and why stand on `faults`,
 /// and nothing was written, or where the writer failed the front of the output. `--help` writes help,
 /// status 0. Words that ask for nothing that the program does: clap's text on `faults`, status 2.
-pub fn run<R: Source, W: Sink, E: Sink>(
+pub fn run<R: Source, W: Sink, E: Sink, H: Files>(
     alloc: Global,
+    files: &H,
     words: &[String],
     reader: &mut R,
     writer: &mut W,
     faults: &mut E,
 ) -> u8
-    ensures done { result ≡ 0 → (AsksReplay (map string_bytes words.now)
-        × PrintsAll (R.remaining reader.old) (W.contents writer.old) (W.contents writer.new))
-        ⊎ MayAskHelp (map string_bytes words.now) }
+    ensures done { result ≡ 0 → IsDone (map string_bytes words.now) (R.remaining reader.old)
+        (W.contents writer.old) (W.contents writer.new) }
     ensures quiet { result ≡ 0 → E.contents faults.new ≡ E.contents faults.old }
     // What was written is out, and no failure of a stream is hidden.
     ensures out { result ≡ 0 → W.is_out writer.new ≡ true }
     ensures steady { result ≡ 0 → (R.failures reader.new ≡ R.failures reader.old)
         × (W.failures writer.new ≡ W.failures writer.old) }
-    ensures fault { result ≡ 1 → (W.contents writer.new ≡ W.contents writer.old)
-        ⊎ (AsksReplay (map string_bytes words.now)
-        × PrintsPart (R.remaining reader.old) (W.contents writer.old) (W.contents writer.new))
-        ⊎ MayAskHelp (map string_bytes words.now) }
+    ensures fault { result ≡ 1 → IsStopped (map string_bytes words.now) (R.remaining reader.old)
+        (W.contents writer.old) (W.contents writer.new) }
     ensures mistake { result ≡ 2 → MayBeMistaken (map string_bytes words.now)
         × (W.contents writer.new ≡ W.contents writer.old) }
     ensures only { (result ≡ 0) ⊎ (result ≡ 1) ⊎ (result ≡ 2) }
 {
     match request_of(alloc, words) {
         Ok(Request::Replay) => match run_script(alloc, reader, writer) {
+            Ok(()) => DONE,
+            Err(refused) => tell(faults, refused),
+        },
+        Ok(Request::Table(table)) => match tabulate(alloc, files, &table, reader, writer) {
             Ok(()) => DONE,
             Err(refused) => tell(faults, refused),
         },

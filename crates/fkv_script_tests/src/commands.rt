@@ -5,6 +5,7 @@ use fkv_functions::{Refused, What};
 use fkv_streams::{CountedReader, CountedWriter};
 use std::alloc::{AllocError, Global};
 use std::env;
+use std::fs::Files;
 use std::io::{self, Error, ErrorKind, Read, Write};
 
 const THIN_PATH: &str = "store sum 0 8 8 2
@@ -28,6 +29,9 @@ Usage: fkv_cli [COMMAND]
 
 Commands:
   replay  Runs the script on standard input, and prints what it tells
+  count   Counts the rows of each key
+  sum     Adds up the amounts of each key
+  max     Finds the greatest amount of each key
   help    Print this message or the help of the given subcommand(s)
 
 Options:
@@ -119,7 +123,14 @@ const fn start(line: &'static str, input: &'static str) -> Launch {
 }
 
 /// Whether a run ends with this status, and prints this and tells what begins so.
-fn ends(alloc: Global, start: Launch, status: u8, printed: &str, told: &str) -> bool {
+fn ends<H: Files>(
+    alloc: Global,
+    files: &H,
+    start: Launch,
+    status: u8,
+    printed: &str,
+    told: &str,
+) -> bool {
     let Ok(words) = split(alloc, start.line) else {
         return false;
     };
@@ -137,6 +148,7 @@ fn ends(alloc: Global, start: Launch, status: u8, printed: &str, told: &str) -> 
     };
     let ended = run(
         alloc,
+        files,
         words.as_slice(),
         &mut CountedReader::new(reader),
         &mut CountedWriter::new(&mut writer),
@@ -151,7 +163,7 @@ fn ends(alloc: Global, start: Launch, status: u8, printed: &str, told: &str) -> 
 }
 
 /// Command lines, inputs, statuses, what is printed, and what is told beside it; of a mistake its first line.
-const RUNS: [(&str, &str, u8, &str, &str); 17] = [
+const RUNS: [(&str, &str, u8, &str, &str); 25] = [
     ("fkv_cli", THIN_PATH, 0, THIN_PATH_TOLD, ""),
     ("fkv_cli replay", THIN_PATH, 0, THIN_PATH_TOLD, ""),
     ("fkv_cli --", THIN_PATH, 0, THIN_PATH_TOLD, ""),
@@ -219,6 +231,45 @@ const RUNS: [(&str, &str, u8, &str, &str); 17] = [
         "",
         "error: unrecognized subcommand 'more'\n",
     ),
+    // tables of standard input
+    ("fkv_cli sum", "a,5\nb,7\na,-2\n", 0, "a,3\nb,7\n", ""),
+    ("fkv_cli count", "a,5\nb,7\na,-2\n", 0, "a,2\nb,1\n", ""),
+    (
+        "fkv_cli max --partition-bits 0 --bucket-bits=0 --page-bits 8 --frames 2",
+        "a,5\nb,7\na,-2\n",
+        0,
+        "a,5\nb,7\n",
+        "",
+    ),
+    ("fkv_cli sum", "", 0, "", ""),
+    (
+        "fkv_cli sum",
+        "a,1\na,5x\n",
+        1,
+        "",
+        "fkv_cli: bad row 2 of feed 1\n",
+    ),
+    (
+        "fkv_cli sum no-such-file",
+        "a,1\n",
+        1,
+        "",
+        "fkv_cli: cannot read input 1\n",
+    ),
+    (
+        "fkv_cli sum --frames 1",
+        "a,1\n",
+        2,
+        "",
+        "error: invalid value '1' for '--frames <N>'",
+    ),
+    (
+        "fkv_cli sum --workers 2",
+        "a,1\n",
+        2,
+        "",
+        "error: unexpected argument '--workers' found\n",
+    ),
 ];
 
 #[test]
@@ -226,7 +277,10 @@ fn runs(rt: HostRuntime) {
     command_lines();
     for (at, (line, input, status, printed, told)) in RUNS.iter().enumerate() {
         let start = start(line, input);
-        assert!(rt; ends(rt.alloc(), start, *status, printed, told), "run {at}");
+        assert!(rt;
+            ends(rt.alloc(), &rt, start, *status, printed, told),
+            "run {at}"
+        );
     }
 }
 
@@ -239,9 +293,16 @@ fn a_reader_that_fails(rt: HostRuntime) {
             ..start("fkv_cli", THIN_PATH)
         };
         let is_ended = if calls < 12 {
-            ends(rt.alloc(), start, 1, "", "fkv_cli: cannot read input 1\n")
+            ends(
+                rt.alloc(),
+                &rt,
+                start,
+                1,
+                "",
+                "fkv_cli: cannot read input 1\n",
+            )
         } else {
-            ends(rt.alloc(), start, 0, THIN_PATH_TOLD, "")
+            ends(rt.alloc(), &rt, start, 0, THIN_PATH_TOLD, "")
         };
         assert!(rt; is_ended, "{calls}");
     }
@@ -275,14 +336,17 @@ fn a_writer_that_fails(rt: HostRuntime) {
             ..start(line, THIN_PATH)
         };
         let told = "fkv_cli: cannot write output\n";
-        assert!(rt; ends(rt.alloc(), start, 1, printed, told), "{line} {room}");
+        assert!(rt;
+            ends(rt.alloc(), &rt, start, 1, printed, told),
+            "{line} {room}"
+        );
     }
     for (line, printed) in [("fkv_cli", THIN_PATH_TOLD), ("fkv_cli --help", HELP)] {
         let start = Launch {
             room: printed.len(),
             ..start(line, THIN_PATH)
         };
-        assert!(rt; ends(rt.alloc(), start, 0, printed, ""), "{line}");
+        assert!(rt; ends(rt.alloc(), &rt, start, 0, printed, ""), "{line}");
     }
 }
 
@@ -294,7 +358,7 @@ fn faults_that_can_not_be_told(rt: HostRuntime) {
             beside: 4,
             ..start(line, "")
         };
-        assert!(rt; ends(rt.alloc(), start, status, "", told), "{line}");
+        assert!(rt; ends(rt.alloc(), &rt, start, status, "", told), "{line}");
     }
 }
 

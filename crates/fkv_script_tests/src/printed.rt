@@ -1,8 +1,8 @@
 //! What outcomes, refusals and maps print.
 use fkv_functions::{Name, Refused, What};
 use fkv_operations::Answer;
-use fkv_steps::{Outcome, Wait};
 use fkv_steps::scripts::{LIMIT, read_script, text_of};
+use fkv_steps::{Outcome, Wait};
 use fkv_streams::CountedReader;
 use std::alloc::Global;
 

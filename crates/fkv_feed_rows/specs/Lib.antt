@@ -1,0 +1,4 @@
+pub mod Amounts
+pub mod Rows
+pub mod Feeds
+pub mod Watching

@@ -1,0 +1,9 @@
+//! Tests of feeds, as rows.
+#![tactic(auto)]
+
+#[cfg(test)]
+mod random;
+#[cfg(test)]
+mod streams;
+#[cfg(test)]
+mod tables;

@@ -1,0 +1,170 @@
+//! Readers and writers that fail, and refused growths.
+use fkv_feeds::{run_one, write_table};
+use fkv_functions::{Refused, SumFns};
+use fkv_partition::Config;
+use fkv_streams::{CountedReader, CountedWriter};
+use std::alloc::Global;
+use std::io::{self, Error, ErrorKind, Read, Write};
+
+const CONFIG: Config = Config {
+    id: 1,
+    partition_bits: 1,
+    bucket_bits: 2,
+    page_bits: 8,
+    frames: 2,
+    turns: 1_000_000,
+};
+
+/// Gives a text three bytes at a time, and fails so at each call after so many, but for those after its end.
+#[derive(Drop)]
+struct Breaking<'a> {
+    text: &'a [u8],
+    left: u64,
+    kind: ErrorKind,
+    ended: bool,
+}
+
+impl Read for Breaking<'_> {
+    fn read(&mut self, buf: &mut [u8]) -> io::Result<usize> {
+        if self.ended {
+            return Ok(0);
+        }
+        if self.left == 0 {
+            return Err(Error::from(self.kind));
+        }
+        self.left -= 1;
+        self.ended = self.text.is_empty();
+        let count = buf.len().min(self.text.len()).min(3);
+        let (given, rest) = self.text.split_at(count);
+        buf[..count].copy_from_slice(given);
+        self.text = rest;
+        Ok(count)
+    }
+}
+
+/// Takes so many bytes, two at a time, and fails where there are more.
+#[derive(Drop)]
+struct Filling {
+    text: Vec<u8>,
+    left: usize,
+}
+
+impl Write for Filling {
+    fn write(&mut self, buf: &[u8]) -> io::Result<usize> {
+        let count = buf.len().min(self.left).min(2);
+        if count == 0 && !buf.is_empty() {
+            return Err(Error::from(ErrorKind::Other));
+        }
+        self.text.extend_from_slice(&buf[..count])?;
+        self.left -= count;
+        Ok(count)
+    }
+
+    fn flush(&mut self) -> io::Result<()> {
+        Ok(())
+    }
+}
+
+const FEEDS: [&str; 3] = ["a,1\nb,2\n", "c,3\na,4\n", "x\n"];
+
+/// What a run over the first feeds is refused by, where the second fails after so many calls.
+fn broken(alloc: Global, feeds: usize, left: u64, kind: ErrorKind) -> Option<Refused> {
+    let mut readers = Vec::new(alloc);
+    for (index, text) in FEEDS.iter().enumerate() {
+        let left = if index == 1 { left } else { 1_000 };
+        let reader = Breaking {
+            text: text.as_bytes(),
+            left,
+            kind,
+            ended: false,
+        };
+        if index < feeds && readers.push(CountedReader::new(reader)).is_err() {
+            return Some(Refused::NoMemory);
+        }
+    }
+    run_one(alloc, readers.as_mut_slice(), &SumFns, &CONFIG).err()
+}
+
+const UNREADABLE: Option<Refused> = Some(Refused::Unreadable { number: 2 });
+
+/// How many feeds, the calls after which the second fails, and what the run is refused by. Three calls give its bytes,
+/// and those after them say that there are no more.
+const BROKEN: [(usize, u64, Option<Refused>); 8] = [
+    (1, 0, None),
+    (2, 0, UNREADABLE),
+    (2, 1, UNREADABLE),
+    (2, 2, UNREADABLE),
+    (2, 3, UNREADABLE),
+    (2, 6, None),
+    (3, 1, UNREADABLE),
+    (3, 6, Some(Refused::BadRow { feed: 3, row: 1 })),
+];
+
+#[test]
+fn readers_that_fail(rt: HostRuntime) {
+    for (feeds, left, told) in BROKEN {
+        let other = broken(rt.alloc(), feeds, left, ErrorKind::Other);
+        assert!(rt; other == told, "{feeds} {left}");
+    }
+    let memory = broken(rt.alloc(), 2, 1, ErrorKind::OutOfMemory);
+    assert!(rt; memory == Some(Refused::NoMemory));
+}
+
+const TABLE: &str = "a,5\nb,2\nc,3\n";
+
+/// What writing the table of the first two feeds is refused by, and the bytes that a writer of so much room took.
+fn written(alloc: Global, room: usize) -> (Result<(), Refused>, Vec<u8>) {
+    let mut writer = Filling {
+        text: Vec::new(alloc),
+        left: room,
+    };
+    let mut readers = [
+        CountedReader::new(FEEDS[0].as_bytes()),
+        CountedReader::new(FEEDS[1].as_bytes()),
+    ];
+    let told = match run_one(alloc, readers.as_mut_slice(), &SumFns, &CONFIG) {
+        Ok(table) => write_table(alloc, &table, &mut CountedWriter::new(&mut writer)),
+        Err(refused) => Err(refused),
+    };
+    (told, writer.text)
+}
+
+/// Whether a writer of so much room takes the table's front, and tells where that is not all.
+fn is_filled(alloc: Global, room: usize) -> bool {
+    let (told, text) = written(alloc, room);
+    let wanted = if room < TABLE.len() {
+        Err(Refused::Unwritable)
+    } else {
+        Ok(())
+    };
+    told == wanted
+        && text.len() == room.min(TABLE.len())
+        && TABLE.as_bytes().starts_with(text.as_slice())
+}
+
+#[test]
+fn writers_that_fail(rt: HostRuntime) {
+    for room in 0..16usize {
+        assert!(rt; is_filled(rt.alloc(), room), "{room}");
+    }
+}
+
+/// Whether the table is written, made again where memory was refused once, before which nothing was written.
+fn is_made(alloc: Global) -> bool {
+    let (told, text) = written(alloc, 1_000);
+    match told {
+        Err(Refused::NoMemory) => {
+            let (again, more) = written(alloc, 1_000);
+            text.is_empty() && again == Ok(()) && more.as_slice() == TABLE.as_bytes()
+        }
+        // a writer that takes memory may itself be the one that is refused
+        Err(Refused::Unwritable) => TABLE.as_bytes().starts_with(text.as_slice()),
+        told => told == Ok(()) && text.as_slice() == TABLE.as_bytes(),
+    }
+}
+
+/// Run also with each allocation refused in turn, by `rt try --test --fail-alloc N`.
+#[test]
+fn refused_growths_are_made_again(rt: HostRuntime) {
+    assert!(rt; is_made(rt.alloc()));
+}

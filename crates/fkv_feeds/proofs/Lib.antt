@@ -1,0 +1,4 @@
+pub mod SeatLemmas
+pub mod UnionLemmas
+pub mod RunLemmas
+pub mod FeedsLemmas

@@ -1,0 +1,151 @@
+-- What partitions stand for, before the first row and after one more.
+use Rattle.std.proofs.Common.{◌≡◌, Bool, true, false, cond, ℕ, zero, suc, ◌+◌, ◌*◌, ◌^◌, ◌<◌, ◌≤◌, inl, inr, List, [], ◌∷◌, ◌++◌, length, replicate, map, Option, Some, None, Ok, Err, option_map, slice_get, slice_set, nat_lt, ◌&&◌, refl, sym, ◌∙◌, ap, subst, arith, length-append}
+use Rattle.std.proofs.lemmas.List.{length-set, map-append, length-replicate, append-nil}
+use Rattle.std.proofs.lemmas.Option.{slice_get_within}
+use Rattle.std.proofs.lemmas.List.Elements.{filter-append}
+use Rattle.std.proofs.lemmas.List.Sums.{fold-append}
+use Rattle.std.proofs.lemmas.Nat.{pow_pos}
+use Rattle.std.specs.List.{filter}
+use Rattle.std.specs.declared.cmp.Ordering.{Ordering}
+use Rattle.std.specs.BTreeMap.{is_at}
+use Rattle.fkv_functions.specs.Meanings.{Meanings, updated}
+use Rattle.fkv_functions.specs.Plain.{PlainMap, Same, with_at, IsKeyOrder}
+use Rattle.fkv_functions.specs.declared.refusals.Refused.{Refused}
+use Rattle.fkv_functions.proofs.ListLemmas.{get-append_cases, get-set_cases}
+use Rattle.fkv_texts.specs.Text.{live}
+use Rattle.fkv_operations.specs.AfterLaws.{same_map}
+use Rattle.fkv_partition.specs.declared.limits.Config.{Config}
+use Rattle.fkv_partition.specs.declared.contexts.Context.{Context}
+use Rattle.fkv_partition.specs.Beginning.{Enters}
+use Rattle.fkv_partition.specs.Contexts.{joined, is_session}
+use Rattle.fkv_partition.specs.Effect.{asked, asked_by, IsQuiet}
+use Rattle.fkv_partition.specs.Views.{PartitionView, slots_of, live_of, partition_of, empty_partition}
+use Rattle.fkv_feeds.specs.Tables.{amounts_of, folded}
+use Rattle.fkv_feeds.specs.Seats.{IsIdle}
+use Rattle.fkv_feeds.specs.Unions.{live_at, union_of}
+use Rattle.fkv_feeds.specs.Runs.{IsSeatedIn, AreNew, StandFor}
+use Rattle.fkv_feeds.proofs.UnionLemmas.{union-updated, is_at-turned}
+
+-- ---- a partition with nothing in it but a session
+nothing-entered : (n slot : ℕ) → is_session (replicate n None) slot ≡ false
+nothing-entered zero slot = refl
+nothing-entered (suc n) zero = refl
+nothing-entered (suc n) (suc slot) = nothing-entered n slot
+
+module _ {K V I : Type 0} (cmp : K → K → Ordering) (config : Config) (size number now : ℕ) where
+  unasked : (slot c : ℕ) → asked (empty_partition {K = K} {V = V} {I = I} config size number) slot c ≡ None
+  unasked slot c = off (is_session (replicate 16 None) slot) (nothing-entered 16 slot)
+    where
+      off : (b : Bool) → b ≡ false → option_map (asked_by {K = K} {V = V} {I = I}) (cond (b && nat_lt c 8) (joined (slice_get (replicate 128 None) (slot * 8 + c))) None) ≡ None
+      off true t = absurd (cc)
+      off false t = refl
+
+  pub enters-always : (w : PartitionView K V I) (e : Refused) → Enters (empty_partition config size number) w now (Err e) → ⊥
+  enters-always w e (Enters.full f n r) = absurd (cc)
+  enters-always w e (Enters.enters slot f n r) = absurd (cc)
+
+  pub seated-new : (w : PartitionView K V I) (slot : ℕ) → now ≡ number + 1 → Enters (empty_partition config size number) w now (Ok slot) → IsQuiet (empty_partition config size number) w now → IsSeatedIn cmp config number w
+  seated-new w slot e (Enters.full f n r) ev = absurd (cc)
+  seated-new w slot e (Enters.enters s f n r) ev =
+      let zero_slot : 0 ≡ s = cc in
+      record {
+        numbered = ev.number;
+        counted = ev.count;
+        past = (let m = ev.moment in omega arith);
+        idle = record {
+          entered = ap (λ (u : PartitionView K V I). is_session (slots_of u) 0) n ∙ ap (λ t. is_session (slice_set (replicate 16 None) t (Some 1)) 0) (sym zero_slot);
+          free = λ c. ev.same 0 c ∙ unasked 0 c;
+          room = (let l : length w.contexts ≡ 128 = ap (λ (u : PartitionView K V I). length u.contexts) n ∙ length-replicate {A = Option (Context K V I)} 128 None in omega arith);
+        };
+        empty = λ k. ap (λ t. live cmp t k) ev.text;
+      }
+
+  pub new-none : AreNew {K = K} {V = V} {I = I} cmp config [] 0
+  new-none = record { sized = refl; each = λ p v h. absurd (cc) }
+
+pub new-more : {K V I : Type 0} (cmp : K → K → Ordering) (config : Config) (views : List (PartitionView K V I)) (n : ℕ) (v : PartitionView K V I) → AreNew cmp config views n → IsSeatedIn cmp config n v → AreNew cmp config (views ++ v ∷ []) (n + 1)
+new-more cmp config views n v before one = record {
+  sized = omega (arith, before.sized, length-append views (v ∷ []));
+  each = λ p w h. elim (get-append_cases views v p w h) [
+    | inl a ↦ before.each p w a
+    | inr b ↦ (let at : n ≡ p = sym before.sized ∙ sym b.0 in subst (λ q. IsSeatedIn cmp config q w) at (subst (λ (u : PartitionView _ _ _). IsSeatedIn cmp config n u) b.1 one))
+  ];
+}
+
+-- ---- what amounts come to
+module _ {K V I O : Type 0} (cmp : K → K → Ordering) (order : IsKeyOrder cmp) (f : Meanings K V I O) where
+  folded-more : (k : K) (is : List I) (i : I) → folded f k (is ++ i ∷ []) ≡ Some (updated f k i (folded f k is))
+  folded-more k [] i = refl
+  folded-more k (j ∷ js) i = ap Some (fold-append (f.next k) (f.first k j) js (i ∷ []))
+
+  amounts-more : (q : K) (rows : List (K × I)) (k : K) (i : I) (b : Bool) → is_at (cmp q) k ≡ b → amounts_of cmp q (rows ++ (k, i) ∷ []) ≡ cond b (amounts_of cmp q rows ++ i ∷ []) (amounts_of cmp q rows)
+  amounts-more q rows k i b h =
+      ap (map (λ (r : K × I). r.1)) (filter-append (λ (r : K × I). is_at (cmp q) r.0) rows ((k, i) ∷ []))
+      ∙ map-append (λ (r : K × I). r.1) (filter (λ (r : K × I). is_at (cmp q) r.0) rows) (filter (λ (r : K × I). is_at (cmp q) r.0) ((k, i) ∷ []))
+      ∙ last b h
+    where
+      last : (t : Bool) → is_at (cmp q) k ≡ t → amounts_of cmp q rows ++ map (λ (r : K × I). r.1) (filter (λ (r : K × I). is_at (cmp q) r.0) ((k, i) ∷ [])) ≡ cond t (amounts_of cmp q rows ++ i ∷ []) (amounts_of cmp q rows)
+      last true e = rw e refl
+      last false e = rw e (append-nil (amounts_of cmp q rows))
+
+  -- one row more updates the value of its key
+  pub table-more : (rows : List (K × I)) (k : K) (i : I) → Same (with_at cmp (λ q. folded f q (amounts_of cmp q rows)) k (Some (updated f k i (folded f k (amounts_of cmp k rows))))) (λ q. folded f q (amounts_of cmp q (rows ++ (k, i) ∷ [])))
+  table-more rows k i q = by (is_at (cmp k) q) refl
+    where
+      by : (b : Bool) → is_at (cmp k) q ≡ b → cond (is_at (cmp k) q) (Some (updated f k i (folded f k (amounts_of cmp k rows)))) (folded f q (amounts_of cmp q rows)) ≡ folded f q (amounts_of cmp q (rows ++ (k, i) ∷ []))
+      by true e =
+          let more = amounts-more q rows k i true (is_at-turned cmp order k q true e) in
+          rw e (ap (λ x. Some (updated f x i (folded f x (amounts_of cmp x rows)))) (order.same k q e) ∙ sym (ap (folded f q) more ∙ folded-more q (amounts_of cmp q rows) i))
+      by false e =
+          let more = amounts-more q rows k i false (is_at-turned cmp order k q false e) in
+          rw e (sym (ap (folded f q) more))
+
+-- ---- before the first row, and after one more
+module _ {K V I O : Type 0} (cmp : K → K → Ordering) (f : Meanings K V I O) (code : K → ℕ) where
+  none-live : (o : Option (PartitionView K V I)) (k : K) → ((v : PartitionView K V I) → o ≡ Some v → live_of cmp v k ≡ None) → live_at cmp o k ≡ None
+  none-live None k h = refl
+  none-live (Some v) k h = h v refl
+
+  pub stand-new : (config : Config) (views : List (PartitionView K V I)) (count : ℕ) → count ≡ 2 ^ config.partition_bits → AreNew cmp config views count → StandFor cmp f code views 0 count []
+  stand-new config views count e new = record {
+    some = (let positive : 0 < 2 ^ config.partition_bits = pow_pos config.partition_bits in omega (arith, new.sized));
+    idle = record {
+      numbered = λ p v h. (new.each p v h).numbered;
+      counted = λ p v h. (new.each p v h).counted ∙ sym e ∙ sym new.sized;
+      past = λ p v h. (let m = (new.each p v h).past in let l : p < length views = slice_get_within views p v h in omega (arith, new.sized));
+      idle = λ p v h. (new.each p v h).idle;
+    };
+    denotes = λ k. none-live (slice_get views (partition_of (length views) (code k))) k (λ v h. (new.each (partition_of (length views) (code k)) v h).empty k);
+  }
+
+module _ {K V I O : Type 0} (cmp : K → K → Ordering) (order : IsKeyOrder cmp) (f : Meanings K V I O) (code : K → ℕ) where
+  pub stand-more : (views : List (PartitionView K V I)) (slot now then : ℕ) (rows : List (K × I)) (p : ℕ) (old new : PartitionView K V I) (k : K) (i : I)
+      → StandFor cmp f code views slot now rows → slice_get views p ≡ Some old → partition_of (length views) (code k) ≡ p
+      → new.number ≡ old.number → new.count ≡ old.count → new.moment ≤ then → now < then → IsIdle new slot
+      → Same (live_of cmp new) (with_at cmp (live_of cmp old) k (Some (updated f k i (live_of cmp old k))))
+      → StandFor cmp f code (slice_set views p new) slot then (rows ++ (k, i) ∷ [])
+  stand-more views slot now then rows p old new k i stand here own number count past later idle done = record {
+    some = rw (length-set views p new) stand.some;
+    idle = record {
+      numbered = λ q v h. elim (get-set_cases views p q new v h) [
+        | inl c ↦ ap (λ (u : PartitionView K V I). u.number) (sym c.1) ∙ number ∙ stand.idle.numbered p old here ∙ sym c.0
+        | inr c ↦ stand.idle.numbered q v c
+      ];
+      counted = λ q v h. elim (get-set_cases views p q new v h) [
+        | inl c ↦ ap (λ (u : PartitionView K V I). u.count) (sym c.1) ∙ count ∙ stand.idle.counted p old here ∙ sym (length-set views p new)
+        | inr c ↦ stand.idle.counted q v c ∙ sym (length-set views p new)
+      ];
+      past = λ q v h. elim (get-set_cases views p q new v h) [
+        | inl c ↦ (let m : v.moment ≡ new.moment = ap (λ (u : PartitionView K V I). u.moment) (sym c.1) in omega arith)
+        | inr c ↦ (let m : v.moment ≤ now = stand.idle.past q v c in omega arith)
+      ];
+      idle = λ q v h. elim (get-set_cases views p q new v h) [
+        | inl c ↦ subst (λ (u : PartitionView K V I). IsIdle u slot) c.1 idle
+        | inr c ↦ stand.idle.idle q v c
+      ];
+    };
+    denotes = (let maps : union_of cmp code views ≡ (λ q. folded f q (amounts_of cmp q rows)) = same_map (union_of cmp code views) (λ q. folded f q (amounts_of cmp q rows)) stand.denotes in
+        λ q. union-updated cmp order f code views p old new here k i own done q
+        ∙ ap (λ (m : PlainMap K V). with_at cmp m k (Some (updated f k i (m k))) q) maps
+        ∙ table-more cmp order f rows k i q);
+  }

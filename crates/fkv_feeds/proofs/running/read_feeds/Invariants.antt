@@ -1,0 +1,15 @@
+use Rattle.std.proofs.Common.{◌≡◌, ℤ, List, take, drop, map}
+use Rattle.fkv_functions.specs.Names.{name_cmp}
+use Rattle.fkv_functions.specs.declared.names.Name.{Name}
+use Rattle.fkv_feeds.specs.Tables.{AreFeeds, most_rows}
+use Rattle.fkv_feeds.specs.Runs.{StandFor}
+use Rattle.fkv_feeds.proofs.running.read_feeds.Given as goal
+
+abbrev pub invariant-loop-index : goal.invariant-loop-index
+invariant-loop-index g l = record {
+  counts : map g.S.Source.failures l.feeds ≡ map g.S.Source.failures l.initial.feeds;
+  unread : drop l.index l.feeds ≡ drop l.index l.initial.feeds;
+  so_far : (rows : List (Name × ℤ))
+      × AreFeeds most_rows (map g.S.Source.remaining (take l.index l.initial.feeds)) rows
+      × StandFor name_cmp g.F.Functions.meaning g.F.Functions.code l.shards.partitions.items l.shards.slot l.shards.clock rows;
+}

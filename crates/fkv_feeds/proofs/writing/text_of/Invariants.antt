@@ -1,0 +1,12 @@
+use Rattle.std.proofs.Common.{◌≡◌, Some, take, false}
+use Rattle.csv.specs.Writing.{text_written, fields_written, has_written, writer_setup, default_writer}
+use Rattle.fkv_feeds.specs.Writing.{table_text}
+use Rattle.fkv_feeds.proofs.writing.text_of.Given as goal
+
+abbrev pub invariant-loop-name : goal.invariant-loop-name
+invariant-loop-name g l = record {
+  text : text_written (λ v. Some v.items) l.writer ≡ Some (table_text g.V.Integer.text (take l.name-index l.pairs));
+  fields : fields_written l.writer ≡ 0;
+  wrote : has_written l.writer ≡ false;
+  setup : writer_setup l.writer ≡ default_writer;
+}

@@ -1,0 +1,7 @@
+pub mod Tables
+pub mod Writing
+pub mod Refusing
+pub mod Seats
+pub mod Unions
+pub mod Runs
+pub mod Gathering

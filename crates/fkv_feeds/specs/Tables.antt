@@ -1,0 +1,42 @@
+-- The table of feeds: what the amounts of each key come to.
+use Rattle.std.specs.Prelude.{◌≡◌, ◌++◌, ◌∷◌, [], ◌^◌, ℕ, ℤ, List, map, fold, Option, Some, None}
+use Rattle.std.specs.List.{filter}
+use Rattle.std.specs.BTreeMap.{is_at}
+use Rattle.std.specs.Map.{lookup, keys_of}
+use Rattle.std.specs.List.Sorted.{IsStrictlySortedBy}
+use Rattle.std.specs.declared.cmp.Ordering.{Ordering}
+use Rattle.fkv_functions.specs.Meanings.{Meanings}
+use Rattle.fkv_functions.specs.Names.{name_cmp}
+use Rattle.fkv_functions.specs.declared.names.Name.{Name}
+use Rattle.fkv_feed_rows.specs.Feeds.{IsFeed}
+
+-- the amounts of a key, in the order of its rows
+abbrev pub amounts_of : {K I : Type 0} → (K → K → Ordering) → K → List (K × I) → List I
+amounts_of cmp k rows = map (λ r. r.1) (filter (λ r. is_at (cmp k) r.0) rows)
+
+-- what they come to: the first amount gives the first value, and each further one the next; no amount gives none
+abbrev pub folded : {K V I O : Type 0} → Meanings K V I O → K → List I → Option V
+folded f k [] = None
+folded f k (i ∷ is) = Some (fold (f.next k) (f.first k i) is)
+
+-- the rows of feeds, feed by feed
+abbrev pub AreFeeds : ℕ → List (Option (List ℕ)) → List (Name × ℤ) → Type 0
+AreFeeds limit [] rows = rows ≡ []
+AreFeeds limit (feed ∷ feeds) rows =
+    (one : List (Name × ℤ))
+    × (others : List (Name × ℤ))
+    × IsFeed limit feed one
+    × AreFeeds limit feeds others
+    × (rows ≡ one ++ others)
+
+-- the rows that a feed may have
+abbrev pub most_rows : ℕ
+most_rows = 2 ^ 40
+
+-- the table of feeds: each key of a row with what its amounts come to, keys rising
+pub record IsTableOf {V O : Type 0} (f : Meanings Name V ℤ O) (feeds : List (Option (List ℕ))) (pairs : List (Name × V))
+    : Type 0 where
+  pub rows : List (Name × ℤ)
+  pub read : AreFeeds most_rows feeds rows
+  pub value : (k : Name) → lookup (is_at (name_cmp k)) pairs ≡ folded f k (amounts_of name_cmp k rows)
+  pub rising : IsStrictlySortedBy name_cmp (keys_of pairs)
