@@ -180,7 +180,12 @@ impl<F: Functions> State<F> {
         }
     }
 
-    fn refresh_at(&mut self, partition: usize, slot: usize, now: u64) -> Result<OutcomeOf<F>, Refused>
+    fn refresh_at(
+        &mut self,
+        partition: usize,
+        slot: usize,
+        now: u64,
+    ) -> Result<OutcomeOf<F>, Refused>
         requires due { IsMomentIn self.old partition now }
         ensures does { Acts F.Key.cmp F.meaning F.code self.old self.new (Refresh partition slot) result }
     {
