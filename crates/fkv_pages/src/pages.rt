@@ -2,7 +2,7 @@
 ghost use Rattle.std.specs.Prelude.{◌≡◌, ◌+◌, ◌-◌, ◌^◌, ◌<◌, ◌≤◌, ◌↔◌, ℕ, Some, None, Ok, Err, IfOk, IfErr, IfSome, OnErr};
 ghost use Rattle.std.specs.Prelude.{List, IsSome, IsTrue, length, map, slice_get};
 ghost use mathlib.Core.Equiv.{IsContr-prop};
-ghost use Rattle.fkv_records.specs.Places.{page_at};
+ghost use Rattle.fkv_records.specs.Places.{page_at, IsShape, IsPlace};
 ghost use Rattle.fkv_records.specs.Records.{size_of, IsPrevious};
 ghost use Rattle.fkv_device.specs.Standing.{Standing};
 ghost use Rattle.fkv_texts.specs.Places.{IsLaidOut, tail_after};
@@ -204,12 +204,14 @@ impl<K: Fixed, V: Fixed, D: Disk> Pages<K, V, D> {
     /// What holds of pages at any time. It does nothing when it runs.
     pub fn known(&self)
         ensures from { self.now.from ≡ text_begin D.keeps self.now.begin self.now.closed }
+        ensures shape { IsShape self.now.bits (size_of K.SIZE V.SIZE) }
         ensures some { 0 < self.now.frames }
         ensures first { (64 ≤ self.now.begin) × (64 ≤ self.now.closed) }
         ensures begin { self.now.begin ≤ self.now.frozen }
         ensures closed { self.now.closed ≤ self.now.frozen }
         ensures frozen { self.now.frozen ≤ self.now.tail }
         ensures most { self.now.tail ≤ 2 ^ 48 }
+        ensures end { self.now.tail < 2 ^ 48 → IsPlace self.now.bits (size_of K.SIZE V.SIZE) self.now.tail }
         ensures laid_out { IsLaidOut self.now.bits (size_of K.SIZE V.SIZE) self.now.from self.now.tail self.now.text }
         ensures rising { IsRising self.now.text }
         ensures low { IsFrom self.now.from self.now.text }

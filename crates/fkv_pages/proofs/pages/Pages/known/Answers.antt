@@ -33,3 +33,9 @@ pub returns-clause-spelled : goal.returns-clause-spelled
 returns-clause-spelled g c =
     let i = c.self.inside in
     rw (← c.self.view_is) (waits_spelled g.K.Fixed.bytes_of g.V.Fixed.bytes_of g.K.Known.is_known g.V.Known.is_known g.K.Fixed.SIZE g.V.Fixed.SIZE g.D.Disk.keeps i.shape i.begin i.closed i.frozen i.tail _ i.frames i.text.0.0 c.self.invariant)
+
+pub returns-clause-shape : goal.returns-clause-shape
+returns-clause-shape g c = rw (← c.self.view_is, ← c.self.invariant.size) c.self.inside.shape.limits
+
+pub returns-clause-end : goal.returns-clause-end
+returns-clause-end g c = rw (← c.self.view_is, ← c.self.invariant.size) c.self.invariant.ordered.tail_place

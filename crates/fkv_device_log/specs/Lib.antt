@@ -1,0 +1,4 @@
+pub mod Views
+pub mod Tied
+pub mod Flushes
+pub mod WrongLogs

@@ -1,0 +1,158 @@
+//! The log: pages and regions that move together.
+ghost use Rattle.std.specs.Prelude.{◌≡◌, ◌+◌, ◌-◌, ◌^◌, ◌<◌, ◌≤◌, ◌↔◌, ℕ, List, Ok, Err, IfOk, IfErr, IfSome, IsTrue};
+ghost use Rattle.std.specs.Prelude.{Some, None, OnErr, length, slice_get};
+ghost use Rattle.fkv_records.specs.Places.{page_at, IsShape, IsPlace};
+ghost use Rattle.fkv_records.specs.Records.{size_of, IsPrevious};
+ghost use Rattle.fkv_epoch.specs.Timely.{IsTimely};
+ghost use Rattle.fkv_regions.specs.Agree.{IsRegions};
+ghost use Rattle.fkv_device.specs.Standing.{Standing};
+ghost use Rattle.fkv_texts.specs.Places.{IsLaidOut, tail_after};
+ghost use Rattle.fkv_texts.specs.Text.{IsRising, IsFrom, IsBelow};
+ghost use Rattle.fkv_pages.specs.Spelled.{IsPageOf};
+ghost use Rattle.fkv_pages.specs.Views.{text_begin};
+ghost use Rattle.fkv_device_log.specs.Views.{empty_log, with_entry, IsFull};
+
+mod edits;
+mod flushes;
+mod loads;
+mod reads;
+mod sessions;
+
+use fkv_device::Disk;
+use fkv_functions::{Fixed, Refused};
+use fkv_pages::Pages;
+use fkv_records::{Address, Shape};
+use fkv_regions::Regions;
+use std::alloc::Global;
+use std::marker::Model;
+
+/// The log of one partition.
+#[derive(Drop)]
+pub struct Log<K: Fixed, V: Fixed, D: Disk> {
+    pages: Pages<K, V, D>,
+    regions: Regions,
+}
+
+impl<K: Fixed, V: Fixed, D: Disk> Model for Log<K, V, D> {
+    ghost use Rattle.fkv_device_log.specs.Views.{LogView, log_view};
+    ghost use Rattle.fkv_device_log.specs.Tied.{IsTied};
+
+    ghost Value = { LogView K V };
+
+    ghost view = { λ l. log_view l.pages l.regions };
+
+    ghost invariant = { λ l. IsTied l.pages l.regions };
+}
+
+impl<K: Fixed, V: Fixed, D: Disk> Log<K, V, D> {
+    /// A log of no records, in this shape and so many frames. Refused: `NoMemory`.
+    pub fn new(alloc: Global, shape: Shape, frames: u64) -> Result<Self, Refused>
+        requires size { shape.record_size ≡ size_of K.SIZE V.SIZE }
+        requires some { 0 < frames }
+        ensures ok { IfOk result (λ log. log ≡ empty_log shape.page_bits frames) }
+        ensures only { IfErr result (λ refused. refused ≡ Refused.NoMemory) }
+    {
+        match Pages::new(alloc, shape, frames) {
+            Ok(pages) => Ok(Log {
+                pages,
+                regions: Regions::new(shape),
+            }),
+            Err(refused) => Err(refused),
+        }
+    }
+
+    /// How the pages and their records are laid out.
+    pub fn shape(&self) -> Shape
+        ensures bits { result.page_bits ≡ self.now.bits }
+        ensures size { result.record_size ≡ size_of K.SIZE V.SIZE }
+    {
+        self.pages.shape()
+    }
+
+    /// Where the entries begin that are not dropped.
+    pub fn begin(&self) -> Address
+        ensures { result ≡ self.now.begin }
+    {
+        self.pages.begin()
+    }
+
+    /// The address of the next record, or 2^48 where there can't be one.
+    pub fn tail(&self) -> Address
+        ensures tail { result ≡ self.now.tail }
+        ensures most { result ≤ 2 ^ 48 }
+    {
+        self.pages.tail()
+    }
+
+    /// The address after one: where the next entry stands behind an entry, or 2^48 where no record can.
+    pub fn next(&self, address: Address) -> Address
+        ensures next { result ≡ tail_after self.now.bits (size_of K.SIZE V.SIZE) address }
+        ensures rises { address < 2 ^ 48 → address < result }
+    {
+        self.pages.next(address)
+    }
+
+    /// Whether the next record would begin a page whose frame has one that is not closed.
+    pub fn is_full(&self) -> bool
+        ensures { IsTrue result ↔ IsFull self.now }
+    {
+        self.pages.is_full()
+    }
+
+    /// Appends a record and answers its address, or `None` where there is no room ([`Log::is_full`]), and then nothing
+    /// changes. No memory is taken. Refused, and then nothing changes: `Worn` where no address is left.
+    pub fn append(
+        &mut self,
+        previous: Address,
+        key: K,
+        value: Option<V>,
+    ) -> Result<Option<Address>, Refused>
+        requires previous { IsPrevious self.old.tail previous }
+        ensures address { IfOk result (λ o. IfSome o (λ address. address ≡ self.old.tail)) }
+        ensures appended { IfOk result (λ o. IfSome o (λ _. self.new
+            ≡ with_entry (size_of K.SIZE V.SIZE) self.old previous key value)) }
+        ensures room { (result ≡ Ok None) ↔ IsFull self.old }
+        ensures full { result ≡ Ok None → self.new ≡ self.old }
+        ensures worn { (result ≡ Err Refused.Worn) ↔ (self.old.tail ≡ 2 ^ 48) }
+        ensures only { IfErr result (λ refused. refused ≡ Refused.Worn) }
+        ensures err { OnErr result (self.new ≡ self.old) }
+    {
+        self.pages.known();
+        self.pages.append(previous, key, value)
+    }
+
+    /// What holds of every log: its text has one entry at each place from where it begins to below the tail, and the
+    /// views of its sessions agree with its offsets. It does nothing when it runs.
+    pub fn known(&self)
+        ensures from { self.now.from ≡ text_begin D.keeps self.now.begin self.now.regions.offsets.closed }
+        ensures shape { IsShape self.now.bits (size_of K.SIZE V.SIZE) }
+        ensures some { 0 < self.now.frames }
+        ensures first { 64 ≤ self.now.begin }
+        ensures begin { self.now.begin ≤ self.now.regions.offsets.head }
+        ensures most { self.now.tail ≤ 2 ^ 48 }
+        ensures end { self.now.tail < 2 ^ 48 → IsPlace self.now.bits (size_of K.SIZE V.SIZE) self.now.tail }
+        ensures laid_out { IsLaidOut self.now.bits (size_of K.SIZE V.SIZE) self.now.from self.now.tail self.now.text }
+        ensures rising { IsRising self.now.text }
+        ensures low { IsFrom self.now.from self.now.text }
+        ensures below { IsBelow self.now.tail self.now.text }
+        ensures regions { IsRegions self.now.regions }
+        ensures epochs { IsTimely self.now.regions.epochs }
+        ensures bits { self.now.regions.bits ≡ self.now.bits }
+        ensures read_only { self.now.regions.offsets.read_only ≤ self.now.tail }
+        // each flushed page has its receipt
+        ensures flushed { self.now.regions.flushed ≡ length self.now.receipts }
+        ensures receipts { (n : ℕ) (s : Standing)
+            → slice_get self.now.receipts n ≡ Some s
+            → (s.page ≡ n) × (s.length ≡ 2 ^ self.now.bits) }
+        // the pages from the first that is not flushed to below that of SafeReadOnly wait, each with the text's entries
+        ensures waiting { length self.now.waiting
+            ≡ page_at self.now.bits self.now.regions.offsets.safe_read_only - length self.now.receipts }
+        ensures spelled { (i : ℕ) (page : List ℕ)
+            → slice_get self.now.waiting i ≡ Some page
+            → IsPageOf K.bytes_of V.bytes_of K.SIZE V.SIZE self.now.bits (length self.now.receipts + i)
+            self.now.text page }
+    {
+        self.pages.known();
+        self.regions.known();
+    }
+}

@@ -1,0 +1,29 @@
+//! Entries that change where they stand: their value, or whether they are tombstones.
+ghost use Rattle.std.specs.Prelude.{◌≡◌, ◌≤◌, Some, None, IsSome};
+ghost use Rattle.fkv_texts.specs.Text.{entry_at, value_at};
+ghost use Rattle.fkv_device_log.specs.Views.{with_value};
+
+use crate::log::Log;
+use fkv_device::Disk;
+use fkv_functions::Fixed;
+use fkv_records::Address;
+
+impl<K: Fixed, V: Fixed, D: Disk> Log<K, V, D> {
+    /// Writes another value into the entry at an address that is not frozen, which has one. Nothing else changes.
+    pub fn write_value(&mut self, address: Address, value: V)
+        requires value { IsSome (value_at self.old.text address) }
+        requires mutable { self.old.regions.offsets.safe_read_only ≤ address }
+        ensures { self.new ≡ with_value self.old address (Some value) }
+    {
+        self.pages.write_value(address, value);
+    }
+
+    /// Makes the entry at an address that is not frozen a tombstone. Nothing else changes.
+    pub fn set_tombstone(&mut self, address: Address)
+        requires entry { IsSome (entry_at self.old.text address) }
+        requires mutable { self.old.regions.offsets.safe_read_only ≤ address }
+        ensures { self.new ≡ with_value self.old address None }
+    {
+        self.pages.set_tombstone(address);
+    }
+}
