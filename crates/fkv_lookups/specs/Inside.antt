@@ -1,0 +1,23 @@
+-- The fields behind a `RecordsView`.
+use Rattle.std.specs.Prelude.{ℕ, List}
+use Rattle.fkv_index.specs.declared.words.Word.{Word}
+use Rattle.fkv_device_log.specs.Views.{LogView}
+use Rattle.fkv_lookups.specs.RecordsViews.{RecordsView}
+
+-- a log of records of this size, and the words of an index
+abbrev pub view_of : {K V : Type 0} → ℕ → ℕ → ℕ → LogView K V → List (List Word) → RecordsView K V
+view_of partition_bits bucket_bits record_size log words = record {
+  partition_bits = partition_bits;
+  bucket_bits = bucket_bits;
+  page_bits = log.bits;
+  record_size = record_size;
+  frames = log.frames;
+  begin = log.begin;
+  from = log.from;
+  tail = log.tail;
+  regions = log.regions;
+  receipts = log.receipts;
+  waiting = log.waiting;
+  text = log.text;
+  words = words;
+}

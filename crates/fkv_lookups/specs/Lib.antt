@@ -1,0 +1,6 @@
+pub mod RecordsViews
+pub mod Inside
+pub mod Traced
+pub mod Lookups
+pub mod Decisions
+pub mod DecisionLaws

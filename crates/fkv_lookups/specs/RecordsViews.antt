@@ -1,0 +1,143 @@
+-- What a contract sees of the records of a partition.
+use Rattle.std.specs.Prelude.{◌≡◌, ◌+◌, ◌^◌, ◌<◌, ◌≤◌, ℕ, Bool, IsTrue, List, [], ◌∷◌, ◌++◌, Option, Some, None, option_map}
+use Rattle.std.specs.Prelude.{drop, replicate}
+use Rattle.fkv_records.specs.Places.{page_at, offset_at}
+use Rattle.fkv_device.specs.Standing.{Standing}
+use Rattle.fkv_pages.specs.Views.{text_begin}
+use Rattle.fkv_texts.specs.declared.entries.Entry.{Entry}
+use Rattle.fkv_texts.specs.Places.{tail_after}
+use Rattle.fkv_texts.specs.Text.{changed, text_from}
+use Rattle.fkv_regions.specs.RegionsView.{RegionsView, fresh_regions, with_flushed}
+use Rattle.fkv_index.specs.declared.words.Word.{Word}
+use Rattle.fkv_index.specs.declared.places.Place.{Place}
+use Rattle.fkv_index.specs.Words.{empty, final_word, tentative_word, address_of, tag_of, is_final}
+use Rattle.fkv_index.specs.Places.{word_at, IsPlace, with_word}
+use Rattle.fkv_index.specs.Entries.{entry_at, place_of, StandsAt}
+use Rattle.fkv_index.specs.Changes.{Probes}
+use Rattle.fkv_operations.specs.declared.classes.Class.{Class}
+use Rattle.fkv_operations.specs.declared.entries.IndexEntry.{IndexEntry}
+use Rattle.fkv_operations.specs.Classes.{class_at}
+
+-- the records of one of 2 ^ partition_bits partitions, whose classes have 2 ^ bucket_bits buckets: what a log is seen as,
+-- with its text, its regions, its sessions and what each has seen of them, and its pages' receipts; and the words of an
+-- index, bucket by bucket
+pub record RecordsView (K V : Type 0) : Type 0 where
+  pub partition_bits : ℕ
+  pub bucket_bits : ℕ
+  pub page_bits : ℕ
+  pub record_size : ℕ
+  pub frames : ℕ
+  pub begin : ℕ
+  pub from : ℕ
+  pub tail : ℕ
+  pub regions : RegionsView
+  pub receipts : List Standing
+  pub waiting : List (List ℕ)
+  pub text : List (Entry K V)
+  pub words : List (List Word)
+
+-- no records, no sessions and no entries
+abbrev pub empty_records : {K V : Type 0} → ℕ → ℕ → ℕ → ℕ → ℕ → RecordsView K V
+empty_records partition_bits bucket_bits page_bits record_size frames = record {
+  partition_bits = partition_bits;
+  bucket_bits = bucket_bits;
+  page_bits = page_bits;
+  record_size = record_size;
+  frames = frames;
+  begin = 64;
+  from = 64;
+  tail = 64;
+  regions = fresh_regions page_bits;
+  receipts = [];
+  waiting = [];
+  text = [];
+  words = replicate (2 ^ bucket_bits) (replicate 7 empty);
+}
+
+-- the class of a key
+abbrev pub class_in : {K V : Type 0} → (K → ℕ) → RecordsView K V → K → Class
+class_in code v k = class_at v.partition_bits v.bucket_bits (code k)
+
+-- the address of the final entry of a class
+abbrev pub entry_of : {K V : Type 0} → RecordsView K V → Class → Option ℕ
+entry_of v c = entry_at v.words c.bucket c.tag
+
+-- where an entry leads, 1 standing for nowhere
+abbrev pub leads_to : Option ℕ → ℕ
+leads_to None = 1
+leads_to (Some a) = a
+
+-- the final entry of a class: its place, and the word there
+abbrev pub found_in : {K V : Type 0} → RecordsView K V → Class → Option IndexEntry
+found_in v c = option_map (λ p. record { place = p; word = word_at v.words p }) (place_of v.words c.bucket c.tag)
+
+-- an entry stands as that of a class
+abbrev pub IsEntryOf : {K V : Type 0} → RecordsView K V → Class → IndexEntry → Type 0
+IsEntryOf v c e = StandsAt v.words c.bucket c.tag e.place e.word
+
+-- an entry was once found as that of a class: its place is one of the class's bucket, its word a final one of its tag
+pub record WasEntryOf {K V : Type 0} (v : RecordsView K V) (c : Class) (e : IndexEntry) : Type 0 where
+  pub place : IsPlace v.words e.place
+  pub bucket : e.place.bucket ≡ c.bucket
+  pub final : IsTrue (is_final e.word)
+  pub tag : tag_of e.word ≡ c.tag
+
+-- with a record at the tail, behind the one to which the entry leads, and the entry moved to it
+abbrev pub with_record : {K V : Type 0} → RecordsView K V → IndexEntry → K → Option V → RecordsView K V
+with_record v e key value = record v {
+  text = v.text ++ record { address = v.tail; previous = address_of e.word; key = key; value = value } ∷ [];
+  tail = tail_after v.page_bits v.record_size v.tail;
+  words = with_word v.words e.place (final_word (tag_of e.word) v.tail);
+}
+
+-- with another value in the record at an address, or with a tombstone there
+abbrev pub with_value : {K V : Type 0} → RecordsView K V → ℕ → Option V → RecordsView K V
+with_value v a value = record v { text = changed v.text a value }
+
+-- with these regions
+abbrev pub with_regions : {K V : Type 0} → RecordsView K V → RegionsView → RecordsView K V
+with_regions v regions = record v { regions = regions }
+
+-- a tentative entry is made for a class, at the first empty place of its bucket
+pub record Claims {K V : Type 0} (old new : RecordsView K V) (c : Class) (p : Place) : Type 0 where
+  pub probed : List (List Word)
+  pub probes : Probes c.bucket p old.words probed
+  pub is : new ≡ record old { words = with_word probed p (tentative_word c.tag) }
+
+-- a tentative entry becomes final, and leads to no record yet
+abbrev pub confirmed : {K V : Type 0} → RecordsView K V → Place → RecordsView K V
+confirmed v p = record v { words = with_word v.words p (final_word (tag_of (word_at v.words p)) 1) }
+
+-- a place is emptied
+abbrev pub released : {K V : Type 0} → RecordsView K V → Place → RecordsView K V
+released v p = record v { words = with_word v.words p empty }
+
+-- with the lowest waiting page flushed, by this receipt
+abbrev pub with_receipt : {K V : Type 0} → RecordsView K V → Standing → RecordsView K V
+with_receipt v s = record v {
+  receipts = v.receipts ++ s ∷ [];
+  waiting = drop 1 v.waiting;
+  regions = with_flushed v.regions (v.regions.flushed + 1);
+}
+
+-- with these regions, by which more may be frozen and closed: more pages may wait to be flushed, and the text begins no
+-- lower than where frames are closed, unless the device keeps
+abbrev pub moved : {K V : Type 0} → Bool → RecordsView K V → RegionsView → List (List ℕ) → RecordsView K V
+moved keeps v regions more = record v {
+  regions = regions;
+  from = text_begin keeps v.begin regions.offsets.closed;
+  waiting = v.waiting ++ more;
+  text = text_from (text_begin keeps v.begin regions.offsets.closed) v.text;
+}
+
+-- the regions have become these, and the records followed; on a device that keeps, the text stays
+pub record IsMoved {K V : Type 0} (keeps : Bool) (regions : RegionsView) (old new : RecordsView K V) : Type 0 where
+  pub more : List (List ℕ)
+  pub is : new ≡ moved keeps old regions more
+  pub kept : IsTrue keeps → new.text ≡ old.text
+
+-- no room: the next record would begin a page whose frame has one that is not closed
+pub record IsFull {K V : Type 0} (v : RecordsView K V) : Type 0 where
+  pub more : v.tail < 2 ^ 48
+  pub begins : offset_at v.page_bits v.tail ≡ 0
+  pub taken : page_at v.page_bits v.regions.offsets.closed + v.frames ≤ page_at v.page_bits v.tail

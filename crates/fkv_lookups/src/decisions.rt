@@ -1,0 +1,156 @@
+//! What an operation does for what it meets: the table of decisions.
+ghost use Rattle.std.specs.Prelude.{◌≡◌};
+ghost use Rattle.fkv_lookups.specs.Decisions.{low_of, met_by, met_in, decision, held_of};
+
+use fkv_functions::Functions;
+use fkv_operations::plainly::shown;
+use fkv_operations::{Answer, Op, OpOf};
+use fkv_records::Address;
+use fkv_regions::{Region, View};
+use fkv_texts::Reached;
+
+/// What the look-up of a key meets, as the session sees it that looks.
+#[derive(Clone, Copy, PartialEq, Eq, Debug)]
+pub enum Met<V> {
+    /// The index has no entry for the key.
+    NoEntry,
+    /// There is an entry, and the key has no value: it has no record, or its last one is a tombstone.
+    NoValue,
+    /// The last record of the key holds this value, and changes no more.
+    ReadOnly(V),
+    /// It holds this value, and sessions with an older view may still change it in place.
+    Fuzzy(V),
+    /// It holds this value, and may be changed in place.
+    Mutable(V),
+    /// The records of the key's class lead to this address, whose page the session does not read in memory.
+    OnDisk(Address),
+}
+
+/// The lowest address that a session reads in memory: Begin, or its view of Head where that is higher.
+pub fn low_of(begin: Address, view: &View) -> Address
+    ensures { result ≡ low_of begin view.now }
+{
+    if begin <= view.head { view.head } else { begin }
+}
+
+/// What is met, by the address to which the key's entry leads, by Begin and the session's view, and by what the look-up
+/// came to.
+pub fn met_by<K, V: Copy>(
+    entry: Option<Address>,
+    begin: Address,
+    view: &View,
+    reached: &Reached<K, V>,
+) -> Met<V>
+    ensures { result ≡ met_by entry begin view.now reached.now }
+{
+    let Some(_address) = entry else {
+        return Met::NoEntry;
+    };
+    match reached {
+        Reached::Found(last) => match last.value {
+            None => Met::NoValue,
+            Some(value) => met_in(view.region(last.address), value),
+        },
+        Reached::Below(address) => {
+            if *address < begin {
+                Met::NoValue
+            } else {
+                Met::OnDisk(*address)
+            }
+        }
+    }
+}
+
+/// A value in the region where its record stands.
+fn met_in<V>(region: Region, value: V) -> Met<V>
+    ensures { result ≡ met_in region value }
+{
+    match region {
+        Region::OnDisk | Region::ReadOnly => Met::ReadOnly(value),
+        Region::Fuzzy => Met::Fuzzy(value),
+        Region::Mutable => Met::Mutable(value),
+    }
+}
+
+impl<V: Copy> Met<V> {
+    /// The value that was met, if any.
+    pub fn held(&self) -> Option<V>
+        ensures { result ≡ held_of self.now }
+    {
+        match self {
+            Met::NoEntry | Met::NoValue | Met::OnDisk(_) => None,
+            Met::ReadOnly(value) | Met::Fuzzy(value) | Met::Mutable(value) => Some(*value),
+        }
+    }
+}
+
+/// What an operation does.
+#[derive(Clone, Copy, PartialEq, Eq, Debug)]
+pub enum Decision<V, I, O> {
+    /// It is done and writes nothing.
+    Done(Answer<O>),
+    /// It makes an entry for its key, and looks again.
+    Claim,
+    /// It appends this value, or a tombstone, and is done.
+    Append(Option<V>, Answer<O>),
+    /// It gives the last record of its key this value where it stands, or makes it a tombstone, and is done.
+    Replace(Option<V>, Answer<O>),
+    /// It asks for the new value, which this input makes of this source.
+    Prepare(Option<V>, I),
+    /// It waits until every session has seen that the last record of its key changes no more.
+    Wait,
+    /// It asks for the page of this address, where the records of its class go on.
+    Load(Address),
+}
+
+/// The decisions of one type of functions.
+pub type DecisionOf<F> = Decision<
+    <F as Functions>::Value,
+    <F as Functions>::Input,
+    <F as Functions>::Output,
+>;
+
+/// What an operation does for what it met.
+pub fn decide<F: Functions>(functions: &F, op: &OpOf<F>, met: &Met<F::Value>) -> DecisionOf<F>
+    ensures { result ≡ decision F.meaning op.now met.now }
+{
+    match op {
+        Op::Read(key, input) => match met {
+            Met::OnDisk(address) => Decision::Load(*address),
+            _ => Decision::Done(shown(functions, key, input, met.held())),
+        },
+        Op::Upsert(_, value) => match met {
+            Met::NoEntry => Decision::Claim,
+            Met::Mutable(_) => Decision::Replace(Some(*value), Answer::Stored),
+            _ => Decision::Append(Some(*value), Answer::Stored),
+        },
+        Op::Rmw(key, input) => match met {
+            Met::NoEntry => Decision::Claim,
+            Met::NoValue => Decision::Prepare(None, *input),
+            Met::ReadOnly(value) => Decision::Prepare(Some(*value), *input),
+            Met::Fuzzy(_) => Decision::Wait,
+            Met::Mutable(value) => update(functions, key, input, *value),
+            Met::OnDisk(address) => Decision::Load(*address),
+        },
+        Op::Delete(_) => match met {
+            Met::NoEntry | Met::NoValue => Decision::Done(Answer::Deleted),
+            Met::Mutable(_) => Decision::Replace(None, Answer::Deleted),
+            _ => Decision::Append(None, Answer::Deleted),
+        },
+    }
+}
+
+/// What an update does to a value that may be changed in place.
+fn update<F: Functions>(
+    functions: &F,
+    key: &F::Key,
+    input: &F::Input,
+    held: F::Value,
+) -> DecisionOf<F>
+    ensures { result ≡ decision F.meaning (Op.Rmw key.now input.now) (Met.Mutable held) }
+{
+    let mut value = held;
+    functions.in_place(key, input, &mut value);
+    let shown = functions.read(key, input, &value);
+    Decision::Replace(Some(value), Answer::Value(shown))
+}

@@ -1,0 +1,7 @@
+//! The records of one partition, with an index that leads to the last record of each class, and what an operation does
+//! for what a look-up meets: in memory, by regions, or on a device.
+#![tactic(auto)]
+
+pub mod decisions;
+
+pub use decisions::{Decision, DecisionOf, Met, decide, low_of, met_by};
