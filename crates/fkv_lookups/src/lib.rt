@@ -3,5 +3,8 @@
 #![tactic(auto)]
 
 pub mod decisions;
+mod entries;
+pub mod records;
 
 pub use decisions::{Decision, DecisionOf, Met, decide, low_of, met_by};
+pub use records::Records;

@@ -1,0 +1,130 @@
+//! The sessions of the records, what each sees of the log's regions, and what it may change in place.
+ghost use Rattle.std.specs.Prelude.{◌≡◌, ◌<◌, ◌≤◌, ◌↔◌, ◌⊎◌, length, IsSome, IsTrue, IsOk, IfOk, IfErr, OnOk, OnErr, Err};
+ghost use Rattle.std.specs.Option.{ok_or};
+ghost use Rattle.fkv_records.specs.Places.{start_at};
+ghost use Rattle.fkv_epoch.specs.Moves.{free_slot, is_entered};
+ghost use Rattle.fkv_regions.specs.Offsets.{view_at};
+ghost use Rattle.fkv_regions.specs.RegionsView.{IsReadOnlyDue, IsHeadDue, IsRoomy, entered, refreshed, left};
+ghost use Rattle.fkv_regions.specs.RegionsView.{with_read_only, with_head};
+ghost use Rattle.fkv_regions.specs.Agree.{IsRaised, ViewAgrees};
+ghost use Rattle.fkv_texts.specs.Text.{value_at};
+ghost use Rattle.fkv_lookups.specs.RecordsViews.{with_regions, with_value, IsMoved};
+
+use crate::records::Records;
+use fkv_device::Disk;
+use fkv_functions::{Functions, Refused};
+use fkv_records::Address;
+use fkv_regions::View;
+
+impl<F: Functions, D: Disk> Records<F, D> {
+    /// Whether a session is entered at a slot.
+    pub fn is_entered(&self, slot: usize) -> bool
+        ensures value { result ≡ is_entered self.now.regions.epochs slot }
+        ensures within { IsTrue result → slot < 16 }
+    {
+        self.log.known();
+        self.log.regions().is_entered(slot)
+    }
+
+    /// What the session at a slot saw when it last looked.
+    pub fn view(&self, slot: usize) -> View
+        requires { IsTrue (is_entered self.now.regions.epochs slot) }
+        ensures value { result ≡ view_at self.now.regions.views slot }
+        ensures agrees { ViewAgrees self.now.regions.offsets result }
+    {
+        self.log.regions().view(slot)
+    }
+
+    /// Enters a session: the lowest free slot gets the current epoch and the view of now. Refused, and then nothing
+    /// changes: `NoSlot` where sixteen sessions are entered.
+    pub fn enter(&mut self) -> Result<usize, Refused>
+        ensures slot { result ≡ ok_or (free_slot self.old.regions.epochs) Refused.NoSlot }
+        ensures within { IfOk result (λ slot. slot < 16) }
+        ensures effect { IfOk result (λ slot. self.new ≡ with_regions self.old (entered self.old.regions slot)) }
+        ensures refused { OnErr result (self.new ≡ self.old) }
+    {
+        let slot = self.log.enter();
+        self.log.known();
+        slot
+    }
+
+    /// Gives a session's slot the current epoch, moves the offsets that are due then, and gives the slot the view
+    /// of now. Refused, and then nothing changes: `Unknown` where no session is entered at the slot.
+    pub fn refresh(&mut self, slot: usize) -> Result<(), Refused>
+        ensures unknown { IsOk result ↔ IsTrue (is_entered self.old.regions.epochs slot) }
+        ensures effect { OnOk result (IsMoved D.keeps (refreshed self.old.regions slot) self.old self.new) }
+        ensures raised { IsRaised self.old.regions.offsets self.new.regions.offsets }
+        ensures refused { IfErr result (λ why. (why ≡ Refused.Unknown) × (self.new ≡ self.old)) }
+    {
+        let moved = self.log.refresh(slot);
+        self.log.known();
+        moved
+    }
+
+    /// Frees a session's slot, and moves the offsets that are due then. Refused, and then nothing changes: `Unknown`
+    /// where no session is entered at the slot.
+    pub fn leave(&mut self, slot: usize) -> Result<(), Refused>
+        ensures unknown { IsOk result ↔ IsTrue (is_entered self.old.regions.epochs slot) }
+        ensures effect { OnOk result (IsMoved D.keeps (left self.old.regions slot) self.old self.new) }
+        ensures raised { IsRaised self.old.regions.offsets self.new.regions.offsets }
+        ensures refused { IfErr result (λ why. (why ≡ Refused.Unknown) × (self.new ≡ self.old)) }
+    {
+        let moved = self.log.leave(slot);
+        self.log.known();
+        moved
+    }
+
+    /// Moves the read-only offset to a page's start, and the safe one behind it as far as is due. Refused, and then
+    /// nothing changes: `NotDue` where it would not rise, or the page is above the tail's; `DrainFull` where sixteen
+    /// moves wait.
+    pub fn shift_read_only(&mut self, page: u64) -> Result<(), Refused>
+        ensures ok { IsOk result
+            ↔ (IsReadOnlyDue self.old.regions page self.old.tail × IsRoomy self.old.regions) }
+        ensures effect { OnOk result (IsMoved D.keeps
+            (with_read_only self.old.regions (start_at self.old.regions.bits page)) self.old self.new) }
+        ensures raised { IsRaised self.old.regions.offsets self.new.regions.offsets }
+        ensures not_due { (result ≡ Err Refused.NotDue) ↔ ¬ IsReadOnlyDue self.old.regions page self.old.tail }
+        ensures full { (result ≡ Err Refused.DrainFull)
+            ↔ (IsReadOnlyDue self.old.regions page self.old.tail
+            × (16 ≤ length self.old.regions.epochs.waiting)) }
+        ensures only { IfErr result (λ why. (why ≡ Refused.NotDue) ⊎ (why ≡ Refused.DrainFull)) }
+        ensures refused { OnErr result (self.new ≡ self.old) }
+    {
+        let moved = self.log.shift_read_only(page);
+        self.log.known();
+        moved
+    }
+
+    /// Moves Head to a page's start, and closes the frames below as far as is due. Refused, and then nothing changes:
+    /// `NotDue` where it would not rise, or a page below is not flushed; `DrainFull` where sixteen moves wait.
+    pub fn shift_head(&mut self, page: u64) -> Result<(), Refused>
+        ensures ok { IsOk result
+            ↔ (IsHeadDue self.old.regions page × IsRoomy self.old.regions) }
+        ensures effect { OnOk result (IsMoved D.keeps
+            (with_head self.old.regions (start_at self.old.regions.bits page)) self.old self.new) }
+        ensures raised { IsRaised self.old.regions.offsets self.new.regions.offsets }
+        ensures not_due { (result ≡ Err Refused.NotDue) ↔ ¬ IsHeadDue self.old.regions page }
+        ensures full { (result ≡ Err Refused.DrainFull)
+            ↔ (IsHeadDue self.old.regions page
+            × (16 ≤ length self.old.regions.epochs.waiting)) }
+        ensures only { IfErr result (λ why. (why ≡ Refused.NotDue) ⊎ (why ≡ Refused.DrainFull)) }
+        ensures refused { OnErr result (self.new ≡ self.old) }
+    {
+        let moved = self.log.shift_head(page);
+        self.log.known();
+        moved
+    }
+
+    /// Gives the record at an address, which has a value, another one where it stands, or makes it a tombstone.
+    /// Nothing else changes.
+    pub fn replace(&mut self, address: Address, value: Option<F::Value>)
+        requires value { IsSome (value_at self.old.text address) }
+        requires mutable { self.old.regions.offsets.safe_read_only ≤ address }
+        ensures { self.new ≡ with_value self.old address value }
+    {
+        match value {
+            Some(value) => self.log.write_value(address, value),
+            None => self.log.set_tombstone(address),
+        }
+    }
+}
