@@ -1,5 +1,5 @@
 -- Entries of a loaded page, and chains in it.
-use Rattle.std.proofs.Common.{◌≡◌, ◌<◌, ◌≤◌, ◌==◌, inl, inr, ℕ, Bool, true, false, List, Some, slice_get, refl, sym, ◌∙◌, ap, subst, arith}
+use Rattle.std.proofs.Common.{◌≡◌, ◌<◌, ◌≤◌, ◌==◌, inl, inr, ℕ, Bool, true, false, List, Option, Some, None, is_none, slice_get, refl, sym, ◌∙◌, ap, subst, arith}
 use Rattle.std.specs.Prelude.{IsTrue, Result, Ok, Err}
 use Rattle.std.proofs.lemmas.Bool.{cases_lt, ne_eqb}
 use Rattle.fkv_records.specs.Places.{IsShape, page_at, offset_at, start_at, IsPlace}
@@ -146,3 +146,17 @@ reached_refused entry cmp k bits page why falls a r under (on {e = e} above here
     let less = falls a e here in
     let lower = page_rises bits e.previous a (omega arith) in
     reached_refused entry cmp k bits page why falls e.previous r (omega arith) rest is
+
+-- a value that is not there, and one that is
+pub no_value : {V : Type 0} (o : Option V) → is_none o ≡ true → o ≡ None
+no_value None h = refl
+no_value (Some v) h = absurd (cc)
+
+pub a_value : {V : Type 0} (o : Option V) → is_none o ≡ false → (v : V) × (o ≡ Some v)
+a_value None h = absurd (cc)
+a_value (Some v) h = (v, refl)
+
+-- a test that does not pass fails
+pub not_true : (b : Bool) → (b ≡ true → ⊥) → b ≡ false
+not_true true h = absurd (h refl)
+not_true false h = refl

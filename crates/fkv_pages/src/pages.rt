@@ -180,7 +180,7 @@ impl<K: Fixed, V: Fixed, D: Disk> Pages<K, V, D> {
     }
 
     /// The bytes of the record at an address that is not closed, where one stands.
-    fn bytes_at(&self, address: Address) -> &[u8]
+    pub(crate) fn bytes_at(&self, address: Address) -> &[u8]
         requires there { IsSome (entry_at self.now.text address) }
         requires in_frame { self.now.closed ≤ address }
         ensures sized { length result.now ≡ size_of K.SIZE V.SIZE }
