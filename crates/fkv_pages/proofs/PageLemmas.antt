@@ -1,6 +1,6 @@
 -- The text that pages spell: there is one at most, and what is known of it.
-use Rattle.std.proofs.Common.{◌≡◌, ◌-◌, ◌/◌, ◌^◌, ◌<◌, ◌≤◌, inl, inr, ℕ, zero, suc, Bool, true, false, cond, List, [], ◌∷◌, ◌++◌, length, Option, Some, None, map, IsSome, nat_le, slice_get, refl, sym, ◌∙◌, ap, subst, arith}
-use Rattle.std.specs.Prelude.{IfSome, Result, Ok, Err, OnOk, OnErr}
+use Rattle.std.proofs.Common.{◌≡◌, ◌-◌, ◌/◌, ◌^◌, ◌<◌, ◌≤◌, ◌↔◌, inl, inr, ℕ, zero, suc, Bool, true, false, cond, List, [], ◌∷◌, ◌++◌, length, Option, Some, None, map, IsSome, nat_le, slice_get, refl, sym, ◌∙◌, ap, subst, arith}
+use Rattle.std.specs.Prelude.{IfSome, IfErr, Result, Ok, Err, OnOk, OnErr}
 use Rattle.std.proofs.lemmas.Bool.Decides.{nat_tests}
 use Rattle.std.proofs.lemmas.Bool.{cases_lt}
 use Rattle.std.specs.Coded.{Coded}
@@ -144,6 +144,22 @@ module _ {K V : Type 0} (key : K → List ℕ) (value : V → List ℕ) (is_key 
       entry_stands shape.page_bits shape.record_size shape.limits (text_begin keeps begin closed) tail a text (begin_place shape.page_bits shape.record_size begin closed o.begin_place o.closed_place keeps) o.most
       (rw (← log.size) at log.spelled.laid_out) some
 
+  -- so there is one at each of these places, and nowhere else
+  pub text_places : (keeps : Bool) (shape : Shape) (begin closed frozen tail : ℕ) (receipts : List Standing) (ring : Ring) (text : List (Entry K V))
+      → IsPages key value is_key is_value ksize vsize keeps shape begin closed frozen tail receipts ring text → (a : ℕ)
+      → IsSome (entry_at text a) ↔ ((text_begin keeps begin closed ≤ a) × (a < tail) × IsPlace shape.page_bits (size_of ksize vsize) a)
+  text_places keeps shape begin closed frozen tail receipts ring text log a =
+      let bits = shape.page_bits in
+      let o = log.ordered in
+      let some = shape.limits.some in (
+        (λ there.
+            let s = entry_place keeps shape begin closed frozen tail receipts ring text a log there in
+            let high = s.high in
+            (s.low, omega arith, subst (λ (n : ℕ). IsPlace bits n a) log.size s.place)),
+        (λ h. entry_there bits shape.record_size shape.limits (text_begin keeps begin closed) tail a text (begin_place bits shape.record_size begin closed o.begin_place o.closed_place keeps) o.most
+            (rw (← log.size) at log.spelled.laid_out) (subst (λ (n : ℕ). IsPlace bits n a) (sym log.size) h.2) h.0 h.1),
+      )
+
   -- what holds of every text
   pub text_rises : (keeps : Bool) (shape : Shape) (begin closed frozen tail : ℕ) (receipts : List Standing) (ring : Ring) (text : List (Entry K V))
       → IsPages key value is_key is_value ksize vsize keeps shape begin closed frozen tail receipts ring text → IsRising text
@@ -209,6 +225,11 @@ kept_more stands old new r e = ap (map stands) e ∙ map-append stands old (r �
 pub if_some : {A : Type 0} (o : Option A) {P : A → Type 0} → ((x : A) → o ≡ Some x → P x) → IfSome o P
 if_some None h = tt
 if_some (Some x) h = h x refl
+
+-- by why there is none
+pub if_err : {T E : Type 0} (r : Result T E) {P : E → Type 0} → ((e : E) → r ≡ Err e → P e) → IfErr r P
+if_err (Ok x) h = tt
+if_err (Err e) h = h e refl
 
 -- what is there
 pub some_is : {A : Type 0} (o : Option A) → IsSome o → (x : A) × (o ≡ Some x)

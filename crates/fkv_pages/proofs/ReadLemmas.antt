@@ -1,6 +1,6 @@
 -- Entries of a loaded page, and chains in it.
-use Rattle.std.proofs.Common.{◌≡◌, ◌<◌, ◌≤◌, ◌==◌, inl, inr, ℕ, Bool, true, false, List, Some, slice_get, refl, sym, ◌∙◌, ap, subst, arith}
-use Rattle.std.specs.Prelude.{IsTrue, Result, Ok}
+use Rattle.std.proofs.Common.{◌≡◌, ◌<◌, ◌≤◌, ◌==◌, inl, inr, ℕ, Bool, true, false, List, Option, Some, None, is_none, slice_get, refl, sym, ◌∙◌, ap, subst, arith}
+use Rattle.std.specs.Prelude.{IsTrue, Result, Ok, Err}
 use Rattle.std.proofs.lemmas.Bool.{cases_lt, ne_eqb}
 use Rattle.fkv_records.specs.Places.{IsShape, page_at, offset_at, start_at, IsPlace}
 use Rattle.fkv_records.specs.Records.{size_of, IsRecord, Spells}
@@ -20,6 +20,7 @@ use Rattle.fkv_pages.proofs.FrameLemmas.{page_high, page_rises, page_in-high, pa
 use Rattle.std.specs.List.{find}
 use Rattle.std.specs.declared.cmp.Ordering.{Ordering}
 use Rattle.fkv_functions.specs.declared.refusals.Refused.{Refused}
+use Rattle.fkv_functions.specs.declared.refusals.Refused.TheVariants.{Damaged}
 use Rattle.fkv_texts.specs.declared.entries.Reached.{Reached}
 use Rattle.fkv_texts.specs.declared.entries.Reached.TheVariants.{Found}
 use Rattle.fkv_records.proofs.RecordLemmas.{same_record}
@@ -130,3 +131,32 @@ low_zero bits page e = rw e (omega arith)
 
 pub low_later : (bits page low : ℕ) → (page ≡ 0 → ⊥) → low ≡ start_at bits page → low ≡ first_place bits page
 low_later bits page low ne e = let no : (page == 0) ≡ false = ne_eqb page 0 ne in rw no (omega (arith, e))
+
+-- what is refused on the way down a page is damage of that page
+pub reached_refused : {K V : Type 0} (entry : ℕ → Entry K V → Type 0) (cmp : K → K → Ordering) (k : K) (bits page : ℕ) (why : Refused) (falls : (b : ℕ) (e : Entry K V) → entry b e → e.previous < b)
+    → (a : ℕ) (r : Result (Reached K V) Refused) → page_at bits a ≤ page → IsReached entry cmp k bits (first_place bits page) a r → r ≡ Err why → why ≡ Damaged page
+reached_refused entry cmp k bits page why falls a r under (below less) is = absurd (cc)
+reached_refused entry cmp k bits page why falls a r under (none above nothing) is =
+    let up = page_high bits page a (omega arith) in
+    let same : page_at bits a ≡ page = omega arith in
+    let both : Damaged (page_at bits a) ≡ why = cc in
+    sym both ∙ ap Damaged same
+reached_refused entry cmp k bits page why falls a r under (found above here own) is = absurd (cc)
+reached_refused entry cmp k bits page why falls a r under (on {e = e} above here other rest) is =
+    let less = falls a e here in
+    let lower = page_rises bits e.previous a (omega arith) in
+    reached_refused entry cmp k bits page why falls e.previous r (omega arith) rest is
+
+-- a value that is not there, and one that is
+pub no_value : {V : Type 0} (o : Option V) → is_none o ≡ true → o ≡ None
+no_value None h = refl
+no_value (Some v) h = absurd (cc)
+
+pub a_value : {V : Type 0} (o : Option V) → is_none o ≡ false → (v : V) × (o ≡ Some v)
+a_value None h = absurd (cc)
+a_value (Some v) h = (v, refl)
+
+-- a test that does not pass fails
+pub not_true : (b : Bool) → (b ≡ true → ⊥) → b ≡ false
+not_true true h = absurd (h refl)
+not_true false h = refl

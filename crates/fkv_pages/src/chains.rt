@@ -1,14 +1,16 @@
 //! The way along previous addresses, in frames.
-ghost use Rattle.std.specs.Prelude.{◌≡◌, ◌≤◌, List, find};
+ghost use Rattle.std.specs.Prelude.{◌≡◌, ◌<◌, ◌≤◌, List, find, Some, IsSome, IfSome, IfOk, IfErr};
 ghost use Rattle.fkv_texts.specs.declared.entries.Entry.{Entry};
-ghost use Rattle.fkv_texts.specs.Text.{has_key};
+ghost use Rattle.fkv_texts.specs.Text.{entry_at, has_key};
 ghost use Rattle.fkv_texts.specs.Chains.{IsChainFrom, leads_to, reached};
 
 use crate::pages::Pages;
 use fkv_device::Disk;
 use fkv_functions::Fixed;
 use fkv_records::Address;
-use fkv_texts::Reached;
+use fkv_records::reading::{is_of, link_of, value_of};
+use fkv_texts::entries::entry_with;
+use fkv_texts::{Entry, Reached};
 
 impl<K: Fixed + Ord, V: Fixed, D: Disk> Pages<K, V, D> {
     /// The first entry of a key on the chain from an address down to another, below which it does not look, or where the
@@ -23,12 +25,33 @@ impl<K: Fixed + Ord, V: Fixed, D: Disk> Pages<K, V, D> {
         self.known();
         let mut address = from;
         while address >= head {
-            let entry = self.record_at(address);
-            if entry.key == *key {
-                return Reached::Found(entry);
+            match self.look_at(address, key) {
+                Ok(entry) => return Reached::Found(entry),
+                Err(previous) => address = previous,
             }
-            address = entry.previous;
         }
         Reached::Below(address)
+    }
+
+    /// The entry at an address that is not closed, where it is one of this key, else its previous address. Of an entry
+    /// that is passed the key's bytes are compared where they stand, and nothing is read but its previous address.
+    fn look_at(&self, address: Address, key: &K) -> Result<Entry<K, V>, Address>
+        requires there { IsSome (entry_at self.now.text address) }
+        requires in_frame { self.now.closed ≤ address }
+        ensures met { IfOk result (λ e. (entry_at self.now.text address ≡ Some e) × (e.key ≡ key.now)) }
+        ensures passed { IfErr result (λ previous. IfSome (entry_at self.now.text address)
+            (λ e. (e.key ≡ key.now → ⊥) × (e.previous ≡ previous))) }
+        // so the way along previous addresses falls
+        ensures falls { IfErr result (λ previous. previous < address) }
+    {
+        let bytes = self.bytes_at(address);
+        let (previous, is_tombstone) = link_of::<K, V>(bytes);
+        if !is_of::<K, V>(bytes, key) {
+            return Err(previous);
+        }
+        if is_tombstone {
+            return Ok(entry_with(address, previous, key, None));
+        }
+        Ok(entry_with(address, previous, key, value_of::<K, V>(bytes)))
     }
 }

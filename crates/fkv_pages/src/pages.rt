@@ -180,7 +180,7 @@ impl<K: Fixed, V: Fixed, D: Disk> Pages<K, V, D> {
     }
 
     /// The bytes of the record at an address that is not closed, where one stands.
-    fn bytes_at(&self, address: Address) -> &[u8]
+    pub(crate) fn bytes_at(&self, address: Address) -> &[u8]
         requires there { IsSome (entry_at self.now.text address) }
         requires in_frame { self.now.closed ≤ address }
         ensures sized { length result.now ≡ size_of K.SIZE V.SIZE }
@@ -213,6 +213,9 @@ impl<K: Fixed, V: Fixed, D: Disk> Pages<K, V, D> {
         ensures most { self.now.tail ≤ 2 ^ 48 }
         ensures end { self.now.tail < 2 ^ 48 → IsPlace self.now.bits (size_of K.SIZE V.SIZE) self.now.tail }
         ensures laid_out { IsLaidOut self.now.bits (size_of K.SIZE V.SIZE) self.now.from self.now.tail self.now.text }
+        // an entry stands at each place from where the text begins to below the tail, and nowhere else
+        ensures places { (a : ℕ) → IsSome (entry_at self.now.text a)
+            ↔ ((self.now.from ≤ a) × (a < self.now.tail) × IsPlace self.now.bits (size_of K.SIZE V.SIZE) a) }
         ensures rising { IsRising self.now.text }
         ensures low { IsFrom self.now.from self.now.text }
         ensures below { IsBelow self.now.tail self.now.text }

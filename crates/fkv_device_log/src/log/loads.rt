@@ -1,16 +1,18 @@
 //! Entries of flushed pages, read from what a device gave.
-ghost use Rattle.std.specs.Prelude.{◌≡◌, ◌≢◌, ◌<◌, ℕ, Ok, Err, IfOk, IfErr, IfSome, IsTrue, length, slice_get};
+ghost use Rattle.std.specs.Prelude.{◌≡◌, ◌≢◌, ◌<◌, ◌↔◌, ◌⊎◌, ℕ, List, Ok, Err, IsOk, IfOk, IfErr, IfSome, OnOk, IsTrue, find};
+ghost use Rattle.std.specs.Prelude.{length, slice_get};
 ghost use Rattle.fkv_records.specs.Places.{page_at};
 ghost use Rattle.fkv_texts.specs.declared.entries.Entry.{Entry};
-ghost use Rattle.fkv_texts.specs.Text.{entry_at};
+ghost use Rattle.fkv_texts.specs.Text.{entry_at, has_key};
+ghost use Rattle.fkv_texts.specs.Chains.{IsChainFrom, leads_to, reached};
 ghost use Rattle.fkv_pages.specs.Spelled.{IsEntryIn};
-ghost use Rattle.fkv_pages.specs.Loads.{IsHeldBy};
+ghost use Rattle.fkv_pages.specs.Loads.{IsHeldBy, IsReached, first_place};
 
 use crate::log::Log;
 use fkv_device::{Disk, Loaded};
 use fkv_functions::{Fixed, Refused, What};
 use fkv_records::Address;
-use fkv_texts::Entry;
+use fkv_texts::{Entry, Reached};
 
 impl<K: Fixed, V: Fixed, D: Disk> Log<K, V, D> {
     /// The entry at an address of a flushed page, from the page as a device gave it. On a device that keeps it is the
@@ -37,5 +39,53 @@ impl<K: Fixed, V: Fixed, D: Disk> Log<K, V, D> {
             → IfSome (entry_at self.now.text address) (λ e. result ≡ Ok e) }
     {
         self.pages.record_in(loaded, address)
+    }
+
+    /// Whether a page was read by the receipt that is kept of it. Refused: `Stranger` where it was read by another.
+    pub fn is_own(&self, loaded: &Loaded<D>, page: u64) -> Result<(), Refused>
+        requires { page < length self.now.receipts }
+        ensures own { IsOk result ↔ IsHeldBy self.now.receipts page (D.Receipt.stands loaded.now.receipt) }
+        ensures stranger { IfErr result (λ refused. IfSome (slice_get self.now.receipts page) (λ s.
+            (s ≢ D.Receipt.stands loaded.now.receipt)
+            × (refused ≡ Refused.Stranger What.Receipt s.number (D.Receipt.stands loaded.now.receipt).number))) }
+    {
+        self.pages.is_own(loaded, page)
+    }
+}
+
+impl<K: Fixed + Ord, V: Fixed, D: Disk> Log<K, V, D> {
+    /// Goes from an address of a flushed page along previous addresses, in the page as a device gave it, to the first
+    /// entry of a key, or out of the page. On a device that keeps it is the text's chain. Refused as
+    /// [`Log::record_in`].
+    pub fn first_in_page(
+        &self,
+        loaded: &Loaded<D>,
+        key: &K,
+        from: Address,
+    ) -> Result<Reached<K, V>, Refused>
+        requires flushed { page_at self.now.bits from < length self.now.receipts }
+        ensures stranger { IfSome (slice_get self.now.receipts (page_at self.now.bits from)) (λ s.
+            s ≢ D.Receipt.stands loaded.now.receipt
+            → result ≡ Err (Refused.Stranger What.Receipt s.number (D.Receipt.stands loaded.now.receipt).number)) }
+        // who is answered, or told of damage, knows that the page is the one that is kept
+        ensures own { OnOk result (IsHeldBy self.now.receipts (page_at self.now.bits from)
+            (D.Receipt.stands loaded.now.receipt)) }
+        ensures refused { IfErr result (λ refused.
+            ((IsHeldBy self.now.receipts (page_at self.now.bits from) (D.Receipt.stands loaded.now.receipt) → ⊥)
+            × IfSome (slice_get self.now.receipts (page_at self.now.bits from)) (λ s.
+            refused ≡ Refused.Stranger What.Receipt s.number (D.Receipt.stands loaded.now.receipt).number))
+            ⊎ (IsHeldBy self.now.receipts (page_at self.now.bits from) (D.Receipt.stands loaded.now.receipt)
+            × (refused ≡ Refused.Damaged (page_at self.now.bits from)))) }
+        ensures read { IsHeldBy self.now.receipts (page_at self.now.bits from) (D.Receipt.stands loaded.now.receipt)
+            → IsReached (IsEntryIn K.bytes_of V.bytes_of K.is_known V.is_known K.SIZE V.SIZE self.now.bits
+            loaded.now.bytes) K.cmp key.now self.now.bits (first_place self.now.bits (page_at self.now.bits from))
+            from result }
+        ensures kept { IsTrue D.keeps
+            → IsHeldBy self.now.receipts (page_at self.now.bits from) (D.Receipt.stands loaded.now.receipt)
+            → (es : List (Entry K V))
+            → IsChainFrom (first_place self.now.bits (page_at self.now.bits from)) self.now.text from es
+            → result ≡ Ok (reached (find (has_key K.cmp key.now) es) (leads_to from es)) }
+    {
+        self.pages.first_in_page(loaded, key, from)
     }
 }

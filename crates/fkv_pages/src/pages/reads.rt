@@ -1,6 +1,6 @@
 //! Entries of flushed pages, read from what a device gave.
-ghost use Rattle.std.specs.Prelude.{◌≡◌, ◌≢◌, ◌<◌, ℕ, List, Ok, Err, IfOk, IfErr, IfSome, OnOk, IsTrue, find, length};
-ghost use Rattle.std.specs.Prelude.{slice_get};
+ghost use Rattle.std.specs.Prelude.{◌≡◌, ◌≢◌, ◌<◌, ◌↔◌, ◌⊎◌, ℕ, List, Ok, Err, IsOk, IfOk, IfErr, IfSome, OnOk, IsTrue};
+ghost use Rattle.std.specs.Prelude.{find, length, slice_get};
 ghost use Rattle.fkv_records.specs.Places.{page_at};
 ghost use Rattle.fkv_texts.specs.Text.{entry_at, has_key};
 ghost use Rattle.fkv_texts.specs.Chains.{IsChainFrom, leads_to, reached};
@@ -24,6 +24,9 @@ impl<K: Fixed, V: Fixed, D: Disk> Pages<K, V, D> {
         ensures stranger { IfSome (slice_get self.now.receipts (page_at self.now.bits address)) (λ s.
             s ≢ D.Receipt.stands loaded.now.receipt
             → result ≡ Err (Refused.Stranger What.Receipt s.number (D.Receipt.stands loaded.now.receipt).number)) }
+        // who is answered knows that the page is the one that is kept
+        ensures own { OnOk result (IsHeldBy self.now.receipts (page_at self.now.bits address)
+            (D.Receipt.stands loaded.now.receipt)) }
         ensures only { IsHeldBy self.now.receipts (page_at self.now.bits address) (D.Receipt.stands loaded.now.receipt)
             → IfOk result (IsEntryIn K.bytes_of V.bytes_of K.is_known V.is_known K.SIZE V.SIZE self.now.bits
             loaded.now.bytes address) }
@@ -46,10 +49,10 @@ impl<K: Fixed, V: Fixed, D: Disk> Pages<K, V, D> {
         entry_in(self.shape, loaded.bytes(), address)
     }
 
-    /// Whether a page was read by the receipt that is kept of it, and not by another: `Stranger`.
-    fn is_own(&self, loaded: &Loaded<D>, page: u64) -> Result<(), Refused>
+    /// Whether a page was read by the receipt that is kept of it. Refused: `Stranger` where it was read by another.
+    pub fn is_own(&self, loaded: &Loaded<D>, page: u64) -> Result<(), Refused>
         requires { page < length self.now.receipts }
-        ensures own { OnOk result (IsHeldBy self.now.receipts page (D.Receipt.stands loaded.now.receipt)) }
+        ensures own { IsOk result ↔ IsHeldBy self.now.receipts page (D.Receipt.stands loaded.now.receipt) }
         ensures stranger { IfErr result (λ refused. IfSome (slice_get self.now.receipts page) (λ s.
             (s ≢ D.Receipt.stands loaded.now.receipt)
             × (refused ≡ Refused.Stranger What.Receipt s.number (D.Receipt.stands loaded.now.receipt).number))) }
@@ -82,6 +85,15 @@ impl<K: Fixed + Ord, V: Fixed, D: Disk> Pages<K, V, D> {
         ensures stranger { IfSome (slice_get self.now.receipts (page_at self.now.bits from)) (λ s.
             s ≢ D.Receipt.stands loaded.now.receipt
             → result ≡ Err (Refused.Stranger What.Receipt s.number (D.Receipt.stands loaded.now.receipt).number)) }
+        // who is answered, or told of damage, knows that the page is the one that is kept
+        ensures own { OnOk result (IsHeldBy self.now.receipts (page_at self.now.bits from)
+            (D.Receipt.stands loaded.now.receipt)) }
+        ensures refused { IfErr result (λ refused.
+            ((IsHeldBy self.now.receipts (page_at self.now.bits from) (D.Receipt.stands loaded.now.receipt) → ⊥)
+            × IfSome (slice_get self.now.receipts (page_at self.now.bits from)) (λ s.
+            refused ≡ Refused.Stranger What.Receipt s.number (D.Receipt.stands loaded.now.receipt).number))
+            ⊎ (IsHeldBy self.now.receipts (page_at self.now.bits from) (D.Receipt.stands loaded.now.receipt)
+            × (refused ≡ Refused.Damaged (page_at self.now.bits from)))) }
         ensures read { IsHeldBy self.now.receipts (page_at self.now.bits from) (D.Receipt.stands loaded.now.receipt)
             → IsReached (IsEntryIn K.bytes_of V.bytes_of K.is_known V.is_known K.SIZE V.SIZE self.now.bits
             loaded.now.bytes) K.cmp key.now self.now.bits (first_place self.now.bits (page_at self.now.bits from))

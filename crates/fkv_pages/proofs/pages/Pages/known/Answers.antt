@@ -1,8 +1,13 @@
 use Rattle.std.proofs.Common.{arith}
-use Rattle.fkv_pages.proofs.PageLemmas.{text_rises, text_stands, place_first}
+use Rattle.fkv_pages.proofs.PageLemmas.{text_places, text_rises, text_stands, place_first}
 use Rattle.fkv_pages.proofs.FrameLemmas.{pages_from-length}
 use Rattle.fkv_pages.proofs.FlushLemmas.{waits_spelled}
 use Rattle.fkv_pages.proofs.pages.Pages.known.Goals as goal
+
+pub returns-clause-places : goal.returns-clause-places
+returns-clause-places g c =
+    let i = c.self.inside in
+    rw (← c.self.view_is) (text_places g.K.Fixed.bytes_of g.V.Fixed.bytes_of g.K.Known.is_known g.V.Known.is_known g.K.Fixed.SIZE g.V.Fixed.SIZE g.D.Disk.keeps i.shape i.begin i.closed i.frozen i.tail _ i.frames i.text.0.0 c.self.invariant)
 
 pub returns-clause-rising : goal.returns-clause-rising
 returns-clause-rising g c =

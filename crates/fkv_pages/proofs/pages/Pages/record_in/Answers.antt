@@ -1,4 +1,4 @@
-use Rattle.std.proofs.Common.{◌∙◌, List, length, sym, ap, subst}
+use Rattle.std.proofs.Common.{◌∙◌, List, length, refl, sym, ap, subst}
 use Rattle.fkv_texts.specs.Text.{entry_at}
 use Rattle.fkv_pages.specs.Spelled.{IsEntryIn}
 use Rattle.fkv_pages.proofs.PageLemmas.{if_some}
@@ -7,7 +7,7 @@ use Rattle.fkv_pages.proofs.pages.Pages.record_in.Goals as goal
 
 pub entry_in-requires-clause-sized : goal.entry_in-requires-clause-sized
 entry_in-requires-clause-sized g c = λ κs within.
-    let own = rw (← c.self.view_is) at c.in_default.ensures.own in
+    let own = rw (← c.self.view_is) at (c.in_default.ensures.own.0 refl) in
     ap length c.bytes.ensures ∙ sym c.is_own.ensures.length ∙ c.self.invariant.flushed.sized _ _ own
 
 pub returns-clause-kept : goal.returns-clause-kept
