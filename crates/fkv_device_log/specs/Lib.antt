@@ -1,4 +1,5 @@
 pub mod Views
 pub mod Tied
 pub mod Flushes
+pub mod Logs
 pub mod WrongLogs

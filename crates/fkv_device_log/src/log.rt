@@ -1,16 +1,13 @@
 //! The log: pages and regions that move together.
 ghost use Rattle.std.specs.Prelude.{◌≡◌, ◌+◌, ◌-◌, ◌^◌, ◌<◌, ◌≤◌, ◌↔◌, ℕ, List, Ok, Err, IfOk, IfErr, IfSome, IsTrue};
-ghost use Rattle.std.specs.Prelude.{Some, None, OnErr, IsSome, length, slice_get};
-ghost use Rattle.fkv_records.specs.Places.{page_at, IsShape, IsPlace};
+ghost use Rattle.std.specs.Prelude.{Some, None, OnErr, length, slice_get};
+ghost use Rattle.fkv_records.specs.Places.{page_at};
 ghost use Rattle.fkv_records.specs.Records.{size_of, IsPrevious};
-ghost use Rattle.fkv_epoch.specs.Timely.{IsTimely};
-ghost use Rattle.fkv_regions.specs.Agree.{IsRegions};
 ghost use Rattle.fkv_device.specs.Standing.{Standing};
-ghost use Rattle.fkv_texts.specs.Places.{IsLaidOut, tail_after};
-ghost use Rattle.fkv_texts.specs.Text.{entry_at, IsRising, IsFrom, IsBelow};
+ghost use Rattle.fkv_texts.specs.Places.{tail_after};
 ghost use Rattle.fkv_pages.specs.Spelled.{IsPageOf};
-ghost use Rattle.fkv_pages.specs.Views.{text_begin};
 ghost use Rattle.fkv_device_log.specs.Views.{empty_log, with_entry, IsFull};
+ghost use Rattle.fkv_device_log.specs.Logs.{IsLogOf};
 
 mod edits;
 mod flushes;
@@ -124,26 +121,7 @@ impl<K: Fixed, V: Fixed, D: Disk> Log<K, V, D> {
     /// What holds of every log: its text has one entry at each place from where it begins to below the tail, and the
     /// views of its sessions agree with its offsets. It does nothing when it runs.
     pub fn known(&self)
-        ensures from { self.now.from ≡ text_begin D.keeps self.now.begin self.now.regions.offsets.closed }
-        ensures shape { IsShape self.now.bits (size_of K.SIZE V.SIZE) }
-        ensures some { 0 < self.now.frames }
-        ensures first { 64 ≤ self.now.begin }
-        ensures begin { self.now.begin ≤ self.now.regions.offsets.head }
-        ensures most { self.now.tail ≤ 2 ^ 48 }
-        ensures end { self.now.tail < 2 ^ 48 → IsPlace self.now.bits (size_of K.SIZE V.SIZE) self.now.tail }
-        ensures laid_out { IsLaidOut self.now.bits (size_of K.SIZE V.SIZE) self.now.from self.now.tail self.now.text }
-        // an entry stands at each place from where the text begins to below the tail, and nowhere else
-        ensures places { (a : ℕ) → IsSome (entry_at self.now.text a)
-            ↔ ((self.now.from ≤ a) × (a < self.now.tail) × IsPlace self.now.bits (size_of K.SIZE V.SIZE) a) }
-        ensures rising { IsRising self.now.text }
-        ensures low { IsFrom self.now.from self.now.text }
-        ensures below { IsBelow self.now.tail self.now.text }
-        ensures regions { IsRegions self.now.regions }
-        ensures epochs { IsTimely self.now.regions.epochs }
-        ensures bits { self.now.regions.bits ≡ self.now.bits }
-        ensures read_only { self.now.regions.offsets.read_only ≤ self.now.tail }
-        // each flushed page has its receipt
-        ensures flushed { self.now.regions.flushed ≡ length self.now.receipts }
+        ensures log { IsLogOf D.keeps (size_of K.SIZE V.SIZE) self.now }
         ensures receipts { (n : ℕ) (s : Standing)
             → slice_get self.now.receipts n ≡ Some s
             → (s.page ≡ n) × (s.length ≡ 2 ^ self.now.bits) }

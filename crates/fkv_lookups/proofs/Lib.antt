@@ -1,0 +1,3 @@
+pub mod TracedLemmas
+pub mod SessionLemmas
+pub mod LookupLemmas

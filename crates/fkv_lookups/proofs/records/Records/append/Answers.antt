@@ -1,0 +1,45 @@
+use Rattle.std.proofs.Common.{◌≡◌, ◌≢◌, ◌^◌, subst, sym, ◌∙◌, arith}
+use Rattle.fkv_records.specs.Records.{IsPrevious}
+use Rattle.fkv_index.specs.Words.{address_of}
+use Rattle.fkv_operations.specs.Classes.{class_at, same_class}
+use Rattle.fkv_lookups.specs.RecordsViews.{leads_to}
+use Rattle.fkv_lookups.proofs.TracedLemmas.{leads_of, entry-stands, traced-record, moved-there, tail_from, text_then}
+use Rattle.fkv_lookups.proofs.records.Records.append.Goals as goal
+
+pub append-requires-clause-previous : goal.append-requires-clause-previous
+append-requires-clause-previous g c κs within =
+    let i = c.self.inside in
+    let t = c.self.invariant in
+    let own = class_at i.partition_bits i.bucket_bits (g.F.Functions.code c.args.key) in
+    let stands = rw (← c.self.view_is) at c.requires in
+    rw c.address.ensures (subst (λ o. IsPrevious i.log.tail (leads_to o)) (entry-stands i.index own.bucket own.tag c.args.entry.place c.args.entry.word t.map stands) (t.placed own))
+
+pub move_entry-requires-clause-some : goal.move_entry-requires-clause-some
+move_entry-requires-clause-some g c =
+    let low = tail_from c.self.invariant in
+    omega (arith, c.tail-address.ensures.tail, low)
+
+pub move_entry-requires-clause-least : goal.move_entry-requires-clause-least
+move_entry-requires-clause-least g c =
+    let left : c.tail-address.result ≢ 2 ^ 48 = λ h. let no = c.in-Ok-Some.ensures.worn.1 (sym c.tail-address.ensures.tail ∙ h) in cc in
+    omega (arith, c.tail-address.ensures.most, left)
+
+pub invariant_of-self-2 : goal.invariant_of-self-2
+invariant_of-self-2 g c =
+    let i = c.self.inside in
+    let t = c.self.invariant in
+    let e = c.args.entry in
+    let class = λ (k : _). class_at i.partition_bits i.bucket_bits (g.F.Functions.code k) in
+    let own = class c.args.key in
+    let stands = rw (← c.self.view_is) at c.requires in
+    let entry = entry-stands i.index own.bucket own.tag e.place e.word t.map stands in
+    let behind = leads_of t own (address_of e.word) entry in
+    let chained = c.chains.ensures.kept class same_class i.log.from i.log.text (record { address = i.log.tail; previous = address_of e.word; key = c.args.key; value = c.args.value }) t.chained t.below behind in
+    let made = c.move_entry.ensures in
+    let moved = rw (made.word, c.tail-address.ensures.tail) at (moved-there own e.place e.word c.tail-address.result i.index c.move_entry.new.index stands.bucket stands.tag made.entry made.map made.buckets) in
+    let appended = rw (c.in-Ok-Some.field-0-is, c.address.ensures) at c.in-Ok-Some.ensures.appended in
+    rw (appended, made.word, c.tail-address.ensures.tail)
+    (traced-record _ e c.args.key c.args.value t (text_then i.partition_bits i.bucket_bits _ i.index e c.args.key c.args.value i.log c.append.new.self appended c.known-2.ensures.log chained) moved)
+
+pub returns-clause-tentative : goal.returns-clause-tentative
+returns-clause-tentative g c = rw (← c.self.view_is) c.move_entry.ensures.tentative
