@@ -5,3 +5,4 @@ pub mod Lookups
 pub mod Flushes
 pub mod Decisions
 pub mod DecisionLaws
+pub mod Meeting
