@@ -1,3 +1,4 @@
 pub mod TracedLemmas
 pub mod SessionLemmas
 pub mod LookupLemmas
+pub mod MeetingLemmas

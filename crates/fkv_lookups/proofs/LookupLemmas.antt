@@ -123,7 +123,7 @@ module _ {K V : Type 0} {keeps : Bool} (cmp : K → K → Ordering) (code : K �
 
   -- ---- what the chain says of the key
   -- the first of the key on the whole chain is its newest
-  newest_below : (a : ℕ) → a < v.from → newest cmp v.text k a ≡ None
+  pub newest_below : (a : ℕ) → a < v.from → newest cmp v.text k a ≡ None
   newest_below a low = last_where-none (λ e. nat_le e.address a && has_key cmp k e) v.text (λ i e h.
       let high : v.from ≤ e.address = t.from i e h in
       let no : nat_le e.address a ≡ false = grind (arith, nat_tests) in

@@ -4,6 +4,7 @@
 
 pub mod decisions;
 mod entries;
+pub mod laws;
 pub mod records;
 
 pub use decisions::{Decision, DecisionOf, Met, decide, low_of, met_by};
