@@ -14,14 +14,14 @@ use Rattle.fkv_texts.specs.declared.entries.Entry.{Entry}
 use Rattle.fkv_texts.specs.Text.{entry_at, changed}
 use Rattle.fkv_texts.proofs.TextLemmas.{entry_at-in}
 use Rattle.fkv_texts.proofs.PlaceLemmas.{after, after-nearest}
-use Rattle.fkv_pages.specs.Views.{text_begin, with_value}
+use Rattle.fkv_pages.specs.Views.{PagesView, text_begin, with_value}
 use Rattle.fkv_pages.specs.Spelled.{record_of, part_of, IsSpelled}
 use Rattle.fkv_pages.specs.Pages.{page_in, view_as, IsEdited, IsPages}
 use Rattle.fkv_pages.proofs.ByteLemmas.{written_at}
 use Rattle.fkv_pages.proofs.FrameLemmas.{page_low, page_rises, put_there, Puts}
-use Rattle.fkv_pages.proofs.PageLemmas.{text_rises, text_stands, entry_place}
+use Rattle.fkv_pages.proofs.PageLemmas.{text_rises, text_stands, entry_place, some_is}
 use Rattle.fkv_texts.proofs.ChangeLemmas.{was_at, set_at-here, set_at-other, laid_out-changed}
-use Rattle.fkv_pages.proofs.HeldLemmas.{entry_held}
+use Rattle.fkv_pages.proofs.HeldLemmas.{IsHeld, entry_held}
 use Rattle.fkv_pages.proofs.PutLemmas.{put_flushed, put_spelled, put_sized, put_below, put_above, put_waiting}
 
 module _ {K V : Type 0} (key : K → List ℕ) (value : V → List ℕ) (is_key : K → Type 0) (is_value : V → Type 0) (ksize vsize : ℕ) where
@@ -149,3 +149,29 @@ module _ {K V : Type 0} (key : K → List ℕ) (value : V → List ℕ) (is_key 
           text = changed text a v;
         },
       )
+
+  -- an entry that may be edited, and where its bytes are
+  pub record IsMutable (shape : Shape) (ring : Ring) (text : List (Entry K V)) (a : ℕ) : Type 0 where
+    pub entry : Entry K V
+    pub is : entry_at text a ≡ Some entry
+    pub here : IsHeld key value is_key is_value ksize vsize shape ring a entry
+
+  -- the same two by what a contract asks
+  pub mutable : (keeps : Bool) (shape : Shape) (begin closed frozen tail : ℕ) (receipts : List Standing) (ring : Ring) (text : List (Entry K V)) (a : ℕ) (seen : PagesView K V)
+      → view_as keeps shape begin closed frozen tail receipts ring text ≡ seen → IsPages key value is_key is_value ksize vsize keeps shape begin closed frozen tail receipts ring text
+      → IsSome (entry_at seen.text a) → seen.frozen ≤ a → IsMutable shape ring text a
+  mutable keeps shape begin closed frozen tail receipts ring text a seen is log there high =
+      let f = some_is (entry_at text a) (rw (← is) at there) in
+      let low = rw (← is) at high in
+      let behind = log.ordered.closed_frozen in
+      record { entry = f.0; is = f.1; here = entry_held key value is_key is_value ksize vsize keeps shape begin closed frozen tail receipts ring text a f.0 log (omega arith) f.1 }
+
+  pub edited_seen : (keeps : Bool) (shape : Shape) (begin closed frozen tail : ℕ) (receipts : List Standing) (old new : Ring) (text : List (Entry K V)) (a : ℕ)
+      (may : Record K V → Type 0) (v : Option V) (seen : PagesView K V) → view_as keeps shape begin closed frozen tail receipts old text ≡ seen
+      → IsPages key value is_key is_value ksize vsize keeps shape begin closed frozen tail receipts old text → seen.frozen ≤ a → (m : IsMutable shape old text a) → may (record_of m.entry)
+      → IfSome v is_value → IfSome (held old (page_at old.bits a)) (IsEdited key value ksize vsize may v old.bits a old new)
+      → IsPages key value is_key is_value ksize vsize keeps shape begin closed frozen tail receipts new (changed text a v)
+      × (view_as keeps shape begin closed frozen tail receipts new (changed text a v) ≡ with_value seen a v)
+  edited_seen keeps shape begin closed frozen tail receipts old new text a may v seen is log high m allowed known w =
+      let l = edited_by keeps shape begin closed frozen tail receipts old new text a may v m.entry m.here.page log (rw (← is) at high) m.is allowed known m.here.here m.here.sized w in
+      (l.0, l.1 ∙ ap (λ (p : PagesView K V). with_value p a v) is)

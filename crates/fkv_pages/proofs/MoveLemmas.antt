@@ -3,6 +3,7 @@ use Rattle.std.proofs.Common.{◌≡◌, ◌+◌, ◌-◌, ◌^◌, ◌<◌, ◌
 use Rattle.std.specs.Prelude.{IsTrue}
 use Rattle.std.proofs.lemmas.Bool.Decides.{nat_tests}
 use Rattle.fkv_records.specs.Places.{page_at, IsPlace}
+use Rattle.fkv_records.specs.Records.{size_of}
 use Rattle.fkv_records.specs.declared.shapes.Shape.{Shape}
 use Rattle.fkv_device.specs.Standing.{Standing}
 use Rattle.fkv_frames.specs.Ring.{Ring}
@@ -11,7 +12,7 @@ use Rattle.fkv_texts.specs.declared.entries.Entry.{Entry}
 use Rattle.fkv_texts.specs.Places.{IsLaidOut}
 use Rattle.fkv_texts.specs.Text.{text_from}
 use Rattle.fkv_texts.proofs.PlaceLemmas.{stands}
-use Rattle.fkv_pages.specs.Views.{text_begin, seen_from}
+use Rattle.fkv_pages.specs.Views.{PagesView, text_begin, seen_from}
 use Rattle.fkv_pages.specs.Spelled.{TheOne, IsTextOf}
 use Rattle.fkv_pages.specs.Pages.{page_in, pages_from, view_as, IsPages}
 use Rattle.fkv_pages.proofs.FrameLemmas.{page_high, page_rises, page_in-flushed, page_in-high, pages_from-more}
@@ -81,6 +82,26 @@ module _ {K V : Type 0} (key : K → List ℕ) (value : V → List ℕ) (is_key 
           let up = page_rises shape.page_bits c a (omega arith) in
           page_in-high (page_at shape.page_bits c) (page_at shape.page_bits a) receipts ring up
           ∙ sym (page_in-high (page_at shape.page_bits closed) (page_at shape.page_bits a) receipts ring (omega arith))
+
+  -- the same by what a contract asks: frames are closed
+  pub closed_log : (keeps : Bool) (shape : Shape) (begin closed c frozen tail : ℕ) (receipts : List Standing) (ring : Ring) (text : List (Entry K V)) (seen : PagesView K V)
+      → view_as keeps shape begin closed frozen tail receipts ring text ≡ seen → IsPages key value is_key is_value ksize vsize keeps shape begin closed frozen tail receipts ring text
+      → seen.closed ≤ c → (c < 2 ^ 48 → IsPlace seen.bits (size_of ksize vsize) c) → page_at seen.bits c ≤ length seen.receipts → c ≤ seen.frozen
+      → IsPages key value is_key is_value ksize vsize keeps shape begin c frozen tail receipts ring (text_from (text_begin keeps begin c) text)
+  closed_log keeps shape begin closed c frozen tail receipts ring text seen is log rises place flushed most =
+      let o = log.ordered in
+      moved_log keeps shape begin closed begin c frozen tail receipts ring text log (omega arith) o.begin_frozen (rw (← is) at rises) (rw (← is) at most) o.begin_flushed (rw (← is) at flushed)
+      o.begin_place (rw (← is, ← log.size) at place)
+
+  -- and Begin moves
+  pub begun_log : (keeps : Bool) (shape : Shape) (begin closed b frozen tail : ℕ) (receipts : List Standing) (ring : Ring) (text : List (Entry K V)) (seen : PagesView K V)
+      → view_as keeps shape begin closed frozen tail receipts ring text ≡ seen → IsPages key value is_key is_value ksize vsize keeps shape begin closed frozen tail receipts ring text
+      → seen.begin ≤ b → (b < 2 ^ 48 → IsPlace seen.bits (size_of ksize vsize) b) → page_at seen.bits b ≤ length seen.receipts → b ≤ seen.frozen
+      → IsPages key value is_key is_value ksize vsize keeps shape b closed frozen tail receipts ring (text_from (text_begin keeps b closed) text)
+  begun_log keeps shape begin closed b frozen tail receipts ring text seen is log rises place flushed most =
+      let o = log.ordered in
+      moved_log keeps shape begin closed b closed frozen tail receipts ring text log (rw (← is) at rises) (rw (← is) at most) (omega arith) o.closed_frozen (rw (← is) at flushed) o.flushed_low
+      (rw (← is, ← log.size) at place) o.closed_place
 
   -- where the device keeps, the text stays when frames are closed
   pub closed_kept : (keeps : Bool) (shape : Shape) (begin closed c frozen tail : ℕ) (receipts : List Standing) (ring : Ring) (text : List (Entry K V))
