@@ -26,7 +26,7 @@ module _ {K V : Type 0} where
   tied_appended size old new regions previous key value (Ok (Some a)) t shape most place ok full err worn = rw ok (
       let below : old.tail < 2 ^ 48 = omega (arith, most, not_worn) in
       let rises = tail_rises old.bits size shape old.tail (place below) in
-      record { bits = t.bits; closed = t.closed; frozen = t.frozen; flushed = t.flushed; begin = t.begin; begun = omega (arith, rises, t.begun) })
+      record { bits = t.bits; closed = t.closed; frozen = t.frozen; flushed = t.flushed; begin = t.begin; begun = omega (arith, rises, t.begun); marked = t.marked })
     where
       not_worn : old.tail ≢ 2 ^ 48
       not_worn e = let bad : Ok (Some a) ≡ Err Worn = worn.1 e in cc

@@ -4,7 +4,7 @@ use Rattle.fkv_records.specs.Places.{IsShape, IsPlace}
 use Rattle.fkv_texts.specs.Places.{IsLaidOut}
 use Rattle.fkv_texts.specs.Text.{entry_at, IsRising, IsFrom, IsBelow}
 use Rattle.fkv_epoch.specs.Timely.{IsTimely}
-use Rattle.fkv_regions.specs.Agree.{IsRegions}
+use Rattle.fkv_regions.specs.Agree.{IsRegions, IsMark}
 use Rattle.fkv_pages.specs.Views.{text_begin}
 use Rattle.fkv_device_log.specs.Views.{LogView}
 
@@ -13,6 +13,8 @@ pub record IsLogOf {K V : Type 0} (keeps : Bool) (size : ℕ) (log : LogView K V
   pub shape : IsShape log.bits size
   pub some : 0 < log.frames
   pub first : 64 ≤ log.begin
+  -- Begin is the first place, or starts a page
+  pub marked : IsMark log.bits log.begin
   -- the text begins at Begin on a device that keeps, else no lower than where frames are closed
   pub begins : log.from ≡ text_begin keeps log.begin log.regions.offsets.closed
   -- an entry stands at each place from there to below the tail, and nowhere else

@@ -3,6 +3,7 @@ use Rattle.std.specs.Prelude.{◌≡◌, ◌≤◌, ◌++◌, ℕ, Bool, IsTrue,
 use Rattle.fkv_pages.specs.Views.{PagesView, with_frozen, seen_from}
 use Rattle.fkv_regions.specs.declared.offsets.Offsets.{Offsets}
 use Rattle.fkv_regions.specs.RegionsView.{RegionsView}
+use Rattle.fkv_regions.specs.Agree.{IsMark}
 
 -- entries are frozen below SafeReadOnly, frames are closed below `closed`, and both count the same flushed pages
 pub record IsTied {K V : Type 0} (pages : PagesView K V) (regions : RegionsView) : Type 0 where
@@ -12,6 +13,8 @@ pub record IsTied {K V : Type 0} (pages : PagesView K V) (regions : RegionsView)
   pub flushed : regions.flushed ≡ length pages.receipts
   pub begin : pages.begin ≤ regions.offsets.head
   pub begun : regions.offsets.read_only ≤ pages.tail
+  -- Begin is the first place, or starts a page
+  pub marked : IsMark pages.bits pages.begin
 
 -- pages whose entries are frozen, and whose frames are closed, as far as these offsets say
 pub record IsFollowed {K V : Type 0} (keeps : Bool) (offsets : Offsets) (old new : PagesView K V) : Type 0 where

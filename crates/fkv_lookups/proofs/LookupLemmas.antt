@@ -179,3 +179,36 @@ module _ {K V : Type 0} {keeps : Bool} (cmp : K → K → Ordering) (code : K �
           further : {r : Reached K V} → newest cmp v.text k a ≡ newest cmp v.text k own.entry.previous → GoesOn cmp code v k low own.entry.previous r → GoesOn cmp code v k low a r
           further same (found is stands high) = found (same ∙ is) stands high
           further same (below under is class) = below under (same ∙ is) class
+
+-- ---- the page of what is wanted begins no lower than Begin
+pub page_begun : (bits size begin a : ℕ) → IsShape bits size → IsMark bits begin → begin ≤ a → begin ≤ first_place bits (page_at bits a)
+page_begun bits size begin a shape (inl first) le = by_page (page_at bits a) refl
+  where
+    by_page : (p : ℕ) → page_at bits a ≡ p → begin ≤ first_place bits (page_at bits a)
+    by_page zero h = rw h (omega arith)
+    by_page (suc p) h =
+        let up = starts-rise bits 1 (suc p) (omega arith) in
+        let least = pages-big bits size shape in
+        rw h (omega (arith, up, least))
+page_begun bits size begin a shape (inr start) le =
+    let up = starts-rise bits (page_at bits begin) (page_at bits a) (page_rises bits begin a le) in
+    let whole = mark-start bits begin start in
+    omega (arith, up, whole)
+
+-- ---- one page tells how the way goes on
+pub page_tells : {K V : Type 0} {keeps : Bool} (cmp : K → K → Ordering) (code : K → ℕ) (v : RecordsView K V) (k : K) (order : IsKeyOrder cmp) (t : IsTraced keeps code v) (a : ℕ) {E : Type 0} (result : Result (Reached K V) E)
+    → IsTrue keeps
+    → v.begin ≤ a
+    → IsOfClass code v k a
+    → ((es : List (Entry K V)) → IsChainFrom (first_place v.page_bits (page_at v.page_bits a)) v.text a es → result ≡ Ok (reached (find (has_key cmp k) es) (leads_to a es)))
+    → (r : Reached K V) × (result ≡ Ok r) × GoesOn cmp code v k (first_place v.page_bits (page_at v.page_bits a)) a r
+page_tells {keeps = keeps} cmp code v k order t a result yes le own reads =
+    let low = first_place v.page_bits (page_at v.page_bits a) in
+    let begun : v.begin ≤ low = page_begun v.page_bits v.record_size v.begin a t.shape t.marked le in
+    let up : v.from ≤ low = subst (λ (n : ℕ). n ≤ low) (sym (t.begins ∙ by_keeps keeps yes)) begun in
+    let chain = chain_down cmp code v k order t low up a (λ h. own) in
+    (reached (find (has_key cmp k) chain.0) (leads_to a chain.0), reads chain.0 chain.1, goes_on cmp code v k order t low up a chain.0 chain.1 (λ h. own))
+  where
+    by_keeps : (b : Bool) → IsTrue b → text_begin b v.begin v.regions.offsets.closed ≡ v.begin
+    by_keeps true h = refl
+    by_keeps false h = absurd (let no : false ≡ true = h in cc)

@@ -72,7 +72,9 @@ pub traced-by : {K V : Type 0} {keeps : Bool} {code : K → ℕ} (p k size : ℕ
 traced-by p k size words l few small log chained buckets map leads placed = record {
   partition_bits = few;
   bucket_bits = small;
+  shape = log.shape;
   first = log.first;
+  marked = log.marked;
   begins = log.begins;
   laid_out = log.laid_out;
   rising = log.rising;
@@ -114,7 +116,9 @@ pub traced-words : {K V : Type 0} {keeps : Bool} {code : K → ℕ} (v : Records
 traced-words v words buckets map same t = record {
   partition_bits = t.partition_bits;
   bucket_bits = t.bucket_bits;
+  shape = t.shape;
   first = t.first;
+  marked = t.marked;
   begins = t.begins;
   laid_out = t.laid_out;
   rising = t.rising;
@@ -237,7 +241,9 @@ pub traced-value : {K V : Type 0} {keeps : Bool} {code : K → ℕ} (v : Records
 traced-value {keeps = keeps} {code = code} v a value t = record {
   partition_bits = t.partition_bits;
   bucket_bits = t.bucket_bits;
+  shape = t.shape;
   first = t.first;
+  marked = t.marked;
   begins = t.begins;
   laid_out = laid_out-changed a value v.page_bits v.record_size v.from v.tail v.text t.laid_out;
   rising = rising-changed a value v.text t.rising;
@@ -321,7 +327,9 @@ traced-record {K} {V} {keeps} {code} v e key value t new moved =
     record {
       partition_bits = t.partition_bits;
       bucket_bits = t.bucket_bits;
+      shape = t.shape;
       first = t.first;
+      marked = t.marked;
   begins = t.begins;
       laid_out = new.laid_out;
       rising = new.rising;

@@ -2,13 +2,14 @@
 -- class to the last; and the views of the sessions agree with the offsets of the log.
 use Rattle.std.specs.Prelude.{◌≡◌, ◌^◌, ◌≤◌, ℕ, Bool, length}
 use Rattle.fkv_pages.specs.Views.{text_begin}
+use Rattle.fkv_records.specs.Places.{IsShape}
 use Rattle.fkv_records.specs.Records.{IsPrevious}
 use Rattle.fkv_texts.specs.Places.{IsLaidOut}
 use Rattle.fkv_texts.specs.Text.{IsRising, IsFrom, IsBelow}
 use Rattle.fkv_texts.specs.Chains.{last_of_class, Leads, IsChained}
 use Rattle.fkv_epoch.specs.Timely.{IsTimely}
 use Rattle.fkv_regions.specs.RegionsView.{RegionsView}
-use Rattle.fkv_regions.specs.Agree.{IsRegions}
+use Rattle.fkv_regions.specs.Agree.{IsRegions, IsMark}
 use Rattle.fkv_index.specs.Entries.{IsIndexMap}
 use Rattle.fkv_operations.specs.declared.classes.Class.{Class}
 use Rattle.fkv_operations.specs.Classes.{same_class}
@@ -25,7 +26,10 @@ pub record AreRegionsBelow (page_bits begin tail : ℕ) (regions : RegionsView) 
 pub record IsTraced {K V : Type 0} (keeps : Bool) (code : K → ℕ) (v : RecordsView K V) : Type 0 where
   pub partition_bits : v.partition_bits ≤ 6
   pub bucket_bits : v.bucket_bits ≤ 20
+  pub shape : IsShape v.page_bits v.record_size
   pub first : 64 ≤ v.begin
+  -- Begin is the first place, or starts a page
+  pub marked : IsMark v.page_bits v.begin
   -- the text begins at Begin on a device that keeps, else no lower than where frames are closed
   pub begins : v.from ≡ text_begin keeps v.begin v.regions.offsets.closed
   pub laid_out : IsLaidOut v.page_bits v.record_size v.from v.tail v.text

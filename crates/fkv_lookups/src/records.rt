@@ -39,6 +39,7 @@ use std::alloc::Global;
 use std::marker::Model;
 
 mod flushes;
+mod loads;
 mod sessions;
 
 /// The records of one partition, and the index of their classes.

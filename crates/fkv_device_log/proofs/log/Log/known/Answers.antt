@@ -14,6 +14,7 @@ returns-clause-log g c =
       shape = p.shape;
       some = p.some;
       first = p.first.0;
+      marked = t.marked;
       begins = p.from ∙ ap (text_begin g.D.Disk.keeps c.self.inside.pages.begin) t.closed;
       laid_out = p.laid_out;
       places = p.places;

@@ -1,0 +1,73 @@
+//! Records of flushed pages, read from what a device gave.
+ghost use Rattle.std.specs.Prelude.{◌≡◌, ◌≢◌, ◌<◌, ◌≤◌, ◌↔◌, ◌⊎◌, Ok, IsOk, IfErr, IfSome, OnOk, IsTrue, length, slice_get};
+ghost use Rattle.fkv_functions.specs.declared.refusals.What.TheVariants as what;
+ghost use Rattle.fkv_records.specs.Places.{page_at};
+ghost use Rattle.fkv_texts.specs.declared.entries.Reached.{Reached};
+ghost use Rattle.fkv_pages.specs.Spelled.{IsEntryIn};
+ghost use Rattle.fkv_pages.specs.Loads.{IsHeldBy, IsReached, first_place};
+ghost use Rattle.fkv_lookups.specs.Lookups.{IsOfClass, GoesOn};
+
+use crate::records::Records;
+use fkv_device::{Disk, Loaded};
+use fkv_functions::{Functions, Refused};
+use fkv_operations::Class;
+use fkv_records::Address;
+use fkv_texts::Reached;
+use fkv_texts::laws::chains;
+
+impl<F: Functions, D: Disk> Records<F, D> {
+    /// The page of an address.
+    pub fn page_of(&self, address: Address) -> u64
+        ensures { result ≡ page_at self.now.page_bits address }
+    {
+        self.log.shape().page_of(address)
+    }
+
+    /// Whether a page was read by the receipt that is kept of it. Refused: `Stranger` where it was read by another.
+    pub fn is_own(&self, loaded: &Loaded<D>, page: u64) -> Result<(), Refused>
+        requires { page < length self.now.receipts }
+        ensures own { IsOk result ↔ IsHeldBy self.now.receipts page (D.Receipt.stands loaded.now.receipt) }
+        ensures stranger { IfErr result (λ refused. IfSome (slice_get self.now.receipts page) (λ s.
+            (s ≢ D.Receipt.stands loaded.now.receipt)
+            × (refused
+            ≡ Refused.Stranger what.Receipt s.number (D.Receipt.stands loaded.now.receipt).number))) }
+    {
+        self.log.is_own(loaded, page)
+    }
+
+    /// Goes from an address of a flushed page along previous addresses, in the page as a device gave it, to the first
+    /// record of a key, or out of the page. On a device that keeps, from a record of the key's class, it is the newest
+    /// record of the key there or below, or the way goes on below the page. Refused: `Stranger` where the page was
+    /// read by another receipt than the one that is kept of it, `Damaged` where its bytes spell no record on the way.
+    pub fn trace_in(
+        &self,
+        loaded: &Loaded<D>,
+        key: &F::Key,
+        from: Address,
+    ) -> Result<Reached<F::Key, F::Value>, Refused>
+        requires flushed { page_at self.now.page_bits from < length self.now.receipts }
+        // who is answered, or told of damage, knows that the page is the one that is kept
+        ensures own { OnOk result (IsHeldBy self.now.receipts (page_at self.now.page_bits from)
+            (D.Receipt.stands loaded.now.receipt)) }
+        ensures refused { IfErr result (λ refused.
+            ((IsHeldBy self.now.receipts (page_at self.now.page_bits from) (D.Receipt.stands loaded.now.receipt) → ⊥)
+            × IfSome (slice_get self.now.receipts (page_at self.now.page_bits from)) (λ s.
+            refused ≡ Refused.Stranger what.Receipt s.number (D.Receipt.stands loaded.now.receipt).number))
+            ⊎ (IsHeldBy self.now.receipts (page_at self.now.page_bits from) (D.Receipt.stands loaded.now.receipt)
+            × (refused ≡ Refused.Damaged (page_at self.now.page_bits from)))) }
+        ensures read { IsHeldBy self.now.receipts (page_at self.now.page_bits from) (D.Receipt.stands loaded.now.receipt)
+            → IsReached (IsEntryIn F.Key.bytes_of F.Value.bytes_of F.Key.is_known F.Value.is_known
+            F.Key.SIZE F.Value.SIZE self.now.page_bits loaded.now.bytes) F.Key.cmp key.now self.now.page_bits
+            (first_place self.now.page_bits (page_at self.now.page_bits from)) from result }
+        ensures kept { IsTrue D.keeps
+            → IsHeldBy self.now.receipts (page_at self.now.page_bits from) (D.Receipt.stands loaded.now.receipt)
+            → self.now.begin ≤ from
+            → IsOfClass F.code self.now key.now from
+            → (r : Reached F.Key F.Value)
+            × (result ≡ Ok r)
+            × GoesOn F.Key.cmp F.code self.now key.now
+            (first_place self.now.page_bits (page_at self.now.page_bits from)) from r }
+    {
+        self.log.first_in_page(loaded, key, from)
+    }
+}
