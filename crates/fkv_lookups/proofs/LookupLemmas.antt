@@ -1,13 +1,22 @@
 -- What a look-up comes to.
-use Rattle.std.proofs.Common.{◌≡◌, ◌==◌, ◌<◌, ◌≤◌, ◌&&◌, nat_lt, zero, suc, ℕ, Bool, true, false, cond, List, [], ◌∷◌, Option, Some, None, nat_le, slice_get, refl, sym, ◌∙◌, ap, subst, arith}
+use Rattle.std.proofs.Common.{◌≡◌, ◌==◌, ◌<◌, ◌≤◌, ◌&&◌, nat_lt, zero, suc, ℕ, Bool, true, false, cond, List, [], ◌∷◌, Option, Some, None, nat_le, refl, sym, ◌∙◌, ap, subst, arith}
 use Rattle.std.proofs.lemmas.Bool.Decides.{nat_tests}
+use Rattle.std.proofs.Common.{◌^◌, inl, inr}
+use Rattle.std.specs.Prelude.{Result, Ok, IsTrue}
+use Rattle.std.proofs.lemmas.Nat.{div-add-mod'}
+use Rattle.std.proofs.Math.Pow.{pow_mono}
+use Rattle.fkv_records.specs.Places.{page_at, IsShape}
+use Rattle.fkv_regions.specs.Agree.{IsMark}
+use Rattle.fkv_regions.proofs.OffsetLemmas.{starts-rise}
+use Rattle.fkv_pages.specs.Loads.{first_place}
+use Rattle.fkv_pages.proofs.FrameLemmas.{page_rises}
 use Rattle.fkv_texts.specs.declared.entries.Entry.{Entry}
 use Rattle.std.specs.declared.cmp.Ordering.{Ordering}
 use Rattle.fkv_functions.specs.Plain.{IsKeyOrder}
 use Rattle.std.proofs.lemmas.Bool.{ltb-true, and_parts, eqb-true}
 use Rattle.std.specs.List.{find}
-use Rattle.fkv_texts.specs.Text.{entry_at, last_where, has_key, last_of, newest, text_from, IsRising, IsFrom}
-use Rattle.fkv_texts.specs.Chains.{IsIn, IsChainFrom, has_class, last_of_class, last_below, Leads, IsChained, leads_to, reached}
+use Rattle.fkv_texts.specs.Text.{entry_at, last_where, has_key, newest, text_from}
+use Rattle.fkv_texts.specs.Chains.{IsIn, IsChainFrom, has_class, last_of_class, last_below, Leads, leads_to, reached}
 use Rattle.fkv_texts.specs.Chains.IsChainFrom.{ends, goes}
 use Rattle.fkv_texts.proofs.CutLemmas.{filter-in}
 use Rattle.fkv_pages.specs.Views.{text_begin}
@@ -19,8 +28,8 @@ use Rattle.fkv_texts.proofs.TextLemmas.{entry_at-in}
 use Rattle.fkv_operations.specs.Classes.{same_class}
 use Rattle.fkv_operations.proofs.ClassLemmas.{class_test}
 use Rattle.fkv_lookups.specs.RecordsViews.{RecordsView, class_in, entry_of}
-use Rattle.fkv_lookups.specs.Lookups.{IsOfClass, GoesOn, looked_up}
-use Rattle.fkv_lookups.proofs.TracedLemmas.{leads_of, traced-held}
+use Rattle.fkv_lookups.specs.Lookups.{IsOfClass, GoesOn}
+use Rattle.fkv_lookups.proofs.TracedLemmas.{leads_of}
 use Rattle.fkv_lookups.specs.Traced.{IsTraced}
 
 -- a chain of the entries from an address on is one of all
@@ -188,12 +197,12 @@ page_begun bits size begin a shape (inl first) le = by_page (page_at bits a) ref
     by_page zero h = rw h (omega arith)
     by_page (suc p) h =
         let up = starts-rise bits 1 (suc p) (omega arith) in
-        let least = pages-big bits size shape in
+        let least : 2 ^ 8 ≤ 2 ^ bits = pow_mono {i = 8} {j = bits} shape.low in
         rw h (omega (arith, up, least))
 page_begun bits size begin a shape (inr start) le =
     let up = starts-rise bits (page_at bits begin) (page_at bits a) (page_rises bits begin a le) in
-    let whole = mark-start bits begin start in
-    omega (arith, up, whole)
+    let whole = div-add-mod' begin (2 ^ bits) in
+    omega (arith, up, whole, start)
 
 -- ---- one page tells how the way goes on
 pub page_tells : {K V : Type 0} {keeps : Bool} (cmp : K → K → Ordering) (code : K → ℕ) (v : RecordsView K V) (k : K) (order : IsKeyOrder cmp) (t : IsTraced keeps code v) (a : ℕ) {E : Type 0} (result : Result (Reached K V) E)
@@ -202,13 +211,13 @@ pub page_tells : {K V : Type 0} {keeps : Bool} (cmp : K → K → Ordering) (cod
     → IsOfClass code v k a
     → ((es : List (Entry K V)) → IsChainFrom (first_place v.page_bits (page_at v.page_bits a)) v.text a es → result ≡ Ok (reached (find (has_key cmp k) es) (leads_to a es)))
     → (r : Reached K V) × (result ≡ Ok r) × GoesOn cmp code v k (first_place v.page_bits (page_at v.page_bits a)) a r
-page_tells {keeps = keeps} cmp code v k order t a result yes le own reads =
+page_tells {keeps = keeps} cmp code v k order t a result kept le own reads =
     let low = first_place v.page_bits (page_at v.page_bits a) in
     let begun : v.begin ≤ low = page_begun v.page_bits v.record_size v.begin a t.shape t.marked le in
-    let up : v.from ≤ low = subst (λ (n : ℕ). n ≤ low) (sym (t.begins ∙ by_keeps keeps yes)) begun in
+    let up : v.from ≤ low = subst (λ (n : ℕ). n ≤ low) (sym (t.begins ∙ by_keeps keeps kept)) begun in
     let chain = chain_down cmp code v k order t low up a (λ h. own) in
     (reached (find (has_key cmp k) chain.0) (leads_to a chain.0), reads chain.0 chain.1, goes_on cmp code v k order t low up a chain.0 chain.1 (λ h. own))
   where
     by_keeps : (b : Bool) → IsTrue b → text_begin b v.begin v.regions.offsets.closed ≡ v.begin
     by_keeps true h = refl
-    by_keeps false h = absurd (let no : false ≡ true = h in cc)
+    by_keeps false h = absurd (let bad : false ≡ true = h in cc)

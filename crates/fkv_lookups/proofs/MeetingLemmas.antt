@@ -1,10 +1,9 @@
 -- What a session meets, and what it says of the last record of a key, however old the session's view.
-use Rattle.std.proofs.Common.{◌≡◌, ◌<◌, ◌≤◌, ◌⊎◌, inl, inr, ℕ, Bool, true, false, cond, nat_le, nat_lt, List, Option, Some, None, IsSome, slice_get, is_some, refl, sym, ◌∙◌, ap, subst, arith}
+use Rattle.std.proofs.Common.{◌≡◌, ◌<◌, ◌≤◌, ◌⊎◌, inl, inr, ℕ, Bool, true, false, cond, nat_le, Option, Some, None, slice_get, is_some, refl, sym, ◌∙◌, ap, subst, arith}
 use Rattle.std.proofs.lemmas.Bool.Decides.{nat_tests}
 use Rattle.std.specs.Option.{option_flatten}
 use Rattle.std.specs.declared.cmp.Ordering.{Ordering}
 use Rattle.fkv_functions.specs.Plain.{IsKeyOrder}
-use Rattle.fkv_functions.specs.Meanings.{Meanings}
 use Rattle.fkv_epoch.specs.Moves.{is_entered}
 use Rattle.fkv_regions.specs.declared.offsets.View.{View}
 use Rattle.fkv_regions.specs.declared.offsets.Region.{Region}
@@ -71,7 +70,7 @@ module _ {K V : Type 0} {keeps : Bool} (cmp : K → K → Ordering) (code : K �
       let above = text_from low v.text in
       let es = falling class same_class above (class k) in
       let chain = meets class same_class low class_test above (cut-rising low v.text t.rising) (cut-from low v.text) (cut-chained class same_class v.from low v.text t.rising up t.chained) (class k) a
-          (cut-leads class same_class v.from low v.text t.rising up (class k) a leads) in
+      (cut-leads class same_class v.from low v.text t.rising up (class k) a leads) in
       subst (λ (o : Option (Entry K V)). GoesOn cmp code v k low a (reached o (leads_to a es))) (finds class same_class low cmp order class_test k above)
       (goes_on cmp code v k order t low up a es (chain_of_all low v.text a es chain) (leads_class cmp code v k order t a entry))
 

@@ -11,7 +11,7 @@ use Rattle.fkv_texts.specs.Places.{IsLaidOut}
 use Rattle.fkv_texts.specs.Text.{last_where, has_key, last_of, newest, AllAbove, IsRising, IsFrom, IsBelow}
 use Rattle.fkv_texts.specs.Chains.{has_class, last_of_class, Leads, IsChained, IsIn}
 use Rattle.fkv_functions.proofs.ListLemmas.{get-append_last}
-use Rattle.fkv_regions.specs.RegionsView.{RegionsView, fresh_regions}
+use Rattle.fkv_regions.specs.RegionsView.{RegionsView}
 use Rattle.fkv_texts.proofs.ChangeLemmas.{laid_out-changed, rising-changed, from-changed, below-changed, chained-changed, leads-changed}
 use Rattle.fkv_texts.proofs.LastWhere.{last_where-append, last_where-found, last_where-in, none-passes, last_where-narrow, last_where-narrow_none}
 use Rattle.fkv_index.specs.declared.words.Word.{Word}
@@ -23,7 +23,7 @@ use Rattle.fkv_index.specs.Changes.{Writes, SetsEntry, SameEntries}
 use Rattle.fkv_operations.specs.declared.classes.Class.{Class}
 use Rattle.fkv_operations.specs.declared.entries.IndexEntry.{IndexEntry}
 use Rattle.fkv_operations.specs.Classes.{same_class}
-use Rattle.fkv_lookups.specs.RecordsViews.{RecordsView, empty_records, class_in, entry_of, leads_to, with_record, with_value, with_regions, with_receipt, moved}
+use Rattle.fkv_lookups.specs.RecordsViews.{RecordsView, class_in, entry_of, leads_to, with_record, with_value, moved}
 use Rattle.fkv_operations.specs.RecordsViews.{ChangesAt}
 use Rattle.fkv_lookups.specs.Traced.{AreRegionsBelow, IsTraced}
 use Rattle.fkv_operations.proofs.ClassLemmas.{class_test, entry-set}
@@ -201,7 +201,7 @@ moved_log : {K V : Type 0} {keeps : Bool} {code : K → ℕ} (p k size : ℕ) (w
 moved_log {K} {V} {keeps} {code} p k size words old new made m up known t =
     let class = class_in code (view_of p k size old words) in
     let closes : old.from ≤ text_begin keeps old.begin made.offsets.closed =
-        subst (λ n. n ≤ text_begin keeps old.begin made.offsets.closed) (sym t.begins) (begin_rises keeps old.begin old.regions.offsets.closed made.offsets.closed up) in
+    subst (λ n. n ≤ text_begin keeps old.begin made.offsets.closed) (sym t.begins) (begin_rises keeps old.begin old.regions.offsets.closed made.offsets.closed up) in
     let now : new ≡ log.moved keeps old made m.more = m.is in
     traced-by p k size words new t.partition_bits t.bucket_bits known
     (rw now (cut-chained class same_class old.from (text_begin keeps old.begin made.offsets.closed) old.text t.rising closes t.chained))
@@ -330,7 +330,7 @@ traced-record {K} {V} {keeps} {code} v e key value t new moved =
       shape = t.shape;
       first = t.first;
       marked = t.marked;
-  begins = t.begins;
+      begins = t.begins;
       laid_out = new.laid_out;
       rising = new.rising;
       from = new.from;

@@ -10,10 +10,8 @@ ghost use Rattle.fkv_lookups.specs.Lookups.{IsOfClass, GoesOn};
 use crate::records::Records;
 use fkv_device::{Disk, Loaded};
 use fkv_functions::{Functions, Refused};
-use fkv_operations::Class;
 use fkv_records::Address;
 use fkv_texts::Reached;
-use fkv_texts::laws::chains;
 
 impl<F: Functions, D: Disk> Records<F, D> {
     /// The page of an address.

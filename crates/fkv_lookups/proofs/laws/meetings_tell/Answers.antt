@@ -1,4 +1,3 @@
-use Rattle.std.proofs.Common.{None}
 use Rattle.fkv_lookups.proofs.MeetingLemmas.{held-at, mutable-at, fuzzy-at, disk-at, still-at, unfrozen-at}
 use Rattle.fkv_lookups.proofs.laws.meetings_tell.Goals as goal
 

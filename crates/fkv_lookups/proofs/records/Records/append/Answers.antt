@@ -1,4 +1,4 @@
-use Rattle.std.proofs.Common.{◌≡◌, ◌≢◌, ◌^◌, subst, sym, ◌∙◌, arith}
+use Rattle.std.proofs.Common.{◌≢◌, ◌^◌, subst, sym, ◌∙◌, arith}
 use Rattle.fkv_records.specs.Records.{IsPrevious}
 use Rattle.fkv_index.specs.Words.{address_of}
 use Rattle.fkv_operations.specs.Classes.{class_at, same_class}
