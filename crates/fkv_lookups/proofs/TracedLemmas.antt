@@ -182,7 +182,7 @@ changes-by true p w old new writes emptied = record { others = writes.elsewhere;
 changes-by false p w old new writes emptied = record { others = emptied.elsewhere; places = λ q h. (emptied.places q).1 h }
 
 -- ---- the regions move, and frames are closed
-begin_rises : (keeps : Bool) (begin low high : ℕ) → low ≤ high → text_begin keeps begin low ≤ text_begin keeps begin high
+pub begin_rises : (keeps : Bool) (begin low high : ℕ) → low ≤ high → text_begin keeps begin low ≤ text_begin keeps begin high
 begin_rises true begin low high up = omega arith
 begin_rises false begin low high up = by_low (nat_le begin low) (nat_le begin high) refl refl
   where

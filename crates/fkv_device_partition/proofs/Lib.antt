@@ -1,0 +1,6 @@
+pub mod ClaimLemmas
+pub mod SoundLemmas
+pub mod AskedLemmas
+pub mod EventLemmas
+pub mod ChangeLemmas
+pub mod DecidedLemmas

@@ -1,0 +1,55 @@
+use Rattle.std.proofs.Common.{Err, refl, sym, ap, ◌∙◌, inl, inr}
+use Rattle.fkv_functions.proofs.KeyOrder.{key_order}
+use Rattle.fkv_index.specs.Words.{address_of}
+use Rattle.fkv_operations.specs.After.{key_of}
+use Rattle.fkv_lookups.specs.RecordsViews.{class_in}
+use Rattle.fkv_device_partition.specs.Views.{partition_of}
+use Rattle.fkv_device_partition.specs.Installing.{worn, unheld, done}
+use Rattle.fkv_device_partition.proofs.EventLemmas.{question-of, question-quiet, kept-entry, own-at, event-done, claims-none}
+use Rattle.fkv_device_partition.proofs.partitions.Partition.append_built.Goals as goal
+
+pub append-requires-clause-unclaimed : goal.append-requires-clause-unclaimed
+append-requires-clause-unclaimed g c κs within =
+    let a = c.requires.asks in
+    claims-none c.args.self.now c.args.slot c.args.context a.operation a.here (question-quiet a.operation c.args.kept c.args.built a.question)
+
+pub append-requires-clause-write : goal.append-requires-clause-write
+append-requires-clause-write g c κs within =
+    let a = c.requires.asks in
+    let x = a.operation in
+    let asked = question-of x.number x.op x.phase c.args.kept c.args.built a.question in
+    let v = c.args.self.now in
+    rw c.ask-ask.ensures (record {
+      own = ap (λ k. partition_of v.count (g.F.Functions.code k)) (ap key_of (sym asked.op_is)) ∙ own-at g.F.Key.Ord.cmp g.F.Functions.code v c.known.ensures c.args.slot c.args.context x a.here;
+      entry = kept-entry g.F.Key.Ord.cmp g.F.Functions.code v c.known.ensures c.args.slot c.args.context x c.args.kept c.args.built a.here a.question c.requires.stands;
+    })
+
+pub returns-in-Err-clause-does : goal.returns-in-Err-clause-does
+returns-in-Err-clause-does g c =
+    let a = c.requires.asks in
+    rw c.in-Err.ensures.err (elim c.in-Err.ensures.only [
+      | inl e ↦ worn a.operation c.args.kept a.here a.question c.requires.stands (c.in-Err.ensures.worn.0 (ap Err e)) refl (ap Err e)
+      | inr e ↦ unheld a.operation c.args.kept a.here a.question c.requires.stands (λ h. let no = sym (ap Err e) ∙ c.in-Err.ensures.worn.1 h in cc) (c.in-Err.ensures.memory (ap Err e)) refl (ap Err e)
+    ])
+
+pub returns-in-Ok-clause-does : goal.returns-in-Ok-clause-does
+returns-in-Ok-clause-does g c =
+    let a = c.requires.asks in
+    rw (c.in-Ok.ensures.ok, c.read-shown.ensures, c.value-value.ensures, c.ask-ask.ensures)
+    (done a.operation c.args.kept a.here a.question c.requires.stands (λ h. let no = c.in-Ok.ensures.worn.1 h in cc) refl refl)
+
+pub returns-in-Ok-clause-event : goal.returns-in-Ok-clause-event
+returns-in-Ok-clause-event g c =
+    let ord = g.met.F.Key.Ord g.world.𝓛 g.world.𝓜 g.world.𝓡 ((λ s x. x), (λ x. x), (λ x. x), λ x. x) in
+    let known = g.met.F.Key.Known g.world.𝓛 g.world.𝓜 g.world.𝓡 ((λ s x. x), (λ x. x), (λ x. x), λ x. x) in
+    let order = key_order g.F.Key.PartialEq.eq g.F.Key.Ord.cmp ord.matches_eq known.exact ord.total in
+    let a = c.requires.asks in
+    let v = c.args.self.now in
+    let ask = c.args.built in
+    let kept = c.args.kept in
+    let entry = kept-entry g.F.Key.Ord.cmp g.F.Functions.code v c.known.ensures c.args.slot c.args.context a.operation kept ask a.here a.question c.requires.stands in
+    let leads = c.entries_lead.ensures.found g.F.Functions.code v.records (class_in g.F.Functions.code v.records ask.key) kept c.known.ensures.traced entry in
+    let newest = c.entries_lead.ensures.held g.F.Key.Ord.cmp g.F.Functions.code v.records ask.key (address_of kept.word) order c.known.ensures.traced leads in
+    rw (c.in-Ok.ensures.ok, c.read-shown.ensures, c.value-value.ensures, c.ask-ask.ensures)
+    (event-done g.F.Key.Ord.cmp g.F.Functions.meaning g.F.Functions.code v c.args.slot c.args.context c.args.now a.operation a.here c.known.ensures kept ask a.question newest
+    (c.records_grow.ensures.lives g.F.Key.Ord.cmp v.records kept ask.key))

@@ -1,0 +1,49 @@
+-- What `enter` and `issue` do: a rule for each case, in the order of the tests.
+use Rattle.std.specs.Prelude.{◌≡◌, ◌≢◌, true, false, ℕ, Some, None, Result, Ok, Err}
+use Rattle.fkv_functions.specs.declared.refusals.Refused.{Refused}
+use Rattle.fkv_functions.specs.declared.refusals.Refused.TheVariants.{NoSlot, Unknown, Stranger, NoContext}
+use Rattle.fkv_functions.specs.declared.refusals.What.TheVariants.{Partition}
+use Rattle.fkv_regions.specs.RegionsView.{entered}
+use Rattle.fkv_operations.specs.After.{key_of}
+use Rattle.fkv_operations.specs.declared.operations.Op.{Op}
+use Rattle.fkv_device_partition.specs.declared.contexts.Phase.TheVariants.{Fresh}
+use Rattle.fkv_device_partition.specs.Contexts.{is_session}
+use Rattle.fkv_device_partition.specs.Views.{PartitionView, partition_of, slots_of, with_context, in_regions, free_slot, free_context}
+
+-- a session gets the lowest free slot, with the current epoch and the view of now
+pub data Enters {K V I : Type 0} (old new : PartitionView K V I) (now : ℕ) (result : Result ℕ Refused) : Type 0 where
+  full : free_slot old ≡ None → new ≡ old → result ≡ Err NoSlot → Enters old new now result
+  enters : (slot : ℕ)
+      → free_slot old ≡ Some slot
+      → new ≡ in_regions old (entered old.records.regions slot) now
+      → result ≡ Ok slot
+      → Enters old new now result
+
+-- whether a slot is that of a session
+abbrev pub IsEntered : {K V I : Type 0} → PartitionView K V I → ℕ → Type 0
+IsEntered v slot = is_session (slots_of v) slot ≡ true
+
+pub data Issues {K V I : Type 0} (code : K → ℕ) (old new : PartitionView K V I) (slot : ℕ) (op : Op K V I) (now : ℕ)
+    (result : Result ℕ Refused) : Type 0 where
+  unknown : is_session (slots_of old) slot ≡ false
+      → new ≡ old
+      → result ≡ Err Unknown
+      → Issues code old new slot op now result
+  stranger : IsEntered old slot
+      → partition_of old.count (code (key_of op)) ≢ old.number
+      → new ≡ old
+      → result ≡ Err (Stranger Partition old.number (partition_of old.count (code (key_of op))))
+      → Issues code old new slot op now result
+  full : IsEntered old slot
+      → partition_of old.count (code (key_of op)) ≡ old.number
+      → free_context old slot ≡ None
+      → new ≡ old
+      → result ≡ Err NoContext
+      → Issues code old new slot op now result
+  issues : (c : ℕ)
+      → IsEntered old slot
+      → partition_of old.count (code (key_of op)) ≡ old.number
+      → free_context old slot ≡ Some c
+      → new ≡ with_context old slot c (Some (record { number = now; op = op; phase = Fresh })) now
+      → result ≡ Ok c
+      → Issues code old new slot op now result

@@ -1,0 +1,15 @@
+pub mod Limits
+pub mod Contexts
+pub mod Views
+pub mod Inside
+pub mod Writes
+pub mod Effect
+pub mod Going
+pub mod Installing
+pub mod Claiming
+pub mod Sound
+pub mod Beginning
+pub mod Ending
+pub mod Looking
+pub mod Loading
+pub mod Flushing

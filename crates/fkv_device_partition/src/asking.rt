@@ -1,0 +1,23 @@
+//! What an open operation is.
+ghost use Rattle.std.specs.Prelude.{◌≡◌, Some, None, IfOk, IfErr};
+ghost use Rattle.fkv_device_partition.specs.Effect.{asked};
+
+use crate::partitions::Partition;
+use fkv_device::Disk;
+use fkv_functions::{Functions, Refused};
+use fkv_operations::OpOf;
+
+impl<F: Functions, D: Disk> Partition<F, D> {
+    /// The operation that is open in a context, after its number, which is the moment of its issue.
+    /// Refused: `Unknown` where none is open there.
+    pub fn asked(&self, slot: usize, context: usize) -> Result<(u64, OpOf<F>), Refused>
+        ensures ok { IfOk result (λ x. asked self.now slot context ≡ Some (record { number = x.0; op = x.1 })) }
+        ensures none { IfErr result (λ _. asked self.now slot context ≡ None) }
+        ensures only { IfErr result (λ refused. refused ≡ Refused.Unknown) }
+    {
+        let Some(open) = self.open(slot, context) else {
+            return Err(Refused::Unknown);
+        };
+        Ok((open.number, open.op))
+    }
+}

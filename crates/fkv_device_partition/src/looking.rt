@@ -1,0 +1,142 @@
+//! What events look at in a partition. None of these changes it.
+ghost use Rattle.std.specs.Prelude.{◌≡◌, ◌<◌, Some, IsTrue, IfSome, option_map};
+ghost use Rattle.fkv_index.specs.Words.{address_of};
+ghost use Rattle.fkv_operations.specs.After.{key_of};
+ghost use Rattle.fkv_lookups.specs.Decisions.{decision};
+ghost use Rattle.fkv_operations.specs.Classes.{IsClass};
+ghost use Rattle.fkv_lookups.specs.RecordsViews.{class_in, IsEntryOf};
+ghost use Rattle.fkv_device_partition.specs.Contexts.{is_session};
+ghost use Rattle.fkv_device_partition.specs.Beginning.{IsEntered};
+ghost use Rattle.fkv_device_partition.specs.Views.{context_at, entry_for, found_for, free_context, met_at, open_context, partition_of, reached_from, slots_of};
+ghost use Rattle.fkv_device_partition.specs.Sound.{IsSound};
+
+use crate::contexts::{ContextOf, free_context, open_at, open_context};
+use crate::partitions::Partition;
+use fkv_device::Disk;
+use fkv_functions::Functions;
+use fkv_lookups::{DecisionOf, decide, low_of, met_by};
+use fkv_operations::{Class, IndexEntry, OpOf};
+use fkv_records::Address;
+use fkv_texts::Reached;
+
+/// What leads nowhere.
+const NOWHERE: Address = 1;
+
+/// Where an entry leads.
+fn address_of(entry: &Option<IndexEntry>) -> Option<Address>
+    ensures { result ≡ option_map (λ e. address_of e.word) entry.now }
+{
+    match entry {
+        None => None,
+        Some(entry) => Some(entry.address()),
+    }
+}
+
+impl<F: Functions, D: Disk> Partition<F, D> {
+    /// What holds of every partition.
+    pub(crate) fn known(&self)
+        ensures { IsSound D.keeps F.Key.cmp F.code self.now }
+    {
+        let _moment = self.moment;
+    }
+
+    /// The operation that is open in a context.
+    pub(crate) fn open(&self, slot: usize, context: usize) -> Option<ContextOf<F>>
+        ensures value { result ≡ context_at self.now slot context }
+        ensures session { IfSome result (λ _. slot < 16) }
+        ensures context { IfSome result (λ _. context < 8) }
+    {
+        if !self.records.is_entered(slot) {
+            return None;
+        }
+        open_at(&self.contexts, slot, context)
+    }
+
+    /// Whether a slot is that of a session.
+    pub(crate) fn is_session(&self, slot: usize) -> bool
+        ensures value { result ≡ is_session (slots_of self.now) slot }
+        ensures within { IsTrue result → slot < 16 }
+    {
+        self.records.is_entered(slot)
+    }
+
+    /// The lowest free context of a session.
+    pub(crate) fn first_free(&self, slot: usize) -> Option<usize>
+        requires { slot < 16 }
+        ensures value { result ≡ free_context self.now slot }
+        ensures within { IfSome result (λ context. context < 8) }
+    {
+        free_context(&self.contexts, slot)
+    }
+
+    /// The lowest open context of a session.
+    pub(crate) fn first_open(&self, slot: usize) -> Option<usize>
+        requires { slot < 16 }
+        ensures { result ≡ open_context self.now slot }
+    {
+        open_context(&self.contexts, slot)
+    }
+
+    /// The number of the partition to which a key belongs.
+    pub(crate) fn home(&self, functions: &F, key: &F::Key) -> u64
+        ensures { result ≡ partition_of self.now.count (F.code key.now) }
+    {
+        functions.hash(key) % self.count
+    }
+
+    /// The class of a key, and its final entry.
+    pub(crate) fn find(&self, functions: &F, key: &F::Key) -> (Class, Option<IndexEntry>)
+        ensures class { result.0 ≡ class_in F.code self.now.records key.now }
+        ensures range { IsClass self.now.records.bucket_bits result.0 }
+        ensures entry { result.1 ≡ found_for F.code self.now key.now }
+        ensures address { option_map (λ e. address_of e.word) result.1 ≡ entry_for F.code self.now key.now }
+        ensures stands { IfSome result.1
+            (λ e. IsEntryOf self.now.records (class_in F.code self.now.records key.now) e) }
+    {
+        let class = self.records.class(functions, key);
+        let entry = self.records.entry(&class);
+        (class, entry)
+    }
+
+    /// What a look-up of a key comes to, as the session at a slot reads in memory, by the entry of the key's class.
+    pub(crate) fn reach(
+        &self,
+        slot: usize,
+        key: &F::Key,
+        entry: &Option<IndexEntry>,
+    ) -> Reached<F::Key, F::Value>
+        requires entered { IsEntered self.now slot }
+        requires entry { option_map (λ e. address_of e.word) entry.now ≡ entry_for F.code self.now key.now }
+        ensures { result ≡ reached_from F.Key.cmp F.code self.now slot key.now (entry_for F.code self.now key.now) }
+    {
+        match address_of(entry) {
+            None => Reached::Below(NOWHERE),
+            Some(address) => {
+                let view = self.records.view(slot);
+                let low = low_of(self.records.begin(), &view);
+                self.records.trace(address, key, low)
+            }
+        }
+    }
+
+    /// What an operation of the session at a slot does for what it meets: by the entry of its key's class, and by what
+    /// the look-up comes to.
+    pub(crate) fn decided(
+        &self,
+        slot: usize,
+        functions: &F,
+        op: &OpOf<F>,
+        entry: &Option<IndexEntry>,
+        reached: &Reached<F::Key, F::Value>,
+    ) -> DecisionOf<F>
+        requires entered { IsEntered self.now slot }
+        requires entry { option_map (λ e. address_of e.word) entry.now ≡ entry_for F.code self.now (key_of op.now) }
+        requires reached { reached.now ≡ reached_from F.Key.cmp F.code self.now slot (key_of op.now)
+            (entry_for F.code self.now (key_of op.now)) }
+        ensures { result ≡ decision F.meaning op.now (met_at F.Key.cmp F.code self.now slot (key_of op.now)) }
+    {
+        let view = self.records.view(slot);
+        let met = met_by(address_of(entry), self.records.begin(), &view, reached);
+        decide(functions, op, &met)
+    }
+}

@@ -1,0 +1,150 @@
+//! A partition: its parts, and what its sessions and operations begin with.
+ghost use Rattle.std.specs.Prelude.{◌≡◌, ◌≢◌, ◌<◌, ◌≤◌, ◌⊎◌, Option, Some, None, Ok, Err, IfOk, IfErr, OnErr, replicate};
+ghost use Rattle.fkv_records.specs.Records.{size_of};
+ghost use Rattle.fkv_device_partition.specs.Limits.{IsPartitionOf};
+ghost use Rattle.fkv_device_partition.specs.Views.{empty_partition};
+ghost use Rattle.fkv_device_partition.specs.Beginning.{Enters, Issues};
+ghost use Rattle.fkv_device_partition.specs.Effect.{IsQuiet, IsIssue};
+
+use crate::contexts::Context;
+use crate::limits::Config;
+use fkv_device::Disk;
+use fkv_functions::{Functions, Refused, What};
+use fkv_lookups::Records;
+use fkv_operations::OpOf;
+use std::alloc::Global;
+use std::marker::Model;
+
+/// The open operations that one partition may have.
+const PLACES: usize = 128;
+
+/// One partition of a store: its records with their entries and sessions, and the open operations of these. Each call that
+/// takes a moment is one event; the moments of a partition rise.
+#[derive(Drop)]
+pub struct Partition<F: Functions, D: Disk> {
+    pub(crate) number: u64,
+    pub(crate) count: u64,
+    pub(crate) records: Records<F, D>,
+    pub(crate) contexts: Vec<Option<Context<F::Key, F::Value, F::Input>>>,
+    pub(crate) moment: u64,
+}
+
+impl<F: Functions, D: Disk> Model for Partition<F, D> {
+    ghost use Rattle.fkv_device_partition.specs.Views.{PartitionView};
+
+    ghost Value = { PartitionView F.Key F.Value F.Input };
+
+    ghost use Rattle.fkv_device_partition.specs.Inside.{view_of};
+    ghost use Rattle.fkv_device_partition.specs.Sound.{IsSound};
+
+    ghost view = { λ p. view_of p.number p.count p.records p.contexts.items p.moment };
+
+    ghost invariant = { λ p. IsSound D.keeps F.Key.cmp F.code
+        (view_of p.number p.count p.records p.contexts.items p.moment) };
+}
+
+/// Places that hold nothing. Refused: `NoMemory`.
+fn free_places<T: Drop>(alloc: Global) -> Result<Vec<Option<T>>, Refused>
+    ensures ok { IfOk result (λ places. places.items ≡ replicate 128 None) }
+    ensures only { IfErr result (λ refused. refused ≡ Refused.NoMemory) }
+{
+    let mut places = Vec::new(alloc);
+    for _ in 0..PLACES {
+        let Ok(()) = places.push(None) else {
+            return Err(Refused::NoMemory);
+        };
+    }
+    Ok(places)
+}
+
+impl<F: Functions, D: Disk> Partition<F, D> {
+    /// The partition of this number, with nothing in it. Refused, in this order: `BadConfig` where a
+    /// number of the configuration is outside its limits, a record is too large, or there is no partition
+    /// of this number, `NoMemory`.
+    pub fn new(alloc: Global, config: &Config, number: u64) -> Result<Self, Refused>
+        ensures ok { IfOk result (λ p. p ≡ empty_partition config.now (size_of F.Key.SIZE F.Value.SIZE) number) }
+        ensures good { result ≢ Err Refused.BadConfig
+            → IsPartitionOf config.now (size_of F.Key.SIZE F.Value.SIZE) number }
+        ensures bad { result ≡ Err Refused.BadConfig
+            → ¬ IsPartitionOf config.now (size_of F.Key.SIZE F.Value.SIZE) number }
+        ensures only { IfErr result (λ refused. (refused ≡ Refused.BadConfig) ⊎ (refused ≡ Refused.NoMemory)) }
+    {
+        let Some(shape) = config.shape::<F::Key, F::Value>() else {
+            return Err(Refused::BadConfig);
+        };
+        let count = config.partitions();
+        if number >= count {
+            return Err(Refused::BadConfig);
+        }
+        let records = Records::new(
+            alloc,
+            config.partition_bits,
+            config.bucket_bits,
+            shape,
+            config.frames,
+        )?;
+        let contexts = free_places(alloc)?;
+        records.known();
+        Ok(Partition {
+            number,
+            count,
+            records,
+            contexts,
+            moment: 0,
+        })
+    }
+
+    /// Enters a session, which has the view of now, and answers its slot, the lowest free one. Refused, and then
+    /// nothing changes: `NoSlot` where sixteen sessions are entered.
+    pub fn enter(&mut self, now: u64) -> Result<usize, Refused>
+        requires later { self.old.moment < now }
+        ensures does { Enters self.old self.new now result }
+        ensures event { IfOk result (λ _. IsQuiet D.keeps self.old self.new now) }
+        ensures within { IfOk result (λ slot. slot < 16) }
+        ensures err { OnErr result (self.new ≡ self.old) }
+        ensures moment { self.new.moment ≤ now }
+    {
+        let slot = match self.records.enter() {
+            Err(refused) => return Err(refused),
+            Ok(slot) => slot,
+        };
+        self.records.known();
+        self.moment = now;
+        Ok(slot)
+    }
+
+    /// Issues an operation in a session and answers its context, the lowest free one. Refused, in this
+    /// order, and then nothing changes: `Unknown` where the slot is that of no session, `Stranger` where
+    /// the operation's key belongs to another partition, `NoContext`.
+    pub fn issue(
+        &mut self,
+        slot: usize,
+        op: OpOf<F>,
+        functions: &F,
+        now: u64,
+    ) -> Result<usize, Refused>
+        requires later { self.old.moment < now }
+        ensures does { Issues F.code self.old self.new slot op now result }
+        ensures event { IfOk result (λ context. IsIssue F.code self.old self.new slot context op now) }
+        ensures within { IfOk result (λ context. (slot < 16) × (context < 8)) }
+        ensures err { OnErr result (self.new ≡ self.old) }
+        ensures moment { self.new.moment ≤ now }
+    {
+        if !self.is_session(slot) {
+            return Err(Refused::Unknown);
+        }
+        let came = self.home(functions, &op.key());
+        if came != self.number {
+            return Err(Refused::Stranger {
+                what: What::Partition,
+                held: self.number,
+                came,
+            });
+        }
+        let Some(context) = self.first_free(slot) else {
+            return Err(Refused::NoContext);
+        };
+        self.start(slot, context, op, now);
+        Ok(context)
+    }
+}
