@@ -1,5 +1,15 @@
 -- What an operation decides, and what its look-up then came to.
-use Rattle.std.proofs.Common.{◌≡◌, ℕ, Option, Some, None, refl, sym, ◌∙◌, ap}
+use Rattle.std.proofs.Common.{◌≡◌, ◌+◌, ◌*◌, ◌/◌, ◌^◌, ◌<◌, ◌≤◌, inl, inr, ℕ, zero, suc, Bool, true, false, Option, Some, None, length, nat_lt, refl, sym, ◌∙◌, ap, arith}
+use Rattle.std.proofs.lemmas.Bool.Decides.{nat_tests}
+use Rattle.std.proofs.lemmas.Bool.{ltb-true}
+use Rattle.std.proofs.lemmas.Nat.{div-add-mod'}
+use Rattle.fkv_records.specs.Places.{page_at, offset_at, first_offset}
+use Rattle.fkv_regions.specs.Agree.{IsMark, IsInOrder}
+use Rattle.fkv_regions.proofs.OffsetLemmas.{start-below}
+use Rattle.fkv_pages.specs.Loads.{first_place}
+use Rattle.fkv_texts.specs.declared.entries.Entry.{Entry}
+use Rattle.fkv_lookups.specs.RecordsViews.{RecordsView}
+use Rattle.fkv_lookups.specs.Traced.{IsTraced}
 use Rattle.std.specs.declared.cmp.Ordering.{Ordering}
 use Rattle.fkv_functions.specs.Meanings.{Meanings}
 use Rattle.fkv_regions.specs.declared.offsets.Region.TheVariants as region
@@ -33,3 +43,41 @@ module _ {K V I O : Type 0} (cmp : K → K → Ordering) (f : Meanings K V I O) 
   pub met-is : (k : K) (o : Option ℕ) → met_by o v.records.begin (seen_at v slot) (reached_from cmp code v slot k o) ≡ met_from cmp code v.records (seen_at v slot) k o
   met-is k None = refl
   met-is k (Some a) = refl
+
+pub found-same : {K V : Type 0} (x y : Entry K V) → Found x ≡ Found y → x ≡ y
+found-same x y h = cc
+
+-- ---- pages on disk are flushed
+pub page_flushed : {K V : Type 0} {keeps : Bool} {code : K → ℕ} (v : RecordsView K V) (b : ℕ) → IsTraced keeps code v → v.begin ≤ b → b < v.regions.offsets.head → page_at v.page_bits b < length v.receipts
+page_flushed v b t begun low = by_mark o.head_mark
+  where
+    o : IsInOrder v.regions.bits v.regions.flushed v.regions.offsets
+    o = t.regions.agree.in_order
+
+    by_page : (c : Bool) → nat_lt (page_at v.page_bits b) (page_at v.page_bits v.regions.offsets.head) ≡ c → offset_at v.page_bits v.regions.offsets.head ≡ 0 → page_at v.page_bits b < page_at v.page_bits v.regions.offsets.head
+    by_page true h start = ltb-true (page_at v.page_bits b) (page_at v.page_bits v.regions.offsets.head) h
+    by_page false h start =
+        let le : page_at v.page_bits v.regions.offsets.head ≤ page_at v.page_bits b = grind (arith, nat_tests) in
+        let under = start-below v.page_bits (page_at v.page_bits v.regions.offsets.head) b le in
+        let whole = div-add-mod' v.regions.offsets.head (2 ^ v.page_bits) in
+        absurd (omega (arith, under, whole, start))
+
+    by_mark : IsMark v.regions.bits v.regions.offsets.head → page_at v.page_bits b < length v.receipts
+    by_mark (inl first) = absurd (let least = t.first in omega arith)
+    by_mark (inr start) =
+        let below = by_page (nat_lt (page_at v.page_bits b) (page_at v.page_bits v.regions.offsets.head)) refl (rw t.regions.bits at start) in
+        let high = rw t.regions.bits at o.flushed_low in
+        omega (arith, below, high, t.flushed)
+
+-- an address below a page's first record, and not below Begin, lies in a lower page
+pub lower_page : {K V : Type 0} {keeps : Bool} {code : K → ℕ} (v : RecordsView K V) (b page : ℕ) → IsTraced keeps code v → v.begin ≤ b → b < first_place v.page_bits page → page_at v.page_bits b < page
+lower_page v b zero t begun low = absurd (let least = t.first in omega arith)
+lower_page v b (suc page) t begun low = by_page (nat_lt (page_at v.page_bits b) (suc page)) refl
+  where
+    by_page : (c : Bool) → nat_lt (page_at v.page_bits b) (suc page) ≡ c → page_at v.page_bits b < suc page
+    by_page true h = ltb-true (page_at v.page_bits b) (suc page) h
+    by_page false h =
+        let le : suc page ≤ page_at v.page_bits b = grind (arith, nat_tests) in
+        let under = start-below v.page_bits (suc page) b le in
+        let none : first_offset (suc page) ≡ 0 = refl in
+        absurd (omega (arith, under, none))

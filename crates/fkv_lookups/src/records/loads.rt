@@ -1,7 +1,7 @@
 //! Records of flushed pages, read from what a device gave.
 ghost use Rattle.std.specs.Prelude.{◌≡◌, ◌≢◌, ◌<◌, ◌≤◌, ◌↔◌, ◌⊎◌, Ok, IsOk, IfErr, IfSome, OnOk, IsTrue, length, slice_get};
 ghost use Rattle.fkv_functions.specs.declared.refusals.What.TheVariants as what;
-ghost use Rattle.fkv_records.specs.Places.{page_at};
+ghost use Rattle.fkv_records.specs.Places.{page_at, IsPlace};
 ghost use Rattle.fkv_texts.specs.declared.entries.Reached.{Reached};
 ghost use Rattle.fkv_pages.specs.Spelled.{IsEntryIn};
 ghost use Rattle.fkv_pages.specs.Loads.{IsHeldBy, IsReached, first_place};
@@ -19,6 +19,13 @@ impl<F: Functions, D: Disk> Records<F, D> {
         ensures { result ≡ page_at self.now.page_bits address }
     {
         self.log.shape().page_of(address)
+    }
+
+    /// Whether a record may stand at an address.
+    pub fn is_place(&self, address: Address) -> bool
+        ensures { IsTrue result ↔ IsPlace self.now.page_bits self.now.record_size address }
+    {
+        self.log.shape().is_place(address)
     }
 
     /// Whether a page was read by the receipt that is kept of it. Refused: `Stranger` where it was read by another.

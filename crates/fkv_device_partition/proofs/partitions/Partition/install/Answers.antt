@@ -35,7 +35,7 @@ returns-then-not-holds-clause-does g c =
     (λ e. let yes = c.holds.ensures.1 (ap (λ v. word_at v.records.words q.0.place) c.self.view_is ∙ e) in let no : false ≡ true = sym c.if-not-holds.true ∙ yes in cc) refl refl)
 
 pub returns-then-not-holds-clause-event : goal.returns-then-not-holds-clause-event
-returns-then-not-holds-clause-event g c =
+returns-then-not-holds-clause-event g c = λ keeps.
     let v = c.args.self.now in
     rw c.set_phase.ensures
     (event-next g.F.Key.Ord.cmp g.F.Functions.meaning g.F.Functions.code v c.args.slot c.args.context c.args.now c.in-Some.open (sym c.in-Some.ensures.value) Fresh v.records refl refl refl)

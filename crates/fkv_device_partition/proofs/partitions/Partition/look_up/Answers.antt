@@ -6,6 +6,7 @@ use Rattle.fkv_device_partition.specs.declared.contexts.Wait.TheVariants.{Fuzzy}
 use Rattle.fkv_device_partition.specs.Going.{done, claims, unclaimed, waits}
 use Rattle.fkv_device_partition.specs.Views.{slots_of}
 use Rattle.fkv_device_partition.proofs.AskedLemmas.{open_at}
+use Rattle.fkv_device_partition.proofs.DecidedLemmas.{replaced-at, reached-is, found-same}
 use Rattle.fkv_device_partition.proofs.EventLemmas.{decides-at, event-quiet, event-claims, event-waits, claims-none}
 use Rattle.fkv_device_partition.proofs.partitions.Partition.look_up.Goals as goal
 
@@ -76,3 +77,27 @@ pub ask_page-requires-clause-decided : goal.ask_page-requires-clause-decided
 ask_page-requires-clause-decided g c κs within =
     let x = c.args.operation.now in
     decides-at g.F.Key.Ord.cmp g.F.Functions.meaning g.F.Functions.code _ c.args.slot c.args.context c.args.now x c.requires.here c.known.ensures c.requires.asks_nothing c.requires.unclaimed c.requires.unloading _ _ c.decided.ensures c.in-Load.is
+
+pub rewrite-requires-clause-last : goal.rewrite-requires-clause-last
+rewrite-requires-clause-last g c κs within =
+    let ord = g.met.F.Key.Ord g.world.𝓛 g.world.𝓜 g.world.𝓡 ((λ s x. x), (λ x. x), (λ x. x), λ x. x) in
+    let known = g.met.F.Key.Known g.world.𝓛 g.world.𝓜 g.world.𝓡 ((λ s x. x), (λ x. x), (λ x. x), λ x. x) in
+    let order = key_order g.F.Key.PartialEq.eq g.F.Key.Ord.cmp ord.matches_eq known.exact ord.total in
+    let v = c.args.self.now in
+    let x = c.args.operation.now in
+    let m = replaced-at g.F.Key.Ord.cmp g.F.Functions.meaning g.F.Functions.code v c.args.slot x.op c.in-Replace.value c.in-Replace.answer (λ w. c.meetings_tell.ensures.mutable g.D.Disk.keeps g.F.Key.Ord.cmp g.F.Functions.code v.records (key_of x.op) c.args.slot w order c.known.ensures.traced (open_at (slots_of v) v.contexts c.args.slot c.args.context x c.requires.here).inside) (sym c.decided.ensures ∙ c.in-Replace.is) in
+    let came = rw c.key-key.ensures at c.reach-reached.ensures in
+    let same = found-same c.in-Found.last m.1.entry (sym c.in-Found.is ∙ came ∙ reached-is g.F.Key.Ord.cmp g.F.Functions.meaning g.F.Functions.code v c.args.slot (key_of x.op) m.0 m.1) in
+    rw same m.1.last
+
+pub rewrite-requires-clause-stands : goal.rewrite-requires-clause-stands
+rewrite-requires-clause-stands g c κs within =
+    let ord = g.met.F.Key.Ord g.world.𝓛 g.world.𝓜 g.world.𝓡 ((λ s x. x), (λ x. x), (λ x. x), λ x. x) in
+    let known = g.met.F.Key.Known g.world.𝓛 g.world.𝓜 g.world.𝓡 ((λ s x. x), (λ x. x), (λ x. x), λ x. x) in
+    let order = key_order g.F.Key.PartialEq.eq g.F.Key.Ord.cmp ord.matches_eq known.exact ord.total in
+    let v = c.args.self.now in
+    let x = c.args.operation.now in
+    let m = replaced-at g.F.Key.Ord.cmp g.F.Functions.meaning g.F.Functions.code v c.args.slot x.op c.in-Replace.value c.in-Replace.answer (λ w. c.meetings_tell.ensures.mutable g.D.Disk.keeps g.F.Key.Ord.cmp g.F.Functions.code v.records (key_of x.op) c.args.slot w order c.known.ensures.traced (open_at (slots_of v) v.contexts c.args.slot c.args.context x c.requires.here).inside) (sym c.decided.ensures ∙ c.in-Replace.is) in
+    let came = rw c.key-key.ensures at c.reach-reached.ensures in
+    let same = found-same c.in-Found.last m.1.entry (sym c.in-Found.is ∙ came ∙ reached-is g.F.Key.Ord.cmp g.F.Functions.meaning g.F.Functions.code v c.args.slot (key_of x.op) m.0 m.1) in
+    rw same m.1.stands
