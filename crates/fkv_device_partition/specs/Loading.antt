@@ -28,6 +28,10 @@ pub data Tells {K V : Type 0} (begin : ℕ) : Reached K V → Option V → Type 
   found : (e : Entry K V) → Tells begin (Found e) e.value
   ended : (b : ℕ) → b < begin → Tells begin (Below b) None
 
+-- a read or an update: no other operation waits for a page
+abbrev pub MayLoad : {K V I : Type 0} → Op K V I → Type 0
+MayLoad {K} {V} {I} op = (i : I) × ((op ≡ Read (key_of op) i) ⊎ (op ≡ Rmw (key_of op) i))
+
 -- the operation that is open in a context waits for a page, and Begin has not moved since
 pub record AwaitsPage {K V I : Type 0} (v : PartitionView K V I) (slot c : ℕ) (x : Context K V I) (l : Loading)
     : Type 0 where

@@ -15,6 +15,7 @@ pub mod flushing;
 pub mod going;
 pub mod installing;
 pub mod limits;
+pub mod loading;
 mod looking;
 pub mod partitions;
 pub mod regions;

@@ -1,13 +1,15 @@
 //! What an operation does with the page that it waited for.
-ghost use Rattle.std.specs.Prelude.{◌≡◌, ◌<◌, ◌≤◌, ◌↔◌, Some, None, Ok, Err, IsTrue, IfOk, OnErr};
-ghost use Rattle.fkv_functions.specs.declared.refusals.Refused.TheVariants as refused;
+ghost use Rattle.std.specs.Prelude.{◌≡◌, ◌<◌, ◌≤◌, ◌↔◌, Some, None, Ok, IsTrue, IfOk, IfErr, OnOk, OnErr, length};
 ghost use Rattle.fkv_records.specs.Places.{page_at};
-ghost use Rattle.fkv_texts.specs.Text.{newest, value_of};
 ghost use Rattle.fkv_pages.specs.Spelled.{IsEntryIn};
-ghost use Rattle.fkv_operations.specs.After.{key_of};
-ghost use Rattle.fkv_device_partition.specs.declared.contexts.Phase.TheVariants.{Load};
-ghost use Rattle.fkv_device_partition.specs.Loading.{AwaitsPage, ReadsOn, IsTold, Loads};
-ghost use Rattle.fkv_device_partition.specs.Views.{context_at};
+ghost use Rattle.fkv_pages.specs.Loads.{IsHeldBy};
+ghost use Rattle.fkv_operations.specs.After.{key_of, shown_of};
+ghost use Rattle.fkv_operations.specs.declared.operations.Op.TheVariants.{Read, Rmw};
+ghost use Rattle.fkv_device_partition.specs.declared.contexts.Phase.TheVariants.{Prepared, Load};
+ghost use Rattle.fkv_device_partition.specs.Contexts.{at_phase};
+ghost use Rattle.fkv_device_partition.specs.Loading.{AwaitsPage, MayLoad, Loads};
+ghost use Rattle.fkv_device_partition.specs.Sound.{IsKept, IsLoading};
+ghost use Rattle.fkv_device_partition.specs.Views.{with_context};
 
 use crate::contexts::{ContextOf, Loading, Phase, Progress, ProgressOf, loading_of};
 use crate::partitions::Partition;
@@ -20,7 +22,7 @@ use fkv_texts::Reached;
 
 /// Whether it is memory that was wanted.
 fn is_no_memory(refused: &Refused) -> bool
-    ensures { IsTrue result ↔ (refused.now ≡ refused.NoMemory) }
+    ensures { IsTrue result ↔ (refused.now ≡ Refused.NoMemory) }
 {
     match refused {
         Refused::NoMemory => true,
@@ -118,5 +120,99 @@ impl<F: Functions, D: Disk> Partition<F, D> {
                 self.look_further(slot, context, operation, loading, address, now)
             }
         }
+    }
+
+    /// Finishes a read with a value of its key, or none, or asks for what an update makes of that value.
+    fn tell(
+        &mut self,
+        slot: usize,
+        context: usize,
+        operation: &ContextOf<F>,
+        loading: Loading,
+        value: Option<F::Value>,
+        functions: &F,
+        now: u64,
+    ) -> ProgressOf<F, D>
+        requires later { self.old.moment < now }
+        requires session { slot < 16 }
+        requires context { context < 8 }
+        requires awaits { AwaitsPage self.old slot context operation.now loading }
+        requires asks { MayLoad operation.now.op }
+        requires kept { IsKept D.keeps F.Key.cmp F.code self.old.records (key_of operation.now.op) loading.kept value }
+        ensures read { (k : F.Key) (i : F.Input)
+            → operation.now.op ≡ Read k i
+            → (self.new ≡ with_context self.old slot context None now)
+            × (result ≡ Progress.Done (shown_of F.meaning k i value) loading.looked) }
+        ensures update { (k : F.Key) (i : F.Input)
+            → operation.now.op ≡ Rmw k i
+            → (self.new ≡ with_context self.old slot context
+            (Some (at_phase operation.now (Prepared loading.kept value))) now)
+            × (result ≡ Progress.NeedsBuild
+            (record { number = operation.now.number; key = k; source = value; input = i })) }
+        ensures moment { self.new.moment ≤ now }
+    {
+        match operation.op {
+            Op::Read(key, input) => {
+                self.free(slot, context, now);
+                Progress::Done(shown(functions, &key, &input, value), loading.looked)
+            }
+            Op::Rmw(key, input) => {
+                let ask = Ask {
+                    number: operation.number,
+                    key,
+                    source: value,
+                    input,
+                };
+                let prepared = Phase::Prepared {
+                    kept: loading.kept,
+                    source: value,
+                };
+                self.set_phase(slot, context, operation, prepared, now);
+                Progress::NeedsBuild(ask)
+            }
+            Op::Upsert(_, _) | Op::Delete(_) => unreachable!(),
+        }
+    }
+
+    /// Asks for the page in which the records of a key's class go on. Refused, and then nothing changes: `NoMemory`.
+    fn look_further(
+        &mut self,
+        slot: usize,
+        context: usize,
+        operation: &ContextOf<F>,
+        loading: Loading,
+        address: Address,
+        now: u64,
+    ) -> Result<ProgressOf<F, D>, Refused>
+        requires later { self.old.moment < now }
+        requires session { slot < 16 }
+        requires context { context < 8 }
+        requires awaits { AwaitsPage self.old slot context operation.now loading }
+        requires asks { MayLoad operation.now.op }
+        requires flushed { page_at self.old.records.page_bits address < length self.old.records.receipts }
+        requires stands { IsLoading D.keeps F.Key.cmp F.code self.old.records (key_of operation.now.op)
+            (record loading { wanted = address }) }
+        ensures asked { IfOk result (λ progress. (r : D.Receipt)
+            × (progress ≡ Progress.NeedsLoad r address)
+            × IsHeldBy self.old.records.receipts (page_at self.old.records.page_bits address) (D.Receipt.stands r)) }
+        ensures effect { OnOk result (self.new ≡ with_context self.old slot context
+            (Some (at_phase operation.now (Load (record loading { wanted = address })))) now) }
+        ensures only { IfErr result (λ refused. refused ≡ Refused.NoMemory) }
+        ensures err { OnErr result (self.new ≡ self.old) }
+        ensures moment { self.new.moment ≤ now }
+    {
+        let page = self.records.page_of(address);
+        let receipt = match self.records.receipt(page) {
+            Err(refused) => return Err(refused),
+            Ok(receipt) => receipt,
+        };
+        let further = Loading {
+            begin: loading.begin,
+            kept: loading.kept,
+            wanted: address,
+            looked: loading.looked,
+        };
+        self.set_phase(slot, context, operation, Phase::Load(further), now);
+        Ok(Progress::NeedsLoad(receipt, address))
     }
 }

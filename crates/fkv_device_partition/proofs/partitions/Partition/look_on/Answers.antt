@@ -1,0 +1,1 @@
+use Rattle.fkv_device_partition.proofs.partitions.Partition.look_on.Goals as goal
