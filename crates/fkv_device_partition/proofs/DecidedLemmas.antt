@@ -79,5 +79,5 @@ lower_page v b (suc page) t begun low = by_page (nat_lt (page_at v.page_bits b) 
     by_page false h =
         let le : suc page ≤ page_at v.page_bits b = grind (arith, nat_tests) in
         let under = start-below v.page_bits (suc page) b le in
-        let none : first_offset (suc page) ≡ 0 = refl in
+        let none : first_offset (suc page) ≡ 0 = grind (arith, nat_tests) in
         absurd (omega (arith, under, none))

@@ -245,7 +245,7 @@ module _ {K V I O : Type 0} (cmp : K → K → Ordering) (f : Meanings K V I O) 
           low = low;
           begun = wanted.begun;
           on_disk = wanted.low;
-          class = λ same begun. wanted.class begun;
+          class = λ yes_keeps same begun. wanted.class begun;
           newest = λ yes_keeps same. newest ∙ wanted.newest;
         } in
         let o = load-op f x.op (met_at cmp code v slot k) b d in

@@ -4,3 +4,4 @@ pub mod AskedLemmas
 pub mod EventLemmas
 pub mod ChangeLemmas
 pub mod DecidedLemmas
+pub mod LoadLemmas

@@ -101,7 +101,7 @@ loading-grown keeps cmp code old new k l t g h =
       low = omega arith;
       begun = h.begun;
       on_disk = omega arith;
-      class = λ same begun. g.same_class k l.wanted frozen begun (h.class (same ∙ g.begin) (let up = g.from in omega arith));
+      class = λ yes_keeps same begun. g.same_class k l.wanted frozen begun (h.class yes_keeps (same ∙ g.begin) (let up = g.from in omega arith));
       newest = λ yes_keeps same.
           let was = h.newest yes_keeps (same ∙ g.begin) in
           let there = still-below cmp old.text k l.wanted old.regions.offsets.safe_read_only frozen in

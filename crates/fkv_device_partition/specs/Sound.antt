@@ -33,15 +33,15 @@ pub record IsKept {K V : Type 0} (keeps : Bool) (cmp : K → K → Ordering) (co
   pub value : IsTrue keeps → value_of (newest cmp r.text k (address_of e.word)) ≡ source
   pub still : IsTrue keeps → IsStill r.regions.offsets.safe_read_only (newest cmp r.text k (address_of e.word))
 
--- a look-up goes on in a page on disk: while Begin stands, a record of the key's class stands at the address that is
--- wanted; and, on a device that keeps, the newest of the key from there is its newest from where the entry led
+-- a look-up goes on in a page on disk. On a device that keeps, while Begin stands, a record of the key's class stands at
+-- the address that is wanted, and the newest of the key from there is its newest from where the entry led
 pub record IsLoading {K V : Type 0} (keeps : Bool) (cmp : K → K → Ordering) (code : K → ℕ) (r : RecordsView K V) (k : K)
     (l : Loading) : Type 0 where
   pub entry : WasEntryOf r (class_in code r k) l.kept
   pub low : address_of l.kept.word < r.tail
   pub begun : l.begin ≤ l.wanted
   pub on_disk : l.wanted < r.regions.offsets.head
-  pub class : l.begin ≡ r.begin → r.from ≤ l.wanted → IsOfClass code r k l.wanted
+  pub class : IsTrue keeps → l.begin ≡ r.begin → r.from ≤ l.wanted → IsOfClass code r k l.wanted
   pub newest : IsTrue keeps
       → l.begin ≡ r.begin
       → newest cmp r.text k (address_of l.kept.word) ≡ newest cmp r.text k l.wanted
