@@ -38,7 +38,7 @@ use Rattle.fkv_device_partition.specs.declared.contexts.Loading.{Loading}
 use Rattle.fkv_device_partition.specs.declared.contexts.Progress.TheVariants.{Done, Next, NeedsBuild, NeedsLoad, Waits}
 use Rattle.fkv_device_partition.specs.declared.contexts.Wait.{Wait}
 use Rattle.fkv_device_partition.specs.Contexts.{is_session, question_in, question_by, joined, context_in, at_phase, claim_by, claim_of, claim_at, loading_by}
-use Rattle.fkv_device_partition.specs.Views.{PartitionView, slots_of, seen_at, in_regions, with_replaced, partition_of, entry_for, met_at, context_at, with_context, with_appended, live_of, free_slot, free_context, open_context}
+use Rattle.fkv_device_partition.specs.Views.{PartitionView, slots_of, in_regions, with_replaced, partition_of, met_at, context_at, with_context, with_appended, live_of, free_slot, free_context, open_context}
 use Rattle.fkv_device_partition.specs.Effect.{asked, asked_by, LeavesOthers, IsQuiet, IsIssue, IsEvent, IsGiveUp}
 use Rattle.fkv_device_partition.specs.Claiming.{IsClaimed}
 use Rattle.fkv_device_partition.specs.Looking.{Shifts, Evicts}

@@ -1,5 +1,5 @@
 -- What a page that came tells an operation that waits for it.
-use Rattle.std.proofs.Common.{◌≡◌, ◌≢◌, ◌<◌, ◌≤◌, ◌⊎◌, inl, inr, ℕ, Bool, true, false, List, Option, Some, None, length, nat_lt, slice_get, refl, sym, ◌∙◌, ap, subst, arith}
+use Rattle.std.proofs.Common.{◌≡◌, ◌≢◌, ◌<◌, ◌≤◌, inl, inr, ℕ, Bool, true, false, List, Option, Some, None, length, nat_lt, slice_get, refl, sym, ◌∙◌, ap, subst, arith}
 use Rattle.std.proofs.lemmas.Bool.Decides.{nat_tests}
 use Rattle.std.proofs.lemmas.Bool.{ltb-true}
 use Rattle.std.specs.Prelude.{IsTrue, Result, Ok, Err, IfSome, IfOk, IfErr, OnOk, OnErr}
@@ -7,23 +7,21 @@ use Rattle.std.specs.declared.cmp.Ordering.{Ordering}
 use Rattle.fkv_functions.specs.Plain.{IsKeyOrder}
 use Rattle.fkv_functions.specs.Meanings.{Meanings}
 use Rattle.fkv_functions.specs.declared.refusals.Refused.{Refused}
-use Rattle.fkv_functions.specs.declared.refusals.Refused.TheVariants.{Stranger, Damaged, NoMemory}
+use Rattle.fkv_functions.specs.declared.refusals.Refused.TheVariants.{Stranger, NoMemory}
 use Rattle.fkv_functions.specs.declared.refusals.What.TheVariants as what
 use Rattle.fkv_records.specs.Places.{page_at, IsPlace}
 use Rattle.fkv_device.specs.Standing.{Standing, Joined}
 use Rattle.fkv_texts.specs.declared.entries.Entry.{Entry}
 use Rattle.fkv_texts.specs.declared.entries.Reached.{Reached}
-use Rattle.fkv_texts.specs.declared.entries.Reached.TheVariants.{Found, Below}
+use Rattle.fkv_texts.specs.declared.entries.Reached.TheVariants.{Below}
 use Rattle.fkv_texts.specs.Text.{newest, value_of}
 use Rattle.fkv_pages.specs.Views.{text_begin}
 use Rattle.fkv_pages.specs.Loads.{IsHeldBy, IsReached, first_place}
 use Rattle.fkv_pages.proofs.FrameLemmas.{page_rises}
-use Rattle.fkv_index.specs.Words.{address_of}
 use Rattle.fkv_operations.specs.After.{key_of, shown_of}
 use Rattle.fkv_operations.specs.declared.operations.Op.{Op}
 use Rattle.fkv_operations.specs.declared.operations.Op.TheVariants.{Read, Upsert, Rmw, Delete}
 use Rattle.fkv_lookups.specs.RecordsViews.{RecordsView}
-use Rattle.fkv_lookups.specs.Traced.{IsTraced}
 use Rattle.fkv_lookups.specs.Lookups.{IsOfClass, GoesOn}
 use Rattle.fkv_lookups.proofs.TracedLemmas.{from_first}
 use Rattle.fkv_lookups.proofs.LookupLemmas.{newest_below}

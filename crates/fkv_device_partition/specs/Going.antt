@@ -149,7 +149,7 @@ pub data Goes {K V I O R : Type 0} (stands : R → Standing) (cmp : K → K → 
       → found_for code old (key_of x.op) ≡ Some e
       → IsHeldBy old.records.receipts (page_at old.records.page_bits b) (stands r)
       → new ≡ with_context old slot c (Some (at_phase x
-          (Load (record { begin = old.records.begin; kept = e; wanted = b; looked = now })))) now
+      (Load (record { begin = old.records.begin; kept = e; wanted = b; looked = now })))) now
       → result ≡ Ok (NeedsLoad r b)
       → Goes stands cmp f code old new slot c now result
   unshared : (x : Context K V I) (b : ℕ)

@@ -10,8 +10,9 @@ ghost use Rattle.fkv_device_partition.specs.Going.{Decides, IsDecided, Goes};
 ghost use Rattle.fkv_device_partition.specs.Effect.{IsEvent};
 
 use crate::changes::Write;
-use crate::contexts::{ContextOf, Loading, Phase, Progress, ProgressOf, Wait};
-use crate::contexts::{claim_of, loading_of, question_of};
+use crate::contexts::{
+    ContextOf, Loading, Phase, Progress, ProgressOf, Wait, claim_of, loading_of, question_of,
+};
 use crate::partitions::Partition;
 use fkv_device::Disk;
 use fkv_functions::{Ask, Functions, Refused};

@@ -67,9 +67,10 @@ impl<F: Functions, D: Disk> Partition<F, D> {
         }
         match came {
             Err(refused) => {
-                if !is_no_memory(&refused) {
-                    self.free(slot, context, now);
+                if is_no_memory(&refused) {
+                    return Err(refused);
                 }
+                self.free(slot, context, now);
                 Err(refused)
             }
             Ok(loaded) => self.look_on(slot, context, &open, loading, loaded, functions, now),
@@ -107,7 +108,9 @@ impl<F: Functions, D: Disk> Partition<F, D> {
                 Err(Refused::Damaged { page })
             }
             Ok(Reached::Found(last)) => {
-                Ok(self.tell(slot, context, operation, loading, last.value, functions, now))
+                Ok(self.tell(
+                    slot, context, operation, loading, last.value, functions, now,
+                ))
             }
             Ok(Reached::Below(address)) => {
                 if address < self.records.begin() {

@@ -1,5 +1,4 @@
-use Rattle.std.proofs.Common.{◌≡◌, Ok, Err, ap, refl, ◌∙◌}
-use Rattle.fkv_functions.specs.declared.refusals.Refused.TheVariants.{Worn}
+use Rattle.std.proofs.Common.{Ok, ap, refl}
 use Rattle.fkv_device_partition.proofs.SoundLemmas.{sound-appended, sound-moment}
 use Rattle.fkv_device_partition.proofs.partitions.Partition.append.Goals as goal
 

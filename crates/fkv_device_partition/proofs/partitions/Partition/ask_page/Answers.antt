@@ -1,4 +1,4 @@
-use Rattle.std.proofs.Common.{◌≡◌, ◌<◌, Some, Err, length, refl, sym, ap, subst, ◌∙◌}
+use Rattle.std.proofs.Common.{◌≡◌, ◌<◌, Err, length, refl, sym, ap, subst, ◌∙◌}
 use Rattle.fkv_records.specs.Places.{page_at}
 use Rattle.fkv_pages.specs.Loads.{IsHeldBy}
 use Rattle.fkv_functions.proofs.KeyOrder.{key_order}
@@ -6,8 +6,7 @@ use Rattle.fkv_index.specs.Words.{address_of}
 use Rattle.fkv_operations.specs.After.{key_of}
 use Rattle.fkv_lookups.specs.RecordsViews.{class_in}
 use Rattle.fkv_lookups.specs.DecisionLaws.{load-met}
-use Rattle.fkv_device_partition.specs.Contexts.{context_in, claim_by}
-use Rattle.fkv_device_partition.specs.Inside.{view_of}
+use Rattle.fkv_device_partition.specs.Contexts.{claim_by}
 use Rattle.fkv_device_partition.specs.Views.{slots_of, met_at}
 use Rattle.fkv_device_partition.specs.Going.{asks_page, unshared}
 use Rattle.fkv_device_partition.proofs.AskedLemmas.{open_at}

@@ -1,4 +1,4 @@
-use Rattle.std.proofs.Common.{refl, ap}
+use Rattle.std.proofs.Common.{refl}
 use Rattle.fkv_device_partition.proofs.SoundLemmas.{sound-flushed}
 use Rattle.fkv_device_partition.proofs.EventLemmas.{event-flushed, flush-refused, flush-taken}
 use Rattle.fkv_device_partition.proofs.partitions.Partition.flush_done.Goals as goal
