@@ -1,4 +1,2 @@
-pub mod CommandLineLemmas
 pub mod TellingLemmas
-pub mod OptionLemmas
-pub mod RequestLemmas
+pub mod StatusLemmas

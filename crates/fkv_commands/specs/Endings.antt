@@ -1,16 +1,16 @@
 -- What a run leaves on its output, by what was read.
-use Rattle.std.specs.Prelude.{◌≡◌, ◌⊎◌, List, [], ◌∷◌, map, ℕ, ℤ, Option, IfSome, string_bytes}
+use Rattle.std.specs.Prelude.{◌≡◌, ◌⊎◌, List, [], ◌∷◌, map, ℕ, ℤ, Option, IfSome, codes, string_bytes}
 use Rattle.std.specs.Fmt.{decimal, signed_decimal}
-use Rattle.clap.specs.Words.{Text}
 use Rattle.fkv_functions.specs.Meanings.{Meanings}
 use Rattle.fkv_functions.specs.Sets.{counts, sums, maxima}
 use Rattle.fkv_functions.specs.declared.names.Name.{Name}
-use Rattle.fkv_commands.specs.declared.requests.Shown.{Shown}
-use Rattle.fkv_commands.specs.declared.requests.Shown.TheVariants.{Count, Sum, Max}
-use Rattle.fkv_commands.specs.declared.requests.TableRequest.{TableRequest}
-use Rattle.fkv_commands.specs.Requests.{AsksReplay, AsksTable, MayAskHelp, MayBeMistaken}
+use Rattle.fkv_requests.specs.declared.requests.Shown.{Shown}
+use Rattle.fkv_requests.specs.declared.requests.Shown.TheVariants.{Count, Sum, Max}
+use Rattle.fkv_requests.specs.declared.requests.TableRequest.{TableRequest}
+use Rattle.fkv_requests.specs.Requests.{AsksReplay, AsksTable, MayAskHelp, MayAskVersion, MayBeMistaken, Text}
 use Rattle.std.specs.Io.KnownBytes.{Appends}
 use Rattle.fkv_streams.specs.Streams.{AppendsPrefix}
+use Rattle.fkv_steps.specs.Printing.{line}
 use Rattle.fkv_steps.specs.Running.{IsOutputOf}
 use Rattle.fkv_feeds.specs.Tables.{IsTableOf}
 use Rattle.fkv_feeds.specs.Writing.{table_text}
@@ -48,6 +48,10 @@ PrintsTablePart shown paths input old new =
     × IsTableText shown paths input text
     × AppendsPrefix old new text
 
+-- what the program tells of its version
+unfoldable pub version_line : List ℕ
+version_line = line (codes "fkv_cli 0.1.0")
+
 -- The output of a run of these words, which was done; help is not told.
 abbrev pub IsDone : List Text → Option (List ℕ) → Option (List ℕ) → Option (List ℕ) → Type 0
 IsDone words input old new =
@@ -55,6 +59,7 @@ IsDone words input old new =
     ⊎ ((table : TableRequest)
     × AsksTable words table
     × PrintsTable table.shown (map string_bytes table.paths.items) input old new)
+    ⊎ (MayAskVersion words × Appends old new version_line)
     ⊎ MayAskHelp words
 
 -- the output of a run of these words, which a fault ended: nothing, or the front of what is asked for
@@ -65,10 +70,11 @@ IsStopped words input old new =
     ⊎ ((table : TableRequest)
     × AsksTable words table
     × PrintsTablePart table.shown (map string_bytes table.paths.items) input old new)
+    ⊎ (MayAskVersion words × AppendsPrefix old new version_line)
     ⊎ MayAskHelp words
 
--- what a run of these words ends with: status 0 where help is asked for, or where a replay or a table was done whole, and
--- then no fault was told; status 1 where nothing was written, or the front of what is asked for; status 2 where the words
+-- what a run of these words ends with: status 0 where help is asked for, or where a replay, a table or the version was
+-- written whole, and then no fault was told; status 1 where nothing was written, or the front of what is asked for; status 2 where the words
 -- are mistaken, and then nothing was written
 pub record IsEnding (words : List Text) (input old new told_old told_new : Option (List ℕ)) (status : ℕ) : Type 0 where
   pub done : status ≡ 0 → IsDone words input old new

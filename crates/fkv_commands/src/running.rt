@@ -1,15 +1,15 @@
 //! Doing what a command line asks for.
-ghost use Rattle.std.specs.Prelude.{◌≡◌, ◌⊎◌, true, OnOk, map, codes, string_bytes};
+ghost use Rattle.std.specs.Prelude.{◌≡◌, ◌⊎◌, true, OnOk, OnErr, map, codes, string_bytes};
+ghost use Rattle.std.specs.Io.KnownBytes.{Appends};
 ghost use Rattle.fkv_streams.specs.Streams.{AppendsPrefix};
 ghost use Rattle.fkv_steps.specs.Printing.{line};
-ghost use Rattle.fkv_commands.specs.Requests.{MayBeMistaken};
-ghost use Rattle.fkv_commands.specs.Endings.{IsDone, IsStopped};
+ghost use Rattle.fkv_requests.specs.Requests.{MayBeMistaken};
+ghost use Rattle.fkv_commands.specs.Endings.{IsDone, IsStopped, version_line};
 
-use crate::requests::{Request, request_of};
 use crate::tabulating::tabulate;
 use crate::telling::Telling;
-use clap::Error;
 use fkv_functions::Refused;
+use fkv_requests::{Request, request_of};
 use fkv_steps::scripts::run_script;
 use fkv_streams::{Sink, Source, write_out};
 use std::alloc::Global;
@@ -28,8 +28,9 @@ const MISTAKE: u8 = 2;
 /// `replay`, and no word, run the script that the reader gives and write what it tells. Status 0: it was
 /// done, whatever its lines were refused. `count`, `sum` and `max` write the table of the feeds that they name, or of
 /// the reader, status 0. Status 1: it was refused; `fkv_cli: ` and why stand on `faults`,
-/// and nothing was written, or where the writer failed the front of the output. `--help` writes help,
-/// status 0. Words that ask for nothing that the program does: clap's text on `faults`, status 2.
+/// and nothing was written, or where the writer failed the front of the output. `--help` writes help, and `--version`
+/// the program's name and version, status 0. Words that ask for nothing that the program does: clap's text on `faults`,
+/// status 2.
 pub fn run<R: Source, W: Sink, E: Sink, H: Files>(
     alloc: Global,
     files: &H,
@@ -60,26 +61,30 @@ pub fn run<R: Source, W: Sink, E: Sink, H: Files>(
             Ok(()) => DONE,
             Err(refused) => tell(faults, refused),
         },
-        Ok(Request::Help(text)) => match help(alloc, writer, &text) {
+        Ok(Request::Help(text)) => match write_out(writer, text.as_bytes()) {
+            Ok(()) => DONE,
+            Err(refused) => tell(faults, refused),
+        },
+        Ok(Request::Version) => match write_version(writer) {
             Ok(()) => DONE,
             Err(refused) => tell(faults, refused),
         },
         Ok(Request::Mistake(text)) => {
-            let _untold = write!(Telling { sink: faults }, "{text}");
+            let _untold = write_out(faults, text.as_bytes());
             MISTAKE
         }
         Err(refused) => tell(faults, refused),
     }
 }
 
-/// Writes help. Refused: `NoMemory`; `Unwritable` where the writer fails.
-fn help<W: Sink>(alloc: Global, writer: &mut W, text: &Error) -> Result<(), Refused>
+/// Writes the program's name and version. Refused: `Unwritable` where the writer fails.
+fn write_version<W: Sink>(writer: &mut W) -> Result<(), Refused>
+    ensures ok { OnOk result (Appends (W.contents writer.old) (W.contents writer.new) version_line) }
+    ensures err { OnErr result (AppendsPrefix (W.contents writer.old) (W.contents writer.new) version_line) }
     ensures out { OnOk result (W.is_out writer.new ≡ true) }
     ensures steady { OnOk result (W.failures writer.new ≡ W.failures writer.old) }
 {
-    let Ok(text) = format!(in alloc; "{text}") else {
-        return Err(Refused::NoMemory);
-    };
+    let text = "fkv_cli 0.1.0\n";
     write_out(writer, text.as_bytes())
 }
 

@@ -3,7 +3,7 @@ ghost use Rattle.std.specs.Prelude.{◌≡◌, ◌⊎◌};
 ghost use Rattle.std.specs.Process.{exit_status};
 
 use crate::ending::end;
-use crate::words::words_of;
+use fkv_requests::words_of;
 use fkv_streams::{CountedReader, CountedWriter};
 use std::env::{self, Env};
 use std::fs::Files;

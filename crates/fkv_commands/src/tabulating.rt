@@ -7,9 +7,9 @@ ghost use Rattle.fkv_feeds.specs.Tables.{IsTableOf};
 ghost use Rattle.fkv_feeds.specs.Writing.{table_text};
 ghost use Rattle.fkv_commands.specs.Endings.{PrintsTable, PrintsTablePart};
 
-use crate::requests::{Shown, TableRequest};
 use fkv_feeds::{Table, run_alone, run_one, write_table};
 use fkv_functions::{CountFns, Functions, MaxFns, Name, Refused, SumFns};
+use fkv_requests::{Shown, TableRequest};
 use fkv_streams::{CountedReader, Sink, Source};
 use itoa::Integer;
 use std::alloc::Global;

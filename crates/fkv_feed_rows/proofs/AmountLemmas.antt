@@ -16,10 +16,10 @@ use Rattle.fkv_feed_rows.specs.Amounts.{is_numeral, amount_of, fits_64}
 own : IsNumeralModel (λ ds. all_ascii_digits ds ≡ true) (digits_value 10)
 own = numerals_by_value (λ ds. all_ascii_digits ds ≡ true) tells_all_ascii_digits
 
-numeral_decides : (w : List ℕ) → Decides (is_numeral w) (IsNumeral 10 w)
+pub numeral_decides : (w : List ℕ) → Decides (is_numeral w) (IsNumeral 10 w)
 numeral_decides w = Decides-like (is_numeral w) (λ p. (p.0, own.to w p.1)) (λ p. (p.0, own.from w p.1)) (Decides-and (ltb 0 (length w)) (all_ascii_digits w) (Decides-ltb 0 (length w)) (λ e. e, λ e. e))
 
-fits_decides : (z : ℤ) → Decides (fits_64 z) (FitsSigned w64 z)
+pub fits_decides : (z : ℤ) → Decides (fits_64 z) (FitsSigned w64 z)
 fits_decides (pos n) = Decides-like (ltb n (2 ^ 63)) (λ h. record { sfits = h }) (λ h. h.sfits) (Decides-ltb n (2 ^ 63))
 fits_decides (negsuc n) = Decides-like (ltb n (2 ^ 63)) (λ h. record { sfits = h }) (λ h. h.sfits) (Decides-ltb n (2 ^ 63))
 

@@ -79,7 +79,7 @@ fn comes_to(alloc: Global, kind: Kind, feeds: &[&str], table: &str) -> bool {
 }
 
 /// What is done with the amounts, the feeds, and their table.
-const TABLES: [(Kind, &[&str], &str); 15] = [
+const TABLES: [(Kind, &[&str], &str); 17] = [
     (Kind::Sum, &["a,5\nb,7\na,-2\n"], "a,3\nb,7\n"),
     (Kind::Count, &["a,5\nb,7\na,-2\n"], "a,2\nb,1\n"),
     (Kind::Max, &["a,5\nb,7\na,-2\n"], "a,5\nb,7\n"),
@@ -101,6 +101,17 @@ const TABLES: [(Kind, &[&str], &str); 15] = [
         "abcdefghijklmnopqrstuvwxyz01234,1\n",
     ),
     (Kind::Sum, &["a,+0005\na,-0\n"], "a,5\n"),
+    // 18 digits and 19, with and without a sign
+    (
+        Kind::Sum,
+        &["a,999999999999999999\nb,-999999999999999999\nc,+999999999999999999\n"],
+        "a,999999999999999999\nb,-999999999999999999\nc,999999999999999999\n",
+    ),
+    (
+        Kind::Max,
+        &["a,1000000000000000000\nb,-1000000000000000001\nc,0000000000000000007\n"],
+        "a,1000000000000000000\nb,-1000000000000000001\nc,7\n",
+    ),
     // a line end is LF, CRLF or a lone CR, and an empty line is no row
     (
         Kind::Sum,
@@ -133,7 +144,7 @@ fn feeds(rt: HostRuntime) {
 }
 
 /// Feeds, and what they are refused by.
-const REFUSED: [(&[&str], u64, u64); 12] = [
+const REFUSED: [(&[&str], u64, u64); 15] = [
     // a key of 32 bytes, an empty key, amounts that are none, and three fields
     (&["a,1\nabcdefghijklmnopqrstuvwxyz012345,1\n"], 1, 2),
     (&["a,1\n,1\n"], 1, 2),
@@ -144,6 +155,9 @@ const REFUSED: [(&[&str], u64, u64); 12] = [
     (&["a,1\na,\n"], 1, 2),
     (&["a,1\na, 1\n"], 1, 2),
     (&["a,1\na,--1\n"], 1, 2),
+    (&["a,1\na,-\n"], 1, 2),
+    (&["a,1\na,12345678/\n"], 1, 2),
+    (&["a,1\na,999999999999999999:\n"], 1, 2),
     (&["a\n"], 1, 1),
     (&["a,1\n", "b,2\n\nc\n"], 2, 2),
     // of two bad rows the first counts

@@ -1,7 +1,7 @@
 //! Whole runs as rows: their statuses, their texts, and streams that fail. Scripts stand in `fkv_rows`.
 use fkv_commands::running::{refuse_words, run, tell};
-use fkv_commands::{command_lines, words_of};
 use fkv_functions::{Refused, What};
+use fkv_requests::{command_lines, words_of};
 use fkv_streams::{CountedReader, CountedWriter};
 use std::alloc::{AllocError, Global};
 use std::env;
@@ -35,7 +35,8 @@ Commands:
   help    Print this message or the help of the given subcommand(s)
 
 Options:
-  -h, --help  Print help
+  -h, --help     Print help
+  -V, --version  Print version
 ";
 
 const REPLAY_HELP: &str = "Runs the script on standard input, and prints what it tells
@@ -163,7 +164,7 @@ fn ends<H: Files>(
 }
 
 /// Command lines, inputs, statuses, what is printed, and what is told beside it; of a mistake its first line.
-const RUNS: [(&str, &str, u8, &str, &str); 25] = [
+const RUNS: [(&str, &str, u8, &str, &str); 28] = [
     ("fkv_cli", THIN_PATH, 0, THIN_PATH_TOLD, ""),
     ("fkv_cli replay", THIN_PATH, 0, THIN_PATH_TOLD, ""),
     ("fkv_cli --", THIN_PATH, 0, THIN_PATH_TOLD, ""),
@@ -203,6 +204,16 @@ const RUNS: [(&str, &str, u8, &str, &str); 25] = [
     ("fkv_cli -h", THIN_PATH, 0, HELP, ""),
     ("fkv_cli help", "", 0, HELP, ""),
     ("fkv_cli replay --help", "", 0, REPLAY_HELP, ""),
+    ("fkv_cli --version", THIN_PATH, 0, "fkv_cli 0.1.0\n", ""),
+    ("fkv_cli -V", "", 0, "fkv_cli 0.1.0\n", ""),
+    // the version is the program's, and no subcommand's
+    (
+        "fkv_cli sum --version",
+        "a,1\n",
+        2,
+        "",
+        "error: unexpected argument '--version' found\n",
+    ),
     (
         "fkv_cli reply",
         THIN_PATH,
@@ -309,7 +320,7 @@ fn a_reader_that_fails(rt: HostRuntime) {
 }
 
 /// What a run prints whose output is full after so many bytes, and how it is told.
-const FULL: [(&str, usize, &str); 8] = [
+const FULL: [(&str, usize, &str); 10] = [
     ("fkv_cli", 0, ""),
     ("fkv_cli", 1, "e"),
     ("fkv_cli", 9, "entered 0"),
@@ -326,6 +337,8 @@ const FULL: [(&str, usize, &str); 8] = [
         42,
         "A proved key-value store for per-key state",
     ),
+    ("fkv_cli --version", 0, ""),
+    ("fkv_cli --version", 13, "fkv_cli 0.1.0"),
 ];
 
 #[test]

@@ -1,19 +1,32 @@
-use Rattle.std.specs.Prelude.{FitsSigned}
+use Rattle.std.proofs.Common.{subst, sym}
+use Rattle.std.specs.Prelude.{FitsSigned, neg_ℤ, pos}
 use Rattle.std.specs.Int.{w64}
 use Rattle.std.proofs.lemmas.Int.{to_z-of_z}
-use Rattle.fkv_feed_rows.proofs.AmountLemmas.{amount_read, utf8_amount}
+use Rattle.fkv_feed_rows.proofs.DigitLemmas.{amount_with, no_amount, as_signed, negated, negative_fits, positive_fits, number_short}
 use Rattle.fkv_feed_rows.proofs.amounts.amount.Goals as goal
 
 pub returns-in_default : goal.returns-in_default
-returns-in_default c = utf8_amount c.args.field.now c.in_default.ensures.none
+returns-in_default c = no_amount _ _ c.behind_sign-is_negative.ensures.rest c.in_default.ensures
 
-pub returns-in-Ok : goal.returns-in-Ok
-returns-in-Ok c =
-    let h = amount_read c.in-Some.text.now c.parse.result c.parse.ensures.value.0 in
-    let fits : FitsSigned w64 c.in-Ok.amount = rw c.in-Ok.ensures.value.0.1 c.in-Ok.ensures.value.0.0.1 in
-    rw (to_z-of_z w64 c.in-Ok.amount fits, ← c.in-Some.ensures.text) (rw c.in-Ok.is at h)
+pub overflow_cast-number : goal.overflow_cast-number
+overflow_cast-number c = positive_fits _ (number_short _ _ c.if-digits-gt-FEW.false c.in-Some.ensures)
 
-pub returns-in-Err : goal.returns-in-Err
-returns-in-Err c =
-    let h = amount_read c.in-Some.text.now c.parse.result c.parse.ensures.value.0 in
-    rw (← c.in-Some.ensures.text) (rw c.in-Err.is at h)
+pub overflow_sub-result : goal.overflow_sub-result
+overflow_sub-result c =
+    let n = c.in-Some.number in
+    let small = number_short _ n c.if-digits-gt-FEW.false c.in-Some.ensures in
+    subst (FitsSigned w64) (sym (negated n small)) (negative_fits n small)
+
+pub returns-then-is_negative : goal.returns-then-is_negative
+returns-then-is_negative c =
+    let n = c.in-Some.number in
+    let small = number_short _ n c.if-digits-gt-FEW.false c.in-Some.ensures in
+    let found = amount_with c.args.field.now c.behind_sign-is_negative.result.1.now c.behind_sign-is_negative.result.0 n c.behind_sign-is_negative.ensures.minus c.behind_sign-is_negative.ensures.rest c.if-digits-gt-FEW.false c.in-Some.ensures in
+    rw (negated n small, to_z-of_z w64 (neg_ℤ (pos n)) (negative_fits n small)) (rw c.if-is_negative.true at found)
+
+pub returns-else-is_negative : goal.returns-else-is_negative
+returns-else-is_negative c =
+    let n = c.in-Some.number in
+    let small = number_short _ n c.if-digits-gt-FEW.false c.in-Some.ensures in
+    let found = amount_with c.args.field.now c.behind_sign-is_negative.result.1.now c.behind_sign-is_negative.result.0 n c.behind_sign-is_negative.ensures.minus c.behind_sign-is_negative.ensures.rest c.if-digits-gt-FEW.false c.in-Some.ensures in
+    rw (as_signed n small) (rw c.if-is_negative.false at found)

@@ -1,5 +1,0 @@
-use Rattle.fkv_commands.proofs.CommandLineLemmas.{no_word, replay_word, help_option, other_word, one_more_word}
-use Rattle.fkv_commands.proofs.laws.command_lines.Goals as goal
-
-pub returns : goal.returns
-returns c = record { none = no_word; replay = replay_word; help = help_option; word = other_word; more = one_more_word }

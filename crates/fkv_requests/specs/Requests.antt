@@ -1,0 +1,149 @@
+-- What the words of a command line ask for. The first word is the program's name.
+use Rattle.std.specs.Prelude.{◌≡◌, ◌≢◌, true, ◌&&◌, ◌-◌, ◌^◌, ℕ, List, [], ◌∷◌, map, Option, Some, None, codes, nat_lt, string_bytes, if◌then◌else◌}
+use Rattle.std.specs.Str.{bytes_eq}
+use Rattle.std.specs.Option.{option_map_or}
+use Rattle.std.specs.Str.Parse.{digits_value, without_leading_plus}
+use Rattle.clap.specs.Words.{App, IsAmong, Row, Rule, all_of, fault_of, first_of, new_app, new_rule, subcommand_of, with_rule, with_subcommand}
+pub use Rattle.clap.specs.Words.{Text}
+use Rattle.clap.specs.declared.builder.value_parser.ValueParser.TheVariants as parser
+use Rattle.clap.specs.declared.error.kind.ErrorKind.{ErrorKind}
+use Rattle.clap.specs.declared.error.kind.ErrorKind.TheVariants.{DisplayHelp, DisplayVersion, OutOfMemory}
+use Rattle.fkv_partition.specs.declared.limits.Config.{Config}
+use Rattle.fkv_feed_rows.specs.Amounts.{is_numeral}
+use Rattle.fkv_requests.specs.declared.requests.Shown.{Shown}
+use Rattle.fkv_requests.specs.declared.requests.Shown.TheVariants.{Count, Sum, Max}
+use Rattle.fkv_requests.specs.declared.requests.TableRequest.{TableRequest}
+use Rattle.fkv_requests.specs.declared.requests.Request.{Request}
+use Rattle.fkv_requests.specs.declared.requests.Request.TheVariants.{Replay, Table, Help, Version, Mistake}
+
+-- an option that has a number of a range, and the text of that which it has where none is given
+abbrev pub number_rule : Text → ℕ → ℕ → Text → Rule
+number_rule name least most usual = record (new_rule name) {
+  long = Some name;
+  parser = Some (parser.Unsigned least most);
+  value_names = 1;
+  defaults = usual ∷ [];
+}
+
+-- up to 64 paths
+abbrev pub feeds_rule : Rule
+feeds_rule = record (new_rule (codes "FEED")) { range = Some (record { start_inclusive = 0; end_inclusive = 64 }) }
+
+-- a subcommand that makes a table
+abbrev pub table_app : Text → App
+table_app name =
+    with_rule
+    (with_rule
+    (with_rule
+    (with_rule
+    (with_rule (new_app name) (number_rule (codes "partition-bits") 0 6 (codes "2")))
+    (number_rule (codes "bucket-bits") 0 20 (codes "10")))
+    (number_rule (codes "page-bits") 8 20 (codes "16")))
+    (number_rule (codes "frames") 2 1024 (codes "4")))
+    feeds_rule
+
+-- a program that has a version
+abbrev pub with_version : App → App
+with_version app = record app { top = record app.top { has_version = true } }
+
+-- the program has a version, a subcommand without options, and three that make tables
+abbrev pub program : App
+program =
+    with_subcommand
+    (with_subcommand
+    (with_subcommand
+    (with_subcommand (with_version (new_app (codes "fkv_cli"))) (new_app (codes "replay")).top)
+    (table_app (codes "count")).top)
+    (table_app (codes "sum")).top)
+    (table_app (codes "max")).top
+
+-- the table that a subcommand makes, if it makes one
+abbrev pub table_named : Text → Option Shown
+table_named name =
+    if bytes_eq name (codes "count") then Some Count
+    else if bytes_eq name (codes "sum") then Some Sum
+    else if bytes_eq name (codes "max") then Some Max
+    else None
+
+abbrev pub table_in : Option (Text × List Row) → Option Shown
+table_in None = None
+table_in (Some p) = table_named p.0
+
+-- the number that a text writes, where it is below 2^64, and 2^64 - 1 else; clap takes numbers of a range alone
+abbrev pub number_of : Option Text → ℕ
+number_of None = 2 ^ 64 - 1
+number_of (Some text) =
+    if is_numeral (without_leading_plus text) && nat_lt (digits_value 10 (without_leading_plus text)) (2 ^ 64)
+    then digits_value 10 (without_leading_plus text)
+    else 2 ^ 64 - 1
+
+-- the configuration that the options of a subcommand say
+abbrev pub config_of : List Row → Config
+config_of rows = record {
+  id = 1;
+  partition_bits = number_of (first_of (codes "partition-bits") rows);
+  bucket_bits = number_of (first_of (codes "bucket-bits") rows);
+  page_bits = number_of (first_of (codes "page-bits") rows);
+  frames = number_of (first_of (codes "frames") rows);
+  turns = 1000000;
+}
+
+-- the paths of its feeds
+abbrev pub paths_of : List Row → List Text
+paths_of rows = option_map_or (λ values. values) (all_of (codes "FEED") rows) []
+
+-- a table is asked for by a subcommand, its options and its feeds
+abbrev pub IsTableIn : Option (Text × List Row) → TableRequest → Type 0
+IsTableIn None table = ⊥
+IsTableIn (Some p) table =
+    (table_named p.0 ≡ Some table.shown)
+    × (table.config ≡ config_of p.1)
+    × (map string_bytes table.paths.items ≡ paths_of p.1)
+
+-- clap finds nothing in the words to refuse, and they name no table: they name the other subcommand or nothing
+unfoldable pub AsksReplay : List Text → Type 0
+AsksReplay words = (fault_of program words ≡ []) × (table_in (subcommand_of program words) ≡ None)
+
+-- clap finds nothing in the words to refuse, and they name this table
+unfoldable pub AsksTable : List Text → TableRequest → Type 0
+AsksTable words table = (fault_of program words ≡ []) × IsTableIn (subcommand_of program words) table
+
+-- clap answers the words with help, or, where they are `help` and more, with help or a refusal
+unfoldable pub MayAskHelp : List Text → Type 0
+MayAskHelp words = IsAmong DisplayHelp (fault_of program words)
+
+-- clap answers the words with the version
+unfoldable pub MayAskVersion : List Text → Type 0
+MayAskVersion words = IsAmong DisplayVersion (fault_of program words)
+
+-- clap refuses the words, or may refuse them where they are `help` and more
+unfoldable pub MayBeMistaken : List Text → Type 0
+MayBeMistaken words =
+    (kind : ErrorKind)
+    × IsAmong kind (fault_of program words)
+    × (kind ≢ DisplayHelp)
+    × (kind ≢ DisplayVersion)
+
+-- what a parse that clap takes asks for
+abbrev pub IsAskedIn : Option (Text × List Row) → Request → Type 0
+IsAskedIn sub Replay = table_in sub ≡ None
+IsAskedIn sub (Table table) = IsTableIn sub table
+IsAskedIn sub (Help text) = ⊥
+IsAskedIn sub Version = ⊥
+IsAskedIn sub (Mistake text) = ⊥
+
+-- what a parse asks for that clap ends with an error of this kind
+abbrev pub IsAskedByKind : ErrorKind → Request → Type 0
+IsAskedByKind kind Replay = ⊥
+IsAskedByKind kind (Table table) = ⊥
+IsAskedByKind kind (Help text) = kind ≡ DisplayHelp
+IsAskedByKind kind Version = kind ≡ DisplayVersion
+IsAskedByKind kind (Mistake text) = (kind ≢ DisplayHelp) × (kind ≢ DisplayVersion) × (kind ≢ OutOfMemory)
+
+-- the words ask for this
+abbrev pub IsAskedBy : List Text → Request → Type 0
+IsAskedBy words Replay = AsksReplay words
+IsAskedBy words (Table table) = AsksTable words table
+IsAskedBy words (Help text) = MayAskHelp words
+IsAskedBy words Version = MayAskVersion words
+IsAskedBy words (Mistake text) = MayBeMistaken words
