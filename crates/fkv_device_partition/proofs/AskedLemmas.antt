@@ -46,6 +46,12 @@ context-other slots contexts slot c s d y low other = by_cases (nat_lt d 8) refl
     by_cases false t = rw (t, and-false (is_session slots s)) refl
 
 module _ {K V I : Type 0} (v : PartitionView K V I) (slot c now : ℕ) (x : Context K V I) (h : context_at v slot c ≡ Some x) where
+  -- the changed context
+  pub context-same : (y : Option (Context K V I)) → context_at (with_context v slot c y now) slot c ≡ y
+  context-same y =
+      let o = open_at (slots_of v) v.contexts slot c x h in
+      context-inside (slots_of v) (slice_set v.contexts (slot * 8 + c) y) slot c o.inside o.low ∙ ap joined (get-set_same v.contexts (slot * 8 + c) (Some x) y o.here)
+
   -- what the changed context asks
   pub asked-same : (y : Option (Context K V I)) → asked (with_context v slot c y now) slot c ≡ option_map asked_by y
   asked-same y =

@@ -5,3 +5,4 @@ pub mod EventLemmas
 pub mod ChangeLemmas
 pub mod DecidedLemmas
 pub mod LoadLemmas
+pub mod PendingLemmas

@@ -58,7 +58,7 @@ reached-low : {K V : Type 0} (entry : ℕ → Entry K V → Type 0) (cmp : K →
 reached-low {K} {V} entry cmp k bits low a b r (IsReached.below {a = c} under) is = subst (λ (n : ℕ). n < low) (out-same {K = K} {V = V} c b is) under
 reached-low entry cmp k bits low a b r (IsReached.none high none) is = absurd (cc)
 reached-low entry cmp k bits low a b r (IsReached.found high e passes) is = absurd (cc)
-reached-low entry cmp k bits low a b r (IsReached.on {e = e} high h no_key on) is = reached-low entry cmp k bits low e.previous b r on is
+reached-low entry cmp k bits low a b r (IsReached.on {e = e} high h no_key more) is = reached-low entry cmp k bits low e.previous b r more is
 
 -- what the page that came says
 pub record Came {K V I : Type 0} (keeps : Bool) (entry : ℕ → List ℕ → ℕ → Entry K V → Type 0) (cmp : K → K → Ordering) (code : K → ℕ) (v : PartitionView K V I) (key : K) (wanted : ℕ) (st : Standing) (bytes : List ℕ)
@@ -161,6 +161,12 @@ module _ {K V I : Type 0} {keeps : Bool} (cmp : K → K → Ordering) (code : K 
           let low = lower in
           absurd (omega arith)
 
+      pub further-newest : IsTrue keeps → newest cmp v.records.text (key_of x.op) l.wanted ≡ newest cmp v.records.text (key_of x.op) b
+      further-newest yes_keeps = by_going (goes yes_keeps (Below b) is)
+        where
+          by_going : GoesOn cmp code v.records (key_of x.op) (first_place v.records.page_bits (page_at v.records.page_bits l.wanted)) l.wanted (Below b) → newest cmp v.records.text (key_of x.op) l.wanted ≡ newest cmp v.records.text (key_of x.op) b
+          by_going (GoesOn.below low same class) = same
+
       pub further-flushed : page_at v.records.page_bits b < length v.records.receipts
       further-flushed = let low = lower in let top = wanted-flushed in omega arith
 
@@ -175,14 +181,11 @@ module _ {K V I : Type 0} {keeps : Bool} (cmp : K → K → Ordering) (code : K 
             begun = (let same = a.begin in omega arith);
             on_disk = omega arith;
             class = λ yes_keeps same begins. goes-class (goes yes_keeps (Below b) is) begins;
-            newest = λ yes_keeps same. h.newest yes_keeps same ∙ goes-newest (goes yes_keeps (Below b) is);
+            newest = λ yes_keeps same. h.newest yes_keeps same ∙ further-newest yes_keeps;
           }
         where
           goes-class : GoesOn cmp code v.records (key_of x.op) (first_place v.records.page_bits (page_at v.records.page_bits l.wanted)) l.wanted (Below b) → v.records.from ≤ b → IsOfClass code v.records (key_of x.op) b
           goes-class (GoesOn.below low same class) begins = class begins
-
-          goes-newest : GoesOn cmp code v.records (key_of x.op) (first_place v.records.page_bits (page_at v.records.page_bits l.wanted)) l.wanted (Below b) → newest cmp v.records.text (key_of x.op) l.wanted ≡ newest cmp v.records.text (key_of x.op) b
-          goes-newest (GoesOn.below low same class) = same
 
 -- the receipt that is kept of a page that was read by another
 pub stranger-kept : {K V I : Type 0} (u v : PartitionView K V I) (page wanted : ℕ) (st : Standing) (why : Refused)

@@ -10,6 +10,7 @@ pub mod Claiming
 pub mod Sound
 pub mod Beginning
 pub mod Ending
+pub mod Pending
 pub mod Looking
 pub mod Loading
 pub mod Flushing

@@ -9,6 +9,7 @@ ghost use Rattle.fkv_device_partition.specs.declared.contexts.Phase.TheVariants.
 ghost use Rattle.fkv_device_partition.specs.Contexts.{at_phase};
 ghost use Rattle.fkv_device_partition.specs.Loading.{AwaitsPage, MayLoad, Loads};
 ghost use Rattle.fkv_device_partition.specs.Sound.{IsKept, IsLoading};
+ghost use Rattle.fkv_device_partition.specs.Pending.{IsLoad};
 ghost use Rattle.fkv_device_partition.specs.Views.{with_context};
 
 use crate::contexts::{ContextOf, Loading, Phase, Progress, ProgressOf, loading_of};
@@ -52,6 +53,9 @@ impl<F: Functions, D: Disk> Partition<F, D> {
         requires later { self.old.moment < now }
         ensures does { Loads D.Receipt.stands (IsEntryIn F.Key.bytes_of F.Value.bytes_of F.Key.is_known F.Value.is_known
             F.Key.SIZE F.Value.SIZE) F.Key.cmp F.meaning self.old self.new slot context came now result }
+        // on a device that keeps, what comes of it is what the look-up was to find
+        ensures event { IsTrue D.keeps → IfOk result
+            (λ progress. IsLoad F.Key.cmp F.meaning self.old self.new slot context now progress) }
         ensures within { IfOk result (λ _. (slot < 16) × (context < 8)) }
         ensures moment { self.new.moment ≤ now }
     {
@@ -94,6 +98,8 @@ impl<F: Functions, D: Disk> Partition<F, D> {
         requires awaits { AwaitsPage self.old slot context operation.now loading }
         ensures does { Loads D.Receipt.stands (IsEntryIn F.Key.bytes_of F.Value.bytes_of F.Key.is_known F.Value.is_known
             F.Key.SIZE F.Value.SIZE) F.Key.cmp F.meaning self.old self.new slot context (Ok loaded) now result }
+        ensures event { IsTrue D.keeps → IfOk result
+            (λ progress. IsLoad F.Key.cmp F.meaning self.old self.new slot context now progress) }
         ensures moment { self.new.moment ≤ now }
     {
         self.known();

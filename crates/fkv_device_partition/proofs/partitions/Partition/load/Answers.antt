@@ -2,6 +2,7 @@ use Rattle.std.proofs.Common.{◌≡◌, Err, true, false, refl, sym, ap, ◌∙
 use Rattle.fkv_device_partition.specs.Contexts.{claim_by}
 use Rattle.fkv_device_partition.specs.Loading.{AwaitsPage, Loads}
 use Rattle.fkv_device_partition.proofs.EventLemmas.{loading-is, claims-none, if-all}
+use Rattle.fkv_device_partition.proofs.PendingLemmas.{load-moved}
 use Rattle.fkv_device_partition.proofs.partitions.Partition.load.Goals as goal
 
 pub returns-in_default-loading_of-clause-does : goal.returns-in_default-loading_of-clause-does
@@ -48,3 +49,9 @@ returns-in-Ok-clause-does g c = rw c.in-Ok.is c.look_on.ensures.does
 
 pub returns-in-Ok-clause-within : goal.returns-in-Ok-clause-within
 returns-in-Ok-clause-within g c = if-all c.look_on.result (c.in-Some.ensures.session, c.in-Some.ensures.context)
+
+pub returns-then-loading-begin-clause-event : goal.returns-then-loading-begin-clause-event
+returns-then-loading-begin-clause-event g c = λ keeps.
+    let l = c.in-Some-loading_of.loading in
+    let begins : c.begin.result ≡ c.args.self.now.records.begin = c.begin.ensures ∙ ap (λ u. u.records.begin) c.self.view_is in
+    rw c.set_phase.ensures (load-moved g.F.Key.Ord.cmp c.args.self.now c.args.slot c.args.context c.args.now c.in-Some.open (sym c.in-Some.ensures.value) g.F.Functions.meaning l (loading-is c.in-Some.open.phase l (sym c.in-Some-loading_of.ensures)) (λ e. c.if-loading-begin.true (e ∙ sym begins)))

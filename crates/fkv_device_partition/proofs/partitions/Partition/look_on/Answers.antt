@@ -8,7 +8,8 @@ use Rattle.fkv_device_partition.specs.Contexts.{claim_by}
 use Rattle.fkv_device_partition.specs.Inside.{view_of}
 use Rattle.fkv_device_partition.specs.Loading.{Loads, found, ended}
 use Rattle.fkv_device_partition.proofs.EventLemmas.{claims-none}
-use Rattle.fkv_device_partition.proofs.LoadLemmas.{came-of, stranger-kept, told-done, further-done, may-load, wanted-flushed, reads-on, kept-told, further-flushed, further-stands}
+use Rattle.fkv_device_partition.proofs.LoadLemmas.{came-of, stranger-kept, told-done, further-done, may-load, wanted-flushed, reads-on, kept-told, further-flushed, further-stands, newest-told, further-newest}
+use Rattle.fkv_device_partition.proofs.PendingLemmas.{load-told, further-load}
 use Rattle.fkv_device_partition.proofs.partitions.Partition.look_on.Goals as goal
 
 pub is_own-requires-after_bounds : goal.is_own-requires-after_bounds
@@ -254,3 +255,51 @@ returns-clause-does g c =
     let high : v.records.begin ≤ b = omega (arith, c.if-address-begin.false, begins) in
     let place = subst (λ u. IsPlace u.records.page_bits u.records.record_size b) c.self.view_is (c.is_place.ensures.0 c.if-not-is_place.false) in
     further-done g.D.Receipt.Receipt.stands (IsEntryIn g.F.Key.Fixed.bytes_of g.F.Value.Fixed.bytes_of g.F.Key.Known.is_known g.F.Value.Known.is_known g.F.Key.Fixed.SIZE g.F.Value.Fixed.SIZE) g.F.Key.Ord.cmp g.F.Functions.meaning v c.look_further.new.self c.args.slot c.args.context c.args.now x l p b (reads-on g.F.Key.Ord.cmp g.F.Functions.code order v c.known.ensures c.args.slot c.args.context x l a (IsEntryIn g.F.Key.Fixed.bytes_of g.F.Value.Fixed.bytes_of g.F.Key.Known.is_known g.F.Value.Known.is_known g.F.Key.Fixed.SIZE g.F.Value.Fixed.SIZE) (g.D.Receipt.Receipt.stands p.receipt) p.bytes c.trace_in.result came (Ok (Below b)) is) high place c.look_further.result c.look_further.ensures.asked c.look_further.ensures.effect c.look_further.ensures.only c.look_further.ensures.err
+
+pub returns-in-Ok-Found-clause-event : goal.returns-in-Ok-Found-clause-event
+returns-in-Ok-Found-clause-event g c = λ keeps.
+    let ord = g.met.F.Key.Ord g.world.𝓛 g.world.𝓜 g.world.𝓡 ((λ s x. x), (λ x. x), (λ x. x), λ x. x) in
+    let known = g.met.F.Key.Known g.world.𝓛 g.world.𝓜 g.world.𝓡 ((λ s x. x), (λ x. x), (λ x. x), λ x. x) in
+    let order = key_order g.F.Key.PartialEq.eq g.F.Key.Ord.cmp ord.matches_eq known.exact ord.total in
+    let v = c.args.self.now in
+    let x = c.args.operation.now in
+    let l = c.args.loading in
+    let a = c.requires.awaits in
+    let p = c.args.loaded in
+    let came = came-of g.D.Disk.keeps (IsEntryIn g.F.Key.Fixed.bytes_of g.F.Value.Fixed.bytes_of g.F.Key.Known.is_known g.F.Value.Known.is_known g.F.Key.Fixed.SIZE g.F.Value.Fixed.SIZE) g.F.Key.Ord.cmp g.F.Functions.code (view_of c.self.inside.number c.self.inside.count c.self.inside.records c.self.inside.contexts.items c.self.inside.moment) v c.key-key.result (key_of x.op) c.page_of-page.result l.wanted (g.D.Receipt.Receipt.stands p.receipt) p.bytes c.trace_in.result c.self.view_is c.key-key.ensures c.page_of-page.ensures (c.in_default.ensures.own.0 refl) c.trace_in.ensures.read c.trace_in.ensures.kept in
+    let is = c.in-Ok-Found.is ∙ ap Ok c.in-Ok-Found.field-0-is in
+    load-told g.F.Key.Ord.cmp v c.args.slot c.args.context c.args.now x a.here g.F.Functions.meaning l a c.in-Ok-Found.last.value (newest-told g.F.Key.Ord.cmp g.F.Functions.code order v c.known.ensures c.args.slot c.args.context x l a (IsEntryIn g.F.Key.Fixed.bytes_of g.F.Value.Fixed.bytes_of g.F.Key.Known.is_known g.F.Value.Known.is_known g.F.Key.Fixed.SIZE g.F.Value.Fixed.SIZE) (g.D.Receipt.Receipt.stands p.receipt) p.bytes c.trace_in.result came keeps (Found c.in-Ok-Found.last) c.in-Ok-Found.last.value is (found c.in-Ok-Found.last)) (may-load g.F.Key.Ord.cmp g.F.Functions.code order v c.known.ensures c.args.slot c.args.context x l a) c.tell.new.self c.tell.result c.tell.ensures.read c.tell.ensures.update
+
+pub returns-then-address-begin-clause-event : goal.returns-then-address-begin-clause-event
+returns-then-address-begin-clause-event g c = λ keeps.
+    let ord = g.met.F.Key.Ord g.world.𝓛 g.world.𝓜 g.world.𝓡 ((λ s x. x), (λ x. x), (λ x. x), λ x. x) in
+    let known = g.met.F.Key.Known g.world.𝓛 g.world.𝓜 g.world.𝓡 ((λ s x. x), (λ x. x), (λ x. x), λ x. x) in
+    let order = key_order g.F.Key.PartialEq.eq g.F.Key.Ord.cmp ord.matches_eq known.exact ord.total in
+    let v = c.args.self.now in
+    let x = c.args.operation.now in
+    let l = c.args.loading in
+    let a = c.requires.awaits in
+    let p = c.args.loaded in
+    let came = came-of g.D.Disk.keeps (IsEntryIn g.F.Key.Fixed.bytes_of g.F.Value.Fixed.bytes_of g.F.Key.Known.is_known g.F.Value.Known.is_known g.F.Key.Fixed.SIZE g.F.Value.Fixed.SIZE) g.F.Key.Ord.cmp g.F.Functions.code (view_of c.self.inside.number c.self.inside.count c.self.inside.records c.self.inside.contexts.items c.self.inside.moment) v c.key-key.result (key_of x.op) c.page_of-page.result l.wanted (g.D.Receipt.Receipt.stands p.receipt) p.bytes c.trace_in.result c.self.view_is c.key-key.ensures c.page_of-page.ensures (c.in_default.ensures.own.0 refl) c.trace_in.ensures.read c.trace_in.ensures.kept in
+    let is = c.in-Ok-Below.is ∙ ap Ok c.in-Ok-Below.field-0-is in
+    let b = c.in-Ok-Below.address in
+    let begins : c.begin.result ≡ v.records.begin = c.begin.ensures ∙ ap (λ u. u.records.begin) c.self.view_is in
+    let under : b < v.records.begin = omega (arith, c.if-address-begin.true, begins) in
+    load-told g.F.Key.Ord.cmp v c.args.slot c.args.context c.args.now x a.here g.F.Functions.meaning l a None (newest-told g.F.Key.Ord.cmp g.F.Functions.code order v c.known.ensures c.args.slot c.args.context x l a (IsEntryIn g.F.Key.Fixed.bytes_of g.F.Value.Fixed.bytes_of g.F.Key.Known.is_known g.F.Value.Known.is_known g.F.Key.Fixed.SIZE g.F.Value.Fixed.SIZE) (g.D.Receipt.Receipt.stands p.receipt) p.bytes c.trace_in.result came keeps (Below b) None is (ended b under)) (may-load g.F.Key.Ord.cmp g.F.Functions.code order v c.known.ensures c.args.slot c.args.context x l a) c.tell-then-address-begin.new.self c.tell-then-address-begin.result c.tell-then-address-begin.ensures.read c.tell-then-address-begin.ensures.update
+
+pub returns-clause-event : goal.returns-clause-event
+returns-clause-event g c = λ keeps.
+    let ord = g.met.F.Key.Ord g.world.𝓛 g.world.𝓜 g.world.𝓡 ((λ s x. x), (λ x. x), (λ x. x), λ x. x) in
+    let known = g.met.F.Key.Known g.world.𝓛 g.world.𝓜 g.world.𝓡 ((λ s x. x), (λ x. x), (λ x. x), λ x. x) in
+    let order = key_order g.F.Key.PartialEq.eq g.F.Key.Ord.cmp ord.matches_eq known.exact ord.total in
+    let v = c.args.self.now in
+    let x = c.args.operation.now in
+    let l = c.args.loading in
+    let a = c.requires.awaits in
+    let p = c.args.loaded in
+    let came = came-of g.D.Disk.keeps (IsEntryIn g.F.Key.Fixed.bytes_of g.F.Value.Fixed.bytes_of g.F.Key.Known.is_known g.F.Value.Known.is_known g.F.Key.Fixed.SIZE g.F.Value.Fixed.SIZE) g.F.Key.Ord.cmp g.F.Functions.code (view_of c.self.inside.number c.self.inside.count c.self.inside.records c.self.inside.contexts.items c.self.inside.moment) v c.key-key.result (key_of x.op) c.page_of-page.result l.wanted (g.D.Receipt.Receipt.stands p.receipt) p.bytes c.trace_in.result c.self.view_is c.key-key.ensures c.page_of-page.ensures (c.in_default.ensures.own.0 refl) c.trace_in.ensures.read c.trace_in.ensures.kept in
+    let is = c.in-Ok-Below.is ∙ ap Ok c.in-Ok-Below.field-0-is in
+    let b = c.in-Ok-Below.address in
+    let begins : c.begin.result ≡ v.records.begin = c.begin.ensures ∙ ap (λ u. u.records.begin) c.self.view_is in
+    let high : v.records.begin ≤ b = omega (arith, c.if-address-begin.false, begins) in
+    further-load g.F.Key.Ord.cmp v c.args.slot c.args.context c.args.now x a.here g.F.Functions.meaning l a b c.look_further.new.self c.look_further.result (further-newest g.F.Key.Ord.cmp g.F.Functions.code order v c.known.ensures c.args.slot c.args.context x l a (IsEntryIn g.F.Key.Fixed.bytes_of g.F.Value.Fixed.bytes_of g.F.Key.Known.is_known g.F.Value.Known.is_known g.F.Key.Fixed.SIZE g.F.Value.Fixed.SIZE) (g.D.Receipt.Receipt.stands p.receipt) p.bytes c.trace_in.result came b is high keeps) g.D.Receipt.Receipt.stands c.look_further.ensures.asked c.look_further.ensures.effect
