@@ -6,3 +6,4 @@ pub mod ChangeLemmas
 pub mod DecidedLemmas
 pub mod LoadLemmas
 pub mod PendingLemmas
+pub mod StayLemmas

@@ -11,6 +11,7 @@ pub mod Sound
 pub mod Beginning
 pub mod Ending
 pub mod Pending
+pub mod Frozen
 pub mod Looking
 pub mod Loading
 pub mod Flushing

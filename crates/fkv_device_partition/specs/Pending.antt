@@ -71,3 +71,11 @@ pub record IsLoad {K V I O R : Type 0} (cmp : K → K → Ordering) (f : Meaning
   pub live : Same (live_of cmp new) (live_of cmp old)
   pub others : OthersPend cmp old new slot c
   pub frame : LeavesOthers old new slot c now
+
+-- an operation was open, and now waits for a page, to find what the live map said of its key
+pub record IsAsking {K V I : Type 0} (cmp : K → K → Ordering) (old new : PartitionView K V I) (slot c now : ℕ)
+    : Type 0 where
+  pub operation : Context K V I
+  pub was : context_at old slot c ≡ Some operation
+  pub asks : pending cmp new slot c
+      ≡ Some (record { moment = now; value = live_of cmp old (key_of operation.op) })

@@ -14,6 +14,7 @@ pub mod ending;
 pub mod flushing;
 pub mod going;
 pub mod installing;
+pub mod laws;
 pub mod limits;
 pub mod loading;
 mod looking;

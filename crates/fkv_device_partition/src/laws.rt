@@ -1,0 +1,80 @@
+//! What every event leaves of the look-ups that wait for a page, and of the records that are frozen. Each law is what a
+//! function without a body ensures.
+ghost use Rattle.std.specs.Prelude.{◌≡◌, ℕ, Bool, IsTrue, List, Result, Ok};
+ghost use Rattle.std.specs.declared.cmp.Ordering.{Ordering};
+ghost use Rattle.fkv_functions.specs.Meanings.{Meanings};
+ghost use Rattle.fkv_functions.specs.Plain.{IsKeyOrder};
+ghost use Rattle.fkv_functions.specs.declared.asks.Ask.{Ask};
+ghost use Rattle.fkv_functions.specs.declared.refusals.Refused.{Refused};
+ghost use Rattle.fkv_device.specs.Standing.{Standing};
+ghost use Rattle.fkv_operations.specs.After.{key_of};
+ghost use Rattle.fkv_device_partition.specs.declared.contexts.Progress.{Progress};
+ghost use Rattle.fkv_device_partition.specs.declared.contexts.Progress.TheVariants.{NeedsLoad};
+ghost use Rattle.fkv_device_partition.specs.Views.{PartitionView};
+ghost use Rattle.fkv_device_partition.specs.Going.{Goes};
+ghost use Rattle.fkv_device_partition.specs.Installing.{Installs};
+ghost use Rattle.fkv_device_partition.specs.Looking.{Refreshes, Shifts, Evicts};
+ghost use Rattle.fkv_device_partition.specs.Flushing.{Flushes};
+ghost use Rattle.fkv_device_partition.specs.Pending.{OthersPend, AllPend, IsAsking};
+ghost use Rattle.fkv_device_partition.specs.Frozen.{FrozenStay};
+ghost use Rattle.fkv_device_partition.specs.Sound.{IsSound};
+
+use fkv_lookups::laws::{meetings_tell, records_change, records_grow};
+
+/// On a device that keeps, what a look-up that waits for a page is to find stays, whatever other operations do and
+/// however pages move.
+pub fn pendings_stay<K, V, I, O, R>()
+    ensures goes { (keeps : Bool) (stands : R → Standing) (cmp : K → K → Ordering) (f : Meanings K V I O) (code : K → ℕ)
+        (old new : PartitionView K V I) (slot c now : ℕ) (result : Result (Progress K V I O R) Refused)
+        → IsTrue keeps → IsKeyOrder cmp → IsSound keeps cmp code old
+        → Goes stands cmp f code old new slot c now result
+        → OthersPend cmp old new slot c }
+    // where a page is asked for, it is to find what the live map says of the key at that moment
+    ensures asks { (keeps : Bool) (stands : R → Standing) (cmp : K → K → Ordering) (f : Meanings K V I O) (code : K → ℕ)
+        (old new : PartitionView K V I) (slot c now : ℕ) (r : R) (a : ℕ)
+        → IsKeyOrder cmp → IsSound keeps cmp code old
+        → Goes stands cmp f code old new slot c now (Ok (NeedsLoad r a))
+        → IsAsking cmp old new slot c now }
+    ensures installs { (keeps : Bool) (cmp : K → K → Ordering) (f : Meanings K V I O) (code : K → ℕ)
+        (old new : PartitionView K V I) (slot c : ℕ) (ask : Ask K V I) (now : ℕ)
+        (result : Result (Progress K V I O R) Refused)
+        → IsTrue keeps → IsSound keeps cmp code old
+        → Installs cmp f code old new slot c ask now result
+        → OthersPend cmp old new slot c }
+    ensures refreshes { (keeps : Bool) (cmp : K → K → Ordering) (old new : PartitionView K V I) (slot now : ℕ)
+        (result : Result (Unit {0}) Refused)
+        → IsTrue keeps → Refreshes keeps old new slot now result → AllPend cmp old new }
+    ensures shifts { (keeps : Bool) (cmp : K → K → Ordering) (old new : PartitionView K V I) (page now : ℕ)
+        (result : Result (Unit {0}) Refused)
+        → IsTrue keeps → Shifts keeps old new page now result → AllPend cmp old new }
+    ensures evicts { (keeps : Bool) (cmp : K → K → Ordering) (old new : PartitionView K V I) (page now : ℕ)
+        (result : Result (Unit {0}) Refused)
+        → IsTrue keeps → Evicts keeps old new page now result → AllPend cmp old new }
+    ensures flushes { (cmp : K → K → Ordering) (old new : PartitionView K V I) (s : Standing) (bytes : List ℕ) (now : ℕ)
+        (result : Result (Unit {0}) Refused)
+        → Flushes old new s bytes now result → AllPend cmp old new }
+{
+    records_grow::<K, V>();
+    records_change::<K, V>();
+    meetings_tell::<K, V>();
+}
+
+/// No event of an operation changes a frozen record: one below the safe read-only offset. The other events leave the
+/// text, or, on a device that need not keep, drop what it begins with.
+pub fn frozen_stay<K, V, I, O, R>()
+    ensures goes { (keeps : Bool) (stands : R → Standing) (cmp : K → K → Ordering) (f : Meanings K V I O) (code : K → ℕ)
+        (old new : PartitionView K V I) (slot c now : ℕ) (result : Result (Progress K V I O R) Refused)
+        → IsKeyOrder cmp → IsSound keeps cmp code old
+        → Goes stands cmp f code old new slot c now result
+        → FrozenStay old new }
+    ensures installs { (keeps : Bool) (cmp : K → K → Ordering) (f : Meanings K V I O) (code : K → ℕ)
+        (old new : PartitionView K V I) (slot c : ℕ) (ask : Ask K V I) (now : ℕ)
+        (result : Result (Progress K V I O R) Refused)
+        → IsSound keeps cmp code old
+        → Installs cmp f code old new slot c ask now result
+        → FrozenStay old new }
+{
+    records_grow::<K, V>();
+    records_change::<K, V>();
+    meetings_tell::<K, V>();
+}
