@@ -13,5 +13,7 @@
 
 pub mod laws;
 pub mod log;
+pub mod scan;
 
 pub use log::Log;
+pub use scan::Scan;
