@@ -141,12 +141,7 @@ impl<K: Fixed, V: Fixed, D: Disk> Log<K, V, D> {
     }
 
     /// Reads a flushed page by its receipt.
-    fn load(
-        &self,
-        alloc: Global,
-        reader: &mut D::Reader,
-        page: u64,
-    ) -> Result<Loaded<D>, Refused>
+    fn load(&self, alloc: Global, reader: &mut D::Reader, page: u64) -> Result<Loaded<D>, Refused>
         requires flushed { page < length self.now.receipts }
         ensures own { IfOk result (λ l. IsHeldBy self.now.receipts page (D.Receipt.stands l.receipt)) }
         ensures page { IfOk result (λ l. (D.Receipt.stands l.receipt).page ≡ page) }

@@ -39,6 +39,7 @@ use std::alloc::Global;
 use std::marker::Model;
 
 mod flushes;
+mod live;
 mod loads;
 mod sessions;
 
