@@ -28,7 +28,7 @@ mark_low bits m a (inr e) low up =
     omega arith
 
 -- on a device that keeps, the text begins at Begin
-begins_kept : (keeps : Bool) (begin closed : ℕ) → IsTrue keeps → text_begin keeps begin closed ≡ begin
+pub begins_kept : (keeps : Bool) (begin closed : ℕ) → IsTrue keeps → text_begin keeps begin closed ≡ begin
 begins_kept true begin closed k = refl
 begins_kept false begin closed k = absurd (cc)
 
