@@ -1,1 +1,2 @@
 pub mod TiedLemmas
+pub mod ScanLemmas

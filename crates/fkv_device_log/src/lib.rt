@@ -9,9 +9,14 @@
 //! read-only offset may get another value or become a tombstone where it stands; an entry below it never changes, so
 //! its page may be flushed once it ends there. A page below Head may leave its frame once no session reads it there any
 //! more: only then is there room for the page that needs the frame.
+//!
+//! A scan goes over all entries from Begin on: those of flushed pages are read from the device, each page once, the others
+//! from their frames.
 #![tactic(auto)]
 
 pub mod laws;
 pub mod log;
+pub mod scan;
 
 pub use log::Log;
+pub use scan::Scan;

@@ -2,3 +2,4 @@ pub mod TracedLemmas
 pub mod SessionLemmas
 pub mod LookupLemmas
 pub mod MeetingLemmas
+pub mod LiveLemmas

@@ -5,6 +5,7 @@
 pub mod decisions;
 mod entries;
 pub mod laws;
+mod maps;
 pub mod records;
 
 pub use decisions::{Decision, DecisionOf, Met, decide, low_of, met_by};

@@ -3,7 +3,7 @@
 //! The previous address of a record leads to the one before it in its class. So a key's last record is found by
 //! the entry of its class and the records of that class alone: those in memory by [`Records::trace`], those of a page
 //! that a device gave by [`Records::trace_in`]. A record and the move of the entry that leads to it come in one call
-//! ([`Records::append`]).
+//! ([`Records::append`]). [`Records::live`] goes over all records instead, and says what each key's value is.
 //!
 //! A session may give a record another value where it stands, or make it a tombstone, as long as the record is mutable
 //! in its view of the log's regions; which sessions there are, and what each has seen, stands in `sessions.rt`.
@@ -39,6 +39,7 @@ use std::alloc::Global;
 use std::marker::Model;
 
 mod flushes;
+mod live;
 mod loads;
 mod sessions;
 

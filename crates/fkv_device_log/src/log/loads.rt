@@ -41,6 +41,27 @@ impl<K: Fixed, V: Fixed, D: Disk> Log<K, V, D> {
         self.pages.record_in(loaded, address)
     }
 
+    /// The entry at an address of a flushed page, from the page as a device gave it by the receipt that is kept of it:
+    /// receipts are not compared. On a device that keeps it is the text's. Refused: `Damaged` where its bytes spell no
+    /// entry there.
+    pub fn own_record_in(
+        &self,
+        loaded: &Loaded<D>,
+        address: Address,
+    ) -> Result<Entry<K, V>, Refused>
+        requires own { IsHeldBy self.now.receipts (page_at self.now.bits address) (D.Receipt.stands loaded.now.receipt) }
+        ensures only { IfOk result (IsEntryIn K.bytes_of V.bytes_of K.is_known V.is_known K.SIZE V.SIZE self.now.bits
+            loaded.now.bytes address) }
+        ensures found { (e : Entry K V)
+            → IsEntryIn K.bytes_of V.bytes_of K.is_known V.is_known K.SIZE V.SIZE self.now.bits
+            loaded.now.bytes address e
+            → result ≡ Ok e }
+        ensures damaged { IfErr result (λ refused. refused ≡ Refused.Damaged (page_at self.now.bits address)) }
+        ensures kept { IsTrue D.keeps → IfSome (entry_at self.now.text address) (λ e. result ≡ Ok e) }
+    {
+        self.pages.own_record_in(loaded, address)
+    }
+
     /// Whether a page was read by the receipt that is kept of it. Refused: `Stranger` where it was read by another.
     pub fn is_own(&self, loaded: &Loaded<D>, page: u64) -> Result<(), Refused>
         requires { page < length self.now.receipts }

@@ -46,6 +46,28 @@ impl<K: Fixed, V: Fixed, D: Disk> Pages<K, V, D> {
         if let Err(refused) = self.is_own(loaded, page) {
             return Err(refused);
         }
+        self.own_record_in(loaded, address)
+    }
+
+    /// The entry at an address of a flushed page, from the page as a device gave it by the receipt that is kept of it:
+    /// receipts are not compared. On a device that keeps it is the text's. Refused: `Damaged` where its bytes spell no
+    /// entry there.
+    pub fn own_record_in(
+        &self,
+        loaded: &Loaded<D>,
+        address: Address,
+    ) -> Result<Entry<K, V>, Refused>
+        requires own { IsHeldBy self.now.receipts (page_at self.now.bits address) (D.Receipt.stands loaded.now.receipt) }
+        ensures only { IfOk result (IsEntryIn K.bytes_of V.bytes_of K.is_known V.is_known K.SIZE V.SIZE self.now.bits
+            loaded.now.bytes address) }
+        ensures found { (e : Entry K V)
+            → IsEntryIn K.bytes_of V.bytes_of K.is_known V.is_known K.SIZE V.SIZE self.now.bits
+            loaded.now.bytes address e
+            → result ≡ Ok e }
+        ensures damaged { IfErr result (λ refused. refused ≡ Refused.Damaged (page_at self.now.bits address)) }
+        ensures kept { IsTrue D.keeps → IfSome (entry_at self.now.text address) (λ e. result ≡ Ok e) }
+    {
+        let _receipt = loaded.receipt();
         entry_in(self.shape, loaded.bytes(), address)
     }
 

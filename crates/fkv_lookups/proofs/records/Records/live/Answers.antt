@@ -1,0 +1,47 @@
+use Rattle.std.proofs.Common.{◌<◌, ◌≤◌, refl, ap, arith, ◌∙◌}
+use Rattle.std.specs.BTreeMap.{get, is_at}
+use Rattle.std.specs.Map.{lookup}
+use Rattle.fkv_operations.proofs.ScanLemmas.{ended, goes_on}
+use Rattle.fkv_device_log.specs.Scans.{memory}
+use Rattle.fkv_lookups.proofs.LiveLemmas.{scan_begins, scan_rises, scan_refused}
+use Rattle.fkv_lookups.proofs.records.Records.live.Goals as goal
+
+pub loop-self-init : goal.loop-self-init
+loop-self-init g c = record {
+  scan = c.scan-scan.ensures.scan;
+  scanned = λ keeps. scan_begins g.D.Disk.keeps _ c.self.inside.log c.known.ensures.log g.F.Key.Ord.cmp _ _ keeps c.scan-scan.ensures.begins (λ q. ap (lookup (is_at (g.F.Key.Ord.cmp q))) c.new-map.ensures.empty);
+  steady = refl;
+}
+
+pub loop-self-preserved : goal.loop-self-preserved
+loop-self-preserved g c =
+    let low : c.loop-self.scan.address < c.self.inside.log.tail = omega (arith, c.tail.ensures.tail, c.address.ensures, c.loop-self-test.true) in
+    let l = c.known.ensures.log in
+    record {
+      scan = c.step.ensures.scan;
+      scanned = λ keeps. rw c.in-Ok.ensures.goes
+          (goes_on g.F.Key.Ord.cmp _ _ _ _ _ _ (c.loop-self.invariant.scanned keeps) (c.appended.ensures.live g.F.Key.Ord.cmp) l.rising low
+          c.in-Ok.entry (c.in-Ok.ensures.kept keeps) (get g.F.Key.Ord.cmp c.put.new.map) c.in-Ok-put.ensures.ok);
+      steady = c.in-Ok.ensures.steady ∙ c.loop-self.invariant.steady;
+    }
+
+pub loop-self-smaller : goal.loop-self-smaller
+loop-self-smaller g c =
+    let low : c.loop-self.scan.address < c.self.inside.log.tail = omega (arith, c.tail.ensures.tail, c.address.ensures, c.loop-self-test.true) in
+    let rises = scan_rises g.D.Disk.keeps _ c.self.inside.log c.known.ensures.log c.loop-self.scan c.loop-self.invariant.scan low in
+    let goes = c.in-Ok.ensures.goes in
+    omega arith
+
+pub returns-clause-ok : goal.returns-clause-ok
+returns-clause-ok g c = λ keeps.
+    let high : c.self.inside.log.tail ≤ c.loop-self.scan.address = omega (arith, c.tail.ensures.tail, c.address.ensures, c.loop-self-test.false) in
+    rw (← c.self.view_is) (ended g.F.Key.Ord.cmp _ _ _ _ _ _ (c.loop-self.invariant.scanned keeps) high)
+
+pub returns-in-Err-clause-refused : goal.returns-in-Err-clause-refused
+returns-in-Err-clause-refused g c =
+    let low : c.loop-self.scan.address < c.self.inside.log.tail = omega (arith, c.tail.ensures.tail, c.address.ensures, c.loop-self-test.true) in
+    rw (← c.self.view_is) (scan_refused g.D.Disk.keeps _ c.self.inside.log c.known.ensures.log c.loop-self.scan c.loop-self.invariant.scan low
+    c.step.result _ _ _ _ c.in-Err.is c.loop-self.invariant.steady (λ high. (c.step.ensures.unread high).0) c.in-Err.ensures.refused)
+
+pub returns-in-Err-put-clause-refused : goal.returns-in-Err-put-clause-refused
+returns-in-Err-put-clause-refused g c = memory c.in-Err-put.ensures.only (c.in-Ok.ensures.steady ∙ c.loop-self.invariant.steady)

@@ -1,0 +1,21 @@
+use Rattle.std.proofs.Common.{◌≡◌, ◌-◌}
+use Rattle.std.specs.Prelude.{IsTrue}
+use Rattle.std.specs.BTreeMap.{get}
+use Rattle.fkv_records.specs.Records.{size_of}
+use Rattle.fkv_device_log.specs.Scans.{IsScanOf}
+use Rattle.fkv_operations.proofs.ScanLemmas.{IsScanned}
+use Rattle.fkv_lookups.proofs.records.Records.live.Given as goal
+
+-- on a device that keeps, the map is the live one of the entries below where the scan stands
+abbrev pub invariant-loop-self : goal.invariant-loop-self
+invariant-loop-self g l =
+    let log = l.self-inside.log in
+    let size = size_of g.F.Key.Fixed.SIZE g.F.Value.Fixed.SIZE in
+    record {
+      scan : IsScanOf size log l.scan;
+      scanned : IsTrue g.D.Disk.keeps → IsScanned g.F.Key.Ord.cmp log.bits size log.tail log.text l.scan.address (get g.F.Key.Ord.cmp l.map);
+      steady : g.D.Reader.PageReader.failures l.reader ≡ g.D.Reader.PageReader.failures l.fn.reader;
+    }
+
+abbrev pub decreases-loop-self : goal.decreases-loop-self
+decreases-loop-self g l = l.self-inside.log.tail - l.scan.address
