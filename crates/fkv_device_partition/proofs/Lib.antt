@@ -7,3 +7,4 @@ pub mod DecidedLemmas
 pub mod LoadLemmas
 pub mod PendingLemmas
 pub mod StayLemmas
+pub mod ListingLemmas

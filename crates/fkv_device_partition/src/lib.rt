@@ -16,6 +16,7 @@ pub mod going;
 pub mod installing;
 pub mod laws;
 pub mod limits;
+pub mod listing;
 pub mod loading;
 mod looking;
 pub mod partitions;
@@ -23,4 +24,5 @@ pub mod regions;
 
 pub use contexts::{Context, Loading, Phase, Progress, ProgressOf, Wait};
 pub use limits::Config;
+pub use listing::pairs_of;
 pub use partitions::Partition;

@@ -1,0 +1,29 @@
+-- The keys of the live map are those of records.
+use Rattle.std.proofs.Common.{◌≡◌, Bool, true, false, cond, ℕ, zero, suc, List, [], ◌∷◌, Option, Some, None, All, IsSome, slice_get, refl, subst}
+use Rattle.std.specs.declared.cmp.Ordering.{Ordering}
+use Rattle.std.specs.BTreeMap.{is_at}
+use Rattle.std.specs.Option.{option_or}
+use Rattle.std.specs.Map.{lookup, keys_of}
+use Rattle.std.specs.Cmp.{IsTotalOrder, eq_by_cmp_equiv}
+use Rattle.std.proofs.lemmas.Map.Views.{All-keys_from_lookup}
+use Rattle.fkv_functions.specs.Plain.{IsKeyOrder}
+use Rattle.fkv_texts.specs.declared.entries.Entry.{Entry}
+use Rattle.fkv_texts.specs.Text.{last_of, value_of, live}
+
+module _ {K V : Type 0} (cmp : K → K → Ordering) (order : IsKeyOrder cmp) (P : K → Type 0) where
+  by_case : (x : Entry K V) (q : K) (l : Option (Entry K V)) (b : Bool) → is_at (cmp x.key) q ≡ b → (IsSome l → P q) → P x.key → IsSome (option_or l (cond b (Some x) None)) → P q
+  by_case x q (Some y) b t more own s = more refl
+  by_case x q None true t more own s = subst P (order.same x.key q t) own
+  by_case x q None false t more own s = absurd (cc)
+
+  last-key : (text : List (Entry K V)) → ((i : ℕ) (e : Entry K V) → slice_get text i ≡ Some e → P e.key) → (q : K) → IsSome (last_of cmp text q) → P q
+  last-key [] h q s = absurd (cc)
+  last-key (x ∷ xs) h q s = by_case x q (last_of cmp xs q) (is_at (cmp x.key) q) refl (last-key xs (λ i e k. h (suc i) e k) q) (h zero x refl) s
+
+  held-some : (l : Option (Entry K V)) → IsSome (value_of l) → IsSome l
+  held-some None s = s
+  held-some (Some e) s = refl
+
+  -- what holds of the key of each record holds of each key that is listed with its value in the live map
+  pub listed-keys : (o : IsTotalOrder cmp) (text : List (Entry K V)) (pairs : List (K × V)) → ((i : ℕ) (e : Entry K V) → slice_get text i ≡ Some e → P e.key) → ((q : K) → lookup (is_at (cmp q)) pairs ≡ live cmp text q) → All P (keys_of pairs)
+  listed-keys o text pairs h l = All-keys_from_lookup (eq_by_cmp_equiv o) P pairs (λ q s. last-key text h q (held-some (last_of cmp text q) (subst IsSome (l q) s)))
