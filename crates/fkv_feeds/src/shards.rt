@@ -1,5 +1,5 @@
 //! The store of a run: its partitions, and a session in each.
-ghost use Rattle.std.specs.Prelude.{◌≡◌, ◌<◌, ◌^◌, ◌⊎◌, ℤ, List, [], ◌∷◌, ◌++◌, length, IfOk, IfErr, OnOk};
+ghost use Rattle.std.specs.Prelude.{◌≡◌, ◌<◌, ◌%◌, ◌^◌, ◌⊎◌, ℤ, List, [], ◌∷◌, ◌++◌, length, IfOk, IfErr, OnOk};
 ghost use Rattle.fkv_functions.specs.Names.{name_cmp};
 ghost use Rattle.fkv_functions.specs.declared.names.Name.{Name};
 ghost use Rattle.fkv_records.specs.Records.{size_of};
@@ -24,6 +24,24 @@ pub struct Shards<'a, F: Functions> {
     pub(crate) clock: Clock,
     /// How often an update may be tried: one more than it may take turns.
     tries: u64,
+}
+
+/// What a division of a hash by a count leaves. Counts of partitions are powers of two; where one is written out the compiler
+/// takes a mask, and a division alone would take a part of a row's time that can be seen.
+fn place_of(hash: u64, count: u64) -> u64
+    requires { 0 < count }
+    ensures { result ≡ hash % count }
+{
+    match count {
+        1 => 0,
+        2 => hash % 2,
+        4 => hash % 4,
+        8 => hash % 8,
+        16 => hash % 16,
+        32 => hash % 32,
+        64 => hash % 64,
+        _ => hash % count,
+    }
 }
 
 /// Adds an item. Refused: `NoMemory`.
@@ -111,7 +129,7 @@ impl<'a, F: Functions> Shards<'a, F> {
         ensures within { result < length self.now.partitions.items }
     {
         let count = self.partitions.len() as u64;
-        (self.functions.hash(key) % count) as usize
+        place_of(self.functions.hash(key), count) as usize
     }
 }
 
