@@ -6,6 +6,7 @@ ghost use Rattle.fkv_device_partition.specs.Effect.{IsQuiet};
 use crate::partitions::Partition;
 use fkv_device::Disk;
 use fkv_functions::{Functions, Refused};
+use fkv_records::Address;
 
 impl<F: Functions, D: Disk> Partition<F, D> {
     /// Refreshes a session: it tells that the session relies on nothing that it saw before, moves the offsets that are
@@ -64,5 +65,12 @@ impl<F: Functions, D: Disk> Partition<F, D> {
         self.records.known();
         self.moment = now;
         Ok(())
+    }
+
+    /// The address of the next record, or 2^48 where there can't be one.
+    pub fn tail(&self) -> Address
+        ensures { result ≡ self.now.records.tail }
+    {
+        self.records.tail()
     }
 }
