@@ -106,7 +106,7 @@ pub context-is : {K V I : Type 0} (entered xs : List (Option ℕ)) (contexts ys 
     → context_in entered contexts slot c ≡ Some x
 context-is entered xs contexts ys slot c x e h k = ap (λ a. context_in a contexts slot c) (sym e) ∙ ap (λ b. context_in xs b slot c) (sym h) ∙ sym k
 
-same_or : (d c : ℕ) → (d ≡ c) ⊎ (d ≢ c)
+pub same_or : (d c : ℕ) → (d ≡ c) ⊎ (d ≢ c)
 same_or zero zero = inl refl
 same_or zero (suc c) = inr (λ e. omega arith)
 same_or (suc d) zero = inr (λ e. omega arith)
@@ -147,8 +147,8 @@ module _ {K V I : Type 0} {keeps : Bool} (cmp : K → K → Ordering) (code : K 
   source-is yes_keeps slot c x e ask h q held = sym ((kept-at slot c x e ask h q).value yes_keeps) ∙ ap value_of held
 
   -- a session is entered: its contexts hold nothing yet
-  pub event-enter : (slot now : ℕ) → free_slot v ≡ Some slot → IsQuiet keeps v (in_regions v (entered v.records.regions slot) now) now
-  event-enter slot now free = quiet-regions keeps v (entered v.records.regions slot) now same
+  pub entered-same : (slot : ℕ) → free_slot v ≡ Some slot → (t d : ℕ) → context_in (entered v.records.regions slot).epochs.slots v.contexts t d ≡ context_in (slots_of v) v.contexts t d
+  entered-same slot free = same
     where
       mine : Option ℕ
       mine = Some v.records.regions.epochs.epoch
@@ -174,6 +174,9 @@ module _ {K V I : Type 0} {keeps : Bool} (cmp : K → K → Ordering) (code : K 
           by_low false b =
               let taken : slice_get (slice_set (slots_of v) slot mine) slot ≡ Some mine = get-set_same (slots_of v) slot None mine is_free in
               rw (taken, is_free, b) refl
+
+  pub event-enter : (slot now : ℕ) → free_slot v ≡ Some slot → IsQuiet keeps v (in_regions v (entered v.records.regions slot) now) now
+  event-enter slot now free = quiet-regions keeps v (entered v.records.regions slot) now (entered-same slot free)
 
 module _ {K V I O : Type 0} (cmp : K → K → Ordering) (f : Meanings K V I O) (code : K → ℕ) (v : PartitionView K V I) where
   module _ (slot c now : ℕ) (x : Context K V I) (h : context_at v slot c ≡ Some x) where

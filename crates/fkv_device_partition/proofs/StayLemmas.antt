@@ -1,11 +1,12 @@
 -- What events leave of look-ups that wait for a page, and of frozen records.
-use Rattle.std.proofs.Common.{◌≡◌, ◌<◌, ℕ, Bool, IsTrue, List, Option, Some, None, Result, refl, sym, ◌∙◌, ap, arith}
+use Rattle.std.proofs.Common.{◌≡◌, ◌<◌, ◌+◌, ◌*◌, ℕ, Bool, IsTrue, List, Option, Some, None, Result, inl, inr, slice_get, refl, sym, ◌∙◌, ap, arith}
 use Rattle.std.specs.declared.cmp.Ordering.{Ordering}
 use Rattle.fkv_functions.specs.Meanings.{Meanings}
+use Rattle.fkv_functions.proofs.ListLemmas.{get-set_same}
 use Rattle.fkv_functions.specs.declared.asks.Ask.{Ask}
 use Rattle.fkv_functions.specs.declared.refusals.Refused.{Refused}
 use Rattle.fkv_device.specs.Standing.{Standing}
-use Rattle.fkv_regions.specs.RegionsView.{RegionsView}
+use Rattle.fkv_regions.specs.RegionsView.{RegionsView, entered}
 use Rattle.fkv_texts.specs.declared.entries.Entry.{Entry}
 use Rattle.fkv_texts.specs.Text.{entry_at, newest, last_of}
 use Rattle.fkv_operations.specs.After.{key_of}
@@ -14,7 +15,7 @@ use Rattle.fkv_operations.specs.declared.entries.IndexEntry.{IndexEntry}
 use Rattle.fkv_operations.specs.declared.operations.Op.{Op}
 use Rattle.fkv_operations.specs.declared.operations.Op.TheVariants.{Read, Upsert, Rmw, Delete}
 use Rattle.fkv_operations.specs.declared.operations.Answer.{Answer}
-use Rattle.fkv_lookups.specs.RecordsViews.{RecordsView, with_record, with_value, with_receipt}
+use Rattle.fkv_lookups.specs.RecordsViews.{RecordsView, with_record, with_value, with_receipt, released}
 use Rattle.fkv_lookups.specs.Traced.{IsTraced}
 use Rattle.fkv_lookups.specs.declared.decisions.Decision.TheVariants as decided
 use Rattle.fkv_device_partition.specs.declared.contexts.Context.{Context}
@@ -22,17 +23,20 @@ use Rattle.fkv_device_partition.specs.declared.contexts.Loading.{Loading}
 use Rattle.fkv_device_partition.specs.declared.contexts.Phase.{Phase}
 use Rattle.fkv_device_partition.specs.declared.contexts.Phase.TheVariants.{Fresh, Confirm, Prepared, Load}
 use Rattle.fkv_device_partition.specs.declared.contexts.Progress.{Progress}
-use Rattle.fkv_device_partition.specs.Contexts.{context_in}
-use Rattle.fkv_device_partition.specs.Views.{PartitionView, slots_of, context_at, with_context, MovesTo}
+use Rattle.fkv_device_partition.specs.Contexts.{joined, context_in}
+use Rattle.fkv_device_partition.specs.Views.{PartitionView, slots_of, context_at, with_context, in_regions, MovesTo}
 use Rattle.fkv_device_partition.specs.Sound.{IsLoading, StandsFor, IsSound}
+use Rattle.fkv_device_partition.specs.Beginning.{Enters, Issues}
+use Rattle.fkv_device_partition.specs.Ending.{Leaves, GivesUp}
 use Rattle.fkv_device_partition.specs.Going.{Decides, Goes}
 use Rattle.fkv_device_partition.specs.Installing.{Installs}
 use Rattle.fkv_device_partition.specs.Looking.{Refreshes, Shifts, Evicts}
 use Rattle.fkv_device_partition.specs.Flushing.{Flushes}
 use Rattle.fkv_device_partition.specs.Frozen.{FrozenStay}
 use Rattle.fkv_device_partition.specs.Pending.{pending_by, pending_of, pending, OthersPend, AllPend}
-use Rattle.fkv_device_partition.proofs.AskedLemmas.{open_at, context-other}
-use Rattle.fkv_device_partition.proofs.EventLemmas.{stands-at, refreshed-same}
+use Rattle.fkv_device_partition.proofs.AskedLemmas.{open_at, context-other, context-inside, free-context, free-low}
+use Rattle.fkv_device_partition.proofs.EventLemmas.{stands-at, refreshed-same, left-same, entered-same, same_or}
+use Rattle.fkv_device_partition.proofs.PendingLemmas.{others-pend}
 use Rattle.fkv_device_partition.proofs.SoundLemmas.{still-below}
 
 -- what is to be found depends on Begin and the text alone
@@ -166,6 +170,50 @@ pub flushes-all : {K V I : Type 0} (cmp : K → K → Ordering) (old new : Parti
 flushes-all cmp old new st bytes now result (Flushes.refused why h is r) = as-all cmp old new is
 flushes-all cmp old new st bytes now result (Flushes.unkept h is r) = as-all cmp old new is
 flushes-all cmp old new st bytes now result (Flushes.keeps h is r) = λ t d. ap (λ (w : PartitionView _ _ _). pending cmp w t d) is ∙ pending-same cmp old.records (with_receipt old.records st) (context_at old t d) refl refl
+
+-- ---- sessions come and go, operations are issued and given up
+pub gives-up-others : {K V I : Type 0} (cmp : K → K → Ordering) (old new : PartitionView K V I) (slot c now : ℕ) (result : Result (Unit {0}) Refused) → GivesUp old new slot c now result → OthersPend cmp old new slot c
+gives-up-others cmp old new slot c now result (GivesUp.unknown h is r) = λ t d o. ap (λ (w : PartitionView _ _ _). pending cmp w t d) is
+gives-up-others cmp old new slot c now result (GivesUp.gives_up x h q is r) = λ t d o. ap (λ (w : PartitionView _ _ _). pending cmp w t d) is ∙ others-pend cmp old slot c now x h None t d o
+gives-up-others cmp old new slot c now result (GivesUp.cancels x p h q is r) = λ t d o.
+    ap (λ (w : PartitionView _ _ _). pending cmp w t d) is
+    ∙ pending-same cmp old.records (released old.records p) (context_at (with_context old slot c None now) t d) refl refl
+    ∙ others-pend cmp old slot c now x h None t d o
+
+pub leaves-all : {K V I : Type 0} (keeps : Bool) (cmp : K → K → Ordering) (old new : PartitionView K V I) (slot now : ℕ) (result : Result (Unit {0}) Refused) → IsTrue keeps → Leaves keeps old new slot now result → AllPend cmp old new
+leaves-all keeps cmp old new slot now result yes_keeps (Leaves.unknown h is r) = as-all cmp old new is
+leaves-all keeps cmp old new slot now result yes_keeps (Leaves.busy c h q is r) = as-all cmp old new is
+leaves-all keeps cmp old new slot now result yes_keeps (Leaves.leaves h q is r) = moved-all keeps cmp _ old new now yes_keeps is (left-same old slot q)
+
+pub enters-all : {K V I : Type 0} {keeps : Bool} (cmp : K → K → Ordering) (code : K → ℕ) (old new : PartitionView K V I) (now : ℕ) (result : Result ℕ Refused) → IsSound keeps cmp code old → Enters old new now result → AllPend cmp old new
+enters-all cmp code old new now result s (Enters.full h is r) = as-all cmp old new is
+enters-all cmp code old new now result s (Enters.enters slot h is r) = λ t d.
+    ap (λ (w : PartitionView _ _ _). pending cmp w t d) is
+    ∙ ap (pending_of cmp (in_regions old (entered old.records.regions slot) now).records) (entered-same cmp code old s slot h t d)
+    ∙ pending-same cmp old.records (in_regions old (entered old.records.regions slot) now).records (context_at old t d) refl refl
+
+-- a context that was free holds an operation that has not begun
+pub issues-all : {K V I : Type 0} (cmp : K → K → Ordering) (code : K → ℕ) (old new : PartitionView K V I) (slot : ℕ) (op : Op K V I) (now : ℕ) (result : Result ℕ Refused) → Issues code old new slot op now result → AllPend cmp old new
+issues-all cmp code old new slot op now result (Issues.unknown h is r) = as-all cmp old new is
+issues-all cmp code old new slot op now result (Issues.stranger h n is r) = as-all cmp old new is
+issues-all cmp code old new slot op now result (Issues.full h n q is r) = as-all cmp old new is
+issues-all {K} {V} {I} cmp code old new slot op now result (Issues.issues c h n q is r) = λ t d. ap (λ (w : PartitionView K V I). pending cmp w t d) is ∙ elim (same_or t slot) [
+  | inl e ↦ elim (same_or d c) [
+    | inl f ↦ rw (e, f) (ap (pending_of cmp old.records) (context-inside (slots_of old) (with_context old slot c fresh now).contexts slot c h low ∙ ap joined (get-set_same old.contexts (slot * 8 + c) None fresh here))
+        ∙ sym (ap (pending_of cmp old.records) (context-inside (slots_of old) old.contexts slot c h low ∙ ap joined here)))
+    | inr m ↦ ap (pending_of cmp old.records) (context-other (slots_of old) old.contexts slot c t d fresh low (inr m))
+  ]
+  | inr m ↦ ap (pending_of cmp old.records) (context-other (slots_of old) old.contexts slot c t d fresh low (inl m))
+]
+  where
+    fresh : Option (Context K V I)
+    fresh = Some (record { number = now; op = op; phase = Fresh })
+
+    here : slice_get old.contexts (slot * 8 + c) ≡ Some None
+    here = free-context old slot c q
+
+    low : c < 8
+    low = free-low old slot c q
 
 -- ---- frozen records
 as-frozen : {K V I : Type 0} (old new u : PartitionView K V I) → new ≡ u → FrozenStay old u → FrozenStay old new

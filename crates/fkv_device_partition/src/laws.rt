@@ -11,6 +11,9 @@ ghost use Rattle.fkv_operations.specs.After.{key_of};
 ghost use Rattle.fkv_device_partition.specs.declared.contexts.Progress.{Progress};
 ghost use Rattle.fkv_device_partition.specs.declared.contexts.Progress.TheVariants.{NeedsLoad};
 ghost use Rattle.fkv_device_partition.specs.Views.{PartitionView};
+ghost use Rattle.fkv_operations.specs.declared.operations.Op.{Op};
+ghost use Rattle.fkv_device_partition.specs.Beginning.{Enters, Issues};
+ghost use Rattle.fkv_device_partition.specs.Ending.{Leaves, GivesUp};
 ghost use Rattle.fkv_device_partition.specs.Going.{Goes};
 ghost use Rattle.fkv_device_partition.specs.Installing.{Installs};
 ghost use Rattle.fkv_device_partition.specs.Looking.{Refreshes, Shifts, Evicts};
@@ -53,6 +56,19 @@ pub fn pendings_stay<K, V, I, O, R>()
     ensures flushes { (cmp : K → K → Ordering) (old new : PartitionView K V I) (s : Standing) (bytes : List ℕ) (now : ℕ)
         (result : Result (Unit {0}) Refused)
         → Flushes old new s bytes now result → AllPend cmp old new }
+    ensures enters { (keeps : Bool) (cmp : K → K → Ordering) (code : K → ℕ) (old new : PartitionView K V I) (now : ℕ)
+        (result : Result ℕ Refused)
+        → IsSound keeps cmp code old → Enters old new now result → AllPend cmp old new }
+    ensures leaves { (keeps : Bool) (cmp : K → K → Ordering) (old new : PartitionView K V I) (slot now : ℕ)
+        (result : Result (Unit {0}) Refused)
+        → IsTrue keeps → Leaves keeps old new slot now result → AllPend cmp old new }
+    // an operation that was just issued has not looked yet
+    ensures issues { (cmp : K → K → Ordering) (code : K → ℕ) (old new : PartitionView K V I) (slot : ℕ) (op : Op K V I)
+        (now : ℕ) (result : Result ℕ Refused)
+        → Issues code old new slot op now result → AllPend cmp old new }
+    ensures gives_up { (cmp : K → K → Ordering) (old new : PartitionView K V I) (slot c now : ℕ)
+        (result : Result (Unit {0}) Refused)
+        → GivesUp old new slot c now result → OthersPend cmp old new slot c }
 {
     records_grow::<K, V>();
     records_change::<K, V>();

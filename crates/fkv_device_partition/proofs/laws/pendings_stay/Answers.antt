@@ -1,4 +1,4 @@
-use Rattle.fkv_device_partition.proofs.StayLemmas.{goes-others, installs-others, refreshes-all, shifts-all, evicts-all, flushes-all}
+use Rattle.fkv_device_partition.proofs.StayLemmas.{goes-others, installs-others, refreshes-all, shifts-all, evicts-all, flushes-all, enters-all, leaves-all, issues-all, gives-up-others}
 use Rattle.fkv_device_partition.proofs.DecidedLemmas.{replaced-high, replaced-some, asking}
 use Rattle.fkv_device_partition.proofs.laws.pendings_stay.Goals as goal
 
@@ -27,4 +27,8 @@ returns g c = record {
   shifts = λ keeps cmp old new page now result yes_keeps h. shifts-all keeps cmp old new page now result yes_keeps h;
   evicts = λ keeps cmp old new page now result yes_keeps h. evicts-all keeps cmp old new page now result yes_keeps h;
   flushes = λ cmp old new s bytes now result h. flushes-all cmp old new s bytes now result h;
+  enters = λ keeps cmp code old new now result s h. enters-all cmp code old new now result s h;
+  leaves = λ keeps cmp old new slot now result yes_keeps h. leaves-all keeps cmp old new slot now result yes_keeps h;
+  issues = λ cmp code old new slot op now result h. issues-all cmp code old new slot op now result h;
+  gives_up = λ cmp old new slot at now result h. gives-up-others cmp old new slot at now result h;
 }
