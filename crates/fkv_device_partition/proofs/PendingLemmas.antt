@@ -32,7 +32,7 @@ module _ {K V I : Type 0} (cmp : K → K → Ordering) (v : PartitionView K V I)
   pub same-pend : (y : Option (Context K V I)) → pending cmp (with_context v slot c y now) slot c ≡ pending_of cmp v.records y
   same-pend y = ap (pending_of cmp v.records) (context-same v slot c now x h y)
 
-  frame-of : (y : Option (Context K V I)) → LeavesOthers v (with_context v slot c y now) slot c now
+  pub frame-of : (y : Option (Context K V I)) → LeavesOthers v (with_context v slot c y now) slot c now
   frame-of y = record { others = λ t d o. asked-other v slot c now x h y t d o; number = refl; count = refl; begin = refl; regions = refl; moment = refl }
 
   -- what was to be found

@@ -1,11 +1,11 @@
 -- What events leave of look-ups that wait for a page, and of frozen records.
-use Rattle.std.proofs.Common.{◌≡◌, ◌<◌, ◌+◌, ◌*◌, ℕ, Bool, IsTrue, List, Option, Some, None, Result, inl, inr, slice_get, refl, sym, ◌∙◌, ap, arith}
+use Rattle.std.proofs.Common.{◌≡◌, ◌<◌, ◌+◌, ◌*◌, ◌⊎◌, ℕ, Bool, IsTrue, List, Option, Some, None, option_map, Result, Err, inl, inr, slice_get, refl, sym, ◌∙◌, ap, arith}
 use Rattle.std.specs.declared.cmp.Ordering.{Ordering}
 use Rattle.fkv_functions.specs.Meanings.{Meanings}
 use Rattle.fkv_functions.proofs.ListLemmas.{get-set_same}
 use Rattle.fkv_functions.specs.declared.asks.Ask.{Ask}
 use Rattle.fkv_functions.specs.declared.refusals.Refused.{Refused}
-use Rattle.fkv_device.specs.Standing.{Standing}
+use Rattle.fkv_device.specs.Standing.{Standing, Joined}
 use Rattle.fkv_regions.specs.RegionsView.{RegionsView, entered}
 use Rattle.fkv_texts.specs.declared.entries.Entry.{Entry}
 use Rattle.fkv_texts.specs.Text.{entry_at, newest, last_of}
@@ -32,11 +32,13 @@ use Rattle.fkv_device_partition.specs.Going.{Decides, Goes}
 use Rattle.fkv_device_partition.specs.Installing.{Installs}
 use Rattle.fkv_device_partition.specs.Looking.{Refreshes, Shifts, Evicts}
 use Rattle.fkv_device_partition.specs.Flushing.{Flushes}
+use Rattle.fkv_device_partition.specs.Loading.{Loads}
+use Rattle.fkv_device_partition.specs.Effect.{asked_by, IsGiveUp}
 use Rattle.fkv_device_partition.specs.Frozen.{FrozenStay}
 use Rattle.fkv_device_partition.specs.Pending.{pending_by, pending_of, pending, OthersPend, AllPend}
-use Rattle.fkv_device_partition.proofs.AskedLemmas.{open_at, context-other, context-inside, free-context, free-low}
+use Rattle.fkv_device_partition.proofs.AskedLemmas.{open_at, asked-same, context-other, context-inside, free-context, free-low}
 use Rattle.fkv_device_partition.proofs.EventLemmas.{stands-at, refreshed-same, left-same, entered-same, same_or}
-use Rattle.fkv_device_partition.proofs.PendingLemmas.{others-pend}
+use Rattle.fkv_device_partition.proofs.PendingLemmas.{others-pend, frame-of}
 use Rattle.fkv_device_partition.proofs.SoundLemmas.{still-below}
 
 -- what is to be found depends on Begin and the text alone
@@ -214,6 +216,52 @@ issues-all {K} {V} {I} cmp code old new slot op now result (Issues.issues c h n 
 
     low : c < 8
     low = free-low old slot c q
+
+-- ---- a page comes, or what came in its place
+module _ {K V I O R : Type 0} (stands : R → Standing) (entry : ℕ → List ℕ → ℕ → Entry K V → Type 0) (cmp : K → K → Ordering) (f : Meanings K V I O) (old new : PartitionView K V I) (slot c now : ℕ) (came : Result (Joined R) Refused) where
+  stays : new ≡ old → OthersPend cmp old new slot c
+  stays is t d o = ap (λ (w : PartitionView K V I). pending cmp w t d) is
+
+  sets : (x : Context K V I) → context_at old slot c ≡ Some x → (y : Option (Context K V I)) → new ≡ with_context old slot c y now → OthersPend cmp old new slot c
+  sets x h y is t d o = ap (λ (w : PartitionView K V I). pending cmp w t d) is ∙ others-pend cmp old slot c now x h y t d o
+
+  pub loads-others : (result : Result (Progress K V I O R) Refused) → Loads stands entry cmp f old new slot c came now result → OthersPend cmp old new slot c
+  loads-others result (Loads.unknown h is r) = stays is
+  loads-others result (Loads.not_ready x h n is r) = stays is
+  loads-others result (Loads.moved x l h phase n is r) = sets x h _ is
+  loads-others result (Loads.failed x l why a q n is r) = sets x a.here None is
+  loads-others result (Loads.unread x l a q is r) = stays is
+  loads-others result (Loads.stranger x l p s a q h n is r) = stays is
+  loads-others result (Loads.damaged x l p why a q is r) = sets x a.awaits.here None is
+  loads-others result (Loads.astray x l p b a q high n is r) = sets x a.awaits.here None is
+  loads-others result (Loads.done x l p k i value a q op is r) = sets x a.reads.awaits.here None is
+  loads-others result (Loads.prepares x l p k i value a q op is r) = sets x a.reads.awaits.here _ is
+  loads-others result (Loads.goes_on x l p b r a q high place held is t) = sets x a.awaits.here _ is
+  loads-others result (Loads.unshared x l p b a q high place is r) = stays is
+
+  ends : (x : Context K V I) → context_at old slot c ≡ Some x → new ≡ with_context old slot c None now → (new ≡ old) ⊎ IsGiveUp old new slot c now
+  ends x h is = inr (rw is (record {
+    question = asked_by x;
+    was = ap (option_map asked_by) h;
+    closed = asked-same old slot c now x h None;
+    text = refl;
+    frame = frame-of cmp old slot c now x h None;
+  }))
+
+  -- one that fails
+  pub fails-whole : (why : Refused) → Loads stands entry cmp f old new slot c came now (Err why) → (new ≡ old) ⊎ IsGiveUp old new slot c now
+  fails-whole why (Loads.unknown h is r) = inl is
+  fails-whole why (Loads.not_ready x h n is r) = inl is
+  fails-whole why (Loads.moved x l h phase n is r) = absurd (cc)
+  fails-whole why (Loads.failed x l w a q n is r) = ends x a.here is
+  fails-whole why (Loads.unread x l a q is r) = inl is
+  fails-whole why (Loads.stranger x l p s a q h n is r) = inl is
+  fails-whole why (Loads.damaged x l p w a q is r) = ends x a.awaits.here is
+  fails-whole why (Loads.astray x l p b a q high n is r) = ends x a.awaits.here is
+  fails-whole why (Loads.done x l p k i value a q op is r) = absurd (cc)
+  fails-whole why (Loads.prepares x l p k i value a q op is r) = absurd (cc)
+  fails-whole why (Loads.goes_on x l p b s a q high place held is r) = absurd (cc)
+  fails-whole why (Loads.unshared x l p b a q high place is r) = inl is
 
 -- ---- frozen records
 as-frozen : {K V I : Type 0} (old new u : PartitionView K V I) → new ≡ u → FrozenStay old u → FrozenStay old new

@@ -1,12 +1,13 @@
 //! What every event leaves of the look-ups that wait for a page, and of the records that are frozen. Each law is what a
 //! function without a body ensures.
-ghost use Rattle.std.specs.Prelude.{◌≡◌, ℕ, Bool, IsTrue, List, Result, Ok};
+ghost use Rattle.std.specs.Prelude.{◌≡◌, ◌⊎◌, ℕ, Bool, IsTrue, List, Result, Ok, Err};
 ghost use Rattle.std.specs.declared.cmp.Ordering.{Ordering};
 ghost use Rattle.fkv_functions.specs.Meanings.{Meanings};
 ghost use Rattle.fkv_functions.specs.Plain.{IsKeyOrder};
 ghost use Rattle.fkv_functions.specs.declared.asks.Ask.{Ask};
 ghost use Rattle.fkv_functions.specs.declared.refusals.Refused.{Refused};
-ghost use Rattle.fkv_device.specs.Standing.{Standing};
+ghost use Rattle.fkv_device.specs.Standing.{Standing, Joined};
+ghost use Rattle.fkv_pages.specs.Spelled.{IsEntryIn};
 ghost use Rattle.fkv_operations.specs.After.{key_of};
 ghost use Rattle.fkv_device_partition.specs.declared.contexts.Progress.{Progress};
 ghost use Rattle.fkv_device_partition.specs.declared.contexts.Progress.TheVariants.{NeedsLoad};
@@ -18,10 +19,14 @@ ghost use Rattle.fkv_device_partition.specs.Going.{Goes};
 ghost use Rattle.fkv_device_partition.specs.Installing.{Installs};
 ghost use Rattle.fkv_device_partition.specs.Looking.{Refreshes, Shifts, Evicts};
 ghost use Rattle.fkv_device_partition.specs.Flushing.{Flushes};
+ghost use Rattle.fkv_device_partition.specs.Loading.{Loads};
+ghost use Rattle.fkv_device_partition.specs.Effect.{IsGiveUp};
 ghost use Rattle.fkv_device_partition.specs.Pending.{OthersPend, AllPend, IsAsking};
 ghost use Rattle.fkv_device_partition.specs.Frozen.{FrozenStay};
 ghost use Rattle.fkv_device_partition.specs.Sound.{IsSound};
 
+use fkv_device::Disk;
+use fkv_functions::Functions;
 use fkv_lookups::laws::{meetings_tell, records_change, records_grow};
 
 /// On a device that keeps, what a look-up that waits for a page is to find stays, whatever other operations do and
@@ -74,6 +79,21 @@ pub fn pendings_stay<K, V, I, O, R>()
     records_change::<K, V>();
     meetings_tell::<K, V>();
 }
+
+/// A load leaves what the others are to find; one that fails changes nothing, or ends the operation that it was for,
+/// without effect.
+pub fn loads_end<F: Functions, D: Disk>()
+    ensures loads { (old new : PartitionView F.Key F.Value F.Input) (slot c : ℕ) (came : Result (Joined D.Receipt) Refused)
+        (now : ℕ) (result : Result (Progress F.Key F.Value F.Input F.Output D.Receipt) Refused)
+        → Loads D.Receipt.stands (IsEntryIn F.Key.bytes_of F.Value.bytes_of F.Key.is_known F.Value.is_known
+        F.Key.SIZE F.Value.SIZE) F.Key.cmp F.meaning old new slot c came now result
+        → OthersPend F.Key.cmp old new slot c }
+    ensures fails { (old new : PartitionView F.Key F.Value F.Input) (slot c : ℕ) (came : Result (Joined D.Receipt) Refused)
+        (now : ℕ) (why : Refused)
+        → Loads D.Receipt.stands (IsEntryIn F.Key.bytes_of F.Value.bytes_of F.Key.is_known F.Value.is_known
+        F.Key.SIZE F.Value.SIZE) F.Key.cmp F.meaning old new slot c came now (Err why)
+        → (new ≡ old) ⊎ IsGiveUp old new slot c now }
+{}
 
 /// No event of an operation changes a frozen record: one below the safe read-only offset. The other events leave the
 /// text, or, on a device that need not keep, drop what it begins with.
