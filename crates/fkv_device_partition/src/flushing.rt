@@ -1,5 +1,8 @@
 //! Pages on their way to a device.
-ghost use Rattle.std.specs.Prelude.{◌≡◌, ◌<◌, ◌≤◌, ◌↔◌, ◌⊎◌, [], Some, Err, IfOk, IfErr, OnOk, OnErr, length, slice_get};
+ghost use Rattle.std.specs.Prelude.{◌≡◌, ◌+◌, ◌-◌, ◌^◌, ◌<◌, ◌≤◌, ◌↔◌, ◌⊎◌, ℕ, List, [], Some, Err, IfOk, IfErr, OnOk, OnErr, length, slice_get};
+ghost use Rattle.fkv_records.specs.Places.{page_at};
+ghost use Rattle.fkv_device.specs.Standing.{Standing};
+ghost use Rattle.fkv_pages.specs.Spelled.{IsPageOf};
 ghost use Rattle.fkv_device_partition.specs.Flushing.{Flushes};
 ghost use Rattle.fkv_device_partition.specs.Effect.{IsQuiet};
 
@@ -14,6 +17,23 @@ impl<F: Functions, D: Disk> Partition<F, D> {
         ensures { result ≡ length self.now.records.receipts }
     {
         self.records.unflushed()
+    }
+
+    /// What holds of all pages that are kept or wait. It does nothing when it runs.
+    pub fn pages_known(&self)
+        ensures receipts { (n : ℕ) (s : Standing)
+            → slice_get self.now.records.receipts n ≡ Some s
+            → (s.page ≡ n) × (s.length ≡ 2 ^ self.now.records.page_bits) }
+        // the pages from the first that is not flushed to below that of SafeReadOnly wait, each with the text's entries
+        ensures waiting { length self.now.records.waiting
+            ≡ page_at self.now.records.page_bits self.now.records.regions.offsets.safe_read_only
+            - length self.now.records.receipts }
+        ensures spelled { (i : ℕ) (page : List ℕ)
+            → slice_get self.now.records.waiting i ≡ Some page
+            → IsPageOf F.Key.bytes_of F.Value.bytes_of F.Key.SIZE F.Value.SIZE self.now.records.page_bits
+            (length self.now.records.receipts + i) self.now.records.text page }
+    {
+        self.records.pages_known();
     }
 
     /// A copy of the lowest page that is not flushed, to be written. Nothing changes. Refused: `NotDue` where it does not

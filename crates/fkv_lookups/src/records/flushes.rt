@@ -1,7 +1,10 @@
 //! Pages on their way to a device.
-ghost use Rattle.std.specs.Prelude.{◌≡◌, ◌<◌, ◌↔◌, ◌⊎◌, [], Some, None, Err, IfOk, IfErr, IfSome, OnOk, OnErr};
+ghost use Rattle.std.specs.Prelude.{◌≡◌, ◌+◌, ◌-◌, ◌^◌, ◌<◌, ◌↔◌, ◌⊎◌, ℕ, List, [], Some, None, Err, IfOk, IfErr, IfSome, OnOk, OnErr};
 ghost use Rattle.std.specs.Prelude.{length, slice_get};
+ghost use Rattle.fkv_records.specs.Places.{page_at};
+ghost use Rattle.fkv_device.specs.Standing.{Standing};
 ghost use Rattle.fkv_pages.specs.Loads.{IsHeldBy};
+ghost use Rattle.fkv_pages.specs.Spelled.{IsPageOf};
 ghost use Rattle.fkv_lookups.specs.Flushes.{flush_refusal};
 ghost use Rattle.fkv_lookups.specs.RecordsViews.{with_receipt};
 
@@ -16,6 +19,22 @@ impl<F: Functions, D: Disk> Records<F, D> {
         ensures { result ≡ length self.now.receipts }
     {
         self.log.unflushed()
+    }
+
+    /// What holds of all pages that are kept or wait. It does nothing when it runs.
+    pub fn pages_known(&self)
+        ensures receipts { (n : ℕ) (s : Standing)
+            → slice_get self.now.receipts n ≡ Some s
+            → (s.page ≡ n) × (s.length ≡ 2 ^ self.now.page_bits) }
+        // the pages from the first that is not flushed to below that of SafeReadOnly wait, each with the text's entries
+        ensures waiting { length self.now.waiting
+            ≡ page_at self.now.page_bits self.now.regions.offsets.safe_read_only - length self.now.receipts }
+        ensures spelled { (i : ℕ) (page : List ℕ)
+            → slice_get self.now.waiting i ≡ Some page
+            → IsPageOf F.Key.bytes_of F.Value.bytes_of F.Key.SIZE F.Value.SIZE self.now.page_bits
+            (length self.now.receipts + i) self.now.text page }
+    {
+        self.log.known();
     }
 
     /// A copy of the lowest page that is not flushed. Refused: `NotDue` where it does not end at or below SafeReadOnly,
