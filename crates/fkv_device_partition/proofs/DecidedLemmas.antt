@@ -17,22 +17,18 @@ use Rattle.fkv_texts.specs.declared.entries.Reached.TheVariants.{Found}
 use Rattle.fkv_operations.specs.After.{key_of}
 use Rattle.fkv_operations.specs.declared.operations.Op.{Op}
 use Rattle.fkv_operations.specs.declared.operations.Answer.{Answer}
-use Rattle.fkv_lookups.specs.declared.decisions.Met.TheVariants.{Mutable, OnDisk}
+use Rattle.fkv_lookups.specs.declared.decisions.Met.TheVariants.{Mutable}
 use Rattle.fkv_lookups.specs.declared.decisions.Decision.TheVariants.{Replace}
 use Rattle.fkv_lookups.specs.Decisions.{met_by, decision}
-use Rattle.fkv_lookups.specs.DecisionLaws.{replace-met, load-met}
-use Rattle.fkv_lookups.specs.Meeting.{met_from, IsMetAt, IsWanted}
-use Rattle.std.proofs.Common.{IsSome, Ok, subst, sym}
-use Rattle.fkv_device.specs.Standing.{Standing}
-use Rattle.std.proofs.lemmas.Bool.{eq-eqb}
-use Rattle.fkv_texts.specs.Text.{last_of, value_at, value_of}
+use Rattle.fkv_lookups.specs.DecisionLaws.{replace-met}
+use Rattle.fkv_lookups.specs.Meeting.{met_from, IsMetAt}
+use Rattle.std.proofs.Common.{IsSome, subst, sym}
+use Rattle.fkv_texts.specs.Text.{last_of, value_at}
 use Rattle.fkv_epoch.specs.Moves.{is_entered}
 use Rattle.fkv_device_partition.specs.declared.contexts.Context.{Context}
-use Rattle.fkv_device_partition.specs.Going.{Decides, Goes}
-use Rattle.fkv_device_partition.specs.declared.contexts.Progress.TheVariants.{NeedsLoad}
-use Rattle.fkv_device_partition.specs.Pending.{pending, pending_of, IsAsking}
+use Rattle.fkv_device_partition.specs.Going.{Decides}
 use Rattle.fkv_device_partition.specs.Sound.{IsSound}
-use Rattle.fkv_device_partition.proofs.AskedLemmas.{open_at, context-same}
+use Rattle.fkv_device_partition.proofs.AskedLemmas.{open_at}
 use Rattle.fkv_device_partition.specs.Views.{PartitionView, slots_of, seen_at, entry_for, met_at, reached_from}
 
 module _ {K V I O : Type 0} (cmp : K → K → Ordering) (f : Meanings K V I O) (code : K → ℕ) (v : PartitionView K V I) (slot : ℕ) where
@@ -111,33 +107,3 @@ module _ {K V I O : Type 0} {keeps : Bool} (cmp : K → K → Ordering) (f : Mea
 
   pub replaced-some : IsSome (value_at v.records.text e.address)
   replaced-some = subst (λ (y : Entry K V). IsSome (value_at v.records.text y.address)) same-entry (rw (met-here.1.stands, met-here.1.value) refl)
-
--- a page is asked for, to find what the live map says of the key
-pub asking : {K V I O R : Type 0} {keeps : Bool} (stands : R → Standing) (cmp : K → K → Ordering) (f : Meanings K V I O) (code : K → ℕ) (old new : PartitionView K V I) (slot c now : ℕ) (r : R) (a : ℕ) → IsSound keeps cmp code old
-    → ((k : K) (b : ℕ) → is_entered old.records.regions.epochs slot ≡ true → met_at cmp code old slot k ≡ OnDisk b → IsWanted cmp code old.records k b)
-    → Goes stands cmp f code old new slot c now (Ok (NeedsLoad r a))
-    → IsAsking cmp old new slot c now
-asking stands cmp f code old new slot c now r a s wanted (Goes.unknown h is e) = absurd (cc)
-asking stands cmp f code old new slot c now r a s wanted (Goes.asks x k ask h q is e) = absurd (cc)
-asking stands cmp f code old new slot c now r a s wanted (Goes.not_ready x l h phase is e) = absurd (cc)
-asking stands cmp f code old new slot c now r a s wanted (Goes.confirms x p h phase alone is e) = absurd (cc)
-asking stands cmp f code old new slot c now r a s wanted (Goes.backs_off x p h phase alone is e) = absurd (cc)
-asking stands cmp f code old new slot c now r a s wanted (Goes.done x t d is e) = absurd (cc)
-asking stands cmp f code old new slot c now r a s wanted (Goes.claims x d is e) = absurd (cc)
-asking stands cmp f code old new slot c now r a s wanted (Goes.unclaimed x d full is e) = absurd (cc)
-asking stands cmp f code old new slot c now r a s wanted (Goes.appends x value t k d entry room free is e) = absurd (cc)
-asking stands cmp f code old new slot c now r a s wanted (Goes.worn x value t d room is e) = absurd (cc)
-asking stands cmp f code old new slot c now r a s wanted (Goes.full x value t d room is e) = absurd (cc)
-asking stands cmp f code old new slot c now r a s wanted (Goes.replaces x value t k d last is e) = absurd (cc)
-asking stands cmp f code old new slot c now r a s wanted (Goes.waits x d is e) = absurd (cc)
-asking stands cmp f code old new slot c now r a s wanted (Goes.prepares x source i k d entry is e) = absurd (cc)
-asking stands cmp f code old new slot c now r a s wanted (Goes.asks_page x b k p d entry held is e) =
-    let w = wanted (key_of x.op) b (open_at (slots_of old) old.contexts slot c x d.here).inside (load-met f x.op (met_at cmp code old slot (key_of x.op)) b d.decided) in
-    record {
-      operation = x;
-      was = d.here;
-      asks = ap (λ (u : PartitionView _ _ _). pending cmp u slot c) is
-          ∙ ap (pending_of cmp old.records) (context-same old slot c now x d.here _)
-          ∙ (rw (eq-eqb old.records.begin old.records.begin refl) (ap (λ o. Some (record { moment = now; value = value_of o })) (sym w.newest)));
-    }
-asking stands cmp f code old new slot c now r a s wanted (Goes.unshared x b d is e) = absurd (cc)

@@ -7,4 +7,5 @@ pub mod DecidedLemmas
 pub mod LoadLemmas
 pub mod PendingLemmas
 pub mod StayLemmas
+pub mod FindsLemmas
 pub mod ListingLemmas

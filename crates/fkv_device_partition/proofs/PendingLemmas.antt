@@ -48,7 +48,7 @@ module _ {K V I : Type 0} (cmp : K → K → Ordering) (v : PartitionView K V I)
     load-moved l phase moved = record {
       question = asked_by x;
       was = ap (option_map asked_by) h;
-      effect = (asked-same v slot c now x h (Some (at_phase x Fresh)), ap (pending_of cmp v.records) h ∙ ap (λ (p : Phase V). pending_of cmp v.records (Some (at_phase x p))) phase ∙ gone (l.begin == v.records.begin) refl);
+      effect = (asked-same v slot c now x h (Some (at_phase x Fresh)), ap (pending_of cmp v.records) h ∙ ap (λ (p : Phase V). pending_of cmp v.records (Some (at_phase x p))) phase ∙ gone (l.begin == v.records.begin) refl, same-pend (Some (at_phase x Fresh)));
       live = λ q. refl;
       others = others-pend (Some (at_phase x Fresh));
       frame = frame-of (Some (at_phase x Fresh));
@@ -75,7 +75,7 @@ module _ {K V I : Type 0} (cmp : K → K → Ordering) (v : PartitionView K V I)
         | inr op ↦ (let u = update (key_of x.op) may.0 op in let y : Option (Context K V I) = Some (at_phase x (Prepared l.kept value)) in rw (u.0, u.1) (record {
           question = asked_by x;
           was = ap (option_map asked_by) h;
-          effect = (asked-same v slot c now x h y, refl, op, (_, was-pending l a, sym is));
+          effect = (asked-same v slot c now x h y, same-pend y, refl, op, (_, was-pending l a, sym is));
           live = λ q. refl;
           others = others-pend y;
           frame = frame-of y;

@@ -57,6 +57,11 @@ loading_by (Confirm p) = None
 loading_by (Prepared e s) = None
 loading_by (Load l) = Some l
 
+-- the same of an open operation, if there is one
+abbrev pub loading_of : {K V I : Type 0} → Option (Context K V I) → Option Loading
+loading_of None = None
+loading_of (Some x) = loading_by x.phase
+
 abbrev pub claim_of : {K V I : Type 0} → Option (Context K V I) → Option Place
 claim_of None = None
 claim_of (Some x) = claim_by x.phase

@@ -47,17 +47,18 @@ abbrev pub AllPend : {K V I : Type 0} → (K → K → Ordering) → PartitionVi
 AllPend cmp old new = (s d : ℕ) → pending cmp new s d ≡ pending cmp old s d
 
 -- what a page that came makes of the context that asked `x` and then asks `is`: a read is done, its effect being at its
--- look-up, with the value that this was to find; an update asks for what its input makes of that value; or another page
--- is asked for, to find the same
+-- look-up, with the value that this was to find; an update asks for what its input makes of that value, and waits for no
+-- page; or another page is asked for, to find the same
 abbrev pub HasLoaded : {K V I O R : Type 0} → Meanings K V I O → Asked K V I → Option (Asked K V I)
     → Option (Pending V) → Option (Pending V) → Progress K V I O R → Type 0
 HasLoaded f x is was then (Done a effect) = (is ≡ None)
     × ((p : Pending _) × (was ≡ Some p) × (effect ≡ p.moment)
     × ((i : _) × (x.op ≡ Read (key_of x.op) i) × (a ≡ shown_of f (key_of x.op) i p.value)))
-HasLoaded f x is was then Next = (is ≡ Some x) × (was ≡ None)
+HasLoaded f x is was then Next = (is ≡ Some x) × (was ≡ None) × (then ≡ None)
 HasLoaded f x is was then (Waits why) = ⊥
 HasLoaded f x is was then (NeedsLoad r b) = (is ≡ Some x) × (then ≡ was)
 HasLoaded f x is was then (NeedsBuild ask) = (is ≡ Some x)
+    × (then ≡ None)
     × (ask.number ≡ x.number)
     × (x.op ≡ Rmw ask.key ask.input)
     × ((p : Pending _) × (was ≡ Some p) × (ask.source ≡ p.value))
@@ -79,3 +80,13 @@ pub record IsAsking {K V I : Type 0} (cmp : K → K → Ordering) (old new : Par
   pub was : context_at old slot c ≡ Some operation
   pub asks : pending cmp new slot c
       ≡ Some (record { moment = now; value = live_of cmp old (key_of operation.op) })
+
+-- what an event of an operation leaves it to find: where it asks for a page, what the live map said of its key then, and
+-- nothing else
+abbrev pub Finds : {K V I O R : Type 0} → (K → K → Ordering) → PartitionView K V I → PartitionView K V I → ℕ → ℕ → ℕ
+    → Progress K V I O R → Type 0
+Finds cmp old new slot c now (Done a effect) = pending cmp new slot c ≡ None
+Finds cmp old new slot c now Next = pending cmp new slot c ≡ None
+Finds cmp old new slot c now (NeedsBuild ask) = pending cmp new slot c ≡ None
+Finds cmp old new slot c now (NeedsLoad r a) = IsAsking cmp old new slot c now
+Finds cmp old new slot c now (Waits why) = pending cmp new slot c ≡ None

@@ -17,8 +17,9 @@ use Rattle.fkv_texts.specs.declared.entries.Reached.{Reached}
 use Rattle.fkv_texts.specs.declared.entries.Reached.TheVariants.{Below}
 use Rattle.fkv_lookups.specs.declared.decisions.Met.{Met}
 use Rattle.fkv_device_partition.specs.declared.contexts.Context.{Context}
+use Rattle.fkv_device_partition.specs.declared.contexts.Loading.{Loading}
 use Rattle.fkv_device_partition.specs.declared.limits.Config.{Config}
-use Rattle.fkv_device_partition.specs.Contexts.{context_in}
+use Rattle.fkv_device_partition.specs.Contexts.{context_in, loading_of}
 
 -- a partition: its number among how many; its records with the entries of their classes, the regions of their log and
 -- its sessions; the open operations of these; and its last moment
@@ -76,6 +77,10 @@ reached_from cmp code v slot k (Some a) =
 -- the operation that is open in a context of an entered session
 abbrev pub context_at : {K V I : Type 0} → PartitionView K V I → ℕ → ℕ → Option (Context K V I)
 context_at v slot c = context_in (slots_of v) v.contexts slot c
+
+-- the look-up in which it waits for a page
+abbrev pub loading_at : {K V I : Type 0} → PartitionView K V I → ℕ → ℕ → Option Loading
+loading_at v slot c = loading_of (context_at v slot c)
 
 -- the view with this operation, or none, in a context, at another moment
 abbrev pub with_context : {K V I : Type 0} → PartitionView K V I → ℕ → ℕ → Option (Context K V I) → ℕ

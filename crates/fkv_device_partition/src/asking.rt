@@ -1,7 +1,9 @@
 //! What an open operation is.
-ghost use Rattle.std.specs.Prelude.{◌≡◌, Some, None, IfOk, IfErr};
+ghost use Rattle.std.specs.Prelude.{◌≡◌, Some, None, is_some, IfOk, IfErr};
 ghost use Rattle.fkv_device_partition.specs.Effect.{asked};
+ghost use Rattle.fkv_device_partition.specs.Views.{loading_at};
 
+use crate::contexts::loading_of;
 use crate::partitions::Partition;
 use fkv_device::Disk;
 use fkv_functions::{Functions, Refused};
@@ -19,5 +21,15 @@ impl<F: Functions, D: Disk> Partition<F, D> {
             return Err(Refused::Unknown);
         };
         Ok((open.number, open.op))
+    }
+
+    /// Whether the operation in a context waits for a page.
+    pub fn awaits_page(&self, slot: usize, context: usize) -> bool
+        ensures { result ≡ is_some (loading_at self.now slot context) }
+    {
+        match self.open(slot, context) {
+            None => false,
+            Some(open) => loading_of(&open.phase).is_some(),
+        }
     }
 }

@@ -10,7 +10,6 @@ ghost use Rattle.fkv_device.specs.Standing.{Standing, Joined};
 ghost use Rattle.fkv_pages.specs.Spelled.{IsEntryIn};
 ghost use Rattle.fkv_operations.specs.After.{key_of};
 ghost use Rattle.fkv_device_partition.specs.declared.contexts.Progress.{Progress};
-ghost use Rattle.fkv_device_partition.specs.declared.contexts.Progress.TheVariants.{NeedsLoad};
 ghost use Rattle.fkv_device_partition.specs.Views.{PartitionView};
 ghost use Rattle.fkv_operations.specs.declared.operations.Op.{Op};
 ghost use Rattle.fkv_device_partition.specs.Beginning.{Enters, Issues};
@@ -21,7 +20,7 @@ ghost use Rattle.fkv_device_partition.specs.Looking.{Refreshes, Shifts, Evicts};
 ghost use Rattle.fkv_device_partition.specs.Flushing.{Flushes};
 ghost use Rattle.fkv_device_partition.specs.Loading.{Loads};
 ghost use Rattle.fkv_device_partition.specs.Effect.{IsGiveUp};
-ghost use Rattle.fkv_device_partition.specs.Pending.{OthersPend, AllPend, IsAsking};
+ghost use Rattle.fkv_device_partition.specs.Pending.{OthersPend, AllPend, Finds};
 ghost use Rattle.fkv_device_partition.specs.Frozen.{FrozenStay};
 ghost use Rattle.fkv_device_partition.specs.Sound.{IsSound};
 
@@ -37,18 +36,23 @@ pub fn pendings_stay<K, V, I, O, R>()
         → IsTrue keeps → IsKeyOrder cmp → IsSound keeps cmp code old
         → Goes stands cmp f code old new slot c now result
         → OthersPend cmp old new slot c }
-    // where a page is asked for, it is to find what the live map says of the key at that moment
-    ensures asks { (keeps : Bool) (stands : R → Standing) (cmp : K → K → Ordering) (f : Meanings K V I O) (code : K → ℕ)
-        (old new : PartitionView K V I) (slot c now : ℕ) (r : R) (a : ℕ)
+    // where a page is asked for, it is to find what the live map says of the key at that moment, and nothing else is to be
+    // found
+    ensures finds { (keeps : Bool) (stands : R → Standing) (cmp : K → K → Ordering) (f : Meanings K V I O) (code : K → ℕ)
+        (old new : PartitionView K V I) (slot c now : ℕ) (progress : Progress K V I O R)
         → IsKeyOrder cmp → IsSound keeps cmp code old
-        → Goes stands cmp f code old new slot c now (Ok (NeedsLoad r a))
-        → IsAsking cmp old new slot c now }
+        → Goes stands cmp f code old new slot c now (Ok progress)
+        → Finds cmp old new slot c now progress }
     ensures installs { (keeps : Bool) (cmp : K → K → Ordering) (f : Meanings K V I O) (code : K → ℕ)
         (old new : PartitionView K V I) (slot c : ℕ) (ask : Ask K V I) (now : ℕ)
         (result : Result (Progress K V I O R) Refused)
         → IsTrue keeps → IsSound keeps cmp code old
         → Installs cmp f code old new slot c ask now result
         → OthersPend cmp old new slot c }
+    ensures built { (cmp : K → K → Ordering) (f : Meanings K V I O) (code : K → ℕ)
+        (old new : PartitionView K V I) (slot c : ℕ) (ask : Ask K V I) (now : ℕ) (progress : Progress K V I O R)
+        → Installs cmp f code old new slot c ask now (Ok progress)
+        → Finds cmp old new slot c now progress }
     ensures refreshes { (keeps : Bool) (cmp : K → K → Ordering) (old new : PartitionView K V I) (slot now : ℕ)
         (result : Result (Unit {0}) Refused)
         → IsTrue keeps → Refreshes keeps old new slot now result → AllPend cmp old new }

@@ -33,8 +33,8 @@ fn address_of(entry: &Option<IndexEntry>) -> Option<Address>
 }
 
 impl<F: Functions, D: Disk> Partition<F, D> {
-    /// What holds of every partition.
-    pub(crate) fn known(&self)
+    /// What holds of every partition. It does nothing when it runs.
+    pub fn known(&self)
         ensures { IsSound D.keeps F.Key.cmp F.code self.now }
     {
         let _moment = self.moment;

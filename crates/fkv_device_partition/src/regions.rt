@@ -1,5 +1,5 @@
 //! How sessions follow the regions of the log, and how these move.
-ghost use Rattle.std.specs.Prelude.{◌≡◌, ◌<◌, ◌≤◌, OnOk, OnErr};
+ghost use Rattle.std.specs.Prelude.{◌≡◌, ◌^◌, ◌<◌, ◌≤◌, OnOk, OnErr};
 ghost use Rattle.fkv_device_partition.specs.Looking.{Refreshes, Shifts, Evicts};
 ghost use Rattle.fkv_device_partition.specs.Effect.{IsQuiet};
 
@@ -72,5 +72,19 @@ impl<F: Functions, D: Disk> Partition<F, D> {
         ensures { result ≡ self.now.records.tail }
     {
         self.records.tail()
+    }
+
+    /// Head: records below it are read from the device by sessions that are refreshed from now on.
+    pub fn head(&self) -> Address
+        ensures { result ≡ self.now.records.regions.offsets.head }
+    {
+        self.records.head()
+    }
+
+    /// The bytes of a page.
+    pub fn page_size(&self) -> usize
+        ensures { result ≡ 2 ^ self.now.records.page_bits }
+    {
+        self.records.page_size()
     }
 }

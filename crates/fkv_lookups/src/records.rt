@@ -241,6 +241,20 @@ impl<F: Functions, D: Disk> Records<F, D> {
         self.log.tail()
     }
 
+    /// Head: records below it are read from the device by sessions that are refreshed from now on.
+    pub fn head(&self) -> Address
+        ensures { result ≡ self.now.regions.offsets.head }
+    {
+        self.log.regions().offsets().head
+    }
+
+    /// The bytes of a page.
+    pub fn page_size(&self) -> usize
+        ensures { result ≡ 2 ^ self.now.page_bits }
+    {
+        self.log.shape().page_size()
+    }
+
     /// Where the records begin that are not dropped.
     pub fn begin(&self) -> Address
         ensures { result ≡ self.now.begin }

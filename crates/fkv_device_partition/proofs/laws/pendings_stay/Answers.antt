@@ -1,5 +1,6 @@
 use Rattle.fkv_device_partition.proofs.StayLemmas.{goes-others, installs-others, refreshes-all, shifts-all, evicts-all, flushes-all, enters-all, leaves-all, issues-all, gives-up-others}
-use Rattle.fkv_device_partition.proofs.DecidedLemmas.{replaced-high, replaced-some, asking}
+use Rattle.fkv_device_partition.proofs.DecidedLemmas.{replaced-high, replaced-some}
+use Rattle.fkv_device_partition.proofs.FindsLemmas.{goes-find, installs-find}
 use Rattle.fkv_device_partition.proofs.laws.pendings_stay.Goals as goal
 
 pub returns : goal.returns
@@ -16,13 +17,14 @@ returns g c = record {
       (λ k w entered met. c.meetings_tell.ensures.mutable keeps cmp code old.records k slot w order s.traced entered met)
       (λ k w entered m. c.meetings_tell.ensures.unfrozen keeps cmp code old.records k slot w s.traced entered m) d last) still)
       goes;
-  asks = λ keeps stands cmp f code old new slot at now r a order s goes.
-      asking stands cmp f code old new slot at now r a s
-      (λ k b entered met. c.meetings_tell.ensures.wanted keeps cmp code old.records k slot b order s.traced entered met) goes;
+  finds = λ keeps stands cmp f code old new slot at now progress order s goes.
+      goes-find cmp f code old new slot at now stands s
+      (λ k b entered met. c.meetings_tell.ensures.wanted keeps cmp code old.records k slot b order s.traced entered met) progress goes;
   installs = λ keeps cmp f code old new slot at ask now result yes_keeps s installs.
       installs-others cmp code old s new slot at now f ask result
       (λ e key value k a low. c.records_grow.ensures.kept cmp old.records e key value k a low)
       installs;
+  built = λ cmp f code old new slot at ask now progress installs. installs-find cmp f code old new slot at now ask progress installs;
   refreshes = λ keeps cmp old new slot now result yes_keeps h. refreshes-all keeps cmp old new slot now result yes_keeps h;
   shifts = λ keeps cmp old new page now result yes_keeps h. shifts-all keeps cmp old new page now result yes_keeps h;
   evicts = λ keeps cmp old new page now result yes_keeps h. evicts-all keeps cmp old new page now result yes_keeps h;
