@@ -5,14 +5,14 @@ use Rattle.fkv_functions.specs.Meanings.{Meanings}
 use Rattle.fkv_functions.specs.declared.asks.Ask.{Ask}
 use Rattle.fkv_functions.specs.declared.refusals.Refused.{Refused}
 use Rattle.fkv_operations.specs.declared.operations.Op.{Op}
-use Rattle.fkv_partition.specs.declared.contexts.Progress.{Progress}
-use Rattle.fkv_partition.specs.Views.{PartitionView}
-use Rattle.fkv_partition.specs.Beginning.{Enters, Issues}
-use Rattle.fkv_partition.specs.Effect.{IsQuiet, IsIssue, IsEvent, IsGiveUp}
-use Rattle.fkv_partition.specs.Going.{Goes}
-use Rattle.fkv_partition.specs.Installing.{Installs}
-use Rattle.fkv_partition.specs.Ending.{Leaves, GivesUp}
-use Rattle.fkv_partition.specs.Looking.{Refreshes, Shifts}
+use Rattle.fkv_device_partition.specs.declared.contexts.Progress.{Progress}
+use Rattle.fkv_device_partition.specs.Views.{PartitionView}
+use Rattle.fkv_device_partition.specs.Beginning.{Enters, Issues}
+use Rattle.fkv_device_partition.specs.Effect.{IsQuiet, IsIssue, IsEvent, IsGiveUp}
+use Rattle.fkv_device_partition.specs.Going.{Goes}
+use Rattle.fkv_device_partition.specs.Installing.{Installs}
+use Rattle.fkv_device_partition.specs.Ending.{Leaves, GivesUp}
+use Rattle.fkv_device_partition.specs.Looking.{Refreshes, Shifts}
 use Rattle.fkv_worlds.specs.declared.lives.End.TheVariants.{GivenUp}
 use Rattle.fkv_worlds.specs.Changes.{ended_at}
 use Rattle.fkv_worlds.specs.declared.outcomes.Outcome.TheVariants as outcome

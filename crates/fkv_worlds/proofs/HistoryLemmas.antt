@@ -6,8 +6,8 @@ use Rattle.std.specs.declared.cmp.Ordering.{Ordering}
 use Rattle.fkv_functions.specs.Meanings.{Meanings}
 use Rattle.fkv_functions.specs.declared.refusals.Refused.{Refused}
 use Rattle.fkv_operations.specs.declared.operations.Op.{Op}
-use Rattle.fkv_partition.specs.declared.contexts.Progress.{Progress}
-use Rattle.fkv_partition.specs.declared.contexts.Progress.TheVariants.{Done, Next, NeedsBuild, Waits}
+use Rattle.fkv_device_partition.specs.declared.contexts.Progress.{Progress}
+use Rattle.fkv_device_partition.specs.declared.contexts.Progress.TheVariants.{Done, Next, NeedsBuild, Waits}
 use Rattle.fkv_functions.proofs.ListLemmas.{get-set_other}
 use Rattle.fkv_worlds.specs.declared.lives.Life.{Life}
 use Rattle.fkv_worlds.specs.declared.lives.End.{End}
@@ -17,7 +17,7 @@ use Rattle.fkv_worlds.specs.declared.steps.Step.{Step}
 use Rattle.fkv_worlds.specs.declared.steps.Step.TheVariants as step
 use Rattle.fkv_worlds.specs.declared.tables.Seat.{Seat}
 use Rattle.fkv_worlds.specs.Changes.{ended_at}
-use Rattle.fkv_partition.specs.declared.limits.Config.{Config}
+use Rattle.fkv_device_partition.specs.declared.limits.Config.{Config}
 use Rattle.fkv_worlds.specs.States.{StateView, WorldView, seat_row, empty_state, empty_world}
 use Rattle.fkv_worlds.proofs.EmptyLemmas.{replicate-at}
 use Rattle.fkv_worlds.specs.Acts.{Acts, begun_life, lives_by, told, nowhere, unasked, unknown, worn, lifeless, refuses_enter, enters, refuses_leave, leaves, refuses_refresh, refreshes, refuses_shift, shifts, refuses_give_up, gives_up, refuses_issue, issues, refuses_go, goes, refuses_install, installs}

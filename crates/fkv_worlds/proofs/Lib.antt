@@ -1,3 +1,4 @@
+pub mod ResultLemmas
 pub mod LivesLemmas
 pub mod PlacedLemmas
 pub mod WrongLemmas

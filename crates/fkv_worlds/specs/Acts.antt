@@ -1,30 +1,42 @@
 -- What a step does: a rule for each case, in the order of the tests.
-use Rattle.std.specs.Prelude.{length, ◌≡◌, ◌<◌, ◌≤◌, ◌-◌, ◌^◌, ℕ, suc, List, [], ◌∷◌, ◌++◌, Option, Some, None, Result, Ok, Err, IsSome, slice_get, slice_set}
+use Rattle.std.specs.Prelude.{length, ◌≡◌, ◌<◌, ◌≤◌, ◌-◌, ◌^◌, ℕ, suc, Bool, true, false, List, [], ◌∷◌, ◌++◌, Option, Some, None, Result, Ok, Err, IsSome, slice_get, slice_set}
 use Rattle.std.specs.declared.cmp.Ordering.{Ordering}
 use Rattle.fkv_functions.specs.Meanings.{Meanings}
 use Rattle.fkv_functions.specs.declared.asks.Ask.{Ask}
 use Rattle.fkv_functions.specs.declared.refusals.Refused.{Refused}
 use Rattle.fkv_functions.specs.declared.refusals.Refused.TheVariants.{NoMemory, Unknown, NotReady, Worn}
+use Rattle.fkv_texts.specs.declared.entries.Entry.{Entry}
+use Rattle.fkv_device.specs.Standing.{Standing, Joined}
+use Rattle.fkv_device.specs.declared.messages.FlushJob.{FlushJob}
 use Rattle.fkv_operations.specs.declared.operations.Op.{Op}
-use Rattle.fkv_partition.specs.declared.contexts.Progress.{Progress}
-use Rattle.fkv_partition.specs.declared.contexts.Progress.TheVariants.{Done, Next, NeedsBuild, Waits}
-use Rattle.fkv_partition.specs.Views.{PartitionView}
-use Rattle.fkv_partition.specs.Effect.{asked, IsQuiet, IsIssue, IsEvent, IsGiveUp}
-use Rattle.fkv_partition.specs.Beginning.{Enters, Issues}
-use Rattle.fkv_partition.specs.Going.{Goes}
-use Rattle.fkv_partition.specs.Installing.{Installs}
-use Rattle.fkv_partition.specs.Ending.{Leaves, GivesUp}
-use Rattle.fkv_partition.specs.Looking.{Refreshes, Shifts}
+use Rattle.fkv_device_partition.specs.declared.contexts.Progress.{Progress}
+use Rattle.fkv_device_partition.specs.declared.contexts.Progress.TheVariants.{Done, Next, NeedsBuild, NeedsLoad, Waits}
+use Rattle.fkv_device_partition.specs.Views.{PartitionView}
+use Rattle.fkv_device_partition.specs.Effect.{asked, IsQuiet, IsIssue, IsEvent, IsGiveUp}
+use Rattle.fkv_device_partition.specs.Pending.{IsLoad}
+use Rattle.fkv_device_partition.specs.Beginning.{Enters, Issues}
+use Rattle.fkv_device_partition.specs.Going.{Goes}
+use Rattle.fkv_device_partition.specs.Installing.{Installs}
+use Rattle.fkv_device_partition.specs.Loading.{Loads}
+use Rattle.fkv_device_partition.specs.Flushing.{Flushes}
+use Rattle.fkv_device_partition.specs.Ending.{Leaves, GivesUp}
+use Rattle.fkv_device_partition.specs.Looking.{Refreshes, Shifts, Evicts}
+use Rattle.fkv_worlds.specs.declared.lives.End.{End}
 use Rattle.fkv_worlds.specs.declared.lives.Life.{Life}
-use Rattle.fkv_worlds.specs.declared.lives.End.TheVariants.{Open, Finished, GivenUp}
+use Rattle.fkv_worlds.specs.declared.lives.End.TheVariants.{Open, Finished, Failed, GivenUp}
 use Rattle.fkv_worlds.specs.declared.outcomes.Outcome.{Outcome}
 use Rattle.fkv_worlds.specs.declared.outcomes.Outcome.TheVariants as outcome
 use Rattle.fkv_worlds.specs.declared.tables.Seat.{Seat}
+use Rattle.fkv_worlds.specs.declared.steps.Access.{Access}
+use Rattle.fkv_worlds.specs.declared.steps.Access.TheVariants.{Works}
 use Rattle.fkv_worlds.specs.declared.steps.Place.{Place}
 use Rattle.fkv_worlds.specs.declared.steps.Step.{Step}
-use Rattle.fkv_worlds.specs.declared.steps.Step.TheVariants.{Enter, Leave, Refresh, ReadOnly, Issue, Go, Install, GiveUp}
+use Rattle.fkv_worlds.specs.declared.steps.Step.TheVariants.{Enter, Leave, Refresh, ReadOnly, Take, Write, Head, Issue, Go, Install, Load, GiveUp}
 use Rattle.fkv_worlds.specs.Changes.{ended_at}
-use Rattle.fkv_worlds.specs.States.{StateView, WorldView, seat_row, context_row, life_in, question_in}
+use Rattle.fkv_worlds.specs.Devices.{IsReceiptOf, Comes, Spoils}
+use Rattle.fkv_worlds.specs.Refusing.{Refuses}
+use Rattle.fkv_worlds.specs.Told.{ends_operation}
+use Rattle.fkv_worlds.specs.States.{StateView, WorldView, seat_row, context_row, life_in, question_in, receipt_in, job_in, is_unasked}
 
 -- the partition of a step
 abbrev pub partition_in : {K V I : Type 0} → Step K V I → ℕ
@@ -32,17 +44,22 @@ partition_in (Enter p) = p
 partition_in (Leave p slot) = p
 partition_in (Refresh p slot) = p
 partition_in (ReadOnly p page) = p
+partition_in (Take p) = p
+partition_in (Write p access) = p
+partition_in (Head p page) = p
 partition_in (Issue p slot op) = p
 partition_in (Go w) = w.partition
 partition_in (Install w) = w.partition
+partition_in (Load w access) = w.partition
 partition_in (GiveUp w) = w.partition
 
 -- the state where the partition at a place has become this one, at its moment
-abbrev pub with_partition : {K V I O : Type 0} → StateView K V I O → ℕ → PartitionView K V I → StateView K V I O
+abbrev pub with_partition : {K V I O R : Type 0} → StateView K V I O R → ℕ → PartitionView K V I → StateView K V I O R
 with_partition s p v = record s { partitions = slice_set s.partitions p v; moment = suc s.moment }
 
 -- the session that entered a slot is the next of its partition, and has issued nothing
-abbrev pub with_session : {K V I O : Type 0} → StateView K V I O → ℕ → ℕ → ℕ → PartitionView K V I → StateView K V I O
+abbrev pub with_session : {K V I O R : Type 0} → StateView K V I O R → ℕ → ℕ → ℕ → PartitionView K V I
+    → StateView K V I O R
 with_session s p slot n v = record (with_partition s p v) {
   enters = slice_set s.enters p (suc n);
   seats = slice_set s.seats (seat_row p slot) (record { session = suc n; issues = 0 });
@@ -58,165 +75,214 @@ begun_life p seat op now =
     record { partition = p; session = seat.session; number = suc seat.issues; op = op; issue = now; end = Open }
 
 -- one more life, which is that of its context
-abbrev pub with_life : {K V I O : Type 0} → StateView K V I O → Place → Seat → Op K V I → PartitionView K V I
-    → StateView K V I O
+abbrev pub with_life : {K V I O R : Type 0} → StateView K V I O R → Place → Seat → Op K V I → PartitionView K V I
+    → StateView K V I O R
 with_life s w seat op v = record (with_partition s w.partition v) {
   seats = slice_set s.seats (seat_row w.partition w.slot) (after_issue seat);
   begun = slice_set s.begun (context_row w) (length s.lives);
   questions = slice_set s.questions (context_row w) None;
+  receipts = slice_set s.receipts (context_row w) None;
   lives = s.lives ++ begun_life w.partition seat op (suc s.moment) ∷ [];
 }
 
 -- the lives after a progress of the one at a place
-abbrev pub lives_by : {K V I O : Type 0} → List (Life K V I O) → ℕ → ℕ → Progress K V I O → List (Life K V I O)
+abbrev pub lives_by : {K V I O R : Type 0} → List (Life K V I O) → ℕ → ℕ → Progress K V I O R → List (Life K V I O)
 lives_by lives place now (Done a effect) =
     ended_at lives place (Finished (record { effect = effect; done = now; answer = a }))
 lives_by lives place now Next = lives
 lives_by lives place now (Waits why) = lives
 lives_by lives place now (NeedsBuild ask) = lives
+lives_by lives place now (NeedsLoad receipt address) = lives
 
--- what the contexts asked for last, after a progress in one of them
-abbrev pub questions_by : {K V I O : Type 0} → List (Option (Ask K V I)) → ℕ → Progress K V I O
+-- what the contexts asked to be built last, after a progress in one of them
+abbrev pub questions_by : {K V I O R : Type 0} → List (Option (Ask K V I)) → ℕ → Progress K V I O R
     → List (Option (Ask K V I))
 questions_by questions row (Done a effect) = questions
 questions_by questions row Next = questions
 questions_by questions row (Waits why) = questions
 questions_by questions row (NeedsBuild ask) = slice_set questions row (Some ask)
+questions_by questions row (NeedsLoad receipt address) = questions
+
+-- the receipts of the pages that they asked for last
+abbrev pub receipts_by : {K V I O R : Type 0} → List (Option R) → ℕ → Progress K V I O R → List (Option R)
+receipts_by receipts row (Done a effect) = receipts
+receipts_by receipts row Next = receipts
+receipts_by receipts row (Waits why) = receipts
+receipts_by receipts row (NeedsBuild ask) = receipts
+receipts_by receipts row (NeedsLoad receipt address) = slice_set receipts row (Some receipt)
 
 -- an operation's progress: its life ends where it is done, and its context's question is kept
-abbrev pub with_progress : {K V I O : Type 0} → StateView K V I O → Place → Progress K V I O → PartitionView K V I
-    → StateView K V I O
+abbrev pub with_progress : {K V I O R : Type 0} → StateView K V I O R → Place → Progress K V I O R → PartitionView K V I
+    → StateView K V I O R
 with_progress s w progress v = record (with_partition s w.partition v) {
   lives = lives_by s.lives (life_in s.begun w) (suc s.moment) progress;
   questions = questions_by s.questions (context_row w) progress;
+  receipts = receipts_by s.receipts (context_row w) progress;
 }
 
--- an operation is given up: its life ends without effect
-abbrev pub with_given_up : {K V I O : Type 0} → StateView K V I O → Place → PartitionView K V I → StateView K V I O
-with_given_up s w v = record (with_partition s w.partition v) { lives = ended_at s.lives (life_in s.begun w) GivenUp }
+-- an operation ends without effect: it is given up, or a fault ends it
+abbrev pub with_end : {K V I O R : Type 0} → StateView K V I O R → Place → End O → PartitionView K V I
+    → StateView K V I O R
+with_end s w end v = record (with_partition s w.partition v) { lives = ended_at s.lives (life_in s.begun w) end }
+
+-- the page of a partition that was taken is this one, or none any more
+abbrev pub with_job : {K V I O R : Type 0} → StateView K V I O R → ℕ → Option FlushJob → StateView K V I O R
+with_job s p job = record s { jobs = slice_set s.jobs p job }
 
 -- what a step tells of a progress
-abbrev pub told : {K V I O : Type 0} → Progress K V I O → Outcome V O
+abbrev pub told : {K V I O R : Type 0} → Progress K V I O R → Outcome V O
 told (Done a effect) = outcome.Done a
 told Next = outcome.Next
 told (Waits why) = outcome.Waits why
 told (NeedsBuild ask) = outcome.Build ask.source
+told (NeedsLoad receipt address) = outcome.Load address
 
--- the step is in this partition, an install has a question to answer, and a moment is left
-pub record IsDue {K V I O : Type 0} (s : StateView K V I O) (step : Step K V I) (v : PartitionView K V I) : Type 0 where
+-- the context whose question a step answers
+abbrev pub answers_in : {K V I : Type 0} → Step K V I → Option Place
+answers_in (Enter p) = None
+answers_in (Leave p slot) = None
+answers_in (Refresh p slot) = None
+answers_in (ReadOnly p page) = None
+answers_in (Take p) = None
+answers_in (Write p access) = None
+answers_in (Head p page) = None
+answers_in (Issue p slot op) = None
+answers_in (Go w) = None
+answers_in (Install w) = Some w
+answers_in (Load w access) = Some w
+answers_in (GiveUp w) = None
+
+-- the step is in this partition, what it answers was asked, and a moment is left
+pub record IsDue {K V I O R : Type 0} (s : StateView K V I O R) (step : Step K V I) (v : PartitionView K V I) : Type 0 where
   pub here : slice_get s.partitions (partition_in step) ≡ Some v
-  pub question : (w : Place) → step ≡ Install w → IsSome (question_in s.questions w)
+  pub asked : is_unasked s step ≡ false
   pub moment : s.moment < 2 ^ 64 - 1
 
-pub data Acts {K V I O : Type 0} (cmp : K → K → Ordering) (f : Meanings K V I O) (code : K → ℕ)
-    (old new : StateView K V I O) (step : Step K V I) (result : Result (Outcome V O) Refused) : Type 0 where
+pub data Acts {K V I O R : Type 0} (stands : R → Standing) (entry : ℕ → List ℕ → ℕ → Entry K V → Type 0)
+    (cmp : K → K → Ordering) (f : Meanings K V I O) (code : K → ℕ) (old new : StateView K V I O R) (step : Step K V I)
+    (result : Result (Outcome V O) Refused) : Type 0 where
   -- there is no such partition
   nowhere : length old.partitions ≤ partition_in step
       → new ≡ old
       → result ≡ Err Unknown
-      → Acts cmp f code old new step result
-  -- an install of what was not asked for: of an operation, or of none
+      → Acts stands entry cmp f code old new step result
+  -- an answer to what was not asked: in an operation, or in none
   unasked : (w : Place) (v : PartitionView K V I)
-      → step ≡ Install w
+      → answers_in step ≡ Some w
       → slice_get old.partitions w.partition ≡ Some v
-      → question_in old.questions w ≡ None
+      → is_unasked old step ≡ true
       → IsSome (asked v w.slot w.context)
       → new ≡ old
       → result ≡ Err NotReady
-      → Acts cmp f code old new step result
+      → Acts stands entry cmp f code old new step result
   unknown : (w : Place) (v : PartitionView K V I)
-      → step ≡ Install w
+      → answers_in step ≡ Some w
       → slice_get old.partitions w.partition ≡ Some v
-      → question_in old.questions w ≡ None
+      → is_unasked old step ≡ true
       → asked v w.slot w.context ≡ None
       → new ≡ old
       → result ≡ Err Unknown
-      → Acts cmp f code old new step result
+      → Acts stands entry cmp f code old new step result
+  -- a write of no page
+  jobless : (p : ℕ) (access : Access)
+      → step ≡ Write p access
+      → p < length old.partitions
+      → is_unasked old step ≡ true
+      → new ≡ old
+      → result ≡ Err NotReady
+      → Acts stands entry cmp f code old new step result
   -- no moment is left
   worn : partition_in step < length old.partitions
-      → ((w : Place) → step ≡ Install w → IsSome (question_in old.questions w))
+      → is_unasked old step ≡ false
       → old.moment ≡ 2 ^ 64 - 1
       → new ≡ old
       → result ≡ Err Worn
-      → Acts cmp f code old new step result
+      → Acts stands entry cmp f code old new step result
   -- no memory is left for the life of an issue
   lifeless : (p slot : ℕ) (op : Op K V I) (v : PartitionView K V I)
       → step ≡ Issue p slot op
       → IsDue old step v
       → new ≡ old
       → result ≡ Err NoMemory
-      → Acts cmp f code old new step result
+      → Acts stands entry cmp f code old new step result
   -- what the partition refuses is refused; what it does is done, at the next moment: its rule, and what its event
   -- changes
-  refuses_enter : (p : ℕ) (v : PartitionView K V I) (e : Refused)
-      → step ≡ Enter p
+  refuses : (v : PartitionView K V I) (e : Refused)
       → IsDue old step v
-      → Enters v v (suc old.moment) (Err e)
+      → Refuses stands entry cmp f code old v (suc old.moment) e step
       → new ≡ old
       → result ≡ Err e
-      → Acts cmp f code old new step result
+      → Acts stands entry cmp f code old new step result
   enters : (p slot n : ℕ) (v v' : PartitionView K V I)
       → step ≡ Enter p
       → IsDue old step v
       → Enters v v' (suc old.moment) (Ok slot)
-      → IsQuiet v v' (suc old.moment)
+      → IsQuiet true v v' (suc old.moment)
       → slot < 16
       → slice_get old.enters p ≡ Some n
       → new ≡ with_session old p slot n v'
       → result ≡ Ok (outcome.Entered slot)
-      → Acts cmp f code old new step result
-  refuses_leave : (p slot : ℕ) (v : PartitionView K V I) (e : Refused)
-      → step ≡ Leave p slot
-      → IsDue old step v
-      → Leaves v v slot (suc old.moment) (Err e)
-      → new ≡ old
-      → result ≡ Err e
-      → Acts cmp f code old new step result
+      → Acts stands entry cmp f code old new step result
   leaves : (p slot : ℕ) (v v' : PartitionView K V I)
       → step ≡ Leave p slot
       → IsDue old step v
-      → Leaves v v' slot (suc old.moment) (Ok tt)
-      → IsQuiet v v' (suc old.moment)
+      → Leaves true v v' slot (suc old.moment) (Ok tt)
+      → IsQuiet true v v' (suc old.moment)
       → new ≡ with_partition old p v'
       → result ≡ Ok outcome.Left
-      → Acts cmp f code old new step result
-  refuses_refresh : (p slot : ℕ) (v : PartitionView K V I) (e : Refused)
-      → step ≡ Refresh p slot
-      → IsDue old step v
-      → Refreshes v v slot (suc old.moment) (Err e)
-      → new ≡ old
-      → result ≡ Err e
-      → Acts cmp f code old new step result
+      → Acts stands entry cmp f code old new step result
   refreshes : (p slot : ℕ) (v v' : PartitionView K V I)
       → step ≡ Refresh p slot
       → IsDue old step v
-      → Refreshes v v' slot (suc old.moment) (Ok tt)
-      → IsQuiet v v' (suc old.moment)
+      → Refreshes true v v' slot (suc old.moment) (Ok tt)
+      → IsQuiet true v v' (suc old.moment)
       → new ≡ with_partition old p v'
       → result ≡ Ok outcome.Refreshed
-      → Acts cmp f code old new step result
-  refuses_shift : (p page : ℕ) (v : PartitionView K V I) (e : Refused)
-      → step ≡ ReadOnly p page
-      → IsDue old step v
-      → Shifts v v page (suc old.moment) (Err e)
-      → new ≡ old
-      → result ≡ Err e
-      → Acts cmp f code old new step result
+      → Acts stands entry cmp f code old new step result
   shifts : (p page : ℕ) (v v' : PartitionView K V I)
       → step ≡ ReadOnly p page
       → IsDue old step v
-      → Shifts v v' page (suc old.moment) (Ok tt)
-      → IsQuiet v v' (suc old.moment)
+      → Shifts true v v' page (suc old.moment) (Ok tt)
+      → IsQuiet true v v' (suc old.moment)
       → new ≡ with_partition old p v'
       → result ≡ Ok outcome.Shifted
-      → Acts cmp f code old new step result
-  refuses_issue : (p slot : ℕ) (op : Op K V I) (v : PartitionView K V I) (e : Refused)
-      → step ≡ Issue p slot op
+      → Acts stands entry cmp f code old new step result
+  evicts : (p page : ℕ) (v v' : PartitionView K V I)
+      → step ≡ Head p page
       → IsDue old step v
-      → Issues code v v slot op (suc old.moment) (Err e)
-      → new ≡ old
+      → Evicts true v v' page (suc old.moment) (Ok tt)
+      → IsQuiet true v v' (suc old.moment)
+      → new ≡ with_partition old p v'
+      → result ≡ Ok outcome.Shifted
+      → Acts stands entry cmp f code old new step result
+  -- the lowest page that is not flushed is taken, which changes nothing in the partition
+  takes : (p : ℕ) (v : PartitionView K V I) (job : FlushJob)
+      → step ≡ Take p
+      → IsDue old step v
+      → job.page ≡ length v.records.receipts
+      → slice_get v.records.waiting 0 ≡ Some job.bytes.items
+      → new ≡ record (with_job old p (Some job)) { moment = suc old.moment }
+      → result ≡ Ok (outcome.Taken job.page)
+      → Acts stands entry cmp f code old new step result
+  -- a write spends the page that was taken, whether it is flushed or not
+  spoils : (p : ℕ) (access : Access) (v : PartitionView K V I) (job : FlushJob) (e : Refused)
+      → step ≡ Write p access
+      → IsDue old step v
+      → job_in old.jobs p ≡ Some job
+      → Spoils v (suc old.moment) job access e
+      → new ≡ with_job old p None
       → result ≡ Err e
-      → Acts cmp f code old new step result
+      → Acts stands entry cmp f code old new step result
+  writes : (p : ℕ) (v v' : PartitionView K V I) (job : FlushJob) (s : Standing)
+      → step ≡ Write p Works
+      → IsDue old step v
+      → job_in old.jobs p ≡ Some job
+      → IsReceiptOf job s
+      → Flushes v v' s job.bytes.items (suc old.moment) (Ok tt)
+      → IsQuiet true v v' (suc old.moment)
+      → new ≡ with_job (with_partition old p v') p None
+      → result ≡ Ok (outcome.Flushed job.page)
+      → Acts stands entry cmp f code old new step result
   issues : (p slot c : ℕ) (op : Op K V I) (v v' : PartitionView K V I) (seat : Seat)
       → step ≡ Issue p slot op
       → IsDue old step v
@@ -226,31 +292,16 @@ pub data Acts {K V I O : Type 0} (cmp : K → K → Ordering) (f : Meanings K V 
       → slice_get old.seats (seat_row p slot) ≡ Some seat
       → new ≡ with_life old (record { partition = p; slot = slot; context = c }) seat op v'
       → result ≡ Ok (outcome.Issued c)
-      → Acts cmp f code old new step result
-  refuses_go : (w : Place) (v : PartitionView K V I) (e : Refused)
+      → Acts stands entry cmp f code old new step result
+  goes : (w : Place) (v v' : PartitionView K V I) (progress : Progress K V I O R)
       → step ≡ Go w
       → IsDue old step v
-      → Goes cmp f code v v w.slot w.context (suc old.moment) (Err e)
-      → new ≡ old
-      → result ≡ Err e
-      → Acts cmp f code old new step result
-  goes : (w : Place) (v v' : PartitionView K V I) (progress : Progress K V I O)
-      → step ≡ Go w
-      → IsDue old step v
-      → Goes cmp f code v v' w.slot w.context (suc old.moment) (Ok progress)
+      → Goes stands cmp f code v v' w.slot w.context (suc old.moment) (Ok progress)
       → IsEvent cmp f v v' w.slot w.context (suc old.moment) progress
       → new ≡ with_progress old w progress v'
       → result ≡ Ok (told progress)
-      → Acts cmp f code old new step result
-  refuses_install : (w : Place) (v : PartitionView K V I) (ask : Ask K V I) (e : Refused)
-      → step ≡ Install w
-      → IsDue old step v
-      → question_in old.questions w ≡ Some ask
-      → Installs cmp f code v v w.slot w.context ask (suc old.moment) (Err e)
-      → new ≡ old
-      → result ≡ Err e
-      → Acts cmp f code old new step result
-  installs : (w : Place) (v v' : PartitionView K V I) (ask : Ask K V I) (progress : Progress K V I O)
+      → Acts stands entry cmp f code old new step result
+  installs : (w : Place) (v v' : PartitionView K V I) (ask : Ask K V I) (progress : Progress K V I O R)
       → step ≡ Install w
       → IsDue old step v
       → question_in old.questions w ≡ Some ask
@@ -258,28 +309,47 @@ pub data Acts {K V I O : Type 0} (cmp : K → K → Ordering) (f : Meanings K V 
       → IsEvent cmp f v v' w.slot w.context (suc old.moment) progress
       → new ≡ with_progress old w progress v'
       → result ≡ Ok (told progress)
-      → Acts cmp f code old new step result
-  refuses_give_up : (w : Place) (v : PartitionView K V I) (e : Refused)
-      → step ≡ GiveUp w
+      → Acts stands entry cmp f code old new step result
+  loads : (w : Place) (access : Access) (v v' : PartitionView K V I) (receipt : R) (came : Result (Joined R) Refused)
+      (progress : Progress K V I O R)
+      → step ≡ Load w access
       → IsDue old step v
-      → GivesUp v v w.slot w.context (suc old.moment) (Err e)
-      → new ≡ old
+      → receipt_in old.receipts w ≡ Some receipt
+      → Comes stands receipt access came
+      → Loads stands entry cmp f v v' w.slot w.context came (suc old.moment) (Ok progress)
+      → IsLoad cmp f v v' w.slot w.context (suc old.moment) progress
+      → new ≡ with_progress old w progress v'
+      → result ≡ Ok (told progress)
+      → Acts stands entry cmp f code old new step result
+  -- a page that could not be read, or is damaged, ends the operation that asked for it: that step is refused, and takes
+  -- its moment
+  fails : (w : Place) (access : Access) (v v' : PartitionView K V I) (receipt : R) (came : Result (Joined R) Refused)
+      (e : Refused)
+      → step ≡ Load w access
+      → IsDue old step v
+      → receipt_in old.receipts w ≡ Some receipt
+      → Comes stands receipt access came
+      → Loads stands entry cmp f v v' w.slot w.context came (suc old.moment) (Err e)
+      → ends_operation e ≡ true
+      → IsGiveUp v v' w.slot w.context (suc old.moment)
+      → new ≡ with_end old w Failed v'
       → result ≡ Err e
-      → Acts cmp f code old new step result
+      → Acts stands entry cmp f code old new step result
   gives_up : (w : Place) (v v' : PartitionView K V I)
       → step ≡ GiveUp w
       → IsDue old step v
       → GivesUp v v' w.slot w.context (suc old.moment) (Ok tt)
       → IsGiveUp v v' w.slot w.context (suc old.moment)
-      → new ≡ with_given_up old w v'
+      → new ≡ with_end old w GivenUp v'
       → result ≡ Ok outcome.GivenUp
-      → Acts cmp f code old new step result
+      → Acts stands entry cmp f code old new step result
 
 -- a step of a world: its outcome is kept, after those of the steps before it; where there is no memory to keep it,
 -- nothing is done
-pub data Steps {K V I O : Type 0} (cmp : K → K → Ordering) (f : Meanings K V I O) (code : K → ℕ)
-    (old new : WorldView K V I O) (step : Step K V I) (result : Result (Outcome V O) Refused) : Type 0 where
-  unkept : new ≡ old → result ≡ Err NoMemory → Steps cmp f code old new step result
-  kept : Acts cmp f code old.state new.state step result
+pub data Steps {K V I O R : Type 0} (stands : R → Standing) (entry : ℕ → List ℕ → ℕ → Entry K V → Type 0)
+    (cmp : K → K → Ordering) (f : Meanings K V I O) (code : K → ℕ) (old new : WorldView K V I O R) (step : Step K V I)
+    (result : Result (Outcome V O) Refused) : Type 0 where
+  unkept : new ≡ old → result ≡ Err NoMemory → Steps stands entry cmp f code old new step result
+  kept : Acts stands entry cmp f code old.state new.state step result
       → new.outcomes ≡ old.outcomes ++ result ∷ []
-      → Steps cmp f code old new step result
+      → Steps stands entry cmp f code old new step result

@@ -12,8 +12,8 @@ use Rattle.fkv_worlds.specs.Told.{IsAccount, taken}
 -- Each finished operation answers as the plain map does at one step of its own between its issue and its completion;
 -- the live records of all partitions denote the map which the finished updates give, each once; and the outcomes told
 -- are those of the lives.
-pub record IsHeadline {K V I O : Type 0} (cmp : K → K → Ordering) (f : Meanings K V I O) (code : K → ℕ)
-    (w : WorldView K V I O) : Type 0 where
+pub record IsHeadline {K V I O R : Type 0} (cmp : K → K → Ordering) (f : Meanings K V I O) (code : K → ℕ)
+    (w : WorldView K V I O R) : Type 0 where
   pub placed : IsPlaced cmp f w.state.lives w.state.moment
   pub denotes : Same (world_live cmp code w.state.partitions) (map_before cmp f w.state.lives (suc w.state.moment))
   pub account : IsAccount w.state.lives (taken w.outcomes) w.state.moment

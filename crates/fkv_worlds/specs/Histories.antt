@@ -5,7 +5,8 @@ use Rattle.fkv_operations.specs.declared.operations.Answer.{Answer}
 use Rattle.fkv_operations.specs.declared.operations.Op.{Op}
 use Rattle.fkv_worlds.specs.declared.lives.Life.{Life}
 use Rattle.fkv_worlds.specs.declared.outcomes.Outcome.{Outcome}
-use Rattle.fkv_worlds.specs.declared.outcomes.Outcome.TheVariants.{Entered, Left, Refreshed, Shifted, Issued, Next, Build, Waits, Done, GivenUp}
+use Rattle.fkv_worlds.specs.declared.outcomes.Outcome.TheVariants.{Entered, Left, Refreshed, Shifted, Taken, Flushed, Issued, Next, Build, Load, Waits, Done, GivenUp}
+use Rattle.fkv_worlds.specs.Told.{took_moment}
 use Rattle.fkv_worlds.specs.declared.steps.Step.{Step}
 use Rattle.fkv_worlds.specs.declared.steps.Step.TheVariants as step
 
@@ -33,10 +34,9 @@ issued_at (Err e) s = None
 issued_at (Ok x) (step.Issue p slot op) = Some (p, slot, op)
 issued_at (Ok x) s = None
 
--- the steps that were not refused
+-- the steps that took a moment
 abbrev pub moment_by : {V O : Type 0} → Result (Outcome V O) Refused → ℕ → ℕ
-moment_by (Ok x) n = suc n
-moment_by (Err e) n = n
+moment_by t n = cond (took_moment t) (suc n) n
 
 abbrev pub moments : {K V I O : Type 0} → List (Event K V I O) → ℕ
 moments [] = 0
@@ -88,9 +88,12 @@ answer_by (Ok (Entered slot)) rest = rest
 answer_by (Ok Left) rest = rest
 answer_by (Ok Refreshed) rest = rest
 answer_by (Ok Shifted) rest = rest
+answer_by (Ok (Taken page)) rest = rest
+answer_by (Ok (Flushed page)) rest = rest
 answer_by (Ok (Issued c)) rest = rest
 answer_by (Ok Next) rest = rest
 answer_by (Ok (Build source)) rest = rest
+answer_by (Ok (Load address)) rest = rest
 answer_by (Ok (Waits why)) rest = rest
 answer_by (Ok (Done a)) rest = a ∷ rest
 answer_by (Ok GivenUp) rest = rest

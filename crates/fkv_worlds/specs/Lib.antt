@@ -5,6 +5,8 @@ pub mod Changes
 pub mod WrongLives
 pub mod States
 pub mod Moments
+pub mod Devices
+pub mod Refusing
 pub mod Acts
 pub mod Worlds
 pub mod Told

@@ -1,5 +1,5 @@
 -- What a world reports, and a list of steps done in turn.
-use Rattle.std.specs.Prelude.{◌≡◌, ℕ, zero, suc, List, [], ◌∷◌, ◌++◌, Option, Some, None, Result, Ok, Err, map, unwrap_or}
+use Rattle.std.specs.Prelude.{◌≡◌, ℕ, zero, suc, Bool, false, cond, is_some, slice_get, List, [], ◌∷◌, ◌++◌, Option, Some, None, Result, Ok, Err, map, unwrap_or}
 use Rattle.std.specs.declared.cmp.Ordering.{Ordering}
 use Rattle.std.specs.BTreeMap.{is_at}
 use Rattle.std.specs.Map.{lookup, keys_of}
@@ -8,13 +8,17 @@ use Rattle.fkv_functions.specs.Meanings.{Meanings}
 use Rattle.fkv_functions.specs.Plain.{PlainMap, with_at}
 use Rattle.fkv_functions.specs.declared.refusals.Refused.{Refused}
 use Rattle.fkv_functions.specs.declared.refusals.Refused.TheVariants.{Stalled, NoMemory}
-use Rattle.fkv_partition.specs.declared.limits.Config.{Config}
+use Rattle.fkv_texts.specs.declared.entries.Entry.{Entry}
+use Rattle.fkv_device.specs.Standing.{Standing}
+use Rattle.fkv_device_partition.specs.Views.{PartitionView, loading_at}
+use Rattle.fkv_device_partition.specs.declared.limits.Config.{Config}
 use Rattle.fkv_worlds.specs.declared.lives.Life.{Life}
 use Rattle.fkv_worlds.specs.declared.outcomes.Outcome.{Outcome}
-use Rattle.fkv_worlds.specs.declared.outcomes.Outcome.TheVariants.{Entered, Left, Refreshed, Shifted, Issued, Next, Build, Waits, Done, GivenUp}
+use Rattle.fkv_worlds.specs.declared.outcomes.Outcome.TheVariants.{Entered, Left, Refreshed, Shifted, Taken, Flushed, Issued, Next, Build, Load, Waits, Done, GivenUp}
 use Rattle.fkv_worlds.specs.declared.steps.Place.{Place}
 use Rattle.fkv_worlds.specs.declared.steps.Step.{Step}
-use Rattle.fkv_worlds.specs.declared.steps.Step.TheVariants.{Go, Install}
+use Rattle.fkv_worlds.specs.declared.steps.Access.TheVariants.{Works}
+use Rattle.fkv_worlds.specs.declared.steps.Step.TheVariants as step
 use Rattle.fkv_worlds.specs.declared.pursuits.Pursuit.{Pursuit}
 use Rattle.fkv_worlds.specs.declared.pursuits.Pursuit.TheVariants.{Ready, Finish}
 use Rattle.fkv_worlds.specs.States.{WorldView, empty_world}
@@ -29,7 +33,7 @@ with_all cmp m [] = m
 with_all cmp m (p ∷ ps) = with_all cmp (with_at cmp m p.0 (Some p.1)) ps
 
 -- a report of a world: its outcomes, its lives, and each live key with its value, keys rising
-pub record IsReport {K V I O : Type 0} (cmp : K → K → Ordering) (code : K → ℕ) (w : WorldView K V I O)
+pub record IsReport {K V I O R : Type 0} (cmp : K → K → Ordering) (code : K → ℕ) (w : WorldView K V I O R)
     (told : List (Result (Outcome V O) Refused)) (lived : List (Life K V I O)) (pairs : List (K × V)) : Type 0 where
   pub outcomes : told ≡ w.outcomes
   pub lives : lived ≡ w.state.lives
@@ -37,42 +41,48 @@ pub record IsReport {K V I O : Type 0} (cmp : K → K → Ordering) (code : K �
   pub rising : IsStrictlySortedBy cmp (keys_of pairs)
 
 -- a step that was done, or refused, and kept
-pub record IsKept {K V I O : Type 0} (cmp : K → K → Ordering) (f : Meanings K V I O) (code : K → ℕ)
-    (old new : WorldView K V I O) (step : Step K V I) (r : Result (Outcome V O) Refused) : Type 0 where
-  pub acts : Acts cmp f code old.state new.state step r
+pub record IsKept {K V I O R : Type 0} (stands : R → Standing) (entry : ℕ → List ℕ → ℕ → Entry K V → Type 0)
+    (cmp : K → K → Ordering) (f : Meanings K V I O) (code : K → ℕ) (old new : WorldView K V I O R) (step : Step K V I)
+    (r : Result (Outcome V O) Refused) : Type 0 where
+  pub acts : Acts stands entry cmp f code old.state new.state step r
   pub outcomes : new.outcomes ≡ old.outcomes ++ r ∷ []
 
 -- the steps of a list, in turn, each of them kept
-abbrev pub RunsTo : {K V I O : Type 0} → (K → K → Ordering) → Meanings K V I O → (K → ℕ) → WorldView K V I O
-    → List (Step K V I) → WorldView K V I O → Type 0
-RunsTo cmp f code v [] w = w ≡ v
-RunsTo {K} {V} {I} {O} cmp f code v (s ∷ ss) w =
-    (u : WorldView K V I O)
+abbrev pub RunsTo : {K V I O R : Type 0} → (R → Standing) → (ℕ → List ℕ → ℕ → Entry K V → Type 0) → (K → K → Ordering)
+    → Meanings K V I O → (K → ℕ) → WorldView K V I O R → List (Step K V I) → WorldView K V I O R → Type 0
+RunsTo stands entry cmp f code v [] w = w ≡ v
+RunsTo {K} {V} {I} {O} {R} stands entry cmp f code v (s ∷ ss) w =
+    (u : WorldView K V I O R)
     × (r : Result (Outcome V O) Refused)
-    × IsKept cmp f code v u s r
-    × RunsTo cmp f code u ss w
+    × IsKept stands entry cmp f code v u s r
+    × RunsTo stands entry cmp f code u ss w
 
 -- a replay: the steps in turn from a world with nothing in it, and the report of the world which they lead to
-pub record IsReplay {K V I O : Type 0} (cmp : K → K → Ordering) (f : Meanings K V I O) (code : K → ℕ) (config : Config)
-    (record_size : ℕ) (steps : List (Step K V I)) (told : List (Result (Outcome V O) Refused))
+pub record IsReplay {K V I O R : Type 0} (stands : R → Standing) (entry : ℕ → List ℕ → ℕ → Entry K V → Type 0)
+    (cmp : K → K → Ordering) (f : Meanings K V I O) (code : K → ℕ) (config : Config) (record_size : ℕ) (steps : List (Step K V I)) (told : List (Result (Outcome V O) Refused))
     (lived : List (Life K V I O)) (pairs : List (K × V)) : Type 0 where
-  pub world : WorldView K V I O
-  pub ran : RunsTo cmp f code (empty_world config record_size) steps world
+  pub world : WorldView K V I O R
+  pub ran : RunsTo stands entry cmp f code (empty_world config record_size) steps world
   pub headline : IsHeadline cmp f code world
   pub report : IsReport cmp code world told lived pairs
   -- the lives are those of the accepted issues of the steps, in order
   pub issued : map issue_of lived ≡ issues_in (backwards steps told [])
 
--- the step that follows an outcome, if one does: `ready` goes on after Next, and `finish` installs after Build too
+-- the step that follows an outcome, if one does: `ready` goes on after Next, and `finish` installs after Build and loads
+-- after Load too
 abbrev pub step_after : {K V I O : Type 0} → Pursuit → Place → Outcome V O → Option (Step K V I)
 step_after pursuit place (Entered slot) = None
 step_after pursuit place Left = None
 step_after pursuit place Refreshed = None
 step_after pursuit place Shifted = None
+step_after pursuit place (Taken page) = None
+step_after pursuit place (Flushed page) = None
 step_after pursuit place (Issued context) = None
-step_after pursuit place Next = Some (Go place)
+step_after pursuit place Next = Some (step.Go place)
 step_after Ready place (Build source) = None
-step_after Finish place (Build source) = Some (Install place)
+step_after Finish place (Build source) = Some (step.Install place)
+step_after Ready place (Load address) = None
+step_after Finish place (Load address) = Some (step.Load place Works)
 step_after pursuit place (Waits why) = None
 step_after pursuit place (Done a) = None
 step_after pursuit place GivenUp = None
@@ -81,36 +91,47 @@ abbrev pub follows : {K V I O : Type 0} → Pursuit → Place → Result (Outcom
 follows pursuit place (Ok x) = step_after pursuit place x
 follows pursuit place (Err e) = None
 
+-- the step that a pursuit begins with: `finish` begins with the load, where the operation waits for a page
+abbrev pub awaits_at : {K V I : Type 0} → Option (PartitionView K V I) → ℕ → ℕ → Bool
+awaits_at None slot c = false
+awaits_at (Some v) slot c = is_some (loading_at v slot c)
+
+abbrev pub first_step : {K V I : Type 0} → List (PartitionView K V I) → Pursuit → Place → Step K V I
+first_step views Ready place = step.Go place
+first_step views Finish place =
+    cond (awaits_at (slice_get views place.partition) place.slot place.context) (step.Load place Works) (step.Go place)
+
 -- at most so many steps, each of them kept, the first of them this one, and each followed by the one that its outcome
 -- leads to; where another would follow the last of them, the pursuit is Stalled. It answers what its last step told,
 -- and nothing where there was no memory to keep a step's outcome: that step was not done.
-pub data Pursues {K V I O : Type 0} (cmp : K → K → Ordering) (f : Meanings K V I O) (code : K → ℕ) (pursuit : Pursuit)
-    (place : Place) (new : WorldView K V I O) (result : Option (Result (Outcome V O) Refused))
-    : ℕ → Step K V I → WorldView K V I O → Type 0 where
-  unkept : (n : ℕ) (s : Step K V I) (v : WorldView K V I O)
+pub data Pursues {K V I O R : Type 0} (stands : R → Standing) (entry : ℕ → List ℕ → ℕ → Entry K V → Type 0)
+    (cmp : K → K → Ordering) (f : Meanings K V I O) (code : K → ℕ) (pursuit : Pursuit) (place : Place)
+    (new : WorldView K V I O R) (result : Option (Result (Outcome V O) Refused))
+    : ℕ → Step K V I → WorldView K V I O R → Type 0 where
+  unkept : (n : ℕ) (s : Step K V I) (v : WorldView K V I O R)
       → new ≡ v
       → result ≡ None
-      → Pursues cmp f code pursuit place new result (suc n) s v
-  stalls : (s : Step K V I) (v : WorldView K V I O)
+      → Pursues stands entry cmp f code pursuit place new result (suc n) s v
+  stalls : (s : Step K V I) (v : WorldView K V I O R)
       → new ≡ v
       → result ≡ Some (Err Stalled)
-      → Pursues cmp f code pursuit place new result zero s v
-  ends : (n : ℕ) (s : Step K V I) (v : WorldView K V I O) (x : Result (Outcome V O) Refused)
-      → IsKept cmp f code v new s x
+      → Pursues stands entry cmp f code pursuit place new result zero s v
+  ends : (n : ℕ) (s : Step K V I) (v : WorldView K V I O R) (x : Result (Outcome V O) Refused)
+      → IsKept stands entry cmp f code v new s x
       → follows {K = K} {I = I} pursuit place x ≡ None
       → result ≡ Some x
-      → Pursues cmp f code pursuit place new result (suc n) s v
-  goes_on : (n : ℕ) (s t : Step K V I) (v u : WorldView K V I O) (x : Result (Outcome V O) Refused)
-      → IsKept cmp f code v u s x
+      → Pursues stands entry cmp f code pursuit place new result (suc n) s v
+  goes_on : (n : ℕ) (s t : Step K V I) (v u : WorldView K V I O R) (x : Result (Outcome V O) Refused)
+      → IsKept stands entry cmp f code v u s x
       → follows pursuit place x ≡ Some t
-      → Pursues cmp f code pursuit place new result n t u
-      → Pursues cmp f code pursuit place new result (suc n) s v
+      → Pursues stands entry cmp f code pursuit place new result n t u
+      → Pursues stands entry cmp f code pursuit place new result (suc n) s v
 
--- a pursuit that begins with a Go, of at most 10,000 steps, and what it answers: NoMemory where an outcome could not be
--- kept
-pub record IsPursued {K V I O : Type 0} (cmp : K → K → Ordering) (f : Meanings K V I O) (code : K → ℕ)
-    (pursuit : Pursuit) (place : Place) (old new : WorldView K V I O)
-    (result : Result (Outcome V O) Refused) : Type 0 where
+-- a pursuit of at most 10,000 steps, and what it answers: NoMemory where an outcome could not be kept
+pub record IsPursued {K V I O R : Type 0} (stands : R → Standing) (entry : ℕ → List ℕ → ℕ → Entry K V → Type 0)
+    (cmp : K → K → Ordering) (f : Meanings K V I O) (code : K → ℕ) (pursuit : Pursuit) (place : Place)
+    (old new : WorldView K V I O R) (result : Result (Outcome V O) Refused) : Type 0 where
   pub kept : Option (Result (Outcome V O) Refused)
-  pub pursues : Pursues cmp f code pursuit place new kept 10000 (Go place) old
+  pub pursues : Pursues stands entry cmp f code pursuit place new kept 10000
+      (first_step old.state.partitions pursuit place) old
   pub answers : result ≡ unwrap_or kept (Err NoMemory)

@@ -1,34 +1,42 @@
 -- What a contract sees of a world.
-use Rattle.std.specs.Prelude.{Bool, ◌≡◌, ◌+◌, ◌*◌, ◌^◌, ◌&&◌, cond, ℕ, List, [], Option, None, Result, map, replicate, slice_get, unwrap_or, nat_lt}
+use Rattle.std.specs.Prelude.{Bool, false, ◌≡◌, ◌+◌, ◌*◌, ◌^◌, ◌&&◌, cond, ℕ, List, [], Option, None, Result, map, replicate, slice_get, unwrap_or, nat_lt, is_none}
 use Rattle.std.specs.List.{range_with_len}
 use Rattle.fkv_functions.specs.declared.asks.Ask.{Ask}
 use Rattle.fkv_functions.specs.declared.refusals.Refused.{Refused}
-use Rattle.fkv_partition.specs.declared.limits.Config.{Config}
-use Rattle.fkv_partition.specs.Views.{PartitionView, empty_partition}
+use Rattle.fkv_device.specs.declared.messages.FlushJob.{FlushJob}
+use Rattle.fkv_device_partition.specs.declared.limits.Config.{Config}
+use Rattle.fkv_device_partition.specs.Views.{PartitionView, empty_partition}
 use Rattle.fkv_worlds.specs.declared.lives.Life.{Life}
 use Rattle.fkv_worlds.specs.declared.outcomes.Outcome.{Outcome}
 use Rattle.fkv_worlds.specs.declared.tables.Seat.{Seat}
 use Rattle.fkv_worlds.specs.declared.steps.Place.{Place}
+use Rattle.fkv_worlds.specs.declared.steps.Step.{Step}
+use Rattle.fkv_worlds.specs.declared.steps.Step.TheVariants.{Enter, Leave, Refresh, ReadOnly, Take, Write, Head, Issue, Go, Install, Load, GiveUp}
 
--- the partitions; for each context the place of the life that began there last, and what it asked for last; for each
--- slot its session and how many operations that has issued; for each partition how many sessions entered it; the lives;
--- and the last moment
-pub record StateView (K V I O : Type 0) : Type 0 where
+-- the partitions; for each context the place of the life that began there last, what it asked to be built last, and the
+-- receipt of the page that it asked for last; for each partition the page that was taken, to be written; for each slot
+-- its session and how many operations that has issued; for each partition how many sessions entered it; the lives; and
+-- the last moment
+pub record StateView (K V I O R : Type 0) : Type 0 where
   pub partitions : List (PartitionView K V I)
   pub begun : List ℕ
   pub questions : List (Option (Ask K V I))
+  pub receipts : List (Option R)
+  pub jobs : List (Option FlushJob)
   pub seats : List Seat
   pub enters : List ℕ
   pub lives : List (Life K V I O)
   pub moment : ℕ
 
 -- a state of these parts, in that order
-abbrev pub state_of : {K V I O : Type 0} → List (PartitionView K V I) → List ℕ → List (Option (Ask K V I)) → List Seat
-    → List ℕ → List (Life K V I O) → ℕ → StateView K V I O
-state_of partitions begun questions seats enters lives moment = record {
+abbrev pub state_of : {K V I O R : Type 0} → List (PartitionView K V I) → List ℕ → List (Option (Ask K V I))
+    → List (Option R) → List (Option FlushJob) → List Seat → List ℕ → List (Life K V I O) → ℕ → StateView K V I O R
+state_of partitions begun questions receipts jobs seats enters lives moment = record {
   partitions = partitions;
   begun = begun;
   questions = questions;
+  receipts = receipts;
+  jobs = jobs;
   seats = seats;
   enters = enters;
   lives = lives;
@@ -36,8 +44,8 @@ state_of partitions begun questions seats enters lives moment = record {
 }
 
 -- a world: its state, and the outcome of each step, refused ones included
-pub record WorldView (K V I O : Type 0) : Type 0 where
-  pub state : StateView K V I O
+pub record WorldView (K V I O R : Type 0) : Type 0 where
+  pub state : StateView K V I O R
   pub outcomes : List (Result (Outcome V O) Refused)
 
 -- the row of a slot, and of a context, in the tables
@@ -64,11 +72,36 @@ life_in begun w = cond (is_context w) (unwrap_or (slice_get begun (context_row w
 abbrev pub question_in : {K V I : Type 0} → List (Option (Ask K V I)) → Place → Option (Ask K V I)
 question_in questions w = cond (is_context w) (unwrap_or (slice_get questions (context_row w)) None) None
 
+-- the receipt of the page that it asked for last
+abbrev pub receipt_in : {R : Type 0} → List (Option R) → Place → Option R
+receipt_in receipts w = cond (is_context w) (unwrap_or (slice_get receipts (context_row w)) None) None
+
+-- the page of a partition that was taken, to be written
+abbrev pub job_in : List (Option FlushJob) → ℕ → Option FlushJob
+job_in jobs p = unwrap_or (slice_get jobs p) None
+
+-- whether a step answers what nobody asked: an install without a question, a load without a page that was asked for, a
+-- write without a page that was taken
+abbrev pub is_unasked : {K V I O R : Type 0} → StateView K V I O R → Step K V I → Bool
+is_unasked s (Enter p) = false
+is_unasked s (Leave p slot) = false
+is_unasked s (Refresh p slot) = false
+is_unasked s (ReadOnly p page) = false
+is_unasked s (Take p) = false
+is_unasked s (Write p access) = is_none (job_in s.jobs p)
+is_unasked s (Head p page) = false
+is_unasked s (Issue p slot op) = false
+is_unasked s (Go w) = false
+is_unasked s (Install w) = is_none (question_in s.questions w)
+is_unasked s (Load w access) = is_none (receipt_in s.receipts w)
+is_unasked s (GiveUp w) = false
+
 -- the tables of so many partitions before the first step
-pub record IsBlank {K V I : Type 0} (partitions : ℕ) (places : List ℕ) (asks : List (Option (Ask K V I)))
-    (slots : List Seat) (counts : List ℕ) : Type 0 where
+pub record IsBlank {K V I R : Type 0} (partitions : ℕ) (places : List ℕ) (asks : List (Option (Ask K V I)))
+    (pages : List (Option R)) (slots : List Seat) (counts : List ℕ) : Type 0 where
   pub begun : places ≡ replicate (partitions * 128) 0
   pub questions : asks ≡ replicate (partitions * 128) None
+  pub receipts : pages ≡ replicate (partitions * 128) None
   pub seats : slots ≡ replicate (partitions * 16) (record { session = 0; issues = 0 })
   pub enters : counts ≡ replicate partitions 0
 
@@ -77,16 +110,18 @@ abbrev pub empty_partitions : {K V I : Type 0} → Config → ℕ → ℕ → Li
 empty_partitions config record_size n = map (empty_partition config record_size) (range_with_len 0 n)
 
 -- the world before its first step
-abbrev pub empty_state : {K V I O : Type 0} → Config → ℕ → StateView K V I O
+abbrev pub empty_state : {K V I O R : Type 0} → Config → ℕ → StateView K V I O R
 empty_state config record_size = record {
   partitions = empty_partitions config record_size (2 ^ config.partition_bits);
   begun = replicate (2 ^ config.partition_bits * 128) 0;
   questions = replicate (2 ^ config.partition_bits * 128) None;
+  receipts = replicate (2 ^ config.partition_bits * 128) None;
+  jobs = replicate (2 ^ config.partition_bits) None;
   seats = replicate (2 ^ config.partition_bits * 16) (record { session = 0; issues = 0 });
   enters = replicate (2 ^ config.partition_bits) 0;
   lives = [];
   moment = 0;
 }
 
-abbrev pub empty_world : {K V I O : Type 0} → Config → ℕ → WorldView K V I O
+abbrev pub empty_world : {K V I O R : Type 0} → Config → ℕ → WorldView K V I O R
 empty_world config record_size = record { state = empty_state config record_size; outcomes = [] }

@@ -1,15 +1,17 @@
 -- Worlds of several partitions: their live map, what their contexts ask, and how open contexts and lives are linked.
-use Rattle.std.specs.Prelude.{◌≡◌, ℕ, suc, ◌≤◌, ◌<◌, List, Option, Some, None, slice_get, length}
+use Rattle.std.specs.Prelude.{◌≡◌, ◌≢◌, ℕ, suc, ◌≤◌, ◌<◌, List, Option, Some, None, slice_get, length}
 use Rattle.std.specs.declared.cmp.Ordering.{Ordering}
 use Rattle.fkv_functions.specs.Meanings.{Meanings}
 use Rattle.fkv_functions.specs.Plain.{PlainMap, Same}
 use Rattle.fkv_operations.specs.After.{key_of}
-use Rattle.fkv_partition.specs.Views.{PartitionView, live_of, partition_of}
-use Rattle.fkv_partition.specs.Effect.{Asked, asked}
+use Rattle.fkv_device_partition.specs.Views.{PartitionView, live_of, partition_of}
+use Rattle.fkv_device_partition.specs.Effect.{Asked, asked}
+use Rattle.fkv_device_partition.specs.Pending.{Pending, pending}
+use Rattle.fkv_worlds.specs.declared.lives.Finish.{Finish}
 use Rattle.fkv_worlds.specs.declared.lives.Life.{Life}
 use Rattle.fkv_worlds.specs.declared.steps.Place.{Place}
 use Rattle.fkv_worlds.specs.declared.lives.End.TheVariants.{Open}
-use Rattle.fkv_worlds.specs.Lives.{map_before}
+use Rattle.fkv_worlds.specs.Lives.{finish_of, map_before}
 use Rattle.fkv_worlds.specs.Placed.{IsPlaced}
 
 -- the live map of the partition at a place; empty where there is none
@@ -58,11 +60,44 @@ pub record IsHoused {K V I : Type 0} (code : K → ℕ) (views : List (Partition
       → asked_in views w ≡ Some x
       → partition_of (length views) (code (key_of x.op)) ≡ w.partition
 
--- what holds of every world: its lives are placed, its live records denote their map, and each open context has its
--- life
+-- the look-up of the context at a place of a world, which waits for a page: its moment, and the value that it is to find
+abbrev pub pending_at : {K V I : Type 0} → (K → K → Ordering) → Option (PartitionView K V I) → ℕ → ℕ → Option (Pending V)
+pending_at cmp None slot c = None
+pending_at cmp (Some v) slot c = pending cmp v slot c
+
+abbrev pub pending_in : {K V I : Type 0} → (K → K → Ordering) → List (PartitionView K V I) → Place → Option (Pending V)
+pending_in cmp views w = pending_at cmp (slice_get views w.partition) w.slot w.context
+
+-- a life whose look-up waits for a page. Its step is held for it: no finished life has its effect there, and what the
+-- look-up is to find is what the plain map says of the key there
+pub record IsLooking {K V I O : Type 0} (cmp : K → K → Ordering) (f : Meanings K V I O) (lives : List (Life K V I O))
+    (j : ℕ) (p : Pending V) (now : ℕ) : Type 0 where
+  pub life : Life K V I O
+  pub here : slice_get lives j ≡ Some life
+  pub later : life.issue < p.moment
+  pub past : p.moment ≤ now
+  pub free : (i : ℕ) (y : Life K V I O) (t : Finish O)
+      → slice_get lives i ≡ Some y
+      → finish_of y ≡ Some t
+      → t.effect ≢ p.moment
+  pub value : p.value ≡ map_before cmp f lives p.moment (key_of life.op)
+
+-- each look-up that waits for a page is that of its context's life, at a step of its own
+pub record IsHeld {K V I O : Type 0} (cmp : K → K → Ordering) (f : Meanings K V I O) (views : List (PartitionView K V I))
+    (life_at : Place → ℕ) (lives : List (Life K V I O)) (now : ℕ) : Type 0 where
+  pub held : (w : Place) (p : Pending V) → pending_in cmp views w ≡ Some p → IsLooking cmp f lives (life_at w) p now
+  pub apart : (w u : Place) (p q : Pending V)
+      → pending_in cmp views w ≡ Some p
+      → pending_in cmp views u ≡ Some q
+      → p.moment ≡ q.moment
+      → w ≡ u
+
+-- what holds of every world: its lives are placed, its live records denote their map, each open context has its life, and
+-- the steps of look-ups that wait for a page are held for them
 pub record IsWorld {K V I O : Type 0} (cmp : K → K → Ordering) (f : Meanings K V I O) (code : K → ℕ)
     (views : List (PartitionView K V I)) (life_at : Place → ℕ) (lives : List (Life K V I O)) (now : ℕ) : Type 0 where
   pub placed : IsPlaced cmp f lives now
   pub denotes : Same (world_live cmp code views) (map_before cmp f lives (suc now))
   pub linked : IsLinked (asked_in views) life_at lives
   pub housed : IsHoused code views now
+  pub held : IsHeld cmp f views life_at lives now

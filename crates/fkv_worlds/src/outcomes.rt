@@ -1,9 +1,9 @@
 //! What a step that was not refused answers.
 ghost use Rattle.std.specs.Prelude.{◌≡◌, ⊤};
 
+use fkv_device_partition::Wait;
 use fkv_functions::Functions;
 use fkv_operations::Answer;
-use fkv_partition::Wait;
 use std::alloc::AllocError;
 
 /// What a step that was not refused answers.
@@ -15,14 +15,20 @@ pub enum Outcome<V, O> {
     Left,
     /// The session is refreshed.
     Refreshed,
-    /// The read-only offset has moved.
+    /// The read-only offset, or Head, has moved.
     Shifted,
+    /// This page is taken, to be written.
+    Taken(u64),
+    /// This page is written, and flushed.
+    Flushed(u64),
     /// The operation has this context.
     Issued(usize),
     /// The operation is to go on.
     Next,
     /// The operation asks for a value to be built from this one, if there is one.
     Build(Option<V>),
+    /// The operation asks for the page of this address to be read.
+    Load(u64),
     /// The operation can't go on yet, for this reason.
     Waits(Wait),
     /// The operation is finished with this answer.

@@ -5,8 +5,8 @@ ghost use Rattle.fkv_worlds.specs.declared.outcomes.Outcome.TheVariants.{Build, 
 ghost use Rattle.fkv_worlds.specs.OutcomeTexts.{outcome_text};
 
 use crate::outcomes::Outcome;
+use fkv_device_partition::Wait;
 use fkv_operations::Answer;
-use fkv_partition::Wait;
 use std::fmt::{self, Display};
 
 /// A value whose printed text is known.
@@ -71,8 +71,9 @@ fn write_done<V: Printed, O: Printed, W: fmt::Write>(
     }
 }
 
-/// An outcome prints as a script's line does: `entered S`, `left`, `refreshed`, `shifted`, `issued C`, `next`, `build none`,
-/// `build V`, `wait fuzzy`, `done value V`, `done absent`, `done stored`, `done deleted` or `given up`.
+/// An outcome prints as a script's line does: `entered S`, `left`, `refreshed`, `shifted`, `taken N`, `flushed N`,
+/// `issued C`, `next`, `build none`, `build V`, `load ADDRESS`, `wait fuzzy`, `wait full`, `done value V`, `done absent`,
+/// `done stored`, `done deleted` or `given up`.
 impl<V: Printed, O: Printed> Display for Outcome<V, O> {
     ghost output = { λ o. Some (outcome_text V.text O.text o) };
 
@@ -82,10 +83,14 @@ impl<V: Printed, O: Printed> Display for Outcome<V, O> {
             Outcome::Left => write!(f, "left"),
             Outcome::Refreshed => write!(f, "refreshed"),
             Outcome::Shifted => write!(f, "shifted"),
+            Outcome::Taken(page) => write!(f, "taken {page}"),
+            Outcome::Flushed(page) => write!(f, "flushed {page}"),
             Outcome::Issued(context) => write!(f, "issued {context}"),
             Outcome::Next => write!(f, "next"),
             Outcome::Build(source) => write_build::<V, O, W>(source, f),
+            Outcome::Load(address) => write!(f, "load {address}"),
             Outcome::Waits(Wait::Fuzzy) => write!(f, "wait fuzzy"),
+            Outcome::Waits(Wait::Full) => write!(f, "wait full"),
             Outcome::Done(answer) => write_done::<V, O, W>(answer, f),
             Outcome::GivenUp => write!(f, "given up"),
         }

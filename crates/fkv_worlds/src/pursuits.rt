@@ -1,13 +1,14 @@
 //! Steps that are repeated until an operation is where it is wanted.
 ghost use Rattle.std.specs.Prelude.{◌≡◌};
-ghost use Rattle.fkv_worlds.specs.declared.steps.Step.TheVariants.{Go};
+ghost use Rattle.fkv_pages.specs.Spelled.{IsEntryIn};
 ghost use Rattle.fkv_worlds.specs.declared.pursuits.Pursuit.TheVariants.{Ready, Finish};
 ghost use Rattle.fkv_worlds.specs.Headline.{IsHeadline};
-ghost use Rattle.fkv_worlds.specs.Reports.{follows, Pursues, IsPursued};
+ghost use Rattle.fkv_worlds.specs.Reports.{follows, first_step, Pursues, IsPursued};
 
 use crate::outcomes::{Outcome, OutcomeOf};
-use crate::steps::{Place, Step, StepOf};
+use crate::steps::{Access, Place, Step, StepOf};
 use crate::worlds::World;
+use fkv_device::{MemoryReceipt, Receipt};
 use fkv_functions::{Functions, Refused};
 
 /// The steps after which a pursuit is stalled.
@@ -16,7 +17,7 @@ pub const LIMIT: u64 = 10_000;
 /// How far an operation is pursued.
 #[derive(Clone, Copy)]
 pub enum Pursuit {
-    /// Until it is not to go on: it is done, or waits, or asks for a value.
+    /// Until it is not to go on: it is done, or waits, or asks for a value or a page.
     Ready,
     /// Until it is done, or waits.
     Finish,
@@ -36,6 +37,10 @@ fn following<F: Functions>(
             Pursuit::Ready => None,
             Pursuit::Finish => Some(Step::Install(place)),
         },
+        Ok(Outcome::Load(_)) => match pursuit {
+            Pursuit::Ready => None,
+            Pursuit::Finish => Some(Step::Load(place, Access::Works)),
+        },
         _ => None,
     }
 }
@@ -46,24 +51,26 @@ impl<F: Functions> World<F> {
     /// among the outcomes. Refused with `NoMemory` where an outcome could not be kept, and else as
     /// [`World::step`] is.
     pub fn ready(&mut self, functions: &F, place: Place) -> Result<OutcomeOf<F>, Refused>
-        ensures pursues { IsPursued F.Key.cmp F.meaning F.code Ready place self.old self.new result }
+        ensures pursues { IsPursued ⟦<MemoryReceipt as Receipt>⟧.stands (IsEntryIn F.Key.bytes_of F.Value.bytes_of F.Key.is_known F.Value.is_known
+            F.Key.SIZE F.Value.SIZE) F.Key.cmp F.meaning F.code Ready place self.old self.new result }
         ensures headline { IsHeadline F.Key.cmp F.meaning F.code self.new }
     {
         self.pursue(functions, Pursuit::Ready, place)
             .unwrap_or(Err(Refused::NoMemory))
     }
 
-    /// Goes on with an operation, and installs what it asks for, until it is done, waits, or is refused, and answers
-    /// that. `Stalled` and `NoMemory` as in [`World::ready`].
+    /// Goes on with an operation, installs what it asks for and loads the pages that it asks for, until it is done, waits,
+    /// or is refused, and answers that. Where it waits for a page it begins with the load. `Stalled` and `NoMemory` as in [`World::ready`].
     pub fn finish(&mut self, functions: &F, place: Place) -> Result<OutcomeOf<F>, Refused>
-        ensures pursues { IsPursued F.Key.cmp F.meaning F.code Finish place self.old self.new result }
+        ensures pursues { IsPursued ⟦<MemoryReceipt as Receipt>⟧.stands (IsEntryIn F.Key.bytes_of F.Value.bytes_of F.Key.is_known F.Value.is_known
+            F.Key.SIZE F.Value.SIZE) F.Key.cmp F.meaning F.code Finish place self.old self.new result }
         ensures headline { IsHeadline F.Key.cmp F.meaning F.code self.new }
     {
         self.pursue(functions, Pursuit::Finish, place)
             .unwrap_or(Err(Refused::NoMemory))
     }
 
-    /// Does steps, beginning with a `Go`, each followed by the one that its result leads to, and answers
+    /// Does steps, beginning with a `Go` or a `Load`, each followed by the one that its result leads to, and answers
     /// what the last of them told; `None` where there is no memory to keep the next one's outcome, which
     /// then isn't done.
     pub fn pursue(
@@ -72,12 +79,30 @@ impl<F: Functions> World<F> {
         pursuit: Pursuit,
         place: Place,
     ) -> Option<Result<OutcomeOf<F>, Refused>>
-        ensures pursues { Pursues F.Key.cmp F.meaning F.code pursuit place self.new result 10000 (Go place) self.old }
+        ensures pursues { Pursues ⟦<MemoryReceipt as Receipt>⟧.stands (IsEntryIn F.Key.bytes_of F.Value.bytes_of F.Key.is_known F.Value.is_known
+            F.Key.SIZE F.Value.SIZE) F.Key.cmp F.meaning F.code pursuit place self.new result 10000
+            (first_step self.old.state.partitions pursuit place) self.old }
         ensures headline { IsHeadline F.Key.cmp F.meaning F.code self.new }
     {
         let told = self.follow(functions, pursuit, place);
         self.headline();
         told
+    }
+
+    /// The step that a pursuit begins with.
+    fn first(&self, pursuit: Pursuit, place: Place) -> StepOf<F>
+        ensures { result ≡ first_step self.now.state.partitions pursuit place }
+    {
+        match pursuit {
+            Pursuit::Ready => Step::Go(place),
+            Pursuit::Finish => {
+                if self.state.awaits_page(place) {
+                    Step::Load(place, Access::Works)
+                } else {
+                    Step::Go(place)
+                }
+            }
+        }
     }
 
     /// Does the steps of a pursuit.
@@ -87,9 +112,11 @@ impl<F: Functions> World<F> {
         pursuit: Pursuit,
         place: Place,
     ) -> Option<Result<OutcomeOf<F>, Refused>>
-        ensures { Pursues F.Key.cmp F.meaning F.code pursuit place self.new result 10000 (Go place) self.old }
+        ensures { Pursues ⟦<MemoryReceipt as Receipt>⟧.stands (IsEntryIn F.Key.bytes_of F.Value.bytes_of F.Key.is_known F.Value.is_known
+            F.Key.SIZE F.Value.SIZE) F.Key.cmp F.meaning F.code pursuit place self.new result 10000
+            (first_step self.old.state.partitions pursuit place) self.old }
     {
-        let mut step = Step::Go(place);
+        let mut step = self.first(pursuit, place);
         for _ in 0..LIMIT {
             let Some(told) = self.try_step(functions, step) else {
                 return None;

@@ -1,15 +1,17 @@
 //! Lists of steps, replayed from nothing.
 ghost use Rattle.std.specs.Prelude.{◌≡◌, ◌≢◌, ◌⊎◌, Err, IfOk, IfErr, OnOk};
 ghost use Rattle.fkv_records.specs.Records.{size_of};
-ghost use Rattle.fkv_partition.specs.Limits.{IsWithinLimits};
+ghost use Rattle.fkv_pages.specs.Spelled.{IsEntryIn};
+ghost use Rattle.fkv_device_partition.specs.Limits.{IsWithinLimits};
 ghost use Rattle.fkv_worlds.specs.Headline.{IsHeadline};
 ghost use Rattle.fkv_worlds.specs.Reports.{RunsTo, IsReport, IsReplay};
 
 use crate::reports::ReportOf;
 use crate::steps::StepOf;
 use crate::worlds::World;
+use fkv_device::{MemoryReceipt, Receipt};
+use fkv_device_partition::Config;
 use fkv_functions::{Functions, Refused};
-use fkv_partition::Config;
 use std::alloc::Global;
 
 /// Does the steps in turn, each of them kept. Refused: `NoMemory` where an outcome could not be kept.
@@ -18,7 +20,8 @@ fn step_all<F: Functions>(
     functions: &F,
     steps: &[StepOf<F>],
 ) -> Result<(), Refused>
-    ensures ok { OnOk result (RunsTo F.Key.cmp F.meaning F.code world.old steps.now world.new) }
+    ensures ok { OnOk result (RunsTo ⟦<MemoryReceipt as Receipt>⟧.stands (IsEntryIn F.Key.bytes_of F.Value.bytes_of F.Key.is_known F.Value.is_known
+        F.Key.SIZE F.Value.SIZE) F.Key.cmp F.meaning F.code world.old steps.now world.new) }
     ensures only { IfErr result (λ refused. refused ≡ Refused.NoMemory) }
 {
     for step in steps {
@@ -36,7 +39,8 @@ fn run<F: Functions>(
     functions: &F,
     steps: &[StepOf<F>],
 ) -> Result<ReportOf<F>, Refused>
-    ensures ok { IfOk result (λ r. RunsTo F.Key.cmp F.meaning F.code world.old steps.now world.new
+    ensures ok { IfOk result (λ r. RunsTo ⟦<MemoryReceipt as Receipt>⟧.stands (IsEntryIn F.Key.bytes_of F.Value.bytes_of F.Key.is_known F.Value.is_known
+        F.Key.SIZE F.Value.SIZE) F.Key.cmp F.meaning F.code world.old steps.now world.new
         × IsReport F.Key.cmp F.code world.new r.outcomes.items r.lives.items r.map.items) }
     ensures headline { IsHeadline F.Key.cmp F.meaning F.code world.new }
     ensures only { IfErr result (λ refused. refused ≡ Refused.NoMemory) }
@@ -58,7 +62,8 @@ pub fn replay<F: Functions>(
     functions: &F,
     steps: &[StepOf<F>],
 ) -> Result<ReportOf<F>, Refused>
-    ensures ok { IfOk result (λ r. IsReplay F.Key.cmp F.meaning F.code config.now (size_of F.Key.SIZE F.Value.SIZE)
+    ensures ok { IfOk result (λ r. IsReplay ⟦<MemoryReceipt as Receipt>⟧.stands (IsEntryIn F.Key.bytes_of F.Value.bytes_of F.Key.is_known F.Value.is_known
+        F.Key.SIZE F.Value.SIZE) F.Key.cmp F.meaning F.code config.now (size_of F.Key.SIZE F.Value.SIZE)
         steps.now
         r.outcomes.items r.lives.items r.map.items) }
     ensures good { result ≢ Err Refused.BadConfig → IsWithinLimits config.now (size_of F.Key.SIZE F.Value.SIZE) }

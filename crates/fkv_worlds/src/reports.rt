@@ -7,12 +7,13 @@ ghost use Rattle.fkv_functions.specs.Plain.{Same, with_at};
 ghost use Rattle.fkv_worlds.specs.Worlds.{world_live};
 ghost use Rattle.fkv_worlds.specs.Reports.{with_all, IsReport};
 
+use crate::desks::reader;
 use crate::lives::Life;
 use crate::outcomes::Outcome;
 use crate::states::State;
 use crate::worlds::World;
+use fkv_device_partition::pairs_of;
 use fkv_functions::{Functions, Refused};
-use fkv_partition::pairs_of;
 use std::alloc::Global;
 use std::collections::BTreeMap;
 
@@ -123,7 +124,8 @@ impl<F: Functions> State<F> {
         ensures only { IfErr result (λ refused. refused ≡ Refused.NoMemory) }
     {
         for partition in &self.partitions {
-            let Ok(pairs) = partition.live(alloc) else {
+            // a device in memory refuses no page of the partition's size: what is refused is memory
+            let Ok(pairs) = partition.live(alloc, &mut reader(alloc)) else {
                 return Err(Refused::NoMemory);
             };
             let Ok(()) = put_all(map, &pairs) else {

@@ -1,46 +1,60 @@
 //! The state of a world, and what each step does to it.
-ghost use Rattle.std.specs.Prelude.{◌≢◌, ◌⊎◌, ◌≡◌, ◌+◌, ◌-◌, ◌^◌, ◌<◌, ◌↔◌, ◌∷◌, [], ◌++◌, Some, None, Err, IfOk, IfErr, OnOk, length};
+ghost use Rattle.std.specs.Prelude.{◌≢◌, ◌⊎◌, ◌≡◌, ◌+◌, ◌-◌, ◌^◌, ◌<◌, ◌↔◌, ◌∷◌, [], ◌++◌, true, Some, None, Err, IfOk, IfErr, OnOk, length, map, replicate, slice_get};
 ghost use Rattle.fkv_records.specs.Records.{size_of};
-ghost use Rattle.fkv_partition.specs.Limits.{IsWithinLimits};
-ghost use Rattle.fkv_partition.specs.Views.{empty_partition};
-ghost use Rattle.fkv_worlds.specs.States.{empty_partitions, empty_state, question_in};
+ghost use Rattle.fkv_device_partition.specs.Limits.{IsWithinLimits};
+ghost use Rattle.fkv_device_partition.specs.Views.{empty_partition};
+ghost use Rattle.fkv_worlds.specs.States.{empty_partitions, empty_state, question_in, is_unasked};
 ghost use Rattle.fkv_worlds.specs.Sound.{IsState};
-ghost use Rattle.fkv_worlds.specs.Acts.{Acts, partition_in};
+ghost use Rattle.fkv_worlds.specs.Reports.{awaits_at};
+ghost use Rattle.fkv_pages.specs.Spelled.{IsEntryIn};
+ghost use Rattle.fkv_worlds.specs.declared.desks.Desk.{Desk};
+ghost use Rattle.fkv_worlds.specs.Acts.{Acts, partition_in, answers_in};
 ghost use Rattle.fkv_worlds.specs.Moments.{IsMomentIn, IsUntimely};
-ghost use Rattle.fkv_worlds.specs.declared.steps.Step.TheVariants.{Enter, Leave, Refresh, ReadOnly, Issue, Go, Install, GiveUp};
+ghost use Rattle.fkv_worlds.specs.declared.steps.Step.TheVariants.{Enter, Leave, Refresh, ReadOnly, Head, Issue, Go, Install, GiveUp};
 
+use crate::desks::Desk;
+use crate::events::{
+    enter, give_up, go, install, issue, leave, refresh, shift_head, shift_read_only,
+};
 use crate::lives::{End, LifeOf};
 use crate::outcomes::{Outcome, OutcomeOf};
 use crate::steps::{Place, Step, StepOf};
 use crate::tables::{
     Tables, begin_life, end_life, life_at, note_progress, question_at, seat_session,
 };
+use fkv_device::{MemoryDevice, MemoryReceipt, Receipt};
+use fkv_device_partition::{Config, Partition};
 use fkv_functions::{Ask, Built, Functions, Refused};
 use fkv_operations::{Clock, OpOf};
-use fkv_partition::{Config, Partition};
 use std::alloc::Global;
 use std::marker::Model;
 
-/// The partitions, tables, lives and last moment of a world.
+/// The partitions with their desks at the device, the tables, lives and last moment of a world.
 #[derive(Drop)]
 pub struct State<F: Functions> {
-    pub(crate) partitions: Vec<Partition<F>>,
-    tables: Tables<F::Key, F::Value, F::Input>,
-    lives: Vec<LifeOf<F>>,
-    moment: u64,
+    pub(crate) alloc: Global,
+    pub(crate) partitions: Vec<Partition<F, MemoryDevice>>,
+    pub(crate) desks: Vec<Desk>,
+    pub(crate) tables: Tables<F::Key, F::Value, F::Input>,
+    pub(crate) lives: Vec<LifeOf<F>>,
+    pub(crate) moment: u64,
 }
 
 impl<F: Functions> Model for State<F> {
+    ghost use Rattle.std.specs.Prelude.{map};
+    ghost use Rattle.fkv_worlds.specs.declared.desks.Desk.{Desk};
     ghost use Rattle.fkv_worlds.specs.States.{StateView, state_of};
     ghost use Rattle.fkv_worlds.specs.Sound.{IsState};
 
-    ghost Value = { StateView F.Key F.Value F.Input F.Output };
+    ghost Value = { StateView F.Key F.Value F.Input F.Output MemoryReceipt };
 
     ghost view = { λ s. state_of s.partitions.items s.tables.begun.items s.tables.questions.items
-        s.tables.seats.items s.tables.enters.items s.lives.items s.moment };
+        s.tables.receipts.items (map (λ (d : Desk). d.job) s.desks.items) s.tables.seats.items s.tables.enters.items
+        s.lives.items s.moment };
 
     ghost invariant = { λ s. IsState F.Key.cmp F.meaning F.code (state_of s.partitions.items s.tables.begun.items
-        s.tables.questions.items s.tables.seats.items s.tables.enters.items s.lives.items s.moment) };
+        s.tables.questions.items s.tables.receipts.items (map (λ (d : Desk). d.job) s.desks.items)
+        s.tables.seats.items s.tables.enters.items s.lives.items s.moment) };
 }
 
 /// The moment after this one, or `Worn` after the last.
@@ -65,7 +79,7 @@ fn keep<T: Drop>(items: &mut Vec<T>, item: T) -> Result<(), Refused>
 
 /// Adds the partition of this number, with nothing in it. Refused: `NoMemory`.
 fn add_empty<F: Functions>(
-    partitions: &mut Vec<Partition<F>>,
+    partitions: &mut Vec<Partition<F, MemoryDevice>>,
     alloc: Global,
     config: &Config,
     number: u64,
@@ -85,7 +99,7 @@ fn empty_partitions<F: Functions>(
     alloc: Global,
     config: &Config,
     count: u64,
-) -> Result<Vec<Partition<F>>, Refused>
+) -> Result<Vec<Partition<F, MemoryDevice>>, Refused>
     ensures ok { IfOk result (λ partitions. partitions.items
         ≡ empty_partitions config.now (size_of F.Key.SIZE F.Value.SIZE) count) }
     ensures only { IfErr result (λ refused. refused ≡ Refused.NoMemory) }
@@ -97,6 +111,20 @@ fn empty_partitions<F: Functions>(
         };
     }
     Ok(partitions)
+}
+
+/// Desks of so many partitions, at which no page is to be written. Refused: `NoMemory`.
+fn empty_desks(alloc: Global, count: u64) -> Result<Vec<Desk>, Refused>
+    ensures ok { IfOk result (λ desks. map (λ (d : Desk). d.job) desks.items ≡ replicate count None) }
+    ensures only { IfErr result (λ refused. refused ≡ Refused.NoMemory) }
+{
+    let mut desks = Vec::new(alloc);
+    for number in 0..count {
+        let Ok(()) = keep(&mut desks, Desk::new(alloc, number)) else {
+            return Err(Refused::NoMemory);
+        };
+    }
+    Ok(desks)
 }
 
 impl<F: Functions> State<F> {
@@ -124,12 +152,17 @@ impl<F: Functions> State<F> {
         let Ok(tables) = Tables::new(alloc, count as usize) else {
             return Err(Refused::NoMemory);
         };
+        let Ok(desks) = empty_desks(alloc, count) else {
+            return Err(Refused::NoMemory);
+        };
         // last, since only what is made before it is dropped where something is refused
         let Ok(partitions) = empty_partitions(alloc, config, count) else {
             return Err(Refused::NoMemory);
         };
         Ok(State {
+            alloc,
             partitions,
+            desks,
             tables,
             lives: Vec::new(alloc),
             moment: 0,
@@ -138,7 +171,7 @@ impl<F: Functions> State<F> {
 
     /// The moment of a step in this partition. Refused, in this order: `Unknown` where there is no such
     /// partition, `Worn` where no moment is left.
-    fn moment_in(&self, partition: usize) -> Result<u64, Refused>
+    pub(crate) fn moment_in(&self, partition: usize) -> Result<u64, Refused>
         ensures ok { IfOk result (IsMomentIn self.now partition) }
         ensures err { IfErr result (IsUntimely self.now partition) }
     {
@@ -150,9 +183,10 @@ impl<F: Functions> State<F> {
 
     fn enter_at(&mut self, partition: usize, now: u64) -> Result<OutcomeOf<F>, Refused>
         requires due { IsMomentIn self.old partition now }
-        ensures does { Acts F.Key.cmp F.meaning F.code self.old self.new (Enter partition) result }
+        ensures does { Acts ⟦<MemoryReceipt as Receipt>⟧.stands (IsEntryIn F.Key.bytes_of F.Value.bytes_of F.Key.is_known F.Value.is_known
+            F.Key.SIZE F.Value.SIZE) F.Key.cmp F.meaning F.code self.old self.new (Enter partition) result }
     {
-        match self.partitions[partition].enter(now) {
+        match enter(&mut self.partitions[partition], now) {
             Ok(slot) => {
                 self.moment = now;
                 seat_session(
@@ -169,9 +203,10 @@ impl<F: Functions> State<F> {
 
     fn leave_at(&mut self, partition: usize, slot: usize, now: u64) -> Result<OutcomeOf<F>, Refused>
         requires due { IsMomentIn self.old partition now }
-        ensures does { Acts F.Key.cmp F.meaning F.code self.old self.new (Leave partition slot) result }
+        ensures does { Acts ⟦<MemoryReceipt as Receipt>⟧.stands (IsEntryIn F.Key.bytes_of F.Value.bytes_of F.Key.is_known F.Value.is_known
+            F.Key.SIZE F.Value.SIZE) F.Key.cmp F.meaning F.code self.old self.new (Leave partition slot) result }
     {
-        match self.partitions[partition].leave(slot, now) {
+        match leave(&mut self.partitions[partition], slot, now) {
             Ok(()) => {
                 self.moment = now;
                 Ok(Outcome::Left)
@@ -187,9 +222,10 @@ impl<F: Functions> State<F> {
         now: u64,
     ) -> Result<OutcomeOf<F>, Refused>
         requires due { IsMomentIn self.old partition now }
-        ensures does { Acts F.Key.cmp F.meaning F.code self.old self.new (Refresh partition slot) result }
+        ensures does { Acts ⟦<MemoryReceipt as Receipt>⟧.stands (IsEntryIn F.Key.bytes_of F.Value.bytes_of F.Key.is_known F.Value.is_known
+            F.Key.SIZE F.Value.SIZE) F.Key.cmp F.meaning F.code self.old self.new (Refresh partition slot) result }
     {
-        match self.partitions[partition].refresh(slot, now) {
+        match refresh(&mut self.partitions[partition], slot, now) {
             Ok(()) => {
                 self.moment = now;
                 Ok(Outcome::Refreshed)
@@ -200,9 +236,24 @@ impl<F: Functions> State<F> {
 
     fn shift_at(&mut self, partition: usize, page: u64, now: u64) -> Result<OutcomeOf<F>, Refused>
         requires due { IsMomentIn self.old partition now }
-        ensures does { Acts F.Key.cmp F.meaning F.code self.old self.new (ReadOnly partition page) result }
+        ensures does { Acts ⟦<MemoryReceipt as Receipt>⟧.stands (IsEntryIn F.Key.bytes_of F.Value.bytes_of F.Key.is_known F.Value.is_known
+            F.Key.SIZE F.Value.SIZE) F.Key.cmp F.meaning F.code self.old self.new (ReadOnly partition page) result }
     {
-        match self.partitions[partition].shift_read_only(page, now) {
+        match shift_read_only(&mut self.partitions[partition], page, now) {
+            Ok(()) => {
+                self.moment = now;
+                Ok(Outcome::Shifted)
+            }
+            Err(refused) => Err(refused),
+        }
+    }
+
+    fn evict_at(&mut self, partition: usize, page: u64, now: u64) -> Result<OutcomeOf<F>, Refused>
+        requires due { IsMomentIn self.old partition now }
+        ensures does { Acts ⟦<MemoryReceipt as Receipt>⟧.stands (IsEntryIn F.Key.bytes_of F.Value.bytes_of F.Key.is_known F.Value.is_known
+            F.Key.SIZE F.Value.SIZE) F.Key.cmp F.meaning F.code self.old self.new (Head partition page) result }
+    {
+        match shift_head(&mut self.partitions[partition], page, now) {
             Ok(()) => {
                 self.moment = now;
                 Ok(Outcome::Shifted)
@@ -220,12 +271,13 @@ impl<F: Functions> State<F> {
         now: u64,
     ) -> Result<OutcomeOf<F>, Refused>
         requires due { IsMomentIn self.old partition now }
-        ensures does { Acts F.Key.cmp F.meaning F.code self.old self.new (Issue partition slot op) result }
+        ensures does { Acts ⟦<MemoryReceipt as Receipt>⟧.stands (IsEntryIn F.Key.bytes_of F.Value.bytes_of F.Key.is_known F.Value.is_known
+            F.Key.SIZE F.Value.SIZE) F.Key.cmp F.meaning F.code self.old self.new (Issue partition slot op) result }
     {
         let Ok(()) = self.lives.try_reserve(1) else {
             return Err(Refused::NoMemory);
         };
-        match self.partitions[partition].issue(slot, op, functions, now) {
+        match issue(&mut self.partitions[partition], slot, op, functions, now) {
             Ok(context) => {
                 self.moment = now;
                 let place = Place {
@@ -242,20 +294,15 @@ impl<F: Functions> State<F> {
 
     fn go_at(&mut self, functions: &F, place: Place, now: u64) -> Result<OutcomeOf<F>, Refused>
         requires due { IsMomentIn self.old place.partition now }
-        ensures does { Acts F.Key.cmp F.meaning F.code self.old self.new (Go place) result }
+        ensures does { Acts ⟦<MemoryReceipt as Receipt>⟧.stands (IsEntryIn F.Key.bytes_of F.Value.bytes_of F.Key.is_known F.Value.is_known
+            F.Key.SIZE F.Value.SIZE) F.Key.cmp F.meaning F.code self.old self.new (Go place) result }
     {
         let partition = place.partition;
-        match self.partitions[partition].go(place.slot, place.context, functions, now) {
+        let partition = &mut self.partitions[partition];
+        match go(partition, place.slot, place.context, functions, now) {
             Ok(progress) => {
                 self.moment = now;
-                Ok(note_progress(
-                    &mut self.lives,
-                    &self.tables.begun,
-                    &mut self.tables.questions,
-                    place,
-                    progress,
-                    now,
-                ))
+                Ok(note_progress(&mut self.lives, &mut self.tables, place, progress, now))
             }
             Err(refused) => Err(refused),
         }
@@ -263,7 +310,8 @@ impl<F: Functions> State<F> {
 
     /// Installs what an operation asked for last.
     fn install(&mut self, functions: &F, place: Place) -> Result<OutcomeOf<F>, Refused>
-        ensures does { Acts F.Key.cmp F.meaning F.code self.old self.new (Install place) result }
+        ensures does { Acts ⟦<MemoryReceipt as Receipt>⟧.stands (IsEntryIn F.Key.bytes_of F.Value.bytes_of F.Key.is_known F.Value.is_known
+            F.Key.SIZE F.Value.SIZE) F.Key.cmp F.meaning F.code self.old self.new (Install place) result }
     {
         match self.asked(place) {
             Ok((ask, now)) => self.install_at(functions, place, ask, now),
@@ -276,13 +324,14 @@ impl<F: Functions> State<F> {
         ensures ok { IfOk result (λ due. (question_in self.now.questions place ≡ Some due.0)
             × IsMomentIn self.now place.partition due.1) }
         ensures err { IfErr result
-            (λ refused. Acts F.Key.cmp F.meaning F.code self.now self.now (Install place) (Err refused)) }
+            (λ refused. Acts ⟦<MemoryReceipt as Receipt>⟧.stands (IsEntryIn F.Key.bytes_of F.Value.bytes_of F.Key.is_known F.Value.is_known
+            F.Key.SIZE F.Value.SIZE) F.Key.cmp F.meaning F.code self.now self.now (Install place) (Err refused)) }
     {
         if place.partition >= self.partitions.len() {
             return Err(Refused::Unknown);
         }
         let Some(ask) = question_at(&self.tables.questions, place) else {
-            return Err(self.why_unasked(place));
+            return Err(self.why_unasked(Step::Install(place), place));
         };
         match self.moment_in(place.partition) {
             Ok(now) => Ok((ask, now)),
@@ -290,11 +339,13 @@ impl<F: Functions> State<F> {
         }
     }
 
-    /// Why there is nothing to install: `NotReady` where an operation is open there, and `Unknown` else.
-    fn why_unasked(&self, place: Place) -> Refused
+    /// Why what nobody asked for is not answered: `NotReady` where an operation is open there, and `Unknown` else.
+    pub(crate) fn why_unasked(&self, step: StepOf<F>, place: Place) -> Refused
+        requires answers { answers_in step ≡ Some place }
         requires there { place.partition < length self.now.partitions }
-        requires unasked { question_in self.now.questions place ≡ None }
-        ensures { Acts F.Key.cmp F.meaning F.code self.now self.now (Install place) (Err result) }
+        requires unasked { is_unasked self.now step ≡ true }
+        ensures { Acts ⟦<MemoryReceipt as Receipt>⟧.stands (IsEntryIn F.Key.bytes_of F.Value.bytes_of F.Key.is_known F.Value.is_known
+            F.Key.SIZE F.Value.SIZE) F.Key.cmp F.meaning F.code self.now self.now step (Err result) }
     {
         match self.partitions[place.partition].asked(place.slot, place.context) {
             Ok(_) => Refused::NotReady,
@@ -311,21 +362,16 @@ impl<F: Functions> State<F> {
     ) -> Result<OutcomeOf<F>, Refused>
         requires moment { IsMomentIn self.old place.partition now }
         requires asked { question_in self.old.questions place ≡ Some ask }
-        ensures does { Acts F.Key.cmp F.meaning F.code self.old self.new (Install place) result }
+        ensures does { Acts ⟦<MemoryReceipt as Receipt>⟧.stands (IsEntryIn F.Key.bytes_of F.Value.bytes_of F.Key.is_known F.Value.is_known
+            F.Key.SIZE F.Value.SIZE) F.Key.cmp F.meaning F.code self.old self.new (Install place) result }
     {
         let partition = place.partition;
         let built = Built::make(functions, ask);
-        match self.partitions[partition].install(place.slot, place.context, built, functions, now) {
+        let partition = &mut self.partitions[partition];
+        match install(partition, place.slot, place.context, built, functions, now) {
             Ok(installed) => {
                 self.moment = now;
-                Ok(note_progress(
-                    &mut self.lives,
-                    &self.tables.begun,
-                    &mut self.tables.questions,
-                    place,
-                    installed,
-                    now,
-                ))
+                Ok(note_progress(&mut self.lives, &mut self.tables, place, installed, now))
             }
             Err(refused) => Err(refused),
         }
@@ -333,9 +379,11 @@ impl<F: Functions> State<F> {
 
     fn give_up_at(&mut self, place: Place, now: u64) -> Result<OutcomeOf<F>, Refused>
         requires due { IsMomentIn self.old place.partition now }
-        ensures does { Acts F.Key.cmp F.meaning F.code self.old self.new (GiveUp place) result }
+        ensures does { Acts ⟦<MemoryReceipt as Receipt>⟧.stands (IsEntryIn F.Key.bytes_of F.Value.bytes_of F.Key.is_known F.Value.is_known
+            F.Key.SIZE F.Value.SIZE) F.Key.cmp F.meaning F.code self.old self.new (GiveUp place) result }
     {
-        match self.partitions[place.partition].give_up(place.slot, place.context, now) {
+        let partition = &mut self.partitions[place.partition];
+        match give_up(partition, place.slot, place.context, now) {
             Ok(()) => {
                 self.moment = now;
                 let life = life_at(&self.tables.begun, place);
@@ -348,31 +396,50 @@ impl<F: Functions> State<F> {
 
     /// Does a step.
     pub fn act(&mut self, functions: &F, step: StepOf<F>) -> Result<OutcomeOf<F>, Refused>
-        ensures does { Acts F.Key.cmp F.meaning F.code self.old self.new step result }
+        ensures does { Acts ⟦<MemoryReceipt as Receipt>⟧.stands (IsEntryIn F.Key.bytes_of F.Value.bytes_of F.Key.is_known F.Value.is_known
+            F.Key.SIZE F.Value.SIZE) F.Key.cmp F.meaning F.code self.old self.new step result }
     {
-        // whether there is a question comes before whether there is a moment
-        if let Step::Install(place) = step {
-            return self.install(functions, place);
-        }
-        match self.moment_in(step.partition()) {
-            Ok(now) => self.act_at(functions, step, now),
-            Err(refused) => Err(refused),
+        // whether what a step answers was asked comes before whether there is a moment
+        match step {
+            Step::Install(place) => self.install(functions, place),
+            Step::Load(place, access) => self.load(functions, place, access),
+            Step::Write(partition, access) => self.write(partition, access),
+            _ => match self.moment_in(step.partition()) {
+                Ok(now) => self.act_at(functions, step, now),
+                Err(refused) => Err(refused),
+            },
         }
     }
 
+    /// Does a step that answers nothing, at this moment.
     fn act_at(&mut self, functions: &F, step: StepOf<F>, now: u64) -> Result<OutcomeOf<F>, Refused>
         requires due { IsMomentIn self.old (partition_in step) now }
-        ensures does { Acts F.Key.cmp F.meaning F.code self.old self.new step result }
+        ensures does { Acts ⟦<MemoryReceipt as Receipt>⟧.stands (IsEntryIn F.Key.bytes_of F.Value.bytes_of F.Key.is_known F.Value.is_known
+            F.Key.SIZE F.Value.SIZE) F.Key.cmp F.meaning F.code self.old self.new step result }
     {
         match step {
             Step::Enter(partition) => self.enter_at(partition, now),
             Step::Leave(partition, slot) => self.leave_at(partition, slot, now),
             Step::Refresh(partition, slot) => self.refresh_at(partition, slot, now),
             Step::ReadOnly(partition, page) => self.shift_at(partition, page, now),
+            Step::Take(partition) => self.take_at(partition, now),
+            Step::Write(partition, access) => self.write(partition, access),
+            Step::Head(partition, page) => self.evict_at(partition, page, now),
             Step::Issue(partition, slot, op) => self.issue_at(functions, partition, slot, op, now),
             Step::Go(place) => self.go_at(functions, place, now),
             Step::Install(place) => self.install(functions, place),
+            Step::Load(place, access) => self.load(functions, place, access),
             Step::GiveUp(place) => self.give_up_at(place, now),
+        }
+    }
+
+    /// Whether the operation that is open in a context waits for a page.
+    pub fn awaits_page(&self, place: Place) -> bool
+        ensures { result ≡ awaits_at (slice_get self.now.partitions place.partition) place.slot place.context }
+    {
+        match self.partitions.get(place.partition) {
+            None => false,
+            Some(partition) => partition.awaits_page(place.slot, place.context),
         }
     }
 

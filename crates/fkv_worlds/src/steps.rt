@@ -13,6 +13,15 @@ pub struct Place {
     pub context: usize,
 }
 
+/// How the device takes a page that is written, or gives one that is read.
+#[derive(Clone, Copy, PartialEq, Eq, Debug)]
+pub enum Access {
+    /// It does what it is asked for.
+    Works,
+    /// It tells a fault, and does nothing.
+    Fails,
+}
+
 /// A step of a world.
 #[derive(Copy)]
 pub enum Step<K, V, I> {
@@ -24,12 +33,20 @@ pub enum Step<K, V, I> {
     Refresh(usize, usize),
     /// Moves the read-only offset of this partition to the start of this page.
     ReadOnly(usize, u64),
+    /// Takes a copy of the lowest page of this partition that is not flushed, to be written.
+    Take(usize),
+    /// Writes the page that was taken last from this partition, which is spent by it.
+    Write(usize, Access),
+    /// Moves Head of this partition to the start of this page.
+    Head(usize, u64),
     /// Issues an operation in the session of this slot, after its partition.
     Issue(usize, usize, Op<K, V, I>),
     /// Goes on with the operation that is open there.
     Go(Place),
     /// Installs what the operation that is open there asked for last.
     Install(Place),
+    /// Reads the page that the operation that is open there asked for last, and goes on with it.
+    Load(Place, Access),
     /// Gives up the operation that is open there.
     GiveUp(Place),
 }
@@ -56,9 +73,13 @@ impl<K: Copy, V: Copy, I: Copy> Step<K, V, I> {
             Step::Leave(partition, _) => *partition,
             Step::Refresh(partition, _) => *partition,
             Step::ReadOnly(partition, _) => *partition,
+            Step::Take(partition) => *partition,
+            Step::Write(partition, _) => *partition,
+            Step::Head(partition, _) => *partition,
             Step::Issue(partition, _, _) => *partition,
             Step::Go(place) => place.partition,
             Step::Install(place) => place.partition,
+            Step::Load(place, _) => place.partition,
             Step::GiveUp(place) => place.partition,
         }
     }

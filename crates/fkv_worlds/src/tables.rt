@@ -1,15 +1,16 @@
 //! The tables of a world: who sits in a slot, what began in a context, and what it asked for last.
-ghost use Rattle.std.specs.Prelude.{◌≡◌, ◌+◌, ◌-◌, ◌*◌, ◌^◌, ◌<◌, ◌≤◌, ◌∷◌, [], ◌++◌, length, replicate, vec_capacity, Some, None, slice_get, slice_set, unwrap_or, IfOk, IfErr, OnOk};
-ghost use Rattle.fkv_worlds.specs.States.{IsBlank, is_context, seat_row, seat_at, context_row, life_in, question_in};
+ghost use Rattle.std.specs.Prelude.{◌≡◌, ◌+◌, ◌-◌, ◌*◌, ◌^◌, ◌<◌, ◌≤◌, ◌∷◌, [], ◌++◌, length, replicate, vec_capacity, Some, None, slice_get, slice_set, unwrap_or, IfOk, IfErr, OnOk, is_some};
+ghost use Rattle.fkv_worlds.specs.States.{IsBlank, is_context, seat_row, seat_at, context_row, life_in, question_in, receipt_in};
 ghost use Rattle.fkv_worlds.specs.Changes.{ended_at};
-ghost use Rattle.fkv_worlds.specs.Acts.{after_issue, begun_life, lives_by, questions_by, told};
+ghost use Rattle.fkv_worlds.specs.Acts.{after_issue, begun_life, lives_by, questions_by, receipts_by, told};
 
 use crate::lives::{End, Finish, Life};
 use crate::outcomes::Outcome;
 use crate::steps::Place;
+use fkv_device::MemoryReceipt;
+use fkv_device_partition::Progress;
 use fkv_functions::{Ask, Refused};
 use fkv_operations::Op;
-use fkv_partition::Progress;
 use std::alloc::Global;
 
 /// The slots of a partition.
@@ -48,12 +49,28 @@ impl Seat {
 pub struct Tables<K, V, I> {
     /// For each context the place of the life that began there last.
     pub begun: Vec<usize>,
-    /// For each context what it asked for last.
+    /// For each context what it asked to be built last.
     pub questions: Vec<Option<Ask<K, V, I>>>,
+    /// For each context the receipt of the page that it asked for last.
+    pub receipts: Vec<Option<MemoryReceipt>>,
     /// The session of each slot.
     pub seats: Vec<Seat>,
     /// For each partition how many sessions entered it.
     pub enters: Vec<u64>,
+}
+
+/// Makes an empty table one of so many rows that hold nothing. Refused: `NoMemory`.
+fn fill_empty<T: Drop>(table: &mut Vec<Option<T>>, rows: usize) -> Result<(), Refused>
+    requires { table.old.items ≡ [] }
+    ensures ok { OnOk result (table.new.items ≡ replicate rows None) }
+    ensures only { IfErr result (λ refused. refused ≡ Refused.NoMemory) }
+{
+    for _ in 0..rows {
+        let Ok(()) = table.push(None) else {
+            return Err(Refused::NoMemory);
+        };
+    }
+    Ok(())
 }
 
 /// Makes an empty table one of so many rows, all the same. Refused: `NoMemory`.
@@ -73,12 +90,13 @@ impl<K: Copy, V: Copy, I: Copy> Tables<K, V, I> {
     pub fn new(alloc: Global, partitions: usize) -> Result<Self, Refused>
         requires { partitions ≤ 64 }
         ensures ok { IfOk result (λ tables. IsBlank partitions tables.begun.items tables.questions.items
-            tables.seats.items tables.enters.items) }
+            tables.receipts.items tables.seats.items tables.enters.items) }
         ensures only { IfErr result (λ refused. refused ≡ Refused.NoMemory) }
     {
         let mut tables = Tables {
             begun: Vec::new(alloc),
             questions: Vec::new(alloc),
+            receipts: Vec::new(alloc),
             seats: Vec::new(alloc),
             enters: Vec::new(alloc),
         };
@@ -93,10 +111,11 @@ impl<K: Copy, V: Copy, I: Copy> Tables<K, V, I> {
         requires most { partitions ≤ 64 }
         requires begun { self.old.begun.items ≡ [] }
         requires questions { self.old.questions.items ≡ [] }
+        requires receipts { self.old.receipts.items ≡ [] }
         requires seats { self.old.seats.items ≡ [] }
         requires enters { self.old.enters.items ≡ [] }
         ensures ok { OnOk result (IsBlank partitions self.new.begun.items self.new.questions.items
-            self.new.seats.items self.new.enters.items) }
+            self.new.receipts.items self.new.seats.items self.new.enters.items) }
         ensures only { IfErr result (λ refused. refused ≡ Refused.NoMemory) }
     {
         let nobody = Seat {
@@ -107,6 +126,9 @@ impl<K: Copy, V: Copy, I: Copy> Tables<K, V, I> {
             return Err(Refused::NoMemory);
         };
         let Ok(()) = fill(&mut self.questions, partitions * CONTEXT_ROWS, None) else {
+            return Err(Refused::NoMemory);
+        };
+        let Ok(()) = fill_empty(&mut self.receipts, partitions * CONTEXT_ROWS) else {
             return Err(Refused::NoMemory);
         };
         let Ok(()) = fill(&mut self.seats, partitions * SLOTS, nobody) else {
@@ -210,6 +232,18 @@ pub fn question_at<K: Copy, V: Copy, I: Copy>(
     questions[row_of(place)]
 }
 
+/// Whether a context asked for a page.
+pub fn has_receipt(receipts: &[Option<MemoryReceipt>], place: Place) -> bool
+    requires partition { place.partition < 64 }
+    requires rows { place.partition * 128 + 128 ≤ length receipts.now }
+    ensures { result ≡ is_some (receipt_in receipts.now place) }
+{
+    if !is_context(place) {
+        return false;
+    }
+    receipts[row_of(place)].is_some()
+}
+
 /// The place of the life that began in a context.
 pub fn life_at(begun: &[usize], place: Place) -> usize
     requires partition { place.partition < 64 }
@@ -249,6 +283,7 @@ pub fn begin_life<K: Copy, V: Copy, I: Copy, O: Copy>(
     requires seats { place.partition * 16 + 16 ≤ length tables.old.seats.items }
     requires begun { place.partition * 128 + 128 ≤ length tables.old.begun.items }
     requires questions { place.partition * 128 + 128 ≤ length tables.old.questions.items }
+    requires receipts { place.partition * 128 + 128 ≤ length tables.old.receipts.items }
     requires issues { (seat_at tables.old.seats.items place.partition place.slot).issues < 2 ^ 64 - 1 }
     ensures lives { lives.new.items ≡ lives.old.items ++ begun_life place.partition
         (seat_at tables.old.seats.items place.partition place.slot) op now ∷ [] }
@@ -257,12 +292,14 @@ pub fn begin_life<K: Copy, V: Copy, I: Copy, O: Copy>(
     ensures begun { tables.new.begun.items
         ≡ slice_set tables.old.begun.items (context_row place) (length lives.old.items) }
     ensures questions { tables.new.questions.items ≡ slice_set tables.old.questions.items (context_row place) None }
+    ensures receipts { tables.new.receipts.items ≡ slice_set tables.old.receipts.items (context_row place) None }
     ensures enters { tables.new.enters.items ≡ tables.old.enters.items }
 {
     let seat = take_number(&mut tables.seats, place.partition, place.slot);
     let context = row_of(place);
     tables.begun[context] = lives.len();
     tables.questions[context] = None;
+    tables.receipts[context] = None;
     // there is room for it
     let _pushed = lives.push(begun_life(place.partition, &seat, op, now));
 }
@@ -270,20 +307,25 @@ pub fn begin_life<K: Copy, V: Copy, I: Copy, O: Copy>(
 /// Ends the life of an operation that is done, or keeps what it asks for, and tells its progress.
 pub fn note_progress<K: Copy, V: Copy, I: Copy, O: Copy>(
     lives: &mut Vec<Life<K, V, I, O>>,
-    begun: &[usize],
-    questions: &mut Vec<Option<Ask<K, V, I>>>,
+    tables: &mut Tables<K, V, I>,
     place: Place,
-    progress: Progress<K, V, I, O>,
+    progress: Progress<K, V, I, O, MemoryReceipt>,
     now: u64,
 ) -> Outcome<V, O>
     requires partition { place.partition < 64 }
     requires slot { place.slot < 16 }
     requires context { place.context < 8 }
-    requires begun { place.partition * 128 + 128 ≤ length begun.now }
-    requires questions { place.partition * 128 + 128 ≤ length questions.old.items }
-    requires life { life_in begun.now place < length lives.old.items }
-    ensures lives { lives.new.items ≡ lives_by lives.old.items (life_in begun.now place) now progress }
-    ensures questions { questions.new.items ≡ questions_by questions.old.items (context_row place) progress }
+    requires begun { place.partition * 128 + 128 ≤ length tables.old.begun.items }
+    requires questions { place.partition * 128 + 128 ≤ length tables.old.questions.items }
+    requires receipts { place.partition * 128 + 128 ≤ length tables.old.receipts.items }
+    requires life { life_in tables.old.begun.items place < length lives.old.items }
+    ensures lives { lives.new.items ≡ lives_by lives.old.items (life_in tables.old.begun.items place) now progress }
+    ensures questions { tables.new.questions.items
+        ≡ questions_by tables.old.questions.items (context_row place) progress }
+    ensures receipts { tables.new.receipts.items ≡ receipts_by tables.old.receipts.items (context_row place) progress }
+    ensures begun { tables.new.begun.items ≡ tables.old.begun.items }
+    ensures seats { tables.new.seats.items ≡ tables.old.seats.items }
+    ensures enters { tables.new.enters.items ≡ tables.old.enters.items }
     ensures told { result ≡ told progress }
 {
     match progress {
@@ -293,14 +335,18 @@ pub fn note_progress<K: Copy, V: Copy, I: Copy, O: Copy>(
                 done: now,
                 answer,
             };
-            end_life(lives, life_at(begun, place), End::Finished(finish));
+            end_life(lives, life_at(&tables.begun, place), End::Finished(finish));
             Outcome::Done(answer)
         }
         Progress::Next => Outcome::Next,
         Progress::Waits(why) => Outcome::Waits(why),
         Progress::NeedsBuild(ask) => {
-            questions[row_of(place)] = Some(ask);
+            tables.questions[row_of(place)] = Some(ask);
             Outcome::Build(ask.source)
+        }
+        Progress::NeedsLoad(receipt, address) => {
+            tables.receipts[row_of(place)] = Some(receipt);
+            Outcome::Load(address)
         }
     }
 }

@@ -1,7 +1,8 @@
 //! A world: partitions that are driven by single steps, with what became of each operation.
 ghost use Rattle.std.specs.Prelude.{◌≡◌, ◌≢◌, ◌⊎◌, ◌∷◌, [], ◌++◌, Err, IfOk, IfErr, IfSome, IfNone};
 ghost use Rattle.fkv_records.specs.Records.{size_of};
-ghost use Rattle.fkv_partition.specs.Limits.{IsWithinLimits};
+ghost use Rattle.fkv_pages.specs.Spelled.{IsEntryIn};
+ghost use Rattle.fkv_device_partition.specs.Limits.{IsWithinLimits};
 ghost use Rattle.fkv_worlds.specs.States.{empty_world};
 ghost use Rattle.fkv_worlds.specs.Acts.{Steps};
 ghost use Rattle.fkv_worlds.specs.Reports.{IsKept};
@@ -10,8 +11,9 @@ ghost use Rattle.fkv_worlds.specs.Headline.{IsHeadline};
 use crate::outcomes::OutcomeOf;
 use crate::states::State;
 use crate::steps::StepOf;
+use fkv_device::{MemoryReceipt, Receipt};
+use fkv_device_partition::Config;
 use fkv_functions::{Functions, Refused};
-use fkv_partition::Config;
 use std::alloc::Global;
 use std::marker::Model;
 
@@ -28,7 +30,7 @@ impl<F: Functions> Model for World<F> {
     ghost use Rattle.fkv_worlds.specs.States.{WorldView};
     ghost use Rattle.fkv_worlds.specs.Told.{IsAccount, taken};
 
-    ghost Value = { WorldView F.Key F.Value F.Input F.Output };
+    ghost Value = { WorldView F.Key F.Value F.Input F.Output MemoryReceipt };
 
     ghost view = { λ w. record { state = w.state; outcomes = w.outcomes.items } };
 
@@ -60,7 +62,8 @@ impl<F: Functions> World<F> {
         functions: &F,
         step: StepOf<F>,
     ) -> Option<Result<OutcomeOf<F>, Refused>>
-        ensures kept { IfSome result (IsKept F.Key.cmp F.meaning F.code self.old self.new step) }
+        ensures kept { IfSome result (IsKept ⟦<MemoryReceipt as Receipt>⟧.stands (IsEntryIn F.Key.bytes_of F.Value.bytes_of F.Key.is_known F.Value.is_known
+            F.Key.SIZE F.Value.SIZE) F.Key.cmp F.meaning F.code self.old self.new step) }
         ensures none { IfNone result (self.new ≡ self.old) }
     {
         let Ok(()) = self.outcomes.try_reserve(1) else {
@@ -75,11 +78,14 @@ impl<F: Functions> World<F> {
 
     /// Does a step and answers its outcome, which is kept. Refused, in this order: `NoMemory` where there
     /// is no memory to keep the outcome, and then nothing is done; `Unknown` where there is no such
-    /// partition; `NotReady` where nothing was asked for that is to be installed; `Worn` where no moment
+    /// partition; `NotReady` where nothing was asked for that is to be installed, loaded or written; `Worn` where no moment
     /// is left; `NoMemory` where there is none for the life of an issue; and what the partition refuses.
-    /// A refused step changes nothing but the list of outcomes.
+    /// A refused step takes no moment and changes nothing but the list of outcomes, with two exceptions: a write spends
+    /// the page that was taken, and a load whose page could not be read, or is damaged, ends its operation without effect
+    /// and takes its moment.
     pub fn step(&mut self, functions: &F, step: StepOf<F>) -> Result<OutcomeOf<F>, Refused>
-        ensures does { Steps F.Key.cmp F.meaning F.code self.old self.new step result }
+        ensures does { Steps ⟦<MemoryReceipt as Receipt>⟧.stands (IsEntryIn F.Key.bytes_of F.Value.bytes_of F.Key.is_known F.Value.is_known
+            F.Key.SIZE F.Value.SIZE) F.Key.cmp F.meaning F.code self.old self.new step result }
         ensures headline { IsHeadline F.Key.cmp F.meaning F.code self.new }
     {
         let told = self.try_step(functions, step);

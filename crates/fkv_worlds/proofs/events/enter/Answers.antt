@@ -1,0 +1,4 @@
+use Rattle.fkv_worlds.proofs.events.enter.Goals as goal
+
+pub returns-clause-pends : goal.returns-clause-pends
+returns-clause-pends g c = c.pendings_stay.ensures.enters _ g.F.Key.Ord.cmp g.F.Functions.code c.args.partition.now c.enter.new.self c.args.now c.enter.result c.known.ensures c.enter.ensures.does

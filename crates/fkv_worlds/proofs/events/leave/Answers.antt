@@ -1,0 +1,4 @@
+use Rattle.fkv_worlds.proofs.events.leave.Goals as goal
+
+pub returns-clause-pends : goal.returns-clause-pends
+returns-clause-pends g c = c.pendings_stay.ensures.leaves _ g.F.Key.Ord.cmp c.args.partition.now c.leave.new.self c.args.slot c.args.now c.leave.result tt c.leave.ensures.does

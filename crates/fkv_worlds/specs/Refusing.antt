@@ -1,0 +1,63 @@
+-- What the partition of a step refuses, and then nothing changes: by the rule of its event.
+use Rattle.std.specs.Prelude.{◌≡◌, ◌≢◌, ℕ, [], List, Bool, true, false, Some, Result, Err}
+use Rattle.std.specs.declared.cmp.Ordering.{Ordering}
+use Rattle.fkv_functions.specs.Meanings.{Meanings}
+use Rattle.fkv_functions.specs.declared.asks.Ask.{Ask}
+use Rattle.fkv_functions.specs.declared.refusals.Refused.{Refused}
+use Rattle.fkv_functions.specs.declared.refusals.Refused.TheVariants.{NoMemory, NotDue}
+use Rattle.fkv_device.specs.Standing.{Standing, Joined}
+use Rattle.fkv_texts.specs.declared.entries.Entry.{Entry}
+use Rattle.fkv_operations.specs.declared.operations.Op.{Op}
+use Rattle.fkv_device_partition.specs.declared.contexts.Progress.{Progress}
+use Rattle.fkv_device_partition.specs.Views.{PartitionView}
+use Rattle.fkv_device_partition.specs.Beginning.{Enters, Issues}
+use Rattle.fkv_device_partition.specs.Ending.{Leaves, GivesUp}
+use Rattle.fkv_device_partition.specs.Going.{Goes}
+use Rattle.fkv_device_partition.specs.Installing.{Installs}
+use Rattle.fkv_device_partition.specs.Loading.{Loads}
+use Rattle.fkv_device_partition.specs.Looking.{Refreshes, Shifts, Evicts}
+use Rattle.fkv_worlds.specs.declared.steps.Access.{Access}
+use Rattle.fkv_worlds.specs.declared.steps.Place.{Place}
+use Rattle.fkv_worlds.specs.declared.steps.Step.{Step}
+use Rattle.fkv_worlds.specs.declared.steps.Step.TheVariants as step
+use Rattle.fkv_worlds.specs.Devices.{Comes}
+use Rattle.fkv_worlds.specs.States.{StateView, question_in, receipt_in}
+use Rattle.fkv_worlds.specs.Told.{ends_operation}
+
+pub data Refuses {K V I O R : Type 0} (stands : R → Standing) (entry : ℕ → List ℕ → ℕ → Entry K V → Type 0)
+    (cmp : K → K → Ordering) (f : Meanings K V I O) (code : K → ℕ) (s : StateView K V I O R) (v : PartitionView K V I)
+    (now : ℕ) (e : Refused) : Step K V I → Type 0 where
+  enter : (p : ℕ) → Enters v v now (Err e) → Refuses stands entry cmp f code s v now e (step.Enter p)
+  leave : (p slot : ℕ) → Leaves true v v slot now (Err e) → Refuses stands entry cmp f code s v now e (step.Leave p slot)
+  refresh : (p slot : ℕ)
+      → Refreshes true v v slot now (Err e)
+      → Refuses stands entry cmp f code s v now e (step.Refresh p slot)
+  shift : (p page : ℕ)
+      → Shifts true v v page now (Err e)
+      → Refuses stands entry cmp f code s v now e (step.ReadOnly p page)
+  evict : (p page : ℕ)
+      → Evicts true v v page now (Err e)
+      → Refuses stands entry cmp f code s v now e (step.Head p page)
+  -- no page waits to be written, or there is no memory for its copy
+  idle : (p : ℕ) → v.records.waiting ≡ [] → e ≡ NotDue → Refuses stands entry cmp f code s v now e (step.Take p)
+  untaken : (p : ℕ) → v.records.waiting ≢ [] → e ≡ NoMemory → Refuses stands entry cmp f code s v now e (step.Take p)
+  issue : (p slot : ℕ) (op : Op K V I)
+      → Issues code v v slot op now (Err e)
+      → Refuses stands entry cmp f code s v now e (step.Issue p slot op)
+  go : (w : Place)
+      → Goes stands cmp f code v v w.slot w.context now (Err e)
+      → Refuses stands entry cmp f code s v now e (step.Go w)
+  install : (w : Place) (ask : Ask K V I)
+      → question_in s.questions w ≡ Some ask
+      → Installs {R = R} cmp f code v v w.slot w.context ask now (Err e)
+      → Refuses stands entry cmp f code s v now e (step.Install w)
+  -- a load that ends no operation
+  load : (w : Place) (access : Access) (receipt : R) (came : Result (Joined R) Refused)
+      → receipt_in s.receipts w ≡ Some receipt
+      → Comes stands receipt access came
+      → Loads stands entry cmp f v v w.slot w.context came now (Err e)
+      → ends_operation e ≡ false
+      → Refuses stands entry cmp f code s v now e (step.Load w access)
+  give_up : (w : Place)
+      → GivesUp v v w.slot w.context now (Err e)
+      → Refuses stands entry cmp f code s v now e (step.GiveUp w)

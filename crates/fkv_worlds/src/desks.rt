@@ -1,0 +1,90 @@
+//! The device of a world, which is one in memory: who writes the pages of a partition, and how they are read.
+ghost use Rattle.std.specs.Prelude.{◌≡◌, Some, None, IsSome, IfOk, IfErr};
+ghost use Rattle.fkv_worlds.specs.Devices.{IsReceiptOf, Comes, Unwritten};
+
+use crate::steps::Access;
+use fkv_device::{
+    Disk, FlushJob, Loaded, MemoryDevice, MemoryReader, MemoryReceipt, MemoryWriter, Receipt,
+    Written,
+};
+use fkv_functions::Refused;
+use std::alloc::Global;
+
+/// Where the pages of a partition are written.
+#[derive(Drop)]
+pub struct Desk {
+    writer: MemoryWriter,
+    /// The page that was taken last, to be written.
+    pub(crate) job: Option<FlushJob>,
+}
+
+impl Desk {
+    /// The desk of a partition that has written nothing.
+    pub fn new(alloc: Global, partition: u64) -> Desk
+        ensures { result.job ≡ None }
+    {
+        let mut device = MemoryDevice::new(alloc);
+        let Ok(writer) = device.writer(partition) else {
+            unreachable!()
+        };
+        Desk { writer, job: None }
+    }
+
+    /// Writes the page that was taken last, which is spent by it. Refused: `Device` with code 2 where the device is to
+    /// fail, or as it refuses, `NoMemory`.
+    pub fn write(&mut self, access: Access) -> Result<Written<MemoryDevice>, Refused>
+        requires { IsSome self.old.job }
+        ensures spent { self.new.job ≡ None }
+        ensures written { IfOk result (λ w. (job : FlushJob)
+            → self.old.job ≡ Some job
+            → (access ≡ Access.Works) × IsReceiptOf job (⟦<MemoryReceipt as Receipt>⟧.stands w.receipt) × (w.bytes ≡ job.bytes.items)) }
+        ensures unwritten { IfErr result (λ e. (job : FlushJob) → self.old.job ≡ Some job → Unwritten job access e) }
+    {
+        let Some(job) = self.job.take() else {
+            unreachable!()
+        };
+        match access {
+            Access::Fails => Err(Refused::Device {
+                code: 2,
+                page: job.page,
+            }),
+            Access::Works => Written::<MemoryDevice>::write(&mut self.writer, job),
+        }
+    }
+}
+
+/// A reader of pages in memory: it reads by any receipt.
+pub fn reader(alloc: Global) -> MemoryReader {
+    let mut device = MemoryDevice::new(alloc);
+    let Ok(reader) = device.reader(0) else {
+        unreachable!()
+    };
+    reader
+}
+
+/// Reads a page of `size` bytes. Refused: `Device` with code 3 where the device is to fail, or as it refuses, `NoMemory`.
+pub fn read(
+    alloc: Global,
+    receipt: &MemoryReceipt,
+    size: usize,
+    access: Access,
+) -> Result<Loaded<MemoryDevice>, Refused>
+    ensures { Comes ⟦<MemoryReceipt as Receipt>⟧.stands receipt.now access result }
+{
+    match access {
+        Access::Fails => Err(Refused::Device {
+            code: 3,
+            page: receipt.page(),
+        }),
+        Access::Works => {
+            match Loaded::<MemoryDevice>::fetch(alloc, &mut reader(alloc), receipt, size) {
+                Ok(loaded) => {
+                    // its bytes are those that the receipt stands for
+                    let _kept = loaded.receipt();
+                    Ok(loaded)
+                }
+                Err(refused) => Err(refused),
+            }
+        }
+    }
+}

@@ -1,0 +1,171 @@
+//! The steps that reach the device: a page is taken, written and read.
+ghost use Rattle.std.specs.Prelude.{◌≡◌, ◌+◌, ◌*◌, ◌<◌, ◌≤◌, false, length, Some, IsSome};
+ghost use Rattle.fkv_pages.specs.Spelled.{IsEntryIn};
+ghost use Rattle.fkv_worlds.specs.States.{receipt_in, is_unasked};
+ghost use Rattle.fkv_worlds.specs.Told.{ends_operation};
+ghost use Rattle.fkv_worlds.specs.Acts.{Acts};
+ghost use Rattle.fkv_worlds.specs.Devices.{Comes};
+ghost use Rattle.fkv_worlds.specs.Moments.{IsMomentIn};
+ghost use Rattle.fkv_worlds.specs.declared.steps.Step.TheVariants.{Take, Write, Load};
+
+use crate::desks::read;
+use crate::events::{flush_done, load};
+use crate::lives::End;
+use crate::outcomes::{Outcome, OutcomeOf};
+use crate::states::State;
+use crate::steps::{Access, Place, Step};
+use crate::tables::{end_life, has_receipt, life_at, note_progress, row_of};
+use fkv_device::{Loaded, MemoryDevice, MemoryReceipt, Receipt};
+use fkv_functions::{Functions, Refused};
+use std::alloc::Global;
+
+/// Whether a refusal ends the operation that it is told to.
+fn ends_operation(refused: &Refused) -> bool
+    ensures { result ≡ ends_operation refused.now }
+{
+    match refused {
+        Refused::Device { code, .. } => *code == 3,
+        Refused::Damaged { .. } => true,
+        _ => false,
+    }
+}
+
+/// The page that a context asked for last, as the device gives it.
+fn read_asked(
+    alloc: Global,
+    receipts: &[Option<MemoryReceipt>],
+    place: Place,
+    size: usize,
+    access: Access,
+) -> Result<Loaded<MemoryDevice>, Refused>
+    requires partition { place.partition < 64 }
+    requires rows { place.partition * 128 + 128 ≤ length receipts.now }
+    requires asked { IsSome (receipt_in receipts.now place) }
+    ensures came { (receipt : MemoryReceipt)
+        → receipt_in receipts.now place ≡ Some receipt
+        → Comes ⟦<MemoryReceipt as Receipt>⟧.stands receipt access result }
+{
+    let Some(receipt) = &receipts[row_of(place)] else {
+        unreachable!()
+    };
+    read(alloc, receipt, size, access)
+}
+
+impl<F: Functions> State<F> {
+    /// Takes the lowest page that is not flushed, to be written.
+    pub(crate) fn take_at(&mut self, partition: usize, now: u64) -> Result<OutcomeOf<F>, Refused>
+        requires due { IsMomentIn self.old partition now }
+        ensures does { Acts ⟦<MemoryReceipt as Receipt>⟧.stands (IsEntryIn F.Key.bytes_of F.Value.bytes_of F.Key.is_known F.Value.is_known
+            F.Key.SIZE F.Value.SIZE) F.Key.cmp F.meaning F.code self.old self.new (Take partition) result }
+    {
+        match self.partitions[partition].flush_take(self.alloc) {
+            Ok(job) => {
+                let page = job.page;
+                self.moment = now;
+                self.desks[partition].job = Some(job);
+                Ok(Outcome::Taken(page))
+            }
+            Err(refused) => Err(refused),
+        }
+    }
+
+    /// Writes the page that was taken last, and flushes it.
+    pub(crate) fn write(
+        &mut self,
+        partition: usize,
+        access: Access,
+    ) -> Result<OutcomeOf<F>, Refused>
+        ensures does { Acts ⟦<MemoryReceipt as Receipt>⟧.stands (IsEntryIn F.Key.bytes_of F.Value.bytes_of F.Key.is_known F.Value.is_known
+            F.Key.SIZE F.Value.SIZE) F.Key.cmp F.meaning F.code self.old self.new (Write partition access) result }
+    {
+        if partition >= self.partitions.len() {
+            return Err(Refused::Unknown);
+        }
+        if self.desks[partition].job.is_none() {
+            return Err(Refused::NotReady);
+        }
+        match self.moment_in(partition) {
+            Ok(now) => self.write_at(partition, access, now),
+            Err(refused) => Err(refused),
+        }
+    }
+
+    fn write_at(
+        &mut self,
+        partition: usize,
+        access: Access,
+        now: u64,
+    ) -> Result<OutcomeOf<F>, Refused>
+        requires due { IsMomentIn self.old partition now }
+        requires asked { is_unasked self.old (Write partition access) ≡ false }
+        ensures does { Acts ⟦<MemoryReceipt as Receipt>⟧.stands (IsEntryIn F.Key.bytes_of F.Value.bytes_of F.Key.is_known F.Value.is_known
+            F.Key.SIZE F.Value.SIZE) F.Key.cmp F.meaning F.code self.old self.new (Write partition access) result }
+    {
+        match self.desks[partition].write(access) {
+            Ok(written) => {
+                let page = written.page();
+                match flush_done(&mut self.partitions[partition], written, now) {
+                    Ok(()) => {
+                        self.moment = now;
+                        Ok(Outcome::Flushed(page))
+                    }
+                    Err(refused) => Err(refused),
+                }
+            }
+            Err(refused) => Err(refused),
+        }
+    }
+
+    /// Reads the page that an operation asked for last, and goes on with it.
+    pub(crate) fn load(
+        &mut self,
+        functions: &F,
+        place: Place,
+        access: Access,
+    ) -> Result<OutcomeOf<F>, Refused>
+        ensures does { Acts ⟦<MemoryReceipt as Receipt>⟧.stands (IsEntryIn F.Key.bytes_of F.Value.bytes_of F.Key.is_known F.Value.is_known
+            F.Key.SIZE F.Value.SIZE) F.Key.cmp F.meaning F.code self.old self.new (Load place access) result }
+    {
+        if place.partition >= self.partitions.len() {
+            return Err(Refused::Unknown);
+        }
+        if !has_receipt(&self.tables.receipts, place) {
+            return Err(self.why_unasked(Step::Load(place, access), place));
+        }
+        match self.moment_in(place.partition) {
+            Ok(now) => self.load_at(functions, place, access, now),
+            Err(refused) => Err(refused),
+        }
+    }
+
+    fn load_at(
+        &mut self,
+        functions: &F,
+        place: Place,
+        access: Access,
+        now: u64,
+    ) -> Result<OutcomeOf<F>, Refused>
+        requires due { IsMomentIn self.old place.partition now }
+        requires asked { is_unasked self.old (Load place access) ≡ false }
+        ensures does { Acts ⟦<MemoryReceipt as Receipt>⟧.stands (IsEntryIn F.Key.bytes_of F.Value.bytes_of F.Key.is_known F.Value.is_known
+            F.Key.SIZE F.Value.SIZE) F.Key.cmp F.meaning F.code self.old self.new (Load place access) result }
+    {
+        let size = self.partitions[place.partition].page_size();
+        let came = read_asked(self.alloc, &self.tables.receipts, place, size, access);
+        let partition = &mut self.partitions[place.partition];
+        match load(partition, place.slot, place.context, came, functions, now) {
+            Ok(progress) => {
+                self.moment = now;
+                Ok(note_progress(&mut self.lives, &mut self.tables, place, progress, now))
+            }
+            Err(refused) => {
+                if ends_operation(&refused) {
+                    self.moment = now;
+                    let life = life_at(&self.tables.begun, place);
+                    end_life(&mut self.lives, life, End::Failed);
+                }
+                Err(refused)
+            }
+        }
+    }
+}
