@@ -129,6 +129,21 @@ module _ {K V I O R : Type 0} (stands : R → Standing) (entry : ℕ → List �
       acts-fail r does ends ev =
           rw e (acts.fails w access old new receipt came r refl (due (Load w access) old here (rw asks refl)) asks comes (subst (λ m. Loads stands entry cmp f old new w.slot w.context came m (Err r)) e does) ends (subst (λ m. IsGiveUp old new w.slot w.context m) e ev) refl refl)
 
+-- the other steps answer nothing
+pub unasked-none : {K V I O R : Type 0} (s : StateView K V I O R) (step : Step K V I) → ((w : Place) → step ≡ Install w → ⊥) → ((w : Place) (access : Access) → step ≡ Load w access → ⊥) → ((p : ℕ) (access : Access) → step ≡ Write p access → ⊥) → is_unasked s step ≡ false
+unasked-none s (Enter p) i l w = refl
+unasked-none s (Leave p slot) i l w = refl
+unasked-none s (Refresh p slot) i l w = refl
+unasked-none s (ReadOnly p page) i l w = refl
+unasked-none s (Take p) i l w = refl
+unasked-none s (Write p access) i l w = absurd (w p access refl)
+unasked-none s (Head p page) i l w = refl
+unasked-none s (Issue p slot op) i l w = refl
+unasked-none s (Go u) i l w = refl
+unasked-none s (Install u) i l w = absurd (i u refl)
+unasked-none s (Load u access) i l w = absurd (l u access refl)
+unasked-none s (GiveUp u) i l w = refl
+
 -- a step that has no moment
 pub acts-untimely : {K V I O R : Type 0} (stands : R → Standing) (entry : ℕ → List ℕ → ℕ → Entry K V → Type 0) (cmp : K → K → Ordering) (f : Meanings K V I O) (code : K → ℕ) (s : StateView K V I O R) (step : Step K V I) (r : Refused)
     → is_unasked s step ≡ false → IsUntimely s (partition_in step) r → Acts stands entry cmp f code s s step (Err r)

@@ -14,3 +14,4 @@ pub mod EmptyLemmas
 pub mod AccountLemmas
 pub mod ReportLemmas
 pub mod HistoryLemmas
+pub mod PagingLemmas

@@ -177,3 +177,12 @@ loads-cases stands entry cmp f old new slot c now r access came e later comes (L
 loads-cases stands entry cmp f old new slot c now r access came e later comes (Loads.prepares x l p k i value a m op b h) or = absurd (cc)
 loads-cases stands entry cmp f old new slot c now r access came e later comes (Loads.goes_on x l p d q a m lo pl held b h) or = absurd (cc)
 loads-cases stands entry cmp f old new slot c now r access came e later comes (Loads.unshared x l p d a m lo pl b h) or = inl (b, is e NoMemory (ok-err e _ h) refl)
+
+-- by whether it ends the operation
+pub leaves-it : {A B : Type 0} (e : Refused) → (A × (ends_operation e ≡ false)) ⊎ (B × (ends_operation e ≡ true)) → ends_operation e ≡ false → A
+leaves-it e (inl h) n = h.0
+leaves-it e (inr h) n = let k : true ≡ false = sym h.1 ∙ n in absurd (cc)
+
+pub ends-it : {A B : Type 0} (e : Refused) → (A × (ends_operation e ≡ false)) ⊎ (B × (ends_operation e ≡ true)) → ends_operation e ≡ true → B
+ends-it e (inl h) n = let k : true ≡ false = sym n ∙ h.1 in absurd (cc)
+ends-it e (inr h) n = h.0

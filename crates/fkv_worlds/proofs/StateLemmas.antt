@@ -39,6 +39,11 @@ some-at [] i h = absurd (omega arith)
 some-at (y ∷ ys) zero h = (y, refl)
 some-at (y ∷ ys) (suc i) h = some-at ys i (omega arith)
 
+pub index-of : {A : Type 0} (xs : List A) (i : ℕ) (x : A) → slice_get xs i ≡ Some x → x ≡ slice_index_or xs i x
+index-of [] i x h = absurd (cc)
+index-of (y ∷ ys) zero x h = cc
+index-of (y ∷ ys) (suc i) x h = index-of ys i x h
+
 pub set-unchanged : {A : Type 0} (xs : List A) (i : ℕ) (x y : A) → slice_get xs i ≡ Some x → y ≡ x → slice_set xs i y ≡ xs
 set-unchanged [] i x y h e = refl
 set-unchanged (z ∷ zs) zero x y h e = let same : y ≡ z = cc in ap (λ q. q ∷ zs) same
@@ -84,6 +89,13 @@ question-is questions w x on h = rw (on, h) refl
 
 pub receipt-is : {R : Type 0} (receipts : List (Option R)) (w : Place) (x : Option R) → is_context w ≡ true → slice_get receipts (context_row w) ≡ Some x → receipt_in receipts w ≡ x
 receipt-is receipts w x on h = rw (on, h) refl
+
+pub receipt-context : {R : Type 0} (receipts : List (Option R)) (w : Place) (x : R) → receipt_in receipts w ≡ Some x → is_context w ≡ true
+receipt-context receipts w x h = by_test (is_context w) refl
+  where
+    by_test : (b : Bool) → is_context w ≡ b → is_context w ≡ true
+    by_test true t = t
+    by_test false t = let n : None ≡ Some x = rw t at h in absurd (cc)
 
 -- the seat of a slot that there is
 pub seat-is : (seats : List Seat) (p slot : ℕ) → slot < 16 → seat_row p slot < length seats → slice_get seats (seat_row p slot) ≡ Some (seat_at seats p slot)

@@ -1,13 +1,10 @@
-use Rattle.std.proofs.Common.{rules, ◌≡◌, ◌+◌, ◌*◌, ◌<◌, ◌≤◌, false, length, Some, IsSome, ℕ, ◌-◌, ◌/◌, ◌%◌, Bool, true, nat_eq, nat_lt, List, [], ◌∷◌, ◌++◌, slice_index_or, slice_set, bit_and, bit_or, Fits, w8, w32, w64, Bor, MutBor}
-use Rattle.fkv_pages.specs.Spelled.{IsEntryIn}
-use Rattle.fkv_worlds.specs.States.{receipt_in, is_unasked}
-use Rattle.fkv_worlds.specs.Told.{ends_operation}
-use Rattle.fkv_worlds.specs.Acts.{Acts}
-use Rattle.fkv_worlds.specs.Devices.{Comes}
-use Rattle.fkv_worlds.specs.Moments.{IsMomentIn}
-use Rattle.fkv_worlds.specs.declared.steps.Step.TheVariants.{Take, Write, Load}
+use Rattle.std.proofs.Common.{sym, ◌∙◌, ap, is_some}
+use Rattle.fkv_worlds.specs.States.{receipt_in}
+use Rattle.fkv_worlds.proofs.ResultLemmas.{some_not_none, not_some_none}
+use Rattle.fkv_worlds.proofs.ActsLemmas.{acts-untimely}
 use Rattle.fkv_worlds.proofs.states.State.load.Goals as goal
 
--- src/paging.rt:120:5
 pub returns-in-Err : goal.returns-in-Err
-returns-in-Err g c = ?
+returns-in-Err g c =
+    let held = sym c.has_receipt.ensures ∙ c.if-not-has_receipt.false in
+    record { does = acts-untimely _ _ g.F.Key.Ord.cmp g.F.Functions.meaning g.F.Functions.code c.args.self.now _ c.in-Err.refused (rw (← c.self.view_is) (some_not_none _ (rw c.deref.ensures.value at held))) c.in-Err.ensures.err }

@@ -1,21 +1,24 @@
-use Rattle.std.proofs.Common.{rules, ◌≡◌, ◌+◌, ◌*◌, ◌<◌, ◌≤◌, false, length, Some, IsSome, ℕ, ◌-◌, ◌/◌, ◌%◌, Bool, true, nat_eq, nat_lt, List, [], ◌∷◌, ◌++◌, slice_index_or, slice_set, bit_and, bit_or, Fits, w8, w32, w64, Bor, MutBor}
-use Rattle.fkv_pages.specs.Spelled.{IsEntryIn}
-use Rattle.fkv_worlds.specs.States.{receipt_in, is_unasked}
-use Rattle.fkv_worlds.specs.Told.{ends_operation}
-use Rattle.fkv_worlds.specs.Acts.{Acts}
-use Rattle.fkv_worlds.specs.Devices.{Comes}
-use Rattle.fkv_worlds.specs.Moments.{IsMomentIn}
-use Rattle.fkv_worlds.specs.declared.steps.Step.TheVariants.{Take, Write, Load}
+use Rattle.std.proofs.Common.{◌<◌, length, map, refl, sym, ◌∙◌, arith}
+use Rattle.fkv_worlds.specs.declared.desks.Desk.{Desk}
+use Rattle.fkv_worlds.specs.Acts.{jobless}
+use Rattle.fkv_worlds.proofs.ActsLemmas.{acts-untimely}
+use Rattle.fkv_worlds.proofs.PagingLemmas.{desk-idle, desk-busy}
 use Rattle.fkv_worlds.proofs.states.State.write.Goals as goal
 
--- src/paging.rt:85:13
 pub returns-then-is_none : goal.returns-then-is_none
-returns-then-is_none g c = ?
+returns-then-is_none g c =
+    let there : c.args.partition < length c.self.inside.partitions.items = (let t = c.if-partition-len.false in let l = c.len.ensures in omega arith) in
+    let low : c.args.partition < length (map (λ (e : Desk). e.job) c.self.inside.desks.items) = (let l = c.self.invariant.tables.jobs in omega arith) in
+    rw (← c.self.view_is) (record { does = jobless c.args.partition c.args.access refl there (desk-idle c.self.inside.desks.items c.args.partition c.index.result.now low c.index.ensures c.if-is_none.ensures) refl refl })
 
--- src/paging.rt:88:24
 pub write_at-requires-clause-asked : goal.write_at-requires-clause-asked
-write_at-requires-clause-asked g c κs within = ?
+write_at-requires-clause-asked g c κs within =
+    let there : c.args.partition < length c.self.inside.partitions.items = (let t = c.if-partition-len.false in let l = c.len.ensures in omega arith) in
+    let low : c.args.partition < length (map (λ (e : Desk). e.job) c.self.inside.desks.items) = (let l = c.self.invariant.tables.jobs in omega arith) in
+    rw (← c.self.view_is) (desk-busy c.self.inside.desks.items c.args.partition c.index.result.now low c.index.ensures c.if-is_none.ensures)
 
--- src/paging.rt:73:5
 pub returns-in-Err : goal.returns-in-Err
-returns-in-Err g c = ?
+returns-in-Err g c =
+    let there : c.args.partition < length c.self.inside.partitions.items = (let t = c.if-partition-len.false in let l = c.len.ensures in omega arith) in
+    let low : c.args.partition < length (map (λ (e : Desk). e.job) c.self.inside.desks.items) = (let l = c.self.invariant.tables.jobs in omega arith) in
+    record { does = acts-untimely _ _ g.F.Key.Ord.cmp g.F.Functions.meaning g.F.Functions.code c.args.self.now _ c.in-Err.refused (rw (← c.self.view_is) (desk-busy c.self.inside.desks.items c.args.partition c.index.result.now low c.index.ensures c.if-is_none.ensures)) c.in-Err.ensures.err }
