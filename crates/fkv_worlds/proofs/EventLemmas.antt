@@ -1,6 +1,6 @@
 -- What the call of a partition at the moment of a step comes to in its world: a refusal leaves the state, and an event
 -- is the step's rule and keeps what every state keeps.
-use Rattle.std.proofs.Common.{◌≡◌, ℕ, ◌+◌, ◌*◌, ◌-◌, ◌^◌, ◌<◌, ◌≤◌, Bool, true, false, List, [], ◌∷◌, ◌++◌, length, None, Some, Result, Ok, Err, slice_get, slice_set, slice_index_or, unwrap_or, refl, sym, ◌∙◌, ap, subst, arith}
+use Rattle.std.proofs.Common.{◌≡◌, ℕ, ◌+◌, ◌*◌, ◌-◌, ◌^◌, ◌<◌, ◌≤◌, true, false, List, [], ◌∷◌, ◌++◌, length, None, Some, Result, Ok, Err, slice_get, slice_set, slice_index_or, unwrap_or, refl, ◌∙◌, ap, subst, arith}
 use Rattle.std.specs.declared.cmp.Ordering.{Ordering}
 use Rattle.fkv_functions.specs.Meanings.{Meanings}
 use Rattle.fkv_functions.specs.Plain.{IsKeyOrder}
@@ -8,7 +8,6 @@ use Rattle.fkv_functions.specs.declared.asks.Ask.{Ask}
 use Rattle.fkv_functions.specs.declared.refusals.Refused.{Refused}
 use Rattle.fkv_functions.specs.declared.refusals.Refused.TheVariants.{NoMemory}
 use Rattle.fkv_device.specs.Standing.{Standing, Joined}
-use Rattle.fkv_device.specs.declared.messages.FlushJob.{FlushJob}
 use Rattle.fkv_texts.specs.declared.entries.Entry.{Entry}
 use Rattle.fkv_operations.specs.declared.operations.Op.{Op}
 use Rattle.fkv_device_partition.specs.declared.contexts.Progress.{Progress}
@@ -16,7 +15,6 @@ use Rattle.fkv_device_partition.specs.Views.{PartitionView}
 use Rattle.fkv_device_partition.specs.Beginning.{Enters, Issues}
 use Rattle.fkv_device_partition.specs.Effect.{Asked, asked, IsQuiet, IsIssue, IsEvent, IsGiveUp}
 use Rattle.fkv_device_partition.specs.Pending.{AllPend, OthersPend, Finds, IsLoad}
-use Rattle.fkv_device_partition.specs.Flushing.{Flushes}
 use Rattle.fkv_device_partition.specs.Going.{Goes}
 use Rattle.fkv_device_partition.specs.Installing.{Installs}
 use Rattle.fkv_device_partition.specs.Loading.{Loads}
@@ -28,7 +26,7 @@ use Rattle.fkv_worlds.specs.declared.outcomes.Outcome.TheVariants as outcome
 use Rattle.fkv_worlds.specs.declared.steps.Access.{Access}
 use Rattle.fkv_worlds.specs.declared.steps.Place.{Place}
 use Rattle.fkv_worlds.specs.declared.steps.Step.{Step}
-use Rattle.fkv_worlds.specs.declared.steps.Step.TheVariants.{Enter, Leave, Refresh, ReadOnly, Take, Write, Head, Issue, Go, Install, Load, GiveUp}
+use Rattle.fkv_worlds.specs.declared.steps.Step.TheVariants.{Enter, Leave, Refresh, ReadOnly, Head, Issue, Go, Install, Load, GiveUp}
 use Rattle.fkv_worlds.specs.Changes.{ended_at}
 use Rattle.fkv_worlds.specs.Devices.{Comes}
 use Rattle.fkv_worlds.specs.Refusing as refusing
@@ -37,7 +35,7 @@ use Rattle.fkv_worlds.specs.Lives.{finish_in}
 use Rattle.fkv_worlds.specs.Told.{ends_operation}
 use Rattle.fkv_worlds.specs.States.{StateView, seat_row, seat_at, context_row, life_in, question_in, receipt_in, is_unasked}
 use Rattle.fkv_worlds.specs.Moments.{IsMomentIn}
-use Rattle.fkv_worlds.specs.Acts.{Acts, IsDue, partition_in, after_issue, begun_life, lives_by, questions_by, receipts_by, told, lifeless}
+use Rattle.fkv_worlds.specs.Acts.{Acts, partition_in, after_issue, begun_life, lives_by, questions_by, receipts_by, told, lifeless}
 use Rattle.fkv_worlds.specs.Sound.{IsState}
 use Rattle.fkv_worlds.proofs.ManyLemmas.{asked-was}
 use Rattle.fkv_worlds.proofs.StateLemmas.{at-index, some-at, set-unchanged, seat-is, state-enter, state-quiet, state-issue, state-ended, state-progress, state-load}

@@ -214,7 +214,7 @@ module _ {K V I O R : Type 0} (stands : R → Standing) (entry : ℕ → List �
   history-acts new t r (acts.jobless p access a b c same is) = kept-state s h history new t r NotReady refl same is
   history-acts new t r (acts.worn a b c same is) = kept-state s h history new t r Worn refl same is
   history-acts new t r (acts.lifeless p slot op v a b same is) = kept-state s h history new t r NoMemory refl same is
-  history-acts new t r (acts.refuses v e due no same is) = kept-state s h history new t r e (refuses-no stands entry cmp f code s v (suc s.moment) e t no) same is
+  history-acts new t r (acts.refuses v e due refused_by same is) = kept-state s h history new t r e (refuses-no stands entry cmp f code s v (suc s.moment) e t refused_by) same is
   history-acts new t r (acts.enters p slot n v v' a b c d low count to is) =
       rw (a, is) (entering s h history new p slot n low count (ap (λ (z : StateView K V I O R). z.moment) to) (ap (λ (z : StateView K V I O R). z.enters) to) (ap (λ (z : StateView K V I O R). z.seats) to) (ap (λ (z : StateView K V I O R). z.lives) to))
   history-acts new t r (acts.leaves p slot v v' a b c ev to is) =
@@ -227,8 +227,8 @@ module _ {K V I O R : Type 0} (stands : R → Standing) (entry : ℕ → List �
       rw (a, is) (quiet s h history new (step.Head p page) (outcome.Shifted) refl refl (ap (λ (z : StateView K V I O R). z.moment) to) (ap (λ (z : StateView K V I O R). z.enters) to) (ap (λ (z : StateView K V I O R). z.seats) to) (ap (λ (z : StateView K V I O R). map issue_of z.lives) to))
   history-acts new t r (acts.takes p v job a due page bytes to is) =
       rw (a, is) (quiet s h history new (step.Take p) (outcome.Taken job.page) refl refl (ap (λ (z : StateView K V I O R). z.moment) to) (ap (λ (z : StateView K V I O R). z.enters) to) (ap (λ (z : StateView K V I O R). z.seats) to) (ap (λ (z : StateView K V I O R). map issue_of z.lives) to))
-  history-acts new t r (acts.spoils p access v job e a due has no to is) =
-      rw is (spoiling s h history new t e (spoils-no v (suc s.moment) job access e no) (ap (λ (z : StateView K V I O R). z.moment) to) (ap (λ (z : StateView K V I O R). z.enters) to) (ap (λ (z : StateView K V I O R). z.seats) to) (ap (λ (z : StateView K V I O R). z.lives) to))
+  history-acts new t r (acts.spoils p access v job e a due has spoiled to is) =
+      rw is (spoiling s h history new t e (spoils-no v (suc s.moment) job access e spoiled) (ap (λ (z : StateView K V I O R). z.moment) to) (ap (λ (z : StateView K V I O R). z.enters) to) (ap (λ (z : StateView K V I O R). z.seats) to) (ap (λ (z : StateView K V I O R). z.lives) to))
   history-acts new t r (acts.writes p v v' job receipt a due has of does ev to is) =
       rw (a, is) (quiet s h history new (step.Write p Works) (outcome.Flushed job.page) refl refl (ap (λ (z : StateView K V I O R). z.moment) to) (ap (λ (z : StateView K V I O R). z.enters) to) (ap (λ (z : StateView K V I O R). z.seats) to) (ap (λ (z : StateView K V I O R). map issue_of z.lives) to))
   history-acts new t r (acts.gives_up w v v' a due c ev to is) =

@@ -1,11 +1,10 @@
 -- Which refusals end no operation: all but those of a load that ends its own.
-use Rattle.std.proofs.Common.{◌≡◌, ◌≢◌, ◌==◌, ◌<◌, ◌⊎◌, inl, inr, Bool, true, false, ℕ, List, [], ◌∷◌, length, Option, Some, None, Result, Ok, Err, option_map, refl, sym, ◌∙◌, ap, arith}
-use Rattle.std.specs.Prelude.{if◌then◌else◌}
+use Rattle.std.proofs.Common.{◌≡◌, ◌==◌, ◌<◌, ◌⊎◌, inl, inr, Bool, true, false, ℕ, List, [], ◌∷◌, length, Option, Some, None, Result, Err, option_map, refl, sym, ◌∙◌, ap, arith}
 use Rattle.std.specs.declared.cmp.Ordering.{Ordering}
 use Rattle.fkv_functions.specs.Meanings.{Meanings}
 use Rattle.fkv_functions.specs.declared.asks.Ask.{Ask}
 use Rattle.fkv_functions.specs.declared.refusals.Refused.{Refused}
-use Rattle.fkv_functions.specs.declared.refusals.Refused.TheVariants.{NoMemory, NoSlot, NoContext, Unknown, Busy, NotDue, DrainFull, Stranger, Worn, Device, Damaged, NotReady}
+use Rattle.fkv_functions.specs.declared.refusals.Refused.TheVariants.{NoMemory, NoSlot, NoContext, Unknown, Busy, NotDue, DrainFull, Stranger, Worn, Device, NotReady}
 use Rattle.fkv_functions.specs.declared.refusals.What.TheVariants.{Page, Bytes}
 use Rattle.fkv_device.specs.Standing.{Standing, Joined}
 use Rattle.fkv_device.specs.declared.messages.FlushJob.{FlushJob}
@@ -25,7 +24,6 @@ use Rattle.fkv_device_partition.specs.Loading.{Loads}
 use Rattle.fkv_device_partition.specs.Looking.{Refreshes, Shifts, Evicts}
 use Rattle.fkv_worlds.specs.declared.steps.Access.{Access}
 use Rattle.fkv_worlds.specs.declared.steps.Step.{Step}
-use Rattle.fkv_worlds.specs.Devices as devices
 use Rattle.fkv_worlds.specs.Devices.{Comes, Unwritten, Spoils}
 use Rattle.fkv_worlds.specs.Refusing as refusing
 use Rattle.fkv_worlds.specs.Refusing.{Refuses}

@@ -1,5 +1,5 @@
 -- What holds of a result where it is Ok, or Err, and of what may be there.
-use Rattle.std.proofs.Common.{◌≡◌, Bool, true, false, Option, Some, None, Result, Ok, Err, IfOk, IfErr, IsSome, is_none, is_some, refl}
+use Rattle.std.proofs.Common.{◌≡◌, true, false, Option, Some, None, Result, Ok, Err, IfOk, IfErr, IsSome, is_none, is_some, refl}
 
 pub if_ok : {A E : Type 0} {P : A → Type 0} (r : Result A E) → ((x : A) → r ≡ Ok x → P x) → IfOk r P
 if_ok (Ok x) h = h x refl

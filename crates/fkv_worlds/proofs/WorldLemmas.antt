@@ -13,7 +13,7 @@ use Rattle.fkv_device_partition.specs.Views.{PartitionView, live_of, partition_o
 use Rattle.fkv_texts.specs.Text.{live}
 use Rattle.fkv_operations.specs.After.{shown_of}
 use Rattle.fkv_operations.specs.declared.operations.Op.TheVariants.{Read}
-use Rattle.fkv_device_partition.specs.Effect.{Asked, asked, asked_by, LeavesOthers, IsQuiet, IsIssue, IsGiveUp}
+use Rattle.fkv_device_partition.specs.Effect.{Asked, asked, asked_by, LeavesOthers, IsQuiet, IsIssue}
 use Rattle.fkv_device_partition.specs.Pending.{Pending, pending, OthersPend, AllPend, IsAsking}
 use Rattle.fkv_functions.proofs.ListLemmas.{get-set_cases, get-append_last}
 use Rattle.fkv_worlds.specs.declared.lives.Life.{Life}
@@ -23,11 +23,11 @@ use Rattle.fkv_worlds.specs.declared.lives.Finish.{Finish}
 use Rattle.fkv_worlds.specs.Lives.{finish_of, finish_in, map_before}
 use Rattle.fkv_worlds.specs.Changes.{ended_at}
 use Rattle.fkv_worlds.specs.declared.steps.Place.{Place}
-use Rattle.fkv_worlds.specs.Worlds.{world_live, asked_in, pending_in, IsOpenLife, IsLinked, IsHoused, IsLooking, IsHeld, IsWorld}
+use Rattle.fkv_worlds.specs.Worlds.{world_live, asked_in, pending_in, IsOpenLife, IsLinked, IsHoused, IsHeld, IsWorld}
 use Rattle.fkv_worlds.proofs.LivesLemmas.{append_cases, append_old, ended_cases, ended_other}
 use Rattle.fkv_worlds.proofs.PlacedLemmas.{placed-quiet, map-quiet, same_append, placed-append, map-append, same_ended, placed-ended, map-ended, same_now, placed-now, map-now, same_before, placed-before, map-before}
 use Rattle.fkv_worlds.proofs.ManyLemmas.{live-here, live-quiet, live-after, answer-here, asked-here, asked-was, asked-others, asked-all}
-use Rattle.fkv_worlds.proofs.HeldLemmas.{same_where, closed-none, waiting-at, pend-here, pend-was, pend-others, pend-all, pend-same, pend-rest, held-on, held-same, held-sub, held-more, looking-on}
+use Rattle.fkv_worlds.proofs.HeldLemmas.{same_where, closed-none, waiting-at, pend-here, pend-was, pend-others, pend-all, pend-same, pend-rest, held-on, held-same, held-sub, held-more}
 
 -- a life that stands in a longer list, or beside one that ends
 open-append : {K V I O : Type 0} (lives : List (Life K V I O)) (y : Life K V I O) (j : ℕ) (x : Asked K V I) → IsOpenLife lives j x → IsOpenLife (lives ++ y ∷ []) j x
@@ -236,8 +236,8 @@ module _ {K V I O : Type 0} (cmp : K → K → Ordering) (o : IsKeyOrder cmp) (f
           held = held-ended (Finished (record { effect = next; done = next; answer = a }))
               (λ n b. same_now cmp f lives now next e world.placed j l.life l.here unended a n (omega arith))
               (λ t h w q n k m. (let s : record { effect = next; done = next; answer = a } ≡ t = cc in
-                  let at : next ≡ t.effect = ap (λ (z : Finish O). z.effect) s in
-                  let past = (world.held.held w q k).past in absurd (omega arith)));
+              let at : next ≡ t.effect = ap (λ (z : Finish O). z.effect) s in
+              let past = (world.held.held w q k).past in absurd (omega arith)));
         }
 
     -- a read is finished by the page that it waited for: its effect is at its look-up
@@ -263,8 +263,8 @@ module _ {K V I O : Type 0} (cmp : K → K → Ordering) (o : IsKeyOrder cmp) (f
           held = held-ended (Finished (record { effect = q.moment; done = next; answer = a }))
               (λ n b. same_before cmp f lives now next e world.placed j l.life l.here unended q.moment a (key_of x.op) i op n)
               (λ t h w r n k m. (let s : record { effect = q.moment; done = next; answer = a } ≡ t = cc in
-                  let at : q.moment ≡ t.effect = ap (λ (z : Finish O). z.effect) s in
-                  n (world.held.apart w (record { partition = p; slot = slot; context = c }) r q k (pend-was cmp views p old new here slot c ∙ waits) (sym m ∙ sym at))));
+              let at : q.moment ≡ t.effect = ap (λ (z : Finish O). z.effect) s in
+              n (world.held.apart w (record { partition = p; slot = slot; context = c }) r q k (pend-was cmp views p old new here slot c ∙ waits) (sym m ∙ sym at))));
         }
 
     -- it is given up, or a fault ends it: its life ends without effect
@@ -312,17 +312,17 @@ module _ {K V I O : Type 0} (cmp : K → K → Ordering) (o : IsKeyOrder cmp) (f
         let own : partition_of (length views) (code (key_of l.life.op)) ≡ p = ap (λ q. partition_of (length views) (code (key_of q))) l.op ∙ world.housed.routed w x asks in
         let issued : l.life.issue ≤ now = world.placed.issued (life_at w) l.life l.here in
         goes-on (held-more cmp f views life_at lives now world.held (slice_set views p new) next (omega arith) w (record { moment = next; value = live_of cmp old (key_of ask.operation.op) })
-            (pend-here cmp views p old new here slot c ∙ ask.asks)
-            (record {
-              life = l.life;
-              here = l.here;
-              later = omega arith;
-              past = omega arith;
-              free = λ i y t hy ty m. (let u = world.placed.timely i y t hy ty in let a : t.effect ≤ t.done = u.within in let b : t.done ≤ now = u.past in absurd (omega arith));
-              value = ap (λ q. live_of cmp old (key_of q)) op
-                  ∙ sym (live-here cmp o f code views p old new here (key_of l.life.op) own)
-                  ∙ ap (λ (m : PlainMap K V). m (key_of l.life.op)) live-then
-                  ∙ ap (λ n. map_before cmp f lives n (key_of l.life.op)) (sym e);
-            })
-            (omega arith)
-            (pend-others cmp views p old new here slot c others))
+        (pend-here cmp views p old new here slot c ∙ ask.asks)
+        (record {
+          life = l.life;
+          here = l.here;
+          later = omega arith;
+          past = omega arith;
+          free = λ i y t hy ty m. (let u = world.placed.timely i y t hy ty in let a : t.effect ≤ t.done = u.within in let b : t.done ≤ now = u.past in absurd (omega arith));
+          value = ap (λ q. live_of cmp old (key_of q)) op
+              ∙ sym (live-here cmp o f code views p old new here (key_of l.life.op) own)
+              ∙ ap (λ (m : PlainMap K V). m (key_of l.life.op)) live-then
+              ∙ ap (λ n. map_before cmp f lives n (key_of l.life.op)) (sym e);
+        })
+        (omega arith)
+        (pend-others cmp views p old new here slot c others))

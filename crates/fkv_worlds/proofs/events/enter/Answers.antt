@@ -1,4 +1,4 @@
-use Rattle.std.proofs.Common.{true, refl}
+use Rattle.std.proofs.Common.{true}
 use Rattle.fkv_worlds.proofs.events.enter.Goals as goal
 
 pub returns-clause-pends : goal.returns-clause-pends

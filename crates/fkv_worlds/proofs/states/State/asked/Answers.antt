@@ -1,4 +1,4 @@
-use Rattle.std.proofs.Common.{◌≡◌, Some, refl, IsSome, sym, ◌∙◌, ap, subst}
+use Rattle.std.proofs.Common.{◌≡◌, Some, refl, sym, ◌∙◌, ap}
 use Rattle.fkv_worlds.specs.States.{question_in}
 use Rattle.fkv_worlds.specs.declared.steps.Step.TheVariants.{Install}
 use Rattle.fkv_worlds.proofs.ActsLemmas.{acts-untimely}

@@ -1,6 +1,5 @@
-use Rattle.std.proofs.Common.{sym, ◌∙◌, ap, is_some}
-use Rattle.fkv_worlds.specs.States.{receipt_in}
-use Rattle.fkv_worlds.proofs.ResultLemmas.{some_not_none, not_some_none}
+use Rattle.std.proofs.Common.{sym, ◌∙◌}
+use Rattle.fkv_worlds.proofs.ResultLemmas.{some_not_none}
 use Rattle.fkv_worlds.proofs.ActsLemmas.{acts-untimely}
 use Rattle.fkv_worlds.proofs.states.State.load.Goals as goal
 

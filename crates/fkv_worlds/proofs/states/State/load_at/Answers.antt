@@ -1,9 +1,9 @@
-use Rattle.std.proofs.Common.{◌≡◌, false, true, refl, sym, ◌∙◌, ap}
+use Rattle.std.proofs.Common.{refl, sym, ◌∙◌, ap}
 use Rattle.fkv_functions.proofs.KeyOrder.{key_order}
 use Rattle.fkv_worlds.specs.States.{life_in}
 use Rattle.fkv_worlds.proofs.ResultLemmas.{some_of, some_there}
 use Rattle.fkv_worlds.proofs.RefusedLemmas.{loads-cases, leaves-it, ends-it}
-use Rattle.fkv_worlds.proofs.EventLemmas.{rows, event-later, refused-state, life-there, ended-state, loaded-state, refused-load, does-load, does-fail}
+use Rattle.fkv_worlds.proofs.EventLemmas.{event-later, refused-state, life-there, ended-state, loaded-state, refused-load, does-load, does-fail}
 use Rattle.fkv_worlds.proofs.states.State.load_at.Goals as goal
 
 pub read_asked-came-requires-clause-asked : goal.read_asked-came-requires-clause-asked
@@ -84,8 +84,8 @@ invariant_of-self-in-Err g c =
     let life = c.life_at-life.ensures ∙ ap (λ xs. life_in xs c.args.place) c.deref-in-Err.ensures.value in
     rw (c.end_life.ensures, life) (ended-state g.F.Key.Ord.cmp g.F.Functions.meaning g.F.Functions.code _ c.self.invariant c.args.place c.args.now due c.index_mut-partition.result.now c.index_mut-partition.ensures.value c.load.new.partition order c.load.ensures.others _ refl ev)
 
-pub returns : goal.returns
-returns g c =
+pub returns-else-not-ends_operation : goal.returns-else-not-ends_operation
+returns-else-not-ends_operation g c =
     let due = rw (← c.self.view_is) at c.requires.due in
     let asked = rw (← c.self.view_is) at c.requires.asked in
     let receipt = some_of _ asked in

@@ -23,5 +23,7 @@ pub returns-in-Err : goal.returns-in-Err
 returns-in-Err g c =
     let due = rw (← c.self.view_is) at c.requires.due in
     rw (← c.self.view_is)
-    (record { does = refused-take g.F.Key.Ord.cmp g.F.Functions.meaning g.F.Functions.code _ c.self.invariant c.args.partition c.args.now due c.index.result.now c.index.ensures c.in-Err.refused c.in-Err.ensures.only
-    (λ e. c.in-Err.ensures.due.0 (ap Err e)) (λ w. (let k = c.in-Err.ensures.due.1 w in cc)) })
+    (record {
+      does = refused-take g.F.Key.Ord.cmp g.F.Functions.meaning g.F.Functions.code _ c.self.invariant c.args.partition c.args.now due c.index.result.now c.index.ensures c.in-Err.refused c.in-Err.ensures.only
+          (λ e. c.in-Err.ensures.due.0 (ap Err e)) (λ w. (let k = c.in-Err.ensures.due.1 w in cc));
+    })

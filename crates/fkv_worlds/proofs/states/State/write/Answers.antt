@@ -1,4 +1,4 @@
-use Rattle.std.proofs.Common.{◌<◌, length, map, refl, sym, ◌∙◌, arith}
+use Rattle.std.proofs.Common.{◌<◌, length, map, refl, arith}
 use Rattle.fkv_worlds.specs.declared.desks.Desk.{Desk}
 use Rattle.fkv_worlds.specs.Acts.{jobless}
 use Rattle.fkv_worlds.proofs.ActsLemmas.{acts-untimely}

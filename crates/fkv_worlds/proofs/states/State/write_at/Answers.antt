@@ -1,4 +1,4 @@
-use Rattle.std.proofs.Common.{None, sym, ◌∙◌, ap, refl}
+use Rattle.std.proofs.Common.{None, sym, ◌∙◌}
 use Rattle.fkv_functions.proofs.KeyOrder.{key_order}
 use Rattle.fkv_worlds.proofs.ResultLemmas.{some_of, some_there}
 use Rattle.fkv_worlds.proofs.StateLemmas.{some-at, index-of, state-spent}
@@ -46,8 +46,10 @@ returns-in-Ok-flush_done g c =
     let mine = sym has ∙ job.1 in
     let w = c.in-Ok.ensures.written job.0 mine in
     rw (← c.self.view_is, desk-set c.self.inside.desks.items c.args.partition c.write.new.self None c.write.ensures.spent)
-    (record { does = does-write g.F.Key.Ord.cmp g.F.Functions.meaning g.F.Functions.code _ c.self.invariant c.args.partition c.args.now due c.index_mut-in-Ok.result.now c.index_mut-in-Ok.ensures.value c.args.access job.0 asked job.1
-    c.flush_done.new.partition _ _ w.0 w.1 w.2 c.page-page.result c.page-page.ensures c.in-Ok-flush_done.ensures.does c.in-Ok-flush_done.ensures.event })
+    (record {
+      does = does-write g.F.Key.Ord.cmp g.F.Functions.meaning g.F.Functions.code _ c.self.invariant c.args.partition c.args.now due c.index_mut-in-Ok.result.now c.index_mut-in-Ok.ensures.value c.args.access job.0 asked job.1
+          c.flush_done.new.partition _ _ w.0 w.1 w.2 c.page-page.result c.page-page.ensures c.in-Ok-flush_done.ensures.does c.in-Ok-flush_done.ensures.event;
+    })
 
 pub returns-in-Err-flush_done : goal.returns-in-Err-flush_done
 returns-in-Err-flush_done g c =
@@ -58,8 +60,10 @@ returns-in-Err-flush_done g c =
     let mine = sym has ∙ job.1 in
     let w = c.in-Ok.ensures.written job.0 mine in
     rw (← c.self.view_is, desk-set c.self.inside.desks.items c.args.partition c.write.new.self None c.write.ensures.spent)
-    (record { does = spoils-strange g.F.Key.Ord.cmp g.F.Functions.meaning g.F.Functions.code _ c.self.invariant c.args.partition c.args.now due c.index_mut-in-Ok.result.now c.index_mut-in-Ok.ensures.value c.args.access job.0 asked job.1
-    c.flush_done.new.partition _ _ w.0 w.1 w.2 c.in-Err-flush_done.refused c.in-Err-flush_done.ensures.err c.in-Err-flush_done.ensures.does })
+    (record {
+      does = spoils-strange g.F.Key.Ord.cmp g.F.Functions.meaning g.F.Functions.code _ c.self.invariant c.args.partition c.args.now due c.index_mut-in-Ok.result.now c.index_mut-in-Ok.ensures.value c.args.access job.0 asked job.1
+          c.flush_done.new.partition _ _ w.0 w.1 w.2 c.in-Err-flush_done.refused c.in-Err-flush_done.ensures.err c.in-Err-flush_done.ensures.does;
+    })
 
 pub returns-in-Err : goal.returns-in-Err
 returns-in-Err g c =
