@@ -1,4 +1,4 @@
-pub mod TidyLemmas
+pub mod FlushLemmas
 pub mod SeatLemmas
 pub mod UnionLemmas
 pub mod RunLemmas

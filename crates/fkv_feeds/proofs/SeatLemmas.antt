@@ -1,8 +1,7 @@
 -- What the events of a partition leave of a session's update, and when they are refused.
-use Rattle.std.proofs.Common.{◌≡◌, ◌≢◌, Bool, true, false, cond, IsTrue, ◌&&◌, ℕ, ◌+◌, ◌-◌, ◌*◌, ◌<◌, ◌≤◌, ◌⊎◌, inl, inr, List, ◌∷◌, length, take, drop, get_or, Option, Some, None, Result, Ok, Err, option_map, slice_get, slice_set, slice_range, position, is_none, is_some, nat_lt, suc, refl, sym, ◌∙◌, ap, subst, arith, drop-cons}
+use Rattle.std.proofs.Common.{◌≡◌, ◌≢◌, Bool, true, false, cond, IsTrue, ◌&&◌, ℕ, ◌+◌, ◌-◌, ◌*◌, ◌<◌, ◌≤◌, ◌⊎◌, inl, inr, List, ◌∷◌, length, take, drop, get_or, Option, Some, None, Result, Ok, Err, option_map, slice_get, slice_set, slice_range, position, is_none, nat_lt, suc, refl, sym, ◌∙◌, ap, subst, arith, drop-cons}
 use Rattle.std.proofs.lemmas.Option.{slice_get-get_or, same_Some}
 use Rattle.std.proofs.lemmas.Bool.Decides.{nat_tests}
-use Rattle.std.specs.Option.{option_flatten}
 use Rattle.std.specs.declared.cmp.Ordering.{Ordering}
 use Rattle.fkv_functions.specs.Meanings.{Meanings}
 use Rattle.fkv_functions.specs.Plain.{Same}
@@ -33,7 +32,7 @@ use Rattle.fkv_device_partition.specs.declared.contexts.Progress.TheVariants.{Do
 use Rattle.fkv_device_partition.specs.declared.contexts.Wait.{Wait}
 use Rattle.fkv_device_partition.specs.Beginning.{Issues}
 use Rattle.fkv_device_partition.specs.Contexts.{joined, is_session, context_in, question_in, loading_by, at_phase}
-use Rattle.fkv_device_partition.specs.Effect.{Asked, asked, asked_by, IsEvent}
+use Rattle.fkv_device_partition.specs.Effect.{Asked, asked_by, IsEvent}
 use Rattle.fkv_device_partition.specs.Going.{Goes}
 use Rattle.fkv_device_partition.specs.Installing.{Installs}
 use Rattle.fkv_device_partition.specs.Loading.{Loads}

@@ -171,8 +171,8 @@ fn load<F: Functions, D: Disk>(
         .partition
         .load(terms.slot, context, Ok(loaded), terms.functions, now)
     {
-        Ok(Progress::NeedsBuild(ask)) => install(terms, shard, context, ask, clock),
-        Ok(Progress::NeedsLoad(receipt, _)) => Ok(Turn::On(Some(receipt))),
+        Ok(Progress::NeedsBuild(question)) => install(terms, shard, context, question, clock),
+        Ok(Progress::NeedsLoad(further, _)) => Ok(Turn::On(Some(further))),
         Ok(Progress::Next) => Ok(Turn::On(None)),
         Ok(Progress::Done(..)) | Ok(Progress::Waits(_)) => unreachable!(),
         Err(refused) => Err(refused),

@@ -1,4 +1,4 @@
-use Rattle.std.proofs.Common.{◌≡◌, ◌<◌, All, length, map, slice_get, slice_set, Some, get_or, inr, refl, sym, ap, ◌∙◌, subst, arith}
+use Rattle.std.proofs.Common.{◌≡◌, ◌<◌, All, length, map, slice_get, Some, get_or, inr, refl, sym, ap, ◌∙◌, subst, arith}
 use Rattle.std.proofs.lemmas.List.{length-set}
 use Rattle.std.proofs.lemmas.Option.{slice_get-get_or}
 use Rattle.std.specs.BTreeMap.{get}
@@ -6,7 +6,7 @@ use Rattle.std.specs.Map.{keys_of}
 use Rattle.fkv_functions.proofs.KeyOrder.{key_order}
 use Rattle.fkv_device_partition.specs.Views.{partition_of}
 use Rattle.fkv_feeds.specs.Gathering.{with_all}
-use Rattle.fkv_feeds.proofs.RunLemmas.{view-get, view-set, view-same}
+use Rattle.fkv_feeds.proofs.RunLemmas.{view-get, view-same}
 use Rattle.fkv_feeds.proofs.UnionLemmas.{live-more}
 use Rattle.fkv_feeds.proofs.gathering.gather.Goals as goal
 

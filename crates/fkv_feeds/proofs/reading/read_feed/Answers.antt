@@ -1,4 +1,4 @@
-use Rattle.std.proofs.Common.{◌≡◌, rules}
+use Rattle.std.proofs.Common.{rules}
 use Rattle.fkv_feeds.specs.Faults.{IsRunFault}
 use Rattle.fkv_feeds.proofs.FeedsLemmas.{err_weaker, feed-told}
 use Rattle.fkv_feeds.proofs.reading.read_feed.Goals as goal

@@ -1,5 +1,5 @@
 use Rattle.std.proofs.Common.{◌≡◌, Some, slice_get, inl, inr, ap, sym, ◌∙◌}
-use Rattle.fkv_feeds.proofs.TidyLemmas.{flush-refused}
+use Rattle.fkv_feeds.proofs.FlushLemmas.{flush-refused}
 use Rattle.fkv_feeds.proofs.tidying.flush.Goals as goal
 
 pub returns-in-Err-flush_done-clause-told : goal.returns-in-Err-flush_done-clause-told

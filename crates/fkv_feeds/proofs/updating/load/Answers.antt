@@ -43,7 +43,7 @@ returns-in-Ok-NeedsLoad-clause-ok g c =
     let slot = c.args.terms.now.slot in
     λ op o. (let l = loads-leads g.D.Receipt.Receipt.stands v w slot c.args.context op _ g.F.Key.Ord.cmp g.F.Functions.meaning c.in-Ok-tick.now c.in-Ok.loaded (g.D.Receipt.Receipt.stands c.args.receipt) (Ok (NeedsLoad _ _)) o c.in-Ok.ensures.receipt
     (rw c.in-Ok-NeedsLoad.field-0-is at c.in-Ok-NeedsLoad.ensures.does) in
-    tried g.D.Receipt.Receipt.stands v w slot c.args.context op g.D.Disk.keeps g.F.Key.Ord.cmp g.F.Functions.meaning (turn.On (Some c.in-Ok-NeedsLoad.receipt)) l.0 l.1
+    tried g.D.Receipt.Receipt.stands v w slot c.args.context op g.D.Disk.keeps g.F.Key.Ord.cmp g.F.Functions.meaning (turn.On (Some c.in-Ok-NeedsLoad.further)) l.0 l.1
     (λ keeps. (c.in-Ok-NeedsLoad.ensures.event keeps).live))
 
 pub returns-in-Ok-Next-clause-ok : goal.returns-in-Ok-Next-clause-ok

@@ -1,4 +1,4 @@
-use Rattle.std.proofs.Common.{◌≡◌, Err, Ok, None, inl, inr, refl, ap, ◌∙◌, subst, arith}
+use Rattle.std.proofs.Common.{inl, inr, refl, ap, ◌∙◌, subst, arith}
 use Rattle.fkv_functions.specs.Plain.{Same}
 use Rattle.fkv_texts.specs.Text.{live}
 use Rattle.fkv_operations.specs.After.{after}
