@@ -7,6 +7,7 @@ ghost use Rattle.fkv_feeds.specs.Tables.{IsTableOf};
 ghost use Rattle.fkv_feeds.specs.Writing.{table_text};
 ghost use Rattle.fkv_commands.specs.Endings.{PrintsTable, PrintsTablePart};
 
+use fkv_device::MemoryDevice;
 use fkv_feeds::{Table, run_alone, run_one, write_table};
 use fkv_functions::{CountFns, Functions, MaxFns, Name, Refused, SumFns};
 use fkv_requests::{Shown, TableRequest};
@@ -53,7 +54,8 @@ fn all_opened<H: Files>(
     Ok(feeds)
 }
 
-/// The table that is asked for, of the feeds that are named, or of the reader. Of the files nothing is known.
+/// The table that is asked for, of the feeds that are named, or of the reader, by a store whose pages go to memory. Of
+/// the files nothing is known.
 fn table_of<R: Source, F: Functions<Key = Name, Input = i64>, H: Files>(
     alloc: Global,
     files: &H,
@@ -66,11 +68,18 @@ fn table_of<R: Source, F: Functions<Key = Name, Input = i64>, H: Files>(
     ensures steady { OnOk result (R.failures reader.new ≡ R.failures reader.old) }
     ensures only { IfErr result (λ e. e ≢ Refused.Unwritable) }
 {
+    let device = MemoryDevice::new(alloc);
     if table.paths.is_empty() {
-        return run_alone(alloc, reader, functions, &table.config);
+        return run_alone(alloc, reader, functions, &table.config, device);
     }
     match all_opened(alloc, files, table.paths.as_slice()) {
-        Ok(mut feeds) => run_one(alloc, feeds.as_mut_slice(), functions, &table.config),
+        Ok(mut feeds) => run_one(
+            alloc,
+            feeds.as_mut_slice(),
+            functions,
+            &table.config,
+            device,
+        ),
         Err(refused) => Err(refused),
     }
 }

@@ -5,7 +5,7 @@ use Rattle.csv.specs.declared.parser.State.{State}
 use Rattle.csv.specs.declared.parser.State.TheVariants as st
 use Rattle.fkv_functions.specs.declared.names.Name.{Name}
 use Rattle.fkv_functions.specs.declared.refusals.Refused.{Refused}
-use Rattle.fkv_functions.specs.declared.refusals.Refused.TheVariants.{NoMemory, Worn, Stalled, BadRow, Unreadable}
+use Rattle.fkv_functions.specs.declared.refusals.Refused.TheVariants.{NoMemory, Worn, Stalled, BadRow, Unreadable, Device, Damaged}
 use Rattle.fkv_streams.specs.Counting.{one_more}
 use Rattle.fkv_feed_rows.specs.Rows.{IsRow, AreRows}
 
@@ -48,14 +48,17 @@ IsFeed limit None rows = Unit {0}
 IsFeed limit (Some bytes) rows = AreRowsOf limit (without_mark bytes) rows
 
 -- Why the reading of this feed was refused, whose stream had failed so often before, and so often after. It is told as
--- unreadable where its stream failed in the reading, or where it has a record too many.
-abbrev pub TellsWhy : ℕ → ℕ → Option (List ℕ) → ℕ → ℕ → Refused → Type 0
-TellsWhy feed limit bytes old new NoMemory = new ≡ old
-TellsWhy feed limit bytes old new Worn = new ≡ old
-TellsWhy feed limit bytes old new Stalled = new ≡ old
-TellsWhy feed limit bytes old new (BadRow f n) =
+-- unreadable where its stream failed in the reading, or where it has a record too many. A device's fault is one that
+-- `fault` says.
+abbrev pub TellsWhy : (Refused → Type 0) → ℕ → ℕ → Option (List ℕ) → ℕ → ℕ → Refused → Type 0
+TellsWhy fault feed limit bytes old new NoMemory = new ≡ old
+TellsWhy fault feed limit bytes old new Worn = new ≡ old
+TellsWhy fault feed limit bytes old new Stalled = new ≡ old
+TellsWhy fault feed limit bytes old new (Device code page) = (new ≡ old) × fault (Device code page)
+TellsWhy fault feed limit bytes old new (Damaged page) = (new ≡ old) × fault (Damaged page)
+TellsWhy fault feed limit bytes old new (BadRow f n) =
     (new ≡ old) × (f ≡ feed) × IfSome bytes (λ b. IsBadRow (without_mark b) n)
-TellsWhy feed limit bytes old new (Unreadable f) =
+TellsWhy fault feed limit bytes old new (Unreadable f) =
     (f ≡ feed)
     × ((new ≡ one_more old) ⊎ ((new ≡ old) × IfSome bytes (λ b. IsTooLong limit (without_mark b))))
-TellsWhy feed limit bytes old new other = ⊥
+TellsWhy fault feed limit bytes old new other = ⊥

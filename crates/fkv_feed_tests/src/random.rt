@@ -1,7 +1,8 @@
 //! Random feeds beside a plain fold.
+use fkv_device::MemoryDevice;
+use fkv_device_partition::Config;
 use fkv_feeds::{run_alone, write_table};
 use fkv_functions::{Refused, SumFns};
-use fkv_partition::Config;
 use fkv_streams::{CountedReader, CountedWriter};
 use rand_core::{Rng, SeedableRng};
 use rand_xoshiro::Xoshiro256PlusPlus;
@@ -52,7 +53,8 @@ fn is_folded(alloc: Global, seed: u64, rows: u64, keys: u64) -> bool {
         return false;
     };
     let mut reader = CountedReader::new(feed.as_slice());
-    let Ok(table) = run_alone(alloc, &mut reader, &SumFns, &CONFIG) else {
+    let device = MemoryDevice::new(alloc);
+    let Ok(table) = run_alone(alloc, &mut reader, &SumFns, &CONFIG, device) else {
         return false;
     };
     let mut text = Vec::new(alloc);

@@ -1,7 +1,8 @@
 //! Readers and writers that fail, and refused growths.
+use fkv_device::MemoryDevice;
+use fkv_device_partition::Config;
 use fkv_feeds::{run_one, write_table};
 use fkv_functions::{Refused, SumFns};
-use fkv_partition::Config;
 use fkv_streams::{CountedReader, CountedWriter};
 use std::alloc::Global;
 use std::io::{self, Error, ErrorKind, Read, Write};
@@ -82,7 +83,8 @@ fn broken(alloc: Global, feeds: usize, left: u64, kind: ErrorKind) -> Option<Ref
             return Some(Refused::NoMemory);
         }
     }
-    run_one(alloc, readers.as_mut_slice(), &SumFns, &CONFIG).err()
+    let device = MemoryDevice::new(alloc);
+    run_one(alloc, readers.as_mut_slice(), &SumFns, &CONFIG, device).err()
 }
 
 const UNREADABLE: Option<Refused> = Some(Refused::Unreadable { number: 2 });
@@ -122,7 +124,8 @@ fn written(alloc: Global, room: usize) -> (Result<(), Refused>, Vec<u8>) {
         CountedReader::new(FEEDS[0].as_bytes()),
         CountedReader::new(FEEDS[1].as_bytes()),
     ];
-    let told = match run_one(alloc, readers.as_mut_slice(), &SumFns, &CONFIG) {
+    let device = MemoryDevice::new(alloc);
+    let told = match run_one(alloc, readers.as_mut_slice(), &SumFns, &CONFIG, device) {
         Ok(table) => write_table(alloc, &table, &mut CountedWriter::new(&mut writer)),
         Err(refused) => Err(refused),
     };

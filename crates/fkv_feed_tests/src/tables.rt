@@ -1,7 +1,8 @@
 //! Feeds, and the tables that they come to.
+use fkv_device::MemoryDevice;
+use fkv_device_partition::Config;
 use fkv_feeds::{run_one, write_table};
 use fkv_functions::{CountFns, Functions, MaxFns, Name, Refused, SumFns};
-use fkv_partition::Config;
 use fkv_streams::{CountedReader, CountedWriter};
 use itoa::Integer;
 use std::alloc::Global;
@@ -50,7 +51,8 @@ where
             return Err(Refused::NoMemory);
         }
     }
-    let table = match run_one(alloc, readers.as_mut_slice(), functions, config) {
+    let device = MemoryDevice::new(alloc);
+    let table = match run_one(alloc, readers.as_mut_slice(), functions, config, device) {
         Ok(table) => table,
         Err(refused) => return Err(refused),
     };

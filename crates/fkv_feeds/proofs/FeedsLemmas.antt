@@ -1,15 +1,20 @@
 -- Feeds that are read one after the other.
-use Rattle.std.proofs.Common.{◌≡◌, ℕ, zero, suc, ◌+◌, ◌-◌, inl, inr, ℤ, List, [], ◌∷◌, ◌++◌, length, map, take, drop, Option, Some, slice_get, slice_set, get_or, refl, sym, ◌∙◌, ap, subst, arith, append_assoc}
+use Rattle.std.proofs.Common.{◌≡◌, Bool, ◌⊎◌, ℕ, zero, suc, ◌+◌, ◌-◌, inl, inr, ℤ, List, [], ◌∷◌, ◌++◌, length, map, take, drop, Option, Some, None, slice_get, slice_set, get_or, refl, sym, ◌∙◌, ap, subst, arith, append_assoc}
 use Rattle.std.proofs.lemmas.List.{append-nil}
 use Rattle.std.specs.Prelude.{slice_index}
 use Rattle.fkv_functions.specs.declared.names.Name.{Name}
 use Rattle.fkv_functions.specs.declared.refusals.Refused.{Refused}
-use Rattle.fkv_functions.specs.declared.refusals.Refused.TheVariants.{NoMemory, BadConfig, Worn, Stalled, BadRow, Unreadable}
+use Rattle.fkv_functions.specs.declared.refusals.Refused.TheVariants.{NoMemory, BadConfig, Worn, Stalled, BadRow, Unreadable, Device, Damaged}
 use Rattle.fkv_streams.specs.Counting.{one_more}
-use Rattle.fkv_feed_rows.specs.Feeds.{IsFeed, TellsWhy}
+use Rattle.fkv_feed_rows.specs.Feeds.{IsFeed, IsBadRow, IsTooLong, TellsWhy, without_mark}
+use Rattle.fkv_feed_rows.specs.Watching.{TellsOf}
 use Rattle.fkv_feeds.specs.Tables.{AreFeeds, most_rows}
-use Rattle.std.specs.Prelude.{Result, Ok, Err, IfOk}
-use Rattle.fkv_partition.specs.declared.limits.Config.{Config}
+use Rattle.std.specs.Prelude.{Result, Ok, Err, IfOk, IfErr, IfSome, OnOk, option_map}
+use Rattle.fkv_device_partition.specs.declared.limits.Config.{Config}
+use Rattle.std.specs.declared.cmp.Ordering.{Ordering}
+use Rattle.fkv_device.specs.Failing.{FailsOnlyBy, ReadFailsBy}
+use Rattle.fkv_device_log.specs.Scans.{IsScanRefusal}
+use Rattle.fkv_feeds.specs.Faults.{Spelling, IsFault, IsDeviceFault}
 use Rattle.fkv_feeds.specs.Refusing.{IsReached, counted_at, TellsStopped, TellsWhyNone}
 
 -- ---- lists
@@ -99,12 +104,14 @@ module _ {S : Type 0} (rem : S → Option (List ℕ)) (fails : S → ℕ) (xs : 
       map-set fails ys i y ∙ ap (λ zs. slice_set zs i (fails y)) same ∙ ap (slice_set (map fails xs) i) (e ∙ ap one_more (sym (get-map fails xs i x h)))
       ∙ ap (λ n. slice_set (map fails xs) n (one_more (slice_index (map fails xs) n))) (sym less)
 
-  pub stopped : (ys : List S) (y : S) (e : Refused) → map fails ys ≡ map fails xs → slice_get ys i ≡ Some x → TellsWhy (i + 1) most_rows (rem x) (fails x) (fails y) e → TellsStopped (map rem xs) (map fails xs) (map fails (slice_set ys i y)) e
-  stopped ys y NoMemory same here t = counts-kept fails ys i x y here t ∙ same
-  stopped ys y Worn same here t = counts-kept fails ys i x y here t ∙ same
-  stopped ys y Stalled same here t = counts-kept fails ys i x y here t ∙ same
-  stopped ys y (BadRow f n) same here t = (counts-kept fails ys i x y here t.0 ∙ same, rem x, subst (λ m. IsReached (map rem xs) m (rem x)) (sym t.1) reached, t.2)
-  stopped ys y (Unreadable f) same here t = (
+  pub stopped : (fault : Refused → Type 0) (ys : List S) (y : S) (e : Refused) → map fails ys ≡ map fails xs → slice_get ys i ≡ Some x → TellsWhy fault (i + 1) most_rows (rem x) (fails x) (fails y) e → TellsStopped fault (map rem xs) (map fails xs) (map fails (slice_set ys i y)) e
+  stopped fault ys y NoMemory same here t = counts-kept fails ys i x y here t ∙ same
+  stopped fault ys y Worn same here t = counts-kept fails ys i x y here t ∙ same
+  stopped fault ys y Stalled same here t = counts-kept fails ys i x y here t ∙ same
+  stopped fault ys y (Device code page) same here t = (counts-kept fails ys i x y here t.0 ∙ same, t.1)
+  stopped fault ys y (Damaged page) same here t = (counts-kept fails ys i x y here t.0 ∙ same, t.1)
+  stopped fault ys y (BadRow f n) same here t = (counts-kept fails ys i x y here t.0 ∙ same, rem x, subst (λ m. IsReached (map rem xs) m (rem x)) (sym t.1) reached, t.2)
+  stopped fault ys y (Unreadable f) same here t = (
     rem x,
     subst (λ m. IsReached (map rem xs) m (rem x)) (sym t.0) reached,
     elim t.1 [
@@ -112,13 +119,93 @@ module _ {S : Type 0} (rem : S → Option (List ℕ)) (fails : S → ℕ) (xs : 
       | inr b ↦ inr (counts-kept fails ys i x y here b.0 ∙ same, b.1)
     ],
   )
-  stopped ys y other same here t = absurd t
+  stopped fault ys y other same here t = absurd t
 
 -- ---- tables and refusals of runs
-pub why_none : (config : Config) (size : ℕ) (feeds : List (Option (List ℕ))) (old new : List ℕ) (e : Refused) → TellsStopped feeds old new e → TellsWhyNone config size feeds old new e
-why_none config size feeds old new BadConfig t = absurd t
-why_none config size feeds old new other t = t
+pub why_none : (fault : Refused → Type 0) (config : Config) (size : ℕ) (feeds : List (Option (List ℕ))) (old new : List ℕ) (e : Refused) → TellsStopped fault feeds old new e → TellsWhyNone fault config size feeds old new e
+why_none fault config size feeds old new BadConfig t = absurd t
+why_none fault config size feeds old new other t = t
 
 pub both_ok : {T E : Type 0} {P Q : T → Type 0} (R : T → Type 0) (r : Result T E) → IfOk r P → IfOk r Q → ((v : T) → P v → Q v → R v) → IfOk r R
 both_ok R (Ok v) p q f = f v p q
 both_ok R (Err e) p q f = tt
+
+-- a device tells these alone, and want of memory
+abbrev pub IsOfDevice : Refused → Type 0
+IsOfDevice e = (e ≡ NoMemory) ⊎ ((code : ℕ) × (page : ℕ) × (e ≡ Device code page)) ⊎ ((page : ℕ) × (e ≡ Damaged page))
+
+pub stopped-by : (fault : Refused → Type 0) (feeds : List (Option (List ℕ))) (old new : List ℕ) (e : Refused) → new ≡ old → fault e → IsOfDevice e → TellsStopped fault feeds old new e
+stopped-by fault feeds old new e same f why = elim why [
+  | inl a ↦ rw a same
+  | inr b ↦ elim b [
+    | inl d ↦ (let g = rw d.2 at f in rw d.2 (same, g))
+    | inr d ↦ (let g = rw d.1 at f in rw d.1 (same, g))
+  ]
+]
+
+pub row-told : (fault : Refused → Type 0) (feed limit : ℕ) (bytes : Option (List ℕ)) (e : Refused) → (fault e → IsOfDevice e) → (e ≡ NoMemory) ⊎ (e ≡ Worn) ⊎ (e ≡ Stalled) ⊎ fault e → TellsOf fault feed limit bytes e
+row-told fault feed limit bytes e shape why = elim why [
+  | inl a ↦ rw a tt
+  | inr b ↦ elim b [
+    | inl a ↦ rw a tt
+    | inr d ↦ elim d [
+      | inl a ↦ rw a tt
+      | inr f ↦ elim (shape f) [
+        | inl a ↦ rw a tt
+        | inr m ↦ elim m [
+          | inl n ↦ (let g = rw n.2 at f in rw n.2 g)
+          | inr n ↦ (let g = rw n.1 at f in rw n.1 g)
+        ]
+      ]
+    ]
+  ]
+]
+
+some-unmarked : (P : List ℕ → Type 0) (bytes : Option (List ℕ)) → IfSome (option_map without_mark bytes) P → IfSome bytes (λ b. P (without_mark b))
+some-unmarked P None h = tt
+some-unmarked P (Some b) h = h
+
+pub feed-told : (fault : Refused → Type 0) (feed limit : ℕ) (bytes : Option (List ℕ)) (old new : ℕ) (e : Refused) → new ≡ old → TellsOf fault feed limit (option_map without_mark bytes) e → TellsWhy fault feed limit bytes old new e
+feed-told fault feed limit bytes old new NoMemory same t = same
+feed-told fault feed limit bytes old new Worn same t = same
+feed-told fault feed limit bytes old new Stalled same t = same
+feed-told fault feed limit bytes old new (Device code page) same t = (same, t)
+feed-told fault feed limit bytes old new (Damaged page) same t = (same, t)
+feed-told fault feed limit bytes old new (BadRow f n) same t = (same, t.0, some-unmarked (λ b. IsBadRow b n) bytes t.1)
+feed-told fault feed limit bytes old new (Unreadable f) same t = (t.0, inr (same, some-unmarked (λ b. IsTooLong limit b) bytes t.1))
+feed-told fault feed limit bytes old new other same t = absurd t
+
+opens-by : (old new : ℕ) (e : Refused) → FailsOnlyBy 1 0 old new e → IsOfDevice e
+opens-by old new e f = elim f [ inl a ↦ inl a.0 | inr b ↦ inr (inl (1, 0, b.0)) ]
+
+reads-by : (page old new : ℕ) (e : Refused) → ReadFailsBy page old new e → IsOfDevice e
+reads-by page old new e f = elim f [
+  | inl a ↦ elim a [ inl b ↦ inl b.0 | inr b ↦ inr (inl (3, page, b.0)) ]
+  | inr b ↦ inr (inr (page, b.0))
+]
+
+scans-by : (keeps : Bool) (low flushed old new : ℕ) (e : Refused) → IsScanRefusal keeps low flushed old new e → IsOfDevice e
+scans-by keeps low flushed old new e (IsScanRefusal.memory a b) = inl a
+scans-by keeps low flushed old new e (IsScanRefusal.at_page {page} a b why) = elim why [
+  | inl r ↦ reads-by page old new e r
+  | inr s ↦ inr (inr (page, s.1))
+]
+
+faults-by : {K V : Type 0} (entry : Spelling K V) (cmp : K → K → Ordering) (w w' r r' : ℕ) (e : Refused) → IsFault entry cmp w w' r r' e → IsOfDevice e
+faults-by entry cmp w w' r r' e (IsFault.unwritten page f s) = elim f [ inl a ↦ inl a.0 | inr b ↦ inr (inl (2, page, b.0)) ]
+faults-by entry cmp w w' r r' e (IsFault.unread page f s) = reads-by page r r' e f
+faults-by entry cmp w w' r r' e (IsFault.spoilt page s d a b) = inr (inr (page, d))
+
+pub devices-by : {D W R K V : Type 0} (keeps : Bool) (opens : D → ℕ) (writes : W → ℕ) (reads : R → ℕ) (entry : Spelling K V) (cmp : K → K → Ordering) (e : Refused) → IsDeviceFault keeps opens writes reads entry cmp e → IsOfDevice e
+devices-by keeps opens writes reads entry cmp e (IsDeviceFault.unopened old new f) = opens-by (opens old) (opens new) e f
+devices-by keeps opens writes reads entry cmp e (IsDeviceFault.unworked old new before now f) = faults-by entry cmp (writes old) (writes new) (reads before) (reads now) e f
+devices-by keeps opens writes reads entry cmp e (IsDeviceFault.unlisted low flushed before now f) = scans-by keeps low flushed (reads before) (reads now) e f
+
+-- ---- what several clauses say of one result
+pub three_ok : {A E P Q S R : Type 0} (r : Result A E) → OnOk r P → OnOk r Q → OnOk r S → (P → Q → S → R) → OnOk r R
+three_ok (Ok v) p q s f = f p q s
+three_ok (Err e) p q s f = tt
+
+pub err_weaker : {A E : Type 0} {P : E → Type 0} (Q : E → Type 0) (r : Result A E) → ((e : E) → P e → Q e) → IfErr r P → IfErr r Q
+err_weaker Q (Ok v) f p = tt
+err_weaker Q (Err e) f p = f e p

@@ -1,3 +1,4 @@
+pub mod FlushLemmas
 pub mod SeatLemmas
 pub mod UnionLemmas
 pub mod RunLemmas

@@ -1,6 +1,6 @@
 -- What partitions stand for, before the first row and after one more.
-use Rattle.std.proofs.Common.{◌≡◌, Bool, true, false, cond, ℕ, zero, suc, ◌+◌, ◌*◌, ◌^◌, ◌<◌, ◌≤◌, inl, inr, List, [], ◌∷◌, ◌++◌, length, replicate, map, Option, Some, None, Ok, Err, option_map, slice_get, slice_set, nat_lt, ◌&&◌, refl, sym, ◌∙◌, ap, subst, arith, length-append}
-use Rattle.std.proofs.lemmas.List.{length-set, map-append, length-replicate, append-nil}
+use Rattle.std.proofs.Common.{◌≡◌, Bool, true, false, cond, ℕ, zero, suc, ◌+◌, ◌*◌, ◌^◌, ◌<◌, ◌≤◌, inl, inr, List, [], ◌∷◌, ◌++◌, length, replicate, map, Option, Some, None, Ok, Err, IsTrue, slice_get, slice_set, nat_lt, ◌&&◌, refl, sym, ◌∙◌, ap, subst, arith, length-append}
+use Rattle.std.proofs.lemmas.List.{length-set, map-append, append-nil}
 use Rattle.std.proofs.lemmas.Option.{slice_get_within}
 use Rattle.std.proofs.lemmas.List.Elements.{filter-append}
 use Rattle.std.proofs.lemmas.List.Sums.{fold-append}
@@ -12,14 +12,12 @@ use Rattle.fkv_functions.specs.Meanings.{Meanings, updated}
 use Rattle.fkv_functions.specs.Plain.{PlainMap, Same, with_at, IsKeyOrder}
 use Rattle.fkv_functions.specs.declared.refusals.Refused.{Refused}
 use Rattle.fkv_functions.proofs.ListLemmas.{get-append_cases, get-set_cases}
-use Rattle.fkv_texts.specs.Text.{live}
 use Rattle.fkv_operations.specs.AfterLaws.{same_map}
-use Rattle.fkv_partition.specs.declared.limits.Config.{Config}
-use Rattle.fkv_partition.specs.declared.contexts.Context.{Context}
-use Rattle.fkv_partition.specs.Beginning.{Enters}
-use Rattle.fkv_partition.specs.Contexts.{joined, is_session}
-use Rattle.fkv_partition.specs.Effect.{asked, asked_by, IsQuiet}
-use Rattle.fkv_partition.specs.Views.{PartitionView, slots_of, live_of, partition_of, empty_partition}
+use Rattle.fkv_device_partition.specs.declared.limits.Config.{Config}
+use Rattle.fkv_device_partition.specs.declared.contexts.Context.{Context}
+use Rattle.fkv_device_partition.specs.Beginning.{Enters}
+use Rattle.fkv_device_partition.specs.Contexts.{joined, is_session, context_in}
+use Rattle.fkv_device_partition.specs.Views.{PartitionView, slots_of, context_at, live_of, partition_of, empty_partition}
 use Rattle.fkv_feeds.specs.Tables.{amounts_of, folded}
 use Rattle.fkv_feeds.specs.Seats.{IsIdle}
 use Rattle.fkv_feeds.specs.Unions.{live_at, union_of}
@@ -32,32 +30,40 @@ nothing-entered zero slot = refl
 nothing-entered (suc n) zero = refl
 nothing-entered (suc n) (suc slot) = nothing-entered n slot
 
+abbrev nothing : (A : Type 0) → Option A
+nothing A = None
+
+nothing-open : {A : Type 0} (n i : ℕ) → joined (slice_get (replicate n (nothing A)) i) ≡ None
+nothing-open zero i = refl
+nothing-open (suc n) zero = refl
+nothing-open (suc n) (suc i) = nothing-open n i
+
 module _ {K V I : Type 0} (cmp : K → K → Ordering) (config : Config) (size number now : ℕ) where
-  unasked : (slot c : ℕ) → asked (empty_partition {K = K} {V = V} {I = I} config size number) slot c ≡ None
-  unasked slot c = off (is_session (replicate 16 None) slot) (nothing-entered 16 slot)
+  unopened : (slots : List (Option ℕ)) (slot c : ℕ) → context_in slots (replicate 128 (nothing (Context K V I))) slot c ≡ None
+  unopened slots slot c = ap (λ o. cond (is_session slots slot && nat_lt c 8) o None) (nothing-open 128 (slot * 8 + c)) ∙ either (is_session slots slot && nat_lt c 8)
     where
-      off : (b : Bool) → b ≡ false → option_map (asked_by {K = K} {V = V} {I = I}) (cond (b && nat_lt c 8) (joined (slice_get (replicate 128 None) (slot * 8 + c))) None) ≡ None
-      off true t = absurd (cc)
-      off false t = refl
+      either : (b : Bool) → cond b (nothing (Context K V I)) None ≡ None
+      either true = refl
+      either false = refl
 
   pub enters-always : (w : PartitionView K V I) (e : Refused) → Enters (empty_partition config size number) w now (Err e) → ⊥
   enters-always w e (Enters.full f n r) = absurd (cc)
   enters-always w e (Enters.enters slot f n r) = absurd (cc)
 
-  pub seated-new : (w : PartitionView K V I) (slot : ℕ) → now ≡ number + 1 → Enters (empty_partition config size number) w now (Ok slot) → IsQuiet (empty_partition config size number) w now → IsSeatedIn cmp config number w
-  seated-new w slot e (Enters.full f n r) ev = absurd (cc)
-  seated-new w slot e (Enters.enters s f n r) ev =
+  pub seated-new : (w : PartitionView K V I) (slot : ℕ) → now ≡ number + 1 → w.moment ≤ now → Enters (empty_partition config size number) w now (Ok slot) → IsSeatedIn cmp config number w
+  seated-new w slot e past (Enters.full f n r) = absurd (cc)
+  seated-new w slot e past (Enters.enters s f n r) =
       let zero_slot : 0 ≡ s = cc in
       record {
-        numbered = ev.number;
-        counted = ev.count;
-        past = (let m = ev.moment in omega arith);
+        numbered = ap (λ (u : PartitionView K V I). u.number) n;
+        counted = ap (λ (u : PartitionView K V I). u.count) n;
+        past = omega arith;
         idle = record {
           entered = ap (λ (u : PartitionView K V I). is_session (slots_of u) 0) n ∙ ap (λ t. is_session (slice_set (replicate 16 None) t (Some 1)) 0) (sym zero_slot);
-          free = λ c. ev.same 0 c ∙ unasked 0 c;
-          room = (let l : length w.contexts ≡ 128 = ap (λ (u : PartitionView K V I). length u.contexts) n ∙ length-replicate {A = Option (Context K V I)} 128 None in omega arith);
+          free = λ c. ap (λ (u : PartitionView K V I). context_at u 0 c) n ∙ unopened (slice_set (replicate 16 None) s (Some 1)) 0 c;
+          small = omega arith;
         };
-        empty = λ k. ap (λ t. live cmp t k) ev.text;
+        empty = λ k. ap (λ (u : PartitionView K V I). live_of cmp u k) n;
       }
 
   pub new-none : AreNew {K = K} {V = V} {I = I} cmp config [] 0
@@ -101,12 +107,12 @@ module _ {K V I O : Type 0} (cmp : K → K → Ordering) (order : IsKeyOrder cmp
           rw e (sym (ap (folded f q) more))
 
 -- ---- before the first row, and after one more
-module _ {K V I O : Type 0} (cmp : K → K → Ordering) (f : Meanings K V I O) (code : K → ℕ) where
+module _ {K V I O : Type 0} (keeps : Bool) (cmp : K → K → Ordering) (f : Meanings K V I O) (code : K → ℕ) where
   none-live : (o : Option (PartitionView K V I)) (k : K) → ((v : PartitionView K V I) → o ≡ Some v → live_of cmp v k ≡ None) → live_at cmp o k ≡ None
   none-live None k h = refl
   none-live (Some v) k h = h v refl
 
-  pub stand-new : (config : Config) (views : List (PartitionView K V I)) (count : ℕ) → count ≡ 2 ^ config.partition_bits → AreNew cmp config views count → StandFor cmp f code views 0 count []
+  pub stand-new : (config : Config) (views : List (PartitionView K V I)) (count : ℕ) → count ≡ 2 ^ config.partition_bits → AreNew cmp config views count → StandFor keeps cmp f code views 0 count []
   stand-new config views count e new = record {
     some = (let positive : 0 < 2 ^ config.partition_bits = pow_pos config.partition_bits in omega (arith, new.sized));
     idle = record {
@@ -115,15 +121,15 @@ module _ {K V I O : Type 0} (cmp : K → K → Ordering) (f : Meanings K V I O) 
       past = λ p v h. (let m = (new.each p v h).past in let l : p < length views = slice_get_within views p v h in omega (arith, new.sized));
       idle = λ p v h. (new.each p v h).idle;
     };
-    denotes = λ k. none-live (slice_get views (partition_of (length views) (code k))) k (λ v h. (new.each (partition_of (length views) (code k)) v h).empty k);
+    denotes = λ kept k. none-live (slice_get views (partition_of (length views) (code k))) k (λ v h. (new.each (partition_of (length views) (code k)) v h).empty k);
   }
 
-module _ {K V I O : Type 0} (cmp : K → K → Ordering) (order : IsKeyOrder cmp) (f : Meanings K V I O) (code : K → ℕ) where
+module _ {K V I O : Type 0} (keeps : Bool) (cmp : K → K → Ordering) (order : IsKeyOrder cmp) (f : Meanings K V I O) (code : K → ℕ) where
   pub stand-more : (views : List (PartitionView K V I)) (slot now then : ℕ) (rows : List (K × I)) (p : ℕ) (old new : PartitionView K V I) (k : K) (i : I)
-      → StandFor cmp f code views slot now rows → slice_get views p ≡ Some old → partition_of (length views) (code k) ≡ p
+      → StandFor keeps cmp f code views slot now rows → slice_get views p ≡ Some old → partition_of (length views) (code k) ≡ p
       → new.number ≡ old.number → new.count ≡ old.count → new.moment ≤ then → now < then → IsIdle new slot
-      → Same (live_of cmp new) (with_at cmp (live_of cmp old) k (Some (updated f k i (live_of cmp old k))))
-      → StandFor cmp f code (slice_set views p new) slot then (rows ++ (k, i) ∷ [])
+      → (IsTrue keeps → Same (live_of cmp new) (with_at cmp (live_of cmp old) k (Some (updated f k i (live_of cmp old k)))))
+      → StandFor keeps cmp f code (slice_set views p new) slot then (rows ++ (k, i) ∷ [])
   stand-more views slot now then rows p old new k i stand here own number count past later idle done = record {
     some = rw (length-set views p new) stand.some;
     idle = record {
@@ -144,8 +150,30 @@ module _ {K V I O : Type 0} (cmp : K → K → Ordering) (order : IsKeyOrder cmp
         | inr c ↦ stand.idle.idle q v c
       ];
     };
-    denotes = (let maps : union_of cmp code views ≡ (λ q. folded f q (amounts_of cmp q rows)) = same_map (union_of cmp code views) (λ q. folded f q (amounts_of cmp q rows)) stand.denotes in
-        λ q. union-updated cmp order f code views p old new here k i own done q
+    denotes = λ kept. (let maps : union_of cmp code views ≡ (λ q. folded f q (amounts_of cmp q rows)) = same_map (union_of cmp code views) (λ q. folded f q (amounts_of cmp q rows)) (stand.denotes kept) in
+        λ q. union-updated cmp order f code views p old new here k i own (done kept) q
         ∙ ap (λ (m : PlainMap K V). with_at cmp m k (Some (updated f k i (m k))) q) maps
         ∙ table-more cmp order f rows k i q);
   }
+
+-- ---- partitions with their places on a device
+module _ {S A : Type 0} (view : S → A) where
+  pub view-get : (xs : List S) (i : ℕ) (x : S) → slice_get xs i ≡ Some x → slice_get (map view xs) i ≡ Some (view x)
+  view-get [] i x h = absurd (cc)
+  view-get (y ∷ ys) zero x h = let same : y ≡ x = cc in ap (λ z. Some (view z)) same
+  view-get (y ∷ ys) (suc i) x h = view-get ys i x h
+
+  pub view-set : (xs : List S) (i : ℕ) (y : S) → map view (slice_set xs i y) ≡ slice_set (map view xs) i (view y)
+  view-set [] i y = refl
+  view-set (x ∷ xs) zero y = refl
+  view-set (x ∷ xs) (suc i) y = ap (λ zs. view x ∷ zs) (view-set xs i y)
+
+  pub view-length : (xs : List S) → length (map view xs) ≡ length xs
+  view-length [] = refl
+  view-length (x ∷ xs) = ap suc (view-length xs)
+
+  -- another item of the same view
+  pub view-same : (xs : List S) (i : ℕ) (x y : S) → slice_get xs i ≡ Some x → view y ≡ view x → map view (slice_set xs i y) ≡ map view xs
+  view-same [] i x y h e = refl
+  view-same (z ∷ zs) zero x y h e = let same : z ≡ x = cc in ap (λ a. a ∷ map view zs) (e ∙ ap view (sym same))
+  view-same (z ∷ zs) (suc i) x y h e = ap (λ bs. view z ∷ bs) (view-same zs i x y h e)

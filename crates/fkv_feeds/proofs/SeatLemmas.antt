@@ -1,81 +1,166 @@
--- What the events of a partition leave of a session, and when they are refused.
-use Rattle.std.proofs.Common.{◌≡◌, Bool, true, false, ℕ, ◌+◌, ◌-◌, ◌*◌, ◌<◌, ◌≤◌, ◌⊎◌, inl, inr, List, ◌∷◌, length, take, drop, get_or, Option, Some, None, Result, Ok, Err, option_map, slice_get, slice_set, slice_range, position, is_none, nat_lt, suc, refl, sym, ◌∙◌, ap, subst, arith, drop-cons}
-use Rattle.std.proofs.lemmas.List.{length-set}
-use Rattle.std.proofs.lemmas.Option.{slice_get-get_or}
-use Rattle.std.proofs.lemmas.Bool.{cases_eq}
+-- What the events of a partition leave of a session's update, and when they are refused.
+use Rattle.std.proofs.Common.{◌≡◌, ◌≢◌, Bool, true, false, cond, IsTrue, ◌&&◌, ℕ, ◌+◌, ◌-◌, ◌*◌, ◌<◌, ◌≤◌, ◌⊎◌, inl, inr, List, ◌∷◌, length, take, drop, get_or, Option, Some, None, Result, Ok, Err, option_map, slice_get, slice_set, slice_range, position, is_none, nat_lt, suc, refl, sym, ◌∙◌, ap, subst, arith, drop-cons}
+use Rattle.std.proofs.lemmas.Option.{slice_get-get_or, same_Some}
 use Rattle.std.proofs.lemmas.Bool.Decides.{nat_tests}
-use Rattle.std.proofs.lemmas.Option.{same_Some}
 use Rattle.std.specs.declared.cmp.Ordering.{Ordering}
 use Rattle.fkv_functions.specs.Meanings.{Meanings}
 use Rattle.fkv_functions.specs.Plain.{Same}
 use Rattle.fkv_functions.specs.declared.asks.Ask.{Ask}
 use Rattle.fkv_functions.specs.declared.refusals.Refused.{Refused}
-use Rattle.fkv_functions.specs.declared.refusals.Refused.TheVariants.{NoMemory, Worn}
+use Rattle.fkv_functions.specs.declared.refusals.Refused.TheVariants.{NoMemory, Worn, Damaged}
+use Rattle.fkv_functions.proofs.ListLemmas.{get-set_same, get-set_other}
+use Rattle.fkv_records.specs.Places.{page_at}
+use Rattle.fkv_device.specs.Standing.{Standing, Joined}
+use Rattle.fkv_pages.specs.Loads.{IsHeldBy}
 use Rattle.fkv_operations.specs.After.{after, key_of}
 use Rattle.fkv_operations.specs.AfterLaws.{same_map}
 use Rattle.fkv_operations.specs.declared.entries.IndexEntry.{IndexEntry}
 use Rattle.fkv_operations.specs.declared.operations.Op.{Op}
-use Rattle.fkv_operations.specs.declared.operations.Op.TheVariants.{Rmw}
+use Rattle.fkv_operations.specs.declared.operations.Op.TheVariants.{Read, Rmw}
+use Rattle.fkv_lookups.specs.RecordsViews.{RecordsView}
+use Rattle.fkv_lookups.specs.Decisions.{decision}
+use Rattle.fkv_lookups.specs.declared.decisions.Decision.TheVariants.{Prepare}
+use Rattle.fkv_lookups.specs.declared.decisions.Met.{Met}
+use Rattle.fkv_lookups.specs.declared.decisions.Met.TheVariants.{NoEntry, NoValue, ReadOnly, Fuzzy, Mutable, OnDisk}
 use Rattle.fkv_operations.specs.declared.operations.Answer.{Answer}
-use Rattle.fkv_regions.specs.RegionsView.{RegionsView}
-use Rattle.fkv_partition.specs.declared.contexts.Context.{Context}
-use Rattle.fkv_partition.specs.declared.contexts.Phase.TheVariants.{Prepared}
-use Rattle.fkv_partition.specs.declared.contexts.Progress.{Progress}
-use Rattle.fkv_partition.specs.declared.contexts.Wait.{Wait}
-use Rattle.fkv_partition.specs.declared.contexts.Progress.TheVariants.{Done, Next, NeedsBuild, Waits}
-use Rattle.fkv_partition.specs.Beginning.{Issues}
-use Rattle.fkv_partition.specs.Contexts.{joined, is_session, question_in, at_phase}
-use Rattle.fkv_partition.specs.Effect.{Asked, asked, asked_by, IsIssue, IsEvent}
-use Rattle.fkv_partition.specs.Going.{Goes}
-use Rattle.fkv_partition.specs.Installing.{Installs}
-use Rattle.fkv_partition.specs.Views.{PartitionView, slots_of, context_at, live_of, with_context, free_context, partition_of}
-use Rattle.fkv_partition.proofs.AskedLemmas.{open_at, context-inside}
-use Rattle.fkv_functions.proofs.ListLemmas.{get-set_same}
-use Rattle.fkv_feeds.specs.Seats.{IsIdle, IsOpen, IsAsking, Tries}
+use Rattle.fkv_device_partition.specs.declared.contexts.Context.{Context}
+use Rattle.fkv_device_partition.specs.declared.contexts.Loading.{Loading}
+use Rattle.fkv_device_partition.specs.declared.contexts.Phase.{Phase}
+use Rattle.fkv_device_partition.specs.declared.contexts.Phase.TheVariants.{Fresh, Confirm, Prepared, Load}
+use Rattle.fkv_device_partition.specs.declared.contexts.Progress.{Progress}
+use Rattle.fkv_device_partition.specs.declared.contexts.Progress.TheVariants.{Done, Next, NeedsBuild, NeedsLoad, Waits}
+use Rattle.fkv_device_partition.specs.declared.contexts.Wait.{Wait}
+use Rattle.fkv_device_partition.specs.Beginning.{Issues}
+use Rattle.fkv_device_partition.specs.Contexts.{joined, is_session, context_in, question_in, loading_by, at_phase}
+use Rattle.fkv_device_partition.specs.Effect.{Asked, asked_by, IsEvent}
+use Rattle.fkv_device_partition.specs.Going.{Goes}
+use Rattle.fkv_device_partition.specs.Installing.{Installs}
+use Rattle.fkv_device_partition.specs.Loading.{Loads}
+use Rattle.fkv_device_partition.specs.Views.{PartitionView, slots_of, context_at, live_of, with_context, free_context, partition_of, met_at}
+use Rattle.fkv_feeds.specs.Faults.{Spelling, IsSpoilt}
+use Rattle.fkv_feeds.specs.Seats.{IsIdle, IsOpen, IsAsking, IsTidied, WaitsFor, Leaves, HasDone, Tries}
+use Rattle.fkv_feeds.specs.declared.updating.Turn.{Turn}
+use Rattle.fkv_feeds.specs.declared.updating.Turn.TheVariants.{On}
+use Rattle.fkv_feeds.specs.declared.updating.Turn.TheVariants as turn
+
+-- ---- contexts of a session
+joined-some : {A : Type 0} (o : Option (Option A)) (x : A) → joined o ≡ Some x → o ≡ Some (Some x)
+joined-some None x h = absurd (cc)
+joined-some (Some y) x h = ap Some h
 
 apart : {A : Type 0} (x : A) (o : Option A) → o ≡ Some x → o ≡ None → ⊥
 apart x o h k = let bad : Some x ≡ None = sym h ∙ k in absurd (cc)
 
 module _ {K V I : Type 0} where
-  -- ---- as many contexts as before
-  sized : (v w : PartitionView K V I) → w ≡ v → length w.contexts ≡ length v.contexts
-  sized v w e = ap (λ (u : PartitionView K V I). length u.contexts) e
+  -- where an open operation stands
+  record IsWithin (v : PartitionView K V I) (slot c : ℕ) (x : Context K V I) : Type 0 where
+    entered : is_session (slots_of v) slot ≡ true
+    low : c < 8
+    there : slice_get v.contexts (slot * 8 + c) ≡ Some (Some x)
 
-  put : (v w : PartitionView K V I) (i : ℕ) (x : Option (Context K V I)) → w.contexts ≡ slice_set v.contexts i x → length w.contexts ≡ length v.contexts
-  put v w i x e = ap length e ∙ length-set v.contexts i x
-
-  contexts-of : (v w : PartitionView K V I) → w ≡ v → w.contexts ≡ v.contexts
-  contexts-of v w e = ap (λ (u : PartitionView K V I). u.contexts) e
-
-  pub issues-sized : (code : K → ℕ) (v w : PartitionView K V I) (slot now : ℕ) (op : Op K V I) (r : Result ℕ Refused) → Issues code v w slot op now r → length w.contexts ≡ length v.contexts
-  issues-sized code v w slot now op r (Issues.unknown a e f) = sized v w e
-  issues-sized code v w slot now op r (Issues.stranger a b e f) = sized v w e
-  issues-sized code v w slot now op r (Issues.full a b c e f) = sized v w e
-  issues-sized code v w slot now op r (Issues.issues c a b d e f) = put v w _ _ (contexts-of _ w e)
-
-  -- ---- refusals that do not come
-  -- an operation is open where one is asked
-  pub opened : (v : PartitionView K V I) (slot c : ℕ) (x : Asked K V I) → asked v slot c ≡ Some x → (y : Context K V I) × (context_at v slot c ≡ Some y)
-  opened v slot c x h = by (context_at v slot c) refl h
+  within : (v : PartitionView K V I) (slot c : ℕ) (x : Context K V I) → context_at v slot c ≡ Some x → IsWithin v slot c x
+  within v slot c x h = by_cases (is_session (slots_of v) slot) (nat_lt c 8) refl refl h
     where
-      by : (o : Option (Context K V I)) → context_at v slot c ≡ o → option_map asked_by o ≡ Some x → (y : Context K V I) × (context_at v slot c ≡ Some y)
-      by None e k = absurd (cc)
-      by (Some y) e k = (y, e)
+      by_cases : (a b : Bool) → is_session (slots_of v) slot ≡ a → nat_lt c 8 ≡ b → cond (a && b) (joined (slice_get v.contexts (slot * 8 + c))) None ≡ Some x → IsWithin v slot c x
+      by_cases true true p q e = record { entered = p; low = grind (arith, nat_tests); there = joined-some (slice_get v.contexts (slot * 8 + c)) x e }
+      by_cases true false p q e = absurd (cc)
+      by_cases false b p q e = absurd (cc)
 
+  inside : (slots : List (Option ℕ)) (contexts : List (Option (Context K V I))) (slot c : ℕ) → is_session slots slot ≡ true → c < 8 → context_in slots contexts slot c ≡ joined (slice_get contexts (slot * 8 + c))
+  inside slots contexts slot c h low = let t : nat_lt c 8 ≡ true = grind (arith, nat_tests) in rw (h, t) refl
+
+  -- one context is set, and each session stays
+  record IsSet (v w : PartitionView K V I) (slot c : ℕ) (y : Option (Context K V I)) : Type 0 where
+    number : w.number ≡ v.number
+    count : w.count ≡ v.count
+    slots : slots_of w ≡ slots_of v
+    contexts : w.contexts ≡ slice_set v.contexts (slot * 8 + c) y
+
+  at-set : (v w : PartitionView K V I) (slot c d : ℕ) (y : Option (Context K V I)) → IsSet v w slot c y → context_at w slot d ≡ context_in (slots_of v) (slice_set v.contexts (slot * 8 + c) y) slot d
+  at-set v w slot c d y s = ap (λ t. context_in t w.contexts slot d) s.slots ∙ ap (λ t. context_in (slots_of v) t slot d) s.contexts
+
+  set-here : (v w : PartitionView K V I) (slot c : ℕ) (x : Context K V I) (y : Option (Context K V I)) → context_at v slot c ≡ Some x → IsSet v w slot c y → context_at w slot c ≡ y
+  set-here v w slot c x y h s =
+      let o = within v slot c x h in
+      at-set v w slot c c y s ∙ inside (slots_of v) (slice_set v.contexts (slot * 8 + c) y) slot c o.entered o.low ∙ ap joined (get-set_same v.contexts (slot * 8 + c) (Some x) y o.there)
+
+  set-other : (v w : PartitionView K V I) (slot c d : ℕ) (y : Option (Context K V I)) → d ≢ c → IsSet v w slot c y → context_at w slot d ≡ context_at v slot d
+  set-other v w slot c d y n s =
+      at-set v w slot c d y s
+      ∙ ap (λ o. cond (is_session (slots_of v) slot && nat_lt d 8) (joined o) None) (get-set_other v.contexts (slot * 8 + c) (slot * 8 + d) y (λ e. n (omega arith)))
+
+  -- ---- an update is over, or goes on
+  idle-set : (v w : PartitionView K V I) (slot c : ℕ) (op : Op K V I) (page : Option Standing) → IsOpen v slot c op page → IsSet v w slot c None → IsIdle w slot
+  idle-set v w slot c op page o s = record {
+    entered = ap (λ t. is_session t slot) s.slots ∙ (within v slot c o.operation o.here).entered;
+    free = λ d. free d (nat_lt d c) (nat_lt c d) refl refl;
+    small = o.small;
+  }
+    where
+      free : (d : ℕ) (a b : Bool) → nat_lt d c ≡ a → nat_lt c d ≡ b → context_at w slot d ≡ None
+      free d true b p q = set-other v w slot c d None (λ e. absurd (let l : d < c = grind (arith, nat_tests) in omega arith)) s ∙ o.others d (λ e. absurd (let l : d < c = grind (arith, nat_tests) in omega arith))
+      free d false true p q = set-other v w slot c d None (λ e. absurd (let l : c < d = grind (arith, nat_tests) in omega arith)) s ∙ o.others d (λ e. absurd (let l : c < d = grind (arith, nat_tests) in omega arith))
+      free d false false p q = let same : d ≡ c = grind (arith, nat_tests) in rw same (set-here v w slot c o.operation None o.here s)
+
+  open-set : (v w : PartitionView K V I) (slot c : ℕ) (op : Op K V I) (page then : Option Standing) (y : Context K V I) → IsOpen v slot c op page → IsSet v w slot c (Some y) → y.op ≡ op → WaitsFor w y.phase then → IsOpen w slot c op then
+  open-set v w slot c op page then y o s is waits = record {
+    operation = y;
+    here = set-here v w slot c o.operation (Some y) o.here s;
+    is = is;
+    update = o.update;
+    others = λ d n. set-other v w slot c d (Some y) n s ∙ o.others d n;
+    small = o.small;
+    waits = waits;
+  }
+
+  -- each session and each operation stays
+  open-still : (v w : PartitionView K V I) (slot c : ℕ) (op : Op K V I) → ((d : ℕ) → context_at w slot d ≡ context_at v slot d) → IsOpen v slot c op None → IsOpen w slot c op None
+  open-still v w slot c op same o = record {
+    operation = o.operation;
+    here = same c ∙ o.here;
+    is = o.is;
+    update = o.update;
+    others = λ d n. same d ∙ o.others d n;
+    small = o.small;
+    waits = o.waits;
+  }
+
+  tidied-at : (keeps : Bool) (cmp : K → K → Ordering) (v w : PartitionView K V I) (slot c : ℕ) → IsTidied keeps cmp v w → context_at w slot c ≡ context_at v slot c
+  tidied-at keeps cmp v w slot c t =
+      ap (λ b. cond (b && nat_lt c 8) (joined (slice_get w.contexts (slot * 8 + c))) None) (t.sessions slot)
+      ∙ ap (λ cs. cond (is_session (slots_of v) slot && nat_lt c 8) (joined (slice_get cs (slot * 8 + c))) None) t.operations
+
+  pub open-tidied : (keeps : Bool) (cmp : K → K → Ordering) (v w : PartitionView K V I) (slot c : ℕ) (op : Op K V I) → IsOpen v slot c op None → IsTidied keeps cmp v w → IsOpen w slot c op None
+  open-tidied keeps cmp v w slot c op o t = open-still v w slot c op (λ d. tidied-at keeps cmp v w slot d t) o
+
+  pub idle-tidied : (keeps : Bool) (cmp : K → K → Ordering) (v w : PartitionView K V I) (slot : ℕ) → IsIdle v slot → IsTidied keeps cmp v w → IsIdle w slot
+  idle-tidied keeps cmp v w slot i t = record { entered = t.sessions slot ∙ i.entered; free = λ d. tidied-at keeps cmp v w slot d t ∙ i.free d; small = i.small }
+
+  pub open-entered : (v : PartitionView K V I) (slot c : ℕ) (op : Op K V I) (page : Option Standing) → IsOpen v slot c op page → is_session (slots_of v) slot ≡ true
+  open-entered v slot c op page o = (within v slot c o.operation o.here).entered
+
+  -- what is known of the operation that an event finds
+  found : (v : PartitionView K V I) (slot c : ℕ) (op : Op K V I) (page : Option Standing) (x : Context K V I) (o : IsOpen v slot c op page) → context_at v slot c ≡ Some x → o.operation ≡ x
+  found v slot c op page x o h = same_Some o.operation x (sym o.here ∙ h)
+
+  none-open : (v : PartitionView K V I) (slot c : ℕ) (op : Op K V I) (page : Option Standing) → IsOpen v slot c op page → context_at v slot c ≡ None → ⊥
+  none-open v slot c op page o h = let bad : Some o.operation ≡ None = sym o.here ∙ h in absurd (cc)
+
+  -- ---- an update is issued
   front-found : (cs : List (Option (Context K V I))) → position is_none (None ∷ cs) ≡ Some 0
   front-found cs = let t : nat_lt 0 (length (None ∷ cs)) ≡ true = grind (arith, nat_tests) in rw t refl
 
-  first-free : (cs : List (Option (Context K V I))) (a : ℕ) → a + 8 ≤ length cs → option_map asked_by (joined (slice_get cs a)) ≡ None → position is_none (slice_range cs a (a + 8)) ≡ None → ⊥
+  first-free : (cs : List (Option (Context K V I))) (a : ℕ) → a + 8 ≤ length cs → joined (slice_get cs a) ≡ None → position is_none (slice_range cs a (a + 8)) ≡ None → ⊥
   first-free cs a h none full = by (get_or cs a None) refl
     where
-      within : a < length cs
-      within = omega arith
+      low : a < length cs
+      low = omega arith
 
       eight : a + 8 - a ≡ 8
       eight = omega arith
 
       front : drop a cs ≡ get_or cs a None ∷ drop (suc a) cs
-      front = drop-cons cs a None within
+      front = drop-cons cs a None low
 
       by : (y : Option (Context K V I)) → get_or cs a None ≡ y → ⊥
       by None e =
@@ -83,171 +168,278 @@ module _ {K V I : Type 0} where
           let range : slice_range cs a (a + 8) ≡ take 8 (None ∷ drop (suc a) cs) = rw (eight, here) refl in
           apart 0 (position is_none (take 8 (None ∷ drop (suc a) cs))) (front-found (take 7 (drop (suc a) cs))) (rw range at full)
       by (Some y) e =
-          let there : slice_get cs a ≡ Some (get_or cs a None) = slice_get-get_or cs a None within in
-          let bad : option_map asked_by (joined (Some (get_or cs a None))) ≡ None = rw there at none in
-          let worse : Some (asked_by y) ≡ None = rw e at bad in
+          let there : slice_get cs a ≡ Some (get_or cs a None) = slice_get-get_or cs a None low in
+          let bad : joined (Some (get_or cs a None)) ≡ None = rw there at none in
+          let worse : Some y ≡ None = rw e at bad in
           absurd (cc)
 
-  pub idle-free : (v : PartitionView K V I) (slot : ℕ) → IsIdle v slot → free_context v slot ≡ None → ⊥
-  idle-free v slot idle full =
+  idle-free : (v : PartitionView K V I) (slot : ℕ) → IsIdle v slot → length v.contexts ≡ 128 → free_context v slot ≡ None → ⊥
+  idle-free v slot i places full =
       let zero_add : slot * 8 + 0 ≡ slot * 8 = omega arith in
-      let inside : context_at v slot 0 ≡ joined (slice_get v.contexts (slot * 8 + 0)) = context-inside (slots_of v) v.contexts slot 0 idle.entered (omega arith) in
-      let none : option_map asked_by (joined (slice_get v.contexts (slot * 8 + 0))) ≡ None = rw inside at (idle.free 0) in
-      first-free v.contexts (slot * 8) idle.room (rw zero_add at none) full
+      let none : joined (slice_get v.contexts (slot * 8 + 0)) ≡ None = sym (inside (slots_of v) v.contexts slot 0 i.entered (omega arith)) ∙ i.free 0 in
+      let small = i.small in
+      first-free v.contexts (slot * 8) (omega arith) (rw zero_add at none) full
 
-  pub issued-always : (code : K → ℕ) (v w : PartitionView K V I) (slot now : ℕ) (op : Op K V I) (e : Refused) → IsIdle v slot → partition_of v.count (code (key_of op)) ≡ v.number → Issues code v w slot op now (Err e) → ⊥
-  issued-always code v w slot now op e idle own (Issues.unknown a b r) = let bad : false ≡ true = sym a ∙ idle.entered in absurd (cc)
-  issued-always code v w slot now op e idle own (Issues.stranger a b d r) = b own
-  issued-always code v w slot now op e idle own (Issues.full a b d g r) = idle-free v slot idle d
-  issued-always code v w slot now op e idle own (Issues.issues c a b d g r) = absurd (cc)
+  pub issued-always : (code : K → ℕ) (v w : PartitionView K V I) (slot now : ℕ) (op : Op K V I) (e : Refused) → IsIdle v slot → length v.contexts ≡ 128 → partition_of v.count (code (key_of op)) ≡ v.number → Issues code v w slot op now (Err e) → ⊥
+  issued-always code v w slot now op e i places own (Issues.unknown a b r) = let bad : false ≡ true = sym a ∙ i.entered in absurd (cc)
+  issued-always code v w slot now op e i places own (Issues.stranger a b d r) = b own
+  issued-always code v w slot now op e i places own (Issues.full a b d g r) = idle-free v slot i places d
+  issued-always code v w slot now op e i places own (Issues.issues c a b d g r) = absurd (cc)
 
-  -- a session whose operation was issued
-  pub issue-opens : (code : K → ℕ) (v w : PartitionView K V I) (slot c now : ℕ) (op : Op K V I) → IsIdle v slot → IsIssue code v w slot c op now → length w.contexts ≡ length v.contexts → IsOpen w slot c
-  issue-opens code v w slot c now op idle ev sized = record {
-    question = record { number = now; op = op };
-    entered = subst (λ (r : RegionsView). is_session r.epochs.slots slot ≡ true) (sym ev.frame.regions) idle.entered;
-    asks = ev.opened;
-    others = λ d n. ev.frame.others slot d (inr n) ∙ idle.free d;
-    room = rw sized idle.room;
-  }
+  -- a session whose update was issued, and what else is as it was
+  pub record IsIssued (v w : PartitionView K V I) (slot c : ℕ) (op : Op K V I) : Type 0 where
+    pub number : w.number ≡ v.number
+    pub count : w.count ≡ v.count
+    pub seat : IsOpen w slot c op None
+    pub text : w.records.text ≡ v.records.text
 
-  context-same : (v : PartitionView K V I) (slot c now : ℕ) (x y : Context K V I) → context_at v slot c ≡ Some x → context_at (with_context v slot c (Some y) now) slot c ≡ Some y
-  context-same v slot c now x y h =
-      let o = open_at (slots_of v) v.contexts slot c x h in
-      context-inside (slots_of v) (slice_set v.contexts (slot * 8 + c) (Some y)) slot c o.inside o.low ∙ ap joined (get-set_same v.contexts (slot * 8 + c) (Some x) (Some y) o.here)
-
-  question-rmw : (n : ℕ) (op : Op K V I) (e : IndexEntry) (s : Option V) (k : K) (i : I) → op ≡ Rmw k i → question_in (record { number = n; op = op; phase = Prepared e s }) ≡ Some (e, record { number = n; key = k; source = s; input = i })
-  question-rmw n op e s k i h = rw h refl
-
-module _ {K V I O : Type 0} where
-  pub goes-sized : (cmp : K → K → Ordering) (f : Meanings K V I O) (code : K → ℕ) (v w : PartitionView K V I) (slot c now : ℕ) (r : Result (Progress K V I O) Refused) → Goes cmp f code v w slot c now r → length w.contexts ≡ length v.contexts
-  goes-sized cmp f code v w slot c now r (Goes.unknown a e b) = sized v w e
-  goes-sized cmp f code v w slot c now r (Goes.asks x k ask h q e b) = ap length (contexts-of _ w e)
-  goes-sized cmp f code v w slot c now r (Goes.confirms x p h q a e b) = put v w _ _ (contexts-of _ w e)
-  goes-sized cmp f code v w slot c now r (Goes.backs_off x p h q a e b) = put v w _ _ (contexts-of _ w e)
-  goes-sized cmp f code v w slot c now r (Goes.done x a d e b) = put v w _ _ (contexts-of _ w e)
-  goes-sized cmp f code v w slot c now r (Goes.claims x d e b) = put v w _ _ (contexts-of _ w e.is)
-  goes-sized cmp f code v w slot c now r (Goes.unclaimed x d l e b) = sized v w e
-  goes-sized cmp f code v w slot c now r (Goes.appends x a g k d h t e b) = put v w _ _ (contexts-of _ w e)
-  goes-sized cmp f code v w slot c now r (Goes.worn x a g d t e b) = sized v w e
-  goes-sized cmp f code v w slot c now r (Goes.unheld x a g d t o e b) = sized v w e
-  goes-sized cmp f code v w slot c now r (Goes.replaces x a g k d h e b) = put v w _ _ (contexts-of _ w e)
-  goes-sized cmp f code v w slot c now r (Goes.waits x d e b) = ap length (contexts-of _ w e)
-  goes-sized cmp f code v w slot c now r (Goes.prepares x s i k d h e b) = put v w _ _ (contexts-of _ w e)
-
-  pub installs-sized : (cmp : K → K → Ordering) (f : Meanings K V I O) (code : K → ℕ) (v w : PartitionView K V I) (slot c now : ℕ) (ask : Ask K V I) (r : Result (Progress K V I O) Refused) → Installs cmp f code v w slot c ask now r → length w.contexts ≡ length v.contexts
-  installs-sized cmp f code v w slot c now ask r (Installs.unknown a e b) = sized v w e
-  installs-sized cmp f code v w slot c now ask r (Installs.not_ready x h q e b) = sized v w e
-  installs-sized cmp f code v w slot c now ask r (Installs.stranger x k m h q n e b) = sized v w e
-  installs-sized cmp f code v w slot c now ask r (Installs.moved x k h q n e b) = put v w _ _ (contexts-of _ w e)
-  installs-sized cmp f code v w slot c now ask r (Installs.worn x k h q n t e b) = sized v w e
-  installs-sized cmp f code v w slot c now ask r (Installs.unheld x k h q n t o e b) = sized v w e
-  installs-sized cmp f code v w slot c now ask r (Installs.done x k h q n t e b) = put v w _ _ (contexts-of _ w e)
-
-  pub goes-refused : (cmp : K → K → Ordering) (f : Meanings K V I O) (code : K → ℕ) (v w : PartitionView K V I) (slot c now : ℕ) (e : Refused) → IsOpen v slot c → Goes cmp f code v w slot c now (Err e) → (e ≡ Worn) ⊎ (e ≡ NoMemory)
-  goes-refused cmp f code v w slot c now e o (Goes.unknown a g b) = absurd (let there = opened v slot c o.question o.asks in let bad : None ≡ Some there.0 = sym a ∙ there.1 in cc)
-  goes-refused cmp f code v w slot c now e o (Goes.asks x k ask h q g b) = absurd (cc)
-  goes-refused cmp f code v w slot c now e o (Goes.confirms x p h q a g b) = absurd (cc)
-  goes-refused cmp f code v w slot c now e o (Goes.backs_off x p h q a g b) = absurd (cc)
-  goes-refused cmp f code v w slot c now e o (Goes.done x a d g b) = absurd (cc)
-  goes-refused cmp f code v w slot c now e o (Goes.claims x d g b) = absurd (cc)
-  goes-refused cmp f code v w slot c now e o (Goes.unclaimed x d l g b) = inr (cc)
-  goes-refused cmp f code v w slot c now e o (Goes.appends x a g k d h t i b) = absurd (cc)
-  goes-refused cmp f code v w slot c now e o (Goes.worn x a g d t i b) = inl (cc)
-  goes-refused cmp f code v w slot c now e o (Goes.unheld x a g d t l i b) = inr (cc)
-  goes-refused cmp f code v w slot c now e o (Goes.replaces x a g k d h i b) = absurd (cc)
-  goes-refused cmp f code v w slot c now e o (Goes.waits x d i b) = absurd (cc)
-  goes-refused cmp f code v w slot c now e o (Goes.prepares x s i k d h g b) = absurd (cc)
-
-  pub installs-refused : (cmp : K → K → Ordering) (f : Meanings K V I O) (code : K → ℕ) (v w : PartitionView K V I) (slot c now : ℕ) (ask : Ask K V I) (e : Refused) → IsAsking v slot c ask → Installs cmp f code v w slot c ask now (Err e) → (e ≡ Worn) ⊎ (e ≡ NoMemory)
-  installs-refused cmp f code v w slot c now ask e o (Installs.unknown a g b) = absurd (let bad : None ≡ Some o.operation = sym a ∙ o.here in cc)
-  installs-refused cmp f code v w slot c now ask e o (Installs.not_ready x h q g b) = absurd (let same : Some x ≡ Some o.operation = sym h ∙ o.here in let one : x ≡ o.operation = cc in let bad : None ≡ Some (o.kept, ask) = sym q ∙ ap question_in one ∙ o.question in cc)
-  installs-refused cmp f code v w slot c now ask e o (Installs.stranger x k m h q n g b) = absurd (let same : Some x ≡ Some o.operation = sym h ∙ o.here in let one : x ≡ o.operation = cc in let both : Some (k, m) ≡ Some (o.kept, ask) = sym q ∙ ap question_in one ∙ o.question in n (sym (ap (λ (p : IndexEntry × Ask K V I). p.1) (same_Some (k, m) (o.kept, ask) both))))
-  installs-refused cmp f code v w slot c now ask e o (Installs.moved x k h q n g b) = absurd (cc)
-  installs-refused cmp f code v w slot c now ask e o (Installs.worn x k h q n t g b) = inl (cc)
-  installs-refused cmp f code v w slot c now ask e o (Installs.unheld x k h q n t l g b) = inr (cc)
-  installs-refused cmp f code v w slot c now ask e o (Installs.done x k h q n t g b) = absurd (cc)
-
-  -- ---- what is asked is kept
-  pub goes-asking : (cmp : K → K → Ordering) (f : Meanings K V I O) (code : K → ℕ) (v w : PartitionView K V I) (slot c now : ℕ) (ask : Ask K V I)
-      → IsEvent cmp f v w slot c now (NeedsBuild ask) → Goes cmp f code v w slot c now (Ok (NeedsBuild ask)) → IsAsking w slot c ask
-  goes-asking cmp f code v w slot c now ask ev (Goes.unknown a e b) = absurd (cc)
-  goes-asking cmp f code v w slot c now ask ev (Goes.asks x k mine h q e b) =
-      let same : ask ≡ mine = cc in
-      record { operation = x; kept = k; here = ap (λ (u : PartitionView K V I). context_at u slot c) e ∙ h; question = rw same q }
-  goes-asking cmp f code v w slot c now ask ev (Goes.confirms x p h q a e b) = absurd (cc)
-  goes-asking cmp f code v w slot c now ask ev (Goes.backs_off x p h q a e b) = absurd (cc)
-  goes-asking cmp f code v w slot c now ask ev (Goes.done x a d e b) = absurd (cc)
-  goes-asking cmp f code v w slot c now ask ev (Goes.claims x d e b) = absurd (cc)
-  goes-asking cmp f code v w slot c now ask ev (Goes.unclaimed x d l e b) = absurd (cc)
-  goes-asking cmp f code v w slot c now ask ev (Goes.appends x a g k d h t e b) = absurd (cc)
-  goes-asking cmp f code v w slot c now ask ev (Goes.worn x a g d t e b) = absurd (cc)
-  goes-asking cmp f code v w slot c now ask ev (Goes.unheld x a g d t o e b) = absurd (cc)
-  goes-asking cmp f code v w slot c now ask ev (Goes.replaces x a g k d h e b) = absurd (cc)
-  goes-asking cmp f code v w slot c now ask ev (Goes.waits x d e b) = absurd (cc)
-  goes-asking cmp f code v w slot c now ask ev (Goes.prepares x s i k d h e b) =
-      let same : ask ≡ record { number = x.number; key = key_of x.op; source = s; input = i } = cc in
-      let asked_x : Some (asked_by x) ≡ Some ev.question = sym (ap (option_map asked_by) d.here) ∙ ev.was in
-      let question : asked_by x ≡ ev.question = same_Some (asked_by x) ev.question asked_x in
-      let op : x.op ≡ Rmw ask.key ask.input = ap (λ (q : Asked K V I). q.op) question ∙ ev.effect.3 in
-      let source : s ≡ ask.source = ap (λ (a : Ask K V I). a.source) (sym same) in
-      let number : x.number ≡ ask.number = ap (λ (a : Ask K V I). a.number) (sym same) in
+  pub issue-opens : (code : K → ℕ) (v w : PartitionView K V I) (slot c now : ℕ) (op : Op K V I) → IsIdle v slot → length v.contexts ≡ 128 → c < 8 → (i : I) × (op ≡ Rmw (key_of op) i) → Issues code v w slot op now (Ok c) → IsIssued v w slot c op
+  issue-opens code v w slot c now op i places low rmw (Issues.unknown a b r) = absurd (cc)
+  issue-opens code v w slot c now op i places low rmw (Issues.stranger a b d r) = absurd (cc)
+  issue-opens code v w slot c now op i places low rmw (Issues.full a b d g r) = absurd (cc)
+  issue-opens code v w slot c now op i places low rmw (Issues.issues q a b d e r) =
+      let same : c ≡ q = cc in
+      let x : Context K V I = record { number = now; op = op; phase = Fresh } in
+      let is : w ≡ with_context v slot c (Some x) now = e ∙ ap (λ t. with_context v slot t (Some x) now) (sym same) in
+      let s : IsSet v w slot c (Some x) = record {
+        number = ap (λ (u : PartitionView K V I). u.number) is;
+        count = ap (λ (u : PartitionView K V I). u.count) is;
+        slots = ap (λ (u : PartitionView K V I). slots_of u) is;
+        contexts = ap (λ (u : PartitionView K V I). u.contexts) is;
+      } in
+      let small = i.small in
+      let within : slot * 8 + c < length v.contexts = omega arith in
       record {
-        operation = at_phase x (Prepared k s);
-        kept = k;
-        here = ap (λ (u : PartitionView K V I). context_at u slot c) e ∙ context-same v slot c now x (at_phase x (Prepared k s)) d.here;
-        question = question-rmw x.number x.op k s ask.key ask.input op ∙ ap (λ (n : ℕ). Some (k, record { number = n; key = ask.key; source = s; input = ask.input })) number
-            ∙ ap (λ (t : Option V). Some (k, record { number = ask.number; key = ask.key; source = t; input = ask.input })) source;
+        number = s.number;
+        count = s.count;
+        seat = record {
+          operation = x;
+          here = at-set v w slot c c (Some x) s ∙ inside (slots_of v) (slice_set v.contexts (slot * 8 + c) (Some x)) slot c i.entered low
+              ∙ ap joined (get-set_same v.contexts (slot * 8 + c) (get_or v.contexts (slot * 8 + c) None) (Some x) (slice_get-get_or v.contexts (slot * 8 + c) None within));
+          is = refl;
+          update = rmw;
+          others = λ t n. set-other v w slot c t (Some x) n s ∙ i.free t;
+          small = i.small;
+          waits = refl;
+        };
+        text = ap (λ (u : PartitionView K V I). u.records.text) is;
       }
 
-  -- ---- tries
-  stays : (cmp : K → K → Ordering) (f : Meanings K V I O) (v w : PartitionView K V I) (slot c now : ℕ) (p : Progress K V I O) → IsOpen v slot c → IsEvent cmp f v w slot c now p → length w.contexts ≡ length v.contexts → asked w slot c ≡ asked v slot c → IsOpen w slot c
-  stays cmp f v w slot c now p o ev sized same = record {
-    question = o.question;
-    entered = subst (λ (r : RegionsView). is_session r.epochs.slots slot ≡ true) (sym ev.frame.regions) o.entered;
-    asks = same ∙ o.asks;
-    others = λ d n. ev.frame.others slot d (inr n) ∙ o.others d n;
-    room = rw sized o.room;
+-- ---- what the events of an open update leave
+prepared-input : {K V I O : Type 0} (f : Meanings K V I O) (op : Op K V I) (m : Met V) (k : K) (j : I) (source : Option V) (i : I) → op ≡ Rmw k j → decision f op m ≡ Prepare source i → i ≡ j
+prepared-input f op m k j source i is d = by m (rw is at d)
+  where
+    by : (m : Met _) → decision f (Rmw k j) m ≡ Prepare source i → i ≡ j
+    by NoEntry e = absurd (cc)
+    by NoValue e = cc
+    by (ReadOnly w) e = cc
+    by (Fuzzy w) e = absurd (cc)
+    by (Mutable w) e = absurd (cc)
+    by (OnDisk b) e = absurd (cc)
+
+module _ {K V I : Type 0} where
+  pub record IsMoved (v w : PartitionView K V I) : Type 0 where
+    pub number : w.number ≡ v.number
+    pub count : w.count ≡ v.count
+
+module _ {K V I : Type 0} (v w : PartitionView K V I) (slot c : ℕ) (op : Op K V I) where
+  -- one context is set
+  set-by : (u : PartitionView K V I) (now : ℕ) (y : Option (Context K V I)) → w ≡ u → u.number ≡ v.number → u.count ≡ v.count → slots_of u ≡ slots_of v → u.contexts ≡ slice_set v.contexts (slot * 8 + c) y → IsSet v w slot c y
+  set-by u now y e number count slots contexts = record {
+    number = ap (λ (t : PartitionView K V I). t.number) e ∙ number;
+    count = ap (λ (t : PartitionView K V I). t.count) e ∙ count;
+    slots = ap (λ (t : PartitionView K V I). slots_of t) e ∙ slots;
+    contexts = ap (λ (t : PartitionView K V I). t.contexts) e ∙ contexts;
   }
 
-  pub tries-next : (cmp : K → K → Ordering) (f : Meanings K V I O) (v w : PartitionView K V I) (slot c now : ℕ) → IsOpen v slot c → IsEvent cmp f v w slot c now Next → length w.contexts ≡ length v.contexts → Tries cmp f v w slot c false
-  tries-next cmp f v w slot c now o ev sized =
-      let same : asked w slot c ≡ asked v slot c = ev.effect.0 ∙ sym ev.was in
-      record { number = ev.frame.number; count = ev.frame.count; finished = λ e. absurd (cc); goes_on = λ e. (stays cmp f v w slot c now Next o ev sized same, same, ev.effect.1) }
+  moved-set : (y : Option (Context K V I)) → IsSet v w slot c y → IsMoved v w
+  moved-set y s = record { number = s.number; count = s.count }
 
-  pub tries-waiting : (cmp : K → K → Ordering) (f : Meanings K V I O) (v w : PartitionView K V I) (slot c now : ℕ) (why : Wait) → IsOpen v slot c → IsEvent cmp f v w slot c now (Waits why) → length w.contexts ≡ length v.contexts → Tries cmp f v w slot c false
-  tries-waiting cmp f v w slot c now why o ev sized =
-      let same : asked w slot c ≡ asked v slot c = ev.effect.0 ∙ sym ev.was in
-      record { number = ev.frame.number; count = ev.frame.count; finished = λ e. absurd (cc); goes_on = λ e. (stays cmp f v w slot c now (Waits why) o ev sized same, same, ev.effect.1) }
+  -- only the moment moves
+  passes : (now : ℕ) → w ≡ record v { moment = now } → IsOpen v slot c op None → IsMoved v w × IsOpen w slot c op None
+  passes now e o = (
+    record { number = ap (λ (t : PartitionView K V I). t.number) e; count = ap (λ (t : PartitionView K V I). t.count) e },
+    open-still v w slot c op (λ d. ap (λ (t : PartitionView K V I). context_at t slot d) e) o,
+  )
 
-  pub tries-asking : (cmp : K → K → Ordering) (f : Meanings K V I O) (v w : PartitionView K V I) (slot c now : ℕ) (ask : Ask K V I) → IsOpen v slot c → IsEvent cmp f v w slot c now (NeedsBuild ask) → length w.contexts ≡ length v.contexts → Tries cmp f v w slot c false
-  tries-asking cmp f v w slot c now ask o ev sized =
-      let same : asked w slot c ≡ asked v slot c = ev.effect.0 ∙ sym ev.was in
-      record { number = ev.frame.number; count = ev.frame.count; finished = λ e. absurd (cc); goes_on = λ e. (stays cmp f v w slot c now (NeedsBuild ask) o ev sized same, same, ev.effect.1) }
+  op-of : (page : Option Standing) (x : Context K V I) → IsOpen v slot c op page → context_at v slot c ≡ Some x → x.op ≡ op
+  op-of page x o h = ap (λ (t : Context K V I). t.op) (sym (found v slot c op page x o h)) ∙ o.is
 
-  pub tries-done : (cmp : K → K → Ordering) (f : Meanings K V I O) (v w : PartitionView K V I) (slot c now at : ℕ) (a : Answer O) → IsOpen v slot c → IsEvent cmp f v w slot c now (Done a at) → length w.contexts ≡ length v.contexts → Tries cmp f v w slot c true
-  tries-done cmp f v w slot c now at a o ev sized = record {
-    number = ev.frame.number;
-    count = ev.frame.count;
-    finished = λ e x h. (
-      record {
-        entered = subst (λ (r : RegionsView). is_session r.epochs.slots slot ≡ true) (sym ev.frame.regions) o.entered;
-        free = λ d. elim (cases_eq d c) [ inl s ↦ ap (asked w slot) s ∙ ev.effect.0 | inr n ↦ ev.frame.others slot d (inr n) ∙ o.others d n ];
-        room = rw sized o.room;
-      },
-      (let question : ev.question ≡ x = same_Some ev.question x (sym ev.was ∙ h) in
-          subst (λ (q : Asked K V I). Same (live_of cmp w) (after cmp f (live_of cmp v) q.op)) question ev.effect.2),
-    );
-    goes_on = λ e. absurd (cc);
+  -- it is over, or stays open in another phase
+  over : (page : Option Standing) → IsOpen v slot c op page → IsSet v w slot c None → IsMoved v w × IsIdle w slot
+  over page o s = (moved-set None s, idle-set v w slot c op page o s)
+
+  turns : (page : Option Standing) (x : Context K V I) (phase : Phase V) → IsOpen v slot c op page → context_at v slot c ≡ Some x → loading_by phase ≡ None → IsSet v w slot c (Some (at_phase x phase)) → IsMoved v w × IsOpen w slot c op None
+  turns page x phase o h free s = (moved-set (Some (at_phase x phase)) s, open-set v w slot c op page None (at_phase x phase) o s (op-of page x o h) free)
+
+  -- a prepared update asks
+  asks-now : (x : Context K V I) (e : IndexEntry) (source : Option V) (page : Option Standing) (k : K) (i : I) → (o : IsOpen v slot c op page) → context_at v slot c ≡ Some x → x.op ≡ Rmw k i → IsSet v w slot c (Some (at_phase x (Prepared e source)))
+      → IsAsking w slot c (record { number = x.number; key = k; source = source; input = i })
+  asks-now x e source page k i o h is s = record {
+    operation = at_phase x (Prepared e source);
+    kept = e;
+    here = set-here v w slot c x (Some (at_phase x (Prepared e source))) h s;
+    question = rw is refl;
   }
 
-  pub tries-then : (cmp : K → K → Ordering) (f : Meanings K V I O) (v u w : PartitionView K V I) (slot c : ℕ) (done : Bool) → Tries cmp f v u slot c false → Tries cmp f u w slot c done → Tries cmp f v w slot c done
-  tries-then cmp f v u w slot c done one two =
-      let first = one.goes_on refl in
-      let maps : live_of cmp u ≡ live_of cmp v = same_map (live_of cmp u) (live_of cmp v) first.2 in
-      record {
-        number = two.number ∙ one.number;
-        count = two.count ∙ one.count;
-        finished = λ e x h. (let last = two.finished e x (first.1 ∙ h) in (last.0, subst (λ m. Same (live_of cmp w) (after cmp f m x.op)) maps last.1));
-        goes_on = λ e. (let last = two.goes_on e in (last.0, last.1 ∙ first.1, λ k. last.2 k ∙ first.2 k));
-      }
+-- a page that came by the receipt that is kept of it is refused
+abbrev pub IsLoadRefusal : {K V : Type 0} → Spelling K V → (K → K → Ordering) → Refused → Type 0
+IsLoadRefusal entry cmp e = (e ≡ NoMemory) ⊎ ((page : ℕ) × IsSpoilt entry cmp page × (e ≡ Damaged page))
+
+module _ {K V I O R : Type 0} (stands : R → Standing) where
+  -- by what it answers
+  abbrev pub Follows : PartitionView K V I → ℕ → ℕ → Op K V I → Progress K V I O R → Type 0
+  Follows w slot c op (Done a effect) = IsIdle w slot
+  Follows w slot c op Next = IsOpen w slot c op None
+  Follows w slot c op (Waits why) = IsOpen w slot c op None
+  Follows w slot c op (NeedsBuild ask) = IsOpen w slot c op None × IsAsking w slot c ask
+  Follows w slot c op (NeedsLoad r a) = IsOpen w slot c op (Some (stands r))
+
+  abbrev pub Leads : (Refused → Type 0) → PartitionView K V I → PartitionView K V I → ℕ → ℕ → Op K V I → Result (Progress K V I O R) Refused → Type 0
+  Leads why v w slot c op (Ok p) = IsMoved v w × Follows w slot c op p
+  Leads why v w slot c op (Err e) = why e
+
+  module _ (v w : PartitionView K V I) (slot c : ℕ) (op : Op K V I) where
+    pub goes-leads : (cmp : K → K → Ordering) (f : Meanings K V I O) (code : K → ℕ) (now : ℕ) (r : Result (Progress K V I O R) Refused) → IsOpen v slot c op None → Goes stands cmp f code v w slot c now r → Leads (λ e. (e ≡ Worn) ⊎ (e ≡ NoMemory)) v w slot c op r
+    goes-leads cmp f code now r o (Goes.unknown a e b) = absurd (none-open v slot c op None o a)
+    goes-leads cmp f code now r o (Goes.asks x k ask h q e b) =
+        let p = passes v w slot c op now e o in
+        rw b (p.0, (p.1, record { operation = x; kept = k; here = ap (λ (t : PartitionView K V I). context_at t slot c) e ∙ h; question = q }))
+    goes-leads cmp f code now r o (Goes.not_ready x l h p e b) = absurd (let none : loading_by x.phase ≡ None = rw (found v slot c op None x o h) at o.waits in let bad : Some l ≡ None = rw p at none in cc)
+    goes-leads cmp f code now r o (Goes.confirms x p h q a e b) = rw b (turns v w slot c op None x Fresh o h refl (set-by v w slot c op _ now _ e refl refl refl refl))
+    goes-leads cmp f code now r o (Goes.backs_off x p h q a e b) = rw b (turns v w slot c op None x Fresh o h refl (set-by v w slot c op _ now _ e refl refl refl refl))
+    goes-leads cmp f code now r o (Goes.done x a d e b) = rw b (over v w slot c op None o (set-by v w slot c op _ now _ e refl refl refl refl))
+    goes-leads cmp f code now r o (Goes.claims x d m b) = rw b (turns v w slot c op None x (Confirm m.place) o d.here refl (set-by v w slot c op _ now _ m.is refl refl (ap (λ (t : RecordsView K V). t.regions.epochs.slots) m.claims.is) refl))
+    goes-leads cmp f code now r o (Goes.unclaimed x d l e b) = rw b (inr refl)
+    goes-leads cmp f code now r o (Goes.appends x a g k d h t n e b) = rw b (over v w slot c op None o (set-by v w slot c op _ now _ e refl refl refl refl))
+    goes-leads cmp f code now r o (Goes.worn x a g d t e b) = rw b (inl refl)
+    goes-leads cmp f code now r o (Goes.full x a g d t e b) = rw b (passes v w slot c op now e o)
+    goes-leads cmp f code now r o (Goes.replaces x a g k d h e b) = rw b (over v w slot c op None o (set-by v w slot c op _ now _ e refl refl refl refl))
+    goes-leads cmp f code now r o (Goes.waits x d e b) = rw b (passes v w slot c op now e o)
+    goes-leads cmp f code now r o (Goes.prepares x s i k d h e b) =
+        let set = set-by v w slot c op _ now (Some (at_phase x (Prepared k s))) e refl refl refl refl in
+        let t = turns v w slot c op None x (Prepared k s) o d.here refl set in
+        let rmw = op-of v w slot c op None x o d.here ∙ o.update.1 in
+        let input : i ≡ o.update.0 = prepared-input f x.op (met_at cmp code v slot (key_of x.op)) (key_of op) o.update.0 s i rmw d.decided in
+        let key : key_of x.op ≡ key_of op = ap key_of (op-of v w slot c op None x o d.here) in
+        rw b (t.0, (t.1, asks-now v w slot c op x k s None (key_of x.op) i o d.here (rw (key, input) rmw) set))
+    goes-leads cmp f code now r o (Goes.asks_page x p k m d h held e b) =
+        let l : Loading = record { begin = v.records.begin; kept = k; wanted = p; looked = now } in
+        let set = set-by v w slot c op _ now (Some (at_phase x (Load l))) e refl refl refl refl in
+        rw b (
+          moved-set v w slot c op (Some (at_phase x (Load l))) set,
+          open-set v w slot c op None (Some (stands m)) (at_phase x (Load l)) o set (op-of v w slot c op None x o d.here)
+              (l, refl, subst (λ (u : PartitionView K V I). IsHeldBy u.records.receipts (page_at u.records.page_bits p) (stands m)) (sym e) held),
+        )
+    goes-leads cmp f code now r o (Goes.unshared x p d e b) = rw b (inr refl)
+
+    pub installs-leads : (cmp : K → K → Ordering) (f : Meanings K V I O) (code : K → ℕ) (now : ℕ) (ask : Ask K V I) (r : Result (Progress K V I O R) Refused) → IsOpen v slot c op None → IsAsking v slot c ask → Installs cmp f code v w slot c ask now r → Leads (λ e. e ≡ Worn) v w slot c op r
+    installs-leads cmp f code now ask r o q (Installs.unknown a e b) = absurd (none-open v slot c op None o a)
+    installs-leads cmp f code now ask r o q (Installs.not_ready x h n e b) = absurd (let same : x ≡ q.operation = same_Some x q.operation (sym h ∙ q.here) in let bad : None ≡ Some (q.kept, ask) = sym n ∙ ap question_in same ∙ q.question in cc)
+    installs-leads cmp f code now ask r o q (Installs.stranger x k m h n d e b) = absurd (let same : x ≡ q.operation = same_Some x q.operation (sym h ∙ q.here) in let both : Some (k, m) ≡ Some (q.kept, ask) = sym n ∙ ap question_in same ∙ q.question in d (sym (ap (λ (p : IndexEntry × Ask K V I). p.1) (same_Some (k, m) (q.kept, ask) both))))
+    installs-leads cmp f code now ask r o q (Installs.moved x k h n d e b) = rw b (turns v w slot c op None x Fresh o h refl (set-by v w slot c op _ now _ e refl refl refl refl))
+    installs-leads cmp f code now ask r o q (Installs.worn x k h n d t e b) = rw b refl
+    installs-leads cmp f code now ask r o q (Installs.full x k h n d t e b) = rw b (passes v w slot c op now e o)
+    installs-leads cmp f code now ask r o q (Installs.done x k h n d t g e b) = rw b (over v w slot c op None o (set-by v w slot c op _ now _ e refl refl refl refl))
+
+    pub loads-leads : (entry : Spelling K V) (cmp : K → K → Ordering) (f : Meanings K V I O) (now : ℕ) (p : Joined R) (s : Standing) (r : Result (Progress K V I O R) Refused)
+        → IsOpen v slot c op (Some s) → stands p.receipt ≡ s → Loads stands entry cmp f v w slot c (Ok p) now r → Leads (IsLoadRefusal entry cmp) v w slot c op r
+    loads-leads entry cmp f now p s r o own (Loads.unknown a e b) = absurd (none-open v slot c op (Some s) o a)
+    loads-leads entry cmp f now p s r o own (Loads.not_ready x h n e b) = absurd (let bad : None ≡ Some o.waits.0 = sym n ∙ ap (λ (t : Context K V I). loading_by t.phase) (sym (found v slot c op (Some s) x o h)) ∙ ap loading_by o.waits.1 in cc)
+    loads-leads entry cmp f now p s r o own (Loads.moved x l h q n e b) = rw b (turns v w slot c op (Some s) x Fresh o h refl (set-by v w slot c op _ now _ e refl refl refl refl))
+    loads-leads entry cmp f now p s r o own (Loads.failed x l why a g n e b) = absurd (cc)
+    loads-leads entry cmp f now p s r o own (Loads.unread x l a g e b) = absurd (cc)
+    loads-leads entry cmp f now p s r o own (Loads.stranger x l q t a g h n e b) = absurd (
+        let came : p ≡ q = cc in
+        let phase : x.phase ≡ Load o.waits.0 = ap (λ (u : Context K V I). u.phase) (sym (found v slot c op (Some s) x o a.here)) ∙ o.waits.1 in
+        let loading = a.loading in
+        let same : l ≡ o.waits.0 = cc in
+        let held : Some t ≡ Some s = sym h ∙ ap (λ (u : Loading). slice_get v.records.receipts (page_at v.records.page_bits u.wanted)) same ∙ o.waits.2 in
+        n (same_Some t s held ∙ sym own ∙ ap (λ (u : Joined R). stands u.receipt) came)
+        )
+    loads-leads entry cmp f now p s r o own (Loads.damaged x l q why d g e b) =
+        rw b (inr (page_at v.records.page_bits l.wanted, IsSpoilt.unspelled v.records.page_bits l.wanted q.bytes (key_of x.op) why refl d.reads, refl))
+    loads-leads entry cmp f now p s r o own (Loads.astray x l q t d g high n e b) =
+        rw b (inr (page_at v.records.page_bits l.wanted, IsSpoilt.astray v.records.page_bits v.records.record_size l.wanted t q.bytes (key_of x.op) refl d.reads n, refl))
+    loads-leads entry cmp f now p s r o own (Loads.done x l q k i value t g is e b) = absurd (let h = t.reads.awaits.here in let bad : Read k i ≡ Rmw (key_of op) o.update.0 = sym is ∙ op-of v w slot c op (Some s) x o h ∙ o.update.1 in cc)
+    loads-leads entry cmp f now p s r o own (Loads.prepares x l q k i value t g is e b) =
+        let h = t.reads.awaits.here in
+        let set = set-by v w slot c op _ now (Some (at_phase x (Prepared l.kept value))) e refl refl refl refl in
+        let done = turns v w slot c op (Some s) x (Prepared l.kept value) o h refl set in
+        rw b (done.0, (done.1, asks-now v w slot c op x l.kept value (Some s) k i o h is set))
+    loads-leads entry cmp f now p s r o own (Loads.goes_on x l q t m d g high place held e b) =
+        let h = d.awaits.here in
+        let on : Loading = record l { wanted = t } in
+        let set = set-by v w slot c op _ now (Some (at_phase x (Load on))) e refl refl refl refl in
+        rw b (
+          moved-set v w slot c op (Some (at_phase x (Load on))) set,
+          open-set v w slot c op (Some s) (Some (stands m)) (at_phase x (Load on)) o set (op-of v w slot c op (Some s) x o h)
+              (on, refl, subst (λ (u : PartitionView K V I). IsHeldBy u.records.receipts (page_at u.records.page_bits t) (stands m)) (sym e) held),
+        )
+    loads-leads entry cmp f now p s r o own (Loads.unshared x l q t d g high place e b) = rw b (inl refl)
+
+    -- no install and no load asks what it can not, no load finishes an update, and none waits
+    pub no-load : (entry : Spelling K V) (cmp : K → K → Ordering) (f : Meanings K V I O) (now : ℕ) (p : Joined R) (s : Standing) → IsOpen v slot c op (Some s) → (why : Wait) → Loads stands entry cmp f v w slot c (Ok p) now (Ok (Waits why)) → ⊥
+    no-load entry cmp f now p s o why (Loads.unknown a e b) = absurd (cc)
+    no-load entry cmp f now p s o why (Loads.not_ready x h n e b) = absurd (cc)
+    no-load entry cmp f now p s o why (Loads.moved x l h q n e b) = absurd (cc)
+    no-load entry cmp f now p s o why (Loads.failed x l t a g n e b) = absurd (cc)
+    no-load entry cmp f now p s o why (Loads.unread x l a g e b) = absurd (cc)
+    no-load entry cmp f now p s o why (Loads.stranger x l q t a g h n e b) = absurd (cc)
+    no-load entry cmp f now p s o why (Loads.damaged x l q t d g e b) = absurd (cc)
+    no-load entry cmp f now p s o why (Loads.astray x l q t d g high n e b) = absurd (cc)
+    no-load entry cmp f now p s o why (Loads.done x l q k i value t g is e b) = absurd (cc)
+    no-load entry cmp f now p s o why (Loads.prepares x l q k i value t g is e b) = absurd (cc)
+    no-load entry cmp f now p s o why (Loads.goes_on x l q t m d g high place held e b) = absurd (cc)
+    no-load entry cmp f now p s o why (Loads.unshared x l q t d g high place e b) = absurd (cc)
+
+    pub no-done : (entry : Spelling K V) (cmp : K → K → Ordering) (f : Meanings K V I O) (now at : ℕ) (a : Answer O) (p : Joined R) (s : Standing) → IsOpen v slot c op (Some s) → Loads stands entry cmp f v w slot c (Ok p) now (Ok (Done a at)) → ⊥
+    no-done entry cmp f now at a p s o (Loads.unknown h e b) = absurd (cc)
+    no-done entry cmp f now at a p s o (Loads.not_ready x h n e b) = absurd (cc)
+    no-done entry cmp f now at a p s o (Loads.moved x l h q n e b) = absurd (cc)
+    no-done entry cmp f now at a p s o (Loads.failed x l t h g n e b) = absurd (cc)
+    no-done entry cmp f now at a p s o (Loads.unread x l h g e b) = absurd (cc)
+    no-done entry cmp f now at a p s o (Loads.stranger x l q t h g m n e b) = absurd (cc)
+    no-done entry cmp f now at a p s o (Loads.damaged x l q t d g e b) = absurd (cc)
+    no-done entry cmp f now at a p s o (Loads.astray x l q t d g high n e b) = absurd (cc)
+    no-done entry cmp f now at a p s o (Loads.done x l q k i value t g is e b) = absurd (let bad : Read k i ≡ Rmw (key_of op) o.update.0 = sym is ∙ op-of v w slot c op (Some s) x o t.reads.awaits.here ∙ o.update.1 in cc)
+    no-done entry cmp f now at a p s o (Loads.prepares x l q k i value t g is e b) = absurd (cc)
+    no-done entry cmp f now at a p s o (Loads.goes_on x l q t m d g high place held e b) = absurd (cc)
+    no-done entry cmp f now at a p s o (Loads.unshared x l q t d g high place e b) = absurd (cc)
+
+    -- ---- what they make of the live map, and turns
+    abbrev pub Effects : (K → K → Ordering) → Meanings K V I O → Progress K V I O R → Type 0
+    Effects cmp f (Done a effect) = Same (live_of cmp w) (after cmp f (live_of cmp v) op)
+    Effects cmp f Next = Same (live_of cmp w) (live_of cmp v)
+    Effects cmp f (Waits why) = Same (live_of cmp w) (live_of cmp v)
+    Effects cmp f (NeedsBuild ask) = Same (live_of cmp w) (live_of cmp v)
+    Effects cmp f (NeedsLoad r a) = Same (live_of cmp w) (live_of cmp v)
+
+    pub effect-of : (cmp : K → K → Ordering) (f : Meanings K V I O) (now : ℕ) (page : Option Standing) (p : Progress K V I O R) → IsOpen v slot c op page → IsEvent cmp f v w slot c now p → Effects cmp f p
+    effect-of cmp f now page (Done a effect) o ev =
+        let same : Some (asked_by o.operation) ≡ Some ev.question = sym (ap (option_map asked_by) o.here) ∙ ev.was in
+        let question : ev.question.op ≡ op = ap (λ (q : Asked K V I). q.op) (sym (same_Some (asked_by o.operation) ev.question same)) ∙ o.is in
+        subst (λ (q : Op K V I). Same (live_of cmp w) (after cmp f (live_of cmp v) q)) question ev.effect.2
+    effect-of cmp f now page Next o ev = ev.effect.1
+    effect-of cmp f now page (Waits why) o ev = ev.effect.1
+    effect-of cmp f now page (NeedsBuild ask) o ev = ev.effect.1
+    effect-of cmp f now page (NeedsLoad r a) o ev = ev.effect.1
+
+    pub tried : (keeps : Bool) (cmp : K → K → Ordering) (f : Meanings K V I O) (t : Turn R) → IsMoved v w → Leaves stands w slot c op t → (IsTrue keeps → HasDone cmp f v w op t) → Tries keeps stands cmp f v w slot c op t
+    tried keeps cmp f t m leaves effect = record { number = m.number; count = m.count; leaves = leaves; effect = effect }
+
+    pub waited : (keeps : Bool) (cmp : K → K → Ordering) (f : Meanings K V I O) → IsOpen v slot c op None → IsTidied keeps cmp v w → Tries keeps stands cmp f v w slot c op (On None)
+    waited keeps cmp f o t = record { number = t.number; count = t.count; leaves = open-tidied keeps cmp v w slot c op o t; effect = t.live }
+
+    -- a turn that follows an event
+    done-then : (keeps : Bool) (cmp : K → K → Ordering) (f : Meanings K V I O) (u : PartitionView K V I) (t : Turn R) → Same (live_of cmp w) (live_of cmp v) → HasDone cmp f w u op t → HasDone cmp f v u op t
+    done-then keeps cmp f u turn.Done same h = subst (λ m. Same (live_of cmp u) (after cmp f m op)) (same_map (live_of cmp w) (live_of cmp v) same) h
+    done-then keeps cmp f u (On page) same h = λ k. h k ∙ same k
+
+    pub tries-then : (keeps : Bool) (cmp : K → K → Ordering) (f : Meanings K V I O) (u : PartitionView K V I) (t : Turn R) → IsMoved v w → (IsTrue keeps → Same (live_of cmp w) (live_of cmp v)) → Tries keeps stands cmp f w u slot c op t → Tries keeps stands cmp f v u slot c op t
+    tries-then keeps cmp f u t m same g = record {
+      number = g.number ∙ m.number;
+      count = g.count ∙ m.count;
+      leaves = g.leaves;
+      effect = λ k. done-then keeps cmp f u t (same k) (g.effect k);
+    }

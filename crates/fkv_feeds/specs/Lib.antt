@@ -1,6 +1,7 @@
 pub mod Tables
 pub mod Writing
 pub mod Refusing
+pub mod Faults
 pub mod Seats
 pub mod Unions
 pub mod Runs

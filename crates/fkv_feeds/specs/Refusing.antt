@@ -2,10 +2,10 @@
 use Rattle.std.specs.Prelude.{◌≡◌, ◌≤◌, ◌+◌, ◌-◌, ◌⊎◌, ◌++◌, ◌∷◌, ℕ, ℤ, List, length, Option, IfSome, slice_set, slice_index}
 use Rattle.fkv_functions.specs.declared.names.Name.{Name}
 use Rattle.fkv_functions.specs.declared.refusals.Refused.{Refused}
-use Rattle.fkv_functions.specs.declared.refusals.Refused.TheVariants.{NoMemory, BadConfig, Worn, Stalled, BadRow, Unreadable}
+use Rattle.fkv_functions.specs.declared.refusals.Refused.TheVariants.{NoMemory, BadConfig, Worn, Stalled, BadRow, Unreadable, Device, Damaged}
 use Rattle.fkv_streams.specs.Counting.{one_more}
-use Rattle.fkv_partition.specs.declared.limits.Config.{Config}
-use Rattle.fkv_partition.specs.Limits.{IsWithinLimits}
+use Rattle.fkv_device_partition.specs.declared.limits.Config.{Config}
+use Rattle.fkv_device_partition.specs.Limits.{IsWithinLimits}
 use Rattle.fkv_feed_rows.specs.Feeds.{IsBadRow, IsTooLong, without_mark}
 use Rattle.fkv_feeds.specs.Tables.{AreFeeds, most_rows}
 
@@ -29,23 +29,27 @@ abbrev pub counted_at : ℕ → List ℕ → List ℕ
 counted_at n counts = slice_set counts (n - 1) (one_more (slice_index counts (n - 1)))
 
 -- Why the reading of these feeds was stopped, whose streams had failed so often before, and so often after. A feed is
--- told as unreadable where its stream failed, or where it has a row too many.
-abbrev pub TellsStopped : List (Option (List ℕ)) → List ℕ → List ℕ → Refused → Type 0
-TellsStopped feeds old new NoMemory = new ≡ old
-TellsStopped feeds old new Worn = new ≡ old
-TellsStopped feeds old new Stalled = new ≡ old
-TellsStopped feeds old new (BadRow f n) =
+-- told as unreadable where its stream failed, or where it has a row too many. A device's fault is one that `fault` says.
+abbrev pub TellsStopped : (Refused → Type 0) → List (Option (List ℕ)) → List ℕ → List ℕ → Refused → Type 0
+TellsStopped fault feeds old new NoMemory = new ≡ old
+TellsStopped fault feeds old new Worn = new ≡ old
+TellsStopped fault feeds old new Stalled = new ≡ old
+TellsStopped fault feeds old new (Device code page) = (new ≡ old) × fault (Device code page)
+TellsStopped fault feeds old new (Damaged page) = (new ≡ old) × fault (Damaged page)
+TellsStopped fault feeds old new (BadRow f n) =
     (new ≡ old)
     × (here : Option (List ℕ))
     × IsReached feeds f here
     × IfSome here (λ b. IsBadRow (without_mark b) n)
-TellsStopped feeds old new (Unreadable f) =
+TellsStopped fault feeds old new (Unreadable f) =
     (here : Option (List ℕ))
     × IsReached feeds f here
     × ((new ≡ counted_at f old) ⊎ ((new ≡ old) × IfSome here (λ b. IsTooLong most_rows (without_mark b))))
-TellsStopped feeds old new other = ⊥
+TellsStopped fault feeds old new other = ⊥
 
 -- Why there is no table of them: their reading was stopped, or the run is none that can be.
-abbrev pub TellsWhyNone : Config → ℕ → List (Option (List ℕ)) → List ℕ → List ℕ → Refused → Type 0
-TellsWhyNone config record_size feeds old new BadConfig = (new ≡ old) × ¬ IsRunnable config record_size (length feeds)
-TellsWhyNone config record_size feeds old new other = TellsStopped feeds old new other
+abbrev pub TellsWhyNone : (Refused → Type 0) → Config → ℕ → List (Option (List ℕ)) → List ℕ → List ℕ → Refused
+    → Type 0
+TellsWhyNone fault config record_size feeds old new BadConfig =
+    (new ≡ old) × ¬ IsRunnable config record_size (length feeds)
+TellsWhyNone fault config record_size feeds old new other = TellsStopped fault feeds old new other

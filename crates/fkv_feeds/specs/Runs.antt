@@ -1,10 +1,10 @@
 -- What partitions stand for between two rows.
-use Rattle.std.specs.Prelude.{◌≡◌, ◌≤◌, ◌<◌, ◌+◌, ◌^◌, ℕ, List, Some, None, slice_get, length}
+use Rattle.std.specs.Prelude.{◌≡◌, ◌≤◌, ◌<◌, ◌+◌, ◌^◌, ℕ, Bool, IsTrue, List, Some, None, slice_get, length}
 use Rattle.std.specs.declared.cmp.Ordering.{Ordering}
 use Rattle.fkv_functions.specs.Meanings.{Meanings}
 use Rattle.fkv_functions.specs.Plain.{Same}
-use Rattle.fkv_partition.specs.declared.limits.Config.{Config}
-use Rattle.fkv_partition.specs.Views.{PartitionView, live_of}
+use Rattle.fkv_device_partition.specs.declared.limits.Config.{Config}
+use Rattle.fkv_device_partition.specs.Views.{PartitionView, live_of}
 use Rattle.fkv_feeds.specs.Tables.{amounts_of, folded}
 use Rattle.fkv_feeds.specs.Seats.{IsIdle}
 use Rattle.fkv_feeds.specs.Unions.{union_of}
@@ -31,9 +31,9 @@ pub record AreIdle {K V I : Type 0} (views : List (PartitionView K V I)) (slot n
   pub past : (p : ℕ) (v : PartitionView K V I) → slice_get views p ≡ Some v → v.moment ≤ now
   pub idle : (p : ℕ) (v : PartitionView K V I) → slice_get views p ≡ Some v → IsIdle v slot
 
--- they stand for these rows: each key has what its amounts come to
-pub record StandFor {K V I O : Type 0} (cmp : K → K → Ordering) (f : Meanings K V I O) (code : K → ℕ)
+-- they stand for these rows: on a device that keeps, each key has what its amounts come to
+pub record StandFor {K V I O : Type 0} (keeps : Bool) (cmp : K → K → Ordering) (f : Meanings K V I O) (code : K → ℕ)
     (views : List (PartitionView K V I)) (slot now : ℕ) (rows : List (K × I)) : Type 0 where
   pub some : 0 < length views
   pub idle : AreIdle views slot now
-  pub denotes : Same (union_of cmp code views) (λ k. folded f k (amounts_of cmp k rows))
+  pub denotes : IsTrue keeps → Same (union_of cmp code views) (λ k. folded f k (amounts_of cmp k rows))

@@ -1,30 +1,50 @@
--- A session of a partition, before an operation and in one.
-use Rattle.std.specs.Prelude.{◌≡◌, ◌≢◌, ◌+◌, ◌*◌, ◌≤◌, ℕ, true, false, Bool, length, Some, None}
+-- A session of a partition, before an update and in one.
+use Rattle.std.specs.Prelude.{◌≡◌, ◌≢◌, ◌<◌, ℕ, Bool, IsTrue, Option, Some, None, option_map}
 use Rattle.std.specs.declared.cmp.Ordering.{Ordering}
 use Rattle.fkv_functions.specs.Meanings.{Meanings}
 use Rattle.fkv_functions.specs.Plain.{Same}
 use Rattle.fkv_functions.specs.declared.asks.Ask.{Ask}
-use Rattle.fkv_operations.specs.After.{after}
+use Rattle.fkv_records.specs.Places.{page_at}
+use Rattle.fkv_device.specs.Standing.{Standing}
+use Rattle.fkv_pages.specs.Loads.{IsHeldBy}
+use Rattle.fkv_operations.specs.After.{after, key_of}
 use Rattle.fkv_operations.specs.declared.entries.IndexEntry.{IndexEntry}
-use Rattle.fkv_partition.specs.declared.contexts.Context.{Context}
-use Rattle.fkv_partition.specs.Beginning.{IsEntered}
-use Rattle.fkv_partition.specs.Contexts.{question_in}
-use Rattle.fkv_partition.specs.Effect.{Asked, asked}
-use Rattle.fkv_partition.specs.Views.{PartitionView, context_at, live_of}
+use Rattle.fkv_operations.specs.declared.operations.Op.{Op}
+use Rattle.fkv_operations.specs.declared.operations.Op.TheVariants.{Rmw}
+use Rattle.fkv_device_partition.specs.declared.contexts.Context.{Context}
+use Rattle.fkv_device_partition.specs.declared.contexts.Loading.{Loading}
+use Rattle.fkv_device_partition.specs.declared.contexts.Phase.{Phase}
+use Rattle.fkv_device_partition.specs.declared.contexts.Phase.TheVariants.{Load}
+use Rattle.fkv_device_partition.specs.Beginning.{IsEntered}
+use Rattle.fkv_device_partition.specs.Contexts.{loading_by, question_in, is_session}
+use Rattle.fkv_device_partition.specs.Views.{PartitionView, context_at, live_of, slots_of}
+use Rattle.fkv_feeds.specs.declared.updating.Turn.{Turn}
+use Rattle.fkv_feeds.specs.declared.updating.Turn.TheVariants.{Done, On}
 
 -- a session with no open operation
 pub record IsIdle {K V I : Type 0} (v : PartitionView K V I) (slot : ℕ) : Type 0 where
   pub entered : IsEntered v slot
-  pub free : (c : ℕ) → asked v slot c ≡ None
-  pub room : slot * 8 + 8 ≤ length v.contexts
+  pub free : (c : ℕ) → context_at v slot c ≡ None
+  pub small : slot < 16
 
--- a session with one open operation, in this context
-pub record IsOpen {K V I : Type 0} (v : PartitionView K V I) (slot c : ℕ) : Type 0 where
-  pub question : Asked K V I
-  pub entered : IsEntered v slot
-  pub asks : asked v slot c ≡ Some question
-  pub others : (d : ℕ) → d ≢ c → asked v slot d ≡ None
-  pub room : slot * 8 + 8 ≤ length v.contexts
+-- an operation waits for no page, or for the one that is kept by a receipt that stands for this
+abbrev pub WaitsFor : {K V I : Type 0} → PartitionView K V I → Phase V → Option Standing → Type 0
+WaitsFor v phase None = loading_by phase ≡ None
+WaitsFor v phase (Some s) =
+    (l : Loading)
+    × (phase ≡ Load l)
+    × IsHeldBy v.records.receipts (page_at v.records.page_bits l.wanted) s
+
+-- a session with one open operation, in this context: this update, which waits for this page or for none
+pub record IsOpen {K V I : Type 0} (v : PartitionView K V I) (slot c : ℕ) (op : Op K V I) (page : Option Standing)
+    : Type 0 where
+  pub operation : Context K V I
+  pub here : context_at v slot c ≡ Some operation
+  pub is : operation.op ≡ op
+  pub update : (i : I) × (op ≡ Rmw (key_of op) i)
+  pub others : (d : ℕ) → d ≢ c → context_at v slot d ≡ None
+  pub small : slot < 16
+  pub waits : WaitsFor v operation.phase page
 
 -- an open operation asks this to be built
 pub record IsAsking {K V I : Type 0} (v : PartitionView K V I) (slot c : ℕ) (ask : Ask K V I) : Type 0 where
@@ -33,16 +53,32 @@ pub record IsAsking {K V I : Type 0} (v : PartitionView K V I) (slot c : ℕ) (a
   pub here : context_at v slot c ≡ Some operation
   pub question : question_in operation ≡ Some (kept, ask)
 
--- what a try of an open operation does to a partition: the operation is done, or it stays open and nothing else changed
-pub record Tries {K V I O : Type 0} (cmp : K → K → Ordering) (f : Meanings K V I O) (old new : PartitionView K V I)
-    (slot c : ℕ) (done : Bool) : Type 0 where
+-- what a turn leaves of the session: it has no open operation, or this one is still open
+abbrev pub Leaves : {K V I R : Type 0} → (R → Standing) → PartitionView K V I → ℕ → ℕ → Op K V I → Turn R → Type 0
+Leaves stands v slot c op Done = IsIdle v slot
+Leaves stands v slot c op (On page) = IsOpen v slot c op (option_map stands page)
+
+-- what a turn makes of the live map: the operation is done, or nothing
+abbrev pub HasDone : {K V I O R : Type 0} → (K → K → Ordering) → Meanings K V I O → PartitionView K V I
+    → PartitionView K V I → Op K V I → Turn R → Type 0
+HasDone cmp f old new op Done = Same (live_of cmp new) (after cmp f (live_of cmp old) op)
+HasDone cmp f old new op (On page) = Same (live_of cmp new) (live_of cmp old)
+
+-- a turn of an open update: on a device that keeps, the live map is that after the update where it is done, and else
+-- stays
+pub record Tries {K V I O R : Type 0} (keeps : Bool) (stands : R → Standing) (cmp : K → K → Ordering)
+    (f : Meanings K V I O) (old new : PartitionView K V I) (slot c : ℕ) (op : Op K V I) (turn : Turn R) : Type 0 where
   pub number : new.number ≡ old.number
   pub count : new.count ≡ old.count
-  pub finished : done ≡ true
-      → (x : Asked K V I)
-      → asked old slot c ≡ Some x
-      → IsIdle new slot × Same (live_of cmp new) (after cmp f (live_of cmp old) x.op)
-  pub goes_on : done ≡ false
-      → IsOpen new slot c
-      × (asked new slot c ≡ asked old slot c)
-      × Same (live_of cmp new) (live_of cmp old)
+  pub leaves : Leaves stands new slot c op turn
+  pub effect : IsTrue keeps → HasDone cmp f old new op turn
+
+-- the pages of a partition move: each session and each open operation stays as it is, and, on a device that keeps, the
+-- live map stays
+pub record IsTidied {K V I : Type 0} (keeps : Bool) (cmp : K → K → Ordering) (old new : PartitionView K V I)
+    : Type 0 where
+  pub number : new.number ≡ old.number
+  pub count : new.count ≡ old.count
+  pub sessions : (s : ℕ) → is_session (slots_of new) s ≡ is_session (slots_of old) s
+  pub operations : new.contexts ≡ old.contexts
+  pub live : IsTrue keeps → Same (live_of cmp new) (live_of cmp old)

@@ -1,24 +1,27 @@
 //! The table of a store: the live maps of its partitions as one.
-ghost use Rattle.std.specs.Prelude.{◌≡◌, ◌<◌, ℕ, [], length, Some, IfOk, IfErr, OnOk};
+ghost use Rattle.std.specs.Prelude.{◌≡◌, ◌<◌, ◌⊎◌, ℕ, [], length, map, IsTrue, Some, IfOk, IfErr, OnOk};
 ghost use Rattle.std.specs.BTreeMap.{get, is_at};
 ghost use Rattle.std.specs.Map.{lookup, keys_of};
 ghost use Rattle.std.specs.List.Sorted.{IsStrictlySortedBy};
 ghost use Rattle.fkv_functions.specs.Plain.{Same, with_at};
+ghost use Rattle.fkv_device_log.specs.Scans.{IsScanRefusal};
 ghost use Rattle.fkv_feeds.specs.Gathering.{with_all};
 ghost use Rattle.fkv_feeds.specs.Runs.{AreIdle};
 ghost use Rattle.fkv_feeds.specs.Unions.{union_of};
 
+use crate::shards::Shard;
+use fkv_device::Disk;
+use fkv_device_partition::pairs_of;
 use fkv_functions::{Functions, Refused};
-use fkv_partition::{Partition, pairs_of};
 use std::alloc::Global;
 use std::collections::BTreeMap;
 
 /// Gives a key this value. Refused: `NoMemory`.
-fn put<K: Ord + Drop, V: Drop>(map: &mut BTreeMap<K, V>, key: K, value: V) -> Result<(), Refused>
-    ensures ok { OnOk result (Same (get K.cmp map.new) (with_at K.cmp (get K.cmp map.old) key (Some value))) }
+fn put<K: Ord + Drop, V: Drop>(tree: &mut BTreeMap<K, V>, key: K, value: V) -> Result<(), Refused>
+    ensures ok { OnOk result (Same (get K.cmp tree.new) (with_at K.cmp (get K.cmp tree.old) key (Some value))) }
     ensures only { IfErr result (λ refused. refused ≡ Refused.NoMemory) }
 {
-    match map.insert(key, value) {
+    match tree.insert(key, value) {
         Ok(_) => Ok(()),
         Err(_) => Err(Refused::NoMemory),
     }
@@ -26,60 +29,70 @@ fn put<K: Ord + Drop, V: Drop>(map: &mut BTreeMap<K, V>, key: K, value: V) -> Re
 
 /// Gives each of these keys its value. Refused: `NoMemory`.
 fn put_all<K: Ord + Copy + Drop, V: Copy + Drop>(
-    map: &mut BTreeMap<K, V>,
+    tree: &mut BTreeMap<K, V>,
     pairs: &[(K, V)],
 ) -> Result<(), Refused>
-    ensures ok { OnOk result (Same (get K.cmp map.new) (with_all K.cmp (get K.cmp map.old) pairs.now)) }
+    ensures ok { OnOk result (Same (get K.cmp tree.new) (with_all K.cmp (get K.cmp tree.old) pairs.now)) }
     ensures only { IfErr result (λ refused. refused ≡ Refused.NoMemory) }
 {
     for pair in pairs {
-        let Ok(()) = put(map, pair.0, pair.1) else {
+        let Ok(()) = put(tree, pair.0, pair.1) else {
             return Err(Refused::NoMemory);
         };
     }
     Ok(())
 }
 
-/// Puts each live key of all partitions with its value into an empty map. Refused: `NoMemory`.
-fn gather<F: Functions>(
+/// Puts each live key of all partitions with its value into an empty map. Refused: `NoMemory`, and as a device refuses
+/// pages of a partition.
+fn gather<F: Functions, D: Disk>(
     alloc: Global,
-    map: &mut BTreeMap<F::Key, F::Value>,
-    partitions: &[Partition<F>],
+    tree: &mut BTreeMap<F::Key, F::Value>,
+    shards: &mut [Shard<F, D>],
 ) -> Result<(), Refused>
-    requires empty { map.old.entries ≡ [] }
-    requires some { 0 < length partitions.now }
-    requires numbered { (slot : ℕ) × (now : ℕ) × AreIdle partitions.now slot now }
-    ensures ok { OnOk result (Same (get F.Key.cmp map.new) (union_of F.Key.cmp F.code partitions.now)) }
-    ensures only { IfErr result (λ refused. refused ≡ Refused.NoMemory) }
+    requires empty { tree.old.entries ≡ [] }
+    requires some { 0 < length shards.old }
+    requires numbered { (slot : ℕ) × (now : ℕ) × AreIdle (map (λ shard. shard.partition) shards.old) slot now }
+    ensures ok { IsTrue D.keeps → OnOk result (Same (get F.Key.cmp tree.new)
+        (union_of F.Key.cmp F.code (map (λ shard. shard.partition) shards.old))) }
+    ensures told { IfErr result (λ why. (why ≡ Refused.NoMemory)
+        ⊎ ((low : ℕ) × (flushed : ℕ) × (old : D.Reader) × (new : D.Reader)
+        × IsScanRefusal D.keeps low flushed (D.Reader.failures old) (D.Reader.failures new) why)) }
 {
-    for partition in partitions {
-        let Ok(pairs) = partition.live(alloc) else {
-            return Err(Refused::NoMemory);
+    for index in 0..shards.len() {
+        let shard = &mut shards[index];
+        let pairs = match shard.partition.live(alloc, &mut shard.reader) {
+            Ok(pairs) => pairs,
+            Err(refused) => return Err(refused),
         };
-        let Ok(()) = put_all(map, &pairs) else {
-            return Err(Refused::NoMemory);
-        };
+        match put_all(tree, &pairs) {
+            Ok(()) => {}
+            Err(refused) => return Err(refused),
+        }
     }
     Ok(())
 }
 
-/// Each live key of all partitions with its value, keys rising. Refused: `NoMemory`.
-pub fn live<F: Functions>(
+/// Each live key of all partitions with its value, keys rising. Refused: `NoMemory`, and as a device refuses pages of a
+/// partition.
+pub fn live<F: Functions, D: Disk>(
     alloc: Global,
-    partitions: &[Partition<F>],
+    shards: &mut [Shard<F, D>],
 ) -> Result<Vec<(F::Key, F::Value)>, Refused>
-    requires some { 0 < length partitions.now }
-    requires numbered { (slot : ℕ) × (now : ℕ) × AreIdle partitions.now slot now }
-    ensures map { IfOk result (λ pairs. (k : F.Key)
-        → lookup (is_at (F.Key.cmp k)) pairs.items ≡ union_of F.Key.cmp F.code partitions.now k) }
+    requires some { 0 < length shards.old }
+    requires numbered { (slot : ℕ) × (now : ℕ) × AreIdle (map (λ shard. shard.partition) shards.old) slot now }
+    ensures map { IsTrue D.keeps → IfOk result (λ pairs. (k : F.Key) → lookup (is_at (F.Key.cmp k)) pairs.items
+        ≡ union_of F.Key.cmp F.code (map (λ shard. shard.partition) shards.old) k) }
     ensures rising { IfOk result (λ pairs. IsStrictlySortedBy F.Key.cmp (keys_of pairs.items)) }
-    ensures only { IfErr result (λ refused. refused ≡ Refused.NoMemory) }
+    ensures told { IfErr result (λ why. (why ≡ Refused.NoMemory)
+        ⊎ ((low : ℕ) × (flushed : ℕ) × (old : D.Reader) × (new : D.Reader)
+        × IsScanRefusal D.keeps low flushed (D.Reader.failures old) (D.Reader.failures new) why)) }
 {
-    let mut map = BTreeMap::new(alloc);
-    match gather(alloc, &mut map, partitions) {
+    let mut tree = BTreeMap::new(alloc);
+    match gather(alloc, &mut tree, shards) {
         Ok(()) => {
-            let _ordered = map.len();
-            pairs_of(alloc, &map)
+            let _ordered = tree.len();
+            pairs_of(alloc, &tree)
         }
         Err(refused) => Err(refused),
     }

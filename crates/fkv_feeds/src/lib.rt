@@ -6,6 +6,7 @@ pub mod reading;
 pub mod running;
 pub mod shards;
 pub mod tables;
+pub mod tidying;
 pub mod updating;
 pub mod writing;
 

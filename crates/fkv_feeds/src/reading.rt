@@ -1,14 +1,16 @@
 //! Reading a feed into the store of a run.
-ghost use Rattle.std.specs.Prelude.{◌≡◌, ◌++◌, ℤ, List, OnOk, IfErr, option_map};
+ghost use Rattle.std.specs.Prelude.{◌≡◌, ◌++◌, ℤ, List, map, OnOk, IfErr, option_map};
 ghost use Rattle.csv.specs.Reading.{source_of};
 ghost use Rattle.fkv_functions.specs.declared.names.Name.{Name};
 ghost use Rattle.fkv_functions.specs.Names.{name_cmp};
 ghost use Rattle.fkv_feed_rows.specs.Feeds.{IsFeed, TellsWhy, without_mark};
 ghost use Rattle.fkv_feed_rows.specs.Watching.{IsFresh, AreRowsIn, TellsOf, count_of};
+ghost use Rattle.fkv_feeds.specs.Faults.{IsRunFault};
 ghost use Rattle.fkv_feeds.specs.Runs.{StandFor};
 
 use crate::shards::{Shards, add_row};
 use csv::{ByteRecord, Reader, ReaderBuilder};
+use fkv_device::Disk;
 use fkv_feed_rows::{Since, Watched, row_of};
 use fkv_functions::{Functions, Name, Refused};
 use fkv_streams::Source;
@@ -26,22 +28,25 @@ struct Ended<'a, S> {
 
 /// Makes each record of a reader that is at its start a row of the store. Refused: `BadRow`, `Unreadable` where there
 /// are more than `limit` records, what the rows are refused by, and `NoMemory` where the reader underneath fails too.
-fn add_rows<R: Read, F: Functions<Key = Name, Input = i64>>(
+fn add_rows<R: Read, F: Functions<Key = Name, Input = i64>, D: Disk>(
     alloc: Global,
     reader: &mut Reader<R>,
     feed: u64,
     limit: u64,
-    shards: &mut Shards<'_, F>,
+    shards: &mut Shards<'_, F, D>,
 ) -> Result<(), Refused>
     requires fresh { IsFresh reader.old }
-    requires stands { (rows : List (Name × ℤ)) × StandFor name_cmp F.meaning F.code shards.old.partitions.items
-        shards.old.slot shards.old.clock rows }
-    ensures ok { OnOk result ((before : List (Name × ℤ)) → StandFor name_cmp F.meaning F.code
-        shards.old.partitions.items shards.old.slot shards.old.clock before
+    requires stands { (rows : List (Name × ℤ)) × StandFor D.keeps name_cmp F.meaning F.code
+        (map (λ shard. shard.partition) shards.old.shards.items) shards.old.terms.slot shards.old.clock rows }
+    ensures ok { OnOk result ((before : List (Name × ℤ)) → StandFor D.keeps name_cmp F.meaning F.code
+        (map (λ shard. shard.partition) shards.old.shards.items) shards.old.terms.slot shards.old.clock before
         → (rows : List (Name × ℤ)) × AreRowsIn limit (source_of R.remaining reader.old) rows
-        × StandFor name_cmp F.meaning F.code shards.new.partitions.items shards.new.slot shards.new.clock
+        × StandFor D.keeps name_cmp F.meaning F.code
+        (map (λ shard. shard.partition) shards.new.shards.items) shards.new.terms.slot shards.new.clock
         (before ++ rows)) }
-    ensures told { IfErr result (TellsOf feed limit (source_of R.remaining reader.old)) }
+    ensures told { IfErr result (TellsOf (IsRunFault D.keeps D.failures D.Writer.failures
+        D.Reader.failures F.Value.bytes_of F.Value.is_known F.Value.SIZE)
+        feed limit (source_of R.remaining reader.old)) }
 {
     let mut fields = ByteRecord::new(alloc);
     for count in 0..limit {
@@ -69,25 +74,28 @@ fn add_rows<R: Read, F: Functions<Key = Name, Input = i64>>(
 }
 
 /// Reads a feed, by a stream that is lent and comes back.
-fn read_lent<'a, S: Source, B: Since, F: Functions<Key = Name, Input = i64>>(
+fn read_lent<'a, S: Source, B: Since, F: Functions<Key = Name, Input = i64>, D: Disk>(
     alloc: Global,
     source: &'a mut S,
     feed: u64,
     limit: u64,
-    shards: &mut Shards<'_, F>,
+    shards: &mut Shards<'_, F, D>,
 ) -> Ended<'a, S>
     requires name { source.ghost_name ≡ B.name }
     requires count { S.failures source.old ≡ B.count }
-    requires stands { (rows : List (Name × ℤ)) × StandFor name_cmp F.meaning F.code shards.old.partitions.items
-        shards.old.slot shards.old.clock rows }
+    requires stands { (rows : List (Name × ℤ)) × StandFor D.keeps name_cmp F.meaning F.code
+        (map (λ shard. shard.partition) shards.old.shards.items) shards.old.terms.slot shards.old.clock rows }
     ensures same { result.source.ghost_name ≡ source.entry.ghost_name }
     ensures counted { S.failures result.source.now ≡ count_of result.failed (S.failures source.old) }
-    ensures ok { OnOk result.told ((before : List (Name × ℤ)) → StandFor name_cmp F.meaning F.code
-        shards.old.partitions.items shards.old.slot shards.old.clock before
+    ensures ok { OnOk result.told ((before : List (Name × ℤ)) → StandFor D.keeps name_cmp F.meaning F.code
+        (map (λ shard. shard.partition) shards.old.shards.items) shards.old.terms.slot shards.old.clock before
         → (rows : List (Name × ℤ)) × IsFeed limit (S.remaining source.old) rows
-        × StandFor name_cmp F.meaning F.code shards.new.partitions.items shards.new.slot shards.new.clock
+        × StandFor D.keeps name_cmp F.meaning F.code
+        (map (λ shard. shard.partition) shards.new.shards.items) shards.new.terms.slot shards.new.clock
         (before ++ rows)) }
-    ensures told { IfErr result.told (TellsOf feed limit (option_map without_mark (S.remaining source.old))) }
+    ensures told { IfErr result.told (TellsOf (IsRunFault D.keeps D.failures D.Writer.failures
+        D.Reader.failures F.Value.bytes_of F.Value.is_known F.Value.SIZE)
+        feed limit (option_map without_mark (S.remaining source.old))) }
 {
     let mut reader = ReaderBuilder::new()
         .has_headers(false)
@@ -108,26 +116,29 @@ fn read_lent<'a, S: Source, B: Since, F: Functions<Key = Name, Input = i64>>(
 ///
 /// `BadRow` with the first record that is no row, counted from 1: then those before it are rows. `Unreadable` with
 /// the feed's number where its stream fails, or where it has more records than `limit`. `NoMemory`. `Worn` and
-/// `Stalled`, by an update. The store then stands for no rows.
-pub fn read_feed<S: Source, F: Functions<Key = Name, Input = i64>>(
+/// `Stalled`, by an update. `Device` and `Damaged`, by a page. The store then stands for no rows.
+pub fn read_feed<S: Source, F: Functions<Key = Name, Input = i64>, D: Disk>(
     alloc: Global,
     source: &mut S,
     feed: u64,
     limit: u64,
-    shards: &mut Shards<'_, F>,
+    shards: &mut Shards<'_, F, D>,
 ) -> Result<(), Refused>
-    requires { (rows : List (Name × ℤ)) × StandFor name_cmp F.meaning F.code shards.old.partitions.items
-        shards.old.slot shards.old.clock rows }
-    ensures ok { OnOk result ((before : List (Name × ℤ)) → StandFor name_cmp F.meaning F.code
-        shards.old.partitions.items shards.old.slot shards.old.clock before
+    requires { (rows : List (Name × ℤ)) × StandFor D.keeps name_cmp F.meaning F.code
+        (map (λ shard. shard.partition) shards.old.shards.items) shards.old.terms.slot shards.old.clock rows }
+    ensures ok { OnOk result ((before : List (Name × ℤ)) → StandFor D.keeps name_cmp F.meaning F.code
+        (map (λ shard. shard.partition) shards.old.shards.items) shards.old.terms.slot shards.old.clock before
         → (rows : List (Name × ℤ)) × IsFeed limit (S.remaining source.old) rows
-        × StandFor name_cmp F.meaning F.code shards.new.partitions.items shards.new.slot shards.new.clock
+        × StandFor D.keeps name_cmp F.meaning F.code
+        (map (λ shard. shard.partition) shards.new.shards.items) shards.new.terms.slot shards.new.clock
         (before ++ rows)) }
     ensures steady { OnOk result (S.failures source.new ≡ S.failures source.old) }
     ensures told { IfErr result
-        (TellsWhy feed limit (S.remaining source.old) (S.failures source.old) (S.failures source.new)) }
+        (TellsWhy (IsRunFault D.keeps D.failures D.Writer.failures
+        D.Reader.failures F.Value.bytes_of F.Value.is_known F.Value.SIZE)
+        feed limit (S.remaining source.old) (S.failures source.old) (S.failures source.new)) }
 {
-    let ended = read_lent::<S, Brand, F>(alloc, source, feed, limit, shards);
+    let ended = read_lent::<S, Brand, F, D>(alloc, source, feed, limit, shards);
     if ended.failed {
         return Err(Refused::Unreadable { number: feed });
     }

@@ -1,11 +1,13 @@
 //! Runs over feeds, with one worker.
-ghost use Rattle.std.specs.Prelude.{◌≡◌, ◌≢◌, ◌≤◌, ◌∷◌, [], ℤ, List, map, length, Err, IfOk, IfErr, OnOk};
+ghost use Rattle.std.specs.Prelude.{◌≡◌, ◌≢◌, ◌≤◌, ◌⊎◌, ◌∷◌, [], ℕ, ℤ, List, map, length, IsTrue, Err, IfOk, IfErr, OnOk};
 ghost use Rattle.std.specs.BTreeMap.{is_at};
 ghost use Rattle.std.specs.Map.{lookup, keys_of};
 ghost use Rattle.std.specs.List.Sorted.{IsStrictlySortedBy};
 ghost use Rattle.fkv_functions.specs.Names.{name_cmp};
 ghost use Rattle.fkv_functions.specs.declared.names.Name.{Name};
 ghost use Rattle.fkv_records.specs.Records.{size_of};
+ghost use Rattle.fkv_device_log.specs.Scans.{IsScanRefusal};
+ghost use Rattle.fkv_feeds.specs.Faults.{IsRunFault};
 ghost use Rattle.fkv_feeds.specs.Tables.{IsTableOf, AreFeeds, amounts_of, folded, most_rows};
 ghost use Rattle.fkv_feeds.specs.Refusing.{IsRunnable, TellsStopped, TellsWhyNone};
 ghost use Rattle.fkv_feeds.specs.Runs.{StandFor};
@@ -14,8 +16,9 @@ use crate::gathering::live;
 use crate::reading::read_feed;
 use crate::shards::Shards;
 use crate::tables::Table;
+use fkv_device::Disk;
+use fkv_device_partition::Config;
 use fkv_functions::{Functions, Name, Refused};
-use fkv_partition::Config;
 use fkv_streams::Source;
 use std::alloc::Global;
 
@@ -25,38 +28,44 @@ pub const LIMIT: u64 = 1_099_511_627_776;
 /// The most feeds of a run.
 const MOST: usize = 64;
 
-/// The table of the rows that a store stands for. Refused: `NoMemory`.
-fn table_in<F: Functions<Key = Name, Input = i64>>(
+/// The table of the rows that a store stands for. Refused: `NoMemory`, and as a device refuses pages.
+fn table_in<F: Functions<Key = Name, Input = i64>, D: Disk>(
     alloc: Global,
-    shards: &Shards<'_, F>,
+    shards: &mut Shards<'_, F, D>,
 ) -> Result<Table<F::Value>, Refused>
-    requires stands { (rows : List (Name × ℤ)) × StandFor name_cmp F.meaning F.code shards.now.partitions.items
-        shards.now.slot shards.now.clock rows }
-    ensures value { IfOk result (λ pairs. (rows : List (Name × ℤ)) → StandFor name_cmp F.meaning F.code
-        shards.now.partitions.items shards.now.slot shards.now.clock rows
+    requires stands { (rows : List (Name × ℤ)) × StandFor D.keeps name_cmp F.meaning F.code
+        (map (λ shard. shard.partition) shards.old.shards.items) shards.old.terms.slot shards.old.clock rows }
+    ensures value { IsTrue D.keeps → IfOk result (λ pairs. (rows : List (Name × ℤ))
+        → StandFor D.keeps name_cmp F.meaning F.code
+        (map (λ shard. shard.partition) shards.old.shards.items) shards.old.terms.slot shards.old.clock rows
         → (k : Name) → lookup (is_at (name_cmp k)) pairs ≡ folded F.meaning k (amounts_of name_cmp k rows)) }
     ensures rising { IfOk result (λ pairs. IsStrictlySortedBy name_cmp (keys_of pairs)) }
-    ensures only { IfErr result (λ refused. refused ≡ Refused.NoMemory) }
+    ensures told { IfErr result (λ why. (why ≡ Refused.NoMemory)
+        ⊎ ((low : ℕ) × (flushed : ℕ) × (old : D.Reader) × (new : D.Reader)
+        × IsScanRefusal D.keeps low flushed (D.Reader.failures old) (D.Reader.failures new) why)) }
 {
-    match live(alloc, shards.partitions.as_slice()) {
+    match live(alloc, shards.shards.as_mut_slice()) {
         Ok(pairs) => Ok(Table::new(pairs)),
         Err(refused) => Err(refused),
     }
 }
 
 /// Reads feeds, one after the other, into a store that stands for no rows.
-fn read_feeds<S: Source, F: Functions<Key = Name, Input = i64>>(
+fn read_feeds<S: Source, F: Functions<Key = Name, Input = i64>, D: Disk>(
     alloc: Global,
     feeds: &mut [S],
-    shards: &mut Shards<'_, F>,
+    shards: &mut Shards<'_, F, D>,
 ) -> Result<(), Refused>
     requires most { length feeds.old ≤ 64 }
-    requires stands { StandFor name_cmp F.meaning F.code shards.old.partitions.items shards.old.slot
-        shards.old.clock [] }
+    requires stands { StandFor D.keeps name_cmp F.meaning F.code
+        (map (λ shard. shard.partition) shards.old.shards.items) shards.old.terms.slot shards.old.clock [] }
     ensures ok { OnOk result ((rows : List (Name × ℤ)) × AreFeeds most_rows (map S.remaining feeds.old) rows
-        × StandFor name_cmp F.meaning F.code shards.new.partitions.items shards.new.slot shards.new.clock rows) }
+        × StandFor D.keeps name_cmp F.meaning F.code
+        (map (λ shard. shard.partition) shards.new.shards.items) shards.new.terms.slot shards.new.clock rows) }
     ensures steady { OnOk result (map S.failures feeds.new ≡ map S.failures feeds.old) }
-    ensures told { IfErr result (TellsStopped (map S.remaining feeds.old) (map S.failures feeds.old)
+    ensures told { IfErr result (TellsStopped (IsRunFault D.keeps D.failures D.Writer.failures
+        D.Reader.failures F.Value.bytes_of F.Value.is_known F.Value.SIZE)
+        (map S.remaining feeds.old) (map S.failures feeds.old)
         (map S.failures feeds.new)) }
 {
     for index in 0..feeds.len() {
@@ -70,8 +79,9 @@ fn read_feeds<S: Source, F: Functions<Key = Name, Input = i64>>(
 }
 
 /// The table of these feeds: each key of a row, with what its amounts come to by these functions. The feeds are read
-/// one after the other, to their ends, and each row is one update of a store of this configuration, through the events
-/// of its partitions.
+/// one after the other, to their ends, and each row is one update of a store of this configuration over this device,
+/// through the events of its partitions. On a device that keeps, the table is that of the rows; on any other the refusals
+/// below are still told as they are said.
 ///
 /// # Errors
 ///
@@ -79,30 +89,35 @@ fn read_feeds<S: Source, F: Functions<Key = Name, Input = i64>>(
 /// none from 1 to 64, and then no feed is read; `BadRow`, with the first row that is none, of the first feed that has
 /// one, both counted from 1; `Unreadable`, with the number of a feed, counted from 1, whose stream fails or that has
 /// more than [`LIMIT`] rows; `NoMemory`; `Worn`, where a partition has no address left; `Stalled`, where a row takes
-/// more turns than the configuration says.
-pub fn run_one<S: Source, F: Functions<Key = Name, Input = i64>>(
+/// more turns than the configuration says; `Device` with code 1, where the device does not open a partition's pages,
+/// before any feed is read, 2, where it does not write a page, and 3, where it does not read one; `Damaged`, where it
+/// gives other bytes than were written, or bytes that spell no records.
+pub fn run_one<S: Source, F: Functions<Key = Name, Input = i64>, D: Disk>(
     alloc: Global,
     feeds: &mut [S],
     functions: &F,
     config: &Config,
+    mut device: D,
 ) -> Result<Table<F::Value>, Refused>
-    ensures ok { IfOk result (IsTableOf F.meaning (map S.remaining feeds.old)) }
+    ensures ok { IsTrue D.keeps → IfOk result (IsTableOf F.meaning (map S.remaining feeds.old)) }
     ensures steady { OnOk result (map S.failures feeds.new ≡ map S.failures feeds.old) }
     ensures good { result ≢ Err Refused.BadConfig
         → IsRunnable config.now (size_of 32 F.Value.SIZE) (length feeds.old) }
-    ensures told { IfErr result (TellsWhyNone config.now (size_of 32 F.Value.SIZE) (map S.remaining feeds.old)
+    ensures told { IfErr result (TellsWhyNone (IsRunFault D.keeps D.failures D.Writer.failures
+        D.Reader.failures F.Value.bytes_of F.Value.is_known F.Value.SIZE)
+        config.now (size_of 32 F.Value.SIZE) (map S.remaining feeds.old)
         (map S.failures feeds.old) (map S.failures feeds.new)) }
 {
     let is_within = config.is_within_limits::<Name, F::Value>();
     if !is_within || feeds.is_empty() || feeds.len() > MOST {
         return Err(Refused::BadConfig);
     }
-    let mut shards = match Shards::open(alloc, functions, config) {
+    let mut shards = match Shards::open(alloc, functions, config, &mut device) {
         Ok(shards) => shards,
         Err(refused) => return Err(refused),
     };
     match read_feeds(alloc, feeds, &mut shards) {
-        Ok(()) => table_in(alloc, &shards),
+        Ok(()) => table_in(alloc, &mut shards),
         Err(refused) => Err(refused),
     }
 }
@@ -112,28 +127,31 @@ pub fn run_one<S: Source, F: Functions<Key = Name, Input = i64>>(
 /// # Errors
 ///
 /// As [`run_one`]'s.
-pub fn run_alone<S: Source, F: Functions<Key = Name, Input = i64>>(
+pub fn run_alone<S: Source, F: Functions<Key = Name, Input = i64>, D: Disk>(
     alloc: Global,
     feed: &mut S,
     functions: &F,
     config: &Config,
+    mut device: D,
 ) -> Result<Table<F::Value>, Refused>
-    ensures ok { IfOk result (IsTableOf F.meaning (S.remaining feed.old ∷ [])) }
+    ensures ok { IsTrue D.keeps → IfOk result (IsTableOf F.meaning (S.remaining feed.old ∷ [])) }
     ensures steady { OnOk result (S.failures feed.new ≡ S.failures feed.old) }
     ensures good { result ≢ Err Refused.BadConfig → IsRunnable config.now (size_of 32 F.Value.SIZE) 1 }
-    ensures told { IfErr result (TellsWhyNone config.now (size_of 32 F.Value.SIZE) (S.remaining feed.old ∷ [])
+    ensures told { IfErr result (TellsWhyNone (IsRunFault D.keeps D.failures D.Writer.failures
+        D.Reader.failures F.Value.bytes_of F.Value.is_known F.Value.SIZE)
+        config.now (size_of 32 F.Value.SIZE) (S.remaining feed.old ∷ [])
         (S.failures feed.old ∷ []) (S.failures feed.new ∷ [])) }
 {
     let is_within = config.is_within_limits::<Name, F::Value>();
     if !is_within {
         return Err(Refused::BadConfig);
     }
-    let mut shards = match Shards::open(alloc, functions, config) {
+    let mut shards = match Shards::open(alloc, functions, config, &mut device) {
         Ok(shards) => shards,
         Err(refused) => return Err(refused),
     };
     match read_feed(alloc, feed, 1, LIMIT, &mut shards) {
-        Ok(()) => table_in(alloc, &shards),
+        Ok(()) => table_in(alloc, &mut shards),
         Err(refused) => Err(refused),
     }
 }

@@ -1,29 +1,51 @@
-//! The store of a run: its partitions, and a session in each.
-ghost use Rattle.std.specs.Prelude.{◌≡◌, ◌<◌, ◌%◌, ◌^◌, ◌⊎◌, ℤ, List, [], ◌∷◌, ◌++◌, length, IfOk, IfErr, OnOk};
+//! The partitions of a run, with a session in each, and what moves their pages to a device and back.
+ghost use Rattle.std.specs.Prelude.{◌≡◌, ◌<◌, ◌%◌, ◌^◌, ◌⊎◌, ℤ, List, [], ◌∷◌, ◌++◌, length, map, IfOk, IfErr, OnOk};
 ghost use Rattle.fkv_functions.specs.Names.{name_cmp};
 ghost use Rattle.fkv_functions.specs.declared.names.Name.{Name};
 ghost use Rattle.fkv_records.specs.Records.{size_of};
-ghost use Rattle.fkv_partition.specs.Limits.{IsWithinLimits, IsPartitionOf};
-ghost use Rattle.fkv_partition.specs.Views.{partition_of};
+ghost use Rattle.fkv_device.specs.Failing.{FailsOnlyBy};
+ghost use Rattle.fkv_device_partition.specs.Limits.{IsWithinLimits, IsPartitionOf};
+ghost use Rattle.fkv_device_partition.specs.Views.{partition_of};
+ghost use Rattle.fkv_feeds.specs.Faults.{IsRunFault};
 ghost use Rattle.fkv_feeds.specs.Runs.{IsSeatedIn, AreNew, StandFor};
 
+use crate::tidying::tidy_at_times;
 use crate::updating::update;
+use fkv_device::Disk;
+use fkv_device_partition::{Config, Partition};
 use fkv_functions::{Functions, Name, Refused};
-use fkv_operations::{Clock, Op};
-use fkv_partition::{Config, Partition};
+use fkv_operations::Clock;
 use std::alloc::Global;
 
-/// The partitions of a run, with the functions that update them and a session in each. Between two rows no operation
-/// is open.
+/// What holds for every row of a run.
 #[derive(Drop)]
-pub struct Shards<'a, F: Functions> {
-    functions: &'a F,
-    pub(crate) partitions: Vec<Partition<F>>,
-    /// The slot of the session in each of them.
-    pub(crate) slot: usize,
-    pub(crate) clock: Clock,
+pub struct Terms<'a, F: Functions> {
+    pub alloc: Global,
+    pub functions: &'a F,
+    /// The slot of the session in each partition.
+    pub slot: usize,
+    /// The page frames of each partition.
+    pub frames: u64,
     /// How often an update may be tried: one more than it may take turns.
-    tries: u64,
+    pub tries: u64,
+}
+
+/// One partition of a run, with what writes its pages to the device and what reads them back.
+#[derive(Drop)]
+pub struct Shard<F: Functions, D: Disk> {
+    pub partition: Partition<F, D>,
+    pub writer: D::Writer,
+    pub reader: D::Reader,
+    /// The rows that came here, as far as a byte counts.
+    pub rows: u8,
+}
+
+/// The partitions of a run. Between two rows no operation is open.
+#[derive(Drop)]
+pub struct Shards<'a, F: Functions, D: Disk> {
+    pub(crate) terms: Terms<'a, F>,
+    pub(crate) shards: Vec<Shard<F, D>>,
+    pub(crate) clock: Clock,
 }
 
 /// What a division of a hash by a count leaves. Counts of partitions are powers of two; where one is written out the compiler
@@ -56,11 +78,11 @@ fn keep<T: Drop>(items: &mut Vec<T>, item: T) -> Result<(), Refused>
 }
 
 /// The partition of this number, with nothing in it but a session, whose slot is 0. Refused: `NoMemory`.
-fn seated<F: Functions>(
+fn seated<F: Functions, D: Disk>(
     alloc: Global,
     config: &Config,
     number: u64,
-) -> Result<Partition<F>, Refused>
+) -> Result<Partition<F, D>, Refused>
     requires small { number < 64 }
     requires of { IsPartitionOf config.now (size_of F.Key.SIZE F.Value.SIZE) number }
     ensures ok { IfOk result (IsSeatedIn F.Key.cmp config.now number) }
@@ -76,47 +98,93 @@ fn seated<F: Functions>(
     }
 }
 
-/// Partitions with nothing in them but a session in each, whose slot is 0. Refused: `NoMemory`.
-fn all_seated<F: Functions>(
+/// The partition of this number, as [`seated`] makes it, with its place on a device. Refused: `NoMemory`, and as the
+/// device refuses to open.
+fn placed<F: Functions, D: Disk>(
     alloc: Global,
     config: &Config,
+    device: &mut D,
+    number: u64,
+) -> Result<Shard<F, D>, Refused>
+    requires small { number < 64 }
+    requires of { IsPartitionOf config.now (size_of F.Key.SIZE F.Value.SIZE) number }
+    ensures ok { IfOk result (λ shard. IsSeatedIn F.Key.cmp config.now number shard.partition) }
+    ensures steady { OnOk result (D.failures device.new ≡ D.failures device.old) }
+    ensures told { IfErr result (FailsOnlyBy 1 0 (D.failures device.old) (D.failures device.new)) }
+{
+    let partition = match seated::<F, D>(alloc, config, number) {
+        Ok(partition) => partition,
+        Err(refused) => return Err(refused),
+    };
+    let writer = match device.writer(number) {
+        Ok(writer) => writer,
+        Err(refused) => return Err(refused),
+    };
+    match device.reader(number) {
+        Ok(reader) => Ok(Shard {
+            partition,
+            writer,
+            reader,
+            rows: 0,
+        }),
+        Err(refused) => Err(refused),
+    }
+}
+
+/// Partitions with nothing in them but a session in each, whose slot is 0, with their places on a device. Refused:
+/// `NoMemory`, and as the device refuses to open.
+fn all_placed<F: Functions, D: Disk>(
+    alloc: Global,
+    config: &Config,
+    device: &mut D,
     count: u64,
-) -> Result<Vec<Partition<F>>, Refused>
+) -> Result<Vec<Shard<F, D>>, Refused>
     requires limits { IsWithinLimits config.now (size_of F.Key.SIZE F.Value.SIZE) }
     requires count { count ≡ 2 ^ config.now.partition_bits }
-    ensures ok { IfOk result (λ partitions. AreNew F.Key.cmp config.now partitions.items count) }
-    ensures only { IfErr result (λ refused. refused ≡ Refused.NoMemory) }
+    ensures ok { IfOk result
+        (λ shards. AreNew F.Key.cmp config.now (map (λ shard. shard.partition) shards.items) count) }
+    ensures told { IfErr result (FailsOnlyBy 1 0 (D.failures device.old) (D.failures device.new)) }
 {
-    let mut partitions = Vec::new(alloc);
+    let mut shards = Vec::new(alloc);
     for number in 0..count {
-        let partition = match seated::<F>(alloc, config, number) {
-            Ok(partition) => partition,
+        let shard = match placed::<F, D>(alloc, config, device, number) {
+            Ok(shard) => shard,
             Err(refused) => return Err(refused),
         };
-        match keep(&mut partitions, partition) {
+        match keep(&mut shards, shard) {
             Ok(()) => {}
             Err(refused) => return Err(refused),
         }
     }
-    Ok(partitions)
+    Ok(shards)
 }
 
-impl<'a, F: Functions> Shards<'a, F> {
-    /// Partitions with nothing in them. Refused: `NoMemory`.
-    pub fn open(alloc: Global, functions: &'a F, config: &Config) -> Result<Shards<'a, F>, Refused>
+impl<'a, F: Functions, D: Disk> Shards<'a, F, D> {
+    /// Partitions with nothing in them, with their places on a device. Refused: `NoMemory`, and as the device refuses to
+    /// open.
+    pub fn open(
+        alloc: Global,
+        functions: &'a F,
+        config: &Config,
+        device: &mut D,
+    ) -> Result<Shards<'a, F, D>, Refused>
         requires { IsWithinLimits config.now (size_of F.Key.SIZE F.Value.SIZE) }
-        ensures ok { IfOk result
-            (λ s. StandFor F.Key.cmp F.meaning F.code s.partitions.items s.slot s.clock []) }
-        ensures only { IfErr result (λ refused. refused ≡ Refused.NoMemory) }
+        ensures ok { IfOk result (λ s. StandFor D.keeps F.Key.cmp F.meaning F.code
+            (map (λ shard. shard.partition) s.shards.items) s.terms.slot s.clock []) }
+        ensures told { IfErr result (FailsOnlyBy 1 0 (D.failures device.old) (D.failures device.new)) }
     {
         let count = config.partitions();
-        match all_seated::<F>(alloc, config, count) {
-            Ok(partitions) => Ok(Shards {
-                functions,
-                partitions,
-                slot: 0,
+        match all_placed::<F, D>(alloc, config, device, count) {
+            Ok(shards) => Ok(Shards {
+                terms: Terms {
+                    alloc,
+                    functions,
+                    slot: 0,
+                    frames: config.frames,
+                    tries: config.turns.saturating_add(1),
+                },
+                shards,
                 clock: Clock::starting(count),
-                tries: config.turns.saturating_add(1),
             }),
             Err(refused) => Err(refused),
         }
@@ -124,42 +192,38 @@ impl<'a, F: Functions> Shards<'a, F> {
 
     /// The place of the partition of a key.
     fn home(&self, key: &F::Key) -> usize
-        requires { 0 < length self.now.partitions.items }
-        ensures value { result ≡ partition_of (length self.now.partitions.items) (F.code key.now) }
-        ensures within { result < length self.now.partitions.items }
+        requires { 0 < length self.now.shards.items }
+        ensures value { result ≡ partition_of (length self.now.shards.items) (F.code key.now) }
+        ensures within { result < length self.now.shards.items }
     {
-        let count = self.partitions.len() as u64;
-        place_of(self.functions.hash(key), count) as usize
+        let count = self.shards.len() as u64;
+        place_of(self.terms.functions.hash(key), count) as usize
     }
 }
 
-/// Makes a row one update of its key's partition. Refused: `NoMemory`, `Worn`, `Stalled`; then the store stands for no
-/// rows.
-pub fn add_row<F: Functions<Key = Name, Input = i64>>(
-    shards: &mut Shards<'_, F>,
+/// Makes a row one update of its key's partition, and moves that partition's pages at times. Refused: `NoMemory`,
+/// `Worn`, `Stalled`, and as the device refuses a page; then the store stands for no rows.
+pub fn add_row<F: Functions<Key = Name, Input = i64>, D: Disk>(
+    shards: &mut Shards<'_, F, D>,
     key: Name,
     amount: i64,
 ) -> Result<(), Refused>
-    requires stands { (rows : List (Name × ℤ))
-        × StandFor name_cmp F.meaning F.code shards.old.partitions.items shards.old.slot shards.old.clock rows }
+    requires stands { (rows : List (Name × ℤ)) × StandFor D.keeps name_cmp F.meaning F.code
+        (map (λ shard. shard.partition) shards.old.shards.items) shards.old.terms.slot shards.old.clock rows }
     ensures ok { OnOk result ((rows : List (Name × ℤ))
-        → StandFor name_cmp F.meaning F.code shards.old.partitions.items shards.old.slot shards.old.clock rows
-        → StandFor name_cmp F.meaning F.code shards.new.partitions.items shards.new.slot shards.new.clock
+        → StandFor D.keeps name_cmp F.meaning F.code
+        (map (λ shard. shard.partition) shards.old.shards.items) shards.old.terms.slot shards.old.clock rows
+        → StandFor D.keeps name_cmp F.meaning F.code
+        (map (λ shard. shard.partition) shards.new.shards.items) shards.new.terms.slot shards.new.clock
         (rows ++ (key, amount) ∷ [])) }
-    ensures only { IfErr result (λ e. (e ≡ Refused.NoMemory) ⊎ (e ≡ Refused.Worn) ⊎ (e ≡ Refused.Stalled)) }
+    ensures told { IfErr result (λ e. (e ≡ Refused.NoMemory) ⊎ (e ≡ Refused.Worn) ⊎ (e ≡ Refused.Stalled)
+        ⊎ IsRunFault D.keeps D.failures D.Writer.failures D.Reader.failures F.Value.bytes_of F.Value.is_known
+        F.Value.SIZE e) }
 {
     let home = shards.home(&key);
-    let op = Op::Rmw(key, amount);
-    let partition = &mut shards.partitions[home];
-    match update(
-        partition,
-        shards.slot,
-        op,
-        shards.functions,
-        shards.tries,
-        &mut shards.clock,
-    ) {
-        Ok(()) => Ok(()),
+    let shard = &mut shards.shards[home];
+    match update(&shards.terms, shard, key, amount, &mut shards.clock) {
+        Ok(()) => tidy_at_times(&shards.terms, shard, &mut shards.clock),
         Err(refused) => Err(refused),
     }
 }

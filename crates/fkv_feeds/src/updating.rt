@@ -1,112 +1,260 @@
 //! One row: an update of a partition, through its own events.
-ghost use Rattle.std.specs.Prelude.{◌≡◌, ◌+◌, ◌<◌, ◌≤◌, ◌⊎◌, ◌↔◌, true, false, Ok, Err, OnOk, IfOk, IfErr};
+ghost use Rattle.std.specs.Prelude.{◌≡◌, ◌+◌, ◌<◌, ◌≤◌, ◌⊎◌, ◌↔◌, ℕ, IsTrue, Some, None, Ok, Err, OnOk, IfOk, IfErr, option_map};
 ghost use Rattle.fkv_functions.specs.Plain.{Same};
-ghost use Rattle.fkv_operations.specs.After.{after, key_of};
-ghost use Rattle.fkv_partition.specs.Views.{live_of, partition_of};
+ghost use Rattle.fkv_operations.specs.After.{after};
+ghost use Rattle.fkv_operations.specs.declared.operations.Op.{Op};
+ghost use Rattle.fkv_operations.specs.declared.operations.Op.TheVariants.{Rmw};
+ghost use Rattle.fkv_pages.specs.Spelled.{IsEntryIn};
+ghost use Rattle.fkv_device_partition.specs.Views.{live_of, partition_of};
+ghost use Rattle.fkv_feeds.specs.Faults.{IsFault};
 ghost use Rattle.fkv_feeds.specs.Seats.{IsIdle, IsOpen, IsAsking, Tries};
 
+use crate::shards::{Shard, Terms};
+use crate::tidying::tidy;
+use fkv_device::{Disk, Loaded};
+use fkv_device_partition::Progress;
 use fkv_functions::{AskOf, Built, Functions, Refused};
-use fkv_operations::{Clock, OpOf};
-use fkv_partition::{Partition, Progress};
+use fkv_operations::{Clock, Op};
 
-/// Answers what an update asked, and installs that. `Ok` tells whether the update is done; else it takes another turn.
-/// Refused: `Worn`, `NoMemory`.
-fn install<F: Functions>(
-    partition: &mut Partition<F>,
-    slot: usize,
+/// What a turn of an update comes to.
+#[derive(Drop)]
+pub enum Turn<R: Drop> {
+    /// It is done.
+    Done,
+    /// It is to go on, with the page that this receipt is of, or with none.
+    On(Option<R>),
+}
+
+/// Moves the pages of a partition on, for an update that can't go on yet. Refused as [`tidy`] is.
+fn wait<F: Functions, D: Disk>(
+    terms: &Terms<'_, F>,
+    shard: &mut Shard<F, D>,
     context: usize,
-    functions: &F,
+    clock: &mut Clock,
+) -> Result<Turn<D::Receipt>, Refused>
+    requires open { (op : Op F.Key F.Value F.Input) × IsOpen shard.old.partition terms.now.slot context op None }
+    requires past { shard.old.partition.moment ≤ clock.old }
+    ensures ok { IfOk result (λ turn. (op : Op F.Key F.Value F.Input)
+        → IsOpen shard.old.partition terms.now.slot context op None
+        → Tries D.keeps D.Receipt.stands F.Key.cmp F.meaning shard.old.partition shard.new.partition terms.now.slot
+        context op turn) }
+    ensures past { OnOk result (shard.new.partition.moment ≤ clock.new) }
+    ensures later { OnOk result (clock.old ≤ clock.new) }
+    ensures steady { OnOk result ((D.Writer.failures shard.new.writer ≡ D.Writer.failures shard.old.writer)
+        × (D.Reader.failures shard.new.reader ≡ D.Reader.failures shard.old.reader)) }
+    ensures told { IfErr result (λ e. (e ≡ Refused.Worn) ⊎ (e ≡ Refused.NoMemory)
+        ⊎ IsFault (IsEntryIn F.Key.bytes_of F.Value.bytes_of F.Key.is_known F.Value.is_known F.Key.SIZE F.Value.SIZE)
+        F.Key.cmp (D.Writer.failures shard.old.writer) (D.Writer.failures shard.new.writer)
+        (D.Reader.failures shard.old.reader) (D.Reader.failures shard.new.reader) e) }
+{
+    match tidy(terms, shard, clock) {
+        Ok(()) => Ok(Turn::On(None)),
+        Err(refused) => Err(refused),
+    }
+}
+
+/// Answers what an update asked, and installs that. Refused: `Worn`, `NoMemory`, and as the device refuses a page.
+fn install<F: Functions, D: Disk>(
+    terms: &Terms<'_, F>,
+    shard: &mut Shard<F, D>,
+    context: usize,
     ask: AskOf<F>,
     clock: &mut Clock,
-) -> Result<bool, Refused>
-    requires open { IsOpen partition.old slot context }
-    requires asking { IsAsking partition.old slot context ask }
-    requires past { partition.old.moment ≤ clock.old }
-    ensures ok { IfOk result (Tries F.Key.cmp F.meaning partition.old partition.new slot context) }
-    ensures past { OnOk result (partition.new.moment ≤ clock.new) }
+) -> Result<Turn<D::Receipt>, Refused>
+    requires open { (op : Op F.Key F.Value F.Input) × IsOpen shard.old.partition terms.now.slot context op None }
+    requires asking { IsAsking shard.old.partition terms.now.slot context ask }
+    requires past { shard.old.partition.moment ≤ clock.old }
+    ensures ok { IfOk result (λ turn. (op : Op F.Key F.Value F.Input)
+        → IsOpen shard.old.partition terms.now.slot context op None
+        → Tries D.keeps D.Receipt.stands F.Key.cmp F.meaning shard.old.partition shard.new.partition terms.now.slot
+        context op turn) }
+    ensures past { OnOk result (shard.new.partition.moment ≤ clock.new) }
     ensures later { OnOk result (clock.old < clock.new) }
-    ensures only { IfErr result (λ e. (e ≡ Refused.Worn) ⊎ (e ≡ Refused.NoMemory)) }
+    ensures steady { OnOk result ((D.Writer.failures shard.new.writer ≡ D.Writer.failures shard.old.writer)
+        × (D.Reader.failures shard.new.reader ≡ D.Reader.failures shard.old.reader)) }
+    ensures told { IfErr result (λ e. (e ≡ Refused.Worn) ⊎ (e ≡ Refused.NoMemory)
+        ⊎ IsFault (IsEntryIn F.Key.bytes_of F.Value.bytes_of F.Key.is_known F.Value.is_known F.Key.SIZE F.Value.SIZE)
+        F.Key.cmp (D.Writer.failures shard.old.writer) (D.Writer.failures shard.new.writer)
+        (D.Reader.failures shard.old.reader) (D.Reader.failures shard.new.reader) e) }
 {
     let now = match clock.tick() {
         Ok(now) => now,
         Err(refused) => return Err(refused),
     };
-    let built = Built::make(functions, ask);
-    match partition.install(slot, context, built, functions, now) {
-        Ok(Progress::Done(..)) => Ok(true),
-        Ok(Progress::Next) => Ok(false),
-        Ok(Progress::Waits(_)) => Ok(false),
-        Ok(Progress::NeedsBuild(_)) => Ok(false),
+    let built = Built::make(terms.functions, ask);
+    match shard
+        .partition
+        .install(terms.slot, context, built, terms.functions, now)
+    {
+        Ok(Progress::Done(..)) => Ok(Turn::Done),
+        Ok(Progress::Next) => Ok(Turn::On(None)),
+        Ok(Progress::Waits(_)) => wait(terms, shard, context, clock),
+        Ok(Progress::NeedsBuild(_)) | Ok(Progress::NeedsLoad(..)) => unreachable!(),
         Err(refused) => Err(refused),
     }
 }
 
-/// Goes on with an open operation. `Ok` tells whether it is done; else it takes another turn. Refused: `Worn`,
-/// `NoMemory`.
-fn attempt<F: Functions>(
-    partition: &mut Partition<F>,
-    slot: usize,
+/// Goes on with an update that waits for no page. Refused: `Worn`, `NoMemory`, and as the device refuses a page.
+fn go_on<F: Functions, D: Disk>(
+    terms: &Terms<'_, F>,
+    shard: &mut Shard<F, D>,
     context: usize,
-    functions: &F,
     clock: &mut Clock,
-) -> Result<bool, Refused>
-    requires open { IsOpen partition.old slot context }
-    requires past { partition.old.moment ≤ clock.old }
-    ensures ok { IfOk result (Tries F.Key.cmp F.meaning partition.old partition.new slot context) }
-    ensures past { OnOk result (partition.new.moment ≤ clock.new) }
+) -> Result<Turn<D::Receipt>, Refused>
+    requires open { (op : Op F.Key F.Value F.Input) × IsOpen shard.old.partition terms.now.slot context op None }
+    requires past { shard.old.partition.moment ≤ clock.old }
+    ensures ok { IfOk result (λ turn. (op : Op F.Key F.Value F.Input)
+        → IsOpen shard.old.partition terms.now.slot context op None
+        → Tries D.keeps D.Receipt.stands F.Key.cmp F.meaning shard.old.partition shard.new.partition terms.now.slot
+        context op turn) }
+    ensures past { OnOk result (shard.new.partition.moment ≤ clock.new) }
     ensures later { OnOk result (clock.old < clock.new) }
-    ensures only { IfErr result (λ e. (e ≡ Refused.Worn) ⊎ (e ≡ Refused.NoMemory)) }
+    ensures steady { OnOk result ((D.Writer.failures shard.new.writer ≡ D.Writer.failures shard.old.writer)
+        × (D.Reader.failures shard.new.reader ≡ D.Reader.failures shard.old.reader)) }
+    ensures told { IfErr result (λ e. (e ≡ Refused.Worn) ⊎ (e ≡ Refused.NoMemory)
+        ⊎ IsFault (IsEntryIn F.Key.bytes_of F.Value.bytes_of F.Key.is_known F.Value.is_known F.Key.SIZE F.Value.SIZE)
+        F.Key.cmp (D.Writer.failures shard.old.writer) (D.Writer.failures shard.new.writer)
+        (D.Reader.failures shard.old.reader) (D.Reader.failures shard.new.reader) e) }
 {
     let now = match clock.tick() {
         Ok(now) => now,
         Err(refused) => return Err(refused),
     };
-    match partition.go(slot, context, functions, now) {
-        Ok(Progress::Done(..)) => Ok(true),
-        Ok(Progress::Next) => Ok(false),
-        Ok(Progress::Waits(_)) => Ok(false),
-        Ok(Progress::NeedsBuild(ask)) => install(partition, slot, context, functions, ask, clock),
+    match shard
+        .partition
+        .go(terms.slot, context, terms.functions, now)
+    {
+        Ok(Progress::Done(..)) => Ok(Turn::Done),
+        Ok(Progress::Next) => Ok(Turn::On(None)),
+        Ok(Progress::Waits(_)) => wait(terms, shard, context, clock),
+        Ok(Progress::NeedsBuild(ask)) => install(terms, shard, context, ask, clock),
+        Ok(Progress::NeedsLoad(receipt, _)) => Ok(Turn::On(Some(receipt))),
         Err(refused) => Err(refused),
     }
 }
 
-/// Makes an operation in a session that has none open, by the events of its partition, at moments that follow those
-/// that the clock gave. Refused: `Worn` where no address or no moment is left, `NoMemory`, and `Stalled` where it is
-/// not done at one of so many tries.
-pub fn update<F: Functions>(
-    partition: &mut Partition<F>,
-    slot: usize,
-    op: OpOf<F>,
-    functions: &F,
-    tries: u64,
+/// Reads the page that an update waits for, and goes on with it. Refused: `Worn`, `NoMemory`, and as the device refuses
+/// the page or a page that is to be written; `Damaged` where its bytes spell no record on the way.
+fn load<F: Functions, D: Disk>(
+    terms: &Terms<'_, F>,
+    shard: &mut Shard<F, D>,
+    context: usize,
+    receipt: D::Receipt,
+    clock: &mut Clock,
+) -> Result<Turn<D::Receipt>, Refused>
+    requires open { (op : Op F.Key F.Value F.Input)
+        × IsOpen shard.old.partition terms.now.slot context op (Some (D.Receipt.stands receipt)) }
+    requires past { shard.old.partition.moment ≤ clock.old }
+    ensures ok { IfOk result (λ turn. (op : Op F.Key F.Value F.Input)
+        → IsOpen shard.old.partition terms.now.slot context op (Some (D.Receipt.stands receipt))
+        → Tries D.keeps D.Receipt.stands F.Key.cmp F.meaning shard.old.partition shard.new.partition terms.now.slot
+        context op turn) }
+    ensures past { OnOk result (shard.new.partition.moment ≤ clock.new) }
+    ensures later { OnOk result (clock.old < clock.new) }
+    ensures steady { OnOk result ((D.Writer.failures shard.new.writer ≡ D.Writer.failures shard.old.writer)
+        × (D.Reader.failures shard.new.reader ≡ D.Reader.failures shard.old.reader)) }
+    ensures told { IfErr result (λ e. (e ≡ Refused.Worn) ⊎ (e ≡ Refused.NoMemory)
+        ⊎ IsFault (IsEntryIn F.Key.bytes_of F.Value.bytes_of F.Key.is_known F.Value.is_known F.Key.SIZE F.Value.SIZE)
+        F.Key.cmp (D.Writer.failures shard.old.writer) (D.Writer.failures shard.new.writer)
+        (D.Reader.failures shard.old.reader) (D.Reader.failures shard.new.reader) e) }
+{
+    let size = shard.partition.page_size();
+    let loaded = match Loaded::<D>::fetch(terms.alloc, &mut shard.reader, &receipt, size) {
+        Ok(loaded) => loaded,
+        Err(refused) => return Err(refused),
+    };
+    let now = match clock.tick() {
+        Ok(now) => now,
+        Err(refused) => return Err(refused),
+    };
+    match shard
+        .partition
+        .load(terms.slot, context, Ok(loaded), terms.functions, now)
+    {
+        Ok(Progress::NeedsBuild(question)) => install(terms, shard, context, question, clock),
+        Ok(Progress::NeedsLoad(further, _)) => Ok(Turn::On(Some(further))),
+        Ok(Progress::Next) => Ok(Turn::On(None)),
+        Ok(Progress::Done(..)) | Ok(Progress::Waits(_)) => unreachable!(),
+        Err(refused) => Err(refused),
+    }
+}
+
+/// Goes on with an update, with the page that it waits for, if it waits for one. Refused as [`go_on`] and [`load`] are.
+fn attempt<F: Functions, D: Disk>(
+    terms: &Terms<'_, F>,
+    shard: &mut Shard<F, D>,
+    context: usize,
+    page: Option<D::Receipt>,
+    clock: &mut Clock,
+) -> Result<Turn<D::Receipt>, Refused>
+    requires open { (op : Op F.Key F.Value F.Input)
+        × IsOpen shard.old.partition terms.now.slot context op (option_map D.Receipt.stands page) }
+    requires past { shard.old.partition.moment ≤ clock.old }
+    ensures ok { IfOk result (λ turn. (op : Op F.Key F.Value F.Input)
+        → IsOpen shard.old.partition terms.now.slot context op (option_map D.Receipt.stands page)
+        → Tries D.keeps D.Receipt.stands F.Key.cmp F.meaning shard.old.partition shard.new.partition terms.now.slot
+        context op turn) }
+    ensures past { OnOk result (shard.new.partition.moment ≤ clock.new) }
+    ensures later { OnOk result (clock.old < clock.new) }
+    ensures steady { OnOk result ((D.Writer.failures shard.new.writer ≡ D.Writer.failures shard.old.writer)
+        × (D.Reader.failures shard.new.reader ≡ D.Reader.failures shard.old.reader)) }
+    ensures told { IfErr result (λ e. (e ≡ Refused.Worn) ⊎ (e ≡ Refused.NoMemory)
+        ⊎ IsFault (IsEntryIn F.Key.bytes_of F.Value.bytes_of F.Key.is_known F.Value.is_known F.Key.SIZE F.Value.SIZE)
+        F.Key.cmp (D.Writer.failures shard.old.writer) (D.Writer.failures shard.new.writer)
+        (D.Reader.failures shard.old.reader) (D.Reader.failures shard.new.reader) e) }
+{
+    match page {
+        None => go_on(terms, shard, context, clock),
+        Some(receipt) => load(terms, shard, context, receipt, clock),
+    }
+}
+
+/// Makes an update in a session that has no operation open, by the events of its partition, at moments that follow those
+/// that the clock gave. Where it can't go on yet the partition's pages move on, and where its key's last record is not
+/// in memory that record's page is read. Refused: `Worn` where no address or no moment is left, `NoMemory`, as the device
+/// refuses a page, `Damaged` where a page's bytes spell no record on the way, and `Stalled` where it is not done at one
+/// of so many tries.
+pub fn update<F: Functions, D: Disk>(
+    terms: &Terms<'_, F>,
+    shard: &mut Shard<F, D>,
+    key: F::Key,
+    input: F::Input,
     clock: &mut Clock,
 ) -> Result<(), Refused>
-    requires idle { IsIdle partition.old slot }
-    requires own { partition_of partition.old.count (F.code (key_of op)) ≡ partition.old.number }
-    requires past { partition.old.moment ≤ clock.old }
-    ensures idle { OnOk result (IsIdle partition.new slot) }
-    ensures done { OnOk result (Same (live_of F.Key.cmp partition.new)
-        (after F.Key.cmp F.meaning (live_of F.Key.cmp partition.old) op)) }
-    ensures number { OnOk result (partition.new.number ≡ partition.old.number) }
-    ensures count { OnOk result (partition.new.count ≡ partition.old.count) }
-    ensures past { OnOk result (partition.new.moment ≤ clock.new) }
+    requires idle { IsIdle shard.old.partition terms.now.slot }
+    requires own { partition_of shard.old.partition.count (F.code key) ≡ shard.old.partition.number }
+    requires past { shard.old.partition.moment ≤ clock.old }
+    ensures idle { OnOk result (IsIdle shard.new.partition terms.now.slot) }
+    ensures done { OnOk result (IsTrue D.keeps → Same (live_of F.Key.cmp shard.new.partition)
+        (after F.Key.cmp F.meaning (live_of F.Key.cmp shard.old.partition) (Rmw key input))) }
+    ensures number { OnOk result (shard.new.partition.number ≡ shard.old.partition.number) }
+    ensures count { OnOk result (shard.new.partition.count ≡ shard.old.partition.count) }
+    ensures past { OnOk result (shard.new.partition.moment ≤ clock.new) }
     ensures later { OnOk result (clock.old < clock.new) }
-    ensures only { IfErr result (λ e. (e ≡ Refused.NoMemory) ⊎ (e ≡ Refused.Worn) ⊎ (e ≡ Refused.Stalled)) }
+    ensures steady { OnOk result ((D.Writer.failures shard.new.writer ≡ D.Writer.failures shard.old.writer)
+        × (D.Reader.failures shard.new.reader ≡ D.Reader.failures shard.old.reader)) }
+    ensures told { IfErr result (λ e. (e ≡ Refused.NoMemory) ⊎ (e ≡ Refused.Worn) ⊎ (e ≡ Refused.Stalled)
+        ⊎ IsFault (IsEntryIn F.Key.bytes_of F.Value.bytes_of F.Key.is_known F.Value.is_known F.Key.SIZE F.Value.SIZE)
+        F.Key.cmp (D.Writer.failures shard.old.writer) (D.Writer.failures shard.new.writer)
+        (D.Reader.failures shard.old.reader) (D.Reader.failures shard.new.reader) e) }
     // so many moments have passed at least
-    ensures stalled { result ≡ Err Refused.Stalled → clock.old + tries < clock.new }
+    ensures stalled { result ≡ Err Refused.Stalled → clock.old + terms.now.tries < clock.new }
 {
     let now = match clock.tick() {
         Ok(now) => now,
         Err(refused) => return Err(refused),
     };
-    let context = match partition.issue(slot, op, functions, now) {
+    shard.partition.known();
+    let op = Op::Rmw(key, input);
+    let context = match shard.partition.issue(terms.slot, op, terms.functions, now) {
         Ok(context) => context,
         Err(refused) => return Err(refused),
     };
-    for _turn in 0..tries {
-        match attempt(partition, slot, context, functions, clock) {
-            Ok(true) => return Ok(()),
-            Ok(false) => {}
+    let mut page = None;
+    for _turn in 0..terms.tries {
+        match attempt(terms, shard, context, page, clock) {
+            Ok(Turn::Done) => return Ok(()),
+            Ok(Turn::On(next)) => page = next,
             Err(refused) => return Err(refused),
         }
     }

@@ -1,10 +1,14 @@
-use Rattle.std.proofs.Common.{None, cond, nat_lt, length}
+use Rattle.std.proofs.Common.{◌≡◌, IsTrue, None, cond, nat_lt, length, map}
 use Rattle.std.specs.BTreeMap.{get}
 use Rattle.fkv_functions.specs.Plain.{Same}
-use Rattle.fkv_partition.specs.Views.{partition_of}
+use Rattle.fkv_device_partition.specs.Views.{partition_of}
 use Rattle.fkv_feeds.specs.Unions.{union_of}
 use Rattle.fkv_feeds.proofs.gathering.gather.Given as goal
 
--- the map has what is live in the partitions so far
-abbrev pub invariant-loop-partition : goal.invariant-loop-partition
-invariant-loop-partition g l = Same (get g.F.Key.Ord.cmp l.map) (λ q. cond (nat_lt (partition_of (length l.partitions) (g.F.Functions.code q)) l.partition-index) (union_of g.F.Key.Ord.cmp g.F.Functions.code l.partitions q) None)
+-- the partitions stay, and on a device that keeps the map has what is live in those so far
+abbrev pub invariant-loop-index : goal.invariant-loop-index
+invariant-loop-index g l = record {
+  views : map (λ shard. shard.partition) l.shards ≡ map (λ shard. shard.partition) l.initial.shards;
+  sized : length l.shards ≡ length l.initial.shards;
+  so_far : IsTrue g.D.Disk.keeps → Same (get g.F.Key.Ord.cmp l.tree) (λ q. cond (nat_lt (partition_of (length (map (λ shard. shard.partition) l.initial.shards)) (g.F.Functions.code q)) l.index) (union_of g.F.Key.Ord.cmp g.F.Functions.code (map (λ shard. shard.partition) l.initial.shards) q) None);
+}

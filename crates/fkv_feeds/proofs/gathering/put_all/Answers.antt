@@ -7,7 +7,7 @@ use Rattle.fkv_feeds.proofs.gathering.put_all.Goals as goal
 pub loop-pair-preserved : goal.loop-pair-preserved
 loop-pair-preserved g c =
     let cmp = g.K.Ord.cmp in
-    let start = get cmp c.args.map.now in
+    let start = get cmp c.args.tree.now in
     let done = take c.loop-pair.pair-index c.args.pairs.now in
     let pair = c.pair-item.result in
     let took : take (c.loop-pair.pair-index + 1) c.args.pairs.now ≡ done ++ pair ∷ [] =

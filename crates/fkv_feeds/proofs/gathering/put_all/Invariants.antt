@@ -6,4 +6,4 @@ use Rattle.fkv_feeds.proofs.gathering.put_all.Given as goal
 
 -- the pairs so far stand in the map
 abbrev pub invariant-loop-pair : goal.invariant-loop-pair
-invariant-loop-pair g l = Same (get g.K.Ord.cmp l.map) (with_all g.K.Ord.cmp (get g.K.Ord.cmp l.initial.map) (take l.pair-index l.pairs))
+invariant-loop-pair g l = Same (get g.K.Ord.cmp l.tree) (with_all g.K.Ord.cmp (get g.K.Ord.cmp l.initial.tree) (take l.pair-index l.pairs))

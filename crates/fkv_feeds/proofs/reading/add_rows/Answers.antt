@@ -8,6 +8,8 @@ use Rattle.fkv_feed_rows.proofs.AmountLemmas.{amount_fits}
 use Rattle.csv.specs.Reading.{source_of}
 use Rattle.csv.specs.Records.{fields_of}
 use Rattle.fkv_feed_rows.proofs.RecordLemmas.{are_rows-more, has_read-start, has_read-more, has_read-end, bad_row, too_long}
+use Rattle.fkv_feeds.specs.Faults.{IsRunFault}
+use Rattle.fkv_feeds.proofs.FeedsLemmas.{devices-by, row-told}
 use Rattle.fkv_feeds.proofs.reading.add_rows.Goals as goal
 
 pub loop-count-init : goal.loop-count-init
@@ -89,3 +91,8 @@ pub add_row-requires-clause-stands : goal.add_row-requires-clause-stands
 add_row-requires-clause-stands g c κs within =
     let old = c.loop-count.invariant in
     (c.requires.stands.0 ++ old.so_far.1, old.so_far.5 c.requires.stands.0 c.requires.stands.1)
+
+pub returns-in-Err-add_row-clause-told : goal.returns-in-Err-add_row-clause-told
+returns-in-Err-add_row-clause-told g c =
+    row-told (IsRunFault g.D.Disk.keeps g.D.Disk.failures g.D.Writer.PageWriter.failures g.D.Reader.PageReader.failures g.F.Value.Fixed.bytes_of g.F.Value.Known.is_known g.F.Value.Fixed.SIZE) c.args.feed c.args.limit (source_of g.R.Read.remaining c.args.reader.now) c.in-Err-add_row.refused
+    (devices-by g.D.Disk.keeps g.D.Disk.failures g.D.Writer.PageWriter.failures g.D.Reader.PageReader.failures _ _ c.in-Err-add_row.refused) c.in-Err-add_row.ensures.told

@@ -1,4 +1,4 @@
-use Rattle.std.proofs.Common.{◌≡◌, ◌++◌, ℕ, ℤ, List, length}
+use Rattle.std.proofs.Common.{◌≡◌, ◌++◌, ℕ, ℤ, List, length, map}
 use Rattle.csv.specs.Reading.{Ready, default_config, reader_trim, reader_config, source_of}
 use Rattle.csv.specs.declared.reader.Trim.TheVariants as trim
 use Rattle.fkv_functions.specs.declared.names.Name.{Name}
@@ -18,5 +18,5 @@ invariant-loop-count g l = record {
       × HasRead g.R.Read.remaining (source_of g.R.Read.remaining l.initial.reader) l.reader records
       × AreRows records rows
       × (l.count ≡ length records)
-      × ((before : List (Name × ℤ)) → StandFor name_cmp g.F.Functions.meaning g.F.Functions.code l.initial.shards.partitions.items l.initial.shards.slot l.initial.shards.clock before → StandFor name_cmp g.F.Functions.meaning g.F.Functions.code l.shards.partitions.items l.shards.slot l.shards.clock (before ++ rows));
+      × ((before : List (Name × ℤ)) → StandFor g.D.Disk.keeps name_cmp g.F.Functions.meaning g.F.Functions.code (map (λ shard. shard.partition) l.initial.shards.shards.items) l.initial.shards.terms.slot l.initial.shards.clock before → StandFor g.D.Disk.keeps name_cmp g.F.Functions.meaning g.F.Functions.code (map (λ shard. shard.partition) l.shards.shards.items) l.shards.terms.slot l.shards.clock (before ++ rows));
 }

@@ -1,34 +1,75 @@
-use Rattle.std.proofs.Common.{length, refl, sym, ap, ◌∙◌}
+use Rattle.std.proofs.Common.{◌<◌, ◌++◌, ◌∷◌, [], length, map, inl, inr, refl, sym, ap, ◌∙◌, subst, arith}
 use Rattle.std.specs.Int.{w64}
 use Rattle.std.proofs.lemmas.Int.{to_z-of_z}
 use Rattle.std.proofs.lemmas.Option.{slice_get_read}
 use Rattle.fkv_functions.specs.Names.{name_cmp, same_names, name_ties, name_exact, name_total}
 use Rattle.fkv_functions.proofs.KeyOrder.{key_order}
-use Rattle.fkv_partition.specs.Views.{partition_of}
-use Rattle.fkv_feeds.proofs.RunLemmas.{stand-more}
+use Rattle.fkv_device_partition.specs.Views.{partition_of}
+use Rattle.fkv_feeds.specs.Runs.{StandFor}
+use Rattle.fkv_feeds.specs.Faults.{IsDeviceFault, IsFault}
+use Rattle.fkv_feeds.proofs.FeedsLemmas.{three_ok, err_weaker}
+use Rattle.fkv_feeds.proofs.RunLemmas.{stand-more, view-get, view-set, view-length}
+use Rattle.fkv_feeds.proofs.SeatLemmas.{idle-tidied}
 use Rattle.fkv_feeds.proofs.shards.add_row.Goals as goal
 
 pub update-requires-clause-idle : goal.update-requires-clause-idle
 update-requires-clause-idle g c κs within =
-    let here = slice_get_read c.args.shards.now.partitions.items (length c.args.shards.now.partitions.items) c.home-home.result c.index_mut-partition.result.now refl c.home-home.ensures.within c.index_mut-partition.ensures.value in
-    c.requires.stands.1.idle.idle c.home-home.result c.index_mut-partition.result.now here
+    let items = c.args.shards.now.shards.items in
+    let here = slice_get_read items (length items) c.home-home.result c.index_mut-shard.result.now refl c.home-home.ensures.within c.index_mut-shard.ensures.value in
+    c.requires.stands.1.idle.idle c.home-home.result c.index_mut-shard.result.now.partition (view-get (λ shard. shard.partition) items c.home-home.result c.index_mut-shard.result.now here)
 
 pub update-requires-clause-own : goal.update-requires-clause-own
 update-requires-clause-own g c κs within =
-    let here = slice_get_read c.args.shards.now.partitions.items (length c.args.shards.now.partitions.items) c.home-home.result c.index_mut-partition.result.now refl c.home-home.ensures.within c.index_mut-partition.ensures.value in
-    ap (λ n. partition_of n (g.F.Functions.code c.args.key)) (c.requires.stands.1.idle.counted c.home-home.result c.index_mut-partition.result.now here)
-    ∙ sym c.home-home.ensures.value ∙ sym (c.requires.stands.1.idle.numbered c.home-home.result c.index_mut-partition.result.now here)
+    let items = c.args.shards.now.shards.items in
+    let here = slice_get_read items (length items) c.home-home.result c.index_mut-shard.result.now refl c.home-home.ensures.within c.index_mut-shard.ensures.value in
+    let there = view-get (λ shard. shard.partition) items c.home-home.result c.index_mut-shard.result.now here in
+    ap (λ n. partition_of n (g.F.Functions.code c.args.key)) (c.requires.stands.1.idle.counted c.home-home.result c.index_mut-shard.result.now.partition there ∙ view-length (λ shard. shard.partition) items)
+    ∙ sym c.home-home.ensures.value ∙ sym (c.requires.stands.1.idle.numbered c.home-home.result c.index_mut-shard.result.now.partition there)
 
 pub update-requires-clause-past : goal.update-requires-clause-past
 update-requires-clause-past g c κs within =
-    let here = slice_get_read c.args.shards.now.partitions.items (length c.args.shards.now.partitions.items) c.home-home.result c.index_mut-partition.result.now refl c.home-home.ensures.within c.index_mut-partition.ensures.value in
-    c.requires.stands.1.idle.past c.home-home.result c.index_mut-partition.result.now here
+    let items = c.args.shards.now.shards.items in
+    let here = slice_get_read items (length items) c.home-home.result c.index_mut-shard.result.now refl c.home-home.ensures.within c.index_mut-shard.ensures.value in
+    c.requires.stands.1.idle.past c.home-home.result c.index_mut-shard.result.now.partition (view-get (λ shard. shard.partition) items c.home-home.result c.index_mut-shard.result.now here)
 
 pub returns-in-Ok-clause-ok : goal.returns-in-Ok-clause-ok
 returns-in-Ok-clause-ok g c =
-    let here = slice_get_read c.args.shards.now.partitions.items (length c.args.shards.now.partitions.items) c.home-home.result c.index_mut-partition.result.now refl c.home-home.ensures.within c.index_mut-partition.ensures.value in
+    let items = c.args.shards.now.shards.items in
+    let home = c.home-home.result in
+    let old = c.index_mut-shard.result.now in
+    let new = c.tidy_at_times.new.shard in
+    let here = slice_get_read items (length items) home old refl c.home-home.ensures.within c.index_mut-shard.ensures.value in
+    let there = view-get (λ shard. shard.partition) items home old here in
     let order = key_order same_names name_cmp name_ties name_exact name_total in
-    λ rows stand. stand-more name_cmp order g.F.Functions.meaning g.F.Functions.code c.args.shards.now.partitions.items c.args.shards.now.slot c.args.shards.now.clock c.update.new.clock rows
-    c.home-home.result c.index_mut-partition.result.now c.update.new.partition c.args.key c.args.amount stand here (sym c.home-home.ensures.value)
-    c.in-Ok.ensures.number c.in-Ok.ensures.count c.in-Ok.ensures.past c.in-Ok.ensures.later c.in-Ok.ensures.idle
-    (rw (to_z-of_z w64 c.args.amount c.ranges.amount) at c.in-Ok.ensures.done)
+    let done = rw (to_z-of_z w64 c.args.amount c.ranges.amount) at c.in-Ok.ensures.done in
+    let slot = c.args.shards.now.terms.slot in
+    three_ok c.tidy_at_times.result c.tidy_at_times.ensures.tidied c.tidy_at_times.ensures.past c.tidy_at_times.ensures.later
+    (λ tidied past later rows stand. (let after : c.args.shards.now.clock < c.tidy_at_times.new.clock = (let a = c.in-Ok.ensures.later in omega arith) in
+    subst (λ views. StandFor g.D.Disk.keeps name_cmp g.F.Functions.meaning g.F.Functions.code views slot c.tidy_at_times.new.clock (rows ++ (c.args.key, c.args.amount) ∷ [])) (sym (view-set (λ shard. shard.partition) items home new))
+    (stand-more g.D.Disk.keeps name_cmp order g.F.Functions.meaning g.F.Functions.code (map (λ shard. shard.partition) items) slot c.args.shards.now.clock c.tidy_at_times.new.clock rows
+    home old.partition new.partition c.args.key c.args.amount stand there (ap (λ n. partition_of n (g.F.Functions.code c.args.key)) (view-length (λ shard. shard.partition) items) ∙ sym c.home-home.ensures.value)
+    (tidied.number ∙ c.in-Ok.ensures.number) (tidied.count ∙ c.in-Ok.ensures.count) past after (idle-tidied g.D.Disk.keeps name_cmp c.update.new.shard.partition new.partition slot c.in-Ok.ensures.idle tidied)
+    (λ keeps q. tidied.live keeps q ∙ done keeps q))))
+
+pub returns-in-Ok-clause-told : goal.returns-in-Ok-clause-told
+returns-in-Ok-clause-told g c = err_weaker _ c.tidy_at_times.result
+    (λ e h. elim h [
+      | inl a ↦ inr (inl a)
+      | inr b ↦ elim b [
+        | inl d ↦ inl d
+        | inr f ↦ inr (inr (inr (IsDeviceFault.unworked c.update.new.shard.writer c.tidy_at_times.new.shard.writer c.update.new.shard.reader c.update.new.shard.reader (IsFault.unwritten f.0 f.1 refl))))
+      ]
+    ])
+    c.tidy_at_times.ensures.told
+
+pub returns-in-Err-clause-told : goal.returns-in-Err-clause-told
+returns-in-Err-clause-told g c = elim c.in-Err.ensures.told [
+  | inl a ↦ inl a
+  | inr b ↦ elim b [
+    | inl d ↦ inr (inl d)
+    | inr t ↦ elim t [
+      | inl s ↦ inr (inr (inl s))
+      | inr f ↦ inr (inr (inr (IsDeviceFault.unworked c.index_mut-shard.result.now.writer c.update.new.shard.writer c.index_mut-shard.result.now.reader c.update.new.shard.reader f)))
+    ]
+  ]
+]

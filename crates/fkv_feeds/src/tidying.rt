@@ -1,0 +1,210 @@
+//! How a partition's pages move: to where they are read only, to the device, and out of their frames.
+//!
+//! A partition keeps its newest records in memory. ReadOnly follows the tail at half of the frames, each page below it
+//! is written, and Head follows so that the page after the tail's finds its frame free.
+ghost use Rattle.std.specs.Prelude.{◌≡◌, ◌≤◌, ◌⊎◌, ℕ, true, false, IfOk, IfErr, OnOk};
+ghost use Rattle.fkv_device.specs.Failing.{FailsOnlyBy};
+ghost use Rattle.fkv_device_partition.specs.Beginning.{IsEntered};
+ghost use Rattle.fkv_feeds.specs.Seats.{IsTidied};
+
+use crate::shards::{Shard, Terms};
+use fkv_device::{Disk, Written};
+use fkv_device_partition::Partition;
+use fkv_functions::{Functions, Refused};
+use fkv_operations::Clock;
+
+/// Refreshes a session. Refused: `Worn` where no moment is left.
+fn refresh<F: Functions, D: Disk>(
+    partition: &mut Partition<F, D>,
+    slot: usize,
+    clock: &mut Clock,
+) -> Result<(), Refused>
+    requires entered { IsEntered partition.old slot }
+    requires past { partition.old.moment ≤ clock.old }
+    ensures tidied { OnOk result (IsTidied D.keeps F.Key.cmp partition.old partition.new) }
+    ensures past { OnOk result (partition.new.moment ≤ clock.new) }
+    ensures later { OnOk result (clock.old ≤ clock.new) }
+    ensures only { IfErr result (λ refused. refused ≡ Refused.Worn) }
+{
+    let now = match clock.tick() {
+        Ok(now) => now,
+        Err(refused) => return Err(refused),
+    };
+    match partition.refresh(slot, now) {
+        Ok(()) => Ok(()),
+        Err(refused) => Err(refused),
+    }
+}
+
+/// Moves ReadOnly to a page, where that is due and there is room for the move, and refreshes a session. Refused: `Worn`
+/// where no moment is left.
+fn freeze<F: Functions, D: Disk>(
+    partition: &mut Partition<F, D>,
+    slot: usize,
+    page: u64,
+    clock: &mut Clock,
+) -> Result<(), Refused>
+    requires entered { IsEntered partition.old slot }
+    requires past { partition.old.moment ≤ clock.old }
+    ensures tidied { OnOk result (IsTidied D.keeps F.Key.cmp partition.old partition.new) }
+    ensures past { OnOk result (partition.new.moment ≤ clock.new) }
+    ensures later { OnOk result (clock.old ≤ clock.new) }
+    ensures only { IfErr result (λ refused. refused ≡ Refused.Worn) }
+{
+    let now = match clock.tick() {
+        Ok(now) => now,
+        Err(refused) => return Err(refused),
+    };
+    let _passed = partition.shift_read_only(page, now);
+    refresh(partition, slot, clock)
+}
+
+/// Moves Head to a page, where that is due and there is room for the move, and refreshes a session. Refused: `Worn`
+/// where no moment is left.
+fn evict<F: Functions, D: Disk>(
+    partition: &mut Partition<F, D>,
+    slot: usize,
+    page: u64,
+    clock: &mut Clock,
+) -> Result<(), Refused>
+    requires entered { IsEntered partition.old slot }
+    requires past { partition.old.moment ≤ clock.old }
+    ensures tidied { OnOk result (IsTidied D.keeps F.Key.cmp partition.old partition.new) }
+    ensures past { OnOk result (partition.new.moment ≤ clock.new) }
+    ensures later { OnOk result (clock.old ≤ clock.new) }
+    ensures only { IfErr result (λ refused. refused ≡ Refused.Worn) }
+{
+    let now = match clock.tick() {
+        Ok(now) => now,
+        Err(refused) => return Err(refused),
+    };
+    let _passed = partition.shift_head(page, now);
+    refresh(partition, slot, clock)
+}
+
+/// Writes the lowest page that is not flushed, where it waits. `Ok` tells whether it did. Refused: `Worn`, `NoMemory`,
+/// and as the device refuses the page.
+fn flush<F: Functions, D: Disk>(
+    terms: &Terms<'_, F>,
+    shard: &mut Shard<F, D>,
+    clock: &mut Clock,
+) -> Result<bool, Refused>
+    requires past { shard.old.partition.moment ≤ clock.old }
+    ensures tidied { OnOk result (IsTidied D.keeps F.Key.cmp shard.old.partition shard.new.partition) }
+    ensures past { OnOk result (shard.new.partition.moment ≤ clock.new) }
+    ensures later { OnOk result (clock.old ≤ clock.new) }
+    ensures steady { OnOk result (D.Writer.failures shard.new.writer ≡ D.Writer.failures shard.old.writer) }
+    ensures same_reader { shard.new.reader ≡ shard.old.reader }
+    ensures told { IfErr result (λ e. (e ≡ Refused.Worn) ⊎ (e ≡ Refused.NoMemory)
+        ⊎ ((page : ℕ) × FailsOnlyBy 2 page (D.Writer.failures shard.old.writer) (D.Writer.failures shard.new.writer) e)) }
+{
+    let job = match shard.partition.flush_take(terms.alloc) {
+        Ok(job) => job,
+        Err(Refused::NotDue) => return Ok(false),
+        Err(refused) => return Err(refused),
+    };
+    let written = match Written::<D>::write(&mut shard.writer, job) {
+        Ok(written) => written,
+        Err(refused) => return Err(refused),
+    };
+    let now = match clock.tick() {
+        Ok(now) => now,
+        Err(refused) => return Err(refused),
+    };
+    match shard.partition.flush_done(written, now) {
+        Ok(()) => Ok(true),
+        Err(refused) => Err(refused),
+    }
+}
+
+/// Writes the pages that wait, as many as there are frames at the most. Refused as [`flush`] is.
+fn flush_all<F: Functions, D: Disk>(
+    terms: &Terms<'_, F>,
+    shard: &mut Shard<F, D>,
+    clock: &mut Clock,
+) -> Result<(), Refused>
+    requires past { shard.old.partition.moment ≤ clock.old }
+    ensures tidied { OnOk result (IsTidied D.keeps F.Key.cmp shard.old.partition shard.new.partition) }
+    ensures past { OnOk result (shard.new.partition.moment ≤ clock.new) }
+    ensures later { OnOk result (clock.old ≤ clock.new) }
+    ensures steady { OnOk result (D.Writer.failures shard.new.writer ≡ D.Writer.failures shard.old.writer) }
+    ensures same_reader { shard.new.reader ≡ shard.old.reader }
+    ensures told { IfErr result (λ e. (e ≡ Refused.Worn) ⊎ (e ≡ Refused.NoMemory)
+        ⊎ ((page : ℕ) × FailsOnlyBy 2 page (D.Writer.failures shard.old.writer) (D.Writer.failures shard.new.writer) e)) }
+{
+    for _page in 0..terms.frames {
+        match flush(terms, shard, clock) {
+            Ok(true) => {}
+            Ok(false) => return Ok(()),
+            Err(refused) => return Err(refused),
+        }
+    }
+    Ok(())
+}
+
+/// The page of a partition's next record.
+fn tail_page<F: Functions, D: Disk>(partition: &Partition<F, D>) -> u64 {
+    let size = partition.page_size() as u64;
+    partition.tail().checked_div(size).unwrap_or(0)
+}
+
+/// Moves a partition's pages on: ReadOnly follows the tail, so that half of the frames are changed in place, one at
+/// least; the session is refreshed; the pages below are written, as many as there are frames at the most; Head follows,
+/// as far as pages are written, so that the page behind the tail's finds its frame free; and the session is refreshed.
+/// What is not due is passed over. Refused: `Worn`, `NoMemory`, and as the device refuses a page.
+pub fn tidy<F: Functions, D: Disk>(
+    terms: &Terms<'_, F>,
+    shard: &mut Shard<F, D>,
+    clock: &mut Clock,
+) -> Result<(), Refused>
+    requires entered { IsEntered shard.old.partition terms.now.slot }
+    requires past { shard.old.partition.moment ≤ clock.old }
+    ensures tidied { OnOk result (IsTidied D.keeps F.Key.cmp shard.old.partition shard.new.partition) }
+    ensures past { OnOk result (shard.new.partition.moment ≤ clock.new) }
+    ensures later { OnOk result (clock.old ≤ clock.new) }
+    ensures steady { OnOk result (D.Writer.failures shard.new.writer ≡ D.Writer.failures shard.old.writer) }
+    ensures same_reader { shard.new.reader ≡ shard.old.reader }
+    ensures told { IfErr result (λ e. (e ≡ Refused.Worn) ⊎ (e ≡ Refused.NoMemory)
+        ⊎ ((page : ℕ) × FailsOnlyBy 2 page (D.Writer.failures shard.old.writer) (D.Writer.failures shard.new.writer) e)) }
+{
+    let tail = tail_page(&shard.partition);
+    let changed = (terms.frames / 2).saturating_sub(1);
+    match freeze(
+        &mut shard.partition,
+        terms.slot,
+        tail.saturating_sub(changed),
+        clock,
+    ) {
+        Ok(()) => {}
+        Err(refused) => return Err(refused),
+    }
+    match flush_all(terms, shard, clock) {
+        Ok(()) => {}
+        Err(refused) => return Err(refused),
+    }
+    let kept = tail.saturating_sub(terms.frames.saturating_sub(2));
+    let head = kept.min(shard.partition.unflushed());
+    evict(&mut shard.partition, terms.slot, head, clock)
+}
+
+/// Counts a row, and moves the partition's pages on after every 64. Refused as [`tidy`] is.
+pub fn tidy_at_times<F: Functions, D: Disk>(
+    terms: &Terms<'_, F>,
+    shard: &mut Shard<F, D>,
+    clock: &mut Clock,
+) -> Result<(), Refused>
+    requires entered { IsEntered shard.old.partition terms.now.slot }
+    requires past { shard.old.partition.moment ≤ clock.old }
+    ensures tidied { OnOk result (IsTidied D.keeps F.Key.cmp shard.old.partition shard.new.partition) }
+    ensures past { OnOk result (shard.new.partition.moment ≤ clock.new) }
+    ensures later { OnOk result (clock.old ≤ clock.new) }
+    ensures same_reader { shard.new.reader ≡ shard.old.reader }
+    ensures told { IfErr result (λ e. (e ≡ Refused.Worn) ⊎ (e ≡ Refused.NoMemory)
+        ⊎ ((page : ℕ) × FailsOnlyBy 2 page (D.Writer.failures shard.old.writer) (D.Writer.failures shard.new.writer) e)) }
+{
+    shard.rows = shard.rows.wrapping_add(1);
+    if shard.rows % 64 != 0 {
+        return Ok(());
+    }
+    tidy(terms, shard, clock)
+}
