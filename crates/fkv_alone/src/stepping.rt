@@ -1,0 +1,71 @@
+//! One event of an operation that is driven alone: what it asked for is built or read, and handed in.
+ghost use Rattle.std.specs.Prelude.{◌≡◌, ◌<◌, ◌≤◌, ℕ};
+ghost use Rattle.fkv_operations.specs.declared.operations.Op.{Op};
+ghost use Rattle.fkv_device_partition.specs.Views.{PartitionView};
+ghost use Rattle.fkv_alone.specs.Stages.{HasCome, IsFetching};
+ghost use Rattle.fkv_alone.specs.Ending.{Advances, IsOn};
+
+use fkv_device::{Disk, Loaded};
+use fkv_device_partition::laws::{loads_end, pendings_stay};
+use fkv_device_partition::{Partition, Progress, ProgressOf};
+use fkv_functions::{Built, Functions, Refused};
+use std::alloc::Global;
+
+/// Reads the page that an operation asked for, and hands it in, or what came in its place.
+fn load<F: Functions, D: Disk>(
+    alloc: Global,
+    partition: &mut Partition<F, D>,
+    slot: usize,
+    context: usize,
+    receipt: D::Receipt,
+    functions: &F,
+    reader: &mut D::Reader,
+    now: u64,
+) -> Result<ProgressOf<F, D>, Refused>
+    requires later { partition.old.moment < now }
+    ensures advances { (op : Op F.Key F.Value F.Input) (old : PartitionView F.Key F.Value F.Input) (started a : ℕ)
+        → IsFetching D.keeps F.Key.cmp op old partition.old slot context started (D.Receipt.stands receipt) a
+        → Advances D.keeps D.Receipt.stands F.Key.cmp F.meaning op old partition.old partition.new slot context started
+        (D.Reader.failures reader.old) (D.Reader.failures reader.new) result }
+    ensures past { partition.new.moment ≤ now }
+{
+    loads_end::<F, D>();
+    let size = partition.page_size();
+    let came = Loaded::<D>::fetch(alloc, reader, &receipt, size);
+    partition.load(slot, context, came, functions, now)
+}
+
+/// Makes one event of an operation, by what it told last: it goes on, or what it asked for is built and installed, or read
+/// and handed in.
+pub(crate) fn step<F: Functions, D: Disk>(
+    alloc: Global,
+    partition: &mut Partition<F, D>,
+    slot: usize,
+    context: usize,
+    told: ProgressOf<F, D>,
+    functions: &F,
+    reader: &mut D::Reader,
+    now: u64,
+) -> Result<ProgressOf<F, D>, Refused>
+    requires later { partition.old.moment < now }
+    requires on { IsOn told }
+    ensures advances { (op : Op F.Key F.Value F.Input) (old : PartitionView F.Key F.Value F.Input) (started : ℕ)
+        → HasCome D.keeps D.Receipt.stands F.Key.cmp F.meaning op old partition.old slot context started told
+        → Advances D.keeps D.Receipt.stands F.Key.cmp F.meaning op old partition.old partition.new slot context started
+        (D.Reader.failures reader.old) (D.Reader.failures reader.new) result }
+    ensures past { partition.new.moment ≤ now }
+{
+    partition.known();
+    pendings_stay::<F::Key, F::Value, F::Input, F::Output, D::Receipt>();
+    match told {
+        Progress::Next => partition.go(slot, context, functions, now),
+        Progress::NeedsBuild(ask) => {
+            let built = Built::make(functions, ask);
+            partition.install(slot, context, built, functions, now)
+        }
+        Progress::NeedsLoad(receipt, _address) => load(
+            alloc, partition, slot, context, receipt, functions, reader, now,
+        ),
+        Progress::Done(_, _) | Progress::Waits(_) => unreachable!(),
+    }
+}
