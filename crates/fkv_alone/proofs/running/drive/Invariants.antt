@@ -1,0 +1,18 @@
+use Rattle.std.proofs.Common.{◌≡◌, ◌+◌, ◌-◌, ◌^◌, ◌<◌, ◌≤◌, ℕ}
+use Rattle.fkv_operations.specs.declared.operations.Op.{Op}
+use Rattle.fkv_device_partition.specs.Views.{PartitionView}
+use Rattle.fkv_alone.specs.Stages.{HasCome, IsReady}
+use Rattle.fkv_alone.specs.Ending.{IsOn}
+use Rattle.fkv_alone.proofs.running.drive.Given as goal
+
+abbrev pub invariant-loop-turn : goal.invariant-loop-turn
+invariant-loop-turn g l = record {
+  comes : (op : Op g.row.F-Key.Denot g.row.F-Value.Denot g.row.F-Input.Denot) (old : PartitionView g.row.F-Key.Denot g.row.F-Value.Denot g.row.F-Input.Denot) (started : ℕ)
+      → IsReady op old l.fn.partition l.slot l.context started
+      → HasCome g.D.Disk.keeps g.D.Receipt.Receipt.stands g.F.Key.Ord.cmp g.F.Functions.meaning op old l.partition l.slot l.context started l.told
+      × (g.D.Reader.PageReader.failures l.reader ≡ g.D.Reader.PageReader.failures l.fn.reader);
+  on : IsOn l.told;
+  taken : l.clock ≡ l.fn.clock + l._turn;
+  past : l.partition.moment ≤ l.clock;
+  spare : l.clock < 2 ^ 64 - 1;
+}
