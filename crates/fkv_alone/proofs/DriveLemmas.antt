@@ -1,18 +1,17 @@
 -- What the events of an operation make of it, one after the other.
-use Rattle.std.proofs.Common.{◌≡◌, ◌<◌, ◌≤◌, ◌+◌, ◌-◌, ◌^◌, ◌⊎◌, ◌↔◌, inl, inr, ℕ, Bool, true, false, IsTrue, Option, Some, None, Result, Ok, Err, IfOk, IfErr, OnErr, IsSome, refl, sym, ◌∙◌, ap, subst, arith}
+use Rattle.std.proofs.Common.{◌≡◌, ◌<◌, ◌+◌, ◌-◌, ◌^◌, ◌⊎◌, ◌↔◌, inl, inr, ℕ, Bool, true, false, Result, Ok, Err, IfOk, IfErr, IsSome, sym, ◌∙◌, ap, subst, arith}
 use Rattle.std.specs.declared.cmp.Ordering.{Ordering}
 use Rattle.fkv_functions.specs.Meanings.{Meanings}
 use Rattle.fkv_functions.specs.declared.refusals.Refused.{Refused}
-use Rattle.fkv_functions.specs.declared.refusals.Refused.TheVariants.{Worn, Stalled}
+use Rattle.fkv_functions.specs.declared.refusals.Refused.TheVariants.{Worn}
 use Rattle.fkv_device.specs.Standing.{Standing}
 use Rattle.fkv_operations.specs.declared.operations.Op.{Op}
 use Rattle.fkv_device_partition.specs.declared.contexts.Context.{Context}
 use Rattle.fkv_device_partition.specs.declared.contexts.Progress.{Progress}
 use Rattle.fkv_device_partition.specs.declared.contexts.Progress.TheVariants.{Done, Next, NeedsBuild, NeedsLoad, Waits}
-use Rattle.fkv_device_partition.specs.Effect.{LeavesOthers}
 use Rattle.fkv_device_partition.specs.Views.{PartitionView, context_at}
-use Rattle.fkv_alone.specs.Stages.{IsOpen, IsReady, IsDone, IsWaiting, HasCome}
-use Rattle.fkv_alone.specs.Ending.{IsOver, IsStop, IsOn, IsHalted, Advances, Drives}
+use Rattle.fkv_alone.specs.Stages.{IsOpen, HasCome}
+use Rattle.fkv_alone.specs.Ending.{IsOver, IsOn, IsHalted}
 use Rattle.fkv_alone.proofs.OpenLemmas.{leaves-then, leaves-own}
 
 -- a clock that has moments left gives one

@@ -1,3 +1,4 @@
 pub mod OpenLemmas
 pub mod StageLemmas
 pub mod DriveLemmas
+pub mod EndLemmas

@@ -1,15 +1,14 @@
 -- An open operation over each change of its context.
-use Rattle.std.proofs.Common.{◌≡◌, ◌≢◌, Bool, true, false, cond, ◌&&◌, ℕ, ◌+◌, ◌*◌, ◌<◌, ◌≤◌, ◌⊎◌, inl, inr, List, Option, Some, None, option_map, slice_get, slice_set, nat_lt, refl, sym, ◌∙◌, ap, subst, arith}
+use Rattle.std.proofs.Common.{◌≡◌, ◌≢◌, Bool, true, false, cond, ◌&&◌, ℕ, ◌+◌, ◌*◌, ◌<◌, ◌⊎◌, inl, inr, List, Option, Some, None, option_map, slice_get, slice_set, nat_lt, refl, ◌∙◌, ap, arith}
 use Rattle.std.proofs.lemmas.Bool.Decides.{nat_tests}
 use Rattle.fkv_functions.proofs.ListLemmas.{get-set_same, get-set_other}
-use Rattle.fkv_texts.specs.declared.entries.Entry.{Entry}
 use Rattle.fkv_regions.specs.RegionsView.{RegionsView}
 use Rattle.fkv_operations.specs.declared.operations.Op.{Op}
 use Rattle.fkv_lookups.specs.RecordsViews.{RecordsView}
 use Rattle.fkv_device_partition.specs.declared.contexts.Context.{Context}
 use Rattle.fkv_device_partition.specs.Contexts.{joined, is_session, context_in}
 use Rattle.fkv_device_partition.specs.Views.{PartitionView, slots_of, context_at, with_context}
-use Rattle.fkv_device_partition.specs.Effect.{Asked, asked, asked_by, LeavesOthers}
+use Rattle.fkv_device_partition.specs.Effect.{asked_by, LeavesOthers}
 use Rattle.fkv_alone.specs.Stages.{IsOpen}
 use Rattle.fkv_alone.specs.Ending.{IsOver}
 
@@ -31,7 +30,7 @@ open_at slots contexts slot c x h = by_cases (is_session slots slot) (nat_lt c 8
     by_cases true false p q e = absurd (cc)
     by_cases false b p q e = absurd (cc)
 
-context-inside : {K V I : Type 0} (slots : List (Option ℕ)) (contexts : List (Option (Context K V I))) (slot c : ℕ) → is_session slots slot ≡ true → c < 8 → context_in slots contexts slot c ≡ joined (slice_get contexts (slot * 8 + c))
+pub context-inside : {K V I : Type 0} (slots : List (Option ℕ)) (contexts : List (Option (Context K V I))) (slot c : ℕ) → is_session slots slot ≡ true → c < 8 → context_in slots contexts slot c ≡ joined (slice_get contexts (slot * 8 + c))
 context-inside slots contexts slot c h low = let t : nat_lt c 8 ≡ true = grind (arith, nat_tests) in rw (h, t) refl
 
 and-false : (a : Bool) → (a && false) ≡ false
@@ -65,8 +64,8 @@ module _ {K V I : Type 0} (v : PartitionView K V I) (slot c now : ℕ) (x : Cont
   pub set-frame : r.begin ≡ v.records.begin → LeavesOthers v (with_both v slot c y now r) slot c now
   set-frame begin = record {
     others = λ s d other.
-      ap (λ (g : RegionsView). option_map asked_by (context_in g.epochs.slots (slice_set v.contexts (slot * 8 + c) y) s d)) regions
-      ∙ ap (option_map asked_by) (context-other (slots_of v) v.contexts slot c s d y (open_at (slots_of v) v.contexts slot c x h).low other);
+        ap (λ (g : RegionsView). option_map asked_by (context_in g.epochs.slots (slice_set v.contexts (slot * 8 + c) y) s d)) regions
+        ∙ ap (option_map asked_by) (context-other (slots_of v) v.contexts slot c s d y (open_at (slots_of v) v.contexts slot c x h).low other);
     number = refl;
     count = refl;
     begin = begin;

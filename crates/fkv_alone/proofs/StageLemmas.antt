@@ -1,11 +1,11 @@
 -- What each event makes of an operation that is driven alone.
-use Rattle.std.proofs.Common.{◌≡◌, ◌≢◌, ◌<◌, ◌≤◌, ◌+◌, ◌⊎◌, inl, inr, ℕ, List, Bool, IsTrue, Option, Some, None, option_map, Result, Ok, Err, IfOk, IfErr, OnOk, OnErr, slice_get, refl, sym, ◌∙◌, ap, subst, arith}
+use Rattle.std.proofs.Common.{◌≡◌, ◌<◌, ◌⊎◌, inl, inr, ℕ, List, Bool, IsTrue, Option, Some, None, option_map, Result, Ok, Err, IfOk, IfErr, OnOk, OnErr, slice_get, refl, sym, ◌∙◌, ap, subst, arith}
 use Rattle.std.specs.declared.cmp.Ordering.{Ordering}
 use Rattle.fkv_functions.specs.Meanings.{Meanings, updated}
 use Rattle.fkv_functions.specs.Plain.{Same, PlainMap}
 use Rattle.fkv_functions.specs.declared.asks.Ask.{Ask}
 use Rattle.fkv_functions.specs.declared.refusals.Refused.{Refused}
-use Rattle.fkv_functions.specs.declared.refusals.Refused.TheVariants.{NoMemory, Worn, Device, Damaged}
+use Rattle.fkv_functions.specs.declared.refusals.Refused.TheVariants.{NoMemory, Worn, Damaged}
 use Rattle.fkv_records.specs.Places.{page_at}
 use Rattle.fkv_device.specs.Standing.{Standing, Joined}
 use Rattle.fkv_device.specs.Failing.{ReadFailsBy}
@@ -21,12 +21,11 @@ use Rattle.fkv_operations.specs.declared.operations.Answer.TheVariants as answer
 use Rattle.fkv_lookups.specs.RecordsViews.{RecordsView, confirmed, released, with_record}
 use Rattle.fkv_device_partition.specs.declared.contexts.Context.{Context}
 use Rattle.fkv_device_partition.specs.declared.contexts.Loading.{Loading}
-use Rattle.fkv_device_partition.specs.declared.contexts.Phase.{Phase}
 use Rattle.fkv_device_partition.specs.declared.contexts.Phase.TheVariants.{Fresh, Confirm, Prepared, Load}
 use Rattle.fkv_device_partition.specs.declared.contexts.Progress.{Progress}
 use Rattle.fkv_device_partition.specs.declared.contexts.Progress.TheVariants.{Done, Next, NeedsBuild, NeedsLoad, Waits}
 use Rattle.fkv_device_partition.specs.declared.contexts.Wait.TheVariants.{Fuzzy, Full}
-use Rattle.fkv_device_partition.specs.Contexts.{question_in, question_by, loading_by, at_phase}
+use Rattle.fkv_device_partition.specs.Contexts.{question_in, loading_by, at_phase}
 use Rattle.fkv_device_partition.specs.Effect.{Asked, asked, asked_by, LeavesOthers, IsEvent}
 use Rattle.fkv_device_partition.specs.Going.{Goes}
 use Rattle.fkv_device_partition.specs.Installing.{Installs}
@@ -34,9 +33,9 @@ use Rattle.fkv_device_partition.specs.Loading.{AwaitsPage, Loads}
 use Rattle.fkv_device_partition.specs.Pending.{Pending, pending, Finds, IsLoad}
 use Rattle.fkv_device_partition.specs.Pending as pend
 use Rattle.fkv_device_partition.specs.Views.{PartitionView, context_at, with_context, live_of}
-use Rattle.fkv_alone.specs.Stages.{IsOpen, IsReady, IsAsking, IsFetching, IsWaiting, IsDone, HasCome}
+use Rattle.fkv_alone.specs.Stages.{IsOpen, IsReady, IsAsking, IsFetching, IsDone, HasCome}
 use Rattle.fkv_alone.specs.Ending.{IsOver, IsStop, Advances}
-use Rattle.fkv_alone.proofs.OpenLemmas.{with_both, set-here, set-frame, frames, leaves-own, open-on, open-pass, open-set, open-over}
+use Rattle.fkv_alone.proofs.OpenLemmas.{set-here, set-frame, frames, open-pass, open-set, open-over}
 
 some-same : {A : Type 0} (x y : A) (o : Option A) → o ≡ Some x → o ≡ Some y → x ≡ y
 some-same x y o h k = let e : Some x ≡ Some y = sym h ∙ k in cc
@@ -73,10 +72,10 @@ module _ {K V I : Type 0} (op : Op K V I) (old v : PartitionView K V I) (slot c 
     done-told keeps cmp f w now a later closed f0 event = record {
       closed = closed;
       live = λ kept. let e = event kept in
-        subst (λ (m : PlainMap K V). Same (live_of cmp w) (after cmp f m op)) (open-maps cmp)
-        (subst (λ (o : Op K V I). Same (live_of cmp w) (after cmp f (live_of cmp v) o)) (open-asks e.question e.was) e.effect.2);
+          subst (λ (m : PlainMap K V). Same (live_of cmp w) (after cmp f m op)) (open-maps cmp)
+          (subst (λ (o : Op K V I). Same (live_of cmp w) (after cmp f (live_of cmp v) o)) (open-asks e.question e.was) e.effect.2);
       answers = λ kept. let e = event kept in
-        e.effect.3 ∙ ap (answer f (live_of cmp v)) (open-asks e.question e.was) ∙ ap (λ (m : PlainMap K V). answer f m op) (open-maps cmp);
+          e.effect.3 ∙ ap (answer f (live_of cmp v)) (open-asks e.question e.was) ∙ ap (λ (m : PlainMap K V). answer f m op) (open-maps cmp);
       begun = let b = o.begun in omega arith;
       past = let m = f0.moment in omega arith;
       frame = frames old v w slot c now o.frame f0;
@@ -304,7 +303,7 @@ module _ {K V I O R : Type 0} (keeps : Bool) (stands : R → Standing) (cmp : K 
         let y = at_phase x (Load next) in
         let looked : h.loading.looked ≡ l.looked = ap (λ (z : Loading). z.looked) same in
         let finds : IsTrue keeps → pending cmp w slot c ≡ Some (record { moment = l.looked; value = live_of cmp old (key_of op) }) =
-            λ kept. (load kept).effect.1 ∙ h.finds kept ∙ ap (λ n. Some (record { moment = n; value = live_of cmp old (key_of op) })) looked in
+        λ kept. (load kept).effect.1 ∙ h.finds kept ∙ ap (λ n. Some (record { moment = n; value = live_of cmp old (key_of op) })) looked in
         let there : IsTrue keeps → pending cmp (with_context v slot c (Some y) now) slot c ≡ Some (record { moment = l.looked; value = live_of cmp old (key_of op) }) = rw is at finds in
         rw is (record {
           operation = y;

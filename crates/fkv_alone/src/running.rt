@@ -191,9 +191,7 @@ pub fn run_alone<F: Functions, D: Disk>(
     ensures past { partition.new.moment ≤ clock.new }
 {
     let started = clock.last();
-    let progress = attempt(
-        alloc, partition, slot, op, functions, reader, clock, limit,
-    );
+    let progress = attempt(alloc, partition, slot, op, functions, reader, clock, limit);
     let events = clock.last() - started;
     Alone { progress, events }
 }

@@ -1,6 +1,4 @@
-use Rattle.std.proofs.Common.{◌≡◌, ◌+◌, ◌-◌, ◌^◌, ◌<◌, ◌≤◌, ◌⊎◌, ℕ, true, false, Err, refl, sym, ◌∙◌, ap, subst, arith}
-use Rattle.fkv_functions.specs.declared.refusals.Refused.TheVariants.{Worn, Stalled}
-use Rattle.fkv_device_partition.specs.Views.{PartitionView}
+use Rattle.std.proofs.Common.{◌≡◌, true, false, Err, refl, sym, ◌∙◌, ap, subst, arith}
 use Rattle.fkv_alone.specs.Ending.{IsStop, Drives}
 use Rattle.fkv_alone.proofs.DriveLemmas.{come-halted, stop-halted, ticked}
 use Rattle.fkv_alone.proofs.running.drive.Goals as goal
@@ -46,9 +44,9 @@ loop-turn-preserved g c =
     let now = c.in-Ok.ensures.ok in
     record {
       comes = λ op old started h.
-        let come = i.comes op old started h in
-        let e = c.in-Ok-step.ensures.advances op old started come.0 in
-        (e.0, e.1 ∙ come.1);
+          let come = i.comes op old started h in
+          let e = c.in-Ok-step.ensures.advances op old started come.0 in
+          (e.0, e.1 ∙ come.1);
       on = c.is_on.ensures.0 c.if-not-is_on.false;
       taken = (let k = i.taken in omega arith);
       past = (let a = now.0 in let p = c.in-Ok-step.ensures.past in omega arith);

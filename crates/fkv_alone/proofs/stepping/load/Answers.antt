@@ -1,4 +1,3 @@
-use Rattle.std.proofs.Common.{ℕ}
 use Rattle.fkv_pages.specs.Spelled.{IsEntryIn}
 use Rattle.fkv_alone.proofs.StageLemmas.{loads-advances}
 use Rattle.fkv_alone.proofs.stepping.load.Goals as goal

@@ -1,4 +1,3 @@
-use Rattle.std.proofs.Common.{Ok}
 use Rattle.fkv_functions.proofs.KeyOrder.{key_order}
 use Rattle.fkv_alone.proofs.StageLemmas.{goes-advances, installs-advances}
 use Rattle.fkv_alone.proofs.stepping.step.Goals as goal
