@@ -1,9 +1,10 @@
 -- How an operation ends that was issued and driven.
-use Rattle.std.proofs.Common.{◌≡◌, ◌<◌, ◌≤◌, ◌+◌, ◌-◌, ◌*◌, inl, inr, ℕ, Bool, Option, Some, None, option_map, slice_set, Ok, Err, refl, sym, ◌∙◌, ap, subst, arith}
+use Rattle.std.proofs.Common.{◌≡◌, ◌<◌, ◌≤◌, ◌+◌, ◌-◌, ◌*◌, inl, inr, ℕ, Bool, Option, Some, None, option_map, slice_set, Result, Ok, Err, refl, sym, ◌∙◌, ap, subst, arith}
 use Rattle.std.specs.declared.cmp.Ordering.{Ordering}
 use Rattle.fkv_functions.proofs.ListLemmas.{get-set_cases}
 use Rattle.fkv_functions.specs.Meanings.{Meanings}
 use Rattle.fkv_functions.specs.declared.refusals.Refused.{Refused}
+use Rattle.fkv_functions.specs.declared.refusals.Refused.TheVariants.{Stalled}
 use Rattle.fkv_device.specs.Standing.{Standing}
 use Rattle.fkv_operations.specs.declared.operations.Op.{Op}
 use Rattle.fkv_device_partition.specs.declared.contexts.Context.{Context}
@@ -15,7 +16,7 @@ use Rattle.fkv_device_partition.specs.Contexts.{joined, context_in}
 use Rattle.fkv_device_partition.specs.Effect.{Asked, asked, asked_by, IsIssue}
 use Rattle.fkv_device_partition.specs.Views.{PartitionView, slots_of, context_at, with_context}
 use Rattle.fkv_alone.specs.Stages.{IsReady, IsDone, IsWaiting, HasCome}
-use Rattle.fkv_alone.specs.Ending.{IsOver, IsOn, IsHalted, Opens, Drives, Ends}
+use Rattle.fkv_alone.specs.Ending.{IsOver, IsStop, IsOn, IsHalted, Opens, Drives, Ends}
 use Rattle.fkv_alone.proofs.OpenLemmas.{open_at, context-inside, leaves-own}
 use Rattle.fkv_alone.proofs.DriveLemmas.{halted-over}
 
@@ -52,6 +53,19 @@ module _ {K V I : Type 0} where
         by (Issues.full a b d is r) = absurd (cc)
         by (Issues.issues d a b free is r) = let same : d ≡ c = cc in record { entered = a; own = b; free = free ∙ ap Some same }
 
+    -- and it is fresh
+    pub issue-phase : (y : Context K V I) → context_at new slot c ≡ Some y → y.phase ≡ Fresh
+    issue-phase y here = by issued
+      where
+        by : Issues code old new slot op now (Ok c) → y.phase ≡ Fresh
+        by (Issues.unknown a is r) = absurd (cc)
+        by (Issues.stranger a b is r) = absurd (cc)
+        by (Issues.full a b d is r) = absurd (cc)
+        by (Issues.issues d a b free is r) =
+            let same : d ≡ c = cc in
+            let there : new ≡ with_context old slot c (Some (record { number = now; op = op; phase = Fresh })) now = subst (λ n. new ≡ with_context old slot n (Some (record { number = now; op = op; phase = Fresh })) now) same is in
+            issue-fresh old new slot c now op y ev.closed there here
+
     pub issue-ready : IsReady op old new slot c now
     issue-ready =
         let o = opened new slot c (record { number = now; op = op }) ev.opened in
@@ -65,17 +79,8 @@ module _ {K V I : Type 0} where
             begun = (let m = ev.frame.moment in omega arith);
             frame = leaves-own old new slot c now ev.frame;
           };
-          ready = inl (phase o.0 o.1 issued);
+          ready = inl (issue-phase o.0 o.1);
         }
-      where
-        phase : (y : Context K V I) → context_at new slot c ≡ Some y → Issues code old new slot op now (Ok c) → y.phase ≡ Fresh
-        phase y here (Issues.unknown a is r) = absurd (cc)
-        phase y here (Issues.stranger a b is r) = absurd (cc)
-        phase y here (Issues.full a b d is r) = absurd (cc)
-        phase y here (Issues.issues d a b free is r) =
-            let same : d ≡ c = cc in
-            let there : new ≡ with_context old slot c (Some (record { number = now; op = op; phase = Fresh })) now = subst (λ n. new ≡ with_context old slot n (Some (record { number = now; op = op; phase = Fresh })) now) same is in
-            issue-fresh old new slot c now op y ev.closed there here
 
 module _ {K V I O R : Type 0} (keeps : Bool) (stands : R → Standing) (cmp : K → K → Ordering) (f : Meanings K V I O) (code : K → ℕ) (op : Op K V I) (old v : PartitionView K V I) (slot c limit start now end before after : ℕ) (opens : Opens code old slot c op)
     (first : now ≡ start + 1) (some : 0 < limit) where
@@ -112,3 +117,28 @@ module _ {K V I O R : Type 0} (keeps : Bool) (stands : R → Standing) (cmp : K 
       Ends.stalled c opens (halted-over keeps stands cmp f op old slot c now v w end halted over) (omega arith) steady r
   driven-over w why (Drives.spent halted e within steady r) over =
       Ends.spent c opens (halted-over keeps stands cmp f op old slot c now v w end halted over) e (omega arith) steady r
+
+-- it is never stalled where so many events are allowed as it takes
+pub never-stalled : {K V I O R : Type 0} (keeps : Bool) (cmp : K → K → Ordering) (f : Meanings K V I O) (code : K → ℕ) (op : Op K V I) (old new : PartitionView K V I) (slot limit start end before after most : ℕ) (result : Result (Progress K V I O R) Refused)
+    → Ends keeps cmp f code op old new slot limit start end before after result → end ≤ start + most → 0 < most → most ≤ limit → result ≡ Err Stalled → ⊥
+never-stalled keeps cmp f code op old new slot limit start end before after most result (Ends.barred none same at steady r) bound some enough e = omega arith
+never-stalled keeps cmp f code op old new slot limit start end before after most result (Ends.late more last same at steady r) bound some enough e = let bad = sym r ∙ e in absurd (cc)
+never-stalled keeps cmp f code op old new slot limit start end before after most result (Ends.unissued why more issues same at steady r) bound some enough e = let is : why ≡ Stalled = cc in unissued issues is
+  where
+    unissued : Issues code old new slot op (start + 1) (Err why) → why ≡ Stalled → ⊥
+    unissued (Issues.unknown a is q) t = absurd (cc)
+    unissued (Issues.stranger a b is q) t = absurd (cc)
+    unissued (Issues.full a b d is q) t = absurd (cc)
+    unissued (Issues.issues d a b free is q) t = absurd (cc)
+never-stalled keeps cmp f code op old new slot limit start end before after most result (Ends.done c a effect opens done within steady r) bound some enough e = let bad = sym r ∙ e in absurd (cc)
+never-stalled keeps cmp f code op old new slot limit start end before after most result (Ends.waits c why opens waits within steady r) bound some enough e = let bad = sym r ∙ e in absurd (cc)
+never-stalled keeps cmp f code op old new slot limit start end before after most result (Ends.refused c why opens over within stop r) bound some enough e = let is : why ≡ Stalled = cc in stopped stop is
+  where
+    stopped : IsStop before after why → why ≡ Stalled → ⊥
+    stopped (IsStop.memory m g) t = absurd (cc)
+    stopped (IsStop.worn m g) t = absurd (cc)
+    stopped (IsStop.device page m g) t = absurd (cc)
+    stopped (IsStop.damaged page m g) t = absurd (cc)
+    stopped (IsStop.misspelled page m g) t = absurd (cc)
+never-stalled keeps cmp f code op old new slot limit start end before after most result (Ends.stalled c opens over at steady r) bound some enough e = omega arith
+never-stalled keeps cmp f code op old new slot limit start end before after most result (Ends.spent c opens over last within steady r) bound some enough e = let bad = sym r ∙ e in absurd (cc)

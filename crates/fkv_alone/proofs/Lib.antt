@@ -2,3 +2,6 @@ pub mod OpenLemmas
 pub mod StageLemmas
 pub mod DriveLemmas
 pub mod EndLemmas
+pub mod IndexLemmas
+pub mod CountLemmas
+pub mod BoundLemmas

@@ -37,7 +37,7 @@ use Rattle.fkv_alone.specs.Stages.{IsOpen, IsReady, IsAsking, IsFetching, IsDone
 use Rattle.fkv_alone.specs.Ending.{IsOver, IsStop, Advances}
 use Rattle.fkv_alone.proofs.OpenLemmas.{set-here, set-frame, frames, open-pass, open-set, open-over}
 
-some-same : {A : Type 0} (x y : A) (o : Option A) → o ≡ Some x → o ≡ Some y → x ≡ y
+pub some-same : {A : Type 0} (x y : A) (o : Option A) → o ≡ Some x → o ≡ Some y → x ≡ y
 some-same x y o h k = let e : Some x ≡ Some y = sym h ∙ k in cc
 
 some-none : {A : Type 0} (x : A) (o : Option A) → o ≡ Some x → o ≡ None → ⊥
@@ -47,7 +47,7 @@ mapped-none : {A B : Type 0} (g : A → B) (o : Option A) → option_map g o ≡
 mapped-none g None h = refl
 mapped-none g (Some x) h = absurd (cc)
 
-question-rmw : {K V I : Type 0} (n : ℕ) (op : Op K V I) (e : IndexEntry) (s : Option V) (k : K) (i : I) → op ≡ Rmw k i → question_in (record { number = n; op = op; phase = Prepared e s }) ≡ Some (e, record { number = n; key = k; source = s; input = i })
+pub question-rmw : {K V I : Type 0} (n : ℕ) (op : Op K V I) (e : IndexEntry) (s : Option V) (k : K) (i : I) → op ≡ Rmw k i → question_in (record { number = n; op = op; phase = Prepared e s }) ≡ Some (e, record { number = n; key = k; source = s; input = i })
 question-rmw n op e s k i h = rw h refl
 
 module _ {K V I : Type 0} (op : Op K V I) (old v : PartitionView K V I) (slot c started : ℕ) where

@@ -3,6 +3,8 @@ ghost use Rattle.std.specs.Prelude.{◌≡◌, ◌≢◌, ◌+◌, ◌-◌, ◌^
 ghost use Rattle.fkv_device_partition.specs.Views.{PartitionView, context_at};
 ghost use Rattle.fkv_operations.specs.declared.operations.Op.{Op};
 ghost use Rattle.fkv_alone.specs.Stages.{HasCome, IsReady};
+ghost use Rattle.fkv_operations.specs.After.{key_of};
+ghost use Rattle.fkv_alone.specs.Bound.{IsNear, NoneClaims, evicted};
 ghost use Rattle.fkv_alone.specs.Ending.{Ends, IsOn, IsOver, Drives};
 
 use crate::outcomes::{Alone, AloneOf};
@@ -93,6 +95,9 @@ fn drive<F: Functions, D: Disk>(
         → IsReady op old partition.old slot context started
         → Drives D.keeps D.Receipt.stands F.Key.cmp F.meaning op old partition.new slot context started left
         clock.old clock.new (D.Reader.failures reader.old) (D.Reader.failures reader.new) result }
+    ensures bound { (n : ℕ) → IsTrue D.keeps
+        → IsNear {O = F.Output} {R = D.Receipt} F.code partition.old slot context Progress.Next n
+        → clock.new ≤ clock.old + n }
     ensures past { partition.new.moment ≤ clock.new }
     ensures onward { clock.old ≤ clock.new }
 {
@@ -131,9 +136,13 @@ fn attempt<F: Functions, D: Disk>(
     requires past { partition.old.moment ≤ clock.old }
     ensures ends { Ends D.keeps F.Key.cmp F.meaning F.code op partition.old partition.new slot limit
         clock.old clock.new (D.Reader.failures reader.old) (D.Reader.failures reader.new) result }
+    ensures bound { IsTrue D.keeps → NoneClaims partition.old
+        → clock.new ≤ clock.old + (5 + evicted F.code partition.old.records (key_of op)) }
     ensures past { partition.new.moment ≤ clock.new }
     ensures onward { clock.old ≤ clock.new }
 {
+    // that a hash has 64 bits is known of one in hand
+    let _hash = functions.hash(&op.key());
     let now = match first_moment(clock, limit) {
         Err(refused) => return Err(refused),
         Ok(now) => now,
@@ -188,6 +197,12 @@ pub fn run_alone<F: Functions, D: Disk>(
     ensures ends { Ends D.keeps F.Key.cmp F.meaning F.code op partition.old partition.new slot limit
         clock.old clock.new (D.Reader.failures reader.old) (D.Reader.failures reader.new) result.progress }
     ensures events { clock.new ≡ clock.old + result.events }
+    // the issue, a claim, its confirmation, a look-up, a load for each record of the class below Head, and what is built
+    ensures bound { IsTrue D.keeps → NoneClaims partition.old
+        → result.events ≤ 5 + evicted F.code partition.old.records (key_of op) }
+    ensures enough { IsTrue D.keeps → NoneClaims partition.old
+        → 5 + evicted F.code partition.old.records (key_of op) ≤ limit
+        → result.progress ≢ Err Refused.Stalled }
     ensures past { partition.new.moment ≤ clock.new }
 {
     let started = clock.last();

@@ -1,12 +1,13 @@
 //! One event of an operation that is driven alone: what it asked for is built or read, and handed in.
-ghost use Rattle.std.specs.Prelude.{◌≡◌, ◌<◌, ◌≤◌, ℕ};
+ghost use Rattle.std.specs.Prelude.{◌≡◌, ◌<◌, ◌≤◌, ℕ, IsTrue, IfOk};
 ghost use Rattle.fkv_operations.specs.declared.operations.Op.{Op};
 ghost use Rattle.fkv_device_partition.specs.Views.{PartitionView};
 ghost use Rattle.fkv_alone.specs.Stages.{HasCome, IsFetching};
 ghost use Rattle.fkv_alone.specs.Ending.{Advances, IsOn};
+ghost use Rattle.fkv_alone.specs.Bound.{IsNear, IsNearer};
 
 use fkv_device::{Disk, Loaded};
-use fkv_device_partition::laws::{loads_end, pendings_stay};
+use fkv_device_partition::laws::pendings_stay;
 use fkv_device_partition::{Partition, Progress, ProgressOf};
 use fkv_functions::{Built, Functions, Refused};
 use std::alloc::Global;
@@ -27,9 +28,12 @@ fn load<F: Functions, D: Disk>(
         → IsFetching D.keeps F.Key.cmp op old partition.old slot context started (D.Receipt.stands receipt) a
         → Advances D.keeps D.Receipt.stands F.Key.cmp F.meaning op old partition.old partition.new slot context started
         (D.Reader.failures reader.old) (D.Reader.failures reader.new) result }
+    ensures nearer { (n a : ℕ) → IsTrue D.keeps
+        → IsNear {O = F.Output} F.code partition.old slot context (Progress.NeedsLoad receipt a) n
+        → IfOk result (λ progress. IsOn progress → IsNearer F.code partition.new slot context progress n) }
     ensures past { partition.new.moment ≤ now }
 {
-    loads_end::<F, D>();
+    partition.known();
     let size = partition.page_size();
     let came = Loaded::<D>::fetch(alloc, reader, &receipt, size);
     partition.load(slot, context, came, functions, now)
@@ -53,6 +57,10 @@ pub(crate) fn step<F: Functions, D: Disk>(
         → HasCome D.keeps D.Receipt.stands F.Key.cmp F.meaning op old partition.old slot context started told
         → Advances D.keeps D.Receipt.stands F.Key.cmp F.meaning op old partition.old partition.new slot context started
         (D.Reader.failures reader.old) (D.Reader.failures reader.new) result }
+    // on a device that keeps, where nobody is in its way, the operation comes nearer to its end
+    ensures nearer { (n : ℕ) → IsTrue D.keeps
+        → IsNear F.code partition.old slot context told n
+        → IfOk result (λ progress. IsOn progress → IsNearer F.code partition.new slot context progress n) }
     ensures past { partition.new.moment ≤ now }
 {
     partition.known();

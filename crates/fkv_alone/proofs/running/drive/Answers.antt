@@ -1,5 +1,6 @@
 use Rattle.std.proofs.Common.{◌≡◌, true, false, Err, refl, sym, ◌∙◌, ap, subst, arith}
 use Rattle.fkv_alone.specs.Ending.{IsStop, Drives}
+use Rattle.fkv_alone.proofs.BoundLemmas.{near-some}
 use Rattle.fkv_alone.proofs.DriveLemmas.{come-halted, stop-halted, ticked}
 use Rattle.fkv_alone.proofs.running.drive.Goals as goal
 
@@ -47,6 +48,12 @@ loop-turn-preserved g c =
           let come = i.comes op old started h in
           let e = c.in-Ok-step.ensures.advances op old started come.0 in
           (e.0, e.1 ∙ come.1);
+      near = λ n kept near.
+          let more = i.near n kept near in
+          let next = c.in-Ok-step.ensures.nearer more.0 kept more.2 (c.is_on.ensures.0 c.if-not-is_on.false) in
+          let total = more.1 in
+          let less = next.fewer in
+          (next.left, omega arith, next.near);
       on = c.is_on.ensures.0 c.if-not-is_on.false;
       taken = (let k = i.taken in omega arith);
       past = (let a = now.0 in let p = c.in-Ok-step.ensures.past in omega arith);
@@ -60,3 +67,53 @@ returns-clause-drives g c = λ op old started h.
     Drives.stalled
     (come-halted g.D.Disk.keeps g.D.Receipt.Receipt.stands g.F.Key.Ord.cmp g.F.Functions.meaning op old c.args.slot c.args.context started c.loop-turn.partition c.loop-turn.told c.tick-last.new.self (i.comes op old started h).0 i.on (let p = i.past in omega arith))
     (let k = i.taken in let d = c.loop-turn-test.false in let u = c.loop-turn.auto in omega arith) (i.comes op old started h).1 refl
+
+pub returns-in-Err-clause-bound : goal.returns-in-Err-clause-bound
+returns-in-Err-clause-bound g c = λ n kept near.
+    let i = c.loop-turn.invariant in
+    let more = i.near n kept near in
+    let some = near-some g.F.Functions.code c.loop-turn.partition c.args.slot c.args.context c.loop-turn.told more.0 more.2 in
+    let total = more.1 in
+    let k = i.taken in
+    let t = c.next_moment.ensures.taken in
+    omega arith
+
+pub returns-in-Err-step-clause-bound : goal.returns-in-Err-step-clause-bound
+returns-in-Err-step-clause-bound g c = λ n kept near.
+    let i = c.loop-turn.invariant in
+    let more = i.near n kept near in
+    let some = near-some g.F.Functions.code c.loop-turn.partition c.args.slot c.args.context c.loop-turn.told more.0 more.2 in
+    let total = more.1 in
+    let k = i.taken in
+    let t = c.next_moment.ensures.taken in
+    omega arith
+
+pub returns-then-not-is_on-clause-bound : goal.returns-then-not-is_on-clause-bound
+returns-then-not-is_on-clause-bound g c = λ n kept near.
+    let i = c.loop-turn.invariant in
+    let more = i.near n kept near in
+    let some = near-some g.F.Functions.code c.loop-turn.partition c.args.slot c.args.context c.loop-turn.told more.0 more.2 in
+    let total = more.1 in
+    let k = i.taken in
+    let t = c.next_moment.ensures.taken in
+    omega arith
+
+pub returns-clause-bound : goal.returns-clause-bound
+returns-clause-bound g c = λ n kept near.
+    let i = c.loop-turn.invariant in
+    let more = i.near n kept near in
+    let some = near-some g.F.Functions.code c.loop-turn.partition c.args.slot c.args.context c.loop-turn.told more.0 more.2 in
+    let total = more.1 in
+    let k = i.taken in
+    let t = ticked c.loop-turn.clock c.tick-last.new.self c.tick-last.result c.tick-last.ensures.ok c.tick-last.ensures.given c.tick-last.ensures.worn c.tick-last.ensures.only i.spare in
+    omega arith
+
+pub loop-turn-init : goal.loop-turn-init
+loop-turn-init g c = record {
+  comes = λ op old started h. (h, refl);
+  near = λ n kept near. (n, omega arith, near);
+  on = tt;
+  taken = omega arith;
+  past = c.requires.past;
+  spare = c.requires.spare;
+}
