@@ -75,24 +75,30 @@ module _ {K V I : Type 0} where
             here = o.1;
             number = ap (λ (q : Asked K V I). q.number) o.2;
             op_is = ap (λ (q : Asked K V I). q.op) o.2;
-            text = ev.text;
+            records = by issued;
             begun = (let m = ev.frame.moment in omega arith);
             frame = leaves-own old new slot c now ev.frame;
           };
           ready = inl (issue-phase o.0 o.1);
         }
+      where
+        by : Issues code old new slot op now (Ok c) → new.records ≡ record old.records { words = new.records.words }
+        by (Issues.unknown a is r) = absurd (cc)
+        by (Issues.stranger a b is r) = absurd (cc)
+        by (Issues.full a b d is r) = absurd (cc)
+        by (Issues.issues d a b free is r) = rw is refl
 
 module _ {K V I O R : Type 0} (keeps : Bool) (stands : R → Standing) (cmp : K → K → Ordering) (f : Meanings K V I O) (code : K → ℕ) (op : Op K V I) (old v : PartitionView K V I) (slot c limit start now end before after : ℕ) (opens : Opens code old slot c op)
     (first : now ≡ start + 1) (some : 0 < limit) where
   -- it is done or waits
-  come-ends : (p : Progress K V I O R) → HasCome keeps stands cmp f op old v slot c now p → (IsOn p → ⊥) → end ≤ start + limit → after ≡ before → Ends keeps cmp f code op old v slot limit start end before after (Ok p)
+  come-ends : (p : Progress K V I O R) → HasCome keeps stands cmp f code op old v slot c now p → (IsOn p → ⊥) → end ≤ start + limit → after ≡ before → Ends keeps cmp f code op old v slot limit start end before after (Ok p)
   come-ends (Done a effect) h off within steady = Ends.done c a effect opens (subst (λ n. IsDone keeps cmp f op old v slot c n a effect) first h) within steady refl
   come-ends Next h off within steady = absurd (off tt)
   come-ends (NeedsBuild ask) h off within steady = absurd (off tt)
   come-ends (NeedsLoad r a) h off within steady = absurd (off tt)
-  come-ends (Waits why) h off within steady = Ends.waits c why opens (subst (λ n. IsWaiting op old v slot c n) first h) within steady refl
+  come-ends (Waits why) h off within steady = Ends.waits c why opens (subst (λ n. IsWaiting cmp code op old v slot c n why) first h) within steady refl
 
-  pub driven-ends : (p : Progress K V I O R) → Drives keeps stands cmp f op old v slot c now (limit - 1) now end before after (Ok p) → Ends keeps cmp f code op old v slot limit start end before after (Ok p)
+  pub driven-ends : (p : Progress K V I O R) → Drives keeps stands cmp f code op old v slot c now (limit - 1) now end before after (Ok p) → Ends keeps cmp f code op old v slot limit start end before after (Ok p)
   driven-ends p (Drives.ends q come off within steady r) =
       let same : q ≡ p = cc in
       subst (λ (u : Progress K V I O R). Ends keeps cmp f code op old v slot limit start end before after (Ok u)) same (come-ends q come off (omega arith) steady)
@@ -101,29 +107,29 @@ module _ {K V I O R : Type 0} (keeps : Bool) (stands : R → Standing) (cmp : K 
   driven-ends p (Drives.spent halted e within steady r) = absurd (cc)
 
   -- it is refused: it may be given up, and then it is over
-  pub driven-halted : (why : Refused) → Drives {O = O} keeps stands cmp f op old v slot c now (limit - 1) now end before after (Err why) → IsHalted op old v slot c now end
+  pub driven-halted : (why : Refused) → Drives {O = O} keeps stands cmp f code op old v slot c now (limit - 1) now end before after (Err why) → IsHalted op old v slot c now end
   driven-halted why (Drives.ends q come off within steady r) = absurd (cc)
   driven-halted why (Drives.refused e halted within stop r) = halted
   driven-halted why (Drives.stalled halted e steady r) = halted
   driven-halted why (Drives.spent halted e within steady r) = halted
 
-  pub driven-over : (w : PartitionView K V I) (why : Refused) → Drives {O = O} keeps stands cmp f op old v slot c now (limit - 1) now end before after (Err why) → IsOver v w slot c → Ends {R = R} keeps cmp f code op old w slot limit start end before after (Err why)
+  pub driven-over : (w : PartitionView K V I) (why : Refused) → Drives {O = O} keeps stands cmp f code op old v slot c now (limit - 1) now end before after (Err why) → IsOver v w slot c → Ends {R = R} keeps cmp f code op old w slot limit start end before after (Err why)
   driven-over w why (Drives.ends q come off within steady r) over = absurd (cc)
   driven-over w why (Drives.refused e halted within stop r) over =
       let same : e ≡ why = cc in
       subst (λ (u : Refused). Ends {R = R} keeps cmp f code op old w slot limit start end before after (Err u)) same
-      (Ends.refused c e opens (halted-over keeps stands cmp f op old slot c now v w end halted over) (omega arith) stop refl)
+      (Ends.refused c e opens (halted-over keeps stands cmp f code op old slot c now v w end halted over) (omega arith) stop refl)
   driven-over w why (Drives.stalled halted e steady r) over =
-      Ends.stalled c opens (halted-over keeps stands cmp f op old slot c now v w end halted over) (omega arith) steady r
+      Ends.stalled c opens (halted-over keeps stands cmp f code op old slot c now v w end halted over) (omega arith) steady r
   driven-over w why (Drives.spent halted e within steady r) over =
-      Ends.spent c opens (halted-over keeps stands cmp f op old slot c now v w end halted over) e (omega arith) steady r
+      Ends.spent c opens (halted-over keeps stands cmp f code op old slot c now v w end halted over) e (omega arith) steady r
 
 -- it is never stalled where so many events are allowed as it takes
 pub never-stalled : {K V I O R : Type 0} (keeps : Bool) (cmp : K → K → Ordering) (f : Meanings K V I O) (code : K → ℕ) (op : Op K V I) (old new : PartitionView K V I) (slot limit start end before after most : ℕ) (result : Result (Progress K V I O R) Refused)
     → Ends keeps cmp f code op old new slot limit start end before after result → end ≤ start + most → 0 < most → most ≤ limit → result ≡ Err Stalled → ⊥
 never-stalled keeps cmp f code op old new slot limit start end before after most result (Ends.barred none same at steady r) bound some enough e = omega arith
 never-stalled keeps cmp f code op old new slot limit start end before after most result (Ends.late more last same at steady r) bound some enough e = let bad = sym r ∙ e in absurd (cc)
-never-stalled keeps cmp f code op old new slot limit start end before after most result (Ends.unissued why more issues same at steady r) bound some enough e = let is : why ≡ Stalled = cc in unissued issues is
+never-stalled keeps cmp f code op old new slot limit start end before after most result (Ends.unissued why more issued same at steady r) bound some enough e = let is : why ≡ Stalled = cc in unissued issued is
   where
     unissued : Issues code old new slot op (start + 1) (Err why) → why ≡ Stalled → ⊥
     unissued (Issues.unknown a is q) t = absurd (cc)
@@ -134,9 +140,9 @@ never-stalled keeps cmp f code op old new slot limit start end before after most
 never-stalled keeps cmp f code op old new slot limit start end before after most result (Ends.waits c why opens waits within steady r) bound some enough e = let bad = sym r ∙ e in absurd (cc)
 never-stalled keeps cmp f code op old new slot limit start end before after most result (Ends.refused c why opens over within stop r) bound some enough e = let is : why ≡ Stalled = cc in stopped stop is
   where
-    stopped : IsStop before after why → why ≡ Stalled → ⊥
+    stopped : IsStop old.records.tail before after why → why ≡ Stalled → ⊥
     stopped (IsStop.memory m g) t = absurd (cc)
-    stopped (IsStop.worn m g) t = absurd (cc)
+    stopped (IsStop.worn m last g) t = absurd (cc)
     stopped (IsStop.device page m g) t = absurd (cc)
     stopped (IsStop.damaged page m g) t = absurd (cc)
     stopped (IsStop.misspelled page m g) t = absurd (cc)

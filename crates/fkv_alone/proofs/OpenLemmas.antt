@@ -98,13 +98,13 @@ module _ {K V I : Type 0} where
 
   module _ (op : Op K V I) (old v : PartitionView K V I) (slot c started : ℕ) (x : Context K V I) (o : IsOpen op old v slot c started x) where
     -- it stays open, its own number and operation with it
-    pub open-on : (w : PartitionView K V I) (now : ℕ) (y : Context K V I) → v.moment < now → context_at w slot c ≡ Some y → y.number ≡ x.number → y.op ≡ x.op → w.records.text ≡ v.records.text → LeavesOthers v w slot c now
+    pub open-on : (w : PartitionView K V I) (now : ℕ) (y : Context K V I) → v.moment < now → context_at w slot c ≡ Some y → y.number ≡ x.number → y.op ≡ x.op → w.records ≡ record v.records { words = w.records.words } → LeavesOthers v w slot c now
         → IsOpen op old w slot c started y
-    open-on w now y later here number same text f = record {
+    open-on w now y later here number same records f = record {
       here = here;
       number = number ∙ o.number;
       op_is = same ∙ o.op_is;
-      text = text ∙ o.text;
+      records = records ∙ ap (λ (r : RecordsView K V). record r { words = w.records.words }) o.records;
       begun = let m = f.moment in let b = o.begun in omega arith;
       frame = frames old v w slot c now o.frame f;
     }
@@ -114,15 +114,17 @@ module _ {K V I : Type 0} where
     open-pass now later = open-on (record v { moment = now }) now x later o.here refl refl refl (record { others = λ s d other. refl; number = refl; count = refl; begin = refl; regions = refl; moment = refl })
 
     -- it moves to another phase
-    pub open-set : (now : ℕ) (y : Context K V I) (r : RecordsView K V) → v.moment < now → y.number ≡ x.number → y.op ≡ x.op → r.regions ≡ v.records.regions → r.begin ≡ v.records.begin → r.text ≡ v.records.text
+    pub open-set : (now : ℕ) (y : Context K V I) (r : RecordsView K V) → v.moment < now → y.number ≡ x.number → y.op ≡ x.op → r ≡ record v.records { words = r.words }
         → IsOpen op old (with_both v slot c (Some y) now r) slot c started y
-    open-set now y r later number same regions begin text =
-        open-on (with_both v slot c (Some y) now r) now y later (set-here v slot c now x o.here (Some y) r regions) number same text (set-frame v slot c now x o.here (Some y) r regions begin)
+    open-set now y r later number same records =
+        let regions : r.regions ≡ v.records.regions = ap (λ (z : RecordsView K V). z.regions) records in
+        let begin : r.begin ≡ v.records.begin = ap (λ (z : RecordsView K V). z.begin) records in
+        open-on (with_both v slot c (Some y) now r) now y later (set-here v slot c now x o.here (Some y) r regions) number same records (set-frame v slot c now x o.here (Some y) r regions begin)
 
     -- it is over
     pub open-over : (now : ℕ) → IsOver old (with_context v slot c None now) slot c
     open-over now = record {
       closed = set-here v slot c now x o.here None v.records refl;
-      text = o.text;
+      records = o.records;
       frame = frames old v (with_context v slot c None now) slot c now o.frame (set-frame v slot c now x o.here None v.records refl refl);
     }

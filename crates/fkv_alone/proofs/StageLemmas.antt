@@ -1,5 +1,5 @@
 -- What each event makes of an operation that is driven alone.
-use Rattle.std.proofs.Common.{◌≡◌, ◌<◌, ◌⊎◌, inl, inr, ℕ, List, Bool, IsTrue, Option, Some, None, option_map, Result, Ok, Err, IfOk, IfErr, OnOk, OnErr, slice_get, refl, sym, ◌∙◌, ap, subst, arith}
+use Rattle.std.proofs.Common.{◌≡◌, ◌≢◌, ◌<◌, ◌≤◌, ◌+◌, ◌^◌, ◌⊎◌, inl, inr, ℕ, List, Bool, IsTrue, Option, Some, None, option_map, Result, Ok, Err, IfOk, IfErr, OnOk, OnErr, slice_get, refl, sym, ◌∙◌, ap, subst, arith}
 use Rattle.std.specs.declared.cmp.Ordering.{Ordering}
 use Rattle.fkv_functions.specs.Meanings.{Meanings, updated}
 use Rattle.fkv_functions.specs.Plain.{Same, PlainMap}
@@ -19,6 +19,9 @@ use Rattle.fkv_operations.specs.declared.operations.Op.TheVariants.{Read, Rmw}
 use Rattle.fkv_operations.specs.declared.operations.Answer.{Answer}
 use Rattle.fkv_operations.specs.declared.operations.Answer.TheVariants as answered
 use Rattle.fkv_lookups.specs.RecordsViews.{RecordsView, confirmed, released, with_record}
+use Rattle.fkv_lookups.specs.DecisionLaws.{wait-met}
+use Rattle.fkv_lookups.specs.declared.decisions.Met.TheVariants as meets
+use Rattle.fkv_index.specs.declared.words.Word.{Word}
 use Rattle.fkv_device_partition.specs.declared.contexts.Context.{Context}
 use Rattle.fkv_device_partition.specs.declared.contexts.Loading.{Loading}
 use Rattle.fkv_device_partition.specs.declared.contexts.Phase.TheVariants.{Fresh, Confirm, Prepared, Load}
@@ -32,7 +35,7 @@ use Rattle.fkv_device_partition.specs.Installing.{Installs}
 use Rattle.fkv_device_partition.specs.Loading.{AwaitsPage, Loads}
 use Rattle.fkv_device_partition.specs.Pending.{Pending, pending, Finds, IsLoad}
 use Rattle.fkv_device_partition.specs.Pending as pend
-use Rattle.fkv_device_partition.specs.Views.{PartitionView, context_at, with_context, live_of}
+use Rattle.fkv_device_partition.specs.Views.{PartitionView, context_at, with_context, live_of, met_at}
 use Rattle.fkv_alone.specs.Stages.{IsOpen, IsReady, IsAsking, IsFetching, IsDone, HasCome}
 use Rattle.fkv_alone.specs.Ending.{IsOver, IsStop, Advances}
 use Rattle.fkv_alone.proofs.OpenLemmas.{set-here, set-frame, frames, open-pass, open-set, open-over}
@@ -63,7 +66,7 @@ module _ {K V I : Type 0} (op : Op K V I) (old v : PartitionView K V I) (slot c 
         sym (ap (λ (a : Asked K V I). a.op) same) ∙ o.op_is
 
     open-maps : (cmp : K → K → Ordering) → live_of cmp v ≡ live_of cmp old
-    open-maps cmp = ap (live cmp) o.text
+    open-maps cmp = ap (λ (r : RecordsView K V). live cmp r.text) o.records
 
     -- an event finishes it
     done-told : {O R : Type 0} (keeps : Bool) (cmp : K → K → Ordering) (f : Meanings K V I O) (w : PartitionView K V I) (now : ℕ) (a : Answer O) → v.moment < now → context_at w slot c ≡ None → LeavesOthers v w slot c now
@@ -81,18 +84,26 @@ module _ {K V I : Type 0} (op : Op K V I) (old v : PartitionView K V I) (slot c 
       frame = frames old v w slot c now o.frame f0;
     }
 
-stop-of : (page before after : ℕ) (why : Refused) → ReadFailsBy page before after why → IsStop before after why
-stop-of page before after why h = elim h [
+-- records of which the words alone are others
+words-alone : {K V : Type 0} (a b : RecordsView K V) (words : List (List Word)) → b ≡ record a { words = words } → b ≡ record a { words = b.words }
+words-alone a b words e = e ∙ ap (λ (ws : List (List Word)). record a { words = ws }) (sym (ap (λ (r : RecordsView _ _). r.words) e))
+
+stop-of : (tail page before after : ℕ) (why : Refused) → ReadFailsBy page before after why → IsStop tail before after why
+stop-of tail page before after why h = elim h [
   | inl t ↦ elim t [ inl m ↦ IsStop.memory m.0 m.1 | inr d ↦ IsStop.device page d.0 d.1 ]
   | inr d ↦ IsStop.damaged page d.0 d.1
 ]
 
 module _ {K V I O R : Type 0} (keeps : Bool) (stands : R → Standing) (cmp : K → K → Ordering) (f : Meanings K V I O) (code : K → ℕ) (op : Op K V I) (old v w : PartitionView K V I) (slot c started now : ℕ) (later : v.moment < now) where
-  told-as : (p q : Progress K V I O R) → p ≡ q → HasCome keeps stands cmp f op old w slot c started q → HasCome keeps stands cmp f op old w slot c started p
-  told-as p q e h = subst (HasCome keeps stands cmp f op old w slot c started) (sym e) h
+  told-as : (p q : Progress K V I O R) → p ≡ q → HasCome keeps stands cmp f code op old w slot c started q → HasCome keeps stands cmp f code op old w slot c started p
+  told-as p q e h = subst (HasCome keeps stands cmp f code op old w slot c started) (sym e) h
+
+  -- the tail is where it was
+  tail-was : (x : Context K V I) → IsOpen op old v slot c started x → v.records.tail ≡ 2 ^ 48 → old.records.tail ≡ 2 ^ 48
+  tail-was x o e = sym (ap (λ (r : RecordsView K V). r.tail) o.records) ∙ e
 
   -- ---- it goes on
-  event-done : (x : Context K V I) → IsOpen op old v slot c started x → (p : Progress K V I O R) (a : Answer O) → p ≡ Done a now → IsEvent cmp f v w slot c now p → HasCome keeps stands cmp f op old w slot c started p
+  event-done : (x : Context K V I) → IsOpen op old v slot c started x → (p : Progress K V I O R) (a : Answer O) → p ≡ Done a now → IsEvent cmp f v w slot c now p → HasCome keeps stands cmp f code op old w slot c started p
   event-done x o p a e event =
       let ev : IsEvent cmp f v w slot c now (Done a now) = subst (IsEvent cmp f v w slot c now) e event in
       told-as p (Done a now) e (done-told op old v slot c started x o keeps cmp f w now a later (mapped-none asked_by (context_at w slot c) ev.effect.0) ev.frame (λ kept. ev))
@@ -107,12 +118,12 @@ module _ {K V I O R : Type 0} (keeps : Bool) (stands : R → Standing) (cmp : K 
       let here = set-here v slot c now x o.here (Some y) v.records refl in
       let same : x ≡ finds.operation = some-same x finds.operation (context_at v slot c) o.here finds.was in
       let key : key_of finds.operation.op ≡ key_of op = ap (λ (z : Context K V I). key_of z.op) (sym same) ∙ ap key_of o.op_is in
-      let value : live_of cmp v (key_of finds.operation.op) ≡ live_of cmp old (key_of op) = ap (live_of cmp v) key ∙ ap (λ (t : List (Entry K V)). live cmp t (key_of op)) o.text in
+      let value : live_of cmp v (key_of finds.operation.op) ≡ live_of cmp old (key_of op) = ap (live_of cmp v) key ∙ ap (λ (r : RecordsView K V). live cmp r.text (key_of op)) o.records in
       let asks : pending cmp w slot c ≡ Some (record { moment = now; value = live_of cmp old (key_of op) }) = finds.asks ∙ ap (λ (u : Option V). Some (record { moment = now; value = u })) value in
       let there : pending cmp (with_context v slot c (Some y) now) slot c ≡ Some (record { moment = now; value = live_of cmp old (key_of op) }) = rw is at asks in
       rw is (record {
         operation = y;
-        open_is = open-set op old v slot c started x o now y v.records later refl refl refl refl refl;
+        open_is = open-set op old v slot c started x o now y v.records later refl refl refl;
         loading = l;
         awaits = record { here = here; loading = refl; begin = refl };
         wanted = refl;
@@ -123,7 +134,7 @@ module _ {K V I O R : Type 0} (keeps : Bool) (stands : R → Standing) (cmp : K 
       })
 
   pub goes-told : IsReady op old v slot c started → (p : Progress K V I O R) → Goes stands cmp f code v w slot c now (Ok p) → IsEvent cmp f v w slot c now p → Finds cmp v w slot c now p
-      → HasCome keeps stands cmp f op old w slot c started p
+      → HasCome keeps stands cmp f code op old w slot c started p
   goes-told h p (Goes.unknown here is r) event finds = absurd (cc)
   goes-told h p (Goes.asks x e ask here q is r) event finds =
       let t : p ≡ NeedsBuild ask = cc in
@@ -133,18 +144,18 @@ module _ {K V I O R : Type 0} (keeps : Bool) (stands : R → Standing) (cmp : K 
   goes-told h p (Goes.confirms x place here phase alone is r) event finds =
       let t : p ≡ Next = cc in
       let o = open-same op old v slot c started h.operation x h.open_is here in
-      told-as p Next t (rw is (record { operation = at_phase x Fresh; open_is = open-set op old v slot c started x o now (at_phase x Fresh) (confirmed v.records place) later refl refl refl refl refl; ready = inl refl }))
+      told-as p Next t (rw is (record { operation = at_phase x Fresh; open_is = open-set op old v slot c started x o now (at_phase x Fresh) (confirmed v.records place) later refl refl refl; ready = inl refl }))
   goes-told h p (Goes.backs_off x place here phase alone is r) event finds =
       let t : p ≡ Next = cc in
       let o = open-same op old v slot c started h.operation x h.open_is here in
-      told-as p Next t (rw is (record { operation = at_phase x Fresh; open_is = open-set op old v slot c started x o now (at_phase x Fresh) (released v.records place) later refl refl refl refl refl; ready = inl refl }))
+      told-as p Next t (rw is (record { operation = at_phase x Fresh; open_is = open-set op old v slot c started x o now (at_phase x Fresh) (released v.records place) later refl refl refl; ready = inl refl }))
   goes-told h p (Goes.done x a d is r) event finds = let t : p ≡ Done a now = cc in event-done x (open-same op old v slot c started h.operation x h.open_is d.here) p a t event
   goes-told h p (Goes.claims x d k r) event finds =
       let t : p ≡ Next = cc in
       let o = open-same op old v slot c started h.operation x h.open_is d.here in
       told-as p Next t (rw k.is (record {
         operation = at_phase x (Confirm k.place);
-        open_is = open-set op old v slot c started x o now (at_phase x (Confirm k.place)) k.records later refl refl (ap (λ (r : RecordsView K V). r.regions) k.claims.is) (ap (λ (r : RecordsView K V). r.begin) k.claims.is) (ap (λ (r : RecordsView K V). r.text) k.claims.is);
+        open_is = open-set op old v slot c started x o now (at_phase x (Confirm k.place)) k.records later refl refl (words-alone v.records k.records _ k.claims.is);
         ready = inr (k.place, refl);
       }))
   goes-told h p (Goes.unclaimed x d full is r) event finds = absurd (cc)
@@ -153,12 +164,14 @@ module _ {K V I O R : Type 0} (keeps : Bool) (stands : R → Standing) (cmp : K 
   goes-told h p (Goes.full x value a d full is r) event finds =
       let t : p ≡ Waits Full = cc in
       let o = open-same op old v slot c started h.operation x h.open_is d.here in
-      told-as p (Waits Full) t (rw is (record { operation = x; open_is = open-pass op old v slot c started x o now later }))
+      told-as p (Waits Full) t (rw is (record { operation = x; open_is = open-pass op old v slot c started x o now later; reason = full }))
   goes-told h p (Goes.replaces x value a e d last is r) event finds = let t : p ≡ Done a now = cc in event-done x (open-same op old v slot c started h.operation x h.open_is d.here) p a t event
   goes-told h p (Goes.waits x d is r) event finds =
       let t : p ≡ Waits Fuzzy = cc in
       let o = open-same op old v slot c started h.operation x h.open_is d.here in
-      told-as p (Waits Fuzzy) t (rw is (record { operation = x; open_is = open-pass op old v slot c started x o now later }))
+      let fuzzy = wait-met f x.op _ d.decided in
+      let met = subst (λ (k : K). met_at cmp code v slot k ≡ meets.Fuzzy fuzzy.0) (ap key_of o.op_is) fuzzy.1 in
+      told-as p (Waits Fuzzy) t (rw is (record { operation = x; open_is = open-pass op old v slot c started x o now later; reason = (fuzzy.0, met) }))
   goes-told h p (Goes.prepares x source i e d found is r) event finds =
       let ask : Ask K V I = record { number = x.number; key = key_of x.op; source = source; input = i } in
       let t : p ≡ NeedsBuild ask = cc in
@@ -168,7 +181,7 @@ module _ {K V I O R : Type 0} (keeps : Bool) (stands : R → Standing) (cmp : K 
       let is_rmw : x.op ≡ Rmw (key_of x.op) i = ap (λ (a : Asked K V I). a.op) same ∙ ev.effect.3 in
       told-as p (NeedsBuild ask) t (rw is (record {
         operation = at_phase x (Prepared e source);
-        open_is = open-set op old v slot c started x o now (at_phase x (Prepared e source)) v.records later refl refl refl refl refl;
+        open_is = open-set op old v slot c started x o now (at_phase x (Prepared e source)) v.records later refl refl refl;
         kept = e;
         question = question-rmw x.number x.op e source (key_of x.op) i is_rmw;
       }))
@@ -178,7 +191,7 @@ module _ {K V I O R : Type 0} (keeps : Bool) (stands : R → Standing) (cmp : K 
       told-as p (NeedsLoad receipt b) t (asked-page x b e receipt o held is (subst (Finds cmp v w slot c now) t finds))
   goes-told h p (Goes.unshared x b d is r) event finds = absurd (cc)
 
-  pub goes-stops : IsReady op old v slot c started → (why : Refused) → Goes {O = O} {R = R} stands cmp f code v w slot c now (Err why) → (why ≡ NoMemory) ⊎ (why ≡ Worn)
+  pub goes-stops : IsReady op old v slot c started → (why : Refused) → Goes {O = O} {R = R} stands cmp f code v w slot c now (Err why) → (why ≡ NoMemory) ⊎ ((why ≡ Worn) × (old.records.tail ≡ 2 ^ 48))
   goes-stops h why (Goes.unknown here is r) = absurd (some-none h.operation (context_at v slot c) h.open_is.here here)
   goes-stops h why (Goes.asks x e ask here q is r) = absurd (cc)
   goes-stops h why (Goes.not_ready x l here phase is r) =
@@ -191,7 +204,7 @@ module _ {K V I O R : Type 0} (keeps : Bool) (stands : R → Standing) (cmp : K 
   goes-stops h why (Goes.claims x d k r) = absurd (cc)
   goes-stops h why (Goes.unclaimed x d full is r) = let e : why ≡ NoMemory = cc in inl e
   goes-stops h why (Goes.appends x value a e d found more room is r) = absurd (cc)
-  goes-stops h why (Goes.worn x value a d tail is r) = let e : why ≡ Worn = cc in inr e
+  goes-stops h why (Goes.worn x value a d tail is r) = let e : why ≡ Worn = cc in inr (e, tail-was h.operation h.open_is tail)
   goes-stops h why (Goes.full x value a d full is r) = absurd (cc)
   goes-stops h why (Goes.replaces x value a e d last is r) = absurd (cc)
   goes-stops h why (Goes.waits x d is r) = absurd (cc)
@@ -201,25 +214,25 @@ module _ {K V I O R : Type 0} (keeps : Bool) (stands : R → Standing) (cmp : K 
 
   pub goes-advances : IsReady op old v slot c started → (n : ℕ) (result : Result (Progress K V I O R) Refused) → Goes stands cmp f code v w slot c now result → IfOk result (λ p. IsEvent cmp f v w slot c now p)
       → ((p : Progress K V I O R) → Goes stands cmp f code v w slot c now (Ok p) → Finds cmp v w slot c now p) → OnErr result (w ≡ v)
-      → Advances keeps stands cmp f op old v w slot c started n n result
+      → Advances keeps stands cmp f code op old v w slot c started n n result
   goes-advances h n (Ok p) goes event finds err = (goes-told h p goes event (finds p goes), refl)
-  goes-advances h n (Err why) goes event finds err = (elim (goes-stops h why goes) [ inl e ↦ IsStop.memory e refl | inr e ↦ IsStop.worn e refl ], inl err)
+  goes-advances h n (Err why) goes event finds err = (elim (goes-stops h why goes) [ inl e ↦ IsStop.memory e refl | inr e ↦ IsStop.worn e.0 e.1 refl ], inl err)
 
   -- ---- what was built is installed
   pub installs-told : (ask : Ask K V I) → IsAsking op old v slot c started ask → (p : Progress K V I O R) → Installs cmp f code v w slot c ask now (Ok p) → (IsTrue keeps → IsEvent cmp f v w slot c now p)
-      → HasCome keeps stands cmp f op old w slot c started p
+      → HasCome keeps stands cmp f code op old w slot c started p
   installs-told ask h p (Installs.unknown here is r) event = absurd (cc)
   installs-told ask h p (Installs.not_ready x here q is r) event = absurd (cc)
   installs-told ask h p (Installs.stranger x e mine here q other is r) event = absurd (cc)
   installs-told ask h p (Installs.moved x e here q word is r) event =
       let t : p ≡ Next = cc in
       let o = open-same op old v slot c started h.operation x h.open_is here in
-      told-as p Next t (rw is (record { operation = at_phase x Fresh; open_is = open-set op old v slot c started x o now (at_phase x Fresh) v.records later refl refl refl refl refl; ready = inl refl }))
+      told-as p Next t (rw is (record { operation = at_phase x Fresh; open_is = open-set op old v slot c started x o now (at_phase x Fresh) v.records later refl refl refl; ready = inl refl }))
   installs-told ask h p (Installs.worn x e here q word tail is r) event = absurd (cc)
   installs-told ask h p (Installs.full x e here q word full is r) event =
       let t : p ≡ Waits Full = cc in
       let o = open-same op old v slot c started h.operation x h.open_is here in
-      told-as p (Waits Full) t (rw is (record { operation = x; open_is = open-pass op old v slot c started x o now later }))
+      told-as p (Waits Full) t (rw is (record { operation = x; open_is = open-pass op old v slot c started x o now later; reason = full }))
   installs-told ask h p (Installs.done x e here q word more room is r) event =
       let o = open-same op old v slot c started h.operation x h.open_is here in
       let value = Some (updated f ask.key ask.input ask.source) in
@@ -231,7 +244,7 @@ module _ {K V I O R : Type 0} (keeps : Bool) (stands : R → Standing) (cmp : K 
       (subst (λ (u : PartitionView K V I). LeavesOthers v u slot c now) (sym is) (set-frame v slot c now x here None grown refl refl))
       (λ kept. subst (IsEvent cmp f v w slot c now) t (event kept)))
 
-  pub installs-stops : (ask : Ask K V I) → IsAsking op old v slot c started ask → (why : Refused) → Installs {O = O} {R = R} cmp f code v w slot c ask now (Err why) → why ≡ Worn
+  pub installs-stops : (ask : Ask K V I) → IsAsking op old v slot c started ask → (why : Refused) → Installs {O = O} {R = R} cmp f code v w slot c ask now (Err why) → (why ≡ Worn) × (old.records.tail ≡ 2 ^ 48)
   installs-stops ask h why (Installs.unknown here is r) = absurd (some-none h.operation (context_at v slot c) h.open_is.here here)
   installs-stops ask h why (Installs.not_ready x here q is r) =
       let same : h.operation ≡ x = some-same h.operation x (context_at v slot c) h.open_is.here here in
@@ -241,15 +254,15 @@ module _ {K V I O R : Type 0} (keeps : Bool) (stands : R → Standing) (cmp : K 
       let pair : (h.kept, ask) ≡ (e, mine) = some-same (h.kept, ask) (e, mine) (question_in h.operation) h.question (ap question_in same ∙ q) in
       absurd (other (ap (λ (z : IndexEntry × Ask K V I). z.1) pair))
   installs-stops ask h why (Installs.moved x e here q word is r) = absurd (cc)
-  installs-stops ask h why (Installs.worn x e here q word tail is r) = cc
+  installs-stops ask h why (Installs.worn x e here q word tail is r) = let t : why ≡ Worn = cc in (t, tail-was h.operation h.open_is tail)
   installs-stops ask h why (Installs.full x e here q word full is r) = absurd (cc)
   installs-stops ask h why (Installs.done x e here q word more room is r) = absurd (cc)
 
   pub installs-advances : (ask : Ask K V I) → IsAsking op old v slot c started ask → (n : ℕ) (result : Result (Progress K V I O R) Refused) → Installs cmp f code v w slot c ask now result
       → (IsTrue keeps → IfOk result (λ p. IsEvent cmp f v w slot c now p)) → OnErr result (w ≡ v)
-      → Advances keeps stands cmp f op old v w slot c started n n result
+      → Advances keeps stands cmp f code op old v w slot c started n n result
   installs-advances ask h n (Ok p) installs event err = (installs-told ask h p installs event, refl)
-  installs-advances ask h n (Err why) installs event err = (IsStop.worn (installs-stops ask h why installs) refl, inl err)
+  installs-advances ask h n (Err why) installs event err = (let e = installs-stops ask h why installs in IsStop.worn e.0 e.1 refl, inl err)
 
   -- ---- a page came for it, or what came in its place
   module _ (entry : ℕ → List ℕ → ℕ → Entry K V → Type 0) (a : ℕ) (s : Standing) (h : IsFetching keeps cmp op old v slot c started s a) where
@@ -307,7 +320,7 @@ module _ {K V I O R : Type 0} (keeps : Bool) (stands : R → Standing) (cmp : K 
         let there : IsTrue keeps → pending cmp (with_context v slot c (Some y) now) slot c ≡ Some (record { moment = l.looked; value = live_of cmp old (key_of op) }) = rw is at finds in
         rw is (record {
           operation = y;
-          open_is = open-set op old v slot c started x o now y v.records later refl refl refl refl refl;
+          open_is = open-set op old v slot c started x o now y v.records later refl refl refl;
           loading = next;
           awaits = record { here = set-here v slot c now x o.here (Some y) v.records refl; loading = refl; begin = aw.begin };
           wanted = refl;
@@ -336,7 +349,7 @@ module _ {K V I O R : Type 0} (keeps : Bool) (stands : R → Standing) (cmp : K 
     came-in y p (Loads.unshared x l j b reads e low place is r) = absurd (cc)
 
     pub loads-told : (came : Result (Joined R) Refused) (p : Progress K V I O R) → Loads stands entry cmp f v w slot c came now (Ok p) → (IsTrue keeps → IsLoad cmp f v w slot c now p)
-        → HasCome keeps stands cmp f op old w slot c started p
+        → HasCome keeps stands cmp f code op old w slot c started p
     loads-told came p (Loads.unknown here is r) load = absurd (cc)
     loads-told came p (Loads.not_ready x here q is r) load = absurd (cc)
     loads-told came p (Loads.moved x l here phase begin is r) load = absurd (begin (ap (λ (z : Loading). z.begin) (sym (await-same x l here phase)) ∙ h.awaits.begin))
@@ -356,7 +369,7 @@ module _ {K V I O R : Type 0} (keeps : Bool) (stands : R → Standing) (cmp : K 
         let o = open-same op old v slot c started h.operation x h.open_is told.reads.awaits.here in
         told-as p (NeedsBuild ask) t (rw is (record {
           operation = at_phase x (Prepared l.kept value);
-          open_is = open-set op old v slot c started x o now (at_phase x (Prepared l.kept value)) v.records later refl refl refl refl refl;
+          open_is = open-set op old v slot c started x o now (at_phase x (Prepared l.kept value)) v.records later refl refl refl;
           kept = l.kept;
           question = question-rmw x.number x.op l.kept value k i rmw;
         }))
@@ -369,7 +382,7 @@ module _ {K V I O R : Type 0} (keeps : Bool) (stands : R → Standing) (cmp : K 
 
     -- why it is refused
     pub loads-stops : (page before after : ℕ) (came : Result (Joined R) Refused) → IfOk came (λ j. stands j.receipt ≡ s) → OnOk came (after ≡ before) → IfErr came (ReadFailsBy page before after)
-        → (why : Refused) → Loads {O = O} stands entry cmp f v w slot c came now (Err why) → IsStop before after why × ((w ≡ v) ⊎ IsOver old w slot c)
+        → (why : Refused) → Loads {O = O} stands entry cmp f v w slot c came now (Err why) → IsStop old.records.tail before after why × ((w ≡ v) ⊎ IsOver old w slot c)
     loads-stops page before after came own steady counted why (Loads.unknown here is r) = absurd (some-none h.operation (context_at v slot c) h.open_is.here here)
     loads-stops page before after came own steady counted why (Loads.not_ready x here q is r) =
         let same : h.operation ≡ x = some-same h.operation x (context_at v slot c) h.open_is.here here in
@@ -379,10 +392,10 @@ module _ {K V I O R : Type 0} (keeps : Bool) (stands : R → Standing) (cmp : K 
     loads-stops page before after came own steady counted why (Loads.failed x l y await e other is r) =
         let t : why ≡ y = cc in
         let o = open-same op old v slot c started h.operation x h.open_is await.here in
-        (stop-of page before after why (subst (ReadFailsBy page before after) (sym t) (subst (λ (q : Result (Joined R) Refused). IfErr q (ReadFailsBy page before after)) e counted)), inr (over-is x o is))
+        (stop-of old.records.tail page before after why (subst (ReadFailsBy page before after) (sym t) (subst (λ (q : Result (Joined R) Refused). IfErr q (ReadFailsBy page before after)) e counted)), inr (over-is x o is))
     loads-stops page before after came own steady counted why (Loads.unread x l await e is r) =
         let t : why ≡ NoMemory = cc in
-        (stop-of page before after why (subst (ReadFailsBy page before after) (sym t) (subst (λ (q : Result (Joined R) Refused). IfErr q (ReadFailsBy page before after)) e counted)), inl is)
+        (stop-of old.records.tail page before after why (subst (ReadFailsBy page before after) (sym t) (subst (λ (q : Result (Joined R) Refused). IfErr q (ReadFailsBy page before after)) e counted)), inl is)
     loads-stops page before after came own steady counted why (Loads.stranger x l j t await e held other is r) =
         let mine : stands j.receipt ≡ s = subst (λ (q : Result (Joined R) Refused). IfOk q (λ j. stands j.receipt ≡ s)) e own in
         let wanted : a ≡ l.wanted = sym h.wanted ∙ ap (λ (z : Loading). z.wanted) (await-same x l await.here await.loading) in
@@ -410,6 +423,6 @@ module _ {K V I O R : Type 0} (keeps : Bool) (stands : R → Standing) (cmp : K 
 
     pub loads-advances : (page before after : ℕ) (came : Result (Joined R) Refused) → IfOk came (λ j. stands j.receipt ≡ s) → OnOk came (after ≡ before) → IfErr came (ReadFailsBy page before after)
         → (result : Result (Progress K V I O R) Refused) → Loads stands entry cmp f v w slot c came now result → (IsTrue keeps → IfOk result (λ p. IsLoad cmp f v w slot c now p))
-        → Advances keeps stands cmp f op old v w slot c started before after result
+        → Advances keeps stands cmp f code op old v w slot c started before after result
     loads-advances page before after came own steady counted (Ok p) loads load = (loads-told came p loads load, loads-steady page before after came steady p loads)
     loads-advances page before after came own steady counted (Err why) loads load = loads-stops page before after came own steady counted why loads

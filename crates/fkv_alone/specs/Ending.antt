@@ -17,31 +17,31 @@ use Rattle.fkv_device_partition.specs.Views.{PartitionView, context_at, free_con
 use Rattle.fkv_device_partition.specs.declared.contexts.Context.{Context}
 use Rattle.fkv_alone.specs.Stages.{HasCome, IsOpen, IsDone, IsWaiting}
 
--- it is over without effect: its context is free, and no record was written
+-- it is over without effect: its context is free, and of the records the words of the index alone may be others
 pub record IsOver {K V I : Type 0} (old new : PartitionView K V I) (slot c : ℕ) : Type 0 where
   pub closed : context_at new slot c ≡ None
-  pub text : new.records.text ≡ old.records.text
+  pub records : new.records ≡ record old.records { words = new.records.words }
   pub frame : LeavesOthers old new slot c new.moment
 
--- why an event is refused, by the reader's count of failures before and after
-pub data IsStop (before after : ℕ) (why : Refused) : Type 0 where
-  memory : why ≡ NoMemory → after ≡ before → IsStop before after why
-  worn : why ≡ Worn → after ≡ before → IsStop before after why
-  device : (page : ℕ) → why ≡ Device 3 page → after ≡ before + 1 → IsStop before after why
+-- why an event is refused, by the tail of the log, and the reader's count of failures before and after
+pub data IsStop (tail before after : ℕ) (why : Refused) : Type 0 where
+  memory : why ≡ NoMemory → after ≡ before → IsStop tail before after why
+  worn : why ≡ Worn → tail ≡ 2 ^ 48 → after ≡ before → IsStop tail before after why
+  device : (page : ℕ) → why ≡ Device 3 page → after ≡ before + 1 → IsStop tail before after why
   -- the reader told of damage
-  damaged : (page : ℕ) → why ≡ Damaged page → after ≡ before + 1 → IsStop before after why
+  damaged : (page : ℕ) → why ≡ Damaged page → after ≡ before + 1 → IsStop tail before after why
   -- the bytes that were read spell no record on the way
-  misspelled : (page : ℕ) → why ≡ Damaged page → after ≡ before → IsStop before after why
+  misspelled : (page : ℕ) → why ≡ Damaged page → after ≡ before → IsStop tail before after why
 
 -- one event of the operation, from `v`: it comes to what it tells, or it is refused, and then nothing has changed or the
 -- operation is over
-abbrev pub Advances : {K V I O R : Type 0} → Bool → (R → Standing) → (K → K → Ordering) → Meanings K V I O → Op K V I
-    → PartitionView K V I → PartitionView K V I → PartitionView K V I → ℕ → ℕ → ℕ → ℕ → ℕ
+abbrev pub Advances : {K V I O R : Type 0} → Bool → (R → Standing) → (K → K → Ordering) → Meanings K V I O → (K → ℕ)
+    → Op K V I → PartitionView K V I → PartitionView K V I → PartitionView K V I → ℕ → ℕ → ℕ → ℕ → ℕ
     → Result (Progress K V I O R) Refused → Type 0
-Advances keeps stands cmp f op old v new slot c started before after (Ok progress) =
-    HasCome keeps stands cmp f op old new slot c started progress × (after ≡ before)
-Advances keeps stands cmp f op old v new slot c started before after (Err why) =
-    IsStop before after why × ((new ≡ v) ⊎ IsOver old new slot c)
+Advances keeps stands cmp f code op old v new slot c started before after (Ok progress) =
+    HasCome keeps stands cmp f code op old new slot c started progress × (after ≡ before)
+Advances keeps stands cmp f code op old v new slot c started before after (Err why) =
+    IsStop old.records.tail before after why × ((new ≡ v) ⊎ IsOver old new slot c)
 
 -- the operation is to go on
 abbrev pub IsOn : {K V I O R : Type 0} → Progress K V I O R → Type 0
@@ -87,7 +87,7 @@ pub data Ends {K V I O R : Type 0} (keeps : Bool) (cmp : K → K → Ordering) (
   -- it stays open
   waits : (c : ℕ) (why : Wait)
       → Opens code old slot c op
-      → IsWaiting op old new slot c (start + 1)
+      → IsWaiting cmp code op old new slot c (start + 1) why
       → end ≤ start + limit
       → after ≡ before
       → result ≡ Ok (Waits why)
@@ -97,7 +97,7 @@ pub data Ends {K V I O R : Type 0} (keeps : Bool) (cmp : K → K → Ordering) (
       → Opens code old slot c op
       → IsOver old new slot c
       → end ≤ start + limit
-      → IsStop before after why
+      → IsStop old.records.tail before after why
       → result ≡ Err why
       → Ends keeps cmp f code op old new slot limit start end before after result
   -- all its events are made, and it is given up at the moment after them
@@ -126,29 +126,30 @@ pub data IsHalted {K V I : Type 0} (op : Op K V I) (old new : PartitionView K V 
 
 -- what at most `left` events make of an open operation, after the clock gave `start`
 pub data Drives {K V I O R : Type 0} (keeps : Bool) (stands : R → Standing) (cmp : K → K → Ordering)
-    (f : Meanings K V I O) (op : Op K V I) (old new : PartitionView K V I) (slot c started left start end before after : ℕ)
+    (f : Meanings K V I O) (code : K → ℕ) (op : Op K V I) (old new : PartitionView K V I)
+    (slot c started left start end before after : ℕ)
     (result : Result (Progress K V I O R) Refused) : Type 0 where
   ends : (progress : Progress K V I O R)
-      → HasCome keeps stands cmp f op old new slot c started progress
+      → HasCome keeps stands cmp f code op old new slot c started progress
       → (IsOn progress → ⊥)
       → end ≤ start + left
       → after ≡ before
       → result ≡ Ok progress
-      → Drives keeps stands cmp f op old new slot c started left start end before after result
+      → Drives keeps stands cmp f code op old new slot c started left start end before after result
   refused : (why : Refused)
       → IsHalted op old new slot c started end
       → end ≤ start + left
-      → IsStop before after why
+      → IsStop old.records.tail before after why
       → result ≡ Err why
-      → Drives keeps stands cmp f op old new slot c started left start end before after result
+      → Drives keeps stands cmp f code op old new slot c started left start end before after result
   stalled : IsHalted op old new slot c started end
       → end ≡ start + left + 1
       → after ≡ before
       → result ≡ Err Stalled
-      → Drives keeps stands cmp f op old new slot c started left start end before after result
+      → Drives keeps stands cmp f code op old new slot c started left start end before after result
   spent : IsHalted op old new slot c started end
       → end ≡ 2 ^ 64 - 1
       → end ≤ start + left
       → after ≡ before
       → result ≡ Err Worn
-      → Drives keeps stands cmp f op old new slot c started left start end before after result
+      → Drives keeps stands cmp f code op old new slot c started left start end before after result

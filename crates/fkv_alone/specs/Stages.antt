@@ -18,19 +18,23 @@ use Rattle.fkv_device_partition.specs.declared.contexts.Loading.{Loading}
 use Rattle.fkv_device_partition.specs.declared.contexts.Phase.TheVariants.{Fresh, Confirm}
 use Rattle.fkv_device_partition.specs.declared.contexts.Progress.{Progress}
 use Rattle.fkv_device_partition.specs.declared.contexts.Progress.TheVariants.{Done, Next, NeedsBuild, NeedsLoad, Waits}
+use Rattle.fkv_lookups.specs.RecordsViews.{IsFull}
+use Rattle.fkv_lookups.specs.declared.decisions.Met.TheVariants as met
+use Rattle.fkv_device_partition.specs.declared.contexts.Wait.{Wait}
+use Rattle.fkv_device_partition.specs.declared.contexts.Wait.TheVariants as wait
 use Rattle.fkv_device_partition.specs.Contexts.{question_in}
 use Rattle.fkv_device_partition.specs.Effect.{LeavesOthers}
 use Rattle.fkv_device_partition.specs.Loading.{AwaitsPage}
 use Rattle.fkv_device_partition.specs.Pending.{pending}
-use Rattle.fkv_device_partition.specs.Views.{PartitionView, context_at, live_of}
+use Rattle.fkv_device_partition.specs.Views.{PartitionView, context_at, live_of, met_at}
 
--- the operation is open in its context, and but for that and the index the partition is as it was: no record was written
+-- the operation is open in its context, and of the records the words of the index alone may be others than before
 pub record IsOpen {K V I : Type 0} (op : Op K V I) (old v : PartitionView K V I) (slot c started : ℕ) (x : Context K V I)
     : Type 0 where
   pub here : context_at v slot c ≡ Some x
   pub number : x.number ≡ started
   pub op_is : x.op ≡ op
-  pub text : v.records.text ≡ old.records.text
+  pub records : v.records ≡ record old.records { words = v.records.words }
   pub begun : started ≤ v.moment
   pub frame : LeavesOthers old v slot c v.moment
 
@@ -63,10 +67,17 @@ pub record IsFetching {K V I : Type 0} (keeps : Bool) (cmp : K → K → Orderin
   pub finds : IsTrue keeps
       → pending cmp v slot c ≡ Some (record { moment = loading.looked; value = live_of cmp old (key_of op) })
 
+-- why an operation on a key has to wait
+abbrev pub IsHeldUp : {K V I : Type 0} → (K → K → Ordering) → (K → ℕ) → PartitionView K V I → ℕ → K → Wait → Type 0
+IsHeldUp {K} {V} {I} cmp code v slot k wait.Fuzzy = (w : V) × (met_at cmp code v slot k ≡ met.Fuzzy w)
+IsHeldUp cmp code v slot k wait.Full = IsFull v.records
+
 -- it cannot go on yet
-pub record IsWaiting {K V I : Type 0} (op : Op K V I) (old v : PartitionView K V I) (slot c started : ℕ) : Type 0 where
+pub record IsWaiting {K V I : Type 0} (cmp : K → K → Ordering) (code : K → ℕ) (op : Op K V I)
+    (old v : PartitionView K V I) (slot c started : ℕ) (why : Wait) : Type 0 where
   pub operation : Context K V I
   pub open_is : IsOpen op old v slot c started operation
+  pub reason : IsHeldUp cmp code v slot (key_of op) why
 
 -- it is done, and its context is free: on a device that keeps, the live map is what the operation makes of it, once, and
 -- the answer is the plain map's; its effect is after its issue
@@ -80,11 +91,11 @@ pub record IsDone {K V I O : Type 0} (keeps : Bool) (cmp : K → K → Ordering)
   pub frame : LeavesOthers old new slot c new.moment
 
 -- what it told last
-abbrev pub HasCome : {K V I O R : Type 0} → Bool → (R → Standing) → (K → K → Ordering) → Meanings K V I O → Op K V I
-    → PartitionView K V I → PartitionView K V I → ℕ → ℕ → ℕ → Progress K V I O R → Type 0
-HasCome keeps stands cmp f op old v slot c started (Done a effect) = IsDone keeps cmp f op old v slot c started a effect
-HasCome keeps stands cmp f op old v slot c started Next = IsReady op old v slot c started
-HasCome keeps stands cmp f op old v slot c started (NeedsBuild ask) = IsAsking op old v slot c started ask
-HasCome keeps stands cmp f op old v slot c started (NeedsLoad r a) =
+abbrev pub HasCome : {K V I O R : Type 0} → Bool → (R → Standing) → (K → K → Ordering) → Meanings K V I O → (K → ℕ)
+    → Op K V I → PartitionView K V I → PartitionView K V I → ℕ → ℕ → ℕ → Progress K V I O R → Type 0
+HasCome keeps stands cmp f code op old v slot c started (Done a effect) = IsDone keeps cmp f op old v slot c started a effect
+HasCome keeps stands cmp f code op old v slot c started Next = IsReady op old v slot c started
+HasCome keeps stands cmp f code op old v slot c started (NeedsBuild ask) = IsAsking op old v slot c started ask
+HasCome keeps stands cmp f code op old v slot c started (NeedsLoad r a) =
     IsFetching keeps cmp op old v slot c started (stands r) a
-HasCome keeps stands cmp f op old v slot c started (Waits why) = IsWaiting op old v slot c started
+HasCome keeps stands cmp f code op old v slot c started (Waits why) = IsWaiting cmp code op old v slot c started why

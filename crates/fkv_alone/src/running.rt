@@ -93,7 +93,7 @@ fn drive<F: Functions, D: Disk>(
     requires spare { clock.old < 2 ^ 64 - 1 }
     ensures drives { (op : Op F.Key F.Value F.Input) (old : PartitionView F.Key F.Value F.Input) (started : ℕ)
         → IsReady op old partition.old slot context started
-        → Drives D.keeps D.Receipt.stands F.Key.cmp F.meaning op old partition.new slot context started left
+        → Drives D.keeps D.Receipt.stands F.Key.cmp F.meaning F.code op old partition.new slot context started left
         clock.old clock.new (D.Reader.failures reader.old) (D.Reader.failures reader.new) result }
     ensures bound { (n : ℕ) → IsTrue D.keeps
         → IsNear {O = F.Output} {R = D.Receipt} F.code partition.old slot context Progress.Next n

@@ -26,7 +26,7 @@ fn load<F: Functions, D: Disk>(
     requires later { partition.old.moment < now }
     ensures advances { (op : Op F.Key F.Value F.Input) (old : PartitionView F.Key F.Value F.Input) (started a : ℕ)
         → IsFetching D.keeps F.Key.cmp op old partition.old slot context started (D.Receipt.stands receipt) a
-        → Advances D.keeps D.Receipt.stands F.Key.cmp F.meaning op old partition.old partition.new slot context started
+        → Advances D.keeps D.Receipt.stands F.Key.cmp F.meaning F.code op old partition.old partition.new slot context started
         (D.Reader.failures reader.old) (D.Reader.failures reader.new) result }
     ensures nearer { (n a : ℕ) → IsTrue D.keeps
         → IsNear {O = F.Output} F.code partition.old slot context (Progress.NeedsLoad receipt a) n
@@ -54,8 +54,8 @@ pub(crate) fn step<F: Functions, D: Disk>(
     requires later { partition.old.moment < now }
     requires on { IsOn told }
     ensures advances { (op : Op F.Key F.Value F.Input) (old : PartitionView F.Key F.Value F.Input) (started : ℕ)
-        → HasCome D.keeps D.Receipt.stands F.Key.cmp F.meaning op old partition.old slot context started told
-        → Advances D.keeps D.Receipt.stands F.Key.cmp F.meaning op old partition.old partition.new slot context started
+        → HasCome D.keeps D.Receipt.stands F.Key.cmp F.meaning F.code op old partition.old slot context started told
+        → Advances D.keeps D.Receipt.stands F.Key.cmp F.meaning F.code op old partition.old partition.new slot context started
         (D.Reader.failures reader.old) (D.Reader.failures reader.new) result }
     // on a device that keeps, where nobody is in its way, the operation comes nearer to its end
     ensures nearer { (n : ℕ) → IsTrue D.keeps

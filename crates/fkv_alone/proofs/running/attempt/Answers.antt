@@ -25,7 +25,7 @@ abandon-requires-clause-later g c κs within = λ still.
     let drives = c.in-Err-drive.ensures.drives c.args.op c.args.partition.now c.in-Ok.now ready in
     let opens = issue-opens g.F.Functions.code c.args.partition.now c.issue.new.self c.args.slot c.in-Ok-issue.context c.in-Ok.now c.args.op issued.does issued.event in
     let halted = driven-halted g.D.Disk.keeps g.D.Receipt.Receipt.stands g.F.Key.Ord.cmp g.F.Functions.meaning g.F.Functions.code c.args.op c.args.partition.now c.drive.new.partition c.args.slot c.in-Ok-issue.context c.args.limit c.args.clock.now c.in-Ok.now c.drive.new.clock (g.D.Reader.PageReader.failures c.args.reader.now) (g.D.Reader.PageReader.failures c.drive.new.reader) opens first.0 first.3 c.in-Err-drive.refused (rw first.1 at drives) in
-    rw c.last.ensures (halted-later g.D.Disk.keeps g.D.Receipt.Receipt.stands g.F.Key.Ord.cmp g.F.Functions.meaning c.args.op c.args.partition.now c.args.slot c.in-Ok-issue.context c.in-Ok.now c.drive.new.partition c.drive.new.clock halted still)
+    rw c.last.ensures (halted-later g.D.Disk.keeps g.D.Receipt.Receipt.stands g.F.Key.Ord.cmp g.F.Functions.meaning g.F.Functions.code c.args.op c.args.partition.now c.args.slot c.in-Ok-issue.context c.in-Ok.now c.drive.new.partition c.drive.new.clock halted still)
 
 pub returns-in-Ok-drive-clause-ends : goal.returns-in-Ok-drive-clause-ends
 returns-in-Ok-drive-clause-ends g c =
