@@ -1,10 +1,11 @@
 //! A partition of sums over a device in memory, with a clock of its own: each call is made at the next moment.
 ghost use Rattle.std.specs.Prelude.{◌≤◌};
 
+use fkv_alone::{AloneOf, run_alone};
 use fkv_device::{Disk, Loaded, MemoryDevice, MemoryReader, MemoryReceipt, MemoryWriter, Written};
 use fkv_device_partition::{Config, Partition, Progress, ProgressOf};
 use fkv_functions::{Ask, Built, Name, Refused, SumFns};
-use fkv_operations::OpOf;
+use fkv_operations::{Clock, OpOf};
 use std::alloc::Global;
 
 /// What an event of this partition tells.
@@ -99,7 +100,7 @@ impl Driven {
     }
 
     /// Notes what was asked for, and tells what an event answered.
-    fn note(&mut self, progress: Result<Told, Refused>) -> Result<Seen, Refused> {
+    pub fn note(&mut self, progress: Result<Told, Refused>) -> Result<Seen, Refused> {
         match progress {
             Err(refused) => Err(refused),
             Ok(Progress::Done(answer, effect)) => Ok(Seen::Done(answer, effect)),
@@ -137,6 +138,29 @@ impl Driven {
         let progress = self.partition.install(slot, context, built, &SumFns, now);
         self.now = now;
         self.note(progress)
+    }
+
+    /// Makes an operation alone, by at most so many events.
+    pub fn alone(
+        &mut self,
+        alloc: Global,
+        slot: usize,
+        op: OpOf<SumFns>,
+        limit: u64,
+    ) -> AloneOf<SumFns, MemoryDevice> {
+        let mut clock = Clock::starting(self.now);
+        let alone = run_alone(
+            alloc,
+            &mut self.partition,
+            slot,
+            op,
+            &SumFns,
+            &mut self.reader,
+            &mut clock,
+            limit,
+        );
+        self.now = clock.last();
+        alone
     }
 
     /// The live map, as a list.

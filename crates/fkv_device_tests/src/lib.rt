@@ -6,6 +6,8 @@
 #![tactic(auto)]
 
 #[cfg(test)]
+mod alone;
+#[cfg(test)]
 mod driven;
 #[cfg(test)]
 mod rows;
@@ -13,4 +15,4 @@ mod rows;
 mod runs;
 
 /// How many runs there are.
-pub const RUNS: usize = 6;
+pub const RUNS: usize = 11;

@@ -28,6 +28,8 @@ pub enum Call {
     Finish(usize, usize),
     /// Issues in the lowest free context, and finishes.
     Do(usize, Op<u8, i128, i64>),
+    /// Makes an operation alone, by at most so many events.
+    Alone(usize, Op<u8, i128, i64>, u64),
     Tail,
 }
 
@@ -44,6 +46,10 @@ pub enum Told {
     Fuzzy,
     Full,
     Refused(Refused),
+    /// What an operation told that was made alone, and its events.
+    DoneIn(Answer<i128>, u64),
+    FullIn(u64),
+    RefusedIn(Refused, u64),
 }
 
 fn on_name(op: Op<u8, i128, i64>) -> Option<OpOf<SumFns>> {
@@ -89,6 +95,15 @@ fn seen_told(seen: Result<Seen, Refused>) -> Told {
     }
 }
 
+fn told_in(told: Told, events: u64) -> Told {
+    match told {
+        Told::Done(answer) => Told::DoneIn(answer, events),
+        Told::Full => Told::FullIn(events),
+        Told::Refused(refused) => Told::RefusedIn(refused, events),
+        told => told,
+    }
+}
+
 impl Driven {
     fn ready(&mut self, slot: usize, context: usize) -> Told {
         for _ in 0..20 {
@@ -127,6 +142,15 @@ impl Driven {
         }
     }
 
+    fn act_alone(&mut self, alloc: Global, slot: usize, op: Op<u8, i128, i64>, limit: u64) -> Told {
+        let Some(op) = on_name(op) else {
+            return Told::Refused(Refused::Stalled);
+        };
+        let alone = self.alone(alloc, slot, op, limit);
+        let events = alone.events;
+        told_in(seen_told(self.note(alone.progress)), events)
+    }
+
     fn call(&mut self, alloc: Global, call: Call) -> Told {
         let fault = Refused::Device { code: 3, page: 0 };
         match call {
@@ -143,6 +167,7 @@ impl Driven {
             Call::Fault(slot, context) => seen_told(self.load(alloc, slot, context, Some(fault))),
             Call::Finish(slot, context) => self.finish(alloc, slot, context),
             Call::Do(slot, op) => self.act(alloc, slot, op),
+            Call::Alone(slot, op, limit) => self.act_alone(alloc, slot, op, limit),
             Call::Tail => Told::At(self.partition.tail()),
         }
     }

@@ -4,7 +4,7 @@ use fkv_device_partition::Config;
 use fkv_functions::Refused;
 use fkv_operations::{Answer, Op};
 
-const SMALL: Config = Config {
+pub const SMALL: Config = Config {
     id: 1,
     partition_bits: 0,
     bucket_bits: 8,
@@ -27,7 +27,7 @@ const IN_MEMORY: [(Call, Told); 6] = [
 ];
 
 /// The same, and page 0 has left its frame.
-const EVICTED: [(Call, Told); 13] = [
+pub const EVICTED: [(Call, Told); 13] = [
     (Call::Enter, Told::At(0)),
     (Call::Enter, Told::At(1)),
     (

@@ -1,0 +1,7 @@
+pub mod OpenLemmas
+pub mod StageLemmas
+pub mod DriveLemmas
+pub mod EndLemmas
+pub mod IndexLemmas
+pub mod CountLemmas
+pub mod BoundLemmas

@@ -1,0 +1,22 @@
+use Rattle.std.proofs.Common.{◌≡◌, ◌+◌, ◌-◌, ◌^◌, ◌<◌, ◌≤◌, ℕ, IsTrue}
+use Rattle.fkv_operations.specs.declared.operations.Op.{Op}
+use Rattle.fkv_device_partition.specs.Views.{PartitionView}
+use Rattle.fkv_alone.specs.Stages.{HasCome, IsReady}
+use Rattle.fkv_alone.specs.Ending.{IsOn}
+use Rattle.fkv_alone.specs.Bound.{IsNear}
+use Rattle.fkv_device_partition.specs.declared.contexts.Progress.TheVariants.{Next}
+use Rattle.fkv_alone.proofs.running.drive.Given as goal
+
+abbrev pub invariant-loop-turn : goal.invariant-loop-turn
+invariant-loop-turn g l = record {
+  comes : (op : Op g.row.F-Key.Denot g.row.F-Value.Denot g.row.F-Input.Denot) (old : PartitionView g.row.F-Key.Denot g.row.F-Value.Denot g.row.F-Input.Denot) (started : ℕ)
+      → IsReady op old l.fn.partition l.slot l.context started
+      → HasCome g.D.Disk.keeps g.D.Receipt.Receipt.stands g.F.Key.Ord.cmp g.F.Functions.meaning g.F.Functions.code op old l.partition l.slot l.context started l.told
+      × (g.D.Reader.PageReader.failures l.reader ≡ g.D.Reader.PageReader.failures l.fn.reader);
+  near : (n : ℕ) → IsTrue g.D.Disk.keeps → IsNear {O = g.row.F-Output.Denot} {R = g.row.D-Receipt.Denot} g.F.Functions.code l.fn.partition l.slot l.context Next n
+      → (m : ℕ) × (l._turn + m ≤ n) × IsNear g.F.Functions.code l.partition l.slot l.context l.told m;
+  on : IsOn l.told;
+  taken : l.clock ≡ l.fn.clock + l._turn;
+  past : l.partition.moment ≤ l.clock;
+  spare : l.clock < 2 ^ 64 - 1;
+}

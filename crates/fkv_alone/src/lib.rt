@@ -1,0 +1,12 @@
+//! One operation that is driven to its end, alone, by the events of its partition.
+//!
+//! [`run_alone`] issues an operation in a session and goes on with it until it is done, waits, or is refused. A contract says
+//! how it ended (`specs/Ending.antt`) and how far it is in between (`specs/Stages.antt`).
+#![tactic(auto)]
+
+pub mod outcomes;
+pub mod running;
+pub mod stepping;
+
+pub use outcomes::{Alone, AloneOf};
+pub use running::run_alone;
