@@ -180,14 +180,14 @@ hash_of name = fnv_1a (text_of name)
 -- the text that a script prints with the functions that its first line names
 abbrev pub Prints : FunctionsName → Config → List Line → List ℕ → Type 0
 Prints Count config lines text =
-    IsPrintedBy standing_of (IsNamedEntry (to_le_bytes w64) (λ n. n < 2 ^ 64) 8) name_cmp counts hash_of count_of decimal
-    decimal config (record_size Count) lines text
+    IsPrintedBy standing_of (IsNamedEntry (to_le_bytes w64) (λ n. n < 2 ^ 64) 8) name_cmp counts hash_of count_of
+    decimal decimal config (record_size Count) lines text
 Prints Sum config lines text =
-    IsPrintedBy standing_of (IsNamedEntry long_bytes (FitsSigned w128) 16) name_cmp sums hash_of (λ n. n) signed_decimal
-    signed_decimal config (record_size Sum) lines text
+    IsPrintedBy standing_of (IsNamedEntry long_bytes (FitsSigned w128) 16) name_cmp sums hash_of (λ n. n)
+    signed_decimal signed_decimal config (record_size Sum) lines text
 Prints Max config lines text =
-    IsPrintedBy standing_of (IsNamedEntry signed_bytes (FitsSigned w64) 8) name_cmp maxima hash_of (λ n. n) signed_decimal
-    signed_decimal config (record_size Max) lines text
+    IsPrintedBy standing_of (IsNamedEntry signed_bytes (FitsSigned w64) 8) name_cmp maxima hash_of (λ n. n)
+    signed_decimal signed_decimal config (record_size Max) lines text
 
 -- the output of an input: it says a script of at most 1,000,000 lines, whose numbers are within the limits, and this is
 -- what the script prints

@@ -196,9 +196,9 @@ fn printed_by<F: Functions<Key = Name, Input = i64>>(
 where
     F::Value: Written + Printed,
     F::Output: Printed,
-    ensures ok { IfOk result (λ text. IsPrintedBy standing_of (IsNamedEntry F.Value.bytes_of F.Value.is_known F.Value.SIZE)
-        name_cmp F.meaning F.code F.Value.written F.Value.text F.Output.text config.now (size_of 32 F.Value.SIZE)
-        lines.now text.items) }
+    ensures ok { IfOk result (λ text. IsPrintedBy standing_of
+        (IsNamedEntry F.Value.bytes_of F.Value.is_known F.Value.SIZE) name_cmp F.meaning F.code F.Value.written
+        F.Value.text F.Output.text config.now (size_of 32 F.Value.SIZE) lines.now text.items) }
     ensures good { result ≢ Err Refused.BadConfig → IsWithinLimits config.now (size_of 32 F.Value.SIZE) }
     ensures bad { result ≡ Err Refused.BadConfig → ¬ IsWithinLimits config.now (size_of 32 F.Value.SIZE) }
     ensures only { IfErr result (λ refused. (refused ≡ Refused.BadConfig) ⊎ (refused ≡ Refused.NoMemory)) }
@@ -221,8 +221,8 @@ where
     F::Output: Printed,
     // Of whatever configuration the world is, with nothing in it.
     ensures ok { IfOk result (λ text. (config : Config) (size : ℕ) → world.old ≡ empty_world config size
-        → IsPrintedBy standing_of (IsNamedEntry F.Value.bytes_of F.Value.is_known F.Value.SIZE) name_cmp F.meaning F.code
-        F.Value.written F.Value.text F.Output.text config size lines.now text.items) }
+        → IsPrintedBy standing_of (IsNamedEntry F.Value.bytes_of F.Value.is_known F.Value.SIZE) name_cmp F.meaning
+        F.code F.Value.written F.Value.text F.Output.text config size lines.now text.items) }
     ensures only { IfErr result (λ refused. refused ≡ Refused.NoMemory) }
 {
     let told = match run_lines(alloc, world, functions, lines) {
