@@ -8,14 +8,16 @@ use Rattle.fkv_functions.specs.declared.names.Name.{Name}
 use Rattle.fkv_operations.specs.declared.operations.Op.{Op}
 use Rattle.fkv_operations.specs.declared.operations.Op.TheVariants.{Read, Upsert, Rmw, Delete}
 use Rattle.fkv_scripts.specs.Words.{number_of, amount_of}
-use Rattle.fkv_scripts.specs.Grammar.{Token, word, number, key, amount, Spells, SpellAll, Spelled, HasText, ReadsWithZero, place, verb, operands, tokens, opening, functions_name}
-use Rattle.fkv_scripts.specs.Reading.{◌>>=◌, first_as, end_of, key_of, key_alone, key_and_amount, place_of, enter_of, pair_of, operation_of, issue_of, do_of, line_of, functions_of, store_of, opening_of}
+use Rattle.fkv_scripts.specs.Grammar.{Token, word, number, key, amount, Spells, SpellAll, Spelled, HasText, ReadsWithZero, place, access_word, verb, operands, tokens, opening, functions_name}
+use Rattle.fkv_scripts.specs.Reading.{◌>>=◌, first_as, end_of, key_of, key_alone, key_and_amount, place_of, enter_of, pair_of, access_of, flush_of, load_of, operation_of, issue_of, do_of, line_of, functions_of, store_of, opening_of}
 use Rattle.fkv_scripts.specs.declared.lines.FunctionsName.{FunctionsName}
 use Rattle.fkv_scripts.specs.declared.lines.FunctionsName.TheVariants.{Count, Sum, Max}
 use Rattle.fkv_scripts.specs.declared.lines.Opening.{Opening}
+use Rattle.fkv_worlds.specs.declared.steps.Access.{Access}
+use Rattle.fkv_worlds.specs.declared.steps.Access.TheVariants.{Works, Fails}
 use Rattle.fkv_worlds.specs.declared.steps.Place.{Place}
 use Rattle.fkv_scripts.specs.declared.lines.Line.{Line}
-use Rattle.fkv_scripts.specs.declared.lines.Line.TheVariants.{Enter, Leave, Refresh, ReadOnly, Issue, Do, Go, Install, GiveUp, Ready, Finish}
+use Rattle.fkv_scripts.specs.declared.lines.Line.TheVariants.{Enter, Leave, Refresh, ReadOnly, Head, Flush, Issue, Do, Go, Install, Load, GiveUp, Ready, Finish}
 use Rattle.fkv_scripts.proofs.KeyLemmas.{key_only, key_found}
 
 -- a word that stands for the first token is read as its value
@@ -49,6 +51,27 @@ pair_only m n ws h =
     let a = takes_number m (number n ∷ []) ws h in
     let b = takes_number n [] a.0 a.2 in
     rw (a.1, b.1) (ends b.0 (m, n) b.2)
+
+access_only : (a : Access) (w : List ℕ) → Spells w (access_word a) → access_of w ≡ Some a
+unfolding access_of
+access_only Works w e = rw e refl
+access_only Fails w e = rw e refl
+
+flush_only : (p : ℕ) (x : Access) (ws : List (List ℕ)) → SpellAll ws (number p ∷ access_word x ∷ []) → flush_of ws ≡ Some (Flush p x)
+unfolding flush_of
+flush_only p x ws h =
+    let a = takes_number p (access_word x ∷ []) ws h in
+    let b = takes access_of x (access_word x) [] a.0 (access_only x) a.2 in
+    rw (a.1, b.1) (ends b.0 (Flush p x) b.2)
+
+load_only : (p : Place) (x : Access) (ws : List (List ℕ)) → SpellAll ws (number p.partition ∷ number p.slot ∷ number p.context ∷ access_word x ∷ []) → load_of ws ≡ Some (Load p x)
+unfolding load_of
+load_only p x ws h =
+    let a = takes_number p.partition (number p.slot ∷ number p.context ∷ access_word x ∷ []) ws h in
+    let b = takes_number p.slot (number p.context ∷ access_word x ∷ []) a.0 a.2 in
+    let c = takes_number p.context (access_word x ∷ []) b.0 b.2 in
+    let d = takes access_of x (access_word x) [] c.0 (access_only x) c.2 in
+    rw (a.1, b.1, c.1, d.1) (ends d.0 (Load p x) d.2)
 
 key_alone_only : (k : Name) (ws : List (List ℕ)) → SpellAll ws (key k ∷ []) → key_alone ws ≡ Some k
 unfolding key_alone
@@ -93,9 +116,12 @@ only (Enter p) (v ∷ ws) h = rw h.0.0 (enter_only p ws h.0.1)
 only (Leave p s) (v ∷ ws) h = rw (h.0.0, pair_only p s ws h.0.1) refl
 only (Refresh p s) (v ∷ ws) h = rw (h.0.0, pair_only p s ws h.0.1) refl
 only (ReadOnly p n) (v ∷ ws) h = rw (h.0.0, pair_only p n ws h.0.1) refl
+only (Head p n) (v ∷ ws) h = rw (h.0.0, pair_only p n ws h.0.1) refl
+only (Flush p a) (v ∷ ws) h = rw h.0.0 (flush_only p a ws h.0.1)
 only (Do p s o) (v ∷ ws) h = rw h.0.0 (do_only p s o ws h.1 h.0.1)
 only (Go p) (v ∷ ws) h = rw (h.0.0, place_only p ws h.0.1) refl
 only (Install p) (v ∷ ws) h = rw (h.0.0, place_only p ws h.0.1) refl
+only (Load p a) (v ∷ ws) h = rw h.0.0 (load_only p a ws h.0.1)
 only (GiveUp p) (v ∷ ws) h = rw (h.0.0, place_only p ws h.0.1) refl
 only (Ready p) (v ∷ ws) h = rw (h.0.0, place_only p ws h.0.1) refl
 only (Finish p) (v ∷ ws) h = rw (h.0.0, place_only p ws h.0.1) refl
@@ -110,6 +136,9 @@ only (Enter p) [] h = absurd h.0
 only (Leave p s) [] h = absurd h.0
 only (Refresh p s) [] h = absurd h.0
 only (ReadOnly p n) [] h = absurd h.0
+only (Head p n) [] h = absurd h.0
+only (Flush p a) [] h = absurd h.0
+only (Load p a) [] h = absurd h.0
 only (Do p s o) [] h = absurd h.0
 only (Go p) [] h = absurd h.0
 only (Install p) [] h = absurd h.0
@@ -214,6 +243,31 @@ chosen false x y z e f g = g e
 same_text : (v w : List ℕ) → bytes_eq v w ≡ true → v ≡ w
 same_text v w e = (bytes_eq-Decides v w).0 e
 
+access_found : (w : List ℕ) (a : Access) → access_of w ≡ Some a → Spells w (access_word a)
+unfolding access_of
+access_found w a e =
+    chosen (bytes_eq w (codes "ok")) _ _ (Some a) e (λ t f. rw (← same_Some Works a f) (same_text w (codes "ok") t))
+    (λ f. chosen (bytes_eq w (codes "fault")) _ _ (Some a) f (λ t g. rw (← same_Some Fails a g) (same_text w (codes "fault") t))
+    (λ g. absurd (let bad : None ≡ Some a = g in cc)))
+
+flush_found : (ws : List (List ℕ)) (l : Line) → flush_of ws ≡ Some l → (v : List ℕ) → v ≡ codes "flush" → Spelled (v ∷ ws) l
+unfolding flush_of
+flush_found ws l e v t =
+    let a = bind_ok {A = ℕ × List (List ℕ)} (first_as number_of ws) _ l e in
+    let b = bind_ok {A = Access × List (List ℕ)} (first_as access_of a.0.1) _ l a.2 in
+    let c = ended b.0.1 (Flush a.0.0 b.0.0) l b.2 in
+    rw (← c.1) ((t, taken_number ws a.0 a.1 _ (taken access_of access_word access_found a.0.1 b.0 b.1 [] c.0)), tt)
+
+load_found : (ws : List (List ℕ)) (l : Line) → load_of ws ≡ Some l → (v : List ℕ) → v ≡ codes "load" → Spelled (v ∷ ws) l
+unfolding load_of
+load_found ws l e v t =
+    let a = bind_ok {A = ℕ × List (List ℕ)} (first_as number_of ws) _ l e in
+    let b = bind_ok {A = ℕ × List (List ℕ)} (first_as number_of a.0.1) _ l a.2 in
+    let c = bind_ok {A = ℕ × List (List ℕ)} (first_as number_of b.0.1) _ l b.2 in
+    let d = bind_ok {A = Access × List (List ℕ)} (first_as access_of c.0.1) _ l c.2 in
+    let k = ended d.0.1 (Load (record { partition = a.0.0; slot = b.0.0; context = c.0.0 }) d.0.0) l d.2 in
+    rw (← k.1) ((t, taken_number ws a.0 a.1 _ (taken_number a.0.1 b.0 b.1 _ (taken_number b.0.1 c.0 c.1 _ (taken access_of access_word access_found c.0.1 d.0 d.1 [] k.0)))), tt)
+
 key_alone_found : (ws : List (List ℕ)) (k : Name) → key_alone ws ≡ Some k → SpellAll ws (key k ∷ [])
 unfolding key_alone
 key_alone_found ws k e =
@@ -285,13 +339,16 @@ found (v ∷ ws) l e =
     (λ f. chosen (bytes_eq v (codes "leave")) _ _ (Some l) f (λ t g. paired_found (λ p. Leave p.0 p.1) (codes "leave") (λ p. refl) (λ p. tt) ws l g v (same_text v (codes "leave") t))
     (λ f. chosen (bytes_eq v (codes "refresh")) _ _ (Some l) f (λ t g. paired_found (λ p. Refresh p.0 p.1) (codes "refresh") (λ p. refl) (λ p. tt) ws l g v (same_text v (codes "refresh") t))
     (λ f. chosen (bytes_eq v (codes "readonly")) _ _ (Some l) f (λ t g. paired_found (λ p. ReadOnly p.0 p.1) (codes "readonly") (λ p. refl) (λ p. tt) ws l g v (same_text v (codes "readonly") t))
+    (λ f. chosen (bytes_eq v (codes "head")) _ _ (Some l) f (λ t g. paired_found (λ p. Head p.0 p.1) (codes "head") (λ p. refl) (λ p. tt) ws l g v (same_text v (codes "head") t))
+    (λ f. chosen (bytes_eq v (codes "flush")) _ _ (Some l) f (λ t g. flush_found ws l g v (same_text v (codes "flush") t))
     (λ f. chosen (bytes_eq v (codes "do")) _ _ (Some l) f (λ t g. do_found ws l g v (same_text v (codes "do") t))
     (λ f. chosen (bytes_eq v (codes "go")) _ _ (Some l) f (λ t g. placed_found Go (codes "go") (λ p. refl) (λ p. tt) ws l g v (same_text v (codes "go") t))
     (λ f. chosen (bytes_eq v (codes "install")) _ _ (Some l) f (λ t g. placed_found Install (codes "install") (λ p. refl) (λ p. tt) ws l g v (same_text v (codes "install") t))
+    (λ f. chosen (bytes_eq v (codes "load")) _ _ (Some l) f (λ t g. load_found ws l g v (same_text v (codes "load") t))
     (λ f. chosen (bytes_eq v (codes "giveup")) _ _ (Some l) f (λ t g. placed_found GiveUp (codes "giveup") (λ p. refl) (λ p. tt) ws l g v (same_text v (codes "giveup") t))
     (λ f. chosen (bytes_eq v (codes "ready")) _ _ (Some l) f (λ t g. placed_found Ready (codes "ready") (λ p. refl) (λ p. tt) ws l g v (same_text v (codes "ready") t))
     (λ f. chosen (bytes_eq v (codes "finish")) _ _ (Some l) f (λ t g. placed_found Finish (codes "finish") (λ p. refl) (λ p. tt) ws l g v (same_text v (codes "finish") t))
-    (λ f. issue_found v ws l f))))))))))
+    (λ f. issue_found v ws l f)))))))))))))
 
 functions_found : (w : List ℕ) (f : FunctionsName) → functions_of w ≡ Some f → Spells w (functions_name f)
 unfolding functions_of

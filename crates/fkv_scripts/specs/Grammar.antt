@@ -8,9 +8,11 @@ use Rattle.fkv_scripts.specs.Words.{words_of, number_of, amount_of, is_key}
 use Rattle.fkv_scripts.specs.declared.lines.FunctionsName.{FunctionsName}
 use Rattle.fkv_scripts.specs.declared.lines.FunctionsName.TheVariants.{Count, Sum, Max}
 use Rattle.fkv_scripts.specs.declared.lines.Opening.{Opening}
+use Rattle.fkv_worlds.specs.declared.steps.Access.{Access}
+use Rattle.fkv_worlds.specs.declared.steps.Access.TheVariants.{Works, Fails}
 use Rattle.fkv_worlds.specs.declared.steps.Place.{Place}
 use Rattle.fkv_scripts.specs.declared.lines.Line.{Line}
-use Rattle.fkv_scripts.specs.declared.lines.Line.TheVariants.{Enter, Leave, Refresh, ReadOnly, Issue, Do, Go, Install, GiveUp, Ready, Finish}
+use Rattle.fkv_scripts.specs.declared.lines.Line.TheVariants.{Enter, Leave, Refresh, ReadOnly, Head, Flush, Issue, Do, Go, Install, Load, GiveUp, Ready, Finish}
 
 -- what a word of a line stands for
 pub data Token : Type 0 where
@@ -36,6 +38,11 @@ SpellAll (w ∷ ws) (t ∷ ts) = Spells w t × SpellAll ws ts
 abbrev pub place : Place → List Token
 place p = number p.partition ∷ number p.slot ∷ number p.context ∷ []
 
+-- what the device does with a page: `ok`, or `fault`
+abbrev pub access_word : Access → Token
+access_word Works = word (codes "ok")
+access_word Fails = word (codes "fault")
+
 -- an operation of a line: what it writes is an amount
 abbrev pub verb : Op Name ℤ ℤ → Token
 verb (Read k i) = word (codes "read")
@@ -55,10 +62,14 @@ tokens (Enter p) = word (codes "enter") ∷ number p ∷ []
 tokens (Leave p s) = word (codes "leave") ∷ number p ∷ number s ∷ []
 tokens (Refresh p s) = word (codes "refresh") ∷ number p ∷ number s ∷ []
 tokens (ReadOnly p n) = word (codes "readonly") ∷ number p ∷ number n ∷ []
+tokens (Head p n) = word (codes "head") ∷ number p ∷ number n ∷ []
+tokens (Flush p a) = word (codes "flush") ∷ number p ∷ access_word a ∷ []
 tokens (Issue p s o) = verb o ∷ number p ∷ number s ∷ operands o
 tokens (Do p s o) = word (codes "do") ∷ number p ∷ number s ∷ verb o ∷ operands o
 tokens (Go p) = word (codes "go") ∷ place p
 tokens (Install p) = word (codes "install") ∷ place p
+tokens (Load p a) =
+    word (codes "load") ∷ number p.partition ∷ number p.slot ∷ number p.context ∷ access_word a ∷ []
 tokens (GiveUp p) = word (codes "giveup") ∷ place p
 tokens (Ready p) = word (codes "ready") ∷ place p
 tokens (Finish p) = word (codes "finish") ∷ place p

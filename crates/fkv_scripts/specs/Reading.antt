@@ -12,9 +12,11 @@ use Rattle.fkv_scripts.specs.Words.{number_of, amount_of, is_key, is_key_byte}
 use Rattle.fkv_scripts.specs.declared.lines.FunctionsName.{FunctionsName}
 use Rattle.fkv_scripts.specs.declared.lines.FunctionsName.TheVariants.{Count, Sum, Max}
 use Rattle.fkv_scripts.specs.declared.lines.Opening.{Opening}
+use Rattle.fkv_worlds.specs.declared.steps.Access.{Access}
+use Rattle.fkv_worlds.specs.declared.steps.Access.TheVariants.{Works, Fails}
 use Rattle.fkv_worlds.specs.declared.steps.Place.{Place}
 use Rattle.fkv_scripts.specs.declared.lines.Line.{Line}
-use Rattle.fkv_scripts.specs.declared.lines.Line.TheVariants.{Enter, Leave, Refresh, ReadOnly, Issue, Do, Go, Install, GiveUp, Ready, Finish}
+use Rattle.fkv_scripts.specs.declared.lines.Line.TheVariants.{Enter, Leave, Refresh, ReadOnly, Head, Flush, Issue, Do, Go, Install, Load, GiveUp, Ready, Finish}
 
 -- the name of 1 to 31 bytes
 abbrev pub name_with : (bytes : List ℕ) → (1 ≤ length bytes) × (length bytes ≤ 31) → Name
@@ -86,6 +88,27 @@ pair_of ws = do
   n ← first_as number_of m.1
   end_of n.1 (m.0, n.0)
 
+-- what the device does with a page
+unfoldable pub access_of : List ℕ → Option Access
+access_of word =
+    if bytes_eq word (codes "ok") then Some Works
+    else (if bytes_eq word (codes "fault") then Some Fails
+    else None)
+
+unfoldable pub flush_of : List (List ℕ) → Option Line
+flush_of ws = do
+  p ← first_as number_of ws
+  a ← first_as access_of p.1
+  end_of a.1 (Flush p.0 a.0)
+
+unfoldable pub load_of : List (List ℕ) → Option Line
+load_of ws = do
+  p ← first_as number_of ws
+  s ← first_as number_of p.1
+  c ← first_as number_of s.1
+  a ← first_as access_of c.1
+  end_of a.1 (Load (record { partition = p.0; slot = s.0; context = c.0 }) a.0)
+
 -- a key, and nothing after it
 unfoldable pub key_alone : List (List ℕ) → Option Name
 key_alone ws = do
@@ -129,13 +152,16 @@ line_of (v ∷ ws) =
     else (if bytes_eq v (codes "leave") then option_map (λ p. Leave p.0 p.1) (pair_of ws)
     else (if bytes_eq v (codes "refresh") then option_map (λ p. Refresh p.0 p.1) (pair_of ws)
     else (if bytes_eq v (codes "readonly") then option_map (λ p. ReadOnly p.0 p.1) (pair_of ws)
+    else (if bytes_eq v (codes "head") then option_map (λ p. Head p.0 p.1) (pair_of ws)
+    else (if bytes_eq v (codes "flush") then flush_of ws
     else (if bytes_eq v (codes "do") then do_of ws
     else (if bytes_eq v (codes "go") then option_map Go (place_of ws)
     else (if bytes_eq v (codes "install") then option_map Install (place_of ws)
+    else (if bytes_eq v (codes "load") then load_of ws
     else (if bytes_eq v (codes "giveup") then option_map GiveUp (place_of ws)
     else (if bytes_eq v (codes "ready") then option_map Ready (place_of ws)
     else (if bytes_eq v (codes "finish") then option_map Finish (place_of ws)
-    else issue_of v ws)))))))))
+    else issue_of v ws))))))))))))
 
 unfoldable pub functions_of : List ℕ → Option FunctionsName
 functions_of word =

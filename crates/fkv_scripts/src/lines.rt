@@ -3,10 +3,10 @@ ghost use Rattle.std.specs.Prelude.{◌≡◌};
 ghost use Rattle.fkv_scripts.specs.Configs.{config_of};
 ghost use Rattle.fkv_scripts.specs.Script.{takes_operation, takes};
 
+use fkv_device_partition::Config;
 use fkv_functions::Name;
 use fkv_operations::Op;
-use fkv_partition::Config;
-use fkv_worlds::steps::Place;
+use fkv_worlds::steps::{Access, Place};
 
 /// The sets of functions that a script can name.
 #[derive(Clone, Copy, PartialEq, Eq, Debug)]
@@ -53,6 +53,16 @@ pub enum Line {
         partition: u64,
         page: u64,
     },
+    /// Head moves to the start of a page.
+    Head {
+        partition: u64,
+        page: u64,
+    },
+    /// The lowest page that is not flushed is taken, and written to the device.
+    Flush {
+        partition: u64,
+        access: Access,
+    },
     /// A session issues an operation. The input of a read is 0.
     Issue {
         partition: u64,
@@ -69,6 +79,8 @@ pub enum Line {
     Go(Place),
     /// What an operation last asked for is answered.
     Install(Place),
+    /// The page that an operation last asked for is read from the device, and the operation goes on with it.
+    Load(Place, Access),
     /// An operation is given up.
     GiveUp(Place),
     /// An operation goes on until it asks for something or ends.

@@ -6,13 +6,13 @@ ghost use Rattle.fkv_scripts.specs.declared.lines.Opening.{Opening};
 ghost use Rattle.fkv_scripts.specs.Words.{words_of};
 ghost use Rattle.fkv_scripts.specs.Grammar.{Opens};
 ghost use Rattle.fkv_scripts.specs.Script.{SaysTo};
-ghost use Rattle.fkv_scripts.specs.Reading.{Gives, first_as, line_of, enter_of, pair_of, issue_of, do_of, place_of, key_alone, key_and_amount, operation_of, functions_of, store_of, opening_of};
+ghost use Rattle.fkv_scripts.specs.Reading.{Gives, first_as, line_of, enter_of, pair_of, issue_of, do_of, place_of, access_of, load_of, flush_of, key_alone, key_and_amount, operation_of, functions_of, store_of, opening_of};
 
 use crate::lines::{FunctionsName, Line, Opening};
 use crate::words::Words;
 use fkv_functions::Name;
 use fkv_operations::Op;
-use fkv_worlds::steps::Place;
+use fkv_worlds::steps::{Access, Place};
 
 /// What a line after the first says to a store of these functions, where it says anything.
 pub fn parse_line(functions: FunctionsName, bytes: &[u8]) -> Option<Line>
@@ -57,6 +57,13 @@ fn line(bytes: &[u8]) -> Option<Line>
         let (partition, page) = pair(&mut words)?;
         return Some(Line::ReadOnly { partition, page });
     }
+    if is(verb, "head") {
+        let (partition, page) = pair(&mut words)?;
+        return Some(Line::Head { partition, page });
+    }
+    if is(verb, "flush") {
+        return flush(&mut words);
+    }
     if is(verb, "do") {
         return do_line(&mut words);
     }
@@ -65,6 +72,9 @@ fn line(bytes: &[u8]) -> Option<Line>
     }
     if is(verb, "install") {
         return Some(Line::Install(place(&mut words)?));
+    }
+    if is(verb, "load") {
+        return load(&mut words);
     }
     if is(verb, "giveup") {
         return Some(Line::GiveUp(place(&mut words)?));
@@ -173,6 +183,52 @@ fn place(words: &mut Words<'_>) -> Option<Place>
         slot: slot as usize,
         context: context as usize,
     })
+}
+
+/// How the device takes or gives a page.
+#[tactic(auto, unfolding(crate::specs::Reading::access_of))]
+fn access(words: &mut Words<'_>) -> Option<Access>
+    ensures { Gives result (first_as access_of words.old) words.new }
+{
+    let word = words.next()?;
+    if is(word, "ok") {
+        return Some(Access::Works);
+    }
+    if is(word, "fault") {
+        return Some(Access::Fails);
+    }
+    None
+}
+
+#[tactic(auto, unfolding(crate::specs::Reading::flush_of))]
+fn flush(words: &mut Words<'_>) -> Option<Line>
+    ensures { result ≡ flush_of words.old }
+{
+    let partition = words.number()?;
+    let access = access(words)?;
+    if !words.is_empty() {
+        return None;
+    }
+    Some(Line::Flush { partition, access })
+}
+
+#[tactic(auto, unfolding(crate::specs::Reading::load_of))]
+fn load(words: &mut Words<'_>) -> Option<Line>
+    ensures { result ≡ load_of words.old }
+{
+    let partition = words.number()?;
+    let slot = words.number()?;
+    let context = words.number()?;
+    let access = access(words)?;
+    if !words.is_empty() {
+        return None;
+    }
+    let place = Place {
+        partition: partition as usize,
+        slot: slot as usize,
+        context: context as usize,
+    };
+    Some(Line::Load(place, access))
 }
 
 #[tactic(auto, unfolding(crate::specs::Reading::key_alone))]

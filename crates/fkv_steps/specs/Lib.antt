@@ -1,4 +1,5 @@
 pub mod Printing
+pub mod Bytes
 pub mod Running
 pub use Rattle.fkv_scripts.specs.Words
 pub use Rattle.fkv_scripts.specs.Grammar

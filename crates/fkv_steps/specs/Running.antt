@@ -1,27 +1,32 @@
 -- What the lines of a script do, and what a whole script prints.
-use Rattle.std.specs.Prelude.{◌≡◌, ◌≤◌, length, ℕ, ℤ, pos, negsuc, List, [], ◌∷◌, ◌++◌, map, Some, Result, Ok, Err}
+use Rattle.std.specs.Prelude.{◌≡◌, ◌≤◌, ◌<◌, ◌^◌, length, FitsSigned, ℕ, ℤ, pos, negsuc, List, [], ◌∷◌, ◌++◌, map, Bool, true, false, Option, Some, None, Result, Ok, Err}
 use Rattle.std.specs.declared.cmp.Ordering.{Ordering}
 use Rattle.std.specs.Fmt.{decimal, signed_decimal}
 use Rattle.std.specs.BTreeMap.{is_at}
 use Rattle.std.specs.Map.{lookup, keys_of}
 use Rattle.std.specs.List.Sorted.{IsStrictlySortedBy}
 use Rattle.fkv_functions.specs.Meanings.{Meanings}
+use Rattle.std.specs.Int.{w64, w128, to_le_bytes}
 use Rattle.fkv_functions.specs.Names.{name_cmp, text_of}
+use Rattle.fkv_functions.specs.Integers.{signed_bytes, long_bytes}
 use Rattle.fkv_functions.specs.Sets.{counts, sums, maxima}
 use Rattle.fkv_functions.specs.Hashes.{fnv_1a}
 use Rattle.fkv_functions.specs.declared.names.Name.{Name}
 use Rattle.fkv_functions.specs.declared.refusals.Refused.{Refused}
+use Rattle.fkv_device.specs.Standing.{Standing}
+use Rattle.fkv_texts.specs.declared.entries.Entry.{Entry}
 use Rattle.fkv_operations.specs.declared.operations.Op.{Op}
 use Rattle.fkv_operations.specs.declared.operations.Op.TheVariants.{Read, Upsert, Rmw, Delete}
-use Rattle.fkv_partition.specs.declared.limits.Config.{Config}
-use Rattle.fkv_partition.specs.Limits.{IsWithinLimits}
+use Rattle.fkv_device_partition.specs.declared.limits.Config.{Config}
+use Rattle.fkv_device_partition.specs.Limits.{IsWithinLimits}
 use Rattle.fkv_worlds.specs.declared.outcomes.Outcome.{Outcome}
-use Rattle.fkv_worlds.specs.declared.outcomes.Outcome.TheVariants.{Entered, Left, Refreshed, Shifted, Issued, Next, Build, Waits, Done, GivenUp}
+use Rattle.fkv_worlds.specs.declared.outcomes.Outcome.TheVariants.{Taken, Issued}
+use Rattle.fkv_worlds.specs.declared.steps.Access.{Access}
 use Rattle.fkv_worlds.specs.declared.steps.Step.{Step}
 use Rattle.fkv_worlds.specs.declared.steps.Step.TheVariants as step
 use Rattle.fkv_worlds.specs.declared.pursuits.Pursuit.TheVariants as pursuit
 use Rattle.fkv_scripts.specs.declared.lines.Line.{Line}
-use Rattle.fkv_scripts.specs.declared.lines.Line.TheVariants.{Enter, Leave, Refresh, ReadOnly, Issue, Do, Go, Install, GiveUp, Ready, Finish}
+use Rattle.fkv_scripts.specs.declared.lines.Line.TheVariants as line
 use Rattle.fkv_scripts.specs.declared.lines.Opening.{Opening}
 use Rattle.fkv_scripts.specs.declared.lines.FunctionsName.{FunctionsName}
 use Rattle.fkv_scripts.specs.declared.lines.FunctionsName.TheVariants.{Count, Sum, Max}
@@ -31,25 +36,50 @@ use Rattle.fkv_worlds.specs.States.{WorldView, empty_world}
 use Rattle.fkv_worlds.specs.Histories.{backwards, issues_in, issue_of, answers_in}
 use Rattle.fkv_worlds.specs.Headline.{IsHeadline}
 use Rattle.fkv_worlds.specs.Worlds.{world_live}
-use Rattle.fkv_worlds.specs.Reports.{IsKept, RunsTo, Pursues}
+use Rattle.fkv_worlds.specs.Reports.{IsKept, RunsTo, Pursues, first_step}
+use Rattle.fkv_steps.specs.Bytes.{standing_of, IsNamedEntry}
 use Rattle.fkv_steps.specs.Printing.{steps_text, map_text}
 
--- after an issue: what was issued is finished, and where nothing was that is what is told
-abbrev pub FinishesIssued : {V O : Type 0} → (Name → Name → Ordering) → Meanings Name V ℤ O → (Name → ℕ) → ℕ → ℕ
-    → WorldView Name V ℤ O → WorldView Name V ℤ O → Result (Outcome V O) Refused → Result (Outcome V O) Refused → Type 0
-FinishesIssued cmp f code p slot mid new told (Ok (Issued c)) =
-    Pursues cmp f code pursuit.Finish (record { partition = p; slot = slot; context = c }) new (Some told) 10000
-    (step.Go (record { partition = p; slot = slot; context = c })) mid
-FinishesIssued cmp f code p slot mid new told (Ok (Entered x)) = (new ≡ mid) × (told ≡ Ok (Entered x))
-FinishesIssued cmp f code p slot mid new told (Ok Left) = (new ≡ mid) × (told ≡ Ok Left)
-FinishesIssued cmp f code p slot mid new told (Ok Refreshed) = (new ≡ mid) × (told ≡ Ok Refreshed)
-FinishesIssued cmp f code p slot mid new told (Ok Shifted) = (new ≡ mid) × (told ≡ Ok Shifted)
-FinishesIssued cmp f code p slot mid new told (Ok (Waits why)) = (new ≡ mid) × (told ≡ Ok (Waits why))
-FinishesIssued cmp f code p slot mid new told (Ok Next) = (new ≡ mid) × (told ≡ Ok Next)
-FinishesIssued cmp f code p slot mid new told (Ok (Build x)) = (new ≡ mid) × (told ≡ Ok (Build x))
-FinishesIssued cmp f code p slot mid new told (Ok (Done x)) = (new ≡ mid) × (told ≡ Ok (Done x))
-FinishesIssued cmp f code p slot mid new told (Ok GivenUp) = (new ≡ mid) × (told ≡ Ok GivenUp)
-FinishesIssued cmp f code p slot mid new told (Err e) = (new ≡ mid) × (told ≡ Err e)
+-- the context of an accepted issue
+abbrev pub context_in : {V O : Type 0} → Result (Outcome V O) Refused → Option ℕ
+context_in (Ok (Issued c)) = Some c
+context_in other = None
+
+-- whether a page was taken
+abbrev pub is_page : {V O : Type 0} → Result (Outcome V O) Refused → Bool
+is_page (Ok (Taken page)) = true
+is_page other = false
+
+-- what follows an issue, and is told
+pub data FollowsIssue {V O R : Type 0} (stands : R → Standing) (entry : ℕ → List ℕ → ℕ → Entry Name V → Type 0)
+    (cmp : Name → Name → Ordering) (f : Meanings Name V ℤ O) (code : Name → ℕ) (p slot : ℕ)
+    (mid new : WorldView Name V ℤ O R) (told issued : Result (Outcome V O) Refused) : Type 0 where
+  -- what was issued is finished
+  finishes : (c : ℕ)
+      → context_in issued ≡ Some c
+      → Pursues stands entry cmp f code pursuit.Finish (record { partition = p; slot = slot; context = c }) new
+      (Some told) 10000
+      (first_step mid.state.partitions pursuit.Finish (record { partition = p; slot = slot; context = c })) mid
+      → FollowsIssue stands entry cmp f code p slot mid new told issued
+  -- nothing was issued
+  tells : context_in issued ≡ None
+      → new ≡ mid
+      → told ≡ issued
+      → FollowsIssue stands entry cmp f code p slot mid new told issued
+
+-- what follows a take, and is told
+pub data FollowsTake {V O R : Type 0} (stands : R → Standing) (entry : ℕ → List ℕ → ℕ → Entry Name V → Type 0)
+    (cmp : Name → Name → Ordering) (f : Meanings Name V ℤ O) (code : Name → ℕ) (p : ℕ) (access : Access)
+    (mid new : WorldView Name V ℤ O R) (told taken : Result (Outcome V O) Refused) : Type 0 where
+  -- the page that was taken is written
+  writes : is_page taken ≡ true
+      → IsKept stands entry cmp f code mid new (step.Write p access) told
+      → FollowsTake stands entry cmp f code p access mid new told taken
+  -- no page was taken
+  tells : is_page taken ≡ false
+      → new ≡ mid
+      → told ≡ taken
+      → FollowsTake stands entry cmp f code p access mid new told taken
 
 -- the operation of a line, on values: an upsert writes the value of its amount
 abbrev pub op_of : {V : Type 0} → (ℤ → V) → Op Name ℤ ℤ → Op Name V ℤ
@@ -59,52 +89,73 @@ op_of written (Rmw k n) = Rmw k n
 op_of written (Delete k) = Delete k
 
 -- what a line does, and tells: a step, or several, each of them kept; an amount is written as this value
-abbrev pub RunsLine : {V O : Type 0} → (Name → Name → Ordering) → Meanings Name V ℤ O → (Name → ℕ) → (ℤ → V)
-    → WorldView Name V ℤ O → WorldView Name V ℤ O → Result (Outcome V O) Refused → Line → Type 0
-RunsLine cmp f code written old new told (Enter p) = IsKept cmp f code old new (step.Enter p) told
-RunsLine cmp f code written old new told (Leave p slot) = IsKept cmp f code old new (step.Leave p slot) told
-RunsLine cmp f code written old new told (Refresh p slot) = IsKept cmp f code old new (step.Refresh p slot) told
-RunsLine cmp f code written old new told (ReadOnly p page) = IsKept cmp f code old new (step.ReadOnly p page) told
-RunsLine cmp f code written old new told (Issue p slot op) =
-    IsKept cmp f code old new (step.Issue p slot (op_of written op)) told
-RunsLine {V} {O} cmp f code written old new told (Do p slot op) =
-    (mid : WorldView Name V ℤ O)
+abbrev pub RunsLine : {V O R : Type 0} → (R → Standing) → (ℕ → List ℕ → ℕ → Entry Name V → Type 0)
+    → (Name → Name → Ordering) → Meanings Name V ℤ O → (Name → ℕ) → (ℤ → V) → WorldView Name V ℤ O R
+    → WorldView Name V ℤ O R → Result (Outcome V O) Refused → Line → Type 0
+RunsLine stands entry cmp f code written old new told (line.Enter p) =
+    IsKept stands entry cmp f code old new (step.Enter p) told
+RunsLine stands entry cmp f code written old new told (line.Leave p slot) =
+    IsKept stands entry cmp f code old new (step.Leave p slot) told
+RunsLine stands entry cmp f code written old new told (line.Refresh p slot) =
+    IsKept stands entry cmp f code old new (step.Refresh p slot) told
+RunsLine stands entry cmp f code written old new told (line.ReadOnly p page) =
+    IsKept stands entry cmp f code old new (step.ReadOnly p page) told
+RunsLine stands entry cmp f code written old new told (line.Head p page) =
+    IsKept stands entry cmp f code old new (step.Head p page) told
+RunsLine {V} {O} {R} stands entry cmp f code written old new told (line.Flush p access) =
+    (mid : WorldView Name V ℤ O R)
+    × (taken : Result (Outcome V O) Refused)
+    × IsKept stands entry cmp f code old mid (step.Take p) taken
+    × FollowsTake stands entry cmp f code p access mid new told taken
+RunsLine stands entry cmp f code written old new told (line.Issue p slot op) =
+    IsKept stands entry cmp f code old new (step.Issue p slot (op_of written op)) told
+RunsLine {V} {O} {R} stands entry cmp f code written old new told (line.Do p slot op) =
+    (mid : WorldView Name V ℤ O R)
     × (issued : Result (Outcome V O) Refused)
-    × IsKept cmp f code old mid (step.Issue p slot (op_of written op)) issued
-    × FinishesIssued cmp f code p slot mid new told issued
-RunsLine cmp f code written old new told (Go w) = IsKept cmp f code old new (step.Go w) told
-RunsLine cmp f code written old new told (Install w) = IsKept cmp f code old new (step.Install w) told
-RunsLine cmp f code written old new told (GiveUp w) = IsKept cmp f code old new (step.GiveUp w) told
-RunsLine cmp f code written old new told (Ready w) =
-    Pursues cmp f code pursuit.Ready w new (Some told) 10000 (step.Go w) old
-RunsLine cmp f code written old new told (Finish w) =
-    Pursues cmp f code pursuit.Finish w new (Some told) 10000 (step.Go w) old
+    × IsKept stands entry cmp f code old mid (step.Issue p slot (op_of written op)) issued
+    × FollowsIssue stands entry cmp f code p slot mid new told issued
+RunsLine stands entry cmp f code written old new told (line.Go w) =
+    IsKept stands entry cmp f code old new (step.Go w) told
+RunsLine stands entry cmp f code written old new told (line.Install w) =
+    IsKept stands entry cmp f code old new (step.Install w) told
+RunsLine stands entry cmp f code written old new told (line.Load w access) =
+    IsKept stands entry cmp f code old new (step.Load w access) told
+RunsLine stands entry cmp f code written old new told (line.GiveUp w) =
+    IsKept stands entry cmp f code old new (step.GiveUp w) told
+RunsLine stands entry cmp f code written old new told (line.Ready w) =
+    Pursues stands entry cmp f code pursuit.Ready w new (Some told) 10000
+    (first_step old.state.partitions pursuit.Ready w) old
+RunsLine stands entry cmp f code written old new told (line.Finish w) =
+    Pursues stands entry cmp f code pursuit.Finish w new (Some told) 10000
+    (first_step old.state.partitions pursuit.Finish w) old
 
 -- lines in turn, and what each of them tells
-abbrev pub RunLines : {V O : Type 0} → (Name → Name → Ordering) → Meanings Name V ℤ O → (Name → ℕ) → (ℤ → V)
-    → WorldView Name V ℤ O → List Line → List (Result (Outcome V O) Refused) → WorldView Name V ℤ O → Type 0
-RunLines cmp f code written v [] [] w = w ≡ v
-RunLines cmp f code written v [] (t ∷ ts) w = ⊥
-RunLines cmp f code written v (l ∷ ls) [] w = ⊥
-RunLines {V} {O} cmp f code written v (l ∷ ls) (t ∷ ts) w =
-    (u : WorldView Name V ℤ O)
-    × RunsLine cmp f code written v u t l
-    × RunLines cmp f code written u ls ts w
+abbrev pub RunLines : {V O R : Type 0} → (R → Standing) → (ℕ → List ℕ → ℕ → Entry Name V → Type 0)
+    → (Name → Name → Ordering) → Meanings Name V ℤ O → (Name → ℕ) → (ℤ → V) → WorldView Name V ℤ O R → List Line
+    → List (Result (Outcome V O) Refused) → WorldView Name V ℤ O R → Type 0
+RunLines stands entry cmp f code written v [] [] w = w ≡ v
+RunLines stands entry cmp f code written v [] (t ∷ ts) w = ⊥
+RunLines stands entry cmp f code written v (l ∷ ls) [] w = ⊥
+RunLines {V} {O} {R} stands entry cmp f code written v (l ∷ ls) (t ∷ ts) w =
+    (u : WorldView Name V ℤ O R)
+    × RunsLine stands entry cmp f code written v u t l
+    × RunLines stands entry cmp f code written u ls ts w
 
 -- the text that a script prints: what each line tells, and then each live key with its value, keys rising, in a world
 -- that keeps the headline
-pub record IsPrintedBy {V O : Type 0} (cmp : Name → Name → Ordering) (f : Meanings Name V ℤ O) (code : Name → ℕ)
+pub record IsPrintedBy {V O R : Type 0} (stands : R → Standing) (entry : ℕ → List ℕ → ℕ → Entry Name V → Type 0)
+    (cmp : Name → Name → Ordering) (f : Meanings Name V ℤ O) (code : Name → ℕ)
     (written : ℤ → V) (value : V → List ℕ) (shown : O → List ℕ) (config : Config) (record_size : ℕ) (lines : List Line)
     (text : List ℕ) : Type 0 where
-  pub world : WorldView Name V ℤ O
+  pub world : WorldView Name V ℤ O R
   pub told : List (Result (Outcome V O) Refused)
   pub pairs : List (Name × V)
-  pub ran : RunLines cmp f code written (empty_world config record_size) lines told world
+  pub ran : RunLines stands entry cmp f code written (empty_world config record_size) lines told world
   pub headline : IsHeadline cmp f code world
   -- the steps that the lines asked for, each of them kept; the lives are those of their accepted issues, in order; and
   -- the answers that are printed are those that the steps told, no more and no fewer
   pub steps : List (Step Name V ℤ)
-  pub stepped : RunsTo cmp f code (empty_world config record_size) steps world
+  pub stepped : RunsTo stands entry cmp f code (empty_world config record_size) steps world
   pub issued : map issue_of world.state.lives ≡ issues_in (backwards steps world.outcomes [])
   pub answers : answers_in told ≡ answers_in world.outcomes
   pub map : (k : Name) → lookup (is_at (cmp k)) pairs ≡ world_live cmp code world.state.partitions k
@@ -129,11 +180,14 @@ hash_of name = fnv_1a (text_of name)
 -- the text that a script prints with the functions that its first line names
 abbrev pub Prints : FunctionsName → Config → List Line → List ℕ → Type 0
 Prints Count config lines text =
-    IsPrintedBy name_cmp counts hash_of count_of decimal decimal config (record_size Count) lines text
+    IsPrintedBy standing_of (IsNamedEntry (to_le_bytes w64) (λ n. n < 2 ^ 64) 8) name_cmp counts hash_of count_of
+    decimal decimal config (record_size Count) lines text
 Prints Sum config lines text =
-    IsPrintedBy name_cmp sums hash_of (λ n. n) signed_decimal signed_decimal config (record_size Sum) lines text
+    IsPrintedBy standing_of (IsNamedEntry long_bytes (FitsSigned w128) 16) name_cmp sums hash_of (λ n. n)
+    signed_decimal signed_decimal config (record_size Sum) lines text
 Prints Max config lines text =
-    IsPrintedBy name_cmp maxima hash_of (λ n. n) signed_decimal signed_decimal config (record_size Max) lines text
+    IsPrintedBy standing_of (IsNamedEntry signed_bytes (FitsSigned w64) 8) name_cmp maxima hash_of (λ n. n)
+    signed_decimal signed_decimal config (record_size Max) lines text
 
 -- the output of an input: it says a script of at most 1,000,000 lines, whose numbers are within the limits, and this is
 -- what the script prints

@@ -6,6 +6,6 @@ pub mod scripts;
 
 pub use fkv_worlds::laws::wrong_lives;
 pub use fkv_worlds::{
-    End, Finish, Life, LifeOf, Outcome, OutcomeOf, Place, Report, ReportOf, Step, StepOf, Wait,
-    World, replay,
+    Access, End, Finish, Life, LifeOf, Outcome, OutcomeOf, Place, Report, ReportOf, Step, StepOf,
+    Wait, World, replay,
 };

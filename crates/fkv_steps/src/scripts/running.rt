@@ -1,8 +1,8 @@
 //! Running a script from a reader to a writer.
 ghost use Rattle.std.specs.Prelude.{◌≡◌, ◌≢◌, ◌⊎◌, ℕ, List, Err, true, IfOk, IfErr, IfSome, OnOk};
 ghost use Rattle.fkv_records.specs.Records.{size_of};
-ghost use Rattle.fkv_partition.specs.Limits.{IsWithinLimits};
-ghost use Rattle.fkv_partition.specs.declared.limits.Config.{Config};
+ghost use Rattle.fkv_device_partition.specs.Limits.{IsWithinLimits};
+ghost use Rattle.fkv_device_partition.specs.declared.limits.Config.{Config};
 ghost use Rattle.fkv_worlds.specs.States.{empty_world};
 ghost use Rattle.fkv_scripts.specs.declared.lines.Line.{Line};
 ghost use Rattle.fkv_functions.specs.Names.{name_cmp};
@@ -11,19 +11,20 @@ ghost use Rattle.fkv_streams.specs.Counting.{CountsOnly};
 ghost use Rattle.fkv_streams.specs.Streams.{AppendsPrefix};
 ghost use Rattle.fkv_scripts.specs.Configs.{config_of};
 ghost use Rattle.fkv_scripts.specs.Script.{lines_of, IsBadAt};
-ghost use Rattle.fkv_steps.specs.Running.{op_of, record_size, RunsLine, RunLines, IsPrintedBy, Prints, IsOutputOf, HasBadConfig};
+ghost use Rattle.fkv_steps.specs.Bytes.{standing_of, IsNamedEntry};
+ghost use Rattle.fkv_steps.specs.Running.{context_in, is_page, op_of, record_size, RunsLine, RunLines, IsPrintedBy, Prints, IsOutputOf, HasBadConfig};
 
 use crate::scripts::printing::text_of;
 use crate::scripts::written::Written;
+use fkv_device_partition::Config;
 use fkv_functions::{CountFns, Functions, MaxFns, Name, Refused, SumFns};
 use fkv_operations::Op;
-use fkv_partition::Config;
 use fkv_scripts::{FunctionsName, LIMIT, Line, Script, read_script};
 use fkv_streams::{Sink, Source, write_out};
 use fkv_worlds::Printed;
 use fkv_worlds::outcomes::{Outcome, OutcomeOf};
 use fkv_worlds::pursuits::Pursuit;
-use fkv_worlds::steps::{Place, Step};
+use fkv_worlds::steps::{Access, Place, Step};
 use fkv_worlds::worlds::World;
 use std::alloc::Global;
 
@@ -48,8 +49,8 @@ fn run_line<F: Functions<Key = Name, Input = i64>>(
 ) -> Option<Result<OutcomeOf<F>, Refused>>
 where
     F::Value: Written,
-    ensures { IfSome result (λ told. RunsLine name_cmp F.meaning F.code F.Value.written world.old world.new
-        told line.now) }
+    ensures { IfSome result (λ told. RunsLine standing_of (IsNamedEntry F.Value.bytes_of F.Value.is_known F.Value.SIZE)
+        name_cmp F.meaning F.code F.Value.written world.old world.new told line.now) }
 {
     match *line {
         Line::Enter { partition } => world.try_step(functions, Step::Enter(partition as usize)),
@@ -77,11 +78,36 @@ where
         Line::ReadOnly { partition, page } => {
             world.try_step(functions, Step::ReadOnly(partition as usize, page))
         }
+        Line::Head { partition, page } => {
+            world.try_step(functions, Step::Head(partition as usize, page))
+        }
+        Line::Flush { partition, access } => flush(world, functions, partition as usize, access),
         Line::Go(place) => world.try_step(functions, Step::Go(place)),
         Line::Install(place) => world.try_step(functions, Step::Install(place)),
+        Line::Load(place, access) => world.try_step(functions, Step::Load(place, access)),
         Line::GiveUp(place) => world.try_step(functions, Step::GiveUp(place)),
         Line::Ready(place) => world.pursue(functions, Pursuit::Ready, place),
         Line::Finish(place) => world.pursue(functions, Pursuit::Finish, place),
+    }
+}
+
+/// The context of an accepted issue.
+fn context_in<V: Copy, O: Copy>(told: &Result<Outcome<V, O>, Refused>) -> Option<usize>
+    ensures { result ≡ context_in told.now }
+{
+    match told {
+        Ok(Outcome::Issued(context)) => Some(*context),
+        _ => None,
+    }
+}
+
+/// Whether a page was taken.
+fn is_page<V: Copy, O: Copy>(told: &Result<Outcome<V, O>, Refused>) -> bool
+    ensures { result ≡ is_page told.now }
+{
+    match told {
+        Ok(Outcome::Taken(_)) => true,
+        _ => false,
     }
 }
 
@@ -95,24 +121,43 @@ fn do_operation<F: Functions<Key = Name, Input = i64>>(
 ) -> Option<Result<OutcomeOf<F>, Refused>>
 where
     F::Value: Written,
-    ensures { IfSome result (λ told. RunsLine name_cmp F.meaning F.code F.Value.written world.old world.new told
-        (Line.Do partition slot op)) }
+    ensures { IfSome result (λ told. RunsLine standing_of (IsNamedEntry F.Value.bytes_of F.Value.is_known F.Value.SIZE)
+        name_cmp F.meaning F.code F.Value.written world.old world.new told (Line.Do partition slot op)) }
 {
     let Some(issued) = world.try_step(functions, Step::Issue(partition, slot, on_values(op))) else {
         return None;
     };
-    match issued {
-        Ok(Outcome::Issued(context)) => world.pursue(
-            functions,
-            Pursuit::Finish,
-            Place {
-                partition,
-                slot,
-                context,
-            },
-        ),
-        _ => Some(issued),
+    let Some(context) = context_in(&issued) else {
+        return Some(issued);
+    };
+    let place = Place {
+        partition,
+        slot,
+        context,
+    };
+    world.pursue(functions, Pursuit::Finish, place)
+}
+
+/// Takes the lowest page that is not flushed and writes it, and answers what the write told; where no page was taken,
+/// what the take told.
+fn flush<F: Functions<Key = Name, Input = i64>>(
+    world: &mut World<F>,
+    functions: &F,
+    partition: usize,
+    access: Access,
+) -> Option<Result<OutcomeOf<F>, Refused>>
+where
+    F::Value: Written,
+    ensures { IfSome result (λ told. RunsLine standing_of (IsNamedEntry F.Value.bytes_of F.Value.is_known F.Value.SIZE)
+        name_cmp F.meaning F.code F.Value.written world.old world.new told (Line.Flush partition access)) }
+{
+    let Some(taken) = world.try_step(functions, Step::Take(partition)) else {
+        return None;
+    };
+    if !is_page(&taken) {
+        return Some(taken);
     }
+    world.try_step(functions, Step::Write(partition, access))
 }
 
 /// Does what the lines say, in turn, and answers what the last step of each told. Refused: `NoMemory`.
@@ -124,8 +169,8 @@ fn run_lines<F: Functions<Key = Name, Input = i64>>(
 ) -> Result<Vec<Result<OutcomeOf<F>, Refused>>, Refused>
 where
     F::Value: Written,
-    ensures ok { IfOk result (λ told. RunLines name_cmp F.meaning F.code F.Value.written world.old lines.now told.items
-        world.new) }
+    ensures ok { IfOk result (λ told. RunLines standing_of (IsNamedEntry F.Value.bytes_of F.Value.is_known F.Value.SIZE)
+        name_cmp F.meaning F.code F.Value.written world.old lines.now told.items world.new) }
     ensures only { IfErr result (λ refused. refused ≡ Refused.NoMemory) }
 {
     let mut told = Vec::new(alloc);
@@ -151,9 +196,9 @@ fn printed_by<F: Functions<Key = Name, Input = i64>>(
 where
     F::Value: Written + Printed,
     F::Output: Printed,
-    ensures ok { IfOk result (λ text. IsPrintedBy name_cmp F.meaning F.code F.Value.written F.Value.text
-        F.Output.text config.now
-        (size_of 32 F.Value.SIZE) lines.now text.items) }
+    ensures ok { IfOk result (λ text. IsPrintedBy standing_of
+        (IsNamedEntry F.Value.bytes_of F.Value.is_known F.Value.SIZE) name_cmp F.meaning F.code F.Value.written
+        F.Value.text F.Output.text config.now (size_of 32 F.Value.SIZE) lines.now text.items) }
     ensures good { result ≢ Err Refused.BadConfig → IsWithinLimits config.now (size_of 32 F.Value.SIZE) }
     ensures bad { result ≡ Err Refused.BadConfig → ¬ IsWithinLimits config.now (size_of 32 F.Value.SIZE) }
     ensures only { IfErr result (λ refused. (refused ≡ Refused.BadConfig) ⊎ (refused ≡ Refused.NoMemory)) }
@@ -176,8 +221,8 @@ where
     F::Output: Printed,
     // Of whatever configuration the world is, with nothing in it.
     ensures ok { IfOk result (λ text. (config : Config) (size : ℕ) → world.old ≡ empty_world config size
-        → IsPrintedBy name_cmp F.meaning F.code F.Value.written F.Value.text F.Output.text config size
-        lines.now text.items) }
+        → IsPrintedBy standing_of (IsNamedEntry F.Value.bytes_of F.Value.is_known F.Value.SIZE) name_cmp F.meaning
+        F.code F.Value.written F.Value.text F.Output.text config size lines.now text.items) }
     ensures only { IfErr result (λ refused. refused ≡ Refused.NoMemory) }
 {
     let told = match run_lines(alloc, world, functions, lines) {

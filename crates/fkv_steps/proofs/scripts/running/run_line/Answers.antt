@@ -23,3 +23,15 @@ returns-in-Install g c = rw c.in-Install.is c.try_step-in-Install.ensures.kept
 
 pub returns-in-GiveUp : goal.returns-in-GiveUp
 returns-in-GiveUp g c = rw c.in-GiveUp.is c.try_step-in-GiveUp.ensures.kept
+
+pub returns-in-Head : goal.returns-in-Head
+returns-in-Head g c = rw c.in-Head.is c.try_step-in-Head.ensures.kept
+
+pub returns-in-Load : goal.returns-in-Load
+returns-in-Load g c = rw c.in-Load.is c.try_step-in-Load.ensures.kept
+
+pub returns-in-Do : goal.returns-in-Do
+returns-in-Do g c = rw c.in-Do.is c.do_operation.ensures
+
+pub returns-in-Flush : goal.returns-in-Flush
+returns-in-Flush g c = rw c.in-Flush.is c.flush.ensures
