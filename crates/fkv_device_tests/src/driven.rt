@@ -3,7 +3,7 @@ ghost use Rattle.std.specs.Prelude.{◌≤◌};
 
 use fkv_alone::{AloneOf, run_alone};
 use fkv_device::{Disk, Loaded, MemoryDevice, MemoryReader, MemoryReceipt, MemoryWriter, Written};
-use fkv_device_partition::{Config, Partition, Progress, ProgressOf};
+use fkv_partition::{Config, Partition, Progress, ProgressOf};
 use fkv_functions::{Ask, Built, Name, Refused, SumFns};
 use fkv_operations::{Clock, OpOf};
 use std::alloc::Global;
@@ -206,5 +206,5 @@ pub enum Seen {
     Next,
     Builds(Option<i128>),
     Loads(u64),
-    Waits(fkv_device_partition::Wait),
+    Waits(fkv_partition::Wait),
 }

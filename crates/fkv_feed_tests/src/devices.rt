@@ -3,7 +3,7 @@ use fkv_device::failures::Failures;
 use fkv_device::{
     Disk, MemoryDevice, MemoryReader, MemoryReceipt, MemoryWriter, PageReader, PageWriter, Receipt,
 };
-use fkv_device_partition::Config;
+use fkv_partition::Config;
 use fkv_feeds::{run_alone, write_table};
 use fkv_functions::{Refused, SumFns};
 use fkv_streams::{CountedReader, CountedWriter};

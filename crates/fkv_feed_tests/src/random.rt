@@ -1,6 +1,6 @@
 //! Random feeds beside a plain fold.
 use fkv_device::MemoryDevice;
-use fkv_device_partition::Config;
+use fkv_partition::Config;
 use fkv_feeds::{run_alone, write_table};
 use fkv_functions::{Refused, SumFns};
 use fkv_streams::{CountedReader, CountedWriter};

@@ -1,6 +1,6 @@
 //! Readers and writers that fail, and refused growths.
 use fkv_device::MemoryDevice;
-use fkv_device_partition::Config;
+use fkv_partition::Config;
 use fkv_feeds::{run_one, write_table};
 use fkv_functions::{Refused, SumFns};
 use fkv_streams::{CountedReader, CountedWriter};

@@ -183,8 +183,8 @@ fn refused_growths_are_called_again(rt: HostRuntime) {
 
 #[test]
 fn laws_are_called() {
-    fkv_device_log::laws::wrong_logs();
-    fkv_device_log::laws::frozen_stay::<u64, u64>();
+    fkv_hybrid::laws::wrong_logs();
+    fkv_hybrid::laws::frozen_stay::<u64, u64>();
     fkv_lookups::laws::entries_lead::<u64, u64>();
     fkv_lookups::laws::records_grow::<u64, u64>();
     fkv_lookups::laws::records_change::<u64, u64>();

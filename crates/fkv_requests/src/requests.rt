@@ -20,7 +20,7 @@ ghost use Rattle.fkv_requests.specs.Requests.{
 use clap::builder::ValueParser;
 use clap::error::ErrorKind;
 use clap::{Arg, ArgMatches, Command, Error};
-use fkv_device_partition::Config;
+use fkv_partition::Config;
 use fkv_functions::Refused;
 use std::alloc::{AllocError, Global};
 
