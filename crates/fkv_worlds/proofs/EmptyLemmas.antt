@@ -15,7 +15,10 @@ use Rattle.fkv_device_partition.specs.Views.{PartitionView, empty_partition, par
 use Rattle.fkv_device_partition.specs.Effect.{Asked, asked, asked_by}
 use Rattle.fkv_worlds.specs.declared.tables.Seat.{Seat}
 use Rattle.fkv_worlds.specs.States.{empty_partitions, empty_state}
-use Rattle.fkv_worlds.specs.Worlds.{live_at, asked_at}
+use Rattle.fkv_device_partition.specs.Pending.{Pending}
+use Rattle.fkv_worlds.specs.declared.steps.Place.{Place}
+use Rattle.fkv_worlds.specs.Worlds.{live_at, asked_at, pending_in}
+use Rattle.fkv_worlds.proofs.HeldLemmas.{waiting-at}
 use Rattle.fkv_worlds.specs.Sound.{IsState}
 
 range-at : (a n p i : ℕ) → slice_get (range_with_len a n) p ≡ Some i → i ≡ a + p
@@ -53,7 +56,7 @@ partitions-more config size n xs ys before one =
 pub small : (n : ℕ) → n ≤ 6 → (1 ≤ 2 ^ n) × (2 ^ n ≤ 64)
 small n h = let most : 2 ^ n ≤ 2 ^ 6 = pow_mono h in let least : 0 < 2 ^ n = pow_pos n in (omega arith, omega arith)
 
-module _ {K V I O : Type 0} (cmp : K → K → Ordering) (f : Meanings K V I O) (code : K → ℕ) (config : Config) (size : ℕ) (within : IsWithinLimits config size) where
+module _ {K V I O : Type 0} (R : Type 0) (cmp : K → K → Ordering) (f : Meanings K V I O) (code : K → ℕ) (config : Config) (size : ℕ) (within : IsWithinLimits config size) where
   views : List (PartitionView K V I)
   views = empty_partitions config size (2 ^ config.partition_bits)
 
@@ -76,12 +79,19 @@ module _ {K V I O : Type 0} (cmp : K → K → Ordering) (f : Meanings K V I O) 
   none-asked None slot c x h k = absurd (cc)
   none-asked (Some v) slot c x h k = let e = h v refl in unasked e.0 slot c x (ap (λ w. asked w slot c) (sym e.1) ∙ k)
 
-  pub state-empty : IsState cmp f code (empty_state config size)
+  none-pending : (w : Place) (q : Pending V) → pending_in cmp (empty_partitions {K = K} {V = V} {I = I} config size (2 ^ config.partition_bits)) w ≡ Some q → ⊥
+  none-pending w q h =
+      let a = waiting-at cmp (empty_partitions config size (2 ^ config.partition_bits)) w q h in
+      none-asked (slice_get (empty_partitions config size (2 ^ config.partition_bits)) w.partition) w.slot w.context a.0 (λ v k. (w.partition, empty-at config size (2 ^ config.partition_bits) w.partition v k)) a.1
+
+  pub state-empty : IsState {R = R} cmp f code (empty_state config size)
   state-empty = let b = small config.partition_bits within.partition_bits in record {
     tables = record {
       most = rw sized b.1;
       begun = length-replicate (2 ^ config.partition_bits * 128) 0 ∙ ap (λ n. n * 128) (sym sized);
       questions = length-replicate (2 ^ config.partition_bits * 128) None ∙ ap (λ n. n * 128) (sym sized);
+      receipts = length-replicate (2 ^ config.partition_bits * 128) None ∙ ap (λ n. n * 128) (sym sized);
+      jobs = length-replicate (2 ^ config.partition_bits) None ∙ sym sized;
       seats = length-replicate (2 ^ config.partition_bits * 16) (record { session = 0; issues = 0 }) ∙ ap (λ n. n * 16) (sym sized);
       enters = length-replicate (2 ^ config.partition_bits) 0 ∙ sym sized;
       counted = λ p n h. (let e = replicate-at (2 ^ config.partition_bits) 0 n p h in omega arith);
@@ -105,6 +115,10 @@ module _ {K V I O : Type 0} (cmp : K → K → Ordering) (f : Meanings K V I O) 
         counted = λ p v h. ap (λ (z : PartitionView K V I). z.count) (empty-at config size (2 ^ config.partition_bits) p v h) ∙ sym sized;
         past = λ p v h. (let e = ap (λ (z : PartitionView K V I). z.moment) (empty-at config size (2 ^ config.partition_bits) p v h) in omega arith);
         routed = λ w x h. absurd (none-asked (slice_get (empty_partitions config size (2 ^ config.partition_bits)) w.partition) w.slot w.context x (λ v k. (w.partition, empty-at config size (2 ^ config.partition_bits) w.partition v k)) h);
+      };
+      held = record {
+        held = λ w q h. absurd (none-pending w q h);
+        apart = λ w u q r h k e. absurd (none-pending w q h);
       };
     };
   }

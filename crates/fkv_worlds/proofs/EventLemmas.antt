@@ -1,38 +1,50 @@
 -- What the call of a partition at the moment of a step comes to in its world: a refusal leaves the state, and an event
 -- is the step's rule and keeps what every state keeps.
-use Rattle.std.proofs.Common.{◌≡◌, ℕ, ◌+◌, ◌*◌, ◌-◌, ◌^◌, ◌<◌, ◌≤◌, [], ◌∷◌, ◌++◌, length, None, Some, Ok, Err, slice_get, slice_set, slice_index_or, unwrap_or, refl, ◌∙◌, arith}
+use Rattle.std.proofs.Common.{◌≡◌, ℕ, ◌+◌, ◌*◌, ◌-◌, ◌^◌, ◌<◌, ◌≤◌, true, false, List, [], ◌∷◌, ◌++◌, length, None, Some, Result, Ok, Err, slice_get, slice_set, slice_index_or, unwrap_or, refl, ◌∙◌, ap, subst, arith}
 use Rattle.std.specs.declared.cmp.Ordering.{Ordering}
 use Rattle.fkv_functions.specs.Meanings.{Meanings}
 use Rattle.fkv_functions.specs.Plain.{IsKeyOrder}
 use Rattle.fkv_functions.specs.declared.asks.Ask.{Ask}
 use Rattle.fkv_functions.specs.declared.refusals.Refused.{Refused}
 use Rattle.fkv_functions.specs.declared.refusals.Refused.TheVariants.{NoMemory}
+use Rattle.fkv_device.specs.Standing.{Standing, Joined}
+use Rattle.fkv_texts.specs.declared.entries.Entry.{Entry}
 use Rattle.fkv_operations.specs.declared.operations.Op.{Op}
 use Rattle.fkv_device_partition.specs.declared.contexts.Progress.{Progress}
 use Rattle.fkv_device_partition.specs.Views.{PartitionView}
 use Rattle.fkv_device_partition.specs.Beginning.{Enters, Issues}
 use Rattle.fkv_device_partition.specs.Effect.{Asked, asked, IsQuiet, IsIssue, IsEvent, IsGiveUp}
+use Rattle.fkv_device_partition.specs.Pending.{AllPend, OthersPend, Finds, IsLoad}
 use Rattle.fkv_device_partition.specs.Going.{Goes}
 use Rattle.fkv_device_partition.specs.Installing.{Installs}
+use Rattle.fkv_device_partition.specs.Loading.{Loads}
 use Rattle.fkv_device_partition.specs.Ending.{Leaves, GivesUp}
-use Rattle.fkv_device_partition.specs.Looking.{Refreshes, Shifts}
-use Rattle.fkv_worlds.specs.declared.lives.End.TheVariants.{GivenUp}
+use Rattle.fkv_device_partition.specs.Looking.{Refreshes, Shifts, Evicts}
+use Rattle.fkv_worlds.specs.declared.lives.End.{End}
+use Rattle.fkv_worlds.specs.declared.lives.End.TheVariants.{Failed, GivenUp}
 use Rattle.fkv_worlds.specs.declared.outcomes.Outcome.TheVariants as outcome
+use Rattle.fkv_worlds.specs.declared.steps.Access.{Access}
 use Rattle.fkv_worlds.specs.declared.steps.Place.{Place}
-use Rattle.fkv_worlds.specs.declared.steps.Step.TheVariants.{Enter, Leave, Refresh, ReadOnly, Issue, Go, Install, GiveUp}
+use Rattle.fkv_worlds.specs.declared.steps.Step.{Step}
+use Rattle.fkv_worlds.specs.declared.steps.Step.TheVariants.{Enter, Leave, Refresh, ReadOnly, Head, Issue, Go, Install, Load, GiveUp}
 use Rattle.fkv_worlds.specs.Changes.{ended_at}
-use Rattle.fkv_worlds.specs.States.{StateView, seat_row, seat_at, context_row, life_in, question_in}
+use Rattle.fkv_worlds.specs.Devices.{Comes}
+use Rattle.fkv_worlds.specs.Refusing as refusing
+use Rattle.fkv_worlds.specs.Refusing.{Refuses}
+use Rattle.fkv_worlds.specs.Lives.{finish_in}
+use Rattle.fkv_worlds.specs.Told.{ends_operation}
+use Rattle.fkv_worlds.specs.States.{StateView, seat_row, seat_at, context_row, life_in, question_in, receipt_in, is_unasked}
 use Rattle.fkv_worlds.specs.Moments.{IsMomentIn}
-use Rattle.fkv_worlds.specs.Acts.{Acts, after_issue, begun_life, lives_by, questions_by, told, lifeless}
+use Rattle.fkv_worlds.specs.Acts.{Acts, partition_in, after_issue, begun_life, lives_by, questions_by, receipts_by, told, lifeless}
 use Rattle.fkv_worlds.specs.Sound.{IsState}
 use Rattle.fkv_worlds.proofs.ManyLemmas.{asked-was}
-use Rattle.fkv_worlds.proofs.StateLemmas.{at-index, some-at, set-unchanged, seat-is, state-enter, state-quiet, state-issue, state-give_up, state-progress}
-use Rattle.fkv_worlds.proofs.ActsLemmas.{acts-no_enter, acts-enter, acts-no_leave, acts-leave, acts-no_refresh, acts-refresh, acts-no_shift, acts-shift, acts-no_issue, acts-issue, acts-no_give_up, acts-give_up, acts-no_go, acts-go, acts-no_install, acts-install}
+use Rattle.fkv_worlds.proofs.StateLemmas.{at-index, some-at, set-unchanged, seat-is, state-enter, state-quiet, state-issue, state-ended, state-progress, state-load}
+use Rattle.fkv_worlds.proofs.ActsLemmas.{acts-refused, acts-enter, acts-leave, acts-refresh, acts-shift, acts-evict, acts-issue, acts-give_up, acts-go, acts-install, acts-load, acts-fail}
 use Rattle.std.proofs.lemmas.Option.{slice_get_within}
 
-module _ {K V I O : Type 0} (cmp : K → K → Ordering) (f : Meanings K V I O) (code : K → ℕ) (s : StateView K V I O) (state : IsState cmp f code s) (p now : ℕ) (due : IsMomentIn s p now) where
+module _ {K V I O R : Type 0} (cmp : K → K → Ordering) (f : Meanings K V I O) (code : K → ℕ) (s : StateView K V I O R) (state : IsState cmp f code s) (p now : ℕ) (due : IsMomentIn s p now) where
   -- the rows of the partition
-  pub rows : (p < 64) × (p < length s.enters) × (p * 16 + 16 ≤ length s.seats) × (p * 128 + 128 ≤ length s.begun) × (p * 128 + 128 ≤ length s.questions)
+  pub rows : (p < 64) × (p < length s.enters) × (p * 16 + 16 ≤ length s.seats) × (p * 128 + 128 ≤ length s.begun) × (p * 128 + 128 ≤ length s.questions) × (p * 128 + 128 ≤ length s.receipts) × (p < length s.jobs)
   rows =
       let there = due.there in
       let most = state.tables.most in
@@ -40,9 +52,11 @@ module _ {K V I O : Type 0} (cmp : K → K → Ordering) (f : Meanings K V I O) 
       let seats = state.tables.seats in
       let begun = state.tables.begun in
       let questions = state.tables.questions in
-      (omega arith, omega arith, omega arith, omega arith, omega arith)
+      let receipts = state.tables.receipts in
+      let jobs = state.tables.jobs in
+      (omega arith, omega arith, omega arith, omega arith, omega arith, omega arith, omega arith)
 
-  entered : (n : ℕ) × (slice_get s.enters p ≡ Some n)
+  pub entered : (n : ℕ) × (slice_get s.enters p ≡ Some n)
   entered = let r = rows in some-at s.enters p r.1
 
   -- the counts of sessions and of issues are of past steps, so one more fits
@@ -54,7 +68,7 @@ module _ {K V I O : Type 0} (cmp : K → K → Ordering) (f : Meanings K V I O) 
       let fits = due.fits in
       rw n.1 (omega arith)
 
-  seated : (slot : ℕ) → slot < 16 → slice_get s.seats (seat_row p slot) ≡ Some (seat_at s.seats p slot)
+  pub seated : (slot : ℕ) → slot < 16 → slice_get s.seats (seat_row p slot) ≡ Some (seat_at s.seats p slot)
   seated slot low = let r = rows in seat-is s.seats p slot low (omega arith)
 
   pub issues-fit : (slot : ℕ) → slot < 16 → (seat_at s.seats p slot).issues < 2 ^ 64 - 1
@@ -64,140 +78,163 @@ module _ {K V I O : Type 0} (cmp : K → K → Ordering) (f : Meanings K V I O) 
       let fits = due.fits in
       omega arith
 
-  -- no memory is left for the life of an issue
-  pub lifeless-issue : (slot : ℕ) (op : Op K V I) → Acts cmp f code s s (Issue p slot op) (Err NoMemory)
-  lifeless-issue slot op =
-      let held = some-at s.partitions p due.there in
-      let next = due.next in
-      let fits = due.fits in
-      lifeless p slot op held.0 refl (record { here = held.1; question = λ w h. absurd (cc); moment = omega arith }) refl refl
-
   module _ (old : PartitionView K V I) (is : old ≡ slice_index_or s.partitions p old) where
-    here : slice_get s.partitions p ≡ Some old
+    pub here : slice_get s.partitions p ≡ Some old
     here = at-index s.partitions p old due.there is
 
     pub event-later : old.moment < now
     event-later = let m = state.world.housed.past p old here in let next = due.next in omega arith
 
-    module _ (new : PartitionView K V I) where
-      kept : new ≡ old → slice_set s.partitions p new ≡ s.partitions
-      kept same = set-unchanged s.partitions p old new here same
+    -- what is refused leaves the state
+    pub refused-state : (new : PartitionView K V I) → new ≡ old → IsState cmp f code (record s { partitions = slice_set s.partitions p new })
+    refused-state new same = rw (set-unchanged s.partitions p old new here same) state
 
-      -- what is refused leaves the state
-      pub refused-state : new ≡ old → IsState cmp f code (record s { partitions = slice_set s.partitions p new })
-      refused-state same = rw (kept same) state
-
-      pub refused-enter : (r : Refused) → new ≡ old → Enters old new now (Err r) → Acts cmp f code s (record s { partitions = slice_set s.partitions p new }) (Enter p) (Err r)
-      refused-enter r same does = rw (kept same) (acts-no_enter cmp f code s now due.next due.fits p old new here r same does)
-
-      pub refused-leave : (slot : ℕ) (r : Refused) → new ≡ old → Leaves old new slot now (Err r) → Acts cmp f code s (record s { partitions = slice_set s.partitions p new }) (Leave p slot) (Err r)
-      refused-leave slot r same does = rw (kept same) (acts-no_leave cmp f code s now due.next due.fits p old new here slot r same does)
-
-      pub refused-refresh : (slot : ℕ) (r : Refused) → new ≡ old → Refreshes old new slot now (Err r) → Acts cmp f code s (record s { partitions = slice_set s.partitions p new }) (Refresh p slot) (Err r)
-      refused-refresh slot r same does = rw (kept same) (acts-no_refresh cmp f code s now due.next due.fits p old new here slot r same does)
-
-      pub refused-shift : (page : ℕ) (r : Refused) → new ≡ old → Shifts old new page now (Err r) → Acts cmp f code s (record s { partitions = slice_set s.partitions p new }) (ReadOnly p page) (Err r)
-      refused-shift page r same does = rw (kept same) (acts-no_shift cmp f code s now due.next due.fits p old new here page r same does)
-
-      pub refused-issue : (slot : ℕ) (op : Op K V I) (r : Refused) → new ≡ old → Issues code old new slot op now (Err r) → Acts cmp f code s (record s { partitions = slice_set s.partitions p new }) (Issue p slot op) (Err r)
-      refused-issue slot op r same does = rw (kept same) (acts-no_issue cmp f code s now due.next due.fits p old new here slot op r same does)
-
-      -- what is done is the step's rule
-      pub does-enter : (slot : ℕ) → Enters old new now (Ok slot) → IsQuiet old new now → slot < 16
-          → Acts cmp f code s (record s {
+    module _ (new : PartitionView K V I) (o : IsKeyOrder cmp) where
+      pub entered-state : (slot : ℕ) → IsQuiet true old new now → AllPend cmp old new
+          → IsState cmp f code (record s {
             partitions = slice_set s.partitions p new;
             enters = slice_set s.enters p (unwrap_or (slice_get s.enters p) 0 + 1);
             seats = slice_set s.seats (seat_row p slot) (record { session = unwrap_or (slice_get s.enters p) 0 + 1; issues = 0 });
             moment = now;
-          }) (Enter p) (Ok (outcome.Entered slot))
-      does-enter slot does ev low = let n = entered in rw n.1 (acts-enter cmp f code s now due.next due.fits p old new here slot n.0 does ev low n.1)
+          })
+      entered-state slot ev pends = let n = entered in rw n.1 (state-enter cmp o f code s state now due.next p slot n.0 old new here ev pends n.1)
 
-      pub does-leave : (slot : ℕ) → Leaves old new slot now (Ok tt) → IsQuiet old new now → Acts cmp f code s (record s { partitions = slice_set s.partitions p new; moment = now }) (Leave p slot) (Ok outcome.Left)
-      does-leave slot does ev = acts-leave cmp f code s now due.next due.fits p old new here slot does ev
+      pub quiet-state : IsQuiet true old new now → AllPend cmp old new → IsState cmp f code (record s { partitions = slice_set s.partitions p new; moment = now })
+      quiet-state ev pends = state-quiet cmp o f code s state now due.next p old new here ev pends
 
-      pub does-refresh : (slot : ℕ) → Refreshes old new slot now (Ok tt) → IsQuiet old new now → Acts cmp f code s (record s { partitions = slice_set s.partitions p new; moment = now }) (Refresh p slot) (Ok outcome.Refreshed)
-      does-refresh slot does ev = acts-refresh cmp f code s now due.next due.fits p old new here slot does ev
-
-      pub does-shift : (page : ℕ) → Shifts old new page now (Ok tt) → IsQuiet old new now → Acts cmp f code s (record s { partitions = slice_set s.partitions p new; moment = now }) (ReadOnly p page) (Ok outcome.Shifted)
-      does-shift page does ev = acts-shift cmp f code s now due.next due.fits p old new here page does ev
-
-      pub does-issue : (slot c : ℕ) (op : Op K V I) → Issues code old new slot op now (Ok c) → IsIssue code old new slot c op now → slot < 16
-          → Acts cmp f code s (record s {
+      pub issued-state : (slot c : ℕ) (op : Op K V I) → IsIssue code old new slot c op now → AllPend cmp old new → slot < 16 → c < 8
+          → IsState cmp f code (record s {
             partitions = slice_set s.partitions p new;
             seats = slice_set s.seats (seat_row p slot) (after_issue (seat_at s.seats p slot));
             begun = slice_set s.begun (context_row (record { partition = p; slot = slot; context = c })) (length s.lives);
             questions = slice_set s.questions (context_row (record { partition = p; slot = slot; context = c })) None;
+            receipts = slice_set s.receipts (context_row (record { partition = p; slot = slot; context = c })) None;
             lives = s.lives ++ begun_life p (seat_at s.seats p slot) op now ∷ [];
             moment = now;
-          }) (Issue p slot op) (Ok (outcome.Issued c))
-      does-issue slot c op does ev low = acts-issue cmp f code s now due.next due.fits p old new here slot c op (seat_at s.seats p slot) does ev low (seated slot low)
+          })
+      issued-state slot c op ev pends low within = state-issue cmp o f code s state now due.next p slot c op (seat_at s.seats p slot) old new here ev pends low within (seated slot low)
 
-      -- and keeps what every state keeps
-      module _ (o : IsKeyOrder cmp) where
-        pub entered-state : (slot : ℕ) → IsQuiet old new now
-            → IsState cmp f code (record s {
-              partitions = slice_set s.partitions p new;
-              enters = slice_set s.enters p (unwrap_or (slice_get s.enters p) 0 + 1);
-              seats = slice_set s.seats (seat_row p slot) (record { session = unwrap_or (slice_get s.enters p) 0 + 1; issues = 0 });
-              moment = now;
-            })
-        entered-state slot ev = let n = entered in rw n.1 (state-enter cmp o f code s state now due.next p slot n.0 old new here ev n.1)
+-- the step's rule
+module _ {K V I O R : Type 0} {stands : R → Standing} {entry : ℕ → List ℕ → ℕ → Entry K V → Type 0} (cmp : K → K → Ordering) (f : Meanings K V I O) (code : K → ℕ) (s : StateView K V I O R) (state : IsState cmp f code s) (p now : ℕ) (due : IsMomentIn s p now) where
+  -- no memory is left for the life of an issue
+  pub lifeless-issue : (slot : ℕ) (op : Op K V I) → Acts stands entry cmp f code s s (Issue p slot op) (Err NoMemory)
+  lifeless-issue slot op =
+      let held = some-at s.partitions p due.there in
+      let next = due.next in
+      let fits = due.fits in
+      lifeless p slot op held.0 refl (record { here = held.1; asked = refl; moment = omega arith }) refl refl
 
-        pub quiet-state : IsQuiet old new now → IsState cmp f code (record s { partitions = slice_set s.partitions p new; moment = now })
-        quiet-state ev = state-quiet cmp o f code s state now due.next p old new here ev
+  module _ (old : PartitionView K V I) (is : old ≡ slice_index_or s.partitions p old) (new : PartitionView K V I) where
+    -- what the partition refuses
+    pub refused-step : (step : Step K V I) → partition_in step ≡ p → is_unasked s step ≡ false → (r : Refused) → new ≡ old → Refuses stands entry cmp f code s old now r step
+        → Acts stands entry cmp f code s (record s { partitions = slice_set s.partitions p new }) step (Err r)
+    refused-step step at asked r same refuses =
+        rw (set-unchanged s.partitions p old new (here cmp f code s state p now due old is) same)
+        (acts-refused stands entry cmp f code s now due.next due.fits step old r (ap (slice_get s.partitions) at ∙ here cmp f code s state p now due old is) asked refuses)
 
-        pub issued-state : (slot c : ℕ) (op : Op K V I) → IsIssue code old new slot c op now → slot < 16 → c < 8
-            → IsState cmp f code (record s {
-              partitions = slice_set s.partitions p new;
-              seats = slice_set s.seats (seat_row p slot) (after_issue (seat_at s.seats p slot));
-              begun = slice_set s.begun (context_row (record { partition = p; slot = slot; context = c })) (length s.lives);
-              questions = slice_set s.questions (context_row (record { partition = p; slot = slot; context = c })) None;
-              lives = s.lives ++ begun_life p (seat_at s.seats p slot) op now ∷ [];
-              moment = now;
-            })
-        issued-state slot c op ev low within = state-issue cmp o f code s state now due.next p slot c op (seat_at s.seats p slot) old new here ev low within (seated slot low)
+    pub refused-enter : (r : Refused) → new ≡ old → Enters old new now (Err r) → Acts stands entry cmp f code s (record s { partitions = slice_set s.partitions p new }) (Enter p) (Err r)
+    refused-enter r same does = refused-step (Enter p) refl refl r same (refusing.enter p (subst (λ v. Enters old v now (Err r)) same does))
+
+    pub refused-leave : (slot : ℕ) (r : Refused) → new ≡ old → Leaves true old new slot now (Err r) → Acts stands entry cmp f code s (record s { partitions = slice_set s.partitions p new }) (Leave p slot) (Err r)
+    refused-leave slot r same does = refused-step (Leave p slot) refl refl r same (refusing.leave p slot (subst (λ v. Leaves true old v slot now (Err r)) same does))
+
+    pub refused-refresh : (slot : ℕ) (r : Refused) → new ≡ old → Refreshes true old new slot now (Err r) → Acts stands entry cmp f code s (record s { partitions = slice_set s.partitions p new }) (Refresh p slot) (Err r)
+    refused-refresh slot r same does = refused-step (Refresh p slot) refl refl r same (refusing.refresh p slot (subst (λ v. Refreshes true old v slot now (Err r)) same does))
+
+    pub refused-shift : (page : ℕ) (r : Refused) → new ≡ old → Shifts true old new page now (Err r) → Acts stands entry cmp f code s (record s { partitions = slice_set s.partitions p new }) (ReadOnly p page) (Err r)
+    refused-shift page r same does = refused-step (ReadOnly p page) refl refl r same (refusing.shift p page (subst (λ v. Shifts true old v page now (Err r)) same does))
+
+    pub refused-evict : (page : ℕ) (r : Refused) → new ≡ old → Evicts true old new page now (Err r) → Acts stands entry cmp f code s (record s { partitions = slice_set s.partitions p new }) (Head p page) (Err r)
+    refused-evict page r same does = refused-step (Head p page) refl refl r same (refusing.evict p page (subst (λ v. Evicts true old v page now (Err r)) same does))
+
+    pub refused-issue : (slot : ℕ) (op : Op K V I) (r : Refused) → new ≡ old → Issues code old new slot op now (Err r) → Acts stands entry cmp f code s (record s { partitions = slice_set s.partitions p new }) (Issue p slot op) (Err r)
+    refused-issue slot op r same does = refused-step (Issue p slot op) refl refl r same (refusing.issue p slot op (subst (λ v. Issues code old v slot op now (Err r)) same does))
+
+    pub does-enter : (slot : ℕ) → Enters old new now (Ok slot) → IsQuiet true old new now → slot < 16
+        → Acts stands entry cmp f code s (record s {
+          partitions = slice_set s.partitions p new;
+          enters = slice_set s.enters p (unwrap_or (slice_get s.enters p) 0 + 1);
+          seats = slice_set s.seats (seat_row p slot) (record { session = unwrap_or (slice_get s.enters p) 0 + 1; issues = 0 });
+          moment = now;
+        }) (Enter p) (Ok (outcome.Entered slot))
+    does-enter slot does ev low = let n = entered cmp f code s state p now due in rw n.1 (acts-enter stands entry cmp f code s now due.next due.fits p old new (here cmp f code s state p now due old is) slot n.0 does ev low n.1)
+
+    pub does-leave : (slot : ℕ) → Leaves true old new slot now (Ok tt) → IsQuiet true old new now → Acts stands entry cmp f code s (record s { partitions = slice_set s.partitions p new; moment = now }) (Leave p slot) (Ok outcome.Left)
+    does-leave slot does ev = acts-leave stands entry cmp f code s now due.next due.fits p old new (here cmp f code s state p now due old is) slot does ev
+
+    pub does-refresh : (slot : ℕ) → Refreshes true old new slot now (Ok tt) → IsQuiet true old new now → Acts stands entry cmp f code s (record s { partitions = slice_set s.partitions p new; moment = now }) (Refresh p slot) (Ok outcome.Refreshed)
+    does-refresh slot does ev = acts-refresh stands entry cmp f code s now due.next due.fits p old new (here cmp f code s state p now due old is) slot does ev
+
+    pub does-shift : (page : ℕ) → Shifts true old new page now (Ok tt) → IsQuiet true old new now → Acts stands entry cmp f code s (record s { partitions = slice_set s.partitions p new; moment = now }) (ReadOnly p page) (Ok outcome.Shifted)
+    does-shift page does ev = acts-shift stands entry cmp f code s now due.next due.fits p old new (here cmp f code s state p now due old is) page does ev
+
+    pub does-evict : (page : ℕ) → Evicts true old new page now (Ok tt) → IsQuiet true old new now → Acts stands entry cmp f code s (record s { partitions = slice_set s.partitions p new; moment = now }) (Head p page) (Ok outcome.Shifted)
+    does-evict page does ev = acts-evict stands entry cmp f code s now due.next due.fits p old new (here cmp f code s state p now due old is) page does ev
+
+    pub does-issue : (slot c : ℕ) (op : Op K V I) → Issues code old new slot op now (Ok c) → IsIssue code old new slot c op now → slot < 16
+        → Acts stands entry cmp f code s (record s {
+          partitions = slice_set s.partitions p new;
+          seats = slice_set s.seats (seat_row p slot) (after_issue (seat_at s.seats p slot));
+          begun = slice_set s.begun (context_row (record { partition = p; slot = slot; context = c })) (length s.lives);
+          questions = slice_set s.questions (context_row (record { partition = p; slot = slot; context = c })) None;
+          receipts = slice_set s.receipts (context_row (record { partition = p; slot = slot; context = c })) None;
+          lives = s.lives ++ begun_life p (seat_at s.seats p slot) op now ∷ [];
+          moment = now;
+        }) (Issue p slot op) (Ok (outcome.Issued c))
+    does-issue slot c op does ev low = acts-issue stands entry cmp f code s now due.next due.fits p old new (here cmp f code s state p now due old is) slot c op (seat_at s.seats p slot) does ev low (seated cmp f code s state p now due slot low)
 
 -- the same in a context of the partition
-module _ {K V I O : Type 0} (cmp : K → K → Ordering) (f : Meanings K V I O) (code : K → ℕ) (s : StateView K V I O) (state : IsState cmp f code s) (w : Place) (now : ℕ) (due : IsMomentIn s w.partition now) (old : PartitionView K V I) (is : old ≡ slice_index_or s.partitions w.partition old) where
-  there : slice_get s.partitions w.partition ≡ Some old
-  there = at-index s.partitions w.partition old due.there is
+module _ {K V I O R : Type 0} (cmp : K → K → Ordering) (f : Meanings K V I O) (code : K → ℕ) (s : StateView K V I O R) (state : IsState cmp f code s) (w : Place) (now : ℕ) (due : IsMomentIn s w.partition now) (old : PartitionView K V I) (is : old ≡ slice_index_or s.partitions w.partition old) where
+  at : slice_get s.partitions w.partition ≡ Some old
+  at = at-index s.partitions w.partition old due.there is
 
   -- the life of an open operation stands in the list
   pub life-there : (x : Asked K V I) → asked old w.slot w.context ≡ Some x → life_in s.begun w < length s.lives
-  life-there x h = let l = state.world.linked.linked w x (asked-was s.partitions w.partition old old there w.slot w.context ∙ h) in slice_get_within s.lives (life_in s.begun w) l.life l.here
+  life-there x h = let l = state.world.linked.linked w x (asked-was s.partitions w.partition old old at w.slot w.context ∙ h) in slice_get_within s.lives (life_in s.begun w) l.life l.here
 
-  module _ (new : PartitionView K V I) where
-    same-list : new ≡ old → slice_set s.partitions w.partition new ≡ s.partitions
-    same-list same = set-unchanged s.partitions w.partition old new there same
+  module _ (new : PartitionView K V I) (o : IsKeyOrder cmp) (others : OthersPend cmp old new w.slot w.context) where
+    pub ended-state : (end : End O) → finish_in end ≡ None → IsGiveUp old new w.slot w.context now → IsState cmp f code (record s { partitions = slice_set s.partitions w.partition new; lives = ended_at s.lives (life_in s.begun w) end; moment = now })
+    ended-state end untold ev = state-ended cmp o f code s state now due.next w old new end untold at ev others
 
-    pub refused-give_up : (r : Refused) → new ≡ old → GivesUp old new w.slot w.context now (Err r) → Acts cmp f code s (record s { partitions = slice_set s.partitions w.partition new }) (GiveUp w) (Err r)
-    refused-give_up r same does = rw (same-list same) (acts-no_give_up cmp f code s now due.next due.fits w old new there r same does)
+    pub progressed-state : (progress : Progress K V I O R) → IsEvent cmp f old new w.slot w.context now progress → Finds cmp old new w.slot w.context now progress
+        → IsState cmp f code (record s { partitions = slice_set s.partitions w.partition new; questions = questions_by s.questions (context_row w) progress; receipts = receipts_by s.receipts (context_row w) progress; lives = lives_by s.lives (life_in s.begun w) now progress; moment = now })
+    progressed-state progress ev finds = state-progress cmp o f code s state now due.next w old new at others progress ev finds
 
-    pub does-give_up : GivesUp old new w.slot w.context now (Ok tt) → IsGiveUp old new w.slot w.context now
-        → Acts cmp f code s (record s { partitions = slice_set s.partitions w.partition new; lives = ended_at s.lives (life_in s.begun w) GivenUp; moment = now }) (GiveUp w) (Ok outcome.GivenUp)
-    does-give_up does ev = acts-give_up cmp f code s now due.next due.fits w old new there does ev
+    pub loaded-state : (progress : Progress K V I O R) → IsLoad cmp f old new w.slot w.context now progress
+        → IsState cmp f code (record s { partitions = slice_set s.partitions w.partition new; questions = questions_by s.questions (context_row w) progress; receipts = receipts_by s.receipts (context_row w) progress; lives = lives_by s.lives (life_in s.begun w) now progress; moment = now })
+    loaded-state progress ev = state-load cmp o f code s state now due.next w old new at others progress ev
 
-    pub refused-go : (r : Refused) → new ≡ old → Goes cmp f code old new w.slot w.context now (Err r) → Acts cmp f code s (record s { partitions = slice_set s.partitions w.partition new }) (Go w) (Err r)
-    refused-go r same does = rw (same-list same) (acts-no_go cmp f code s now due.next due.fits w old new there r same does)
+module _ {K V I O R : Type 0} {stands : R → Standing} {entry : ℕ → List ℕ → ℕ → Entry K V → Type 0} (cmp : K → K → Ordering) (f : Meanings K V I O) (code : K → ℕ) (s : StateView K V I O R) (state : IsState cmp f code s) (w : Place) (now : ℕ) (due : IsMomentIn s w.partition now) (old : PartitionView K V I) (is : old ≡ slice_index_or s.partitions w.partition old) (new : PartitionView K V I) where
+  pub refused-give_up : (r : Refused) → new ≡ old → GivesUp old new w.slot w.context now (Err r) → Acts stands entry cmp f code s (record s { partitions = slice_set s.partitions w.partition new }) (GiveUp w) (Err r)
+  refused-give_up r same does = refused-step cmp f code s state w.partition now due old is new (GiveUp w) refl refl r same (refusing.give_up w (subst (λ v. GivesUp old v w.slot w.context now (Err r)) same does))
 
-    pub does-go : (progress : Progress K V I O) → Goes cmp f code old new w.slot w.context now (Ok progress) → IsEvent cmp f old new w.slot w.context now progress
-        → Acts cmp f code s (record s { partitions = slice_set s.partitions w.partition new; questions = questions_by s.questions (context_row w) progress; lives = lives_by s.lives (life_in s.begun w) now progress; moment = now })
-        (Go w) (Ok (told progress))
-    does-go progress does ev = acts-go cmp f code s now due.next due.fits w old new there progress does ev
+  pub does-give_up : GivesUp old new w.slot w.context now (Ok tt) → IsGiveUp old new w.slot w.context now
+      → Acts stands entry cmp f code s (record s { partitions = slice_set s.partitions w.partition new; lives = ended_at s.lives (life_in s.begun w) GivenUp; moment = now }) (GiveUp w) (Ok outcome.GivenUp)
+  does-give_up does ev = acts-give_up stands entry cmp f code s now due.next due.fits w old new (here cmp f code s state w.partition now due old is) does ev
 
-    module _ (ask : Ask K V I) (asks : question_in s.questions w ≡ Some ask) where
-      pub refused-install : (r : Refused) → new ≡ old → Installs cmp f code old new w.slot w.context ask now (Err r) → Acts cmp f code s (record s { partitions = slice_set s.partitions w.partition new }) (Install w) (Err r)
-      refused-install r same does = rw (same-list same) (acts-no_install cmp f code s now due.next due.fits w old new there ask asks r same does)
+  pub refused-go : (r : Refused) → new ≡ old → Goes stands cmp f code old new w.slot w.context now (Err r) → Acts stands entry cmp f code s (record s { partitions = slice_set s.partitions w.partition new }) (Go w) (Err r)
+  refused-go r same does = refused-step cmp f code s state w.partition now due old is new (Go w) refl refl r same (refusing.go w (subst (λ v. Goes stands cmp f code old v w.slot w.context now (Err r)) same does))
 
-      pub does-install : (progress : Progress K V I O) → Installs cmp f code old new w.slot w.context ask now (Ok progress) → IsEvent cmp f old new w.slot w.context now progress
-          → Acts cmp f code s (record s { partitions = slice_set s.partitions w.partition new; questions = questions_by s.questions (context_row w) progress; lives = lives_by s.lives (life_in s.begun w) now progress; moment = now })
-          (Install w) (Ok (told progress))
-      does-install progress does ev = acts-install cmp f code s now due.next due.fits w old new there ask asks progress does ev
+  pub does-go : (progress : Progress K V I O R) → Goes stands cmp f code old new w.slot w.context now (Ok progress) → IsEvent cmp f old new w.slot w.context now progress
+      → Acts stands entry cmp f code s (record s { partitions = slice_set s.partitions w.partition new; questions = questions_by s.questions (context_row w) progress; receipts = receipts_by s.receipts (context_row w) progress; lives = lives_by s.lives (life_in s.begun w) now progress; moment = now }) (Go w) (Ok (told progress))
+  does-go progress does ev = acts-go stands entry cmp f code s now due.next due.fits w old new (here cmp f code s state w.partition now due old is) progress does ev
 
-    module _ (o : IsKeyOrder cmp) where
-      pub given_up-state : IsGiveUp old new w.slot w.context now → IsState cmp f code (record s { partitions = slice_set s.partitions w.partition new; lives = ended_at s.lives (life_in s.begun w) GivenUp; moment = now })
-      given_up-state ev = state-give_up cmp o f code s state now due.next w old new there ev
+  module _ (ask : Ask K V I) (asks : question_in s.questions w ≡ Some ask) where
+    pub refused-install : (r : Refused) → new ≡ old → Installs {R = R} cmp f code old new w.slot w.context ask now (Err r) → Acts stands entry cmp f code s (record s { partitions = slice_set s.partitions w.partition new }) (Install w) (Err r)
+    refused-install r same does = refused-step cmp f code s state w.partition now due old is new (Install w) refl (rw asks refl) r same (refusing.install w ask asks (subst (λ v. Installs {R = R} cmp f code old v w.slot w.context ask now (Err r)) same does))
 
-      pub progressed-state : (progress : Progress K V I O) → IsEvent cmp f old new w.slot w.context now progress
-          → IsState cmp f code (record s { partitions = slice_set s.partitions w.partition new; questions = questions_by s.questions (context_row w) progress; lives = lives_by s.lives (life_in s.begun w) now progress; moment = now })
-      progressed-state progress ev = state-progress cmp o f code s state now due.next w old new there progress ev
+    pub does-install : (progress : Progress K V I O R) → Installs cmp f code old new w.slot w.context ask now (Ok progress) → IsEvent cmp f old new w.slot w.context now progress
+        → Acts stands entry cmp f code s (record s { partitions = slice_set s.partitions w.partition new; questions = questions_by s.questions (context_row w) progress; receipts = receipts_by s.receipts (context_row w) progress; lives = lives_by s.lives (life_in s.begun w) now progress; moment = now }) (Install w) (Ok (told progress))
+    does-install progress does ev = acts-install stands entry cmp f code s now due.next due.fits w old new (here cmp f code s state w.partition now due old is) ask asks progress does ev
+
+  module _ (access : Access) (receipt : R) (came : Result (Joined R) Refused) (asks : receipt_in s.receipts w ≡ Some receipt) (comes : Comes stands receipt access came) where
+    pub refused-load : (r : Refused) → new ≡ old → ends_operation r ≡ false → Loads stands entry cmp f old new w.slot w.context came now (Err r) → Acts stands entry cmp f code s (record s { partitions = slice_set s.partitions w.partition new }) (Load w access) (Err r)
+    refused-load r same quiet does = refused-step cmp f code s state w.partition now due old is new (Load w access) refl (rw asks refl) r same (refusing.load w access receipt came asks comes (subst (λ v. Loads stands entry cmp f old v w.slot w.context came now (Err r)) same does) quiet)
+
+    pub does-load : (progress : Progress K V I O R) → Loads stands entry cmp f old new w.slot w.context came now (Ok progress) → IsLoad cmp f old new w.slot w.context now progress
+        → Acts stands entry cmp f code s (record s { partitions = slice_set s.partitions w.partition new; questions = questions_by s.questions (context_row w) progress; receipts = receipts_by s.receipts (context_row w) progress; lives = lives_by s.lives (life_in s.begun w) now progress; moment = now }) (Load w access) (Ok (told progress))
+    does-load progress does ev = acts-load stands entry cmp f code s now due.next due.fits w old new (here cmp f code s state w.partition now due old is) access receipt came asks comes progress does ev
+
+    pub does-fail : (r : Refused) → ends_operation r ≡ true → Loads stands entry cmp f old new w.slot w.context came now (Err r) → IsGiveUp old new w.slot w.context now
+        → Acts stands entry cmp f code s (record s { partitions = slice_set s.partitions w.partition new; lives = ended_at s.lives (life_in s.begun w) Failed; moment = now }) (Load w access) (Err r)
+    does-fail r ends does ev = acts-fail stands entry cmp f code s now due.next due.fits w old new (here cmp f code s state w.partition now due old is) access receipt came asks comes r does ends ev

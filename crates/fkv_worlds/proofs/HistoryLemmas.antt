@@ -5,22 +5,31 @@ use Rattle.std.proofs.lemmas.Bool.Decides.{nat_tests}
 use Rattle.std.specs.declared.cmp.Ordering.{Ordering}
 use Rattle.fkv_functions.specs.Meanings.{Meanings}
 use Rattle.fkv_functions.specs.declared.refusals.Refused.{Refused}
+use Rattle.fkv_functions.specs.declared.refusals.Refused.TheVariants.{NoMemory, Unknown, NotReady, Worn}
+use Rattle.fkv_device.specs.Standing.{Standing}
+use Rattle.fkv_texts.specs.declared.entries.Entry.{Entry}
 use Rattle.fkv_operations.specs.declared.operations.Op.{Op}
 use Rattle.fkv_device_partition.specs.declared.contexts.Progress.{Progress}
-use Rattle.fkv_device_partition.specs.declared.contexts.Progress.TheVariants.{Done, Next, NeedsBuild, Waits}
+use Rattle.fkv_device_partition.specs.declared.contexts.Progress.TheVariants.{Done, Next, NeedsBuild, NeedsLoad, Waits}
 use Rattle.fkv_functions.proofs.ListLemmas.{get-set_other}
 use Rattle.fkv_worlds.specs.declared.lives.Life.{Life}
 use Rattle.fkv_worlds.specs.declared.lives.End.{End}
 use Rattle.fkv_worlds.specs.declared.outcomes.Outcome.{Outcome}
 use Rattle.fkv_worlds.specs.declared.outcomes.Outcome.TheVariants as outcome
+use Rattle.fkv_worlds.specs.declared.steps.Access.{Access}
+use Rattle.fkv_worlds.specs.declared.steps.Access.TheVariants.{Works}
+use Rattle.fkv_worlds.specs.declared.steps.Place.{Place}
 use Rattle.fkv_worlds.specs.declared.steps.Step.{Step}
 use Rattle.fkv_worlds.specs.declared.steps.Step.TheVariants as step
 use Rattle.fkv_worlds.specs.declared.tables.Seat.{Seat}
 use Rattle.fkv_worlds.specs.Changes.{ended_at}
 use Rattle.fkv_device_partition.specs.declared.limits.Config.{Config}
 use Rattle.fkv_worlds.specs.States.{StateView, WorldView, seat_row, empty_state, empty_world}
+use Rattle.fkv_worlds.specs.Told.{ends_operation}
 use Rattle.fkv_worlds.proofs.EmptyLemmas.{replicate-at}
-use Rattle.fkv_worlds.specs.Acts.{Acts, begun_life, lives_by, told, nowhere, unasked, unknown, worn, lifeless, refuses_enter, enters, refuses_leave, leaves, refuses_refresh, refreshes, refuses_shift, shifts, refuses_give_up, gives_up, refuses_issue, issues, refuses_go, goes, refuses_install, installs}
+use Rattle.fkv_worlds.proofs.RefusedLemmas.{refuses-no, spoils-no}
+use Rattle.fkv_worlds.specs.Acts as acts
+use Rattle.fkv_worlds.specs.Acts.{Acts, begun_life, lives_by, told}
 use Rattle.fkv_worlds.specs.Histories.{Event, backwards, entered_at, issued_at, moments, enters_in, session_in, issues_in, issue_of}
 use Rattle.fkv_worlds.specs.Reports.{RunsTo}
 
@@ -60,28 +69,51 @@ ended-issue_of [] j e = refl
 ended-issue_of (x ∷ xs) zero e = refl
 ended-issue_of (x ∷ xs) (suc j) e = ap (λ ys. issue_of x ∷ ys) (ended-issue_of xs j e)
 
-progress-issue_of : {K V I O : Type 0} (lives : List (Life K V I O)) (j now : ℕ) (p : Progress K V I O) → map issue_of (lives_by lives j now p) ≡ map issue_of lives
+progress-issue_of : {K V I O R : Type 0} (lives : List (Life K V I O)) (j now : ℕ) (p : Progress K V I O R) → map issue_of (lives_by lives j now p) ≡ map issue_of lives
 progress-issue_of lives j now (Done a effect) = ended-issue_of lives j _
 progress-issue_of lives j now Next = refl
 progress-issue_of lives j now (NeedsBuild ask) = refl
+progress-issue_of lives j now (NeedsLoad receipt address) = refl
 progress-issue_of lives j now (Waits why) = refl
 
 -- the moment, the tables and the lives are those of the history
-pub record HasHistory {K V I O : Type 0} (s : StateView K V I O) (h : List (Event K V I O)) : Type 0 where
+pub record HasHistory {K V I O R : Type 0} (s : StateView K V I O R) (h : List (Event K V I O)) : Type 0 where
   pub moment : s.moment ≡ moments h
   pub enters : (p n : ℕ) → slice_get s.enters p ≡ Some n → n ≡ enters_in p h
   pub seats : (p slot : ℕ) (x : Seat) → slot < 16 → slice_get s.seats (seat_row p slot) ≡ Some x → x.session ≡ session_in p slot h
   pub lives : map issue_of s.lives ≡ issues_in h
 
-module _ {K V I O : Type 0} (s : StateView K V I O) (h : List (Event K V I O)) (history : HasHistory s h) where
-  refused : (t : Step K V I) (e : Refused) → HasHistory s (record { step = t; told = Err e } ∷ h)
-  refused t e = record { moment = history.moment; enters = history.enters; seats = history.seats; lives = history.lives ∙ sym (append-nothing (issues_in h)) }
+module _ {K V I O R : Type 0} (s : StateView K V I O R) (h : List (Event K V I O)) (history : HasHistory s h) where
+  refused : (t : Step K V I) (e : Refused) → ends_operation e ≡ false → HasHistory s (record { step = t; told = Err e } ∷ h)
+  refused t e quiet = record { moment = rw quiet history.moment; enters = history.enters; seats = history.seats; lives = history.lives ∙ sym (append-nothing (issues_in h)) }
 
-  kept-state : (new : StateView K V I O) (t : Step K V I) (r : Result (Outcome V O) Refused) (e : Refused) → new ≡ s → r ≡ Err e → HasHistory new (record { step = t; told = r } ∷ h)
-  kept-state new t r e same is = rw (is, same) (refused t e)
+  kept-state : (new : StateView K V I O R) (t : Step K V I) (r : Result (Outcome V O) Refused) (e : Refused) → ends_operation e ≡ false → new ≡ s → r ≡ Err e → HasHistory new (record { step = t; told = r } ∷ h)
+  kept-state new t r e quiet same is = rw (is, same) (refused t e quiet)
+
+  -- a load that is refused and ends its operation
+  failing : (new : StateView K V I O R) (t : Step K V I) (e : Refused) → ends_operation e ≡ true
+      → new.moment ≡ suc s.moment → new.enters ≡ s.enters → new.seats ≡ s.seats → map issue_of new.lives ≡ map issue_of s.lives
+      → HasHistory new (record { step = t; told = Err e } ∷ h)
+  failing new t e ends now tables seated lived = record {
+    moment = rw ends (now ∙ ap suc history.moment);
+    enters = λ p n k. history.enters p n (ap (λ xs. slice_get xs p) (sym tables) ∙ k);
+    seats = λ p slot y low k. history.seats p slot y low (ap (λ xs. slice_get xs (seat_row p slot)) (sym seated) ∙ k);
+    lives = lived ∙ history.lives ∙ sym (append-nothing (issues_in h));
+  }
+
+  -- a write that is refused and spends its page
+  spoiling : (new : StateView K V I O R) (t : Step K V I) (e : Refused) → ends_operation e ≡ false
+      → new.moment ≡ s.moment → new.enters ≡ s.enters → new.seats ≡ s.seats → new.lives ≡ s.lives
+      → HasHistory new (record { step = t; told = Err e } ∷ h)
+  spoiling new t e quiet now tables seated lived = record {
+    moment = rw quiet (now ∙ history.moment);
+    enters = λ p n k. history.enters p n (ap (λ xs. slice_get xs p) (sym tables) ∙ k);
+    seats = λ p slot y low k. history.seats p slot y low (ap (λ xs. slice_get xs (seat_row p slot)) (sym seated) ∙ k);
+    lives = ap (map issue_of) lived ∙ history.lives ∙ sym (append-nothing (issues_in h));
+  }
 
   -- a step by which nobody enters and nothing is issued
-  quiet : (new : StateView K V I O) (t : Step K V I) (x : Outcome V O) → entered_at (Ok x) t ≡ None → issued_at (Ok x) t ≡ None
+  quiet : (new : StateView K V I O R) (t : Step K V I) (x : Outcome V O) → entered_at (Ok x) t ≡ None → issued_at (Ok x) t ≡ None
       → new.moment ≡ suc s.moment → new.enters ≡ s.enters → new.seats ≡ s.seats → map issue_of new.lives ≡ map issue_of s.lives
       → HasHistory new (record { step = t; told = Ok x } ∷ h)
   quiet new t x nobody nothing now tables seated lived = record {
@@ -92,7 +124,7 @@ module _ {K V I O : Type 0} (s : StateView K V I O) (h : List (Event K V I O)) (
   }
 
   -- a session enters
-  entering : (new : StateView K V I O) (p slot n : ℕ) → slot < 16 → slice_get s.enters p ≡ Some n → new.moment ≡ suc s.moment → new.enters ≡ slice_set s.enters p (suc n)
+  entering : (new : StateView K V I O R) (p slot n : ℕ) → slot < 16 → slice_get s.enters p ≡ Some n → new.moment ≡ suc s.moment → new.enters ≡ slice_set s.enters p (suc n)
       → new.seats ≡ slice_set s.seats (seat_row p slot) (record { session = suc n; issues = 0 }) → new.lives ≡ s.lives
       → HasHistory new (record { step = step.Enter p; told = Ok (outcome.Entered slot) } ∷ h)
   entering new p slot n low count now tables seated lived = record {
@@ -123,7 +155,7 @@ module _ {K V I O : Type 0} (s : StateView K V I O) (h : List (Event K V I O)) (
       ]
 
   -- an operation is issued
-  issuing : (new : StateView K V I O) (p slot c : ℕ) (op : Op K V I) (seat after : Seat) → slot < 16 → slice_get s.seats (seat_row p slot) ≡ Some seat → after.session ≡ seat.session
+  issuing : (new : StateView K V I O R) (p slot c : ℕ) (op : Op K V I) (seat after : Seat) → slot < 16 → slice_get s.seats (seat_row p slot) ≡ Some seat → after.session ≡ seat.session
       → new.moment ≡ suc s.moment → new.enters ≡ s.enters → new.seats ≡ slice_set s.seats (seat_row p slot) after
       → new.lives ≡ s.lives ++ begun_life p seat op (suc s.moment) ∷ []
       → HasHistory new (record { step = step.Issue p slot op; told = Ok (outcome.Issued c) } ∷ h)
@@ -146,70 +178,85 @@ module _ {K V I O : Type 0} (s : StateView K V I O) (h : List (Event K V I O)) (
       ]
 
 -- ---- each step adds itself
-module _ {K V I O : Type 0} (cmp : K → K → Ordering) (f : Meanings K V I O) (code : K → ℕ) (s : StateView K V I O) (h : List (Event K V I O)) (history : HasHistory s h) where
-  progressing : (new : StateView K V I O) (t : Step K V I) (r : Result (Outcome V O) Refused) (j : ℕ) (p : Progress K V I O)
+module _ {K V I O R : Type 0} (stands : R → Standing) (entry : ℕ → List ℕ → ℕ → Entry K V → Type 0) (cmp : K → K → Ordering) (f : Meanings K V I O) (code : K → ℕ) (s : StateView K V I O R) (h : List (Event K V I O)) (history : HasHistory s h) where
+  progressing : (new : StateView K V I O R) (t : Step K V I) (r : Result (Outcome V O) Refused) (j : ℕ) (p : Progress K V I O R)
       → entered_at (Ok (told p)) t ≡ None → issued_at (Ok (told p)) t ≡ None
       → new.moment ≡ suc s.moment → new.enters ≡ s.enters → new.seats ≡ s.seats → new.lives ≡ lives_by s.lives j (suc s.moment) p → r ≡ Ok (told p)
       → HasHistory new (record { step = t; told = r } ∷ h)
   progressing new t r j p nobody nothing now tables seated lived is =
       rw is (quiet s h history new t (told p) nobody nothing now tables seated (ap (map issue_of) lived ∙ progress-issue_of s.lives j (suc s.moment) p))
 
-  nobody_goes : (p : Progress K V I O) (w : _) → entered_at {K = K} {I = I} (Ok (told p)) (step.Go w) ≡ None
-  nobody_goes (Done a effect) w = refl
+  nobody_goes : (p : Progress K V I O R) (w : Place) → entered_at {K = K} {I = I} (Ok (told p)) (step.Go w) ≡ None
+  nobody_goes (Done x effect) w = refl
   nobody_goes Next w = refl
   nobody_goes (NeedsBuild ask) w = refl
+  nobody_goes (NeedsLoad receipt address) w = refl
   nobody_goes (Waits why) w = refl
 
-  nobody_installs : (p : Progress K V I O) (w : _) → entered_at {K = K} {I = I} (Ok (told p)) (step.Install w) ≡ None
-  nobody_installs (Done a effect) w = refl
+  nobody_installs : (p : Progress K V I O R) (w : Place) → entered_at {K = K} {I = I} (Ok (told p)) (step.Install w) ≡ None
+  nobody_installs (Done x effect) w = refl
   nobody_installs Next w = refl
   nobody_installs (NeedsBuild ask) w = refl
+  nobody_installs (NeedsLoad receipt address) w = refl
   nobody_installs (Waits why) w = refl
 
-  pub history-acts : (new : StateView K V I O) (t : Step K V I) (r : Result (Outcome V O) Refused) → Acts cmp f code s new t r → HasHistory new (record { step = t; told = r } ∷ h)
-  history-acts new t r (nowhere a same is) = kept-state s h history new t r _ same is
-  history-acts new t r (unasked w v a b c d same is) = kept-state s h history new t r _ same is
-  history-acts new t r (unknown w v a b c d same is) = kept-state s h history new t r _ same is
-  history-acts new t r (worn a b c same is) = kept-state s h history new t r _ same is
-  history-acts new t r (lifeless p slot op v a b same is) = kept-state s h history new t r _ same is
-  history-acts new t r (refuses_enter p v e a b c same is) = kept-state s h history new t r _ same is
-  history-acts new t r (enters p slot n v v' a b c d low count to is) =
-      rw (a, is) (entering s h history new p slot n low count (ap (λ (z : StateView K V I O). z.moment) to) (ap (λ (z : StateView K V I O). z.enters) to) (ap (λ (z : StateView K V I O). z.seats) to) (ap (λ (z : StateView K V I O). z.lives) to))
-  history-acts new t r (refuses_leave p slot v e a b c same is) = kept-state s h history new t r _ same is
-  history-acts new t r (leaves p slot v v' a b c ev to is) =
-      rw (a, is) (quiet s h history new (step.Leave p slot) outcome.Left refl refl (ap (λ (z : StateView K V I O). z.moment) to) (ap (λ (z : StateView K V I O). z.enters) to) (ap (λ (z : StateView K V I O). z.seats) to) (ap (λ (z : StateView K V I O). map issue_of z.lives) to))
-  history-acts new t r (refuses_refresh p slot v e a b c same is) = kept-state s h history new t r _ same is
-  history-acts new t r (refreshes p slot v v' a b c ev to is) =
-      rw (a, is) (quiet s h history new (step.Refresh p slot) outcome.Refreshed refl refl (ap (λ (z : StateView K V I O). z.moment) to) (ap (λ (z : StateView K V I O). z.enters) to) (ap (λ (z : StateView K V I O). z.seats) to) (ap (λ (z : StateView K V I O). map issue_of z.lives) to))
-  history-acts new t r (refuses_shift p page v e a b c same is) = kept-state s h history new t r _ same is
-  history-acts new t r (shifts p page v v' a b c ev to is) =
-      rw (a, is) (quiet s h history new (step.ReadOnly p page) outcome.Shifted refl refl (ap (λ (z : StateView K V I O). z.moment) to) (ap (λ (z : StateView K V I O). z.enters) to) (ap (λ (z : StateView K V I O). z.seats) to) (ap (λ (z : StateView K V I O). map issue_of z.lives) to))
-  history-acts new t r (refuses_give_up w v e a b c same is) = kept-state s h history new t r _ same is
-  history-acts new t r (gives_up w v v' a due c ev to is) =
-      rw (a, is) (quiet s h history new (step.GiveUp w) outcome.GivenUp refl refl (ap (λ (z : StateView K V I O). z.moment) to) (ap (λ (z : StateView K V I O). z.enters) to) (ap (λ (z : StateView K V I O). z.seats) to) (ap (λ (z : StateView K V I O). map issue_of z.lives) to ∙ ended-issue_of s.lives _ _))
-  history-acts new t r (refuses_issue p slot op v e a b c same is) = kept-state s h history new t r _ same is
-  history-acts new t r (issues p slot c op v v' seat a b d ev low at to is) =
-      rw (a, is) (issuing s h history new p slot c op seat _ low at refl (ap (λ (z : StateView K V I O). z.moment) to) (ap (λ (z : StateView K V I O). z.enters) to) (ap (λ (z : StateView K V I O). z.seats) to) (ap (λ (z : StateView K V I O). z.lives) to))
-  history-acts new t r (refuses_go w v e a b c same is) = kept-state s h history new t r _ same is
-  history-acts new t r (goes w v v' p a due c ev to is) =
-      rw a (progressing new (step.Go w) r _ p (nobody_goes p w) refl (ap (λ (z : StateView K V I O). z.moment) to) (ap (λ (z : StateView K V I O). z.enters) to) (ap (λ (z : StateView K V I O). z.seats) to) (ap (λ (z : StateView K V I O). z.lives) to) is)
-  history-acts new t r (refuses_install w v ask e a b c d same is) = kept-state s h history new t r _ same is
-  history-acts new t r (installs w v v' ask p a due c d ev to is) =
-      rw a (progressing new (step.Install w) r _ p (nobody_installs p w) refl (ap (λ (z : StateView K V I O). z.moment) to) (ap (λ (z : StateView K V I O). z.enters) to) (ap (λ (z : StateView K V I O). z.seats) to) (ap (λ (z : StateView K V I O). z.lives) to) is)
+  nobody_loads : (p : Progress K V I O R) (w : Place) (access : Access) → entered_at {K = K} {I = I} (Ok (told p)) (step.Load w access) ≡ None
+  nobody_loads (Done x effect) w access = refl
+  nobody_loads Next w access = refl
+  nobody_loads (NeedsBuild ask) w access = refl
+  nobody_loads (NeedsLoad receipt address) w access = refl
+  nobody_loads (Waits why) w access = refl
+
+  pub history-acts : (new : StateView K V I O R) (t : Step K V I) (r : Result (Outcome V O) Refused) → Acts stands entry cmp f code s new t r → HasHistory new (record { step = t; told = r } ∷ h)
+  history-acts new t r (acts.nowhere a same is) = kept-state s h history new t r Unknown refl same is
+  history-acts new t r (acts.unasked w v a b c d same is) = kept-state s h history new t r NotReady refl same is
+  history-acts new t r (acts.unknown w v a b c d same is) = kept-state s h history new t r Unknown refl same is
+  history-acts new t r (acts.jobless p access a b c same is) = kept-state s h history new t r NotReady refl same is
+  history-acts new t r (acts.worn a b c same is) = kept-state s h history new t r Worn refl same is
+  history-acts new t r (acts.lifeless p slot op v a b same is) = kept-state s h history new t r NoMemory refl same is
+  history-acts new t r (acts.refuses v e due refused_by same is) = kept-state s h history new t r e (refuses-no stands entry cmp f code s v (suc s.moment) e t refused_by) same is
+  history-acts new t r (acts.enters p slot n v v' a b c d low count to is) =
+      rw (a, is) (entering s h history new p slot n low count (ap (λ (z : StateView K V I O R). z.moment) to) (ap (λ (z : StateView K V I O R). z.enters) to) (ap (λ (z : StateView K V I O R). z.seats) to) (ap (λ (z : StateView K V I O R). z.lives) to))
+  history-acts new t r (acts.leaves p slot v v' a b c ev to is) =
+      rw (a, is) (quiet s h history new (step.Leave p slot) (outcome.Left) refl refl (ap (λ (z : StateView K V I O R). z.moment) to) (ap (λ (z : StateView K V I O R). z.enters) to) (ap (λ (z : StateView K V I O R). z.seats) to) (ap (λ (z : StateView K V I O R). map issue_of z.lives) to))
+  history-acts new t r (acts.refreshes p slot v v' a b c ev to is) =
+      rw (a, is) (quiet s h history new (step.Refresh p slot) (outcome.Refreshed) refl refl (ap (λ (z : StateView K V I O R). z.moment) to) (ap (λ (z : StateView K V I O R). z.enters) to) (ap (λ (z : StateView K V I O R). z.seats) to) (ap (λ (z : StateView K V I O R). map issue_of z.lives) to))
+  history-acts new t r (acts.shifts p page v v' a b c ev to is) =
+      rw (a, is) (quiet s h history new (step.ReadOnly p page) (outcome.Shifted) refl refl (ap (λ (z : StateView K V I O R). z.moment) to) (ap (λ (z : StateView K V I O R). z.enters) to) (ap (λ (z : StateView K V I O R). z.seats) to) (ap (λ (z : StateView K V I O R). map issue_of z.lives) to))
+  history-acts new t r (acts.evicts p page v v' a b c ev to is) =
+      rw (a, is) (quiet s h history new (step.Head p page) (outcome.Shifted) refl refl (ap (λ (z : StateView K V I O R). z.moment) to) (ap (λ (z : StateView K V I O R). z.enters) to) (ap (λ (z : StateView K V I O R). z.seats) to) (ap (λ (z : StateView K V I O R). map issue_of z.lives) to))
+  history-acts new t r (acts.takes p v job a due page bytes to is) =
+      rw (a, is) (quiet s h history new (step.Take p) (outcome.Taken job.page) refl refl (ap (λ (z : StateView K V I O R). z.moment) to) (ap (λ (z : StateView K V I O R). z.enters) to) (ap (λ (z : StateView K V I O R). z.seats) to) (ap (λ (z : StateView K V I O R). map issue_of z.lives) to))
+  history-acts new t r (acts.spoils p access v job e a due has spoiled to is) =
+      rw is (spoiling s h history new t e (spoils-no v (suc s.moment) job access e spoiled) (ap (λ (z : StateView K V I O R). z.moment) to) (ap (λ (z : StateView K V I O R). z.enters) to) (ap (λ (z : StateView K V I O R). z.seats) to) (ap (λ (z : StateView K V I O R). z.lives) to))
+  history-acts new t r (acts.writes p v v' job receipt a due has of does ev to is) =
+      rw (a, is) (quiet s h history new (step.Write p Works) (outcome.Flushed job.page) refl refl (ap (λ (z : StateView K V I O R). z.moment) to) (ap (λ (z : StateView K V I O R). z.enters) to) (ap (λ (z : StateView K V I O R). z.seats) to) (ap (λ (z : StateView K V I O R). map issue_of z.lives) to))
+  history-acts new t r (acts.gives_up w v v' a due c ev to is) =
+      rw (a, is) (quiet s h history new (step.GiveUp w) (outcome.GivenUp) refl refl (ap (λ (z : StateView K V I O R). z.moment) to) (ap (λ (z : StateView K V I O R). z.enters) to) (ap (λ (z : StateView K V I O R). z.seats) to) (ap (λ (z : StateView K V I O R). map issue_of z.lives) to ∙ ended-issue_of s.lives _ _))
+  history-acts new t r (acts.fails w access v v' receipt came e a due has comes does ends ev to is) =
+      rw is (failing s h history new t e ends (ap (λ (z : StateView K V I O R). z.moment) to) (ap (λ (z : StateView K V I O R). z.enters) to) (ap (λ (z : StateView K V I O R). z.seats) to) (ap (λ (z : StateView K V I O R). map issue_of z.lives) to ∙ ended-issue_of s.lives _ _))
+  history-acts new t r (acts.issues p slot c op v v' seat a b d ev low at to is) =
+      rw (a, is) (issuing s h history new p slot c op seat _ low at refl (ap (λ (z : StateView K V I O R). z.moment) to) (ap (λ (z : StateView K V I O R). z.enters) to) (ap (λ (z : StateView K V I O R). z.seats) to) (ap (λ (z : StateView K V I O R). z.lives) to))
+  history-acts new t r (acts.goes w v v' p a due c ev to is) =
+      rw a (progressing new (step.Go w) r _ p (nobody_goes p w) refl (ap (λ (z : StateView K V I O R). z.moment) to) (ap (λ (z : StateView K V I O R). z.enters) to) (ap (λ (z : StateView K V I O R). z.seats) to) (ap (λ (z : StateView K V I O R). z.lives) to) is)
+  history-acts new t r (acts.installs w v v' ask p a due c d ev to is) =
+      rw a (progressing new (step.Install w) r _ p (nobody_installs p w) refl (ap (λ (z : StateView K V I O R). z.moment) to) (ap (λ (z : StateView K V I O R). z.enters) to) (ap (λ (z : StateView K V I O R). z.seats) to) (ap (λ (z : StateView K V I O R). z.lives) to) is)
+  history-acts new t r (acts.loads w access v v' receipt came p a due has comes does ev to is) =
+      rw a (progressing new (step.Load w access) r _ p (nobody_loads p w access) refl (ap (λ (z : StateView K V I O R). z.moment) to) (ap (λ (z : StateView K V I O R). z.enters) to) (ap (λ (z : StateView K V I O R). z.seats) to) (ap (λ (z : StateView K V I O R). z.lives) to) is)
 
 -- ---- steps in turn
 -- what the steps were told, after what was told before, and the history that they make
-pub record IsHistory {K V I O : Type 0} (v w : WorldView K V I O) (ss : List (Step K V I)) (h : List (Event K V I O)) : Type 0 where
+pub record IsHistory {K V I O R : Type 0} (v w : WorldView K V I O R) (ss : List (Step K V I)) (h : List (Event K V I O)) : Type 0 where
   pub told : List (Result (Outcome V O) Refused)
   pub outcomes : w.outcomes ≡ v.outcomes ++ told
   pub history : HasHistory w.state (backwards ss told h)
 
-pub history-runs : {K V I O : Type 0} (cmp : K → K → Ordering) (f : Meanings K V I O) (code : K → ℕ) (v w : WorldView K V I O) (ss : List (Step K V I)) (h : List (Event K V I O))
-    → HasHistory v.state h → RunsTo cmp f code v ss w → IsHistory v w ss h
-history-runs cmp f code v w [] h history run = record { told = []; outcomes = ap (λ (z : WorldView _ _ _ _). z.outcomes) run ∙ sym (append-nothing v.outcomes); history = subst (λ (z : WorldView _ _ _ _). HasHistory z.state h) (sym run) history }
-history-runs cmp f code v w (s ∷ ss) h history run =
-    let one = history-acts cmp f code v.state h history (run.0).state s run.1 run.2.acts in
-    let more = history-runs cmp f code run.0 w ss (record { step = s; told = run.1 } ∷ h) one run.3 in
+pub history-runs : {K V I O R : Type 0} (stands : R → Standing) (entry : ℕ → List ℕ → ℕ → Entry K V → Type 0) (cmp : K → K → Ordering) (f : Meanings K V I O) (code : K → ℕ) (v w : WorldView K V I O R) (ss : List (Step K V I)) (h : List (Event K V I O))
+    → HasHistory v.state h → RunsTo stands entry cmp f code v ss w → IsHistory v w ss h
+history-runs stands entry cmp f code v w [] h history run = record { told = []; outcomes = ap (λ (z : WorldView _ _ _ _ _). z.outcomes) run ∙ sym (append-nothing v.outcomes); history = subst (λ (z : WorldView _ _ _ _ _). HasHistory z.state h) (sym run) history }
+history-runs stands entry cmp f code v w (s ∷ ss) h history run =
+    let one = history-acts stands entry cmp f code v.state h history (run.0).state s run.1 run.2.acts in
+    let more = history-runs stands entry cmp f code run.0 w ss (record { step = s; told = run.1 } ∷ h) one run.3 in
     record {
       told = run.1 ∷ more.told;
       outcomes = more.outcomes ∙ ap (λ xs. xs ++ more.told) run.2.outcomes ∙ append-joined v.outcomes run.1 more.told;
@@ -217,7 +264,7 @@ history-runs cmp f code v w (s ∷ ss) h history run =
     }
 
 -- a world before its first step has no history
-pub history-empty : {K V I O : Type 0} (config : Config) (size : ℕ) → HasHistory {K = K} {V = V} {I = I} {O = O} (empty_state config size) []
+pub history-empty : {K V I O R : Type 0} (config : Config) (size : ℕ) → HasHistory {K = K} {V = V} {I = I} {O = O} {R = R} (empty_state config size) []
 history-empty config size = record {
   moment = refl;
   enters = λ p n k. replicate-at (2 ^ config.partition_bits) 0 n p k;
@@ -226,8 +273,8 @@ history-empty config size = record {
 }
 
 -- the lives of a world that steps lead to from nothing are those of their accepted issues
-pub issued-runs : {K V I O : Type 0} (cmp : K → K → Ordering) (f : Meanings K V I O) (code : K → ℕ) (config : Config) (size : ℕ) (w : WorldView K V I O) (ss : List (Step K V I))
-    → RunsTo cmp f code (empty_world config size) ss w → map issue_of w.state.lives ≡ issues_in (backwards ss w.outcomes [])
-issued-runs cmp f code config size w ss run =
-    let h = history-runs cmp f code (empty_world config size) w ss [] (history-empty config size) run in
+pub issued-runs : {K V I O R : Type 0} (stands : R → Standing) (entry : ℕ → List ℕ → ℕ → Entry K V → Type 0) (cmp : K → K → Ordering) (f : Meanings K V I O) (code : K → ℕ) (config : Config) (size : ℕ) (w : WorldView K V I O R) (ss : List (Step K V I))
+    → RunsTo stands entry cmp f code (empty_world config size) ss w → map issue_of w.state.lives ≡ issues_in (backwards ss w.outcomes [])
+issued-runs stands entry cmp f code config size w ss run =
+    let h = history-runs stands entry cmp f code (empty_world config size) w ss [] (history-empty config size) run in
     h.history.lives ∙ ap (λ ts. issues_in (backwards ss ts [])) (sym h.outcomes)

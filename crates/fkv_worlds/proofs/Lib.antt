@@ -1,8 +1,11 @@
+pub mod Naming
+pub mod RefusedLemmas
 pub mod ResultLemmas
 pub mod LivesLemmas
 pub mod PlacedLemmas
 pub mod WrongLemmas
 pub mod ManyLemmas
+pub mod HeldLemmas
 pub mod WorldLemmas
 pub mod StateLemmas
 pub mod ActsLemmas
@@ -11,3 +14,4 @@ pub mod EmptyLemmas
 pub mod AccountLemmas
 pub mod ReportLemmas
 pub mod HistoryLemmas
+pub mod PagingLemmas

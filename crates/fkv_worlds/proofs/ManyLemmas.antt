@@ -20,7 +20,7 @@ module _ {K V I O : Type 0} (cmp : K → K → Ordering) (o : IsKeyOrder cmp) (f
   route k = partition_of (length views) (code k)
 
   -- a key that belongs to this partition, and one that does not
-  live-here : (k : K) → partition_of (length views) (code k) ≡ p → world_live cmp code views k ≡ live_of cmp old k
+  pub live-here : (k : K) → partition_of (length views) (code k) ≡ p → world_live cmp code views k ≡ live_of cmp old k
   live-here k r = ap (λ (q : ℕ). live_at cmp (slice_get views q) k) r ∙ ap (λ t. live_at cmp t k) here
 
   live-set_here : (k : K) → partition_of (length views) (code k) ≡ p → world_live cmp code (slice_set views p new) k ≡ live_of cmp new k

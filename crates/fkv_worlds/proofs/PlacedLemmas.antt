@@ -44,7 +44,7 @@ module _ {K V I O : Type 0} (cmp : K → K → Ordering) (f : Meanings K V I O) 
 
   -- a step that begins a life
   module _ (y : Life K V I O) (at : y.issue ≡ next) (untold : finish_of y ≡ None) where
-    same_append : (n : ℕ) → map_before cmp f (lives ++ y ∷ []) n ≡ map_before cmp f lives n
+    pub same_append : (n : ℕ) → map_before cmp f (lives ++ y ∷ []) n ≡ map_before cmp f lives n
     same_append n = map_before-same cmp f (lives ++ y ∷ []) lives n (λ s b. first_by-append (updates_at s) (λ x. Some x.op) lives y (updates_at-untold s y untold))
 
     was_there : (j : ℕ) (x : Life K V I O) (t : Finish O) → slice_get (lives ++ y ∷ []) j ≡ Some x → finish_of x ≡ Some t → slice_get lives j ≡ Some x
@@ -68,7 +68,7 @@ module _ {K V I O : Type 0} (cmp : K → K → Ordering) (f : Meanings K V I O) 
   module _ (j : ℕ) (x : Life K V I O) (here : slice_get lives j ≡ Some x) (unended : finish_of x ≡ None) where
     -- without an answer: failed, or given up
     module _ (end : End O) (untold : finish_in end ≡ None) where
-      same_ended : (n : ℕ) → map_before cmp f (ended_at lives j end) n ≡ map_before cmp f lives n
+      pub same_ended : (n : ℕ) → map_before cmp f (ended_at lives j end) n ≡ map_before cmp f lives n
       same_ended n = map_before-same cmp f (ended_at lives j end) lives n (λ s b. first_by-ended_quiet (updates_at s) (λ w. Some w.op) lives j end x here (updates_at-untold s x unended) (updates_at-untold s (record x { end = end }) untold))
 
       was_finished : (i : ℕ) (y : Life K V I O) (t : Finish O) → slice_get (ended_at lives j end) i ≡ Some y → finish_of y ≡ Some t → slice_get lives i ≡ Some y
@@ -171,6 +171,10 @@ module _ {K V I O : Type 0} (cmp : K → K → Ordering) (f : Meanings K V I O) 
           let gone : is_update x.op ≡ false → update_at new next ≡ None = λ t. first_by-ended_quiet (updates_at next) (λ w. Some w.op) lives j (Finished (record { effect = next; done = next; answer = a })) x here (updates_at-untold next x unended) (no_update x.op (next == next) t) ∙ first_by-none (updates_at next) (λ w. Some w.op) lives none_next in
           after_now new (is_update x.op) refl found gone ∙ ap (λ (m : PlainMap K V). after cmp f m x.op) same
 
+      -- the map before this step or an earlier one stays
+      pub same_now : (n : ℕ) → n ≤ next → map_before cmp f (ended_at lives j (Finished (record { effect = next; done = next; answer = a }))) n ≡ map_before cmp f lives n
+      same_now n le = map_before-same cmp f (ended_at lives j (Finished (record { effect = next; done = next; answer = a }))) lives n (λ s b. old_now s (omega arith))
+
       pub placed-now : a ≡ answer f (map_before cmp f lives (suc now)) x.op → IsPlaced cmp f (ended_at lives j (Finished (record { effect = next; done = next; answer = a }))) next
       placed-now ha =
           placed-finish next a
@@ -187,6 +191,9 @@ module _ {K V I O : Type 0} (cmp : K → K → Ordering) (f : Meanings K V I O) 
 
       pub map-before : map_before cmp f (ended_at lives j (Finished (record { effect = effect; done = next; answer = a }))) (suc next) ≡ map_before cmp f lives (suc now)
       map-before = map_before-same cmp f (ended_at lives j (Finished (record { effect = effect; done = next; answer = a }))) lives (suc next) (λ s b. old_before s) ∙ map-quiet
+
+      pub same_before : (n : ℕ) → map_before cmp f (ended_at lives j (Finished (record { effect = effect; done = next; answer = a }))) n ≡ map_before cmp f lives n
+      same_before n = map_before-same cmp f (ended_at lives j (Finished (record { effect = effect; done = next; answer = a }))) lives n (λ s b. old_before s)
 
       pub placed-before : (held : Option V) → ((l : ℕ) (y : Life K V I O) (t : Finish O) → slice_get lives l ≡ Some y → finish_of y ≡ Some t → t.effect ≢ effect)
           → x.issue < effect → effect ≤ now → held ≡ map_before cmp f lives effect k → a ≡ shown_of f k i held

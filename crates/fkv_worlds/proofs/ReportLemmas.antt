@@ -16,6 +16,8 @@ use Rattle.fkv_functions.specs.Meanings.{Meanings}
 use Rattle.fkv_functions.specs.Plain.{PlainMap, Same, with_at, IsKeyOrder}
 use Rattle.fkv_functions.specs.declared.refusals.Refused.{Refused}
 use Rattle.fkv_device_partition.specs.Views.{PartitionView, live_of, partition_of}
+use Rattle.fkv_device.specs.Standing.{Standing}
+use Rattle.fkv_texts.specs.declared.entries.Entry.{Entry}
 use Rattle.fkv_worlds.specs.declared.outcomes.Outcome.{Outcome}
 use Rattle.fkv_worlds.specs.declared.steps.Step.{Step}
 use Rattle.fkv_worlds.specs.States.{WorldView}
@@ -23,10 +25,10 @@ use Rattle.fkv_worlds.specs.Worlds.{live_at, world_live}
 use Rattle.fkv_worlds.specs.Reports.{with_all, IsKept, RunsTo}
 
 -- ---- steps in turn
-pub runs-append : {K V I O : Type 0} (cmp : K → K → Ordering) (f : Meanings K V I O) (code : K → ℕ) (v u w : WorldView K V I O) (ss : List (Step K V I)) (s : Step K V I) (r : Result (Outcome V O) Refused)
-    → RunsTo cmp f code v ss u → IsKept cmp f code u w s r → RunsTo cmp f code v (ss ++ s ∷ []) w
-runs-append cmp f code v u w [] s r run kept = (w, r, subst (λ x. IsKept cmp f code x w s r) run kept, refl)
-runs-append cmp f code v u w (t ∷ ss) s r run kept = (run.0, run.1, run.2, runs-append cmp f code run.0 u w ss s r run.3 kept)
+pub runs-append : {K V I O R : Type 0} (stands : R → Standing) (entry : ℕ → List ℕ → ℕ → Entry K V → Type 0) (cmp : K → K → Ordering) (f : Meanings K V I O) (code : K → ℕ) (v u w : WorldView K V I O R) (ss : List (Step K V I)) (s : Step K V I) (r : Result (Outcome V O) Refused)
+    → RunsTo stands entry cmp f code v ss u → IsKept stands entry cmp f code u w s r → RunsTo stands entry cmp f code v (ss ++ s ∷ []) w
+runs-append stands entry cmp f code v u w [] s r run kept = (w, r, subst (λ x. IsKept stands entry cmp f code x w s r) run kept, refl)
+runs-append stands entry cmp f code v u w (t ∷ ss) s r run kept = (run.0, run.1, run.2, runs-append stands entry cmp f code run.0 u w ss s r run.3 kept)
 
 pub take-all : {A : Type 0} (n : ℕ) (xs : List A) → length xs ≤ n → take n xs ≡ xs
 take-all zero [] h = refl

@@ -1,6 +1,26 @@
--- What holds of a result where it is Ok.
-use Rattle.std.proofs.Common.{◌≡◌, Result, Ok, Err, IfOk, refl}
+-- What holds of a result where it is Ok, or Err, and of what may be there.
+use Rattle.std.proofs.Common.{◌≡◌, true, false, Option, Some, None, Result, Ok, Err, IfOk, IfErr, IsSome, is_none, is_some, refl}
 
 pub if_ok : {A E : Type 0} {P : A → Type 0} (r : Result A E) → ((x : A) → r ≡ Ok x → P x) → IfOk r P
 if_ok (Ok x) h = h x refl
 if_ok (Err e) h = tt
+
+pub if_err : {A E : Type 0} {P : E → Type 0} (r : Result A E) → ((e : E) → r ≡ Err e → P e) → IfErr r P
+if_err (Ok x) h = tt
+if_err (Err e) h = h e refl
+
+pub some_of : {A : Type 0} (o : Option A) → is_none o ≡ false → (x : A) × (o ≡ Some x)
+some_of None h = absurd (cc)
+some_of (Some x) h = (x, refl)
+
+pub some_there : {A : Type 0} (o : Option A) → is_none o ≡ false → IsSome o
+some_there None h = absurd (cc)
+some_there (Some x) h = refl
+
+pub some_not_none : {A : Type 0} (o : Option A) → is_some o ≡ true → is_none o ≡ false
+some_not_none None h = absurd (cc)
+some_not_none (Some x) h = refl
+
+pub not_some_none : {A : Type 0} (o : Option A) → is_some o ≡ false → is_none o ≡ true
+not_some_none None h = refl
+not_some_none (Some x) h = absurd (cc)

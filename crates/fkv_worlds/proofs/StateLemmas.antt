@@ -1,5 +1,5 @@
 -- What each step keeps of a world's state, and which rule it is.
-use Rattle.std.proofs.Common.{◌≡◌, ◌≢◌, Bool, true, false, cond, ◌&&◌, ℕ, zero, suc, ◌+◌, ◌*◌, ◌<◌, inl, inr, List, [], ◌∷◌, ◌++◌, length, Option, Some, None, slice_get, slice_set, slice_index_or, unwrap_or, nat_lt, refl, sym, ◌∙◌, ap, arith}
+use Rattle.std.proofs.Common.{◌≡◌, ◌≢◌, Bool, true, false, cond, ◌&&◌, ℕ, zero, suc, ◌+◌, ◌*◌, ◌<◌, ◌≤◌, inl, inr, List, [], ◌∷◌, ◌++◌, length, Option, Some, None, slice_get, slice_set, slice_index_or, unwrap_or, nat_lt, refl, sym, ◌∙◌, ap, arith}
 use Rattle.std.proofs.lemmas.Bool.Decides.{nat_tests}
 use Rattle.std.proofs.lemmas.List.{length-set}
 use Rattle.std.proofs.lemmas.Option.{slice_get_within}
@@ -9,21 +9,24 @@ use Rattle.fkv_functions.specs.Plain.{IsKeyOrder}
 use Rattle.fkv_functions.specs.declared.asks.Ask.{Ask}
 use Rattle.fkv_operations.specs.declared.operations.Op.{Op}
 use Rattle.fkv_device_partition.specs.declared.contexts.Progress.{Progress}
-use Rattle.fkv_device_partition.specs.declared.contexts.Progress.TheVariants.{Done, Next, NeedsBuild, Waits}
+use Rattle.fkv_device_partition.specs.declared.contexts.Progress.TheVariants.{Done, Next, NeedsBuild, NeedsLoad, Waits}
 use Rattle.fkv_device_partition.specs.Views.{PartitionView}
 use Rattle.fkv_device_partition.specs.Effect.{IsQuiet, IsIssue, IsEvent, IsGiveUp}
+use Rattle.fkv_device_partition.specs.Pending.{AllPend, OthersPend, Finds, IsLoad}
 use Rattle.fkv_functions.proofs.ListLemmas.{get-set_cases, get-set_other, get-set_within}
 use Rattle.fkv_worlds.specs.declared.lives.Life.{Life}
 use Rattle.fkv_worlds.specs.declared.lives.End.{End}
-use Rattle.fkv_worlds.specs.declared.lives.End.TheVariants.{GivenUp}
+use Rattle.fkv_device.specs.declared.messages.FlushJob.{FlushJob}
+use Rattle.fkv_texts.specs.Text.{live}
+use Rattle.fkv_worlds.specs.Lives.{finish_in}
 use Rattle.fkv_worlds.specs.declared.steps.Place.{Place}
 use Rattle.fkv_worlds.specs.declared.tables.Seat.{Seat}
 use Rattle.fkv_worlds.specs.Changes.{ended_at}
-use Rattle.fkv_worlds.specs.States.{StateView, is_context, context_row, seat_row, seat_at, life_in, question_in}
-use Rattle.fkv_worlds.specs.Acts.{lives_by, questions_by, begun_life, after_issue}
+use Rattle.fkv_worlds.specs.States.{StateView, is_context, context_row, seat_row, seat_at, life_in, question_in, receipt_in}
+use Rattle.fkv_worlds.specs.Acts.{lives_by, questions_by, receipts_by, begun_life, after_issue}
 use Rattle.fkv_worlds.specs.Worlds.{IsWorld}
 use Rattle.fkv_worlds.specs.Sound.{HasTables, IsState}
-use Rattle.fkv_worlds.proofs.WorldLemmas.{world-silent, world-issue, world-done, world-give_up, world-next}
+use Rattle.fkv_worlds.proofs.WorldLemmas.{world-pass, world-silent, world-issue, world-done, world-loaded, world-ended, world-next, world-further, world-asks}
 
 -- ---- lists by their places
 pub at-index : {A : Type 0} (xs : List A) (i : ℕ) (x : A) → i < length xs → x ≡ slice_index_or xs i x → slice_get xs i ≡ Some x
@@ -35,6 +38,11 @@ pub some-at : {A : Type 0} (xs : List A) (i : ℕ) → i < length xs → (x : A)
 some-at [] i h = absurd (omega arith)
 some-at (y ∷ ys) zero h = (y, refl)
 some-at (y ∷ ys) (suc i) h = some-at ys i (omega arith)
+
+pub index-of : {A : Type 0} (xs : List A) (i : ℕ) (x : A) → slice_get xs i ≡ Some x → x ≡ slice_index_or xs i x
+index-of [] i x h = absurd (cc)
+index-of (y ∷ ys) zero x h = cc
+index-of (y ∷ ys) (suc i) x h = index-of ys i x h
 
 pub set-unchanged : {A : Type 0} (xs : List A) (i : ℕ) (x y : A) → slice_get xs i ≡ Some x → y ≡ x → slice_set xs i y ≡ xs
 set-unchanged [] i x y h e = refl
@@ -79,6 +87,16 @@ life_in-other begun w u x a b n = by_cases (is_context u) refl
 pub question-is : {K V I : Type 0} (questions : List (Option (Ask K V I))) (w : Place) (x : Option (Ask K V I)) → is_context w ≡ true → slice_get questions (context_row w) ≡ Some x → question_in questions w ≡ x
 question-is questions w x on h = rw (on, h) refl
 
+pub receipt-is : {R : Type 0} (receipts : List (Option R)) (w : Place) (x : Option R) → is_context w ≡ true → slice_get receipts (context_row w) ≡ Some x → receipt_in receipts w ≡ x
+receipt-is receipts w x on h = rw (on, h) refl
+
+pub receipt-context : {R : Type 0} (receipts : List (Option R)) (w : Place) (x : R) → receipt_in receipts w ≡ Some x → is_context w ≡ true
+receipt-context receipts w x h = by_test (is_context w) refl
+  where
+    by_test : (b : Bool) → is_context w ≡ b → is_context w ≡ true
+    by_test true t = t
+    by_test false t = let n : None ≡ Some x = rw t at h in absurd (cc)
+
 -- the seat of a slot that there is
 pub seat-is : (seats : List Seat) (p slot : ℕ) → slot < 16 → seat_row p slot < length seats → slice_get seats (seat_row p slot) ≡ Some (seat_at seats p slot)
 seat-is seats p slot low h =
@@ -87,18 +105,50 @@ seat-is seats p slot low h =
     rw (t, there.1) refl
 
 -- ---- steps
-module _ {K V I O : Type 0} (cmp : K → K → Ordering) (o : IsKeyOrder cmp) (f : Meanings K V I O) (code : K → ℕ) (s : StateView K V I O) (state : IsState cmp f code s) (next : ℕ) (then : next ≡ s.moment + 1) where
+-- the tables, where they have as many rows as before, and the counts stay
+tables-kept : {K V I O R : Type 0} (s t : StateView K V I O R) → HasTables s → length t.partitions ≡ length s.partitions → length t.begun ≡ length s.begun → length t.questions ≡ length s.questions
+    → length t.receipts ≡ length s.receipts → length t.jobs ≡ length s.jobs → t.seats ≡ s.seats → t.enters ≡ s.enters → s.moment ≤ t.moment → HasTables t
+tables-kept s t tables partitions begun questions receipts jobs seats enters later = record {
+  most = rw partitions tables.most;
+  begun = begun ∙ tables.begun ∙ ap (λ k. k * 128) (sym partitions);
+  questions = questions ∙ tables.questions ∙ ap (λ k. k * 128) (sym partitions);
+  receipts = receipts ∙ tables.receipts ∙ ap (λ k. k * 128) (sym partitions);
+  jobs = jobs ∙ tables.jobs ∙ sym partitions;
+  seats = ap length seats ∙ tables.seats ∙ ap (λ k. k * 16) (sym partitions);
+  enters = ap length enters ∙ tables.enters ∙ sym partitions;
+  counted = λ q m h. (let k = tables.counted q m (ap (λ xs. slice_get xs q) (sym enters) ∙ h) in omega arith);
+  issued = λ i x h. (let k = tables.issued i x (ap (λ xs. slice_get xs i) (sym seats) ∙ h) in omega arith);
+}
+
+module _ {K V I O R : Type 0} (cmp : K → K → Ordering) (f : Meanings K V I O) (code : K → ℕ) (s : StateView K V I O R) (state : IsState cmp f code s) where
+  -- a page that was taken is spent
+  pub state-spent : (p : ℕ) (job : Option FlushJob) → IsState cmp f code (record s { jobs = slice_set s.jobs p job })
+  state-spent p job = record {
+    world = state.world;
+    tables = tables-kept s (record s { jobs = slice_set s.jobs p job }) state.tables refl refl refl refl (length-set s.jobs p job) refl refl (omega arith);
+  }
+
+module _ {K V I O R : Type 0} (cmp : K → K → Ordering) (o : IsKeyOrder cmp) (f : Meanings K V I O) (code : K → ℕ) (s : StateView K V I O R) (state : IsState cmp f code s) (next : ℕ) (then : next ≡ s.moment + 1) where
   e : next ≡ suc s.moment
   e = omega arith
 
-  pub state-enter : (p slot n : ℕ) (old new : PartitionView K V I) → slice_get s.partitions p ≡ Some old → IsQuiet old new next → slice_get s.enters p ≡ Some n
+  -- a page is taken
+  pub state-take : (p : ℕ) (job : Option FlushJob) → IsState cmp f code (record s { jobs = slice_set s.jobs p job; moment = next })
+  state-take p job = record {
+    world = world-pass cmp o f code s.partitions (life_in s.begun) s.lives s.moment next e state.world;
+    tables = tables-kept s (record s { jobs = slice_set s.jobs p job; moment = next }) state.tables refl refl refl refl (length-set s.jobs p job) refl refl (omega arith);
+  }
+
+  pub state-enter : (p slot n : ℕ) (old new : PartitionView K V I) → slice_get s.partitions p ≡ Some old → IsQuiet true old new next → AllPend cmp old new → slice_get s.enters p ≡ Some n
       → IsState cmp f code (record s { partitions = slice_set s.partitions p new; enters = slice_set s.enters p (n + 1); seats = slice_set s.seats (seat_row p slot) (record { session = n + 1; issues = 0 }); moment = next })
-  state-enter p slot n old new here ev at = record {
-    world = world-silent cmp o f code s.partitions (life_in s.begun) s.lives s.moment next e state.world p old new here ev;
+  state-enter p slot n old new here ev pends at = record {
+    world = world-silent cmp o f code s.partitions (life_in s.begun) s.lives s.moment next e state.world p old new here ev pends;
     tables = record {
       most = rw (length-set s.partitions p new) state.tables.most;
       begun = rw (length-set s.partitions p new) state.tables.begun;
       questions = rw (length-set s.partitions p new) state.tables.questions;
+      receipts = rw (length-set s.partitions p new) state.tables.receipts;
+      jobs = rw (length-set s.partitions p new) state.tables.jobs;
       seats = length-set s.seats (seat_row p slot) _ ∙ state.tables.seats ∙ ap (λ k. k * 16) (sym (length-set s.partitions p new));
       enters = length-set s.enters p (n + 1) ∙ state.tables.enters ∙ sym (length-set s.partitions p new);
       counted = λ q m h. elim (get-set_cases s.enters p q (n + 1) m h) [
@@ -112,54 +162,46 @@ module _ {K V I O : Type 0} (cmp : K → K → Ordering) (o : IsKeyOrder cmp) (f
     };
   }
 
-  -- the tables, where the partition changes alone
-  tables-moved : (p : ℕ) (new : PartitionView K V I) (lives : List (Life K V I O)) → HasTables (record s { partitions = slice_set s.partitions p new; lives = lives; moment = next })
-  tables-moved p new lives = record {
-    most = rw (length-set s.partitions p new) state.tables.most;
-    begun = rw (length-set s.partitions p new) state.tables.begun;
-    questions = rw (length-set s.partitions p new) state.tables.questions;
-    seats = rw (length-set s.partitions p new) state.tables.seats;
-    enters = rw (length-set s.partitions p new) state.tables.enters;
-    counted = λ q m h. (let k = state.tables.counted q m h in omega arith);
-    issued = λ i x h. (let k = state.tables.issued i x h in omega arith);
+  pub state-quiet : (p : ℕ) (old new : PartitionView K V I) → slice_get s.partitions p ≡ Some old → IsQuiet true old new next → AllPend cmp old new → IsState cmp f code (record s { partitions = slice_set s.partitions p new; moment = next })
+  state-quiet p old new here ev pends = record {
+    world = world-silent cmp o f code s.partitions (life_in s.begun) s.lives s.moment next e state.world p old new here ev pends;
+    tables = tables-kept s (record s { partitions = slice_set s.partitions p new; moment = next }) state.tables (length-set s.partitions p new) refl refl refl refl refl refl (omega arith);
   }
 
-  pub state-quiet : (p : ℕ) (old new : PartitionView K V I) → slice_get s.partitions p ≡ Some old → IsQuiet old new next → IsState cmp f code (record s { partitions = slice_set s.partitions p new; moment = next })
-  state-quiet p old new here ev = record {
-    world = world-silent cmp o f code s.partitions (life_in s.begun) s.lives s.moment next e state.world p old new here ev;
-    tables = tables-moved p new s.lives;
+  -- an operation ends without effect
+  pub state-ended : (w : Place) (old new : PartitionView K V I) (end : End O) → finish_in end ≡ None → slice_get s.partitions w.partition ≡ Some old → IsGiveUp old new w.slot w.context next → OthersPend cmp old new w.slot w.context
+      → IsState cmp f code (record s { partitions = slice_set s.partitions w.partition new; lives = ended_at s.lives (life_in s.begun w) end; moment = next })
+  state-ended w old new end untold here ev others = record {
+    world = world-ended cmp o f code s.partitions (life_in s.begun) s.lives s.moment next e state.world w.partition old new w.slot w.context ev.question here ev.was ev.closed ev.frame others end untold (λ q. ap (λ t. live cmp t q) ev.text);
+    tables = tables-kept s (record s { partitions = slice_set s.partitions w.partition new; lives = ended_at s.lives (life_in s.begun w) end; moment = next }) state.tables (length-set s.partitions w.partition new) refl refl refl refl refl refl (omega arith);
   }
 
-  pub state-give_up : (w : Place) (old new : PartitionView K V I) → slice_get s.partitions w.partition ≡ Some old → IsGiveUp old new w.slot w.context next
-      → IsState cmp f code (record s { partitions = slice_set s.partitions w.partition new; lives = ended_at s.lives (life_in s.begun w) GivenUp; moment = next })
-  state-give_up w old new here ev = record {
-    world = world-give_up cmp o f code s.partitions (life_in s.begun) s.lives s.moment next e state.world w.partition old new w.slot w.context here ev;
-    tables = tables-moved w.partition new (ended_at s.lives (life_in s.begun w) GivenUp);
-  }
-
-  pub state-issue : (p slot c : ℕ) (op : Op K V I) (seat : Seat) (old new : PartitionView K V I) → slice_get s.partitions p ≡ Some old → IsIssue code old new slot c op next
+  pub state-issue : (p slot c : ℕ) (op : Op K V I) (seat : Seat) (old new : PartitionView K V I) → slice_get s.partitions p ≡ Some old → IsIssue code old new slot c op next → AllPend cmp old new
       → slot < 16 → c < 8 → slice_get s.seats (seat_row p slot) ≡ Some seat
       → IsState cmp f code (record s {
         partitions = slice_set s.partitions p new;
         seats = slice_set s.seats (seat_row p slot) (after_issue seat);
         begun = slice_set s.begun (context_row (record { partition = p; slot = slot; context = c })) (length s.lives);
         questions = slice_set s.questions (context_row (record { partition = p; slot = slot; context = c })) None;
+        receipts = slice_set s.receipts (context_row (record { partition = p; slot = slot; context = c })) None;
         lives = s.lives ++ begun_life p seat op next ∷ [];
         moment = next;
       })
-  state-issue p slot c op seat old new here ev low within at =
+  state-issue p slot c op seat old new here ev pends low within at =
       let w : Place = record { partition = p; slot = slot; context = c } in
       let there : p < length s.partitions = slice_get_within s.partitions p old here in
       let rows = state.tables.begun in
       let row : context_row w < length s.begun = omega arith in
       record {
-        world = world-issue cmp o f code s.partitions (life_in s.begun) s.lives s.moment next e state.world p old new slot c op here ev (begun_life p seat op next) refl refl refl
+        world = world-issue cmp o f code s.partitions (life_in s.begun) s.lives s.moment next e state.world p old new slot c op here ev pends (begun_life p seat op next) refl refl refl
             (life_in (slice_set s.begun (context_row w) (length s.lives))) (life_in-same s.begun w (length s.lives) low within row)
             (λ u n. life_in-other s.begun w u (length s.lives) low within n);
         tables = record {
           most = rw (length-set s.partitions p new) state.tables.most;
           begun = length-set s.begun (context_row w) (length s.lives) ∙ state.tables.begun ∙ ap (λ k. k * 128) (sym (length-set s.partitions p new));
           questions = length-set s.questions (context_row w) None ∙ state.tables.questions ∙ ap (λ k. k * 128) (sym (length-set s.partitions p new));
+          receipts = length-set s.receipts (context_row w) None ∙ state.tables.receipts ∙ ap (λ k. k * 128) (sym (length-set s.partitions p new));
+          jobs = state.tables.jobs ∙ sym (length-set s.partitions p new);
           seats = length-set s.seats (seat_row p slot) _ ∙ state.tables.seats ∙ ap (λ k. k * 16) (sym (length-set s.partitions p new));
           enters = state.tables.enters ∙ sym (length-set s.partitions p new);
           counted = λ q m h. (let k = state.tables.counted q m h in omega arith);
@@ -170,36 +212,59 @@ module _ {K V I O : Type 0} (cmp : K → K → Ordering) (o : IsKeyOrder cmp) (f
         };
       }
 
-  pub tables-progress : (p row : ℕ) (new : PartitionView K V I) (progress : Progress K V I O) (lives : List (Life K V I O))
-      → HasTables (record s { partitions = slice_set s.partitions p new; questions = questions_by s.questions row progress; lives = lives; moment = next })
-  tables-progress p row new progress lives = record {
-    most = rw (length-set s.partitions p new) state.tables.most;
-    begun = rw (length-set s.partitions p new) state.tables.begun;
-    questions = kept progress ∙ state.tables.questions ∙ ap (λ k. k * 128) (sym (length-set s.partitions p new));
-    seats = rw (length-set s.partitions p new) state.tables.seats;
-    enters = rw (length-set s.partitions p new) state.tables.enters;
-    counted = λ q m h. (let k = state.tables.counted q m h in omega arith);
-    issued = λ i x h. (let k = state.tables.issued i x h in omega arith);
-  }
-    where
-      kept : (z : Progress K V I O) → length (questions_by s.questions row z) ≡ length s.questions
-      kept (Done a effect) = refl
-      kept Next = refl
-      kept (Waits why) = refl
-      kept (NeedsBuild ask) = length-set s.questions row (Some ask)
+  asked-rows : (row : ℕ) (z : Progress K V I O R) → length (questions_by s.questions row z) ≡ length s.questions
+  asked-rows row (Done a effect) = refl
+  asked-rows row Next = refl
+  asked-rows row (Waits why) = refl
+  asked-rows row (NeedsBuild ask) = length-set s.questions row (Some ask)
+  asked-rows row (NeedsLoad receipt address) = refl
 
-  module _ (w : Place) (old new : PartitionView K V I) (here : slice_get s.partitions w.partition ≡ Some old) where
-    pub world-progress : (progress : Progress K V I O) → IsEvent cmp f old new w.slot w.context next progress
+  receipt-rows : (row : ℕ) (z : Progress K V I O R) → length (receipts_by s.receipts row z) ≡ length s.receipts
+  receipt-rows row (Done a effect) = refl
+  receipt-rows row Next = refl
+  receipt-rows row (Waits why) = refl
+  receipt-rows row (NeedsBuild ask) = refl
+  receipt-rows row (NeedsLoad receipt address) = length-set s.receipts row (Some receipt)
+
+  module _ (w : Place) (old new : PartitionView K V I) (here : slice_get s.partitions w.partition ≡ Some old) (others : OthersPend cmp old new w.slot w.context) where
+    state-by : (progress : Progress K V I O R) → IsWorld cmp f code (slice_set s.partitions w.partition new) (life_in s.begun) (lives_by s.lives (life_in s.begun w) next progress) next
+        → IsState cmp f code (record s { partitions = slice_set s.partitions w.partition new; questions = questions_by s.questions (context_row w) progress; receipts = receipts_by s.receipts (context_row w) progress; lives = lives_by s.lives (life_in s.begun w) next progress; moment = next })
+    state-by progress world = record {
+      world = world;
+      tables = tables-kept s (record s { partitions = slice_set s.partitions w.partition new; questions = questions_by s.questions (context_row w) progress; receipts = receipts_by s.receipts (context_row w) progress; lives = lives_by s.lives (life_in s.begun w) next progress; moment = next }) state.tables
+          (length-set s.partitions w.partition new) refl (asked-rows (context_row w) progress) (receipt-rows (context_row w) progress) refl refl refl (omega arith);
+    }
+
+    world-progress : (progress : Progress K V I O R) → IsEvent cmp f old new w.slot w.context next progress → Finds cmp old new w.slot w.context next progress
         → IsWorld cmp f code (slice_set s.partitions w.partition new) (life_in s.begun) (lives_by s.lives (life_in s.begun w) next progress) next
-    world-progress (Done a effect) ev =
-        rw ev.effect.1 (world-done cmp o f code s.partitions (life_in s.begun) s.lives s.moment next e state.world w.partition old new w.slot w.context ev.question a here ev.was ev.effect.0 ev.frame ev.effect.2 ev.effect.3)
-    world-progress Next ev =
-        world-next cmp o f code s.partitions (life_in s.begun) s.lives s.moment next e state.world w.partition old new w.slot w.context ev.question here ev.was ev.effect.0 ev.frame ev.effect.1
-    world-progress (Waits why) ev =
-        world-next cmp o f code s.partitions (life_in s.begun) s.lives s.moment next e state.world w.partition old new w.slot w.context ev.question here ev.was ev.effect.0 ev.frame ev.effect.1
-    world-progress (NeedsBuild ask) ev =
-        world-next cmp o f code s.partitions (life_in s.begun) s.lives s.moment next e state.world w.partition old new w.slot w.context ev.question here ev.was ev.effect.0 ev.frame ev.effect.1
+    world-progress (Done a effect) ev finds =
+        rw ev.effect.1 (world-done cmp o f code s.partitions (life_in s.begun) s.lives s.moment next e state.world w.partition old new w.slot w.context ev.question here ev.was ev.effect.0 ev.frame others a ev.effect.2 ev.effect.3)
+    world-progress Next ev finds =
+        world-next cmp o f code s.partitions (life_in s.begun) s.lives s.moment next e state.world w.partition old new w.slot w.context ev.question here ev.was ev.effect.0 ev.frame ev.effect.1 others finds
+    world-progress (Waits why) ev finds =
+        world-next cmp o f code s.partitions (life_in s.begun) s.lives s.moment next e state.world w.partition old new w.slot w.context ev.question here ev.was ev.effect.0 ev.frame ev.effect.1 others finds
+    world-progress (NeedsBuild ask) ev finds =
+        world-next cmp o f code s.partitions (life_in s.begun) s.lives s.moment next e state.world w.partition old new w.slot w.context ev.question here ev.was ev.effect.0 ev.frame ev.effect.1 others finds
+    world-progress (NeedsLoad receipt address) ev finds =
+        world-asks cmp o f code s.partitions (life_in s.begun) s.lives s.moment next e state.world w.partition old new w.slot w.context ev.question here ev.was ev.effect.0 ev.frame ev.effect.1 others finds
 
-    pub state-progress : (progress : Progress K V I O) → IsEvent cmp f old new w.slot w.context next progress
-        → IsState cmp f code (record s { partitions = slice_set s.partitions w.partition new; questions = questions_by s.questions (context_row w) progress; lives = lives_by s.lives (life_in s.begun w) next progress; moment = next })
-    state-progress progress ev = record { world = world-progress progress ev; tables = tables-progress w.partition (context_row w) new progress _ }
+    pub state-progress : (progress : Progress K V I O R) → IsEvent cmp f old new w.slot w.context next progress → Finds cmp old new w.slot w.context next progress
+        → IsState cmp f code (record s { partitions = slice_set s.partitions w.partition new; questions = questions_by s.questions (context_row w) progress; receipts = receipts_by s.receipts (context_row w) progress; lives = lives_by s.lives (life_in s.begun w) next progress; moment = next })
+    state-progress progress ev finds = state-by progress (world-progress progress ev finds)
+
+    world-load : (progress : Progress K V I O R) → IsLoad cmp f old new w.slot w.context next progress
+        → IsWorld cmp f code (slice_set s.partitions w.partition new) (life_in s.begun) (lives_by s.lives (life_in s.begun w) next progress) next
+    world-load (Done a effect) ev =
+        let q = ev.effect.1 in
+        rw q.2 (world-loaded cmp o f code s.partitions (life_in s.begun) s.lives s.moment next e state.world w.partition old new w.slot w.context ev.question here ev.was ev.effect.0 ev.frame others q.0 q.1 a q.3.0 q.3.1 q.3.2 ev.live)
+    world-load Next ev =
+        world-next cmp o f code s.partitions (life_in s.begun) s.lives s.moment next e state.world w.partition old new w.slot w.context ev.question here ev.was ev.effect.0 ev.frame ev.live others ev.effect.2
+    world-load (Waits why) ev = absurd ev.effect
+    world-load (NeedsBuild ask) ev =
+        world-next cmp o f code s.partitions (life_in s.begun) s.lives s.moment next e state.world w.partition old new w.slot w.context ev.question here ev.was ev.effect.0 ev.frame ev.live others ev.effect.1
+    world-load (NeedsLoad receipt address) ev =
+        world-further cmp o f code s.partitions (life_in s.begun) s.lives s.moment next e state.world w.partition old new w.slot w.context ev.question here ev.was ev.effect.0 ev.frame ev.live others ev.effect.1
+
+    pub state-load : (progress : Progress K V I O R) → IsLoad cmp f old new w.slot w.context next progress
+        → IsState cmp f code (record s { partitions = slice_set s.partitions w.partition new; questions = questions_by s.questions (context_row w) progress; receipts = receipts_by s.receipts (context_row w) progress; lives = lives_by s.lives (life_in s.begun w) next progress; moment = next })
+    state-load progress ev = state-by progress (world-load progress ev)

@@ -1,6 +1,5 @@
 -- What each event of a partition keeps of a world.
-use Rattle.std.proofs.Common.{◌≡◌, ◌≢◌, ℕ, suc, ◌<◌, ◌≤◌, inl, inr, ◌⊎◌, List, [], ◌∷◌, ◌++◌, length, Some, None, slice_get, slice_set, refl, sym, ◌∙◌, ap, subst, arith}
-use Rattle.std.proofs.lemmas.Bool.{cases_eq}
+use Rattle.std.proofs.Common.{◌≡◌, ◌≢◌, ℕ, suc, ◌<◌, ◌≤◌, inl, inr, true, List, [], ◌∷◌, ◌++◌, length, Some, None, option_map, slice_get, slice_set, refl, sym, ◌∙◌, ap, subst, arith}
 use Rattle.std.proofs.lemmas.List.{length-set}
 use Rattle.std.proofs.lemmas.Option.{slice_get_within}
 use Rattle.std.specs.declared.cmp.Ordering.{Ordering}
@@ -12,29 +11,23 @@ use Rattle.fkv_operations.specs.declared.operations.Op.{Op}
 use Rattle.fkv_operations.specs.declared.operations.Answer.{Answer}
 use Rattle.fkv_device_partition.specs.Views.{PartitionView, live_of, partition_of}
 use Rattle.fkv_texts.specs.Text.{live}
-use Rattle.fkv_device_partition.specs.Effect.{Asked, asked, LeavesOthers, IsQuiet, IsIssue, IsGiveUp}
+use Rattle.fkv_operations.specs.After.{shown_of}
+use Rattle.fkv_operations.specs.declared.operations.Op.TheVariants.{Read}
+use Rattle.fkv_device_partition.specs.Effect.{Asked, asked, asked_by, LeavesOthers, IsQuiet, IsIssue}
+use Rattle.fkv_device_partition.specs.Pending.{Pending, pending, OthersPend, AllPend, IsAsking}
 use Rattle.fkv_functions.proofs.ListLemmas.{get-set_cases, get-append_last}
 use Rattle.fkv_worlds.specs.declared.lives.Life.{Life}
-use Rattle.fkv_worlds.specs.declared.lives.End.TheVariants.{Open, Finished, GivenUp}
-use Rattle.fkv_worlds.specs.Lives.{finish_of, map_before}
+use Rattle.fkv_worlds.specs.declared.lives.End.{End}
+use Rattle.fkv_worlds.specs.declared.lives.End.TheVariants.{Open, Finished}
+use Rattle.fkv_worlds.specs.declared.lives.Finish.{Finish}
+use Rattle.fkv_worlds.specs.Lives.{finish_of, finish_in, map_before}
 use Rattle.fkv_worlds.specs.Changes.{ended_at}
 use Rattle.fkv_worlds.specs.declared.steps.Place.{Place}
-use Rattle.fkv_worlds.specs.Worlds.{world_live, asked_in, IsOpenLife, IsLinked, IsHoused, IsWorld}
-use Rattle.fkv_worlds.proofs.LivesLemmas.{append_old, ended_other}
-use Rattle.fkv_worlds.proofs.PlacedLemmas.{placed-quiet, map-quiet, placed-append, map-append, placed-ended, map-ended, placed-now, map-now}
-use Rattle.fkv_worlds.proofs.ManyLemmas.{live-quiet, live-after, answer-here, asked-here, asked-was, asked-others, asked-all}
-
-same_where : (w u : Place) → (w ≡ u) ⊎ (w ≢ u)
-same_where w u = elim (cases_eq w.partition u.partition) [
-  | inr n ↦ inr (λ e. n (ap (λ (x : Place). x.partition) e))
-  | inl a ↦ elim (cases_eq w.slot u.slot) [
-    | inr n ↦ inr (λ e. n (ap (λ (x : Place). x.slot) e))
-    | inl b ↦ elim (cases_eq w.context u.context) [
-      | inr n ↦ inr (λ e. n (ap (λ (x : Place). x.context) e))
-      | inl c ↦ inl (λ i. record { partition = a i; slot = b i; context = c i })
-    ]
-  ]
-]
+use Rattle.fkv_worlds.specs.Worlds.{world_live, asked_in, pending_in, IsOpenLife, IsLinked, IsHoused, IsHeld, IsWorld}
+use Rattle.fkv_worlds.proofs.LivesLemmas.{append_cases, append_old, ended_cases, ended_other}
+use Rattle.fkv_worlds.proofs.PlacedLemmas.{placed-quiet, map-quiet, same_append, placed-append, map-append, same_ended, placed-ended, map-ended, same_now, placed-now, map-now, same_before, placed-before, map-before}
+use Rattle.fkv_worlds.proofs.ManyLemmas.{live-here, live-quiet, live-after, answer-here, asked-here, asked-was, asked-others, asked-all}
+use Rattle.fkv_worlds.proofs.HeldLemmas.{same_where, closed-none, waiting-at, pend-here, pend-was, pend-others, pend-all, pend-same, pend-rest, held-on, held-same, held-sub, held-more}
 
 -- a life that stands in a longer list, or beside one that ends
 open-append : {K V I O : Type 0} (lives : List (Life K V I O)) (y : Life K V I O) (j : ℕ) (x : Asked K V I) → IsOpenLife lives j x → IsOpenLife (lives ++ y ∷ []) j x
@@ -65,8 +58,8 @@ module _ {K V I O : Type 0} (cmp : K → K → Ordering) (o : IsKeyOrder cmp) (f
     }
 
     -- a step that changes no live value, no question and no life
-    world-quiet : Same (live_of cmp new) (live_of cmp old) → ((w : Place) → asked_in (slice_set views p new) w ≡ asked_in views w) → IsWorld cmp f code (slice_set views p new) life_at lives next
-    world-quiet same questions = record {
+    world-quiet : Same (live_of cmp new) (live_of cmp old) → ((w : Place) → asked_in (slice_set views p new) w ≡ asked_in views w) → IsHeld cmp f (slice_set views p new) life_at lives next → IsWorld cmp f code (slice_set views p new) life_at lives next
+    world-quiet same questions held = record {
       placed = placed-quiet cmp f lives now next e world.placed;
       denotes = λ k. live-quiet cmp o f code views p old new here same k ∙ world.denotes k ∙ ap (λ (m : PlainMap K V). m k) (sym (map-quiet cmp f lives now next e world.placed));
       linked = record {
@@ -74,14 +67,33 @@ module _ {K V I O : Type 0} (cmp : K → K → Ordering) (o : IsKeyOrder cmp) (f
         apart = λ w u x y h k. world.linked.apart w u x y (sym (questions w) ∙ h) (sym (questions u) ∙ k);
       };
       housed = housed-set (λ w x h. world.housed.routed w x (sym (questions w) ∙ h));
+      held = held;
     }
 
-  -- a session comes, goes or looks, or the read-only offset moves
-  pub world-silent : (p : ℕ) (old new : PartitionView K V I) → slice_get views p ≡ Some old → IsQuiet old new next → IsWorld cmp f code (slice_set views p new) life_at lives next
-  world-silent p old new here ev = world-quiet p old new here ev.number ev.count ev.moment (λ k. ap (λ t. live cmp t k) ev.text) (asked-all views p old new here ev.same)
+  -- a step that changes nothing but the moment
+  pub world-pass : IsWorld cmp f code views life_at lives next
+  world-pass = record {
+    placed = placed-quiet cmp f lives now next e world.placed;
+    denotes = λ k. world.denotes k ∙ ap (λ (m : PlainMap K V). m k) (sym (map-quiet cmp f lives now next e world.placed));
+    linked = world.linked;
+    housed = record {
+      some = world.housed.some;
+      numbered = world.housed.numbered;
+      counted = world.housed.counted;
+      past = λ q v h. (let m : v.moment ≤ now = world.housed.past q v h in omega arith);
+      routed = world.housed.routed;
+    };
+    held = held-same cmp f views life_at lives now world.held views next (omega arith) (λ w. refl);
+  }
+
+  -- a session comes, goes or looks, an offset moves, or a page is flushed
+  pub world-silent : (p : ℕ) (old new : PartitionView K V I) → slice_get views p ≡ Some old → IsQuiet true old new next → AllPend cmp old new → IsWorld cmp f code (slice_set views p new) life_at lives next
+  world-silent p old new here ev pends =
+      world-quiet p old new here ev.number ev.count ev.moment (λ k. ap (λ t. live cmp t k) (ev.text refl)) (asked-all views p old new here ev.same)
+      (held-same cmp f views life_at lives now world.held (slice_set views p new) next (omega arith) (pend-all cmp views p old new here pends))
 
   -- an operation is issued: one more life, at the end
-  module _ (p : ℕ) (old new : PartitionView K V I) (slot c : ℕ) (op : Op K V I) (here : slice_get views p ≡ Some old) (ev : IsIssue code old new slot c op next) (begun : Life K V I O) (is : begun.op ≡ op) (at : begun.issue ≡ next) (unended : begun.end ≡ Open)
+  module _ (p : ℕ) (old new : PartitionView K V I) (slot c : ℕ) (op : Op K V I) (here : slice_get views p ≡ Some old) (ev : IsIssue code old new slot c op next) (pends : AllPend cmp old new) (begun : Life K V I O) (is : begun.op ≡ op) (at : begun.issue ≡ next) (unended : begun.end ≡ Open)
       (life_at' : Place → ℕ) (place : life_at' (record { partition = p; slot = slot; context = c }) ≡ length lives) (places : (u : Place) → u ≢ record { partition = p; slot = slot; context = c } → life_at' u ≡ life_at u) where
     there : Place
     there = record { partition = p; slot = slot; context = c }
@@ -124,6 +136,22 @@ module _ {K V I O : Type 0} (cmp : K → K → Ordering) (o : IsKeyOrder cmp) (f
       ];
     }
 
+    -- a look-up that waits is that of another context
+    waits-else : (w : Place) (q : Pending V) → pending_in cmp (slice_set views p new) w ≡ Some q → (w ≢ record { partition = p; slot = slot; context = c }) × (pending_in cmp views w ≡ Some q)
+    waits-else w q h =
+        let before = sym (pend-all cmp views p old new here pends w) ∙ h in
+        ((λ s. (let n : None ≡ Some q = sym (closed-none cmp old slot c ev.closed) ∙ sym (pend-was cmp views p old new here slot c) ∙ ap (pending_in cmp views) (sym s) ∙ before in absurd (cc))), before)
+
+    held-issue : IsHeld cmp f (slice_set views p new) life_at' (lives ++ begun ∷ []) next
+    held-issue = held-on cmp f views life_at lives now world.held (slice_set views p new) life_at' (lives ++ begun ∷ []) next (omega arith)
+        (λ n b. same_append cmp f lives now next e world.placed begun at untold n)
+        (λ w q h. (waits-else w q h).1)
+        (λ w q h life k. rw (places w (waits-else w q h).0) (append_old lives begun (life_at w) life k))
+        (λ w q h i y t hy ty. elim (append_cases lives begun i y hy) [
+          | inl k ↦ (world.held.held w q (waits-else w q h).1).free i y t k ty
+          | inr k ↦ (let n : None ≡ Some t = sym untold ∙ ap finish_of (sym k) ∙ ty in absurd (cc))
+        ])
+
     pub world-issue : IsWorld cmp f code (slice_set views p new) life_at' (lives ++ begun ∷ []) next
     world-issue = record {
       placed = placed-append cmp f lives now next e world.placed begun at untold;
@@ -137,11 +165,11 @@ module _ {K V I O : Type 0} (cmp : K → K → Ordering) (o : IsKeyOrder cmp) (f
             ∙ ev.own ∙ world.housed.numbered p old here ∙ ap (λ (w : Place). w.partition) (sym s))
         | inr n ↦ world.housed.routed u x (sym (elsewhere u n) ∙ h)
       ]);
+      held = held-issue;
     }
 
-  -- an operation is finished: its life ends with the answer
-  module _ (p : ℕ) (old new : PartitionView K V I) (slot c : ℕ) (x : Asked K V I) (a : Answer O) (here : slice_get views p ≡ Some old) (was : asked old slot c ≡ Some x) (closed : asked new slot c ≡ None) (frame : LeavesOthers old new slot c next)
-      (map : Same (live_of cmp new) (after cmp f (live_of cmp old) x.op)) (told : a ≡ answer f (live_of cmp old) x.op) where
+  -- an operation ends: its context asks nothing any more, and the other contexts and look-ups stay
+  module _ (p : ℕ) (old new : PartitionView K V I) (slot c : ℕ) (x : Asked K V I) (here : slice_get views p ≡ Some old) (was : asked old slot c ≡ Some x) (closed : asked new slot c ≡ None) (frame : LeavesOthers old new slot c next) (others : OthersPend cmp old new slot c) where
     asks : asked_in views (record { partition = p; slot = slot; context = c }) ≡ Some x
     asks = asked-was views p old new here slot c ∙ was
 
@@ -157,63 +185,144 @@ module _ {K V I O : Type 0} (cmp : K → K → Ordering) (o : IsKeyOrder cmp) (f
     then : (u : Place) (y : Asked K V I) → asked_in (slice_set views p new) u ≡ Some y → asked_in views u ≡ Some y
     then u y h = sym (asked-others views p old new here slot c frame.others u (away u y h)) ∙ h
 
-    pub world-done : IsWorld cmp f code (slice_set views p new) life_at (ended_at lives (life_at (record { partition = p; slot = slot; context = c })) (Finished (record { effect = next; done = next; answer = a }))) next
-    world-done =
+    rest : (w : Place) (q : Pending V) → pending_in cmp (slice_set views p new) w ≡ Some q → (w ≢ record { partition = p; slot = slot; context = c }) × (pending_in cmp views w ≡ Some q)
+    rest = pend-rest cmp views p old new here slot c others (closed-none cmp new slot c closed)
+
+    -- a look-up that waits is that of another life
+    apart_life : (w : Place) (q : Pending V) → pending_in cmp (slice_set views p new) w ≡ Some q → life_at w ≢ life_at (record { partition = p; slot = slot; context = c })
+    apart_life w q h s =
+        let r = rest w q h in
+        let a = waiting-at cmp views w q r.1 in
+        r.0 (world.linked.apart w (record { partition = p; slot = slot; context = c }) a.0 x a.1 asks s)
+
+    linked-ended : (end : End O) → IsLinked (asked_in (slice_set views p new)) life_at (ended_at lives (life_at (record { partition = p; slot = slot; context = c })) end)
+    linked-ended end = record {
+      linked = λ u y h. (let k = world.linked.linked u y (then u y h) in
+          let other : life_at u ≢ life_at (record { partition = p; slot = slot; context = c }) = λ q. away u y h (world.linked.apart u (record { partition = p; slot = slot; context = c }) y x (then u y h) asks q) in
+          record { life = k.life; here = ended_other lives (life_at (record { partition = p; slot = slot; context = c })) end (life_at u) other ∙ k.here; op = k.op; issue = k.issue; unended = k.unended });
+      apart = λ u v y z h k q. world.linked.apart u v y z (then u y h) (then v z k) q;
+    }
+
+    housed-ended : IsHoused code (slice_set views p new) next
+    housed-ended = housed-set p old new here frame.number frame.count frame.moment (λ u y h. world.housed.routed u y (then u y h))
+
+    -- where the map before past steps stays, and no life is finished at a step that is held
+    held-ended : (end : End O) → ((n : ℕ) → n ≤ now → map_before cmp f (ended_at lives (life_at (record { partition = p; slot = slot; context = c })) end) n ≡ map_before cmp f lives n)
+        → ((t : Finish O) → finish_in end ≡ Some t → (w : Place) (q : Pending V) → w ≢ record { partition = p; slot = slot; context = c } → pending_in cmp views w ≡ Some q → t.effect ≢ q.moment)
+        → IsHeld cmp f (slice_set views p new) life_at (ended_at lives (life_at (record { partition = p; slot = slot; context = c })) end) next
+    held-ended end same free = held-on cmp f views life_at lives now world.held (slice_set views p new) life_at (ended_at lives (life_at (record { partition = p; slot = slot; context = c })) end) next (omega arith) same
+        (λ w q h. (rest w q h).1)
+        (λ w q h life k. ended_other lives (life_at (record { partition = p; slot = slot; context = c })) end (life_at w) (apart_life w q h) ∙ k)
+        (λ w q h i y t hy ty. (let l = open_life in elim (ended_cases lives (life_at (record { partition = p; slot = slot; context = c })) end l.life l.here i y hy) [
+          | inl k ↦ (let r = rest w q h in free t (sym (ap finish_of k.1) ∙ ty) w q r.0 r.1)
+          | inr k ↦ (world.held.held w q (rest w q h).1).free i y t k.1 ty
+        ]))
+
+    -- it is finished: its life ends with the answer, and its effect is now
+    pub world-done : (a : Answer O) → Same (live_of cmp new) (after cmp f (live_of cmp old) x.op) → a ≡ answer f (live_of cmp old) x.op
+        → IsWorld cmp f code (slice_set views p new) life_at (ended_at lives (life_at (record { partition = p; slot = slot; context = c })) (Finished (record { effect = next; done = next; answer = a }))) next
+    world-done a map told =
         let l = open_life in
-        let j = life_at (record { partition = p; slot = slot; context = c }) in
         let unended : finish_of l.life ≡ None = ap (λ n. finish_of (record (l.life) { end = n })) l.unended in
-        let here' = l.here in
+        let j = life_at (record { partition = p; slot = slot; context = c }) in
         record {
           placed = placed-now cmp f lives now next e world.placed j l.life l.here unended a
               (told ∙ answer-here cmp o f code views p old new here x.op own ∙ ap (λ m. answer f m x.op) live-then ∙ ap (answer f (map_before cmp f lives (suc now))) (sym l.op));
           denotes = λ k. live-after cmp o f code views p old new here x.op own map k
               ∙ ap (λ m. after cmp f m x.op k) live-then ∙ ap (λ q. after cmp f (map_before cmp f lives (suc now)) q k) (sym l.op)
               ∙ ap (λ (m : PlainMap K V). m k) (sym (map-now cmp f lives now next e world.placed j l.life l.here unended a));
-          linked = record {
-            linked = λ u y h. (let k = world.linked.linked u y (then u y h) in
-                let other : life_at u ≢ j = λ q. away u y h (world.linked.apart u (record { partition = p; slot = slot; context = c }) y x (then u y h) asks q) in
-                record { life = k.life; here = ended_other lives j _ (life_at u) other ∙ k.here; op = k.op; issue = k.issue; unended = k.unended });
-            apart = λ u v y z h k q. world.linked.apart u v y z (then u y h) (then v z k) q;
-          };
-          housed = housed-set p old new here frame.number frame.count frame.moment (λ u y h. world.housed.routed u y (then u y h));
+          linked = linked-ended (Finished (record { effect = next; done = next; answer = a }));
+          housed = housed-ended;
+          held = held-ended (Finished (record { effect = next; done = next; answer = a }))
+              (λ n b. same_now cmp f lives now next e world.placed j l.life l.here unended a n (omega arith))
+              (λ t h w q n k m. (let s : record { effect = next; done = next; answer = a } ≡ t = cc in
+              let at : next ≡ t.effect = ap (λ (z : Finish O). z.effect) s in
+              let past = (world.held.held w q k).past in absurd (omega arith)));
         }
 
-  -- an operation is given up: its life ends without effect
-  module _ (p : ℕ) (old new : PartitionView K V I) (slot c : ℕ) (here : slice_get views p ≡ Some old) (ev : IsGiveUp old new slot c next) where
-    gone : Place
-    gone = record { partition = p; slot = slot; context = c }
-
-    gives : asked_in views (record { partition = p; slot = slot; context = c }) ≡ Some ev.question
-    gives = asked-was views p old new here slot c ∙ ev.was
-
-    not_here : (u : Place) (y : Asked K V I) → asked_in (slice_set views p new) u ≡ Some y → u ≢ record { partition = p; slot = slot; context = c }
-    not_here u y h s = let k : None ≡ Some y = sym (asked-here views p old new here slot c ∙ ev.closed) ∙ ap (asked_in (slice_set views p new)) (sym s) ∙ h in absurd (cc)
-
-    was_asked : (u : Place) (y : Asked K V I) → asked_in (slice_set views p new) u ≡ Some y → asked_in views u ≡ Some y
-    was_asked u y h = sym (asked-others views p old new here slot c ev.frame.others u (not_here u y h)) ∙ h
-
-    pub world-give_up : IsWorld cmp f code (slice_set views p new) life_at (ended_at lives (life_at (record { partition = p; slot = slot; context = c })) GivenUp) next
-    world-give_up =
-        let l = world.linked.linked (record { partition = p; slot = slot; context = c }) ev.question gives in
-        let j = life_at (record { partition = p; slot = slot; context = c }) in
+    -- a read is finished by the page that it waited for: its effect is at its look-up
+    pub world-loaded : (q : Pending V) → pending cmp old slot c ≡ Some q → (a : Answer O) (i : I) → x.op ≡ Read (key_of x.op) i → a ≡ shown_of f (key_of x.op) i q.value → Same (live_of cmp new) (live_of cmp old)
+        → IsWorld cmp f code (slice_set views p new) life_at (ended_at lives (life_at (record { partition = p; slot = slot; context = c })) (Finished (record { effect = q.moment; done = next; answer = a }))) next
+    world-loaded q waits a i reads told same =
+        let l = open_life in
         let unended : finish_of l.life ≡ None = ap (λ n. finish_of (record (l.life) { end = n })) l.unended in
+        let j = life_at (record { partition = p; slot = slot; context = c }) in
+        let look = world.held.held (record { partition = p; slot = slot; context = c }) q (pend-was cmp views p old new here slot c ∙ waits) in
+        let k = key_of x.op in
+        let op : l.life.op ≡ Read (key_of x.op) i = l.op ∙ reads in
+        let mine : look.life ≡ l.life = (let s : Some look.life ≡ Some l.life = sym look.here ∙ l.here in cc) in
+        let key : key_of look.life.op ≡ key_of x.op = ap (λ (z : Life K V I O). key_of z.op) mine ∙ ap key_of l.op in
         record {
-          placed = placed-ended cmp f lives now next e world.placed j l.life l.here unended GivenUp refl;
-          denotes = λ k. live-quiet cmp o f code views p old new here (λ q. ap (λ t. live cmp t q) ev.text) k ∙ world.denotes k
-              ∙ ap (λ (m : PlainMap K V). m k) (sym (map-ended cmp f lives now next e world.placed j l.life l.here unended GivenUp refl));
-          linked = record {
-            linked = λ u y h. (let k = world.linked.linked u y (was_asked u y h) in
-                let other : life_at u ≢ j = λ q. not_here u y h (world.linked.apart u (record { partition = p; slot = slot; context = c }) y ev.question (was_asked u y h) gives q) in
-                record { life = k.life; here = ended_other lives j _ (life_at u) other ∙ k.here; op = k.op; issue = k.issue; unended = k.unended });
-            apart = λ u v y z h k q. world.linked.apart u v y z (was_asked u y h) (was_asked v z k) q;
-          };
-          housed = housed-set p old new here ev.frame.number ev.frame.count ev.frame.moment (λ u y h. world.housed.routed u y (was_asked u y h));
+          placed = placed-before cmp f lives now next e world.placed j l.life l.here unended q.moment a (key_of x.op) i op q.value
+              look.free (let b : look.life.issue < q.moment = look.later in let s : look.life.issue ≡ l.life.issue = ap (λ (z : Life K V I O). z.issue) mine in omega arith)
+              look.past (look.value ∙ ap (map_before cmp f lives q.moment) key) told;
+          denotes = λ k. live-quiet cmp o f code views p old new here same k ∙ world.denotes k
+              ∙ ap (λ (m : PlainMap K V). m k) (sym (map-before cmp f lives now next e world.placed j l.life l.here unended q.moment a (key_of x.op) i op));
+          linked = linked-ended (Finished (record { effect = q.moment; done = next; answer = a }));
+          housed = housed-ended;
+          held = held-ended (Finished (record { effect = q.moment; done = next; answer = a }))
+              (λ n b. same_before cmp f lives now next e world.placed j l.life l.here unended q.moment a (key_of x.op) i op n)
+              (λ t h w r n k m. (let s : record { effect = q.moment; done = next; answer = a } ≡ t = cc in
+              let at : q.moment ≡ t.effect = ap (λ (z : Finish O). z.effect) s in
+              n (world.held.apart w (record { partition = p; slot = slot; context = c }) r q k (pend-was cmp views p old new here slot c ∙ waits) (sym m ∙ sym at))));
+        }
+
+    -- it is given up, or a fault ends it: its life ends without effect
+    pub world-ended : (end : End O) → finish_in end ≡ None → Same (live_of cmp new) (live_of cmp old)
+        → IsWorld cmp f code (slice_set views p new) life_at (ended_at lives (life_at (record { partition = p; slot = slot; context = c })) end) next
+    world-ended end untold same =
+        let l = open_life in
+        let unended : finish_of l.life ≡ None = ap (λ n. finish_of (record (l.life) { end = n })) l.unended in
+        let j = life_at (record { partition = p; slot = slot; context = c }) in
+        record {
+          placed = placed-ended cmp f lives now next e world.placed j l.life l.here unended end untold;
+          denotes = λ k. live-quiet cmp o f code views p old new here same k ∙ world.denotes k
+              ∙ ap (λ (m : PlainMap K V). m k) (sym (map-ended cmp f lives now next e world.placed j l.life l.here unended end untold));
+          linked = linked-ended end;
+          housed = housed-ended;
+          held = held-ended end (λ n b. same_ended cmp f lives now next e world.placed j l.life l.here unended end untold n)
+              (λ t h w q n k m. (let s : None ≡ Some t = sym untold ∙ h in absurd (cc)));
         }
 
   -- an event that finishes nothing
-  pub world-next : (p : ℕ) (old new : PartitionView K V I) (slot c : ℕ) (x : Asked K V I) → slice_get views p ≡ Some old → asked old slot c ≡ Some x → asked new slot c ≡ Some x → LeavesOthers old new slot c next → Same (live_of cmp new) (live_of cmp old)
-      → IsWorld cmp f code (slice_set views p new) life_at lives next
-  world-next p old new slot c x here was is frame same = world-quiet p old new here frame.number frame.count frame.moment same (λ w. elim (same_where w (record { partition = p; slot = slot; context = c })) [
-    | inl s ↦ ap (asked_in (slice_set views p new)) s ∙ asked-here views p old new here slot c ∙ is ∙ sym was ∙ sym (asked-was views p old new here slot c) ∙ ap (asked_in views) (sym s)
-    | inr n ↦ asked-others views p old new here slot c frame.others w n
-  ])
+  module _ (p : ℕ) (old new : PartitionView K V I) (slot c : ℕ) (x : Asked K V I) (here : slice_get views p ≡ Some old) (was : asked old slot c ≡ Some x) (is : asked new slot c ≡ Some x) (frame : LeavesOthers old new slot c next) (same : Same (live_of cmp new) (live_of cmp old)) (others : OthersPend cmp old new slot c) where
+    goes-on : IsHeld cmp f (slice_set views p new) life_at lives next → IsWorld cmp f code (slice_set views p new) life_at lives next
+    goes-on held = world-quiet p old new here frame.number frame.count frame.moment same (λ w. elim (same_where w (record { partition = p; slot = slot; context = c })) [
+      | inl s ↦ ap (asked_in (slice_set views p new)) s ∙ asked-here views p old new here slot c ∙ is ∙ sym was ∙ sym (asked-was views p old new here slot c) ∙ ap (asked_in views) (sym s)
+      | inr n ↦ asked-others views p old new here slot c frame.others w n
+    ]) held
+
+    -- after which it waits for no page
+    pub world-next : pending cmp new slot c ≡ None → IsWorld cmp f code (slice_set views p new) life_at lives next
+    world-next none = goes-on (held-sub cmp f views life_at lives now world.held (slice_set views p new) next (omega arith)
+        (λ w q h. (pend-rest cmp views p old new here slot c others none w q h).1))
+
+    -- after which it waits for another page, to find the same
+    pub world-further : pending cmp new slot c ≡ pending cmp old slot c → IsWorld cmp f code (slice_set views p new) life_at lives next
+    world-further still = goes-on (held-same cmp f views life_at lives now world.held (slice_set views p new) next (omega arith) (pend-same cmp views p old new here slot c others still))
+
+    -- by which a page is asked for: this step is held for its look-up
+    pub world-asks : IsAsking cmp old new slot c next → IsWorld cmp f code (slice_set views p new) life_at lives next
+    world-asks ask =
+        let w : Place = record { partition = p; slot = slot; context = c } in
+        let asks : asked_in views w ≡ Some x = asked-was views p old new here slot c ∙ was in
+        let l = world.linked.linked w x asks in
+        let mine : asked_by ask.operation ≡ x = (let s : Some (asked_by ask.operation) ≡ Some x = sym (ap (option_map asked_by) ask.was) ∙ was in cc) in
+        let op : ask.operation.op ≡ l.life.op = ap (λ (z : Asked K V I). z.op) mine ∙ sym l.op in
+        let own : partition_of (length views) (code (key_of l.life.op)) ≡ p = ap (λ q. partition_of (length views) (code (key_of q))) l.op ∙ world.housed.routed w x asks in
+        let issued : l.life.issue ≤ now = world.placed.issued (life_at w) l.life l.here in
+        goes-on (held-more cmp f views life_at lives now world.held (slice_set views p new) next (omega arith) w (record { moment = next; value = live_of cmp old (key_of ask.operation.op) })
+        (pend-here cmp views p old new here slot c ∙ ask.asks)
+        (record {
+          life = l.life;
+          here = l.here;
+          later = omega arith;
+          past = omega arith;
+          free = λ i y t hy ty m. (let u = world.placed.timely i y t hy ty in let a : t.effect ≤ t.done = u.within in let b : t.done ≤ now = u.past in absurd (omega arith));
+          value = ap (λ q. live_of cmp old (key_of q)) op
+              ∙ sym (live-here cmp o f code views p old new here (key_of l.life.op) own)
+              ∙ ap (λ (m : PlainMap K V). m (key_of l.life.op)) live-then
+              ∙ ap (λ n. map_before cmp f lives n (key_of l.life.op)) (sym e);
+        })
+        (omega arith)
+        (pend-others cmp views p old new here slot c others))

@@ -1,5 +1,5 @@
 -- What the partition of a step refuses, and then nothing changes: by the rule of its event.
-use Rattle.std.specs.Prelude.{◌≡◌, ◌≢◌, ℕ, [], List, Bool, true, false, Some, Result, Err}
+use Rattle.std.specs.Prelude.{◌≡◌, ◌≢◌, ℕ, [], List, true, false, Some, Result, Err}
 use Rattle.std.specs.declared.cmp.Ordering.{Ordering}
 use Rattle.fkv_functions.specs.Meanings.{Meanings}
 use Rattle.fkv_functions.specs.declared.asks.Ask.{Ask}
@@ -8,7 +8,6 @@ use Rattle.fkv_functions.specs.declared.refusals.Refused.TheVariants.{NoMemory, 
 use Rattle.fkv_device.specs.Standing.{Standing, Joined}
 use Rattle.fkv_texts.specs.declared.entries.Entry.{Entry}
 use Rattle.fkv_operations.specs.declared.operations.Op.{Op}
-use Rattle.fkv_device_partition.specs.declared.contexts.Progress.{Progress}
 use Rattle.fkv_device_partition.specs.Views.{PartitionView}
 use Rattle.fkv_device_partition.specs.Beginning.{Enters, Issues}
 use Rattle.fkv_device_partition.specs.Ending.{Leaves, GivesUp}

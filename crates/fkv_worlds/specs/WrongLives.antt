@@ -75,7 +75,7 @@ RefusesEarlyUpdates = (f : Numbers) (op : Op ℕ ℕ ℕ) (issue effect done now
 
 -- an answer that was told without a life
 abbrev pub RefusesUnowned : Type 0
-RefusesUnowned = (now : ℕ) (a : Answer ℕ) → IsAccount {K = ℕ} {V = ℕ} {I = ℕ} [] (Done a ∷ []) now → ⊥
+RefusesUnowned = (now : ℕ) (a : Answer ℕ) → IsAccount {K = ℕ} {V = ℕ} {I = ℕ} [] (Ok (Done a) ∷ []) now → ⊥
 
 -- a life without an issue
 abbrev pub RefusesUnissued : Type 0

@@ -1,6 +1,6 @@
 //! The events of a partition over a device that keeps, each with what it leaves the look-ups to find that wait for a page.
 //! They do what the calls of [`Partition`] of the same names do, and are refused as these are.
-ghost use Rattle.std.specs.Prelude.{◌≡◌, ◌<◌, ◌≤◌, true, Ok, OnOk, OnErr, IfOk, IfErr};
+ghost use Rattle.std.specs.Prelude.{◌≡◌, ◌<◌, ◌≤◌, ◌⊎◌, true, Ok, OnOk, OnErr, IfOk, IfErr};
 ghost use Rattle.fkv_device.specs.Standing.{Joined};
 ghost use Rattle.fkv_pages.specs.Spelled.{IsEntryIn};
 ghost use Rattle.fkv_device_partition.specs.Beginning.{Enters, Issues};
@@ -206,6 +206,8 @@ pub fn load<F: Functions>(
     ensures does { Loads ⟦<MemoryReceipt as Receipt>⟧.stands (IsEntryIn F.Key.bytes_of F.Value.bytes_of F.Key.is_known F.Value.is_known
         F.Key.SIZE F.Value.SIZE) F.Key.cmp F.meaning partition.old partition.new slot context came now result }
     ensures event { IfOk result (IsLoad F.Key.cmp F.meaning partition.old partition.new slot context now) }
+    ensures fails { IfErr result
+        (λ _. (partition.new ≡ partition.old) ⊎ IsGiveUp partition.old partition.new slot context now) }
     ensures others { OthersPend F.Key.cmp partition.old partition.new slot context }
     ensures within { IfOk result (λ _. (slot < 16) × (context < 8)) }
     ensures moment { partition.new.moment ≤ now }

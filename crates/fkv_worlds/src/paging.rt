@@ -159,11 +159,12 @@ impl<F: Functions> State<F> {
                 Ok(note_progress(&mut self.lives, &mut self.tables, place, progress, now))
             }
             Err(refused) => {
-                if ends_operation(&refused) {
-                    self.moment = now;
-                    let life = life_at(&self.tables.begun, place);
-                    end_life(&mut self.lives, life, End::Failed);
+                if !ends_operation(&refused) {
+                    return Err(refused);
                 }
+                self.moment = now;
+                let life = life_at(&self.tables.begun, place);
+                end_life(&mut self.lives, life, End::Failed);
                 Err(refused)
             }
         }

@@ -43,6 +43,7 @@ pub struct State<F: Functions> {
 impl<F: Functions> Model for State<F> {
     ghost use Rattle.std.specs.Prelude.{map};
     ghost use Rattle.fkv_worlds.specs.declared.desks.Desk.{Desk};
+    ghost use Rattle.fkv_device.specs.declared.memory.MemoryReceipt.{MemoryReceipt};
     ghost use Rattle.fkv_worlds.specs.States.{StateView, state_of};
     ghost use Rattle.fkv_worlds.specs.Sound.{IsState};
 

@@ -27,6 +27,7 @@ pub struct World<F: Functions> {
 }
 
 impl<F: Functions> Model for World<F> {
+    ghost use Rattle.fkv_device.specs.declared.memory.MemoryReceipt.{MemoryReceipt};
     ghost use Rattle.fkv_worlds.specs.States.{WorldView};
     ghost use Rattle.fkv_worlds.specs.Told.{IsAccount, taken};
 

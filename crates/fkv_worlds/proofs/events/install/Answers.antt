@@ -1,8 +1,9 @@
+use Rattle.std.proofs.Common.{true, refl}
 use Rattle.fkv_worlds.proofs.ResultLemmas.{if_ok}
 use Rattle.fkv_worlds.proofs.events.install.Goals as goal
 
 pub returns-clause-others : goal.returns-clause-others
-returns-clause-others g c = c.pendings_stay.ensures.installs _ g.F.Key.Ord.cmp g.F.Functions.meaning g.F.Functions.code c.args.partition.now c.install.new.self c.args.slot c.args.context c.args.built c.args.now c.install.result tt c.known.ensures c.install.ensures.does
+returns-clause-others g c = c.pendings_stay.ensures.installs true g.F.Key.Ord.cmp g.F.Functions.meaning g.F.Functions.code c.args.partition.now c.install.new.self c.args.slot c.args.context c.args.built c.args.now c.install.result refl c.known.ensures c.install.ensures.does
 
 pub returns-clause-finds : goal.returns-clause-finds
 returns-clause-finds g c =

@@ -1,10 +1,17 @@
-use Rattle.fkv_worlds.proofs.ActsLemmas.{acts-untimely}
+use Rattle.fkv_worlds.proofs.ActsLemmas.{acts-untimely, unasked-none}
 use Rattle.fkv_worlds.proofs.states.State.act.Goals as goal
 
 pub returns-in-Err : goal.returns-in-Err
-returns-in-Err g c = record {
-  does = acts-untimely g.F.Key.Ord.cmp g.F.Functions.meaning g.F.Functions.code c.args.self.now c.args.step c.in-Err.refused (λ w h. absurd (c.in_default.not-Install w h)) (rw c.partition.ensures at c.in-Err.ensures.err);
-}
+returns-in-Err g c = record { does = acts-untimely _ _ g.F.Key.Ord.cmp g.F.Functions.meaning g.F.Functions.code c.args.self.now c.args.step c.in-Err.refused (unasked-none c.args.self.now c.args.step c.in_default.not-Install c.in_default.not-Load c.in_default.not-Write) (rw c.partition.ensures at c.in-Err.ensures.err) }
 
 pub act_at-requires-clause-due : goal.act_at-requires-clause-due
 act_at-requires-clause-due g c κs within = rw c.partition.ensures at c.in-Ok.ensures.ok
+
+pub returns-in-Install : goal.returns-in-Install
+returns-in-Install g c = rw c.in-Install.is (record { does = c.install.ensures.does })
+
+pub returns-in-Load : goal.returns-in-Load
+returns-in-Load g c = rw c.in-Load.is (record { does = c.load.ensures.does })
+
+pub returns-in-Write : goal.returns-in-Write
+returns-in-Write g c = rw c.in-Write.is (record { does = c.write.ensures.does })

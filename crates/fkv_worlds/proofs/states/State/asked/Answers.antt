@@ -1,4 +1,4 @@
-use Rattle.std.proofs.Common.{◌≡◌, Some, refl, IsSome, sym, ◌∙◌, ap, subst}
+use Rattle.std.proofs.Common.{◌≡◌, Some, refl, sym, ◌∙◌, ap}
 use Rattle.fkv_worlds.specs.States.{question_in}
 use Rattle.fkv_worlds.specs.declared.steps.Step.TheVariants.{Install}
 use Rattle.fkv_worlds.proofs.ActsLemmas.{acts-untimely}
@@ -10,8 +10,7 @@ returns-in-Ok-clause-ok g c = (rw (← c.self.view_is) (ap (λ xs. question_in x
 pub returns-in-Err-clause-err : goal.returns-in-Err-clause-err
 returns-in-Err-clause-err g c =
     let asks : question_in c.args.self.now.questions c.args.place ≡ Some c.in-Some.ask = rw (← c.self.view_is) (ap (λ xs. question_in xs c.args.place) (sym c.deref.ensures.value) ∙ sym c.in-Some.ensures) in
-    acts-untimely g.F.Key.Ord.cmp g.F.Functions.meaning g.F.Functions.code c.args.self.now (Install c.args.place) c.in-Err.refused
-    (λ w h. let same : c.args.place ≡ w = cc in subst (λ x. IsSome (question_in c.args.self.now.questions x)) same (rw asks refl)) c.in-Err.ensures.err
+    acts-untimely _ _ g.F.Key.Ord.cmp g.F.Functions.meaning g.F.Functions.code c.args.self.now (Install c.args.place) c.in-Err.refused (rw asks refl) c.in-Err.ensures.err
 
 pub returns-in_default-clause-ok : goal.returns-in_default-clause-ok
 returns-in_default-clause-ok g c = tt

@@ -1,10 +1,11 @@
-use Rattle.std.proofs.Common.{◌≡◌, false, cond, None, nat_lt, All, length, slice_get, Some, sym, ap, ◌∙◌, subst, arith}
+use Rattle.std.proofs.Common.{◌≡◌, false, cond, None, nat_lt, All, length, slice_get, Some, refl, sym, ap, ◌∙◌, subst, arith}
 use Rattle.std.proofs.lemmas.Bool.Decides.{nat_tests}
 use Rattle.std.specs.BTreeMap.{get, is_at}
 use Rattle.std.specs.Map.{lookup, keys_of}
 use Rattle.fkv_functions.proofs.KeyOrder.{key_order}
 use Rattle.fkv_device_partition.specs.Views.{partition_of}
 use Rattle.fkv_functions.specs.Plain.{Same}
+use Rattle.fkv_device.specs.declared.memory.MemoryReceipt.{MemoryReceipt}
 use Rattle.fkv_worlds.specs.States.{StateView}
 use Rattle.fkv_worlds.specs.Worlds.{world_live}
 use Rattle.fkv_worlds.specs.Reports.{with_all}
@@ -26,11 +27,11 @@ loop-partition-preserved g c =
     let own : All (λ k. partition_of (length c.self.inside.partitions.items) (g.F.Functions.code k) ≡ c.loop-partition.partition-index) (keys_of c.in-Ok.pairs.items) =
     subst (λ n. All (λ k. partition_of n (g.F.Functions.code k) ≡ c.loop-partition.partition-index) (keys_of c.in-Ok.pairs.items)) (c.self.invariant.world.housed.counted c.loop-partition.partition-index c.partition-item.result here)
     (subst (λ p. All (λ k. partition_of c.partition-item.result.count (g.F.Functions.code k) ≡ p) (keys_of c.in-Ok.pairs.items)) (c.self.invariant.world.housed.numbered c.loop-partition.partition-index c.partition-item.result here)
-    c.in-Ok.ensures.own) in
+    (c.in-Ok.ensures.own refl)) in
     rw (← c.self.view_is) (λ q. c.in-Ok-put_all.ensures.ok q
     ∙ ap (λ ps. with_all g.F.Key.Ord.cmp (get g.F.Key.Ord.cmp c.loop-partition.map) ps q) c.deref.ensures.value
     ∙ live-more g.F.Key.Ord.cmp ord.total order g.F.Functions.code c.self.inside.partitions.items c.loop-partition.partition-index c.partition-item.result c.in-Ok.pairs.items
-    (get g.F.Key.Ord.cmp c.loop-partition.map) here c.in-Ok.ensures.map c.in-Ok.ensures.rising own (subst (λ (v : StateView g.row.F-Key.Denot g.row.F-Value.Denot g.row.F-Input.Denot g.row.F-Output.Denot). Same (get g.F.Key.Ord.cmp c.loop-partition.map) (λ q. cond (nat_lt (partition_of (length v.partitions) (g.F.Functions.code q)) c.loop-partition.partition-index) (world_live g.F.Key.Ord.cmp g.F.Functions.code v.partitions q) None)) (sym c.self.view_is) c.loop-partition.invariant) q)
+    (get g.F.Key.Ord.cmp c.loop-partition.map) here (c.in-Ok.ensures.map refl) c.in-Ok.ensures.rising own (subst (λ (v : StateView g.row.F-Key.Denot g.row.F-Value.Denot g.row.F-Input.Denot g.row.F-Output.Denot MemoryReceipt). Same (get g.F.Key.Ord.cmp c.loop-partition.map) (λ q. cond (nat_lt (partition_of (length v.partitions) (g.F.Functions.code q)) c.loop-partition.partition-index) (world_live g.F.Key.Ord.cmp g.F.Functions.code v.partitions q) None)) (sym c.self.view_is) c.loop-partition.invariant) q)
 
 pub returns-clause-ok : goal.returns-clause-ok
 returns-clause-ok g c =
@@ -39,5 +40,5 @@ returns-clause-ok g c =
     let order = key_order g.F.Key.PartialEq.eq g.F.Key.Ord.cmp ord.matches_eq known.exact ord.total in
     let end : c.loop-partition.partition-index ≡ length c.self.inside.partitions.items =
     (let v = ap length c.deref-partition-items.ensures.value in let t = c.loop-partition-test.false in let u = c.loop-partition.auto in omega arith) in
-    let all = live-all g.F.Key.Ord.cmp ord.total order g.F.Functions.code c.self.inside.partitions.items (get g.F.Key.Ord.cmp c.loop-partition.map) c.self.invariant.world.housed.some (subst (λ n. Same (get g.F.Key.Ord.cmp c.loop-partition.map) (λ q. cond (nat_lt (partition_of (length c.self.inside.partitions.items) (g.F.Functions.code q)) n) (world_live g.F.Key.Ord.cmp g.F.Functions.code c.self.inside.partitions.items q) None)) end (subst (λ (v : StateView g.row.F-Key.Denot g.row.F-Value.Denot g.row.F-Input.Denot g.row.F-Output.Denot). Same (get g.F.Key.Ord.cmp c.loop-partition.map) (λ q. cond (nat_lt (partition_of (length v.partitions) (g.F.Functions.code q)) c.loop-partition.partition-index) (world_live g.F.Key.Ord.cmp g.F.Functions.code v.partitions q) None)) (sym c.self.view_is) c.loop-partition.invariant)) in
+    let all = live-all g.F.Key.Ord.cmp ord.total order g.F.Functions.code c.self.inside.partitions.items (get g.F.Key.Ord.cmp c.loop-partition.map) c.self.invariant.world.housed.some (subst (λ n. Same (get g.F.Key.Ord.cmp c.loop-partition.map) (λ q. cond (nat_lt (partition_of (length c.self.inside.partitions.items) (g.F.Functions.code q)) n) (world_live g.F.Key.Ord.cmp g.F.Functions.code c.self.inside.partitions.items q) None)) end (subst (λ (v : StateView g.row.F-Key.Denot g.row.F-Value.Denot g.row.F-Input.Denot g.row.F-Output.Denot MemoryReceipt). Same (get g.F.Key.Ord.cmp c.loop-partition.map) (λ q. cond (nat_lt (partition_of (length v.partitions) (g.F.Functions.code q)) c.loop-partition.partition-index) (world_live g.F.Key.Ord.cmp g.F.Functions.code v.partitions q) None)) (sym c.self.view_is) c.loop-partition.invariant)) in
     rw (← c.self.view_is) all

@@ -1,23 +1,23 @@
-use Rattle.std.proofs.Common.{◌∙◌, ap}
+use Rattle.std.proofs.Common.{refl, ◌∙◌, ap}
 use Rattle.fkv_functions.proofs.KeyOrder.{key_order}
 use Rattle.fkv_worlds.specs.States.{life_in}
-use Rattle.fkv_worlds.proofs.EventLemmas.{rows, event-later, refused-state, refused-give_up, does-give_up, life-there, given_up-state}
+use Rattle.fkv_worlds.proofs.EventLemmas.{rows, event-later, refused-state, refused-give_up, does-give_up, life-there, ended-state}
 use Rattle.fkv_worlds.proofs.states.State.give_up_at.Goals as goal
 
 pub give_up-requires-clause-later : goal.give_up-requires-clause-later
 give_up-requires-clause-later g c κs within =
     let due = rw (← c.self.view_is) at c.requires.due in
-    event-later g.F.Key.Ord.cmp g.F.Functions.meaning g.F.Functions.code _ c.self.invariant c.args.place.partition c.args.now due c.index_mut.result.now c.index_mut.ensures.value
+    event-later g.F.Key.Ord.cmp g.F.Functions.meaning g.F.Functions.code _ c.self.invariant c.args.place.partition c.args.now due c.index_mut-partition.result.now c.index_mut-partition.ensures.value
 
 pub invariant_of-self-in-Err : goal.invariant_of-self-in-Err
 invariant_of-self-in-Err g c =
     let due = rw (← c.self.view_is) at c.requires.due in
-    refused-state g.F.Key.Ord.cmp g.F.Functions.meaning g.F.Functions.code _ c.self.invariant c.args.place.partition c.args.now due c.index_mut.result.now c.index_mut.ensures.value c.give_up.new.self c.in-Err.ensures.err
+    refused-state g.F.Key.Ord.cmp g.F.Functions.meaning g.F.Functions.code _ c.self.invariant c.args.place.partition c.args.now due c.index_mut-partition.result.now c.index_mut-partition.ensures.value c.give_up.new.partition c.in-Err.ensures.err
 
 pub returns-in-Err : goal.returns-in-Err
 returns-in-Err g c =
     let due = rw (← c.self.view_is) at c.requires.due in
-    rw (← c.self.view_is) (record { does = refused-give_up g.F.Key.Ord.cmp g.F.Functions.meaning g.F.Functions.code _ c.self.invariant c.args.place c.args.now due c.index_mut.result.now c.index_mut.ensures.value c.give_up.new.self c.in-Err.refused c.in-Err.ensures.err c.in-Err.ensures.does })
+    rw (← c.self.view_is) (record { does = refused-give_up g.F.Key.Ord.cmp g.F.Functions.meaning g.F.Functions.code _ c.self.invariant c.args.place c.args.now due c.index_mut-partition.result.now c.index_mut-partition.ensures.value c.give_up.new.partition c.in-Err.refused c.in-Err.ensures.err c.in-Err.ensures.does })
 
 pub life_at-life-requires-clause-partition : goal.life_at-life-requires-clause-partition
 life_at-life-requires-clause-partition g c =
@@ -42,7 +42,7 @@ end_life-requires g c =
     let due = rw (← c.self.view_is) at c.requires.due in
     let life = c.life_at-life.ensures ∙ ap (λ xs. life_in xs c.args.place) c.deref.ensures.value in
     let ev = c.in-Ok.ensures.event in
-    rw life (life-there g.F.Key.Ord.cmp g.F.Functions.meaning g.F.Functions.code _ c.self.invariant c.args.place c.args.now due c.index_mut.result.now c.index_mut.ensures.value ev.question ev.was)
+    rw life (life-there g.F.Key.Ord.cmp g.F.Functions.meaning g.F.Functions.code _ c.self.invariant c.args.place c.args.now due c.index_mut-partition.result.now c.index_mut-partition.ensures.value ev.question ev.was)
 
 pub invariant_of-self : goal.invariant_of-self
 invariant_of-self g c =
@@ -51,11 +51,11 @@ invariant_of-self g c =
     let order = key_order g.F.Key.PartialEq.eq g.F.Key.Ord.cmp ord.matches_eq known.exact ord.total in
     let due = rw (← c.self.view_is) at c.requires.due in
     let life = c.life_at-life.ensures ∙ ap (λ xs. life_in xs c.args.place) c.deref.ensures.value in
-    rw (c.end_life.ensures, life) (given_up-state g.F.Key.Ord.cmp g.F.Functions.meaning g.F.Functions.code _ c.self.invariant c.args.place c.args.now due c.index_mut.result.now c.index_mut.ensures.value c.give_up.new.self order c.in-Ok.ensures.event)
+    rw (c.end_life.ensures, life) (ended-state g.F.Key.Ord.cmp g.F.Functions.meaning g.F.Functions.code _ c.self.invariant c.args.place c.args.now due c.index_mut-partition.result.now c.index_mut-partition.ensures.value c.give_up.new.partition order c.give_up.ensures.others _ refl c.in-Ok.ensures.event)
 
 pub returns-in-Ok : goal.returns-in-Ok
 returns-in-Ok g c =
     let due = rw (← c.self.view_is) at c.requires.due in
     let life = c.life_at-life.ensures ∙ ap (λ xs. life_in xs c.args.place) c.deref.ensures.value in
     rw (← c.self.view_is, c.end_life.ensures, life)
-    (record { does = does-give_up g.F.Key.Ord.cmp g.F.Functions.meaning g.F.Functions.code _ c.self.invariant c.args.place c.args.now due c.index_mut.result.now c.index_mut.ensures.value c.give_up.new.self c.in-Ok.ensures.does c.in-Ok.ensures.event })
+    (record { does = does-give_up g.F.Key.Ord.cmp g.F.Functions.meaning g.F.Functions.code _ c.self.invariant c.args.place c.args.now due c.index_mut-partition.result.now c.index_mut-partition.ensures.value c.give_up.new.partition c.in-Ok.ensures.does c.in-Ok.ensures.event })

@@ -5,17 +5,17 @@ use Rattle.fkv_worlds.proofs.states.State.go_at.Goals as goal
 pub go-requires-clause-later : goal.go-requires-clause-later
 go-requires-clause-later g c κs within =
     let due = rw (← c.self.view_is) at c.requires.due in
-    event-later g.F.Key.Ord.cmp g.F.Functions.meaning g.F.Functions.code _ c.self.invariant c.args.place.partition c.args.now due c.index_mut.result.now c.index_mut.ensures.value
+    event-later g.F.Key.Ord.cmp g.F.Functions.meaning g.F.Functions.code _ c.self.invariant c.args.place.partition c.args.now due c.index_mut-partition.result.now c.index_mut-partition.ensures.value
 
 pub invariant_of-self-in-Err : goal.invariant_of-self-in-Err
 invariant_of-self-in-Err g c =
     let due = rw (← c.self.view_is) at c.requires.due in
-    refused-state g.F.Key.Ord.cmp g.F.Functions.meaning g.F.Functions.code _ c.self.invariant c.args.place.partition c.args.now due c.index_mut.result.now c.index_mut.ensures.value c.go.new.self c.in-Err.ensures.err
+    refused-state g.F.Key.Ord.cmp g.F.Functions.meaning g.F.Functions.code _ c.self.invariant c.args.place.partition c.args.now due c.index_mut-partition.result.now c.index_mut-partition.ensures.value c.go.new.partition c.in-Err.ensures.err
 
 pub returns-in-Err : goal.returns-in-Err
 returns-in-Err g c =
     let due = rw (← c.self.view_is) at c.requires.due in
-    rw (← c.self.view_is) (record { does = refused-go g.F.Key.Ord.cmp g.F.Functions.meaning g.F.Functions.code _ c.self.invariant c.args.place c.args.now due c.index_mut.result.now c.index_mut.ensures.value c.go.new.self c.in-Err.refused c.in-Err.ensures.err c.in-Err.ensures.does })
+    rw (← c.self.view_is) (record { does = refused-go g.F.Key.Ord.cmp g.F.Functions.meaning g.F.Functions.code _ c.self.invariant c.args.place c.args.now due c.index_mut-partition.result.now c.index_mut-partition.ensures.value c.go.new.partition c.in-Err.refused c.in-Err.ensures.err c.in-Err.ensures.does })
 
 pub note_progress-requires-clause-partition : goal.note_progress-requires-clause-partition
 note_progress-requires-clause-partition g c =
@@ -35,16 +35,21 @@ note_progress-requires-clause-questions g c =
     let due = rw (← c.self.view_is) at c.requires.due in
     (rows g.F.Key.Ord.cmp g.F.Functions.meaning g.F.Functions.code _ c.self.invariant c.args.place.partition c.args.now due).4
 
+pub note_progress-requires-clause-receipts : goal.note_progress-requires-clause-receipts
+note_progress-requires-clause-receipts g c =
+    let due = rw (← c.self.view_is) at c.requires.due in
+    (rows g.F.Key.Ord.cmp g.F.Functions.meaning g.F.Functions.code _ c.self.invariant c.args.place.partition c.args.now due).5
+
 pub note_progress-requires-clause-begun : goal.note_progress-requires-clause-begun
 note_progress-requires-clause-begun g c =
     let due = rw (← c.self.view_is) at c.requires.due in
-    rw c.deref.ensures.value (rows g.F.Key.Ord.cmp g.F.Functions.meaning g.F.Functions.code _ c.self.invariant c.args.place.partition c.args.now due).3
+    (rows g.F.Key.Ord.cmp g.F.Functions.meaning g.F.Functions.code _ c.self.invariant c.args.place.partition c.args.now due).3
 
 pub note_progress-requires-clause-life : goal.note_progress-requires-clause-life
 note_progress-requires-clause-life g c =
     let due = rw (← c.self.view_is) at c.requires.due in
     let ev = c.in-Ok.ensures.event in
-    rw c.deref.ensures.value (life-there g.F.Key.Ord.cmp g.F.Functions.meaning g.F.Functions.code _ c.self.invariant c.args.place c.args.now due c.index_mut.result.now c.index_mut.ensures.value ev.question ev.was)
+    (life-there g.F.Key.Ord.cmp g.F.Functions.meaning g.F.Functions.code _ c.self.invariant c.args.place c.args.now due c.index_mut-partition.result.now c.index_mut-partition.ensures.value ev.question ev.was)
 
 pub invariant_of-self : goal.invariant_of-self
 invariant_of-self g c =
@@ -52,11 +57,11 @@ invariant_of-self g c =
     let known = g.met.F.Key.Known g.world.𝓛 g.world.𝓜 g.world.𝓡 ((λ s x. x), (λ x. x), (λ x. x), λ x. x) in
     let order = key_order g.F.Key.PartialEq.eq g.F.Key.Ord.cmp ord.matches_eq known.exact ord.total in
     let due = rw (← c.self.view_is) at c.requires.due in
-    rw (c.note_progress.ensures.lives, c.note_progress.ensures.questions, c.deref.ensures.value)
-    (progressed-state g.F.Key.Ord.cmp g.F.Functions.meaning g.F.Functions.code _ c.self.invariant c.args.place c.args.now due c.index_mut.result.now c.index_mut.ensures.value c.go.new.self order c.in-Ok.progress c.in-Ok.ensures.event)
+    rw (c.note_progress.ensures.lives, c.note_progress.ensures.questions, c.note_progress.ensures.receipts, c.note_progress.ensures.begun, c.note_progress.ensures.seats, c.note_progress.ensures.enters)
+    (progressed-state g.F.Key.Ord.cmp g.F.Functions.meaning g.F.Functions.code _ c.self.invariant c.args.place c.args.now due c.index_mut-partition.result.now c.index_mut-partition.ensures.value c.go.new.partition order c.go.ensures.others c.in-Ok.progress c.in-Ok.ensures.event c.in-Ok.ensures.finds)
 
 pub returns-in-Ok : goal.returns-in-Ok
 returns-in-Ok g c =
     let due = rw (← c.self.view_is) at c.requires.due in
-    rw (← c.self.view_is, c.note_progress.ensures.lives, c.note_progress.ensures.questions, c.note_progress.ensures.told, c.deref.ensures.value)
-    (record { does = does-go g.F.Key.Ord.cmp g.F.Functions.meaning g.F.Functions.code _ c.self.invariant c.args.place c.args.now due c.index_mut.result.now c.index_mut.ensures.value c.go.new.self c.in-Ok.progress c.in-Ok.ensures.does c.in-Ok.ensures.event })
+    rw (← c.self.view_is, c.note_progress.ensures.lives, c.note_progress.ensures.questions, c.note_progress.ensures.receipts, c.note_progress.ensures.begun, c.note_progress.ensures.seats, c.note_progress.ensures.enters, c.note_progress.ensures.told)
+    (record { does = does-go g.F.Key.Ord.cmp g.F.Functions.meaning g.F.Functions.code _ c.self.invariant c.args.place c.args.now due c.index_mut-partition.result.now c.index_mut-partition.ensures.value c.go.new.partition c.in-Ok.progress c.in-Ok.ensures.does c.in-Ok.ensures.event })

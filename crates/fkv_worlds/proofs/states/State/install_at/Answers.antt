@@ -6,18 +6,18 @@ use Rattle.fkv_worlds.proofs.states.State.install_at.Goals as goal
 pub install-requires-clause-later : goal.install-requires-clause-later
 install-requires-clause-later g c κs within =
     let due = rw (← c.self.view_is) at c.requires.moment in
-    event-later g.F.Key.Ord.cmp g.F.Functions.meaning g.F.Functions.code _ c.self.invariant c.args.place.partition c.args.now due c.index_mut.result.now c.index_mut.ensures.value
+    event-later g.F.Key.Ord.cmp g.F.Functions.meaning g.F.Functions.code _ c.self.invariant c.args.place.partition c.args.now due c.index_mut-partition.result.now c.index_mut-partition.ensures.value
 
 pub invariant_of-self-in-Err : goal.invariant_of-self-in-Err
 invariant_of-self-in-Err g c =
     let due = rw (← c.self.view_is) at c.requires.moment in
-    refused-state g.F.Key.Ord.cmp g.F.Functions.meaning g.F.Functions.code _ c.self.invariant c.args.place.partition c.args.now due c.index_mut.result.now c.index_mut.ensures.value c.install.new.self c.in-Err.ensures.err
+    refused-state g.F.Key.Ord.cmp g.F.Functions.meaning g.F.Functions.code _ c.self.invariant c.args.place.partition c.args.now due c.index_mut-partition.result.now c.index_mut-partition.ensures.value c.install.new.partition c.in-Err.ensures.err
 
 pub returns-in-Err : goal.returns-in-Err
 returns-in-Err g c =
     let due = rw (← c.self.view_is) at c.requires.moment in
     let asks = rw (← c.self.view_is) at c.requires.asked ∙ ap Some (sym c.make-built.ensures) in
-    rw (← c.self.view_is) (record { does = refused-install g.F.Key.Ord.cmp g.F.Functions.meaning g.F.Functions.code _ c.self.invariant c.args.place c.args.now due c.index_mut.result.now c.index_mut.ensures.value c.install.new.self c.make-built.result asks c.in-Err.refused c.in-Err.ensures.err c.in-Err.ensures.does })
+    rw (← c.self.view_is) (record { does = refused-install g.F.Key.Ord.cmp g.F.Functions.meaning g.F.Functions.code _ c.self.invariant c.args.place c.args.now due c.index_mut-partition.result.now c.index_mut-partition.ensures.value c.install.new.partition c.make-built.result asks c.in-Err.refused c.in-Err.ensures.err c.in-Err.ensures.does })
 
 pub note_progress-requires-clause-partition : goal.note_progress-requires-clause-partition
 note_progress-requires-clause-partition g c =
@@ -37,16 +37,21 @@ note_progress-requires-clause-questions g c =
     let due = rw (← c.self.view_is) at c.requires.moment in
     (rows g.F.Key.Ord.cmp g.F.Functions.meaning g.F.Functions.code _ c.self.invariant c.args.place.partition c.args.now due).4
 
+pub note_progress-requires-clause-receipts : goal.note_progress-requires-clause-receipts
+note_progress-requires-clause-receipts g c =
+    let due = rw (← c.self.view_is) at c.requires.moment in
+    (rows g.F.Key.Ord.cmp g.F.Functions.meaning g.F.Functions.code _ c.self.invariant c.args.place.partition c.args.now due).5
+
 pub note_progress-requires-clause-begun : goal.note_progress-requires-clause-begun
 note_progress-requires-clause-begun g c =
     let due = rw (← c.self.view_is) at c.requires.moment in
-    rw c.deref.ensures.value (rows g.F.Key.Ord.cmp g.F.Functions.meaning g.F.Functions.code _ c.self.invariant c.args.place.partition c.args.now due).3
+    (rows g.F.Key.Ord.cmp g.F.Functions.meaning g.F.Functions.code _ c.self.invariant c.args.place.partition c.args.now due).3
 
 pub note_progress-requires-clause-life : goal.note_progress-requires-clause-life
 note_progress-requires-clause-life g c =
     let due = rw (← c.self.view_is) at c.requires.moment in
     let ev = c.in-Ok.ensures.event in
-    rw c.deref.ensures.value (life-there g.F.Key.Ord.cmp g.F.Functions.meaning g.F.Functions.code _ c.self.invariant c.args.place c.args.now due c.index_mut.result.now c.index_mut.ensures.value ev.question ev.was)
+    (life-there g.F.Key.Ord.cmp g.F.Functions.meaning g.F.Functions.code _ c.self.invariant c.args.place c.args.now due c.index_mut-partition.result.now c.index_mut-partition.ensures.value ev.question ev.was)
 
 pub invariant_of-self : goal.invariant_of-self
 invariant_of-self g c =
@@ -54,12 +59,12 @@ invariant_of-self g c =
     let known = g.met.F.Key.Known g.world.𝓛 g.world.𝓜 g.world.𝓡 ((λ s x. x), (λ x. x), (λ x. x), λ x. x) in
     let order = key_order g.F.Key.PartialEq.eq g.F.Key.Ord.cmp ord.matches_eq known.exact ord.total in
     let due = rw (← c.self.view_is) at c.requires.moment in
-    rw (c.note_progress.ensures.lives, c.note_progress.ensures.questions, c.deref.ensures.value)
-    (progressed-state g.F.Key.Ord.cmp g.F.Functions.meaning g.F.Functions.code _ c.self.invariant c.args.place c.args.now due c.index_mut.result.now c.index_mut.ensures.value c.install.new.self order c.in-Ok.installed c.in-Ok.ensures.event)
+    rw (c.note_progress.ensures.lives, c.note_progress.ensures.questions, c.note_progress.ensures.receipts, c.note_progress.ensures.begun, c.note_progress.ensures.seats, c.note_progress.ensures.enters)
+    (progressed-state g.F.Key.Ord.cmp g.F.Functions.meaning g.F.Functions.code _ c.self.invariant c.args.place c.args.now due c.index_mut-partition.result.now c.index_mut-partition.ensures.value c.install.new.partition order c.install.ensures.others c.in-Ok.installed c.in-Ok.ensures.event c.in-Ok.ensures.finds)
 
 pub returns-in-Ok : goal.returns-in-Ok
 returns-in-Ok g c =
     let due = rw (← c.self.view_is) at c.requires.moment in
     let asks = rw (← c.self.view_is) at c.requires.asked ∙ ap Some (sym c.make-built.ensures) in
-    rw (← c.self.view_is, c.note_progress.ensures.lives, c.note_progress.ensures.questions, c.note_progress.ensures.told, c.deref.ensures.value)
-    (record { does = does-install g.F.Key.Ord.cmp g.F.Functions.meaning g.F.Functions.code _ c.self.invariant c.args.place c.args.now due c.index_mut.result.now c.index_mut.ensures.value c.install.new.self c.make-built.result asks c.in-Ok.installed c.in-Ok.ensures.does c.in-Ok.ensures.event })
+    rw (← c.self.view_is, c.note_progress.ensures.lives, c.note_progress.ensures.questions, c.note_progress.ensures.receipts, c.note_progress.ensures.begun, c.note_progress.ensures.seats, c.note_progress.ensures.enters, c.note_progress.ensures.told)
+    (record { does = does-install g.F.Key.Ord.cmp g.F.Functions.meaning g.F.Functions.code _ c.self.invariant c.args.place c.args.now due c.index_mut-partition.result.now c.index_mut-partition.ensures.value c.install.new.partition c.make-built.result asks c.in-Ok.installed c.in-Ok.ensures.does c.in-Ok.ensures.event })

@@ -10,12 +10,12 @@ shift_read_only-requires-clause-later g c κs within =
 pub invariant_of-self-in-Err : goal.invariant_of-self-in-Err
 invariant_of-self-in-Err g c =
     let due = rw (← c.self.view_is) at c.requires.due in
-    refused-state g.F.Key.Ord.cmp g.F.Functions.meaning g.F.Functions.code _ c.self.invariant c.args.partition c.args.now due c.index_mut.result.now c.index_mut.ensures.value c.shift_read_only.new.self c.in-Err.ensures.err
+    refused-state g.F.Key.Ord.cmp g.F.Functions.meaning g.F.Functions.code _ c.self.invariant c.args.partition c.args.now due c.index_mut.result.now c.index_mut.ensures.value c.shift_read_only.new.partition c.in-Err.ensures.err
 
 pub returns-in-Err : goal.returns-in-Err
 returns-in-Err g c =
     let due = rw (← c.self.view_is) at c.requires.due in
-    rw (← c.self.view_is) (record { does = refused-shift g.F.Key.Ord.cmp g.F.Functions.meaning g.F.Functions.code _ c.self.invariant c.args.partition c.args.now due c.index_mut.result.now c.index_mut.ensures.value c.shift_read_only.new.self c.args.page c.in-Err.refused c.in-Err.ensures.err c.in-Err.ensures.does })
+    rw (← c.self.view_is) (record { does = refused-shift g.F.Key.Ord.cmp g.F.Functions.meaning g.F.Functions.code _ c.self.invariant c.args.partition c.args.now due c.index_mut.result.now c.index_mut.ensures.value c.shift_read_only.new.partition c.args.page c.in-Err.refused c.in-Err.ensures.err c.in-Err.ensures.does })
 
 pub invariant_of-self : goal.invariant_of-self
 invariant_of-self g c =
@@ -23,9 +23,9 @@ invariant_of-self g c =
     let known = g.met.F.Key.Known g.world.𝓛 g.world.𝓜 g.world.𝓡 ((λ s x. x), (λ x. x), (λ x. x), λ x. x) in
     let order = key_order g.F.Key.PartialEq.eq g.F.Key.Ord.cmp ord.matches_eq known.exact ord.total in
     let due = rw (← c.self.view_is) at c.requires.due in
-    quiet-state g.F.Key.Ord.cmp g.F.Functions.meaning g.F.Functions.code _ c.self.invariant c.args.partition c.args.now due c.index_mut.result.now c.index_mut.ensures.value c.shift_read_only.new.self order c.in-Ok.ensures.event
+    quiet-state g.F.Key.Ord.cmp g.F.Functions.meaning g.F.Functions.code _ c.self.invariant c.args.partition c.args.now due c.index_mut.result.now c.index_mut.ensures.value c.shift_read_only.new.partition order c.in-Ok.ensures.event c.shift_read_only.ensures.pends
 
 pub returns-in-Ok : goal.returns-in-Ok
 returns-in-Ok g c =
     let due = rw (← c.self.view_is) at c.requires.due in
-    rw (← c.self.view_is) (record { does = does-shift g.F.Key.Ord.cmp g.F.Functions.meaning g.F.Functions.code _ c.self.invariant c.args.partition c.args.now due c.index_mut.result.now c.index_mut.ensures.value c.shift_read_only.new.self c.args.page c.in-Ok.ensures.does c.in-Ok.ensures.event })
+    rw (← c.self.view_is) (record { does = does-shift g.F.Key.Ord.cmp g.F.Functions.meaning g.F.Functions.code _ c.self.invariant c.args.partition c.args.now due c.index_mut.result.now c.index_mut.ensures.value c.shift_read_only.new.partition c.args.page c.in-Ok.ensures.does c.in-Ok.ensures.event })

@@ -1,11 +1,10 @@
-use Rattle.std.proofs.Common.{◌-◌, zero, suc, Some, None, Err, refl, sym, subst, arith}
+use Rattle.std.proofs.Common.{◌≡◌, ◌-◌, zero, suc, Some, None, Err, refl, sym, arith}
 use Rattle.fkv_functions.specs.declared.refusals.Refused.TheVariants.{Stalled}
-use Rattle.fkv_worlds.specs.declared.steps.Step.TheVariants.{Go}
-use Rattle.fkv_worlds.specs.Reports.{Pursues, unkept, stalls, ends, goes_on}
+use Rattle.fkv_worlds.specs.Reports.{unkept, stalls, ends, goes_on}
 use Rattle.fkv_worlds.proofs.worlds.World.follow.Goals as goal
 
 pub loop-init : goal.loop-init
-loop-init g c = λ n new result all p. subst (λ k. Pursues g.F.Key.Ord.cmp g.F.Functions.meaning g.F.Functions.code c.args.pursuit c.args.place new result k (Go c.args.place) c.args.self.now) (omega arith) p
+loop-init g c = λ n new result all p. (let whole : n ≡ 10000 = omega arith in rw (← whole, ← c.first-step.ensures) p)
 
 pub loop-preserved : goal.loop-preserved
 loop-preserved g c = λ n new result all p. c.loop.invariant (suc n) new result (omega arith)
