@@ -1,5 +1,5 @@
 -- What the events of an operation make of it, one after the other.
-use Rattle.std.proofs.Common.{◌≡◌, ◌<◌, ◌+◌, ◌-◌, ◌^◌, ◌⊎◌, ◌↔◌, inl, inr, ℕ, Bool, true, false, Result, Ok, Err, IfOk, IfErr, IsSome, sym, ◌∙◌, ap, subst, arith}
+use Rattle.std.proofs.Common.{◌≡◌, ◌≢◌, ◌<◌, ◌+◌, ◌-◌, ◌^◌, ◌⊎◌, ◌↔◌, inl, inr, ℕ, Bool, true, false, Some, Result, Ok, Err, IfOk, IfErr, IsSome, refl, sym, ◌∙◌, ap, subst, arith}
 use Rattle.std.specs.declared.cmp.Ordering.{Ordering}
 use Rattle.fkv_functions.specs.Meanings.{Meanings}
 use Rattle.fkv_functions.specs.declared.refusals.Refused.{Refused}
@@ -7,10 +7,11 @@ use Rattle.fkv_functions.specs.declared.refusals.Refused.TheVariants.{Worn}
 use Rattle.fkv_device.specs.Standing.{Standing}
 use Rattle.fkv_lookups.specs.RecordsViews.{RecordsView}
 use Rattle.fkv_operations.specs.declared.operations.Op.{Op}
-use Rattle.fkv_partition.specs.declared.contexts.Context.{Context}
-use Rattle.fkv_partition.specs.declared.contexts.Progress.{Progress}
-use Rattle.fkv_partition.specs.declared.contexts.Progress.TheVariants.{Done, Next, NeedsBuild, NeedsLoad, Waits}
-use Rattle.fkv_partition.specs.Views.{PartitionView, context_at}
+use Rattle.fkv_device_partition.specs.declared.contexts.Context.{Context}
+use Rattle.fkv_device_partition.specs.declared.contexts.Progress.{Progress}
+use Rattle.fkv_device_partition.specs.declared.contexts.Progress.TheVariants.{Done, Next, NeedsBuild, NeedsLoad, Waits}
+use Rattle.fkv_device_partition.specs.Views.{PartitionView, context_at, free_context}
+use Rattle.fkv_device_partition.specs.Pending.{OthersPend, AllPend, pending}
 use Rattle.fkv_alone.specs.Stages.{IsOpen, HasCome}
 use Rattle.fkv_alone.specs.Ending.{IsOver, IsOn, IsHalted}
 use Rattle.fkv_alone.proofs.OpenLemmas.{leaves-then, leaves-own}
@@ -55,3 +56,16 @@ module _ {K V I O R : Type 0} (keeps : Bool) (stands : R → Standing) (cmp : K 
   pub halted-later : (v : PartitionView K V I) (now : ℕ) → IsHalted op old v slot c started now → IsSome (context_at v slot c) → v.moment < now
   halted-later v now (IsHalted.over o) some = let bad : false ≡ true = subst IsSome o.closed some in absurd (cc)
   halted-later v now (IsHalted.still x o later) some = later
+
+module _ {K V I : Type 0} where
+  -- what the others are to find stays, over one event after the other
+  pub pend-then : (cmp : K → K → Ordering) (a b d : PartitionView K V I) (slot c : ℕ) → OthersPend cmp a b slot c → OthersPend cmp b d slot c → OthersPend cmp a d slot c
+  pend-then cmp a b d slot c f g s e other = g s e other ∙ f s e other
+
+  pub pend-self : (cmp : K → K → Ordering) (v : PartitionView K V I) (slot c : ℕ) → OthersPend cmp v v slot c
+  pend-self cmp v slot c s e other = refl
+
+  -- of all contexts but the one that was free
+  pub pend-free : (cmp : K → K → Ordering) (a b d : PartitionView K V I) (slot c s e : ℕ) → AllPend cmp a b → OthersPend cmp b d slot c → free_context a slot ≡ Some c → (s ≢ slot) ⊎ (Some e ≢ free_context a slot) → pending cmp d s e ≡ pending cmp a s e
+  pend-free cmp a b d slot c s e all others free other =
+      others s e (elim other [ inl n ↦ inl n | inr n ↦ inr (λ same. n (ap Some same ∙ sym free)) ]) ∙ all s e

@@ -1,6 +1,7 @@
 //! An operation that is driven to its end.
 ghost use Rattle.std.specs.Prelude.{◌≡◌, ◌≢◌, ◌+◌, ◌-◌, ◌^◌, ◌<◌, ◌≤◌, ◌⊎◌, ◌↔◌, ℕ, Some, Ok, Err, IsTrue, IsSome, IfOk, IfErr};
-ghost use Rattle.fkv_partition.specs.Views.{PartitionView, context_at};
+ghost use Rattle.fkv_device_partition.specs.Views.{PartitionView, context_at, free_context};
+ghost use Rattle.fkv_device_partition.specs.Pending.{OthersPend, pending};
 ghost use Rattle.fkv_operations.specs.declared.operations.Op.{Op};
 ghost use Rattle.fkv_alone.specs.Stages.{HasCome, IsReady};
 ghost use Rattle.fkv_operations.specs.After.{key_of};
@@ -10,9 +11,10 @@ ghost use Rattle.fkv_alone.specs.Ending.{Ends, IsOn, IsOver, Drives};
 use crate::outcomes::{Alone, AloneOf};
 use crate::stepping::step;
 use fkv_device::Disk;
+use fkv_device_partition::laws::pendings_stay;
+use fkv_device_partition::{Partition, Progress, ProgressOf};
 use fkv_functions::{Functions, Refused};
 use fkv_operations::{Clock, OpOf};
-use fkv_partition::{Partition, Progress, ProgressOf};
 use std::alloc::Global;
 
 /// Whether an operation is to go on that told this.
@@ -34,8 +36,10 @@ fn abandon<F: Functions, D: Disk>(
 )
     requires later { IsSome (context_at partition.old slot context) → partition.old.moment < now }
     ensures over { IsOver partition.old partition.new slot context }
+    ensures others { OthersPend F.Key.cmp partition.old partition.new slot context }
     ensures past { partition.old.moment ≤ now → partition.new.moment ≤ now }
 {
+    pendings_stay::<F::Key, F::Value, F::Input, F::Output, D::Receipt>();
     match partition.asked(slot, context) {
         Err(_unknown) => (),
         Ok(_asked) => {
@@ -95,6 +99,7 @@ fn drive<F: Functions, D: Disk>(
         → IsReady op old partition.old slot context started
         → Drives D.keeps D.Receipt.stands F.Key.cmp F.meaning F.code op old partition.new slot context started left
         clock.old clock.new (D.Reader.failures reader.old) (D.Reader.failures reader.new) result }
+    ensures others { IsTrue D.keeps → OthersPend F.Key.cmp partition.old partition.new slot context }
     ensures bound { (n : ℕ) → IsTrue D.keeps
         → IsNear {O = F.Output} {R = D.Receipt} F.code partition.old slot context Progress.Next n
         → clock.new ≤ clock.old + n }
@@ -136,6 +141,9 @@ fn attempt<F: Functions, D: Disk>(
     requires past { partition.old.moment ≤ clock.old }
     ensures ends { Ends D.keeps F.Key.cmp F.meaning F.code op partition.old partition.new slot limit
         clock.old clock.new (D.Reader.failures reader.old) (D.Reader.failures reader.new) result }
+    ensures others { IsTrue D.keeps → (s c : ℕ)
+        → (s ≢ slot) ⊎ (Some c ≢ free_context partition.old slot)
+        → pending F.Key.cmp partition.new s c ≡ pending F.Key.cmp partition.old s c }
     ensures bound { IsTrue D.keeps → NoneClaims partition.old
         → clock.new ≤ clock.old + (5 + evicted F.code partition.old.records (key_of op)) }
     ensures past { partition.new.moment ≤ clock.new }
@@ -143,6 +151,7 @@ fn attempt<F: Functions, D: Disk>(
 {
     // that a hash has 64 bits is known of one in hand
     let _hash = functions.hash(&op.key());
+    pendings_stay::<F::Key, F::Value, F::Input, F::Output, D::Receipt>();
     let now = match first_moment(clock, limit) {
         Err(refused) => return Err(refused),
         Ok(now) => now,
@@ -197,6 +206,10 @@ pub fn run_alone<F: Functions, D: Disk>(
     ensures ends { Ends D.keeps F.Key.cmp F.meaning F.code op partition.old partition.new slot limit
         clock.old clock.new (D.Reader.failures reader.old) (D.Reader.failures reader.new) result.progress }
     ensures events { clock.new ≡ clock.old + result.events }
+    // on a device that keeps, what the look-ups of all other contexts are to find stays
+    ensures others { IsTrue D.keeps → (s c : ℕ)
+        → (s ≢ slot) ⊎ (Some c ≢ free_context partition.old slot)
+        → pending F.Key.cmp partition.new s c ≡ pending F.Key.cmp partition.old s c }
     // the issue, a claim, its confirmation, a look-up, a load for each record of the class below Head, and what is built
     ensures bound { IsTrue D.keeps → NoneClaims partition.old
         → result.events ≤ 5 + evicted F.code partition.old.records (key_of op) }

@@ -1,15 +1,16 @@
 //! One event of an operation that is driven alone: what it asked for is built or read, and handed in.
 ghost use Rattle.std.specs.Prelude.{◌≡◌, ◌<◌, ◌≤◌, ℕ, IsTrue, IfOk};
 ghost use Rattle.fkv_operations.specs.declared.operations.Op.{Op};
-ghost use Rattle.fkv_partition.specs.Views.{PartitionView};
+ghost use Rattle.fkv_device_partition.specs.Views.{PartitionView};
+ghost use Rattle.fkv_device_partition.specs.Pending.{OthersPend};
 ghost use Rattle.fkv_alone.specs.Stages.{HasCome, IsFetching};
 ghost use Rattle.fkv_alone.specs.Ending.{Advances, IsOn};
 ghost use Rattle.fkv_alone.specs.Bound.{IsNear, IsNearer};
 
 use fkv_device::{Disk, Loaded};
+use fkv_device_partition::laws::{loads_end, pendings_stay};
+use fkv_device_partition::{Partition, Progress, ProgressOf};
 use fkv_functions::{Built, Functions, Refused};
-use fkv_partition::laws::pendings_stay;
-use fkv_partition::{Partition, Progress, ProgressOf};
 use std::alloc::Global;
 
 /// Reads the page that an operation asked for, and hands it in, or what came in its place.
@@ -28,12 +29,14 @@ fn load<F: Functions, D: Disk>(
         → IsFetching D.keeps F.Key.cmp op old partition.old slot context started (D.Receipt.stands receipt) a
         → Advances D.keeps D.Receipt.stands F.Key.cmp F.meaning F.code op old partition.old partition.new slot context started
         (D.Reader.failures reader.old) (D.Reader.failures reader.new) result }
+    ensures others { OthersPend F.Key.cmp partition.old partition.new slot context }
     ensures nearer { (n a : ℕ) → IsTrue D.keeps
         → IsNear {O = F.Output} F.code partition.old slot context (Progress.NeedsLoad receipt a) n
         → IfOk result (λ progress. IsOn progress → IsNearer F.code partition.new slot context progress n) }
     ensures past { partition.new.moment ≤ now }
 {
     partition.known();
+    loads_end::<F, D>();
     let size = partition.page_size();
     let came = Loaded::<D>::fetch(alloc, reader, &receipt, size);
     partition.load(slot, context, came, functions, now)
@@ -57,6 +60,7 @@ pub(crate) fn step<F: Functions, D: Disk>(
         → HasCome D.keeps D.Receipt.stands F.Key.cmp F.meaning F.code op old partition.old slot context started told
         → Advances D.keeps D.Receipt.stands F.Key.cmp F.meaning F.code op old partition.old partition.new slot context started
         (D.Reader.failures reader.old) (D.Reader.failures reader.new) result }
+    ensures others { IsTrue D.keeps → OthersPend F.Key.cmp partition.old partition.new slot context }
     // on a device that keeps, where nobody is in its way, the operation comes nearer to its end
     ensures nearer { (n : ℕ) → IsTrue D.keeps
         → IsNear F.code partition.old slot context told n

@@ -1,8 +1,8 @@
 //! What a line of each kind says, the line after the limit, and bytes that are no text.
 use fkv_functions::{Name, Refused};
 use fkv_operations::Op;
-use fkv_steps::Place;
 use fkv_steps::scripts::{FunctionsName, LIMIT, Line, Opening, Script, one_reading, read_script};
+use fkv_steps::{Access, Place};
 use fkv_streams::CountedReader;
 use std::alloc::Global;
 
@@ -34,9 +34,14 @@ do 1 15 rmw a -0
 upsert 1 15 a -3
 delete 1 15 a
 do 1 15 upsert a +7
-do 1 15 delete a-1";
+do 1 15 delete a-1
+head 1 18446744073709551615
+load 1 15 7 ok
+load 1 15 7 fault
+flush 1 ok
+flush 1 fault";
 
-const SAID: [Said; 18] = [
+const SAID: [Said; 23] = [
     ("enter", 1, 0, 0, None),
     ("issue", 1, 15, 0, Some(('r', "a", 0))),
     (
@@ -67,6 +72,11 @@ const SAID: [Said; 18] = [
     ("issue", 1, 15, 0, Some(('d', "a", 0))),
     ("do", 1, 15, 0, Some(('u', "a", 7))),
     ("do", 1, 15, 0, Some(('d', "a-1", 0))),
+    ("head", 1, 18446744073709551615, 0, None),
+    ("load ok", 1, 15, 7, None),
+    ("load fault", 1, 15, 7, None),
+    ("flush ok", 1, 0, 0, None),
+    ("flush fault", 1, 0, 0, None),
 ];
 
 /// Whether an operation is what was asked.
@@ -91,6 +101,22 @@ fn is_place(place: &Place, said: &Said) -> bool {
         && said.4 == None
 }
 
+/// What a load is called, by how the device does.
+fn load_name(access: Access) -> &'static str {
+    match access {
+        Access::Works => "load ok",
+        Access::Fails => "load fault",
+    }
+}
+
+/// What a flush is called, by how the device does.
+fn flush_name(access: Access) -> &'static str {
+    match access {
+        Access::Works => "flush ok",
+        Access::Fails => "flush fault",
+    }
+}
+
 /// Whether a line says this.
 fn says(line: &Line, said: &Said) -> bool {
     let name = match line {
@@ -105,6 +131,12 @@ fn says(line: &Line, said: &Said) -> bool {
         }
         Line::ReadOnly { partition, page } => {
             return said.0 == "readonly" && *partition == said.1 && *page == said.2;
+        }
+        Line::Head { partition, page } => {
+            return said.0 == "head" && *partition == said.1 && *page == said.2;
+        }
+        Line::Flush { partition, access } => {
+            return said.0 == flush_name(*access) && *partition == said.1;
         }
         Line::Issue {
             partition,
@@ -128,6 +160,7 @@ fn says(line: &Line, said: &Said) -> bool {
         }
         Line::Go(place) => ("go", place),
         Line::Install(place) => ("install", place),
+        Line::Load(place, access) => (load_name(*access), place),
         Line::GiveUp(place) => ("giveup", place),
         Line::Ready(place) => ("ready", place),
         Line::Finish(place) => ("finish", place),

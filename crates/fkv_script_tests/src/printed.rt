@@ -8,7 +8,7 @@ use std::alloc::Global;
 
 type Told = Result<Outcome<i128, i128>, Refused>;
 
-const STEPS: [Told; 19] = [
+const STEPS: [Told; 23] = [
     Ok(Outcome::Entered(0)),
     Ok(Outcome::Issued(7)),
     Ok(Outcome::Next),
@@ -23,6 +23,10 @@ const STEPS: [Told; 19] = [
     Ok(Outcome::Refreshed),
     Ok(Outcome::Shifted),
     Ok(Outcome::Waits(Wait::Fuzzy)),
+    Ok(Outcome::Waits(Wait::Full)),
+    Ok(Outcome::Taken(0)),
+    Ok(Outcome::Flushed(18446744073709551615)),
+    Ok(Outcome::Load(64)),
     Err(Refused::NoMemory),
     Err(Refused::Stranger {
         what: What::Page,
@@ -53,6 +57,10 @@ left
 refreshed
 shifted
 wait fuzzy
+wait full
+taken 0
+flushed 18446744073709551615
+load 64
 refused NoMemory
 refused Stranger
 refused Stalled

@@ -1,5 +1,7 @@
 //! Worlds, step by step, and replays of lists of steps.
+mod evicting;
 mod lives;
+mod pages;
 mod random;
 mod rows;
 mod runs;

@@ -1,15 +1,16 @@
 //! Random steps beside the plain program: the lives answer as it does in the order of their effects.
 use crate::letters::name;
+use fkv_device_partition::Config;
 use fkv_functions::{Name, SumFns};
 use fkv_operations::{Op, OpOf, apply_plainly};
-use fkv_partition::Config;
 use fkv_worlds::{End, LifeOf, Place, ReportOf, Step, StepOf, replay};
 use rand_core::{Rng, SeedableRng};
 use rand_xoshiro::Xoshiro256PlusPlus;
 use std::alloc::Global;
 use std::collections::BTreeMap;
 
-const KEYS: [u8; 8] = [b'a', b'b', b'c', b'd', b'e', b'f', b'g', b'h'];
+/// The keys that random steps name.
+pub const KEYS: [u8; 8] = [b'a', b'b', b'c', b'd', b'e', b'f', b'g', b'h'];
 
 const FIRST: Place = Place {
     partition: 0,
@@ -34,7 +35,7 @@ struct Range {
 }
 
 /// An operation that a random word names.
-fn random_op(word: u64, key: Name) -> OpOf<SumFns> {
+pub fn random_op(word: u64, key: Name) -> OpOf<SumFns> {
     let input = (word >> 8 & 0xff) as i64 - 100;
     match word >> 20 & 7 {
         0 => Op::Read(key, input),
@@ -134,7 +135,7 @@ fn is_answered_plainly(plain: &mut BTreeMap<Name, i128>, life: &LifeOf<SumFns>) 
 
 /// Whether the lives answer as the plain program does in the order of their effects, and it ends with the
 /// report's map.
-fn is_plain(alloc: Global, report: &ReportOf<SumFns>) -> bool {
+pub fn is_plain(alloc: Global, report: &ReportOf<SumFns>) -> bool {
     let Some(order) = by_effects(alloc, report.lives.as_slice()) else {
         return false;
     };
@@ -162,7 +163,7 @@ fn kind_of(op: &OpOf<SumFns>) -> u64 {
 }
 
 /// Whether more than twenty operations of each kind were answered.
-fn is_lively(report: &ReportOf<SumFns>) -> bool {
+pub fn is_lively(report: &ReportOf<SumFns>) -> bool {
     (0..4u64).all(|kind| {
         let answered = report.lives.iter().filter(|life| kind_of(&life.op) == kind
             && matches!(life.end, End::Finished(_)));
@@ -177,7 +178,8 @@ fn is_random_run_plain(alloc: Global, seed: u64, bucket_bits: u64, range: Range)
         partition_bits: 1,
         bucket_bits,
         page_bits: 8,
-        frames: 2,
+        // enough for all pages of most runs, so that few operations wait for room
+        frames: 1_024,
         turns: 1_000_000,
     };
     let Some(steps) = random_steps(alloc, seed, range) else {

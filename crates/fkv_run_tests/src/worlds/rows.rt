@@ -1,8 +1,8 @@
 //! Rows of steps, what each tells, and what a world reports at the end. A key is one letter.
 use crate::letters::{by_letter, is_map, on_name};
+use fkv_device_partition::Config;
 use fkv_functions::{Refused, SumFns};
 use fkv_operations::{Answer, Op};
-use fkv_partition::Config;
 use fkv_worlds::{End, Finish, LifeOf, Outcome, Place, ReportOf, Step, StepOf, World, replay};
 use std::alloc::Global;
 
@@ -12,16 +12,18 @@ pub type Told = Result<Outcome<i128, i128>, Refused>;
 /// One step, and what it tells.
 pub type Row = (Step<u8, i128, i64>, Told);
 
+/// How an operation ended: the step at which it took effect and was answered, with the answer; the step at which it took
+/// effect, a later one at which it was answered, and the answer; or another end.
+#[derive(Clone, Copy)]
+pub enum EndRow {
+    At(u64, Answer<i128>),
+    Loaded(u64, u64, Answer<i128>),
+    Other(End<i128>),
+}
+
 /// What became of an operation: the numbers of its partition, its session and its own; what it is; the step of its
-/// issue; and the step at which it took effect and was answered, with the answer, or another end.
-pub type LifeRow = (
-    u64,
-    u64,
-    u64,
-    Op<u8, i128, i64>,
-    u64,
-    Result<(u64, Answer<i128>), End<i128>>,
-);
+/// issue; and how it ended.
+pub type LifeRow = (u64, u64, u64, Op<u8, i128, i64>, u64, EndRow);
 
 /// A call on a world.
 #[derive(Clone, Copy)]
@@ -38,22 +40,31 @@ fn step_of(step: Step<u8, i128, i64>) -> Option<StepOf<SumFns>> {
         Step::Leave(partition, slot) => Step::Leave(partition, slot),
         Step::Refresh(partition, slot) => Step::Refresh(partition, slot),
         Step::ReadOnly(partition, page) => Step::ReadOnly(partition, page),
+        Step::Take(partition) => Step::Take(partition),
+        Step::Write(partition, access) => Step::Write(partition, access),
+        Step::Head(partition, page) => Step::Head(partition, page),
         Step::Issue(partition, slot, op) => Step::Issue(partition, slot, on_name(op)?),
         Step::Go(place) => Step::Go(place),
         Step::Install(place) => Step::Install(place),
+        Step::Load(place, access) => Step::Load(place, access),
         Step::GiveUp(place) => Step::GiveUp(place),
     })
 }
 
-/// The end of an operation that took effect at the step of its answer, or another end.
-fn end_of(end: Result<(u64, Answer<i128>), End<i128>>) -> End<i128> {
+/// The end that a row says.
+fn end_of(end: EndRow) -> End<i128> {
     match end {
-        Ok((done, answer)) => End::Finished(Finish {
+        EndRow::At(done, answer) => End::Finished(Finish {
             effect: done,
             done,
             answer,
         }),
-        Err(end) => end,
+        EndRow::Loaded(effect, done, answer) => End::Finished(Finish {
+            effect,
+            done,
+            answer,
+        }),
+        EndRow::Other(end) => end,
     }
 }
 

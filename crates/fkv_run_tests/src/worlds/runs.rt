@@ -1,16 +1,16 @@
 //! Worked runs as lists of steps, each refusal of a world, and refused growths followed by the same call.
 use super::rows::{
-    Call, LifeRow, Row, Told, is_replayed, is_report, report, told_by, told_by_call, world,
+    Call, EndRow, LifeRow, Row, Told, is_replayed, is_report, report, told_by, told_by_call, world,
 };
 use crate::letters::is_map;
+use fkv_device_partition::{Config, Wait};
 use fkv_functions::{Refused, SumFns, What};
 use fkv_operations::{Answer, Op};
-use fkv_partition::{Config, Wait};
 use fkv_worlds::{End, Outcome, Place, Step, StepOf, World, replay};
 use std::alloc::Global;
 
 /// One partition.
-const ONE: Config = Config {
+pub const ONE: Config = Config {
     id: 1,
     partition_bits: 0,
     bucket_bits: 8,
@@ -50,13 +50,13 @@ const BAD: Config = Config {
 };
 
 /// The first context of the first session, that of the second, and the first in the other partition.
-const FIRST: Place = Place {
+pub const FIRST: Place = Place {
     partition: 0,
     slot: 0,
     context: 0,
 };
 
-const SECOND: Place = Place {
+pub const SECOND: Place = Place {
     partition: 0,
     slot: 1,
     context: 0,
@@ -82,9 +82,30 @@ const THIN_PATH: [Row; 10] = [
 ];
 
 const THIN_PATH_LIVES: [LifeRow; 3] = [
-    (0, 1, 1, Op::Rmw(b'a', 5), 2, Ok((6, Answer::Value(5)))),
-    (0, 1, 2, Op::Rmw(b'a', -2), 7, Ok((8, Answer::Value(3)))),
-    (0, 1, 3, Op::Read(b'a', 0), 9, Ok((10, Answer::Value(3)))),
+    (
+        0,
+        1,
+        1,
+        Op::Rmw(b'a', 5),
+        2,
+        EndRow::At(6, Answer::Value(5)),
+    ),
+    (
+        0,
+        1,
+        2,
+        Op::Rmw(b'a', -2),
+        7,
+        EndRow::At(8, Answer::Value(3)),
+    ),
+    (
+        0,
+        1,
+        3,
+        Op::Read(b'a', 0),
+        9,
+        EndRow::At(10, Answer::Value(3)),
+    ),
 ];
 
 const TWO_UPDATES: [Row; 11] = [
@@ -102,8 +123,22 @@ const TWO_UPDATES: [Row; 11] = [
 ];
 
 const TWO_UPDATES_LIVES: [LifeRow; 2] = [
-    (0, 1, 1, Op::Rmw(b'a', 1), 3, Ok((9, Answer::Value(1)))),
-    (0, 2, 1, Op::Rmw(b'a', 2), 4, Ok((11, Answer::Value(3)))),
+    (
+        0,
+        1,
+        1,
+        Op::Rmw(b'a', 1),
+        3,
+        EndRow::At(9, Answer::Value(1)),
+    ),
+    (
+        0,
+        2,
+        1,
+        Op::Rmw(b'a', 2),
+        4,
+        EndRow::At(11, Answer::Value(3)),
+    ),
 ];
 
 /// An update in place, and a blind write between another one's look-up and its install.
@@ -135,12 +170,47 @@ const BETWEEN: [Row; 18] = [
 ];
 
 const BETWEEN_LIVES: [LifeRow; 6] = [
-    (0, 1, 1, Op::Delete(b'a'), 3, Ok((4, Answer::Deleted))),
-    (0, 1, 2, Op::Upsert(b'a', 4), 5, Ok((9, Answer::Stored))),
-    (0, 2, 1, Op::Rmw(b'a', 5), 6, Ok((10, Answer::Value(9)))),
-    (0, 1, 3, Op::Delete(b'a'), 11, Ok((12, Answer::Deleted))),
-    (0, 2, 2, Op::Rmw(b'a', 5), 13, Ok((18, Answer::Value(2)))),
-    (0, 1, 4, Op::Upsert(b'a', -3), 15, Ok((16, Answer::Stored))),
+    (0, 1, 1, Op::Delete(b'a'), 3, EndRow::At(4, Answer::Deleted)),
+    (
+        0,
+        1,
+        2,
+        Op::Upsert(b'a', 4),
+        5,
+        EndRow::At(9, Answer::Stored),
+    ),
+    (
+        0,
+        2,
+        1,
+        Op::Rmw(b'a', 5),
+        6,
+        EndRow::At(10, Answer::Value(9)),
+    ),
+    (
+        0,
+        1,
+        3,
+        Op::Delete(b'a'),
+        11,
+        EndRow::At(12, Answer::Deleted),
+    ),
+    (
+        0,
+        2,
+        2,
+        Op::Rmw(b'a', 5),
+        13,
+        EndRow::At(18, Answer::Value(2)),
+    ),
+    (
+        0,
+        1,
+        4,
+        Op::Upsert(b'a', -3),
+        15,
+        EndRow::At(16, Answer::Stored),
+    ),
 ];
 
 /// Refused steps take no moment; a session's number counts the enters before it, and its operations from 1.
@@ -169,10 +239,24 @@ const GIVEN_UP: [Row; 18] = [
 ];
 
 const GIVEN_UP_LIVES: [LifeRow; 4] = [
-    (0, 1, 1, Op::Rmw(b'a', 5), 2, Err(End::GivenUp)),
-    (0, 1, 2, Op::Upsert(b'a', 7), 7, Ok((8, Answer::Stored))),
-    (0, 2, 1, Op::Read(b'a', 0), 11, Ok((13, Answer::Value(7)))),
-    (0, 2, 2, Op::Read(b'a', 0), 12, Err(End::Open)),
+    (0, 1, 1, Op::Rmw(b'a', 5), 2, EndRow::Other(End::GivenUp)),
+    (
+        0,
+        1,
+        2,
+        Op::Upsert(b'a', 7),
+        7,
+        EndRow::At(8, Answer::Stored),
+    ),
+    (
+        0,
+        2,
+        1,
+        Op::Read(b'a', 0),
+        11,
+        EndRow::At(13, Answer::Value(7)),
+    ),
+    (0, 2, 2, Op::Read(b'a', 0), 12, EndRow::Other(End::Open)),
 ];
 
 /// Whether the rows tell so step by step.
@@ -186,7 +270,7 @@ fn are_told(world: &mut World<SumFns>, rows: &[Row]) -> bool {
 }
 
 /// Whether the rows tell so as they are replayed, and step by step, and leave these lives and this map.
-fn is_run(
+pub fn is_run(
     alloc: Global,
     config: &Config,
     rows: &[Row],
@@ -269,11 +353,46 @@ const FUZZY_WAIT: [Row; 25] = [
 ];
 
 const FUZZY_WAIT_LIVES: [LifeRow; 5] = [
-    (0, 1, 1, Op::Upsert(b'a', 10), 3, Ok((6, Answer::Stored))),
-    (0, 1, 2, Op::Upsert(b'b', 1), 7, Ok((10, Answer::Stored))),
-    (0, 1, 3, Op::Upsert(b'c', 1), 11, Ok((14, Answer::Stored))),
-    (0, 2, 1, Op::Rmw(b'a', 1), 17, Ok((25, Answer::Value(16)))),
-    (0, 1, 4, Op::Rmw(b'a', 5), 19, Ok((20, Answer::Value(15)))),
+    (
+        0,
+        1,
+        1,
+        Op::Upsert(b'a', 10),
+        3,
+        EndRow::At(6, Answer::Stored),
+    ),
+    (
+        0,
+        1,
+        2,
+        Op::Upsert(b'b', 1),
+        7,
+        EndRow::At(10, Answer::Stored),
+    ),
+    (
+        0,
+        1,
+        3,
+        Op::Upsert(b'c', 1),
+        11,
+        EndRow::At(14, Answer::Stored),
+    ),
+    (
+        0,
+        2,
+        1,
+        Op::Rmw(b'a', 1),
+        17,
+        EndRow::At(25, Answer::Value(16)),
+    ),
+    (
+        0,
+        1,
+        4,
+        Op::Rmw(b'a', 5),
+        19,
+        EndRow::At(20, Answer::Value(15)),
+    ),
 ];
 
 #[test]
@@ -348,8 +467,22 @@ const TWO_PARTITIONS: [(Call, Told); 18] = [
 ];
 
 const TWO_PARTITIONS_LIVES: [LifeRow; 2] = [
-    (0, 1, 1, Op::Rmw(b'a', 4), 3, Ok((11, Answer::Value(4)))),
-    (1, 1, 1, Op::Rmw(b'b', 7), 4, Ok((13, Answer::Value(7)))),
+    (
+        0,
+        1,
+        1,
+        Op::Rmw(b'a', 4),
+        3,
+        EndRow::At(11, Answer::Value(4)),
+    ),
+    (
+        1,
+        1,
+        1,
+        Op::Rmw(b'b', 7),
+        4,
+        EndRow::At(13, Answer::Value(7)),
+    ),
 ];
 
 /// Whether the calls tell so, and leave so many outcomes, these lives and this map.

@@ -1,10 +1,10 @@
-use Rattle.std.proofs.Common.{◌≡◌, ◌+◌, ◌<◌, ◌^◌, Err, refl, ◌∙◌, ap, subst, arith}
-use Rattle.fkv_partition.specs.Beginning.{Issues}
+use Rattle.std.proofs.Common.{◌≡◌, ◌+◌, ◌<◌, ◌^◌, Ok, Err, refl, ◌∙◌, ap, subst, arith}
+use Rattle.fkv_device_partition.specs.Beginning.{Issues}
 use Rattle.fkv_alone.specs.Ending.{Ends}
 use Rattle.fkv_operations.specs.After.{key_of}
 use Rattle.fkv_alone.specs.Bound.{evicted}
 use Rattle.fkv_alone.proofs.BoundLemmas.{issue-near}
-use Rattle.fkv_alone.proofs.DriveLemmas.{halted-later}
+use Rattle.fkv_alone.proofs.DriveLemmas.{halted-later, pend-then, pend-free}
 use Rattle.fkv_alone.proofs.EndLemmas.{issue-opens, issue-ready, issue-phase, driven-ends, driven-halted, driven-over}
 use Rattle.fkv_alone.proofs.running.attempt.Goals as goal
 
@@ -80,3 +80,19 @@ returns-in-Err-drive-clause-bound g c = λ kept clear.
     let start = first.1 in
     let now = first.0 in
     omega arith
+
+pub returns-in-Ok-drive-clause-others : goal.returns-in-Ok-drive-clause-others
+returns-in-Ok-drive-clause-others g c = λ kept s e other.
+    let issued = c.in-Ok-issue.ensures in
+    let v = c.args.partition.now in
+    let opens = issue-opens g.F.Functions.code v c.issue.new.self c.args.slot c.in-Ok-issue.context c.in-Ok.now c.args.op issued.does issued.event in
+    let all = c.pendings_stay.ensures.issues g.F.Key.Ord.cmp g.F.Functions.code v c.issue.new.self c.args.slot c.args.op c.in-Ok.now (Ok c.in-Ok-issue.context) issued.does in
+    pend-free g.F.Key.Ord.cmp v c.issue.new.self c.drive.new.partition c.args.slot c.in-Ok-issue.context s e all (c.in-Ok-drive.ensures.others kept) opens.free other
+
+pub returns-in-Err-drive-clause-others : goal.returns-in-Err-drive-clause-others
+returns-in-Err-drive-clause-others g c = λ kept s e other.
+    let issued = c.in-Ok-issue.ensures in
+    let v = c.args.partition.now in
+    let opens = issue-opens g.F.Functions.code v c.issue.new.self c.args.slot c.in-Ok-issue.context c.in-Ok.now c.args.op issued.does issued.event in
+    let all = c.pendings_stay.ensures.issues g.F.Key.Ord.cmp g.F.Functions.code v c.issue.new.self c.args.slot c.args.op c.in-Ok.now (Ok c.in-Ok-issue.context) issued.does in
+    pend-free g.F.Key.Ord.cmp v c.issue.new.self c.abandon.new.partition c.args.slot c.in-Ok-issue.context s e all (pend-then g.F.Key.Ord.cmp c.issue.new.self c.drive.new.partition c.abandon.new.partition c.args.slot c.in-Ok-issue.context (c.in-Err-drive.ensures.others kept) c.abandon.ensures.others) opens.free other

@@ -1,7 +1,7 @@
 use Rattle.std.proofs.Common.{◌≡◌, true, false, Err, refl, sym, ◌∙◌, ap, subst, arith}
 use Rattle.fkv_alone.specs.Ending.{IsStop, Drives}
 use Rattle.fkv_alone.proofs.BoundLemmas.{near-some}
-use Rattle.fkv_alone.proofs.DriveLemmas.{come-halted, stop-halted, ticked}
+use Rattle.fkv_alone.proofs.DriveLemmas.{pend-then, pend-self, come-halted, stop-halted, ticked}
 use Rattle.fkv_alone.proofs.running.drive.Goals as goal
 
 pub returns-in-Err-clause-drives : goal.returns-in-Err-clause-drives
@@ -54,6 +54,7 @@ loop-turn-preserved g c =
           let total = more.1 in
           let less = next.fewer in
           (next.left, omega arith, next.near);
+      others = λ kept. pend-then g.F.Key.Ord.cmp c.args.partition.now c.loop-turn.partition c.step.new.partition c.args.slot c.args.context (i.others kept) (c.in-Ok-step.ensures.others kept);
       on = c.is_on.ensures.0 c.if-not-is_on.false;
       taken = (let k = i.taken in omega arith);
       past = (let a = now.0 in let p = c.in-Ok-step.ensures.past in omega arith);
@@ -112,6 +113,7 @@ pub loop-turn-init : goal.loop-turn-init
 loop-turn-init g c = record {
   comes = λ op old started h. (h, refl);
   near = λ n kept near. (n, omega arith, near);
+  others = λ kept. pend-self g.F.Key.Ord.cmp c.args.partition.now c.args.slot c.args.context;
   on = tt;
   taken = omega arith;
   past = c.requires.past;

@@ -3,6 +3,7 @@ use Rattle.fkv_operations.specs.declared.operations.Op.{Op}
 use Rattle.fkv_partition.specs.Views.{PartitionView}
 use Rattle.fkv_alone.specs.Stages.{HasCome, IsReady}
 use Rattle.fkv_alone.specs.Ending.{IsOn}
+use Rattle.fkv_device_partition.specs.Pending.{OthersPend}
 use Rattle.fkv_alone.specs.Bound.{IsNear}
 use Rattle.fkv_partition.specs.declared.contexts.Progress.TheVariants.{Next}
 use Rattle.fkv_alone.proofs.running.drive.Given as goal
@@ -15,6 +16,7 @@ invariant-loop-turn g l = record {
       × (g.D.Reader.PageReader.failures l.reader ≡ g.D.Reader.PageReader.failures l.fn.reader);
   near : (n : ℕ) → IsTrue g.D.Disk.keeps → IsNear {O = g.row.F-Output.Denot} {R = g.row.D-Receipt.Denot} g.F.Functions.code l.fn.partition l.slot l.context Next n
       → (m : ℕ) × (l._turn + m ≤ n) × IsNear g.F.Functions.code l.partition l.slot l.context l.told m;
+  others : IsTrue g.D.Disk.keeps → OthersPend g.F.Key.Ord.cmp l.fn.partition l.partition l.slot l.context;
   on : IsOn l.told;
   taken : l.clock ≡ l.fn.clock + l._turn;
   past : l.partition.moment ≤ l.clock;

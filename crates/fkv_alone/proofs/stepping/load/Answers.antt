@@ -15,3 +15,6 @@ returns-clause-nearer g c = λ n a kept near.
     loads-nearer g.D.Disk.keeps g.F.Key.Ord.cmp g.F.Functions.code c.args.partition.now c.args.slot c.args.context n c.known.ensures g.D.Receipt.Receipt.stands g.F.Functions.meaning c.load.new.self c.args.now kept
     (IsEntryIn g.F.Key.Fixed.bytes_of g.F.Value.Fixed.bytes_of g.F.Key.Known.is_known g.F.Value.Known.is_known g.F.Key.Fixed.SIZE g.F.Value.Fixed.SIZE)
     c.args.receipt a c.fetch-came.result near c.load.result c.load.ensures.does
+
+pub returns-clause-others : goal.returns-clause-others
+returns-clause-others g c = c.loads_end.ensures.loads c.args.partition.now c.load.new.self c.args.slot c.args.context c.fetch-came.result c.args.now c.load.result c.load.ensures.does

@@ -27,3 +27,17 @@ returns-in-NeedsBuild-clause-nearer g c = λ n kept near.
 
 pub returns-in-NeedsLoad-clause-nearer : goal.returns-in-NeedsLoad-clause-nearer
 returns-in-NeedsLoad-clause-nearer g c = λ n kept near. c.load.ensures.nearer n c.in-NeedsLoad._address kept (rw c.in-NeedsLoad.is at near)
+
+pub returns-in-Next-clause-others : goal.returns-in-Next-clause-others
+returns-in-Next-clause-others g c = λ kept.
+    let ord = g.met.F.Key.Ord g.world.𝓛 g.world.𝓜 g.world.𝓡 ((λ s x. x), (λ x. x), (λ x. x), λ x. x) in
+    let known = g.met.F.Key.Known g.world.𝓛 g.world.𝓜 g.world.𝓡 ((λ s x. x), (λ x. x), (λ x. x), λ x. x) in
+    let order = key_order g.F.Key.PartialEq.eq g.F.Key.Ord.cmp ord.matches_eq known.exact ord.total in
+    c.pendings_stay.ensures.goes g.D.Disk.keeps g.D.Receipt.Receipt.stands g.F.Key.Ord.cmp g.F.Functions.meaning g.F.Functions.code c.args.partition.now c.go.new.self c.args.slot c.args.context c.args.now c.go.result kept order c.known.ensures c.go.ensures.does
+
+pub returns-in-NeedsBuild-clause-others : goal.returns-in-NeedsBuild-clause-others
+returns-in-NeedsBuild-clause-others g c = λ kept.
+    c.pendings_stay.ensures.installs g.D.Disk.keeps g.F.Key.Ord.cmp g.F.Functions.meaning g.F.Functions.code c.args.partition.now c.install.new.self c.args.slot c.args.context c.make-built.result c.args.now c.install.result kept c.known.ensures c.install.ensures.does
+
+pub returns-in-NeedsLoad-clause-others : goal.returns-in-NeedsLoad-clause-others
+returns-in-NeedsLoad-clause-others g c = λ kept. c.load.ensures.others
