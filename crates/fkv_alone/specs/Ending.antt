@@ -57,8 +57,8 @@ pub record Opens {K V I : Type 0} (code : K → ℕ) (v : PartitionView K V I) (
   pub own : partition_of v.count (code (key_of op)) ≡ v.number
   pub free : free_context v slot ≡ Some c
 
--- what is true of an operation that was driven by at most `limit` events after the clock gave `start`; in the order of the
--- tests
+-- what became of an operation that was driven by at most `limit` events after the clock gave `start`: a rule for each
+-- case, in the order of the tests
 pub data Ends {K V I O R : Type 0} (keeps : Bool) (cmp : K → K → Ordering) (f : Meanings K V I O) (code : K → ℕ)
     (op : Op K V I) (old new : PartitionView K V I) (slot limit start end before after : ℕ)
     (result : Result (Progress K V I O R) Refused) : Type 0 where

@@ -1,5 +1,5 @@
--- How far an operation is that was issued in a context, between its events: what it has told, and what of the partition is
--- as it was before the issue.
+-- How far an operation is that was issued in a context, between its events: what it has told, and what of the partition
+-- is as it was before the issue.
 use Rattle.std.specs.Prelude.{◌≡◌, ◌<◌, ◌≤◌, ◌⊎◌, ℕ, Bool, IsTrue, Some, None}
 use Rattle.std.specs.declared.cmp.Ordering.{Ordering}
 use Rattle.fkv_functions.specs.Meanings.{Meanings}

@@ -48,8 +48,8 @@ fn abandon<F: Functions, D: Disk>(
     }
 }
 
-/// The moment of the first event, where one is allowed and a moment is left after it, at which the operation can be given
-/// up. Refused, in this order, and then nothing changes: `Stalled` where no event is allowed, `Worn`.
+/// The moment of the first event, where one is allowed and a moment is left after it, at which the operation can be
+/// given up. Refused, in this order, and then nothing changes: `Stalled` where no event is allowed, `Worn`.
 fn first_moment(clock: &mut Clock, limit: u64) -> Result<u64, Refused>
     ensures ok { IfOk result (λ now. (now ≡ clock.old + 1) × (clock.new ≡ now) × (now < 2 ^ 64 - 1) × (0 < limit)) }
     ensures err { IfErr result (λ refused. (clock.new ≡ clock.old)
@@ -80,9 +80,9 @@ fn next_moment(clock: &mut Clock) -> Result<u64, Refused>
     Ok(now)
 }
 
-/// Goes on with an open operation until it is done, waits or is refused, by at most so many events. Where it is refused and
-/// open still, the last moment of the clock is free to give it up. Refused: as the events are; `Worn` where the clock has
-/// no moment left but that one; `Stalled`.
+/// Goes on with an open operation until it is done, waits or is refused, by at most so many events. Where it is refused
+/// and open still, the last moment of the clock is free to give it up. Refused: as the events are; `Worn` where the
+/// clock has no moment left but that one; `Stalled`.
 fn drive<F: Functions, D: Disk>(
     alloc: Global,
     partition: &mut Partition<F, D>,
@@ -179,19 +179,19 @@ fn attempt<F: Functions, D: Disk>(
 }
 
 /// Issues an operation in a session, and goes on with it by the events of its partition, each at the next moment of the
-/// clock, until it is done, waits or is refused, by at most `limit` events, the issue counted. What it asks for is built,
-/// or read by `reader`, and handed in.
+/// clock, until it is done, waits or is refused, by at most `limit` events, the issue counted. What it asks for is
+/// built, or read by `reader`, and handed in.
 ///
-/// Where it waits, it stays open, in the context that was the session's lowest free one. Where it is refused it is given
-/// up, without effect: at the moment of the event that was refused, or, for `Stalled`, and for `Worn` of the clock, at one
-/// more moment, which is counted too. So the clock is asked for an event only while it has a moment left after it.
+/// Where it waits, it stays open, in the context that was the session's lowest free one. Where it is refused it is
+/// given up, without effect: at the moment of the event that was refused, or, for `Stalled`, and for `Worn` of the
+/// clock, at one more moment, which is counted too. So an event is made only while the clock has a moment left after it.
 ///
 /// # Errors
 ///
 /// In this order: `Stalled` where `limit` is 0; `Worn` where the clock has fewer than two moments left; those of
-/// [`Partition::issue`]; and then, as events come, `NoMemory`, `Worn` where no address is left, `Device` and `Damaged` as
-/// the reader tells, `Damaged` where the bytes that were read spell no record, `Worn` where the clock has one moment left,
-/// and `Stalled` after `limit` events.
+/// [`Partition::issue`]; and then, as events come, `NoMemory`, `Worn` where no address is left, `Device` and `Damaged`
+/// as the reader tells, `Damaged` where the bytes that were read spell no record, `Worn` where the clock has one moment
+/// left, and `Stalled` after `limit` events.
 pub fn run_alone<F: Functions, D: Disk>(
     alloc: Global,
     partition: &mut Partition<F, D>,
@@ -210,7 +210,7 @@ pub fn run_alone<F: Functions, D: Disk>(
     ensures others { IsTrue D.keeps → (s c : ℕ)
         → (s ≢ slot) ⊎ (Some c ≢ free_context partition.old slot)
         → pending F.Key.cmp partition.new s c ≡ pending F.Key.cmp partition.old s c }
-    // the issue, a claim, its confirmation, a look-up, a load for each record of the class below Head, and what is built
+    // the issue, a claim, its confirmation, a look-up, a load for each record of the class below Head, and the install
     ensures bound { IsTrue D.keeps → NoneClaims partition.old
         → result.events ≤ 5 + evicted F.code partition.old.records (key_of op) }
     ensures enough { IsTrue D.keeps → NoneClaims partition.old

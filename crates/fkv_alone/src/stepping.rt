@@ -42,8 +42,8 @@ fn load<F: Functions, D: Disk>(
     partition.load(slot, context, came, functions, now)
 }
 
-/// Makes one event of an operation, by what it told last: it goes on, or what it asked for is built and installed, or read
-/// and handed in.
+/// Makes one event of an operation, by what it told last: it goes on, or what it asked for is built and installed, or
+/// read and handed in.
 pub(crate) fn step<F: Functions, D: Disk>(
     alloc: Global,
     partition: &mut Partition<F, D>,

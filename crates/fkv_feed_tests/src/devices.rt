@@ -1,7 +1,8 @@
 //! Devices that fail a write or a read, or give other bytes than were written.
 use fkv_device::failures::Failures;
 use fkv_device::{
-    Disk, MemoryDevice, MemoryReader, MemoryReceipt, MemoryWriter, PageReader, PageWriter, Receipt,
+    Disk, FileDevice, MemoryDevice, MemoryReader, MemoryReceipt, MemoryWriter, PageReader,
+    PageWriter, Receipt,
 };
 use fkv_partition::Config;
 use fkv_feeds::{run_alone, write_table};
@@ -9,6 +10,7 @@ use fkv_functions::{Refused, SumFns};
 use fkv_streams::{CountedReader, CountedWriter};
 use std::alloc::Global;
 use std::io::Write;
+use std::test::Fail;
 
 /// One partition, with two frames of four records at most.
 const CONFIG: Config = Config {
@@ -162,19 +164,12 @@ fn lines(alloc: Global, times: u64, amount: u64) -> Option<Vec<u8>> {
 }
 
 /// What the sums of these rows come to over a device, or what they are refused by.
-fn summed(alloc: Global, writes: u64, reads: u64, turning: Turning) -> Result<Vec<u8>, Refused> {
+fn summed<D: Disk>(alloc: Global, config: &Config, device: D) -> Result<Vec<u8>, Refused> {
     let Some(feed) = lines(alloc, 2, 1) else {
         return Err(Refused::NoMemory);
     };
-    let device = Unsteady {
-        alloc,
-        inner: MemoryDevice::new(alloc),
-        writes,
-        reads,
-        turning,
-    };
     let mut reader = CountedReader::new(feed.as_slice());
-    let table = match run_alone(alloc, &mut reader, &SumFns, &CONFIG, device) {
+    let table = match run_alone(alloc, &mut reader, &SumFns, config, device) {
         Ok(table) => table,
         Err(refused) => return Err(refused),
     };
@@ -232,7 +227,14 @@ const TURNS: [(u64, u64, Turning, Option<Refused>); 9] = [
 #[test]
 fn devices(rt: HostRuntime) {
     for (writes, reads, turning, told) in TURNS {
-        let come = summed(rt.alloc(), writes, reads, turning);
+        let device = Unsteady {
+            alloc: rt.alloc(),
+            inner: MemoryDevice::new(rt.alloc()),
+            writes,
+            reads,
+            turning,
+        };
+        let come = summed(rt.alloc(), &CONFIG, device);
         let wanted = match told {
             Some(refused) => Err(refused),
             None => match lines(rt.alloc(), 1, 2) {
@@ -242,4 +244,23 @@ fn devices(rt: HostRuntime) {
         };
         assert!(rt; come == wanted, "{writes} {reads}");
     }
+}
+
+/// Four partitions, each with a file of its own.
+const PARTED: Config = Config {
+    partition_bits: 2,
+    ..CONFIG
+};
+
+#[test]
+fn files(rt: HostRuntime) -> Result<(), Fail> {
+    let folder = String::from_str(rt.alloc(), "device_files/feeds")?;
+    let device = FileDevice::new(rt.clone()?, rt.alloc(), folder, 8);
+    let come = summed(rt.alloc(), &PARTED, device);
+    let wanted = match lines(rt.alloc(), 1, 2) {
+        Some(text) => Ok(text),
+        None => Err(Refused::NoMemory),
+    };
+    assert!(rt; come == wanted);
+    Ok(())
 }

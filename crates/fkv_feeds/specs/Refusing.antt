@@ -29,7 +29,8 @@ abbrev pub counted_at : ℕ → List ℕ → List ℕ
 counted_at n counts = slice_set counts (n - 1) (one_more (slice_index counts (n - 1)))
 
 -- Why the reading of these feeds was stopped, whose streams had failed so often before, and so often after. A feed is
--- told as unreadable where its stream failed, or where it has a row too many. A device's fault is one that `fault` says.
+-- told as unreadable where its stream failed, or where it has a row too many. A device's fault is one that `fault`
+-- says.
 abbrev pub TellsStopped : (Refused → Type 0) → List (Option (List ℕ)) → List ℕ → List ℕ → Refused → Type 0
 TellsStopped fault feeds old new NoMemory = new ≡ old
 TellsStopped fault feeds old new Worn = new ≡ old

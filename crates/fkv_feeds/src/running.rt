@@ -80,8 +80,8 @@ fn read_feeds<S: Source, F: Functions<Key = Name, Input = i64>, D: Disk>(
 
 /// The table of these feeds: each key of a row, with what its amounts come to by these functions. The feeds are read
 /// one after the other, to their ends, and each row is one update of a store of this configuration over this device,
-/// through the events of its partitions. On a device that keeps, the table is that of the rows; on any other the refusals
-/// below are still told as they are said.
+/// through the events of its partitions. On a device that keeps, the table is that of the rows; on any other the
+/// refusals below are still told as they are said.
 ///
 /// # Errors
 ///

@@ -48,8 +48,8 @@ pub struct Shards<'a, F: Functions, D: Disk> {
     pub(crate) clock: Clock,
 }
 
-/// What a division of a hash by a count leaves. Counts of partitions are powers of two; where one is written out the compiler
-/// takes a mask, and a division alone would take a part of a row's time that can be seen.
+/// What a division of a hash by a count leaves. Counts of partitions are powers of two; where one is written out the
+/// compiler takes a mask, and a division alone would take a part of a row's time that can be seen.
 fn place_of(hash: u64, count: u64) -> u64
     requires { 0 < count }
     ensures { result ≡ hash % count }
@@ -160,8 +160,8 @@ fn all_placed<F: Functions, D: Disk>(
 }
 
 impl<'a, F: Functions, D: Disk> Shards<'a, F, D> {
-    /// Partitions with nothing in them, with their places on a device. Refused: `NoMemory`, and as the device refuses to
-    /// open.
+    /// Partitions with nothing in them, with their places on a device. Refused: `NoMemory`, and as the device refuses
+    /// to open.
     pub fn open(
         alloc: Global,
         functions: &'a F,

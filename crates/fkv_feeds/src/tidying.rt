@@ -96,7 +96,8 @@ fn flush<F: Functions, D: Disk>(
     ensures steady { OnOk result (D.Writer.failures shard.new.writer ≡ D.Writer.failures shard.old.writer) }
     ensures same_reader { shard.new.reader ≡ shard.old.reader }
     ensures told { IfErr result (λ e. (e ≡ Refused.Worn) ⊎ (e ≡ Refused.NoMemory)
-        ⊎ ((page : ℕ) × FailsOnlyBy 2 page (D.Writer.failures shard.old.writer) (D.Writer.failures shard.new.writer) e)) }
+        ⊎ ((page : ℕ) × FailsOnlyBy 2 page (D.Writer.failures shard.old.writer)
+        (D.Writer.failures shard.new.writer) e)) }
 {
     let job = match shard.partition.flush_take(terms.alloc) {
         Ok(job) => job,
@@ -130,7 +131,8 @@ fn flush_all<F: Functions, D: Disk>(
     ensures steady { OnOk result (D.Writer.failures shard.new.writer ≡ D.Writer.failures shard.old.writer) }
     ensures same_reader { shard.new.reader ≡ shard.old.reader }
     ensures told { IfErr result (λ e. (e ≡ Refused.Worn) ⊎ (e ≡ Refused.NoMemory)
-        ⊎ ((page : ℕ) × FailsOnlyBy 2 page (D.Writer.failures shard.old.writer) (D.Writer.failures shard.new.writer) e)) }
+        ⊎ ((page : ℕ) × FailsOnlyBy 2 page (D.Writer.failures shard.old.writer)
+        (D.Writer.failures shard.new.writer) e)) }
 {
     for _page in 0..terms.frames {
         match flush(terms, shard, clock) {
@@ -165,7 +167,8 @@ pub fn tidy<F: Functions, D: Disk>(
     ensures steady { OnOk result (D.Writer.failures shard.new.writer ≡ D.Writer.failures shard.old.writer) }
     ensures same_reader { shard.new.reader ≡ shard.old.reader }
     ensures told { IfErr result (λ e. (e ≡ Refused.Worn) ⊎ (e ≡ Refused.NoMemory)
-        ⊎ ((page : ℕ) × FailsOnlyBy 2 page (D.Writer.failures shard.old.writer) (D.Writer.failures shard.new.writer) e)) }
+        ⊎ ((page : ℕ) × FailsOnlyBy 2 page (D.Writer.failures shard.old.writer)
+        (D.Writer.failures shard.new.writer) e)) }
 {
     let tail = tail_page(&shard.partition);
     let changed = (terms.frames / 2).saturating_sub(1);
@@ -200,7 +203,8 @@ pub fn tidy_at_times<F: Functions, D: Disk>(
     ensures later { OnOk result (clock.old ≤ clock.new) }
     ensures same_reader { shard.new.reader ≡ shard.old.reader }
     ensures told { IfErr result (λ e. (e ≡ Refused.Worn) ⊎ (e ≡ Refused.NoMemory)
-        ⊎ ((page : ℕ) × FailsOnlyBy 2 page (D.Writer.failures shard.old.writer) (D.Writer.failures shard.new.writer) e)) }
+        ⊎ ((page : ℕ) × FailsOnlyBy 2 page (D.Writer.failures shard.old.writer)
+        (D.Writer.failures shard.new.writer) e)) }
 {
     shard.rows = shard.rows.wrapping_add(1);
     if shard.rows % 64 != 0 {

@@ -209,11 +209,11 @@ fn attempt<F: Functions, D: Disk>(
     }
 }
 
-/// Makes an update in a session that has no operation open, by the events of its partition, at moments that follow those
-/// that the clock gave. Where it can't go on yet the partition's pages move on, and where its key's last record is not
-/// in memory that record's page is read. Refused: `Worn` where no address or no moment is left, `NoMemory`, as the device
-/// refuses a page, `Damaged` where a page's bytes spell no record on the way, and `Stalled` where it is not done at one
-/// of so many tries.
+/// Makes an update in a session that has no operation open, by the events of its partition, at moments that follow
+/// those that the clock gave. Where it can't go on yet the partition's pages move on, and where its key's last record
+/// is not in memory that record's page is read. Refused: `Worn` where no address or no moment is left, `NoMemory`, as
+/// the device refuses a page, `Damaged` where a page's bytes spell no record on the way, and `Stalled` where it is not
+/// done at one of so many tries.
 pub fn update<F: Functions, D: Disk>(
     terms: &Terms<'_, F>,
     shard: &mut Shard<F, D>,

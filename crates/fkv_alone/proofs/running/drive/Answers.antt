@@ -35,7 +35,7 @@ returns-then-not-is_on-clause-drives g c = λ op old started h.
     let e = c.in-Ok-step.ensures.advances op old started (i.comes op old started h).0 in
     Drives.ends c.in-Ok-step.progress e.0 (λ on. let both : true ≡ false = sym (c.is_on.ensures.1 on) ∙ c.if-not-is_on.true in cc)
     (let k = i.taken in omega arith)
-    (e.1 ∙ (i.comes op old started h).1)
+    (let a = e.1 in let b = (i.comes op old started h).1 in omega arith)
     refl
 
 pub loop-turn-preserved : goal.loop-turn-preserved
@@ -47,7 +47,7 @@ loop-turn-preserved g c =
       comes = λ op old started h.
           let come = i.comes op old started h in
           let e = c.in-Ok-step.ensures.advances op old started come.0 in
-          (e.0, e.1 ∙ come.1);
+          (e.0, (let a = e.1 in let b = come.1 in omega arith));
       near = λ n kept near.
           let more = i.near n kept near in
           let next = c.in-Ok-step.ensures.nearer more.0 kept more.2 (c.is_on.ensures.0 c.if-not-is_on.false) in
