@@ -33,8 +33,8 @@ pub data IsStop (tail before after : ℕ) (why : Refused) : Type 0 where
   -- the bytes that were read spell no record on the way
   misspelled : (page : ℕ) → why ≡ Damaged page → after ≡ before → IsStop tail before after why
 
--- one event of the operation, from `v`: it comes to what it tells, or it is refused, and then nothing has changed or the
--- operation is over
+-- one event of the operation, from `v`: it comes to what it tells, or it is refused, and then nothing has changed or
+-- the operation is over
 abbrev pub Advances : {K V I O R : Type 0} → Bool → (R → Standing) → (K → K → Ordering) → Meanings K V I O → (K → ℕ)
     → Op K V I → PartitionView K V I → PartitionView K V I → PartitionView K V I → ℕ → ℕ → ℕ → ℕ → ℕ
     → Result (Progress K V I O R) Refused → Type 0

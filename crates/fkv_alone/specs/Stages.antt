@@ -79,8 +79,8 @@ pub record IsWaiting {K V I : Type 0} (cmp : K → K → Ordering) (code : K →
   pub open_is : IsOpen op old v slot c started operation
   pub reason : IsHeldUp cmp code v slot (key_of op) why
 
--- it is done, and its context is free: on a device that keeps, the live map is what the operation makes of it, once, and
--- the answer is the plain map's; its effect is after its issue
+-- it is done, and its context is free: on a device that keeps, the live map is what the operation makes of it, once,
+-- and the answer is the plain map's; its effect is after its issue
 pub record IsDone {K V I O : Type 0} (keeps : Bool) (cmp : K → K → Ordering) (f : Meanings K V I O) (op : Op K V I)
     (old new : PartitionView K V I) (slot c started : ℕ) (a : Answer O) (effect : ℕ) : Type 0 where
   pub closed : context_at new slot c ≡ None

@@ -184,7 +184,8 @@ fn attempt<F: Functions, D: Disk>(
 ///
 /// Where it waits, it stays open, in the context that was the session's lowest free one. Where it is refused it is
 /// given up, without effect: at the moment of the event that was refused, or, for `Stalled`, and for `Worn` of the
-/// clock, at one more moment, which is counted too. So an event is made only while the clock has a moment left after it.
+/// clock, at one more moment, which is counted too. So an event is made only while the clock has a moment left after
+/// it.
 ///
 /// # Errors
 ///

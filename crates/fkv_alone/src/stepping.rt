@@ -27,8 +27,8 @@ fn load<F: Functions, D: Disk>(
     requires later { partition.old.moment < now }
     ensures advances { (op : Op F.Key F.Value F.Input) (old : PartitionView F.Key F.Value F.Input) (started a : ℕ)
         → IsFetching D.keeps F.Key.cmp op old partition.old slot context started (D.Receipt.stands receipt) a
-        → Advances D.keeps D.Receipt.stands F.Key.cmp F.meaning F.code op old partition.old partition.new slot context started
-        (D.Reader.failures reader.old) (D.Reader.failures reader.new) result }
+        → Advances D.keeps D.Receipt.stands F.Key.cmp F.meaning F.code op old partition.old partition.new slot context
+        started (D.Reader.failures reader.old) (D.Reader.failures reader.new) result }
     ensures others { OthersPend F.Key.cmp partition.old partition.new slot context }
     ensures nearer { (n a : ℕ) → IsTrue D.keeps
         → IsNear {O = F.Output} F.code partition.old slot context (Progress.NeedsLoad receipt a) n
@@ -58,8 +58,8 @@ pub(crate) fn step<F: Functions, D: Disk>(
     requires on { IsOn told }
     ensures advances { (op : Op F.Key F.Value F.Input) (old : PartitionView F.Key F.Value F.Input) (started : ℕ)
         → HasCome D.keeps D.Receipt.stands F.Key.cmp F.meaning F.code op old partition.old slot context started told
-        → Advances D.keeps D.Receipt.stands F.Key.cmp F.meaning F.code op old partition.old partition.new slot context started
-        (D.Reader.failures reader.old) (D.Reader.failures reader.new) result }
+        → Advances D.keeps D.Receipt.stands F.Key.cmp F.meaning F.code op old partition.old partition.new slot context
+        started (D.Reader.failures reader.old) (D.Reader.failures reader.new) result }
     ensures others { IsTrue D.keeps → OthersPend F.Key.cmp partition.old partition.new slot context }
     // on a device that keeps, where nobody is in its way, the operation comes nearer to its end
     ensures nearer { (n : ℕ) → IsTrue D.keeps
