@@ -11,10 +11,10 @@ ghost use Rattle.fkv_alone.specs.Ending.{Ends, IsOn, IsOver, Drives};
 use crate::outcomes::{Alone, AloneOf};
 use crate::stepping::step;
 use fkv_device::Disk;
-use fkv_partition::laws::pendings_stay;
-use fkv_partition::{Partition, Progress, ProgressOf};
 use fkv_functions::{Functions, Refused};
 use fkv_operations::{Clock, OpOf};
+use fkv_partition::laws::pendings_stay;
+use fkv_partition::{Partition, Progress, ProgressOf};
 use std::alloc::Global;
 
 /// Whether an operation is to go on that told this.

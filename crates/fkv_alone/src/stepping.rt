@@ -8,9 +8,9 @@ ghost use Rattle.fkv_alone.specs.Ending.{Advances, IsOn};
 ghost use Rattle.fkv_alone.specs.Bound.{IsNear, IsNearer};
 
 use fkv_device::{Disk, Loaded};
+use fkv_functions::{Built, Functions, Refused};
 use fkv_partition::laws::{loads_end, pendings_stay};
 use fkv_partition::{Partition, Progress, ProgressOf};
-use fkv_functions::{Built, Functions, Refused};
 use std::alloc::Global;
 
 /// Reads the page that an operation asked for, and hands it in, or what came in its place.

@@ -3,9 +3,9 @@ ghost use Rattle.std.specs.Prelude.{◌≤◌};
 
 use fkv_alone::{AloneOf, run_alone};
 use fkv_device::{Disk, Loaded, MemoryDevice, MemoryReader, MemoryReceipt, MemoryWriter, Written};
-use fkv_partition::{Config, Partition, Progress, ProgressOf};
 use fkv_functions::{Ask, Built, Name, Refused, SumFns};
 use fkv_operations::{Clock, OpOf};
+use fkv_partition::{Config, Partition, Progress, ProgressOf};
 use std::alloc::Global;
 
 /// What an event of this partition tells.

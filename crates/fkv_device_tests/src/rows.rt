@@ -1,8 +1,8 @@
 //! Rows of calls on a partition, and what each answers. A key is one letter.
 use crate::driven::{Driven, Seen};
-use fkv_partition::{Config, Wait};
 use fkv_functions::{Name, Refused, SumFns};
 use fkv_operations::{Answer, Op, OpOf};
+use fkv_partition::{Config, Wait};
 use std::alloc::Global;
 
 /// One call. A key is one letter.

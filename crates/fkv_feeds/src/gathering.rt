@@ -11,8 +11,8 @@ ghost use Rattle.fkv_feeds.specs.Unions.{union_of};
 
 use crate::shards::Shard;
 use fkv_device::Disk;
-use fkv_partition::pairs_of;
 use fkv_functions::{Functions, Refused};
+use fkv_partition::pairs_of;
 use std::alloc::Global;
 use std::collections::BTreeMap;
 

@@ -17,8 +17,8 @@ use crate::reading::read_feed;
 use crate::shards::Shards;
 use crate::tables::Table;
 use fkv_device::Disk;
-use fkv_partition::Config;
 use fkv_functions::{Functions, Name, Refused};
+use fkv_partition::Config;
 use fkv_streams::Source;
 use std::alloc::Global;
 

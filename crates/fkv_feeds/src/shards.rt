@@ -12,9 +12,9 @@ ghost use Rattle.fkv_feeds.specs.Runs.{IsSeatedIn, AreNew, StandFor};
 use crate::tidying::tidy_at_times;
 use crate::updating::update;
 use fkv_device::Disk;
-use fkv_partition::{Config, Partition};
 use fkv_functions::{Functions, Name, Refused};
 use fkv_operations::Clock;
+use fkv_partition::{Config, Partition};
 use std::alloc::Global;
 
 /// What holds for every row of a run.

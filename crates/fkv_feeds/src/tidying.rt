@@ -9,9 +9,9 @@ ghost use Rattle.fkv_feeds.specs.Seats.{IsTidied};
 
 use crate::shards::{Shard, Terms};
 use fkv_device::{Disk, Written};
-use fkv_partition::Partition;
 use fkv_functions::{Functions, Refused};
 use fkv_operations::Clock;
+use fkv_partition::Partition;
 
 /// Refreshes a session. Refused: `Worn` where no moment is left.
 fn refresh<F: Functions, D: Disk>(

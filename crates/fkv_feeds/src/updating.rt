@@ -12,9 +12,9 @@ ghost use Rattle.fkv_feeds.specs.Seats.{IsIdle, IsOpen, IsAsking, Tries};
 use crate::shards::{Shard, Terms};
 use crate::tidying::tidy;
 use fkv_device::{Disk, Loaded};
-use fkv_partition::Progress;
 use fkv_functions::{AskOf, Built, Functions, Refused};
 use fkv_operations::{Clock, Op};
+use fkv_partition::Progress;
 
 /// What a turn of an update comes to.
 #[derive(Drop)]

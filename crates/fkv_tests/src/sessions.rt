@@ -42,7 +42,11 @@ fn filled(alloc: Global, tail: Address) -> Option<Log<Name, u64, MemoryDevice>> 
 }
 
 /// Changes an entry, where it may be changed.
-fn change(log: &mut Log<Name, u64, MemoryDevice>, address: Address, value: Option<u64>) -> Result<(), Refused> {
+fn change(
+    log: &mut Log<Name, u64, MemoryDevice>,
+    address: Address,
+    value: Option<u64>,
+) -> Result<(), Refused> {
     if !log.has_entry(address) {
         return Err(Refused::Unknown);
     }

@@ -16,9 +16,9 @@ ghost use Rattle.fkv_steps.specs.Running.{context_in, is_page, op_of, record_siz
 
 use crate::scripts::printing::text_of;
 use crate::scripts::written::Written;
-use fkv_partition::Config;
 use fkv_functions::{CountFns, Functions, MaxFns, Name, Refused, SumFns};
 use fkv_operations::Op;
+use fkv_partition::Config;
 use fkv_scripts::{FunctionsName, LIMIT, Line, Script, read_script};
 use fkv_streams::{Sink, Source, write_out};
 use fkv_worlds::Printed;
