@@ -1,9 +1,10 @@
 //! Worked runs over pages on the device: what waits for a page, what a fault ends, and what a write spends.
-use super::rows::{EndRow, LifeRow, Row};
+use super::rows::{EndRow, LifeRow, Row, Told, report, told_by, world};
 use super::runs::{FIRST, ONE, SECOND, is_run};
-use fkv_functions::Refused;
+use crate::letters::is_map;
+use fkv_functions::{Refused, SumFns};
 use fkv_operations::{Answer, Op};
-use fkv_worlds::{Access, End, Outcome, Place, Step};
+use fkv_worlds::{Access, End, Outcome, Place, Step, World};
 use std::alloc::Global;
 
 /// `a`, `b` and `c` are written by the first of two sessions.
@@ -333,4 +334,48 @@ fn runs_over_a_page_on_the_device(rt: HostRuntime) {
     for run in &RUNS {
         assert!(rt; is_run_after(rt.alloc(), run));
     }
+}
+
+/// What a step tells, done again where memory is refused once. A write that is refused has spent its page, so that is
+/// taken again.
+fn told_again(world: &mut World<SumFns>, step: Step<u8, i128, i64>) -> Told {
+    match told_by(world, step) {
+        Err(Refused::NotReady) => {
+            let _taken = told_by(world, Step::Take(0));
+            told_by(world, step)
+        }
+        told => told,
+    }
+}
+
+fn rows_of_two_updates(alloc: Global) -> Option<Vec<Row>> {
+    joined(alloc, &[&OPENED, &EVICTED, &TWO_UPDATES])
+}
+
+/// Whether two updates of an evicted key go as told, each step again where memory is refused once.
+fn is_grown(alloc: Global) -> bool {
+    let Some(rows) = rows_of_two_updates(alloc).or_else(|| rows_of_two_updates(alloc)) else {
+        return false;
+    };
+    let Ok(mut world) = world(alloc, &ONE) else {
+        return false;
+    };
+    for (step, told) in &rows {
+        if told_again(&mut world, *step) != *told {
+            return false;
+        }
+    }
+    match report(&world, alloc) {
+        Ok(report) => {
+            report.lives.len() == 5
+                && is_map(report.map.as_slice(), &[(b'a', 16), (b'b', 1), (b'c', 1)])
+        }
+        Err(_) => false,
+    }
+}
+
+/// Run also with each allocation refused in turn, by `rt try --test --fail-alloc N`.
+#[test]
+fn refused_growths_are_called_again(rt: HostRuntime) {
+    assert!(rt; is_grown(rt.alloc()));
 }
