@@ -6,9 +6,13 @@
 #![tactic(auto)]
 
 #[cfg(test)]
+mod decisions;
+#[cfg(test)]
 mod driven;
 pub mod looked;
 #[cfg(test)]
 mod random;
+#[cfg(test)]
+mod records;
 #[cfg(test)]
 mod runs;
