@@ -21,12 +21,7 @@ const FIVE_EVENTS: [Row; 6] = [
     Row::Go(0, 0, Ok(Told::Next)),
     Row::Go(0, 0, Ok(Told::Next)),
     Row::Go(0, 0, Ok(Told::NeedsBuild(FIRST_QUESTION))),
-    Row::Install(
-        0,
-        0,
-        FIRST_QUESTION,
-        Ok(Told::Done(Answer::Value(5), 6)),
-    ),
+    Row::Install(0, 0, FIRST_QUESTION, Ok(Told::Done(Answer::Value(5), 6))),
 ];
 
 const FIRST_OF_TWO: Ask<u8, i128, i64> = Ask {
