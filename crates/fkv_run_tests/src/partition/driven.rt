@@ -126,8 +126,8 @@ impl Driven {
         }
     }
 
-    /// Goes on, and builds what is asked for, until the operation is answered; at most ten events, and `NotDue` where it
-    /// waits.
+    /// Goes on, and builds what is asked for, until the operation is answered; at most ten events, and `NotDue` where
+    /// it waits.
     pub fn finish(&mut self, slot: usize, context: usize) -> Result<Answer<i128>, Refused> {
         let mut told = self.go(slot, context);
         for _ in 0..10 {

@@ -132,7 +132,8 @@ const SOURCELESS: Ask<u8, i128, i64> = Ask {
     input: 2,
 };
 
-/// Two updates of a frozen value: both ask, the first is installed, and the second finds the new value, which is mutable.
+/// Two updates of a frozen value: both ask, the first is installed, and the second finds the new value, which is
+/// mutable.
 const TWO_UPDATES_OF_A_FROZEN_VALUE: [Row; 15] = [
     Row::Enter(Ok(0)),
     Row::Do(Op::Upsert(b'a', 1), Answer::Stored),
