@@ -1,32 +1,15 @@
-//! Eight keys in one class and in classes of their own, over several pages, and refused growths.
-use crate::letters::name;
+//! Each record by its address and the one before it in its class: eight keys in one class and in classes of their own,
+//! over several pages in memory, tombstones, and refused growths.
+use crate::driven::{Sums, entry_made, sums};
+use crate::looked::reached;
+use fkv_device::{Disk, MemoryDevice, MemoryReader};
 use fkv_functions::{Functions, Name, Refused, SumFns};
-use fkv_operations::{Records, class_of};
-use fkv_records::{Address, Shape, record_size};
+use fkv_records::Address;
+use fkv_texts::Reached;
 use std::alloc::Global;
 
-/// The hash of `a`, and that of `b`.
-const HASH_OF_A: u64 = 0xaf63_dc4c_8601_ec8c;
-
-const HASH_OF_B: u64 = 0xaf63_df4c_8601_f1a5;
-
-/// A hash, the bits of partitions and of buckets, and the class.
-const CLASSES: [(u64, u64, u64, usize, u16); 5] = [
-    (HASH_OF_A, 0, 8, 140, 22449),
-    (HASH_OF_A, 0, 0, 0, 22449),
-    (HASH_OF_A, 2, 3, 3, 22449),
-    (HASH_OF_B, 2, 3, 1, 22449),
-    (u64::MAX, 6, 20, 1_048_575, 32767),
-];
-
-#[test]
-fn classes_of_hashes(rt: HostRuntime) {
-    for (hash, partitions, buckets, bucket, tag) in CLASSES {
-        assert!(rt; partitions <= 6 && buckets <= 20);
-        let class = class_of(hash, partitions, buckets);
-        assert!(rt; class.bucket == bucket && class.tag == tag);
-    }
-}
+/// The page frames: no page leaves its own.
+const FRAMES: u64 = 8;
 
 /// A record: its key, its value or none for a tombstone, where it stands, and the one before it in its class.
 type Row = (u8, Option<i128>, Address, Address);
@@ -86,33 +69,30 @@ const TOMBSTONES: [Row; 11] = [
     (b'f', Some(-5), 680, 624),
 ];
 
-/// Records of sums in one partition, on pages of 256 bytes.
-fn records(alloc: Global, bucket_bits: u64) -> Result<Records<SumFns>, Refused> {
-    let Some(size) = record_size::<Name, i128>() else {
-        return Err(Refused::BadConfig);
-    };
-    let Some(shape) = Shape::new(8, size) else {
-        return Err(Refused::BadConfig);
-    };
-    if bucket_bits > 20 {
-        return Err(Refused::BadConfig);
-    }
-    Records::new(alloc, 0, bucket_bits, shape)
+/// Records on a device in memory, with a session that looks keys up.
+#[derive(Drop)]
+struct Kept {
+    records: Sums,
+    reader: MemoryReader,
+    slot: usize,
 }
 
-/// Writes a key, after it made an entry for the key's class where there is none.
-fn write(
-    records: &mut Records<SumFns>,
-    key: Name,
-    value: Option<i128>,
-) -> Result<Address, Refused> {
-    let class = records.class(&SumFns, &key);
-    if let None = records.entry(&class) {
-        let place = records.claim(class)?;
-        if !records.confirm(place) {
-            return Err(Refused::Busy);
-        }
-    }
+/// No records of sums in one partition, on pages of 256 bytes, and one session.
+fn records_kept(alloc: Global, bucket_bits: u64) -> Result<Kept, Refused> {
+    let mut records = sums(alloc, bucket_bits, FRAMES)?;
+    let slot = records.enter()?;
+    let mut device = MemoryDevice::new(alloc);
+    let reader = device.reader(0)?;
+    Ok(Kept {
+        records,
+        reader,
+        slot,
+    })
+}
+
+/// Writes a key, after it made an entry for the key's class where there is none; `None` where there is no room.
+fn write(records: &mut Sums, key: Name, value: Option<i128>) -> Result<Option<Address>, Refused> {
+    entry_made(records, &key)?;
     let class = records.class(&SumFns, &key);
     let Some(entry) = records.entry(&class) else {
         return Err(Refused::Unknown);
@@ -121,8 +101,8 @@ fn write(
 }
 
 /// Writes a row, again where memory is refused once, and says whether it stands where it is to.
-fn is_written(records: &mut Records<SumFns>, row: &Row) -> bool {
-    let Some(key) = name(row.0) else {
+fn is_written(records: &mut Sums, row: &Row) -> bool {
+    let Some(key) = Name::new(&[row.0]) else {
         return false;
     };
     if records.tail() != row.2 {
@@ -130,44 +110,48 @@ fn is_written(records: &mut Records<SumFns>, row: &Row) -> bool {
     }
     match write(records, key, row.1) {
         Err(Refused::NoMemory) => {
-            records.tail() == row.2 && write(records, key, row.1) == Ok(row.2)
+            records.tail() == row.2 && write(records, key, row.1) == Ok(Some(row.2))
         }
-        told => told == Ok(row.2),
+        told => told == Ok(Some(row.2)),
     }
 }
 
+/// What the look-up of a key comes to, if its class has an entry.
+fn looked(kept: &Kept, key: &Name) -> Option<Reached<Name, i128>> {
+    if !kept.records.is_entered(kept.slot) {
+        return None;
+    }
+    reached(&kept.records, &SumFns, kept.slot, key)
+}
+
 /// Whether the row is the key's last record.
-fn is_last(records: &Records<SumFns>, row: &Row) -> bool {
-    let Some(key) = name(row.0) else {
+fn is_last(kept: &Kept, row: &Row) -> bool {
+    let Some(key) = Name::new(&[row.0]) else {
         return false;
     };
-    let class = records.class(&SumFns, &key);
-    let Some(entry) = records.entry(&class) else {
-        return false;
-    };
-    match records.trace(entry.address(), &key) {
-        Some(last) => {
+    match looked(kept, &key) {
+        Some(Reached::Found(last)) => {
             last.address == row.2
                 && last.previous == row.3
                 && last.key == key
                 && last.value == row.1
         }
-        None => false,
+        _ => false,
     }
 }
 
 /// Whether each row is its key's last record, or another row after it is of the key.
-fn are_last(records: &Records<SumFns>, rows: &[Row]) -> bool {
+fn are_last(kept: &Kept, rows: &[Row]) -> bool {
     rows.iter().all(|row| {
-        is_last(records, row) || rows.iter().any(|later| later.0 == row.0 && later.2 > row.2)
+        is_last(kept, row) || rows.iter().any(|later| later.0 == row.0 && later.2 > row.2)
     })
 }
 
 /// How many keys are live, asked for again where memory is refused once, if each row's key has the value of its
 /// last row.
-fn live_keys(records: &Records<SumFns>, alloc: Global, rows: &[Row]) -> Option<usize> {
-    let live = match records.live(alloc) {
-        Err(Refused::NoMemory) => records.live(alloc),
+fn live_keys(kept: &mut Kept, alloc: Global, rows: &[Row]) -> Option<usize> {
+    let live = match kept.records.live(alloc, &mut kept.reader) {
+        Err(Refused::NoMemory) => kept.records.live(alloc, &mut kept.reader),
         live => live,
     };
     let Ok(live) = live else {
@@ -175,7 +159,7 @@ fn live_keys(records: &Records<SumFns>, alloc: Global, rows: &[Row]) -> Option<u
     };
     for row in rows {
         let is_over = rows.iter().any(|later| later.0 == row.0 && later.2 > row.2);
-        let held = match name(row.0) {
+        let held = match Name::new(&[row.0]) {
             Some(key) => live.get(&key).copied(),
             None => None,
         };
@@ -189,19 +173,19 @@ fn live_keys(records: &Records<SumFns>, alloc: Global, rows: &[Row]) -> Option<u
 /// The number of the first row after which a look-up finds another record; that of the rows where another
 /// number of keys is live at the end; and none where all is as wanted.
 fn first_wrong(alloc: Global, bucket_bits: u64, rows: &[Row], live: usize) -> Option<usize> {
-    let made = match records(alloc, bucket_bits) {
-        Err(Refused::NoMemory) => records(alloc, bucket_bits),
+    let made = match records_kept(alloc, bucket_bits) {
+        Err(Refused::NoMemory) => records_kept(alloc, bucket_bits),
         made => made,
     };
-    let Ok(mut records) = made else {
+    let Ok(mut kept) = made else {
         return Some(0);
     };
     for (at, row) in rows.iter().enumerate() {
-        if !is_written(&mut records, row) || !are_last(&records, &rows[..=at]) {
+        if !is_written(&mut kept.records, row) || !are_last(&kept, &rows[..=at]) {
             return Some(at);
         }
     }
-    if live_keys(&records, alloc, rows) == Some(live) {
+    if live_keys(&mut kept, alloc, rows) == Some(live) {
         None
     } else {
         Some(rows.len())
@@ -210,18 +194,16 @@ fn first_wrong(alloc: Global, bucket_bits: u64, rows: &[Row], live: usize) -> Op
 
 /// Whether a key without a record has none, where another of its class has one.
 fn is_untraced(alloc: Global, rows: &[Row], key: u8) -> Option<bool> {
-    let Ok(mut records) = records(alloc, 0) else {
+    let Ok(mut kept) = records_kept(alloc, 0) else {
         return None;
     };
     for row in rows {
-        if !is_written(&mut records, row) {
+        if !is_written(&mut kept.records, row) {
             return None;
         }
     }
-    let key = name(key)?;
-    let class = records.class(&SumFns, &key);
-    let entry = records.entry(&class)?;
-    Some(records.trace(entry.address(), &key).is_none())
+    let key = Name::new(&[key])?;
+    Some(looked(&kept, &key)? == Reached::Below(1))
 }
 
 #[test]
@@ -255,7 +237,7 @@ fn refused_growths_are_called_again(rt: HostRuntime) {
 const WORD_OF_A: u64 = 0x57b1_0000_0000_0040;
 
 /// The bits of the entry of a key's class.
-fn bits_of(records: &Records<SumFns>, key: &Name) -> Option<u64> {
+fn bits_of(records: &Sums, key: &Name) -> Option<u64> {
     let class = records.class(&SumFns, key);
     match records.entry(&class) {
         Some(entry) => Some(entry.word.bits),
@@ -264,7 +246,7 @@ fn bits_of(records: &Records<SumFns>, key: &Name) -> Option<u64> {
 }
 
 /// Claims the class of a key, whose entry isn't seen until it is confirmed.
-fn is_confirmed(records: &mut Records<SumFns>, key: &Name) -> bool {
+fn is_confirmed(records: &mut Sums, key: &Name) -> bool {
     let class = records.class(&SumFns, key);
     let Ok(place) = records.claim(class) else {
         return false;
@@ -273,29 +255,29 @@ fn is_confirmed(records: &mut Records<SumFns>, key: &Name) -> bool {
 }
 
 /// Whether the entry of a key's class leads to no record, and the key has none.
-fn is_without_record(records: &Records<SumFns>, key: &Name) -> bool {
-    let class = records.class(&SumFns, key);
-    let Some(entry) = records.entry(&class) else {
+fn is_without_record(kept: &Kept, key: &Name) -> bool {
+    let class = kept.records.class(&SumFns, key);
+    let Some(entry) = kept.records.entry(&class) else {
         return false;
     };
-    entry.address() == 1 && records.trace(entry.address(), key).is_none()
+    entry.address() == 1 && looked(kept, key) == Some(Reached::Below(1))
 }
 
 /// An entry that was confirmed leads to no record, and to the key's record once there is one.
-fn is_claimed(records: &mut Records<SumFns>, key: Name) -> bool {
-    is_confirmed(records, &key)
-        && is_without_record(records, &key)
-        && write(records, key, Some(5)) == Ok(64)
-        && bits_of(records, &key) == Some(WORD_OF_A)
+fn is_claimed(kept: &mut Kept, key: Name) -> bool {
+    is_confirmed(&mut kept.records, &key)
+        && is_without_record(kept, &key)
+        && write(&mut kept.records, key, Some(5)) == Ok(Some(64))
+        && bits_of(&kept.records, &key) == Some(WORD_OF_A)
 }
 
 #[test]
 fn claimed_and_confirmed(rt: HostRuntime) {
-    let made = records(rt.alloc(), 8);
+    let made = records_kept(rt.alloc(), 8);
     assert!(rt; made.is_ok());
-    let key = name(b'a');
+    let key = Name::new(b"a");
     assert!(rt; key.is_some());
-    if let (Ok(mut records), Some(key)) = (made, key) {
-        assert!(rt; is_claimed(&mut records, key));
+    if let (Ok(mut kept), Some(key)) = (made, key) {
+        assert!(rt; is_claimed(&mut kept, key));
     }
 }
