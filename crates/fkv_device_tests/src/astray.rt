@@ -72,6 +72,7 @@ struct Astray {
 
 impl Disk for Astray {
     ghost use Rattle.std.specs.Prelude.{false};
+    ghost use Rattle.std.proofs.Common.{refl};
 
     type Receipt = MemoryReceipt;
 
@@ -102,7 +103,7 @@ impl Disk for Astray {
         }
     }
 
-    ghost writer_keeps = { λ h. h };
+    ghost writer_keeps = { λ _. refl };
 
     ghost reader_keeps = { λ h. h };
 }
