@@ -39,21 +39,21 @@ use Rattle.fkv_lookups.specs.DecisionLaws.{claim-met, prepare-op}
 use Rattle.fkv_lookups.specs.declared.decisions.Met.{Met}
 use Rattle.fkv_lookups.specs.declared.decisions.Met.TheVariants.{NoEntry, NoValue, OnDisk}
 use Rattle.fkv_lookups.specs.declared.decisions.Decision.TheVariants.{Claim}
-use Rattle.fkv_device_partition.specs.declared.contexts.Context.{Context}
-use Rattle.fkv_device_partition.specs.declared.contexts.Loading.{Loading}
-use Rattle.fkv_device_partition.specs.declared.contexts.Phase.{Phase}
-use Rattle.fkv_device_partition.specs.declared.contexts.Phase.TheVariants.{Fresh, Confirm, Prepared, Load}
-use Rattle.fkv_device_partition.specs.declared.contexts.Progress.{Progress}
-use Rattle.fkv_device_partition.specs.declared.contexts.Progress.TheVariants.{Done, Next, NeedsBuild, NeedsLoad, Waits}
-use Rattle.fkv_device_partition.specs.declared.contexts.Wait.TheVariants as wait
-use Rattle.fkv_device_partition.specs.Beginning.{Issues}
-use Rattle.fkv_device_partition.specs.Claiming.{IsClaimed}
-use Rattle.fkv_device_partition.specs.Contexts.{joined, question_in, question_by, at_phase, claim_at, claim_by, claim_of}
-use Rattle.fkv_device_partition.specs.Going.{Goes, Decides}
-use Rattle.fkv_device_partition.specs.Installing.{Installs}
-use Rattle.fkv_device_partition.specs.Loading.{AwaitsPage, Loads}
-use Rattle.fkv_device_partition.specs.Sound.{IsSound, StandsFor, IsLoading}
-use Rattle.fkv_device_partition.specs.Views.{PartitionView, slots_of, seen_at, context_at, with_context}
+use Rattle.fkv_partition.specs.declared.contexts.Context.{Context}
+use Rattle.fkv_partition.specs.declared.contexts.Loading.{Loading}
+use Rattle.fkv_partition.specs.declared.contexts.Phase.{Phase}
+use Rattle.fkv_partition.specs.declared.contexts.Phase.TheVariants.{Fresh, Confirm, Prepared, Load}
+use Rattle.fkv_partition.specs.declared.contexts.Progress.{Progress}
+use Rattle.fkv_partition.specs.declared.contexts.Progress.TheVariants.{Done, Next, NeedsBuild, NeedsLoad, Waits}
+use Rattle.fkv_partition.specs.declared.contexts.Wait.TheVariants as wait
+use Rattle.fkv_partition.specs.Beginning.{Issues}
+use Rattle.fkv_partition.specs.Claiming.{IsClaimed}
+use Rattle.fkv_partition.specs.Contexts.{joined, question_in, question_by, at_phase, claim_at, claim_by, claim_of}
+use Rattle.fkv_partition.specs.Going.{Goes, Decides}
+use Rattle.fkv_partition.specs.Installing.{Installs}
+use Rattle.fkv_partition.specs.Loading.{AwaitsPage, Loads}
+use Rattle.fkv_partition.specs.Sound.{IsSound, StandsFor, IsLoading}
+use Rattle.fkv_partition.specs.Views.{PartitionView, slots_of, seen_at, context_at, with_context}
 use Rattle.fkv_alone.specs.Stages.{IsReady}
 use Rattle.fkv_alone.specs.Ending.{IsOn}
 use Rattle.fkv_alone.specs.Bound.{is_evicted, evicted, evicted_to, NoneClaims, IsMade, IsNear, IsNearer}

@@ -7,11 +7,11 @@ use Rattle.fkv_functions.specs.declared.refusals.Refused.TheVariants.{Worn}
 use Rattle.fkv_device.specs.Standing.{Standing}
 use Rattle.fkv_lookups.specs.RecordsViews.{RecordsView}
 use Rattle.fkv_operations.specs.declared.operations.Op.{Op}
-use Rattle.fkv_device_partition.specs.declared.contexts.Context.{Context}
-use Rattle.fkv_device_partition.specs.declared.contexts.Progress.{Progress}
-use Rattle.fkv_device_partition.specs.declared.contexts.Progress.TheVariants.{Done, Next, NeedsBuild, NeedsLoad, Waits}
-use Rattle.fkv_device_partition.specs.Views.{PartitionView, context_at, free_context}
-use Rattle.fkv_device_partition.specs.Pending.{OthersPend, AllPend, pending}
+use Rattle.fkv_partition.specs.declared.contexts.Context.{Context}
+use Rattle.fkv_partition.specs.declared.contexts.Progress.{Progress}
+use Rattle.fkv_partition.specs.declared.contexts.Progress.TheVariants.{Done, Next, NeedsBuild, NeedsLoad, Waits}
+use Rattle.fkv_partition.specs.Views.{PartitionView, context_at, free_context}
+use Rattle.fkv_partition.specs.Pending.{OthersPend, AllPend, pending}
 use Rattle.fkv_alone.specs.Stages.{IsOpen, HasCome}
 use Rattle.fkv_alone.specs.Ending.{IsOver, IsOn, IsHalted}
 use Rattle.fkv_alone.proofs.OpenLemmas.{leaves-then, leaves-own}

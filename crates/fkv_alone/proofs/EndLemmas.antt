@@ -7,14 +7,14 @@ use Rattle.fkv_functions.specs.declared.refusals.Refused.{Refused}
 use Rattle.fkv_functions.specs.declared.refusals.Refused.TheVariants.{Stalled}
 use Rattle.fkv_device.specs.Standing.{Standing}
 use Rattle.fkv_operations.specs.declared.operations.Op.{Op}
-use Rattle.fkv_device_partition.specs.declared.contexts.Context.{Context}
-use Rattle.fkv_device_partition.specs.declared.contexts.Phase.TheVariants.{Fresh}
-use Rattle.fkv_device_partition.specs.declared.contexts.Progress.{Progress}
-use Rattle.fkv_device_partition.specs.declared.contexts.Progress.TheVariants.{Done, Next, NeedsBuild, NeedsLoad, Waits}
-use Rattle.fkv_device_partition.specs.Beginning.{Issues}
-use Rattle.fkv_device_partition.specs.Contexts.{joined, context_in}
-use Rattle.fkv_device_partition.specs.Effect.{Asked, asked, asked_by, IsIssue}
-use Rattle.fkv_device_partition.specs.Views.{PartitionView, slots_of, context_at, with_context}
+use Rattle.fkv_partition.specs.declared.contexts.Context.{Context}
+use Rattle.fkv_partition.specs.declared.contexts.Phase.TheVariants.{Fresh}
+use Rattle.fkv_partition.specs.declared.contexts.Progress.{Progress}
+use Rattle.fkv_partition.specs.declared.contexts.Progress.TheVariants.{Done, Next, NeedsBuild, NeedsLoad, Waits}
+use Rattle.fkv_partition.specs.Beginning.{Issues}
+use Rattle.fkv_partition.specs.Contexts.{joined, context_in}
+use Rattle.fkv_partition.specs.Effect.{Asked, asked, asked_by, IsIssue}
+use Rattle.fkv_partition.specs.Views.{PartitionView, slots_of, context_at, with_context}
 use Rattle.fkv_alone.specs.Stages.{IsReady, IsDone, IsWaiting, HasCome}
 use Rattle.fkv_alone.specs.Ending.{IsOver, IsStop, IsOn, IsHalted, Opens, Drives, Ends}
 use Rattle.fkv_alone.proofs.OpenLemmas.{open_at, context-inside, leaves-own}

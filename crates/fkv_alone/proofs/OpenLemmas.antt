@@ -5,10 +5,10 @@ use Rattle.fkv_functions.proofs.ListLemmas.{get-set_same, get-set_other}
 use Rattle.fkv_regions.specs.RegionsView.{RegionsView}
 use Rattle.fkv_operations.specs.declared.operations.Op.{Op}
 use Rattle.fkv_lookups.specs.RecordsViews.{RecordsView}
-use Rattle.fkv_device_partition.specs.declared.contexts.Context.{Context}
-use Rattle.fkv_device_partition.specs.Contexts.{joined, is_session, context_in}
-use Rattle.fkv_device_partition.specs.Views.{PartitionView, slots_of, context_at, with_context}
-use Rattle.fkv_device_partition.specs.Effect.{asked_by, LeavesOthers}
+use Rattle.fkv_partition.specs.declared.contexts.Context.{Context}
+use Rattle.fkv_partition.specs.Contexts.{joined, is_session, context_in}
+use Rattle.fkv_partition.specs.Views.{PartitionView, slots_of, context_at, with_context}
+use Rattle.fkv_partition.specs.Effect.{asked_by, LeavesOthers}
 use Rattle.fkv_alone.specs.Stages.{IsOpen}
 use Rattle.fkv_alone.specs.Ending.{IsOver}
 

@@ -22,20 +22,20 @@ use Rattle.fkv_lookups.specs.RecordsViews.{RecordsView, confirmed, released, wit
 use Rattle.fkv_lookups.specs.DecisionLaws.{wait-met}
 use Rattle.fkv_lookups.specs.declared.decisions.Met.TheVariants as meets
 use Rattle.fkv_index.specs.declared.words.Word.{Word}
-use Rattle.fkv_device_partition.specs.declared.contexts.Context.{Context}
-use Rattle.fkv_device_partition.specs.declared.contexts.Loading.{Loading}
-use Rattle.fkv_device_partition.specs.declared.contexts.Phase.TheVariants.{Fresh, Confirm, Prepared, Load}
-use Rattle.fkv_device_partition.specs.declared.contexts.Progress.{Progress}
-use Rattle.fkv_device_partition.specs.declared.contexts.Progress.TheVariants.{Done, Next, NeedsBuild, NeedsLoad, Waits}
-use Rattle.fkv_device_partition.specs.declared.contexts.Wait.TheVariants.{Fuzzy, Full}
-use Rattle.fkv_device_partition.specs.Contexts.{question_in, loading_by, at_phase}
-use Rattle.fkv_device_partition.specs.Effect.{Asked, asked, asked_by, LeavesOthers, IsEvent}
-use Rattle.fkv_device_partition.specs.Going.{Goes}
-use Rattle.fkv_device_partition.specs.Installing.{Installs}
-use Rattle.fkv_device_partition.specs.Loading.{AwaitsPage, Loads}
-use Rattle.fkv_device_partition.specs.Pending.{Pending, pending, Finds, IsLoad}
-use Rattle.fkv_device_partition.specs.Pending as pend
-use Rattle.fkv_device_partition.specs.Views.{PartitionView, context_at, with_context, live_of, met_at}
+use Rattle.fkv_partition.specs.declared.contexts.Context.{Context}
+use Rattle.fkv_partition.specs.declared.contexts.Loading.{Loading}
+use Rattle.fkv_partition.specs.declared.contexts.Phase.TheVariants.{Fresh, Confirm, Prepared, Load}
+use Rattle.fkv_partition.specs.declared.contexts.Progress.{Progress}
+use Rattle.fkv_partition.specs.declared.contexts.Progress.TheVariants.{Done, Next, NeedsBuild, NeedsLoad, Waits}
+use Rattle.fkv_partition.specs.declared.contexts.Wait.TheVariants.{Fuzzy, Full}
+use Rattle.fkv_partition.specs.Contexts.{question_in, loading_by, at_phase}
+use Rattle.fkv_partition.specs.Effect.{Asked, asked, asked_by, LeavesOthers, IsEvent}
+use Rattle.fkv_partition.specs.Going.{Goes}
+use Rattle.fkv_partition.specs.Installing.{Installs}
+use Rattle.fkv_partition.specs.Loading.{AwaitsPage, Loads}
+use Rattle.fkv_partition.specs.Pending.{Pending, pending, Finds, IsLoad}
+use Rattle.fkv_partition.specs.Pending as pend
+use Rattle.fkv_partition.specs.Views.{PartitionView, context_at, with_context, live_of, met_at}
 use Rattle.fkv_alone.specs.Stages.{IsOpen, IsReady, IsAsking, IsFetching, IsDone, HasCome}
 use Rattle.fkv_alone.specs.Ending.{IsOver, IsStop, Advances}
 use Rattle.fkv_alone.proofs.OpenLemmas.{set-here, set-frame, frames, open-pass, open-set, open-over}

@@ -11,14 +11,14 @@ use Rattle.fkv_operations.specs.Classes.{same_class}
 use Rattle.fkv_operations.specs.declared.classes.Class.{Class}
 use Rattle.fkv_operations.specs.declared.entries.IndexEntry.{IndexEntry}
 use Rattle.fkv_lookups.specs.RecordsViews.{RecordsView, class_in}
-use Rattle.fkv_device_partition.specs.declared.contexts.Context.{Context}
-use Rattle.fkv_device_partition.specs.declared.contexts.Loading.{Loading}
-use Rattle.fkv_device_partition.specs.declared.contexts.Phase.TheVariants.{Fresh, Confirm}
-use Rattle.fkv_device_partition.specs.declared.contexts.Progress.{Progress}
-use Rattle.fkv_device_partition.specs.declared.contexts.Progress.TheVariants.{Next, NeedsBuild, NeedsLoad}
-use Rattle.fkv_device_partition.specs.Contexts.{question_in, claim_at}
-use Rattle.fkv_device_partition.specs.Loading.{AwaitsPage}
-use Rattle.fkv_device_partition.specs.Views.{PartitionView, context_at}
+use Rattle.fkv_partition.specs.declared.contexts.Context.{Context}
+use Rattle.fkv_partition.specs.declared.contexts.Loading.{Loading}
+use Rattle.fkv_partition.specs.declared.contexts.Phase.TheVariants.{Fresh, Confirm}
+use Rattle.fkv_partition.specs.declared.contexts.Progress.{Progress}
+use Rattle.fkv_partition.specs.declared.contexts.Progress.TheVariants.{Next, NeedsBuild, NeedsLoad}
+use Rattle.fkv_partition.specs.Contexts.{question_in, claim_at}
+use Rattle.fkv_partition.specs.Loading.{AwaitsPage}
+use Rattle.fkv_partition.specs.Views.{PartitionView, context_at}
 
 -- a record below Head, of the class of a key
 abbrev pub is_evicted : {K V : Type 0} → (K → ℕ) → RecordsView K V → K → Entry K V → Bool

@@ -8,13 +8,13 @@ use Rattle.fkv_device.specs.Standing.{Standing}
 use Rattle.fkv_operations.specs.After.{key_of}
 use Rattle.fkv_operations.specs.declared.operations.Op.{Op}
 use Rattle.fkv_operations.specs.declared.operations.Answer.{Answer}
-use Rattle.fkv_device_partition.specs.declared.contexts.Progress.{Progress}
-use Rattle.fkv_device_partition.specs.declared.contexts.Progress.TheVariants.{Done, Next, NeedsBuild, NeedsLoad, Waits}
-use Rattle.fkv_device_partition.specs.declared.contexts.Wait.{Wait}
-use Rattle.fkv_device_partition.specs.Beginning.{IsEntered, Issues}
-use Rattle.fkv_device_partition.specs.Effect.{LeavesOthers}
-use Rattle.fkv_device_partition.specs.Views.{PartitionView, context_at, free_context, partition_of}
-use Rattle.fkv_device_partition.specs.declared.contexts.Context.{Context}
+use Rattle.fkv_partition.specs.declared.contexts.Progress.{Progress}
+use Rattle.fkv_partition.specs.declared.contexts.Progress.TheVariants.{Done, Next, NeedsBuild, NeedsLoad, Waits}
+use Rattle.fkv_partition.specs.declared.contexts.Wait.{Wait}
+use Rattle.fkv_partition.specs.Beginning.{IsEntered, Issues}
+use Rattle.fkv_partition.specs.Effect.{LeavesOthers}
+use Rattle.fkv_partition.specs.Views.{PartitionView, context_at, free_context, partition_of}
+use Rattle.fkv_partition.specs.declared.contexts.Context.{Context}
 use Rattle.fkv_alone.specs.Stages.{HasCome, IsOpen, IsDone, IsWaiting}
 
 -- it is over without effect: its context is free, and of the records the words of the index alone may be others

@@ -13,20 +13,20 @@ use Rattle.fkv_operations.specs.After.{key_of, after, answer}
 use Rattle.fkv_operations.specs.declared.entries.IndexEntry.{IndexEntry}
 use Rattle.fkv_operations.specs.declared.operations.Op.{Op}
 use Rattle.fkv_operations.specs.declared.operations.Answer.{Answer}
-use Rattle.fkv_device_partition.specs.declared.contexts.Context.{Context}
-use Rattle.fkv_device_partition.specs.declared.contexts.Loading.{Loading}
-use Rattle.fkv_device_partition.specs.declared.contexts.Phase.TheVariants.{Fresh, Confirm}
-use Rattle.fkv_device_partition.specs.declared.contexts.Progress.{Progress}
-use Rattle.fkv_device_partition.specs.declared.contexts.Progress.TheVariants.{Done, Next, NeedsBuild, NeedsLoad, Waits}
+use Rattle.fkv_partition.specs.declared.contexts.Context.{Context}
+use Rattle.fkv_partition.specs.declared.contexts.Loading.{Loading}
+use Rattle.fkv_partition.specs.declared.contexts.Phase.TheVariants.{Fresh, Confirm}
+use Rattle.fkv_partition.specs.declared.contexts.Progress.{Progress}
+use Rattle.fkv_partition.specs.declared.contexts.Progress.TheVariants.{Done, Next, NeedsBuild, NeedsLoad, Waits}
 use Rattle.fkv_lookups.specs.RecordsViews.{IsFull}
 use Rattle.fkv_lookups.specs.declared.decisions.Met.TheVariants as met
-use Rattle.fkv_device_partition.specs.declared.contexts.Wait.{Wait}
-use Rattle.fkv_device_partition.specs.declared.contexts.Wait.TheVariants as wait
-use Rattle.fkv_device_partition.specs.Contexts.{question_in}
-use Rattle.fkv_device_partition.specs.Effect.{LeavesOthers}
-use Rattle.fkv_device_partition.specs.Loading.{AwaitsPage}
-use Rattle.fkv_device_partition.specs.Pending.{pending}
-use Rattle.fkv_device_partition.specs.Views.{PartitionView, context_at, live_of, met_at}
+use Rattle.fkv_partition.specs.declared.contexts.Wait.{Wait}
+use Rattle.fkv_partition.specs.declared.contexts.Wait.TheVariants as wait
+use Rattle.fkv_partition.specs.Contexts.{question_in}
+use Rattle.fkv_partition.specs.Effect.{LeavesOthers}
+use Rattle.fkv_partition.specs.Loading.{AwaitsPage}
+use Rattle.fkv_partition.specs.Pending.{pending}
+use Rattle.fkv_partition.specs.Views.{PartitionView, context_at, live_of, met_at}
 
 -- the operation is open in its context, and of the records the words of the index alone may be others than before
 pub record IsOpen {K V I : Type 0} (op : Op K V I) (old v : PartitionView K V I) (slot c started : ℕ) (x : Context K V I)

@@ -2,8 +2,8 @@
 ghost use Rattle.std.specs.Prelude.{◌≡◌, ◌↔◌, IsTrue};
 
 use fkv_device::Disk;
-use fkv_device_partition::Progress;
 use fkv_functions::{Functions, Refused};
+use fkv_partition::Progress;
 
 /// What became of an operation, and how many moments of the clock it took.
 #[derive(Drop)]

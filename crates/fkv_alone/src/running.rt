@@ -1,7 +1,7 @@
 //! An operation that is driven to its end.
 ghost use Rattle.std.specs.Prelude.{◌≡◌, ◌≢◌, ◌+◌, ◌-◌, ◌^◌, ◌<◌, ◌≤◌, ◌⊎◌, ◌↔◌, ℕ, Some, Ok, Err, IsTrue, IsSome, IfOk, IfErr};
-ghost use Rattle.fkv_device_partition.specs.Views.{PartitionView, context_at, free_context};
-ghost use Rattle.fkv_device_partition.specs.Pending.{OthersPend, pending};
+ghost use Rattle.fkv_partition.specs.Views.{PartitionView, context_at, free_context};
+ghost use Rattle.fkv_partition.specs.Pending.{OthersPend, pending};
 ghost use Rattle.fkv_operations.specs.declared.operations.Op.{Op};
 ghost use Rattle.fkv_alone.specs.Stages.{HasCome, IsReady};
 ghost use Rattle.fkv_operations.specs.After.{key_of};
@@ -11,10 +11,10 @@ ghost use Rattle.fkv_alone.specs.Ending.{Ends, IsOn, IsOver, Drives};
 use crate::outcomes::{Alone, AloneOf};
 use crate::stepping::step;
 use fkv_device::Disk;
-use fkv_device_partition::laws::pendings_stay;
-use fkv_device_partition::{Partition, Progress, ProgressOf};
 use fkv_functions::{Functions, Refused};
 use fkv_operations::{Clock, OpOf};
+use fkv_partition::laws::pendings_stay;
+use fkv_partition::{Partition, Progress, ProgressOf};
 use std::alloc::Global;
 
 /// Whether an operation is to go on that told this.

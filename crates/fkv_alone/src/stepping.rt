@@ -1,16 +1,16 @@
 //! One event of an operation that is driven alone: what it asked for is built or read, and handed in.
 ghost use Rattle.std.specs.Prelude.{◌≡◌, ◌<◌, ◌≤◌, ℕ, IsTrue, IfOk};
 ghost use Rattle.fkv_operations.specs.declared.operations.Op.{Op};
-ghost use Rattle.fkv_device_partition.specs.Views.{PartitionView};
-ghost use Rattle.fkv_device_partition.specs.Pending.{OthersPend};
+ghost use Rattle.fkv_partition.specs.Views.{PartitionView};
+ghost use Rattle.fkv_partition.specs.Pending.{OthersPend};
 ghost use Rattle.fkv_alone.specs.Stages.{HasCome, IsFetching};
 ghost use Rattle.fkv_alone.specs.Ending.{Advances, IsOn};
 ghost use Rattle.fkv_alone.specs.Bound.{IsNear, IsNearer};
 
 use fkv_device::{Disk, Loaded};
-use fkv_device_partition::laws::{loads_end, pendings_stay};
-use fkv_device_partition::{Partition, Progress, ProgressOf};
 use fkv_functions::{Built, Functions, Refused};
+use fkv_partition::laws::{loads_end, pendings_stay};
+use fkv_partition::{Partition, Progress, ProgressOf};
 use std::alloc::Global;
 
 /// Reads the page that an operation asked for, and hands it in, or what came in its place.

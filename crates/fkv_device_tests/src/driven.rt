@@ -1,31 +1,30 @@
-//! A partition of sums over a device in memory, with a clock of its own: each call is made at the next moment.
+//! A partition of sums over a device, with a clock of its own: each call is made at the next moment.
 ghost use Rattle.std.specs.Prelude.{◌≤◌};
 
 use fkv_alone::{AloneOf, run_alone};
-use fkv_device::{Disk, Loaded, MemoryDevice, MemoryReader, MemoryReceipt, MemoryWriter, Written};
-use fkv_device_partition::{Config, Partition, Progress, ProgressOf};
+use fkv_device::{Disk, Loaded, Written};
 use fkv_functions::{Ask, Built, Name, Refused, SumFns};
 use fkv_operations::{Clock, OpOf};
+use fkv_partition::{Config, Partition, Progress, ProgressOf};
 use std::alloc::Global;
 
 /// What an event of this partition tells.
-pub type Told = ProgressOf<SumFns, MemoryDevice>;
+pub type Told<D> = ProgressOf<SumFns, D>;
 
 /// A partition with the last moment that it was given, what it last asked for, and its device.
 #[derive(Drop)]
-pub struct Driven {
-    pub partition: Partition<SumFns, MemoryDevice>,
-    reader: MemoryReader,
-    writer: MemoryWriter,
+pub struct Driven<D: Disk> {
+    pub partition: Partition<SumFns, D>,
+    reader: D::Reader,
+    writer: D::Writer,
     ask: Option<Ask<Name, i128, i64>>,
-    receipt: Option<MemoryReceipt>,
+    receipt: Option<D::Receipt>,
     now: u64,
     ghost timely: { partition.moment ≤ now },
 }
 
-impl Driven {
-    pub fn new(alloc: Global, config: &Config) -> Result<Driven, Refused> {
-        let mut device = MemoryDevice::new(alloc);
+impl<D: Disk> Driven<D> {
+    pub fn new(alloc: Global, config: &Config, device: &mut D) -> Result<Driven<D>, Refused> {
         let writer = device.writer(0)?;
         let reader = device.reader(0)?;
         Ok(Driven {
@@ -90,7 +89,7 @@ impl Driven {
         };
         let job = self.partition.flush_take(alloc)?;
         let page = job.page;
-        let written = Written::<MemoryDevice>::write(&mut self.writer, job)?;
+        let written = Written::<D>::write(&mut self.writer, job)?;
         let done = self.partition.flush_done(written, now);
         self.now = now;
         match done {
@@ -100,7 +99,7 @@ impl Driven {
     }
 
     /// Notes what was asked for, and tells what an event answered.
-    pub fn note(&mut self, progress: Result<Told, Refused>) -> Result<Seen, Refused> {
+    pub fn note(&mut self, progress: Result<Told<D>, Refused>) -> Result<Seen, Refused> {
         match progress {
             Err(refused) => Err(refused),
             Ok(Progress::Done(answer, effect)) => Ok(Seen::Done(answer, effect)),
@@ -147,7 +146,7 @@ impl Driven {
         slot: usize,
         op: OpOf<SumFns>,
         limit: u64,
-    ) -> AloneOf<SumFns, MemoryDevice> {
+    ) -> AloneOf<SumFns, D> {
         let mut clock = Clock::starting(self.now);
         let alone = run_alone(
             alloc,
@@ -169,12 +168,10 @@ impl Driven {
     }
 
     /// The page that was asked for last.
-    fn fetched(&mut self, alloc: Global) -> Result<Loaded<MemoryDevice>, Refused> {
+    fn fetched(&mut self, alloc: Global) -> Result<Loaded<D>, Refused> {
         match &self.receipt {
             None => Err(Refused::NotReady),
-            Some(receipt) => {
-                Loaded::<MemoryDevice>::fetch(alloc, &mut self.reader, receipt, 256)
-            }
+            Some(receipt) => { Loaded::<D>::fetch(alloc, &mut self.reader, receipt, 256) }
         }
     }
 
@@ -206,5 +203,5 @@ pub enum Seen {
     Next,
     Builds(Option<i128>),
     Loads(u64),
-    Waits(fkv_device_partition::Wait),
+    Waits(fkv_partition::Wait),
 }

@@ -8,6 +8,8 @@
 #[cfg(test)]
 mod alone;
 #[cfg(test)]
+mod astray;
+#[cfg(test)]
 mod driven;
 #[cfg(test)]
 mod rows;
@@ -15,4 +17,4 @@ mod rows;
 mod runs;
 
 /// How many runs there are.
-pub const RUNS: usize = 11;
+pub const RUNS: usize = 13;

@@ -1,8 +1,9 @@
 //! Rows of calls on a partition, and what each answers. A key is one letter.
 use crate::driven::{Driven, Seen};
-use fkv_device_partition::{Config, Wait};
+use fkv_device::{Disk, MemoryDevice};
 use fkv_functions::{Name, Refused, SumFns};
 use fkv_operations::{Answer, Op, OpOf};
+use fkv_partition::{Config, Wait};
 use std::alloc::Global;
 
 /// One call. A key is one letter.
@@ -104,7 +105,7 @@ fn told_in(told: Told, events: u64) -> Told {
     }
 }
 
-impl Driven {
+impl<D: Disk> Driven<D> {
     fn ready(&mut self, slot: usize, context: usize) -> Told {
         for _ in 0..20 {
             match seen_told(self.go(slot, context)) {
@@ -151,7 +152,7 @@ impl Driven {
         told_in(seen_told(self.note(alone.progress)), events)
     }
 
-    fn call(&mut self, alloc: Global, call: Call) -> Told {
+    pub fn call(&mut self, alloc: Global, call: Call) -> Told {
         let fault = Refused::Device { code: 3, page: 0 };
         match call {
             Call::Enter => place_told(self.enter()),
@@ -172,7 +173,8 @@ impl Driven {
         }
     }
 
-    fn first_other(&mut self, alloc: Global, rows: &[(Call, Told)]) -> Option<usize> {
+    /// The number of the first row that is answered otherwise.
+    pub fn first_other(&mut self, alloc: Global, rows: &[(Call, Told)]) -> Option<usize> {
         for (at, row) in rows.iter().enumerate() {
             if self.call(alloc, row.0) != row.1 {
                 return Some(at);
@@ -208,7 +210,7 @@ pub fn first_wrong(
     rows: &[(Call, Told)],
     map: &[(u8, i128)],
 ) -> Option<usize> {
-    let Ok(mut driven) = Driven::new(alloc, config) else {
+    let Ok(mut driven) = Driven::new(alloc, config, &mut MemoryDevice::new(alloc)) else {
         return Some(0);
     };
     if let Some(at) = driven.first_other(alloc, opening) {

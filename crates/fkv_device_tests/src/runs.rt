@@ -1,8 +1,8 @@
 //! Worked runs: records of 56 bytes on pages of 256 bytes in two frames, so page 0 has three of them.
 use crate::rows::{Call, Told, first_wrong};
-use fkv_device_partition::Config;
 use fkv_functions::Refused;
 use fkv_operations::{Answer, Op};
+use fkv_partition::Config;
 
 pub const SMALL: Config = Config {
     id: 1,

@@ -4,9 +4,9 @@ use fkv_device::{
     Disk, FileDevice, MemoryDevice, MemoryReader, MemoryReceipt, MemoryWriter, PageReader,
     PageWriter, Receipt,
 };
-use fkv_device_partition::Config;
 use fkv_feeds::{run_alone, write_table};
 use fkv_functions::{Refused, SumFns};
+use fkv_partition::Config;
 use fkv_streams::{CountedReader, CountedWriter};
 use std::alloc::Global;
 use std::io::Write;

@@ -1,8 +1,8 @@
 //! Random feeds beside a plain fold.
 use fkv_device::MemoryDevice;
-use fkv_device_partition::Config;
 use fkv_feeds::{run_alone, write_table};
 use fkv_functions::{Refused, SumFns};
+use fkv_partition::Config;
 use fkv_streams::{CountedReader, CountedWriter};
 use rand_core::{Rng, SeedableRng};
 use rand_xoshiro::Xoshiro256PlusPlus;

@@ -1,8 +1,8 @@
 //! Readers and writers that fail, and refused growths.
 use fkv_device::MemoryDevice;
-use fkv_device_partition::Config;
 use fkv_feeds::{run_one, write_table};
 use fkv_functions::{Refused, SumFns};
+use fkv_partition::Config;
 use fkv_streams::{CountedReader, CountedWriter};
 use std::alloc::Global;
 use std::io::{self, Error, ErrorKind, Read, Write};

@@ -1,8 +1,8 @@
 //! Feeds, and the tables that they come to.
 use fkv_device::MemoryDevice;
-use fkv_device_partition::Config;
 use fkv_feeds::{run_one, write_table};
 use fkv_functions::{CountFns, Functions, MaxFns, Name, Refused, SumFns};
+use fkv_partition::Config;
 use fkv_streams::{CountedReader, CountedWriter};
 use itoa::Integer;
 use std::alloc::Global;

@@ -6,8 +6,8 @@ use Rattle.fkv_functions.specs.declared.refusals.Refused.TheVariants.{NoMemory}
 use Rattle.fkv_device.specs.Standing.{Standing}
 use Rattle.fkv_lookups.specs.Flushes.{flush_refusal}
 use Rattle.fkv_pages.specs.Flushes.{first_difference, difference, bytes_refusal}
-use Rattle.fkv_device_partition.specs.Flushing.{Flushes}
-use Rattle.fkv_device_partition.specs.Views.{PartitionView}
+use Rattle.fkv_partition.specs.Flushing.{Flushes}
+use Rattle.fkv_partition.specs.Views.{PartitionView}
 
 -- ---- the lowest waiting page, written as it was taken, is taken in where there is memory
 same-bytes : (xs : List ℕ) → first_difference xs xs ≡ None

@@ -13,11 +13,11 @@ use Rattle.fkv_functions.specs.Plain.{PlainMap, Same, with_at, IsKeyOrder}
 use Rattle.fkv_functions.specs.declared.refusals.Refused.{Refused}
 use Rattle.fkv_functions.proofs.ListLemmas.{get-append_cases, get-set_cases}
 use Rattle.fkv_operations.specs.AfterLaws.{same_map}
-use Rattle.fkv_device_partition.specs.declared.limits.Config.{Config}
-use Rattle.fkv_device_partition.specs.declared.contexts.Context.{Context}
-use Rattle.fkv_device_partition.specs.Beginning.{Enters}
-use Rattle.fkv_device_partition.specs.Contexts.{joined, is_session, context_in}
-use Rattle.fkv_device_partition.specs.Views.{PartitionView, slots_of, context_at, live_of, partition_of, empty_partition}
+use Rattle.fkv_partition.specs.declared.limits.Config.{Config}
+use Rattle.fkv_partition.specs.declared.contexts.Context.{Context}
+use Rattle.fkv_partition.specs.Beginning.{Enters}
+use Rattle.fkv_partition.specs.Contexts.{joined, is_session, context_in}
+use Rattle.fkv_partition.specs.Views.{PartitionView, slots_of, context_at, live_of, partition_of, empty_partition}
 use Rattle.fkv_feeds.specs.Tables.{amounts_of, folded}
 use Rattle.fkv_feeds.specs.Seats.{IsIdle}
 use Rattle.fkv_feeds.specs.Unions.{live_at, union_of}

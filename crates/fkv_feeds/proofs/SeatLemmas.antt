@@ -23,20 +23,20 @@ use Rattle.fkv_lookups.specs.declared.decisions.Decision.TheVariants.{Prepare}
 use Rattle.fkv_lookups.specs.declared.decisions.Met.{Met}
 use Rattle.fkv_lookups.specs.declared.decisions.Met.TheVariants.{NoEntry, NoValue, ReadOnly, Fuzzy, Mutable, OnDisk}
 use Rattle.fkv_operations.specs.declared.operations.Answer.{Answer}
-use Rattle.fkv_device_partition.specs.declared.contexts.Context.{Context}
-use Rattle.fkv_device_partition.specs.declared.contexts.Loading.{Loading}
-use Rattle.fkv_device_partition.specs.declared.contexts.Phase.{Phase}
-use Rattle.fkv_device_partition.specs.declared.contexts.Phase.TheVariants.{Fresh, Confirm, Prepared, Load}
-use Rattle.fkv_device_partition.specs.declared.contexts.Progress.{Progress}
-use Rattle.fkv_device_partition.specs.declared.contexts.Progress.TheVariants.{Done, Next, NeedsBuild, NeedsLoad, Waits}
-use Rattle.fkv_device_partition.specs.declared.contexts.Wait.{Wait}
-use Rattle.fkv_device_partition.specs.Beginning.{Issues}
-use Rattle.fkv_device_partition.specs.Contexts.{joined, is_session, context_in, question_in, loading_by, at_phase}
-use Rattle.fkv_device_partition.specs.Effect.{Asked, asked_by, IsEvent}
-use Rattle.fkv_device_partition.specs.Going.{Goes}
-use Rattle.fkv_device_partition.specs.Installing.{Installs}
-use Rattle.fkv_device_partition.specs.Loading.{Loads}
-use Rattle.fkv_device_partition.specs.Views.{PartitionView, slots_of, context_at, live_of, with_context, free_context, partition_of, met_at}
+use Rattle.fkv_partition.specs.declared.contexts.Context.{Context}
+use Rattle.fkv_partition.specs.declared.contexts.Loading.{Loading}
+use Rattle.fkv_partition.specs.declared.contexts.Phase.{Phase}
+use Rattle.fkv_partition.specs.declared.contexts.Phase.TheVariants.{Fresh, Confirm, Prepared, Load}
+use Rattle.fkv_partition.specs.declared.contexts.Progress.{Progress}
+use Rattle.fkv_partition.specs.declared.contexts.Progress.TheVariants.{Done, Next, NeedsBuild, NeedsLoad, Waits}
+use Rattle.fkv_partition.specs.declared.contexts.Wait.{Wait}
+use Rattle.fkv_partition.specs.Beginning.{Issues}
+use Rattle.fkv_partition.specs.Contexts.{joined, is_session, context_in, question_in, loading_by, at_phase}
+use Rattle.fkv_partition.specs.Effect.{Asked, asked_by, IsEvent}
+use Rattle.fkv_partition.specs.Going.{Goes}
+use Rattle.fkv_partition.specs.Installing.{Installs}
+use Rattle.fkv_partition.specs.Loading.{Loads}
+use Rattle.fkv_partition.specs.Views.{PartitionView, slots_of, context_at, live_of, with_context, free_context, partition_of, met_at}
 use Rattle.fkv_feeds.specs.Faults.{Spelling, IsSpoilt}
 use Rattle.fkv_feeds.specs.Seats.{IsIdle, IsOpen, IsAsking, IsTidied, WaitsFor, Leaves, HasDone, Tries}
 use Rattle.fkv_feeds.specs.declared.updating.Turn.{Turn}

@@ -10,7 +10,7 @@ use Rattle.fkv_texts.specs.declared.entries.Entry.{Entry}
 use Rattle.fkv_texts.specs.declared.entries.Reached.TheVariants.{Below}
 use Rattle.fkv_pages.specs.Spelled.{IsEntryIn}
 use Rattle.fkv_pages.specs.Loads.{IsReached, first_place}
-use Rattle.fkv_device_log.specs.Scans.{IsScanRefusal}
+use Rattle.fkv_hybrid.specs.Scans.{IsScanRefusal}
 
 -- when the bytes of a page of 2 ^ bits bytes spell an entry at an address
 abbrev pub Spelling : Type 0 → Type 0 → Type 1

@@ -3,8 +3,8 @@ use Rattle.std.specs.Prelude.{◌≡◌, ◌≤◌, ◌<◌, ◌+◌, ◌^◌, �
 use Rattle.std.specs.declared.cmp.Ordering.{Ordering}
 use Rattle.fkv_functions.specs.Meanings.{Meanings}
 use Rattle.fkv_functions.specs.Plain.{Same}
-use Rattle.fkv_device_partition.specs.declared.limits.Config.{Config}
-use Rattle.fkv_device_partition.specs.Views.{PartitionView, live_of}
+use Rattle.fkv_partition.specs.declared.limits.Config.{Config}
+use Rattle.fkv_partition.specs.Views.{PartitionView, live_of}
 use Rattle.fkv_feeds.specs.Tables.{amounts_of, folded}
 use Rattle.fkv_feeds.specs.Seats.{IsIdle}
 use Rattle.fkv_feeds.specs.Unions.{union_of}

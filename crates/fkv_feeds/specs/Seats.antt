@@ -11,13 +11,13 @@ use Rattle.fkv_operations.specs.After.{after, key_of}
 use Rattle.fkv_operations.specs.declared.entries.IndexEntry.{IndexEntry}
 use Rattle.fkv_operations.specs.declared.operations.Op.{Op}
 use Rattle.fkv_operations.specs.declared.operations.Op.TheVariants.{Rmw}
-use Rattle.fkv_device_partition.specs.declared.contexts.Context.{Context}
-use Rattle.fkv_device_partition.specs.declared.contexts.Loading.{Loading}
-use Rattle.fkv_device_partition.specs.declared.contexts.Phase.{Phase}
-use Rattle.fkv_device_partition.specs.declared.contexts.Phase.TheVariants.{Load}
-use Rattle.fkv_device_partition.specs.Beginning.{IsEntered}
-use Rattle.fkv_device_partition.specs.Contexts.{loading_by, question_in, is_session}
-use Rattle.fkv_device_partition.specs.Views.{PartitionView, context_at, live_of, slots_of}
+use Rattle.fkv_partition.specs.declared.contexts.Context.{Context}
+use Rattle.fkv_partition.specs.declared.contexts.Loading.{Loading}
+use Rattle.fkv_partition.specs.declared.contexts.Phase.{Phase}
+use Rattle.fkv_partition.specs.declared.contexts.Phase.TheVariants.{Load}
+use Rattle.fkv_partition.specs.Beginning.{IsEntered}
+use Rattle.fkv_partition.specs.Contexts.{loading_by, question_in, is_session}
+use Rattle.fkv_partition.specs.Views.{PartitionView, context_at, live_of, slots_of}
 use Rattle.fkv_feeds.specs.declared.updating.Turn.{Turn}
 use Rattle.fkv_feeds.specs.declared.updating.Turn.TheVariants.{Done, On}
 

@@ -4,15 +4,15 @@ ghost use Rattle.std.specs.BTreeMap.{get, is_at};
 ghost use Rattle.std.specs.Map.{lookup, keys_of};
 ghost use Rattle.std.specs.List.Sorted.{IsStrictlySortedBy};
 ghost use Rattle.fkv_functions.specs.Plain.{Same, with_at};
-ghost use Rattle.fkv_device_log.specs.Scans.{IsScanRefusal};
+ghost use Rattle.fkv_hybrid.specs.Scans.{IsScanRefusal};
 ghost use Rattle.fkv_feeds.specs.Gathering.{with_all};
 ghost use Rattle.fkv_feeds.specs.Runs.{AreIdle};
 ghost use Rattle.fkv_feeds.specs.Unions.{union_of};
 
 use crate::shards::Shard;
 use fkv_device::Disk;
-use fkv_device_partition::pairs_of;
 use fkv_functions::{Functions, Refused};
+use fkv_partition::pairs_of;
 use std::alloc::Global;
 use std::collections::BTreeMap;
 

@@ -6,7 +6,7 @@ ghost use Rattle.std.specs.List.Sorted.{IsStrictlySortedBy};
 ghost use Rattle.fkv_functions.specs.Names.{name_cmp};
 ghost use Rattle.fkv_functions.specs.declared.names.Name.{Name};
 ghost use Rattle.fkv_records.specs.Records.{size_of};
-ghost use Rattle.fkv_device_log.specs.Scans.{IsScanRefusal};
+ghost use Rattle.fkv_hybrid.specs.Scans.{IsScanRefusal};
 ghost use Rattle.fkv_feeds.specs.Faults.{IsRunFault};
 ghost use Rattle.fkv_feeds.specs.Tables.{IsTableOf, AreFeeds, amounts_of, folded, most_rows};
 ghost use Rattle.fkv_feeds.specs.Refusing.{IsRunnable, TellsStopped, TellsWhyNone};
@@ -17,8 +17,8 @@ use crate::reading::read_feed;
 use crate::shards::Shards;
 use crate::tables::Table;
 use fkv_device::Disk;
-use fkv_device_partition::Config;
 use fkv_functions::{Functions, Name, Refused};
+use fkv_partition::Config;
 use fkv_streams::Source;
 use std::alloc::Global;
 

@@ -4,17 +4,17 @@ ghost use Rattle.fkv_functions.specs.Names.{name_cmp};
 ghost use Rattle.fkv_functions.specs.declared.names.Name.{Name};
 ghost use Rattle.fkv_records.specs.Records.{size_of};
 ghost use Rattle.fkv_device.specs.Failing.{FailsOnlyBy};
-ghost use Rattle.fkv_device_partition.specs.Limits.{IsWithinLimits, IsPartitionOf};
-ghost use Rattle.fkv_device_partition.specs.Views.{partition_of};
+ghost use Rattle.fkv_partition.specs.Limits.{IsWithinLimits, IsPartitionOf};
+ghost use Rattle.fkv_partition.specs.Views.{partition_of};
 ghost use Rattle.fkv_feeds.specs.Faults.{IsRunFault};
 ghost use Rattle.fkv_feeds.specs.Runs.{IsSeatedIn, AreNew, StandFor};
 
 use crate::tidying::tidy_at_times;
 use crate::updating::update;
 use fkv_device::Disk;
-use fkv_device_partition::{Config, Partition};
 use fkv_functions::{Functions, Name, Refused};
 use fkv_operations::Clock;
+use fkv_partition::{Config, Partition};
 use std::alloc::Global;
 
 /// What holds for every row of a run.

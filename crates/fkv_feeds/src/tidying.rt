@@ -4,14 +4,14 @@
 //! is written, and Head follows so that the page after the tail's finds its frame free.
 ghost use Rattle.std.specs.Prelude.{◌≡◌, ◌≤◌, ◌⊎◌, ℕ, true, false, IfOk, IfErr, OnOk};
 ghost use Rattle.fkv_device.specs.Failing.{FailsOnlyBy};
-ghost use Rattle.fkv_device_partition.specs.Beginning.{IsEntered};
+ghost use Rattle.fkv_partition.specs.Beginning.{IsEntered};
 ghost use Rattle.fkv_feeds.specs.Seats.{IsTidied};
 
 use crate::shards::{Shard, Terms};
 use fkv_device::{Disk, Written};
-use fkv_device_partition::Partition;
 use fkv_functions::{Functions, Refused};
 use fkv_operations::Clock;
+use fkv_partition::Partition;
 
 /// Refreshes a session. Refused: `Worn` where no moment is left.
 fn refresh<F: Functions, D: Disk>(

@@ -5,16 +5,16 @@ ghost use Rattle.fkv_operations.specs.After.{after};
 ghost use Rattle.fkv_operations.specs.declared.operations.Op.{Op};
 ghost use Rattle.fkv_operations.specs.declared.operations.Op.TheVariants.{Rmw};
 ghost use Rattle.fkv_pages.specs.Spelled.{IsEntryIn};
-ghost use Rattle.fkv_device_partition.specs.Views.{live_of, partition_of};
+ghost use Rattle.fkv_partition.specs.Views.{live_of, partition_of};
 ghost use Rattle.fkv_feeds.specs.Faults.{IsFault};
 ghost use Rattle.fkv_feeds.specs.Seats.{IsIdle, IsOpen, IsAsking, Tries};
 
 use crate::shards::{Shard, Terms};
 use crate::tidying::tidy;
 use fkv_device::{Disk, Loaded};
-use fkv_device_partition::Progress;
 use fkv_functions::{AskOf, Built, Functions, Refused};
 use fkv_operations::{Clock, Op};
+use fkv_partition::Progress;
 
 /// What a turn of an update comes to.
 #[derive(Drop)]

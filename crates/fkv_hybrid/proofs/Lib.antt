@@ -1,3 +1,2 @@
-pub mod PageLemmas
-pub mod EditLemmas
-pub mod SessionLemmas
+pub mod TiedLemmas
+pub mod ScanLemmas

@@ -1,4 +1,6 @@
-pub mod Pages
-pub mod Edits
 pub mod Views
+pub mod Tied
+pub mod Flushes
+pub mod Logs
+pub mod Scans
 pub mod WrongLogs

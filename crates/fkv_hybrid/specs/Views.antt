@@ -1,28 +1,61 @@
 -- What a contract sees of a log.
-use Rattle.std.specs.Prelude.{◌≡◌, ◌<◌, ℕ, List, [], ◌∷◌, ◌++◌, Option}
+use Rattle.std.specs.Prelude.{◌≡◌, ◌<◌, ◌≤◌, ◌+◌, ◌^◌, ℕ, Bool, IsTrue, List, [], ◌∷◌, ◌++◌, drop, Option}
+use Rattle.fkv_records.specs.Places.{page_at, offset_at}
+use Rattle.fkv_device.specs.Standing.{Standing}
 use Rattle.fkv_texts.specs.declared.entries.Entry.{Entry}
-use Rattle.fkv_records.specs.declared.shapes.Shape.{Shape}
-use Rattle.fkv_regions.specs.RegionsView.{RegionsView, fresh_regions}
 use Rattle.fkv_texts.specs.Places.{tail_after}
-use Rattle.fkv_texts.specs.Text.{entry_at, changed}
+use Rattle.fkv_texts.specs.Text.{entry_at, changed, text_from}
+use Rattle.fkv_pages.specs.Views.{PagesView, text_begin}
+use Rattle.fkv_regions.specs.RegionsView.{RegionsView, fresh_regions, with_flushed}
 
--- a log of pages of 2 ^ bits bytes: its text, which has an entry at each place from `begin` to below `tail`; and its
--- regions, with what each session has seen of them
+-- A log of pages of 2 ^ bits bytes, in so many frames and on a device. Its text has an entry at each place from `from`
+-- to below `tail`; `begin` is where entries that are not dropped begin. `regions` has the offsets and what each session
+-- has seen of them. `receipts` is what the receipts of the flushed pages stand for, and `waiting` has the bytes of the
+-- frozen pages that are not flushed, lowest page first.
 pub record LogView (K V : Type 0) : Type 0 where
   pub bits : ℕ
+  pub frames : ℕ
   pub begin : ℕ
+  pub from : ℕ
   pub tail : ℕ
   pub regions : RegionsView
+  pub receipts : List Standing
+  pub waiting : List (List ℕ)
   pub text : List (Entry K V)
 
--- what a log of this shape, tail, regions and text is seen as
-abbrev pub log_view : {K V : Type 0} → Shape → ℕ → RegionsView → List (Entry K V) → LogView K V
-log_view shape tail regions text =
-    record { bits = shape.page_bits; begin = 64; tail = tail; regions = regions; text = text }
+-- what a log of these pages and regions is seen as
+abbrev pub log_view : {K V : Type 0} → PagesView K V → RegionsView → LogView K V
+log_view pages regions = record {
+  bits = pages.bits;
+  frames = pages.frames;
+  begin = pages.begin;
+  from = pages.from;
+  tail = pages.tail;
+  regions = regions;
+  receipts = pages.receipts;
+  waiting = pages.waiting;
+  text = pages.text;
+}
 
 -- a log of no records and no sessions
-abbrev pub empty_log : {K V : Type 0} → ℕ → LogView K V
-empty_log bits = record { bits = bits; begin = 64; tail = 64; regions = fresh_regions bits; text = [] }
+abbrev pub empty_log : {K V : Type 0} → ℕ → ℕ → LogView K V
+empty_log bits frames = record {
+  bits = bits;
+  frames = frames;
+  begin = 64;
+  from = 64;
+  tail = 64;
+  regions = fresh_regions bits;
+  receipts = [];
+  waiting = [];
+  text = [];
+}
+
+-- no room: the next record would begin a page whose frame has one that is not closed
+pub record IsFull {K V : Type 0} (log : LogView K V) : Type 0 where
+  pub more : log.tail < 2 ^ 48
+  pub begins : offset_at log.bits log.tail ≡ 0
+  pub taken : page_at log.bits log.regions.offsets.closed + log.frames ≤ page_at log.bits log.tail
 
 -- the log with one more entry, at the tail
 abbrev pub with_entry : {K V : Type 0} → ℕ → LogView K V → ℕ → K → Option V → LogView K V
@@ -39,6 +72,33 @@ with_value log a v = record log { text = changed log.text a v }
 abbrev pub with_regions : {K V : Type 0} → LogView K V → RegionsView → LogView K V
 with_regions log regions = record log { regions = regions }
 
--- what was frozen stays: the entries below what was the safe read-only offset
+-- the log whose lowest waiting page is flushed, by this receipt
+abbrev pub with_receipt : {K V : Type 0} → LogView K V → Standing → LogView K V
+with_receipt log s = record log {
+  receipts = log.receipts ++ s ∷ [];
+  waiting = drop 1 log.waiting;
+  regions = with_flushed log.regions (log.regions.flushed + 1);
+}
+
+-- the log with these regions, by which more may be frozen and closed: more pages may wait to be flushed, and the text
+-- begins no lower than where frames are closed, unless the device keeps
+abbrev pub moved : {K V : Type 0} → Bool → LogView K V → RegionsView → List (List ℕ) → LogView K V
+moved keeps log regions more = record log {
+  regions = regions;
+  from = text_begin keeps log.begin regions.offsets.closed;
+  waiting = log.waiting ++ more;
+  text = text_from (text_begin keeps log.begin regions.offsets.closed) log.text;
+}
+
+-- the regions have become these, and the log followed; on a device that keeps, the text stays
+pub record IsMoved {K V : Type 0} (keeps : Bool) (regions : RegionsView) (old new : LogView K V) : Type 0 where
+  pub more : List (List ℕ)
+  pub is : new ≡ moved keeps old regions more
+  pub kept : IsTrue keeps → new.text ≡ old.text
+
+-- what was frozen stays: the entries below what was the safe read-only offset, and where the text begins now or above
 abbrev pub FrozenStay : {K V : Type 0} → LogView K V → LogView K V → Type 0
-FrozenStay old new = (a : ℕ) → a < old.regions.offsets.safe_read_only → entry_at new.text a ≡ entry_at old.text a
+FrozenStay old new = (a : ℕ)
+    → new.from ≤ a
+    → a < old.regions.offsets.safe_read_only
+    → entry_at new.text a ≡ entry_at old.text a

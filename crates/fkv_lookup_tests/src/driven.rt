@@ -75,7 +75,7 @@ fn letter(name: &Name) -> u8 {
 }
 
 /// The operation on a name.
-fn on_name(op: Op<u8, i128, i64>) -> Option<OpOf<SumFns>> {
+pub fn on_name(op: Op<u8, i128, i64>) -> Option<OpOf<SumFns>> {
     let key = Name::new(&[op.key()])?;
     Some(match op {
         Op::Read(_, input) => Op::Read(key, input),
@@ -100,7 +100,7 @@ fn number_told(number: Result<u64, Refused>) -> Told {
 }
 
 /// The entry of a key's class, which is made where there is none.
-fn entry_made(records: &mut Sums, key: &Name) -> Result<(), Refused> {
+pub fn entry_made(records: &mut Sums, key: &Name) -> Result<(), Refused> {
     let class = records.class(&SumFns, key);
     if records.entry(&class).is_some() {
         return Ok(());
@@ -420,26 +420,26 @@ fn are_same(map: &BTreeMap<Name, i128>, plain: &BTreeMap<Name, i128>) -> bool {
             .all(|(key, value)| plain.get(key).copied() == Some(*value))
 }
 
-/// Records of sums in one partition, on pages of 256 bytes in two frames.
-fn sums(alloc: Global, bucket_bits: u64) -> Result<Sums, Refused> {
+/// Records of sums in one partition, on pages of 256 bytes in so many frames.
+pub fn sums(alloc: Global, bucket_bits: u64, frames: u64) -> Result<Sums, Refused> {
     let Some(size) = record_size::<Name, i128>() else {
         return Err(Refused::BadConfig);
     };
     let Some(shape) = Shape::new(8, size) else {
         return Err(Refused::BadConfig);
     };
-    if bucket_bits > 20 {
+    if bucket_bits > 20 || frames == 0 {
         return Err(Refused::BadConfig);
     }
-    match Records::new(alloc, 0, bucket_bits, shape, 2) {
-        Err(Refused::NoMemory) => Records::new(alloc, 0, bucket_bits, shape, 2),
+    match Records::new(alloc, 0, bucket_bits, shape, frames) {
+        Err(Refused::NoMemory) => Records::new(alloc, 0, bucket_bits, shape, frames),
         made => made,
     }
 }
 
 /// Records that nothing was done to.
 pub fn made(alloc: Global, bucket_bits: u64) -> Result<Driven, Refused> {
-    let records = match sums(alloc, bucket_bits) {
+    let records = match sums(alloc, bucket_bits, 2) {
         Ok(records) => records,
         Err(refused) => return Err(refused),
     };

@@ -1,5 +1,5 @@
-//! Random steps of four sessions beside a plain map: each answer is the plain map's, and so is the live map, while pages
-//! are frozen, flushed and read from the device.
+//! Random steps of four sessions beside a plain map: each answer is the plain map's, and so is the live map, while
+//! pages are frozen, flushed and read from the device.
 use crate::driven::{Call, Driven, Told, made};
 use fkv_operations::Op;
 use std::alloc::Global;
@@ -52,8 +52,8 @@ fn is_answered(driven: &Driven, call: Call, told: Told) -> bool {
     }
 }
 
-/// Whether so many random calls answer as a plain map, which the live map is at the end, and so many pages at least were
-/// flushed and so many operations answered.
+/// Whether so many random calls answer as a plain map, which the live map is at the end, and so many pages at least
+/// were flushed and so many operations answered.
 fn is_random_run_alike(
     alloc: Global,
     seed: u64,

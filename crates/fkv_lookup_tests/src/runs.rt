@@ -1,5 +1,5 @@
-//! Worked runs: records of 56 bytes on pages of 256 bytes in two frames, so page 0 has three of them and each later page
-//! four.
+//! Worked runs: records of 56 bytes on pages of 256 bytes in two frames, so page 0 has three of them and each later
+//! page four.
 use crate::driven::{Call, Told, first_wrong};
 use fkv_functions::{Refused, What};
 use fkv_operations::{Answer, Op};
@@ -173,8 +173,8 @@ fn a_half_flushed_log_is_read_whole(rt: HostRuntime) {
     }
 }
 
-/// Run also with each allocation refused in turn, by `rt try --test --fail-alloc N`: up to the second flush, whose receipt
-/// has another number where a flush was refused.
+/// Run also with each allocation refused in turn, by `rt try --test --fail-alloc N`: up to the second flush, whose
+/// receipt has another number where a flush was refused.
 #[test]
 fn refused_growths_are_called_again(rt: HostRuntime) {
     let wrong = first_wrong(rt.alloc(), 0, &ONE_CLASS[..66]);
@@ -183,8 +183,8 @@ fn refused_growths_are_called_again(rt: HostRuntime) {
 
 #[test]
 fn laws_are_called() {
-    fkv_device_log::laws::wrong_logs();
-    fkv_device_log::laws::frozen_stay::<u64, u64>();
+    fkv_hybrid::laws::wrong_logs();
+    fkv_hybrid::laws::frozen_stay::<u64, u64>();
     fkv_lookups::laws::entries_lead::<u64, u64>();
     fkv_lookups::laws::records_grow::<u64, u64>();
     fkv_lookups::laws::records_change::<u64, u64>();

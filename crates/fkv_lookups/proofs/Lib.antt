@@ -1,3 +1,5 @@
+pub mod ScanLemmas
+pub mod StillLemmas
 pub mod TracedLemmas
 pub mod SessionLemmas
 pub mod LookupLemmas

@@ -10,11 +10,11 @@ use Rattle.fkv_texts.specs.Text.{live}
 use Rattle.fkv_texts.specs.Places.{tail_after}
 use Rattle.fkv_texts.proofs.PlaceLemmas.{after}
 use Rattle.fkv_pages.proofs.FrameLemmas.{page_rises}
-use Rattle.fkv_operations.proofs.ScanLemmas.{IsScanned}
-use Rattle.fkv_device_log.specs.Views.{LogView}
-use Rattle.fkv_device_log.specs.Logs.{IsLogOf}
-use Rattle.fkv_device_log.specs.Scans.{ScanView, IsScanOf, IsStepRefusal, IsScanRefusal, at_page}
-use Rattle.fkv_device_log.proofs.ScanLemmas.{begins_kept, is_place}
+use Rattle.fkv_lookups.proofs.ScanLemmas.{IsScanned}
+use Rattle.fkv_hybrid.specs.Views.{LogView}
+use Rattle.fkv_hybrid.specs.Logs.{IsLogOf}
+use Rattle.fkv_hybrid.specs.Scans.{ScanView, IsScanOf, IsStepRefusal, IsScanRefusal, at_page}
+use Rattle.fkv_hybrid.proofs.ScanLemmas.{begins_kept, is_place}
 
 module _ {K V : Type 0} (keeps : Bool) (size : ℕ) (log : LogView K V) (h : IsLogOf keeps size log) where
   -- at Begin nothing is done

@@ -3,8 +3,8 @@ use Rattle.std.proofs.Common.{◌≡◌, ℕ, Bool, List, refl, ap}
 use Rattle.std.specs.Prelude.{Result, Ok, Err, IfOk, IfErr, OnOk, OnErr}
 use Rattle.fkv_device.specs.Standing.{Standing}
 use Rattle.fkv_regions.specs.RegionsView.{RegionsView}
-use Rattle.fkv_device_log.specs.Views.{LogView}
-use Rattle.fkv_device_log.specs.Views as log
+use Rattle.fkv_hybrid.specs.Views.{LogView}
+use Rattle.fkv_hybrid.specs.Views as log
 use Rattle.fkv_index.specs.declared.words.Word.{Word}
 use Rattle.fkv_lookups.specs.RecordsViews.{IsMoved}
 use Rattle.fkv_lookups.specs.Inside.{view_of}

@@ -24,15 +24,15 @@ use Rattle.fkv_operations.specs.declared.classes.Class.{Class}
 use Rattle.fkv_operations.specs.declared.entries.IndexEntry.{IndexEntry}
 use Rattle.fkv_operations.specs.Classes.{same_class}
 use Rattle.fkv_lookups.specs.RecordsViews.{RecordsView, class_in, entry_of, leads_to, with_record, with_value, moved}
-use Rattle.fkv_operations.specs.RecordsViews.{ChangesAt}
+use Rattle.fkv_lookups.specs.RecordsViews.{ChangesAt}
 use Rattle.fkv_lookups.specs.Traced.{AreRegionsBelow, IsTraced}
 use Rattle.fkv_operations.proofs.ClassLemmas.{class_test, entry-set}
 use Rattle.std.specs.Prelude.{Result, Ok, Err, OnOk, OnErr}
 use Rattle.fkv_texts.proofs.CutLemmas.{cut-leads, cut-chained}
 use Rattle.fkv_pages.specs.Views.{text_begin}
-use Rattle.fkv_device_log.specs.Views.{LogView}
-use Rattle.fkv_device_log.specs.Views as log
-use Rattle.fkv_device_log.specs.Logs.{IsLogOf}
+use Rattle.fkv_hybrid.specs.Views.{LogView}
+use Rattle.fkv_hybrid.specs.Views as log
+use Rattle.fkv_hybrid.specs.Logs.{IsLogOf}
 use Rattle.fkv_lookups.specs.Inside.{view_of}
 
 -- ---- the tail

@@ -1,7 +1,7 @@
 -- The fields behind a `RecordsView`.
 use Rattle.std.specs.Prelude.{ℕ, List}
 use Rattle.fkv_index.specs.declared.words.Word.{Word}
-use Rattle.fkv_device_log.specs.Views.{LogView}
+use Rattle.fkv_hybrid.specs.Views.{LogView}
 use Rattle.fkv_lookups.specs.RecordsViews.{RecordsView}
 
 -- a log of records of this size, and the words of an index

@@ -141,3 +141,8 @@ pub record IsFull {K V : Type 0} (v : RecordsView K V) : Type 0 where
   pub more : v.tail < 2 ^ 48
   pub begins : offset_at v.page_bits v.tail ≡ 0
   pub taken : page_at v.page_bits v.regions.offsets.closed + v.frames ≤ page_at v.page_bits v.tail
+
+-- words change at one place alone, and no place goes
+pub record ChangesAt (p : Place) (old new : List (List Word)) : Type 0 where
+  pub others : (q : Place) → (q ≡ p → ⊥) → word_at new q ≡ word_at old q
+  pub places : (q : Place) → IsPlace old q → IsPlace new q

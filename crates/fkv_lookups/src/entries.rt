@@ -4,7 +4,7 @@ ghost use Rattle.fkv_index.specs.Words.{tag_of, final_word, is_final};
 ghost use Rattle.fkv_index.specs.Places.{word_at, IsPlace, with_word};
 ghost use Rattle.fkv_index.specs.Entries.{IsIndexMap};
 ghost use Rattle.fkv_index.specs.Changes.{SetsEntry, SameTentative};
-ghost use Rattle.fkv_operations.specs.RecordsViews.{ChangesAt};
+ghost use Rattle.fkv_lookups.specs.RecordsViews.{ChangesAt};
 
 use fkv_index::{Index, Word};
 use fkv_operations::IndexEntry;

@@ -22,14 +22,14 @@ ghost use Rattle.fkv_index.specs.Changes.{SameEntries, SameTentative, SetsEntry}
 ghost use Rattle.fkv_operations.specs.declared.classes.Class.{Class};
 ghost use Rattle.fkv_operations.specs.Classes.{IsClass};
 ghost use Rattle.fkv_lookups.specs.RecordsViews.{empty_records, class_in, entry_of, found_in, IsEntryOf, with_record, Claims, confirmed, released, IsFull};
-ghost use Rattle.fkv_operations.specs.RecordsViews.{ChangesAt};
+ghost use Rattle.fkv_lookups.specs.RecordsViews.{ChangesAt};
 ghost use Rattle.fkv_lookups.specs.Traced.{IsTraced};
 ghost use Rattle.fkv_lookups.specs.Lookups.{looked_up};
 
 use crate::entries::move_entry;
 use fkv_device::Disk;
-use fkv_device_log::Log;
 use fkv_functions::{Fixed, Functions, Refused};
+use fkv_hybrid::Log;
 use fkv_index::{Index, Place};
 use fkv_operations::{Class, IndexEntry, class_of};
 use fkv_records::{Address, Shape};

@@ -1,4 +1,1 @@
 pub mod ClassLemmas
-pub mod TracedLemmas
-pub mod ScanLemmas
-pub mod RegionLemmas

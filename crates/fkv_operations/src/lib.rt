@@ -7,18 +7,13 @@
 
 pub mod classes;
 pub mod clocks;
-pub mod decisions;
 pub mod entries;
-pub mod laws;
 mod maps;
 pub mod operations;
 pub mod plainly;
-pub mod records;
 
 pub use classes::{Class, class_of};
 pub use clocks::Clock;
-pub use decisions::{Decision, DecisionOf, Met, decide, met_by};
 pub use entries::IndexEntry;
 pub use operations::{Answer, AnswerOf, Op, OpOf};
 pub use plainly::{PlainRun, apply_plainly, run_plainly, shown};
-pub use records::Records;

@@ -46,6 +46,12 @@ context-other slots contexts slot c s d y low other = by_cases (nat_lt d 8) refl
     by_cases false t = rw (t, and-false (is_session slots s)) refl
 
 module _ {K V I : Type 0} (v : PartitionView K V I) (slot c now : ℕ) (x : Context K V I) (h : context_at v slot c ≡ Some x) where
+  -- the changed context
+  pub context-same : (y : Option (Context K V I)) → context_at (with_context v slot c y now) slot c ≡ y
+  context-same y =
+      let o = open_at (slots_of v) v.contexts slot c x h in
+      context-inside (slots_of v) (slice_set v.contexts (slot * 8 + c) y) slot c o.inside o.low ∙ ap joined (get-set_same v.contexts (slot * 8 + c) (Some x) y o.here)
+
   -- what the changed context asks
   pub asked-same : (y : Option (Context K V I)) → asked (with_context v slot c y now) slot c ≡ option_map asked_by y
   asked-same y =
@@ -100,11 +106,24 @@ get-take (suc n) i [] x h = absurd (cc)
 get-take (suc n) zero (y ∷ ys) x h = h
 get-take (suc n) (suc i) (y ∷ ys) x h = get-take n i ys x h
 
+take-low : {A : Type 0} (n i : ℕ) (xs : List A) (x : A) → slice_get (take n xs) i ≡ Some x → i < n
+take-low zero i xs x h = absurd (cc)
+take-low (suc n) i [] x h = absurd (cc)
+take-low (suc n) zero (y ∷ ys) x h = omega arith
+take-low (suc n) (suc i) (y ∷ ys) x h = let low = take-low n i ys x h in omega arith
+
 -- a free context holds nothing
 pub free-context : {K V I : Type 0} (v : PartitionView K V I) (slot c : ℕ) → free_context v slot ≡ Some c → slice_get v.contexts (slot * 8 + c) ≡ Some None
 free-context v slot c h =
     let f = position-found is_none (slice_range v.contexts (slot * 8) (slot * 8 + 8)) c h in
     sym (get-drop (slot * 8) c v.contexts) ∙ get-take ((slot * 8 + 8) - slot * 8) c (drop (slot * 8) v.contexts) f.item f.here ∙ ap Some (none-is f.item f.passes)
+
+-- and is one of a session's eight
+pub free-low : {K V I : Type 0} (v : PartitionView K V I) (slot c : ℕ) → free_context v slot ≡ Some c → c < 8
+free-low v slot c h =
+    let f = position-found is_none (slice_range v.contexts (slot * 8) (slot * 8 + 8)) c h in
+    let room : (slot * 8 + 8) - slot * 8 ≡ 8 = omega arith in
+    take-low 8 c (drop (slot * 8) v.contexts) f.item (subst (λ n. slice_get (take n (drop (slot * 8) v.contexts)) c ≡ Some f.item) room f.here)
 
 -- a free slot is that of no session
 pub free-slot : {K V I : Type 0} (v : PartitionView K V I) (slot : ℕ) → free_slot v ≡ Some slot → slice_get (slots_of v) slot ≡ Some None

@@ -3,13 +3,14 @@ use Rattle.std.proofs.Common.{◌≡◌, true, false, ℕ, ◌+◌, ◌*◌, Boo
 use Rattle.std.specs.Bool.{OnTrue, OnFalse}
 use Rattle.std.proofs.lemmas.Bool.{OnTrue_at, OnFalse_at}
 use Rattle.std.specs.declared.cmp.Ordering.{Ordering}
-use Rattle.fkv_texts.specs.Text.{newest}
+use Rattle.fkv_texts.specs.Text.{entry_at, newest}
 use Rattle.fkv_index.specs.declared.places.Place.{Place}
 use Rattle.fkv_index.specs.Words.{tentative_word, is_tentative}
 use Rattle.fkv_index.specs.Places.{word_at}
 use Rattle.fkv_operations.specs.After.{key_of}
-use Rattle.fkv_operations.specs.RecordsViews.{RecordsView, class_in, Claims, confirmed, released, ChangesAt}
-use Rattle.fkv_operations.specs.Traced.{IsTraced}
+use Rattle.fkv_lookups.specs.RecordsViews.{RecordsView, class_in, Claims, confirmed, released}
+use Rattle.fkv_lookups.specs.RecordsViews.{ChangesAt}
+use Rattle.fkv_lookups.specs.Traced.{IsTraced}
 use Rattle.fkv_operations.specs.declared.classes.Class.{Class}
 use Rattle.fkv_partition.specs.declared.contexts.Context.{Context}
 use Rattle.fkv_partition.specs.declared.contexts.Phase.TheVariants.{Fresh, Confirm}
@@ -25,12 +26,20 @@ use Rattle.fkv_partition.proofs.SoundLemmas.{IsGrown, Fits, sound-claimed, sound
 abbrev pub IsReworded : {K V : Type 0} → RecordsView K V → RecordsView K V → Type 0
 IsReworded old new = new ≡ record old { words = new.words }
 
-grown-words : {K V : Type 0} (cmp : K → K → Ordering) (code : K → ℕ) (q : Place) (old new : RecordsView K V) → IsReworded old new → ChangesAt q old.words new.words → IsGrown cmp code old new
-grown-words cmp code q old new is words = record {
+grown-words : {K V : Type 0} (keeps : Bool) (cmp : K → K → Ordering) (code : K → ℕ) (q : Place) (old new : RecordsView K V) → IsReworded old new → ChangesAt q old.words new.words → IsGrown keeps cmp code old new
+grown-words keeps cmp code q old new is words = record {
   class = λ k. ap (λ (r : RecordsView _ _). class_in code r k) is;
   tail = (let same : new.tail ≡ old.tail = ap (λ (r : RecordsView _ _). r.tail) is in omega arith);
   safe = (let same : new.regions.offsets.safe_read_only ≡ old.regions.offsets.safe_read_only = ap (λ (r : RecordsView _ _). r.regions.offsets.safe_read_only) is in omega arith);
-  kept = λ k a h still. ap (λ (r : RecordsView _ _). newest cmp r.text k a) is;
+  head = (let same : new.regions.offsets.head ≡ old.regions.offsets.head = ap (λ (r : RecordsView _ _). r.regions.offsets.head) is in omega arith);
+  begin = ap (λ (r : RecordsView _ _). r.begin) is;
+  from = (let same : new.from ≡ old.from = ap (λ (r : RecordsView _ _). r.from) is in omega arith);
+  kept = λ keeps k a h still. ap (λ (r : RecordsView _ _). newest cmp r.text k a) is;
+  same_class = λ k a low begun o. record {
+    entry = o.entry;
+    here = ap (λ (r : RecordsView _ _). entry_at r.text a) is ∙ o.here;
+    class = ap (λ (r : RecordsView _ _). class_in code r o.entry.key) is ∙ o.class ∙ sym (ap (λ (r : RecordsView _ _). class_in code r k) is);
+  };
   places = words.places;
 }
 
@@ -38,7 +47,7 @@ grown-words cmp code q old new is words = record {
 pub claims-place : {K V I : Type 0} (v : PartitionView K V I) (slot c : ℕ) (x : Context K V I) (q : Place) → context_at v slot c ≡ Some x → x.phase ≡ Confirm q → claim_at v.contexts (slot * 8 + c) ≡ Some q
 claims-place v slot c x q h phase = ap (λ o. claim_of (joined o)) (open_at (slots_of v) v.contexts slot c x h).here ∙ ap claim_by phase
 
-module _ {K V I : Type 0} (cmp : K → K → Ordering) (code : K → ℕ) (v : PartitionView K V I) (s : IsSound cmp code v) (slot c now : ℕ) (x : Context K V I) (h : context_at v slot c ≡ Some x) where
+module _ {K V I : Type 0} {keeps : Bool} (cmp : K → K → Ordering) (code : K → ℕ) (v : PartitionView K V I) (s : IsSound keeps cmp code v) (slot c now : ℕ) (x : Context K V I) (h : context_at v slot c ≡ Some x) where
   pub is-tentative : (q : Place) → x.phase ≡ Confirm q → IsTrue (is_tentative (word_at v.records.words q))
   is-tentative q phase = s.owned.tentative (slot * 8 + c) q (claims-place v slot c x q h phase)
 
@@ -52,14 +61,14 @@ module _ {K V I : Type 0} (cmp : K → K → Ordering) (code : K → ℕ) (v : P
       → q.bucket ≡ class.bucket
       → word_at r.words q ≡ tentative_word class.tag
       → IsTrue (is_tentative (word_at r.words q))
-      → IsTraced code r
-      → IsSound cmp code (record (with_context v slot c (Some (at_phase x (Confirm q))) now) { records = r })
+      → IsTraced keeps code r
+      → IsSound keeps cmp code (record (with_context v slot c (Some (at_phase x (Confirm q))) now) { records = r })
   sound-claims r class q quiet own claims words was bucket word is traced =
       let reworded : IsReworded v.records r = claims.is ∙ ap (λ (w : RecordsView K V). record v.records { words = w.words }) (sym claims.is) in
       let o = open_at (slots_of v) v.contexts slot c x h in
       let same : class ≡ class_in code r (key_of x.op) = own ∙ ap (λ (w : RecordsView K V). class_in code w (key_of x.op)) (sym reworded) in
       let claimed : IsClaimOf r class q = record { bucket = bucket; word = word } in
-      sound-claimed s r slot c now x q traced (grown-words cmp code q v.records r reworded words) words
+      sound-claimed s r slot c now x q traced (grown-words keeps cmp code q v.records r reworded words) words
       (ap (λ (w : RecordsView K V). w.partition_bits) reworded)
       (ap (λ (w : RecordsView K V). w.regions) reworded)
       (ap (λ (w : RecordsView K V). w.text) reworded)
@@ -72,12 +81,12 @@ module _ {K V I : Type 0} (cmp : K → K → Ordering) (code : K → ℕ) (v : P
       → IsReworded v.records r
       → ChangesAt q v.records.words r.words
       → is_tentative (word_at r.words q) ≡ false
-      → IsTraced code r
-      → IsSound cmp code (record (with_context v slot c (Some (at_phase x Fresh)) now) { records = r })
+      → IsTraced keeps code r
+      → IsSound keeps cmp code (record (with_context v slot c (Some (at_phase x Fresh)) now) { records = r })
   sound-settles r q phase reworded words freed traced =
       let o = open_at (slots_of v) v.contexts slot c x h in
       let fits : Fits s r slot c (at_phase x Fresh) = record { stands = tt; own = own-at cmp code v s slot c x h; inside = o.inside; low = o.low } in
-      sound-settled s r slot c now x q (Some (at_phase x Fresh)) traced (grown-words cmp code q v.records r reworded words) words
+      sound-settled s r slot c now x q (Some (at_phase x Fresh)) traced (grown-words keeps cmp code q v.records r reworded words) words
       (ap (λ (w : RecordsView K V). w.partition_bits) reworded)
       (ap (λ (w : RecordsView K V). w.regions) reworded)
       (ap (λ (w : RecordsView K V). w.text) reworded)
@@ -90,11 +99,11 @@ module _ {K V I : Type 0} (cmp : K → K → Ordering) (code : K → ℕ) (v : P
       → IsReworded v.records r
       → ChangesAt q v.records.words r.words
       → is_tentative (word_at r.words q) ≡ false
-      → IsTraced code r
-      → IsSound cmp code (record (with_context v slot c None now) { records = r })
+      → IsTraced keeps code r
+      → IsSound keeps cmp code (record (with_context v slot c None now) { records = r })
   sound-cancels r q phase reworded words freed traced =
       let o = open_at (slots_of v) v.contexts slot c x h in
-      sound-settled s r slot c now x q None traced (grown-words cmp code q v.records r reworded words) words
+      sound-settled s r slot c now x q None traced (grown-words keeps cmp code q v.records r reworded words) words
       (ap (λ (w : RecordsView K V). w.partition_bits) reworded)
       (ap (λ (w : RecordsView K V). w.regions) reworded)
       (ap (λ (w : RecordsView K V). w.text) reworded)

@@ -6,7 +6,7 @@ use Rattle.fkv_index.specs.declared.places.Place.{Place}
 use Rattle.fkv_index.specs.Words.{is_tentative}
 use Rattle.fkv_index.specs.Places.{word_at}
 use Rattle.fkv_index.specs.Changes.{SameTentative}
-use Rattle.fkv_operations.specs.RecordsViews.{ChangesAt}
+use Rattle.fkv_lookups.specs.RecordsViews.{ChangesAt}
 use Rattle.fkv_partition.specs.declared.contexts.Context.{Context}
 use Rattle.fkv_partition.specs.Contexts.{joined, claim_of, claim_at}
 use Rattle.fkv_partition.specs.Claiming.{AreOwned}

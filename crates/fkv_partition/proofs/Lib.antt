@@ -2,7 +2,10 @@ pub mod ClaimLemmas
 pub mod SoundLemmas
 pub mod AskedLemmas
 pub mod EventLemmas
-pub mod ListingLemmas
 pub mod ChangeLemmas
-pub mod AloneLemmas
-pub mod FrozenLemmas
+pub mod DecidedLemmas
+pub mod LoadLemmas
+pub mod PendingLemmas
+pub mod StayLemmas
+pub mod FindsLemmas
+pub mod ListingLemmas

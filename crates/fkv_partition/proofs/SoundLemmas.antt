@@ -4,7 +4,19 @@ use Rattle.std.proofs.lemmas.List.{length-set}
 use Rattle.std.proofs.lemmas.Bool.{cases_eq}
 use Rattle.std.specs.declared.cmp.Ordering.{Ordering}
 use Rattle.fkv_texts.specs.declared.entries.Entry.{Entry}
-use Rattle.fkv_texts.specs.Text.{newest, value_of}
+use Rattle.std.proofs.Common.{Bool, ◌&&◌, nat_le}
+use Rattle.std.proofs.lemmas.Bool.Decides.{nat_tests}
+use Rattle.std.proofs.lemmas.Bool.{and_parts}
+use Rattle.fkv_device.specs.Standing.{Standing}
+use Rattle.fkv_pages.specs.Views.{text_begin}
+use Rattle.fkv_regions.specs.Agree.{IsRaised}
+use Rattle.fkv_texts.specs.Text.{entry_at, has_key, newest, value_of}
+use Rattle.fkv_texts.proofs.LastWhere.{last_where-found}
+use Rattle.fkv_texts.proofs.TextLemmas.{entry_at-old}
+use Rattle.fkv_texts.proofs.ChangeLemmas.{entry_at-elsewhere}
+use Rattle.fkv_texts.proofs.CutLemmas.{filter-in, cut-entry}
+use Rattle.fkv_lookups.specs.Lookups.{IsOfClass}
+use Rattle.fkv_lookups.proofs.TracedLemmas.{begin_rises}
 use Rattle.fkv_regions.specs.RegionsView.{RegionsView}
 use Rattle.fkv_index.specs.declared.places.Place.{Place}
 use Rattle.fkv_index.specs.Words.{address_of, is_tentative, is_final}
@@ -12,8 +24,9 @@ use Rattle.fkv_index.specs.Places.{word_at, IsPlace}
 use Rattle.fkv_index.specs.Changes.{SameTentative}
 use Rattle.fkv_index.proofs.WordFacts.{final_not_tentative}
 use Rattle.fkv_operations.specs.After.{key_of}
-use Rattle.fkv_operations.specs.RecordsViews.{RecordsView, class_in, IsEntryOf, with_record, with_value, with_regions, ChangesAt}
-use Rattle.fkv_operations.specs.Traced.{IsTraced}
+use Rattle.fkv_lookups.specs.RecordsViews.{RecordsView, class_in, IsEntryOf, WasEntryOf, with_record, with_value, with_regions, with_receipt, IsMoved}
+use Rattle.fkv_lookups.specs.RecordsViews.{ChangesAt}
+use Rattle.fkv_lookups.specs.Traced.{IsTraced}
 use Rattle.fkv_operations.specs.Still.{IsStill}
 use Rattle.fkv_operations.specs.declared.entries.IndexEntry.{IndexEntry}
 use Rattle.fkv_operations.specs.declared.operations.Op.{Op}
@@ -21,25 +34,36 @@ use Rattle.fkv_operations.specs.declared.operations.Op.TheVariants.{Read, Upsert
 use Rattle.fkv_partition.specs.declared.limits.Config.{Config}
 use Rattle.fkv_partition.specs.declared.contexts.Context.{Context}
 use Rattle.fkv_partition.specs.declared.contexts.Phase.{Phase}
-use Rattle.fkv_partition.specs.declared.contexts.Phase.TheVariants.{Fresh, Confirm, Prepared}
+use Rattle.fkv_partition.specs.declared.contexts.Phase.TheVariants.{Fresh, Confirm, Prepared, Load}
+use Rattle.fkv_partition.specs.declared.contexts.Loading.{Loading}
 use Rattle.fkv_partition.specs.Contexts.{joined, is_session, at_phase, claim_by, claim_of, claim_at}
 use Rattle.fkv_partition.specs.Claiming.{AreOwned}
 use Rattle.fkv_partition.specs.Views.{PartitionView, slots_of, empty_partition, partition_of, with_context, with_appended, with_replaced, in_regions}
-use Rattle.fkv_partition.specs.Sound.{StandsFor, IsSound}
+use Rattle.fkv_partition.specs.Sound.{IsLoading, StandsFor, IsSound}
 use Rattle.fkv_functions.proofs.ListLemmas.{get-set_cases, get-set_same, get-set_other, get-append_last, get-append_cases}
 use Rattle.fkv_texts.proofs.ChangeLemmas.{was_at, set_at-key}
 use Rattle.fkv_partition.proofs.ClaimLemmas.{owned-quiet, owned-claimed, owned-freed}
 
--- records change: what is newest at or below each address that is taken stays where it is still, what is frozen is
--- frozen, the tail does not fall, no place of the index goes, and no class changes
-pub record IsGrown {K V : Type 0} (cmp : K → K → Ordering) (code : K → ℕ) (old new : RecordsView K V) : Type 0 where
+-- records change: on a device that keeps, what is newest at or below each address that is taken stays where it is still;
+-- what is frozen is frozen, and of its class while the text has begun there; no offset falls, no place of the index goes,
+-- and no class changes
+pub record IsGrown {K V : Type 0} (keeps : Bool) (cmp : K → K → Ordering) (code : K → ℕ) (old new : RecordsView K V) : Type 0 where
   pub class : (k : K) → class_in code new k ≡ class_in code old k
   pub tail : old.tail ≤ new.tail
   pub safe : old.regions.offsets.safe_read_only ≤ new.regions.offsets.safe_read_only
-  pub kept : (k : K) (a : ℕ)
+  pub head : old.regions.offsets.head ≤ new.regions.offsets.head
+  pub begin : new.begin ≡ old.begin
+  pub from : old.from ≤ new.from
+  pub kept : IsTrue keeps
+      → (k : K) (a : ℕ)
       → a < old.tail
       → IsStill old.regions.offsets.safe_read_only (newest cmp old.text k a)
       → newest cmp new.text k a ≡ newest cmp old.text k a
+  pub same_class : (k : K) (a : ℕ)
+      → a < old.regions.offsets.safe_read_only
+      → new.from ≤ a
+      → IsOfClass code old k a
+      → IsOfClass code new k a
   pub places : (p : Place) → IsPlace old.words p → IsPlace new.words p
 
 still-raised : {K V : Type 0} (a b : ℕ) (l : Option (Entry K V)) → a ≤ b → IsStill a l → IsStill b l
@@ -47,31 +71,75 @@ still-raised a b None up h = tt
 still-raised a b (Some e) up (inl none) = inl none
 still-raised a b (Some e) up (inr low) = inr (omega arith)
 
--- an operation stands for what it stood for, where the word that it claims stays
-stands-grown : {K V I : Type 0} (cmp : K → K → Ordering) (code : K → ℕ) (old new : RecordsView K V) (op : Op K V I) (phase : Phase V) → IsGrown cmp code old new → ((p : Place) → claim_by phase ≡ Some p → word_at new.words p ≡ word_at old.words p) → StandsFor cmp code old op phase → StandsFor cmp code new op phase
-stands-grown cmp code old new op Fresh g n h = tt
-stands-grown cmp code old new op (Confirm p) g n h =
-    rw (g.class (key_of op)) (record { bucket = h.bucket; word = n p refl ∙ h.word })
-stands-grown cmp code old new (Read k i) (Prepared e s) g n h = h
-stands-grown cmp code old new (Upsert k v) (Prepared e s) g n h = h
-stands-grown cmp code old new (Rmw k i) (Prepared e s) g n h =
-    let same = g.kept k (address_of e.word) h.low h.still in
-    record {
-      entry = rw (g.class k) (record { place = g.places e.place h.entry.place; bucket = h.entry.bucket; final = h.entry.final; tag = h.entry.tag });
-      low = (let low : address_of e.word < old.tail = h.low in let up = g.tail in omega arith);
-      value = ap value_of same ∙ h.value;
-      still = rw same (still-raised old.regions.offsets.safe_read_only new.regions.offsets.safe_read_only (newest cmp old.text k (address_of e.word)) g.safe h.still);
-    }
-stands-grown cmp code old new (Delete k) (Prepared e s) g n h = h
+-- the newest of a key below a frozen address is still
+pub still-below : {K V : Type 0} (cmp : K → K → Ordering) (text : List (Entry K V)) (k : K) (a safe : ℕ) → a < safe → IsStill safe (newest cmp text k a)
+still-below cmp text k a safe low = by_newest (newest cmp text k a) refl
+  where
+    by_newest : (o : Option (Entry _ _)) → newest cmp text k a ≡ o → IsStill safe o
+    by_newest None h = tt
+    by_newest (Some e) h =
+        let found = last_where-found (λ x. nat_le x.address a && has_key cmp k x) text e h in
+        let parts = and_parts (nat_le e.address a) (has_key cmp k e) found in
+        let under : nat_le e.address a ≡ true = parts.0 in
+        let le : e.address ≤ a = grind (arith, nat_tests, under) in
+        inr (omega arith)
 
--- what was set is what is there
+was-entry : {K V : Type 0} {keeps : Bool} {cmp : K → K → Ordering} {code : K → ℕ} {old new : RecordsView K V} (k : K) (e : IndexEntry) → IsGrown keeps cmp code old new → WasEntryOf old (class_in code old k) e → WasEntryOf new (class_in code new k) e
+was-entry k e g w = rw (g.class k) (record { place = g.places e.place w.place; bucket = w.bucket; final = w.final; tag = w.tag })
+
+loading-grown : {K V : Type 0} (keeps : Bool) (cmp : K → K → Ordering) (code : K → ℕ) (old new : RecordsView K V) (k : K) (l : Loading) → IsTraced keeps code old → IsGrown keeps cmp code old new → IsLoading keeps cmp code old k l → IsLoading keeps cmp code new k l
+loading-grown keeps cmp code old new k l t g h =
+    let o = t.regions.agree.in_order in
+    let on_disk = h.on_disk in
+    let frozen : l.wanted < old.regions.offsets.safe_read_only = omega (arith, on_disk, o.head) in
+    let taken : l.wanted < old.tail = omega (arith, frozen, o.safe, t.regions.read_only) in
+    let low = h.low in
+    let tail = g.tail in
+    let head = g.head in
+    record {
+      entry = was-entry k l.kept g h.entry;
+      low = omega arith;
+      begun = h.begun;
+      on_disk = omega arith;
+      class = λ yes_keeps same begun. g.same_class k l.wanted frozen begun (h.class yes_keeps (same ∙ g.begin) (let up = g.from in omega arith));
+      newest = λ yes_keeps same.
+          let was = h.newest yes_keeps (same ∙ g.begin) in
+          let there = still-below cmp old.text k l.wanted old.regions.offsets.safe_read_only frozen in
+          g.kept yes_keeps k (address_of l.kept.word) low (subst (IsStill old.regions.offsets.safe_read_only) (sym was) there)
+          ∙ was
+          ∙ sym (g.kept yes_keeps k l.wanted taken there);
+    }
+
+-- an operation stands for what it stood for, where the word that it claims stays
+pub stands-grown : {K V I : Type 0} (keeps : Bool) (cmp : K → K → Ordering) (code : K → ℕ) (old new : RecordsView K V) (op : Op K V I) (phase : Phase V) → IsTraced keeps code old → IsGrown keeps cmp code old new → ((p : Place) → claim_by phase ≡ Some p → word_at new.words p ≡ word_at old.words p) → StandsFor keeps cmp code old op phase → StandsFor keeps cmp code new op phase
+stands-grown keeps cmp code old new op Fresh t g n h = tt
+stands-grown keeps cmp code old new op (Confirm p) t g n h =
+    rw (g.class (key_of op)) (record { bucket = h.bucket; word = n p refl ∙ h.word })
+stands-grown keeps cmp code old new (Read k i) (Prepared e s) t g n h = h
+stands-grown keeps cmp code old new (Upsert k v) (Prepared e s) t g n h = h
+stands-grown keeps cmp code old new (Rmw k i) (Prepared e s) t g n h =
+    let low = h.low in
+    let tail = g.tail in
+    record {
+      entry = was-entry k e g h.entry;
+      low = omega arith;
+      value = λ yes_keeps. ap value_of (g.kept yes_keeps k (address_of e.word) low (h.still yes_keeps)) ∙ h.value yes_keeps;
+      still = λ yes_keeps. subst (IsStill new.regions.offsets.safe_read_only) (sym (g.kept yes_keeps k (address_of e.word) low (h.still yes_keeps)))
+          (still-raised old.regions.offsets.safe_read_only new.regions.offsets.safe_read_only (newest cmp old.text k (address_of e.word)) g.safe (h.still yes_keeps));
+    }
+stands-grown keeps cmp code old new (Delete k) (Prepared e s) t g n h = h
+stands-grown keeps cmp code old new (Read k i) (Load l) t g n h = loading-grown keeps cmp code old new k l t g h
+stands-grown keeps cmp code old new (Upsert k v) (Load l) t g n h = h
+stands-grown keeps cmp code old new (Rmw k i) (Load l) t g n h = loading-grown keeps cmp code old new k l t g h
+stands-grown keeps cmp code old new (Delete k) (Load l) t g n h = h
+
 set-at : {A : Type 0} (xs : List (Option A)) (i : ℕ) (y : Option A) (x : A) → slice_get xs i ≡ Some (Some x) → slice_get (slice_set xs i y) i ≡ Some (Some x) → y ≡ Some x
 set-at xs i y x was is = let set : slice_get (slice_set xs i y) i ≡ Some y = get-set_same xs i (Some x) y was in let same : Some y ≡ Some (Some x) = sym set ∙ is in cc
 
 -- ---- whole partitions
-module _ {K V I : Type 0} {cmp : K → K → Ordering} {code : K → ℕ} where
-  pub sound-empty : (config : Config) (size number : ℕ) → number < 2 ^ config.partition_bits → IsTraced {V = V} code (empty_partition {I = I} config size number).records
-      → ((q : Place) → is_tentative (word_at (empty_partition {K = K} {V = V} {I = I} config size number).records.words q) ≡ false) → IsSound {V = V} {I = I} cmp code (empty_partition config size number)
+module _ {K V I : Type 0} {keeps : Bool} {cmp : K → K → Ordering} {code : K → ℕ} where
+  pub sound-empty : (config : Config) (size number : ℕ) → number < 2 ^ config.partition_bits → IsTraced {V = V} keeps code (empty_partition {I = I} config size number).records
+      → ((q : Place) → is_tentative (word_at (empty_partition {K = K} {V = V} {I = I} config size number).records.words q) ≡ false) → IsSound {V = V} {I = I} keeps cmp code (empty_partition config size number)
   sound-empty config size number h traced quiet = record {
     own = h;
     counted = refl;
@@ -98,50 +166,114 @@ module _ {K V I : Type 0} {cmp : K → K → Ordering} {code : K → ℕ} where
       none_claims (suc n) zero q e = cc
       none_claims (suc n) (suc p) q e = none_claims n p q e
 
-  module _ {v : PartitionView K V I} (s : IsSound cmp code v) where
-    pub sound-moment : (now : ℕ) → IsSound cmp code (record v { moment = now })
+  module _ {v : PartitionView K V I} (s : IsSound keeps cmp code v) where
+    pub sound-moment : (now : ℕ) → IsSound keeps cmp code (record v { moment = now })
     sound-moment now = record { own = s.own; counted = s.counted; places = s.places; traced = s.traced; stands = s.stands; owned = s.owned; routed = s.routed; asked = s.asked; housed = s.housed }
 
     -- the regions move, sessions come and go, and none with an open operation goes
     pub sound-regions : (regions : RegionsView) (now : ℕ)
-        → IsTraced code (with_regions v.records regions)
-        → v.records.regions.offsets.safe_read_only ≤ regions.offsets.safe_read_only
+        → IsTraced keeps code (with_regions v.records regions)
+        → IsRaised v.records.regions.offsets regions.offsets
         → ((t c : ℕ) (x : Context K V I) → c < 8 → slice_get v.contexts (t * 8 + c) ≡ Some (Some x) → is_session regions.epochs.slots t ≡ true)
-        → IsSound cmp code (in_regions v regions now)
+        → IsSound keeps cmp code (in_regions v regions now)
     sound-regions regions now traced up housed = record {
       own = s.own;
       counted = s.counted;
       places = s.places;
       traced = traced;
-      stands = λ p x h. stands-grown cmp code v.records (with_regions v.records regions) x.op x.phase grown (λ q e. refl) (s.stands p x h);
+      stands = λ p x h. stands-grown keeps cmp code v.records (with_regions v.records regions) x.op x.phase s.traced grown (λ q e. refl) (s.stands p x h);
       owned = s.owned;
       routed = s.routed;
       asked = s.asked;
       housed = housed;
     }
       where
-        grown : IsGrown cmp code v.records (with_regions v.records regions)
-        grown = record { class = λ k. refl; tail = omega arith; safe = up; kept = λ k a low still. refl; places = λ p h. h }
+        grown : IsGrown keeps cmp code v.records (with_regions v.records regions)
+        grown = record { class = λ k. refl; tail = omega arith; safe = up.safe; head = up.head; begin = refl; from = omega arith; kept = λ keeps k a low still. refl; same_class = λ k a low begun h. record { entry = h.entry; here = h.here; class = h.class }; places = λ p h. h }
+
+    -- frames are closed too, and the text may begin higher
+    pub sound-moved : (r : RecordsView K V) (regions : RegionsView) (now : ℕ)
+        → IsTraced keeps code r
+        → IsMoved keeps regions v.records r
+        → IsRaised v.records.regions.offsets r.regions.offsets
+        → ((t c : ℕ) (x : Context K V I) → c < 8 → slice_get v.contexts (t * 8 + c) ≡ Some (Some x) → is_session r.regions.epochs.slots t ≡ true)
+        → IsSound keeps cmp code (record v { records = r; moment = now })
+    sound-moved r regions now traced m up housed = record {
+      own = s.own;
+      counted = s.counted ∙ ap (λ (w : RecordsView K V). 2 ^ w.partition_bits) (sym m.is);
+      places = s.places;
+      traced = traced;
+      stands = λ p x h. stands-grown keeps cmp code v.records r x.op x.phase s.traced grown (λ q e. ap (λ (w : RecordsView K V). word_at w.words q) m.is) (s.stands p x h);
+      owned = subst (λ w. AreOwned w v.contexts) (sym (ap (λ (w : RecordsView K V). w.words) m.is)) s.owned;
+      routed = λ i e h.
+          let was = filter-in (λ (d : Entry K V). nat_le low d.address) v.records.text i e (ap (λ (w : RecordsView K V). slice_get w.text i) (sym m.is) ∙ h) in
+          s.routed was.0.place e was.0.here;
+      asked = s.asked;
+      housed = housed;
+    }
+      where
+        low : ℕ
+        low = text_begin keeps v.records.begin regions.offsets.closed
+
+        starts : r.from ≡ text_begin keeps v.records.begin regions.offsets.closed
+        starts = ap (λ (w : RecordsView K V). w.from) m.is
+
+        grown : IsGrown keeps cmp code v.records r
+        grown = record {
+          class = λ k. ap (λ (w : RecordsView K V). class_in code w k) m.is;
+          tail = (let same : r.tail ≡ v.records.tail = ap (λ (w : RecordsView K V). w.tail) m.is in omega arith);
+          safe = up.safe;
+          head = up.head;
+          begin = ap (λ (w : RecordsView K V). w.begin) m.is;
+          from = (let rises = begin_rises keeps v.records.begin v.records.regions.offsets.closed regions.offsets.closed (let same : r.regions.offsets.closed ≡ regions.offsets.closed = ap (λ (w : RecordsView K V). w.regions.offsets.closed) m.is in let more = up.closed in omega arith) in
+              let was = s.traced.begins in
+              let is = starts in
+              omega arith);
+          kept = λ yes_keeps k a low still. ap (λ t. newest cmp t k a) (m.kept yes_keeps);
+          same_class = λ k a frozen begun o. record {
+            entry = o.entry;
+            here = ap (λ (w : RecordsView K V). entry_at w.text a) m.is ∙ cut-entry (text_begin keeps v.records.begin regions.offsets.closed) a v.records.text (subst (λ n. n ≤ a) starts begun) ∙ o.here;
+            class = ap (λ (w : RecordsView K V). class_in code w o.entry.key) m.is ∙ o.class ∙ sym (ap (λ (w : RecordsView K V). class_in code w k) m.is);
+          };
+          places = λ p h. subst (λ w. IsPlace w p) (sym (ap (λ (w : RecordsView K V). w.words) m.is)) h;
+        }
+
+    -- a page is flushed
+    pub sound-flushed : (st : Standing) (now : ℕ) → IsTraced keeps code (with_receipt v.records st) → IsSound keeps cmp code (record v { records = with_receipt v.records st; moment = now })
+    sound-flushed st now traced = record {
+      own = s.own;
+      counted = s.counted;
+      places = s.places;
+      traced = traced;
+      stands = λ p x h. stands-grown keeps cmp code v.records (with_receipt v.records st) x.op x.phase s.traced grown (λ q e. refl) (s.stands p x h);
+      owned = s.owned;
+      routed = s.routed;
+      asked = s.asked;
+      housed = s.housed;
+    }
+      where
+        grown : IsGrown keeps cmp code v.records (with_receipt v.records st)
+        grown = record { class = λ k. refl; tail = omega arith; safe = omega arith; head = omega arith; begin = refl; from = omega arith; kept = λ keeps k a low still. refl; same_class = λ k a low begun h. record { entry = h.entry; here = h.here; class = h.class }; places = λ p h. h }
 
     -- an operation that may stand in a context of a session that is entered
     pub record Fits (r : RecordsView K V) (slot c : ℕ) (x : Context K V I) : Type 0 where
-      pub stands : StandsFor cmp code r x.op x.phase
+      pub stands : StandsFor keeps cmp code r x.op x.phase
       pub own : partition_of v.count (code (key_of x.op)) ≡ v.number
       pub inside : is_session (slots_of v) slot ≡ true
       pub low : c < 8
 
     -- what is asked of records that take the place of others, where a context is set
     pub record Suits (r : RecordsView K V) (slot c : ℕ) (y : Option (Context K V I)) : Type 0 where
-      pub traced : IsTraced code r
+      pub traced : IsTraced keeps code r
       pub bits : r.partition_bits ≡ v.records.partition_bits
       pub regions : r.regions ≡ v.records.regions
       pub routed : (i : ℕ) (e : Entry K V) → slice_get r.text i ≡ Some e → partition_of v.count (code e.key) ≡ v.number
-      pub others : (p : ℕ) (x : Context K V I) → p ≢ slot * 8 + c → slice_get v.contexts p ≡ Some (Some x) → StandsFor cmp code r x.op x.phase
+      pub others : (p : ℕ) (x : Context K V I) → p ≢ slot * 8 + c → slice_get v.contexts p ≡ Some (Some x) → StandsFor keeps cmp code r x.op x.phase
       pub owned : AreOwned r.words (slice_set v.contexts (slot * 8 + c) y)
 
     -- a context is set, and the records change
     pub sound-changed : (r : RecordsView K V) (slot c now : ℕ) (y : Option (Context K V I)) → Suits r slot c y → ((x : Context K V I) → y ≡ Some x → Fits r slot c x)
-        → IsSound cmp code (record (with_context v slot c y now) { records = r })
+        → IsSound keeps cmp code (record (with_context v slot c y now) { records = r })
     sound-changed r slot c now y suits fits = record {
       own = s.own;
       counted = s.counted ∙ ap (λ n. 2 ^ n) (sym suits.bits);
@@ -183,26 +315,26 @@ module _ {K V I : Type 0} {cmp : K → K → Ordering} {code : K → ℕ} where
       owned = owned-quiet v.records.words v.records.words v.contexts (slot * 8 + c) y s.owned (λ q. refl) old quiet;
     }
 
-    pub sound-context : (slot c now : ℕ) (x : Context K V I) → claim_at v.contexts (slot * 8 + c) ≡ None → claim_by x.phase ≡ None → Fits v.records slot c x → IsSound cmp code (with_context v slot c (Some x) now)
+    pub sound-context : (slot c now : ℕ) (x : Context K V I) → claim_at v.contexts (slot * 8 + c) ≡ None → claim_by x.phase ≡ None → Fits v.records slot c x → IsSound keeps cmp code (with_context v slot c (Some x) now)
     sound-context slot c now x old quiet fits =
         sound-changed v.records slot c now (Some x) (same-records slot c (Some x) old quiet) (λ y e. (let same : x ≡ y = cc in subst (Fits v.records slot c) same fits))
 
-    pub sound-freed : (slot c now : ℕ) → claim_at v.contexts (slot * 8 + c) ≡ None → IsSound cmp code (with_context v slot c None now)
+    pub sound-freed : (slot c now : ℕ) → claim_at v.contexts (slot * 8 + c) ≡ None → IsSound keeps cmp code (with_context v slot c None now)
     sound-freed slot c now old = sound-changed v.records slot c now None (same-records slot c None old refl) (λ y e. absurd (cc))
 
     -- ---- the records change too
     -- the words change at one place alone, and an operation in another context claims another
-    others-stand : (r : RecordsView K V) (slot c : ℕ) (q : Place) → IsGrown cmp code v.records r → ChangesAt q v.records.words r.words
+    others-stand : (r : RecordsView K V) (slot c : ℕ) (q : Place) → IsGrown keeps cmp code v.records r → ChangesAt q v.records.words r.words
         → ((p : ℕ) → p ≢ slot * 8 + c → claim_at v.contexts p ≢ Some q)
-        → (p : ℕ) (x : Context K V I) → p ≢ slot * 8 + c → slice_get v.contexts p ≡ Some (Some x) → StandsFor cmp code r x.op x.phase
+        → (p : ℕ) (x : Context K V I) → p ≢ slot * 8 + c → slice_get v.contexts p ≡ Some (Some x) → StandsFor keeps cmp code r x.op x.phase
     others-stand r slot c q grown words none p x n h =
         let mine : claim_at v.contexts p ≡ claim_by x.phase = ap (λ o. claim_of (joined o)) h in
-        stands-grown cmp code v.records r x.op x.phase grown (λ z e. words.others z (λ same. none p n (mine ∙ e ∙ ap Some same))) (s.stands p x h)
+        stands-grown keeps cmp code v.records r x.op x.phase s.traced grown (λ z e. words.others z (λ same. none p n (mine ∙ e ∙ ap Some same))) (s.stands p x h)
 
     -- a tentative entry is made
     pub sound-claimed : (r : RecordsView K V) (slot c now : ℕ) (x : Context K V I) (q : Place)
-        → IsTraced code r
-        → IsGrown cmp code v.records r
+        → IsTraced keeps code r
+        → IsGrown keeps cmp code v.records r
         → ChangesAt q v.records.words r.words
         → r.partition_bits ≡ v.records.partition_bits
         → r.regions ≡ v.records.regions
@@ -212,7 +344,7 @@ module _ {K V I : Type 0} {cmp : K → K → Ordering} {code : K → ℕ} where
         → slice_get v.contexts (slot * 8 + c) ≡ Some (Some x)
         → claim_by x.phase ≡ None
         → Fits r slot c (at_phase x (Confirm q))
-        → IsSound cmp code (record (with_context v slot c (Some (at_phase x (Confirm q))) now) { records = r })
+        → IsSound keeps cmp code (record (with_context v slot c (Some (at_phase x (Confirm q))) now) { records = r })
     sound-claimed r slot c now x q traced grown words bits regions text was is here quiet fits =
         sound-changed r slot c now (Some (at_phase x (Confirm q))) (record {
           traced = traced;
@@ -225,8 +357,8 @@ module _ {K V I : Type 0} {cmp : K → K → Ordering} {code : K → ℕ} where
 
     -- and the operation that made it claims it no more
     pub sound-settled : (r : RecordsView K V) (slot c now : ℕ) (x : Context K V I) (q : Place) (y : Option (Context K V I))
-        → IsTraced code r
-        → IsGrown cmp code v.records r
+        → IsTraced keeps code r
+        → IsGrown keeps cmp code v.records r
         → ChangesAt q v.records.words r.words
         → r.partition_bits ≡ v.records.partition_bits
         → r.regions ≡ v.records.regions
@@ -236,7 +368,7 @@ module _ {K V I : Type 0} {cmp : K → K → Ordering} {code : K → ℕ} where
         → x.phase ≡ Confirm q
         → claim_of y ≡ None
         → ((z : Context K V I) → y ≡ Some z → Fits r slot c z)
-        → IsSound cmp code (record (with_context v slot c y now) { records = r })
+        → IsSound keeps cmp code (record (with_context v slot c y now) { records = r })
     sound-settled r slot c now x q y traced grown words bits regions text freed here phase quiet fits =
         let mine : claim_at v.contexts (slot * 8 + c) ≡ Some q = ap (λ o. claim_of (joined o)) here ∙ ap claim_by phase in
         sound-changed r slot c now y (record {
@@ -252,12 +384,12 @@ module _ {K V I : Type 0} {cmp : K → K → Ordering} {code : K → ℕ} where
     pub sound-appended : (slot c now : ℕ) (e : IndexEntry) (k : K) (value : Option V)
         → claim_at v.contexts (slot * 8 + c) ≡ None
         → IsEntryOf v.records (class_in code v.records k) e
-        → IsTraced code (with_record v.records e k value)
+        → IsTraced keeps code (with_record v.records e k value)
         → ((q : K) (a : ℕ) → a < v.records.tail → newest cmp (with_record v.records e k value).text q a ≡ newest cmp v.records.text q a)
         → ChangesAt e.place v.records.words (with_record v.records e k value).words
         → SameTentative v.records.words (with_record v.records e k value).words
         → partition_of v.count (code k) ≡ v.number
-        → IsSound cmp code (with_appended v slot c e k value now)
+        → IsSound keeps cmp code (with_appended v slot c e k value now)
     sound-appended slot c now e k value old entry traced kept words same own =
         sound-changed (with_record v.records e k value) slot c now None (record {
           traced = traced;
@@ -274,22 +406,31 @@ module _ {K V I : Type 0} {cmp : K → K → Ordering} {code : K → ℕ} where
         last : Entry K V
         last = record { address = v.records.tail; previous = address_of e.word; key = k; value = value }
 
-        grown : IsGrown cmp code v.records (with_record v.records e k value)
+        grown : IsGrown keeps cmp code v.records (with_record v.records e k value)
         grown = record {
           class = λ q. refl;
           safe = omega arith;
+          head = omega arith;
+          begin = refl;
+          from = omega arith;
+          same_class = λ q a low begun o.
+              let o' = s.traced.regions.agree.in_order in
+              let up = s.traced.regions.read_only in
+              let safe = o'.safe in
+              record { entry = o.entry; here = entry_at-old v.records.text last a (λ same. omega arith) ∙ o.here; class = o.class };
           tail = (let up : v.records.tail < (with_record v.records e k value).tail = traced.below (length v.records.text) last (get-append_last v.records.text last) in omega arith);
-          kept = λ q a low still. kept q a low;
+          kept = λ keeps q a low still. kept q a low;
           places = words.places;
         }
 
     -- a record gets another value where it stands, or becomes a tombstone
     pub sound-replaced : (slot c now a : ℕ) (value : Option V)
         → claim_at v.contexts (slot * 8 + c) ≡ None
-        → IsTraced code (with_value v.records a value)
+        → v.records.regions.offsets.safe_read_only ≤ a
+        → IsTraced keeps code (with_value v.records a value)
         → ((q : K) (b : ℕ) → IsStill v.records.regions.offsets.safe_read_only (newest cmp v.records.text q b) → newest cmp (with_value v.records a value).text q b ≡ newest cmp v.records.text q b)
-        → IsSound cmp code (with_replaced v slot c a value now)
-    sound-replaced slot c now a value old traced kept =
+        → IsSound keeps cmp code (with_replaced v slot c a value now)
+    sound-replaced slot c now a value old high traced kept =
         sound-changed (with_value v.records a value) slot c now None (record {
           traced = traced;
           bits = refl;
@@ -298,9 +439,23 @@ module _ {K V I : Type 0} {cmp : K → K → Ordering} {code : K → ℕ} where
               let was = was_at a value v.records.text i e h in
               subst (λ (y : Entry K V). partition_of v.count (code y.key) ≡ v.number) was.is
               (ap (λ k. partition_of v.count (code k)) (set_at-key a value was.entry) ∙ s.routed i was.entry was.here);
-          others = λ p x n h. stands-grown cmp code v.records (with_value v.records a value) x.op x.phase grown (λ q e. refl) (s.stands p x h);
+          others = λ p x n h. stands-grown keeps cmp code v.records (with_value v.records a value) x.op x.phase s.traced grown (λ q e. refl) (s.stands p x h);
           owned = owned-quiet v.records.words v.records.words v.contexts (slot * 8 + c) None s.owned (λ q. refl) old refl;
         }) (λ y h. absurd (cc))
       where
-        grown : IsGrown cmp code v.records (with_value v.records a value)
-        grown = record { class = λ q. refl; tail = omega arith; safe = omega arith; kept = λ q b low still. kept q b still; places = λ p h. h }
+        grown : IsGrown keeps cmp code v.records (with_value v.records a value)
+        grown = record {
+          class = λ q. refl;
+          tail = omega arith;
+          safe = omega arith;
+          head = omega arith;
+          begin = refl;
+          from = omega arith;
+          kept = λ keeps q b low still. kept q b still;
+          same_class = λ q b low begun o. record { entry = o.entry; here = entry_at-elsewhere a value v.records.text b (λ same. omega arith) ∙ o.here; class = o.class };
+          places = λ p h. h;
+        }
+
+-- a session stays where the regions that the records have followed have it
+pub slots-moved : {K V : Type 0} {keeps : Bool} (old new : RecordsView K V) (regions : RegionsView) (t : ℕ) → IsMoved keeps regions old new → is_session regions.epochs.slots t ≡ true → is_session new.regions.epochs.slots t ≡ true
+slots-moved old new regions t m h = ap (λ (w : RecordsView _ _). is_session w.regions.epochs.slots t) m.is ∙ h

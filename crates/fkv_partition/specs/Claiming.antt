@@ -5,7 +5,7 @@ use Rattle.fkv_index.specs.declared.places.Place.{Place}
 use Rattle.fkv_index.specs.Words.{tentative_word, is_tentative}
 use Rattle.fkv_index.specs.Places.{word_at}
 use Rattle.fkv_operations.specs.After.{key_of}
-use Rattle.fkv_operations.specs.RecordsViews.{RecordsView, class_in, Claims}
+use Rattle.fkv_lookups.specs.RecordsViews.{RecordsView, class_in, Claims}
 use Rattle.fkv_operations.specs.declared.classes.Class.{Class}
 use Rattle.fkv_partition.specs.declared.contexts.Context.{Context}
 use Rattle.fkv_partition.specs.declared.contexts.Phase.TheVariants.{Confirm}

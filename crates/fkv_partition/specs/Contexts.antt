@@ -8,7 +8,8 @@ use Rattle.fkv_operations.specs.declared.operations.Op.{Op}
 use Rattle.fkv_operations.specs.declared.operations.Op.TheVariants.{Read, Upsert, Rmw, Delete}
 use Rattle.fkv_partition.specs.declared.contexts.Context.{Context}
 use Rattle.fkv_partition.specs.declared.contexts.Phase.{Phase}
-use Rattle.fkv_partition.specs.declared.contexts.Phase.TheVariants.{Fresh, Confirm, Prepared}
+use Rattle.fkv_partition.specs.declared.contexts.Phase.TheVariants.{Fresh, Confirm, Prepared, Load}
+use Rattle.fkv_partition.specs.declared.contexts.Loading.{Loading}
 
 -- what stands at a place of a list of places
 abbrev pub joined : {A : Type 0} → Option (Option A) → Option A
@@ -33,6 +34,7 @@ at_phase x phase = record { number = x.number; op = x.op; phase = phase }
 abbrev pub question_by : {K V I : Type 0} → ℕ → Op K V I → Phase V → Option (IndexEntry × Ask K V I)
 question_by n op Fresh = None
 question_by n op (Confirm p) = None
+question_by n op (Load l) = None
 question_by n (Read k i) (Prepared e s) = None
 question_by n (Upsert k v) (Prepared e s) = None
 question_by n (Delete k) (Prepared e s) = None
@@ -46,6 +48,19 @@ abbrev pub claim_by : {V : Type 0} → Phase V → Option Place
 claim_by Fresh = None
 claim_by (Confirm p) = Some p
 claim_by (Prepared e s) = None
+claim_by (Load l) = None
+
+-- the look-up that goes on in a page which an operation waits for
+abbrev pub loading_by : {V : Type 0} → Phase V → Option Loading
+loading_by Fresh = None
+loading_by (Confirm p) = None
+loading_by (Prepared e s) = None
+loading_by (Load l) = Some l
+
+-- the same of an open operation, if there is one
+abbrev pub loading_of : {K V I : Type 0} → Option (Context K V I) → Option Loading
+loading_of None = None
+loading_of (Some x) = loading_by x.phase
 
 abbrev pub claim_of : {K V I : Type 0} → Option (Context K V I) → Option Place
 claim_of None = None

@@ -1,5 +1,5 @@
 -- The effect of an event on the live map, and on what the contexts ask.
-use Rattle.std.specs.Prelude.{◌≡◌, ◌≢◌, ℕ, ◌⊎◌, Option, Some, None, option_map}
+use Rattle.std.specs.Prelude.{◌≡◌, ◌≢◌, Bool, IsTrue, ℕ, ◌⊎◌, Option, Some, None, option_map}
 use Rattle.std.specs.declared.cmp.Ordering.{Ordering}
 use Rattle.fkv_functions.specs.Meanings.{Meanings}
 use Rattle.fkv_functions.specs.Plain.{PlainMap, Same}
@@ -8,7 +8,7 @@ use Rattle.fkv_operations.specs.declared.operations.Op.{Op}
 use Rattle.fkv_operations.specs.declared.operations.Op.TheVariants.{Rmw}
 use Rattle.fkv_partition.specs.declared.contexts.Context.{Context}
 use Rattle.fkv_partition.specs.declared.contexts.Progress.{Progress}
-use Rattle.fkv_partition.specs.declared.contexts.Progress.TheVariants.{Done, Next, NeedsBuild, Waits}
+use Rattle.fkv_partition.specs.declared.contexts.Progress.TheVariants.{Done, Next, NeedsBuild, NeedsLoad, Waits}
 use Rattle.fkv_partition.specs.Views.{PartitionView, context_at, live_of, partition_of}
 
 -- what an open context asks: the moment of its issue, and its operation
@@ -24,8 +24,8 @@ asked v slot c = option_map asked_by (context_at v slot c)
 
 -- the effect of an event at this moment, of a context that asked `x` and then asks `is`: a Done does exactly the one
 -- operation and answers as the plain map does just before, and anything else leaves the live map
-abbrev pub HasEffect : {K V I O : Type 0} → (K → K → Ordering) → Meanings K V I O → PlainMap K V → PlainMap K V → ℕ
-    → Asked K V I → Option (Asked K V I) → Progress K V I O → Type 0
+abbrev pub HasEffect : {K V I O R : Type 0} → (K → K → Ordering) → Meanings K V I O → PlainMap K V → PlainMap K V → ℕ
+    → Asked K V I → Option (Asked K V I) → Progress K V I O R → Type 0
 HasEffect cmp f m m' now x is (Done a effect) =
     (is ≡ None)
     × (effect ≡ now)
@@ -33,6 +33,7 @@ HasEffect cmp f m m' now x is (Done a effect) =
     × (a ≡ answer f m x.op)
 HasEffect cmp f m m' now x is Next = (is ≡ Some x) × Same m' m
 HasEffect cmp f m m' now x is (Waits why) = (is ≡ Some x) × Same m' m
+HasEffect cmp f m m' now x is (NeedsLoad r a) = (is ≡ Some x) × Same m' m
 HasEffect cmp f m m' now x is (NeedsBuild ask) =
     (is ≡ Some x)
     × Same m' m
@@ -48,11 +49,11 @@ pub record LeavesOthers {K V I : Type 0} (old new : PartitionView K V I) (slot c
   pub regions : new.records.regions ≡ old.records.regions
   pub moment : new.moment ≡ now
 
--- a session is entered, refreshed or left, or the read-only offset moves: no context asks anything else, and the text
--- stays
-pub record IsQuiet {K V I : Type 0} (old new : PartitionView K V I) (now : ℕ) : Type 0 where
+-- a session is entered, refreshed or left, an offset moves, or a page is flushed: no context asks anything else, and the
+-- text stays, where the device keeps
+pub record IsQuiet {K V I : Type 0} (keeps : Bool) (old new : PartitionView K V I) (now : ℕ) : Type 0 where
   pub same : (s d : ℕ) → asked new s d ≡ asked old s d
-  pub text : new.records.text ≡ old.records.text
+  pub text : IsTrue keeps → new.records.text ≡ old.records.text
   pub number : new.number ≡ old.number
   pub count : new.count ≡ old.count
   pub begin : new.records.begin ≡ old.records.begin
@@ -68,8 +69,8 @@ pub record IsIssue {K V I : Type 0} (code : K → ℕ) (old new : PartitionView 
   pub frame : LeavesOthers old new slot c now
 
 -- an event of one context
-pub record IsEvent {K V I O : Type 0} (cmp : K → K → Ordering) (f : Meanings K V I O) (old new : PartitionView K V I)
-    (slot c now : ℕ) (progress : Progress K V I O) : Type 0 where
+pub record IsEvent {K V I O R : Type 0} (cmp : K → K → Ordering) (f : Meanings K V I O) (old new : PartitionView K V I)
+    (slot c now : ℕ) (progress : Progress K V I O R) : Type 0 where
   pub question : Asked K V I
   pub was : asked old slot c ≡ Some question
   pub effect : HasEffect cmp f (live_of cmp old) (live_of cmp new) now question (asked new slot c) progress

@@ -1,33 +1,33 @@
 -- What `leave` and `give_up` do: a rule for each case, in the order of the tests.
-use Rattle.std.specs.Prelude.{◌≡◌, false, ℕ, Some, None, Result, Ok, Err}
+use Rattle.std.specs.Prelude.{◌≡◌, Bool, false, ℕ, Some, None, Result, Ok, Err}
 use Rattle.fkv_functions.specs.declared.refusals.Refused.{Refused}
 use Rattle.fkv_functions.specs.declared.refusals.Refused.TheVariants.{Unknown, Busy}
 use Rattle.fkv_partition.specs.declared.contexts.Context.{Context}
 use Rattle.fkv_index.specs.declared.places.Place.{Place}
-use Rattle.fkv_operations.specs.RecordsViews.{released}
+use Rattle.fkv_lookups.specs.RecordsViews.{released}
 use Rattle.fkv_partition.specs.declared.contexts.Phase.TheVariants.{Confirm}
 use Rattle.fkv_regions.specs.RegionsView.{left}
 use Rattle.fkv_partition.specs.Contexts.{is_session, claim_by}
 use Rattle.fkv_partition.specs.Beginning.{IsEntered}
-use Rattle.fkv_partition.specs.Views.{PartitionView, context_at, slots_of, with_context, in_regions, open_context}
+use Rattle.fkv_partition.specs.Views.{PartitionView, context_at, slots_of, with_context, open_context, MovesTo}
 
-pub data Leaves {K V I : Type 0} (old new : PartitionView K V I) (slot now : ℕ)
+pub data Leaves {K V I : Type 0} (keeps : Bool) (old new : PartitionView K V I) (slot now : ℕ)
     (result : Result (Unit {0}) Refused) : Type 0 where
   unknown : is_session (slots_of old) slot ≡ false
       → new ≡ old
       → result ≡ Err Unknown
-      → Leaves old new slot now result
+      → Leaves keeps old new slot now result
   busy : (c : ℕ)
       → IsEntered old slot
       → open_context old slot ≡ Some c
       → new ≡ old
       → result ≡ Err Busy
-      → Leaves old new slot now result
+      → Leaves keeps old new slot now result
   leaves : IsEntered old slot
       → open_context old slot ≡ None
-      → new ≡ in_regions old (left old.records.regions slot) now
+      → MovesTo keeps (left old.records.regions slot) old new now
       → result ≡ Ok tt
-      → Leaves old new slot now result
+      → Leaves keeps old new slot now result
 
 pub data GivesUp {K V I : Type 0} (old new : PartitionView K V I) (slot c now : ℕ)
     (result : Result (Unit {0}) Refused) : Type 0 where

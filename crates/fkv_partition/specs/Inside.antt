@@ -1,12 +1,14 @@
 -- The fields behind a `PartitionView`.
-use Rattle.fkv_partition.specs.declared.partitions.Partition.TheInside.{Inside}
+use Rattle.std.specs.Prelude.{ℕ, List, Option}
+use Rattle.fkv_lookups.specs.RecordsViews.{RecordsView}
+use Rattle.fkv_partition.specs.declared.contexts.Context.{Context}
 use Rattle.fkv_partition.specs.Views.{PartitionView}
 
-abbrev pub view_of : {F K V I O : Type 0} → Inside F K V I O → PartitionView K V I
-view_of p = record {
-  number = p.number;
-  count = p.count;
-  records = p.records;
-  contexts = p.contexts.items;
-  moment = p.moment;
+abbrev pub view_of : {K V I : Type 0} → ℕ → ℕ → RecordsView K V → List (Option (Context K V I)) → ℕ → PartitionView K V I
+view_of number count records contexts moment = record {
+  number = number;
+  count = count;
+  records = records;
+  contexts = contexts;
+  moment = moment;
 }

@@ -4,16 +4,17 @@ use Rattle.std.specs.declared.cmp.Ordering.{Ordering}
 use Rattle.fkv_functions.specs.Meanings.{Meanings, updated}
 use Rattle.fkv_functions.specs.declared.asks.Ask.{Ask}
 use Rattle.fkv_functions.specs.declared.refusals.Refused.{Refused}
-use Rattle.fkv_functions.specs.declared.refusals.Refused.TheVariants.{Unknown, NotReady, Stranger, Worn, NoMemory}
+use Rattle.fkv_functions.specs.declared.refusals.Refused.TheVariants.{Unknown, NotReady, Stranger, Worn}
 use Rattle.fkv_functions.specs.declared.refusals.What.TheVariants.{Built}
-use Rattle.fkv_records.specs.Places.{offset_at}
+use Rattle.fkv_lookups.specs.RecordsViews.{IsFull}
 use Rattle.fkv_index.specs.Places.{word_at}
 use Rattle.fkv_operations.specs.declared.entries.IndexEntry.{IndexEntry}
 use Rattle.fkv_operations.specs.declared.operations.Answer.TheVariants.{Value}
 use Rattle.fkv_partition.specs.declared.contexts.Context.{Context}
 use Rattle.fkv_partition.specs.declared.contexts.Phase.TheVariants.{Fresh}
 use Rattle.fkv_partition.specs.declared.contexts.Progress.{Progress}
-use Rattle.fkv_partition.specs.declared.contexts.Progress.TheVariants.{Done, Next}
+use Rattle.fkv_partition.specs.declared.contexts.Progress.TheVariants.{Done, Next, Waits}
+use Rattle.fkv_partition.specs.declared.contexts.Wait.TheVariants.{Full}
 use Rattle.fkv_partition.specs.Contexts.{question_in, at_phase}
 use Rattle.fkv_partition.specs.Views.{PartitionView, context_at, with_context, with_appended}
 
@@ -23,9 +24,9 @@ pub record Asks {K V I : Type 0} (v : PartitionView K V I) (slot c : ℕ) (kept 
   pub here : context_at v slot c ≡ Some operation
   pub question : question_in operation ≡ Some (kept, ask)
 
-pub data Installs {K V I O : Type 0} (cmp : K → K → Ordering) (f : Meanings K V I O) (code : K → ℕ)
+pub data Installs {K V I O R : Type 0} (cmp : K → K → Ordering) (f : Meanings K V I O) (code : K → ℕ)
     (old new : PartitionView K V I) (slot c : ℕ) (ask : Ask K V I) (now : ℕ)
-    (result : Result (Progress K V I O) Refused) : Type 0 where
+    (result : Result (Progress K V I O R) Refused) : Type 0 where
   -- nothing is open there
   unknown : context_at old slot c ≡ None
       → new ≡ old
@@ -63,15 +64,14 @@ pub data Installs {K V I O : Type 0} (cmp : K → K → Ordering) (f : Meanings 
       → new ≡ old
       → result ≡ Err Worn
       → Installs cmp f code old new slot c ask now result
-  -- the record would be the first of a page, and memory is refused
-  unheld : (x : Context K V I) (e : IndexEntry)
+  -- there is no room for a record: the update stays as it is
+  full : (x : Context K V I) (e : IndexEntry)
       → context_at old slot c ≡ Some x
       → question_in x ≡ Some (e, ask)
       → word_at old.records.words e.place ≡ e.word
-      → old.records.tail ≢ 2 ^ 48
-      → offset_at old.records.page_bits old.records.tail ≡ 0
-      → new ≡ old
-      → result ≡ Err NoMemory
+      → IsFull old.records
+      → new ≡ record old { moment = now }
+      → result ≡ Ok (Waits Full)
       → Installs cmp f code old new slot c ask now result
   -- the new value is appended, the entry moves to it, and the answer shows it
   done : (x : Context K V I) (e : IndexEntry)
@@ -79,6 +79,7 @@ pub data Installs {K V I O : Type 0} (cmp : K → K → Ordering) (f : Meanings 
       → question_in x ≡ Some (e, ask)
       → word_at old.records.words e.place ≡ e.word
       → old.records.tail ≢ 2 ^ 48
+      → (IsFull old.records → ⊥)
       → new ≡ with_appended old slot c e ask.key (Some (updated f ask.key ask.input ask.source)) now
       → result ≡ Ok (Done (Value (f.shown ask.key ask.input (updated f ask.key ask.input ask.source))) now)
       → Installs cmp f code old new slot c ask now result

@@ -8,8 +8,10 @@ pub mod Going
 pub mod Installing
 pub mod Claiming
 pub mod Sound
-pub mod Alone
 pub mod Beginning
 pub mod Ending
-pub mod Looking
+pub mod Pending
 pub mod Frozen
+pub mod Looking
+pub mod Loading
+pub mod Flushing

@@ -1,20 +1,25 @@
 -- What a contract sees of a partition.
-use Rattle.std.specs.Prelude.{◌+◌, ◌*◌, ◌%◌, ◌^◌, ℕ, List, Option, None, replicate, slice_set, slice_range, position, is_none, is_some}
+use Rattle.std.specs.Prelude.{◌≡◌, Bool, ◌+◌, ◌*◌, ◌%◌, ◌^◌, ℕ, List, Option, Some, None, replicate, slice_set, slice_range, position, is_none, is_some}
 use Rattle.std.specs.declared.cmp.Ordering.{Ordering}
 use Rattle.fkv_functions.specs.Plain.{PlainMap}
 use Rattle.fkv_epoch.specs.Moves as epochs
 use Rattle.fkv_regions.specs.declared.offsets.View.{View}
 use Rattle.fkv_regions.specs.Offsets.{view_at}
 use Rattle.fkv_regions.specs.RegionsView.{RegionsView}
-use Rattle.fkv_texts.specs.Text.{last_of, live}
+use Rattle.fkv_texts.specs.Text.{live}
 use Rattle.fkv_operations.specs.declared.entries.IndexEntry.{IndexEntry}
-use Rattle.fkv_operations.specs.RecordsViews.{RecordsView, empty_records, class_in, entry_of, found_in}
-use Rattle.fkv_operations.specs.RecordsViews.{with_record, with_value, with_regions}
-use Rattle.fkv_operations.specs.Decisions.{met_by}
-use Rattle.fkv_operations.specs.declared.decisions.Met.{Met}
+use Rattle.fkv_lookups.specs.RecordsViews.{RecordsView, empty_records, class_in, entry_of, found_in}
+use Rattle.fkv_lookups.specs.RecordsViews.{with_record, with_value, with_regions, IsMoved}
+use Rattle.fkv_lookups.specs.Meeting as meeting
+use Rattle.fkv_lookups.specs.Lookups.{looked_up}
+use Rattle.fkv_lookups.specs.Decisions.{low_of}
+use Rattle.fkv_texts.specs.declared.entries.Reached.{Reached}
+use Rattle.fkv_texts.specs.declared.entries.Reached.TheVariants.{Below}
+use Rattle.fkv_lookups.specs.declared.decisions.Met.{Met}
 use Rattle.fkv_partition.specs.declared.contexts.Context.{Context}
+use Rattle.fkv_partition.specs.declared.contexts.Loading.{Loading}
 use Rattle.fkv_partition.specs.declared.limits.Config.{Config}
-use Rattle.fkv_partition.specs.Contexts.{context_in}
+use Rattle.fkv_partition.specs.Contexts.{context_in, loading_of}
 
 -- a partition: its number among how many; its records with the entries of their classes, the regions of their log and
 -- its sessions; the open operations of these; and its last moment
@@ -30,7 +35,7 @@ abbrev pub empty_partition : {K V I : Type 0} → Config → ℕ → ℕ → Par
 empty_partition config record_size number = record {
   number = number;
   count = 2 ^ config.partition_bits;
-  records = empty_records config.partition_bits config.bucket_bits config.page_bits record_size;
+  records = empty_records config.partition_bits config.bucket_bits config.page_bits record_size config.frames;
   contexts = replicate 128 None;
   moment = 0;
 }
@@ -60,11 +65,22 @@ seen_at v slot = view_at v.records.regions.views slot
 
 -- what the session at a slot meets when it looks a key up
 abbrev pub met_at : {K V I : Type 0} → (K → K → Ordering) → (K → ℕ) → PartitionView K V I → ℕ → K → Met V
-met_at cmp code v slot k = met_by (entry_for code v k) (seen_at v slot) (last_of cmp v.records.text k)
+met_at cmp code v slot k = meeting.met_at cmp code v.records (seen_at v slot) k
+
+-- what its look-up comes to in memory, with the address to which the entry of the key's class leads
+abbrev pub reached_from : {K V I : Type 0} → (K → K → Ordering) → (K → ℕ) → PartitionView K V I → ℕ → K → Option ℕ
+    → Reached K V
+reached_from cmp code v slot k None = Below 1
+reached_from cmp code v slot k (Some a) =
+    looked_up cmp code v.records (low_of v.records.begin (seen_at v slot)) k a
 
 -- the operation that is open in a context of an entered session
 abbrev pub context_at : {K V I : Type 0} → PartitionView K V I → ℕ → ℕ → Option (Context K V I)
 context_at v slot c = context_in (slots_of v) v.contexts slot c
+
+-- the look-up in which it waits for a page
+abbrev pub loading_at : {K V I : Type 0} → PartitionView K V I → ℕ → ℕ → Option Loading
+loading_at v slot c = loading_of (context_at v slot c)
 
 -- the view with this operation, or none, in a context, at another moment
 abbrev pub with_context : {K V I : Type 0} → PartitionView K V I → ℕ → ℕ → Option (Context K V I) → ℕ
@@ -97,3 +113,9 @@ free_context v slot = position is_none (slice_range v.contexts (slot * 8) (slot 
 -- the lowest open context of a slot
 abbrev pub open_context : {K V I : Type 0} → PartitionView K V I → ℕ → Option ℕ
 open_context v slot = position is_some (slice_range v.contexts (slot * 8) (slot * 8 + 8))
+
+-- the regions have become these, and the records followed
+pub record MovesTo {K V I : Type 0} (keeps : Bool) (regions : RegionsView) (old new : PartitionView K V I) (now : ℕ)
+    : Type 0 where
+  pub moves : IsMoved keeps regions old.records new.records
+  pub is : new ≡ record old { records = new.records; moment = now }

@@ -1,6 +1,6 @@
 -- Records that are to be appended.
 use Rattle.std.specs.Prelude.{◌≡◌, ℕ}
-use Rattle.fkv_operations.specs.RecordsViews.{class_in, IsEntryOf}
+use Rattle.fkv_lookups.specs.RecordsViews.{class_in, IsEntryOf}
 use Rattle.fkv_partition.specs.declared.changes.Write.{Write}
 use Rattle.fkv_partition.specs.Views.{PartitionView, partition_of}
 

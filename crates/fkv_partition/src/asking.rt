@@ -1,12 +1,15 @@
 //! What an open operation is.
-ghost use Rattle.std.specs.Prelude.{◌≡◌, Some, None, IfOk, IfErr};
+ghost use Rattle.std.specs.Prelude.{◌≡◌, Some, None, is_some, IfOk, IfErr};
 ghost use Rattle.fkv_partition.specs.Effect.{asked};
+ghost use Rattle.fkv_partition.specs.Views.{loading_at};
 
+use crate::contexts::loading_of;
 use crate::partitions::Partition;
+use fkv_device::Disk;
 use fkv_functions::{Functions, Refused};
 use fkv_operations::OpOf;
 
-impl<F: Functions> Partition<F> {
+impl<F: Functions, D: Disk> Partition<F, D> {
     /// The operation that is open in a context, after its number, which is the moment of its issue.
     /// Refused: `Unknown` where none is open there.
     pub fn asked(&self, slot: usize, context: usize) -> Result<(u64, OpOf<F>), Refused>
@@ -18,5 +21,15 @@ impl<F: Functions> Partition<F> {
             return Err(Refused::Unknown);
         };
         Ok((open.number, open.op))
+    }
+
+    /// Whether the operation in a context waits for a page.
+    pub fn awaits_page(&self, slot: usize, context: usize) -> bool
+        ensures { result ≡ is_some (loading_at self.now slot context) }
+    {
+        match self.open(slot, context) {
+            None => false,
+            Some(open) => loading_of(&open.phase).is_some(),
+        }
     }
 }

@@ -1,28 +1,28 @@
 //! What events change of a partition. Each change keeps what every partition keeps, and says what it leaves.
-ghost use Rattle.std.specs.Prelude.{◌≡◌, ◌+◌, ◌*◌, ◌^◌, ◌<◌, ◌≤◌, ◌↔◌, ◌⊎◌, false, IsSome, IsTrue, Some, None, Err, IfErr, OnOk, OnErr};
+ghost use Rattle.std.specs.Prelude.{◌≡◌, ◌+◌, ◌*◌, ◌^◌, ◌<◌, ◌≤◌, ◌↔◌, false, IsSome, IsTrue, Some, None, Ok, Err, IfSome, IfOk, IfErr, OnOk, OnErr};
 ghost use Rattle.std.specs.List.{list_any};
 ghost use Rattle.std.specs.Bool.{OnTrue, OnFalse};
-ghost use Rattle.fkv_records.specs.Places.{offset_at};
 ghost use Rattle.fkv_index.specs.Words.{is_empty};
 ghost use Rattle.fkv_index.specs.Places.{words_of};
 ghost use Rattle.fkv_index.specs.Entries.{IsAlone};
 ghost use Rattle.fkv_operations.specs.After.{key_of};
 ghost use Rattle.fkv_operations.specs.Classes.{IsClass};
-ghost use Rattle.fkv_operations.specs.RecordsViews.{class_in, confirmed, released};
+ghost use Rattle.fkv_lookups.specs.RecordsViews.{class_in, confirmed, released, IsFull};
 ghost use Rattle.fkv_partition.specs.Contexts.{at_phase, claim_by, claim_at};
 ghost use Rattle.fkv_partition.specs.Claiming.{IsClaimed};
 ghost use Rattle.fkv_regions.specs.RegionsView.{left};
 ghost use Rattle.fkv_texts.specs.Text.{value_at};
-ghost use Rattle.fkv_partition.specs.Views.{context_at, in_regions, open_context, partition_of, with_context, with_appended, with_replaced};
+ghost use Rattle.fkv_partition.specs.Views.{context_at, open_context, MovesTo, partition_of, with_context, with_appended, with_replaced};
 ghost use Rattle.fkv_partition.specs.Sound.{StandsFor};
 ghost use Rattle.fkv_partition.specs.Beginning.{IsEntered};
 ghost use Rattle.fkv_partition.specs.Writes.{IsWrite};
 
 use crate::contexts::{Context, ContextOf, Phase, in_phase, set_context};
 use crate::partitions::Partition;
+use fkv_device::Disk;
 use fkv_functions::{Functions, Refused};
 use fkv_index::Place;
-use fkv_operations::laws::{records_change, records_grow};
+use fkv_lookups::laws::{records_change, records_grow};
 use fkv_operations::{Class, IndexEntry, OpOf};
 use fkv_records::Address;
 
@@ -36,7 +36,7 @@ pub(crate) struct Write<K, V> {
     pub value: Option<V>,
 }
 
-impl<F: Functions> Partition<F> {
+impl<F: Functions, D: Disk> Partition<F, D> {
     /// A moment passes, and nothing else changes.
     pub(crate) fn pass(&mut self, now: u64)
         ensures { self.new ≡ record self.old { moment = now } }
@@ -88,7 +88,7 @@ impl<F: Functions> Partition<F> {
         requires here { context_at self.old slot context ≡ Some operation.now }
         requires unclaimed { claim_by operation.now.phase ≡ None }
         requires claims_nothing { claim_by phase ≡ None }
-        requires stands { StandsFor F.Key.cmp F.code self.old.records operation.now.op phase }
+        requires stands { StandsFor D.keeps F.Key.cmp F.code self.old.records operation.now.op phase }
         ensures { self.new ≡ with_context self.old slot context (Some (at_phase operation.now phase)) now }
     {
         self.moment = now;
@@ -100,7 +100,7 @@ impl<F: Functions> Partition<F> {
     pub(crate) fn vacate(&mut self, slot: usize, now: u64)
         requires entered { IsEntered self.old slot }
         requires idle { open_context self.old slot ≡ None }
-        ensures { self.new ≡ in_regions self.old (left self.old.records.regions slot) now }
+        ensures { MovesTo D.keeps (left self.old.records.regions slot) self.old self.new now }
     {
         let _left = self.records.leave(slot);
         self.records.known();
@@ -217,35 +217,40 @@ impl<F: Functions> Partition<F> {
     }
 
     /// Appends a record, moves the entry of its class to it, and frees the context, whose operation waits to confirm no
-    /// entry. Refused, and then nothing changes: `Worn` where no address is left, `NoMemory`, which comes only where
-    /// the record would be the first of its page.
+    /// entry. Answers the record's address, or `None` where there is no room for one: then a moment passes, and nothing
+    /// else changes. Refused, and then nothing changes: `Worn` where no address is left.
     pub(crate) fn append(
         &mut self,
         slot: usize,
         context: usize,
         write: Write<F::Key, F::Value>,
         now: u64,
-    ) -> Result<(), Refused>
+    ) -> Result<Option<Address>, Refused>
         requires session { slot < 16 }
         requires context { context < 8 }
         requires unclaimed { claim_at self.old.contexts (slot * 8 + context) ≡ None }
         requires write { IsWrite F.code self.old write }
-        ensures ok { OnOk result
-            (self.new ≡ with_appended self.old slot context write.entry write.key write.value now) }
+        ensures ok { IfOk result (λ o. IfSome o (λ _.
+            self.new ≡ with_appended self.old slot context write.entry write.key write.value now)) }
+        ensures room { (result ≡ Ok None) ↔ IsFull self.old.records }
+        ensures full { result ≡ Ok None → self.new ≡ record self.old { moment = now } }
         ensures worn { (result ≡ Err Refused.Worn) ↔ (self.old.records.tail ≡ 2 ^ 48) }
-        ensures memory { result ≡ Err Refused.NoMemory
-            → offset_at self.old.records.page_bits self.old.records.tail ≡ 0 }
-        ensures only { IfErr result (λ refused. (refused ≡ Refused.Worn) ⊎ (refused ≡ Refused.NoMemory)) }
+        ensures only { IfErr result (λ refused. refused ≡ Refused.Worn) }
         ensures err { OnErr result (self.new ≡ self.old) }
     {
         records_grow::<F::Key, F::Value>();
         match self.records.append(write.entry, write.key, write.value) {
             Err(refused) => return Err(refused),
-            Ok(_address) => (),
+            Ok(None) => {
+                self.moment = now;
+                return Ok(None);
+            }
+            Ok(Some(address)) => {
+                self.records.known();
+                self.moment = now;
+                set_context(&mut self.contexts, slot, context, None);
+                Ok(Some(address))
+            }
         }
-        self.records.known();
-        self.moment = now;
-        set_context(&mut self.contexts, slot, context, None);
-        Ok(())
     }
 }

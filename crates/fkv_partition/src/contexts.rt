@@ -1,10 +1,12 @@
 //! The open operations of a partition: how far each is, and what an event of it answers.
 ghost use Rattle.std.specs.Prelude.{◌≡◌, ◌+◌, ◌*◌, ◌<◌, ◌≤◌, ◌⊎◌, ◌↔◌, length, Option, Some, None, IfSome, IfNone, cond, nat_lt, slice_get, slice_range, slice_set, position, is_none, is_some};
-ghost use Rattle.fkv_partition.specs.Contexts.{joined, at_phase, question_in, claim_by};
+ghost use Rattle.fkv_partition.specs.Contexts.{joined, at_phase, question_in, claim_by, loading_by};
 
-use fkv_functions::{Ask, Functions, Known};
+use fkv_device::Disk;
+use fkv_functions::{Ask, Functions};
 use fkv_index::Place;
 use fkv_operations::{Answer, IndexEntry, Op};
+use fkv_records::Address;
 
 /// How many operations of a session may be open.
 pub const CONTEXTS: usize = 8;
@@ -18,6 +20,21 @@ pub enum Phase<V> {
     Confirm { place: Place },
     /// An update waits for its new value, built from this source; the entry of its key's class then stood so.
     Prepared { kept: IndexEntry, source: Option<V> },
+    /// It waits for a page on the device.
+    Load(Loading),
+}
+
+/// A look-up that goes on in a page on the device.
+#[derive(Clone, Copy)]
+pub struct Loading {
+    /// Begin at the look-up.
+    pub begin: Address,
+    /// The entry of the key's class as it stood then.
+    pub kept: IndexEntry,
+    /// The address whose page is asked for: the key has no record between it and where the entry leads.
+    pub wanted: Address,
+    /// The moment of the look-up.
+    pub looked: u64,
 }
 
 /// An open operation.
@@ -37,14 +54,16 @@ pub type ContextOf<F> = Context<
 >;
 
 /// What an event of an operation answers.
-#[derive(Clone, Copy, PartialEq, Eq, Debug)]
-pub enum Progress<K, V, I, O> {
+#[derive(Drop)]
+pub enum Progress<K, V, I, O, R: Drop> {
     /// The operation is finished with this answer; its effect is at this moment.
     Done(Answer<O>, u64),
     /// The operation is to go on.
     Next,
     /// The operation needs this question answered.
     NeedsBuild(Ask<K, V, I>),
+    /// The operation needs the page of this address, to be read by this receipt.
+    NeedsLoad(R, Address),
     /// The operation can't go on yet, for this reason; it is to be tried again.
     Waits(Wait),
 }
@@ -55,14 +74,18 @@ pub enum Wait {
     /// The last record of its key lies where sessions with an older view may still change it: until these are refreshed
     /// or left, and then its own session is refreshed.
     Fuzzy,
+    /// The next record would begin a page whose frame has one that is not closed: until that page is flushed, Head has
+    /// passed it, and every session is refreshed.
+    Full,
 }
 
-/// The progress of one type of functions.
-pub type ProgressOf<F> = Progress<
+/// The progress of one type of functions on one kind of device.
+pub type ProgressOf<F, D> = Progress<
     <F as Functions>::Key,
     <F as Functions>::Value,
     <F as Functions>::Input,
     <F as Functions>::Output,
+    <D as Disk>::Receipt,
 >;
 
 /// An operation in another phase.
@@ -150,6 +173,17 @@ pub fn claim_of<V>(phase: &Phase<V>) -> Option<Place>
         Phase::Fresh => None,
         Phase::Confirm { place } => Some(*place),
         Phase::Prepared { .. } => None,
+        Phase::Load(_) => None,
+    }
+}
+
+/// The look-up that goes on in a page which an operation waits for.
+pub fn loading_of<V>(phase: &Phase<V>) -> Option<Loading>
+    ensures { result ≡ loading_by phase.now }
+{
+    match phase {
+        Phase::Fresh | Phase::Confirm { .. } | Phase::Prepared { .. } => None,
+        Phase::Load(loading) => Some(*loading),
     }
 }
 
@@ -163,7 +197,7 @@ pub fn question_of<K: Copy, V: Copy, I: Copy>(
     let op = context.op;
     let phase = context.phase;
     match phase {
-        Phase::Fresh | Phase::Confirm { .. } => None,
+        Phase::Fresh | Phase::Confirm { .. } | Phase::Load(_) => None,
         Phase::Prepared { kept, source } => match op {
             Op::Read(_, _) | Op::Upsert(_, _) | Op::Delete(_) => None,
             Op::Rmw(key, input) => Some((

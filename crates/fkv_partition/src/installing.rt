@@ -1,5 +1,5 @@
 //! How a built value becomes the key's.
-ghost use Rattle.std.specs.Prelude.{◌≡◌, ◌<◌, ◌≤◌, Some, IfOk, OnErr};
+ghost use Rattle.std.specs.Prelude.{◌≡◌, ◌<◌, ◌≤◌, Some, IsTrue, IfOk, OnErr};
 ghost use Rattle.fkv_index.specs.Places.{word_at};
 ghost use Rattle.fkv_partition.specs.Contexts.{question_in};
 ghost use Rattle.fkv_partition.specs.Views.{context_at};
@@ -7,18 +7,20 @@ ghost use Rattle.fkv_partition.specs.Installing.{Asks, Installs};
 ghost use Rattle.fkv_partition.specs.Effect.{IsEvent};
 
 use crate::changes::Write;
-use crate::contexts::{ContextOf, Phase, Progress, ProgressOf, question_of};
+use crate::contexts::{Phase, Progress, ProgressOf, Wait, question_of};
 use crate::partitions::Partition;
+use fkv_device::Disk;
 use fkv_functions::{Built, Functions, Refused, What};
-use fkv_operations::laws::{entries_lead, records_grow};
+use fkv_lookups::laws::{entries_lead, records_grow};
 use fkv_operations::{Answer, IndexEntry};
 
-impl<F: Functions> Partition<F> {
+impl<F: Functions, D: Disk> Partition<F, D> {
     /// Appends what was built for an update, where the place of its key's entry still holds the word that it held when
     /// the update asked; else the update is to look again, and the answer is `Next`. Refused, in this order, and then
     /// nothing changes: `Unknown` where no operation is open there, `NotReady` where it asks for nothing
     /// to be built, `Stranger` where this answers another question; where it does, `Worn`
-    /// where no address is left, `NoMemory`.
+    /// where no address is left. Where there is no room for a record, the answer is `Waits`, and the update stays as it
+    /// is.
     pub fn install(
         &mut self,
         slot: usize,
@@ -26,10 +28,10 @@ impl<F: Functions> Partition<F> {
         built: Built<F>,
         functions: &F,
         now: u64,
-    ) -> Result<ProgressOf<F>, Refused>
+    ) -> Result<ProgressOf<F, D>, Refused>
         requires later { self.old.moment < now }
         ensures does { Installs F.Key.cmp F.meaning F.code self.old self.new slot context built now result }
-        ensures event { IfOk result
+        ensures event { IsTrue D.keeps → IfOk result
             (λ progress. IsEvent F.Key.cmp F.meaning self.old self.new slot context now progress) }
         ensures within { IfOk result (λ _. (slot < 16) × (context < 8)) }
         ensures err { OnErr result (self.new ≡ self.old) }
@@ -58,8 +60,8 @@ impl<F: Functions> Partition<F> {
         self.append_built(slot, context, kept, built, functions, now)
     }
 
-    /// Appends what was built for an update, which is then done. Refused, and then nothing changes: `Worn`,
-    /// `NoMemory`.
+    /// Appends what was built for an update, which is then done, or waits where there is no room. Refused, and then
+    /// nothing changes: `Worn`.
     fn append_built(
         &mut self,
         slot: usize,
@@ -68,14 +70,14 @@ impl<F: Functions> Partition<F> {
         built: Built<F>,
         functions: &F,
         now: u64,
-    ) -> Result<ProgressOf<F>, Refused>
+    ) -> Result<ProgressOf<F, D>, Refused>
         requires later { self.old.moment < now }
         requires session { slot < 16 }
         requires context { context < 8 }
         requires asks { Asks self.old slot context kept built }
         requires stands { word_at self.old.records.words kept.place ≡ kept.word }
         ensures does { Installs F.Key.cmp F.meaning F.code self.old self.new slot context built now result }
-        ensures event { IfOk result
+        ensures event { IsTrue D.keeps → IfOk result
             (λ progress. IsEvent F.Key.cmp F.meaning self.old self.new slot context now progress) }
         ensures err { OnErr result (self.new ≡ self.old) }
         ensures moment { self.new.moment ≤ now }
@@ -92,7 +94,8 @@ impl<F: Functions> Partition<F> {
         };
         match self.append(slot, context, write, now) {
             Err(refused) => Err(refused),
-            Ok(()) => {
+            Ok(None) => Ok(Progress::Waits(Wait::Full)),
+            Ok(Some(_address)) => {
                 let shown = functions.read(&ask.key, &ask.input, &value);
                 Ok(Progress::Done(Answer::Value(shown), now))
             }

@@ -1,67 +1,120 @@
-//! How many events an update takes, and what no event changes. Each law is what a function without a body ensures.
-ghost use Rattle.std.specs.Prelude.{◌≡◌, ℕ, false, Some, None, Result, Ok};
+//! What every event leaves of the look-ups that wait for a page, and of the records that are frozen. Each law is what a
+//! function without a body ensures.
+ghost use Rattle.std.specs.Prelude.{◌≡◌, ◌⊎◌, ℕ, Bool, IsTrue, List, Result, Ok, Err};
 ghost use Rattle.std.specs.declared.cmp.Ordering.{Ordering};
 ghost use Rattle.fkv_functions.specs.Meanings.{Meanings};
 ghost use Rattle.fkv_functions.specs.Plain.{IsKeyOrder};
 ghost use Rattle.fkv_functions.specs.declared.asks.Ask.{Ask};
 ghost use Rattle.fkv_functions.specs.declared.refusals.Refused.{Refused};
-ghost use Rattle.fkv_index.specs.declared.places.Place.{Place};
-ghost use Rattle.fkv_index.specs.Words.{is_tentative};
-ghost use Rattle.fkv_index.specs.Places.{word_at};
-ghost use Rattle.fkv_operations.specs.Classes.{IsClass};
-ghost use Rattle.fkv_operations.specs.RecordsViews.{class_in};
-ghost use Rattle.fkv_operations.specs.Traced.{IsTraced};
+ghost use Rattle.fkv_device.specs.Standing.{Standing, Joined};
+ghost use Rattle.fkv_pages.specs.Spelled.{IsEntryIn};
+ghost use Rattle.fkv_operations.specs.After.{key_of};
 ghost use Rattle.fkv_partition.specs.declared.contexts.Progress.{Progress};
-ghost use Rattle.fkv_partition.specs.declared.contexts.Progress.TheVariants.{Next};
-ghost use Rattle.fkv_partition.specs.Views.{PartitionView, entry_for};
+ghost use Rattle.fkv_partition.specs.Views.{PartitionView};
+ghost use Rattle.fkv_operations.specs.declared.operations.Op.{Op};
+ghost use Rattle.fkv_partition.specs.Beginning.{Enters, Issues};
+ghost use Rattle.fkv_partition.specs.Ending.{Leaves, GivesUp};
 ghost use Rattle.fkv_partition.specs.Going.{Goes};
 ghost use Rattle.fkv_partition.specs.Installing.{Installs};
+ghost use Rattle.fkv_partition.specs.Looking.{Refreshes, Shifts, Evicts};
+ghost use Rattle.fkv_partition.specs.Flushing.{Flushes};
+ghost use Rattle.fkv_partition.specs.Loading.{Loads};
+ghost use Rattle.fkv_partition.specs.Effect.{IsGiveUp};
+ghost use Rattle.fkv_partition.specs.Pending.{OthersPend, AllPend, Finds};
 ghost use Rattle.fkv_partition.specs.Frozen.{FrozenStay};
 ghost use Rattle.fkv_partition.specs.Sound.{IsSound};
-ghost use Rattle.fkv_partition.specs.Alone.{IsIssued, AsksLast, Proceeds};
 
-use fkv_operations::laws::{records_change, records_grow, regions_hold};
+use fkv_device::Disk;
+use fkv_functions::Functions;
+use fkv_lookups::laws::{meetings_tell, records_change, records_grow};
 
-/// An update whose events follow its issue with none of another operation between them, and are not refused.
-pub fn updates_alone<K, V, I, O>()
-    // where the entry of its key's class stands, it is done at its second event, in place, or at its third: issued,
-    // asked, installed; or it waits, where the last record of the key is fuzzy by its session's view
-    ensures known { (cmp : K → K → Ordering) (f : Meanings K V I O) (code : K → ℕ) (v w : PartitionView K V I)
-        (slot c now : ℕ) (key : K) (input : I) (a : ℕ) (p : Progress K V I O)
-        → IsIssued v slot c key input
-        → entry_for code v key ≡ Some a
-        → Goes cmp f code v w slot c now (Ok p)
-        → Proceeds cmp f code v w slot c now key p }
-    // where none stands and no entry is tentative, at its fifth: issued, claimed, confirmed, asked, installed
-    ensures first { (cmp : K → K → Ordering) (f : Meanings K V I O) (code : K → ℕ) (v w u t : PartitionView K V I)
-        (slot c m n now : ℕ) (key : K) (input : I) (p q r : Progress K V I O)
-        → IsKeyOrder cmp
-        → IsTraced code v.records
-        → IsClass v.records.bucket_bits (class_in code v.records key)
-        → ((z : Place) → is_tentative (word_at v.records.words z) ≡ false)
-        → IsIssued v slot c key input
-        → entry_for code v key ≡ None
-        → Goes cmp f code v w slot c m (Ok p)
-        → Goes cmp f code w u slot c n (Ok q)
-        → Goes cmp f code u t slot c now (Ok r)
-        → (p ≡ Next) × (q ≡ Next) × AsksLast cmp f code t slot c r }
+/// On a device that keeps, what a look-up that waits for a page is to find stays, whatever other operations do and
+/// however pages move.
+pub fn pendings_stay<K, V, I, O, R>()
+    ensures goes { (keeps : Bool) (stands : R → Standing) (cmp : K → K → Ordering) (f : Meanings K V I O) (code : K → ℕ)
+        (old new : PartitionView K V I) (slot c now : ℕ) (result : Result (Progress K V I O R) Refused)
+        → IsTrue keeps → IsKeyOrder cmp → IsSound keeps cmp code old
+        → Goes stands cmp f code old new slot c now result
+        → OthersPend cmp old new slot c }
+    // where a page is asked for, it is to find what the live map says of the key at that moment, and nothing else is to be
+    // found
+    ensures finds { (keeps : Bool) (stands : R → Standing) (cmp : K → K → Ordering) (f : Meanings K V I O) (code : K → ℕ)
+        (old new : PartitionView K V I) (slot c now : ℕ) (progress : Progress K V I O R)
+        → IsKeyOrder cmp → IsSound keeps cmp code old
+        → Goes stands cmp f code old new slot c now (Ok progress)
+        → Finds cmp old new slot c now progress }
+    ensures installs { (keeps : Bool) (cmp : K → K → Ordering) (f : Meanings K V I O) (code : K → ℕ)
+        (old new : PartitionView K V I) (slot c : ℕ) (ask : Ask K V I) (now : ℕ)
+        (result : Result (Progress K V I O R) Refused)
+        → IsTrue keeps → IsSound keeps cmp code old
+        → Installs cmp f code old new slot c ask now result
+        → OthersPend cmp old new slot c }
+    ensures built { (cmp : K → K → Ordering) (f : Meanings K V I O) (code : K → ℕ)
+        (old new : PartitionView K V I) (slot c : ℕ) (ask : Ask K V I) (now : ℕ) (progress : Progress K V I O R)
+        → Installs cmp f code old new slot c ask now (Ok progress)
+        → Finds cmp old new slot c now progress }
+    ensures refreshes { (keeps : Bool) (cmp : K → K → Ordering) (old new : PartitionView K V I) (slot now : ℕ)
+        (result : Result (Unit {0}) Refused)
+        → IsTrue keeps → Refreshes keeps old new slot now result → AllPend cmp old new }
+    ensures shifts { (keeps : Bool) (cmp : K → K → Ordering) (old new : PartitionView K V I) (page now : ℕ)
+        (result : Result (Unit {0}) Refused)
+        → IsTrue keeps → Shifts keeps old new page now result → AllPend cmp old new }
+    ensures evicts { (keeps : Bool) (cmp : K → K → Ordering) (old new : PartitionView K V I) (page now : ℕ)
+        (result : Result (Unit {0}) Refused)
+        → IsTrue keeps → Evicts keeps old new page now result → AllPend cmp old new }
+    ensures flushes { (cmp : K → K → Ordering) (old new : PartitionView K V I) (s : Standing) (bytes : List ℕ) (now : ℕ)
+        (result : Result (Unit {0}) Refused)
+        → Flushes old new s bytes now result → AllPend cmp old new }
+    ensures enters { (keeps : Bool) (cmp : K → K → Ordering) (code : K → ℕ) (old new : PartitionView K V I) (now : ℕ)
+        (result : Result ℕ Refused)
+        → IsSound keeps cmp code old → Enters old new now result → AllPend cmp old new }
+    ensures leaves { (keeps : Bool) (cmp : K → K → Ordering) (old new : PartitionView K V I) (slot now : ℕ)
+        (result : Result (Unit {0}) Refused)
+        → IsTrue keeps → Leaves keeps old new slot now result → AllPend cmp old new }
+    // an operation that was just issued has not looked yet
+    ensures issues { (cmp : K → K → Ordering) (code : K → ℕ) (old new : PartitionView K V I) (slot : ℕ) (op : Op K V I)
+        (now : ℕ) (result : Result ℕ Refused)
+        → Issues code old new slot op now result → AllPend cmp old new }
+    ensures gives_up { (cmp : K → K → Ordering) (old new : PartitionView K V I) (slot c now : ℕ)
+        (result : Result (Unit {0}) Refused)
+        → GivesUp old new slot c now result → OthersPend cmp old new slot c }
+{
+    records_grow::<K, V>();
+    records_change::<K, V>();
+    meetings_tell::<K, V>();
+}
+
+/// A load leaves what the others are to find; one that fails changes nothing, or ends the operation that it was for,
+/// without effect.
+pub fn loads_end<F: Functions, D: Disk>()
+    ensures loads { (old new : PartitionView F.Key F.Value F.Input) (slot c : ℕ) (came : Result (Joined D.Receipt) Refused)
+        (now : ℕ) (result : Result (Progress F.Key F.Value F.Input F.Output D.Receipt) Refused)
+        → Loads D.Receipt.stands (IsEntryIn F.Key.bytes_of F.Value.bytes_of F.Key.is_known F.Value.is_known
+        F.Key.SIZE F.Value.SIZE) F.Key.cmp F.meaning old new slot c came now result
+        → OthersPend F.Key.cmp old new slot c }
+    ensures fails { (old new : PartitionView F.Key F.Value F.Input) (slot c : ℕ) (came : Result (Joined D.Receipt) Refused)
+        (now : ℕ) (why : Refused)
+        → Loads D.Receipt.stands (IsEntryIn F.Key.bytes_of F.Value.bytes_of F.Key.is_known F.Value.is_known
+        F.Key.SIZE F.Value.SIZE) F.Key.cmp F.meaning old new slot c came now (Err why)
+        → (new ≡ old) ⊎ IsGiveUp old new slot c now }
 {}
 
 /// No event of an operation changes a frozen record: one below the safe read-only offset. The other events leave the
-/// whole text.
-pub fn frozen_stay<K, V, I, O>()
-    ensures goes { (cmp : K → K → Ordering) (f : Meanings K V I O) (code : K → ℕ) (old new : PartitionView K V I)
-        (slot c now : ℕ) (result : Result (Progress K V I O) Refused)
-        → IsSound cmp code old
-        → Goes cmp f code old new slot c now result
+/// text, or, on a device that need not keep, drop what it begins with.
+pub fn frozen_stay<K, V, I, O, R>()
+    ensures goes { (keeps : Bool) (stands : R → Standing) (cmp : K → K → Ordering) (f : Meanings K V I O) (code : K → ℕ)
+        (old new : PartitionView K V I) (slot c now : ℕ) (result : Result (Progress K V I O R) Refused)
+        → IsKeyOrder cmp → IsSound keeps cmp code old
+        → Goes stands cmp f code old new slot c now result
         → FrozenStay old new }
-    ensures installs { (cmp : K → K → Ordering) (f : Meanings K V I O) (code : K → ℕ) (old new : PartitionView K V I)
-        (slot c : ℕ) (ask : Ask K V I) (now : ℕ) (result : Result (Progress K V I O) Refused)
-        → IsSound cmp code old
+    ensures installs { (keeps : Bool) (cmp : K → K → Ordering) (f : Meanings K V I O) (code : K → ℕ)
+        (old new : PartitionView K V I) (slot c : ℕ) (ask : Ask K V I) (now : ℕ)
+        (result : Result (Progress K V I O R) Refused)
+        → IsSound keeps cmp code old
         → Installs cmp f code old new slot c ask now result
         → FrozenStay old new }
 {
     records_grow::<K, V>();
     records_change::<K, V>();
-    regions_hold::<K, V, I, O>();
+    meetings_tell::<K, V>();
 }

@@ -4,23 +4,25 @@
 //! (`specs/Views.antt`). The live map is the last record of each key in the text; nothing in that
 //! definition follows an index. Each event changes it by nothing, or by the one operation that it
 //! finishes (`specs/Effect.antt`); what an event does, row by row, stands in `specs/Going.antt` and
-//! `specs/Installing.antt`. No event changes a record below the safe read-only offset (`specs/Frozen.antt`).
+//! `specs/Installing.antt`.
 #![tactic(auto)]
 
 pub mod asking;
 mod changes;
 pub mod contexts;
 pub mod ending;
+pub mod flushing;
 pub mod going;
 pub mod installing;
 pub mod laws;
 pub mod limits;
 pub mod listing;
+pub mod loading;
 mod looking;
 pub mod partitions;
 pub mod regions;
 
-pub use contexts::{Context, Phase, Progress, ProgressOf, Wait};
+pub use contexts::{Context, Loading, Phase, Progress, ProgressOf, Wait};
 pub use limits::Config;
 pub use listing::pairs_of;
 pub use partitions::Partition;

@@ -1,11 +1,14 @@
 //! The live map of a partition as a list.
-ghost use Rattle.std.specs.Prelude.{◌≡◌, All, IfOk, IfErr};
+ghost use Rattle.std.specs.Prelude.{◌≡◌, All, IsTrue, IfOk, IfErr, OnOk, length};
 ghost use Rattle.std.specs.BTreeMap.{is_at};
 ghost use Rattle.std.specs.Map.{lookup, keys_of};
 ghost use Rattle.std.specs.List.Sorted.{IsStrictlySortedBy};
+ghost use Rattle.fkv_records.specs.Places.{page_at};
+ghost use Rattle.fkv_hybrid.specs.Scans.{IsScanRefusal};
 ghost use Rattle.fkv_partition.specs.Views.{live_of, partition_of};
 
 use crate::partitions::Partition;
+use fkv_device::Disk;
 use fkv_functions::{Functions, Refused};
 use std::alloc::Global;
 use std::collections::BTreeMap;
@@ -27,18 +30,28 @@ pub fn pairs_of<K: Ord + Copy + Drop, V: Copy + Drop>(
     Ok(pairs)
 }
 
-impl<F: Functions> Partition<F> {
-    /// The live map: each live key with its value, keys rising. All of them belong to this partition.
-    /// Refused: `NoMemory`.
-    pub fn live(&self, alloc: Global) -> Result<Vec<(F::Key, F::Value)>, Refused>
-        ensures map { IfOk result
+impl<F: Functions, D: Disk> Partition<F, D> {
+    /// The live map: each live key with its value, keys rising. Flushed pages are read from the device, each once, the
+    /// others from their frames. On a device that keeps all keys belong to this partition. Refused: `NoMemory`, or as the
+    /// device refuses a flushed page; `Damaged` where a page's bytes spell no record at a place.
+    pub fn live(
+        &self,
+        alloc: Global,
+        reader: &mut D::Reader,
+    ) -> Result<Vec<(F::Key, F::Value)>, Refused>
+        ensures map { IsTrue D.keeps → IfOk result
             (λ pairs. (q : F.Key) → lookup (is_at (F.Key.cmp q)) pairs.items ≡ live_of F.Key.cmp self.now q) }
         ensures rising { IfOk result (λ pairs. IsStrictlySortedBy F.Key.cmp (keys_of pairs.items)) }
-        ensures own { IfOk result
+        ensures own { IsTrue D.keeps → IfOk result
             (λ pairs. All (λ k. partition_of self.now.count (F.code k) ≡ self.now.number) (keys_of pairs.items)) }
-        ensures only { IfErr result (λ refused. refused ≡ Refused.NoMemory) }
+        ensures steady { OnOk result (D.Reader.failures reader.new ≡ D.Reader.failures reader.old) }
+        ensures refused { IfErr result (IsScanRefusal D.keeps (page_at self.now.records.page_bits self.now.records.begin)
+            (length self.now.records.receipts) (D.Reader.failures reader.old) (D.Reader.failures reader.new)) }
     {
-        let map = self.records.live(alloc)?;
+        let map = match self.records.live(alloc, reader) {
+            Err(refused) => return Err(refused),
+            Ok(map) => map,
+        };
         let _ordered = map.len();
         pairs_of(alloc, &map)
     }

@@ -2,22 +2,25 @@
 ghost use Rattle.std.specs.Prelude.{◌≡◌, ◌<◌, Some, IsTrue, IfSome, option_map};
 ghost use Rattle.fkv_index.specs.Words.{address_of};
 ghost use Rattle.fkv_operations.specs.After.{key_of};
-ghost use Rattle.fkv_operations.specs.Decisions.{decision};
+ghost use Rattle.fkv_lookups.specs.Decisions.{decision};
 ghost use Rattle.fkv_operations.specs.Classes.{IsClass};
-ghost use Rattle.fkv_operations.specs.RecordsViews.{class_in, IsEntryOf};
-ghost use Rattle.fkv_texts.specs.Text.{entry_at, last_of};
+ghost use Rattle.fkv_lookups.specs.RecordsViews.{class_in, IsEntryOf};
 ghost use Rattle.fkv_partition.specs.Contexts.{is_session};
 ghost use Rattle.fkv_partition.specs.Beginning.{IsEntered};
-ghost use Rattle.fkv_partition.specs.Views.{context_at, entry_for, found_for, free_context, met_at, open_context, partition_of, slots_of};
+ghost use Rattle.fkv_partition.specs.Views.{context_at, entry_for, found_for, free_context, met_at, open_context, partition_of, reached_from, slots_of};
 ghost use Rattle.fkv_partition.specs.Sound.{IsSound};
 
 use crate::contexts::{ContextOf, free_context, open_at, open_context};
 use crate::partitions::Partition;
+use fkv_device::Disk;
 use fkv_functions::Functions;
-use fkv_operations::laws::entries_lead;
-use fkv_operations::{Class, DecisionOf, IndexEntry, OpOf, decide, met_by};
+use fkv_lookups::{DecisionOf, decide, low_of, met_by};
+use fkv_operations::{Class, IndexEntry, OpOf};
 use fkv_records::Address;
-use fkv_texts::Entry;
+use fkv_texts::Reached;
+
+/// What leads nowhere.
+const NOWHERE: Address = 1;
 
 /// Where an entry leads.
 fn address_of(entry: &Option<IndexEntry>) -> Option<Address>
@@ -29,10 +32,10 @@ fn address_of(entry: &Option<IndexEntry>) -> Option<Address>
     }
 }
 
-impl<F: Functions> Partition<F> {
-    /// What holds of every partition.
-    pub(crate) fn known(&self)
-        ensures { IsSound F.Key.cmp F.code self.now }
+impl<F: Functions, D: Disk> Partition<F, D> {
+    /// What holds of every partition. It does nothing when it runs.
+    pub fn known(&self)
+        ensures { IsSound D.keeps F.Key.cmp F.code self.now }
     {
         let _moment = self.moment;
     }
@@ -95,40 +98,45 @@ impl<F: Functions> Partition<F> {
         (class, entry)
     }
 
-    /// The last record of a key, by the entry of its class.
-    pub(crate) fn last_record(
+    /// What a look-up of a key comes to, as the session at a slot reads in memory, by the entry of the key's class.
+    pub(crate) fn reach(
         &self,
+        slot: usize,
         key: &F::Key,
         entry: &Option<IndexEntry>,
-    ) -> Option<Entry<F::Key, F::Value>>
-        requires { option_map (λ e. address_of e.word) entry.now ≡ entry_for F.code self.now key.now }
-        ensures last { result ≡ last_of F.Key.cmp self.now.records.text key.now }
-        ensures stands { IfSome result (λ e. entry_at self.now.records.text e.address ≡ Some e) }
+    ) -> Reached<F::Key, F::Value>
+        requires entered { IsEntered self.now slot }
+        requires entry { option_map (λ e. address_of e.word) entry.now ≡ entry_for F.code self.now key.now }
+        ensures { result ≡ reached_from F.Key.cmp F.code self.now slot key.now (entry_for F.code self.now key.now) }
     {
-        entries_lead::<F::Key, F::Value>();
         match address_of(entry) {
-            None => None,
-            Some(address) => self.records.trace(address, key),
+            None => Reached::Below(NOWHERE),
+            Some(address) => {
+                let view = self.records.view(slot);
+                let low = low_of(self.records.begin(), &view);
+                self.records.trace(address, key, low)
+            }
         }
     }
 
-    /// What an operation of the session at a slot does for what it meets: the entry of its key's class, and the last
-    /// record of its key.
+    /// What an operation of the session at a slot does for what it meets: by the entry of its key's class, and by what
+    /// the look-up comes to.
     pub(crate) fn decided(
         &self,
         slot: usize,
         functions: &F,
         op: &OpOf<F>,
         entry: &Option<IndexEntry>,
-        last: &Option<Entry<F::Key, F::Value>>,
+        reached: &Reached<F::Key, F::Value>,
     ) -> DecisionOf<F>
         requires entered { IsEntered self.now slot }
         requires entry { option_map (λ e. address_of e.word) entry.now ≡ entry_for F.code self.now (key_of op.now) }
-        requires last { last.now ≡ last_of F.Key.cmp self.now.records.text (key_of op.now) }
+        requires reached { reached.now ≡ reached_from F.Key.cmp F.code self.now slot (key_of op.now)
+            (entry_for F.code self.now (key_of op.now)) }
         ensures { result ≡ decision F.meaning op.now (met_at F.Key.cmp F.code self.now slot (key_of op.now)) }
     {
         let view = self.records.view(slot);
-        let met = met_by(address_of(entry), &view, last);
+        let met = met_by(address_of(entry), self.records.begin(), &view, reached);
         decide(functions, op, &met)
     }
 }

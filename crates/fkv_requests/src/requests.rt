@@ -20,8 +20,8 @@ ghost use Rattle.fkv_requests.specs.Requests.{
 use clap::builder::ValueParser;
 use clap::error::ErrorKind;
 use clap::{Arg, ArgMatches, Command, Error};
-use fkv_device_partition::Config;
 use fkv_functions::Refused;
+use fkv_partition::Config;
 use std::alloc::{AllocError, Global};
 
 /// The program's version. `fkv_commands` writes it behind the name.

@@ -3,9 +3,9 @@ ghost use Rattle.std.specs.Prelude.{◌≡◌};
 ghost use Rattle.fkv_scripts.specs.Configs.{config_of};
 ghost use Rattle.fkv_scripts.specs.Script.{takes_operation, takes};
 
-use fkv_device_partition::Config;
 use fkv_functions::Name;
 use fkv_operations::Op;
+use fkv_partition::Config;
 use fkv_worlds::steps::{Access, Place};
 
 /// The sets of functions that a script can name.

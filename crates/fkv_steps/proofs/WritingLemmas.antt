@@ -4,7 +4,7 @@ use Rattle.std.specs.Prelude.{◌≢◌, IfSome, IfErr, OnOk, OnErr}
 use Rattle.std.specs.Io.KnownBytes.{Appends}
 use Rattle.fkv_functions.specs.declared.refusals.Refused.{Refused}
 use Rattle.fkv_functions.specs.declared.refusals.Refused.TheVariants.{Unwritable, Unreadable}
-use Rattle.fkv_device_partition.specs.Limits.{IsWithinLimits}
+use Rattle.fkv_partition.specs.Limits.{IsWithinLimits}
 use Rattle.fkv_streams.specs.Counting.{CountsOnly}
 use Rattle.fkv_streams.specs.Streams.{AppendsPrefix}
 use Rattle.fkv_scripts.specs.Configs.{config_of}

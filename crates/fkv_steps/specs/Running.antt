@@ -17,8 +17,8 @@ use Rattle.fkv_device.specs.Standing.{Standing}
 use Rattle.fkv_texts.specs.declared.entries.Entry.{Entry}
 use Rattle.fkv_operations.specs.declared.operations.Op.{Op}
 use Rattle.fkv_operations.specs.declared.operations.Op.TheVariants.{Read, Upsert, Rmw, Delete}
-use Rattle.fkv_device_partition.specs.declared.limits.Config.{Config}
-use Rattle.fkv_device_partition.specs.Limits.{IsWithinLimits}
+use Rattle.fkv_partition.specs.declared.limits.Config.{Config}
+use Rattle.fkv_partition.specs.Limits.{IsWithinLimits}
 use Rattle.fkv_worlds.specs.declared.outcomes.Outcome.{Outcome}
 use Rattle.fkv_worlds.specs.declared.outcomes.Outcome.TheVariants.{Taken, Issued}
 use Rattle.fkv_worlds.specs.declared.steps.Access.{Access}

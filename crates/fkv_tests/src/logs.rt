@@ -1,5 +1,7 @@
-//! Records over three pages, the places at the top, and refused growths. Chains are followed where records are.
-use fkv_functions::{Fixed, Name, Refused};
+//! Records over three pages of four frames, the places at the top, and refused growths. Chains are followed where
+//! records are.
+use fkv_device::MemoryDevice;
+use fkv_functions::{Fixed, Name};
 use fkv_hybrid::Log;
 use fkv_records::{Address, END, Shape, record_size};
 use fkv_texts::Entry;
@@ -13,37 +15,30 @@ const PLACES_OF_48: [u64; 14] = [
 /// Where records of 56 bytes do.
 const PLACES_OF_56: [u64; 11] = [64, 120, 176, 256, 312, 368, 424, 512, 568, 624, 680];
 
-/// A log on pages of 256 bytes, asked for again where memory is refused once.
-fn small_log<V: Fixed>(alloc: Global) -> Option<Log<Name, V>> {
+/// A log on pages of 256 bytes with four frames, asked for again where memory is refused once.
+fn small_log<V: Fixed>(alloc: Global) -> Option<Log<Name, V, MemoryDevice>> {
     let size = record_size::<Name, V>()?;
     let shape = Shape::new(8, size)?;
-    match Log::new(alloc, shape) {
+    match Log::new(alloc, shape, 4) {
         Ok(log) => Some(log),
-        Err(_) => Log::new(alloc, shape).ok(),
+        Err(_) => Log::new(alloc, shape, 4).ok(),
     }
 }
 
-/// Appends a record, again where memory is refused once, which is where its page begins and leaves the log as it
-/// was.
-fn append<V: Fixed>(log: &mut Log<Name, V>, entry: &Entry<Name, V>) -> Option<Address> {
-    let tail = log.tail();
+/// Appends a record, for which there is room.
+fn append<V: Fixed>(
+    log: &mut Log<Name, V, MemoryDevice>,
+    entry: &Entry<Name, V>,
+) -> Option<Address> {
     let previous = entry.previous;
-    if previous != 1 && (previous < 64 || previous >= tail) {
+    if previous != 1 && (previous < 64 || previous >= log.tail()) {
         return None;
     }
-    match log.append(previous, entry.key, entry.value) {
-        Err(Refused::NoMemory) => {
-            if log.tail() != tail || tail % 256 != 0 || log.has_entry(tail) {
-                return None;
-            }
-            log.append(previous, entry.key, entry.value).ok()
-        }
-        told => told.ok(),
-    }
+    log.append(previous, entry.key, entry.value).ok()?
 }
 
 /// Whether this is the entry at its address.
-fn holds<V: Fixed>(log: &Log<Name, V>, wanted: &Entry<Name, V>) -> bool {
+fn holds<V: Fixed>(log: &Log<Name, V, MemoryDevice>, wanted: &Entry<Name, V>) -> bool {
     log.has_entry(wanted.address) && log.record_at(wanted.address) == *wanted
 }
 
@@ -74,7 +69,7 @@ fn entries<V: Fixed>(
 }
 
 /// Whether entries stand at these places up to an address, and at no other address of the first pages.
-fn stands_at<V: Fixed>(log: &Log<Name, V>, places: &[u64], last: Address) -> bool {
+fn stands_at<V: Fixed>(log: &Log<Name, V, MemoryDevice>, places: &[u64], last: Address) -> bool {
     (0..1100u64).all(|any| log.has_entry(any) == (places.contains(&any) && any <= last))
 }
 

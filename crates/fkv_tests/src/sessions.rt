@@ -1,4 +1,5 @@
 //! Sessions of a log: what they see of its regions, and entries that change where they stand.
+use fkv_device::MemoryDevice;
 use fkv_functions::{Name, Refused};
 use fkv_hybrid::Log;
 use fkv_hybrid::laws::frozen_stay;
@@ -25,23 +26,27 @@ enum Call {
 }
 
 /// A log of records of 48 bytes on pages of 256 bytes, up to this tail. The value of each entry is its address.
-fn filled(alloc: Global, tail: Address) -> Option<Log<Name, u64>> {
+fn filled(alloc: Global, tail: Address) -> Option<Log<Name, u64, MemoryDevice>> {
     let key = Name::new(b"some_key")?;
     let size = record_size::<Name, u64>()?;
     let shape = Shape::new(8, size)?;
-    let mut log = Log::new(alloc, shape).ok()?;
+    let mut log = Log::new(alloc, shape, 20).ok()?;
     for _ in 0..tail {
         let address = log.tail();
         if address >= tail {
             break;
         }
-        log.append(NO_RECORD, key, Some(address)).ok()?;
+        log.append(NO_RECORD, key, Some(address)).ok()??;
     }
     Some(log)
 }
 
 /// Changes an entry, where it may be changed.
-fn change(log: &mut Log<Name, u64>, address: Address, value: Option<u64>) -> Result<(), Refused> {
+fn change(
+    log: &mut Log<Name, u64, MemoryDevice>,
+    address: Address,
+    value: Option<u64>,
+) -> Result<(), Refused> {
     if !log.has_entry(address) {
         return Err(Refused::Unknown);
     }
@@ -57,7 +62,7 @@ fn change(log: &mut Log<Name, u64>, address: Address, value: Option<u64>) -> Res
 }
 
 /// What a session sees, where one is entered.
-fn seen(log: &Log<Name, u64>, slot: usize, address: Address) -> Option<Region> {
+fn seen(log: &Log<Name, u64, MemoryDevice>, slot: usize, address: Address) -> Option<Region> {
     let regions = log.regions();
     if regions.is_entered(slot) {
         Some(regions.region(slot, address))
@@ -66,7 +71,7 @@ fn seen(log: &Log<Name, u64>, slot: usize, address: Address) -> Option<Region> {
     }
 }
 
-fn is_answered(log: &mut Log<Name, u64>, call: Call) -> bool {
+fn is_answered(log: &mut Log<Name, u64, MemoryDevice>, call: Call) -> bool {
     match call {
         Call::Enter(wanted) => log.enter() == wanted,
         Call::Leave(slot, wanted) => log.leave(slot) == wanted,

@@ -8,14 +8,14 @@ use Rattle.std.proofs.Math.Pow.{pow_mono}
 use Rattle.std.proofs.lemmas.Option.{slice_get-map}
 use Rattle.std.specs.declared.cmp.Ordering.{Ordering}
 use Rattle.fkv_functions.specs.Meanings.{Meanings}
-use Rattle.fkv_device_partition.specs.declared.limits.Config.{Config}
-use Rattle.fkv_device_partition.specs.Limits.{IsWithinLimits}
-use Rattle.fkv_device_partition.specs.Contexts.{joined, is_session}
-use Rattle.fkv_device_partition.specs.Views.{PartitionView, empty_partition, partition_of}
-use Rattle.fkv_device_partition.specs.Effect.{Asked, asked, asked_by}
+use Rattle.fkv_partition.specs.declared.limits.Config.{Config}
+use Rattle.fkv_partition.specs.Limits.{IsWithinLimits}
+use Rattle.fkv_partition.specs.Contexts.{joined, is_session}
+use Rattle.fkv_partition.specs.Views.{PartitionView, empty_partition, partition_of}
+use Rattle.fkv_partition.specs.Effect.{Asked, asked, asked_by}
 use Rattle.fkv_worlds.specs.declared.tables.Seat.{Seat}
 use Rattle.fkv_worlds.specs.States.{empty_partitions, empty_state}
-use Rattle.fkv_device_partition.specs.Pending.{Pending}
+use Rattle.fkv_partition.specs.Pending.{Pending}
 use Rattle.fkv_worlds.specs.declared.steps.Place.{Place}
 use Rattle.fkv_worlds.specs.Worlds.{live_at, asked_at, pending_in}
 use Rattle.fkv_worlds.proofs.HeldLemmas.{waiting-at}

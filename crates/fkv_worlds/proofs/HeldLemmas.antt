@@ -6,10 +6,10 @@ use Rattle.fkv_functions.specs.Meanings.{Meanings}
 use Rattle.fkv_functions.specs.Plain.{PlainMap}
 use Rattle.fkv_functions.proofs.ListLemmas.{get-set_same, get-set_other}
 use Rattle.fkv_operations.specs.After.{key_of}
-use Rattle.fkv_device_partition.specs.declared.contexts.Context.{Context}
-use Rattle.fkv_device_partition.specs.Effect.{Asked, asked, asked_by}
-use Rattle.fkv_device_partition.specs.Pending.{Pending, pending, pending_of, OthersPend, AllPend}
-use Rattle.fkv_device_partition.specs.Views.{PartitionView, context_at}
+use Rattle.fkv_partition.specs.declared.contexts.Context.{Context}
+use Rattle.fkv_partition.specs.Effect.{Asked, asked, asked_by}
+use Rattle.fkv_partition.specs.Pending.{Pending, pending, pending_of, OthersPend, AllPend}
+use Rattle.fkv_partition.specs.Views.{PartitionView, context_at}
 use Rattle.fkv_worlds.specs.declared.lives.Finish.{Finish}
 use Rattle.fkv_worlds.specs.declared.lives.Life.{Life}
 use Rattle.fkv_worlds.specs.declared.steps.Place.{Place}

@@ -9,8 +9,8 @@ use Rattle.fkv_functions.specs.Plain.{Same, with_at, IsKeyOrder}
 use Rattle.fkv_operations.specs.After.{after, answer, key_of, shown_of}
 use Rattle.fkv_operations.specs.declared.operations.Op.{Op}
 use Rattle.fkv_operations.specs.declared.operations.Op.TheVariants.{Read, Upsert, Rmw, Delete}
-use Rattle.fkv_device_partition.specs.Views.{PartitionView, live_of, partition_of}
-use Rattle.fkv_device_partition.specs.Effect.{asked}
+use Rattle.fkv_partition.specs.Views.{PartitionView, live_of, partition_of}
+use Rattle.fkv_partition.specs.Effect.{asked}
 use Rattle.fkv_functions.proofs.ListLemmas.{get-set_same, get-set_other}
 use Rattle.fkv_worlds.specs.declared.steps.Place.{Place}
 use Rattle.fkv_worlds.specs.Worlds.{live_at, world_live, asked_at, asked_in}

@@ -8,9 +8,9 @@ use Rattle.fkv_functions.specs.declared.refusals.Refused.TheVariants.{NoMemory, 
 use Rattle.fkv_device.specs.Standing.{Standing}
 use Rattle.fkv_device.specs.declared.messages.FlushJob.{FlushJob}
 use Rattle.fkv_texts.specs.declared.entries.Entry.{Entry}
-use Rattle.fkv_device_partition.specs.Views.{PartitionView}
-use Rattle.fkv_device_partition.specs.Effect.{IsQuiet}
-use Rattle.fkv_device_partition.specs.Flushing.{Flushes}
+use Rattle.fkv_partition.specs.Views.{PartitionView}
+use Rattle.fkv_partition.specs.Effect.{IsQuiet}
+use Rattle.fkv_partition.specs.Flushing.{Flushes}
 use Rattle.fkv_worlds.specs.declared.desks.Desk.{Desk}
 use Rattle.fkv_worlds.specs.declared.outcomes.Outcome.TheVariants as outcome
 use Rattle.fkv_worlds.specs.declared.steps.Access.{Access}

@@ -13,15 +13,15 @@ use Rattle.fkv_operations.specs.declared.operations.Op.{Op}
 use Rattle.fkv_pages.specs.Flushes.{difference, bytes_refusal}
 use Rattle.fkv_lookups.specs.RecordsViews.{RecordsView}
 use Rattle.fkv_lookups.specs.Flushes.{flush_refusal}
-use Rattle.fkv_device_partition.specs.Views.{PartitionView, with_context}
-use Rattle.fkv_device_partition.specs.Beginning.{Enters, Issues}
-use Rattle.fkv_device_partition.specs.Ending.{Leaves, GivesUp}
-use Rattle.fkv_device_partition.specs.Effect.{IsGiveUp}
-use Rattle.fkv_device_partition.specs.Flushing.{Flushes}
-use Rattle.fkv_device_partition.specs.Going.{Goes}
-use Rattle.fkv_device_partition.specs.Installing.{Installs}
-use Rattle.fkv_device_partition.specs.Loading.{Loads}
-use Rattle.fkv_device_partition.specs.Looking.{Refreshes, Shifts, Evicts}
+use Rattle.fkv_partition.specs.Views.{PartitionView, with_context}
+use Rattle.fkv_partition.specs.Beginning.{Enters, Issues}
+use Rattle.fkv_partition.specs.Ending.{Leaves, GivesUp}
+use Rattle.fkv_partition.specs.Effect.{IsGiveUp}
+use Rattle.fkv_partition.specs.Flushing.{Flushes}
+use Rattle.fkv_partition.specs.Going.{Goes}
+use Rattle.fkv_partition.specs.Installing.{Installs}
+use Rattle.fkv_partition.specs.Loading.{Loads}
+use Rattle.fkv_partition.specs.Looking.{Refreshes, Shifts, Evicts}
 use Rattle.fkv_worlds.specs.declared.steps.Access.{Access}
 use Rattle.fkv_worlds.specs.declared.steps.Step.{Step}
 use Rattle.fkv_worlds.specs.Devices.{Comes, Unwritten, Spoils}

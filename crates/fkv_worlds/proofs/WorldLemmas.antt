@@ -9,12 +9,12 @@ use Rattle.fkv_operations.specs.After.{key_of, after, answer}
 use Rattle.fkv_operations.specs.AfterLaws.{same_map}
 use Rattle.fkv_operations.specs.declared.operations.Op.{Op}
 use Rattle.fkv_operations.specs.declared.operations.Answer.{Answer}
-use Rattle.fkv_device_partition.specs.Views.{PartitionView, live_of, partition_of}
+use Rattle.fkv_partition.specs.Views.{PartitionView, live_of, partition_of}
 use Rattle.fkv_texts.specs.Text.{live}
 use Rattle.fkv_operations.specs.After.{shown_of}
 use Rattle.fkv_operations.specs.declared.operations.Op.TheVariants.{Read}
-use Rattle.fkv_device_partition.specs.Effect.{Asked, asked, asked_by, LeavesOthers, IsQuiet, IsIssue}
-use Rattle.fkv_device_partition.specs.Pending.{Pending, pending, OthersPend, AllPend, IsAsking}
+use Rattle.fkv_partition.specs.Effect.{Asked, asked, asked_by, LeavesOthers, IsQuiet, IsIssue}
+use Rattle.fkv_partition.specs.Pending.{Pending, pending, OthersPend, AllPend, IsAsking}
 use Rattle.fkv_functions.proofs.ListLemmas.{get-set_cases, get-append_last}
 use Rattle.fkv_worlds.specs.declared.lives.Life.{Life}
 use Rattle.fkv_worlds.specs.declared.lives.End.{End}

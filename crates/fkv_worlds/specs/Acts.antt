@@ -9,18 +9,18 @@ use Rattle.fkv_texts.specs.declared.entries.Entry.{Entry}
 use Rattle.fkv_device.specs.Standing.{Standing, Joined}
 use Rattle.fkv_device.specs.declared.messages.FlushJob.{FlushJob}
 use Rattle.fkv_operations.specs.declared.operations.Op.{Op}
-use Rattle.fkv_device_partition.specs.declared.contexts.Progress.{Progress}
-use Rattle.fkv_device_partition.specs.declared.contexts.Progress.TheVariants.{Done, Next, NeedsBuild, NeedsLoad, Waits}
-use Rattle.fkv_device_partition.specs.Views.{PartitionView}
-use Rattle.fkv_device_partition.specs.Effect.{asked, IsQuiet, IsIssue, IsEvent, IsGiveUp}
-use Rattle.fkv_device_partition.specs.Pending.{IsLoad}
-use Rattle.fkv_device_partition.specs.Beginning.{Enters, Issues}
-use Rattle.fkv_device_partition.specs.Going.{Goes}
-use Rattle.fkv_device_partition.specs.Installing.{Installs}
-use Rattle.fkv_device_partition.specs.Loading.{Loads}
-use Rattle.fkv_device_partition.specs.Flushing.{Flushes}
-use Rattle.fkv_device_partition.specs.Ending.{Leaves, GivesUp}
-use Rattle.fkv_device_partition.specs.Looking.{Refreshes, Shifts, Evicts}
+use Rattle.fkv_partition.specs.declared.contexts.Progress.{Progress}
+use Rattle.fkv_partition.specs.declared.contexts.Progress.TheVariants.{Done, Next, NeedsBuild, NeedsLoad, Waits}
+use Rattle.fkv_partition.specs.Views.{PartitionView}
+use Rattle.fkv_partition.specs.Effect.{asked, IsQuiet, IsIssue, IsEvent, IsGiveUp}
+use Rattle.fkv_partition.specs.Pending.{IsLoad}
+use Rattle.fkv_partition.specs.Beginning.{Enters, Issues}
+use Rattle.fkv_partition.specs.Going.{Goes}
+use Rattle.fkv_partition.specs.Installing.{Installs}
+use Rattle.fkv_partition.specs.Loading.{Loads}
+use Rattle.fkv_partition.specs.Flushing.{Flushes}
+use Rattle.fkv_partition.specs.Ending.{Leaves, GivesUp}
+use Rattle.fkv_partition.specs.Looking.{Refreshes, Shifts, Evicts}
 use Rattle.fkv_worlds.specs.declared.lives.End.{End}
 use Rattle.fkv_worlds.specs.declared.lives.Life.{Life}
 use Rattle.fkv_worlds.specs.declared.lives.End.TheVariants.{Open, Finished, Failed, GivenUp}

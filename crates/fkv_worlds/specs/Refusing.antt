@@ -8,13 +8,13 @@ use Rattle.fkv_functions.specs.declared.refusals.Refused.TheVariants.{NoMemory, 
 use Rattle.fkv_device.specs.Standing.{Standing, Joined}
 use Rattle.fkv_texts.specs.declared.entries.Entry.{Entry}
 use Rattle.fkv_operations.specs.declared.operations.Op.{Op}
-use Rattle.fkv_device_partition.specs.Views.{PartitionView}
-use Rattle.fkv_device_partition.specs.Beginning.{Enters, Issues}
-use Rattle.fkv_device_partition.specs.Ending.{Leaves, GivesUp}
-use Rattle.fkv_device_partition.specs.Going.{Goes}
-use Rattle.fkv_device_partition.specs.Installing.{Installs}
-use Rattle.fkv_device_partition.specs.Loading.{Loads}
-use Rattle.fkv_device_partition.specs.Looking.{Refreshes, Shifts, Evicts}
+use Rattle.fkv_partition.specs.Views.{PartitionView}
+use Rattle.fkv_partition.specs.Beginning.{Enters, Issues}
+use Rattle.fkv_partition.specs.Ending.{Leaves, GivesUp}
+use Rattle.fkv_partition.specs.Going.{Goes}
+use Rattle.fkv_partition.specs.Installing.{Installs}
+use Rattle.fkv_partition.specs.Loading.{Loads}
+use Rattle.fkv_partition.specs.Looking.{Refreshes, Shifts, Evicts}
 use Rattle.fkv_worlds.specs.declared.steps.Access.{Access}
 use Rattle.fkv_worlds.specs.declared.steps.Place.{Place}
 use Rattle.fkv_worlds.specs.declared.steps.Step.{Step}

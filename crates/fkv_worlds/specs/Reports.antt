@@ -10,8 +10,8 @@ use Rattle.fkv_functions.specs.declared.refusals.Refused.{Refused}
 use Rattle.fkv_functions.specs.declared.refusals.Refused.TheVariants.{Stalled, NoMemory}
 use Rattle.fkv_texts.specs.declared.entries.Entry.{Entry}
 use Rattle.fkv_device.specs.Standing.{Standing}
-use Rattle.fkv_device_partition.specs.Views.{PartitionView, loading_at}
-use Rattle.fkv_device_partition.specs.declared.limits.Config.{Config}
+use Rattle.fkv_partition.specs.Views.{PartitionView, loading_at}
+use Rattle.fkv_partition.specs.declared.limits.Config.{Config}
 use Rattle.fkv_worlds.specs.declared.lives.Life.{Life}
 use Rattle.fkv_worlds.specs.declared.outcomes.Outcome.{Outcome}
 use Rattle.fkv_worlds.specs.declared.outcomes.Outcome.TheVariants.{Entered, Left, Refreshed, Shifted, Taken, Flushed, Issued, Next, Build, Load, Waits, Done, GivenUp}

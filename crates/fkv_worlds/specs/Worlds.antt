@@ -4,9 +4,9 @@ use Rattle.std.specs.declared.cmp.Ordering.{Ordering}
 use Rattle.fkv_functions.specs.Meanings.{Meanings}
 use Rattle.fkv_functions.specs.Plain.{PlainMap, Same}
 use Rattle.fkv_operations.specs.After.{key_of}
-use Rattle.fkv_device_partition.specs.Views.{PartitionView, live_of, partition_of}
-use Rattle.fkv_device_partition.specs.Effect.{Asked, asked}
-use Rattle.fkv_device_partition.specs.Pending.{Pending, pending}
+use Rattle.fkv_partition.specs.Views.{PartitionView, live_of, partition_of}
+use Rattle.fkv_partition.specs.Effect.{Asked, asked}
+use Rattle.fkv_partition.specs.Pending.{Pending, pending}
 use Rattle.fkv_worlds.specs.declared.lives.Finish.{Finish}
 use Rattle.fkv_worlds.specs.declared.lives.Life.{Life}
 use Rattle.fkv_worlds.specs.declared.steps.Place.{Place}

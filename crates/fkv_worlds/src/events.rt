@@ -3,21 +3,21 @@
 ghost use Rattle.std.specs.Prelude.{◌≡◌, ◌<◌, ◌≤◌, ◌⊎◌, true, Ok, OnOk, OnErr, IfOk, IfErr};
 ghost use Rattle.fkv_device.specs.Standing.{Joined};
 ghost use Rattle.fkv_pages.specs.Spelled.{IsEntryIn};
-ghost use Rattle.fkv_device_partition.specs.Beginning.{Enters, Issues};
-ghost use Rattle.fkv_device_partition.specs.Ending.{Leaves, GivesUp};
-ghost use Rattle.fkv_device_partition.specs.Flushing.{Flushes};
-ghost use Rattle.fkv_device_partition.specs.Going.{Goes};
-ghost use Rattle.fkv_device_partition.specs.Installing.{Installs};
-ghost use Rattle.fkv_device_partition.specs.Loading.{Loads};
-ghost use Rattle.fkv_device_partition.specs.Looking.{Refreshes, Shifts, Evicts};
-ghost use Rattle.fkv_device_partition.specs.Effect.{IsQuiet, IsIssue, IsEvent, IsGiveUp};
-ghost use Rattle.fkv_device_partition.specs.Pending.{AllPend, OthersPend, Finds, IsLoad};
+ghost use Rattle.fkv_partition.specs.Beginning.{Enters, Issues};
+ghost use Rattle.fkv_partition.specs.Ending.{Leaves, GivesUp};
+ghost use Rattle.fkv_partition.specs.Flushing.{Flushes};
+ghost use Rattle.fkv_partition.specs.Going.{Goes};
+ghost use Rattle.fkv_partition.specs.Installing.{Installs};
+ghost use Rattle.fkv_partition.specs.Loading.{Loads};
+ghost use Rattle.fkv_partition.specs.Looking.{Refreshes, Shifts, Evicts};
+ghost use Rattle.fkv_partition.specs.Effect.{IsQuiet, IsIssue, IsEvent, IsGiveUp};
+ghost use Rattle.fkv_partition.specs.Pending.{AllPend, OthersPend, Finds, IsLoad};
 
 use fkv_device::{Loaded, MemoryDevice, MemoryReceipt, Receipt, Written};
-use fkv_device_partition::laws::{loads_end, pendings_stay};
-use fkv_device_partition::{Partition, ProgressOf};
 use fkv_functions::{Built, Functions, Refused};
 use fkv_operations::OpOf;
+use fkv_partition::laws::{loads_end, pendings_stay};
+use fkv_partition::{Partition, ProgressOf};
 
 /// A session enters.
 pub fn enter<F: Functions>(

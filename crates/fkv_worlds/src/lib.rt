@@ -22,7 +22,7 @@ pub mod steps;
 pub mod tables;
 pub mod worlds;
 
-pub use fkv_device_partition::Wait;
+pub use fkv_partition::Wait;
 pub use lives::{End, Finish, Life, LifeOf};
 pub use outcomes::{Outcome, OutcomeOf};
 pub use printed::Printed;

@@ -1,9 +1,9 @@
 //! What a step that was not refused answers.
 ghost use Rattle.std.specs.Prelude.{◌≡◌, ⊤};
 
-use fkv_device_partition::Wait;
 use fkv_functions::Functions;
 use fkv_operations::Answer;
+use fkv_partition::Wait;
 use std::alloc::AllocError;
 
 /// What a step that was not refused answers.

@@ -5,8 +5,8 @@ ghost use Rattle.fkv_worlds.specs.declared.outcomes.Outcome.TheVariants.{Build, 
 ghost use Rattle.fkv_worlds.specs.OutcomeTexts.{outcome_text};
 
 use crate::outcomes::Outcome;
-use fkv_device_partition::Wait;
 use fkv_operations::Answer;
+use fkv_partition::Wait;
 use std::fmt::{self, Display};
 
 /// A value whose printed text is known.

@@ -2,7 +2,7 @@
 ghost use Rattle.std.specs.Prelude.{◌≡◌, ◌≢◌, ◌⊎◌, Err, IfOk, IfErr, OnOk};
 ghost use Rattle.fkv_records.specs.Records.{size_of};
 ghost use Rattle.fkv_pages.specs.Spelled.{IsEntryIn};
-ghost use Rattle.fkv_device_partition.specs.Limits.{IsWithinLimits};
+ghost use Rattle.fkv_partition.specs.Limits.{IsWithinLimits};
 ghost use Rattle.fkv_worlds.specs.Headline.{IsHeadline};
 ghost use Rattle.fkv_worlds.specs.Reports.{RunsTo, IsReport, IsReplay};
 
@@ -10,8 +10,8 @@ use crate::reports::ReportOf;
 use crate::steps::StepOf;
 use crate::worlds::World;
 use fkv_device::{MemoryReceipt, Receipt};
-use fkv_device_partition::Config;
 use fkv_functions::{Functions, Refused};
+use fkv_partition::Config;
 use std::alloc::Global;
 
 /// Does the steps in turn, each of them kept. Refused: `NoMemory` where an outcome could not be kept.

@@ -12,8 +12,8 @@ use crate::lives::Life;
 use crate::outcomes::Outcome;
 use crate::states::State;
 use crate::worlds::World;
-use fkv_device_partition::pairs_of;
 use fkv_functions::{Functions, Refused};
+use fkv_partition::pairs_of;
 use std::alloc::Global;
 use std::collections::BTreeMap;
 

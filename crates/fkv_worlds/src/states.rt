@@ -1,8 +1,8 @@
 //! The state of a world, and what each step does to it.
 ghost use Rattle.std.specs.Prelude.{◌≢◌, ◌⊎◌, ◌≡◌, ◌+◌, ◌-◌, ◌^◌, ◌<◌, ◌↔◌, ◌∷◌, [], ◌++◌, true, Some, None, Err, IfOk, IfErr, OnOk, length, map, replicate, slice_get};
 ghost use Rattle.fkv_records.specs.Records.{size_of};
-ghost use Rattle.fkv_device_partition.specs.Limits.{IsWithinLimits};
-ghost use Rattle.fkv_device_partition.specs.Views.{empty_partition};
+ghost use Rattle.fkv_partition.specs.Limits.{IsWithinLimits};
+ghost use Rattle.fkv_partition.specs.Views.{empty_partition};
 ghost use Rattle.fkv_worlds.specs.States.{empty_partitions, empty_state, question_in, is_unasked};
 ghost use Rattle.fkv_worlds.specs.Sound.{IsState};
 ghost use Rattle.fkv_worlds.specs.Reports.{awaits_at};
@@ -23,9 +23,9 @@ use crate::tables::{
     Tables, begin_life, end_life, life_at, note_progress, question_at, seat_session,
 };
 use fkv_device::{MemoryDevice, MemoryReceipt, Receipt};
-use fkv_device_partition::{Config, Partition};
 use fkv_functions::{Ask, Built, Functions, Refused};
 use fkv_operations::{Clock, OpOf};
+use fkv_partition::{Config, Partition};
 use std::alloc::Global;
 use std::marker::Model;
 

@@ -8,9 +8,9 @@ use crate::lives::{End, Finish, Life};
 use crate::outcomes::Outcome;
 use crate::steps::Place;
 use fkv_device::MemoryReceipt;
-use fkv_device_partition::Progress;
 use fkv_functions::{Ask, Refused};
 use fkv_operations::Op;
+use fkv_partition::Progress;
 use std::alloc::Global;
 
 /// The slots of a partition.

@@ -2,7 +2,7 @@
 ghost use Rattle.std.specs.Prelude.{◌≡◌, ◌≢◌, ◌⊎◌, ◌∷◌, [], ◌++◌, Err, IfOk, IfErr, IfSome, IfNone};
 ghost use Rattle.fkv_records.specs.Records.{size_of};
 ghost use Rattle.fkv_pages.specs.Spelled.{IsEntryIn};
-ghost use Rattle.fkv_device_partition.specs.Limits.{IsWithinLimits};
+ghost use Rattle.fkv_partition.specs.Limits.{IsWithinLimits};
 ghost use Rattle.fkv_worlds.specs.States.{empty_world};
 ghost use Rattle.fkv_worlds.specs.Acts.{Steps};
 ghost use Rattle.fkv_worlds.specs.Reports.{IsKept};
@@ -12,8 +12,8 @@ use crate::outcomes::OutcomeOf;
 use crate::states::State;
 use crate::steps::StepOf;
 use fkv_device::{MemoryReceipt, Receipt};
-use fkv_device_partition::Config;
 use fkv_functions::{Functions, Refused};
+use fkv_partition::Config;
 use std::alloc::Global;
 use std::marker::Model;
 

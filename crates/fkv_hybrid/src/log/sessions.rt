@@ -1,17 +1,22 @@
 //! What sessions see of a log, and how its regions move.
-ghost use Rattle.std.specs.Prelude.{◌≡◌, ◌<◌, ◌≤◌, ◌↔◌, ◌⊎◌, length, IsTrue, IsOk, IfOk, IfErr, OnOk, OnErr, Err};
+ghost use Rattle.std.specs.Prelude.{◌≡◌, ◌^◌, ◌<◌, ◌≤◌, ◌↔◌, ◌⊎◌, length, IsTrue, IsOk, IfOk, IfErr, OnOk, OnErr, Err};
 ghost use Rattle.std.specs.Option.{ok_or};
-ghost use Rattle.fkv_records.specs.Places.{start_at};
+ghost use Rattle.fkv_records.specs.Places.{page_at, start_at, IsPlace};
+ghost use Rattle.fkv_records.specs.Records.{size_of};
 ghost use Rattle.fkv_epoch.specs.Moves.{free_slot, is_entered};
-ghost use Rattle.fkv_regions.specs.RegionsView.{IsReadOnlyDue, IsRoomy, entered, refreshed, left, with_read_only};
+ghost use Rattle.fkv_regions.specs.RegionsView.{IsReadOnlyDue, IsHeadDue, IsRoomy, entered, refreshed, left};
+ghost use Rattle.fkv_regions.specs.RegionsView.{with_read_only, with_head};
 ghost use Rattle.fkv_regions.specs.Agree.{IsRaised};
-ghost use Rattle.fkv_hybrid.specs.Views.{with_regions};
+ghost use Rattle.fkv_hybrid.specs.Tied.{IsFollowed};
+ghost use Rattle.fkv_hybrid.specs.Views.{with_regions, IsMoved};
 
 use crate::log::Log;
+use fkv_device::Disk;
 use fkv_functions::{Fixed, Refused};
-use fkv_regions::Regions;
+use fkv_pages::Pages;
+use fkv_regions::{Offsets, Regions};
 
-impl<K: Fixed, V: Fixed> Log<K, V> {
+impl<K: Fixed, V: Fixed, D: Disk> Log<K, V, D> {
     /// The offsets, the epochs, and what each session has seen: there a session asks for the region of an address.
     pub fn regions(&self) -> &Regions
         ensures { result.now ≡ self.now.regions }
@@ -36,11 +41,19 @@ impl<K: Fixed, V: Fixed> Log<K, V> {
     /// `Unknown` where no session is entered at the slot.
     pub fn refresh(&mut self, slot: usize) -> Result<(), Refused>
         ensures unknown { IsOk result ↔ IsTrue (is_entered self.old.regions.epochs slot) }
-        ensures effect { OnOk result (self.new ≡ with_regions self.old (refreshed self.old.regions slot)) }
+        ensures effect { OnOk result (IsMoved D.keeps (refreshed self.old.regions slot) self.old self.new) }
         ensures raised { IsRaised self.old.regions.offsets self.new.regions.offsets }
         ensures refused { IfErr result (λ why. (why ≡ Refused.Unknown) × (self.new ≡ self.old)) }
     {
-        self.regions.refresh(slot)
+        self.pages.known();
+        self.regions.known();
+        match self.regions.refresh(slot) {
+            Ok(()) => {
+                follow(&mut self.pages, &self.regions);
+                Ok(())
+            }
+            Err(refused) => Err(refused),
+        }
     }
 
     /// Frees a session's slot, and moves the offsets that are due then.
@@ -48,11 +61,19 @@ impl<K: Fixed, V: Fixed> Log<K, V> {
     /// `Unknown` where no session is entered at the slot.
     pub fn leave(&mut self, slot: usize) -> Result<(), Refused>
         ensures unknown { IsOk result ↔ IsTrue (is_entered self.old.regions.epochs slot) }
-        ensures effect { OnOk result (self.new ≡ with_regions self.old (left self.old.regions slot)) }
+        ensures effect { OnOk result (IsMoved D.keeps (left self.old.regions slot) self.old self.new) }
         ensures raised { IsRaised self.old.regions.offsets self.new.regions.offsets }
         ensures refused { IfErr result (λ why. (why ≡ Refused.Unknown) × (self.new ≡ self.old)) }
     {
-        self.regions.leave(slot)
+        self.pages.known();
+        self.regions.known();
+        match self.regions.leave(slot) {
+            Ok(()) => {
+                follow(&mut self.pages, &self.regions);
+                Ok(())
+            }
+            Err(refused) => Err(refused),
+        }
     }
 
     /// Moves the read-only offset to a page's start, and the safe one behind it as far as is due.
@@ -61,8 +82,8 @@ impl<K: Fixed, V: Fixed> Log<K, V> {
     pub fn shift_read_only(&mut self, page: u64) -> Result<(), Refused>
         ensures ok { IsOk result
             ↔ (IsReadOnlyDue self.old.regions page self.old.tail × IsRoomy self.old.regions) }
-        ensures effect { OnOk result (self.new
-            ≡ with_regions self.old (with_read_only self.old.regions (start_at self.old.regions.bits page))) }
+        ensures effect { OnOk result (IsMoved D.keeps
+            (with_read_only self.old.regions (start_at self.old.regions.bits page)) self.old self.new) }
         ensures raised { IsRaised self.old.regions.offsets self.new.regions.offsets }
         ensures not_due { (result ≡ Err Refused.NotDue) ↔ ¬ IsReadOnlyDue self.old.regions page self.old.tail }
         ensures full { (result ≡ Err Refused.DrainFull)
@@ -71,6 +92,60 @@ impl<K: Fixed, V: Fixed> Log<K, V> {
         ensures only { IfErr result (λ why. (why ≡ Refused.NotDue) ⊎ (why ≡ Refused.DrainFull)) }
         ensures refused { OnErr result (self.new ≡ self.old) }
     {
-        self.regions.shift_read_only(page, self.tail)
+        self.pages.known();
+        self.regions.known();
+        let tail = self.pages.tail();
+        match self.regions.shift_read_only(page, tail) {
+            Ok(()) => {
+                follow(&mut self.pages, &self.regions);
+                Ok(())
+            }
+            Err(refused) => Err(refused),
+        }
     }
+
+    /// Moves Head to a page's start, and closes the frames below as far as is due.
+    ///
+    /// `NotDue` where Head would not rise, or a page below is not flushed; `DrainFull` where sixteen moves wait.
+    pub fn shift_head(&mut self, page: u64) -> Result<(), Refused>
+        ensures ok { IsOk result ↔ (IsHeadDue self.old.regions page × IsRoomy self.old.regions) }
+        ensures effect { OnOk result (IsMoved D.keeps
+            (with_head self.old.regions (start_at self.old.regions.bits page)) self.old self.new) }
+        ensures raised { IsRaised self.old.regions.offsets self.new.regions.offsets }
+        ensures not_due { (result ≡ Err Refused.NotDue) ↔ ¬ IsHeadDue self.old.regions page }
+        ensures full { (result ≡ Err Refused.DrainFull)
+            ↔ (IsHeadDue self.old.regions page × (16 ≤ length self.old.regions.epochs.waiting)) }
+        ensures only { IfErr result (λ why. (why ≡ Refused.NotDue) ⊎ (why ≡ Refused.DrainFull)) }
+        ensures refused { OnErr result (self.new ≡ self.old) }
+    {
+        self.pages.known();
+        self.regions.known();
+        match self.regions.shift_head(page) {
+            Ok(()) => {
+                follow(&mut self.pages, &self.regions);
+                Ok(())
+            }
+            Err(refused) => Err(refused),
+        }
+    }
+}
+
+/// Freezes entries below SafeReadOnly, and closes frames below `closed`.
+fn follow<K: Fixed, V: Fixed, D: Disk>(pages: &mut Pages<K, V, D>, regions: &Regions)
+    requires bits { regions.now.bits ≡ pages.old.bits }
+    requires flushed { regions.now.flushed ≡ length pages.old.receipts }
+    requires frozen { pages.old.frozen ≤ regions.now.offsets.safe_read_only }
+    requires closed { pages.old.closed ≤ regions.now.offsets.closed }
+    requires begun { regions.now.offsets.read_only ≤ pages.old.tail }
+    ensures { IsFollowed D.keeps regions.now.offsets pages.old pages.new }
+{
+    pages.known();
+    regions.known();
+    let Offsets {
+        closed,
+        safe_read_only,
+        ..
+    } = regions.offsets();
+    pages.freeze(safe_read_only);
+    pages.close(closed);
 }

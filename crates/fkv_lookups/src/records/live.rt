@@ -4,7 +4,7 @@ ghost use Rattle.std.specs.BTreeMap.{get};
 ghost use Rattle.fkv_functions.specs.Plain.{Same};
 ghost use Rattle.fkv_records.specs.Places.{page_at};
 ghost use Rattle.fkv_texts.specs.Text.{live};
-ghost use Rattle.fkv_device_log.specs.Scans.{IsScanRefusal};
+ghost use Rattle.fkv_hybrid.specs.Scans.{IsScanRefusal};
 
 use crate::maps::put;
 use crate::records::Records;

@@ -1,4 +1,3 @@
-//! Operations on plain maps, the table of decisions, the clock, and the records of a partition.
-mod decisions;
+//! Operations on plain maps, the classes of keys, and the clock.
+mod classes;
 mod plain;
-mod records;

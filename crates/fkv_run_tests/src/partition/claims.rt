@@ -1,9 +1,9 @@
 //! Entries made in two phases: what each event of an operation answers, and which operation is the first.
-use super::rows::{Row, first_wrong};
+use super::rows::{Row, Told, first_wrong};
 use super::runs::{ONE_BUCKET, SMALL};
 use fkv_functions::{Ask, Refused};
 use fkv_operations::{Answer, Op};
-use fkv_partition::{Config, Progress};
+use fkv_partition::Config;
 use std::alloc::Global;
 
 const FIRST_QUESTION: Ask<u8, i128, i64> = Ask {
@@ -18,15 +18,10 @@ const FIRST_QUESTION: Ask<u8, i128, i64> = Ask {
 const FIVE_EVENTS: [Row; 6] = [
     Row::Enter(Ok(0)),
     Row::Issue(0, Op::Rmw(b'a', 5), Ok(0)),
-    Row::Go(0, 0, Ok(Progress::Next)),
-    Row::Go(0, 0, Ok(Progress::Next)),
-    Row::Go(0, 0, Ok(Progress::NeedsBuild(FIRST_QUESTION))),
-    Row::Install(
-        0,
-        0,
-        FIRST_QUESTION,
-        Ok(Progress::Done(Answer::Value(5), 6)),
-    ),
+    Row::Go(0, 0, Ok(Told::Next)),
+    Row::Go(0, 0, Ok(Told::Next)),
+    Row::Go(0, 0, Ok(Told::NeedsBuild(FIRST_QUESTION))),
+    Row::Install(0, 0, FIRST_QUESTION, Ok(Told::Done(Answer::Value(5), 6))),
 ];
 
 const FIRST_OF_TWO: Ask<u8, i128, i64> = Ask {
@@ -43,13 +38,13 @@ const TWO_CLAIMS: [Row; 12] = [
     Row::Enter(Ok(1)),
     Row::Issue(0, Op::Rmw(b'a', 1), Ok(0)),
     Row::Issue(1, Op::Rmw(b'a', 2), Ok(0)),
-    Row::Go(0, 0, Ok(Progress::Next)),
-    Row::Go(1, 0, Ok(Progress::Next)),
-    Row::Go(0, 0, Ok(Progress::Next)),
-    Row::Go(0, 0, Ok(Progress::Next)),
-    Row::Go(1, 0, Ok(Progress::Next)),
-    Row::Go(0, 0, Ok(Progress::Next)),
-    Row::Go(0, 0, Ok(Progress::NeedsBuild(FIRST_OF_TWO))),
+    Row::Go(0, 0, Ok(Told::Next)),
+    Row::Go(1, 0, Ok(Told::Next)),
+    Row::Go(0, 0, Ok(Told::Next)),
+    Row::Go(0, 0, Ok(Told::Next)),
+    Row::Go(1, 0, Ok(Told::Next)),
+    Row::Go(0, 0, Ok(Told::Next)),
+    Row::Go(0, 0, Ok(Told::NeedsBuild(FIRST_OF_TWO))),
     Row::Finish(1, 0, Ok(Answer::Value(2))),
 ];
 
@@ -57,12 +52,12 @@ const TWO_CLAIMS: [Row; 12] = [
 const GIVEN_UP: [Row; 9] = [
     Row::Enter(Ok(0)),
     Row::Issue(0, Op::Upsert(b'a', 1), Ok(0)),
-    Row::Go(0, 0, Ok(Progress::Next)),
+    Row::Go(0, 0, Ok(Told::Next)),
     Row::GiveUp(0, 0, Ok(())),
     Row::Issue(0, Op::Upsert(b'a', 2), Ok(0)),
-    Row::Go(0, 0, Ok(Progress::Next)),
-    Row::Go(0, 0, Ok(Progress::Next)),
-    Row::Go(0, 0, Ok(Progress::Done(Answer::Stored, 8))),
+    Row::Go(0, 0, Ok(Told::Next)),
+    Row::Go(0, 0, Ok(Told::Next)),
+    Row::Go(0, 0, Ok(Told::Done(Answer::Stored, 8))),
     Row::Go(0, 0, Err(Refused::Unknown)),
 ];
 
@@ -70,13 +65,13 @@ const GIVEN_UP: [Row; 9] = [
 const UNSEEN: [Row; 9] = [
     Row::Enter(Ok(0)),
     Row::Issue(0, Op::Upsert(b'a', 1), Ok(0)),
-    Row::Go(0, 0, Ok(Progress::Next)),
+    Row::Go(0, 0, Ok(Told::Next)),
     Row::Issue(0, Op::Read(b'a', 0), Ok(1)),
-    Row::Go(0, 1, Ok(Progress::Done(Answer::Absent, 5))),
+    Row::Go(0, 1, Ok(Told::Done(Answer::Absent, 5))),
     Row::Issue(0, Op::Delete(b'a'), Ok(1)),
-    Row::Go(0, 1, Ok(Progress::Done(Answer::Deleted, 7))),
-    Row::Go(0, 0, Ok(Progress::Next)),
-    Row::Go(0, 0, Ok(Progress::Done(Answer::Stored, 9))),
+    Row::Go(0, 1, Ok(Told::Done(Answer::Deleted, 7))),
+    Row::Go(0, 0, Ok(Told::Next)),
+    Row::Go(0, 0, Ok(Told::Done(Answer::Stored, 9))),
 ];
 
 /// A run: its configuration, its rows, and the map at its end.

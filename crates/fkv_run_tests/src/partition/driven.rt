@@ -1,23 +1,31 @@
-//! A partition with a clock of its own: each call is made at the next moment.
+//! A partition over a device in memory, with a clock of its own: each call is made at the next moment.
 ghost use Rattle.std.specs.Prelude.{◌≤◌};
 
+use fkv_device::{Disk, MemoryDevice, MemoryReader};
 use fkv_functions::{Ask, Built, Name, Refused, SumFns};
 use fkv_operations::{Answer, OpOf};
 use fkv_partition::{Config, Partition, Progress, ProgressOf};
 use std::alloc::Global;
 
-/// A partition with the last moment that it was given.
+/// What an event of this partition tells.
+pub type Progressed = ProgressOf<SumFns, MemoryDevice>;
+
+/// A partition with the last moment that it was given, and what reads its device.
 #[derive(Drop)]
 pub struct Driven {
-    pub partition: Partition<SumFns>,
+    pub partition: Partition<SumFns, MemoryDevice>,
+    reader: MemoryReader,
     pub now: u64,
     ghost timely: { partition.moment ≤ now },
 }
 
 impl Driven {
     pub fn new(alloc: Global, config: &Config, number: u64) -> Result<Driven, Refused> {
+        let mut device = MemoryDevice::new(alloc);
+        let reader = device.reader(number)?;
         Ok(Driven {
             partition: Partition::new(alloc, config, number)?,
+            reader,
             now: 0,
         })
     }
@@ -40,7 +48,7 @@ impl Driven {
         issued
     }
 
-    pub fn go(&mut self, slot: usize, context: usize) -> Result<ProgressOf<SumFns>, Refused> {
+    pub fn go(&mut self, slot: usize, context: usize) -> Result<Progressed, Refused> {
         let Some(now) = self.now.checked_add(1) else {
             return Err(Refused::Worn);
         };
@@ -54,7 +62,7 @@ impl Driven {
         slot: usize,
         context: usize,
         ask: Ask<Name, i128, i64>,
-    ) -> Result<ProgressOf<SumFns>, Refused> {
+    ) -> Result<Progressed, Refused> {
         let Some(now) = self.now.checked_add(1) else {
             return Err(Refused::Worn);
         };
@@ -100,21 +108,26 @@ impl Driven {
         given_up
     }
 
+    /// The live map, as a list.
+    pub fn live(&mut self, alloc: Global) -> Result<Vec<(Name, i128)>, Refused> {
+        self.partition.live(alloc, &mut self.reader)
+    }
+
     /// What follows: it goes on, or builds what is asked for.
     fn follow(
         &mut self,
         slot: usize,
         context: usize,
-        progress: ProgressOf<SumFns>,
-    ) -> Result<ProgressOf<SumFns>, Refused> {
+        progress: Progressed,
+    ) -> Result<Progressed, Refused> {
         match progress {
             Progress::NeedsBuild(ask) => self.install(slot, context, ask),
             _ => self.go(slot, context),
         }
     }
 
-    /// Goes on, and builds what is asked for, until the operation is answered; at most ten events, and `NotDue` where it
-    /// waits.
+    /// Goes on, and builds what is asked for, until the operation is answered; at most ten events, and `NotDue` where
+    /// it waits.
     pub fn finish(&mut self, slot: usize, context: usize) -> Result<Answer<i128>, Refused> {
         let mut told = self.go(slot, context);
         for _ in 0..10 {

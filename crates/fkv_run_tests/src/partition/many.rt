@@ -35,7 +35,7 @@ fn are_counted(alloc: Global, keys: u32) -> Result<bool, Refused> {
             return Ok(false);
         }
     }
-    let pairs = driven.partition.live(alloc)?;
+    let pairs = driven.live(alloc)?;
     Ok(pairs.len() == keys as usize && pairs.iter().all(|pair| pair.1 == 1))
 }
 

@@ -1,13 +1,23 @@
 //! Rows of calls on a partition, and what each answers. A key is one letter.
-use super::driven::Driven;
+use super::driven::{Driven, Progressed};
 use crate::letters::{is_map, letter, name, on_name};
-use fkv_functions::{Ask, Name, Refused, SumFns};
+use fkv_functions::{Ask, Name, Refused};
 use fkv_operations::{Answer, Op};
-use fkv_partition::{Config, Progress, ProgressOf};
+use fkv_partition::{Config, Progress, Wait};
+use fkv_records::Address;
 use std::alloc::Global;
 
 /// What an event tells, with letters for keys.
-pub type Told = Progress<u8, i128, i64, i128>;
+#[derive(Clone, Copy, PartialEq, Eq, Debug)]
+pub enum Told {
+    /// An answer, and the moment of the effect.
+    Done(Answer<i128>, u64),
+    Next,
+    NeedsBuild(Ask<u8, i128, i64>),
+    /// The page of this address is asked for.
+    NeedsLoad(Address),
+    Waits(Wait),
+}
 
 /// One call, and what it answers.
 #[derive(Clone, Copy)]
@@ -27,17 +37,18 @@ pub enum Row {
 }
 
 /// What was told, with letters for keys.
-fn by_letters(told: Result<ProgressOf<SumFns>, Refused>) -> Result<Told, Refused> {
-    match told {
-        Ok(Progress::Done(answer, now)) => Ok(Progress::Done(answer, now)),
-        Ok(Progress::Next) => Ok(Progress::Next),
-        Ok(Progress::Waits(why)) => Ok(Progress::Waits(why)),
-        Ok(Progress::NeedsBuild(ask)) => Ok(Progress::NeedsBuild(Ask {
+fn by_letters(progress: Result<Progressed, Refused>) -> Result<Told, Refused> {
+    match progress {
+        Ok(Progress::Done(answer, now)) => Ok(Told::Done(answer, now)),
+        Ok(Progress::Next) => Ok(Told::Next),
+        Ok(Progress::Waits(why)) => Ok(Told::Waits(why)),
+        Ok(Progress::NeedsBuild(ask)) => Ok(Told::NeedsBuild(Ask {
             number: ask.number,
             key: letter(&ask.key),
             source: ask.source,
             input: ask.input,
         })),
+        Ok(Progress::NeedsLoad(_, address)) => Ok(Told::NeedsLoad(address)),
         Err(refused) => Err(refused),
     }
 }
@@ -92,9 +103,9 @@ fn is_answered(driven: &mut Driven, row: &Row) -> bool {
 }
 
 /// The live map, asked for again where memory is refused once.
-fn live(driven: &Driven, alloc: Global) -> Result<Vec<(Name, i128)>, Refused> {
-    match driven.partition.live(alloc) {
-        Err(Refused::NoMemory) => driven.partition.live(alloc),
+fn live(driven: &mut Driven, alloc: Global) -> Result<Vec<(Name, i128)>, Refused> {
+    match driven.live(alloc) {
+        Err(Refused::NoMemory) => driven.live(alloc),
         pairs => pairs,
     }
 }
@@ -124,7 +135,7 @@ pub fn first_wrong(
             return Some(at);
         }
     }
-    match live(&driven, alloc) {
+    match live(&mut driven, alloc) {
         Ok(pairs) if is_map(pairs.as_slice(), map) => None,
         _ => Some(rows.len()),
     }

@@ -1,8 +1,8 @@
 //! Worked runs on one partition, and each refusal.
-use super::rows::{Row, first_wrong};
+use super::rows::{Row, Told, first_wrong};
 use fkv_functions::{Ask, Refused, What};
 use fkv_operations::{Answer, Op};
-use fkv_partition::{Config, Progress, Wait};
+use fkv_partition::{Config, Wait};
 
 /// A bucket for each key of one letter.
 pub const SMALL: Config = Config {
@@ -56,12 +56,12 @@ const TWO_UPDATES_FROM_ONE_LOOK_UP: [Row; 11] = [
     Row::Enter(Ok(1)),
     Row::Issue(0, Op::Rmw(b'a', 1), Ok(0)),
     Row::Issue(1, Op::Rmw(b'a', 2), Ok(0)),
-    Row::Go(0, 0, Ok(Progress::Next)),
-    Row::Go(0, 0, Ok(Progress::Next)),
+    Row::Go(0, 0, Ok(Told::Next)),
+    Row::Go(0, 0, Ok(Told::Next)),
     Row::Go(
         0,
         0,
-        Ok(Progress::NeedsBuild(Ask {
+        Ok(Told::NeedsBuild(Ask {
             number: 3,
             key: b'a',
             source: None,
@@ -71,7 +71,7 @@ const TWO_UPDATES_FROM_ONE_LOOK_UP: [Row; 11] = [
     Row::Go(
         1,
         0,
-        Ok(Progress::NeedsBuild(Ask {
+        Ok(Told::NeedsBuild(Ask {
             number: 4,
             key: b'a',
             source: None,
@@ -87,7 +87,7 @@ const TWO_UPDATES_FROM_ONE_LOOK_UP: [Row; 11] = [
             source: None,
             input: 1,
         },
-        Ok(Progress::Done(Answer::Value(1), 9)),
+        Ok(Told::Done(Answer::Value(1), 9)),
     ),
     Row::Install(
         1,
@@ -98,9 +98,9 @@ const TWO_UPDATES_FROM_ONE_LOOK_UP: [Row; 11] = [
             source: None,
             input: 2,
         },
-        Ok(Progress::Next),
+        Ok(Told::Next),
     ),
-    Row::Go(1, 0, Ok(Progress::Done(Answer::Value(3), 11))),
+    Row::Go(1, 0, Ok(Told::Done(Answer::Value(3), 11))),
 ];
 
 #[test]
@@ -132,7 +132,8 @@ const SOURCELESS: Ask<u8, i128, i64> = Ask {
     input: 2,
 };
 
-/// Two updates of a frozen value: both ask, the first is installed, and the second finds the new value, which is mutable.
+/// Two updates of a frozen value: both ask, the first is installed, and the second finds the new value, which is
+/// mutable.
 const TWO_UPDATES_OF_A_FROZEN_VALUE: [Row; 15] = [
     Row::Enter(Ok(0)),
     Row::Do(Op::Upsert(b'a', 1), Answer::Stored),
@@ -143,8 +144,8 @@ const TWO_UPDATES_OF_A_FROZEN_VALUE: [Row; 15] = [
     Row::Enter(Ok(1)),
     Row::Issue(0, Op::Rmw(b'a', 2), Ok(0)),
     Row::Issue(1, Op::Rmw(b'a', 3), Ok(0)),
-    Row::Go(0, 0, Ok(Progress::NeedsBuild(ASKED_FIRST))),
-    Row::Go(1, 0, Ok(Progress::NeedsBuild(ASKED_SECOND))),
+    Row::Go(0, 0, Ok(Told::NeedsBuild(ASKED_FIRST))),
+    Row::Go(1, 0, Ok(Told::NeedsBuild(ASKED_SECOND))),
     Row::Install(
         0,
         0,
@@ -155,9 +156,9 @@ const TWO_UPDATES_OF_A_FROZEN_VALUE: [Row; 15] = [
             came: 17,
         }),
     ),
-    Row::Install(0, 0, ASKED_FIRST, Ok(Progress::Done(Answer::Value(3), 22))),
-    Row::Install(1, 0, ASKED_SECOND, Ok(Progress::Next)),
-    Row::Go(1, 0, Ok(Progress::Done(Answer::Value(6), 24))),
+    Row::Install(0, 0, ASKED_FIRST, Ok(Told::Done(Answer::Value(3), 22))),
+    Row::Install(1, 0, ASKED_SECOND, Ok(Told::Next)),
+    Row::Go(1, 0, Ok(Told::Done(Answer::Value(6), 24))),
 ];
 
 #[test]
@@ -179,11 +180,11 @@ const FUZZY_WAIT: [Row; 21] = [
     Row::Refresh(1, Ok(())),
     Row::Refresh(2, Err(Refused::Unknown)),
     Row::Issue(1, Op::Rmw(b'a', 1), Ok(0)),
-    Row::Go(1, 0, Ok(Progress::Waits(Wait::Fuzzy))),
+    Row::Go(1, 0, Ok(Told::Waits(Wait::Fuzzy))),
     Row::Do(Op::Rmw(b'a', 5), Answer::Value(15)),
     Row::Finish(1, 0, Err(Refused::NotDue)),
     Row::Refresh(0, Ok(())),
-    Row::Go(1, 0, Ok(Progress::Waits(Wait::Fuzzy))),
+    Row::Go(1, 0, Ok(Told::Waits(Wait::Fuzzy))),
     Row::Refresh(1, Ok(())),
     Row::Finish(1, 0, Ok(Answer::Value(16))),
     Row::Issue(1, Op::Delete(b'b'), Ok(0)),
@@ -304,12 +305,12 @@ const REFUSALS: [Row; 17] = [
         },
         Err(Refused::Unknown),
     ),
-    Row::Go(0, 0, Ok(Progress::Next)),
-    Row::Go(0, 0, Ok(Progress::Next)),
+    Row::Go(0, 0, Ok(Told::Next)),
+    Row::Go(0, 0, Ok(Told::Next)),
     Row::Go(
         0,
         0,
-        Ok(Progress::NeedsBuild(Ask {
+        Ok(Told::NeedsBuild(Ask {
             number: 7,
             key: b'b',
             source: None,
@@ -385,7 +386,7 @@ const REFUSALS: [Row; 17] = [
             source: None,
             input: 1,
         },
-        Ok(Progress::Done(Answer::Value(1), 17)),
+        Ok(Told::Done(Answer::Value(1), 17)),
     ),
 ];
 
@@ -453,16 +454,16 @@ fn blind_writes_and_deletes(rt: HostRuntime) {
 const SINGLE_EVENTS: [Row; 12] = [
     Row::Enter(Ok(0)),
     Row::Issue(0, Op::Delete(b'a'), Ok(0)),
-    Row::Go(0, 0, Ok(Progress::Done(Answer::Deleted, 3))),
+    Row::Go(0, 0, Ok(Told::Done(Answer::Deleted, 3))),
     Row::Issue(0, Op::Upsert(b'a', 4), Ok(0)),
-    Row::Go(0, 0, Ok(Progress::Next)),
-    Row::Go(0, 0, Ok(Progress::Next)),
-    Row::Go(0, 0, Ok(Progress::Done(Answer::Stored, 7))),
+    Row::Go(0, 0, Ok(Told::Next)),
+    Row::Go(0, 0, Ok(Told::Next)),
+    Row::Go(0, 0, Ok(Told::Done(Answer::Stored, 7))),
     Row::Go(0, 0, Err(Refused::Unknown)),
     Row::Issue(0, Op::Upsert(b'a', 5), Ok(0)),
-    Row::Go(0, 0, Ok(Progress::Done(Answer::Stored, 10))),
+    Row::Go(0, 0, Ok(Told::Done(Answer::Stored, 10))),
     Row::Issue(0, Op::Delete(b'a'), Ok(0)),
-    Row::Go(0, 0, Ok(Progress::Done(Answer::Deleted, 12))),
+    Row::Go(0, 0, Ok(Told::Done(Answer::Deleted, 12))),
 ];
 
 #[test]
@@ -474,12 +475,12 @@ fn single_events(rt: HostRuntime) {
 const ENTRY_MOVES_UNDER_AN_UPDATE: [Row; 10] = [
     Row::Enter(Ok(0)),
     Row::Issue(0, Op::Rmw(b'a', 5), Ok(0)),
-    Row::Go(0, 0, Ok(Progress::Next)),
-    Row::Go(0, 0, Ok(Progress::Next)),
+    Row::Go(0, 0, Ok(Told::Next)),
+    Row::Go(0, 0, Ok(Told::Next)),
     Row::Go(
         0,
         0,
-        Ok(Progress::NeedsBuild(Ask {
+        Ok(Told::NeedsBuild(Ask {
             number: 2,
             key: b'a',
             source: None,
@@ -487,7 +488,7 @@ const ENTRY_MOVES_UNDER_AN_UPDATE: [Row; 10] = [
         })),
     ),
     Row::Issue(0, Op::Upsert(b'b', 7), Ok(1)),
-    Row::Go(0, 1, Ok(Progress::Done(Answer::Stored, 7))),
+    Row::Go(0, 1, Ok(Told::Done(Answer::Stored, 7))),
     Row::Install(
         0,
         0,
@@ -497,12 +498,12 @@ const ENTRY_MOVES_UNDER_AN_UPDATE: [Row; 10] = [
             source: None,
             input: 5,
         },
-        Ok(Progress::Next),
+        Ok(Told::Next),
     ),
     Row::Go(
         0,
         0,
-        Ok(Progress::NeedsBuild(Ask {
+        Ok(Told::NeedsBuild(Ask {
             number: 2,
             key: b'a',
             source: None,
@@ -518,7 +519,7 @@ const ENTRY_MOVES_UNDER_AN_UPDATE: [Row; 10] = [
             source: None,
             input: 5,
         },
-        Ok(Progress::Done(Answer::Value(5), 10)),
+        Ok(Told::Done(Answer::Value(5), 10)),
     ),
 ];
 

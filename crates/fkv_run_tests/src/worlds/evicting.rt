@@ -1,9 +1,9 @@
 //! Random steps with pages that are flushed, evicted and loaded, beside the plain program.
 use super::random::{KEYS, is_lively, is_plain, random_op};
 use crate::letters::name;
-use fkv_device_partition::Config;
 use fkv_functions::{Functions, Name, SumFns};
 use fkv_operations::Op;
+use fkv_partition::Config;
 use fkv_worlds::{Access, End, LifeOf, Outcome, Place, ReportOf, Step, StepOf, World};
 use rand_core::{Rng, SeedableRng};
 use rand_xoshiro::Xoshiro256PlusPlus;

@@ -1,8 +1,8 @@
 //! Random steps beside the plain program: the lives answer as it does in the order of their effects.
 use crate::letters::name;
-use fkv_device_partition::Config;
 use fkv_functions::{Name, SumFns};
 use fkv_operations::{Op, OpOf, apply_plainly};
+use fkv_partition::Config;
 use fkv_worlds::{End, LifeOf, Place, ReportOf, Step, StepOf, replay};
 use rand_core::{Rng, SeedableRng};
 use rand_xoshiro::Xoshiro256PlusPlus;

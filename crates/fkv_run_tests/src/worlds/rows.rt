@@ -1,8 +1,8 @@
 //! Rows of steps, what each tells, and what a world reports at the end. A key is one letter.
 use crate::letters::{by_letter, is_map, on_name};
-use fkv_device_partition::Config;
 use fkv_functions::{Refused, SumFns};
 use fkv_operations::{Answer, Op};
+use fkv_partition::Config;
 use fkv_worlds::{End, Finish, LifeOf, Outcome, Place, ReportOf, Step, StepOf, World, replay};
 use std::alloc::Global;
 

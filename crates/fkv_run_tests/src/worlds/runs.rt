@@ -3,9 +3,9 @@ use super::rows::{
     Call, EndRow, LifeRow, Row, Told, is_replayed, is_report, report, told_by, told_by_call, world,
 };
 use crate::letters::is_map;
-use fkv_device_partition::{Config, Wait};
 use fkv_functions::{Refused, SumFns, What};
 use fkv_operations::{Answer, Op};
+use fkv_partition::{Config, Wait};
 use fkv_worlds::{End, Outcome, Place, Step, StepOf, World, replay};
 use std::alloc::Global;
 

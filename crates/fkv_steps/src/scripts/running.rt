@@ -1,8 +1,8 @@
 //! Running a script from a reader to a writer.
 ghost use Rattle.std.specs.Prelude.{◌≡◌, ◌≢◌, ◌⊎◌, ℕ, List, Err, true, IfOk, IfErr, IfSome, OnOk};
 ghost use Rattle.fkv_records.specs.Records.{size_of};
-ghost use Rattle.fkv_device_partition.specs.Limits.{IsWithinLimits};
-ghost use Rattle.fkv_device_partition.specs.declared.limits.Config.{Config};
+ghost use Rattle.fkv_partition.specs.Limits.{IsWithinLimits};
+ghost use Rattle.fkv_partition.specs.declared.limits.Config.{Config};
 ghost use Rattle.fkv_worlds.specs.States.{empty_world};
 ghost use Rattle.fkv_scripts.specs.declared.lines.Line.{Line};
 ghost use Rattle.fkv_functions.specs.Names.{name_cmp};
@@ -16,9 +16,9 @@ ghost use Rattle.fkv_steps.specs.Running.{context_in, is_page, op_of, record_siz
 
 use crate::scripts::printing::text_of;
 use crate::scripts::written::Written;
-use fkv_device_partition::Config;
 use fkv_functions::{CountFns, Functions, MaxFns, Name, Refused, SumFns};
 use fkv_operations::Op;
+use fkv_partition::Config;
 use fkv_scripts::{FunctionsName, LIMIT, Line, Script, read_script};
 use fkv_streams::{Sink, Source, write_out};
 use fkv_worlds::Printed;

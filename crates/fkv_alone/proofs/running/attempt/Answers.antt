@@ -1,5 +1,5 @@
 use Rattle.std.proofs.Common.{◌≡◌, ◌+◌, ◌<◌, ◌^◌, Ok, Err, refl, ◌∙◌, ap, subst, arith}
-use Rattle.fkv_device_partition.specs.Beginning.{Issues}
+use Rattle.fkv_partition.specs.Beginning.{Issues}
 use Rattle.fkv_alone.specs.Ending.{Ends}
 use Rattle.fkv_operations.specs.After.{key_of}
 use Rattle.fkv_alone.specs.Bound.{evicted}

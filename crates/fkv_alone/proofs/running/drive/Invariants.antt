@@ -1,11 +1,11 @@
 use Rattle.std.proofs.Common.{◌≡◌, ◌+◌, ◌-◌, ◌^◌, ◌<◌, ◌≤◌, ℕ, IsTrue}
 use Rattle.fkv_operations.specs.declared.operations.Op.{Op}
-use Rattle.fkv_device_partition.specs.Views.{PartitionView}
+use Rattle.fkv_partition.specs.Views.{PartitionView}
 use Rattle.fkv_alone.specs.Stages.{HasCome, IsReady}
 use Rattle.fkv_alone.specs.Ending.{IsOn}
-use Rattle.fkv_device_partition.specs.Pending.{OthersPend}
+use Rattle.fkv_partition.specs.Pending.{OthersPend}
 use Rattle.fkv_alone.specs.Bound.{IsNear}
-use Rattle.fkv_device_partition.specs.declared.contexts.Progress.TheVariants.{Next}
+use Rattle.fkv_partition.specs.declared.contexts.Progress.TheVariants.{Next}
 use Rattle.fkv_alone.proofs.running.drive.Given as goal
 
 abbrev pub invariant-loop-turn : goal.invariant-loop-turn

@@ -4,7 +4,7 @@ use Rattle.std.proofs.lemmas.Option.{slice_get-get_or}
 use Rattle.std.specs.BTreeMap.{get}
 use Rattle.std.specs.Map.{keys_of}
 use Rattle.fkv_functions.proofs.KeyOrder.{key_order}
-use Rattle.fkv_device_partition.specs.Views.{partition_of}
+use Rattle.fkv_partition.specs.Views.{partition_of}
 use Rattle.fkv_feeds.specs.Gathering.{with_all}
 use Rattle.fkv_feeds.proofs.RunLemmas.{view-get, view-same}
 use Rattle.fkv_feeds.proofs.UnionLemmas.{live-more}

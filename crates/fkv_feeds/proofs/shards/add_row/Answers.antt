@@ -4,7 +4,7 @@ use Rattle.std.proofs.lemmas.Int.{to_z-of_z}
 use Rattle.std.proofs.lemmas.Option.{slice_get_read}
 use Rattle.fkv_functions.specs.Names.{name_cmp, same_names, name_ties, name_exact, name_total}
 use Rattle.fkv_functions.proofs.KeyOrder.{key_order}
-use Rattle.fkv_device_partition.specs.Views.{partition_of}
+use Rattle.fkv_partition.specs.Views.{partition_of}
 use Rattle.fkv_feeds.specs.Runs.{StandFor}
 use Rattle.fkv_feeds.specs.Faults.{IsDeviceFault, IsFault}
 use Rattle.fkv_feeds.proofs.FeedsLemmas.{three_ok, err_weaker}

@@ -1,6 +1,6 @@
 use Rattle.std.proofs.Common.{Ok, Some, None}
 use Rattle.std.proofs.lemmas.Result.{IfOk-weaker}
-use Rattle.fkv_device_partition.specs.declared.contexts.Progress.TheVariants.{Next, Waits, NeedsBuild, NeedsLoad}
+use Rattle.fkv_partition.specs.declared.contexts.Progress.TheVariants.{Next, Waits, NeedsBuild, NeedsLoad}
 use Rattle.fkv_feeds.specs.declared.updating.Turn.TheVariants as turn
 use Rattle.fkv_feeds.proofs.SeatLemmas.{goes-leads, effect-of, tried, tries-then}
 use Rattle.fkv_feeds.proofs.updating.go_on.Goals as goal

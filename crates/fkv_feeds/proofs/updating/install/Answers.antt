@@ -1,6 +1,6 @@
 use Rattle.std.proofs.Common.{Ok, None, sym, subst}
 use Rattle.std.proofs.lemmas.Result.{IfOk-weaker}
-use Rattle.fkv_device_partition.specs.declared.contexts.Progress.TheVariants.{Next, Waits}
+use Rattle.fkv_partition.specs.declared.contexts.Progress.TheVariants.{Next, Waits}
 use Rattle.fkv_feeds.specs.Seats.{IsAsking}
 use Rattle.fkv_feeds.specs.declared.updating.Turn.TheVariants as turn
 use Rattle.fkv_feeds.proofs.SeatLemmas.{installs-leads, effect-of, tried, tries-then}

@@ -1,6 +1,6 @@
 use Rattle.std.proofs.Common.{Ok, Err, Some, None, inl, inr, refl}
 use Rattle.std.proofs.lemmas.Result.{IfOk-weaker}
-use Rattle.fkv_device_partition.specs.declared.contexts.Progress.TheVariants.{Next, NeedsBuild, NeedsLoad}
+use Rattle.fkv_partition.specs.declared.contexts.Progress.TheVariants.{Next, NeedsBuild, NeedsLoad}
 use Rattle.fkv_feeds.specs.Faults.{IsFault}
 use Rattle.fkv_feeds.specs.declared.updating.Turn.TheVariants as turn
 use Rattle.fkv_feeds.proofs.SeatLemmas.{loads-leads, tried, tries-then}

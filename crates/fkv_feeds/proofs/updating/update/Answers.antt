@@ -4,7 +4,7 @@ use Rattle.fkv_texts.specs.Text.{live}
 use Rattle.fkv_operations.specs.After.{after}
 use Rattle.fkv_operations.specs.AfterLaws.{same_map}
 use Rattle.fkv_operations.specs.declared.operations.Op.TheVariants.{Rmw}
-use Rattle.fkv_device_partition.specs.Views.{live_of}
+use Rattle.fkv_partition.specs.Views.{live_of}
 use Rattle.fkv_feeds.proofs.SeatLemmas.{issued-always, issue-opens}
 use Rattle.fkv_feeds.proofs.updating.update.Goals as goal
 

@@ -1,7 +1,7 @@
 use Rattle.std.proofs.Common.{◌≡◌, ◌+◌, ◌≤◌, ◌<◌, IsTrue, option_map}
 use Rattle.fkv_functions.specs.Plain.{Same}
 use Rattle.fkv_operations.specs.declared.operations.Op.TheVariants.{Rmw}
-use Rattle.fkv_device_partition.specs.Views.{live_of}
+use Rattle.fkv_partition.specs.Views.{live_of}
 use Rattle.fkv_feeds.specs.Seats.{IsOpen}
 use Rattle.fkv_feeds.proofs.updating.update.Given as goal
 

@@ -1,6 +1,6 @@
 use Rattle.std.proofs.Common.{refl, arith}
 use Rattle.fkv_texts.proofs.ChangeLemmas.{live-changed, entry_at-elsewhere}
-use Rattle.fkv_operations.proofs.RegionLemmas.{still-stays}
+use Rattle.fkv_lookups.proofs.StillLemmas.{still-stays}
 use Rattle.fkv_lookups.proofs.laws.records_change.Goals as goal
 
 pub returns : goal.returns

@@ -1,24 +1,18 @@
-use Rattle.fkv_texts.specs.Text.{last_of}
-use Rattle.fkv_operations.specs.After.{key_of}
-use Rattle.fkv_partition.specs.Views.{entry_for, slots_of}
-use Rattle.fkv_partition.proofs.AskedLemmas.{open_at}
-use Rattle.fkv_partition.proofs.EventLemmas.{last-is}
-use Rattle.fkv_partition.proofs.FrozenLemmas.{goes-frozen, installs-frozen}
+use Rattle.fkv_partition.proofs.StayLemmas.{goes-frozen, installs-frozen}
+use Rattle.fkv_partition.proofs.DecidedLemmas.{replaced-high}
 use Rattle.fkv_partition.proofs.laws.frozen_stay.Goals as goal
 
 pub returns : goal.returns
 returns g c = record {
-  goes = λ cmp f code old new slot at now result s h.
-      goes-frozen cmp f code old new slot at now result
-      (λ e key value a low. c.records_grow.ensures.frozen code old.records e key value a s.traced low)
-      (λ x value told e d last a low.
-      let inside = (open_at (slots_of old) old.contexts slot at x d.here).inside in
-      let m = c.regions_hold.ensures.replaced f code old.records slot x.op (entry_for code old (key_of x.op)) (last_of cmp old.records.text (key_of x.op)) value told s.traced inside d.decided in
-      let same = last-is _ e m.0 last m.1 in
-      c.records_change.ensures.frozen old.records e.address value a (rw same m.4) low)
-      h;
-  installs = λ cmp f code old new slot at ask now result s h.
-      installs-frozen cmp f code old new slot at ask now result
-      (λ e key value a low. c.records_grow.ensures.frozen code old.records e key value a s.traced low)
-      h;
+  goes = λ keeps stands cmp f code old new slot at now result order s goes.
+      goes-frozen cmp code old new slot at now stands f result
+      (λ e key value a low. c.records_grow.ensures.frozen keeps code old.records e key value a s.traced low)
+      (λ x value told e d last a low. c.records_change.ensures.frozen old.records e.address value a (replaced-high cmp f code old slot at x value told e s
+      (λ k w entered met. c.meetings_tell.ensures.mutable keeps cmp code old.records k slot w order s.traced entered met)
+      (λ k w entered m. c.meetings_tell.ensures.unfrozen keeps cmp code old.records k slot w s.traced entered m) d last) low)
+      goes;
+  installs = λ keeps cmp f code old new slot at ask now result s installs.
+      installs-frozen cmp code old new slot at now f ask result
+      (λ e key value a low. c.records_grow.ensures.frozen keeps code old.records e key value a s.traced low)
+      installs;
 }

@@ -1,28 +1,32 @@
-use Rattle.std.proofs.Common.{arith}
-use Rattle.fkv_records.specs.Places.{first}
-use Rattle.fkv_texts.proofs.PlaceLemmas.{rising, stands}
-use Rattle.fkv_hybrid.proofs.SessionLemmas.{head_first}
+use Rattle.std.proofs.Common.{◌∙◌, ap}
+use Rattle.fkv_pages.specs.Views.{text_begin}
 use Rattle.fkv_hybrid.proofs.log.Log.known.Goals as goal
 
-pub returns-clause-rising : goal.returns-clause-rising
-returns-clause-rising g c =
-    let l = c.self.invariant.0 in
-    let i = c.self.inside in
-    rw (← c.self.view_is) (rising i.shape.page_bits i.shape.record_size i.shape.limits 64 i.tail i.text.0.0 (λ h. first) l.paged.most (rw (← l.size) at l.spelled.laid_out))
+pub returns-clause-receipts : goal.returns-clause-receipts
+returns-clause-receipts g c = rw (← c.self.view_is) c.known.ensures.receipts
 
-pub returns-clause-from : goal.returns-clause-from
-returns-clause-from g c =
-    let l = c.self.invariant.0 in
-    let i = c.self.inside in
-    rw (← c.self.view_is) (λ n e h. (stands i.shape.page_bits i.shape.record_size i.shape.limits 64 i.tail i.text.0.0 (λ h. first) l.paged.most (rw (← l.size) at l.spelled.laid_out) n e h).low)
-
-pub returns-clause-below : goal.returns-clause-below
-returns-clause-below g c =
-    let l = c.self.invariant.0 in
-    let i = c.self.inside in
-    let some = i.shape.limits.some in
-    rw (← c.self.view_is) (λ n e h.
-    let s = stands i.shape.page_bits i.shape.record_size i.shape.limits 64 i.tail i.text.0.0 (λ h. first) l.paged.most (rw (← l.size) at l.spelled.laid_out) n e h in omega (arith, s.high))
-
-pub returns-clause-head : goal.returns-clause-head
-returns-clause-head g c = rw (← c.self.view_is) (head_first c.self.inside.regions c.known.ensures.regions c.self.invariant.1.flushed)
+pub returns-clause-log : goal.returns-clause-log
+returns-clause-log g c =
+    let p = c.known.ensures in
+    let r = c.known-2.ensures in
+    let t = c.self.invariant in
+    rw (← c.self.view_is) (record {
+      shape = p.shape;
+      some = p.some;
+      first = p.first.0;
+      marked = t.marked;
+      begins = p.from ∙ ap (text_begin g.D.Disk.keeps c.self.inside.pages.begin) t.closed;
+      laid_out = p.laid_out;
+      places = p.places;
+      rising = p.rising;
+      from = p.low;
+      below = p.below;
+      most = p.most;
+      end = p.end;
+      regions = r.regions;
+      timely = r.epochs;
+      bits = t.bits;
+      headed = t.begin;
+      read_only = t.begun;
+      flushed = t.flushed;
+    })

@@ -1,8 +1,8 @@
 use Rattle.std.proofs.Common.{◌<◌, ◌≤◌, refl, ap, arith, ◌∙◌}
 use Rattle.std.specs.BTreeMap.{get, is_at}
 use Rattle.std.specs.Map.{lookup}
-use Rattle.fkv_operations.proofs.ScanLemmas.{ended, goes_on}
-use Rattle.fkv_device_log.specs.Scans.{memory}
+use Rattle.fkv_lookups.proofs.ScanLemmas.{ended, goes_on}
+use Rattle.fkv_hybrid.specs.Scans.{memory}
 use Rattle.fkv_lookups.proofs.LiveLemmas.{scan_begins, scan_rises, scan_refused}
 use Rattle.fkv_lookups.proofs.records.Records.live.Goals as goal
 

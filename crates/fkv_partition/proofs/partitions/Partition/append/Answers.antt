@@ -1,28 +1,39 @@
-use Rattle.std.proofs.Common.{◌≡◌, Err, ap}
-use Rattle.fkv_functions.specs.declared.refusals.Refused.TheVariants.{Worn, NoMemory}
-use Rattle.fkv_partition.proofs.SoundLemmas.{sound-appended}
+use Rattle.std.proofs.Common.{Ok, ap, refl}
+use Rattle.fkv_partition.proofs.SoundLemmas.{sound-appended, sound-moment}
 use Rattle.fkv_partition.proofs.partitions.Partition.append.Goals as goal
 
-pub returns-in-Err-clause-worn : goal.returns-in-Err-clause-worn
-returns-in-Err-clause-worn g c =
-    rw (← c.self.view_is) (
-      (λ e. (let same : c.in-Err.refused ≡ Worn = cc in c.in-Err.ensures.worn.0 (ap Err same))),
-      (λ t. (let told = c.in-Err.ensures.worn.1 t in let same : c.in-Err.refused ≡ Worn = cc in ap Err same)),
-    )
+pub invariant_of-self-in-Ok-None : goal.invariant_of-self-in-Ok-None
+invariant_of-self-in-Ok-None g c =
+    let same = c.in-Ok-None.ensures.full (ap Ok c.in-Ok-None.field-0-is) in
+    rw same (sound-moment c.self.invariant c.args.now)
 
-pub returns-in-Err-clause-memory : goal.returns-in-Err-clause-memory
-returns-in-Err-clause-memory g c = λ e. rw (← c.self.view_is) (let same : c.in-Err.refused ≡ NoMemory = cc in c.in-Err.ensures.memory (ap Err same))
+pub returns-in-Ok-None-clause-room : goal.returns-in-Ok-None-clause-room
+returns-in-Ok-None-clause-room g c =
+    let full = c.in-Ok-None.ensures.room.0 (ap Ok c.in-Ok-None.field-0-is) in
+    rw (← c.self.view_is) ((λ e. full), λ f. refl)
 
-pub invariant_of-self-2 : goal.invariant_of-self-2
-invariant_of-self-2 g c =
+pub returns-in-Ok-None-clause-full : goal.returns-in-Ok-None-clause-full
+returns-in-Ok-None-clause-full g c = λ e.
+    let same = c.in-Ok-None.ensures.full (ap Ok c.in-Ok-None.field-0-is) in
+    rw (same, ← c.self.view_is) refl
+
+pub returns-in-Ok-None-clause-worn : goal.returns-in-Ok-None-clause-worn
+returns-in-Ok-None-clause-worn g c =
+    rw (← c.self.view_is) ((λ e. absurd (cc)), λ t. (let bad = c.in-Ok-None.ensures.worn.1 t in absurd (cc)))
+
+pub invariant_of-self-in-Ok-Some : goal.invariant_of-self-in-Ok-Some
+invariant_of-self-in-Ok-Some g c =
     let w = c.args.write in
-    let made = c.in-Ok.ensures in
-    rw (made.appended, c.set_context.ensures)
+    let is = c.in-Ok-Some.field-0-is in
+    let made = rw is at c.in-Ok-Some.ensures.appended in
+    let changes = rw is at c.in-Ok-Some.ensures.changes in
+    let tentative = rw is at c.in-Ok-Some.ensures.tentative in
+    rw (made, c.set_context.ensures)
     (sound-appended c.self.invariant c.args.slot c.args.context c.args.now w.entry w.key w.value
     (rw (← c.self.view_is) at c.requires.unclaimed)
     (rw (← c.self.view_is) at c.requires.write.entry)
-    (rw made.appended at c.known.ensures)
+    (rw made at c.known.ensures)
     (c.records_grow.ensures.kept g.F.Key.Ord.cmp c.self.inside.records w.entry w.key w.value)
-    (rw made.appended at made.changes)
-    (rw made.appended at made.tentative)
+    (rw made at changes)
+    (rw made at tentative)
     (rw (← c.self.view_is) at c.requires.write.own))

@@ -1,11 +1,12 @@
-use Rattle.std.proofs.Common.{Err, refl, sym, ap, ◌∙◌, inl, inr}
+use Rattle.std.proofs.Common.{Ok, Err, refl, sym, ap, ◌∙◌}
 use Rattle.fkv_functions.proofs.KeyOrder.{key_order}
 use Rattle.fkv_index.specs.Words.{address_of}
 use Rattle.fkv_operations.specs.After.{key_of}
-use Rattle.fkv_operations.specs.RecordsViews.{class_in}
+use Rattle.fkv_lookups.specs.RecordsViews.{class_in}
 use Rattle.fkv_partition.specs.Views.{partition_of}
-use Rattle.fkv_partition.specs.Installing.{worn, unheld, done}
-use Rattle.fkv_partition.proofs.EventLemmas.{question-of, question-quiet, kept-entry, own-at, event-done, claims-none}
+use Rattle.fkv_partition.specs.declared.contexts.Wait.TheVariants.{Full}
+use Rattle.fkv_partition.specs.Installing.{worn, full, done}
+use Rattle.fkv_partition.proofs.EventLemmas.{question-of, question-quiet, kept-entry, own-at, event-done, event-waits, claims-none}
 use Rattle.fkv_partition.proofs.partitions.Partition.append_built.Goals as goal
 
 pub append-requires-clause-unclaimed : goal.append-requires-clause-unclaimed
@@ -27,19 +28,31 @@ append-requires-clause-write g c κs within =
 pub returns-in-Err-clause-does : goal.returns-in-Err-clause-does
 returns-in-Err-clause-does g c =
     let a = c.requires.asks in
-    rw c.in-Err.ensures.err (elim c.in-Err.ensures.only [
-      | inl e ↦ worn a.operation c.args.kept a.here a.question c.requires.stands (c.in-Err.ensures.worn.0 (ap Err e)) refl (ap Err e)
-      | inr e ↦ unheld a.operation c.args.kept a.here a.question c.requires.stands (λ h. let no = sym (ap Err e) ∙ c.in-Err.ensures.worn.1 h in cc) (c.in-Err.ensures.memory (ap Err e)) refl (ap Err e)
-    ])
+    let e = c.in-Err.ensures.only in
+    rw c.in-Err.ensures.err (worn a.operation c.args.kept a.here a.question c.requires.stands (c.in-Err.ensures.worn.0 (ap Err e)) refl (ap Err e))
 
-pub returns-in-Ok-clause-does : goal.returns-in-Ok-clause-does
-returns-in-Ok-clause-does g c =
+pub returns-in-Ok-None-clause-does : goal.returns-in-Ok-None-clause-does
+returns-in-Ok-None-clause-does g c =
     let a = c.requires.asks in
-    rw (c.in-Ok.ensures.ok, c.read-shown.ensures, c.value-value.ensures, c.ask-ask.ensures)
-    (done a.operation c.args.kept a.here a.question c.requires.stands (λ h. let no = c.in-Ok.ensures.worn.1 h in cc) refl refl)
+    let is = ap Ok c.in-Ok-None.field-0-is in
+    rw (c.in-Ok-None.ensures.full is) (full a.operation c.args.kept a.here a.question c.requires.stands (c.in-Ok-None.ensures.room.0 is) refl refl)
 
-pub returns-in-Ok-clause-event : goal.returns-in-Ok-clause-event
-returns-in-Ok-clause-event g c =
+pub returns-in-Ok-None-clause-event : goal.returns-in-Ok-None-clause-event
+returns-in-Ok-None-clause-event g c = λ keeps.
+    let a = c.requires.asks in
+    let is = ap Ok c.in-Ok-None.field-0-is in
+    rw (c.in-Ok-None.ensures.full is) (event-waits g.F.Key.Ord.cmp g.F.Functions.meaning g.F.Functions.code c.args.self.now c.args.slot c.args.context c.args.now a.operation a.here Full)
+
+pub returns-in-Ok-Some-clause-does : goal.returns-in-Ok-Some-clause-does
+returns-in-Ok-Some-clause-does g c =
+    let a = c.requires.asks in
+    let is = c.in-Ok-Some.field-0-is in
+    let made = rw is at c.in-Ok-Some.ensures.ok in
+    rw (made, c.read-shown.ensures, c.value-value.ensures, c.ask-ask.ensures)
+    (done a.operation c.args.kept a.here a.question c.requires.stands (λ h. let bad = c.in-Ok-Some.ensures.worn.1 h in cc) (λ f. let bad = sym (c.in-Ok-Some.ensures.room.1 f) ∙ ap Ok is in cc) refl refl)
+
+pub returns-in-Ok-Some-clause-event : goal.returns-in-Ok-Some-clause-event
+returns-in-Ok-Some-clause-event g c = λ keeps.
     let ord = g.met.F.Key.Ord g.world.𝓛 g.world.𝓜 g.world.𝓡 ((λ s x. x), (λ x. x), (λ x. x), λ x. x) in
     let known = g.met.F.Key.Known g.world.𝓛 g.world.𝓜 g.world.𝓡 ((λ s x. x), (λ x. x), (λ x. x), λ x. x) in
     let order = key_order g.F.Key.PartialEq.eq g.F.Key.Ord.cmp ord.matches_eq known.exact ord.total in
@@ -47,9 +60,10 @@ returns-in-Ok-clause-event g c =
     let v = c.args.self.now in
     let ask = c.args.built in
     let kept = c.args.kept in
+    let made = rw c.in-Ok-Some.field-0-is at c.in-Ok-Some.ensures.ok in
     let entry = kept-entry g.F.Key.Ord.cmp g.F.Functions.code v c.known.ensures c.args.slot c.args.context a.operation kept ask a.here a.question c.requires.stands in
-    let leads = c.entries_lead.ensures.found g.F.Functions.code v.records (class_in g.F.Functions.code v.records ask.key) kept c.known.ensures.traced entry in
-    let newest = c.entries_lead.ensures.held g.F.Key.Ord.cmp g.F.Functions.code v.records ask.key (address_of kept.word) order c.known.ensures.traced leads in
-    rw (c.in-Ok.ensures.ok, c.read-shown.ensures, c.value-value.ensures, c.ask-ask.ensures)
-    (event-done g.F.Key.Ord.cmp g.F.Functions.meaning g.F.Functions.code v c.args.slot c.args.context c.args.now a.operation a.here c.known.ensures kept ask a.question newest
+    let leads = c.entries_lead.ensures.found g.D.Disk.keeps g.F.Functions.code v.records (class_in g.F.Functions.code v.records ask.key) kept c.known.ensures.traced entry in
+    let newest = c.entries_lead.ensures.held g.F.Key.Ord.cmp g.D.Disk.keeps g.F.Functions.code v.records ask.key (address_of kept.word) order c.known.ensures.traced leads in
+    rw (made, c.read-shown.ensures, c.value-value.ensures, c.ask-ask.ensures)
+    (event-done g.F.Key.Ord.cmp g.F.Functions.meaning g.F.Functions.code v c.args.slot c.args.context c.args.now a.operation a.here keeps c.known.ensures kept ask a.question newest
     (c.records_grow.ensures.lives g.F.Key.Ord.cmp v.records kept ask.key))

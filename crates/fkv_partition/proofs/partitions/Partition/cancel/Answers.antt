@@ -8,7 +8,7 @@ pub cancel-requires-after_bounds : goal.cancel-requires-after_bounds
 cancel-requires-after_bounds g c κs within =
     let x = c.args.operation.now in
     let at : context_in c.self.inside.records.regions.epochs.slots c.self.inside.contexts.items c.args.slot c.args.context ≡ Some x = rw (← c.self.view_is) at c.requires.here in
-    is-tentative g.F.Key.Ord.cmp g.F.Functions.code (view_of c.self.inside) c.self.invariant c.args.slot c.args.context c.args.now x at c.args.place c.requires.phase
+    is-tentative g.F.Key.Ord.cmp g.F.Functions.code (view_of c.self.inside.number c.self.inside.count c.self.inside.records c.self.inside.contexts.items c.self.inside.moment) c.self.invariant c.args.slot c.args.context c.args.now x at c.args.place c.requires.phase
 
 pub invariant_of-self : goal.invariant_of-self
 invariant_of-self g c =
@@ -16,5 +16,5 @@ invariant_of-self g c =
     let at : context_in c.self.inside.records.regions.epochs.slots c.self.inside.contexts.items c.args.slot c.args.context ≡ Some x = rw (← c.self.view_is) at c.requires.here in
     let made = c.cancel.ensures in
     rw c.set_context.ensures
-    (sound-cancels g.F.Key.Ord.cmp g.F.Functions.code (view_of c.self.inside) c.self.invariant c.args.slot c.args.context c.args.now x at
+    (sound-cancels g.F.Key.Ord.cmp g.F.Functions.code (view_of c.self.inside.number c.self.inside.count c.self.inside.records c.self.inside.contexts.items c.self.inside.moment) c.self.invariant c.args.slot c.args.context c.args.now x at
     c.cancel.new.self c.args.place c.requires.phase (reworded-released c.self.inside.records c.cancel.new.self c.args.place made.emptied) made.changes made.freed c.known.ensures)

@@ -1,6 +1,6 @@
 use Rattle.std.proofs.Common.{◌≡◌, Some, refl, subst}
 use Rattle.fkv_operations.specs.declared.classes.Class.{Class}
-use Rattle.fkv_operations.specs.RecordsViews.{Claims}
+use Rattle.fkv_lookups.specs.RecordsViews.{Claims}
 use Rattle.fkv_partition.specs.Contexts.{context_in}
 use Rattle.fkv_partition.specs.Inside.{view_of}
 use Rattle.fkv_partition.proofs.ChangeLemmas.{sound-claims}
@@ -12,7 +12,7 @@ invariant_of-self-2 g c =
     let at : context_in c.self.inside.records.regions.epochs.slots c.self.inside.contexts.items c.args.slot c.args.context ≡ Some x = rw (← c.self.view_is) at c.requires.here in
     let made = c.in-Ok.ensures in
     rw (c.set_context.ensures, c.in_phase-waiting.ensures)
-    (sound-claims g.F.Key.Ord.cmp g.F.Functions.code (view_of c.self.inside) c.self.invariant c.args.slot c.args.context c.args.now x at
+    (sound-claims g.F.Key.Ord.cmp g.F.Functions.code (view_of c.self.inside.number c.self.inside.count c.self.inside.records c.self.inside.contexts.items c.self.inside.moment) c.self.invariant c.args.slot c.args.context c.args.now x at
     c.claim.new.self c.args.class c.in-Ok.place c.requires.unclaimed (rw (← c.self.view_is) at c.requires.class) made.ok made.changes made.free made.bucket made.word made.taken c.known.ensures)
 
 pub returns-clause-ok : goal.returns-clause-ok

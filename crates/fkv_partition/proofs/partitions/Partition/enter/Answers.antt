@@ -15,7 +15,7 @@ pub invariant_of-self-2 : goal.invariant_of-self-2
 invariant_of-self-2 g c =
     let was = c.self.inside.records.regions in
     rw c.in-Ok.ensures.effect
-    (sound-regions c.self.invariant (entered was c.in-Ok.slot) c.args.now (rw c.in-Ok.ensures.effect at c.known.ensures) (omega arith)
+    (sound-regions c.self.invariant (entered was c.in-Ok.slot) c.args.now (rw c.in-Ok.ensures.effect at c.known.ensures) (record { closed = omega arith; head = omega arith; safe = omega arith; read_only = omega arith })
     (λ t d x low here. renewed-stays was.epochs.slots c.in-Ok.slot t was.epochs.epoch (c.self.invariant.housed t d x low here)))
 
 pub returns-clause-does : goal.returns-clause-does

@@ -1,5 +1,5 @@
 use Rattle.std.proofs.Common.{refl, sym}
-use Rattle.fkv_operations.specs.RecordsViews.{released}
+use Rattle.fkv_lookups.specs.RecordsViews.{released}
 use Rattle.fkv_partition.specs.Ending.{gives_up, cancels}
 use Rattle.fkv_partition.proofs.EventLemmas.{event-give_up, claims-none, confirm-by}
 use Rattle.fkv_partition.proofs.partitions.Partition.give_up.Goals as goal

@@ -1,6 +1,6 @@
 use Rattle.std.proofs.Common.{refl, sym, ◌∙◌}
 use Rattle.fkv_partition.specs.Ending.{unknown, busy, leaves}
-use Rattle.fkv_partition.proofs.EventLemmas.{event-leave}
+use Rattle.fkv_partition.proofs.EventLemmas.{event-moved, left-same}
 use Rattle.fkv_partition.proofs.partitions.Partition.leave.Goals as goal
 
 pub returns-then-not-is_session-clause-does : goal.returns-then-not-is_session-clause-does
@@ -13,7 +13,8 @@ pub vacate-requires-clause-entered : goal.vacate-requires-clause-entered
 vacate-requires-clause-entered g c κs within = sym c.is_session.ensures.value ∙ c.if-not-is_session.false
 
 pub returns-clause-does : goal.returns-clause-does
-returns-clause-does g c = rw c.vacate.ensures (leaves (sym c.is_session.ensures.value ∙ c.if-not-is_session.false) (sym c.in_default.ensures) refl refl)
+returns-clause-does g c = leaves (sym c.is_session.ensures.value ∙ c.if-not-is_session.false) (sym c.in_default.ensures) c.vacate.ensures refl
 
 pub returns-clause-event : goal.returns-clause-event
-returns-clause-event g c = rw c.vacate.ensures (event-leave c.args.self.now c.args.slot c.args.now (sym c.in_default.ensures))
+returns-clause-event g c =
+    rw c.vacate.ensures.is (event-moved g.D.Disk.keeps c.args.self.now _ _ c.args.now c.vacate.ensures.moves (left-same c.args.self.now c.args.slot (sym c.in_default.ensures)))

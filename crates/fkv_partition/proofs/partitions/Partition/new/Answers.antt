@@ -1,12 +1,13 @@
 use Rattle.std.proofs.Common.{arith, refl, ap, ◌∙◌}
-use Rattle.fkv_operations.specs.RecordsViews.{empty_records}
+use Rattle.fkv_lookups.specs.RecordsViews.{empty_records}
 use Rattle.fkv_partition.proofs.SoundLemmas.{sound-empty}
 use Rattle.fkv_partition.proofs.partitions.Partition.new.Goals as goal
 
 pub invariant_of-result : goal.invariant_of-result
 invariant_of-result g c =
     let shape = c.in-Some.ensures.some in
-    let empty = c.in_ok-records.ensures.ok ∙ ap (λ b. empty_records c.args.config.now.partition_bits c.args.config.now.bucket_bits b c.in-Some.shape.record_size) shape.0 ∙ ap (empty_records c.args.config.now.partition_bits c.args.config.now.bucket_bits c.args.config.now.page_bits) shape.1 in
+    let at = c.args.config.now in
+    let empty = c.in_ok-records.ensures.ok ∙ ap (λ b. empty_records at.partition_bits at.bucket_bits b c.in-Some.shape.record_size at.frames) shape.0 ∙ ap (λ r. empty_records at.partition_bits at.bucket_bits at.page_bits r at.frames) shape.1 in
     rw (c.partitions-count.ensures.count, empty, c.in_ok-contexts.ensures.ok)
     (sound-empty c.args.config.now _ c.args.number (omega (arith, c.partitions-count.ensures.count, c.if-number-count.false)) (rw empty at c.known.ensures)
     (rw empty at c.in_ok-records.ensures.tentative))

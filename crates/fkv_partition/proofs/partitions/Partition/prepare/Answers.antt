@@ -2,11 +2,11 @@ use Rattle.std.proofs.Common.{refl, sym, ap, ◌∙◌}
 use Rattle.fkv_functions.proofs.KeyOrder.{key_order}
 use Rattle.fkv_index.specs.Words.{address_of}
 use Rattle.fkv_operations.specs.After.{key_of}
-use Rattle.fkv_operations.specs.RecordsViews.{class_in}
+use Rattle.fkv_lookups.specs.RecordsViews.{class_in}
 use Rattle.fkv_operations.specs.declared.operations.Op.TheVariants.{Rmw}
 use Rattle.fkv_partition.specs.Contexts.{claim_by}
-use Rattle.fkv_texts.specs.Text.{last_of}
-use Rattle.fkv_partition.specs.Views.{entry_for, slots_of}
+use Rattle.fkv_lookups.specs.DecisionLaws.{prepare-met}
+use Rattle.fkv_partition.specs.Views.{slots_of, met_at}
 use Rattle.fkv_partition.proofs.AskedLemmas.{open_at}
 use Rattle.fkv_partition.specs.Going.{prepares}
 use Rattle.fkv_partition.proofs.EventLemmas.{asks-rmw, prepared-stands, event-prepares}
@@ -25,14 +25,16 @@ set_phase-requires-clause-stands g c κs within =
     let d = c.requires.decided in
     let class = class_in g.F.Functions.code v.records (key_of x.op) in
     let a = address_of c.args.kept.word in
-    let leads = c.entries_lead.ensures.found g.F.Functions.code v.records class c.args.kept c.known.ensures.traced c.requires.stands in
-    prepared-stands g.F.Key.Ord.cmp g.F.Functions.meaning g.F.Functions.code v c.args.slot c.args.context c.args.now x d.here c.args.kept c.args.ask.source c.args.ask.input
+    let inside = (open_at (slots_of v) v.contexts c.args.slot c.args.context x d.here).inside in
+    let leads = c.entries_lead.ensures.found g.D.Disk.keeps g.F.Functions.code v.records class c.args.kept c.known.ensures.traced c.requires.stands in
+    let held = c.meetings_tell.ensures.held g.D.Disk.keeps g.F.Key.Ord.cmp g.F.Functions.code v.records (key_of x.op) c.args.slot order c.known.ensures.traced inside in
+    prepared-stands g.F.Key.Ord.cmp g.F.Functions.meaning g.F.Functions.code v c.args.slot c.args.context c.args.now x d.here g.D.Disk.keeps c.args.kept c.args.ask.source c.args.ask.input
     c.requires.stands
-    leads
-    (c.entries_lead.ensures.low g.F.Functions.code v.records class a c.known.ensures.traced leads)
-    (c.entries_lead.ensures.held g.F.Key.Ord.cmp g.F.Functions.code v.records (key_of x.op) a order c.known.ensures.traced leads)
-    (c.regions_hold.ensures.prepared g.F.Functions.meaning g.F.Functions.code v.records c.args.slot x.op (entry_for g.F.Functions.code v (key_of x.op)) (last_of g.F.Key.Ord.cmp v.records.text (key_of x.op)) c.args.ask.source c.args.ask.input c.known.ensures.traced
-    (open_at (slots_of v) v.contexts c.args.slot c.args.context x d.here).inside d.decided)
+    (c.entries_lead.ensures.low g.D.Disk.keeps g.F.Functions.code v.records class a c.known.ensures.traced leads)
+    (c.entries_lead.ensures.held g.F.Key.Ord.cmp g.D.Disk.keeps g.F.Functions.code v.records (key_of x.op) a order c.known.ensures.traced leads)
+    (c.meetings_tell.ensures.still g.D.Disk.keeps g.F.Key.Ord.cmp g.F.Functions.code v.records (key_of x.op) c.args.slot order c.known.ensures.traced inside
+    (prepare-met g.F.Functions.meaning x.op (met_at g.F.Key.Ord.cmp g.F.Functions.code v c.args.slot (key_of x.op)) c.args.ask.source c.args.ask.input d.decided))
+    held
     d.decided
 
 pub returns-clause-does : goal.returns-clause-does

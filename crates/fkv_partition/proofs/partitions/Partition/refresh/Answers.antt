@@ -1,27 +1,27 @@
+use Rattle.fkv_partition.specs.Inside.{view_of}
 use Rattle.std.proofs.Common.{Err, refl, ap}
-use Rattle.fkv_regions.specs.RegionsView.{refreshed}
 use Rattle.fkv_partition.specs.Looking.{unknown, refreshes}
 use Rattle.fkv_partition.proofs.AskedLemmas.{renewed-stays}
-use Rattle.fkv_partition.proofs.SoundLemmas.{sound-regions}
-use Rattle.fkv_partition.proofs.EventLemmas.{event-refresh, not-entered}
+use Rattle.fkv_partition.proofs.SoundLemmas.{sound-moved, slots-moved}
+use Rattle.fkv_partition.proofs.EventLemmas.{event-moved, refreshed-same, not-entered}
 use Rattle.fkv_partition.proofs.partitions.Partition.refresh.Goals as goal
 
 pub returns-in-Err-clause-does : goal.returns-in-Err-clause-does
 returns-in-Err-clause-does g c =
     let made = c.in-Err.ensures in
-    rw (made.refused.1, ← c.self.view_is) (unknown (not-entered c.self.inside.records.regions.epochs.slots c.args.slot (λ e. let no = made.unknown.1 e in cc)) refl (ap Err made.refused.0))
+    rw (made.refused.1, ← c.self.view_is) (unknown (not-entered c.self.inside.records.regions.epochs.slots c.args.slot (λ e. let bad = made.unknown.1 e in cc)) refl (ap Err made.refused.0))
 
 pub invariant_of-self-2 : goal.invariant_of-self-2
 invariant_of-self-2 g c =
     let was = c.self.inside.records.regions in
     let made = c.in-Ok.ensures in
-    rw made.effect
-    (sound-regions c.self.invariant (refreshed was c.args.slot) c.args.now (rw made.effect at c.known.ensures) (rw made.effect at made.raised)
-    (λ t d x low here. renewed-stays was.epochs.slots c.args.slot t was.epochs.epoch (c.self.invariant.housed t d x low here)))
+    sound-moved c.self.invariant c.refresh.new.self _ c.args.now c.known.ensures made.effect made.raised
+    (λ t d x low here. slots-moved c.self.inside.records c.refresh.new.self _ t made.effect (renewed-stays was.epochs.slots c.args.slot t was.epochs.epoch (c.self.invariant.housed t d x low here)))
 
 pub returns-clause-does : goal.returns-clause-does
-returns-clause-does g c = rw (c.in-Ok.ensures.effect, ← c.self.view_is) (refreshes (c.in-Ok.ensures.unknown.0 refl) refl refl)
+returns-clause-does g c = rw (← c.self.view_is) (refreshes (c.in-Ok.ensures.unknown.0 refl) (record { moves = c.in-Ok.ensures.effect; is = refl }) refl)
 
 pub returns-clause-event : goal.returns-clause-event
 returns-clause-event g c =
-    rw (c.in-Ok.ensures.effect, ← c.self.view_is) (event-refresh _ c.args.slot c.args.now (c.in-Ok.ensures.unknown.0 refl))
+    let v = (view_of c.self.inside.number c.self.inside.count c.self.inside.records c.self.inside.contexts.items c.self.inside.moment) in
+    rw (← c.self.view_is) (event-moved g.D.Disk.keeps v c.refresh.new.self _ c.args.now c.in-Ok.ensures.effect (refreshed-same v c.args.slot (c.in-Ok.ensures.unknown.0 refl)))

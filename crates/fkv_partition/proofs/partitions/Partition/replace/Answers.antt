@@ -9,5 +9,6 @@ invariant_of-self g c =
     rw (c.replace.ensures, c.set_context.ensures)
     (sound-replaced c.self.invariant c.args.slot c.args.context c.args.now c.args.address c.args.value
     (rw (← c.self.view_is) at c.requires.unclaimed)
+    high
     (rw c.replace.ensures at c.known-2.ensures)
-    (λ q b still. c.records_change.ensures.kept g.F.Key.Ord.cmp g.F.Functions.code was c.args.address c.args.value q b c.known.ensures some high still))
+    (λ q b still. c.records_change.ensures.kept g.F.Key.Ord.cmp g.D.Disk.keeps g.F.Functions.code was c.args.address c.args.value q b c.known.ensures some high still))

@@ -13,10 +13,10 @@ invariant_of-self g c =
     let here = open_at c.self.inside.records.regions.epochs.slots c.self.inside.contexts.items c.args.slot c.args.context x at in
     rw (c.set_context.ensures, c.in_phase-moved.ensures)
     (sound-context c.self.invariant c.args.slot c.args.context c.args.now (at_phase x c.args.phase)
-    (claims-none (view_of c.self.inside) c.args.slot c.args.context x at c.requires.unclaimed) c.requires.claims_nothing
+    (claims-none (view_of c.self.inside.number c.self.inside.count c.self.inside.records c.self.inside.contexts.items c.self.inside.moment) c.args.slot c.args.context x at c.requires.unclaimed) c.requires.claims_nothing
     (record {
       stands = rw (← c.self.view_is) at c.requires.stands;
-      own = own-at g.F.Key.Ord.cmp g.F.Functions.code (view_of c.self.inside) c.self.invariant c.args.slot c.args.context x at;
+      own = own-at g.F.Key.Ord.cmp g.F.Functions.code (view_of c.self.inside.number c.self.inside.count c.self.inside.records c.self.inside.contexts.items c.self.inside.moment) c.self.invariant c.args.slot c.args.context x at;
       inside = here.inside;
       low = here.low;
     }))

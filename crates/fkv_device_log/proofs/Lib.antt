@@ -1,2 +1,0 @@
-pub mod TiedLemmas
-pub mod ScanLemmas

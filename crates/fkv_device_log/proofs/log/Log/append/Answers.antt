@@ -1,8 +1,0 @@
-use Rattle.fkv_device_log.proofs.TiedLemmas.{tied_appended}
-use Rattle.fkv_device_log.proofs.log.Log.append.Goals as goal
-
-pub invariant_of-self : goal.invariant_of-self
-invariant_of-self g c =
-    let i = c.self.inside in
-    tied_appended _ i.pages c.append.new.self i.regions c.args.previous c.args.key c.args.value c.append.result c.self.invariant c.known.ensures.shape c.known.ensures.most c.known.ensures.end
-    c.append.ensures.appended c.append.ensures.full c.append.ensures.err c.append.ensures.worn

@@ -1,0 +1,13 @@
+use Rattle.std.proofs.Common.{◌∙◌, ap}
+use Rattle.fkv_hybrid.proofs.ScanLemmas.{if_ok}
+use Rattle.fkv_hybrid.proofs.log.Log.load.Goals as goal
+
+pub returns-clause-page : goal.returns-clause-page
+returns-clause-page g c =
+    let page = (c.known.ensures.receipts c.args.page (g.D.Receipt.Receipt.stands c.in-Ok.receipt) c.in-Ok.ensures.stands).0 in
+    if_ok c.fetch.result c.fetch.ensures.receipt (λ l is. ap (λ s. s.page) is ∙ page)
+
+pub returns-clause-counted : goal.returns-clause-counted
+returns-clause-counted g c =
+    let page = (c.known.ensures.receipts c.args.page (g.D.Receipt.Receipt.stands c.in-Ok.receipt) c.in-Ok.ensures.stands).0 in
+    rw page at c.fetch.ensures.counted

@@ -1,0 +1,159 @@
+//! A way along all entries of a log, the lowest first.
+//!
+//! Entries of flushed pages are read by their receipts, each page once; the others from their frames. So on a device that
+//! keeps what it is given, what a scan reads is the log's text.
+ghost use Rattle.std.specs.Prelude.{◌≡◌, ◌<◌, ◌≤◌, IsTrue, IsOk, IsSomeAnd, IfOk, IfErr, IfSome, OnOk, OnErr, Ok, length};
+ghost use Rattle.fkv_records.specs.Places.{page_at};
+ghost use Rattle.fkv_records.specs.Records.{size_of};
+ghost use Rattle.fkv_device.specs.Failing.{ReadFailsBy};
+ghost use Rattle.fkv_texts.specs.Places.{tail_after};
+ghost use Rattle.fkv_texts.specs.Text.{entry_at};
+ghost use Rattle.fkv_pages.specs.Loads.{IsHeldBy};
+ghost use Rattle.fkv_hybrid.specs.Scans.{IsScanOf, HasPage, IsStepRefusal};
+
+use crate::log::Log;
+use fkv_device::{Disk, Loaded, Receipt};
+use fkv_functions::{Fixed, Refused};
+use fkv_records::Address;
+use fkv_texts::Entry;
+use std::alloc::Global;
+use std::marker::Model;
+
+/// Where a scan of a log stands, and the flushed page that it loaded last.
+#[derive(Drop)]
+pub struct Scan<D: Disk> {
+    address: Address,
+    loaded: Option<Loaded<D>>,
+}
+
+impl<D: Disk> Model for Scan<D> {
+    ghost use Rattle.std.specs.Option.{option_map};
+    ghost use Rattle.fkv_hybrid.specs.Scans.{ScanView};
+
+    ghost Value = { ScanView };
+
+    ghost view = { λ s. record { address = s.address; loaded = option_map (λ l. D.Receipt.stands l.receipt) s.loaded } };
+}
+
+impl<D: Disk> Scan<D> {
+    /// The address of the entry that is read next, or where the log ended.
+    pub fn address(&self) -> Address
+        ensures { result ≡ self.now.address }
+    {
+        self.address
+    }
+}
+
+impl<K: Fixed, V: Fixed, D: Disk> Log<K, V, D> {
+    /// A scan that stands at Begin, and has no page.
+    pub fn scan(&self) -> Scan<D>
+        ensures begins { result.address ≡ self.now.begin }
+        ensures scan { IsScanOf (size_of K.SIZE V.SIZE) self.now result }
+    {
+        self.known();
+        Scan {
+            address: self.begin(),
+            loaded: None,
+        }
+    }
+
+    /// The entry where a scan stands, which goes on to the next place. No page is read twice in turn, and a page that is
+    /// not flushed is not read from the device. On a device that keeps the entry is the text's. Refused, and then the scan
+    /// stands where it stood: `NoMemory`, or as the device refuses the entry's page; `Damaged` where the page's bytes
+    /// spell no entry there.
+    pub fn step(
+        &self,
+        alloc: Global,
+        reader: &mut D::Reader,
+        scan: &mut Scan<D>,
+    ) -> Result<Entry<K, V>, Refused>
+        requires scan { IsScanOf (size_of K.SIZE V.SIZE) self.now scan.old }
+        requires more { scan.old.address < self.now.tail }
+        ensures stands { IfOk result (λ e. e.address ≡ scan.old.address) }
+        ensures kept { IsTrue D.keeps → IfOk result (λ e. entry_at self.now.text scan.old.address ≡ Some e) }
+        // an entry of a page that is not flushed is the text's on any device
+        ensures in_frame { length self.now.receipts ≤ page_at self.now.bits scan.old.address
+            → IfSome (entry_at self.now.text scan.old.address) (λ e. result ≡ Ok e) }
+        ensures unread { length self.now.receipts ≤ page_at self.now.bits scan.old.address
+            → IsOk result × (reader.new ≡ reader.old) }
+        // a page that is loaded is not read again
+        ensures once { HasPage scan.old (page_at self.now.bits scan.old.address) → reader.new ≡ reader.old }
+        ensures loaded { OnOk result (page_at self.now.bits scan.old.address < length self.now.receipts
+            → HasPage scan.new (page_at self.now.bits scan.old.address)) }
+        ensures scan { IsScanOf (size_of K.SIZE V.SIZE) self.now scan.new }
+        ensures goes { OnOk result (scan.new.address
+            ≡ tail_after self.now.bits (size_of K.SIZE V.SIZE) scan.old.address) }
+        ensures stays { OnErr result (scan.new.address ≡ scan.old.address) }
+        ensures steady { OnOk result (D.Reader.failures reader.new ≡ D.Reader.failures reader.old) }
+        ensures refused { IfErr result (IsStepRefusal D.keeps (page_at self.now.bits scan.old.address)
+            (D.Reader.failures reader.old) (D.Reader.failures reader.new)) }
+    {
+        self.known();
+        let address = scan.address;
+        let page = self.shape().page_of(address);
+        if page >= self.unflushed() {
+            scan.address = self.next(address);
+            return Ok(self.record_at(address));
+        }
+        let held = scan.loaded.take();
+        let loaded = match self.turned(alloc, reader, held, page) {
+            Ok(loaded) => loaded,
+            Err(refused) => return Err(refused),
+        };
+        match self.own_record_in(&loaded, address) {
+            Ok(entry) => {
+                scan.loaded = Some(loaded);
+                scan.address = self.next(address);
+                Ok(entry)
+            }
+            Err(refused) => Err(refused),
+        }
+    }
+
+    /// A flushed page: the one in hand where it is that one, else the one that the device gives.
+    fn turned(
+        &self,
+        alloc: Global,
+        reader: &mut D::Reader,
+        held: Option<Loaded<D>>,
+        page: u64,
+    ) -> Result<Loaded<D>, Refused>
+        requires flushed { page < length self.now.receipts }
+        requires held { IfSome held (λ l. IsHeldBy self.now.receipts (D.Receipt.stands l.receipt).page
+            (D.Receipt.stands l.receipt)) }
+        ensures own { IfOk result (λ l. IsHeldBy self.now.receipts page (D.Receipt.stands l.receipt)) }
+        ensures page { IfOk result (λ l. (D.Receipt.stands l.receipt).page ≡ page) }
+        ensures once { IsSomeAnd held (λ l. (D.Receipt.stands l.receipt).page ≡ page) → reader.new ≡ reader.old }
+        ensures steady { OnOk result (D.Reader.failures reader.new ≡ D.Reader.failures reader.old) }
+        ensures counted { IfErr result (ReadFailsBy page (D.Reader.failures reader.old)
+            (D.Reader.failures reader.new)) }
+    {
+        match held {
+            None => self.load(alloc, reader, page),
+            Some(loaded) => {
+                if loaded.receipt().page() == page {
+                    Ok(loaded)
+                } else {
+                    self.load(alloc, reader, page)
+                }
+            }
+        }
+    }
+
+    /// Reads a flushed page by its receipt.
+    fn load(&self, alloc: Global, reader: &mut D::Reader, page: u64) -> Result<Loaded<D>, Refused>
+        requires flushed { page < length self.now.receipts }
+        ensures own { IfOk result (λ l. IsHeldBy self.now.receipts page (D.Receipt.stands l.receipt)) }
+        ensures page { IfOk result (λ l. (D.Receipt.stands l.receipt).page ≡ page) }
+        ensures steady { OnOk result (D.Reader.failures reader.new ≡ D.Reader.failures reader.old) }
+        ensures counted { IfErr result (ReadFailsBy page (D.Reader.failures reader.old)
+            (D.Reader.failures reader.new)) }
+    {
+        self.known();
+        let receipt = match self.receipt(page) {
+            Ok(receipt) => receipt,
+            Err(refused) => return Err(refused),
+        };
+        Loaded::fetch(alloc, reader, &receipt, self.shape().page_size())
+    }
+}
