@@ -1,12 +1,15 @@
 -- What each change of records and of one context keeps of a partition.
-use Rattle.std.proofs.Common.{◌≡◌, true, false, ℕ, ◌+◌, ◌*◌, Bool, IsTrue, Some, None, refl, sym, ◌∙◌, ap, subst, arith}
+use Rattle.std.proofs.Common.{◌≡◌, true, false, ℕ, ◌+◌, ◌*◌, ◌<◌, Bool, inl, inr, IsTrue, List, Some, None, refl, sym, ◌∙◌, ap, subst, arith}
 use Rattle.std.specs.Bool.{OnTrue, OnFalse}
 use Rattle.std.proofs.lemmas.Bool.{OnTrue_at, OnFalse_at}
 use Rattle.std.specs.declared.cmp.Ordering.{Ordering}
 use Rattle.fkv_texts.specs.Text.{entry_at, newest}
 use Rattle.fkv_index.specs.declared.places.Place.{Place}
-use Rattle.fkv_index.specs.Words.{tentative_word, is_tentative}
-use Rattle.fkv_index.specs.Places.{word_at}
+use Rattle.fkv_index.specs.declared.words.Word.{Word}
+use Rattle.fkv_index.specs.Words.{empty, final_word, tentative_word, address_of, tag_of, is_tentative, is_final}
+use Rattle.fkv_index.specs.Places.{word_at, IsPlace}
+use Rattle.fkv_index.proofs.WordFacts.{final_not_tentative, empty_not_tentative, made-address}
+use Rattle.fkv_index.proofs.Written.{place_of-word, written_there}
 use Rattle.fkv_operations.specs.After.{key_of}
 use Rattle.fkv_lookups.specs.RecordsViews.{RecordsView, class_in, Claims, confirmed, released}
 use Rattle.fkv_lookups.specs.RecordsViews.{ChangesAt}
@@ -20,14 +23,19 @@ use Rattle.fkv_partition.specs.Views.{PartitionView, slots_of, context_at, with_
 use Rattle.fkv_partition.specs.Sound.{IsSound}
 use Rattle.fkv_partition.proofs.AskedLemmas.{open_at}
 use Rattle.fkv_partition.proofs.EventLemmas.{own-at}
-use Rattle.fkv_partition.proofs.SoundLemmas.{IsGrown, Fits, sound-claimed, sound-settled}
+use Rattle.fkv_partition.proofs.ClaimLemmas.{place-or}
+use Rattle.fkv_partition.proofs.SoundLemmas.{Grows, Fits, sound-claimed, sound-settled}
 
 -- records whose words alone have changed
 abbrev pub IsReworded : {K V : Type 0} → RecordsView K V → RecordsView K V → Type 0
 IsReworded old new = new ≡ record old { words = new.words }
 
-grown-words : {K V : Type 0} (keeps : Bool) (cmp : K → K → Ordering) (code : K → ℕ) (q : Place) (old new : RecordsView K V) → IsReworded old new → ChangesAt q old.words new.words → IsGrown keeps cmp code old new
-grown-words keeps cmp code q old new is words = record {
+-- a word that is no final one, or leads nowhere
+abbrev pub IsMade : Word → Type 0
+IsMade w = IsTrue (is_final w) → address_of w < 64
+
+pub grown-words : {K V : Type 0} (keeps : Bool) (cmp : K → K → Ordering) (code : K → ℕ) (q : Place) (old new : RecordsView K V) → IsReworded old new → ChangesAt q old.words new.words → IsMade (word_at new.words q) → Grows keeps cmp code old new
+grown-words keeps cmp code q old new is words made = record {
   class = λ k. ap (λ (r : RecordsView _ _). class_in code r k) is;
   tail = (let same : new.tail ≡ old.tail = ap (λ (r : RecordsView _ _). r.tail) is in omega arith);
   safe = (let same : new.regions.offsets.safe_read_only ≡ old.regions.offsets.safe_read_only = ap (λ (r : RecordsView _ _). r.regions.offsets.safe_read_only) is in omega arith);
@@ -41,7 +49,41 @@ grown-words keeps cmp code q old new is words = record {
     class = ap (λ (r : RecordsView _ _). class_in code r o.entry.key) is ∙ o.class ∙ sym (ap (λ (r : RecordsView _ _). class_in code r k) is);
   };
   places = words.places;
+  held = λ p w final low h. elim (place-or p q) [
+    | inl here ↦
+        (let same : word_at new.words q ≡ w = ap (word_at new.words) (sym here) ∙ h in
+        inr (subst (λ u. address_of u < 64) same (made (ap is_final same ∙ final))))
+    | inr other ↦ inl (sym (words.others p other) ∙ h)
+  ];
 }
+
+-- a word that was just made or confirmed, or is emptied
+pub tentative-made : (w : Word) → IsTrue (is_tentative w) → IsMade w
+tentative-made w is final = absurd (let no = sym (final_not_tentative w final) ∙ is in cc)
+
+empty-made : IsMade empty
+unfolding is_final
+empty-made final = absurd (cc)
+
+tentative-place : (words : List (List Word)) (q : Place) → IsTrue (is_tentative (word_at words q)) → IsPlace words q
+tentative-place words q is = place_of-word is_tentative words q empty_not_tentative is
+
+module _ {K V : Type 0} (old new : RecordsView K V) (q : Place) (is : IsTrue (is_tentative (word_at old.words q))) where
+  pub confirmed-made : new ≡ confirmed old q → IsMade (word_at new.words q)
+  confirmed-made made final =
+      let t = tag_of (word_at old.words q) in
+      let there : word_at new.words q ≡ final_word t 1 = ap (λ (w : RecordsView K V). word_at w.words q) made ∙ written_there old.words q (final_word t 1) (tentative-place old.words q is) in
+      let one : address_of (word_at new.words q) ≡ 1 = ap address_of there ∙ made-address t in
+      omega arith
+
+  pub released-made : new ≡ released old q → IsMade (word_at new.words q)
+  released-made made =
+      let there : word_at new.words q ≡ empty = ap (λ (w : RecordsView K V). word_at w.words q) made ∙ written_there old.words q empty (tentative-place old.words q is) in
+      subst IsMade (sym there) empty-made
+
+  pub settled-made : (final : Bool) → OnTrue final (new ≡ confirmed old q) → OnFalse final (new ≡ released old q) → IsMade (word_at new.words q)
+  settled-made true made emptied = confirmed-made made
+  settled-made false made emptied = released-made emptied
 
 -- the place that an operation claims
 pub claims-place : {K V I : Type 0} (v : PartitionView K V I) (slot c : ℕ) (x : Context K V I) (q : Place) → context_at v slot c ≡ Some x → x.phase ≡ Confirm q → claim_at v.contexts (slot * 8 + c) ≡ Some q
@@ -68,7 +110,7 @@ module _ {K V I : Type 0} {keeps : Bool} (cmp : K → K → Ordering) (code : K 
       let o = open_at (slots_of v) v.contexts slot c x h in
       let same : class ≡ class_in code r (key_of x.op) = own ∙ ap (λ (w : RecordsView K V). class_in code w (key_of x.op)) (sym reworded) in
       let claimed : IsClaimOf r class q = record { bucket = bucket; word = word } in
-      sound-claimed s r slot c now x q traced (grown-words keeps cmp code q v.records r reworded words) words
+      sound-claimed s r slot c now x q traced (grown-words keeps cmp code q v.records r reworded words (tentative-made (word_at r.words q) is)) words
       (ap (λ (w : RecordsView K V). w.partition_bits) reworded)
       (ap (λ (w : RecordsView K V). w.regions) reworded)
       (ap (λ (w : RecordsView K V). w.text) reworded)
@@ -81,12 +123,13 @@ module _ {K V I : Type 0} {keeps : Bool} (cmp : K → K → Ordering) (code : K 
       → IsReworded v.records r
       → ChangesAt q v.records.words r.words
       → is_tentative (word_at r.words q) ≡ false
+      → IsMade (word_at r.words q)
       → IsTraced keeps code r
       → IsSound keeps cmp code (record (with_context v slot c (Some (at_phase x Fresh)) now) { records = r })
-  sound-settles r q phase reworded words freed traced =
+  sound-settles r q phase reworded words freed made traced =
       let o = open_at (slots_of v) v.contexts slot c x h in
       let fits : Fits s r slot c (at_phase x Fresh) = record { stands = tt; own = own-at cmp code v s slot c x h; inside = o.inside; low = o.low } in
-      sound-settled s r slot c now x q (Some (at_phase x Fresh)) traced (grown-words keeps cmp code q v.records r reworded words) words
+      sound-settled s r slot c now x q (Some (at_phase x Fresh)) traced (grown-words keeps cmp code q v.records r reworded words made) words
       (ap (λ (w : RecordsView K V). w.partition_bits) reworded)
       (ap (λ (w : RecordsView K V). w.regions) reworded)
       (ap (λ (w : RecordsView K V). w.text) reworded)
@@ -99,11 +142,12 @@ module _ {K V I : Type 0} {keeps : Bool} (cmp : K → K → Ordering) (code : K 
       → IsReworded v.records r
       → ChangesAt q v.records.words r.words
       → is_tentative (word_at r.words q) ≡ false
+      → IsMade (word_at r.words q)
       → IsTraced keeps code r
       → IsSound keeps cmp code (record (with_context v slot c None now) { records = r })
-  sound-cancels r q phase reworded words freed traced =
+  sound-cancels r q phase reworded words freed made traced =
       let o = open_at (slots_of v) v.contexts slot c x h in
-      sound-settled s r slot c now x q None traced (grown-words keeps cmp code q v.records r reworded words) words
+      sound-settled s r slot c now x q None traced (grown-words keeps cmp code q v.records r reworded words made) words
       (ap (λ (w : RecordsView K V). w.partition_bits) reworded)
       (ap (λ (w : RecordsView K V). w.regions) reworded)
       (ap (λ (w : RecordsView K V). w.text) reworded)

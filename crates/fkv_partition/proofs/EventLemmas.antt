@@ -49,6 +49,8 @@ use Rattle.fkv_functions.specs.declared.refusals.Refused.TheVariants.{NoSlot, No
 use Rattle.fkv_partition.specs.Going.{Decides, Goes, confirms, backs_off}
 use Rattle.fkv_partition.specs.Sound.{IsKept, IsLoading, StandsFor, IsSound}
 use Rattle.fkv_functions.proofs.ListLemmas.{get-set_other, get-set_same}
+use Rattle.fkv_lookups.specs.Traced.{IsTraced}
+use Rattle.fkv_partition.proofs.SoundLemmas.{newest-nowhere}
 use Rattle.fkv_partition.proofs.AskedLemmas.{open_at, context-inside, context-other, asked-same, asked-other, free-context, free-slot, idle, idle-asked, context-left, context-elsewhere, context-renewed}
 
 -- a context that asks nothing to be built and claims nothing is fresh
@@ -143,8 +145,8 @@ module _ {K V I : Type 0} {keeps : Bool} (cmp : K → K → Ordering) (code : K 
       record { bucket = k.entry.bucket; place = k.entry.place; word = stands; final = k.entry.final; tag = k.entry.tag }
 
   -- the key of an entry that leads where a prepared update saw it has the value that it kept
-  pub source-is : IsTrue keeps → (slot c : ℕ) (x : Context K V I) (e : IndexEntry) (ask : Ask K V I) → context_at v slot c ≡ Some x → question_in x ≡ Some (e, ask) → newest cmp v.records.text ask.key (address_of e.word) ≡ last_of cmp v.records.text ask.key → ask.source ≡ live_of cmp v ask.key
-  source-is yes_keeps slot c x e ask h q held = sym ((kept-at slot c x e ask h q).value yes_keeps) ∙ ap value_of held
+  pub source-is : IsTrue keeps → (slot c : ℕ) (x : Context K V I) (e : IndexEntry) (ask : Ask K V I) → context_at v slot c ≡ Some x → question_in x ≡ Some (e, ask) → word_at v.records.words e.place ≡ e.word → newest cmp v.records.text ask.key (address_of e.word) ≡ last_of cmp v.records.text ask.key → ask.source ≡ live_of cmp v ask.key
+  source-is yes_keeps slot c x e ask h q stands held = sym ((kept-at slot c x e ask h q).value yes_keeps stands) ∙ ap value_of held
 
   -- a session is entered: its contexts hold nothing yet
   pub entered-same : (slot : ℕ) → free_slot v ≡ Some slot → (t d : ℕ) → context_in (entered v.records.regions slot).epochs.slots v.contexts t d ≡ context_in (slots_of v) v.contexts t d
@@ -221,14 +223,16 @@ module _ {K V I O : Type 0} (cmp : K → K → Ordering) (f : Meanings K V I O) 
         → IsStill v.records.regions.offsets.safe_read_only (last_of cmp v.records.text (key_of x.op))
         → IsHeld (met_at cmp code v slot (key_of x.op)) (live_of cmp v (key_of x.op))
         → decision f x.op (met_at cmp code v slot (key_of x.op)) ≡ Prepare source i
+        → IsTraced keeps code v.records
         → StandsFor keeps cmp code v.records x.op (Prepared e source)
-    prepared-stands keeps e source i entry low newest still held d =
+    prepared-stands keeps e source i entry low newest still held d traced =
         let k : K = key_of x.op in
         let kept : IsKept keeps cmp code v.records k e source = record {
           entry = record { place = entry.place; bucket = entry.bucket; final = entry.final; tag = entry.tag };
           low = low;
-          value = λ yes_keeps. ap value_of newest ∙ source-held source i held d;
-          still = λ yes_keeps. rw newest still;
+          value = λ yes_keeps here. ap value_of newest ∙ source-held source i held d;
+          still = λ yes_keeps here. rw newest still;
+          nowhere = λ yes_keeps none. sym (source-held source i held d) ∙ ap value_of (sym newest ∙ newest-nowhere cmp v.records k (address_of e.word) traced none);
         } in
         subst (λ (o : Op K V I). StandsFor keeps cmp code v.records o (Prepared e source)) (sym (asks-rmw source i d)) kept
 
@@ -247,6 +251,7 @@ module _ {K V I O : Type 0} (cmp : K → K → Ordering) (f : Meanings K V I O) 
           entry = record { place = entry.place; bucket = entry.bucket; final = entry.final; tag = entry.tag };
           low = low;
           begun = wanted.begun;
+          past = omega arith;
           on_disk = wanted.low;
           class = λ yes_keeps same begun. wanted.class begun;
           newest = λ yes_keeps same. newest ∙ wanted.newest;
@@ -365,12 +370,12 @@ module _ {K V I O : Type 0} (cmp : K → K → Ordering) (f : Meanings K V I O) 
         }
 
     -- the built value is appended
-    pub event-done : {R : Type 0} → {keeps : Bool} → IsTrue keeps → IsSound keeps cmp code v → (e : IndexEntry) (ask : Ask K V I) → question_in x ≡ Some (e, ask) → newest cmp v.records.text ask.key (address_of e.word) ≡ last_of cmp v.records.text ask.key
+    pub event-done : {R : Type 0} → {keeps : Bool} → IsTrue keeps → IsSound keeps cmp code v → (e : IndexEntry) (ask : Ask K V I) → question_in x ≡ Some (e, ask) → word_at v.records.words e.place ≡ e.word → newest cmp v.records.text ask.key (address_of e.word) ≡ last_of cmp v.records.text ask.key
         → ((value : Option V) → Same (live cmp (with_record v.records e ask.key value).text) (with_at cmp (live_of cmp v) ask.key value))
         → IsEvent {R = R} cmp f v (with_appended v slot c e ask.key (Some (updated f ask.key ask.input ask.source)) now) slot c now (Done (Value (f.shown ask.key ask.input (updated f ask.key ask.input ask.source))) now)
-    event-done yes_keeps s e ask q newest lives =
+    event-done yes_keeps s e ask q stands newest lives =
         let w = question-of x.number x.op x.phase e ask q in
-        let held : ask.source ≡ live_of cmp v ask.key = source-is cmp code v s yes_keeps slot c x e ask h q newest in
+        let held : ask.source ≡ live_of cmp v ask.key = source-is cmp code v s yes_keeps slot c x e ask h q stands newest in
         let value : V = updated f ask.key ask.input ask.source in
         let meant : updated f ask.key ask.input ask.source ≡ updated f ask.key ask.input (live_of cmp v ask.key) = ap (updated f ask.key ask.input) held in
         let l = leaves None in

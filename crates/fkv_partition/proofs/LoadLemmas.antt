@@ -36,7 +36,8 @@ use Rattle.fkv_partition.specs.Views.{PartitionView, with_context}
 use Rattle.fkv_partition.specs.Sound.{IsKept, IsLoading, StandsFor, IsSound}
 use Rattle.fkv_partition.specs.Loading.{Tells, MayLoad, AwaitsPage, ReadsOn, IsTold, Loads, found, ended}
 use Rattle.std.proofs.lemmas.Option.{slice_get_cases}
-use Rattle.fkv_partition.proofs.SoundLemmas.{still-below}
+use Rattle.fkv_index.specs.Words.{address_of}
+use Rattle.fkv_partition.proofs.SoundLemmas.{still-below, newest-nowhere}
 use Rattle.fkv_partition.proofs.EventLemmas.{stands-at}
 use Rattle.fkv_partition.proofs.DecidedLemmas.{page_flushed, lower_page}
 
@@ -144,8 +145,9 @@ module _ {K V I : Type 0} {keeps : Bool} (cmp : K → K → Ordering) (code : K 
         record {
           entry = h.entry;
           low = h.low;
-          value = λ yes_keeps. ap value_of (h.newest yes_keeps a.begin) ∙ newest-told yes_keeps r value is tells;
-          still = λ yes_keeps. rw (h.newest yes_keeps a.begin) (still-below cmp v.records.text (key_of x.op) l.wanted v.records.regions.offsets.safe_read_only frozen);
+          value = λ yes_keeps here. ap value_of (h.newest yes_keeps a.begin) ∙ newest-told yes_keeps r value is tells;
+          nowhere = λ yes_keeps none. sym (newest-told yes_keeps r value is tells) ∙ ap value_of (sym (h.newest yes_keeps a.begin) ∙ newest-nowhere cmp v.records (key_of x.op) (address_of l.kept.word) s.traced none);
+          still = λ yes_keeps here. rw (h.newest yes_keeps a.begin) (still-below cmp v.records.text (key_of x.op) l.wanted v.records.regions.offsets.safe_read_only frozen);
         }
 
     -- the way goes on in a lower page
@@ -179,6 +181,7 @@ module _ {K V I : Type 0} {keeps : Bool} (cmp : K → K → Ordering) (code : K 
             entry = h.entry;
             low = h.low;
             begun = (let same = a.begin in omega arith);
+            past = h.past;
             on_disk = omega arith;
             class = λ yes_keeps same begins. goes-class (goes yes_keeps (Below b) is) begins;
             newest = λ yes_keeps same. h.newest yes_keeps same ∙ further-newest yes_keeps;

@@ -1,28 +1,33 @@
 -- What the changes of a partition keep.
-use Rattle.std.proofs.Common.{◌≡◌, ◌≢◌, true, false, ℕ, zero, suc, ◌+◌, ◌*◌, ◌^◌, ◌<◌, ◌≤◌, inl, inr, IsTrue, List, length, replicate, Option, Some, None, slice_get, slice_set, refl, sym, ◌∙◌, ap, subst, arith}
+use Rattle.std.proofs.Common.{◌≡◌, ◌≢◌, true, false, ℕ, zero, suc, ◌+◌, ◌*◌, ◌^◌, ◌<◌, ◌≤◌, ◌⊎◌, inl, inr, IsTrue, List, [], ◌∷◌, cond, unwrap_or, length, replicate, Option, Some, None, slice_get, slice_set, refl, sym, ◌∙◌, ap, subst, arith}
 use Rattle.std.proofs.lemmas.List.{length-set}
 use Rattle.std.proofs.lemmas.Bool.{cases_eq}
 use Rattle.std.specs.declared.cmp.Ordering.{Ordering}
 use Rattle.fkv_texts.specs.declared.entries.Entry.{Entry}
 use Rattle.std.proofs.Common.{Bool, ◌&&◌, nat_le}
 use Rattle.std.proofs.lemmas.Bool.Decides.{nat_tests}
-use Rattle.std.proofs.lemmas.Bool.{and_parts}
+use Rattle.std.proofs.lemmas.Bool.{and_parts, leb-true}
 use Rattle.fkv_device.specs.Standing.{Standing}
 use Rattle.fkv_pages.specs.Views.{text_begin}
 use Rattle.fkv_regions.specs.Agree.{IsRaised}
 use Rattle.fkv_texts.specs.Text.{entry_at, has_key, newest, value_of}
-use Rattle.fkv_texts.proofs.LastWhere.{last_where-found}
+use Rattle.fkv_texts.proofs.LastWhere.{last_where-found, last_where-none}
 use Rattle.fkv_texts.proofs.TextLemmas.{entry_at-old}
 use Rattle.fkv_texts.proofs.ChangeLemmas.{entry_at-elsewhere}
 use Rattle.fkv_texts.proofs.CutLemmas.{filter-in, cut-entry}
 use Rattle.fkv_lookups.specs.Lookups.{IsOfClass}
-use Rattle.fkv_lookups.proofs.TracedLemmas.{begin_rises}
+use Rattle.fkv_lookups.proofs.TracedLemmas.{begin_rises, from_first}
 use Rattle.fkv_regions.specs.RegionsView.{RegionsView}
 use Rattle.fkv_index.specs.declared.places.Place.{Place}
-use Rattle.fkv_index.specs.Words.{address_of, is_tentative, is_final}
-use Rattle.fkv_index.specs.Places.{word_at, IsPlace}
+use Rattle.fkv_index.specs.declared.words.Word.{Word}
+use Rattle.fkv_index.specs.Words.{address_of, final_word, tag_of, is_tentative, is_final}
+use Rattle.fkv_index.specs.Places.{word_at, with_word, IsPlace}
 use Rattle.fkv_index.specs.Changes.{SameTentative}
 use Rattle.fkv_index.proofs.WordFacts.{final_not_tentative}
+use Rattle.fkv_index.proofs.Written.{written_there}
+use Rattle.fkv_records.specs.Places.{behind}
+use Rattle.fkv_texts.specs.Places.{tail_after, IsLaidOut}
+use Rattle.fkv_regions.specs.Agree.{IsInOrder}
 use Rattle.fkv_operations.specs.After.{key_of}
 use Rattle.fkv_lookups.specs.RecordsViews.{RecordsView, class_in, IsEntryOf, WasEntryOf, with_record, with_value, with_regions, with_receipt, IsMoved}
 use Rattle.fkv_lookups.specs.RecordsViews.{ChangesAt}
@@ -39,15 +44,15 @@ use Rattle.fkv_partition.specs.declared.contexts.Loading.{Loading}
 use Rattle.fkv_partition.specs.Contexts.{joined, is_session, at_phase, claim_by, claim_of, claim_at}
 use Rattle.fkv_partition.specs.Claiming.{AreOwned}
 use Rattle.fkv_partition.specs.Views.{PartitionView, slots_of, empty_partition, partition_of, with_context, with_appended, with_replaced, in_regions}
-use Rattle.fkv_partition.specs.Sound.{IsLoading, StandsFor, IsSound}
+use Rattle.fkv_partition.specs.Sound.{IsKept, IsLoading, StandsFor, IsSound}
 use Rattle.fkv_functions.proofs.ListLemmas.{get-set_cases, get-set_same, get-set_other, get-append_last, get-append_cases}
 use Rattle.fkv_texts.proofs.ChangeLemmas.{was_at, set_at-key}
-use Rattle.fkv_partition.proofs.ClaimLemmas.{owned-quiet, owned-claimed, owned-freed}
+use Rattle.fkv_partition.proofs.ClaimLemmas.{place-or, owned-quiet, owned-claimed, owned-freed}
 
 -- records change: on a device that keeps, what is newest at or below each address that is taken stays where it is still;
 -- what is frozen is frozen, and of its class while the text has begun there; no offset falls, no place of the index goes,
--- and no class changes
-pub record IsGrown {K V : Type 0} (keeps : Bool) (cmp : K → K → Ordering) (code : K → ℕ) (old new : RecordsView K V) : Type 0 where
+-- and no class changes; a final word that leads to a taken address, and stands, stood there before, or leads nowhere
+pub record Grows {K V : Type 0} (keeps : Bool) (cmp : K → K → Ordering) (code : K → ℕ) (old new : RecordsView K V) : Type 0 where
   pub class : (k : K) → class_in code new k ≡ class_in code old k
   pub tail : old.tail ≤ new.tail
   pub safe : old.regions.offsets.safe_read_only ≤ new.regions.offsets.safe_read_only
@@ -65,6 +70,20 @@ pub record IsGrown {K V : Type 0} (keeps : Bool) (cmp : K → K → Ordering) (c
       → IsOfClass code old k a
       → IsOfClass code new k a
   pub places : (p : Place) → IsPlace old.words p → IsPlace new.words p
+  pub held : (p : Place) (w : Word)
+      → IsTrue (is_final w)
+      → address_of w < old.tail
+      → word_at new.words p ≡ w
+      → (word_at old.words p ≡ w) ⊎ (address_of w < 64)
+
+-- below the first record no key has one
+pub newest-nowhere : {K V : Type 0} {keeps : Bool} {code : K → ℕ} (cmp : K → K → Ordering) (r : RecordsView K V) (k : K) (a : ℕ) → IsTraced keeps code r → a < 64 → newest cmp r.text k a ≡ None
+newest-nowhere cmp r k a t low = last_where-none (λ e. nat_le e.address a && has_key cmp k e) r.text (λ i e h.
+    let high : r.from ≤ e.address = t.from i e h in
+    let from = from_first t in
+    let least = t.first in
+    let no : nat_le e.address a ≡ false = grind (arith, nat_tests) in
+    rw no refl)
 
 still-raised : {K V : Type 0} (a b : ℕ) (l : Option (Entry K V)) → a ≤ b → IsStill a l → IsStill b l
 still-raised a b None up h = tt
@@ -84,10 +103,10 @@ still-below cmp text k a safe low = by_newest (newest cmp text k a) refl
         let le : e.address ≤ a = grind (arith, nat_tests, under) in
         inr (omega arith)
 
-was-entry : {K V : Type 0} {keeps : Bool} {cmp : K → K → Ordering} {code : K → ℕ} {old new : RecordsView K V} (k : K) (e : IndexEntry) → IsGrown keeps cmp code old new → WasEntryOf old (class_in code old k) e → WasEntryOf new (class_in code new k) e
+was-entry : {K V : Type 0} {keeps : Bool} {cmp : K → K → Ordering} {code : K → ℕ} {old new : RecordsView K V} (k : K) (e : IndexEntry) → Grows keeps cmp code old new → WasEntryOf old (class_in code old k) e → WasEntryOf new (class_in code new k) e
 was-entry k e g w = rw (g.class k) (record { place = g.places e.place w.place; bucket = w.bucket; final = w.final; tag = w.tag })
 
-loading-grown : {K V : Type 0} (keeps : Bool) (cmp : K → K → Ordering) (code : K → ℕ) (old new : RecordsView K V) (k : K) (l : Loading) → IsTraced keeps code old → IsGrown keeps cmp code old new → IsLoading keeps cmp code old k l → IsLoading keeps cmp code new k l
+loading-grown : {K V : Type 0} (keeps : Bool) (cmp : K → K → Ordering) (code : K → ℕ) (old new : RecordsView K V) (k : K) (l : Loading) → IsTraced keeps code old → Grows keeps cmp code old new → IsLoading keeps cmp code old k l → IsLoading keeps cmp code new k l
 loading-grown keeps cmp code old new k l t g h =
     let o = t.regions.agree.in_order in
     let on_disk = h.on_disk in
@@ -100,6 +119,7 @@ loading-grown keeps cmp code old new k l t g h =
       entry = was-entry k l.kept g h.entry;
       low = omega arith;
       begun = h.begun;
+      past = (let was = h.past in let same = g.begin in omega arith);
       on_disk = omega arith;
       class = λ yes_keeps same begun. g.same_class k l.wanted frozen begun (h.class yes_keeps (same ∙ g.begin) (let up = g.from in omega arith));
       newest = λ yes_keeps same.
@@ -110,28 +130,89 @@ loading-grown keeps cmp code old new k l t g h =
           ∙ sym (g.kept yes_keeps k l.wanted taken there);
     }
 
--- an operation stands for what it stood for, where the word that it claims stays
-pub stands-grown : {K V I : Type 0} (keeps : Bool) (cmp : K → K → Ordering) (code : K → ℕ) (old new : RecordsView K V) (op : Op K V I) (phase : Phase V) → IsTraced keeps code old → IsGrown keeps cmp code old new → ((p : Place) → claim_by phase ≡ Some p → word_at new.words p ≡ word_at old.words p) → StandsFor keeps cmp code old op phase → StandsFor keeps cmp code new op phase
-stands-grown keeps cmp code old new op Fresh t g n h = tt
-stands-grown keeps cmp code old new op (Confirm p) t g n h =
-    rw (g.class (key_of op)) (record { bucket = h.bucket; word = n p refl ∙ h.word })
-stands-grown keeps cmp code old new (Read k i) (Prepared e s) t g n h = h
-stands-grown keeps cmp code old new (Upsert k v) (Prepared e s) t g n h = h
-stands-grown keeps cmp code old new (Rmw k i) (Prepared e s) t g n h =
+kept-grown : {K V : Type 0} (keeps : Bool) (cmp : K → K → Ordering) (code : K → ℕ) (old new : RecordsView K V) (k : K) (e : IndexEntry) (source : Option V) → IsTraced keeps code old → Grows keeps cmp code old new → IsKept keeps cmp code old k e source
+    → IsKept keeps cmp code new k e source
+kept-grown keeps cmp code old new k e source t g h =
     let low = h.low in
     let tail = g.tail in
     record {
       entry = was-entry k e g h.entry;
       low = omega arith;
-      value = λ yes_keeps. ap value_of (g.kept yes_keeps k (address_of e.word) low (h.still yes_keeps)) ∙ h.value yes_keeps;
-      still = λ yes_keeps. subst (IsStill new.regions.offsets.safe_read_only) (sym (g.kept yes_keeps k (address_of e.word) low (h.still yes_keeps)))
-          (still-raised old.regions.offsets.safe_read_only new.regions.offsets.safe_read_only (newest cmp old.text k (address_of e.word)) g.safe (h.still yes_keeps));
+      value = λ yes_keeps here. by_value yes_keeps (g.held e.place e.word h.entry.final low here);
+      still = λ yes_keeps here. by_still yes_keeps (g.held e.place e.word h.entry.final low here);
+      nowhere = h.nowhere;
     }
+  where
+    a : ℕ
+    a = address_of e.word
+
+    -- what leads nowhere
+    nowhere : IsTrue keeps → a < 64 → newest cmp new.text k a ≡ None
+    nowhere yes_keeps none =
+        let was = newest-nowhere cmp old k a t none in
+        g.kept yes_keeps k a h.low (rw was tt) ∙ was
+
+    by_value : IsTrue keeps → (word_at old.words e.place ≡ e.word) ⊎ (a < 64) → value_of (newest cmp new.text k a) ≡ source
+    by_value yes_keeps (inl was) = ap value_of (g.kept yes_keeps k a h.low (h.still yes_keeps was)) ∙ h.value yes_keeps was
+    by_value yes_keeps (inr none) = ap value_of (nowhere yes_keeps none) ∙ sym (h.nowhere yes_keeps none)
+
+    by_still : IsTrue keeps → (word_at old.words e.place ≡ e.word) ⊎ (a < 64) → IsStill new.regions.offsets.safe_read_only (newest cmp new.text k a)
+    by_still yes_keeps (inl was) = subst (IsStill new.regions.offsets.safe_read_only) (sym (g.kept yes_keeps k a h.low (h.still yes_keeps was)))
+        (still-raised old.regions.offsets.safe_read_only new.regions.offsets.safe_read_only (newest cmp old.text k a) g.safe (h.still yes_keeps was))
+    by_still yes_keeps (inr none) = rw (nowhere yes_keeps none) tt
+
+-- an operation stands for what it stood for, where the word that it claims stays
+pub stands-grown : {K V I : Type 0} (keeps : Bool) (cmp : K → K → Ordering) (code : K → ℕ) (old new : RecordsView K V) (op : Op K V I) (phase : Phase V) → IsTraced keeps code old → Grows keeps cmp code old new → ((p : Place) → claim_by phase ≡ Some p → word_at new.words p ≡ word_at old.words p) → StandsFor keeps cmp code old op phase → StandsFor keeps cmp code new op phase
+stands-grown keeps cmp code old new op Fresh t g n h = tt
+stands-grown keeps cmp code old new op (Confirm p) t g n h =
+    rw (g.class (key_of op)) (record { bucket = h.bucket; word = n p refl ∙ h.word })
+stands-grown keeps cmp code old new (Read k i) (Prepared e s) t g n h = h
+stands-grown keeps cmp code old new (Upsert k v) (Prepared e s) t g n h = h
+stands-grown keeps cmp code old new (Rmw k i) (Prepared e s) t g n h = kept-grown keeps cmp code old new k e s t g h
 stands-grown keeps cmp code old new (Delete k) (Prepared e s) t g n h = h
 stands-grown keeps cmp code old new (Read k i) (Load l) t g n h = loading-grown keeps cmp code old new k l t g h
 stands-grown keeps cmp code old new (Upsert k v) (Load l) t g n h = h
 stands-grown keeps cmp code old new (Rmw k i) (Load l) t g n h = loading-grown keeps cmp code old new k l t g h
 stands-grown keeps cmp code old new (Delete k) (Load l) t g n h = h
+
+-- ---- the tail, and the entry that is moved there
+module _ {K V : Type 0} where
+  after-most : (bits size a : ℕ) → tail_after bits size a ≤ 2 ^ 48
+  after-most bits size a = by_room (nat_le (behind bits size a + size) (2 ^ 48)) refl
+    where
+      by_room : (b : Bool) → nat_le (behind bits size a + size) (2 ^ 48) ≡ b → unwrap_or (cond b (Some (behind bits size a)) None) (2 ^ 48) ≤ 2 ^ 48
+      by_room true h = let room : behind bits size a + size ≤ 2 ^ 48 = leb-true (behind bits size a + size) (2 ^ 48) h in omega arith
+      by_room false h = omega arith
+
+  laid-most : (bits size begin tail : ℕ) (text : List (Entry K V)) → begin ≤ 2 ^ 48 → IsLaidOut bits size begin tail text → tail ≤ 2 ^ 48
+  laid-most bits size begin tail [] low h = let same : begin ≡ tail = h in omega arith
+  laid-most bits size begin tail (e ∷ es) low h = laid-most bits size (tail_after bits size begin) tail es (after-most bits size begin) h.2
+
+  -- no record stands above the greatest address
+  pub tail-most : {keeps : Bool} {code : K → ℕ} (v : RecordsView K V) → IsTraced keeps code v → v.tail ≤ 2 ^ 48
+  tail-most {keeps} v t = laid-most v.page_bits v.record_size v.from v.tail v.text (subst (λ n. n ≤ 2 ^ 48) (sym t.begins) (by_keeps keeps)) t.laid_out
+    where
+      o : IsInOrder v.regions.bits v.regions.flushed v.regions.offsets
+      o = t.regions.agree.in_order
+
+      headed : v.begin ≤ 2 ^ 48
+      headed = omega (arith, t.regions.headed, o.head, o.safe, o.most)
+
+      by_closed : (b : Bool) → cond b v.regions.offsets.closed v.begin ≤ 2 ^ 48
+      by_closed true = omega (arith, o.closed, o.head, o.safe, o.most)
+      by_closed false = headed
+
+      by_keeps : (b : Bool) → text_begin b v.begin v.regions.offsets.closed ≤ 2 ^ 48
+      by_keeps true = headed
+      by_keeps false = by_closed (nat_le v.begin v.regions.offsets.closed)
+
+final-address : (t a : ℕ) → a < 2 ^ 48 → address_of (final_word t a) ≡ a
+unfolding address_of final_word
+final-address t a low = omega arith
+
+-- where the entry leads that was moved
+pub appended-leads : (words : List (List Word)) (p : Place) (t a : ℕ) → IsPlace words p → a < 2 ^ 48 → address_of (word_at (with_word words p (final_word t a)) p) ≡ a
+appended-leads words p t a place low = ap address_of (written_there words p (final_word t a) place) ∙ final-address t a low
 
 set-at : {A : Type 0} (xs : List (Option A)) (i : ℕ) (y : Option A) (x : A) → slice_get xs i ≡ Some (Some x) → slice_get (slice_set xs i y) i ≡ Some (Some x) → y ≡ Some x
 set-at xs i y x was is = let set : slice_get (slice_set xs i y) i ≡ Some y = get-set_same xs i (Some x) y was in let same : Some y ≡ Some (Some x) = sym set ∙ is in cc
@@ -188,8 +269,8 @@ module _ {K V I : Type 0} {keeps : Bool} {cmp : K → K → Ordering} {code : K 
       housed = housed;
     }
       where
-        grown : IsGrown keeps cmp code v.records (with_regions v.records regions)
-        grown = record { class = λ k. refl; tail = omega arith; safe = up.safe; head = up.head; begin = refl; from = omega arith; kept = λ keeps k a low still. refl; same_class = λ k a low begun h. record { entry = h.entry; here = h.here; class = h.class }; places = λ p h. h }
+        grown : Grows keeps cmp code v.records (with_regions v.records regions)
+        grown = record { class = λ k. refl; tail = omega arith; safe = up.safe; head = up.head; begin = refl; from = omega arith; kept = λ keeps k a low still. refl; same_class = λ k a low begun h. record { entry = h.entry; here = h.here; class = h.class }; places = λ p h. h; held = λ p w f low h. inl h }
 
     -- frames are closed too, and the text may begin higher
     pub sound-moved : (r : RecordsView K V) (regions : RegionsView) (now : ℕ)
@@ -218,7 +299,7 @@ module _ {K V I : Type 0} {keeps : Bool} {cmp : K → K → Ordering} {code : K 
         starts : r.from ≡ text_begin keeps v.records.begin regions.offsets.closed
         starts = ap (λ (w : RecordsView K V). w.from) m.is
 
-        grown : IsGrown keeps cmp code v.records r
+        grown : Grows keeps cmp code v.records r
         grown = record {
           class = λ k. ap (λ (w : RecordsView K V). class_in code w k) m.is;
           tail = (let same : r.tail ≡ v.records.tail = ap (λ (w : RecordsView K V). w.tail) m.is in omega arith);
@@ -236,6 +317,7 @@ module _ {K V I : Type 0} {keeps : Bool} {cmp : K → K → Ordering} {code : K 
             class = ap (λ (w : RecordsView K V). class_in code w o.entry.key) m.is ∙ o.class ∙ sym (ap (λ (w : RecordsView K V). class_in code w k) m.is);
           };
           places = λ p h. subst (λ w. IsPlace w p) (sym (ap (λ (w : RecordsView K V). w.words) m.is)) h;
+          held = λ p w f low h. inl (sym (ap (λ (u : RecordsView K V). word_at u.words p) m.is) ∙ h);
         }
 
     -- a page is flushed
@@ -252,8 +334,8 @@ module _ {K V I : Type 0} {keeps : Bool} {cmp : K → K → Ordering} {code : K 
       housed = s.housed;
     }
       where
-        grown : IsGrown keeps cmp code v.records (with_receipt v.records st)
-        grown = record { class = λ k. refl; tail = omega arith; safe = omega arith; head = omega arith; begin = refl; from = omega arith; kept = λ keeps k a low still. refl; same_class = λ k a low begun h. record { entry = h.entry; here = h.here; class = h.class }; places = λ p h. h }
+        grown : Grows keeps cmp code v.records (with_receipt v.records st)
+        grown = record { class = λ k. refl; tail = omega arith; safe = omega arith; head = omega arith; begin = refl; from = omega arith; kept = λ keeps k a low still. refl; same_class = λ k a low begun h. record { entry = h.entry; here = h.here; class = h.class }; places = λ p h. h; held = λ p w f low h. inl h }
 
     -- an operation that may stand in a context of a session that is entered
     pub record Fits (r : RecordsView K V) (slot c : ℕ) (x : Context K V I) : Type 0 where
@@ -324,7 +406,7 @@ module _ {K V I : Type 0} {keeps : Bool} {cmp : K → K → Ordering} {code : K 
 
     -- ---- the records change too
     -- the words change at one place alone, and an operation in another context claims another
-    others-stand : (r : RecordsView K V) (slot c : ℕ) (q : Place) → IsGrown keeps cmp code v.records r → ChangesAt q v.records.words r.words
+    others-stand : (r : RecordsView K V) (slot c : ℕ) (q : Place) → Grows keeps cmp code v.records r → ChangesAt q v.records.words r.words
         → ((p : ℕ) → p ≢ slot * 8 + c → claim_at v.contexts p ≢ Some q)
         → (p : ℕ) (x : Context K V I) → p ≢ slot * 8 + c → slice_get v.contexts p ≡ Some (Some x) → StandsFor keeps cmp code r x.op x.phase
     others-stand r slot c q grown words none p x n h =
@@ -334,7 +416,7 @@ module _ {K V I : Type 0} {keeps : Bool} {cmp : K → K → Ordering} {code : K 
     -- a tentative entry is made
     pub sound-claimed : (r : RecordsView K V) (slot c now : ℕ) (x : Context K V I) (q : Place)
         → IsTraced keeps code r
-        → IsGrown keeps cmp code v.records r
+        → Grows keeps cmp code v.records r
         → ChangesAt q v.records.words r.words
         → r.partition_bits ≡ v.records.partition_bits
         → r.regions ≡ v.records.regions
@@ -358,7 +440,7 @@ module _ {K V I : Type 0} {keeps : Bool} {cmp : K → K → Ordering} {code : K 
     -- and the operation that made it claims it no more
     pub sound-settled : (r : RecordsView K V) (slot c now : ℕ) (x : Context K V I) (q : Place) (y : Option (Context K V I))
         → IsTraced keeps code r
-        → IsGrown keeps cmp code v.records r
+        → Grows keeps cmp code v.records r
         → ChangesAt q v.records.words r.words
         → r.partition_bits ≡ v.records.partition_bits
         → r.regions ≡ v.records.regions
@@ -406,7 +488,7 @@ module _ {K V I : Type 0} {keeps : Bool} {cmp : K → K → Ordering} {code : K 
         last : Entry K V
         last = record { address = v.records.tail; previous = address_of e.word; key = k; value = value }
 
-        grown : IsGrown keeps cmp code v.records (with_record v.records e k value)
+        grown : Grows keeps cmp code v.records (with_record v.records e k value)
         grown = record {
           class = λ q. refl;
           safe = omega arith;
@@ -421,6 +503,15 @@ module _ {K V I : Type 0} {keeps : Bool} {cmp : K → K → Ordering} {code : K 
           tail = (let up : v.records.tail < (with_record v.records e k value).tail = traced.below (length v.records.text) last (get-append_last v.records.text last) in omega arith);
           kept = λ keeps q a low still. kept q a low;
           places = words.places;
+          held = λ p w f low h. elim (place-or p e.place) [
+            | inl here ↦ absurd (
+                let up : v.records.tail < (with_record v.records e k value).tail = traced.below (length v.records.text) last (get-append_last v.records.text last) in
+                let most = tail-most (with_record v.records e k value) traced in
+                let leads = appended-leads v.records.words e.place (tag_of e.word) v.records.tail entry.place (omega arith) in
+                let same : address_of w ≡ v.records.tail = ap address_of (sym h ∙ ap (word_at (with_record v.records e k value).words) here) ∙ leads in
+                omega arith)
+            | inr other ↦ inl (sym (words.others p other) ∙ h)
+          ];
         }
 
     -- a record gets another value where it stands, or becomes a tombstone
@@ -443,7 +534,7 @@ module _ {K V I : Type 0} {keeps : Bool} {cmp : K → K → Ordering} {code : K 
           owned = owned-quiet v.records.words v.records.words v.contexts (slot * 8 + c) None s.owned (λ q. refl) old refl;
         }) (λ y h. absurd (cc))
       where
-        grown : IsGrown keeps cmp code v.records (with_value v.records a value)
+        grown : Grows keeps cmp code v.records (with_value v.records a value)
         grown = record {
           class = λ q. refl;
           tail = omega arith;
@@ -454,6 +545,7 @@ module _ {K V I : Type 0} {keeps : Bool} {cmp : K → K → Ordering} {code : K 
           kept = λ keeps q b low still. kept q b still;
           same_class = λ q b low begun o. record { entry = o.entry; here = entry_at-elsewhere a value v.records.text b (λ same. omega arith) ∙ o.here; class = o.class };
           places = λ p h. h;
+          held = λ p w f low h. inl h;
         }
 
 -- a session stays where the regions that the records have followed have it

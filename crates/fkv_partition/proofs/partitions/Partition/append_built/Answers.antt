@@ -65,5 +65,5 @@ returns-in-Ok-Some-clause-event g c = λ keeps.
     let leads = c.entries_lead.ensures.found g.D.Disk.keeps g.F.Functions.code v.records (class_in g.F.Functions.code v.records ask.key) kept c.known.ensures.traced entry in
     let newest = c.entries_lead.ensures.held g.F.Key.Ord.cmp g.D.Disk.keeps g.F.Functions.code v.records ask.key (address_of kept.word) order c.known.ensures.traced leads in
     rw (made, c.read-shown.ensures, c.value-value.ensures, c.ask-ask.ensures)
-    (event-done g.F.Key.Ord.cmp g.F.Functions.meaning g.F.Functions.code v c.args.slot c.args.context c.args.now a.operation a.here keeps c.known.ensures kept ask a.question newest
+    (event-done g.F.Key.Ord.cmp g.F.Functions.meaning g.F.Functions.code v c.args.slot c.args.context c.args.now a.operation a.here keeps c.known.ensures kept ask a.question c.requires.stands newest
     (c.records_grow.ensures.lives g.F.Key.Ord.cmp v.records kept ask.key))

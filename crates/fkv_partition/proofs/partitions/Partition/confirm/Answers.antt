@@ -2,7 +2,7 @@ use Rattle.std.proofs.Common.{◌≡◌, Some, refl}
 use Rattle.std.proofs.lemmas.Bool.{OnTrue_at, OnTrue_from, OnFalse_at, OnFalse_from}
 use Rattle.fkv_partition.specs.Contexts.{context_in}
 use Rattle.fkv_partition.specs.Inside.{view_of}
-use Rattle.fkv_partition.proofs.ChangeLemmas.{is-tentative, sound-settles, reworded-by}
+use Rattle.fkv_partition.proofs.ChangeLemmas.{is-tentative, settled-made, sound-settles, reworded-by}
 use Rattle.fkv_partition.proofs.partitions.Partition.confirm.Goals as goal
 
 pub confirm-is_final-requires-after_bounds : goal.confirm-is_final-requires-after_bounds
@@ -16,9 +16,11 @@ invariant_of-self g c =
     let x = c.args.operation.now in
     let at : context_in c.self.inside.records.regions.epochs.slots c.self.inside.contexts.items c.args.slot c.args.context ≡ Some x = rw (← c.self.view_is) at c.requires.here in
     let made = c.confirm-is_final.ensures in
+    let is = is-tentative g.F.Key.Ord.cmp g.F.Functions.code (view_of c.self.inside.number c.self.inside.count c.self.inside.records c.self.inside.contexts.items c.self.inside.moment) c.self.invariant c.args.slot c.args.context c.args.now x at c.args.place c.requires.phase in
     rw (c.set_context.ensures, c.in_phase-fresh.ensures)
     (sound-settles g.F.Key.Ord.cmp g.F.Functions.code (view_of c.self.inside.number c.self.inside.count c.self.inside.records c.self.inside.contexts.items c.self.inside.moment) c.self.invariant c.args.slot c.args.context c.args.now x at
-    c.confirm-is_final.new.self c.args.place c.requires.phase (reworded-by c.self.inside.records c.confirm-is_final.new.self c.args.place c.confirm-is_final.result made.confirmed made.emptied) made.changes made.freed c.known.ensures)
+    c.confirm-is_final.new.self c.args.place c.requires.phase (reworded-by c.self.inside.records c.confirm-is_final.new.self c.args.place c.confirm-is_final.result made.confirmed made.emptied) made.changes made.freed
+    (settled-made c.self.inside.records c.confirm-is_final.new.self c.args.place is c.confirm-is_final.result made.confirmed made.emptied) c.known.ensures)
 
 pub returns-clause-alone : goal.returns-clause-alone
 returns-clause-alone g c = rw (← c.self.view_is) c.confirm-is_final.ensures.alone

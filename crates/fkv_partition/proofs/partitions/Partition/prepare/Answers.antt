@@ -36,6 +36,7 @@ set_phase-requires-clause-stands g c κs within =
     (prepare-met g.F.Functions.meaning x.op (met_at g.F.Key.Ord.cmp g.F.Functions.code v c.args.slot (key_of x.op)) c.args.ask.source c.args.ask.input d.decided))
     held
     d.decided
+    c.known.ensures.traced
 
 pub returns-clause-does : goal.returns-clause-does
 returns-clause-does g c =
