@@ -1,6 +1,7 @@
 -- What the contexts ask before and after one of them changes.
 use Rattle.std.proofs.Common.{◌≡◌, ◌≢◌, Bool, true, false, cond, ◌&&◌, ℕ, zero, suc, ◌+◌, ◌-◌, ◌*◌, ◌<◌, ◌≤◌, ◌⊎◌, inl, inr, List, [], ◌∷◌, length, Option, Some, None, option_map, slice_get, slice_set, slice_range, take, drop, position, is_none, is_some, zero-add, subst, not, nat_lt, refl, sym, ◌∙◌, ap, arith}
 use Rattle.std.proofs.lemmas.Bool.{cases_eq}
+use Rattle.std.proofs.lemmas.Option.{slice_get_cases}
 use Rattle.std.proofs.lemmas.Bool.Decides.{nat_tests}
 use Rattle.std.specs.List.{position_or_len}
 use Rattle.std.specs.Option.{option_flatten}
@@ -15,12 +16,12 @@ joined-some None x h = absurd (cc)
 joined-some (Some y) x h = ap Some h
 
 -- what an open context has
-pub record IsOpenAt {K V I : Type 0} (slots : List (Option ℕ)) (contexts : List (Option (Context K V I))) (slot c : ℕ) (x : Context K V I) : Type 0 where
+pub record IsOpenAt {A : Type 0} (slots : List (Option ℕ)) (contexts : List (Option A)) (slot c : ℕ) (x : A) : Type 0 where
   pub inside : is_session slots slot ≡ true
   pub low : c < 8
   pub here : slice_get contexts (slot * 8 + c) ≡ Some (Some x)
 
-pub open_at : {K V I : Type 0} (slots : List (Option ℕ)) (contexts : List (Option (Context K V I))) (slot c : ℕ) (x : Context K V I) → context_in slots contexts slot c ≡ Some x → IsOpenAt slots contexts slot c x
+pub open_at : {A : Type 0} (slots : List (Option ℕ)) (contexts : List (Option A)) (slot c : ℕ) (x : A) → context_in slots contexts slot c ≡ Some x → IsOpenAt slots contexts slot c x
 open_at slots contexts slot c x h = by_cases (is_session slots slot) (nat_lt c 8) refl refl h
   where
     by_cases : (a b : Bool) → is_session slots slot ≡ a → nat_lt c 8 ≡ b → cond (a && b) (joined (slice_get contexts (slot * 8 + c))) None ≡ Some x → IsOpenAt slots contexts slot c x
@@ -28,14 +29,14 @@ open_at slots contexts slot c x h = by_cases (is_session slots slot) (nat_lt c 8
     by_cases true false p q e = absurd (cc)
     by_cases false b p q e = absurd (cc)
 
-pub context-inside : {K V I : Type 0} (slots : List (Option ℕ)) (contexts : List (Option (Context K V I))) (slot c : ℕ) → is_session slots slot ≡ true → c < 8 → context_in slots contexts slot c ≡ joined (slice_get contexts (slot * 8 + c))
+pub context-inside : {A : Type 0} (slots : List (Option ℕ)) (contexts : List (Option A)) (slot c : ℕ) → is_session slots slot ≡ true → c < 8 → context_in slots contexts slot c ≡ joined (slice_get contexts (slot * 8 + c))
 context-inside slots contexts slot c h low = let t : nat_lt c 8 ≡ true = grind (arith, nat_tests) in rw (h, t) refl
 
 and-false : (a : Bool) → (a && false) ≡ false
 and-false true = refl
 and-false false = refl
 
-pub context-other : {K V I : Type 0} (slots : List (Option ℕ)) (contexts : List (Option (Context K V I))) (slot c s d : ℕ) (y : Option (Context K V I)) → c < 8 → (s ≢ slot) ⊎ (d ≢ c) → context_in slots (slice_set contexts (slot * 8 + c) y) s d ≡ context_in slots contexts s d
+pub context-other : {A : Type 0} (slots : List (Option ℕ)) (contexts : List (Option A)) (slot c s d : ℕ) (y : Option A) → c < 8 → (s ≢ slot) ⊎ (d ≢ c) → context_in slots (slice_set contexts (slot * 8 + c) y) s d ≡ context_in slots contexts s d
 context-other slots contexts slot c s d y low other = by_cases (nat_lt d 8) refl
   where
     apart : d < 8 → s * 8 + d ≢ slot * 8 + c
@@ -118,6 +119,18 @@ free-context v slot c h =
     let f = position-found is_none (slice_range v.contexts (slot * 8) (slot * 8 + 8)) c h in
     sym (get-drop (slot * 8) c v.contexts) ∙ get-take ((slot * 8 + 8) - slot * 8) c (drop (slot * 8) v.contexts) f.item f.here ∙ ap Some (none-is f.item f.passes)
 
+-- one of a session's eight in which nothing is open
+pub free-here : {A : Type 0} (slots : List (Option ℕ)) (contexts : List (Option A)) (slot c : ℕ) → length contexts ≡ 128 → slot < 16 → c < 8 → is_session slots slot ≡ true → context_in slots contexts slot c ≡ None → slice_get contexts (slot * 8 + c) ≡ Some None
+free-here slots contexts slot c places session low inside free = by_get (slice_get contexts (slot * 8 + c)) refl
+  where
+    by_get : (o : Option (Option _)) → slice_get contexts (slot * 8 + c) ≡ o → slice_get contexts (slot * 8 + c) ≡ Some None
+    by_get None e = absurd (elim (slice_get_cases contexts (slot * 8 + c)).1 [
+      | inl some ↦ (let bad = sym e ∙ some.2 in cc)
+      | inr past ↦ (let le = past.0 in omega arith)
+    ])
+    by_get (Some None) e = e
+    by_get (Some (Some x)) e = absurd (let is = sym (context-inside slots contexts slot c inside low ∙ ap joined e) ∙ free in cc)
+
 -- and is one of a session's eight
 pub free-low : {K V I : Type 0} (v : PartitionView K V I) (slot c : ℕ) → free_context v slot ≡ Some c → c < 8
 free-low v slot c h =
@@ -175,10 +188,10 @@ left-here [] slot = refl
 left-here (b ∷ bs) zero = refl
 left-here (b ∷ bs) (suc slot) = left-here bs slot
 
-pub context-left : {K V I : Type 0} (slots : List (Option ℕ)) (contexts : List (Option (Context K V I))) (slot c : ℕ) → context_in (slice_set slots slot None) contexts slot c ≡ None
+pub context-left : {A : Type 0} (slots : List (Option ℕ)) (contexts : List (Option A)) (slot c : ℕ) → context_in (slice_set slots slot None) contexts slot c ≡ None
 context-left slots contexts slot c = rw (left-here slots slot) refl
 
-pub context-elsewhere : {K V I : Type 0} (slots : List (Option ℕ)) (contexts : List (Option (Context K V I))) (slot s c : ℕ) (b : Option ℕ) → s ≢ slot → context_in (slice_set slots slot b) contexts s c ≡ context_in slots contexts s c
+pub context-elsewhere : {A : Type 0} (slots : List (Option ℕ)) (contexts : List (Option A)) (slot s c : ℕ) (b : Option ℕ) → s ≢ slot → context_in (slice_set slots slot b) contexts s c ≡ context_in slots contexts s c
 context-elsewhere slots contexts slot s c b n = ap (λ o. cond (is_some (option_flatten o) && nat_lt c 8) (joined (slice_get contexts (s * 8 + c))) None) (get-set_other slots slot s b n)
 
 -- a session that is entered stays so with another epoch
@@ -194,7 +207,7 @@ renewed-stays (o ∷ os) zero (suc t) e h = h
 renewed-stays (o ∷ os) (suc slot) zero e h = h
 renewed-stays (o ∷ os) (suc slot) (suc t) e h = renewed-stays os slot t e h
 
-pub context-renewed : {K V I : Type 0} (slots : List (Option ℕ)) (contexts : List (Option (Context K V I))) (slot e s c : ℕ) → is_session slots slot ≡ true → context_in (slice_set slots slot (Some e)) contexts s c ≡ context_in slots contexts s c
+pub context-renewed : {A : Type 0} (slots : List (Option ℕ)) (contexts : List (Option A)) (slot e s c : ℕ) → is_session slots slot ≡ true → context_in (slice_set slots slot (Some e)) contexts s c ≡ context_in slots contexts s c
 context-renewed slots contexts slot e s c h = elim (cases_eq s slot) [
   | inl same ↦
       ap (λ n. context_in (slice_set slots slot (Some e)) contexts n c) same

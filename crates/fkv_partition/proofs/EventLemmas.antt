@@ -394,11 +394,10 @@ module _ {K V I O : Type 0} (cmp : K → K → Ordering) (f : Meanings K V I O) 
         }
 
 module _ {K V I : Type 0} (code : K → ℕ) (v : PartitionView K V I) where
-  -- an operation is issued
-  pub event-issue : (slot c now : ℕ) (op : Op K V I) → is_session (slots_of v) slot ≡ true → free_context v slot ≡ Some c → c < 8 → partition_of v.count (code (key_of op)) ≡ v.number
+  -- an operation is issued in a context where nothing is open
+  pub event-issue_in : (slot c now : ℕ) (op : Op K V I) → is_session (slots_of v) slot ≡ true → slice_get v.contexts (slot * 8 + c) ≡ Some None → c < 8 → partition_of v.count (code (key_of op)) ≡ v.number
       → IsIssue code v (with_context v slot c (Some (record { number = now; op = op; phase = Fresh })) now) slot c op now
-  event-issue slot c now op inside free low own =
-      let here = free-context v slot c free in
+  event-issue_in slot c now op inside here low own =
       let x : Option (Context K V I) = Some (record { number = now; op = op; phase = Fresh }) in
       record {
         closed = ap (option_map asked_by) (context-inside (slots_of v) v.contexts slot c inside low ∙ ap joined here);
@@ -414,6 +413,11 @@ module _ {K V I : Type 0} (code : K → ℕ) (v : PartitionView K V I) where
           moment = refl;
         };
       }
+
+  -- in the lowest of them
+  pub event-issue : (slot c now : ℕ) (op : Op K V I) → is_session (slots_of v) slot ≡ true → free_context v slot ≡ Some c → c < 8 → partition_of v.count (code (key_of op)) ≡ v.number
+      → IsIssue code v (with_context v slot c (Some (record { number = now; op = op; phase = Fresh })) now) slot c op now
+  event-issue slot c now op inside free low own = event-issue_in slot c now op inside (free-context v slot c free) low own
 
 -- the regions move, and the records follow
 pub event-moved : {K V I : Type 0} (keeps : Bool) (v : PartitionView K V I) (r : RecordsView K V) (regions : RegionsView) (now : ℕ)

@@ -176,14 +176,14 @@ stands-grown keeps cmp code old new (Rmw k i) (Load l) t g n h = loading-grown k
 stands-grown keeps cmp code old new (Delete k) (Load l) t g n h = h
 
 -- ---- the tail, and the entry that is moved there
-module _ {K V : Type 0} where
-  after-most : (bits size a : ℕ) → tail_after bits size a ≤ 2 ^ 48
-  after-most bits size a = by_room (nat_le (behind bits size a + size) (2 ^ 48)) refl
-    where
-      by_room : (b : Bool) → nat_le (behind bits size a + size) (2 ^ 48) ≡ b → unwrap_or (cond b (Some (behind bits size a)) None) (2 ^ 48) ≤ 2 ^ 48
-      by_room true h = let room : behind bits size a + size ≤ 2 ^ 48 = leb-true (behind bits size a + size) (2 ^ 48) h in omega arith
-      by_room false h = omega arith
+after-most : (bits size a : ℕ) → tail_after bits size a ≤ 2 ^ 48
+after-most bits size a = by_room (nat_le (behind bits size a + size) (2 ^ 48)) refl
+  where
+    by_room : (b : Bool) → nat_le (behind bits size a + size) (2 ^ 48) ≡ b → unwrap_or (cond b (Some (behind bits size a)) None) (2 ^ 48) ≤ 2 ^ 48
+    by_room true h = let room : behind bits size a + size ≤ 2 ^ 48 = leb-true (behind bits size a + size) (2 ^ 48) h in omega arith
+    by_room false h = omega arith
 
+module _ {K V : Type 0} where
   laid-most : (bits size begin tail : ℕ) (text : List (Entry K V)) → begin ≤ 2 ^ 48 → IsLaidOut bits size begin tail text → tail ≤ 2 ^ 48
   laid-most bits size begin tail [] low h = let same : begin ≡ tail = h in omega arith
   laid-most bits size begin tail (e ∷ es) low h = laid-most bits size (tail_after bits size begin) tail es (after-most bits size begin) h.2

@@ -1,5 +1,5 @@
--- What `enter` and `issue` do: a rule for each case, in the order of the tests.
-use Rattle.std.specs.Prelude.{◌≡◌, ◌≢◌, true, false, ℕ, Some, None, Result, Ok, Err}
+-- What `enter`, `issue` and `issue_in` do: a rule for each case, in the order of the tests.
+use Rattle.std.specs.Prelude.{◌≡◌, ◌≢◌, ◌<◌, true, false, ℕ, Some, None, Result, Ok, Err}
 use Rattle.fkv_functions.specs.declared.refusals.Refused.{Refused}
 use Rattle.fkv_functions.specs.declared.refusals.Refused.TheVariants.{NoSlot, Unknown, Stranger, NoContext}
 use Rattle.fkv_functions.specs.declared.refusals.What.TheVariants.{Partition}
@@ -8,7 +8,7 @@ use Rattle.fkv_operations.specs.After.{key_of}
 use Rattle.fkv_operations.specs.declared.operations.Op.{Op}
 use Rattle.fkv_partition.specs.declared.contexts.Phase.TheVariants.{Fresh}
 use Rattle.fkv_partition.specs.Contexts.{is_session}
-use Rattle.fkv_partition.specs.Views.{PartitionView, partition_of, slots_of, with_context, in_regions, free_slot, free_context}
+use Rattle.fkv_partition.specs.Views.{PartitionView, partition_of, slots_of, context_at, with_context, in_regions, free_slot, free_context}
 
 -- a session gets the lowest free slot, with the current epoch and the view of now
 pub data Enters {K V I : Type 0} (old new : PartitionView K V I) (now : ℕ) (result : Result ℕ Refused) : Type 0 where
@@ -47,3 +47,18 @@ pub data Issues {K V I : Type 0} (code : K → ℕ) (old new : PartitionView K V
       → new ≡ with_context old slot c (Some (record { number = now; op = op; phase = Fresh })) now
       → result ≡ Ok c
       → Issues code old new slot op now result
+
+-- an operation is opened in a context of a session that the caller has chosen, in which nothing is open
+pub data IssuesIn {K V I : Type 0} (code : K → ℕ) (old new : PartitionView K V I) (slot c : ℕ) (op : Op K V I)
+    (now : ℕ) (result : Result (Unit {0}) Refused) : Type 0 where
+  stranger : partition_of old.count (code (key_of op)) ≢ old.number
+      → new ≡ old
+      → result ≡ Err (Stranger Partition old.number (partition_of old.count (code (key_of op))))
+      → IssuesIn code old new slot c op now result
+  issues : IsEntered old slot
+      → c < 8
+      → context_at old slot c ≡ None
+      → partition_of old.count (code (key_of op)) ≡ old.number
+      → new ≡ with_context old slot c (Some (record { number = now; op = op; phase = Fresh })) now
+      → result ≡ Ok tt
+      → IssuesIn code old new slot c op now result

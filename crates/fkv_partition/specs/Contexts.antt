@@ -20,9 +20,8 @@ joined (Some x) = x
 abbrev pub is_session : List (Option ℕ) → ℕ → Bool
 is_session slots slot = is_some (option_flatten (slice_get slots slot))
 
--- the operation that is open in a context of an entered session
-abbrev pub context_in : {K V I : Type 0} → List (Option ℕ) → List (Option (Context K V I)) → ℕ → ℕ
-    → Option (Context K V I)
+-- what stands in a context of an entered session: the operation that is open there, for one
+abbrev pub context_in : {A : Type 0} → List (Option ℕ) → List (Option A) → ℕ → ℕ → Option A
 context_in slots contexts slot c =
     cond (is_session slots slot && nat_lt c 8) (joined (slice_get contexts (slot * 8 + c))) None
 

@@ -28,7 +28,7 @@ use fkv_records::Address;
 
 /// A record that is to be appended.
 #[derive(Clone, Copy)]
-pub(crate) struct Write<K, V> {
+pub struct Write<K, V> {
     /// The entry of the key's class, as it stands.
     pub entry: IndexEntry,
     pub key: K,
@@ -38,7 +38,7 @@ pub(crate) struct Write<K, V> {
 
 impl<F: Functions, D: Disk> Partition<F, D> {
     /// A moment passes, and nothing else changes.
-    pub(crate) fn pass(&mut self, now: u64)
+    pub fn pass(&mut self, now: u64)
         ensures { self.new ≡ record self.old { moment = now } }
     {
         self.moment = now;
@@ -219,7 +219,7 @@ impl<F: Functions, D: Disk> Partition<F, D> {
     /// Appends a record, moves the entry of its class to it, and frees the context, whose operation waits to confirm no
     /// entry. Answers the record's address, or `None` where there is no room for one: then a moment passes, and nothing
     /// else changes. Refused, and then nothing changes: `Worn` where no address is left.
-    pub(crate) fn append(
+    pub fn append(
         &mut self,
         slot: usize,
         context: usize,

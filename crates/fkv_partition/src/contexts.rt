@@ -102,12 +102,8 @@ pub fn in_phase<K: Copy, V: Copy, I: Copy>(
     }
 }
 
-/// The operation that is open in a context of a session.
-pub fn open_at<K: Copy, V: Copy, I: Copy>(
-    contexts: &[Option<Context<K, V, I>>],
-    slot: usize,
-    context: usize,
-) -> Option<Context<K, V, I>>
+/// What stands in a context of a session: the operation that is open there, for one.
+pub fn open_at<T: Copy>(contexts: &[Option<T>], slot: usize, context: usize) -> Option<T>
     requires session { slot < 16 }
     requires places { length contexts.now ≡ 128 }
     ensures value { result ≡ cond (nat_lt context 8) (joined (slice_get contexts.now (slot * 8 + context))) None }
@@ -128,7 +124,7 @@ fn free_place<T>(places: &[Option<T>]) -> Option<usize>
 }
 
 /// The lowest free context of a session.
-pub fn free_context<K, V, I>(contexts: &[Option<Context<K, V, I>>], slot: usize) -> Option<usize>
+pub fn free_context<T>(contexts: &[Option<T>], slot: usize) -> Option<usize>
     requires session { slot < 16 }
     requires places { length contexts.now ≡ 128 }
     ensures value { result ≡ position is_none (slice_range contexts.now (slot * 8) (slot * 8 + 8)) }
@@ -139,7 +135,7 @@ pub fn free_context<K, V, I>(contexts: &[Option<Context<K, V, I>>], slot: usize)
 }
 
 /// The lowest open context of a session.
-pub fn open_context<K, V, I>(contexts: &[Option<Context<K, V, I>>], slot: usize) -> Option<usize>
+pub fn open_context<T>(contexts: &[Option<T>], slot: usize) -> Option<usize>
     requires session { slot < 16 }
     requires places { length contexts.now ≡ 128 }
     ensures value { result ≡ position is_some (slice_range contexts.now (slot * 8) (slot * 8 + 8)) }
@@ -150,12 +146,12 @@ pub fn open_context<K, V, I>(contexts: &[Option<Context<K, V, I>>], slot: usize)
         .position(|context| context.is_some())
 }
 
-/// Puts an operation, or none, into a context.
-pub fn set_context<K: Copy, V: Copy, I: Copy>(
-    contexts: &mut Vec<Option<Context<K, V, I>>>,
+/// Puts an operation, or what else may stand there, or nothing, into a context.
+pub fn set_context<T: Copy>(
+    contexts: &mut Vec<Option<T>>,
     slot: usize,
     context: usize,
-    operation: Option<Context<K, V, I>>,
+    operation: Option<T>,
 )
     requires session { slot < 16 }
     requires context { context < 8 }

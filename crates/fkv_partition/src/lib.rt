@@ -9,6 +9,7 @@
 
 pub mod asking;
 mod changes;
+pub mod clearing;
 pub mod contexts;
 pub mod ending;
 pub mod flushing;
@@ -22,6 +23,7 @@ mod looking;
 pub mod partitions;
 pub mod regions;
 
+pub use changes::Write;
 pub use contexts::{Context, Loading, Phase, Progress, ProgressOf, Wait};
 pub use limits::Config;
 pub use listing::pairs_of;

@@ -41,7 +41,7 @@ impl<F: Functions, D: Disk> Partition<F, D> {
     }
 
     /// The operation that is open in a context.
-    pub(crate) fn open(&self, slot: usize, context: usize) -> Option<ContextOf<F>>
+    pub fn open(&self, slot: usize, context: usize) -> Option<ContextOf<F>>
         ensures value { result ≡ context_at self.now slot context }
         ensures session { IfSome result (λ _. slot < 16) }
         ensures context { IfSome result (λ _. context < 8) }
@@ -53,7 +53,7 @@ impl<F: Functions, D: Disk> Partition<F, D> {
     }
 
     /// Whether a slot is that of a session.
-    pub(crate) fn is_session(&self, slot: usize) -> bool
+    pub fn is_session(&self, slot: usize) -> bool
         ensures value { result ≡ is_session (slots_of self.now) slot }
         ensures within { IsTrue result → slot < 16 }
     {
@@ -78,14 +78,14 @@ impl<F: Functions, D: Disk> Partition<F, D> {
     }
 
     /// The number of the partition to which a key belongs.
-    pub(crate) fn home(&self, functions: &F, key: &F::Key) -> u64
+    pub fn home(&self, functions: &F, key: &F::Key) -> u64
         ensures { result ≡ partition_of self.now.count (F.code key.now) }
     {
         functions.hash(key) % self.count
     }
 
     /// The class of a key, and its final entry.
-    pub(crate) fn find(&self, functions: &F, key: &F::Key) -> (Class, Option<IndexEntry>)
+    pub fn find(&self, functions: &F, key: &F::Key) -> (Class, Option<IndexEntry>)
         ensures class { result.0 ≡ class_in F.code self.now.records key.now }
         ensures range { IsClass self.now.records.bucket_bits result.0 }
         ensures entry { result.1 ≡ found_for F.code self.now key.now }
@@ -99,7 +99,7 @@ impl<F: Functions, D: Disk> Partition<F, D> {
     }
 
     /// What a look-up of a key comes to, as the session at a slot reads in memory, by the entry of the key's class.
-    pub(crate) fn reach(
+    pub fn reach(
         &self,
         slot: usize,
         key: &F::Key,

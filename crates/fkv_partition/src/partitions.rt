@@ -1,9 +1,9 @@
 //! A partition: its parts, and what its sessions and operations begin with.
-ghost use Rattle.std.specs.Prelude.{◌≡◌, ◌≢◌, ◌<◌, ◌≤◌, ◌⊎◌, Option, Some, None, Ok, Err, IfOk, IfErr, OnErr, replicate};
+ghost use Rattle.std.specs.Prelude.{◌≡◌, ◌≢◌, ◌<◌, ◌≤◌, ◌⊎◌, Option, Some, None, Ok, Err, IfOk, IfErr, OnOk, OnErr, replicate};
 ghost use Rattle.fkv_records.specs.Records.{size_of};
 ghost use Rattle.fkv_partition.specs.Limits.{IsPartitionOf};
-ghost use Rattle.fkv_partition.specs.Views.{empty_partition};
-ghost use Rattle.fkv_partition.specs.Beginning.{Enters, Issues};
+ghost use Rattle.fkv_partition.specs.Views.{context_at, empty_partition};
+ghost use Rattle.fkv_partition.specs.Beginning.{Enters, IsEntered, Issues, IssuesIn};
 ghost use Rattle.fkv_partition.specs.Effect.{IsQuiet, IsIssue};
 
 use crate::contexts::Context;
@@ -146,5 +146,39 @@ impl<F: Functions, D: Disk> Partition<F, D> {
         };
         self.start(slot, context, op, now);
         Ok(context)
+    }
+
+    /// Issues an operation in a context of a session, one that the caller has chosen and in which nothing is open.
+    /// Refused, and then nothing changes: `Stranger` where the operation's key belongs to another partition.
+    pub fn issue_in(
+        &mut self,
+        slot: usize,
+        context: usize,
+        op: OpOf<F>,
+        functions: &F,
+        now: u64,
+    ) -> Result<(), Refused>
+        requires later { self.old.moment < now }
+        requires entered { IsEntered self.old slot }
+        requires context { context < 8 }
+        requires free { context_at self.old slot context ≡ None }
+        ensures does { IssuesIn F.code self.old self.new slot context op now result }
+        ensures event { OnOk result (IsIssue F.code self.old self.new slot context op now) }
+        ensures within { OnOk result (slot < 16) }
+        ensures err { OnErr result (self.new ≡ self.old) }
+        ensures moment { self.new.moment ≤ now }
+    {
+        self.known();
+        let _entered = self.is_session(slot);
+        let home = self.home(functions, &op.key());
+        if home != self.number {
+            return Err(Refused::Stranger {
+                what: What::Partition,
+                held: self.number,
+                came: home,
+            });
+        }
+        self.start(slot, context, op, now);
+        Ok(())
     }
 }

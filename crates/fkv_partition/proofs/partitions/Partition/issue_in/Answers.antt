@@ -1,0 +1,46 @@
+use Rattle.std.proofs.Common.{◌≡◌, refl, sym, ap, ◌∙◌}
+use Rattle.fkv_operations.specs.After.{key_of}
+use Rattle.fkv_partition.specs.Contexts.{joined, claim_of}
+use Rattle.fkv_partition.specs.Beginning.{IssuesIn}
+use Rattle.fkv_partition.specs.Views.{partition_of, slots_of}
+use Rattle.fkv_partition.proofs.AskedLemmas.{free-here}
+use Rattle.fkv_partition.proofs.EventLemmas.{event-issue_in}
+use Rattle.fkv_partition.proofs.partitions.Partition.issue_in.Goals as goal
+
+pub returns-then-home-self-clause-does : goal.returns-then-home-self-clause-does
+returns-then-home-self-clause-does g c =
+    let number : c.self.inside.number ≡ c.args.self.now.number = ap (λ v. v.number) c.self.view_is in
+    let home : c.home-home.result ≡ partition_of c.args.self.now.count (g.F.Functions.code (key_of c.args.op)) = c.home-home.ensures ∙ ap (λ k. partition_of c.args.self.now.count (g.F.Functions.code k)) c.key.ensures in
+    rw (number, home) (IssuesIn.stranger (λ e. c.if-home-self.true (home ∙ e ∙ sym number)) refl refl)
+
+pub start-requires-clause-unclaimed : goal.start-requires-clause-unclaimed
+start-requires-clause-unclaimed g c κs within =
+    let v = c.args.self.now in
+    let low = c.is_session-entered.ensures.within (c.is_session-entered.ensures.value ∙ c.requires.entered) in
+    ap (λ o. claim_of (joined o)) (free-here (slots_of v) v.contexts c.args.slot c.args.context c.known.ensures.places low c.requires.context c.requires.entered c.requires.free)
+
+pub start-requires-clause-own : goal.start-requires-clause-own
+start-requires-clause-own g c κs within =
+    let number : c.self.inside.number ≡ c.args.self.now.number = ap (λ v. v.number) c.self.view_is in
+    let home : c.home-home.result ≡ partition_of c.args.self.now.count (g.F.Functions.code (key_of c.args.op)) = c.home-home.ensures ∙ ap (λ k. partition_of c.args.self.now.count (g.F.Functions.code k)) c.key.ensures in
+    sym home ∙ c.if-home-self.false ∙ number
+
+pub returns-clause-does : goal.returns-clause-does
+returns-clause-does g c =
+    let number : c.self.inside.number ≡ c.args.self.now.number = ap (λ v. v.number) c.self.view_is in
+    let home : c.home-home.result ≡ partition_of c.args.self.now.count (g.F.Functions.code (key_of c.args.op)) = c.home-home.ensures ∙ ap (λ k. partition_of c.args.self.now.count (g.F.Functions.code k)) c.key.ensures in
+    rw c.start.ensures (IssuesIn.issues c.requires.entered c.requires.context c.requires.free (sym home ∙ c.if-home-self.false ∙ number) refl refl)
+
+pub returns-clause-event : goal.returns-clause-event
+returns-clause-event g c =
+    let v = c.args.self.now in
+    let number : c.self.inside.number ≡ c.args.self.now.number = ap (λ v. v.number) c.self.view_is in
+    let home : c.home-home.result ≡ partition_of c.args.self.now.count (g.F.Functions.code (key_of c.args.op)) = c.home-home.ensures ∙ ap (λ k. partition_of c.args.self.now.count (g.F.Functions.code k)) c.key.ensures in
+    let low = c.is_session-entered.ensures.within (c.is_session-entered.ensures.value ∙ c.requires.entered) in
+    rw c.start.ensures
+    (event-issue_in g.F.Functions.code v c.args.slot c.args.context c.args.now c.args.op c.requires.entered
+    (free-here (slots_of v) v.contexts c.args.slot c.args.context c.known.ensures.places low c.requires.context c.requires.entered c.requires.free)
+    c.requires.context (sym home ∙ c.if-home-self.false ∙ number))
+
+pub returns-clause-within : goal.returns-clause-within
+returns-clause-within g c = c.is_session-entered.ensures.within (c.is_session-entered.ensures.value ∙ c.requires.entered)
