@@ -24,7 +24,8 @@ use Rattle.fkv_partition.specs.Sound.{IsSound}
 use Rattle.fkv_partition.proofs.AskedLemmas.{open_at}
 use Rattle.fkv_partition.proofs.EventLemmas.{own-at}
 use Rattle.fkv_partition.proofs.ClaimLemmas.{place-or}
-use Rattle.fkv_partition.proofs.SoundLemmas.{Grows, Fits, sound-claimed, sound-settled}
+use Rattle.fkv_partition.proofs.GrownLemmas.{Grows}
+use Rattle.fkv_partition.proofs.SoundLemmas.{Fits, sound-claimed, sound-settled}
 
 -- records whose words alone have changed
 abbrev pub IsReworded : {K V : Type 0} → RecordsView K V → RecordsView K V → Type 0

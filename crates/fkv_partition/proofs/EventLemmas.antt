@@ -50,7 +50,7 @@ use Rattle.fkv_partition.specs.Going.{Decides, Goes, confirms, backs_off}
 use Rattle.fkv_partition.specs.Sound.{IsKept, IsLoading, StandsFor, IsSound}
 use Rattle.fkv_functions.proofs.ListLemmas.{get-set_other, get-set_same}
 use Rattle.fkv_lookups.specs.Traced.{IsTraced}
-use Rattle.fkv_partition.proofs.SoundLemmas.{newest-nowhere}
+use Rattle.fkv_partition.proofs.GrownLemmas.{newest-nowhere}
 use Rattle.fkv_partition.proofs.AskedLemmas.{open_at, context-inside, context-other, asked-same, asked-other, free-context, free-slot, idle, idle-asked, context-left, context-elsewhere, context-renewed}
 
 -- a context that asks nothing to be built and claims nothing is fresh

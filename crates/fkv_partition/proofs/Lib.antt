@@ -1,4 +1,5 @@
 pub mod ClaimLemmas
+pub mod GrownLemmas
 pub mod SoundLemmas
 pub mod AskedLemmas
 pub mod EventLemmas

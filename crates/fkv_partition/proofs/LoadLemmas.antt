@@ -37,7 +37,7 @@ use Rattle.fkv_partition.specs.Sound.{IsKept, IsLoading, StandsFor, IsSound}
 use Rattle.fkv_partition.specs.Loading.{Tells, MayLoad, AwaitsPage, ReadsOn, IsTold, Loads, found, ended}
 use Rattle.std.proofs.lemmas.Option.{slice_get_cases}
 use Rattle.fkv_index.specs.Words.{address_of}
-use Rattle.fkv_partition.proofs.SoundLemmas.{still-below, newest-nowhere}
+use Rattle.fkv_partition.proofs.GrownLemmas.{still-below, newest-nowhere}
 use Rattle.fkv_partition.proofs.EventLemmas.{stands-at}
 use Rattle.fkv_partition.proofs.DecidedLemmas.{page_flushed, lower_page}
 

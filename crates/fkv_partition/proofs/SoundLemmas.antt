@@ -47,172 +47,8 @@ use Rattle.fkv_partition.specs.Views.{PartitionView, slots_of, empty_partition, 
 use Rattle.fkv_partition.specs.Sound.{IsKept, IsLoading, StandsFor, IsSound}
 use Rattle.fkv_functions.proofs.ListLemmas.{get-set_cases, get-set_same, get-set_other, get-append_last, get-append_cases}
 use Rattle.fkv_texts.proofs.ChangeLemmas.{was_at, set_at-key}
-use Rattle.fkv_partition.proofs.ClaimLemmas.{place-or, owned-quiet, owned-claimed, owned-freed}
-
--- records change: on a device that keeps, what is newest at or below each address that is taken stays where it is still;
--- what is frozen is frozen, and of its class while the text has begun there; no offset falls, no place of the index goes,
--- and no class changes; a final word that leads to a taken address, and stands, stood there before, or leads nowhere
-pub record Grows {K V : Type 0} (keeps : Bool) (cmp : K → K → Ordering) (code : K → ℕ) (old new : RecordsView K V) : Type 0 where
-  pub class : (k : K) → class_in code new k ≡ class_in code old k
-  pub tail : old.tail ≤ new.tail
-  pub safe : old.regions.offsets.safe_read_only ≤ new.regions.offsets.safe_read_only
-  pub head : old.regions.offsets.head ≤ new.regions.offsets.head
-  pub begin : new.begin ≡ old.begin
-  pub from : old.from ≤ new.from
-  pub kept : IsTrue keeps
-      → (k : K) (a : ℕ)
-      → a < old.tail
-      → IsStill old.regions.offsets.safe_read_only (newest cmp old.text k a)
-      → newest cmp new.text k a ≡ newest cmp old.text k a
-  pub same_class : (k : K) (a : ℕ)
-      → a < old.regions.offsets.safe_read_only
-      → new.from ≤ a
-      → IsOfClass code old k a
-      → IsOfClass code new k a
-  pub places : (p : Place) → IsPlace old.words p → IsPlace new.words p
-  pub held : (p : Place) (w : Word)
-      → IsTrue (is_final w)
-      → address_of w < old.tail
-      → word_at new.words p ≡ w
-      → (word_at old.words p ≡ w) ⊎ (address_of w < 64)
-
--- below the first record no key has one
-pub newest-nowhere : {K V : Type 0} {keeps : Bool} {code : K → ℕ} (cmp : K → K → Ordering) (r : RecordsView K V) (k : K) (a : ℕ) → IsTraced keeps code r → a < 64 → newest cmp r.text k a ≡ None
-newest-nowhere cmp r k a t low = last_where-none (λ e. nat_le e.address a && has_key cmp k e) r.text (λ i e h.
-    let high : r.from ≤ e.address = t.from i e h in
-    let from = from_first t in
-    let least = t.first in
-    let no : nat_le e.address a ≡ false = grind (arith, nat_tests) in
-    rw no refl)
-
-still-raised : {K V : Type 0} (a b : ℕ) (l : Option (Entry K V)) → a ≤ b → IsStill a l → IsStill b l
-still-raised a b None up h = tt
-still-raised a b (Some e) up (inl none) = inl none
-still-raised a b (Some e) up (inr low) = inr (omega arith)
-
--- the newest of a key below a frozen address is still
-pub still-below : {K V : Type 0} (cmp : K → K → Ordering) (text : List (Entry K V)) (k : K) (a safe : ℕ) → a < safe → IsStill safe (newest cmp text k a)
-still-below cmp text k a safe low = by_newest (newest cmp text k a) refl
-  where
-    by_newest : (o : Option (Entry _ _)) → newest cmp text k a ≡ o → IsStill safe o
-    by_newest None h = tt
-    by_newest (Some e) h =
-        let found = last_where-found (λ x. nat_le x.address a && has_key cmp k x) text e h in
-        let parts = and_parts (nat_le e.address a) (has_key cmp k e) found in
-        let under : nat_le e.address a ≡ true = parts.0 in
-        let le : e.address ≤ a = grind (arith, nat_tests, under) in
-        inr (omega arith)
-
-was-entry : {K V : Type 0} {keeps : Bool} {cmp : K → K → Ordering} {code : K → ℕ} {old new : RecordsView K V} (k : K) (e : IndexEntry) → Grows keeps cmp code old new → WasEntryOf old (class_in code old k) e → WasEntryOf new (class_in code new k) e
-was-entry k e g w = rw (g.class k) (record { place = g.places e.place w.place; bucket = w.bucket; final = w.final; tag = w.tag })
-
-loading-grown : {K V : Type 0} (keeps : Bool) (cmp : K → K → Ordering) (code : K → ℕ) (old new : RecordsView K V) (k : K) (l : Loading) → IsTraced keeps code old → Grows keeps cmp code old new → IsLoading keeps cmp code old k l → IsLoading keeps cmp code new k l
-loading-grown keeps cmp code old new k l t g h =
-    let o = t.regions.agree.in_order in
-    let on_disk = h.on_disk in
-    let frozen : l.wanted < old.regions.offsets.safe_read_only = omega (arith, on_disk, o.head) in
-    let taken : l.wanted < old.tail = omega (arith, frozen, o.safe, t.regions.read_only) in
-    let low = h.low in
-    let tail = g.tail in
-    let head = g.head in
-    record {
-      entry = was-entry k l.kept g h.entry;
-      low = omega arith;
-      begun = h.begun;
-      past = (let was = h.past in let same = g.begin in omega arith);
-      on_disk = omega arith;
-      class = λ yes_keeps same begun. g.same_class k l.wanted frozen begun (h.class yes_keeps (same ∙ g.begin) (let up = g.from in omega arith));
-      newest = λ yes_keeps same.
-          let was = h.newest yes_keeps (same ∙ g.begin) in
-          let there = still-below cmp old.text k l.wanted old.regions.offsets.safe_read_only frozen in
-          g.kept yes_keeps k (address_of l.kept.word) low (subst (IsStill old.regions.offsets.safe_read_only) (sym was) there)
-          ∙ was
-          ∙ sym (g.kept yes_keeps k l.wanted taken there);
-    }
-
-kept-grown : {K V : Type 0} (keeps : Bool) (cmp : K → K → Ordering) (code : K → ℕ) (old new : RecordsView K V) (k : K) (e : IndexEntry) (source : Option V) → IsTraced keeps code old → Grows keeps cmp code old new → IsKept keeps cmp code old k e source
-    → IsKept keeps cmp code new k e source
-kept-grown keeps cmp code old new k e source t g h =
-    let low = h.low in
-    let tail = g.tail in
-    record {
-      entry = was-entry k e g h.entry;
-      low = omega arith;
-      value = λ yes_keeps here. by_value yes_keeps (g.held e.place e.word h.entry.final low here);
-      still = λ yes_keeps here. by_still yes_keeps (g.held e.place e.word h.entry.final low here);
-      nowhere = h.nowhere;
-    }
-  where
-    a : ℕ
-    a = address_of e.word
-
-    -- what leads nowhere
-    nowhere : IsTrue keeps → a < 64 → newest cmp new.text k a ≡ None
-    nowhere yes_keeps none =
-        let was = newest-nowhere cmp old k a t none in
-        g.kept yes_keeps k a h.low (rw was tt) ∙ was
-
-    by_value : IsTrue keeps → (word_at old.words e.place ≡ e.word) ⊎ (a < 64) → value_of (newest cmp new.text k a) ≡ source
-    by_value yes_keeps (inl was) = ap value_of (g.kept yes_keeps k a h.low (h.still yes_keeps was)) ∙ h.value yes_keeps was
-    by_value yes_keeps (inr none) = ap value_of (nowhere yes_keeps none) ∙ sym (h.nowhere yes_keeps none)
-
-    by_still : IsTrue keeps → (word_at old.words e.place ≡ e.word) ⊎ (a < 64) → IsStill new.regions.offsets.safe_read_only (newest cmp new.text k a)
-    by_still yes_keeps (inl was) = subst (IsStill new.regions.offsets.safe_read_only) (sym (g.kept yes_keeps k a h.low (h.still yes_keeps was)))
-        (still-raised old.regions.offsets.safe_read_only new.regions.offsets.safe_read_only (newest cmp old.text k a) g.safe (h.still yes_keeps was))
-    by_still yes_keeps (inr none) = rw (nowhere yes_keeps none) tt
-
--- an operation stands for what it stood for, where the word that it claims stays
-pub stands-grown : {K V I : Type 0} (keeps : Bool) (cmp : K → K → Ordering) (code : K → ℕ) (old new : RecordsView K V) (op : Op K V I) (phase : Phase V) → IsTraced keeps code old → Grows keeps cmp code old new → ((p : Place) → claim_by phase ≡ Some p → word_at new.words p ≡ word_at old.words p) → StandsFor keeps cmp code old op phase → StandsFor keeps cmp code new op phase
-stands-grown keeps cmp code old new op Fresh t g n h = tt
-stands-grown keeps cmp code old new op (Confirm p) t g n h =
-    rw (g.class (key_of op)) (record { bucket = h.bucket; word = n p refl ∙ h.word })
-stands-grown keeps cmp code old new (Read k i) (Prepared e s) t g n h = h
-stands-grown keeps cmp code old new (Upsert k v) (Prepared e s) t g n h = h
-stands-grown keeps cmp code old new (Rmw k i) (Prepared e s) t g n h = kept-grown keeps cmp code old new k e s t g h
-stands-grown keeps cmp code old new (Delete k) (Prepared e s) t g n h = h
-stands-grown keeps cmp code old new (Read k i) (Load l) t g n h = loading-grown keeps cmp code old new k l t g h
-stands-grown keeps cmp code old new (Upsert k v) (Load l) t g n h = h
-stands-grown keeps cmp code old new (Rmw k i) (Load l) t g n h = loading-grown keeps cmp code old new k l t g h
-stands-grown keeps cmp code old new (Delete k) (Load l) t g n h = h
-
--- ---- the tail, and the entry that is moved there
-after-most : (bits size a : ℕ) → tail_after bits size a ≤ 2 ^ 48
-after-most bits size a = by_room (nat_le (behind bits size a + size) (2 ^ 48)) refl
-  where
-    by_room : (b : Bool) → nat_le (behind bits size a + size) (2 ^ 48) ≡ b → unwrap_or (cond b (Some (behind bits size a)) None) (2 ^ 48) ≤ 2 ^ 48
-    by_room true h = let room : behind bits size a + size ≤ 2 ^ 48 = leb-true (behind bits size a + size) (2 ^ 48) h in omega arith
-    by_room false h = omega arith
-
-module _ {K V : Type 0} where
-  laid-most : (bits size begin tail : ℕ) (text : List (Entry K V)) → begin ≤ 2 ^ 48 → IsLaidOut bits size begin tail text → tail ≤ 2 ^ 48
-  laid-most bits size begin tail [] low h = let same : begin ≡ tail = h in omega arith
-  laid-most bits size begin tail (e ∷ es) low h = laid-most bits size (tail_after bits size begin) tail es (after-most bits size begin) h.2
-
-  -- no record stands above the greatest address
-  pub tail-most : {keeps : Bool} {code : K → ℕ} (v : RecordsView K V) → IsTraced keeps code v → v.tail ≤ 2 ^ 48
-  tail-most {keeps} v t = laid-most v.page_bits v.record_size v.from v.tail v.text (subst (λ n. n ≤ 2 ^ 48) (sym t.begins) (by_keeps keeps)) t.laid_out
-    where
-      o : IsInOrder v.regions.bits v.regions.flushed v.regions.offsets
-      o = t.regions.agree.in_order
-
-      headed : v.begin ≤ 2 ^ 48
-      headed = omega (arith, t.regions.headed, o.head, o.safe, o.most)
-
-      by_closed : (b : Bool) → cond b v.regions.offsets.closed v.begin ≤ 2 ^ 48
-      by_closed true = omega (arith, o.closed, o.head, o.safe, o.most)
-      by_closed false = headed
-
-      by_keeps : (b : Bool) → text_begin b v.begin v.regions.offsets.closed ≤ 2 ^ 48
-      by_keeps true = headed
-      by_keeps false = by_closed (nat_le v.begin v.regions.offsets.closed)
-
-final-address : (t a : ℕ) → a < 2 ^ 48 → address_of (final_word t a) ≡ a
-unfolding address_of final_word
-final-address t a low = omega arith
-
--- where the entry leads that was moved
-pub appended-leads : (words : List (List Word)) (p : Place) (t a : ℕ) → IsPlace words p → a < 2 ^ 48 → address_of (word_at (with_word words p (final_word t a)) p) ≡ a
-appended-leads words p t a place low = ap address_of (written_there words p (final_word t a) place) ∙ final-address t a low
+use Rattle.fkv_partition.proofs.GrownLemmas.{Grows, stands-grown, grown-regions, grown-moved, grown-flushed, grown-appended, grown-replaced}
+use Rattle.fkv_partition.proofs.ClaimLemmas.{owned-quiet, owned-claimed, owned-freed}
 
 set-at : {A : Type 0} (xs : List (Option A)) (i : ℕ) (y : Option A) (x : A) → slice_get xs i ≡ Some (Some x) → slice_get (slice_set xs i y) i ≡ Some (Some x) → y ≡ Some x
 set-at xs i y x was is = let set : slice_get (slice_set xs i y) i ≡ Some y = get-set_same xs i (Some x) y was in let same : Some y ≡ Some (Some x) = sym set ∙ is in cc
@@ -262,15 +98,12 @@ module _ {K V I : Type 0} {keeps : Bool} {cmp : K → K → Ordering} {code : K 
       counted = s.counted;
       places = s.places;
       traced = traced;
-      stands = λ p x h. stands-grown keeps cmp code v.records (with_regions v.records regions) x.op x.phase s.traced grown (λ q e. refl) (s.stands p x h);
+      stands = λ p x h. stands-grown keeps cmp code v.records (with_regions v.records regions) x.op x.phase s.traced (grown-regions cmp code v.records s.traced regions up) (λ q e. refl) (s.stands p x h);
       owned = s.owned;
       routed = s.routed;
       asked = s.asked;
       housed = housed;
     }
-      where
-        grown : Grows keeps cmp code v.records (with_regions v.records regions)
-        grown = record { class = λ k. refl; tail = omega arith; safe = up.safe; head = up.head; begin = refl; from = omega arith; kept = λ keeps k a low still. refl; same_class = λ k a low begun h. record { entry = h.entry; here = h.here; class = h.class }; places = λ p h. h; held = λ p w f low h. inl h }
 
     -- frames are closed too, and the text may begin higher
     pub sound-moved : (r : RecordsView K V) (regions : RegionsView) (now : ℕ)
@@ -284,7 +117,7 @@ module _ {K V I : Type 0} {keeps : Bool} {cmp : K → K → Ordering} {code : K 
       counted = s.counted ∙ ap (λ (w : RecordsView K V). 2 ^ w.partition_bits) (sym m.is);
       places = s.places;
       traced = traced;
-      stands = λ p x h. stands-grown keeps cmp code v.records r x.op x.phase s.traced grown (λ q e. ap (λ (w : RecordsView K V). word_at w.words q) m.is) (s.stands p x h);
+      stands = λ p x h. stands-grown keeps cmp code v.records r x.op x.phase s.traced (grown-moved cmp code v.records s.traced r regions m up) (λ q e. ap (λ (w : RecordsView K V). word_at w.words q) m.is) (s.stands p x h);
       owned = subst (λ w. AreOwned w v.contexts) (sym (ap (λ (w : RecordsView K V). w.words) m.is)) s.owned;
       routed = λ i e h.
           let was = filter-in (λ (d : Entry K V). nat_le low d.address) v.records.text i e (ap (λ (w : RecordsView K V). slice_get w.text i) (sym m.is) ∙ h) in
@@ -296,30 +129,6 @@ module _ {K V I : Type 0} {keeps : Bool} {cmp : K → K → Ordering} {code : K 
         low : ℕ
         low = text_begin keeps v.records.begin regions.offsets.closed
 
-        starts : r.from ≡ text_begin keeps v.records.begin regions.offsets.closed
-        starts = ap (λ (w : RecordsView K V). w.from) m.is
-
-        grown : Grows keeps cmp code v.records r
-        grown = record {
-          class = λ k. ap (λ (w : RecordsView K V). class_in code w k) m.is;
-          tail = (let same : r.tail ≡ v.records.tail = ap (λ (w : RecordsView K V). w.tail) m.is in omega arith);
-          safe = up.safe;
-          head = up.head;
-          begin = ap (λ (w : RecordsView K V). w.begin) m.is;
-          from = (let rises = begin_rises keeps v.records.begin v.records.regions.offsets.closed regions.offsets.closed (let same : r.regions.offsets.closed ≡ regions.offsets.closed = ap (λ (w : RecordsView K V). w.regions.offsets.closed) m.is in let more = up.closed in omega arith) in
-              let was = s.traced.begins in
-              let is = starts in
-              omega arith);
-          kept = λ yes_keeps k a low still. ap (λ t. newest cmp t k a) (m.kept yes_keeps);
-          same_class = λ k a frozen begun o. record {
-            entry = o.entry;
-            here = ap (λ (w : RecordsView K V). entry_at w.text a) m.is ∙ cut-entry (text_begin keeps v.records.begin regions.offsets.closed) a v.records.text (subst (λ n. n ≤ a) starts begun) ∙ o.here;
-            class = ap (λ (w : RecordsView K V). class_in code w o.entry.key) m.is ∙ o.class ∙ sym (ap (λ (w : RecordsView K V). class_in code w k) m.is);
-          };
-          places = λ p h. subst (λ w. IsPlace w p) (sym (ap (λ (w : RecordsView K V). w.words) m.is)) h;
-          held = λ p w f low h. inl (sym (ap (λ (u : RecordsView K V). word_at u.words p) m.is) ∙ h);
-        }
-
     -- a page is flushed
     pub sound-flushed : (st : Standing) (now : ℕ) → IsTraced keeps code (with_receipt v.records st) → IsSound keeps cmp code (record v { records = with_receipt v.records st; moment = now })
     sound-flushed st now traced = record {
@@ -327,15 +136,12 @@ module _ {K V I : Type 0} {keeps : Bool} {cmp : K → K → Ordering} {code : K 
       counted = s.counted;
       places = s.places;
       traced = traced;
-      stands = λ p x h. stands-grown keeps cmp code v.records (with_receipt v.records st) x.op x.phase s.traced grown (λ q e. refl) (s.stands p x h);
+      stands = λ p x h. stands-grown keeps cmp code v.records (with_receipt v.records st) x.op x.phase s.traced (grown-flushed cmp code v.records s.traced st) (λ q e. refl) (s.stands p x h);
       owned = s.owned;
       routed = s.routed;
       asked = s.asked;
       housed = s.housed;
     }
-      where
-        grown : Grows keeps cmp code v.records (with_receipt v.records st)
-        grown = record { class = λ k. refl; tail = omega arith; safe = omega arith; head = omega arith; begin = refl; from = omega arith; kept = λ keeps k a low still. refl; same_class = λ k a low begun h. record { entry = h.entry; here = h.here; class = h.class }; places = λ p h. h; held = λ p w f low h. inl h }
 
     -- an operation that may stand in a context of a session that is entered
     pub record Fits (r : RecordsView K V) (slot c : ℕ) (x : Context K V I) : Type 0 where
@@ -467,12 +273,11 @@ module _ {K V I : Type 0} {keeps : Bool} {cmp : K → K → Ordering} {code : K 
         → claim_at v.contexts (slot * 8 + c) ≡ None
         → IsEntryOf v.records (class_in code v.records k) e
         → IsTraced keeps code (with_record v.records e k value)
-        → ((q : K) (a : ℕ) → a < v.records.tail → newest cmp (with_record v.records e k value).text q a ≡ newest cmp v.records.text q a)
         → ChangesAt e.place v.records.words (with_record v.records e k value).words
         → SameTentative v.records.words (with_record v.records e k value).words
         → partition_of v.count (code k) ≡ v.number
         → IsSound keeps cmp code (with_appended v slot c e k value now)
-    sound-appended slot c now e k value old entry traced kept words same own =
+    sound-appended slot c now e k value old entry traced words same own =
         sound-changed (with_record v.records e k value) slot c now None (record {
           traced = traced;
           bits = refl;
@@ -481,38 +286,13 @@ module _ {K V I : Type 0} {keeps : Bool} {cmp : K → K → Ordering} {code : K 
             | inl was ↦ s.routed i x was
             | inr new ↦ subst (λ (y : Entry K V). partition_of v.count (code y.key) ≡ v.number) new.1 own
           ];
-          others = others-stand (with_record v.records e k value) slot c e.place grown words (λ p n h. (let no = sym (final_not_tentative (word_at v.records.words e.place) (ap is_final entry.word ∙ entry.final)) ∙ s.owned.tentative p e.place h in absurd (cc)));
+          others = others-stand (with_record v.records e k value) slot c e.place (grown-appended cmp code v.records s.traced e k value entry.place) words
+              (λ p n h. (let no = sym (final_not_tentative (word_at v.records.words e.place) (ap is_final entry.word ∙ entry.final)) ∙ s.owned.tentative p e.place h in absurd (cc)));
           owned = owned-quiet v.records.words (with_record v.records e k value).words v.contexts (slot * 8 + c) None s.owned same old refl;
         }) (λ y h. absurd (cc))
       where
         last : Entry K V
         last = record { address = v.records.tail; previous = address_of e.word; key = k; value = value }
-
-        grown : Grows keeps cmp code v.records (with_record v.records e k value)
-        grown = record {
-          class = λ q. refl;
-          safe = omega arith;
-          head = omega arith;
-          begin = refl;
-          from = omega arith;
-          same_class = λ q a low begun o.
-              let o' = s.traced.regions.agree.in_order in
-              let up = s.traced.regions.read_only in
-              let safe = o'.safe in
-              record { entry = o.entry; here = entry_at-old v.records.text last a (λ same. omega arith) ∙ o.here; class = o.class };
-          tail = (let up : v.records.tail < (with_record v.records e k value).tail = traced.below (length v.records.text) last (get-append_last v.records.text last) in omega arith);
-          kept = λ keeps q a low still. kept q a low;
-          places = words.places;
-          held = λ p w f low h. elim (place-or p e.place) [
-            | inl here ↦ absurd (
-                let up : v.records.tail < (with_record v.records e k value).tail = traced.below (length v.records.text) last (get-append_last v.records.text last) in
-                let most = tail-most (with_record v.records e k value) traced in
-                let leads = appended-leads v.records.words e.place (tag_of e.word) v.records.tail entry.place (omega arith) in
-                let same : address_of w ≡ v.records.tail = ap address_of (sym h ∙ ap (word_at (with_record v.records e k value).words) here) ∙ leads in
-                omega arith)
-            | inr other ↦ inl (sym (words.others p other) ∙ h)
-          ];
-        }
 
     -- a record gets another value where it stands, or becomes a tombstone
     pub sound-replaced : (slot c now a : ℕ) (value : Option V)
@@ -530,23 +310,9 @@ module _ {K V I : Type 0} {keeps : Bool} {cmp : K → K → Ordering} {code : K 
               let was = was_at a value v.records.text i e h in
               subst (λ (y : Entry K V). partition_of v.count (code y.key) ≡ v.number) was.is
               (ap (λ k. partition_of v.count (code k)) (set_at-key a value was.entry) ∙ s.routed i was.entry was.here);
-          others = λ p x n h. stands-grown keeps cmp code v.records (with_value v.records a value) x.op x.phase s.traced grown (λ q e. refl) (s.stands p x h);
+          others = λ p x n h. stands-grown keeps cmp code v.records (with_value v.records a value) x.op x.phase s.traced (grown-replaced cmp code v.records s.traced a value high kept) (λ q e. refl) (s.stands p x h);
           owned = owned-quiet v.records.words v.records.words v.contexts (slot * 8 + c) None s.owned (λ q. refl) old refl;
         }) (λ y h. absurd (cc))
-      where
-        grown : Grows keeps cmp code v.records (with_value v.records a value)
-        grown = record {
-          class = λ q. refl;
-          tail = omega arith;
-          safe = omega arith;
-          head = omega arith;
-          begin = refl;
-          from = omega arith;
-          kept = λ keeps q b low still. kept q b still;
-          same_class = λ q b low begun o. record { entry = o.entry; here = entry_at-elsewhere a value v.records.text b (λ same. omega arith) ∙ o.here; class = o.class };
-          places = λ p h. h;
-          held = λ p w f low h. inl h;
-        }
 
 -- a session stays where the regions that the records have followed have it
 pub slots-moved : {K V : Type 0} {keeps : Bool} (old new : RecordsView K V) (regions : RegionsView) (t : ℕ) → IsMoved keeps regions old new → is_session regions.epochs.slots t ≡ true → is_session new.regions.epochs.slots t ≡ true

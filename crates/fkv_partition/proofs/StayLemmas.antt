@@ -39,7 +39,7 @@ use Rattle.fkv_partition.specs.Pending.{pending_by, pending_of, pending, OthersP
 use Rattle.fkv_partition.proofs.AskedLemmas.{open_at, asked-same, context-other, context-inside, free-context, free-low}
 use Rattle.fkv_partition.proofs.EventLemmas.{stands-at, refreshed-same, left-same, entered-same, same_or}
 use Rattle.fkv_partition.proofs.PendingLemmas.{others-pend, frame-of}
-use Rattle.fkv_partition.proofs.SoundLemmas.{still-below}
+use Rattle.fkv_partition.proofs.GrownLemmas.{still-below}
 
 -- what is to be found depends on Begin and the text alone
 pub pending-same : {K V I : Type 0} (cmp : K → K → Ordering) (r s : RecordsView K V) (o : Option (Context K V I)) → s.begin ≡ r.begin → s.text ≡ r.text → pending_of cmp s o ≡ pending_of cmp r o

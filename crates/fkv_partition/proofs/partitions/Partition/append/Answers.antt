@@ -33,7 +33,6 @@ invariant_of-self-in-Ok-Some g c =
     (rw (← c.self.view_is) at c.requires.unclaimed)
     (rw (← c.self.view_is) at c.requires.write.entry)
     (rw made at c.known.ensures)
-    (c.records_grow.ensures.kept g.F.Key.Ord.cmp c.self.inside.records w.entry w.key w.value)
     (rw made at changes)
     (rw made at tentative)
     (rw (← c.self.view_is) at c.requires.write.own))
