@@ -5,3 +5,4 @@ pub mod SessionLemmas
 pub mod LookupLemmas
 pub mod MeetingLemmas
 pub mod LiveLemmas
+pub mod TruncationLemmas

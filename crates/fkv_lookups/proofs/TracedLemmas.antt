@@ -40,7 +40,7 @@ low_tail : {K V : Type 0} (bits size begin tail : ℕ) (text : List (Entry K V))
 low_tail bits size begin tail [] l = omega arith
 low_tail bits size begin tail (e ∷ es) l = let lt : begin < tail = l.1 in omega arith
 
-begin_low : (keeps : Bool) (begin closed : ℕ) → begin ≤ text_begin keeps begin closed
+pub begin_low : (keeps : Bool) (begin closed : ℕ) → begin ≤ text_begin keeps begin closed
 begin_low true begin closed = omega arith
 begin_low false begin closed = by_closed (nat_le begin closed) refl
   where
