@@ -6,3 +6,5 @@ pub mod LookupLemmas
 pub mod MeetingLemmas
 pub mod LiveLemmas
 pub mod TruncationLemmas
+pub mod ClearedLemmas
+pub mod WrongLemmas

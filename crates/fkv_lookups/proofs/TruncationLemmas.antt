@@ -8,6 +8,7 @@ use Rattle.fkv_texts.specs.Chains.{has_class, last_of_class, Leads}
 use Rattle.fkv_texts.proofs.LastWhere.{last_where-in}
 use Rattle.fkv_texts.proofs.CutLemmas.{cut-leads, cut-chained, cut-from}
 use Rattle.fkv_pages.specs.Views.{text_begin}
+use Rattle.fkv_pages.proofs.PageLemmas.{begins_rise, begins_high}
 use Rattle.fkv_hybrid.specs.Views.{LogView}
 use Rattle.fkv_hybrid.specs.Views as log
 use Rattle.fkv_hybrid.specs.Logs.{IsLogOf}
@@ -18,18 +19,7 @@ use Rattle.fkv_operations.specs.Classes.{same_class}
 use Rattle.fkv_lookups.specs.RecordsViews.{class_in, leads_to}
 use Rattle.fkv_lookups.specs.Inside.{view_of}
 use Rattle.fkv_lookups.specs.Traced.{IsTraced}
-use Rattle.fkv_lookups.proofs.TracedLemmas.{begin_low, traced-by}
-
--- ---- where the text begins
-from_rises : (keeps : Bool) (low high closed : ℕ) → low ≤ high → text_begin keeps low closed ≤ text_begin keeps high closed
-from_rises true low high closed up = up
-from_rises false low high closed up = by_low (nat_le low closed) (nat_le high closed) refl refl
-  where
-    by_low : (a b : Bool) → nat_le low closed ≡ a → nat_le high closed ≡ b → cond a closed low ≤ cond b closed high
-    by_low true true g h = omega arith
-    by_low false false g h = up
-    by_low false true g h = grind (arith, nat_tests)
-    by_low true false g h = grind (arith, nat_tests)
+use Rattle.fkv_lookups.proofs.TracedLemmas.{traced-by}
 
 -- ---- an entry that leads below Begin is gone, and the others lead where they led
 module _ {K V : Type 0} (begin from : ℕ) (first : 64 ≤ begin) (low : begin ≤ from) where
@@ -69,10 +59,10 @@ pub traced-truncated : {K V : Type 0} {keeps : Bool} {code : K → ℕ} (p k siz
 traced-truncated {K} {V} {keeps} {code} p k size begin words made old new is up known sweeps buckets map t =
     let class = class_in code (view_of p k size old words) in
     let from : ℕ = text_begin keeps begin old.regions.offsets.closed in
-    let cut : old.from ≤ from = subst (λ n. n ≤ from) (sym t.begins) (from_rises keeps old.begin begin old.regions.offsets.closed up) in
+    let cut : old.from ≤ from = subst (λ n. n ≤ from) (sym t.begins) (begins_rise keeps old.begin old.regions.offsets.closed begin old.regions.offsets.closed up (omega arith)) in
     let same : new.begin ≡ begin = ap (λ (l : LogView K V). l.begin) is in
     let first : 64 ≤ begin = subst (λ n. 64 ≤ n) same known.first in
-    let low : begin ≤ from = begin_low keeps begin old.regions.offsets.closed in
+    let low : begin ≤ from = begins_high keeps begin old.regions.offsets.closed in
     traced-by p k size made new t.partition_bits t.bucket_bits known
     (rw is (cut-chained class same_class old.from from old.text t.rising cut t.chained))
     (rw buckets t.buckets)
