@@ -1,23 +1,22 @@
 -- Records that are spent, and texts that are cleared.
-use Rattle.std.proofs.Common.{◌≡◌, ◌≢◌, Bool, true, false, cond, ℕ, ◌+◌, ◌^◌, ◌<◌, ◌≤◌, ◌⊎◌, ◌==◌, inl, inr, List, [], ◌∷◌, ◌++◌, Option, Some, None, option_map, nat_le, unwrap_or, refl, sym, ◌∙◌, ap, subst, arith}
+use Rattle.std.proofs.Common.{◌≡◌, Bool, true, false, cond, ℕ, ◌+◌, ◌^◌, ◌<◌, ◌≤◌, ◌==◌, inl, inr, List, [], ◌∷◌, ◌++◌, Option, Some, None, option_map, nat_le, unwrap_or, refl, sym, ◌∙◌, ap, subst, arith}
 use Rattle.std.proofs.lemmas.Bool.{cases_lt, cases_eq}
 use Rattle.std.proofs.lemmas.Bool.Decides.{nat_tests}
 use Rattle.std.specs.declared.cmp.Ordering.{Ordering}
 use Rattle.std.specs.BTreeMap.{is_at}
-use Rattle.fkv_functions.specs.Plain.{Same, with_at, IsKeyOrder}
+use Rattle.fkv_functions.specs.Plain.{Same, IsKeyOrder}
 use Rattle.fkv_records.specs.Places.{IsPlace, behind}
 use Rattle.fkv_regions.specs.Agree.{IsMark}
 use Rattle.fkv_regions.proofs.MoveLemmas.{mark-place}
 use Rattle.fkv_texts.specs.declared.entries.Entry.{Entry}
 use Rattle.fkv_texts.specs.Places.{tail_after, IsLaidOut}
-use Rattle.fkv_texts.specs.Text.{last_where, entry_at, has_key, last_of, value_of, live, changed, set_at, text_from, IsRising, IsBelow}
+use Rattle.fkv_texts.specs.Text.{last_where, entry_at, has_key, last_of, value_of, live, changed, set_at, text_from, IsRising}
 use Rattle.fkv_texts.specs.Chains.{IsIn}
-use Rattle.fkv_texts.proofs.LastWhere.{last_where-in, last_where-found, last_where-filter, last_where-narrow, last_where-narrow_none, none-passes}
+use Rattle.fkv_texts.proofs.LastWhere.{last_where-in, last_where-found, last_where-filter, last_where-narrow, last_where-narrow_none}
 use Rattle.fkv_texts.proofs.TextLemmas.{last_of-append, live-append, entry_at-old, entry_at-in}
 use Rattle.fkv_texts.proofs.ChangeLemmas.{entry_at-elsewhere, last_of-changed, set_at-address, set_at-other}
 use Rattle.fkv_texts.proofs.CutLemmas.{cut-entry, cut-from, filter-in}
 use Rattle.fkv_texts.proofs.PlaceLemmas.{stands, after-nearest}
-use Rattle.fkv_pages.specs.Views.{text_begin}
 use Rattle.fkv_pages.proofs.PageLemmas.{begin_place, begins_low}
 use Rattle.fkv_lookups.specs.RecordsViews.{RecordsView}
 use Rattle.fkv_lookups.specs.Traced.{IsTraced}

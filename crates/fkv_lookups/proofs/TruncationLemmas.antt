@@ -1,5 +1,5 @@
 -- The log's start is cut: what the entries that are left say of the records that are left.
-use Rattle.std.proofs.Common.{◌≡◌, ◌<◌, ◌≤◌, ℕ, Bool, true, false, cond, List, Option, Some, None, nat_lt, nat_le, inl, refl, sym, ap, subst, arith, length}
+use Rattle.std.proofs.Common.{◌≡◌, ◌<◌, ◌≤◌, ℕ, Bool, true, false, cond, List, Option, Some, None, nat_lt, inl, refl, sym, ap, subst, arith, length}
 use Rattle.std.proofs.lemmas.Bool.Decides.{nat_tests}
 use Rattle.fkv_records.specs.Records.{IsPrevious}
 use Rattle.fkv_texts.specs.declared.entries.Entry.{Entry}

@@ -1,5 +1,5 @@
 -- Small texts, of which some records are spent.
-use Rattle.std.proofs.Common.{◌≡◌, ℕ, zero, suc, ◌<◌, ◌≤◌, ◌==◌, inl, inr, Option, Some, None, slice_get, refl, ap, arith, lit<}
+use Rattle.std.proofs.Common.{◌≡◌, ℕ, zero, suc, ◌≤◌, ◌==◌, inl, inr, Option, Some, None, slice_get, refl, ap, arith, lit<}
 use Rattle.std.specs.Ordering.{nat_cmp}
 use Rattle.fkv_texts.specs.declared.entries.Entry.{Entry}
 use Rattle.fkv_texts.specs.WrongTexts.{entry}
