@@ -2,7 +2,8 @@
 //! body ensures.
 //!
 //! A text is cleared up to an address where each record below is spent. Whoever copies each record that is not to the
-//! tail, the lowest first, clears the text so far; and once it is cleared, dropping what lies below takes no key's value.
+//! tail, the lowest first, clears the text so far; and once it is cleared, dropping what lies below takes no key's
+//! value.
 ghost use Rattle.std.specs.Prelude.{◌≡◌, ◌<◌, ◌≤◌, ℕ, Bool, Option, Some};
 ghost use Rattle.std.specs.declared.cmp.Ordering.{Ordering};
 ghost use Rattle.fkv_functions.specs.Plain.{Same, IsKeyOrder};

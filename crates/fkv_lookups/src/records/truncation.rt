@@ -9,8 +9,8 @@ use fkv_device::Disk;
 use fkv_functions::{Functions, Refused};
 
 impl<F: Functions, D: Disk> Records<F, D> {
-    /// Moves Begin to the start of a page: records below are dropped, and the entries that lead there are emptied. Refused,
-    /// and then nothing changes: `NotDue` where Begin would not rise, or would pass Head.
+    /// Moves Begin to the start of a page: records below are dropped, and the entries that lead there are emptied.
+    /// Refused, and then nothing changes: `NotDue` where Begin would not rise, or would pass Head.
     pub fn truncate(&mut self, page: u64) -> Result<(), Refused>
         ensures ok { IsOk result ↔ IsTruncationDue self.old page }
         ensures effect { OnOk result (self.new ≡ truncated D.keeps self.old (start_at self.old.page_bits page)) }
