@@ -1,2 +1,3 @@
 pub mod TiedLemmas
 pub mod ScanLemmas
+pub mod TruncationLemmas

@@ -1,6 +1,6 @@
 -- What a contract sees of a log.
 use Rattle.std.specs.Prelude.{◌≡◌, ◌<◌, ◌≤◌, ◌+◌, ◌^◌, ℕ, Bool, IsTrue, List, [], ◌∷◌, ◌++◌, drop, Option}
-use Rattle.fkv_records.specs.Places.{page_at, offset_at}
+use Rattle.fkv_records.specs.Places.{page_at, offset_at, start_at}
 use Rattle.fkv_device.specs.Standing.{Standing}
 use Rattle.fkv_texts.specs.declared.entries.Entry.{Entry}
 use Rattle.fkv_texts.specs.Places.{tail_after}
@@ -95,6 +95,19 @@ pub record IsMoved {K V : Type 0} (keeps : Bool) (regions : RegionsView) (old ne
   pub more : List (List ℕ)
   pub is : new ≡ moved keeps old regions more
   pub kept : IsTrue keeps → new.text ≡ old.text
+
+-- when Begin may move to the start of a page: it rises, no higher than Head
+pub record IsTruncationDue {K V : Type 0} (log : LogView K V) (page : ℕ) : Type 0 where
+  pub higher : log.begin < start_at log.bits page
+  pub headed : start_at log.bits page ≤ log.regions.offsets.head
+
+-- the log whose entries below an address are dropped
+abbrev pub truncated : {K V : Type 0} → Bool → LogView K V → ℕ → LogView K V
+truncated keeps log begin = record log {
+  begin = begin;
+  from = text_begin keeps begin log.regions.offsets.closed;
+  text = text_from (text_begin keeps begin log.regions.offsets.closed) log.text;
+}
 
 -- what was frozen stays: the entries below what was the safe read-only offset, and where the text begins now or above
 abbrev pub FrozenStay : {K V : Type 0} → LogView K V → LogView K V → Type 0

@@ -2,7 +2,7 @@
 use Rattle.std.specs.Prelude.{◌≡◌, ℕ, [], ◌∷◌, Option, true, false}
 use Rattle.fkv_regions.specs.RegionsView.{RegionsView, fresh_regions}
 use Rattle.fkv_texts.specs.WrongTexts.{entry}
-use Rattle.fkv_hybrid.specs.Views.{empty_log, with_entry, moved}
+use Rattle.fkv_hybrid.specs.Views.{LogView, empty_log, with_entry, moved, truncated}
 
 -- an appended entry is all that was handed in
 abbrev pub AppendsItWhole : Type 0
@@ -33,3 +33,15 @@ ClosesFrames = (p q : ℕ) (v w : Option ℕ)
     ≡ entry 96 q 4 w ∷ [])
     × ((moved true (with_entry 32 (with_entry 32 (empty_log 8 2) p 3 v) q 4 w) (closed_at 96) []).text
     ≡ entry 64 p 3 v ∷ entry 96 q 4 w ∷ [])
+
+-- a log of two entries, at 64 and at 96
+abbrev pub two_entries : ℕ → ℕ → Option ℕ → Option ℕ → LogView ℕ ℕ
+two_entries p q v w = with_entry 32 (with_entry 32 (empty_log 8 2) p 3 v) q 4 w
+
+-- a log that is truncated begins there, and has the entries there and above alone, whether the device keeps or not
+abbrev pub TruncatesBelow : Type 0
+TruncatesBelow = (p q : ℕ) (v w : Option ℕ)
+    → ((truncated false (two_entries p q v w) 96).begin ≡ 96)
+    × ((truncated false (two_entries p q v w) 96).text ≡ entry 96 q 4 w ∷ [])
+    × ((truncated true (two_entries p q v w) 96).begin ≡ 96)
+    × ((truncated true (two_entries p q v w) 96).text ≡ entry 96 q 4 w ∷ [])

@@ -14,6 +14,7 @@ mod flushes;
 mod loads;
 mod reads;
 mod sessions;
+mod truncation;
 
 use fkv_device::Disk;
 use fkv_functions::{Fixed, Refused};

@@ -5,3 +5,6 @@ pub mod SessionLemmas
 pub mod LookupLemmas
 pub mod MeetingLemmas
 pub mod LiveLemmas
+pub mod TruncationLemmas
+pub mod ClearedLemmas
+pub mod WrongLemmas

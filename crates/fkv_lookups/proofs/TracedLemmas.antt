@@ -382,7 +382,7 @@ module _ {K V : Type 0} (p : Entry K V → Bool) where
       omega arith
   highest-step y ys above more None h e last (suc i) x here passes = absurd (let no = none-passes p ys h i x here in cc)
 
-  highest : (text : List (Entry K V)) → IsRising text → (e : Entry K V) → last_where p text ≡ Some e → (i : ℕ) (x : Entry K V) → slice_get text i ≡ Some x → p x ≡ true → x.address ≤ e.address
+  pub highest : (text : List (Entry K V)) → IsRising text → (e : Entry K V) → last_where p text ≡ Some e → (i : ℕ) (x : Entry K V) → slice_get text i ≡ Some x → p x ≡ true → x.address ≤ e.address
   highest [] r e last i x here passes = absurd (cc)
   highest (y ∷ ys) r e last i x here passes = highest-step y ys r.0 (highest ys r.1) (last_where p ys) refl e last i x here passes
 

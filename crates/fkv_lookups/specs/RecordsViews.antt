@@ -1,7 +1,7 @@
 -- What a contract sees of the records of a partition.
 use Rattle.std.specs.Prelude.{◌≡◌, ◌+◌, ◌^◌, ◌<◌, ◌≤◌, ℕ, Bool, IsTrue, List, [], ◌∷◌, ◌++◌, Option, Some, None, option_map}
-use Rattle.std.specs.Prelude.{drop, replicate}
-use Rattle.fkv_records.specs.Places.{page_at, offset_at}
+use Rattle.std.specs.Prelude.{drop, replicate, map}
+use Rattle.fkv_records.specs.Places.{page_at, offset_at, start_at}
 use Rattle.fkv_device.specs.Standing.{Standing}
 use Rattle.fkv_pages.specs.Views.{text_begin}
 use Rattle.fkv_texts.specs.declared.entries.Entry.{Entry}
@@ -10,7 +10,7 @@ use Rattle.fkv_texts.specs.Text.{changed, text_from}
 use Rattle.fkv_regions.specs.RegionsView.{RegionsView, fresh_regions, with_flushed}
 use Rattle.fkv_index.specs.declared.words.Word.{Word}
 use Rattle.fkv_index.specs.declared.places.Place.{Place}
-use Rattle.fkv_index.specs.Words.{empty, final_word, tentative_word, address_of, tag_of, is_final}
+use Rattle.fkv_index.specs.Words.{empty, final_word, tentative_word, address_of, tag_of, is_final, swept}
 use Rattle.fkv_index.specs.Places.{word_at, IsPlace, with_word}
 use Rattle.fkv_index.specs.Entries.{entry_at, place_of, StandsAt}
 use Rattle.fkv_index.specs.Changes.{Probes}
@@ -135,6 +135,20 @@ pub record IsMoved {K V : Type 0} (keeps : Bool) (regions : RegionsView) (old ne
   pub more : List (List ℕ)
   pub is : new ≡ moved keeps old regions more
   pub kept : IsTrue keeps → new.text ≡ old.text
+
+-- when Begin may move to the start of a page: it rises, no higher than Head
+pub record IsTruncationDue {K V : Type 0} (v : RecordsView K V) (page : ℕ) : Type 0 where
+  pub higher : v.begin < start_at v.page_bits page
+  pub headed : start_at v.page_bits page ≤ v.regions.offsets.head
+
+-- with the records below an address dropped, and the entries emptied that lead below it
+abbrev pub truncated : {K V : Type 0} → Bool → RecordsView K V → ℕ → RecordsView K V
+truncated keeps v begin = record v {
+  begin = begin;
+  from = text_begin keeps begin v.regions.offsets.closed;
+  text = text_from (text_begin keeps begin v.regions.offsets.closed) v.text;
+  words = map (map (swept begin)) v.words;
+}
 
 -- no room: the next record would begin a page whose frame has one that is not closed
 pub record IsFull {K V : Type 0} (v : RecordsView K V) : Type 0 where

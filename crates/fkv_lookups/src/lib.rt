@@ -2,6 +2,7 @@
 //! for what a look-up meets: in memory, by regions, or on a device.
 #![tactic(auto)]
 
+pub mod clearing;
 pub mod decisions;
 mod entries;
 pub mod laws;

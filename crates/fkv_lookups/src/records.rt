@@ -41,7 +41,9 @@ use std::marker::Model;
 mod flushes;
 mod live;
 mod loads;
+mod reads;
 mod sessions;
+mod truncation;
 
 /// The records of one partition, and the index of their classes.
 #[derive(Drop)]

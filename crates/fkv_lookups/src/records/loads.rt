@@ -1,8 +1,11 @@
 //! Records of flushed pages, read from what a device gave.
-ghost use Rattle.std.specs.Prelude.{◌≡◌, ◌≢◌, ◌<◌, ◌≤◌, ◌↔◌, ◌⊎◌, Ok, IsOk, IfErr, IfSome, OnOk, IsTrue, length, slice_get};
+ghost use Rattle.std.specs.Prelude.{◌≡◌, ◌≢◌, ◌<◌, ◌≤◌, ◌↔◌, ◌⊎◌, Ok, IsOk, IfOk, IfErr, IfSome, OnOk, IsTrue, length};
+ghost use Rattle.std.specs.Prelude.{slice_get};
 ghost use Rattle.fkv_functions.specs.declared.refusals.What.TheVariants as what;
 ghost use Rattle.fkv_records.specs.Places.{page_at, IsPlace};
+ghost use Rattle.fkv_texts.specs.declared.entries.Entry.{Entry};
 ghost use Rattle.fkv_texts.specs.declared.entries.Reached.{Reached};
+ghost use Rattle.fkv_texts.specs.Text.{entry_at};
 ghost use Rattle.fkv_pages.specs.Spelled.{IsEntryIn};
 ghost use Rattle.fkv_pages.specs.Loads.{IsHeldBy, IsReached, first_place};
 ghost use Rattle.fkv_lookups.specs.Lookups.{IsOfClass, GoesOn};
@@ -11,7 +14,7 @@ use crate::records::Records;
 use fkv_device::{Disk, Loaded};
 use fkv_functions::{Functions, Refused};
 use fkv_records::Address;
-use fkv_texts::Reached;
+use fkv_texts::{Entry, Reached};
 
 impl<F: Functions, D: Disk> Records<F, D> {
     /// The page of an address.
@@ -38,6 +41,28 @@ impl<F: Functions, D: Disk> Records<F, D> {
             ≡ Refused.Stranger what.Receipt s.number (D.Receipt.stands loaded.now.receipt).number))) }
     {
         self.log.is_own(loaded, page)
+    }
+
+    /// The record at an address of a flushed page, from the page as a device gave it by the receipt that is kept of it
+    /// ([`Records::is_own`]). On a device that keeps it is the text's. Refused: `Damaged` where its bytes spell no
+    /// record there.
+    pub fn own_record_in(
+        &self,
+        loaded: &Loaded<D>,
+        address: Address,
+    ) -> Result<Entry<F::Key, F::Value>, Refused>
+        requires own { IsHeldBy self.now.receipts (page_at self.now.page_bits address)
+            (D.Receipt.stands loaded.now.receipt) }
+        ensures only { IfOk result (IsEntryIn F.Key.bytes_of F.Value.bytes_of F.Key.is_known F.Value.is_known
+            F.Key.SIZE F.Value.SIZE self.now.page_bits loaded.now.bytes address) }
+        ensures found { (e : Entry F.Key F.Value)
+            → IsEntryIn F.Key.bytes_of F.Value.bytes_of F.Key.is_known F.Value.is_known
+            F.Key.SIZE F.Value.SIZE self.now.page_bits loaded.now.bytes address e
+            → result ≡ Ok e }
+        ensures damaged { IfErr result (λ refused. refused ≡ Refused.Damaged (page_at self.now.page_bits address)) }
+        ensures kept { IsTrue D.keeps → IfSome (entry_at self.now.text address) (λ e. result ≡ Ok e) }
+    {
+        self.log.own_record_in(loaded, address)
     }
 
     /// Goes from an address of a flushed page along previous addresses, in the page as a device gave it, to the first

@@ -10,4 +10,5 @@ returns g c = record {
   changed = λ log a v le b from low. entry_at-elsewhere a v log.text b (λ e. omega arith);
   flushed = λ log s b from low. refl;
   moved = λ keeps log regions more b from low. cut-entry _ b log.text from;
+  truncated = λ keeps log begin b from low. cut-entry _ b log.text from;
 }

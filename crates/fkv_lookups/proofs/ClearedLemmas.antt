@@ -1,0 +1,202 @@
+-- Records that are spent, and texts that are cleared.
+use Rattle.std.proofs.Common.{◌≡◌, Bool, true, false, cond, ℕ, ◌+◌, ◌^◌, ◌<◌, ◌≤◌, ◌==◌, inl, inr, List, [], ◌∷◌, ◌++◌, Option, Some, None, option_map, nat_le, unwrap_or, refl, sym, ◌∙◌, ap, subst, arith}
+use Rattle.std.proofs.lemmas.Bool.{cases_lt, cases_eq}
+use Rattle.std.proofs.lemmas.Bool.Decides.{nat_tests}
+use Rattle.std.specs.declared.cmp.Ordering.{Ordering}
+use Rattle.std.specs.BTreeMap.{is_at}
+use Rattle.fkv_functions.specs.Plain.{Same, IsKeyOrder}
+use Rattle.fkv_records.specs.Places.{IsPlace, behind}
+use Rattle.fkv_regions.specs.Agree.{IsMark}
+use Rattle.fkv_regions.proofs.MoveLemmas.{mark-place}
+use Rattle.fkv_texts.specs.declared.entries.Entry.{Entry}
+use Rattle.fkv_texts.specs.Places.{tail_after, IsLaidOut}
+use Rattle.fkv_texts.specs.Text.{last_where, entry_at, has_key, last_of, value_of, live, changed, set_at, text_from, IsRising}
+use Rattle.fkv_texts.specs.Chains.{IsIn}
+use Rattle.fkv_texts.proofs.LastWhere.{last_where-in, last_where-found, last_where-filter, last_where-narrow, last_where-narrow_none}
+use Rattle.fkv_texts.proofs.TextLemmas.{last_of-append, live-append, entry_at-old, entry_at-in}
+use Rattle.fkv_texts.proofs.ChangeLemmas.{entry_at-elsewhere, last_of-changed, set_at-address, set_at-other}
+use Rattle.fkv_texts.proofs.CutLemmas.{cut-entry, cut-from, filter-in}
+use Rattle.fkv_texts.proofs.PlaceLemmas.{stands, after-nearest}
+use Rattle.fkv_pages.proofs.PageLemmas.{begin_place, begins_low}
+use Rattle.fkv_lookups.specs.RecordsViews.{RecordsView}
+use Rattle.fkv_lookups.specs.Traced.{IsTraced}
+use Rattle.fkv_lookups.specs.Cleared.{IsSpent, IsCleared}
+use Rattle.fkv_lookups.proofs.TracedLemmas.{highest}
+
+-- ---- the last that passes a test, where the text begins higher
+module _ {K V : Type 0} (p : Entry K V → Bool) (text : List (Entry K V)) (low : ℕ) where
+  cut-none : last_where p text ≡ None → last_where p (text_from low text) ≡ None
+  cut-none h = last_where-filter p (λ x. nat_le low x.address) text ∙ last_where-narrow_none p (λ x. nat_le low x.address) text h
+
+  cut-some : (y : Entry K V) → last_where p text ≡ Some y → low ≤ y.address → last_where p (text_from low text) ≡ Some y
+  cut-some y h le =
+      let yes : nat_le low y.address ≡ true = grind (arith, nat_tests) in
+      last_where-filter p (λ x. nat_le low x.address) text ∙ last_where-narrow p (λ x. nat_le low x.address) text y h yes
+
+  -- what is found there stands there
+  cut-high : (e : Entry K V) → last_where p (text_from low text) ≡ Some e → low ≤ e.address
+  cut-high e h = let m = last_where-in p (text_from low text) e h in cut-from low text m.place e m.here
+
+  -- and is the last of all
+  cut-found : IsRising text → (e : Entry K V) → last_where p (text_from low text) ≡ Some e → last_where p text ≡ Some e
+  cut-found r e h = by_last (last_where p text) refl
+    where
+      by_last : (o : Option (Entry K V)) → last_where p text ≡ o → last_where p text ≡ Some e
+      by_last None n = absurd (let none = cut-none n in let bad : None ≡ Some e = sym none ∙ h in cc)
+      by_last (Some y) n =
+          let m = last_where-in p (text_from low text) e h in
+          let was = filter-in (λ (d : Entry K V). nat_le low d.address) text m.place e m.here in
+          let up : e.address ≤ y.address = highest p text r y n was.0.place e was.0.here (last_where-found p (text_from low text) e h) in
+          let high = cut-high e h in
+          n ∙ sym (cut-some y n (omega arith)) ∙ h
+
+module _ {K V : Type 0} (cmp : K → K → Ordering) (text : List (Entry K V)) where
+  -- ---- a record is appended
+  append-test : (b : Bool) (l : Option (Entry K V)) (n e : Entry K V) → e.address < n.address → cond b (Some n) l ≡ Some e → l ≡ Some e
+  append-test true l n e low h = absurd (
+      let same : n ≡ e = cc in
+      let at = ap (λ (x : Entry K V). x.address) same in omega arith)
+  append-test false l n e low h = h
+
+  spent-appended : (n e : Entry K V) → e.address < n.address → IsSpent cmp text e → IsSpent cmp (text ++ n ∷ []) e
+  spent-appended n e low (inl none) = inl none
+  spent-appended n e low (inr other) = inr (λ is. other (append-test (has_key cmp e.key n) (last_of cmp text e.key) n e low (sym (last_of-append cmp text n e.key) ∙ is)))
+
+  pub cleared-appended : (n : Entry K V) (limit : ℕ) → limit ≤ n.address → IsCleared cmp text limit → IsCleared cmp (text ++ n ∷ []) limit
+  cleared-appended n limit le h e here low =
+      let was : entry_at text e.address ≡ Some e = sym (entry_at-old text n e.address (λ q. omega arith)) ∙ here in
+      spent-appended n e (omega arith) (h e was low)
+
+  -- ---- a record gets another value, or becomes a tombstone
+  changed-back : (a : ℕ) (v : Option V) (l : Option (Entry K V)) (e : Entry K V) → e.address < a → option_map (set_at a v) l ≡ Some e → l ≡ Some e
+  changed-back a v None e low h = absurd (cc)
+  changed-back a v (Some y) e low h =
+      let is : set_at a v y ≡ e = cc in
+      let at : y.address ≡ e.address = sym (set_at-address a v y) ∙ ap (λ (x : Entry K V). x.address) is in
+      ap Some (sym (set_at-other a v y (λ q. omega arith)) ∙ is)
+
+  spent-changed : (a : ℕ) (v : Option V) (e : Entry K V) → e.address < a → IsSpent cmp text e → IsSpent cmp (changed text a v) e
+  spent-changed a v e low (inl none) = inl none
+  spent-changed a v e low (inr other) = inr (λ is. other (changed-back a v (last_of cmp text e.key) e low (sym (last_of-changed a v cmp text e.key) ∙ is)))
+
+  pub cleared-changed : (a : ℕ) (v : Option V) (limit : ℕ) → limit ≤ a → IsCleared cmp text limit → IsCleared cmp (changed text a v) limit
+  cleared-changed a v limit le h e here low =
+      let was : entry_at text e.address ≡ Some e = sym (entry_at-elsewhere a v text e.address (λ q. omega arith)) ∙ here in
+      spent-changed a v e (omega arith) (h e was low)
+
+  -- ---- records are dropped
+  spent-dropped : (low : ℕ) → IsRising text → (e : Entry K V) → IsSpent cmp text e → IsSpent cmp (text_from low text) e
+  spent-dropped low r e (inl none) = inl none
+  spent-dropped low r e (inr other) = inr (λ is. other (cut-found (has_key cmp e.key) text low r e is))
+
+  pub cleared-dropped : (low limit : ℕ) → IsRising text → IsCleared cmp text limit → IsCleared cmp (text_from low text) limit
+  cleared-dropped low limit r h e here under =
+      let high = cut-high (λ x. x.address == e.address) text low e here in
+      spent-dropped low r e (h e (sym (cut-entry low e.address text high) ∙ here) under)
+
+  -- ---- a record is appended again
+  pub spent-renewed : IsKeyOrder cmp → (n e : Entry K V) → n.key ≡ e.key → e.address < n.address → IsSpent cmp (text ++ n ∷ []) e
+  spent-renewed order n e key low = inr (λ is.
+      let yes : has_key cmp e.key n ≡ true = ap (λ (q : K). is_at (cmp q) e.key) key ∙ order.self e.key in
+      let last : last_of cmp (text ++ n ∷ []) e.key ≡ Some n = last_of-append cmp text n e.key ∙ rw yes refl in
+      let both : Some n ≡ Some e = sym last ∙ is in
+      let same : n ≡ e = cc in
+      let at = ap (λ (x : Entry K V). x.address) same in
+      omega arith)
+
+  renewed-test : (b : Bool) (v l : Option V) → (b ≡ true → l ≡ v) → cond b v l ≡ l
+  renewed-test true v l h = sym (h refl)
+  renewed-test false v l h = refl
+
+  pub lives-renewed : IsKeyOrder cmp → (n e : Entry K V) → n.key ≡ e.key → n.value ≡ e.value → last_of cmp text e.key ≡ Some e → Same (live cmp (text ++ n ∷ [])) (live cmp text)
+  lives-renewed order n e key value last q =
+      live-append cmp text n q
+      ∙ renewed-test (is_at (cmp n.key) q) n.value (live cmp text q)
+      (λ t. ap (live cmp text) (sym (order.same n.key q t) ∙ key) ∙ ap value_of last ∙ sym value)
+
+  -- ---- what is dropped of a cleared text takes no key's value
+  module _ (order : IsKeyOrder cmp) (r : IsRising text) (low limit : ℕ) (cleared : IsCleared cmp text limit) (le : low ≤ limit) (k : K) where
+    -- the last of a key is no higher than what is dropped: none is left
+    none-left : (y : Entry K V) → last_of cmp text k ≡ Some y → y.address < low → last_of cmp (text_from low text) k ≡ None
+    none-left y h under = by_last (last_of cmp (text_from low text) k) refl
+      where
+        by_last : (o : Option (Entry K V)) → last_of cmp (text_from low text) k ≡ o → last_of cmp (text_from low text) k ≡ None
+        by_last None n = n
+        by_last (Some z) n = absurd (
+            let all = cut-found (has_key cmp k) text low r z n in
+            let both : Some y ≡ Some z = sym h ∙ all in
+            let same : y ≡ z = cc in
+            let at = ap (λ (x : Entry K V). x.address) same in
+            let high = cut-high (has_key cmp k) text low z n in
+            omega arith)
+
+    dead : (y : Entry K V) → last_of cmp text k ≡ Some y → IsSpent cmp text y → y.value ≡ None
+    dead y h (inl none) = none
+    dead y h (inr other) = absurd (other (ap (last_of cmp text) (order.same y.key k (last_where-found (has_key cmp k) text y h)) ∙ h))
+
+    pub last-cleared : value_of (last_of cmp (text_from low text) k) ≡ value_of (last_of cmp text k)
+    last-cleared = by_last (last_of cmp text k) refl
+      where
+        by_last : (o : Option (Entry K V)) → last_of cmp text k ≡ o → value_of (last_of cmp (text_from low text) k) ≡ value_of (last_of cmp text k)
+        by_last None h = ap value_of (cut-none (has_key cmp k) text low h ∙ sym h)
+        by_last (Some y) h = elim (cases_lt y.address low) [
+          | inr high ↦ ap value_of (cut-some (has_key cmp k) text low y h high ∙ sym h)
+          | inl under ↦
+              (let here = entry_at-in text r y (last_where-in (has_key cmp k) text y h) y.address refl in
+              let none : y.value ≡ None = dead y h (cleared y here (omega arith)) in
+              ap value_of (none-left y h under) ∙ sym none ∙ ap value_of (sym h))
+        ]
+
+-- ---- the limit goes on to the next place
+after-most : (bits size a : ℕ) → tail_after bits size a ≤ 2 ^ 48
+after-most bits size a = by_next (behind bits size a) (nat_le (behind bits size a + size) (2 ^ 48)) refl
+  where
+    by_next : (b : ℕ) (t : Bool) → nat_le (b + size) (2 ^ 48) ≡ t → unwrap_or (cond t (Some b) None) (2 ^ 48) ≤ 2 ^ 48
+    by_next b true is = grind (arith, nat_tests)
+    by_next b false is = omega arith
+
+tail-most : {K V : Type 0} (bits size begin tail : ℕ) (text : List (Entry K V)) → begin ≤ 2 ^ 48 → IsLaidOut bits size begin tail text → tail ≤ 2 ^ 48
+tail-most bits size begin tail [] le h = let same : begin ≡ tail = h in omega arith
+tail-most bits size begin tail (e ∷ es) le h = tail-most bits size (tail_after bits size begin) tail es (after-most bits size begin) h.2
+
+module _ {K V : Type 0} {keeps : Bool} {code : K → ℕ} (v : RecordsView K V) (t : IsTraced keeps code v) where
+  -- where the text begins is a place, no higher than 2^48
+  first-low : v.from ≤ 2 ^ 48
+  first-low =
+      let o = t.regions.agree.in_order in
+      rw t.begins (begins_low keeps v.begin v.regions.offsets.closed (2 ^ 48) (omega (arith, t.regions.headed, o.head, o.safe, o.most)) (omega (arith, o.closed, o.head, o.safe, o.most)))
+
+  first-place : v.from < 2 ^ 48 → IsPlace v.page_bits v.record_size v.from
+  first-place =
+      let o = t.regions.agree.in_order in
+      let marked = subst (λ bits. IsMark bits v.regions.offsets.closed) t.regions.bits o.closed_mark in
+      rw t.begins (begin_place v.page_bits v.record_size v.begin v.regions.offsets.closed
+      (mark-place v.page_bits v.record_size v.begin t.shape t.marked t.first)
+      (mark-place v.page_bits v.record_size v.regions.offsets.closed t.shape marked o.first) keeps)
+
+  record-place : (e : Entry K V) → IsIn v.text e → IsPlace v.page_bits v.record_size e.address
+  record-place e m =
+      let most = tail-most v.page_bits v.record_size v.from v.tail v.text first-low t.laid_out in
+      let s = stands v.page_bits v.record_size t.shape v.from v.tail v.text first-place most t.laid_out m.place e m.here in
+      s.place
+
+  pub cleared-raised : (cmp : K → K → Ordering) (limit : ℕ)
+      → IsPlace v.page_bits v.record_size limit
+      → IsCleared cmp v.text limit
+      → ((e : Entry K V) → entry_at v.text limit ≡ Some e → IsSpent cmp v.text e)
+      → IsCleared cmp v.text (tail_after v.page_bits v.record_size limit)
+  cleared-raised cmp limit place h spent e here under = elim (cases_lt e.address limit) [
+    | inl low ↦ h e here low
+    | inr high ↦ elim (cases_eq e.address limit) [
+      | inl same ↦ spent e (subst (λ a. entry_at v.text a ≡ Some e) same here)
+      | inr ne ↦
+          (let less : limit < e.address = grind (arith, ne) in
+          let there = record-place e (last_where-in (λ x. x.address == e.address) v.text e here) in
+          let next = after-nearest v.page_bits v.record_size t.shape limit e.address place there less in
+          absurd (omega arith))
+    ]
+  ]
+
+  -- a record stands below the tail
+  pub record-low : (limit : ℕ) (e : Entry K V) → entry_at v.text limit ≡ Some e → e.address < v.tail
+  record-low limit e here = let m = last_where-in (λ x. x.address == limit) v.text e here in t.below m.place e m.here

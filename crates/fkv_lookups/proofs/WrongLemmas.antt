@@ -1,0 +1,43 @@
+-- Small texts, of which some records are spent.
+use Rattle.std.proofs.Common.{◌≡◌, ℕ, zero, suc, ◌≤◌, ◌==◌, inl, inr, Option, Some, None, slice_get, refl, ap, arith, lit<}
+use Rattle.std.specs.Ordering.{nat_cmp}
+use Rattle.fkv_texts.specs.declared.entries.Entry.{Entry}
+use Rattle.fkv_texts.specs.WrongTexts.{entry}
+use Rattle.fkv_texts.proofs.LastWhere.{last_where-in}
+use Rattle.fkv_lookups.specs.Cleared.{IsSpent, IsCleared}
+use Rattle.fkv_lookups.specs.WrongCleared.{written_twice, written_once}
+
+pub first-spent : (v : Option ℕ) (w : ℕ) → IsSpent nat_cmp (written_twice v w) (entry 64 1 3 v)
+first-spent v w = inr (λ h.
+    let both : Some (entry 96 64 3 (Some w)) ≡ Some (entry 64 1 3 v) = h in
+    let same : entry 96 64 3 (Some w) ≡ entry 64 1 3 v = cc in
+    let at = ap (λ (x : Entry ℕ ℕ). x.address) same in
+    omega arith)
+
+pub last-holds : (v : Option ℕ) (w : ℕ) → IsSpent nat_cmp (written_twice v w) (entry 96 64 3 (Some w)) → ⊥
+last-holds v w (inl none) = absurd (let bad : Some w ≡ None = none in cc)
+last-holds v w (inr other) = other refl
+
+stands-high : (v : ℕ) (w : Option ℕ) (e : Entry ℕ ℕ) (i : ℕ) → slice_get (written_once v w) i ≡ Some e → 64 ≤ e.address
+stands-high v w e zero h =
+    let same : entry 64 1 3 (Some v) ≡ e = cc in
+    let at = ap (λ (x : Entry ℕ ℕ). x.address) same in
+    omega arith
+stands-high v w e (suc zero) h =
+    let same : entry 96 1 4 w ≡ e = cc in
+    let at = ap (λ (x : Entry ℕ ℕ). x.address) same in
+    omega arith
+stands-high v w e (suc (suc i)) h = absurd (cc)
+
+pub none-below : (v : ℕ) (w : Option ℕ) → IsCleared nat_cmp (written_once v w) 64
+none-below v w e here low =
+    let m = last_where-in (λ x. x.address == e.address) (written_once v w) e here in
+    let high = stands-high v w e m.place m.here in
+    absurd (omega arith)
+
+spent-once : (v : ℕ) (w : Option ℕ) → IsSpent nat_cmp (written_once v w) (entry 64 1 3 (Some v)) → ⊥
+spent-once v w (inl none) = absurd (let bad : Some v ≡ None = none in cc)
+spent-once v w (inr other) = other refl
+
+pub not-past : (v : ℕ) (w : Option ℕ) → IsCleared nat_cmp (written_once v w) 96 → ⊥
+not-past v w h = spent-once v w (h (entry 64 1 3 (Some v)) refl (lit< tt))

@@ -1,0 +1,78 @@
+//! Which records may be dropped: those that say nothing of their keys any more. Each law is what a function without a
+//! body ensures.
+//!
+//! A text is cleared up to an address where each record below is spent. Whoever copies each record that is not to the
+//! tail, the lowest first, clears the text so far; and once it is cleared, dropping what lies below takes no key's
+//! value.
+ghost use Rattle.std.specs.Prelude.{◌≡◌, ◌<◌, ◌≤◌, ℕ, Bool, Option, Some};
+ghost use Rattle.std.specs.declared.cmp.Ordering.{Ordering};
+ghost use Rattle.fkv_functions.specs.Plain.{Same, IsKeyOrder};
+ghost use Rattle.fkv_records.specs.Places.{IsPlace};
+ghost use Rattle.fkv_texts.specs.declared.entries.Entry.{Entry};
+ghost use Rattle.fkv_texts.specs.Places.{tail_after};
+ghost use Rattle.fkv_texts.specs.Text.{entry_at, value_of, last_of, live, text_from};
+ghost use Rattle.fkv_operations.specs.declared.entries.IndexEntry.{IndexEntry};
+ghost use Rattle.fkv_lookups.specs.Cleared.{IsSpent, IsCleared};
+ghost use Rattle.fkv_lookups.specs.RecordsViews.{RecordsView, with_record, with_value};
+ghost use Rattle.fkv_lookups.specs.Traced.{IsTraced};
+ghost use Rattle.fkv_lookups.specs.WrongCleared.{LastIsNotSpent, TombstoneIsSpent, ClearsNoLast};
+
+/// What is cleared stays so, whatever is done above; how it is cleared further; and what dropping it leaves.
+pub fn cleared_stay<K, V>()
+    // a record is appended
+    ensures appended { (cmp : K → K → Ordering) (v : RecordsView K V) (entry : IndexEntry) (key : K) (value : Option V)
+        (limit : ℕ)
+        → limit ≤ v.tail
+        → IsCleared cmp v.text limit
+        → IsCleared cmp (with_record v entry key value).text limit }
+    // a record above gets another value, or becomes a tombstone
+    ensures changed { (cmp : K → K → Ordering) (v : RecordsView K V) (a : ℕ) (value : Option V) (limit : ℕ)
+        → limit ≤ a
+        → IsCleared cmp v.text limit
+        → IsCleared cmp (with_value v a value).text limit }
+    // records below an address are dropped
+    ensures dropped { (keeps : Bool) (cmp : K → K → Ordering) (code : K → ℕ) (v : RecordsView K V) (low limit : ℕ)
+        → IsTraced keeps code v
+        → IsCleared cmp v.text limit
+        → IsCleared cmp (text_from low v.text) limit }
+    // where the record at the limit is spent too, the limit goes on to the next place
+    ensures raised { (keeps : Bool) (cmp : K → K → Ordering) (code : K → ℕ) (v : RecordsView K V) (limit : ℕ)
+        → IsTraced keeps code v
+        → IsPlace v.page_bits v.record_size limit
+        → limit < v.tail
+        → IsCleared cmp v.text limit
+        → ((e : Entry K V) → entry_at v.text limit ≡ Some e → IsSpent cmp v.text e)
+        → IsCleared cmp v.text (tail_after v.page_bits v.record_size limit) }
+    // a record is spent once its key and its value are appended again
+    ensures renewed { (keeps : Bool) (cmp : K → K → Ordering) (code : K → ℕ) (v : RecordsView K V) (entry : IndexEntry)
+        (limit : ℕ) (e : Entry K V)
+        → IsKeyOrder cmp
+        → IsTraced keeps code v
+        → entry_at v.text limit ≡ Some e
+        → IsSpent cmp (with_record v entry e.key e.value).text e }
+    // and where it was the last of its key, no key's value changes by that
+    ensures kept { (cmp : K → K → Ordering) (v : RecordsView K V) (entry : IndexEntry) (e : Entry K V)
+        → IsKeyOrder cmp
+        → last_of cmp v.text e.key ≡ Some e
+        → Same (live cmp (with_record v entry e.key e.value).text) (live cmp v.text) }
+    // no key's value goes with what is dropped where the text is cleared
+    ensures last { (keeps : Bool) (cmp : K → K → Ordering) (code : K → ℕ) (v : RecordsView K V) (low limit : ℕ) (k : K)
+        → IsKeyOrder cmp
+        → IsTraced keeps code v
+        → IsCleared cmp v.text limit
+        → low ≤ limit
+        → value_of (last_of cmp (text_from low v.text) k) ≡ value_of (last_of cmp v.text k) }
+    ensures lives { (keeps : Bool) (cmp : K → K → Ordering) (code : K → ℕ) (v : RecordsView K V) (low limit : ℕ)
+        → IsKeyOrder cmp
+        → IsTraced keeps code v
+        → IsCleared cmp v.text limit
+        → low ≤ limit
+        → Same (live cmp (text_from low v.text)) (live cmp v.text) }
+{}
+
+/// What is spent and cleared, and what is not, shown on small texts.
+pub fn wrong_cleared()
+    ensures last { LastIsNotSpent }
+    ensures tombstone { TombstoneIsSpent }
+    ensures cleared { ClearsNoLast }
+{}
