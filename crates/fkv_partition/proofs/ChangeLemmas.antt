@@ -66,7 +66,7 @@ empty-made : IsMade empty
 unfolding is_final
 empty-made final = absurd (cc)
 
-tentative-place : (words : List (List Word)) (q : Place) → IsTrue (is_tentative (word_at words q)) → IsPlace words q
+pub tentative-place : (words : List (List Word)) (q : Place) → IsTrue (is_tentative (word_at words q)) → IsPlace words q
 tentative-place words q is = place_of-word is_tentative words q empty_not_tentative is
 
 module _ {K V : Type 0} (old new : RecordsView K V) (q : Place) (is : IsTrue (is_tentative (word_at old.words q))) where

@@ -10,3 +10,5 @@ pub mod PendingLemmas
 pub mod StayLemmas
 pub mod FindsLemmas
 pub mod ListingLemmas
+pub mod TruncateLemmas
+pub mod BearLemmas

@@ -15,3 +15,5 @@ pub mod Frozen
 pub mod Looking
 pub mod Loading
 pub mod Flushing
+pub mod Truncating
+pub mod Grown

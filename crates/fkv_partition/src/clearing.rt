@@ -1,9 +1,13 @@
-//! What the layer above sees of a partition that it clears: its records, and its number.
-ghost use Rattle.std.specs.Prelude.{◌≡◌};
+//! What the layer above does to clear a partition: it looks at the records, and cuts the start of the log.
+ghost use Rattle.std.specs.Prelude.{◌≡◌, ◌<◌, ◌≤◌, IsTrue, OnOk, OnErr};
+ghost use Rattle.fkv_records.specs.Places.{start_at};
+ghost use Rattle.fkv_lookups.specs.RecordsViews.{IsTruncationDue};
+ghost use Rattle.fkv_lookups.specs.Cleared.{IsCleared};
+ghost use Rattle.fkv_partition.specs.Truncating.{Truncates, IsTruncation};
 
 use crate::partitions::Partition;
 use fkv_device::Disk;
-use fkv_functions::Functions;
+use fkv_functions::{Functions, Refused};
 use fkv_lookups::Records;
 
 impl<F: Functions, D: Disk> Partition<F, D> {
@@ -19,5 +23,28 @@ impl<F: Functions, D: Disk> Partition<F, D> {
         ensures { result ≡ self.now.number }
     {
         self.number
+    }
+
+    /// Moves Begin to the start of a page: the records below are dropped, and the entries that lead there. On a device
+    /// that keeps, the caller vouches that each of them is spent: a tombstone, or not the last of its key; so the live
+    /// map stays. Each look-up that waits for a page is to look again. Refused, and then nothing changes: `NotDue` where
+    /// Begin would not rise, or would pass Head.
+    pub fn truncate(&mut self, page: u64, now: u64) -> Result<(), Refused>
+        requires later { self.old.moment < now }
+        requires cleared { IsTrue D.keeps
+            → IsTruncationDue self.old.records page
+            → IsCleared F.Key.cmp self.old.records.text (start_at self.old.records.page_bits page) }
+        ensures does { Truncates D.keeps self.old self.new page now result }
+        ensures event { OnOk result (IsTruncation D.keeps F.Key.cmp self.old self.new page now) }
+        ensures err { OnErr result (self.new ≡ self.old) }
+        ensures moment { self.new.moment ≤ now }
+    {
+        match self.records.truncate(page) {
+            Err(refused) => return Err(refused),
+            Ok(()) => (),
+        }
+        self.records.known();
+        self.moment = now;
+        Ok(())
     }
 }

@@ -8,6 +8,7 @@
 #![tactic(auto)]
 
 pub mod asking;
+pub mod bearing;
 mod changes;
 pub mod clearing;
 pub mod contexts;

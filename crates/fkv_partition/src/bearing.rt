@@ -1,0 +1,104 @@
+//! What every event leaves to a layer above that keeps operations and addresses of its own. Each law is what a function
+//! without a body ensures.
+ghost use Rattle.std.specs.Prelude.{◌≡◌, ◌<◌, ℕ, Bool, IsTrue, List, Result};
+ghost use Rattle.std.specs.declared.cmp.Ordering.{Ordering};
+ghost use Rattle.fkv_functions.specs.Meanings.{Meanings};
+ghost use Rattle.fkv_functions.specs.Plain.{IsKeyOrder};
+ghost use Rattle.fkv_functions.specs.declared.asks.Ask.{Ask};
+ghost use Rattle.fkv_functions.specs.declared.refusals.Refused.{Refused};
+ghost use Rattle.fkv_records.specs.Places.{start_at};
+ghost use Rattle.fkv_device.specs.Standing.{Standing, Joined};
+ghost use Rattle.fkv_pages.specs.Spelled.{IsEntryIn};
+ghost use Rattle.fkv_operations.specs.declared.operations.Op.{Op};
+ghost use Rattle.fkv_lookups.specs.RecordsViews.{IsTruncationDue};
+ghost use Rattle.fkv_lookups.specs.Cleared.{IsCleared};
+ghost use Rattle.fkv_partition.specs.declared.changes.Write.{Write};
+ghost use Rattle.fkv_partition.specs.declared.contexts.Progress.{Progress};
+ghost use Rattle.fkv_partition.specs.Views.{PartitionView, with_appended};
+ghost use Rattle.fkv_partition.specs.Beginning.{Enters, Issues, IssuesIn};
+ghost use Rattle.fkv_partition.specs.Ending.{Leaves, GivesUp};
+ghost use Rattle.fkv_partition.specs.Going.{Goes};
+ghost use Rattle.fkv_partition.specs.Installing.{Installs};
+ghost use Rattle.fkv_partition.specs.Looking.{Refreshes, Shifts, Evicts};
+ghost use Rattle.fkv_partition.specs.Flushing.{Flushes};
+ghost use Rattle.fkv_partition.specs.Loading.{Loads};
+ghost use Rattle.fkv_partition.specs.Truncating.{Truncates};
+ghost use Rattle.fkv_partition.specs.Writes.{IsWrite};
+ghost use Rattle.fkv_partition.specs.Grown.{IsBorne};
+ghost use Rattle.fkv_partition.specs.Sound.{IsSound};
+
+use fkv_device::Disk;
+use fkv_functions::Functions;
+use fkv_lookups::clearing::cleared_stay;
+use fkv_lookups::laws::{meetings_tell, records_change};
+
+/// What a prepared update, or a look-up that waits for a page, of any key stands for is kept by every event; no offset
+/// falls, what is frozen stays, and what was cleared is cleared.
+pub fn events_bear<K, V, I, O, R>()
+    ensures goes { (keeps : Bool) (stands : R → Standing) (cmp : K → K → Ordering) (f : Meanings K V I O) (code : K → ℕ)
+        (old new : PartitionView K V I) (slot c now : ℕ) (result : Result (Progress K V I O R) Refused)
+        → IsKeyOrder cmp → IsSound keeps cmp code old
+        → Goes stands cmp f code old new slot c now result
+        → IsBorne keeps cmp code old new }
+    ensures installs { (keeps : Bool) (cmp : K → K → Ordering) (f : Meanings K V I O) (code : K → ℕ)
+        (old new : PartitionView K V I) (slot c : ℕ) (ask : Ask K V I) (now : ℕ)
+        (result : Result (Progress K V I O R) Refused)
+        → IsSound keeps cmp code old
+        → Installs cmp f code old new slot c ask now result
+        → IsBorne keeps cmp code old new }
+    ensures gives_up { (keeps : Bool) (cmp : K → K → Ordering) (code : K → ℕ) (old new : PartitionView K V I)
+        (slot c now : ℕ) (result : Result (Unit {0}) Refused)
+        → IsSound keeps cmp code old → GivesUp old new slot c now result → IsBorne keeps cmp code old new }
+    ensures issues { (keeps : Bool) (cmp : K → K → Ordering) (code : K → ℕ) (old new : PartitionView K V I) (slot : ℕ)
+        (op : Op K V I) (now : ℕ) (result : Result ℕ Refused)
+        → IsSound keeps cmp code old → Issues code old new slot op now result → IsBorne keeps cmp code old new }
+    ensures issues_in { (keeps : Bool) (cmp : K → K → Ordering) (code : K → ℕ) (old new : PartitionView K V I)
+        (slot c : ℕ) (op : Op K V I) (now : ℕ) (result : Result (Unit {0}) Refused)
+        → IsSound keeps cmp code old → IssuesIn code old new slot c op now result → IsBorne keeps cmp code old new }
+    ensures enters { (keeps : Bool) (cmp : K → K → Ordering) (code : K → ℕ) (old new : PartitionView K V I) (now : ℕ)
+        (result : Result ℕ Refused)
+        → IsSound keeps cmp code old → Enters old new now result → IsBorne keeps cmp code old new }
+    ensures leaves { (keeps : Bool) (cmp : K → K → Ordering) (code : K → ℕ) (old new : PartitionView K V I)
+        (slot now : ℕ) (result : Result (Unit {0}) Refused)
+        → IsSound keeps cmp code old → Leaves keeps old new slot now result → IsBorne keeps cmp code old new }
+    ensures refreshes { (keeps : Bool) (cmp : K → K → Ordering) (code : K → ℕ) (old new : PartitionView K V I)
+        (slot now : ℕ) (result : Result (Unit {0}) Refused)
+        → IsSound keeps cmp code old → Refreshes keeps old new slot now result → IsBorne keeps cmp code old new }
+    ensures shifts { (keeps : Bool) (cmp : K → K → Ordering) (code : K → ℕ) (old new : PartitionView K V I)
+        (page now : ℕ) (result : Result (Unit {0}) Refused)
+        → IsSound keeps cmp code old → Shifts keeps old new page now result → IsBorne keeps cmp code old new }
+    ensures evicts { (keeps : Bool) (cmp : K → K → Ordering) (code : K → ℕ) (old new : PartitionView K V I)
+        (page now : ℕ) (result : Result (Unit {0}) Refused)
+        → IsSound keeps cmp code old → Evicts keeps old new page now result → IsBorne keeps cmp code old new }
+    ensures flushes { (keeps : Bool) (cmp : K → K → Ordering) (code : K → ℕ) (old new : PartitionView K V I)
+        (s : Standing) (bytes : List ℕ) (now : ℕ) (result : Result (Unit {0}) Refused)
+        → IsSound keeps cmp code old → Flushes old new s bytes now result → IsBorne keeps cmp code old new }
+    // the log's start is cut where all below is cleared
+    ensures truncates { (keeps : Bool) (cmp : K → K → Ordering) (code : K → ℕ) (old new : PartitionView K V I)
+        (page now : ℕ) (result : Result (Unit {0}) Refused)
+        → IsKeyOrder cmp → IsSound keeps cmp code old
+        → (IsTrue keeps → IsTruncationDue old.records page
+        → IsCleared cmp old.records.text (start_at old.records.page_bits page))
+        → Truncates keeps old new page now result
+        → IsBorne keeps cmp code old new }
+    // a record is appended behind the entry of its class
+    ensures appends { (keeps : Bool) (cmp : K → K → Ordering) (code : K → ℕ) (v : PartitionView K V I) (slot c now : ℕ)
+        (write : Write K V)
+        → IsSound keeps cmp code v → IsWrite code v write
+        → IsBorne keeps cmp code v (with_appended v slot c write.entry write.key write.value now) }
+{
+    cleared_stay::<K, V>();
+    records_change::<K, V>();
+    meetings_tell::<K, V>();
+}
+
+/// So it is where a page comes: a load changes no record.
+pub fn loads_bear<F: Functions, D: Disk>()
+    ensures { (keeps : Bool) (code : F.Key → ℕ) (old new : PartitionView F.Key F.Value F.Input) (slot c : ℕ)
+        (came : Result (Joined D.Receipt) Refused) (now : ℕ)
+        (result : Result (Progress F.Key F.Value F.Input F.Output D.Receipt) Refused)
+        → IsSound keeps F.Key.cmp code old
+        → Loads D.Receipt.stands (IsEntryIn F.Key.bytes_of F.Value.bytes_of F.Key.is_known F.Value.is_known
+        F.Key.SIZE F.Value.SIZE) F.Key.cmp F.meaning old new slot c came now result
+        → IsBorne keeps F.Key.cmp code old new }
+{}
