@@ -1,5 +1,5 @@
 -- What events leave to a layer above: what stands for operations of its own, and what it knows of records.
-use Rattle.std.proofs.Common.{◌≡◌, ◌≢◌, ◌<◌, ◌≤◌, ◌+◌, ◌*◌, ◌^◌, ◌⊎◌, inl, inr, ℕ, Bool, IsTrue, true, IsSome, List, [], ◌∷◌, ◌++◌, Option, Some, None, option_map, Result, slice_get, length, position, refl, sym, ◌∙◌, ap, subst, arith}
+use Rattle.std.proofs.Common.{◌≡◌, ◌<◌, ◌≤◌, inl, inr, ℕ, Bool, IsTrue, IsSome, List, [], ◌∷◌, Option, Some, None, option_map, Result, position, refl, sym, ◌∙◌, ap, subst, arith}
 use Rattle.std.proofs.lemmas.Bool.{cases_lt}
 use Rattle.std.proofs.lemmas.Option.{slice_get_within}
 use Rattle.std.specs.declared.cmp.Ordering.{Ordering}
@@ -17,7 +17,7 @@ use Rattle.fkv_regions.specs.Agree.{IsRaised}
 use Rattle.fkv_regions.specs.RegionsView.{RegionsView, entered}
 use Rattle.fkv_regions.proofs.MoveLemmas.{entered-fits, moved-refreshed, moved-left, moved-read_only, moved-head}
 use Rattle.fkv_texts.specs.declared.entries.Entry.{Entry}
-use Rattle.fkv_texts.specs.Text.{entry_at, has_key, last_of, newest, value_of, value_at, text_from}
+use Rattle.fkv_texts.specs.Text.{has_key, last_of, newest, value_of, value_at, text_from}
 use Rattle.fkv_texts.proofs.LastWhere.{last_where-found, last_where-in}
 use Rattle.fkv_texts.proofs.TextLemmas.{entry_at-in, entry_at-old}
 use Rattle.fkv_texts.proofs.ChangeLemmas.{entry_at-elsewhere}
@@ -49,13 +49,13 @@ use Rattle.fkv_partition.specs.Claiming.{IsClaimed}
 use Rattle.fkv_partition.specs.Ending.{Leaves, GivesUp}
 use Rattle.fkv_partition.specs.Flushing.{Flushes}
 use Rattle.fkv_partition.specs.Going.{Decides, Goes}
-use Rattle.fkv_partition.specs.Grown.{Bears, IsSameShape, IsGrown, IsBorne}
+use Rattle.fkv_partition.specs.Grown.{Bears, IsGrown, IsBorne}
 use Rattle.fkv_partition.specs.Installing.{Installs}
 use Rattle.fkv_partition.specs.Loading.{Loads}
 use Rattle.fkv_partition.specs.Looking.{Refreshes, Shifts, Evicts}
 use Rattle.fkv_partition.specs.Sound.{IsSound}
 use Rattle.fkv_partition.specs.Truncating.{Truncates}
-use Rattle.fkv_partition.specs.Views.{PartitionView, found_for, context_at, with_appended, MovesTo}
+use Rattle.fkv_partition.specs.Views.{PartitionView, context_at, with_appended, MovesTo}
 use Rattle.fkv_partition.specs.Writes.{IsWrite}
 use Rattle.fkv_partition.proofs.AskedLemmas.{position-found}
 use Rattle.fkv_partition.proofs.EventLemmas.{kept-entry}

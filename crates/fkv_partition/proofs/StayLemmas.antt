@@ -1,8 +1,8 @@
 -- What events leave of look-ups that wait for a page, and of frozen records.
-use Rattle.std.proofs.Common.{◌≡◌, ◌<◌, ◌+◌, ◌*◌, ◌⊎◌, ℕ, Bool, IsTrue, List, Option, Some, None, option_map, Result, Err, inl, inr, slice_get, refl, sym, ◌∙◌, ap, arith}
+use Rattle.std.proofs.Common.{◌≡◌, ◌<◌, ◌+◌, ◌*◌, ◌⊎◌, ℕ, Bool, IsTrue, List, Option, Some, None, option_map, Result, Err, inl, inr, slice_get, slice_set, refl, sym, ◌∙◌, ap, arith}
 use Rattle.std.specs.declared.cmp.Ordering.{Ordering}
 use Rattle.fkv_functions.specs.Meanings.{Meanings}
-use Rattle.fkv_functions.proofs.ListLemmas.{get-set_same}
+use Rattle.fkv_functions.proofs.ListLemmas.{get-set_same, get-set_cases}
 use Rattle.fkv_functions.specs.declared.asks.Ask.{Ask}
 use Rattle.fkv_functions.specs.declared.refusals.Refused.{Refused}
 use Rattle.fkv_device.specs.Standing.{Standing, Joined}
@@ -26,7 +26,7 @@ use Rattle.fkv_partition.specs.declared.contexts.Progress.{Progress}
 use Rattle.fkv_partition.specs.Contexts.{joined, context_in}
 use Rattle.fkv_partition.specs.Views.{PartitionView, slots_of, context_at, with_context, in_regions, MovesTo}
 use Rattle.fkv_partition.specs.Sound.{IsLoading, StandsFor, IsSound}
-use Rattle.fkv_partition.specs.Beginning.{Enters, Issues}
+use Rattle.fkv_partition.specs.Beginning.{Enters, Issues, IssuesIn}
 use Rattle.fkv_partition.specs.Ending.{Leaves, GivesUp}
 use Rattle.fkv_partition.specs.Going.{Decides, Goes}
 use Rattle.fkv_partition.specs.Installing.{Installs}
@@ -216,6 +216,29 @@ issues-all {K} {V} {I} cmp code old new slot op now result (Issues.issues c h n 
 
     low : c < 8
     low = free-low old slot c q
+
+pub issues-in-all : {K V I : Type 0} (cmp : K → K → Ordering) (code : K → ℕ) (old new : PartitionView K V I) (slot c : ℕ) (op : Op K V I) (now : ℕ) (result : Result (Unit {0}) Refused) → IssuesIn code old new slot c op now result → AllPend cmp old new
+issues-in-all cmp code old new slot c op now result (IssuesIn.stranger n is r) = as-all cmp old new is
+issues-in-all {K} {V} {I} cmp code old new slot c op now result (IssuesIn.issues h low free n is r) = λ t d. ap (λ (w : PartitionView K V I). pending cmp w t d) is ∙ elim (same_or t slot) [
+  | inl e ↦ elim (same_or d c) [
+    | inl f ↦ rw (e, f) (by_context (context_at (with_context old slot c fresh now) slot c) refl ∙ sym (ap (pending_of cmp old.records) free))
+    | inr m ↦ ap (pending_of cmp old.records) (context-other (slots_of old) old.contexts slot c t d fresh low (inr m))
+  ]
+  | inr m ↦ ap (pending_of cmp old.records) (context-other (slots_of old) old.contexts slot c t d fresh low (inl m))
+]
+  where
+    fresh : Option (Context K V I)
+    fresh = Some (record { number = now; op = op; phase = Fresh })
+
+    -- what stands there now is not open, or has not begun
+    by_context : (o : Option (Context K V I)) → context_at (with_context old slot c fresh now) slot c ≡ o → pending_of cmp old.records (context_at (with_context old slot c fresh now) slot c) ≡ None
+    by_context None k = ap (pending_of cmp old.records) k
+    by_context (Some x) k =
+        let o = open_at (slots_of old) (slice_set old.contexts (slot * 8 + c) fresh) slot c x k in
+        elim (get-set_cases old.contexts (slot * 8 + c) (slot * 8 + c) fresh (Some x) o.here) [
+          | inl new ↦ (let is : fresh ≡ Some x = new.1 in ap (pending_of cmp old.records) k ∙ ap (pending_of cmp old.records) (sym is))
+          | inr was ↦ absurd (let both : Some x ≡ None = ap joined (sym was) ∙ sym (context-inside (slots_of old) old.contexts slot c h low) ∙ free in cc)
+        ]
 
 -- ---- a page comes, or what came in its place
 module _ {K V I O R : Type 0} (stands : R → Standing) (entry : ℕ → List ℕ → ℕ → Entry K V → Type 0) (cmp : K → K → Ordering) (f : Meanings K V I O) (old new : PartitionView K V I) (slot c now : ℕ) (came : Result (Joined R) Refused) where

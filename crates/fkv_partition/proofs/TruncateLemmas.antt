@@ -1,5 +1,5 @@
 -- What a partition keeps where the start of its log is cut.
-use Rattle.std.proofs.Common.{◌≡◌, ◌≢◌, ◌<◌, ◌≤◌, ◌⊎◌, ◌&&◌, ◌*◌, ◌+◌, ◌==◌, inl, inr, ℕ, Bool, true, false, cond, IsTrue, List, Option, Some, None, option_map, nat_le, slice_get, refl, sym, ◌∙◌, ap, subst, arith}
+use Rattle.std.proofs.Common.{◌≡◌, ◌<◌, ◌≤◌, ◌⊎◌, ◌&&◌, ◌==◌, inl, inr, ℕ, Bool, true, false, IsTrue, List, Option, Some, None, nat_le, refl, sym, ◌∙◌, ap, subst, arith}
 use Rattle.std.proofs.lemmas.Bool.Decides.{nat_tests}
 use Rattle.std.proofs.lemmas.Bool.{cases_lt, and_parts, eqb-true}
 use Rattle.std.specs.declared.cmp.Ordering.{Ordering}
@@ -9,7 +9,7 @@ use Rattle.fkv_records.specs.Places.{start_at}
 use Rattle.fkv_pages.specs.Views.{text_begin}
 use Rattle.fkv_texts.specs.declared.entries.Entry.{Entry}
 use Rattle.fkv_texts.specs.Text.{last_where, has_key, last_of, newest, value_of, text_from, IsRising}
-use Rattle.fkv_texts.specs.Chains.{last_of_class, Leads}
+use Rattle.fkv_texts.specs.Chains.{Leads}
 use Rattle.fkv_texts.proofs.LastWhere.{last_where-filter, last_where-found, last_where-in, last_where-narrow, last_where-narrow_none}
 use Rattle.fkv_texts.proofs.TextLemmas.{entry_at-in}
 use Rattle.fkv_texts.proofs.CutLemmas.{cut-leads, cut-from, filter-in}
@@ -25,20 +25,18 @@ use Rattle.fkv_operations.specs.Still.{IsStill}
 use Rattle.fkv_operations.specs.declared.entries.IndexEntry.{IndexEntry}
 use Rattle.fkv_operations.specs.declared.operations.Op.{Op}
 use Rattle.fkv_operations.specs.declared.operations.Op.TheVariants.{Read, Upsert, Rmw, Delete}
-use Rattle.fkv_lookups.specs.RecordsViews.{RecordsView, class_in, IsEntryOf, WasEntryOf, truncated, IsTruncationDue}
+use Rattle.fkv_lookups.specs.RecordsViews.{RecordsView, class_in, IsEntryOf, truncated}
 use Rattle.fkv_lookups.specs.Traced.{IsTraced}
-use Rattle.fkv_lookups.specs.Cleared.{IsSpent, IsCleared}
-use Rattle.fkv_lookups.proofs.TracedLemmas.{entry-stands, traced-held, from_first}
+use Rattle.fkv_lookups.specs.Cleared.{IsCleared}
+use Rattle.fkv_lookups.proofs.TracedLemmas.{entry-stands, traced-held}
 use Rattle.fkv_partition.specs.declared.contexts.Context.{Context}
 use Rattle.fkv_partition.specs.declared.contexts.Loading.{Loading}
 use Rattle.fkv_partition.specs.declared.contexts.Phase.{Phase}
 use Rattle.fkv_partition.specs.declared.contexts.Phase.TheVariants.{Fresh, Confirm, Prepared, Load}
-use Rattle.fkv_partition.specs.Claiming.{AreOwned}
-use Rattle.fkv_partition.specs.Effect.{asked_by}
-use Rattle.fkv_partition.specs.Pending.{pending_by, pending_of, pending}
+use Rattle.fkv_partition.specs.Pending.{pending_by, pending_of}
 use Rattle.fkv_partition.specs.Sound.{IsKept, IsLoading, StandsFor, IsSound}
 use Rattle.fkv_partition.specs.Truncating.{IsTruncation}
-use Rattle.fkv_partition.specs.Views.{PartitionView, context_at, partition_of}
+use Rattle.fkv_partition.specs.Views.{PartitionView, context_at}
 use Rattle.fkv_partition.proofs.EventLemmas.{stands-at}
 
 -- ---- the last record of a key, in a text that begins higher

@@ -12,7 +12,7 @@ ghost use Rattle.fkv_operations.specs.After.{key_of};
 ghost use Rattle.fkv_partition.specs.declared.contexts.Progress.{Progress};
 ghost use Rattle.fkv_partition.specs.Views.{PartitionView};
 ghost use Rattle.fkv_operations.specs.declared.operations.Op.{Op};
-ghost use Rattle.fkv_partition.specs.Beginning.{Enters, Issues};
+ghost use Rattle.fkv_partition.specs.Beginning.{Enters, Issues, IssuesIn};
 ghost use Rattle.fkv_partition.specs.Ending.{Leaves, GivesUp};
 ghost use Rattle.fkv_partition.specs.Going.{Goes};
 ghost use Rattle.fkv_partition.specs.Installing.{Installs};
@@ -75,6 +75,9 @@ pub fn pendings_stay<K, V, I, O, R>()
     ensures issues { (cmp : K → K → Ordering) (code : K → ℕ) (old new : PartitionView K V I) (slot : ℕ) (op : Op K V I)
         (now : ℕ) (result : Result ℕ Refused)
         → Issues code old new slot op now result → AllPend cmp old new }
+    ensures issues_in { (cmp : K → K → Ordering) (code : K → ℕ) (old new : PartitionView K V I) (slot c : ℕ)
+        (op : Op K V I) (now : ℕ) (result : Result (Unit {0}) Refused)
+        → IssuesIn code old new slot c op now result → AllPend cmp old new }
     ensures gives_up { (cmp : K → K → Ordering) (old new : PartitionView K V I) (slot c now : ℕ)
         (result : Result (Unit {0}) Refused)
         → GivesUp old new slot c now result → OthersPend cmp old new slot c }

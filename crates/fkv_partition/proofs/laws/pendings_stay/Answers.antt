@@ -1,4 +1,4 @@
-use Rattle.fkv_partition.proofs.StayLemmas.{goes-others, installs-others, refreshes-all, shifts-all, evicts-all, flushes-all, enters-all, leaves-all, issues-all, gives-up-others}
+use Rattle.fkv_partition.proofs.StayLemmas.{goes-others, installs-others, refreshes-all, shifts-all, evicts-all, flushes-all, enters-all, leaves-all, issues-all, issues-in-all, gives-up-others}
 use Rattle.fkv_partition.proofs.DecidedLemmas.{replaced-high, replaced-some}
 use Rattle.fkv_partition.proofs.FindsLemmas.{goes-find, installs-find}
 use Rattle.fkv_partition.proofs.laws.pendings_stay.Goals as goal
@@ -32,5 +32,6 @@ returns g c = record {
   enters = λ keeps cmp code old new now result s h. enters-all cmp code old new now result s h;
   leaves = λ keeps cmp old new slot now result yes_keeps h. leaves-all keeps cmp old new slot now result yes_keeps h;
   issues = λ cmp code old new slot op now result h. issues-all cmp code old new slot op now result h;
+  issues_in = λ cmp code old new slot at op now result h. issues-in-all cmp code old new slot at op now result h;
   gives_up = λ cmp old new slot at now result h. gives-up-others cmp old new slot at now result h;
 }
