@@ -14,10 +14,10 @@ use Rattle.fkv_partition.specs.Contexts.{claim_by}
 use Rattle.fkv_partition.specs.Sound.{StandsFor}
 use Rattle.fkv_partition.specs.Views.{PartitionView}
 
--- what a prepared update or a look-up that waits for a page stands for is kept, of any key, whether or not it is open in a
--- context of the partition
-abbrev pub Bears : {K V : Type 0} → (I : Type 0) → Bool → (K → K → Ordering) → (K → ℕ) → RecordsView K V → RecordsView K V
-    → Type 0
+-- what a prepared update or a look-up that waits for a page stands for is kept, of any key, whether or not it is open
+-- in a context of the partition
+abbrev pub Bears : {K V : Type 0} → (I : Type 0) → Bool → (K → K → Ordering) → (K → ℕ) → RecordsView K V
+    → RecordsView K V → Type 0
 Bears {K} {V} I keeps cmp code old new =
     (op : Op K V I) (phase : Phase V)
     → claim_by phase ≡ None
@@ -54,7 +54,7 @@ pub record IsGrown {K V : Type 0} (keeps : Bool) (cmp : K → K → Ordering) (o
   pub places : (p : Place) → IsPlace old.words p → IsPlace new.words p
 
 -- both of an event
-pub record IsBorne {K V I : Type 0} (keeps : Bool) (cmp : K → K → Ordering) (code : K → ℕ) (old new : PartitionView K V I)
-    : Type 0 where
+pub record IsBorne {K V I : Type 0} (keeps : Bool) (cmp : K → K → Ordering) (code : K → ℕ)
+    (old new : PartitionView K V I) : Type 0 where
   pub bears : Bears I keeps cmp code old.records new.records
   pub grown : IsGrown keeps cmp old.records new.records

@@ -1,7 +1,7 @@
 -- What every partition keeps: the entries of classes lead to their last records; a prepared update kept the value that
--- its key has among the records at or below the address to which the entry led that it kept, while the entry's place holds
--- that word, and nobody changes that value where it stands; a look-up that waits for a page knows from where it goes on;
--- and each tentative entry belongs to one operation, which waits to confirm it.
+-- its key has among the records at or below the address to which the entry led that it kept, while the entry's place
+-- holds that word, and nobody changes that value where it stands; a look-up that waits for a page knows from where it
+-- goes on; and each tentative entry belongs to one operation, which waits to confirm it.
 use Rattle.std.specs.Prelude.{◌≡◌, Bool, IsTrue, true, ◌+◌, ◌*◌, ◌^◌, ◌<◌, ◌≤◌, ℕ, length, Option, Some, None, slice_get}
 use Rattle.std.specs.declared.cmp.Ordering.{Ordering}
 use Rattle.fkv_texts.specs.declared.entries.Entry.{Entry}
@@ -25,9 +25,9 @@ use Rattle.fkv_partition.specs.Claiming.{IsClaimOf, AreOwned}
 use Rattle.fkv_partition.specs.Views.{PartitionView, partition_of, slots_of}
 
 -- an update kept an entry of its key's class, and, on a device that keeps, the value that its key has at or below the
--- address where it leads, while the entry's place holds the kept word: of no record, of a tombstone, or of a record that is
--- frozen, so that no change in place makes it stale. An entry that leads nowhere may be dropped and made again with that
--- very word, so there the value is none whatever the place holds.
+-- address where it leads, while the entry's place holds the kept word: of no record, of a tombstone, or of a record
+-- that is frozen, so that no change in place makes it stale. An entry that leads nowhere may be dropped and made again
+-- with that very word, so there the value is none whatever the place holds.
 pub record IsKept {K V : Type 0} (keeps : Bool) (cmp : K → K → Ordering) (code : K → ℕ) (r : RecordsView K V) (k : K)
     (e : IndexEntry) (source : Option V) : Type 0 where
   pub entry : WasEntryOf r (class_in code r k) e
@@ -40,9 +40,9 @@ pub record IsKept {K V : Type 0} (keeps : Bool) (cmp : K → K → Ordering) (co
       → IsStill r.regions.offsets.safe_read_only (newest cmp r.text k (address_of e.word))
   pub nowhere : IsTrue keeps → address_of e.word < 64 → source ≡ None
 
--- a look-up goes on in a page on disk, since Begin stood no higher than now. On a device that keeps, while Begin stands, a
--- record of the key's class stands at the address that is wanted, and the newest of the key from there is its newest from
--- where the entry led
+-- a look-up goes on in a page on disk, since Begin stood no higher than now. On a device that keeps, while Begin
+-- stands, a record of the key's class stands at the address that is wanted, and the newest of the key from there is its
+-- newest from where the entry led
 pub record IsLoading {K V : Type 0} (keeps : Bool) (cmp : K → K → Ordering) (code : K → ℕ) (r : RecordsView K V) (k : K)
     (l : Loading) : Type 0 where
   pub entry : WasEntryOf r (class_in code r k) l.kept

@@ -25,8 +25,8 @@ pub data Truncates {K V I : Type 0} (keeps : Bool) (old new : PartitionView K V 
       → result ≡ Ok tt
       → Truncates keeps old new page now result
 
--- no context asks anything else, each look-up that waits for a page is to look again, and on a device that keeps the live
--- map stays
+-- no context asks anything else, each look-up that waits for a page is to look again, and on a device that keeps the
+-- live map stays
 pub record IsTruncation {K V I : Type 0} (keeps : Bool) (cmp : K → K → Ordering) (old new : PartitionView K V I)
     (page now : ℕ) : Type 0 where
   pub same : (s d : ℕ) → asked new s d ≡ asked old s d

@@ -27,8 +27,8 @@ impl<F: Functions, D: Disk> Partition<F, D> {
 
     /// Moves Begin to the start of a page: the records below are dropped, and the entries that lead there. On a device
     /// that keeps, the caller vouches that each of them is spent: a tombstone, or not the last of its key; so the live
-    /// map stays. Each look-up that waits for a page is to look again. Refused, and then nothing changes: `NotDue` where
-    /// Begin would not rise, or would pass Head.
+    /// map stays. Each look-up that waits for a page is to look again. Refused, and then nothing changes: `NotDue`
+    /// where Begin would not rise, or would pass Head.
     pub fn truncate(&mut self, page: u64, now: u64) -> Result<(), Refused>
         requires later { self.old.moment < now }
         requires cleared { IsTrue D.keeps
