@@ -1,51 +1,35 @@
 -- What the changes of a partition keep.
-use Rattle.std.proofs.Common.{◌≡◌, ◌≢◌, true, false, ℕ, zero, suc, ◌+◌, ◌*◌, ◌^◌, ◌<◌, ◌≤◌, ◌⊎◌, inl, inr, IsTrue, List, [], ◌∷◌, cond, unwrap_or, length, replicate, Option, Some, None, slice_get, slice_set, refl, sym, ◌∙◌, ap, subst, arith}
+use Rattle.std.proofs.Common.{◌≡◌, ◌≢◌, true, false, ℕ, zero, suc, ◌+◌, ◌*◌, ◌^◌, ◌<◌, ◌≤◌, inl, inr, IsTrue, List, replicate, Option, Some, None, slice_get, slice_set, refl, sym, ◌∙◌, ap, subst, arith}
 use Rattle.std.proofs.lemmas.List.{length-set}
 use Rattle.std.proofs.lemmas.Bool.{cases_eq}
 use Rattle.std.specs.declared.cmp.Ordering.{Ordering}
 use Rattle.fkv_texts.specs.declared.entries.Entry.{Entry}
-use Rattle.std.proofs.Common.{Bool, ◌&&◌, nat_le}
-use Rattle.std.proofs.lemmas.Bool.Decides.{nat_tests}
-use Rattle.std.proofs.lemmas.Bool.{and_parts, leb-true}
+use Rattle.std.proofs.Common.{Bool, nat_le}
 use Rattle.fkv_device.specs.Standing.{Standing}
 use Rattle.fkv_pages.specs.Views.{text_begin}
 use Rattle.fkv_regions.specs.Agree.{IsRaised}
-use Rattle.fkv_texts.specs.Text.{entry_at, has_key, newest, value_of}
-use Rattle.fkv_texts.proofs.LastWhere.{last_where-found, last_where-none}
-use Rattle.fkv_texts.proofs.TextLemmas.{entry_at-old}
-use Rattle.fkv_texts.proofs.ChangeLemmas.{entry_at-elsewhere}
-use Rattle.fkv_texts.proofs.CutLemmas.{filter-in, cut-entry}
-use Rattle.fkv_lookups.specs.Lookups.{IsOfClass}
-use Rattle.fkv_lookups.proofs.TracedLemmas.{begin_rises, from_first}
+use Rattle.fkv_texts.specs.Text.{newest}
+use Rattle.fkv_texts.proofs.CutLemmas.{filter-in}
 use Rattle.fkv_regions.specs.RegionsView.{RegionsView}
 use Rattle.fkv_index.specs.declared.places.Place.{Place}
-use Rattle.fkv_index.specs.declared.words.Word.{Word}
-use Rattle.fkv_index.specs.Words.{address_of, final_word, tag_of, is_tentative, is_final}
-use Rattle.fkv_index.specs.Places.{word_at, with_word, IsPlace}
+use Rattle.fkv_index.specs.Words.{address_of, is_tentative, is_final}
+use Rattle.fkv_index.specs.Places.{word_at}
 use Rattle.fkv_index.specs.Changes.{SameTentative}
 use Rattle.fkv_index.proofs.WordFacts.{final_not_tentative}
-use Rattle.fkv_index.proofs.Written.{written_there}
-use Rattle.fkv_records.specs.Places.{behind}
-use Rattle.fkv_texts.specs.Places.{tail_after, IsLaidOut}
-use Rattle.fkv_regions.specs.Agree.{IsInOrder}
 use Rattle.fkv_operations.specs.After.{key_of}
-use Rattle.fkv_lookups.specs.RecordsViews.{RecordsView, class_in, IsEntryOf, WasEntryOf, with_record, with_value, with_regions, with_receipt, IsMoved}
+use Rattle.fkv_lookups.specs.RecordsViews.{RecordsView, class_in, IsEntryOf, with_record, with_value, with_regions, with_receipt, IsMoved}
 use Rattle.fkv_lookups.specs.RecordsViews.{ChangesAt}
 use Rattle.fkv_lookups.specs.Traced.{IsTraced}
 use Rattle.fkv_operations.specs.Still.{IsStill}
 use Rattle.fkv_operations.specs.declared.entries.IndexEntry.{IndexEntry}
-use Rattle.fkv_operations.specs.declared.operations.Op.{Op}
-use Rattle.fkv_operations.specs.declared.operations.Op.TheVariants.{Read, Upsert, Rmw, Delete}
 use Rattle.fkv_partition.specs.declared.limits.Config.{Config}
 use Rattle.fkv_partition.specs.declared.contexts.Context.{Context}
-use Rattle.fkv_partition.specs.declared.contexts.Phase.{Phase}
-use Rattle.fkv_partition.specs.declared.contexts.Phase.TheVariants.{Fresh, Confirm, Prepared, Load}
-use Rattle.fkv_partition.specs.declared.contexts.Loading.{Loading}
+use Rattle.fkv_partition.specs.declared.contexts.Phase.TheVariants.{Confirm}
 use Rattle.fkv_partition.specs.Contexts.{joined, is_session, at_phase, claim_by, claim_of, claim_at}
 use Rattle.fkv_partition.specs.Claiming.{AreOwned}
 use Rattle.fkv_partition.specs.Views.{PartitionView, slots_of, empty_partition, partition_of, with_context, with_appended, with_replaced, in_regions}
-use Rattle.fkv_partition.specs.Sound.{IsKept, IsLoading, StandsFor, IsSound}
-use Rattle.fkv_functions.proofs.ListLemmas.{get-set_cases, get-set_same, get-set_other, get-append_last, get-append_cases}
+use Rattle.fkv_partition.specs.Sound.{StandsFor, IsSound}
+use Rattle.fkv_functions.proofs.ListLemmas.{get-set_cases, get-set_same, get-set_other, get-append_cases}
 use Rattle.fkv_texts.proofs.ChangeLemmas.{was_at, set_at-key}
 use Rattle.fkv_partition.proofs.GrownLemmas.{Grows, stands-grown, grown-regions, grown-moved, grown-flushed, grown-appended, grown-replaced}
 use Rattle.fkv_partition.proofs.ClaimLemmas.{owned-quiet, owned-claimed, owned-freed}

@@ -19,8 +19,8 @@ pub data Truncates {K V I : Type 0} (keeps : Bool) (old new : PartitionView K V 
       → Truncates keeps old new page now result
   truncates : IsTruncationDue old.records page
       → new ≡ record old {
-      records = truncated keeps old.records (start_at old.records.page_bits page);
-      moment = now;
+        records = truncated keeps old.records (start_at old.records.page_bits page);
+        moment = now;
       }
       → result ≡ Ok tt
       → Truncates keeps old new page now result

@@ -8,12 +8,13 @@ returns g c = record {
       goes-bear cmp code old s new slot at now stands f result order
       (λ e key value limit low cleared. c.cleared_stay.ensures.appended cmp old.records e key value limit low cleared)
       (λ x value told e d last. (
-      replaced-some cmp f code old slot at x value told e s
-      (λ k w entered met. c.meetings_tell.ensures.mutable keeps cmp code old.records k slot w order s.traced entered met)
-      (λ k w entered m. c.meetings_tell.ensures.unfrozen keeps cmp code old.records k slot w s.traced entered m) d last,
-      replaced-high cmp f code old slot at x value told e s
-      (λ k w entered met. c.meetings_tell.ensures.mutable keeps cmp code old.records k slot w order s.traced entered met)
-      (λ k w entered m. c.meetings_tell.ensures.unfrozen keeps cmp code old.records k slot w s.traced entered m) d last))
+        replaced-some cmp f code old slot at x value told e s
+            (λ k w entered met. c.meetings_tell.ensures.mutable keeps cmp code old.records k slot w order s.traced entered met)
+            (λ k w entered m. c.meetings_tell.ensures.unfrozen keeps cmp code old.records k slot w s.traced entered m) d last,
+        replaced-high cmp f code old slot at x value told e s
+            (λ k w entered met. c.meetings_tell.ensures.mutable keeps cmp code old.records k slot w order s.traced entered met)
+            (λ k w entered m. c.meetings_tell.ensures.unfrozen keeps cmp code old.records k slot w s.traced entered m) d last,
+      ))
       (λ a value some high k b still. c.records_change.ensures.kept cmp keeps code old.records a value k b s.traced some high still)
       (λ a value limit low some cleared. c.cleared_stay.ensures.changed cmp old.records a value limit low cleared)
       goes;

@@ -1,4 +1,4 @@
-use Rattle.std.proofs.Common.{◌≡◌, IsTrue, refl}
+use Rattle.std.proofs.Common.{IsTrue, refl}
 use Rattle.fkv_functions.proofs.KeyOrder.{key_order}
 use Rattle.fkv_records.specs.Places.{start_at}
 use Rattle.fkv_lookups.specs.RecordsViews.{IsTruncationDue}
