@@ -59,16 +59,12 @@ use Rattle.fkv_partition.specs.Views.{PartitionView, context_at, with_appended, 
 use Rattle.fkv_partition.specs.Writes.{IsWrite}
 use Rattle.fkv_partition.proofs.AskedLemmas.{position-found}
 use Rattle.fkv_partition.proofs.EventLemmas.{kept-entry}
-use Rattle.fkv_partition.proofs.GrownLemmas.{Grows, stands-grown, tail-most, tail-up, grown-same, grown-regions, grown-moved, grown-flushed, grown-appended, grown-replaced}
+use Rattle.fkv_partition.proofs.GrownLemmas.{Grows, kept-grown, loading-grown, last-grown, tail-most, tail-up, grown-same, grown-regions, grown-moved, grown-flushed, grown-appended, grown-replaced}
 use Rattle.fkv_partition.proofs.ChangeLemmas.{IsMade, grown-words, is-tentative, tentative-place, tentative-made, confirmed-made, released-made}
-use Rattle.fkv_partition.proofs.TruncateLemmas.{stands-cut}
+use Rattle.fkv_partition.proofs.TruncateLemmas.{none-some, kept-cut, loading-cut, record-cut}
 
 raised-self : (o : Offsets) → IsRaised o o
 raised-self o = record { closed = omega arith; head = omega arith; safe = omega arith; read_only = omega arith }
-
-none-some : {A : Type 0} (o : Option A) → o ≡ None → IsSome o → ⊥
-none-some None none some = absurd (cc)
-none-some (Some x) none some = absurd (cc)
 
 -- ---- what records know
 module _ {K V : Type 0} {keeps : Bool} (cmp : K → K → Ordering) (code : K → ℕ) (v : RecordsView K V) (t : IsTraced keeps code v) where
@@ -189,8 +185,11 @@ module _ {K V I : Type 0} {keeps : Bool} (cmp : K → K → Ordering) (code : K 
   -- the records have become these
   borne-by : (r : RecordsView K V) → new.records ≡ r → Grows keeps cmp code v.records r → IsGrown keeps cmp v.records r → IsBorne keeps cmp code v new
   borne-by r is g h = record {
-    bears = subst (λ u. Bears I keeps cmp code v.records u) (sym is)
-        (λ op phase quiet stands. stands-grown keeps cmp code v.records r op phase s.traced g (λ p e. absurd (let bad = sym quiet ∙ e in cc)) stands);
+    bears = subst (λ u. Bears keeps cmp code v.records u) (sym is) (record {
+      kept = λ k e source was. kept-grown keeps cmp code v.records r k e source s.traced g was;
+      loading = λ k l was. loading-grown keeps cmp code v.records r k l s.traced g was;
+      last = λ k e x was. last-grown keeps cmp code v.records r k e x g was;
+    });
     grown = subst (λ u. IsGrown keeps cmp v.records u) (sym is) h;
   }
 
@@ -379,7 +378,11 @@ module _ {K V I : Type 0} {keeps : Bool} (cmp : K → K → Ordering) (code : K 
       let low = start_at v.records.page_bits page in
       let here : new.records ≡ truncated keeps v.records low = ap (λ (u : PartitionView K V I). u.records) is in
       record {
-        bears = subst (λ u. Bears I keeps cmp code v.records u) (sym here) (λ op phase quiet stands. stands-cut cmp code order v.records s.traced low due.higher (λ yes_keeps. clear yes_keeps due) op phase stands);
+        bears = subst (λ u. Bears keeps cmp code v.records u) (sym here) (record {
+          kept = λ k e source was. kept-cut cmp code order v.records s.traced low due.higher (λ yes_keeps. clear yes_keeps due) k e source was;
+          loading = λ k l was. loading-cut cmp code order v.records s.traced low due.higher (λ yes_keeps. clear yes_keeps due) k l was;
+          last = λ k e x was. record-cut cmp code order v.records s.traced low due.higher (λ yes_keeps. clear yes_keeps due) k e x was;
+        });
         grown = subst (λ u. IsGrown keeps cmp v.records u) (sym here) (know-cut cmp code v.records s.traced low due.higher (λ limit c. drops (text_begin keeps low v.records.regions.offsets.closed) limit c));
       }
 

@@ -37,6 +37,7 @@ use Rattle.fkv_partition.specs.declared.contexts.Phase.{Phase}
 use Rattle.fkv_partition.specs.declared.contexts.Phase.TheVariants.{Fresh, Confirm, Prepared, Load}
 use Rattle.fkv_partition.specs.declared.contexts.Loading.{Loading}
 use Rattle.fkv_partition.specs.Contexts.{claim_by}
+use Rattle.fkv_partition.specs.Grown.{IsKeptRecord}
 use Rattle.fkv_partition.specs.Sound.{IsKept, IsLoading, StandsFor}
 use Rattle.fkv_partition.proofs.ClaimLemmas.{place-or}
 
@@ -97,7 +98,7 @@ still-below cmp text k a safe low = by_newest (newest cmp text k a) refl
 was-entry : {K V : Type 0} {keeps : Bool} {cmp : K → K → Ordering} {code : K → ℕ} {old new : RecordsView K V} (k : K) (e : IndexEntry) → Grows keeps cmp code old new → WasEntryOf old (class_in code old k) e → WasEntryOf new (class_in code new k) e
 was-entry k e g w = rw (g.class k) (record { place = g.places e.place w.place; bucket = w.bucket; final = w.final; tag = w.tag })
 
-loading-grown : {K V : Type 0} (keeps : Bool) (cmp : K → K → Ordering) (code : K → ℕ) (old new : RecordsView K V) (k : K) (l : Loading) → IsTraced keeps code old → Grows keeps cmp code old new → IsLoading keeps cmp code old k l → IsLoading keeps cmp code new k l
+pub loading-grown : {K V : Type 0} (keeps : Bool) (cmp : K → K → Ordering) (code : K → ℕ) (old new : RecordsView K V) (k : K) (l : Loading) → IsTraced keeps code old → Grows keeps cmp code old new → IsLoading keeps cmp code old k l → IsLoading keeps cmp code new k l
 loading-grown keeps cmp code old new k l t g h =
     let o = t.regions.agree.in_order in
     let on_disk = h.on_disk in
@@ -121,7 +122,7 @@ loading-grown keeps cmp code old new k l t g h =
           ∙ sym (g.kept yes_keeps k l.wanted taken there);
     }
 
-kept-grown : {K V : Type 0} (keeps : Bool) (cmp : K → K → Ordering) (code : K → ℕ) (old new : RecordsView K V) (k : K) (e : IndexEntry) (source : Option V) → IsTraced keeps code old → Grows keeps cmp code old new → IsKept keeps cmp code old k e source
+pub kept-grown : {K V : Type 0} (keeps : Bool) (cmp : K → K → Ordering) (code : K → ℕ) (old new : RecordsView K V) (k : K) (e : IndexEntry) (source : Option V) → IsTraced keeps code old → Grows keeps cmp code old new → IsKept keeps cmp code old k e source
     → IsKept keeps cmp code new k e source
 kept-grown keeps cmp code old new k e source t g h =
     let low = h.low in
@@ -151,6 +152,32 @@ kept-grown keeps cmp code old new k e source t g h =
     by_still yes_keeps (inl was) = subst (IsStill new.regions.offsets.safe_read_only) (sym (g.kept yes_keeps k a h.low (h.still yes_keeps was)))
         (still-raised old.regions.offsets.safe_read_only new.regions.offsets.safe_read_only (newest cmp old.text k a) g.safe (h.still yes_keeps was))
     by_still yes_keeps (inr none) = rw (nowhere yes_keeps none) tt
+
+-- the last record of a key, which is frozen, stays so while the entry stands as it was
+pub last-grown : {K V : Type 0} (keeps : Bool) (cmp : K → K → Ordering) (code : K → ℕ) (old new : RecordsView K V) (k : K) (e : IndexEntry) (x : Entry K V) → Grows keeps cmp code old new → IsKeptRecord keeps cmp code old k e x
+    → IsKeptRecord keeps cmp code new k e x
+last-grown keeps cmp code old new k e x g h =
+    let low = h.low in
+    let tail = g.tail in
+    let frozen = h.frozen in
+    let safe = g.safe in
+    record {
+      entry = was-entry k e g h.entry;
+      low = omega arith;
+      led = h.led;
+      some = h.some;
+      frozen = omega arith;
+      newest = λ yes_keeps here. by_newest yes_keeps (g.held e.place e.word h.entry.final low here);
+    }
+  where
+    a : ℕ
+    a = address_of e.word
+
+    by_newest : IsTrue keeps → (word_at old.words e.place ≡ e.word) ⊎ (a < 64) → newest cmp new.text k a ≡ Some x
+    by_newest yes_keeps (inl was) =
+        let is = h.newest yes_keeps was in
+        g.kept yes_keeps k a h.low (subst (IsStill old.regions.offsets.safe_read_only) (sym is) (inr h.frozen)) ∙ is
+    by_newest yes_keeps (inr none) = absurd (let led = h.led yes_keeps in omega arith)
 
 -- an operation stands for what it stood for, where the word that it claims stays
 pub stands-grown : {K V I : Type 0} (keeps : Bool) (cmp : K → K → Ordering) (code : K → ℕ) (old new : RecordsView K V) (op : Op K V I) (phase : Phase V) → IsTraced keeps code old → Grows keeps cmp code old new → ((p : Place) → claim_by phase ≡ Some p → word_at new.words p ≡ word_at old.words p) → StandsFor keeps cmp code old op phase → StandsFor keeps cmp code new op phase

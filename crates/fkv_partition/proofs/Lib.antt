@@ -12,3 +12,4 @@ pub mod FindsLemmas
 pub mod ListingLemmas
 pub mod TruncateLemmas
 pub mod BearLemmas
+pub mod SeatLemmas

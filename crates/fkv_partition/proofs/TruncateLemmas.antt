@@ -1,5 +1,5 @@
 -- What a partition keeps where the start of its log is cut.
-use Rattle.std.proofs.Common.{◌≡◌, ◌<◌, ◌≤◌, ◌⊎◌, ◌&&◌, ◌==◌, inl, inr, ℕ, Bool, true, false, IsTrue, List, Option, Some, None, nat_le, refl, sym, ◌∙◌, ap, subst, arith}
+use Rattle.std.proofs.Common.{◌≡◌, ◌<◌, ◌≤◌, ◌⊎◌, ◌&&◌, ◌==◌, inl, inr, ℕ, Bool, true, false, IsTrue, IsSome, List, Option, Some, None, nat_le, refl, sym, ◌∙◌, ap, subst, arith}
 use Rattle.std.proofs.lemmas.Bool.Decides.{nat_tests}
 use Rattle.std.proofs.lemmas.Bool.{cases_lt, and_parts, eqb-true}
 use Rattle.std.specs.declared.cmp.Ordering.{Ordering}
@@ -25,7 +25,7 @@ use Rattle.fkv_operations.specs.Still.{IsStill}
 use Rattle.fkv_operations.specs.declared.entries.IndexEntry.{IndexEntry}
 use Rattle.fkv_operations.specs.declared.operations.Op.{Op}
 use Rattle.fkv_operations.specs.declared.operations.Op.TheVariants.{Read, Upsert, Rmw, Delete}
-use Rattle.fkv_lookups.specs.RecordsViews.{RecordsView, class_in, IsEntryOf, truncated}
+use Rattle.fkv_lookups.specs.RecordsViews.{RecordsView, class_in, IsEntryOf, WasEntryOf, truncated}
 use Rattle.fkv_lookups.specs.Traced.{IsTraced}
 use Rattle.fkv_lookups.specs.Cleared.{IsCleared}
 use Rattle.fkv_lookups.proofs.TracedLemmas.{entry-stands, traced-held}
@@ -33,6 +33,7 @@ use Rattle.fkv_partition.specs.declared.contexts.Context.{Context}
 use Rattle.fkv_partition.specs.declared.contexts.Loading.{Loading}
 use Rattle.fkv_partition.specs.declared.contexts.Phase.{Phase}
 use Rattle.fkv_partition.specs.declared.contexts.Phase.TheVariants.{Fresh, Confirm, Prepared, Load}
+use Rattle.fkv_partition.specs.Grown.{IsKeptRecord}
 use Rattle.fkv_partition.specs.Pending.{pending_by, pending_of}
 use Rattle.fkv_partition.specs.Sound.{IsKept, IsLoading, StandsFor, IsSound}
 use Rattle.fkv_partition.specs.Truncating.{IsTruncation}
@@ -116,6 +117,10 @@ module _ (low : ℕ) (old new : List (List Word)) (s : Sweeps low old new) where
       by_final false h = s.others p h ∙ here
       by_final true h = absurd (let no : true ≡ false = sym (ap is_tentative here ∙ tentative-is t) ∙ final_not_tentative (word_at old p) h in cc)
 
+pub none-some : {A : Type 0} (o : Option A) → o ≡ None → IsSome o → ⊥
+none-some None none some = absurd (cc)
+none-some (Some x) none some = absurd (cc)
+
 -- ---- what operations stand for
 module _ {K V : Type 0} {keeps : Bool} (cmp : K → K → Ordering) (code : K → ℕ) (order : IsKeyOrder cmp) (v : RecordsView K V) (t : IsTraced keeps code v) (low : ℕ) (up : v.begin < low) (clear : IsTrue keeps → IsCleared cmp v.text low) where
   begins-at : (a : ℕ) → IsTrue keeps → text_begin keeps a v.regions.offsets.closed ≡ a
@@ -161,27 +166,50 @@ module _ {K V : Type 0} {keeps : Bool} (cmp : K → K → Ordering) (code : K �
     led-cut : IsTrue keeps → newest cmp (truncated keeps v low).text k (address_of e.word) ≡ last_of cmp (truncated keeps v low).text k
     led-cut yes_keeps = rw (cut-text yes_keeps) (newest-cut cmp v.from low v.text t.rising (cut-low yes_keeps) k (address_of e.word) led)
 
+  -- an entry that stands still stood before
+  module _ (k : K) (e : IndexEntry) (was : WasEntryOf v (class_in code v k) e) where
+    stood : word_at (truncated keeps v low).words e.place ≡ e.word → word_at v.words e.place ≡ e.word
+    stood here = swept-stood low v.words (truncated keeps v low).words (sweeps low v.words) e.place e.word was.final here
+
+    entry-stood : word_at (truncated keeps v low).words e.place ≡ e.word → IsEntryOf v (class_in code v k) e
+    entry-stood here = record { bucket = was.bucket; place = was.place; word = stood here; final = was.final; tag = was.tag }
+
+    was-cut : WasEntryOf (truncated keeps v low) (class_in code v k) e
+    was-cut = record { place = ((sweeps low v.words).places e.place).1 was.place; bucket = was.bucket; final = was.final; tag = was.tag }
+
   pub kept-cut : (k : K) (e : IndexEntry) (source : Option V) → IsKept keeps cmp code v k e source → IsKept keeps cmp code (truncated keeps v low) k e source
   kept-cut k e source h = record {
-    entry = record { place = (swept.places e.place).1 h.entry.place; bucket = h.entry.bucket; final = h.entry.final; tag = h.entry.tag };
+    entry = was-cut k e h.entry;
     low = h.low;
     value = λ yes_keeps here.
-        let was = stood here in
-        ap value_of (led-cut k e (entry here) yes_keeps) ∙ last-cleared yes_keeps k ∙ ap value_of (sym (led k e (entry here))) ∙ h.value yes_keeps was;
+        let stands = entry-stood k e h.entry here in
+        ap value_of (led-cut k e stands yes_keeps) ∙ last-cleared yes_keeps k ∙ ap value_of (sym (led k e stands)) ∙ h.value yes_keeps (stood k e h.entry here);
     still = λ yes_keeps here.
-        let was = stood here in
-        rw (led-cut k e (entry here) yes_keeps) (still-cleared yes_keeps k v.regions.offsets.safe_read_only (subst (IsStill v.regions.offsets.safe_read_only) (led k e (entry here)) (h.still yes_keeps was)));
+        let stands = entry-stood k e h.entry here in
+        let still = h.still yes_keeps (stood k e h.entry here) in
+        rw (led-cut k e stands yes_keeps) (still-cleared yes_keeps k v.regions.offsets.safe_read_only (subst (IsStill v.regions.offsets.safe_read_only) (led k e stands) still));
     nowhere = h.nowhere;
   }
-    where
-      swept : Sweeps low v.words (truncated keeps v low).words
-      swept = sweeps low v.words
 
-      stood : word_at (truncated keeps v low).words e.place ≡ e.word → word_at v.words e.place ≡ e.word
-      stood here = swept-stood low v.words (truncated keeps v low).words swept e.place e.word h.entry.final here
+  -- the last record of a key stays, if it has a value
+  last-kept : IsTrue keeps → (k : K) (x : Entry K V) → last_of cmp v.text k ≡ Some x → IsSome x.value → last_of cmp (truncated keeps v low).text k ≡ Some x
+  last-kept yes_keeps k x last some = ap (λ u. last_of cmp u k) (cut-text yes_keeps) ∙ elim (last-cut cmp v.from low v.text t.rising (cut-low yes_keeps) k) [
+    | inl same ↦ same ∙ last
+    | inr gone ↦ absurd (none-some x.value (ap value_of (sym last) ∙ gone-none yes_keeps k gone) some)
+  ]
 
-      entry : word_at (truncated keeps v low).words e.place ≡ e.word → IsEntryOf v (class_in code v k) e
-      entry here = record { bucket = h.entry.bucket; place = h.entry.place; word = stood here; final = h.entry.final; tag = h.entry.tag }
+  pub record-cut : (k : K) (e : IndexEntry) (x : Entry K V) → IsKeptRecord keeps cmp code v k e x → IsKeptRecord keeps cmp code (truncated keeps v low) k e x
+  record-cut k e x h = record {
+    entry = was-cut k e h.entry;
+    low = h.low;
+    led = h.led;
+    some = h.some;
+    frozen = h.frozen;
+    newest = λ yes_keeps here.
+        let stands = entry-stood k e h.entry here in
+        let last = sym (led k e stands) ∙ h.newest yes_keeps (stood k e h.entry here) in
+        led-cut k e stands yes_keeps ∙ last-kept yes_keeps k x last h.some;
+  }
 
   -- a look-up that waits is to look again
   pub loading-cut : (k : K) (l : Loading) → IsLoading keeps cmp code v k l → IsLoading keeps cmp code (truncated keeps v low) k l

@@ -1,6 +1,6 @@
 //! What every event leaves to a layer above that keeps operations and addresses of its own. Each law is what a function
 //! without a body ensures.
-ghost use Rattle.std.specs.Prelude.{◌≡◌, ◌<◌, ℕ, Bool, IsTrue, List, Result};
+ghost use Rattle.std.specs.Prelude.{◌≡◌, ◌≢◌, ◌+◌, ◌*◌, ◌<◌, ℕ, Bool, true, IsTrue, List, None, slice_get, Result};
 ghost use Rattle.std.specs.declared.cmp.Ordering.{Ordering};
 ghost use Rattle.fkv_functions.specs.Meanings.{Meanings};
 ghost use Rattle.fkv_functions.specs.Plain.{IsKeyOrder};
@@ -14,7 +14,8 @@ ghost use Rattle.fkv_lookups.specs.RecordsViews.{IsTruncationDue};
 ghost use Rattle.fkv_lookups.specs.Cleared.{IsCleared};
 ghost use Rattle.fkv_partition.specs.declared.changes.Write.{Write};
 ghost use Rattle.fkv_partition.specs.declared.contexts.Progress.{Progress};
-ghost use Rattle.fkv_partition.specs.Views.{PartitionView, with_appended};
+ghost use Rattle.fkv_partition.specs.Contexts.{joined, is_session};
+ghost use Rattle.fkv_partition.specs.Views.{PartitionView, slots_of, with_appended};
 ghost use Rattle.fkv_partition.specs.Beginning.{Enters, Issues, IssuesIn};
 ghost use Rattle.fkv_partition.specs.Ending.{Leaves, GivesUp};
 ghost use Rattle.fkv_partition.specs.Going.{Goes};
@@ -24,7 +25,7 @@ ghost use Rattle.fkv_partition.specs.Flushing.{Flushes};
 ghost use Rattle.fkv_partition.specs.Loading.{Loads};
 ghost use Rattle.fkv_partition.specs.Truncating.{Truncates};
 ghost use Rattle.fkv_partition.specs.Writes.{IsWrite};
-ghost use Rattle.fkv_partition.specs.Grown.{IsBorne};
+ghost use Rattle.fkv_partition.specs.Grown.{IsBorne, NoneOpens, AllStay};
 ghost use Rattle.fkv_partition.specs.Sound.{IsSound};
 
 use fkv_device::Disk;
@@ -32,8 +33,9 @@ use fkv_functions::Functions;
 use fkv_lookups::clearing::cleared_stay;
 use fkv_lookups::laws::{meetings_tell, records_change};
 
-/// What a prepared update, or a look-up that waits for a page, of any key stands for is kept by every event; no offset
-/// falls, what is frozen stays, and what was cleared is cleared.
+/// What a prepared update of any key kept, what a look-up of any key that waits for a page is to find, and a frozen record
+/// with a value that is its key's last are kept by every event; no offset falls, what is frozen stays, and what was cleared
+/// is cleared.
 pub fn events_bear<K, V, I, O, R>()
     ensures goes { (keeps : Bool) (stands : R → Standing) (cmp : K → K → Ordering) (f : Meanings K V I O) (code : K → ℕ)
         (old new : PartitionView K V I) (slot c now : ℕ) (result : Result (Progress K V I O R) Refused)
@@ -101,4 +103,55 @@ pub fn loads_bear<F: Functions, D: Disk>()
         → Loads D.Receipt.stands (IsEntryIn F.Key.bytes_of F.Value.bytes_of F.Key.is_known F.Value.is_known
         F.Key.SIZE F.Value.SIZE) F.Key.cmp F.meaning old new slot c came now result
         → IsBorne keeps F.Key.cmp code old new }
+{}
+
+/// Where no operation was open none is, and a session that was entered is, by every event but those that are for this: an
+/// issue opens an operation in the context alone that was chosen, and the session alone goes that leaves.
+pub fn seats_stay<K, V, I, O, R>()
+    ensures goes { (stands : R → Standing) (cmp : K → K → Ordering) (f : Meanings K V I O) (code : K → ℕ)
+        (old new : PartitionView K V I) (slot c now : ℕ) (result : Result (Progress K V I O R) Refused)
+        → Goes stands cmp f code old new slot c now result → NoneOpens old new × AllStay old new }
+    ensures installs { (cmp : K → K → Ordering) (f : Meanings K V I O) (code : K → ℕ) (old new : PartitionView K V I)
+        (slot c : ℕ) (ask : Ask K V I) (now : ℕ) (result : Result (Progress K V I O R) Refused)
+        → Installs cmp f code old new slot c ask now result → NoneOpens old new × AllStay old new }
+    ensures gives_up { (old new : PartitionView K V I) (slot c now : ℕ) (result : Result (Unit {0}) Refused)
+        → GivesUp old new slot c now result → NoneOpens old new × AllStay old new }
+    ensures issues_in { (code : K → ℕ) (old new : PartitionView K V I) (slot c : ℕ) (op : Op K V I) (now : ℕ)
+        (result : Result (Unit {0}) Refused)
+        → IssuesIn code old new slot c op now result
+        → ((p : ℕ) → p ≢ slot * 8 + c
+        → joined (slice_get old.contexts p) ≡ None → joined (slice_get new.contexts p) ≡ None)
+        × AllStay old new }
+    ensures enters { (old new : PartitionView K V I) (now : ℕ) (result : Result ℕ Refused)
+        → Enters old new now result → NoneOpens old new × AllStay old new }
+    ensures leaves { (keeps : Bool) (old new : PartitionView K V I) (slot now : ℕ) (result : Result (Unit {0}) Refused)
+        → Leaves keeps old new slot now result
+        → NoneOpens old new
+        × ((s : ℕ) → s ≢ slot → is_session (slots_of old) s ≡ true → is_session (slots_of new) s ≡ true) }
+    ensures refreshes { (keeps : Bool) (old new : PartitionView K V I) (slot now : ℕ)
+        (result : Result (Unit {0}) Refused)
+        → Refreshes keeps old new slot now result → NoneOpens old new × AllStay old new }
+    ensures shifts { (keeps : Bool) (old new : PartitionView K V I) (page now : ℕ) (result : Result (Unit {0}) Refused)
+        → Shifts keeps old new page now result → NoneOpens old new × AllStay old new }
+    ensures evicts { (keeps : Bool) (old new : PartitionView K V I) (page now : ℕ) (result : Result (Unit {0}) Refused)
+        → Evicts keeps old new page now result → NoneOpens old new × AllStay old new }
+    ensures flushes { (old new : PartitionView K V I) (s : Standing) (bytes : List ℕ) (now : ℕ)
+        (result : Result (Unit {0}) Refused)
+        → Flushes old new s bytes now result → NoneOpens old new × AllStay old new }
+    ensures truncates { (keeps : Bool) (old new : PartitionView K V I) (page now : ℕ)
+        (result : Result (Unit {0}) Refused)
+        → Truncates keeps old new page now result → NoneOpens old new × AllStay old new }
+    // a record is appended, and the context of its operation is freed
+    ensures appends { (v : PartitionView K V I) (slot c now : ℕ) (write : Write K V)
+        → NoneOpens v (with_appended v slot c write.entry write.key write.value now)
+        × AllStay v (with_appended v slot c write.entry write.key write.value now) }
+{}
+
+/// So it is where a page comes.
+pub fn loads_keep_seats<F: Functions, D: Disk>()
+    ensures { (old new : PartitionView F.Key F.Value F.Input) (slot c : ℕ) (came : Result (Joined D.Receipt) Refused)
+        (now : ℕ) (result : Result (Progress F.Key F.Value F.Input F.Output D.Receipt) Refused)
+        → Loads D.Receipt.stands (IsEntryIn F.Key.bytes_of F.Value.bytes_of F.Key.is_known F.Value.is_known
+        F.Key.SIZE F.Value.SIZE) F.Key.cmp F.meaning old new slot c came now result
+        → NoneOpens old new × AllStay old new }
 {}

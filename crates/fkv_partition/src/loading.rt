@@ -22,7 +22,7 @@ use fkv_records::Address;
 use fkv_texts::Reached;
 
 /// Whether it is memory that was wanted.
-fn is_no_memory(refused: &Refused) -> bool
+pub fn is_no_memory(refused: &Refused) -> bool
     ensures { IsTrue result ↔ (refused.now ≡ Refused.NoMemory) }
 {
     match refused {
