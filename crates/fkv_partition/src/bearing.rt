@@ -33,9 +33,9 @@ use fkv_functions::Functions;
 use fkv_lookups::clearing::cleared_stay;
 use fkv_lookups::laws::{meetings_tell, records_change};
 
-/// What a prepared update of any key kept, what a look-up of any key that waits for a page is to find, and a frozen record
-/// with a value that is its key's last are kept by every event; no offset falls, what is frozen stays, and what was cleared
-/// is cleared.
+/// What a prepared update of any key kept, what a look-up of any key that waits for a page is to find, and a frozen
+/// record with a value that is its key's last are kept by every event; no offset falls, what is frozen stays, and what
+/// was cleared is cleared.
 pub fn events_bear<K, V, I, O, R>()
     ensures goes { (keeps : Bool) (stands : R → Standing) (cmp : K → K → Ordering) (f : Meanings K V I O) (code : K → ℕ)
         (old new : PartitionView K V I) (slot c now : ℕ) (result : Result (Progress K V I O R) Refused)
@@ -105,8 +105,8 @@ pub fn loads_bear<F: Functions, D: Disk>()
         → IsBorne keeps F.Key.cmp code old new }
 {}
 
-/// Where no operation was open none is, and a session that was entered is, by every event but those that are for this: an
-/// issue opens an operation in the context alone that was chosen, and the session alone goes that leaves.
+/// Where no operation was open none is, and a session that was entered is, by every event but those that are for this:
+/// an issue opens an operation in the context alone that was chosen, and the session alone goes that leaves.
 pub fn seats_stay<K, V, I, O, R>()
     ensures goes { (stands : R → Standing) (cmp : K → K → Ordering) (f : Meanings K V I O) (code : K → ℕ)
         (old new : PartitionView K V I) (slot c now : ℕ) (result : Result (Progress K V I O R) Refused)
