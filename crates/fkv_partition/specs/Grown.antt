@@ -16,10 +16,10 @@ use Rattle.fkv_partition.specs.Contexts.{joined, is_session}
 use Rattle.fkv_partition.specs.Sound.{IsKept, IsLoading}
 use Rattle.fkv_partition.specs.Views.{PartitionView, slots_of}
 
--- a record with a value, which nobody changes: on a device that keeps, it is the last of its key while the entry that was
--- kept stands as it was
-pub record IsKeptRecord {K V : Type 0} (keeps : Bool) (cmp : K → K → Ordering) (code : K → ℕ) (r : RecordsView K V) (k : K)
-    (e : IndexEntry) (x : Entry K V) : Type 0 where
+-- a record with a value, which nobody changes: on a device that keeps, it is the last of its key while the entry that
+-- was kept stands as it was
+pub record IsKeptRecord {K V : Type 0} (keeps : Bool) (cmp : K → K → Ordering) (code : K → ℕ) (r : RecordsView K V)
+    (k : K) (e : IndexEntry) (x : Entry K V) : Type 0 where
   pub entry : WasEntryOf r (class_in code r k) e
   pub low : address_of e.word < r.tail
   pub led : IsTrue keeps → 64 ≤ address_of e.word
@@ -27,9 +27,10 @@ pub record IsKeptRecord {K V : Type 0} (keeps : Bool) (cmp : K → K → Orderin
   pub frozen : x.address < r.regions.offsets.safe_read_only
   pub newest : IsTrue keeps → word_at r.words e.place ≡ e.word → newest cmp r.text k (address_of e.word) ≡ Some x
 
--- what a prepared update of any key kept, what a look-up of any key that waits for a page is to find, and a record that is
--- the last of its key, whether or not the partition has a context of it
-pub record Bears {K V : Type 0} (keeps : Bool) (cmp : K → K → Ordering) (code : K → ℕ) (old new : RecordsView K V) : Type 0 where
+-- what a prepared update of any key kept, what a look-up of any key that waits for a page is to find, and a record that
+-- is the last of its key, whether or not the partition has a context of it
+pub record Bears {K V : Type 0} (keeps : Bool) (cmp : K → K → Ordering) (code : K → ℕ) (old new : RecordsView K V)
+    : Type 0 where
   pub kept : (k : K) (e : IndexEntry) (source : Option V)
       → IsKept keeps cmp code old k e source
       → IsKept keeps cmp code new k e source
@@ -68,8 +69,8 @@ pub record IsGrown {K V : Type 0} (keeps : Bool) (cmp : K → K → Ordering) (o
   pub places : (p : Place) → IsPlace old.words p → IsPlace new.words p
 
 -- both of an event
-pub record IsBorne {K V I : Type 0} (keeps : Bool) (cmp : K → K → Ordering) (code : K → ℕ) (old new : PartitionView K V I)
-    : Type 0 where
+pub record IsBorne {K V I : Type 0} (keeps : Bool) (cmp : K → K → Ordering) (code : K → ℕ)
+    (old new : PartitionView K V I) : Type 0 where
   pub bears : Bears keeps cmp code old.records new.records
   pub grown : IsGrown keeps cmp old.records new.records
 
