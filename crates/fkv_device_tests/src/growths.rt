@@ -114,11 +114,12 @@ const MAP: [(u8, i128); 22] = [
 
 type InMemory = Driven<MemoryDevice>;
 
-/// A partition, again where memory was refused.
+/// A partition, made again where it was refused.
 fn made(alloc: Global) -> Result<InMemory, Refused> {
-    match Driven::new(alloc, &STEEP, &mut MemoryDevice::new(alloc)) {
-        Err(Refused::NoMemory) => Driven::new(alloc, &STEEP, &mut MemoryDevice::new(alloc)),
-        made => made,
+    let mut device = MemoryDevice::new(alloc);
+    match Driven::new(alloc, &STEEP, &mut device) {
+        Ok(driven) => Ok(driven),
+        Err(_) => Driven::new(alloc, &STEEP, &mut device),
     }
 }
 
