@@ -109,7 +109,7 @@ impl Disk for Astray {
 }
 
 /// One bucket, so that all keys of one letter are of one class.
-const STEEP: Config = Config {
+pub const STEEP: Config = Config {
     id: 1,
     partition_bits: 0,
     bucket_bits: 0,

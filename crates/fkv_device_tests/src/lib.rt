@@ -12,9 +12,11 @@ mod astray;
 #[cfg(test)]
 mod driven;
 #[cfg(test)]
+mod growths;
+#[cfg(test)]
 mod rows;
 #[cfg(test)]
 mod runs;
 
 /// How many runs there are.
-pub const RUNS: usize = 13;
+pub const RUNS: usize = 14;

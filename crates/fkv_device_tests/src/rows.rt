@@ -1,4 +1,5 @@
-//! Rows of calls on a partition, and what each answers. A key is one letter.
+//! Rows of calls on a partition, and what each answers. A key is one letter; a capital stands for the name that has it
+//! twice, whose class is another.
 use crate::driven::{Driven, Seen};
 use fkv_device::{Disk, MemoryDevice};
 use fkv_functions::{Name, Refused, SumFns};
@@ -6,7 +7,7 @@ use fkv_operations::{Answer, Op, OpOf};
 use fkv_partition::{Config, Wait};
 use std::alloc::Global;
 
-/// One call. A key is one letter.
+/// One call.
 #[derive(Clone, Copy)]
 pub enum Call {
     Enter,
@@ -23,11 +24,11 @@ pub enum Call {
     Install(usize, usize),
     /// Hands in the page that was last asked for.
     Load(usize, usize),
-    /// Hands in a fault of the device in its place.
-    Fault(usize, usize),
+    /// Hands in this refusal in its place.
+    Fault(usize, usize, Refused),
     /// Goes on, loads and builds until the operation is done or waits.
     Finish(usize, usize),
-    /// Issues in the lowest free context, and finishes.
+    /// Issues in the lowest free context, and finishes, again where memory was refused before a page was asked for.
     Do(usize, Op<u8, i128, i64>),
     /// Makes an operation alone, by at most so many events.
     Alone(usize, Op<u8, i128, i64>, u64),
@@ -54,7 +55,12 @@ pub enum Told {
 }
 
 fn on_name(op: Op<u8, i128, i64>) -> Option<OpOf<SumFns>> {
-    let key = Name::new(&[op.key()])?;
+    let letter = op.key();
+    let key = if letter.is_ascii_uppercase() {
+        Name::new(&[letter, letter])?
+    } else {
+        Name::new(&[letter])?
+    };
     Some(match op {
         Op::Read(_, input) => Op::Read(key, input),
         Op::Upsert(_, value) => Op::Upsert(key, value),
@@ -138,7 +144,10 @@ impl<D: Disk> Driven<D> {
 
     fn act(&mut self, alloc: Global, slot: usize, op: Op<u8, i128, i64>) -> Told {
         match self.issue_named(slot, op) {
-            Ok(context) => self.finish(alloc, slot, context),
+            Ok(context) => match self.finish(alloc, slot, context) {
+                Told::Refused(Refused::NoMemory) => self.finish(alloc, slot, context),
+                told => told,
+            },
             Err(refused) => Told::Refused(refused),
         }
     }
@@ -153,7 +162,6 @@ impl<D: Disk> Driven<D> {
     }
 
     pub fn call(&mut self, alloc: Global, call: Call) -> Told {
-        let fault = Refused::Device { code: 3, page: 0 };
         match call {
             Call::Enter => place_told(self.enter()),
             Call::Refresh(slot) => done_told(self.refresh(slot)),
@@ -165,7 +173,9 @@ impl<D: Disk> Driven<D> {
             Call::Ready(slot, context) => self.ready(slot, context),
             Call::Install(slot, context) => seen_told(self.install(slot, context)),
             Call::Load(slot, context) => seen_told(self.load(alloc, slot, context, None)),
-            Call::Fault(slot, context) => seen_told(self.load(alloc, slot, context, Some(fault))),
+            Call::Fault(slot, context, refused) => {
+                seen_told(self.load(alloc, slot, context, Some(refused)))
+            }
             Call::Finish(slot, context) => self.finish(alloc, slot, context),
             Call::Do(slot, op) => self.act(alloc, slot, op),
             Call::Alone(slot, op, limit) => self.act_alone(alloc, slot, op, limit),
@@ -187,13 +197,13 @@ impl<D: Disk> Driven<D> {
 /// The first letter of a name.
 fn letter(name: &Name) -> u8 {
     match name.bytes() {
-        [letter] => *letter,
+        [letter] | [letter, _] => *letter,
         _ => 0,
     }
 }
 
 /// Whether these are the pairs of a map, in its order.
-fn is_map(pairs: &[(Name, i128)], wanted: &[(u8, i128)]) -> bool {
+pub fn is_map(pairs: &[(Name, i128)], wanted: &[(u8, i128)]) -> bool {
     pairs.len() == wanted.len()
         && pairs
             .iter()

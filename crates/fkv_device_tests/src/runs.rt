@@ -99,7 +99,7 @@ fn device_fault(rt: HostRuntime) {
         (Call::Go(0, 0), Told::Refused(Refused::NotReady)),
         (Call::Install(0, 0), Told::Refused(Refused::NotReady)),
         (
-            Call::Fault(0, 0),
+            Call::Fault(0, 0, Refused::Device { code: 3, page: 0 }),
             Told::Refused(Refused::Device { code: 3, page: 0 }),
         ),
         (Call::Load(0, 0), Told::Refused(Refused::Unknown)),
