@@ -1,0 +1,11 @@
+pub mod SteadyLemmas
+pub mod KeepLemmas
+pub mod FreeLemmas
+pub mod TruncateLemmas
+pub mod MoveLemmas
+pub mod WeighLemmas
+pub mod AgainLemmas
+pub mod HeldLemmas
+pub mod LookLemmas
+pub mod ReadLemmas
+pub mod TraceLemmas

@@ -1,0 +1,90 @@
+-- What relocations that begin or end leave, and what cutting the start of the log is told to do.
+use Rattle.std.proofs.Common.{◌≡◌, Bool, ℕ, ◌+◌, ◌*◌, ◌/◌, ◌^◌, ◌<◌, ◌≤◌, List, Option, Result, Ok, Err, refl, sym, ◌∙◌, ap, subst, arith}
+use Rattle.std.proofs.lemmas.Nat.{div-add-mod', pow_pos, mul-le}
+use Rattle.std.proofs.Math.Nat.{mod-lt}
+use Rattle.std.specs.declared.cmp.Ordering.{Ordering}
+use Rattle.fkv_functions.specs.declared.refusals.Refused.{Refused}
+use Rattle.fkv_functions.specs.declared.refusals.Refused.TheVariants.{NotDue}
+use Rattle.fkv_records.specs.Places.{page_at, start_at}
+use Rattle.fkv_records.proofs.PlaceLemmas.{next_start}
+use Rattle.fkv_texts.specs.declared.entries.Entry.{Entry}
+use Rattle.fkv_lookups.specs.Cleared.{IsCleared}
+use Rattle.fkv_partition.specs.Views.{PartitionView, slots_of}
+use Rattle.fkv_partition.specs.Truncating as partition
+use Rattle.fkv_partition.proofs.AskedLemmas.{context-other}
+use Rattle.fkv_compaction.specs.declared.relocations.Relocation.{Relocation}
+use Rattle.fkv_compaction.specs.Views.{CompactedView, with_partition, with_relocation}
+use Rattle.fkv_compaction.specs.Effect.{IsRelocating}
+use Rattle.fkv_compaction.specs.Truncating.{IsDue, Truncates}
+
+-- a relocation begins or ends
+pub relocating-set : {K V I : Type 0} (keeps : Bool) (cmp : K → K → Ordering) (v : CompactedView K V I) (slot c now : ℕ) (y : Option (Relocation K V)) → c < 8 → IsRelocating keeps cmp v (with_relocation v slot c y now) slot c now
+relocating-set keeps cmp v slot c now y low = record {
+  same = λ s d. refl;
+  pend = λ yes_keeps s d. refl;
+  live = λ yes_keeps q. refl;
+  others = λ s d other. context-other (slots_of v.partition) v.relocations slot c s d y low other;
+  rises = omega arith;
+  number = refl;
+  count = refl;
+  begin = refl;
+  regions = refl;
+  moment = refl;
+}
+
+-- ---- the start of a page, and an address
+pub page-low : (bits page a : ℕ) → page ≤ page_at bits a → start_at bits page ≤ a
+page-low bits page a low =
+    let whole = div-add-mod' a (2 ^ bits) in
+    let up : page * 2 ^ bits ≤ a / 2 ^ bits * 2 ^ bits = mul-le page (2 ^ bits) (a / 2 ^ bits) (2 ^ bits) low (omega arith) in
+    omega (arith, whole, up)
+
+pub page-high : (bits page a : ℕ) → page_at bits a < page → start_at bits page ≤ a → ⊥
+page-high bits page a high low =
+    let whole = div-add-mod' a (2 ^ bits) in
+    let under = mod-lt a (pow_pos bits) in
+    let next = next_start (a / 2 ^ bits) (2 ^ bits) in
+    let up : (a / 2 ^ bits + 1) * 2 ^ bits ≤ page * 2 ^ bits = mul-le (a / 2 ^ bits + 1) (2 ^ bits) page (2 ^ bits) (omega arith) (omega arith) in
+    omega (arith, whole, under, next, up, low)
+
+pub cleared-below : {K V : Type 0} (cmp : K → K → Ordering) (text : List (Entry K V)) (low limit : ℕ) → low ≤ limit → IsCleared cmp text limit → IsCleared cmp text low
+cleared-below cmp text low limit le h = λ e here under. h e here (omega arith)
+
+-- ---- the log's start is cut
+-- what stays, and how far Begin rises
+pub record IsCut {K V I : Type 0} (old new : PartitionView K V I) (limit : ℕ) : Type 0 where
+  pub number : new.number ≡ old.number
+  pub count : new.count ≡ old.count
+  pub begun : new.records.begin ≤ limit
+
+pub truncates-cut : {K V I : Type 0} (keeps : Bool) (old new : PartitionView K V I) (page now limit : ℕ) (result : Result (Unit {0}) Refused) → old.records.begin ≤ limit → start_at old.records.page_bits page ≤ limit
+    → partition.Truncates keeps old new page now result → IsCut old new limit
+truncates-cut {K} {V} {I} keeps old new page now limit result low high (partition.Truncates.not_due n is r) = record {
+  number = ap (λ (u : PartitionView K V I). u.number) is;
+  count = ap (λ (u : PartitionView K V I). u.count) is;
+  begun = subst (λ (u : PartitionView K V I). u.records.begin ≤ limit) (sym is) low;
+}
+truncates-cut {K} {V} {I} keeps old new page now limit result low high (partition.Truncates.truncates due is r) = record {
+  number = ap (λ (u : PartitionView K V I). u.number) is;
+  count = ap (λ (u : PartitionView K V I). u.count) is;
+  begun = subst (λ (u : PartitionView K V I). u.records.begin ≤ limit) (sym is) high;
+}
+
+-- what is told of it, where nothing goes that is not cleared
+pub truncates-told : {K V I : Type 0} (keeps : Bool) (v : CompactedView K V I) (new : PartitionView K V I) (page now : ℕ) (result : Result (Unit {0}) Refused) → start_at v.partition.records.page_bits page ≤ v.cleared
+    → partition.Truncates keeps v.partition new page now result → Truncates keeps v (with_partition v new) page now result
+truncates-told keeps v new page now result low (partition.Truncates.not_due n is r) = Truncates.not_due (λ d. n d.due) (ap (with_partition v) is) r
+truncates-told keeps v new page now result low (partition.Truncates.truncates due is r) = Truncates.truncates (record { due = due; cleared = low }) (ap (with_partition v) is) r
+
+-- and what it tells, by its answer
+pub due-told : {K V I : Type 0} (keeps : Bool) (v new : CompactedView K V I) (page now : ℕ) → Truncates keeps v new page now (Ok tt) → IsDue v page
+due-told keeps v new page now (Truncates.not_due n is r) = absurd (cc)
+due-told keeps v new page now (Truncates.truncates due is r) = due
+
+pub rest-told : {K V I : Type 0} (keeps : Bool) (v new : CompactedView K V I) (page now : ℕ) → Truncates keeps v new page now (Ok tt) → new ≡ with_partition v new.partition
+rest-told keeps v new page now (Truncates.not_due n is r) = absurd (cc)
+rest-told {K} {V} {I} keeps v new page now (Truncates.truncates due is r) = is ∙ ap (λ (u : CompactedView K V I). with_partition v u.partition) (sym is)
+
+pub refused-told : {K V I : Type 0} (keeps : Bool) (v new : CompactedView K V I) (page now : ℕ) (why : Refused) → Truncates keeps v new page now (Err why) → (why ≡ NotDue) × ¬ IsDue v page
+refused-told keeps v new page now why (Truncates.not_due n is r) = (let same : why ≡ NotDue = cc in same, n)
+refused-told keeps v new page now why (Truncates.truncates due is r) = absurd (cc)

@@ -1,0 +1,24 @@
+-- When the log's start may be cut, and what that does.
+use Rattle.std.specs.Prelude.{◌≡◌, ◌≤◌, ℕ, Bool, Result, Ok, Err}
+use Rattle.fkv_functions.specs.declared.refusals.Refused.{Refused}
+use Rattle.fkv_functions.specs.declared.refusals.Refused.TheVariants.{NotDue}
+use Rattle.fkv_records.specs.Places.{start_at}
+use Rattle.fkv_lookups.specs.RecordsViews.{IsTruncationDue, truncated}
+use Rattle.fkv_compaction.specs.Views.{CompactedView, with_partition}
+
+-- Begin may move to the start of a page where it rises, no higher than Head, and nothing above is dropped that is not
+-- cleared
+pub record IsDue {K V I : Type 0} (v : CompactedView K V I) (page : ℕ) : Type 0 where
+  pub due : IsTruncationDue v.partition.records page
+  pub cleared : start_at v.partition.records.page_bits page ≤ v.cleared
+
+pub data Truncates {K V I : Type 0} (keeps : Bool) (old new : CompactedView K V I) (page now : ℕ)
+    (result : Result (Unit {0}) Refused) : Type 0 where
+  not_due : ¬ IsDue old page → new ≡ old → result ≡ Err NotDue → Truncates keeps old new page now result
+  truncates : IsDue old page
+      → new ≡ with_partition old (record old.partition {
+        records = truncated keeps old.partition.records (start_at old.partition.records.page_bits page);
+        moment = now;
+      })
+      → result ≡ Ok tt
+      → Truncates keeps old new page now result

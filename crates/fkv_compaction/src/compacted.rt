@@ -1,0 +1,178 @@
+//! A partition with its relocations, and how much of its log is cleared.
+ghost use Rattle.std.specs.Prelude.{◌≡◌, ◌≢◌, ◌<◌, ◌≤◌, ◌⊎◌, ◌+◌, ◌*◌, ◌^◌, Option, Some, None, Err, IsTrue, IfOk, IfErr, IfSome, is_some, length, replicate, slice_get};
+ghost use Rattle.fkv_records.specs.Records.{size_of};
+ghost use Rattle.fkv_partition.specs.Contexts.{joined};
+ghost use Rattle.fkv_partition.specs.Limits.{IsPartitionOf};
+ghost use Rattle.fkv_partition.specs.Effect.{asked};
+ghost use Rattle.fkv_partition.specs.Beginning.{IsEntered};
+ghost use Rattle.fkv_partition.specs.Views.{loading_at};
+ghost use Rattle.fkv_partition.specs.Sound.{IsSound};
+ghost use Rattle.fkv_compaction.specs.Views.{empty_compacted, relocation_at};
+ghost use Rattle.fkv_compaction.specs.Sound.{IsCompacting};
+ghost use Rattle.fkv_compaction.specs.Beginning.{IsFirstFree};
+
+use crate::relocations::{Relocation, RelocationOf};
+use fkv_device::Disk;
+use fkv_functions::{Functions, Refused};
+use fkv_operations::OpOf;
+use fkv_partition::contexts::{CONTEXTS, open_at};
+use fkv_partition::{Config, Partition};
+use fkv_records::{Address, FIRST};
+use std::alloc::Global;
+use std::marker::Model;
+
+/// The relocations of one partition that may be open.
+const PLACES: usize = 128;
+
+/// One partition of a store, the relocations of its sessions, and the address below which its records are spent.
+#[derive(Drop)]
+pub struct Compacted<F: Functions, D: Disk> {
+    pub(crate) partition: Partition<F, D>,
+    pub(crate) cleared: Address,
+    pub(crate) relocations: Vec<Option<Relocation<F::Key, F::Value>>>,
+}
+
+impl<F: Functions, D: Disk> Model for Compacted<F, D> {
+    ghost use Rattle.fkv_compaction.specs.Views.{CompactedView};
+    ghost use Rattle.fkv_compaction.specs.Inside.{view_of};
+    ghost use Rattle.fkv_compaction.specs.Sound.{IsCompacting};
+
+    ghost Value = { CompactedView F.Key F.Value F.Input };
+
+    ghost view = { λ c. view_of c.partition c.cleared c.relocations.items };
+
+    ghost invariant = { λ c. IsCompacting D.keeps F.Key.cmp F.code
+        (view_of c.partition c.cleared c.relocations.items) };
+}
+
+/// Places that hold nothing. Refused: `NoMemory`.
+fn free_places<T: Drop>(alloc: Global) -> Result<Vec<Option<T>>, Refused>
+    ensures ok { IfOk result (λ places. places.items ≡ replicate 128 None) }
+    ensures only { IfErr result (λ refused. refused ≡ Refused.NoMemory) }
+{
+    let mut places = Vec::new(alloc);
+    for _ in 0..PLACES {
+        let Ok(()) = places.push(None) else {
+            return Err(Refused::NoMemory);
+        };
+    }
+    Ok(places)
+}
+
+impl<F: Functions, D: Disk> Compacted<F, D> {
+    /// The partition of this number, with nothing in it. Refused, in this order: `BadConfig` where a number of the
+    /// configuration is outside its limits, a record is too large, or there is no partition of this number, `NoMemory`.
+    pub fn new(alloc: Global, config: &Config, number: u64) -> Result<Self, Refused>
+        ensures ok { IfOk result (λ c. c ≡ empty_compacted config.now (size_of F.Key.SIZE F.Value.SIZE) number) }
+        ensures good { result ≢ Err Refused.BadConfig
+            → IsPartitionOf config.now (size_of F.Key.SIZE F.Value.SIZE) number }
+        ensures bad { result ≡ Err Refused.BadConfig
+            → ¬ IsPartitionOf config.now (size_of F.Key.SIZE F.Value.SIZE) number }
+        ensures only { IfErr result (λ refused. (refused ≡ Refused.BadConfig) ⊎ (refused ≡ Refused.NoMemory)) }
+    {
+        let partition = match Partition::new(alloc, config, number) {
+            Err(refused) => return Err(refused),
+            Ok(partition) => partition,
+        };
+        let relocations = match free_places(alloc) {
+            Err(refused) => return Err(refused),
+            Ok(relocations) => relocations,
+        };
+        partition.known();
+        Ok(Compacted {
+            partition,
+            cleared: FIRST,
+            relocations,
+        })
+    }
+
+    /// What holds of every compacted partition. It does nothing when it runs.
+    pub fn known(&self)
+        ensures partition { IsSound D.keeps F.Key.cmp F.code self.now.partition }
+        ensures compacting { IsCompacting D.keeps F.Key.cmp F.code self.now }
+    {
+        self.partition.known();
+        let _cleared = self.cleared;
+    }
+
+    /// Where the records begin that are not cleared: on a device that keeps, each record below is a tombstone, or not the
+    /// last of its key.
+    pub fn cleared(&self) -> Address
+        ensures { result ≡ self.now.cleared }
+    {
+        self.cleared
+    }
+
+    /// Begin: where the records begin that are not dropped.
+    pub fn begin(&self) -> Address
+        ensures { result ≡ self.now.partition.records.begin }
+    {
+        self.partition.records().begin()
+    }
+
+    /// The address of the next record, or 2^48 where there can't be one.
+    pub fn tail(&self) -> Address
+        ensures { result ≡ self.now.partition.records.tail }
+    {
+        self.partition.tail()
+    }
+
+    /// Head: records below it are read from the device by sessions that are refreshed from now on.
+    pub fn head(&self) -> Address
+        ensures { result ≡ self.now.partition.records.regions.offsets.head }
+    {
+        self.partition.head()
+    }
+
+    /// The bytes of a page.
+    pub fn page_size(&self) -> usize
+        ensures { result ≡ 2 ^ self.now.partition.records.page_bits }
+    {
+        self.partition.page_size()
+    }
+
+    /// The operation that is open in a context, after its number, which is the moment of its issue.
+    /// Refused: `Unknown` where none is open there.
+    pub fn asked(&self, slot: usize, context: usize) -> Result<(u64, OpOf<F>), Refused>
+        ensures ok { IfOk result (λ x. asked self.now.partition slot context
+            ≡ Some (record { number = x.0; op = x.1 })) }
+        ensures none { IfErr result (λ _. asked self.now.partition slot context ≡ None) }
+        ensures only { IfErr result (λ refused. refused ≡ Refused.Unknown) }
+    {
+        self.partition.asked(slot, context)
+    }
+
+    /// Whether the operation in a context waits for a page.
+    pub fn awaits_page(&self, slot: usize, context: usize) -> bool
+        ensures { result ≡ is_some (loading_at self.now.partition slot context) }
+    {
+        self.partition.awaits_page(slot, context)
+    }
+
+    /// The relocation that is open in a context.
+    pub fn relocation(&self, slot: usize, context: usize) -> Option<RelocationOf<F>>
+        ensures value { result ≡ relocation_at self.now slot context }
+        ensures session { IfSome result (λ _. slot < 16) }
+        ensures context { IfSome result (λ _. context < 8) }
+    {
+        if !self.partition.is_session(slot) {
+            return None;
+        }
+        open_at(&self.relocations, slot, context)
+    }
+
+    /// The lowest context of a session in which neither an operation nor a relocation is open.
+    pub(crate) fn first_free(&self, slot: usize) -> Option<usize>
+        requires session { slot < 16 }
+        requires entered { IsEntered self.now.partition slot }
+        ensures value { IsFirstFree self.now slot result }
+        ensures within { IfSome result (λ context. context < 8) }
+    {
+        for context in 0..CONTEXTS {
+            if self.is_free(slot, context) {
+                return Some(context);
+            }
+        }
+        None
+    }
+}
