@@ -1,10 +1,9 @@
 -- What relocations that begin or end leave, and what cutting the start of the log is told to do.
-use Rattle.std.proofs.Common.{◌≡◌, Bool, ℕ, ◌+◌, ◌*◌, ◌/◌, ◌^◌, ◌<◌, ◌≤◌, List, Option, Result, Ok, Err, refl, sym, ◌∙◌, ap, subst, arith}
+use Rattle.std.proofs.Common.{◌≡◌, Bool, ℕ, ◌+◌, ◌*◌, ◌/◌, ◌^◌, ◌<◌, ◌≤◌, List, Option, Result, refl, sym, ap, subst, arith}
 use Rattle.std.proofs.lemmas.Nat.{div-add-mod', pow_pos, mul-le}
 use Rattle.std.proofs.Math.Nat.{mod-lt}
 use Rattle.std.specs.declared.cmp.Ordering.{Ordering}
 use Rattle.fkv_functions.specs.declared.refusals.Refused.{Refused}
-use Rattle.fkv_functions.specs.declared.refusals.Refused.TheVariants.{NotDue}
 use Rattle.fkv_records.specs.Places.{page_at, start_at}
 use Rattle.fkv_records.proofs.PlaceLemmas.{next_start}
 use Rattle.fkv_texts.specs.declared.entries.Entry.{Entry}
@@ -15,7 +14,7 @@ use Rattle.fkv_partition.proofs.AskedLemmas.{context-other}
 use Rattle.fkv_compaction.specs.declared.relocations.Relocation.{Relocation}
 use Rattle.fkv_compaction.specs.Views.{CompactedView, with_partition, with_relocation}
 use Rattle.fkv_compaction.specs.Effect.{IsRelocating}
-use Rattle.fkv_compaction.specs.Truncating.{IsDue, Truncates}
+use Rattle.fkv_compaction.specs.Truncating.{Truncates}
 
 -- a relocation begins or ends
 pub relocating-set : {K V I : Type 0} (keeps : Bool) (cmp : K → K → Ordering) (v : CompactedView K V I) (slot c now : ℕ) (y : Option (Relocation K V)) → c < 8 → IsRelocating keeps cmp v (with_relocation v slot c y now) slot c now
@@ -75,16 +74,3 @@ pub truncates-told : {K V I : Type 0} (keeps : Bool) (v : CompactedView K V I) (
     → partition.Truncates keeps v.partition new page now result → Truncates keeps v (with_partition v new) page now result
 truncates-told keeps v new page now result low (partition.Truncates.not_due n is r) = Truncates.not_due (λ d. n d.due) (ap (with_partition v) is) r
 truncates-told keeps v new page now result low (partition.Truncates.truncates due is r) = Truncates.truncates (record { due = due; cleared = low }) (ap (with_partition v) is) r
-
--- and what it tells, by its answer
-pub due-told : {K V I : Type 0} (keeps : Bool) (v new : CompactedView K V I) (page now : ℕ) → Truncates keeps v new page now (Ok tt) → IsDue v page
-due-told keeps v new page now (Truncates.not_due n is r) = absurd (cc)
-due-told keeps v new page now (Truncates.truncates due is r) = due
-
-pub rest-told : {K V I : Type 0} (keeps : Bool) (v new : CompactedView K V I) (page now : ℕ) → Truncates keeps v new page now (Ok tt) → new ≡ with_partition v new.partition
-rest-told keeps v new page now (Truncates.not_due n is r) = absurd (cc)
-rest-told {K} {V} {I} keeps v new page now (Truncates.truncates due is r) = is ∙ ap (λ (u : CompactedView K V I). with_partition v u.partition) (sym is)
-
-pub refused-told : {K V I : Type 0} (keeps : Bool) (v new : CompactedView K V I) (page now : ℕ) (why : Refused) → Truncates keeps v new page now (Err why) → (why ≡ NotDue) × ¬ IsDue v page
-refused-told keeps v new page now why (Truncates.not_due n is r) = (let same : why ≡ NotDue = cc in same, n)
-refused-told keeps v new page now why (Truncates.truncates due is r) = absurd (cc)

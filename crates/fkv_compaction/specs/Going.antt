@@ -1,6 +1,6 @@
 -- What `go_on` does with a relocation: nothing is open; or it waits for a page; or its place was cleared meanwhile; or its
 -- record is read, in memory or from the device, and weighed; or its last part is tried again.
-use Rattle.std.specs.Prelude.{◌≡◌, ◌<◌, ◌≤◌, ℕ, Option, Some, None, Result, Ok, Err}
+use Rattle.std.specs.Prelude.{◌≡◌, ◌<◌, ◌≤◌, ℕ, Bool, false, Option, Some, None, Result, Ok, Err, is_some}
 use Rattle.std.specs.declared.cmp.Ordering.{Ordering}
 use Rattle.fkv_functions.specs.declared.refusals.Refused.{Refused}
 use Rattle.fkv_functions.specs.declared.refusals.Refused.TheVariants.{Unknown, NotReady}
@@ -31,6 +31,11 @@ awaited_by place (Ready entry kept) = None
 
 abbrev pub awaited : {K V : Type 0} → Relocation K V → Option Awaited
 awaited x = awaited_by x.place x.stage
+
+-- whether a relocation, if there is one, waits for a page
+abbrev pub is_awaiting : {K V : Type 0} → Option (Relocation K V) → Bool
+is_awaiting None = false
+is_awaiting (Some x) = is_some (awaited x)
 
 -- the lowest address that the session at a slot reads in memory
 abbrev pub low_at : {K V I : Type 0} → CompactedView K V I → ℕ → ℕ

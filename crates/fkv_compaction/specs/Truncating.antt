@@ -22,3 +22,8 @@ pub data Truncates {K V I : Type 0} (keeps : Bool) (old new : CompactedView K V 
       })
       → result ≡ Ok tt
       → Truncates keeps old new page now result
+
+-- what is told of it, without the address that it answers
+abbrev pub told_of : {A : Type 0} → Result A Refused → Result (Unit {0}) Refused
+told_of (Ok begin) = Ok tt
+told_of (Err e) = Err e

@@ -1,5 +1,5 @@
 //! A partition with its relocations, and how much of its log is cleared.
-ghost use Rattle.std.specs.Prelude.{◌≡◌, ◌≢◌, ◌<◌, ◌≤◌, ◌⊎◌, ◌+◌, ◌*◌, ◌^◌, Option, Some, None, Err, IsTrue, IfOk, IfErr, IfSome, is_some, length, replicate, slice_get};
+ghost use Rattle.std.specs.Prelude.{◌≡◌, ◌≢◌, ◌<◌, ◌≤◌, ◌⊎◌, ◌+◌, ◌*◌, ◌^◌, ◌||◌, Option, Some, None, Err, IsTrue, IfOk, IfErr, IfSome, is_some, length, replicate, slice_get};
 ghost use Rattle.fkv_records.specs.Records.{size_of};
 ghost use Rattle.fkv_partition.specs.Contexts.{joined};
 ghost use Rattle.fkv_partition.specs.Limits.{IsPartitionOf};
@@ -8,10 +8,11 @@ ghost use Rattle.fkv_partition.specs.Beginning.{IsEntered};
 ghost use Rattle.fkv_partition.specs.Views.{loading_at};
 ghost use Rattle.fkv_partition.specs.Sound.{IsSound};
 ghost use Rattle.fkv_compaction.specs.Views.{empty_compacted, relocation_at};
+ghost use Rattle.fkv_compaction.specs.Going.{is_awaiting};
 ghost use Rattle.fkv_compaction.specs.Sound.{IsCompacting};
 ghost use Rattle.fkv_compaction.specs.Beginning.{IsFirstFree};
 
-use crate::relocations::{Relocation, RelocationOf};
+use crate::relocations::{Relocation, RelocationOf, awaited};
 use fkv_device::Disk;
 use fkv_functions::{Functions, Refused};
 use fkv_operations::OpOf;
@@ -142,11 +143,22 @@ impl<F: Functions, D: Disk> Compacted<F, D> {
         self.partition.asked(slot, context)
     }
 
-    /// Whether the operation in a context waits for a page.
+    /// Whether the operation or the relocation in a context waits for a page.
     pub fn awaits_page(&self, slot: usize, context: usize) -> bool
-        ensures { result ≡ is_some (loading_at self.now.partition slot context) }
+        ensures { result ≡ (is_some (loading_at self.now.partition slot context)
+            || is_awaiting (relocation_at self.now slot context)) }
     {
-        self.partition.awaits_page(slot, context)
+        self.partition.awaits_page(slot, context) || self.relocation_awaits(slot, context)
+    }
+
+    /// Whether the relocation in a context waits for a page.
+    fn relocation_awaits(&self, slot: usize, context: usize) -> bool
+        ensures { result ≡ is_awaiting (relocation_at self.now slot context) }
+    {
+        match self.relocation(slot, context) {
+            None => false,
+            Some(relocation) => awaited(relocation.place, &relocation.stage).is_some(),
+        }
     }
 
     /// The relocation that is open in a context.

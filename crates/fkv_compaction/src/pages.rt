@@ -13,7 +13,7 @@ ghost use Rattle.fkv_partition.specs.Flushing.{Flushes};
 ghost use Rattle.fkv_partition.specs.Truncating.{IsTruncation};
 ghost use Rattle.fkv_partition.specs.Effect.{IsQuiet};
 ghost use Rattle.fkv_compaction.specs.Views.{with_partition};
-ghost use Rattle.fkv_compaction.specs.Truncating.{IsDue, Truncates};
+ghost use Rattle.fkv_compaction.specs.Truncating.{Truncates, told_of};
 
 use crate::compacted::Compacted;
 use fkv_device::{Disk, FlushJob, Written};
@@ -141,17 +141,13 @@ impl<F: Functions, D: Disk> Compacted<F, D> {
     /// changes: `NotDue` where Begin would not rise, or would pass Head.
     pub fn truncate_cleared(&mut self, now: u64) -> Result<Address, Refused>
         requires later { self.old.partition.moment < now }
+        ensures does { Truncates D.keeps self.old self.new (page_at self.old.partition.records.page_bits self.old.cleared)
+            now (told_of result) }
         ensures begin { IfOk result (λ begin. (begin ≡ self.new.partition.records.begin)
             × (begin ≡ start_at self.old.partition.records.page_bits
             (page_at self.old.partition.records.page_bits self.old.cleared))) }
-        ensures does { OnOk result (IsDue self.old
-            (page_at self.old.partition.records.page_bits self.old.cleared)) }
         ensures event { OnOk result (IsTruncation D.keeps F.Key.cmp self.old.partition self.new.partition
             (page_at self.old.partition.records.page_bits self.old.cleared) now) }
-        ensures rest { self.new ≡ with_partition self.old self.new.partition }
-        ensures not_due { (result ≡ Err Refused.NotDue)
-            ↔ ¬ IsDue self.old (page_at self.old.partition.records.page_bits self.old.cleared) }
-        ensures only { IfErr result (λ refused. refused ≡ Refused.NotDue) }
         ensures err { OnErr result (self.new ≡ self.old) }
         ensures moment { self.new.partition.moment ≤ now }
     {

@@ -12,9 +12,9 @@ use Rattle.fkv_scripts.specs.Words.{number_of, amount_of, is_key, is_key_byte}
 use Rattle.fkv_scripts.specs.declared.lines.FunctionsName.{FunctionsName}
 use Rattle.fkv_scripts.specs.declared.lines.FunctionsName.TheVariants.{Count, Sum, Max}
 use Rattle.fkv_scripts.specs.declared.lines.Opening.{Opening}
-use Rattle.fkv_worlds.specs.declared.steps.Access.{Access}
-use Rattle.fkv_worlds.specs.declared.steps.Access.TheVariants.{Works, Fails}
-use Rattle.fkv_worlds.specs.declared.steps.Place.{Place}
+use Rattle.fkv_lives.specs.declared.steps.Access.{Access}
+use Rattle.fkv_lives.specs.declared.steps.Access.TheVariants.{Works, Fails}
+use Rattle.fkv_lives.specs.declared.steps.Place.{Place}
 use Rattle.fkv_scripts.specs.declared.lines.Line.{Line}
 use Rattle.fkv_scripts.specs.declared.lines.Line.TheVariants.{Enter, Leave, Refresh, ReadOnly, Head, Flush, Issue, Do, Go, Install, Load, GiveUp, Ready, Finish}
 

@@ -9,15 +9,15 @@ use Rattle.fkv_functions.specs.declared.refusals.Refused.{Refused}
 use Rattle.fkv_functions.specs.declared.refusals.Refused.TheVariants.{Stalled}
 use Rattle.fkv_operations.specs.declared.operations.Answer.{Answer}
 use Rattle.fkv_operations.specs.declared.operations.Op.{Op}
-use Rattle.fkv_worlds.specs.declared.outcomes.Outcome.{Outcome}
-use Rattle.fkv_worlds.specs.declared.outcomes.Outcome.TheVariants as outcome
+use Rattle.fkv_lives.specs.declared.outcomes.Outcome.{Outcome}
+use Rattle.fkv_lives.specs.declared.outcomes.Outcome.TheVariants as outcome
 use Rattle.fkv_worlds.specs.declared.pursuits.Pursuit.{Pursuit}
 use Rattle.fkv_worlds.specs.declared.pursuits.Pursuit.TheVariants as pursuit
-use Rattle.fkv_worlds.specs.declared.steps.Place.{Place}
-use Rattle.fkv_worlds.specs.declared.steps.Access.{Access}
-use Rattle.fkv_worlds.specs.declared.steps.Step.{Step}
-use Rattle.fkv_worlds.specs.declared.steps.Step.TheVariants as step
-use Rattle.fkv_worlds.specs.Histories.{answer_by, answers_in}
+use Rattle.fkv_lives.specs.declared.steps.Place.{Place}
+use Rattle.fkv_lives.specs.declared.steps.Access.{Access}
+use Rattle.fkv_lives.specs.declared.steps.Step.{Step}
+use Rattle.fkv_lives.specs.declared.steps.Step.TheVariants as step
+use Rattle.fkv_lives.specs.Histories.{answer_by, answers_in}
 use Rattle.fkv_worlds.specs.Reports.{IsKept, RunsTo, Pursues, unkept, stalls, ends, goes_on, follows, first_step}
 use Rattle.fkv_scripts.specs.declared.lines.Line.{Line}
 use Rattle.fkv_scripts.specs.declared.lines.Line.TheVariants as line

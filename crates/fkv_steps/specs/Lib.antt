@@ -6,6 +6,6 @@ pub use Rattle.fkv_scripts.specs.Grammar
 pub use Rattle.fkv_scripts.specs.Script
 pub use Rattle.fkv_scripts.specs.Configs
 pub use Rattle.fkv_scripts.specs.OneReading
-pub use Rattle.fkv_worlds.specs.Placed
+pub use Rattle.fkv_lives.specs.Placed
 pub use Rattle.fkv_worlds.specs.Headline
 pub use Rattle.fkv_worlds.specs.Reports

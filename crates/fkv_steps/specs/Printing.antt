@@ -5,8 +5,8 @@ use Rattle.fkv_functions.specs.Names.{text_of}
 use Rattle.fkv_functions.specs.RefusalNames.{name_of}
 use Rattle.fkv_functions.specs.declared.names.Name.{Name}
 use Rattle.fkv_functions.specs.declared.refusals.Refused.{Refused}
-use Rattle.fkv_worlds.specs.declared.outcomes.Outcome.{Outcome}
-use Rattle.fkv_worlds.specs.OutcomeTexts.{outcome_text}
+use Rattle.fkv_lives.specs.declared.outcomes.Outcome.{Outcome}
+use Rattle.fkv_lives.specs.OutcomeTexts.{outcome_text}
 
 -- what a step prints: its outcome, or the name of its refusal
 abbrev pub step_text : {V O : Type 0} → (V → List ℕ) → (O → List ℕ) → Result (Outcome V O) Refused → List ℕ

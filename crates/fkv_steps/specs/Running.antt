@@ -19,11 +19,11 @@ use Rattle.fkv_operations.specs.declared.operations.Op.{Op}
 use Rattle.fkv_operations.specs.declared.operations.Op.TheVariants.{Read, Upsert, Rmw, Delete}
 use Rattle.fkv_partition.specs.declared.limits.Config.{Config}
 use Rattle.fkv_partition.specs.Limits.{IsWithinLimits}
-use Rattle.fkv_worlds.specs.declared.outcomes.Outcome.{Outcome}
-use Rattle.fkv_worlds.specs.declared.outcomes.Outcome.TheVariants.{Taken, Issued}
-use Rattle.fkv_worlds.specs.declared.steps.Access.{Access}
-use Rattle.fkv_worlds.specs.declared.steps.Step.{Step}
-use Rattle.fkv_worlds.specs.declared.steps.Step.TheVariants as step
+use Rattle.fkv_lives.specs.declared.outcomes.Outcome.{Outcome}
+use Rattle.fkv_lives.specs.declared.outcomes.Outcome.TheVariants.{Taken, Issued}
+use Rattle.fkv_lives.specs.declared.steps.Access.{Access}
+use Rattle.fkv_lives.specs.declared.steps.Step.{Step}
+use Rattle.fkv_lives.specs.declared.steps.Step.TheVariants as step
 use Rattle.fkv_worlds.specs.declared.pursuits.Pursuit.TheVariants as pursuit
 use Rattle.fkv_scripts.specs.declared.lines.Line.{Line}
 use Rattle.fkv_scripts.specs.declared.lines.Line.TheVariants as line
@@ -33,7 +33,7 @@ use Rattle.fkv_scripts.specs.declared.lines.FunctionsName.TheVariants.{Count, Su
 use Rattle.fkv_scripts.specs.Configs.{config_of}
 use Rattle.fkv_scripts.specs.Script.{lines_of, SaysScript}
 use Rattle.fkv_worlds.specs.States.{WorldView, empty_world}
-use Rattle.fkv_worlds.specs.Histories.{backwards, issues_in, issue_of, answers_in}
+use Rattle.fkv_lives.specs.Histories.{backwards, issues_in, issue_of, answers_in}
 use Rattle.fkv_worlds.specs.Headline.{IsHeadline}
 use Rattle.fkv_worlds.specs.Worlds.{world_live}
 use Rattle.fkv_worlds.specs.Reports.{IsKept, RunsTo, Pursues, first_step}

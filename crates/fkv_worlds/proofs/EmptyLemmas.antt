@@ -1,5 +1,5 @@
 -- A world before its first step.
-use Rattle.std.proofs.Common.{◌≡◌, Bool, true, false, cond, ◌&&◌, ℕ, zero, suc, ◌+◌, ◌*◌, ◌^◌, ◌<◌, ◌≤◌, List, [], ◌∷◌, ◌++◌, length, replicate, Option, Some, None, option_map, slice_get, nat_lt, refl, sym, ◌∙◌, ap, arith}
+use Rattle.std.proofs.Common.{◌≡◌, Bool, true, false, cond, ◌&&◌, ℕ, zero, suc, ◌+◌, ◌*◌, ◌^◌, ◌<◌, ◌≤◌, List, [], ◌∷◌, ◌++◌, length, replicate, map, Option, Some, None, option_map, slice_get, nat_lt, refl, sym, ◌∙◌, ap, arith}
 use Rattle.std.specs.List.{range_with_len}
 use Rattle.std.proofs.lemmas.List.FromFn.{length-map-range_with_len, map-range_with_len_more}
 use Rattle.std.proofs.lemmas.List.{length-replicate}
@@ -14,9 +14,10 @@ use Rattle.fkv_partition.specs.Contexts.{joined, is_session}
 use Rattle.fkv_partition.specs.Views.{PartitionView, empty_partition, partition_of}
 use Rattle.fkv_partition.specs.Effect.{Asked, asked, asked_by}
 use Rattle.fkv_worlds.specs.declared.tables.Seat.{Seat}
-use Rattle.fkv_worlds.specs.States.{empty_partitions, empty_state}
+use Rattle.fkv_compaction.specs.Views.{CompactedView, empty_compacted}
+use Rattle.fkv_worlds.specs.States.{bare, empty_partitions, empty_state}
 use Rattle.fkv_partition.specs.Pending.{Pending}
-use Rattle.fkv_worlds.specs.declared.steps.Place.{Place}
+use Rattle.fkv_lives.specs.declared.steps.Place.{Place}
 use Rattle.fkv_worlds.specs.Worlds.{live_at, asked_at, pending_in}
 use Rattle.fkv_worlds.proofs.HeldLemmas.{waiting-at}
 use Rattle.fkv_worlds.specs.Sound.{IsState}
@@ -41,7 +42,15 @@ made-some : {A : Type 0} (f : ℕ → A) (o : Option ℕ) (v : A) → option_map
 made-some f None v h = absurd (cc)
 made-some f (Some i) v h = let same : f i ≡ v = cc in (i, refl, sym same)
 
-pub empty-at : {K V I : Type 0} (config : Config) (size n p : ℕ) (v : PartitionView K V I) → slice_get (empty_partitions config size n) p ≡ Some v → v ≡ empty_partition config size p
+-- what is bare of empty partitions
+abbrev plains : {K V I : Type 0} → Config → ℕ → ℕ → List (PartitionView K V I)
+plains config size n = map (empty_partition config size) (range_with_len 0 n)
+
+bare-made : {K V I : Type 0} (config : Config) (size : ℕ) (ns : List ℕ) → bare {K = K} {V = V} {I = I} (map (empty_compacted config size) ns) ≡ map (empty_partition config size) ns
+bare-made config size [] = refl
+bare-made config size (n ∷ ns) = ap (λ vs. empty_partition config size n ∷ vs) (bare-made config size ns)
+
+pub empty-at : {K V I : Type 0} (config : Config) (size n p : ℕ) (v : PartitionView K V I) → slice_get (plains config size n) p ≡ Some v → v ≡ empty_partition config size p
 empty-at config size n p v h =
     let m = made-some (empty_partition config size) (slice_get (range_with_len 0 n) p) v (sym (slice_get-map (empty_partition config size) (range_with_len 0 n) p) ∙ h) in
     let at = range-at 0 n p m.0 m.1 in
@@ -49,19 +58,19 @@ empty-at config size n p v h =
     m.2 ∙ ap (empty_partition config size) same
 
 -- one partition more
-pub partitions-more : {K V I : Type 0} (config : Config) (size n : ℕ) (xs ys : List (PartitionView K V I)) → xs ≡ empty_partitions config size n → ys ≡ xs ++ empty_partition config size n ∷ [] → ys ≡ empty_partitions config size (n + 1)
+pub partitions-more : {K V I : Type 0} (config : Config) (size n : ℕ) (xs ys : List (CompactedView K V I)) → xs ≡ empty_partitions config size n → ys ≡ xs ++ empty_compacted config size n ∷ [] → ys ≡ empty_partitions config size (n + 1)
 partitions-more config size n xs ys before one =
-    one ∙ ap (λ zs. zs ++ empty_partition config size n ∷ []) before ∙ sym (map-range_with_len_more (empty_partition config size) 0 n n (omega arith))
+    one ∙ ap (λ zs. zs ++ empty_compacted config size n ∷ []) before ∙ sym (map-range_with_len_more (empty_compacted config size) 0 n n (omega arith))
 
 pub small : (n : ℕ) → n ≤ 6 → (1 ≤ 2 ^ n) × (2 ^ n ≤ 64)
 small n h = let most : 2 ^ n ≤ 2 ^ 6 = pow_mono h in let least : 0 < 2 ^ n = pow_pos n in (omega arith, omega arith)
 
 module _ {K V I O : Type 0} (R : Type 0) (cmp : K → K → Ordering) (f : Meanings K V I O) (code : K → ℕ) (config : Config) (size : ℕ) (within : IsWithinLimits config size) where
-  views : List (PartitionView K V I)
-  views = empty_partitions config size (2 ^ config.partition_bits)
-
-  sized : length (empty_partitions {K = K} {V = V} {I = I} config size (2 ^ config.partition_bits)) ≡ 2 ^ config.partition_bits
+  sized : length (plains {K = K} {V = V} {I = I} config size (2 ^ config.partition_bits)) ≡ 2 ^ config.partition_bits
   sized = length-map-range_with_len (empty_partition config size) 0 (2 ^ config.partition_bits)
+
+  made : length (empty_partitions {K = K} {V = V} {I = I} config size (2 ^ config.partition_bits)) ≡ 2 ^ config.partition_bits
+  made = length-map-range_with_len (empty_compacted config size) 0 (2 ^ config.partition_bits)
 
   -- nothing is open in one
   unasked : (p slot c : ℕ) (x : Asked K V I) → asked (empty_partition {K = K} {V = V} {I = I} config size p) slot c ≡ Some x → ⊥
@@ -79,46 +88,46 @@ module _ {K V I O : Type 0} (R : Type 0) (cmp : K → K → Ordering) (f : Meani
   none-asked None slot c x h k = absurd (cc)
   none-asked (Some v) slot c x h k = let e = h v refl in unasked e.0 slot c x (ap (λ w. asked w slot c) (sym e.1) ∙ k)
 
-  none-pending : (w : Place) (q : Pending V) → pending_in cmp (empty_partitions {K = K} {V = V} {I = I} config size (2 ^ config.partition_bits)) w ≡ Some q → ⊥
+  none-pending : (w : Place) (q : Pending V) → pending_in cmp (plains {K = K} {V = V} {I = I} config size (2 ^ config.partition_bits)) w ≡ Some q → ⊥
   none-pending w q h =
-      let a = waiting-at cmp (empty_partitions config size (2 ^ config.partition_bits)) w q h in
-      none-asked (slice_get (empty_partitions config size (2 ^ config.partition_bits)) w.partition) w.slot w.context a.0 (λ v k. (w.partition, empty-at config size (2 ^ config.partition_bits) w.partition v k)) a.1
+      let a = waiting-at cmp (plains config size (2 ^ config.partition_bits)) w q h in
+      none-asked (slice_get (plains config size (2 ^ config.partition_bits)) w.partition) w.slot w.context a.0 (λ v k. (w.partition, empty-at config size (2 ^ config.partition_bits) w.partition v k)) a.1
 
   pub state-empty : IsState {R = R} cmp f code (empty_state config size)
   state-empty = let b = small config.partition_bits within.partition_bits in record {
     tables = record {
-      most = rw sized b.1;
-      begun = length-replicate (2 ^ config.partition_bits * 128) 0 ∙ ap (λ n. n * 128) (sym sized);
-      questions = length-replicate (2 ^ config.partition_bits * 128) None ∙ ap (λ n. n * 128) (sym sized);
-      receipts = length-replicate (2 ^ config.partition_bits * 128) None ∙ ap (λ n. n * 128) (sym sized);
-      jobs = length-replicate (2 ^ config.partition_bits) None ∙ sym sized;
-      seats = length-replicate (2 ^ config.partition_bits * 16) (record { session = 0; issues = 0 }) ∙ ap (λ n. n * 16) (sym sized);
-      enters = length-replicate (2 ^ config.partition_bits) 0 ∙ sym sized;
+      most = rw made b.1;
+      begun = length-replicate (2 ^ config.partition_bits * 128) 0 ∙ ap (λ n. n * 128) (sym made);
+      questions = length-replicate (2 ^ config.partition_bits * 128) None ∙ ap (λ n. n * 128) (sym made);
+      receipts = length-replicate (2 ^ config.partition_bits * 128) None ∙ ap (λ n. n * 128) (sym made);
+      jobs = length-replicate (2 ^ config.partition_bits) None ∙ sym made;
+      seats = length-replicate (2 ^ config.partition_bits * 16) (record { session = 0; issues = 0 }) ∙ ap (λ n. n * 16) (sym made);
+      enters = length-replicate (2 ^ config.partition_bits) 0 ∙ sym made;
       counted = λ p n h. (let e = replicate-at (2 ^ config.partition_bits) 0 n p h in omega arith);
       issued = λ i x h. (let e = ap (λ (z : Seat). z.issues) (replicate-at (2 ^ config.partition_bits * 16) _ x i h) in omega arith);
     };
-    world = record {
+    world = rw (bare-made {K = K} {V = V} {I = I} config size (range_with_len 0 (2 ^ config.partition_bits))) (record {
       placed = record {
         issued = λ j x h. absurd (cc);
         timely = λ j x t h k. absurd (cc);
         alone = λ i j x y t u h k a b d. absurd (cc);
         answers = λ j x t h k. absurd (cc);
       };
-      denotes = λ k. (let p = partition_of (length (empty_partitions {K = K} {V = V} {I = I} config size (2 ^ config.partition_bits))) (code k) in none-live (slice_get (empty_partitions config size (2 ^ config.partition_bits)) p) k (λ v h. (p, empty-at config size (2 ^ config.partition_bits) p v h)));
+      denotes = λ k. (let p = partition_of (length (plains {K = K} {V = V} {I = I} config size (2 ^ config.partition_bits))) (code k) in none-live (slice_get (plains config size (2 ^ config.partition_bits)) p) k (λ v h. (p, empty-at config size (2 ^ config.partition_bits) p v h)));
       linked = record {
-        linked = λ w x h. absurd (none-asked (slice_get (empty_partitions config size (2 ^ config.partition_bits)) w.partition) w.slot w.context x (λ v k. (w.partition, empty-at config size (2 ^ config.partition_bits) w.partition v k)) h);
-        apart = λ w u x y h k e. absurd (none-asked (slice_get (empty_partitions config size (2 ^ config.partition_bits)) w.partition) w.slot w.context x (λ v q. (w.partition, empty-at config size (2 ^ config.partition_bits) w.partition v q)) h);
+        linked = λ w x h. absurd (none-asked (slice_get (plains config size (2 ^ config.partition_bits)) w.partition) w.slot w.context x (λ v k. (w.partition, empty-at config size (2 ^ config.partition_bits) w.partition v k)) h);
+        apart = λ w u x y h k e. absurd (none-asked (slice_get (plains config size (2 ^ config.partition_bits)) w.partition) w.slot w.context x (λ v q. (w.partition, empty-at config size (2 ^ config.partition_bits) w.partition v q)) h);
       };
       housed = record {
         some = rw sized b.0;
         numbered = λ p v h. ap (λ (z : PartitionView K V I). z.number) (empty-at config size (2 ^ config.partition_bits) p v h);
         counted = λ p v h. ap (λ (z : PartitionView K V I). z.count) (empty-at config size (2 ^ config.partition_bits) p v h) ∙ sym sized;
         past = λ p v h. (let e = ap (λ (z : PartitionView K V I). z.moment) (empty-at config size (2 ^ config.partition_bits) p v h) in omega arith);
-        routed = λ w x h. absurd (none-asked (slice_get (empty_partitions config size (2 ^ config.partition_bits)) w.partition) w.slot w.context x (λ v k. (w.partition, empty-at config size (2 ^ config.partition_bits) w.partition v k)) h);
+        routed = λ w x h. absurd (none-asked (slice_get (plains config size (2 ^ config.partition_bits)) w.partition) w.slot w.context x (λ v k. (w.partition, empty-at config size (2 ^ config.partition_bits) w.partition v k)) h);
       };
       held = record {
         held = λ w q h. absurd (none-pending w q h);
         apart = λ w u q r h k e. absurd (none-pending w q h);
       };
-    };
+    });
   }

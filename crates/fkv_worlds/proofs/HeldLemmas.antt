@@ -10,10 +10,10 @@ use Rattle.fkv_partition.specs.declared.contexts.Context.{Context}
 use Rattle.fkv_partition.specs.Effect.{Asked, asked, asked_by}
 use Rattle.fkv_partition.specs.Pending.{Pending, pending, pending_of, OthersPend, AllPend}
 use Rattle.fkv_partition.specs.Views.{PartitionView, context_at}
-use Rattle.fkv_worlds.specs.declared.lives.Finish.{Finish}
-use Rattle.fkv_worlds.specs.declared.lives.Life.{Life}
-use Rattle.fkv_worlds.specs.declared.steps.Place.{Place}
-use Rattle.fkv_worlds.specs.Lives.{finish_of, map_before}
+use Rattle.fkv_lives.specs.declared.lives.Finish.{Finish}
+use Rattle.fkv_lives.specs.declared.lives.Life.{Life}
+use Rattle.fkv_lives.specs.declared.steps.Place.{Place}
+use Rattle.fkv_lives.specs.Lives.{finish_of, map_before}
 use Rattle.fkv_worlds.specs.Worlds.{asked_at, asked_in, pending_at, pending_in, IsLooking, IsHeld}
 
 pub same_where : (w u : Place) → (w ≡ u) ⊎ (w ≢ u)
@@ -86,6 +86,14 @@ module _ {K V I : Type 0} (cmp : K → K → Ordering) (views : List (PartitionV
   pend-all same w = elim (cases_eq w.partition p) [
     | inr r ↦ pend-elsewhere w r
     | inl r ↦ in_place w r (same w.slot w.context)
+  ]
+
+  -- what still waits waited before
+  pub pend-sub : ((s d : ℕ) (q : Pending V) → pending cmp new s d ≡ Some q → pending cmp old s d ≡ Some q) → (w : Place) (q : Pending V) → pending_in cmp (slice_set views p new) w ≡ Some q → pending_in cmp views w ≡ Some q
+  pend-sub sub w q h = elim (cases_eq w.partition p) [
+    | inr r ↦ sym (pend-elsewhere w r) ∙ h
+    | inl r ↦ ap (λ x. pending_at cmp (slice_get views x) w.slot w.context) r ∙ pend-was w.slot w.context
+        ∙ sub w.slot w.context q (sym (pend-here w.slot w.context) ∙ ap (λ x. pending_at cmp (slice_get (slice_set views p new) x) w.slot w.context) (sym r) ∙ h)
   ]
 
   -- all stay, where that of this context does too

@@ -1,9 +1,10 @@
 pub mod Naming
+pub mod BareLemmas
 pub mod RefusedLemmas
+pub mod RelocationLemmas
 pub mod ResultLemmas
 pub mod LivesLemmas
 pub mod PlacedLemmas
-pub mod WrongLemmas
 pub mod ManyLemmas
 pub mod HeldLemmas
 pub mod WorldLemmas

@@ -4,11 +4,11 @@ use Rattle.std.proofs.lemmas.Bool.Decides.{nat_tests}
 use Rattle.std.specs.declared.cmp.Ordering.{Ordering}
 use Rattle.fkv_functions.specs.Meanings.{Meanings}
 use Rattle.fkv_operations.specs.After.{is_update}
-use Rattle.fkv_worlds.specs.declared.lives.Life.{Life}
-use Rattle.fkv_worlds.specs.declared.lives.End.{End}
-use Rattle.fkv_worlds.specs.declared.lives.Finish.{Finish}
-use Rattle.fkv_worlds.specs.Lives.{finish_of, has_effect_at, updates_at, first_by, update_at, after_some, map_before}
-use Rattle.fkv_worlds.specs.Changes.{ended_at}
+use Rattle.fkv_lives.specs.declared.lives.Life.{Life}
+use Rattle.fkv_lives.specs.declared.lives.End.{End}
+use Rattle.fkv_lives.specs.declared.lives.Finish.{Finish}
+use Rattle.fkv_lives.specs.Lives.{finish_of, has_effect_at, updates_at, first_by, update_at, after_some, map_before}
+use Rattle.fkv_lives.specs.Changes.{ended_at}
 
 -- ---- lists
 pub append_cases : {A : Type 0} (xs : List A) (y : A) (i : ℕ) (w : A) → slice_get (xs ++ y ∷ []) i ≡ Some w → (slice_get xs i ≡ Some w) ⊎ (w ≡ y)

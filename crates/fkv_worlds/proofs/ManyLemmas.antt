@@ -12,7 +12,7 @@ use Rattle.fkv_operations.specs.declared.operations.Op.TheVariants.{Read, Upsert
 use Rattle.fkv_partition.specs.Views.{PartitionView, live_of, partition_of}
 use Rattle.fkv_partition.specs.Effect.{asked}
 use Rattle.fkv_functions.proofs.ListLemmas.{get-set_same, get-set_other}
-use Rattle.fkv_worlds.specs.declared.steps.Place.{Place}
+use Rattle.fkv_lives.specs.declared.steps.Place.{Place}
 use Rattle.fkv_worlds.specs.Worlds.{live_at, world_live, asked_at, asked_in}
 
 module _ {K V I O : Type 0} (cmp : K → K → Ordering) (o : IsKeyOrder cmp) (f : Meanings K V I O) (code : K → ℕ) (views : List (PartitionView K V I)) (p : ℕ) (old new : PartitionView K V I) (here : slice_get views p ≡ Some old) where

@@ -8,35 +8,27 @@ use Rattle.fkv_functions.specs.declared.refusals.Refused.TheVariants.{NoMemory, 
 use Rattle.fkv_device.specs.Standing.{Standing}
 use Rattle.fkv_device.specs.declared.messages.FlushJob.{FlushJob}
 use Rattle.fkv_texts.specs.declared.entries.Entry.{Entry}
-use Rattle.fkv_partition.specs.Views.{PartitionView}
+use Rattle.fkv_compaction.specs.Views.{CompactedView}
 use Rattle.fkv_partition.specs.Effect.{IsQuiet}
 use Rattle.fkv_partition.specs.Flushing.{Flushes}
 use Rattle.fkv_worlds.specs.declared.desks.Desk.{Desk}
-use Rattle.fkv_worlds.specs.declared.outcomes.Outcome.TheVariants as outcome
-use Rattle.fkv_worlds.specs.declared.steps.Access.{Access}
-use Rattle.fkv_worlds.specs.declared.steps.Access.TheVariants.{Works}
-use Rattle.fkv_worlds.specs.declared.steps.Step.TheVariants.{Take, Write}
+use Rattle.fkv_lives.specs.declared.outcomes.Outcome.TheVariants as outcome
+use Rattle.fkv_lives.specs.declared.steps.Access.{Access}
+use Rattle.fkv_lives.specs.declared.steps.Access.TheVariants.{Works}
+use Rattle.fkv_lives.specs.declared.steps.Step.TheVariants.{Take, Write}
 use Rattle.fkv_worlds.specs.Devices.{IsReceiptOf, Unwritten, Spoils}
 use Rattle.fkv_worlds.specs.Refusing as refusing
-use Rattle.fkv_worlds.specs.States.{StateView, job_in, is_unasked}
+use Rattle.fkv_worlds.specs.States.{StateView, IsPassedOn, job_in, is_unasked}
 use Rattle.fkv_worlds.specs.Moments.{IsMomentIn}
 use Rattle.fkv_worlds.specs.Acts.{Acts}
 use Rattle.fkv_worlds.specs.Sound.{IsState}
+use Rattle.fkv_worlds.proofs.BareLemmas.{map-set, len-map}
 use Rattle.fkv_worlds.proofs.ResultLemmas.{some_not_none, not_some_none}
 use Rattle.fkv_worlds.proofs.StateLemmas.{at-index, set-unchanged}
 use Rattle.fkv_worlds.proofs.ActsLemmas.{acts-refused, acts-take, acts-spoil, acts-write}
 use Rattle.fkv_worlds.proofs.EventLemmas.{here}
 
 -- ---- desks
-pub map-set : {A B : Type 0} (f : A → B) (xs : List A) (i : ℕ) (y : A) → map f (slice_set xs i y) ≡ slice_set (map f xs) i (f y)
-map-set f [] i y = refl
-map-set f (x ∷ xs) zero y = refl
-map-set f (x ∷ xs) (suc i) y = ap (λ ys. f x ∷ ys) (map-set f xs i y)
-
-len-map : {A B : Type 0} (f : A → B) (xs : List A) → length (map f xs) ≡ length xs
-len-map f [] = refl
-len-map f (x ∷ xs) = ap suc (len-map f xs)
-
 -- the page that lies at a desk
 pub desk-job : (desks : List Desk) (p : ℕ) (d : Desk) → p < length (map (λ (e : Desk). e.job) desks) → d ≡ slice_index_or desks p d → job_in (map (λ (e : Desk). e.job) desks) p ≡ d.job
 desk-job desks p d low is =
@@ -56,12 +48,12 @@ pub desk-set : (desks : List Desk) (p : ℕ) (d : Desk) (job : Option FlushJob) 
 desk-set desks p d job h = map-set (λ (e : Desk). e.job) desks p d ∙ ap (slice_set (map (λ (e : Desk). e.job) desks) p) h
 
 -- ---- the rules
-module _ {K V I O R : Type 0} {stands : R → Standing} {entry : ℕ → List ℕ → ℕ → Entry K V → Type 0} (cmp : K → K → Ordering) (f : Meanings K V I O) (code : K → ℕ) (s : StateView K V I O R) (state : IsState cmp f code s) (p now : ℕ) (due : IsMomentIn s p now) (old : PartitionView K V I) (is : old ≡ slice_index_or s.partitions p old) where
-  pub does-take : (job : FlushJob) → job.page ≡ length old.records.receipts → slice_get old.records.waiting 0 ≡ Some job.bytes.items
+module _ {K V I O R : Type 0} {stands : R → Standing} {entry : ℕ → List ℕ → ℕ → Entry K V → Type 0} (cmp : K → K → Ordering) (f : Meanings K V I O) (code : K → ℕ) (s : StateView K V I O R) (state : IsState cmp f code s) (p now : ℕ) (due : IsMomentIn s p now) (old : CompactedView K V I) (is : old ≡ slice_index_or s.partitions p old) where
+  pub does-take : (job : FlushJob) → job.page ≡ length old.partition.records.receipts → slice_get old.partition.records.waiting 0 ≡ Some job.bytes.items
       → Acts stands entry cmp f code s (record s { jobs = slice_set s.jobs p (Some job); moment = now }) (Take p) (Ok (outcome.Taken job.page))
   does-take job page bytes = acts-take stands entry cmp f code s now due.next due.fits p old old (here cmp f code s state p now due old is) job page bytes
 
-  pub refused-take : (r : Refused) → (r ≡ NotDue) ⊎ (r ≡ NoMemory) → (r ≡ NotDue → old.records.waiting ≡ []) → (old.records.waiting ≡ [] → r ≡ NotDue) → Acts stands entry cmp f code s s (Take p) (Err r)
+  pub refused-take : (r : Refused) → (r ≡ NotDue) ⊎ (r ≡ NoMemory) → (r ≡ NotDue → old.partition.records.waiting ≡ []) → (old.partition.records.waiting ≡ [] → r ≡ NotDue) → Acts stands entry cmp f code s s (Take p) (Err r)
   refused-take r only idle due_not = acts-refused stands entry cmp f code s now due.next due.fits (Take p) old r (here cmp f code s state p now due old is) refl (elim only [
     | inl e ↦ refusing.idle p (idle e) e
     | inr e ↦ refusing.untaken p (λ w. (let k = due_not w in absurd (cc))) e
@@ -71,16 +63,16 @@ module _ {K V I O R : Type 0} {stands : R → Standing} {entry : ℕ → List �
     pub spoils-unwritten : (r : Refused) → Unwritten job access r → Acts stands entry cmp f code s (record s { jobs = slice_set s.jobs p None }) (Write p access) (Err r)
     spoils-unwritten r h = acts-spoil stands entry cmp f code s now due.next due.fits p old old (here cmp f code s state p now due old is) access job r asked has (Spoils.unwritten h)
 
-    module _ (new : PartitionView K V I) (receipt : Standing) (bytes : List ℕ) (works : access ≡ Works) (of : IsReceiptOf job receipt) (same_bytes : bytes ≡ job.bytes.items) where
-      pub spoils-strange : (r : Refused) → new ≡ old → Flushes old new receipt bytes now (Err r) → Acts stands entry cmp f code s (record s { partitions = slice_set s.partitions p new; jobs = slice_set s.jobs p None }) (Write p access) (Err r)
+    module _ (new : CompactedView K V I) (receipt : Standing) (bytes : List ℕ) (works : access ≡ Works) (of : IsReceiptOf job receipt) (same_bytes : bytes ≡ job.bytes.items) where
+      pub spoils-strange : (r : Refused) → new ≡ old → Flushes old.partition new.partition receipt bytes now (Err r) → Acts stands entry cmp f code s (record s { partitions = slice_set s.partitions p new; jobs = slice_set s.jobs p None }) (Write p access) (Err r)
       spoils-strange r same does =
           rw (set-unchanged s.partitions p old new (here cmp f code s state p now due old is) same)
           (acts-spoil stands entry cmp f code s now due.next due.fits p old old (here cmp f code s state p now due old is) access job r asked has
-          (Spoils.strange receipt works of (subst (λ b. Flushes old old receipt b now (Err r)) same_bytes (subst (λ v. Flushes old v receipt bytes now (Err r)) same does))))
+          (Spoils.strange receipt works of (subst (λ b. Flushes old.partition old.partition receipt b now (Err r)) same_bytes (subst (λ (v : CompactedView K V I). Flushes old.partition v.partition receipt bytes now (Err r)) same does))))
 
-      pub does-write : (page : ℕ) → page ≡ receipt.page → Flushes old new receipt bytes now (Ok tt) → IsQuiet true old new now
+      pub does-write : (page : ℕ) → page ≡ receipt.page → Flushes old.partition new.partition receipt bytes now (Ok tt) → IsQuiet true old.partition new.partition now → IsPassedOn old new
           → Acts stands entry cmp f code s (record s { partitions = slice_set s.partitions p new; jobs = slice_set s.jobs p None; moment = now }) (Write p access) (Ok (outcome.Flushed page))
-      does-write page at does ev =
+      does-write page at does ev passed =
           rw (at ∙ of.page)
           (acts-write stands entry cmp f code s now due.next due.fits p old new (here cmp f code s state p now due old is) access job receipt works asked has of
-          (subst (λ b. Flushes old new receipt b now (Ok tt)) same_bytes does) ev)
+          (subst (λ b. Flushes old.partition new.partition receipt b now (Ok tt)) same_bytes does) ev passed)

@@ -9,13 +9,13 @@ use Rattle.fkv_operations.specs.AfterLaws.{after-quiet}
 use Rattle.fkv_operations.specs.declared.operations.Op.{Op}
 use Rattle.fkv_operations.specs.declared.operations.Op.TheVariants.{Read}
 use Rattle.fkv_operations.specs.declared.operations.Answer.{Answer}
-use Rattle.fkv_worlds.specs.declared.lives.Finish.{Finish}
-use Rattle.fkv_worlds.specs.declared.lives.Life.{Life}
-use Rattle.fkv_worlds.specs.declared.lives.End.{End}
-use Rattle.fkv_worlds.specs.declared.lives.End.TheVariants.{Finished}
-use Rattle.fkv_worlds.specs.Lives.{finish_of, finish_in, updates_at, update_at, after_some, map_before}
-use Rattle.fkv_worlds.specs.Placed.{IsTimely, IsPlaced}
-use Rattle.fkv_worlds.specs.Changes.{ended_at}
+use Rattle.fkv_lives.specs.declared.lives.Finish.{Finish}
+use Rattle.fkv_lives.specs.declared.lives.Life.{Life}
+use Rattle.fkv_lives.specs.declared.lives.End.{End}
+use Rattle.fkv_lives.specs.declared.lives.End.TheVariants.{Finished}
+use Rattle.fkv_lives.specs.Lives.{finish_of, finish_in, updates_at, update_at, after_some, map_before}
+use Rattle.fkv_lives.specs.Placed.{IsTimely, IsPlaced}
+use Rattle.fkv_lives.specs.Changes.{ended_at}
 use Rattle.fkv_worlds.proofs.LivesLemmas.{append_cases, first_by-none, first_by-append, ended_cases, first_by-ended_quiet, first_by-ended_now, updates_at-untold, updates_at-other, map_before-same}
 
 module _ {K V I O : Type 0} (cmp : K → K → Ordering) (f : Meanings K V I O) (lives : List (Life K V I O)) (now next : ℕ) (e : next ≡ suc now) (p : IsPlaced cmp f lives now) where

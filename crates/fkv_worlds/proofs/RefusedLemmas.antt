@@ -13,8 +13,9 @@ use Rattle.fkv_operations.specs.declared.operations.Op.{Op}
 use Rattle.fkv_pages.specs.Flushes.{difference, bytes_refusal}
 use Rattle.fkv_lookups.specs.RecordsViews.{RecordsView}
 use Rattle.fkv_lookups.specs.Flushes.{flush_refusal}
+use Rattle.fkv_records.specs.Places.{page_at}
 use Rattle.fkv_partition.specs.Views.{PartitionView, with_context}
-use Rattle.fkv_partition.specs.Beginning.{Enters, Issues}
+use Rattle.fkv_partition.specs.Beginning.{Enters}
 use Rattle.fkv_partition.specs.Ending.{Leaves, GivesUp}
 use Rattle.fkv_partition.specs.Effect.{IsGiveUp}
 use Rattle.fkv_partition.specs.Flushing.{Flushes}
@@ -22,13 +23,24 @@ use Rattle.fkv_partition.specs.Going.{Goes}
 use Rattle.fkv_partition.specs.Installing.{Installs}
 use Rattle.fkv_partition.specs.Loading.{Loads}
 use Rattle.fkv_partition.specs.Looking.{Refreshes, Shifts, Evicts}
-use Rattle.fkv_worlds.specs.declared.steps.Access.{Access}
-use Rattle.fkv_worlds.specs.declared.steps.Step.{Step}
+use Rattle.fkv_lives.specs.declared.steps.Access.{Access}
+use Rattle.fkv_lives.specs.declared.steps.Step.{Step}
+use Rattle.fkv_compaction.specs.Views.{CompactedView, relocation_at, with_relocation}
+use Rattle.fkv_compaction.specs.Effect.{IsRelocating}
+use Rattle.fkv_compaction.specs.Beginning.{Issues, Relocates, LeavesAll}
+use Rattle.fkv_compaction.specs.Weighing.{Ends, Asks, Weighs}
+use Rattle.fkv_compaction.specs.Going.{GoesOn}
+use Rattle.fkv_compaction.specs.Reading.{LoadsOn}
+use Rattle.fkv_compaction.specs.Truncating.{Truncates}
+use Rattle.fkv_compaction.proofs.TruncateLemmas.{relocating-set}
+use Rattle.fkv_compaction.proofs.MoveLemmas.{open-here}
+use Rattle.fkv_compaction.specs.declared.relocations.Relocation.{Relocation}
+use Rattle.fkv_operations.specs.declared.entries.IndexEntry.{IndexEntry}
 use Rattle.fkv_worlds.specs.Devices.{Comes, Unwritten, Spoils}
 use Rattle.fkv_worlds.specs.Refusing as refusing
 use Rattle.fkv_worlds.specs.Refusing.{Refuses}
 use Rattle.fkv_worlds.specs.States.{StateView}
-use Rattle.fkv_worlds.specs.Told.{ends_operation}
+use Rattle.fkv_lives.specs.Told.{ends_operation}
 
 -- a refusal that is this one
 is : (e r : Refused) → e ≡ r → ends_operation r ≡ false → ends_operation e ≡ false
@@ -41,12 +53,6 @@ module _ {K V I : Type 0} (old new : PartitionView K V I) (now : ℕ) (e : Refus
   enters-no : Enters old new now (Err e) → ends_operation e ≡ false
   enters-no (Enters.full a b h) = is e NoSlot (ok-err e _ h) refl
   enters-no (Enters.enters slot a b h) = absurd (cc)
-
-  issues-no : (code : K → ℕ) (slot : ℕ) (op : Op K V I) → Issues code old new slot op now (Err e) → ends_operation e ≡ false
-  issues-no code slot op (Issues.unknown a b h) = is e Unknown (ok-err e _ h) refl
-  issues-no code slot op (Issues.stranger a b c h) = is e (Stranger _ _ _) (ok-err e _ h) refl
-  issues-no code slot op (Issues.full a b c d h) = is e NoContext (ok-err e _ h) refl
-  issues-no code slot op (Issues.issues c a b d f h) = absurd (cc)
 
   leaves-no : (keeps : Bool) (slot : ℕ) → Leaves keeps old new slot now (Err e) → ends_operation e ≡ false
   leaves-no keeps slot (Leaves.unknown a b h) = is e Unknown (ok-err e _ h) refl
@@ -99,6 +105,53 @@ module _ {K V I : Type 0} (old new : PartitionView K V I) (now : ℕ) (e : Refus
   installs-no cmp f code slot c ask (Installs.full x k a q n room b h) = absurd (cc)
   installs-no cmp f code slot c ask (Installs.done x k a q n room free b h) = absurd (cc)
 
+-- the refusals of a compacted partition
+module _ {K V I : Type 0} (old new : CompactedView K V I) (now : ℕ) (e : Refused) where
+  issues-no : (code : K → ℕ) (slot : ℕ) (op : Op K V I) → Issues code old new slot op now (Err e) → ends_operation e ≡ false
+  issues-no code slot op (Issues.unknown a b h) = is e Unknown (ok-err e _ h) refl
+  issues-no code slot op (Issues.stranger a b c h) = is e (Stranger _ _ _) (ok-err e _ h) refl
+  issues-no code slot op (Issues.full a b c d h) = is e NoContext (ok-err e _ h) refl
+  issues-no code slot op (Issues.issues c a b d f h) = absurd (cc)
+
+  leaves_all-no : (keeps : Bool) (slot : ℕ) → LeavesAll keeps old new slot now (Err e) → ends_operation e ≡ false
+  leaves_all-no keeps slot (LeavesAll.busy c x a b h) = is e Busy (ok-err e _ h) refl
+  leaves_all-no keeps slot (LeavesAll.leaves a h b) = leaves-no old.partition new.partition now e keeps slot h
+
+  relocates-no : (slot : ℕ) → Relocates old new slot now (Err e) → ends_operation e ≡ false
+  relocates-no slot (Relocates.unknown a b h) = is e Unknown (ok-err e _ h) refl
+  relocates-no slot (Relocates.not_due a b c h) = is e NotDue (ok-err e _ h) refl
+  relocates-no slot (Relocates.full a b c d h) = is e NoContext (ok-err e _ h) refl
+  relocates-no slot (Relocates.relocates c a b d f h) = absurd (cc)
+
+  truncates-no : (keeps : Bool) (page : ℕ) → Truncates keeps old new page now (Err e) → ends_operation e ≡ false
+  truncates-no keeps page (Truncates.not_due a b h) = is e NotDue (ok-err e _ h) refl
+  truncates-no keeps page (Truncates.truncates a b h) = absurd (cc)
+
+-- the refusals of a relocation leave everything
+module _ {K V I R : Type 0} (old new : CompactedView K V I) (slot c now : ℕ) (e : Refused) where
+  ends-worn : (x : Relocation K V) (entry : Entry K V) (kept : IndexEntry) → Ends {R = R} old new slot c x entry kept now (Err e) → (new ≡ old) × (ends_operation e ≡ false)
+  ends-worn x entry kept (Ends.moved a b h) = absurd (cc)
+  ends-worn x entry kept (Ends.worn a b d h) = (d, is e Worn (ok-err e _ h) refl)
+  ends-worn x entry kept (Ends.full a b d h) = absurd (cc)
+  ends-worn x entry kept (Ends.appends a b d f h) = absurd (cc)
+
+  asks-no : (stands : R → Standing) (asking : CompactedView K V I) (wanted : ℕ) → Asks stands old new asking wanted (Err e) → (new ≡ old) × (ends_operation e ≡ false)
+  asks-no stands asking wanted (Asks.asks r a b h) = absurd (cc)
+  asks-no stands asking wanted (Asks.unshared b h) = (b, is e NoMemory (ok-err e _ h) refl)
+
+  weighs-no : (stands : R → Standing) (cmp : K → K → Ordering) (code : K → ℕ) (x : Relocation K V) (entry : Entry K V) → Weighs stands cmp code old new slot c x entry now (Err e) → (new ≡ old) × (ends_operation e ≡ false)
+  weighs-no stands cmp code x entry (Weighs.dead a b h) = absurd (cc)
+  weighs-no stands cmp code x entry (Weighs.last kept w h) = ends-worn x entry kept h
+  weighs-no stands cmp code x entry (Weighs.further kept b w h) = asks-no stands _ b h
+
+  goes_on-no : (stands : R → Standing) (cmp : K → K → Ordering) (code : K → ℕ) → GoesOn stands cmp code old new slot c now (Err e) → ends_operation e ≡ false
+  goes_on-no stands cmp code (GoesOn.unknown a b h) = is e Unknown (ok-err e _ h) refl
+  goes_on-no stands cmp code (GoesOn.not_ready x a q w b h) = is e NotReady (ok-err e _ h) refl
+  goes_on-no stands cmp code (GoesOn.again x entry kept a b h) = (ends-worn x entry kept h).1
+  goes_on-no stands cmp code (GoesOn.passed x a b lo d h) = absurd (cc)
+  goes_on-no stands cmp code (GoesOn.weighs x entry a b d lo f h) = (weighs-no stands cmp code x entry h).1
+  goes_on-no stands cmp code (GoesOn.reads x a b d lo h) = (asks-no stands _ x.place h).1
+
 -- why a page is not taken in
 strange-no : (o : Option (ℕ × ℕ)) (e : Refused) → option_map (λ d. Stranger Bytes d.0 d.1) o ≡ Some e → ends_operation e ≡ false
 strange-no None e h = absurd (cc)
@@ -125,20 +178,24 @@ spoils-no v now job access e (Spoils.strange s a of (Flushes.refused why r b h))
 spoils-no v now job access e (Spoils.strange s a of (Flushes.unkept r b h)) = is e NoMemory (ok-err e _ h) refl
 spoils-no v now job access e (Spoils.strange s a of (Flushes.keeps r b h)) = absurd (cc)
 
-pub refuses-no : {K V I O R : Type 0} (stands : R → Standing) (entry : ℕ → List ℕ → ℕ → Entry K V → Type 0) (cmp : K → K → Ordering) (f : Meanings K V I O) (code : K → ℕ) (s : StateView K V I O R) (v : PartitionView K V I) (now : ℕ) (e : Refused) (t : Step K V I)
+pub refuses-no : {K V I O R : Type 0} (stands : R → Standing) (entry : ℕ → List ℕ → ℕ → Entry K V → Type 0) (cmp : K → K → Ordering) (f : Meanings K V I O) (code : K → ℕ) (s : StateView K V I O R) (v : CompactedView K V I) (now : ℕ) (e : Refused) (t : Step K V I)
     → Refuses stands entry cmp f code s v now e t → ends_operation e ≡ false
-refuses-no stands entry cmp f code s v now e t (refusing.enter p h) = enters-no v v now e h
-refuses-no stands entry cmp f code s v now e t (refusing.leave p slot h) = leaves-no v v now e true slot h
-refuses-no stands entry cmp f code s v now e t (refusing.refresh p slot h) = refreshes-no v v now e true slot h
-refuses-no stands entry cmp f code s v now e t (refusing.shift p page h) = shifts-no v v now e true page h
-refuses-no stands entry cmp f code s v now e t (refusing.evict p page h) = evicts-no v v now e true page h
+refuses-no stands entry cmp f code s v now e t (refusing.enter p h) = enters-no v.partition v.partition now e h
+refuses-no stands entry cmp f code s v now e t (refusing.leave p slot h) = leaves_all-no v v now e true slot h
+refuses-no stands entry cmp f code s v now e t (refusing.refresh p slot h) = refreshes-no v.partition v.partition now e true slot h
+refuses-no stands entry cmp f code s v now e t (refusing.shift p page h) = shifts-no v.partition v.partition now e true page h
+refuses-no stands entry cmp f code s v now e t (refusing.evict p page h) = evicts-no v.partition v.partition now e true page h
 refuses-no stands entry cmp f code s v now e t (refusing.idle p w h) = is e NotDue h refl
 refuses-no stands entry cmp f code s v now e t (refusing.untaken p w h) = is e NoMemory h refl
 refuses-no stands entry cmp f code s v now e t (refusing.issue p slot op h) = issues-no v v now e code slot op h
-refuses-no stands entry cmp f code s v now e t (refusing.go w h) = goes-no v v now e stands cmp f code w.slot w.context h
-refuses-no stands entry cmp f code s v now e t (refusing.install w ask q h) = installs-no v v now e cmp f code w.slot w.context ask h
-refuses-no stands entry cmp f code s v now e t (refusing.load w access r came a c h n) = n
-refuses-no stands entry cmp f code s v now e t (refusing.give_up w h) = gives_up-no v v now e w.slot w.context h
+refuses-no stands entry cmp f code s v now e t (refusing.go w o h) = goes-no v.partition v.partition now e stands cmp f code w.slot w.context h
+refuses-no stands entry cmp f code s v now e t (refusing.install w ask q h) = installs-no v.partition v.partition now e cmp f code w.slot w.context ask h
+refuses-no stands entry cmp f code s v now e t (refusing.load w access r came o a c h n) = n
+refuses-no stands entry cmp f code s v now e t (refusing.give_up w o h) = gives_up-no v.partition v.partition now e w.slot w.context h
+refuses-no stands entry cmp f code s v now e t (refusing.relocate p slot h) = relocates-no v v now e slot h
+refuses-no stands entry cmp f code s v now e t (refusing.go_on w x o h) = goes_on-no v v w.slot w.context now e stands cmp code h
+refuses-no stands entry cmp f code s v now e t (refusing.load_on w access x r came o a c h n) = n
+refuses-no stands entry cmp f code s v now e t (refusing.truncate p h) = truncates-no v v now e true (page_at v.partition.records.page_bits v.cleared) h
 
 -- what comes in place of a page ends the operation, but for want of memory
 comes-cases : {R : Type 0} (stands : R → Standing) (r : R) (access : Access) (came : Result (Joined R) Refused) (e : Refused) → Comes stands r access came → came ≡ Err e → (e ≡ NoMemory) ⊎ (ends_operation e ≡ true)
@@ -184,3 +241,29 @@ leaves-it e (inr h) n = let k : true ≡ false = sym h.1 ∙ n in absurd (cc)
 pub ends-it : {A B : Type 0} (e : Refused) → (A × (ends_operation e ≡ false)) ⊎ (B × (ends_operation e ≡ true)) → ends_operation e ≡ true → B
 ends-it e (inl h) n = let k : true ≡ false = sym n ∙ h.1 in absurd (cc)
 ends-it e (inr h) n = h.0
+
+-- a refused load of a relocation leaves the partition, or ends the relocation
+pub loads_on-cases : {K V I R : Type 0} (stands : R → Standing) (entry : ℕ → List ℕ → ℕ → Entry K V → Type 0) (cmp : K → K → Ordering) (code : K → ℕ) (old new : CompactedView K V I) (slot c now : ℕ) (r : R) (access : Access) (came : Result (Joined R) Refused) (e : Refused)
+    → Comes stands r access came → LoadsOn stands entry cmp code old new slot c came now (Err e)
+    → ((new ≡ old) × (ends_operation e ≡ false)) ⊎ (IsRelocating true cmp old new slot c now × (ends_operation e ≡ true))
+loads_on-cases {K} {V} {I} {R} stands entry cmp code old new slot c now r access came e comes does = by_rule does
+  where
+    gone : (x : Relocation K V) → relocation_at old slot c ≡ Some x → new ≡ with_relocation old slot c None now → IsRelocating true cmp old new slot c now
+    gone x h to = rw to (relocating-set true cmp old slot c now None (open-here old slot c x h).low)
+
+    by_rule : LoadsOn stands entry cmp code old new slot c came now (Err e) → ((new ≡ old) × (ends_operation e ≡ false)) ⊎ (IsRelocating true cmp old new slot c now × (ends_operation e ≡ true))
+    by_rule (LoadsOn.unknown a b h) = inl (b, is e Unknown (ok-err e _ h) refl)
+    by_rule (LoadsOn.not_ready x a w b h) = inl (b, is e NotReady (ok-err e _ h) refl)
+    by_rule (LoadsOn.moved x a p q n b h) = absurd (cc)
+    by_rule (LoadsOn.failed x wanted why a k n b h) =
+        let w : e ≡ why = ok-err e why h in
+        inr (gone x a.here b, elim (comes-cases stands r access came why comes k) [ inl m ↦ absurd (n m) | inr t ↦ ap ends_operation w ∙ t ])
+    by_rule (LoadsOn.unread x wanted a k b h) = inl (b, is e NoMemory (ok-err e _ h) refl)
+    by_rule (LoadsOn.stranger x wanted p s a k at n b h) = inl (b, is e (Stranger _ _ _) (ok-err e _ h) refl)
+    by_rule (LoadsOn.weighs x begin p entry a has k spells h) = inl (weighs-no old new slot c now e stands cmp code x entry h)
+    by_rule (LoadsOn.damaged x begin p a has k spells b h) = inr (gone x has.awaits.here b, ap ends_operation (ok-err e _ h))
+    by_rule (LoadsOn.newer x entry l p q a has k traces dead b h) = absurd (cc)
+    by_rule (LoadsOn.ends x entry l p q a has k traces last h) = inl (ends-worn old new slot c now e x entry l.kept h)
+    by_rule (LoadsOn.further x entry l p b a has k traces above place h) = inl (asks-no old new slot c now e stands _ b h)
+    by_rule (LoadsOn.lost x entry l p why a has k traces b h) = inr (gone x has.awaits.here b, ap ends_operation (ok-err e _ h))
+    by_rule (LoadsOn.astray x entry l p b a has k traces above place to h) = inr (gone x has.awaits.here to, ap ends_operation (ok-err e _ h))

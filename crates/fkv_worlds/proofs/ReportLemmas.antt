@@ -18,8 +18,8 @@ use Rattle.fkv_functions.specs.declared.refusals.Refused.{Refused}
 use Rattle.fkv_partition.specs.Views.{PartitionView, live_of, partition_of}
 use Rattle.fkv_device.specs.Standing.{Standing}
 use Rattle.fkv_texts.specs.declared.entries.Entry.{Entry}
-use Rattle.fkv_worlds.specs.declared.outcomes.Outcome.{Outcome}
-use Rattle.fkv_worlds.specs.declared.steps.Step.{Step}
+use Rattle.fkv_lives.specs.declared.outcomes.Outcome.{Outcome}
+use Rattle.fkv_lives.specs.declared.steps.Step.{Step}
 use Rattle.fkv_worlds.specs.States.{WorldView}
 use Rattle.fkv_worlds.specs.Worlds.{live_at, world_live}
 use Rattle.fkv_worlds.specs.Reports.{with_all, IsKept, RunsTo}

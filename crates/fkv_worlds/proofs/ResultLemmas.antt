@@ -24,3 +24,11 @@ some_not_none (Some x) h = refl
 pub not_some_none : {A : Type 0} (o : Option A) → is_some o ≡ false → is_none o ≡ true
 not_some_none None h = refl
 not_some_none (Some x) h = absurd (cc)
+
+pub none_is : {A : Type 0} (o : Option A) → is_some o ≡ false → o ≡ None
+none_is None h = refl
+none_is (Some x) h = absurd (cc)
+
+pub some_is : {A : Type 0} (o : Option A) → is_some o ≡ true → (x : A) × (o ≡ Some x)
+some_is None h = absurd (cc)
+some_is (Some x) h = (x, refl)

@@ -16,18 +16,18 @@ use Rattle.fkv_operations.specs.declared.operations.Op.TheVariants.{Read}
 use Rattle.fkv_partition.specs.Effect.{Asked, asked, asked_by, LeavesOthers, IsQuiet, IsIssue}
 use Rattle.fkv_partition.specs.Pending.{Pending, pending, OthersPend, AllPend, IsAsking}
 use Rattle.fkv_functions.proofs.ListLemmas.{get-set_cases, get-append_last}
-use Rattle.fkv_worlds.specs.declared.lives.Life.{Life}
-use Rattle.fkv_worlds.specs.declared.lives.End.{End}
-use Rattle.fkv_worlds.specs.declared.lives.End.TheVariants.{Open, Finished}
-use Rattle.fkv_worlds.specs.declared.lives.Finish.{Finish}
-use Rattle.fkv_worlds.specs.Lives.{finish_of, finish_in, map_before}
-use Rattle.fkv_worlds.specs.Changes.{ended_at}
-use Rattle.fkv_worlds.specs.declared.steps.Place.{Place}
+use Rattle.fkv_lives.specs.declared.lives.Life.{Life}
+use Rattle.fkv_lives.specs.declared.lives.End.{End}
+use Rattle.fkv_lives.specs.declared.lives.End.TheVariants.{Open, Finished}
+use Rattle.fkv_lives.specs.declared.lives.Finish.{Finish}
+use Rattle.fkv_lives.specs.Lives.{finish_of, finish_in, map_before}
+use Rattle.fkv_lives.specs.Changes.{ended_at}
+use Rattle.fkv_lives.specs.declared.steps.Place.{Place}
 use Rattle.fkv_worlds.specs.Worlds.{world_live, asked_in, pending_in, IsOpenLife, IsLinked, IsHoused, IsHeld, IsWorld}
 use Rattle.fkv_worlds.proofs.LivesLemmas.{append_cases, append_old, ended_cases, ended_other}
 use Rattle.fkv_worlds.proofs.PlacedLemmas.{placed-quiet, map-quiet, same_append, placed-append, map-append, same_ended, placed-ended, map-ended, same_now, placed-now, map-now, same_before, placed-before, map-before}
 use Rattle.fkv_worlds.proofs.ManyLemmas.{live-here, live-quiet, live-after, answer-here, asked-here, asked-was, asked-others, asked-all}
-use Rattle.fkv_worlds.proofs.HeldLemmas.{same_where, closed-none, waiting-at, pend-here, pend-was, pend-others, pend-all, pend-same, pend-rest, held-on, held-same, held-sub, held-more}
+use Rattle.fkv_worlds.proofs.HeldLemmas.{same_where, closed-none, waiting-at, pend-here, pend-was, pend-others, pend-all, pend-sub, pend-same, pend-rest, held-on, held-same, held-sub, held-more}
 
 -- a life that stands in a longer list, or beside one that ends
 open-append : {K V I O : Type 0} (lives : List (Life K V I O)) (y : Life K V I O) (j : ℕ) (x : Asked K V I) → IsOpenLife lives j x → IsOpenLife (lives ++ y ∷ []) j x
@@ -91,6 +91,13 @@ module _ {K V I O : Type 0} (cmp : K → K → Ordering) (o : IsKeyOrder cmp) (f
   world-silent p old new here ev pends =
       world-quiet p old new here ev.number ev.count ev.moment (λ k. ap (λ t. live cmp t k) (ev.text refl)) (asked-all views p old new here ev.same)
       (held-same cmp f views life_at lives now world.held (slice_set views p new) next (omega arith) (pend-all cmp views p old new here pends))
+
+  -- a relocation goes on, or the log's start is cut: each look-up that still waits waited before
+  pub world-kept : (p : ℕ) (old new : PartitionView K V I) → slice_get views p ≡ Some old → new.number ≡ old.number → new.count ≡ old.count → new.moment ≡ next → ((s d : ℕ) → asked new s d ≡ asked old s d) → Same (live_of cmp new) (live_of cmp old)
+      → ((s d : ℕ) (q : Pending V) → pending cmp new s d ≡ Some q → pending cmp old s d ≡ Some q) → IsWorld cmp f code (slice_set views p new) life_at lives next
+  world-kept p old new here number count moment same map sub =
+      world-quiet p old new here number count moment map (asked-all views p old new here same)
+      (held-sub cmp f views life_at lives now world.held (slice_set views p new) next (omega arith) (pend-sub cmp views p old new here sub))
 
   -- an operation is issued: one more life, at the end
   module _ (p : ℕ) (old new : PartitionView K V I) (slot c : ℕ) (op : Op K V I) (here : slice_get views p ≡ Some old) (ev : IsIssue code old new slot c op next) (pends : AllPend cmp old new) (begun : Life K V I O) (is : begun.op ≡ op) (at : begun.issue ≡ next) (unended : begun.end ≡ Open)

@@ -6,8 +6,8 @@ use Rattle.fkv_device.specs.Standing.{Standing, Joined}
 use Rattle.fkv_device.specs.declared.messages.FlushJob.{FlushJob}
 use Rattle.fkv_partition.specs.Flushing.{Flushes}
 use Rattle.fkv_partition.specs.Views.{PartitionView}
-use Rattle.fkv_worlds.specs.declared.steps.Access.{Access}
-use Rattle.fkv_worlds.specs.declared.steps.Access.TheVariants.{Works, Fails}
+use Rattle.fkv_lives.specs.declared.steps.Access.{Access}
+use Rattle.fkv_lives.specs.declared.steps.Access.TheVariants.{Works, Fails}
 
 -- a receipt stands for a page that was taken: it has the page's number, and its bytes
 pub record IsReceiptOf (job : FlushJob) (s : Standing) : Type 0 where

@@ -1,16 +1,9 @@
-pub mod Lives
-pub mod Placed
-pub mod OutcomeTexts
-pub mod Changes
-pub mod WrongLives
 pub mod States
 pub mod Moments
 pub mod Devices
 pub mod Refusing
 pub mod Acts
 pub mod Worlds
-pub mod Told
 pub mod Headline
 pub mod Sound
-pub mod Histories
 pub mod Reports

@@ -1,5 +1,5 @@
 -- What a world reports, and a list of steps done in turn.
-use Rattle.std.specs.Prelude.{◌≡◌, ℕ, zero, suc, Bool, false, cond, is_some, slice_get, List, [], ◌∷◌, ◌++◌, Option, Some, None, Result, Ok, Err, map, unwrap_or}
+use Rattle.std.specs.Prelude.{◌≡◌, ◌||◌, ℕ, zero, suc, Bool, false, cond, is_some, slice_get, List, [], ◌∷◌, ◌++◌, Option, Some, None, Result, Ok, Err, map, unwrap_or}
 use Rattle.std.specs.declared.cmp.Ordering.{Ordering}
 use Rattle.std.specs.BTreeMap.{is_at}
 use Rattle.std.specs.Map.{lookup, keys_of}
@@ -10,21 +10,23 @@ use Rattle.fkv_functions.specs.declared.refusals.Refused.{Refused}
 use Rattle.fkv_functions.specs.declared.refusals.Refused.TheVariants.{Stalled, NoMemory}
 use Rattle.fkv_texts.specs.declared.entries.Entry.{Entry}
 use Rattle.fkv_device.specs.Standing.{Standing}
-use Rattle.fkv_partition.specs.Views.{PartitionView, loading_at}
+use Rattle.fkv_partition.specs.Views.{loading_at}
 use Rattle.fkv_partition.specs.declared.limits.Config.{Config}
-use Rattle.fkv_worlds.specs.declared.lives.Life.{Life}
-use Rattle.fkv_worlds.specs.declared.outcomes.Outcome.{Outcome}
-use Rattle.fkv_worlds.specs.declared.outcomes.Outcome.TheVariants.{Entered, Left, Refreshed, Shifted, Taken, Flushed, Issued, Next, Build, Load, Waits, Done, GivenUp}
-use Rattle.fkv_worlds.specs.declared.steps.Place.{Place}
-use Rattle.fkv_worlds.specs.declared.steps.Step.{Step}
-use Rattle.fkv_worlds.specs.declared.steps.Access.TheVariants.{Works}
-use Rattle.fkv_worlds.specs.declared.steps.Step.TheVariants as step
+use Rattle.fkv_compaction.specs.Views.{CompactedView, relocation_at}
+use Rattle.fkv_compaction.specs.Going.{is_awaiting}
+use Rattle.fkv_lives.specs.declared.lives.Life.{Life}
+use Rattle.fkv_lives.specs.declared.outcomes.Outcome.{Outcome}
+use Rattle.fkv_lives.specs.declared.outcomes.Outcome.TheVariants.{Entered, Left, Refreshed, Shifted, Taken, Flushed, Issued, Relocating, Next, Build, Load, Waits, Done, Cleared, GivenUp, Truncated}
+use Rattle.fkv_lives.specs.declared.steps.Place.{Place}
+use Rattle.fkv_lives.specs.declared.steps.Step.{Step}
+use Rattle.fkv_lives.specs.declared.steps.Access.TheVariants.{Works}
+use Rattle.fkv_lives.specs.declared.steps.Step.TheVariants as step
 use Rattle.fkv_worlds.specs.declared.pursuits.Pursuit.{Pursuit}
 use Rattle.fkv_worlds.specs.declared.pursuits.Pursuit.TheVariants.{Ready, Finish}
-use Rattle.fkv_worlds.specs.States.{WorldView, empty_world}
+use Rattle.fkv_worlds.specs.States.{WorldView, bare, empty_world}
 use Rattle.fkv_worlds.specs.Worlds.{world_live}
 use Rattle.fkv_worlds.specs.Acts.{Acts}
-use Rattle.fkv_worlds.specs.Histories.{backwards, issues_in, issue_of}
+use Rattle.fkv_lives.specs.Histories.{backwards, issues_in, issue_of}
 use Rattle.fkv_worlds.specs.Headline.{IsHeadline}
 
 -- the map with all these pairs, one after the other
@@ -37,7 +39,7 @@ pub record IsReport {K V I O R : Type 0} (cmp : K → K → Ordering) (code : K 
     (told : List (Result (Outcome V O) Refused)) (lived : List (Life K V I O)) (pairs : List (K × V)) : Type 0 where
   pub outcomes : told ≡ w.outcomes
   pub lives : lived ≡ w.state.lives
-  pub map : (k : K) → lookup (is_at (cmp k)) pairs ≡ world_live cmp code w.state.partitions k
+  pub map : (k : K) → lookup (is_at (cmp k)) pairs ≡ world_live cmp code (bare w.state.partitions) k
   pub rising : IsStrictlySortedBy cmp (keys_of pairs)
 
 -- a step that was done, or refused, and kept
@@ -78,6 +80,7 @@ step_after pursuit place Shifted = None
 step_after pursuit place (Taken page) = None
 step_after pursuit place (Flushed page) = None
 step_after pursuit place (Issued context) = None
+step_after pursuit place (Relocating context) = None
 step_after pursuit place Next = Some (step.Go place)
 step_after Ready place (Build source) = None
 step_after Finish place (Build source) = Some (step.Install place)
@@ -85,18 +88,21 @@ step_after Ready place (Load address) = None
 step_after Finish place (Load address) = Some (step.Load place Works)
 step_after pursuit place (Waits why) = None
 step_after pursuit place (Done a) = None
+step_after pursuit place Cleared = None
 step_after pursuit place GivenUp = None
+step_after pursuit place (Truncated begin) = None
 
 abbrev pub follows : {K V I O : Type 0} → Pursuit → Place → Result (Outcome V O) Refused → Option (Step K V I)
 follows pursuit place (Ok x) = step_after pursuit place x
 follows pursuit place (Err e) = None
 
--- the step that a pursuit begins with: `finish` begins with the load, where the operation waits for a page
-abbrev pub awaits_at : {K V I : Type 0} → Option (PartitionView K V I) → ℕ → ℕ → Bool
+-- the step that a pursuit begins with: `finish` begins with the load, where the operation or the relocation waits for a
+-- page
+abbrev pub awaits_at : {K V I : Type 0} → Option (CompactedView K V I) → ℕ → ℕ → Bool
 awaits_at None slot c = false
-awaits_at (Some v) slot c = is_some (loading_at v slot c)
+awaits_at (Some v) slot c = is_some (loading_at v.partition slot c) || is_awaiting (relocation_at v slot c)
 
-abbrev pub first_step : {K V I : Type 0} → List (PartitionView K V I) → Pursuit → Place → Step K V I
+abbrev pub first_step : {K V I : Type 0} → List (CompactedView K V I) → Pursuit → Place → Step K V I
 first_step views Ready place = step.Go place
 first_step views Finish place =
     cond (awaits_at (slice_get views place.partition) place.slot place.context) (step.Load place Works) (step.Go place)

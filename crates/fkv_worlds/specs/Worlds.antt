@@ -7,12 +7,12 @@ use Rattle.fkv_operations.specs.After.{key_of}
 use Rattle.fkv_partition.specs.Views.{PartitionView, live_of, partition_of}
 use Rattle.fkv_partition.specs.Effect.{Asked, asked}
 use Rattle.fkv_partition.specs.Pending.{Pending, pending}
-use Rattle.fkv_worlds.specs.declared.lives.Finish.{Finish}
-use Rattle.fkv_worlds.specs.declared.lives.Life.{Life}
-use Rattle.fkv_worlds.specs.declared.steps.Place.{Place}
-use Rattle.fkv_worlds.specs.declared.lives.End.TheVariants.{Open}
-use Rattle.fkv_worlds.specs.Lives.{finish_of, map_before}
-use Rattle.fkv_worlds.specs.Placed.{IsPlaced}
+use Rattle.fkv_lives.specs.declared.lives.Finish.{Finish}
+use Rattle.fkv_lives.specs.declared.lives.Life.{Life}
+use Rattle.fkv_lives.specs.declared.steps.Place.{Place}
+use Rattle.fkv_lives.specs.declared.lives.End.TheVariants.{Open}
+use Rattle.fkv_lives.specs.Lives.{finish_of, map_before}
+use Rattle.fkv_lives.specs.Placed.{IsPlaced}
 
 -- the live map of the partition at a place; empty where there is none
 abbrev pub live_at : {K V I : Type 0} → (K → K → Ordering) → Option (PartitionView K V I) → PlainMap K V

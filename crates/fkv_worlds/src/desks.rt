@@ -2,12 +2,12 @@
 ghost use Rattle.std.specs.Prelude.{◌≡◌, Some, None, IsSome, IfOk, IfErr};
 ghost use Rattle.fkv_worlds.specs.Devices.{IsReceiptOf, Comes, Unwritten};
 
-use crate::steps::Access;
 use fkv_device::{
     Disk, FlushJob, Loaded, MemoryDevice, MemoryReader, MemoryReceipt, MemoryWriter, Receipt,
     Written,
 };
 use fkv_functions::Refused;
+use fkv_lives::steps::Access;
 use std::alloc::Global;
 
 /// Where the pages of a partition are written.

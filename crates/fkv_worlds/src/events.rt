@@ -1,10 +1,11 @@
-//! The events of a partition over a device that keeps, each with what it leaves the look-ups to find that wait for a page.
-//! They do what the calls of [`Partition`] of the same names do, and are refused as these are.
+//! The events of operations, sessions and pages in a compacted partition over a device that keeps, each with what it leaves
+//! the look-ups to find that wait for a page. They do what the calls of [`Compacted`] of the same names do, and are refused as
+//! these are.
 ghost use Rattle.std.specs.Prelude.{◌≡◌, ◌<◌, ◌≤◌, ◌⊎◌, true, Ok, OnOk, OnErr, IfOk, IfErr};
 ghost use Rattle.fkv_device.specs.Standing.{Joined};
 ghost use Rattle.fkv_pages.specs.Spelled.{IsEntryIn};
-ghost use Rattle.fkv_partition.specs.Beginning.{Enters, Issues};
-ghost use Rattle.fkv_partition.specs.Ending.{Leaves, GivesUp};
+ghost use Rattle.fkv_partition.specs.Beginning.{Enters};
+ghost use Rattle.fkv_partition.specs.Ending.{GivesUp};
 ghost use Rattle.fkv_partition.specs.Flushing.{Flushes};
 ghost use Rattle.fkv_partition.specs.Going.{Goes};
 ghost use Rattle.fkv_partition.specs.Installing.{Installs};
@@ -12,25 +13,29 @@ ghost use Rattle.fkv_partition.specs.Loading.{Loads};
 ghost use Rattle.fkv_partition.specs.Looking.{Refreshes, Shifts, Evicts};
 ghost use Rattle.fkv_partition.specs.Effect.{IsQuiet, IsIssue, IsEvent, IsGiveUp};
 ghost use Rattle.fkv_partition.specs.Pending.{AllPend, OthersPend, Finds, IsLoad};
+ghost use Rattle.fkv_compaction.specs.Beginning.{Issues, LeavesAll};
+ghost use Rattle.fkv_worlds.specs.States.{IsPassedOn};
 
+use fkv_compaction::Compacted;
 use fkv_device::{Loaded, MemoryDevice, MemoryReceipt, Receipt, Written};
 use fkv_functions::{Built, Functions, Refused};
 use fkv_operations::OpOf;
+use fkv_partition::ProgressOf;
 use fkv_partition::laws::{loads_end, pendings_stay};
-use fkv_partition::{Partition, ProgressOf};
 
 /// A session enters.
 pub fn enter<F: Functions>(
-    partition: &mut Partition<F, MemoryDevice>,
+    partition: &mut Compacted<F, MemoryDevice>,
     now: u64,
 ) -> Result<usize, Refused>
-    requires later { partition.old.moment < now }
-    ensures does { Enters partition.old partition.new now result }
-    ensures event { IfOk result (λ _. IsQuiet true partition.old partition.new now) }
-    ensures pends { AllPend F.Key.cmp partition.old partition.new }
+    requires later { partition.old.partition.moment < now }
+    ensures does { Enters partition.old.partition partition.new.partition now result }
+    ensures passed { IsPassedOn partition.old partition.new }
+    ensures event { IfOk result (λ _. IsQuiet true partition.old.partition partition.new.partition now) }
+    ensures pends { AllPend F.Key.cmp partition.old.partition partition.new.partition }
     ensures within { IfOk result (λ slot. slot < 16) }
     ensures err { OnErr result (partition.new ≡ partition.old) }
-    ensures moment { partition.new.moment ≤ now }
+    ensures moment { partition.new.partition.moment ≤ now }
 {
     pendings_stay::<F::Key, F::Value, F::Input, F::Output, MemoryReceipt>();
     partition.known();
@@ -39,16 +44,16 @@ pub fn enter<F: Functions>(
 
 /// A session leaves.
 pub fn leave<F: Functions>(
-    partition: &mut Partition<F, MemoryDevice>,
+    partition: &mut Compacted<F, MemoryDevice>,
     slot: usize,
     now: u64,
 ) -> Result<(), Refused>
-    requires later { partition.old.moment < now }
-    ensures does { Leaves true partition.old partition.new slot now result }
-    ensures event { OnOk result (IsQuiet true partition.old partition.new now) }
-    ensures pends { AllPend F.Key.cmp partition.old partition.new }
+    requires later { partition.old.partition.moment < now }
+    ensures does { LeavesAll true partition.old partition.new slot now result }
+    ensures event { OnOk result (IsQuiet true partition.old.partition partition.new.partition now) }
+    ensures pends { AllPend F.Key.cmp partition.old.partition partition.new.partition }
     ensures err { OnErr result (partition.new ≡ partition.old) }
-    ensures moment { partition.new.moment ≤ now }
+    ensures moment { partition.new.partition.moment ≤ now }
 {
     pendings_stay::<F::Key, F::Value, F::Input, F::Output, MemoryReceipt>();
     partition.known();
@@ -57,16 +62,17 @@ pub fn leave<F: Functions>(
 
 /// A session looks at the regions anew.
 pub fn refresh<F: Functions>(
-    partition: &mut Partition<F, MemoryDevice>,
+    partition: &mut Compacted<F, MemoryDevice>,
     slot: usize,
     now: u64,
 ) -> Result<(), Refused>
-    requires later { partition.old.moment < now }
-    ensures does { Refreshes true partition.old partition.new slot now result }
-    ensures event { OnOk result (IsQuiet true partition.old partition.new now) }
-    ensures pends { AllPend F.Key.cmp partition.old partition.new }
+    requires later { partition.old.partition.moment < now }
+    ensures does { Refreshes true partition.old.partition partition.new.partition slot now result }
+    ensures passed { IsPassedOn partition.old partition.new }
+    ensures event { OnOk result (IsQuiet true partition.old.partition partition.new.partition now) }
+    ensures pends { AllPend F.Key.cmp partition.old.partition partition.new.partition }
     ensures err { OnErr result (partition.new ≡ partition.old) }
-    ensures moment { partition.new.moment ≤ now }
+    ensures moment { partition.new.partition.moment ≤ now }
 {
     pendings_stay::<F::Key, F::Value, F::Input, F::Output, MemoryReceipt>();
     partition.known();
@@ -75,16 +81,17 @@ pub fn refresh<F: Functions>(
 
 /// The read-only offset moves.
 pub fn shift_read_only<F: Functions>(
-    partition: &mut Partition<F, MemoryDevice>,
+    partition: &mut Compacted<F, MemoryDevice>,
     page: u64,
     now: u64,
 ) -> Result<(), Refused>
-    requires later { partition.old.moment < now }
-    ensures does { Shifts true partition.old partition.new page now result }
-    ensures event { OnOk result (IsQuiet true partition.old partition.new now) }
-    ensures pends { AllPend F.Key.cmp partition.old partition.new }
+    requires later { partition.old.partition.moment < now }
+    ensures does { Shifts true partition.old.partition partition.new.partition page now result }
+    ensures passed { IsPassedOn partition.old partition.new }
+    ensures event { OnOk result (IsQuiet true partition.old.partition partition.new.partition now) }
+    ensures pends { AllPend F.Key.cmp partition.old.partition partition.new.partition }
     ensures err { OnErr result (partition.new ≡ partition.old) }
-    ensures moment { partition.new.moment ≤ now }
+    ensures moment { partition.new.partition.moment ≤ now }
 {
     pendings_stay::<F::Key, F::Value, F::Input, F::Output, MemoryReceipt>();
     partition.known();
@@ -93,16 +100,17 @@ pub fn shift_read_only<F: Functions>(
 
 /// Head moves.
 pub fn shift_head<F: Functions>(
-    partition: &mut Partition<F, MemoryDevice>,
+    partition: &mut Compacted<F, MemoryDevice>,
     page: u64,
     now: u64,
 ) -> Result<(), Refused>
-    requires later { partition.old.moment < now }
-    ensures does { Evicts true partition.old partition.new page now result }
-    ensures event { OnOk result (IsQuiet true partition.old partition.new now) }
-    ensures pends { AllPend F.Key.cmp partition.old partition.new }
+    requires later { partition.old.partition.moment < now }
+    ensures does { Evicts true partition.old.partition partition.new.partition page now result }
+    ensures passed { IsPassedOn partition.old partition.new }
+    ensures event { OnOk result (IsQuiet true partition.old.partition partition.new.partition now) }
+    ensures pends { AllPend F.Key.cmp partition.old.partition partition.new.partition }
     ensures err { OnErr result (partition.new ≡ partition.old) }
-    ensures moment { partition.new.moment ≤ now }
+    ensures moment { partition.new.partition.moment ≤ now }
 {
     pendings_stay::<F::Key, F::Value, F::Input, F::Output, MemoryReceipt>();
     partition.known();
@@ -111,16 +119,17 @@ pub fn shift_head<F: Functions>(
 
 /// A page that was written is flushed.
 pub fn flush_done<F: Functions>(
-    partition: &mut Partition<F, MemoryDevice>,
+    partition: &mut Compacted<F, MemoryDevice>,
     written: Written<MemoryDevice>,
     now: u64,
 ) -> Result<(), Refused>
-    requires later { partition.old.moment < now }
-    ensures does { Flushes partition.old partition.new (⟦<MemoryReceipt as Receipt>⟧.stands written.receipt) written.bytes now result }
-    ensures event { OnOk result (IsQuiet true partition.old partition.new now) }
-    ensures pends { AllPend F.Key.cmp partition.old partition.new }
+    requires later { partition.old.partition.moment < now }
+    ensures does { Flushes partition.old.partition partition.new.partition (⟦<MemoryReceipt as Receipt>⟧.stands written.receipt) written.bytes now result }
+    ensures passed { IsPassedOn partition.old partition.new }
+    ensures event { OnOk result (IsQuiet true partition.old.partition partition.new.partition now) }
+    ensures pends { AllPend F.Key.cmp partition.old.partition partition.new.partition }
     ensures err { OnErr result (partition.new ≡ partition.old) }
-    ensures moment { partition.new.moment ≤ now }
+    ensures moment { partition.new.partition.moment ≤ now }
 {
     pendings_stay::<F::Key, F::Value, F::Input, F::Output, MemoryReceipt>();
     partition.known();
@@ -129,19 +138,19 @@ pub fn flush_done<F: Functions>(
 
 /// An operation is issued.
 pub fn issue<F: Functions>(
-    partition: &mut Partition<F, MemoryDevice>,
+    partition: &mut Compacted<F, MemoryDevice>,
     slot: usize,
     op: OpOf<F>,
     functions: &F,
     now: u64,
 ) -> Result<usize, Refused>
-    requires later { partition.old.moment < now }
+    requires later { partition.old.partition.moment < now }
     ensures does { Issues F.code partition.old partition.new slot op now result }
-    ensures event { IfOk result (λ context. IsIssue F.code partition.old partition.new slot context op now) }
-    ensures pends { AllPend F.Key.cmp partition.old partition.new }
+    ensures event { IfOk result (λ context. IsIssue F.code partition.old.partition partition.new.partition slot context op now) }
+    ensures pends { AllPend F.Key.cmp partition.old.partition partition.new.partition }
     ensures within { IfOk result (λ context. (slot < 16) × (context < 8)) }
     ensures err { OnErr result (partition.new ≡ partition.old) }
-    ensures moment { partition.new.moment ≤ now }
+    ensures moment { partition.new.partition.moment ≤ now }
 {
     pendings_stay::<F::Key, F::Value, F::Input, F::Output, MemoryReceipt>();
     partition.issue(slot, op, functions, now)
@@ -149,21 +158,22 @@ pub fn issue<F: Functions>(
 
 /// An operation goes on.
 pub fn go<F: Functions>(
-    partition: &mut Partition<F, MemoryDevice>,
+    partition: &mut Compacted<F, MemoryDevice>,
     slot: usize,
     context: usize,
     functions: &F,
     now: u64,
 ) -> Result<ProgressOf<F, MemoryDevice>, Refused>
-    requires later { partition.old.moment < now }
-    ensures does { Goes ⟦<MemoryReceipt as Receipt>⟧.stands F.Key.cmp F.meaning F.code partition.old partition.new slot context now
+    requires later { partition.old.partition.moment < now }
+    ensures does { Goes ⟦<MemoryReceipt as Receipt>⟧.stands F.Key.cmp F.meaning F.code partition.old.partition partition.new.partition slot context now
         result }
-    ensures event { IfOk result (IsEvent F.Key.cmp F.meaning partition.old partition.new slot context now) }
-    ensures others { OthersPend F.Key.cmp partition.old partition.new slot context }
-    ensures finds { IfOk result (Finds F.Key.cmp partition.old partition.new slot context now) }
+    ensures passed { IsPassedOn partition.old partition.new }
+    ensures event { IfOk result (IsEvent F.Key.cmp F.meaning partition.old.partition partition.new.partition slot context now) }
+    ensures others { OthersPend F.Key.cmp partition.old.partition partition.new.partition slot context }
+    ensures finds { IfOk result (Finds F.Key.cmp partition.old.partition partition.new.partition slot context now) }
     ensures within { IfOk result (λ _. (slot < 16) × (context < 8)) }
     ensures err { OnErr result (partition.new ≡ partition.old) }
-    ensures moment { partition.new.moment ≤ now }
+    ensures moment { partition.new.partition.moment ≤ now }
 {
     pendings_stay::<F::Key, F::Value, F::Input, F::Output, MemoryReceipt>();
     partition.known();
@@ -172,21 +182,22 @@ pub fn go<F: Functions>(
 
 /// What an operation asked for is installed.
 pub fn install<F: Functions>(
-    partition: &mut Partition<F, MemoryDevice>,
+    partition: &mut Compacted<F, MemoryDevice>,
     slot: usize,
     context: usize,
     built: Built<F>,
     functions: &F,
     now: u64,
 ) -> Result<ProgressOf<F, MemoryDevice>, Refused>
-    requires later { partition.old.moment < now }
-    ensures does { Installs F.Key.cmp F.meaning F.code partition.old partition.new slot context built now result }
-    ensures event { IfOk result (IsEvent F.Key.cmp F.meaning partition.old partition.new slot context now) }
-    ensures others { OthersPend F.Key.cmp partition.old partition.new slot context }
-    ensures finds { IfOk result (Finds F.Key.cmp partition.old partition.new slot context now) }
+    requires later { partition.old.partition.moment < now }
+    ensures does { Installs F.Key.cmp F.meaning F.code partition.old.partition partition.new.partition slot context built now result }
+    ensures passed { IsPassedOn partition.old partition.new }
+    ensures event { IfOk result (IsEvent F.Key.cmp F.meaning partition.old.partition partition.new.partition slot context now) }
+    ensures others { OthersPend F.Key.cmp partition.old.partition partition.new.partition slot context }
+    ensures finds { IfOk result (Finds F.Key.cmp partition.old.partition partition.new.partition slot context now) }
     ensures within { IfOk result (λ _. (slot < 16) × (context < 8)) }
     ensures err { OnErr result (partition.new ≡ partition.old) }
-    ensures moment { partition.new.moment ≤ now }
+    ensures moment { partition.new.partition.moment ≤ now }
 {
     pendings_stay::<F::Key, F::Value, F::Input, F::Output, MemoryReceipt>();
     partition.known();
@@ -195,22 +206,23 @@ pub fn install<F: Functions>(
 
 /// A page came for an operation, or a refusal in its place.
 pub fn load<F: Functions>(
-    partition: &mut Partition<F, MemoryDevice>,
+    partition: &mut Compacted<F, MemoryDevice>,
     slot: usize,
     context: usize,
     came: Result<Loaded<MemoryDevice>, Refused>,
     functions: &F,
     now: u64,
 ) -> Result<ProgressOf<F, MemoryDevice>, Refused>
-    requires later { partition.old.moment < now }
+    requires later { partition.old.partition.moment < now }
     ensures does { Loads ⟦<MemoryReceipt as Receipt>⟧.stands (IsEntryIn F.Key.bytes_of F.Value.bytes_of F.Key.is_known F.Value.is_known
-        F.Key.SIZE F.Value.SIZE) F.Key.cmp F.meaning partition.old partition.new slot context came now result }
-    ensures event { IfOk result (IsLoad F.Key.cmp F.meaning partition.old partition.new slot context now) }
+        F.Key.SIZE F.Value.SIZE) F.Key.cmp F.meaning partition.old.partition partition.new.partition slot context came now result }
+    ensures passed { IsPassedOn partition.old partition.new }
+    ensures event { IfOk result (IsLoad F.Key.cmp F.meaning partition.old.partition partition.new.partition slot context now) }
     ensures fails { IfErr result
-        (λ _. (partition.new ≡ partition.old) ⊎ IsGiveUp partition.old partition.new slot context now) }
-    ensures others { OthersPend F.Key.cmp partition.old partition.new slot context }
+        (λ _. (partition.new.partition ≡ partition.old.partition) ⊎ IsGiveUp partition.old.partition partition.new.partition slot context now) }
+    ensures others { OthersPend F.Key.cmp partition.old.partition partition.new.partition slot context }
     ensures within { IfOk result (λ _. (slot < 16) × (context < 8)) }
-    ensures moment { partition.new.moment ≤ now }
+    ensures moment { partition.new.partition.moment ≤ now }
 {
     loads_end::<F, MemoryDevice>();
     partition.load(slot, context, came, functions, now)
@@ -218,18 +230,19 @@ pub fn load<F: Functions>(
 
 /// An operation is given up.
 pub fn give_up<F: Functions>(
-    partition: &mut Partition<F, MemoryDevice>,
+    partition: &mut Compacted<F, MemoryDevice>,
     slot: usize,
     context: usize,
     now: u64,
 ) -> Result<(), Refused>
-    requires later { partition.old.moment < now }
-    ensures does { GivesUp partition.old partition.new slot context now result }
-    ensures event { OnOk result (IsGiveUp partition.old partition.new slot context now) }
-    ensures others { OthersPend F.Key.cmp partition.old partition.new slot context }
+    requires later { partition.old.partition.moment < now }
+    ensures does { GivesUp partition.old.partition partition.new.partition slot context now result }
+    ensures passed { IsPassedOn partition.old partition.new }
+    ensures event { OnOk result (IsGiveUp partition.old.partition partition.new.partition slot context now) }
+    ensures others { OthersPend F.Key.cmp partition.old.partition partition.new.partition slot context }
     ensures within { OnOk result ((slot < 16) × (context < 8)) }
     ensures err { OnErr result (partition.new ≡ partition.old) }
-    ensures moment { partition.new.moment ≤ now }
+    ensures moment { partition.new.partition.moment ≤ now }
 {
     pendings_stay::<F::Key, F::Value, F::Input, F::Output, MemoryReceipt>();
     partition.give_up(slot, context, now)

@@ -1,26 +1,26 @@
 //! The steps that reach the device: a page is taken, written and read.
-ghost use Rattle.std.specs.Prelude.{◌≡◌, ◌+◌, ◌*◌, ◌<◌, ◌≤◌, false, length, Some, IsSome};
+ghost use Rattle.std.specs.Prelude.{◌≡◌, ◌+◌, ◌*◌, ◌<◌, ◌≤◌, false, length, Some, None, IsSome};
 ghost use Rattle.fkv_pages.specs.Spelled.{IsEntryIn};
-ghost use Rattle.fkv_worlds.specs.States.{receipt_in, is_unasked};
-ghost use Rattle.fkv_worlds.specs.Told.{ends_operation};
+ghost use Rattle.fkv_worlds.specs.States.{relocation_in, receipt_in, is_unasked};
+ghost use Rattle.fkv_lives.specs.Told.{ends_operation};
 ghost use Rattle.fkv_worlds.specs.Acts.{Acts};
 ghost use Rattle.fkv_worlds.specs.Devices.{Comes};
 ghost use Rattle.fkv_worlds.specs.Moments.{IsMomentIn};
-ghost use Rattle.fkv_worlds.specs.declared.steps.Step.TheVariants.{Take, Write, Load};
+ghost use Rattle.fkv_lives.specs.declared.steps.Step.TheVariants.{Take, Write, Load};
 
 use crate::desks::read;
 use crate::events::{flush_done, load};
-use crate::lives::End;
-use crate::outcomes::{Outcome, OutcomeOf};
 use crate::states::State;
-use crate::steps::{Access, Place, Step};
 use crate::tables::{end_life, has_receipt, life_at, note_progress, row_of};
 use fkv_device::{Loaded, MemoryDevice, MemoryReceipt, Receipt};
 use fkv_functions::{Functions, Refused};
+use fkv_lives::lives::End;
+use fkv_lives::outcomes::{Outcome, OutcomeOf};
+use fkv_lives::steps::{Access, Place, Step};
 use std::alloc::Global;
 
-/// Whether a refusal ends the operation that it is told to.
-fn ends_operation(refused: &Refused) -> bool
+/// Whether a refusal ends the operation or the relocation that it is told to.
+pub(crate) fn ends_operation(refused: &Refused) -> bool
     ensures { result ≡ ends_operation refused.now }
 {
     match refused {
@@ -31,7 +31,7 @@ fn ends_operation(refused: &Refused) -> bool
 }
 
 /// The page that a context asked for last, as the device gives it.
-fn read_asked(
+pub(crate) fn read_asked(
     alloc: Global,
     receipts: &[Option<MemoryReceipt>],
     place: Place,
@@ -116,7 +116,7 @@ impl<F: Functions> State<F> {
         }
     }
 
-    /// Reads the page that an operation asked for last, and goes on with it.
+    /// Reads the page that an operation or a relocation asked for last, and goes on with it.
     pub(crate) fn load(
         &mut self,
         functions: &F,
@@ -133,8 +133,28 @@ impl<F: Functions> State<F> {
             return Err(self.why_unasked(Step::Load(place, access), place));
         }
         match self.moment_in(place.partition) {
-            Ok(now) => self.load_at(functions, place, access, now),
+            Ok(now) => self.load_in(functions, place, access, now),
             Err(refused) => Err(refused),
+        }
+    }
+
+    /// Goes on with what is open in a context, by the page that it asked for: an operation, or a relocation.
+    fn load_in(
+        &mut self,
+        functions: &F,
+        place: Place,
+        access: Access,
+        now: u64,
+    ) -> Result<OutcomeOf<F>, Refused>
+        requires due { IsMomentIn self.old place.partition now }
+        requires asked { is_unasked self.old (Load place access) ≡ false }
+        ensures does { Acts ⟦<MemoryReceipt as Receipt>⟧.stands (IsEntryIn F.Key.bytes_of F.Value.bytes_of F.Key.is_known F.Value.is_known
+            F.Key.SIZE F.Value.SIZE) F.Key.cmp F.meaning F.code self.old self.new (Load place access) result }
+    {
+        if self.is_relocating(place) {
+            self.load_on_at(functions, place, access, now)
+        } else {
+            self.load_at(functions, place, access, now)
         }
     }
 
@@ -147,6 +167,7 @@ impl<F: Functions> State<F> {
     ) -> Result<OutcomeOf<F>, Refused>
         requires due { IsMomentIn self.old place.partition now }
         requires asked { is_unasked self.old (Load place access) ≡ false }
+        requires operation { relocation_in self.old.partitions place ≡ None }
         ensures does { Acts ⟦<MemoryReceipt as Receipt>⟧.stands (IsEntryIn F.Key.bytes_of F.Value.bytes_of F.Key.is_known F.Value.is_known
             F.Key.SIZE F.Value.SIZE) F.Key.cmp F.meaning F.code self.old self.new (Load place access) result }
     {

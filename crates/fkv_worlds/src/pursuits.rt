@@ -5,16 +5,16 @@ ghost use Rattle.fkv_worlds.specs.declared.pursuits.Pursuit.TheVariants.{Ready, 
 ghost use Rattle.fkv_worlds.specs.Headline.{IsHeadline};
 ghost use Rattle.fkv_worlds.specs.Reports.{follows, first_step, Pursues, IsPursued};
 
-use crate::outcomes::{Outcome, OutcomeOf};
-use crate::steps::{Access, Place, Step, StepOf};
 use crate::worlds::World;
 use fkv_device::{MemoryReceipt, Receipt};
 use fkv_functions::{Functions, Refused};
+use fkv_lives::outcomes::{Outcome, OutcomeOf};
+use fkv_lives::steps::{Access, Place, Step, StepOf};
 
 /// The steps after which a pursuit is stalled.
 pub const LIMIT: u64 = 10_000;
 
-/// How far an operation is pursued.
+/// How far an operation or a relocation is pursued.
 #[derive(Clone, Copy)]
 pub enum Pursuit {
     /// Until it is not to go on: it is done, or waits, or asks for a value or a page.
@@ -46,8 +46,8 @@ fn following<F: Functions>(
 }
 
 impl<F: Functions> World<F> {
-    /// Goes on with an operation until it answers anything but `Next`, and answers that. It is `Stalled`
-    /// after 10,000 steps, and then the operation stays open as it is; no step tells that, so it is not
+    /// Goes on with an operation or a relocation until it answers anything but `Next`, and answers that. It is `Stalled`
+    /// after 10,000 steps, and then it stays open as it is; no step tells that, so it is not
     /// among the outcomes. Refused with `NoMemory` where an outcome could not be kept, and else as
     /// [`World::step`] is.
     pub fn ready(&mut self, functions: &F, place: Place) -> Result<OutcomeOf<F>, Refused>
@@ -59,8 +59,8 @@ impl<F: Functions> World<F> {
             .unwrap_or(Err(Refused::NoMemory))
     }
 
-    /// Goes on with an operation, installs what it asks for and loads the pages that it asks for, until it is done, waits,
-    /// or is refused, and answers that. Where it waits for a page it begins with the load. `Stalled` and `NoMemory` as in [`World::ready`].
+    /// Goes on with an operation or a relocation, installs what it asks for and loads the pages that it asks for, until it is
+    /// done, waits, or is refused, and answers that. Where it waits for a page it begins with the load. `Stalled` and `NoMemory` as in [`World::ready`].
     pub fn finish(&mut self, functions: &F, place: Place) -> Result<OutcomeOf<F>, Refused>
         ensures pursues { IsPursued ⟦<MemoryReceipt as Receipt>⟧.stands (IsEntryIn F.Key.bytes_of F.Value.bytes_of F.Key.is_known F.Value.is_known
             F.Key.SIZE F.Value.SIZE) F.Key.cmp F.meaning F.code Finish place self.old self.new result }

@@ -7,10 +7,10 @@ ghost use Rattle.fkv_worlds.specs.Headline.{IsHeadline};
 ghost use Rattle.fkv_worlds.specs.Reports.{RunsTo, IsReport, IsReplay};
 
 use crate::reports::ReportOf;
-use crate::steps::StepOf;
 use crate::worlds::World;
 use fkv_device::{MemoryReceipt, Receipt};
 use fkv_functions::{Functions, Refused};
+use fkv_lives::steps::StepOf;
 use fkv_partition::Config;
 use std::alloc::Global;
 

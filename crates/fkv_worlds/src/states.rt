@@ -1,31 +1,33 @@
 //! The state of a world, and what each step does to it.
-ghost use Rattle.std.specs.Prelude.{◌≢◌, ◌⊎◌, ◌≡◌, ◌+◌, ◌-◌, ◌^◌, ◌<◌, ◌↔◌, ◌∷◌, [], ◌++◌, true, Some, None, Err, IfOk, IfErr, OnOk, length, map, replicate, slice_get};
+ghost use Rattle.std.specs.Prelude.{◌≢◌, ◌⊎◌, ◌≡◌, ◌+◌, ◌-◌, ◌^◌, ◌<◌, ◌↔◌, ◌∷◌, [], ◌++◌, true, Some, None, Err, IfOk, IfErr, OnOk, length, map, replicate, slice_get, is_some};
 ghost use Rattle.fkv_records.specs.Records.{size_of};
 ghost use Rattle.fkv_partition.specs.Limits.{IsWithinLimits};
-ghost use Rattle.fkv_partition.specs.Views.{empty_partition};
-ghost use Rattle.fkv_worlds.specs.States.{empty_partitions, empty_state, question_in, is_unasked};
+ghost use Rattle.fkv_compaction.specs.Views.{empty_compacted};
+ghost use Rattle.fkv_worlds.specs.States.{empty_partitions, empty_state, relocation_in, question_in, is_unasked};
 ghost use Rattle.fkv_worlds.specs.Sound.{IsState};
 ghost use Rattle.fkv_worlds.specs.Reports.{awaits_at};
 ghost use Rattle.fkv_pages.specs.Spelled.{IsEntryIn};
 ghost use Rattle.fkv_worlds.specs.declared.desks.Desk.{Desk};
-ghost use Rattle.fkv_worlds.specs.Acts.{Acts, partition_in, answers_in};
+ghost use Rattle.fkv_worlds.specs.Acts.{Acts, answers_in};
+ghost use Rattle.fkv_lives.specs.Steps.{partition_in};
 ghost use Rattle.fkv_worlds.specs.Moments.{IsMomentIn, IsUntimely};
-ghost use Rattle.fkv_worlds.specs.declared.steps.Step.TheVariants.{Enter, Leave, Refresh, ReadOnly, Head, Issue, Go, Install, GiveUp};
+ghost use Rattle.fkv_lives.specs.declared.steps.Step.TheVariants.{Enter, Leave, Refresh, ReadOnly, Head, Issue, Go, Install, GiveUp};
 
 use crate::desks::Desk;
 use crate::events::{
     enter, give_up, go, install, issue, leave, refresh, shift_head, shift_read_only,
 };
-use crate::lives::{End, LifeOf};
-use crate::outcomes::{Outcome, OutcomeOf};
-use crate::steps::{Place, Step, StepOf};
 use crate::tables::{
     Tables, begin_life, end_life, life_at, note_progress, question_at, seat_session,
 };
+use fkv_compaction::Compacted;
 use fkv_device::{MemoryDevice, MemoryReceipt, Receipt};
 use fkv_functions::{Ask, Built, Functions, Refused};
+use fkv_lives::lives::{End, LifeOf};
+use fkv_lives::outcomes::{Outcome, OutcomeOf};
+use fkv_lives::steps::{Place, Step, StepOf};
 use fkv_operations::{Clock, OpOf};
-use fkv_partition::{Config, Partition};
+use fkv_partition::Config;
 use std::alloc::Global;
 use std::marker::Model;
 
@@ -33,7 +35,7 @@ use std::marker::Model;
 #[derive(Drop)]
 pub struct State<F: Functions> {
     pub(crate) alloc: Global,
-    pub(crate) partitions: Vec<Partition<F, MemoryDevice>>,
+    pub(crate) partitions: Vec<Compacted<F, MemoryDevice>>,
     pub(crate) desks: Vec<Desk>,
     pub(crate) tables: Tables<F::Key, F::Value, F::Input>,
     pub(crate) lives: Vec<LifeOf<F>>,
@@ -80,16 +82,16 @@ fn keep<T: Drop>(items: &mut Vec<T>, item: T) -> Result<(), Refused>
 
 /// Adds the partition of this number, with nothing in it. Refused: `NoMemory`.
 fn add_empty<F: Functions>(
-    partitions: &mut Vec<Partition<F, MemoryDevice>>,
+    partitions: &mut Vec<Compacted<F, MemoryDevice>>,
     alloc: Global,
     config: &Config,
     number: u64,
 ) -> Result<(), Refused>
     ensures ok { OnOk result (partitions.new.items ≡ partitions.old.items
-        ++ empty_partition config.now (size_of F.Key.SIZE F.Value.SIZE) number ∷ []) }
+        ++ empty_compacted config.now (size_of F.Key.SIZE F.Value.SIZE) number ∷ []) }
     ensures only { IfErr result (λ refused. refused ≡ Refused.NoMemory) }
 {
-    match Partition::new(alloc, config, number) {
+    match Compacted::new(alloc, config, number) {
         Ok(partition) => keep(partitions, partition),
         Err(_) => Err(Refused::NoMemory),
     }
@@ -100,7 +102,7 @@ fn empty_partitions<F: Functions>(
     alloc: Global,
     config: &Config,
     count: u64,
-) -> Result<Vec<Partition<F, MemoryDevice>>, Refused>
+) -> Result<Vec<Compacted<F, MemoryDevice>>, Refused>
     ensures ok { IfOk result (λ partitions. partitions.items
         ≡ empty_partitions config.now (size_of F.Key.SIZE F.Value.SIZE) count) }
     ensures only { IfErr result (λ refused. refused ≡ Refused.NoMemory) }
@@ -295,6 +297,7 @@ impl<F: Functions> State<F> {
 
     fn go_at(&mut self, functions: &F, place: Place, now: u64) -> Result<OutcomeOf<F>, Refused>
         requires due { IsMomentIn self.old place.partition now }
+        requires operation { relocation_in self.old.partitions place ≡ None }
         ensures does { Acts ⟦<MemoryReceipt as Receipt>⟧.stands (IsEntryIn F.Key.bytes_of F.Value.bytes_of F.Key.is_known F.Value.is_known
             F.Key.SIZE F.Value.SIZE) F.Key.cmp F.meaning F.code self.old self.new (Go place) result }
     {
@@ -340,7 +343,18 @@ impl<F: Functions> State<F> {
         }
     }
 
-    /// Why what nobody asked for is not answered: `NotReady` where an operation is open there, and `Unknown` else.
+    /// Whether a relocation is open in a context.
+    pub(crate) fn is_relocating(&self, place: Place) -> bool
+        requires there { place.partition < length self.now.partitions }
+        ensures { result ≡ is_some (relocation_in self.now.partitions place) }
+    {
+        self.partitions[place.partition]
+            .relocation(place.slot, place.context)
+            .is_some()
+    }
+
+    /// Why what nobody asked for is not answered: `NotReady` where an operation or a relocation is open there, and `Unknown`
+    /// else.
     pub(crate) fn why_unasked(&self, step: StepOf<F>, place: Place) -> Refused
         requires answers { answers_in step ≡ Some place }
         requires there { place.partition < length self.now.partitions }
@@ -348,6 +362,9 @@ impl<F: Functions> State<F> {
         ensures { Acts ⟦<MemoryReceipt as Receipt>⟧.stands (IsEntryIn F.Key.bytes_of F.Value.bytes_of F.Key.is_known F.Value.is_known
             F.Key.SIZE F.Value.SIZE) F.Key.cmp F.meaning F.code self.now self.now step (Err result) }
     {
+        if self.is_relocating(place) {
+            return Refused::NotReady;
+        }
         match self.partitions[place.partition].asked(place.slot, place.context) {
             Ok(_) => Refused::NotReady,
             Err(_) => Refused::Unknown,
@@ -380,6 +397,7 @@ impl<F: Functions> State<F> {
 
     fn give_up_at(&mut self, place: Place, now: u64) -> Result<OutcomeOf<F>, Refused>
         requires due { IsMomentIn self.old place.partition now }
+        requires operation { relocation_in self.old.partitions place ≡ None }
         ensures does { Acts ⟦<MemoryReceipt as Receipt>⟧.stands (IsEntryIn F.Key.bytes_of F.Value.bytes_of F.Key.is_known F.Value.is_known
             F.Key.SIZE F.Value.SIZE) F.Key.cmp F.meaning F.code self.old self.new (GiveUp place) result }
     {
@@ -392,6 +410,32 @@ impl<F: Functions> State<F> {
                 Ok(Outcome::GivenUp)
             }
             Err(refused) => Err(refused),
+        }
+    }
+
+    /// Goes on with what is open in a context: an operation, or a relocation.
+    fn go_in(&mut self, functions: &F, place: Place, now: u64) -> Result<OutcomeOf<F>, Refused>
+        requires due { IsMomentIn self.old place.partition now }
+        ensures does { Acts ⟦<MemoryReceipt as Receipt>⟧.stands (IsEntryIn F.Key.bytes_of F.Value.bytes_of F.Key.is_known F.Value.is_known
+            F.Key.SIZE F.Value.SIZE) F.Key.cmp F.meaning F.code self.old self.new (Go place) result }
+    {
+        if self.is_relocating(place) {
+            self.go_on_at(functions, place, now)
+        } else {
+            self.go_at(functions, place, now)
+        }
+    }
+
+    /// Gives up what is open in a context.
+    fn give_up_in(&mut self, place: Place, now: u64) -> Result<OutcomeOf<F>, Refused>
+        requires due { IsMomentIn self.old place.partition now }
+        ensures does { Acts ⟦<MemoryReceipt as Receipt>⟧.stands (IsEntryIn F.Key.bytes_of F.Value.bytes_of F.Key.is_known F.Value.is_known
+            F.Key.SIZE F.Value.SIZE) F.Key.cmp F.meaning F.code self.old self.new (GiveUp place) result }
+    {
+        if self.is_relocating(place) {
+            self.drop_at(place, now)
+        } else {
+            self.give_up_at(place, now)
         }
     }
 
@@ -427,14 +471,16 @@ impl<F: Functions> State<F> {
             Step::Write(partition, access) => self.write(partition, access),
             Step::Head(partition, page) => self.evict_at(partition, page, now),
             Step::Issue(partition, slot, op) => self.issue_at(functions, partition, slot, op, now),
-            Step::Go(place) => self.go_at(functions, place, now),
+            Step::Relocate(partition, slot) => self.relocate_at(partition, slot, now),
+            Step::Go(place) => self.go_in(functions, place, now),
             Step::Install(place) => self.install(functions, place),
             Step::Load(place, access) => self.load(functions, place, access),
-            Step::GiveUp(place) => self.give_up_at(place, now),
+            Step::GiveUp(place) => self.give_up_in(place, now),
+            Step::Truncate(partition) => self.truncate_at(partition, now),
         }
     }
 
-    /// Whether the operation that is open in a context waits for a page.
+    /// Whether the operation or the relocation that is open in a context waits for a page.
     pub fn awaits_page(&self, place: Place) -> bool
         ensures { result ≡ awaits_at (slice_get self.now.partitions place.partition) place.slot place.context }
     {

@@ -1,16 +1,17 @@
 //! The tables of a world: who sits in a slot, what began in a context, and what it asked for last.
 ghost use Rattle.std.specs.Prelude.{◌≡◌, ◌+◌, ◌-◌, ◌*◌, ◌^◌, ◌<◌, ◌≤◌, ◌∷◌, [], ◌++◌, length, replicate, vec_capacity, Some, None, slice_get, slice_set, unwrap_or, IfOk, IfErr, OnOk, is_some};
 ghost use Rattle.fkv_worlds.specs.States.{IsBlank, is_context, seat_row, seat_at, context_row, life_in, question_in, receipt_in};
-ghost use Rattle.fkv_worlds.specs.Changes.{ended_at};
-ghost use Rattle.fkv_worlds.specs.Acts.{after_issue, begun_life, lives_by, questions_by, receipts_by, told};
+ghost use Rattle.fkv_lives.specs.Changes.{ended_at};
+ghost use Rattle.fkv_worlds.specs.Acts.{after_issue, begun_life, lives_by, questions_by, receipts_by, receipts_moved, told, told_moved};
 
-use crate::lives::{End, Finish, Life};
-use crate::outcomes::Outcome;
-use crate::steps::Place;
+use fkv_compaction::Moved;
 use fkv_device::MemoryReceipt;
 use fkv_functions::{Ask, Refused};
+use fkv_lives::lives::{End, Finish, Life};
+use fkv_lives::outcomes::Outcome;
+use fkv_lives::steps::Place;
 use fkv_operations::Op;
-use fkv_partition::Progress;
+use fkv_partition::{Progress, Wait};
 use std::alloc::Global;
 
 /// The slots of a partition.
@@ -267,6 +268,24 @@ pub fn end_life<K: Copy, V: Copy, I: Copy, O: Copy>(
     lives[place].end = end;
 }
 
+/// Drops what a context asked for last, since its number is given anew.
+pub fn forget<K: Copy, V: Copy, I: Copy>(tables: &mut Tables<K, V, I>, place: Place)
+    requires partition { place.partition < 64 }
+    requires slot { place.slot < 16 }
+    requires context { place.context < 8 }
+    requires questions { place.partition * 128 + 128 ≤ length tables.old.questions.items }
+    requires receipts { place.partition * 128 + 128 ≤ length tables.old.receipts.items }
+    ensures questions { tables.new.questions.items ≡ slice_set tables.old.questions.items (context_row place) None }
+    ensures receipts { tables.new.receipts.items ≡ slice_set tables.old.receipts.items (context_row place) None }
+    ensures begun { tables.new.begun.items ≡ tables.old.begun.items }
+    ensures seats { tables.new.seats.items ≡ tables.old.seats.items }
+    ensures enters { tables.new.enters.items ≡ tables.old.enters.items }
+{
+    let context = row_of(place);
+    tables.questions[context] = None;
+    tables.receipts[context] = None;
+}
+
 /// Begins the life of an issue that was accepted in a context: it is the context's, which has asked for
 /// nothing yet, and one more of its session.
 pub fn begin_life<K: Copy, V: Copy, I: Copy, O: Copy>(
@@ -296,10 +315,8 @@ pub fn begin_life<K: Copy, V: Copy, I: Copy, O: Copy>(
     ensures enters { tables.new.enters.items ≡ tables.old.enters.items }
 {
     let seat = take_number(&mut tables.seats, place.partition, place.slot);
-    let context = row_of(place);
-    tables.begun[context] = lives.len();
-    tables.questions[context] = None;
-    tables.receipts[context] = None;
+    tables.begun[row_of(place)] = lives.len();
+    forget(tables, place);
     // there is room for it
     let _pushed = lives.push(begun_life(place.partition, &seat, op, now));
 }
@@ -345,6 +362,35 @@ pub fn note_progress<K: Copy, V: Copy, I: Copy, O: Copy>(
             Outcome::Build(ask.source)
         }
         Progress::NeedsLoad(receipt, address) => {
+            tables.receipts[row_of(place)] = Some(receipt);
+            Outcome::Load(address)
+        }
+    }
+}
+
+/// Keeps what a relocation asks for, and tells its progress.
+pub fn note_moved<K: Copy, V: Copy, I: Copy, O: Copy>(
+    tables: &mut Tables<K, V, I>,
+    place: Place,
+    progress: Moved<MemoryReceipt>,
+) -> Outcome<V, O>
+    requires partition { place.partition < 64 }
+    requires slot { place.slot < 16 }
+    requires context { place.context < 8 }
+    requires receipts { place.partition * 128 + 128 ≤ length tables.old.receipts.items }
+    ensures receipts { tables.new.receipts.items
+        ≡ receipts_moved tables.old.receipts.items (context_row place) progress }
+    ensures questions { tables.new.questions.items ≡ tables.old.questions.items }
+    ensures begun { tables.new.begun.items ≡ tables.old.begun.items }
+    ensures seats { tables.new.seats.items ≡ tables.old.seats.items }
+    ensures enters { tables.new.enters.items ≡ tables.old.enters.items }
+    ensures told { result ≡ told_moved progress }
+{
+    match progress {
+        Moved::Cleared => Outcome::Cleared,
+        Moved::Next => Outcome::Next,
+        Moved::Waits => Outcome::Waits(Wait::Full),
+        Moved::NeedsLoad(receipt, address) => {
             tables.receipts[row_of(place)] = Some(receipt);
             Outcome::Load(address)
         }

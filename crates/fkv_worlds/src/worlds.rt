@@ -8,11 +8,11 @@ ghost use Rattle.fkv_worlds.specs.Acts.{Steps};
 ghost use Rattle.fkv_worlds.specs.Reports.{IsKept};
 ghost use Rattle.fkv_worlds.specs.Headline.{IsHeadline};
 
-use crate::outcomes::OutcomeOf;
 use crate::states::State;
-use crate::steps::StepOf;
 use fkv_device::{MemoryReceipt, Receipt};
 use fkv_functions::{Functions, Refused};
+use fkv_lives::outcomes::OutcomeOf;
+use fkv_lives::steps::StepOf;
 use fkv_partition::Config;
 use std::alloc::Global;
 use std::marker::Model;
@@ -29,7 +29,7 @@ pub struct World<F: Functions> {
 impl<F: Functions> Model for World<F> {
     ghost use Rattle.fkv_device.specs.declared.memory.MemoryReceipt.{MemoryReceipt};
     ghost use Rattle.fkv_worlds.specs.States.{WorldView};
-    ghost use Rattle.fkv_worlds.specs.Told.{IsAccount, taken};
+    ghost use Rattle.fkv_lives.specs.Told.{IsAccount, taken};
 
     ghost Value = { WorldView F.Key F.Value F.Input F.Output MemoryReceipt };
 

@@ -44,10 +44,12 @@ fn step_of(step: Step<u8, i128, i64>) -> Option<StepOf<SumFns>> {
         Step::Write(partition, access) => Step::Write(partition, access),
         Step::Head(partition, page) => Step::Head(partition, page),
         Step::Issue(partition, slot, op) => Step::Issue(partition, slot, on_name(op)?),
+        Step::Relocate(partition, slot) => Step::Relocate(partition, slot),
         Step::Go(place) => Step::Go(place),
         Step::Install(place) => Step::Install(place),
         Step::Load(place, access) => Step::Load(place, access),
         Step::GiveUp(place) => Step::GiveUp(place),
+        Step::Truncate(partition) => Step::Truncate(partition),
     })
 }
 

@@ -2,7 +2,7 @@ use Rattle.std.proofs.Common.{◌≡◌, inr, Err, map, [], sym, ap, ◌∙◌}
 use Rattle.std.proofs.lemmas.Result.{IfOk-weaker, IfErr-weaker}
 use Rattle.fkv_functions.specs.declared.refusals.Refused.TheVariants.{BadConfig, NoMemory}
 use Rattle.fkv_records.specs.Records.{size_of}
-use Rattle.fkv_worlds.specs.Histories.{backwards, issues_in, issue_of}
+use Rattle.fkv_lives.specs.Histories.{backwards, issues_in, issue_of}
 use Rattle.fkv_pages.specs.Spelled.{IsEntryIn}
 use Rattle.fkv_worlds.proofs.Naming.{stands}
 use Rattle.fkv_worlds.specs.Reports.{RunsTo}

@@ -1,6 +1,6 @@
 use Rattle.std.proofs.Common.{◌≡◌, Some, refl, sym, ◌∙◌, ap}
 use Rattle.fkv_worlds.specs.States.{question_in}
-use Rattle.fkv_worlds.specs.declared.steps.Step.TheVariants.{Install}
+use Rattle.fkv_lives.specs.declared.steps.Step.TheVariants.{Install}
 use Rattle.fkv_worlds.proofs.ActsLemmas.{acts-untimely}
 use Rattle.fkv_worlds.proofs.states.State.asked.Goals as goal
 

@@ -54,4 +54,4 @@ pub returns-in-Ok : goal.returns-in-Ok
 returns-in-Ok g c =
     let due = rw (← c.self.view_is) at c.requires.due in
     rw (← c.self.view_is, c.seat_session.ensures.enters, c.seat_session.ensures.seats)
-    (record { does = does-enter g.F.Key.Ord.cmp g.F.Functions.meaning g.F.Functions.code _ c.self.invariant c.args.partition c.args.now due c.index_mut.result.now c.index_mut.ensures.value c.enter.new.partition c.in-Ok.slot c.in-Ok.ensures.does c.in-Ok.ensures.event c.in-Ok.ensures.within })
+    (record { does = does-enter g.F.Key.Ord.cmp g.F.Functions.meaning g.F.Functions.code _ c.self.invariant c.args.partition c.args.now due c.index_mut.result.now c.index_mut.ensures.value c.enter.new.partition c.in-Ok.slot c.in-Ok.ensures.does c.in-Ok.ensures.event c.enter.ensures.passed c.in-Ok.ensures.within })

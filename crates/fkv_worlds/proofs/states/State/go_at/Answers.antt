@@ -15,7 +15,7 @@ invariant_of-self-in-Err g c =
 pub returns-in-Err : goal.returns-in-Err
 returns-in-Err g c =
     let due = rw (← c.self.view_is) at c.requires.due in
-    rw (← c.self.view_is) (record { does = refused-go g.F.Key.Ord.cmp g.F.Functions.meaning g.F.Functions.code _ c.self.invariant c.args.place c.args.now due c.index_mut-partition.result.now c.index_mut-partition.ensures.value c.go.new.partition c.in-Err.refused c.in-Err.ensures.err c.in-Err.ensures.does })
+    rw (← c.self.view_is) (record { does = refused-go g.F.Key.Ord.cmp g.F.Functions.meaning g.F.Functions.code _ c.self.invariant c.args.place c.args.now due c.index_mut-partition.result.now c.index_mut-partition.ensures.value c.go.new.partition c.in-Err.refused (rw (← c.self.view_is) at c.requires.operation) c.in-Err.ensures.err c.in-Err.ensures.does })
 
 pub note_progress-requires-clause-partition : goal.note_progress-requires-clause-partition
 note_progress-requires-clause-partition g c =
@@ -64,4 +64,4 @@ pub returns-in-Ok : goal.returns-in-Ok
 returns-in-Ok g c =
     let due = rw (← c.self.view_is) at c.requires.due in
     rw (← c.self.view_is, c.note_progress.ensures.lives, c.note_progress.ensures.questions, c.note_progress.ensures.receipts, c.note_progress.ensures.begun, c.note_progress.ensures.seats, c.note_progress.ensures.enters, c.note_progress.ensures.told)
-    (record { does = does-go g.F.Key.Ord.cmp g.F.Functions.meaning g.F.Functions.code _ c.self.invariant c.args.place c.args.now due c.index_mut-partition.result.now c.index_mut-partition.ensures.value c.go.new.partition c.in-Ok.progress c.in-Ok.ensures.does c.in-Ok.ensures.event })
+    (record { does = does-go g.F.Key.Ord.cmp g.F.Functions.meaning g.F.Functions.code _ c.self.invariant c.args.place c.args.now due c.index_mut-partition.result.now c.index_mut-partition.ensures.value c.go.new.partition c.in-Ok.progress c.in-Ok.ensures.does c.in-Ok.ensures.event c.go.ensures.passed })

@@ -28,4 +28,4 @@ invariant_of-self g c =
 pub returns-in-Ok : goal.returns-in-Ok
 returns-in-Ok g c =
     let due = rw (← c.self.view_is) at c.requires.due in
-    rw (← c.self.view_is) (record { does = does-refresh g.F.Key.Ord.cmp g.F.Functions.meaning g.F.Functions.code _ c.self.invariant c.args.partition c.args.now due c.index_mut.result.now c.index_mut.ensures.value c.refresh.new.partition c.args.slot c.in-Ok.ensures.does c.in-Ok.ensures.event })
+    rw (← c.self.view_is) (record { does = does-refresh g.F.Key.Ord.cmp g.F.Functions.meaning g.F.Functions.code _ c.self.invariant c.args.partition c.args.now due c.index_mut.result.now c.index_mut.ensures.value c.refresh.new.partition c.args.slot c.in-Ok.ensures.does c.in-Ok.ensures.event c.refresh.ensures.passed })

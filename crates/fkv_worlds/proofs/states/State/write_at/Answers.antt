@@ -48,7 +48,7 @@ returns-in-Ok-flush_done g c =
     rw (← c.self.view_is, desk-set c.self.inside.desks.items c.args.partition c.write.new.self None c.write.ensures.spent)
     (record {
       does = does-write g.F.Key.Ord.cmp g.F.Functions.meaning g.F.Functions.code _ c.self.invariant c.args.partition c.args.now due c.index_mut-in-Ok.result.now c.index_mut-in-Ok.ensures.value c.args.access job.0 asked job.1
-          c.flush_done.new.partition _ _ w.0 w.1 w.2 c.page-page.result c.page-page.ensures c.in-Ok-flush_done.ensures.does c.in-Ok-flush_done.ensures.event;
+          c.flush_done.new.partition _ _ w.0 w.1 w.2 c.page-page.result c.page-page.ensures c.in-Ok-flush_done.ensures.does c.in-Ok-flush_done.ensures.event c.flush_done.ensures.passed;
     })
 
 pub returns-in-Err-flush_done : goal.returns-in-Err-flush_done

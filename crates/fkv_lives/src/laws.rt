@@ -1,6 +1,6 @@
 //! What the definitions of placed lives refuse: laws with no code, shown on small lists.
-ghost use Rattle.fkv_worlds.specs.WrongLives.{RefusesInvented, CountsOnce, RefusesSharedSteps, RefusesOtherTimes, RefusesEarlyUpdates};
-ghost use Rattle.fkv_worlds.specs.WrongLives.{RefusesUnowned, RefusesUnissued, ReadsIssues};
+ghost use Rattle.fkv_lives.specs.WrongLives.{RefusesInvented, CountsOnce, RefusesSharedSteps, RefusesOtherTimes, RefusesEarlyUpdates};
+ghost use Rattle.fkv_lives.specs.WrongLives.{RefusesUnowned, RefusesUnissued, ReadsIssues};
 
 /// Placed lives have no invented answer, no update that is left out or counted twice, no step that two
 /// lives share, and no effect outside its times; a life with an effect and no answer can't be written.

@@ -1,5 +1,5 @@
-use Rattle.fkv_worlds.proofs.WrongLemmas.{refuses_invented, counts_once, refuses_shared_steps, refuses_other_times, refuses_early_updates, refuses_unowned, refuses_unissued, reads_issues}
-use Rattle.fkv_worlds.proofs.laws.wrong_lives.Goals as goal
+use Rattle.fkv_lives.proofs.WrongLemmas.{refuses_invented, counts_once, refuses_shared_steps, refuses_other_times, refuses_early_updates, refuses_unowned, refuses_unissued, reads_issues}
+use Rattle.fkv_lives.proofs.laws.wrong_lives.Goals as goal
 
 pub returns : goal.returns
 returns c = record {

@@ -41,14 +41,18 @@ pub enum Step<K, V, I> {
     Head(usize, u64),
     /// Issues an operation in the session of this slot, after its partition.
     Issue(usize, usize, Op<K, V, I>),
-    /// Goes on with the operation that is open there.
+    /// Issues a relocation in the session of this slot, after its partition.
+    Relocate(usize, usize),
+    /// Goes on with the operation or the relocation that is open there.
     Go(Place),
     /// Installs what the operation that is open there asked for last.
     Install(Place),
-    /// Reads the page that the operation that is open there asked for last, and goes on with it.
+    /// Reads the page that the operation or the relocation that is open there asked for last, and goes on with it.
     Load(Place, Access),
-    /// Gives up the operation that is open there.
+    /// Gives up the operation or the relocation that is open there.
     GiveUp(Place),
+    /// Moves Begin of this partition to the start of the page up to which all is cleared.
+    Truncate(usize),
 }
 
 impl<K: Copy, V: Copy, I: Copy> Clone for Step<K, V, I> {
@@ -62,7 +66,7 @@ impl<K: Copy, V: Copy, I: Copy> Clone for Step<K, V, I> {
 }
 
 impl<K: Copy, V: Copy, I: Copy> Step<K, V, I> {
-    ghost use Rattle.fkv_worlds.specs.Acts.{partition_in};
+    ghost use Rattle.fkv_lives.specs.Steps.{partition_in};
 
     /// The number of the partition that it is in.
     pub fn partition(&self) -> usize
@@ -77,10 +81,12 @@ impl<K: Copy, V: Copy, I: Copy> Step<K, V, I> {
             Step::Write(partition, _) => *partition,
             Step::Head(partition, _) => *partition,
             Step::Issue(partition, _, _) => *partition,
+            Step::Relocate(partition, _) => *partition,
             Step::Go(place) => place.partition,
             Step::Install(place) => place.partition,
             Step::Load(place, _) => place.partition,
             Step::GiveUp(place) => place.partition,
+            Step::Truncate(partition) => *partition,
         }
     }
 }

@@ -5,10 +5,10 @@ use Rattle.fkv_functions.specs.Meanings.{Meanings}
 use Rattle.fkv_functions.specs.Plain.{PlainMap}
 use Rattle.fkv_operations.specs.After.{after, is_update}
 use Rattle.fkv_operations.specs.declared.operations.Op.{Op}
-use Rattle.fkv_worlds.specs.declared.lives.Finish.{Finish}
-use Rattle.fkv_worlds.specs.declared.lives.Life.{Life}
-use Rattle.fkv_worlds.specs.declared.lives.End.{End}
-use Rattle.fkv_worlds.specs.declared.lives.End.TheVariants.{Open, Finished, Failed, GivenUp}
+use Rattle.fkv_lives.specs.declared.lives.Finish.{Finish}
+use Rattle.fkv_lives.specs.declared.lives.Life.{Life}
+use Rattle.fkv_lives.specs.declared.lives.End.{End}
+use Rattle.fkv_lives.specs.declared.lives.End.TheVariants.{Open, Finished, Failed, GivenUp}
 
 -- how an operation was finished, if it was
 abbrev pub finish_in : {O : Type 0} → End O → Option (Finish O)

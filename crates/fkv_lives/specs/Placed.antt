@@ -3,9 +3,9 @@ use Rattle.std.specs.Prelude.{◌≡◌, true, ℕ, ◌<◌, ◌≤◌, List, So
 use Rattle.std.specs.declared.cmp.Ordering.{Ordering}
 use Rattle.fkv_functions.specs.Meanings.{Meanings}
 use Rattle.fkv_operations.specs.After.{is_update, answer}
-use Rattle.fkv_worlds.specs.declared.lives.Finish.{Finish}
-use Rattle.fkv_worlds.specs.declared.lives.Life.{Life}
-use Rattle.fkv_worlds.specs.Lives.{finish_of, map_before}
+use Rattle.fkv_lives.specs.declared.lives.Finish.{Finish}
+use Rattle.fkv_lives.specs.declared.lives.Life.{Life}
+use Rattle.fkv_lives.specs.Lives.{finish_of, map_before}
 
 -- issue < effect ≤ done ≤ now, and an update takes effect as it is done
 pub record IsTimely {K V I O : Type 0} (x : Life K V I O) (t : Finish O) (now : ℕ) : Type 0 where

@@ -3,12 +3,12 @@ use Rattle.std.specs.Prelude.{ℕ, suc, ◌==◌, ◌&&◌, cond, List, [], ◌�
 use Rattle.fkv_functions.specs.declared.refusals.Refused.{Refused}
 use Rattle.fkv_operations.specs.declared.operations.Answer.{Answer}
 use Rattle.fkv_operations.specs.declared.operations.Op.{Op}
-use Rattle.fkv_worlds.specs.declared.lives.Life.{Life}
-use Rattle.fkv_worlds.specs.declared.outcomes.Outcome.{Outcome}
-use Rattle.fkv_worlds.specs.declared.outcomes.Outcome.TheVariants.{Entered, Left, Refreshed, Shifted, Taken, Flushed, Issued, Next, Build, Load, Waits, Done, GivenUp}
-use Rattle.fkv_worlds.specs.Told.{took_moment}
-use Rattle.fkv_worlds.specs.declared.steps.Step.{Step}
-use Rattle.fkv_worlds.specs.declared.steps.Step.TheVariants as step
+use Rattle.fkv_lives.specs.declared.lives.Life.{Life}
+use Rattle.fkv_lives.specs.declared.outcomes.Outcome.{Outcome}
+use Rattle.fkv_lives.specs.declared.outcomes.Outcome.TheVariants.{Entered, Left, Refreshed, Shifted, Taken, Flushed, Issued, Relocating, Next, Build, Load, Waits, Done, Cleared, GivenUp, Truncated}
+use Rattle.fkv_lives.specs.Told.{took_moment}
+use Rattle.fkv_lives.specs.declared.steps.Step.{Step}
+use Rattle.fkv_lives.specs.declared.steps.Step.TheVariants as step
 
 -- a step, and what it was told
 pub record Event (K V I O : Type 0) : Type 0 where
@@ -91,12 +91,15 @@ answer_by (Ok Shifted) rest = rest
 answer_by (Ok (Taken page)) rest = rest
 answer_by (Ok (Flushed page)) rest = rest
 answer_by (Ok (Issued c)) rest = rest
+answer_by (Ok (Relocating c)) rest = rest
 answer_by (Ok Next) rest = rest
 answer_by (Ok (Build source)) rest = rest
 answer_by (Ok (Load address)) rest = rest
 answer_by (Ok (Waits why)) rest = rest
 answer_by (Ok (Done a)) rest = a ∷ rest
+answer_by (Ok Cleared) rest = rest
 answer_by (Ok GivenUp) rest = rest
+answer_by (Ok (Truncated begin)) rest = rest
 answer_by (Err e) rest = rest
 
 abbrev pub answers_in : {V O : Type 0} → List (Result (Outcome V O) Refused) → List (Answer O)

@@ -7,16 +7,16 @@ use Rattle.fkv_operations.specs.declared.operations.Op.{Op}
 use Rattle.fkv_operations.specs.declared.operations.Op.TheVariants.{Read, Upsert, Rmw, Delete}
 use Rattle.fkv_operations.specs.declared.operations.Answer.{Answer}
 use Rattle.fkv_operations.specs.declared.operations.Answer.TheVariants.{Value, Absent, Stored, Deleted}
-use Rattle.fkv_worlds.specs.declared.lives.Life.{Life}
-use Rattle.fkv_worlds.specs.declared.lives.End.TheVariants.{Open, Finished}
+use Rattle.fkv_lives.specs.declared.lives.Life.{Life}
+use Rattle.fkv_lives.specs.declared.lives.End.TheVariants.{Open, Finished}
 use Rattle.fkv_functions.specs.declared.refusals.Refused.TheVariants.{Unknown}
 use Rattle.fkv_operations.specs.After.{is_update}
-use Rattle.fkv_worlds.specs.declared.outcomes.Outcome.TheVariants.{Entered, Left, Issued, Done}
-use Rattle.fkv_worlds.specs.declared.steps.Step.TheVariants.{Enter, Leave, Issue}
-use Rattle.fkv_worlds.specs.Histories.{backwards, issues_in}
-use Rattle.fkv_worlds.specs.Told.{IsAccount}
-use Rattle.fkv_worlds.specs.Lives.{map_before}
-use Rattle.fkv_worlds.specs.Placed.{IsPlaced}
+use Rattle.fkv_lives.specs.declared.outcomes.Outcome.TheVariants.{Entered, Left, Issued, Done}
+use Rattle.fkv_lives.specs.declared.steps.Step.TheVariants.{Enter, Leave, Issue}
+use Rattle.fkv_lives.specs.Histories.{backwards, issues_in}
+use Rattle.fkv_lives.specs.Told.{IsAccount}
+use Rattle.fkv_lives.specs.Lives.{map_before}
+use Rattle.fkv_lives.specs.Placed.{IsPlaced}
 
 -- any functions on numbers
 abbrev pub Numbers : Type 0

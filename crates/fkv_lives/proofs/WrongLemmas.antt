@@ -3,7 +3,7 @@ use Rattle.std.proofs.Common.{◌≡◌, ℕ, true, cond, [], Some, None, slice_
 use Rattle.std.specs.Ordering.{nat_cmp}
 use Rattle.std.specs.Cmp.{nat_cmp_total, eq_by_cmp_equiv}
 use Rattle.std.specs.BTreeMap.{is_at}
-use Rattle.fkv_worlds.specs.WrongLives.{RefusesInvented, CountsOnce, RefusesSharedSteps, RefusesOtherTimes, RefusesEarlyUpdates, RefusesUnowned, RefusesUnissued, ReadsIssues}
+use Rattle.fkv_lives.specs.WrongLives.{RefusesInvented, CountsOnce, RefusesSharedSteps, RefusesOtherTimes, RefusesEarlyUpdates, RefusesUnowned, RefusesUnissued, ReadsIssues}
 
 itself : (k : ℕ) → is_at (nat_cmp k) k ≡ true
 itself k = (eq_by_cmp_equiv nat_cmp_total).refl k
