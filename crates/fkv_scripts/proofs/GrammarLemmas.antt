@@ -9,7 +9,7 @@ use Rattle.fkv_operations.specs.declared.operations.Op.{Op}
 use Rattle.fkv_operations.specs.declared.operations.Op.TheVariants.{Read, Upsert, Rmw, Delete}
 use Rattle.fkv_scripts.specs.Words.{number_of, amount_of}
 use Rattle.fkv_scripts.specs.Grammar.{Token, word, number, key, amount, Spells, SpellAll, Spelled, HasText, ReadsWithZero, place, access_word, verb, operands, tokens, opening, functions_name}
-use Rattle.fkv_scripts.specs.Reading.{◌>>=◌, first_as, end_of, key_of, key_alone, key_and_amount, place_of, enter_of, pair_of, access_of, flush_of, load_of, operation_of, issue_of, do_of, line_of, functions_of, store_of, opening_of}
+use Rattle.fkv_scripts.specs.Reading.{◌>>=◌, first_as, end_of, key_of, key_alone, key_and_amount, place_of, alone_of, pair_of, access_of, flush_of, load_of, operation_of, issue_of, do_of, served_of, line_of, functions_of, store_of, opening_of}
 use Rattle.fkv_scripts.specs.declared.lines.FunctionsName.{FunctionsName}
 use Rattle.fkv_scripts.specs.declared.lines.FunctionsName.TheVariants.{Count, Sum, Max}
 use Rattle.fkv_scripts.specs.declared.lines.Opening.{Opening}
@@ -17,7 +17,7 @@ use Rattle.fkv_lives.specs.declared.steps.Access.{Access}
 use Rattle.fkv_lives.specs.declared.steps.Access.TheVariants.{Works, Fails}
 use Rattle.fkv_lives.specs.declared.steps.Place.{Place}
 use Rattle.fkv_scripts.specs.declared.lines.Line.{Line}
-use Rattle.fkv_scripts.specs.declared.lines.Line.TheVariants.{Enter, Leave, Refresh, ReadOnly, Head, Flush, Issue, Do, Go, Install, Load, GiveUp, Ready, Finish}
+use Rattle.fkv_scripts.specs.declared.lines.Line.TheVariants.{Enter, Leave, Refresh, ReadOnly, Head, Flush, Truncate, Issue, Do, Compact, Go, Install, Load, GiveUp, Ready, Finish}
 use Rattle.fkv_scripts.proofs.KeyLemmas.{key_only, key_found}
 
 -- a word that stands for the first token is read as its value
@@ -41,9 +41,9 @@ place_only p ws s =
     let c = takes_number p.context [] b.0 b.2 in
     rw (a.1, b.1, c.1) (ends c.0 p c.2)
 
-enter_only : (p : ℕ) (ws : List (List ℕ)) → SpellAll ws (number p ∷ []) → enter_of ws ≡ Some (Enter p)
-unfolding enter_of
-enter_only p ws s = let a = takes_number p [] ws s in rw a.1 (ends a.0 (Enter p) a.2)
+alone_only : (n : ℕ) (ws : List (List ℕ)) → SpellAll ws (number n ∷ []) → alone_of ws ≡ Some n
+unfolding alone_of
+alone_only n ws s = let a = takes_number n [] ws s in rw a.1 (ends a.0 n a.2)
 
 pair_only : (m n : ℕ) (ws : List (List ℕ)) → SpellAll ws (number m ∷ number n ∷ []) → pair_of ws ≡ Some (m, n)
 unfolding pair_of
@@ -111,14 +111,16 @@ do_only p s o ws z h =
 
 -- What the tokens of a line spell is read as that line.
 pub only : (l : Line) (ws : List (List ℕ)) → Spelled ws l → line_of ws ≡ Some l
-unfolding line_of
-only (Enter p) (v ∷ ws) h = rw h.0.0 (enter_only p ws h.0.1)
+unfolding line_of served_of
+only (Enter p) (v ∷ ws) h = rw (h.0.0, alone_only p ws h.0.1) refl
 only (Leave p s) (v ∷ ws) h = rw (h.0.0, pair_only p s ws h.0.1) refl
 only (Refresh p s) (v ∷ ws) h = rw (h.0.0, pair_only p s ws h.0.1) refl
 only (ReadOnly p n) (v ∷ ws) h = rw (h.0.0, pair_only p n ws h.0.1) refl
 only (Head p n) (v ∷ ws) h = rw (h.0.0, pair_only p n ws h.0.1) refl
 only (Flush p a) (v ∷ ws) h = rw h.0.0 (flush_only p a ws h.0.1)
+only (Truncate p) (v ∷ ws) h = rw (h.0.0, alone_only p ws h.0.1) refl
 only (Do p s o) (v ∷ ws) h = rw h.0.0 (do_only p s o ws h.1 h.0.1)
+only (Compact p s) (v ∷ ws) h = rw (h.0.0, pair_only p s ws h.0.1) refl
 only (Go p) (v ∷ ws) h = rw (h.0.0, place_only p ws h.0.1) refl
 only (Install p) (v ∷ ws) h = rw (h.0.0, place_only p ws h.0.1) refl
 only (Load p a) (v ∷ ws) h = rw h.0.0 (load_only p a ws h.0.1)
@@ -138,8 +140,10 @@ only (Refresh p s) [] h = absurd h.0
 only (ReadOnly p n) [] h = absurd h.0
 only (Head p n) [] h = absurd h.0
 only (Flush p a) [] h = absurd h.0
+only (Truncate p) [] h = absurd h.0
 only (Load p a) [] h = absurd h.0
 only (Do p s o) [] h = absurd h.0
+only (Compact p s) [] h = absurd h.0
 only (Go p) [] h = absurd h.0
 only (Install p) [] h = absurd h.0
 only (GiveUp p) [] h = absurd h.0
@@ -193,12 +197,21 @@ ended : {A : Type 0} (ws : List (List ℕ)) (x y : A) → end_of ws x ≡ Some y
 ended [] x y e = (tt, same_Some x y e)
 ended (w ∷ ws) x y e = absurd (let bad : None ≡ Some y = e in cc)
 
-enter_found : (ws : List (List ℕ)) (l : Line) → enter_of ws ≡ Some l → (v : List ℕ) → v ≡ codes "enter" → Spelled (v ∷ ws) l
-unfolding enter_of
-enter_found ws l e v t =
-    let a = bind_ok _ _ l e in
-    let b = ended a.0.1 (Enter a.0.0) l a.2 in
-    rw (← b.1) ((t, taken_number ws a.0 a.1 [] b.0), tt)
+alone_found : (ws : List (List ℕ)) (n : ℕ) → alone_of ws ≡ Some n → SpellAll ws (number n ∷ [])
+unfolding alone_of
+alone_found ws n e =
+    let a = bind_ok {A = ℕ × List (List ℕ)} (first_as number_of ws) _ n e in
+    let b = ended a.0.1 a.0.0 n a.2 in
+    rw (← b.1) (taken_number ws a.0 a.1 [] b.0)
+
+-- a line of a verb and a number
+single_found : (make : ℕ → Line) (text : List ℕ) → ((n : ℕ) → tokens (make n) ≡ word text ∷ number n ∷ []) → ((n : ℕ) → HasText (make n)) → (ws : List (List ℕ)) (l : Line) → option_map make (alone_of ws) ≡ Some l
+    → (v : List ℕ) → v ≡ text → Spelled (v ∷ ws) l
+single_found make text h k ws l e v t = by (alone_of ws) refl e
+  where
+    by : (o : Option ℕ) → alone_of ws ≡ o → option_map make o ≡ Some l → Spelled (v ∷ ws) l
+    by None f g = absurd (let bad : None ≡ Some l = g in cc)
+    by (Some n) f g = rw (← same_Some (make n) l g, h n) ((t, alone_found ws n f), k n)
 
 pair_found : (ws : List (List ℕ)) (p : ℕ × ℕ) → pair_of ws ≡ Some p → SpellAll ws (number p.0 ∷ number p.1 ∷ [])
 unfolding pair_of
@@ -330,25 +343,32 @@ do_found ws l e v t =
         let back : us ≡ x.1 = ap (λ (p : List ℕ × List (List ℕ)). p.1) same in
         (rw front g, rw back h)
 
--- What is read as a line is spelled by its tokens.
-pub found : (ws : List (List ℕ)) (l : Line) → line_of ws ≡ Some l → Spelled ws l
-unfolding line_of
-found [] l e = absurd (let bad : None ≡ Some l = e in cc)
-found (v ∷ ws) l e =
-    chosen (bytes_eq v (codes "enter")) _ _ (Some l) e (λ t f. enter_found ws l f v (same_text v (codes "enter") t))
-    (λ f. chosen (bytes_eq v (codes "leave")) _ _ (Some l) f (λ t g. paired_found (λ p. Leave p.0 p.1) (codes "leave") (λ p. refl) (λ p. tt) ws l g v (same_text v (codes "leave") t))
-    (λ f. chosen (bytes_eq v (codes "refresh")) _ _ (Some l) f (λ t g. paired_found (λ p. Refresh p.0 p.1) (codes "refresh") (λ p. refl) (λ p. tt) ws l g v (same_text v (codes "refresh") t))
-    (λ f. chosen (bytes_eq v (codes "readonly")) _ _ (Some l) f (λ t g. paired_found (λ p. ReadOnly p.0 p.1) (codes "readonly") (λ p. refl) (λ p. tt) ws l g v (same_text v (codes "readonly") t))
-    (λ f. chosen (bytes_eq v (codes "head")) _ _ (Some l) f (λ t g. paired_found (λ p. Head p.0 p.1) (codes "head") (λ p. refl) (λ p. tt) ws l g v (same_text v (codes "head") t))
-    (λ f. chosen (bytes_eq v (codes "flush")) _ _ (Some l) f (λ t g. flush_found ws l g v (same_text v (codes "flush") t))
-    (λ f. chosen (bytes_eq v (codes "do")) _ _ (Some l) f (λ t g. do_found ws l g v (same_text v (codes "do") t))
+served_found : (v : List ℕ) (ws : List (List ℕ)) (l : Line) → served_of v ws ≡ Some l → Spelled (v ∷ ws) l
+unfolding served_of
+served_found v ws l e =
+    chosen (bytes_eq v (codes "do")) _ _ (Some l) e (λ t g. do_found ws l g v (same_text v (codes "do") t))
+    (λ f. chosen (bytes_eq v (codes "compact")) _ _ (Some l) f (λ t g. paired_found (λ p. Compact p.0 p.1) (codes "compact") (λ p. refl) (λ p. tt) ws l g v (same_text v (codes "compact") t))
     (λ f. chosen (bytes_eq v (codes "go")) _ _ (Some l) f (λ t g. placed_found Go (codes "go") (λ p. refl) (λ p. tt) ws l g v (same_text v (codes "go") t))
     (λ f. chosen (bytes_eq v (codes "install")) _ _ (Some l) f (λ t g. placed_found Install (codes "install") (λ p. refl) (λ p. tt) ws l g v (same_text v (codes "install") t))
     (λ f. chosen (bytes_eq v (codes "load")) _ _ (Some l) f (λ t g. load_found ws l g v (same_text v (codes "load") t))
     (λ f. chosen (bytes_eq v (codes "giveup")) _ _ (Some l) f (λ t g. placed_found GiveUp (codes "giveup") (λ p. refl) (λ p. tt) ws l g v (same_text v (codes "giveup") t))
     (λ f. chosen (bytes_eq v (codes "ready")) _ _ (Some l) f (λ t g. placed_found Ready (codes "ready") (λ p. refl) (λ p. tt) ws l g v (same_text v (codes "ready") t))
     (λ f. chosen (bytes_eq v (codes "finish")) _ _ (Some l) f (λ t g. placed_found Finish (codes "finish") (λ p. refl) (λ p. tt) ws l g v (same_text v (codes "finish") t))
-    (λ f. issue_found v ws l f)))))))))))))
+    (λ f. issue_found v ws l f))))))))
+
+-- What is read as a line is spelled by its tokens.
+pub found : (ws : List (List ℕ)) (l : Line) → line_of ws ≡ Some l → Spelled ws l
+unfolding line_of
+found [] l e = absurd (let bad : None ≡ Some l = e in cc)
+found (v ∷ ws) l e =
+    chosen (bytes_eq v (codes "enter")) _ _ (Some l) e (λ t f. single_found Enter (codes "enter") (λ n. refl) (λ n. tt) ws l f v (same_text v (codes "enter") t))
+    (λ f. chosen (bytes_eq v (codes "leave")) _ _ (Some l) f (λ t g. paired_found (λ p. Leave p.0 p.1) (codes "leave") (λ p. refl) (λ p. tt) ws l g v (same_text v (codes "leave") t))
+    (λ f. chosen (bytes_eq v (codes "refresh")) _ _ (Some l) f (λ t g. paired_found (λ p. Refresh p.0 p.1) (codes "refresh") (λ p. refl) (λ p. tt) ws l g v (same_text v (codes "refresh") t))
+    (λ f. chosen (bytes_eq v (codes "readonly")) _ _ (Some l) f (λ t g. paired_found (λ p. ReadOnly p.0 p.1) (codes "readonly") (λ p. refl) (λ p. tt) ws l g v (same_text v (codes "readonly") t))
+    (λ f. chosen (bytes_eq v (codes "head")) _ _ (Some l) f (λ t g. paired_found (λ p. Head p.0 p.1) (codes "head") (λ p. refl) (λ p. tt) ws l g v (same_text v (codes "head") t))
+    (λ f. chosen (bytes_eq v (codes "flush")) _ _ (Some l) f (λ t g. flush_found ws l g v (same_text v (codes "flush") t))
+    (λ f. chosen (bytes_eq v (codes "truncate")) _ _ (Some l) f (λ t g. single_found Truncate (codes "truncate") (λ n. refl) (λ n. tt) ws l g v (same_text v (codes "truncate") t))
+    (λ f. served_found v ws l f)))))))
 
 functions_found : (w : List ℕ) (f : FunctionsName) → functions_of w ≡ Some f → Spells w (functions_name f)
 unfolding functions_of

@@ -12,7 +12,7 @@ use Rattle.fkv_lives.specs.declared.steps.Access.{Access}
 use Rattle.fkv_lives.specs.declared.steps.Access.TheVariants.{Works, Fails}
 use Rattle.fkv_lives.specs.declared.steps.Place.{Place}
 use Rattle.fkv_scripts.specs.declared.lines.Line.{Line}
-use Rattle.fkv_scripts.specs.declared.lines.Line.TheVariants.{Enter, Leave, Refresh, ReadOnly, Head, Flush, Issue, Do, Go, Install, Load, GiveUp, Ready, Finish}
+use Rattle.fkv_scripts.specs.declared.lines.Line.TheVariants.{Enter, Leave, Refresh, ReadOnly, Head, Flush, Truncate, Issue, Do, Compact, Go, Install, Load, GiveUp, Ready, Finish}
 
 -- what a word of a line stands for
 pub data Token : Type 0 where
@@ -64,8 +64,10 @@ tokens (Refresh p s) = word (codes "refresh") ∷ number p ∷ number s ∷ []
 tokens (ReadOnly p n) = word (codes "readonly") ∷ number p ∷ number n ∷ []
 tokens (Head p n) = word (codes "head") ∷ number p ∷ number n ∷ []
 tokens (Flush p a) = word (codes "flush") ∷ number p ∷ access_word a ∷ []
+tokens (Truncate p) = word (codes "truncate") ∷ number p ∷ []
 tokens (Issue p s o) = verb o ∷ number p ∷ number s ∷ operands o
 tokens (Do p s o) = word (codes "do") ∷ number p ∷ number s ∷ verb o ∷ operands o
+tokens (Compact p s) = word (codes "compact") ∷ number p ∷ number s ∷ []
 tokens (Go p) = word (codes "go") ∷ place p
 tokens (Install p) = word (codes "install") ∷ place p
 tokens (Load p a) =

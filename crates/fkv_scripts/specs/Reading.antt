@@ -16,7 +16,7 @@ use Rattle.fkv_lives.specs.declared.steps.Access.{Access}
 use Rattle.fkv_lives.specs.declared.steps.Access.TheVariants.{Works, Fails}
 use Rattle.fkv_lives.specs.declared.steps.Place.{Place}
 use Rattle.fkv_scripts.specs.declared.lines.Line.{Line}
-use Rattle.fkv_scripts.specs.declared.lines.Line.TheVariants.{Enter, Leave, Refresh, ReadOnly, Head, Flush, Issue, Do, Go, Install, Load, GiveUp, Ready, Finish}
+use Rattle.fkv_scripts.specs.declared.lines.Line.TheVariants.{Enter, Leave, Refresh, ReadOnly, Head, Flush, Truncate, Issue, Do, Compact, Go, Install, Load, GiveUp, Ready, Finish}
 
 -- the name of 1 to 31 bytes
 abbrev pub name_with : (bytes : List ℕ) → (1 ≤ length bytes) × (length bytes ≤ 31) → Name
@@ -76,10 +76,11 @@ place_of ws = do
   c ← first_as number_of s.1
   end_of c.1 (record { partition = p.0; slot = s.0; context = c.0 })
 
-unfoldable pub enter_of : List (List ℕ) → Option Line
-enter_of ws = do
-  p ← first_as number_of ws
-  end_of p.1 (Enter p.0)
+-- a number, and nothing after it
+unfoldable pub alone_of : List (List ℕ) → Option ℕ
+alone_of ws = do
+  n ← first_as number_of ws
+  end_of n.1 n.0
 
 -- two numbers, and nothing after them
 unfoldable pub pair_of : List (List ℕ) → Option (ℕ × ℕ)
@@ -145,23 +146,30 @@ do_of ws = do
   o ← operation_of v.0 v.1
   Some (Do p.0 s.0 o)
 
-unfoldable pub line_of : List (List ℕ) → Option Line
-line_of [] = None
-line_of (v ∷ ws) =
-    if bytes_eq v (codes "enter") then enter_of ws
-    else (if bytes_eq v (codes "leave") then option_map (λ p. Leave p.0 p.1) (pair_of ws)
-    else (if bytes_eq v (codes "refresh") then option_map (λ p. Refresh p.0 p.1) (pair_of ws)
-    else (if bytes_eq v (codes "readonly") then option_map (λ p. ReadOnly p.0 p.1) (pair_of ws)
-    else (if bytes_eq v (codes "head") then option_map (λ p. Head p.0 p.1) (pair_of ws)
-    else (if bytes_eq v (codes "flush") then flush_of ws
-    else (if bytes_eq v (codes "do") then do_of ws
+-- a line of an operation or of a relocation
+unfoldable pub served_of : List ℕ → List (List ℕ) → Option Line
+served_of v ws =
+    if bytes_eq v (codes "do") then do_of ws
+    else (if bytes_eq v (codes "compact") then option_map (λ p. Compact p.0 p.1) (pair_of ws)
     else (if bytes_eq v (codes "go") then option_map Go (place_of ws)
     else (if bytes_eq v (codes "install") then option_map Install (place_of ws)
     else (if bytes_eq v (codes "load") then load_of ws
     else (if bytes_eq v (codes "giveup") then option_map GiveUp (place_of ws)
     else (if bytes_eq v (codes "ready") then option_map Ready (place_of ws)
     else (if bytes_eq v (codes "finish") then option_map Finish (place_of ws)
-    else issue_of v ws))))))))))))
+    else issue_of v ws)))))))
+
+unfoldable pub line_of : List (List ℕ) → Option Line
+line_of [] = None
+line_of (v ∷ ws) =
+    if bytes_eq v (codes "enter") then option_map Enter (alone_of ws)
+    else (if bytes_eq v (codes "leave") then option_map (λ p. Leave p.0 p.1) (pair_of ws)
+    else (if bytes_eq v (codes "refresh") then option_map (λ p. Refresh p.0 p.1) (pair_of ws)
+    else (if bytes_eq v (codes "readonly") then option_map (λ p. ReadOnly p.0 p.1) (pair_of ws)
+    else (if bytes_eq v (codes "head") then option_map (λ p. Head p.0 p.1) (pair_of ws)
+    else (if bytes_eq v (codes "flush") then flush_of ws
+    else (if bytes_eq v (codes "truncate") then option_map Truncate (alone_of ws)
+    else served_of v ws))))))
 
 unfoldable pub functions_of : List ℕ → Option FunctionsName
 functions_of word =

@@ -4,9 +4,9 @@ ghost use Rattle.fkv_scripts.specs.Configs.{config_of};
 ghost use Rattle.fkv_scripts.specs.Script.{takes_operation, takes};
 
 use fkv_functions::Name;
+use fkv_lives::{Access, Place};
 use fkv_operations::Op;
 use fkv_partition::Config;
-use fkv_worlds::steps::{Access, Place};
 
 /// The sets of functions that a script can name.
 #[derive(Clone, Copy, PartialEq, Eq, Debug)]
@@ -63,6 +63,10 @@ pub enum Line {
         partition: u64,
         access: Access,
     },
+    /// Begin moves to the start of the page up to which all is cleared.
+    Truncate {
+        partition: u64,
+    },
     /// A session issues an operation. The input of a read is 0.
     Issue {
         partition: u64,
@@ -75,17 +79,22 @@ pub enum Line {
         session: u64,
         op: Op<Name, i64, i64>,
     },
-    /// An operation goes on by one step.
+    /// A session issues a relocation and finishes it.
+    Compact {
+        partition: u64,
+        session: u64,
+    },
+    /// An operation or a relocation goes on by one step.
     Go(Place),
     /// What an operation last asked for is answered.
     Install(Place),
-    /// The page that an operation last asked for is read from the device, and the operation goes on with it.
+    /// The page that an operation or a relocation asked for is read from the device, and it goes on with that page.
     Load(Place, Access),
-    /// An operation is given up.
+    /// An operation or a relocation is given up.
     GiveUp(Place),
-    /// An operation goes on until it asks for something or ends.
+    /// An operation or a relocation goes on until it asks for something or ends.
     Ready(Place),
-    /// An operation goes on, and is answered, until it ends.
+    /// An operation or a relocation goes on, and is answered, until it ends.
     Finish(Place),
 }
 

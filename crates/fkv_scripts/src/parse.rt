@@ -6,13 +6,13 @@ ghost use Rattle.fkv_scripts.specs.declared.lines.Opening.{Opening};
 ghost use Rattle.fkv_scripts.specs.Words.{words_of};
 ghost use Rattle.fkv_scripts.specs.Grammar.{Opens};
 ghost use Rattle.fkv_scripts.specs.Script.{SaysTo};
-ghost use Rattle.fkv_scripts.specs.Reading.{Gives, first_as, line_of, enter_of, pair_of, issue_of, do_of, place_of, access_of, load_of, flush_of, key_alone, key_and_amount, operation_of, functions_of, store_of, opening_of};
+ghost use Rattle.fkv_scripts.specs.Reading.{Gives, first_as, line_of, served_of, alone_of, pair_of, issue_of, do_of, place_of, access_of, load_of, flush_of, key_alone, key_and_amount, operation_of, functions_of, store_of, opening_of};
 
 use crate::lines::{FunctionsName, Line, Opening};
 use crate::words::Words;
 use fkv_functions::Name;
+use fkv_lives::{Access, Place};
 use fkv_operations::Op;
-use fkv_worlds::steps::{Access, Place};
 
 /// What a line after the first says to a store of these functions, where it says anything.
 pub fn parse_line(functions: FunctionsName, bytes: &[u8]) -> Option<Line>
@@ -43,7 +43,8 @@ fn line(bytes: &[u8]) -> Option<Line>
     let mut words = Words::new(bytes);
     let verb = words.next()?;
     if is(verb, "enter") {
-        return enter(&mut words);
+        let partition = alone(&mut words)?;
+        return Some(Line::Enter { partition });
     }
     if is(verb, "leave") {
         let (partition, session) = pair(&mut words)?;
@@ -64,28 +65,44 @@ fn line(bytes: &[u8]) -> Option<Line>
     if is(verb, "flush") {
         return flush(&mut words);
     }
+    if is(verb, "truncate") {
+        let partition = alone(&mut words)?;
+        return Some(Line::Truncate { partition });
+    }
+    served(verb, &mut words)
+}
+
+/// A line of an operation or of a relocation.
+#[tactic(auto, unfolding(crate::specs::Reading::served_of))]
+fn served(verb: &[u8], words: &mut Words<'_>) -> Option<Line>
+    ensures { result ≡ served_of verb.now words.old }
+{
     if is(verb, "do") {
-        return do_line(&mut words);
+        return do_line(words);
+    }
+    if is(verb, "compact") {
+        let (partition, session) = pair(words)?;
+        return Some(Line::Compact { partition, session });
     }
     if is(verb, "go") {
-        return Some(Line::Go(place(&mut words)?));
+        return Some(Line::Go(place(words)?));
     }
     if is(verb, "install") {
-        return Some(Line::Install(place(&mut words)?));
+        return Some(Line::Install(place(words)?));
     }
     if is(verb, "load") {
-        return load(&mut words);
+        return load(words);
     }
     if is(verb, "giveup") {
-        return Some(Line::GiveUp(place(&mut words)?));
+        return Some(Line::GiveUp(place(words)?));
     }
     if is(verb, "ready") {
-        return Some(Line::Ready(place(&mut words)?));
+        return Some(Line::Ready(place(words)?));
     }
     if is(verb, "finish") {
-        return Some(Line::Finish(place(&mut words)?));
+        return Some(Line::Finish(place(words)?));
     }
-    issue(verb, &mut words)
+    issue(verb, words)
 }
 
 #[tactic(auto, unfolding(crate::specs::Reading::opening_of))]
@@ -144,15 +161,16 @@ fn store(words: &mut Words<'_>) -> Option<Opening>
     })
 }
 
-#[tactic(auto, unfolding(crate::specs::Reading::enter_of))]
-fn enter(words: &mut Words<'_>) -> Option<Line>
-    ensures { result ≡ enter_of words.old }
+/// A number, and nothing after it.
+#[tactic(auto, unfolding(crate::specs::Reading::alone_of))]
+fn alone(words: &mut Words<'_>) -> Option<u64>
+    ensures { result ≡ alone_of words.old }
 {
-    let partition = words.number()?;
+    let number = words.number()?;
     if !words.is_empty() {
         return None;
     }
-    Some(Line::Enter { partition })
+    Some(number)
 }
 
 /// Two numbers, and nothing after them.
