@@ -27,12 +27,12 @@ use Rattle.std.specs.Map.{lookup, keys_of}
 use Rattle.std.specs.List.Sorted.{IsStrictlySortedBy}
 use Rattle.fkv_functions.specs.Names.{name_cmp}
 use Rattle.fkv_partition.specs.declared.limits.Config.{Config}
-use Rattle.fkv_worlds.specs.States.{WorldView, empty_world}
+use Rattle.fkv_worlds.specs.States.{WorldView, bare, empty_world}
 use Rattle.fkv_worlds.specs.Headline.{IsHeadline}
 use Rattle.fkv_worlds.specs.Worlds.{world_live}
 use Rattle.fkv_worlds.proofs.HistoryLemmas.{issued-runs}
 use Rattle.fkv_steps.specs.Printing.{steps_text, map_text}
-use Rattle.fkv_steps.specs.Running.{context_in, is_page, op_of, FollowsIssue, FollowsTake, finishes, writes, tells, RunsLine, RunLines, IsPrintedBy}
+use Rattle.fkv_steps.specs.Running.{context_in, is_page, op_of, FollowsIssue, FollowsTake, finishes, writes, RunsLine, RunLines, IsPrintedBy}
 
 pub lines-append : {V O R : Type 0} (stands : R → Standing) (entry : ℕ → List ℕ → ℕ → Entry Name V → Type 0) (cmp : Name → Name → Ordering) (f : Meanings Name V ℤ O) (code : Name → ℕ) (written : ℤ → V) (v u w : WorldView Name V ℤ O R) (ls : List Line) (ts : List (Result (Outcome V O) Refused)) (l : Line) (t : Result (Outcome V O) Refused)
     → RunLines stands entry cmp f code written v ls ts u → RunsLine stands entry cmp f code written u w t l → RunLines stands entry cmp f code written v (ls ++ l ∷ []) (ts ++ t ∷ []) w
@@ -60,10 +60,13 @@ answer-joined (Ok (outcome.Flushed page)) xs ys = refl
 answer-joined (Ok (outcome.Load address)) xs ys = refl
 answer-joined (Ok (outcome.Waits why)) xs ys = refl
 answer-joined (Ok (outcome.Issued c)) xs ys = refl
+answer-joined (Ok (outcome.Relocating c)) xs ys = refl
 answer-joined (Ok outcome.Next) xs ys = refl
 answer-joined (Ok (outcome.Build source)) xs ys = refl
 answer-joined (Ok (outcome.Done a)) xs ys = refl
+answer-joined (Ok outcome.Cleared) xs ys = refl
 answer-joined (Ok outcome.GivenUp) xs ys = refl
+answer-joined (Ok (outcome.Truncated begin)) xs ys = refl
 answer-joined (Err e) xs ys = refl
 
 answers-joined : {V O : Type 0} (ts us : List (Result (Outcome V O) Refused)) → answers_in (ts ++ us) ≡ answers_in ts ++ answers_in us
@@ -75,6 +78,7 @@ silent : {K V I O : Type 0} (pursuit : Pursuit) (place : Place) (x : Result (Out
 silent pursuit place (Ok (outcome.Entered slot)) t h = refl
 silent pursuit place (Ok outcome.Left) t h = refl
 silent pursuit place (Ok (outcome.Issued c)) t h = refl
+silent pursuit place (Ok (outcome.Relocating c)) t h = refl
 silent pursuit place (Ok outcome.Next) t h = refl
 silent pursuit place (Ok (outcome.Build source)) t h = refl
 silent pursuit place (Ok outcome.Refreshed) t h = refl
@@ -84,7 +88,9 @@ silent pursuit place (Ok (outcome.Flushed page)) t h = refl
 silent pursuit place (Ok (outcome.Load address)) t h = refl
 silent pursuit place (Ok (outcome.Waits why)) t h = absurd (cc)
 silent pursuit place (Ok (outcome.Done a)) t h = absurd (cc)
+silent pursuit place (Ok outcome.Cleared) t h = refl
 silent pursuit place (Ok outcome.GivenUp) t h = refl
+silent pursuit place (Ok (outcome.Truncated begin)) t h = refl
 silent pursuit place (Err e) t h = refl
 
 -- an accepted issue told no answer, and neither did a take
@@ -96,12 +102,15 @@ silent-issue c (Ok outcome.Shifted) h = refl
 silent-issue c (Ok (outcome.Taken x)) h = refl
 silent-issue c (Ok (outcome.Flushed x)) h = refl
 silent-issue c (Ok (outcome.Issued x)) h = refl
+silent-issue c (Ok (outcome.Relocating x)) h = refl
 silent-issue c (Ok outcome.Next) h = refl
 silent-issue c (Ok (outcome.Build x)) h = refl
 silent-issue c (Ok (outcome.Load x)) h = refl
 silent-issue c (Ok (outcome.Waits x)) h = refl
 silent-issue c (Ok (outcome.Done x)) h = absurd (cc)
+silent-issue c (Ok outcome.Cleared) h = refl
 silent-issue c (Ok outcome.GivenUp) h = refl
+silent-issue c (Ok (outcome.Truncated x)) h = refl
 silent-issue c (Err e) h = refl
 
 silent-take : {V O : Type 0} (x : Result (Outcome V O) Refused) → is_page x ≡ true → answers_in (x ∷ []) ≡ []
@@ -112,12 +121,15 @@ silent-take (Ok outcome.Shifted) h = refl
 silent-take (Ok (outcome.Taken x)) h = refl
 silent-take (Ok (outcome.Flushed x)) h = refl
 silent-take (Ok (outcome.Issued x)) h = refl
+silent-take (Ok (outcome.Relocating x)) h = refl
 silent-take (Ok outcome.Next) h = refl
 silent-take (Ok (outcome.Build x)) h = refl
 silent-take (Ok (outcome.Load x)) h = refl
 silent-take (Ok (outcome.Waits x)) h = refl
 silent-take (Ok (outcome.Done x)) h = absurd (cc)
+silent-take (Ok outcome.Cleared) h = refl
 silent-take (Ok outcome.GivenUp) h = refl
+silent-take (Ok (outcome.Truncated x)) h = refl
 silent-take (Err e) h = refl
 
 -- steps from one world to another, of which these are all the answers
@@ -161,6 +173,14 @@ module _ {K V I O R : Type 0} (stands : R → Standing) (entry : ℕ → List �
       run-told v w (x ∷ t ∷ []) (t ∷ []) (answers-joined (x ∷ []) (t ∷ []) ∙ ap (λ xs. xs ++ answers_in (t ∷ [])) (silent pursuit place x next follow))
       (run-joined v u w (x ∷ []) (t ∷ []) (run-one v u s x kept) (run-pursued pursuit place w result m next u t rest h))
 
+-- what was issued was accepted, and is finished
+pub did-finish : {V O R : Type 0} (stands : R → Standing) (entry : ℕ → List ℕ → ℕ → Entry Name V → Type 0) (cmp : Name → Name → Ordering) (f : Meanings Name V ℤ O) (code : Name → ℕ) (p slot c : ℕ) (mid w : WorldView Name V ℤ O R) (issued : Result (Outcome V O) Refused) (r : Option (Result (Outcome V O) Refused))
+    → context_in issued ≡ Some c
+    → Pursues stands entry cmp f code pursuit.Finish (record { partition = p; slot = slot; context = c }) w r 10000 (first_step mid.state.partitions pursuit.Finish (record { partition = p; slot = slot; context = c })) mid
+    → IfSome r (λ told. FollowsIssue stands entry cmp f code p slot mid w told issued)
+did-finish stands entry cmp f code p slot c mid w issued None is h = tt
+did-finish stands entry cmp f code p slot c mid w issued (Some told) is h = finishes c is h
+
 module _ {V O R : Type 0} (stands : R → Standing) (entry : ℕ → List ℕ → ℕ → Entry Name V → Type 0) (cmp : Name → Name → Ordering) (f : Meanings Name V ℤ O) (code : Name → ℕ) (written : ℤ → V) where
   run-issued : (p slot : ℕ) (mid w : WorldView Name V ℤ O R) (told issued : Result (Outcome V O) Refused) (v : WorldView Name V ℤ O R) (s : Step Name V ℤ)
       → IsKept stands entry cmp f code v mid s issued → FollowsIssue stands entry cmp f code p slot mid w told issued → IsRun stands entry cmp f code v w (told ∷ [])
@@ -176,13 +196,19 @@ module _ {V O R : Type 0} (stands : R → Standing) (entry : ℕ → List ℕ �
       (run-joined stands entry cmp f code v mid w (taken ∷ []) (told ∷ []) (run-one stands entry cmp f code v mid s taken kept) (run-one stands entry cmp f code mid w (step.Write p access) told h))
   run-taken p access mid w told taken v s kept (FollowsTake.tells is same e) = rw (same, e) (run-one stands entry cmp f code v mid s taken kept)
 
-  pub did-issue : (p slot c : ℕ) (op : Op Name ℤ ℤ) (v mid w : WorldView Name V ℤ O R) (issued : Result (Outcome V O) Refused) (r : Option (Result (Outcome V O) Refused))
+  pub did-issue : (p slot : ℕ) (op : Op Name ℤ ℤ) (v mid w : WorldView Name V ℤ O R) (issued : Result (Outcome V O) Refused) (r : Option (Result (Outcome V O) Refused))
       → IsKept stands entry cmp f code v mid (step.Issue p slot (op_of written op)) issued
-      → context_in issued ≡ Some c
-      → Pursues stands entry cmp f code pursuit.Finish (record { partition = p; slot = slot; context = c }) w r 10000 (first_step mid.state.partitions pursuit.Finish (record { partition = p; slot = slot; context = c })) mid
+      → IfSome r (λ told. FollowsIssue stands entry cmp f code p slot mid w told issued)
       → IfSome r (λ told. RunsLine stands entry cmp f code written v w told (line.Do p slot op))
-  did-issue p slot c op v mid w issued None kept is h = tt
-  did-issue p slot c op v mid w issued (Some told) kept is h = (mid, issued, kept, finishes c is h)
+  did-issue p slot op v mid w issued None kept h = tt
+  did-issue p slot op v mid w issued (Some told) kept h = (mid, issued, kept, h)
+
+  pub did-relocate : (p slot : ℕ) (v mid w : WorldView Name V ℤ O R) (issued : Result (Outcome V O) Refused) (r : Option (Result (Outcome V O) Refused))
+      → IsKept stands entry cmp f code v mid (step.Relocate p slot) issued
+      → IfSome r (λ told. FollowsIssue stands entry cmp f code p slot mid w told issued)
+      → IfSome r (λ told. RunsLine stands entry cmp f code written v w told (line.Compact p slot))
+  did-relocate p slot v mid w issued None kept h = tt
+  did-relocate p slot v mid w issued (Some told) kept h = (mid, issued, kept, h)
 
   pub did-take : (p : ℕ) (access : Access) (v mid w : WorldView Name V ℤ O R) (taken : Result (Outcome V O) Refused) (r : Option (Result (Outcome V O) Refused))
       → IsKept stands entry cmp f code v mid (step.Take p) taken
@@ -199,9 +225,11 @@ module _ {V O R : Type 0} (stands : R → Standing) (entry : ℕ → List ℕ �
   run-line v w t (line.ReadOnly p page) h = run-one stands entry cmp f code v w _ t h
   run-line v w t (line.Head p page) h = run-one stands entry cmp f code v w _ t h
   run-line v w t (line.Flush p access) h = run-taken p access h.0 w t h.1 v _ h.2 h.3
+  run-line v w t (line.Truncate p) h = run-one stands entry cmp f code v w _ t h
   run-line v w t (line.Load place access) h = run-one stands entry cmp f code v w _ t h
   run-line v w t (line.Issue p slot op) h = run-one stands entry cmp f code v w _ t h
   run-line v w t (line.Do p slot op) h = run-issued p slot h.0 w t h.1 v _ h.2 h.3
+  run-line v w t (line.Compact p slot) h = run-issued p slot h.0 w t h.1 v _ h.2 h.3
   run-line v w t (line.Go place) h = run-one stands entry cmp f code v w _ t h
   run-line v w t (line.Install place) h = run-one stands entry cmp f code v w _ t h
   run-line v w t (line.GiveUp place) h = run-one stands entry cmp f code v w _ t h
@@ -225,7 +253,7 @@ module _ {V O R : Type 0} (stands : R → Standing) (entry : ℕ → List ℕ �
       → v ≡ empty_world config size
       → RunLines stands entry name_cmp f code written v lines told w
       → IsHeadline name_cmp f code w
-      → ((k : Name) → lookup (is_at (name_cmp k)) pairs ≡ world_live name_cmp code w.state.partitions k)
+      → ((k : Name) → lookup (is_at (name_cmp k)) pairs ≡ world_live name_cmp code (bare w.state.partitions) k)
       → IsStrictlySortedBy name_cmp (keys_of pairs)
       → text ≡ steps_text value shown told ++ map_text value pairs
       → IsPrintedBy stands entry name_cmp f code written value shown config size lines text

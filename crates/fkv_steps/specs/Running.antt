@@ -20,7 +20,7 @@ use Rattle.fkv_operations.specs.declared.operations.Op.TheVariants.{Read, Upsert
 use Rattle.fkv_partition.specs.declared.limits.Config.{Config}
 use Rattle.fkv_partition.specs.Limits.{IsWithinLimits}
 use Rattle.fkv_lives.specs.declared.outcomes.Outcome.{Outcome}
-use Rattle.fkv_lives.specs.declared.outcomes.Outcome.TheVariants.{Taken, Issued}
+use Rattle.fkv_lives.specs.declared.outcomes.Outcome.TheVariants.{Taken, Issued, Relocating}
 use Rattle.fkv_lives.specs.declared.steps.Access.{Access}
 use Rattle.fkv_lives.specs.declared.steps.Step.{Step}
 use Rattle.fkv_lives.specs.declared.steps.Step.TheVariants as step
@@ -32,7 +32,7 @@ use Rattle.fkv_scripts.specs.declared.lines.FunctionsName.{FunctionsName}
 use Rattle.fkv_scripts.specs.declared.lines.FunctionsName.TheVariants.{Count, Sum, Max}
 use Rattle.fkv_scripts.specs.Configs.{config_of}
 use Rattle.fkv_scripts.specs.Script.{lines_of, SaysScript}
-use Rattle.fkv_worlds.specs.States.{WorldView, empty_world}
+use Rattle.fkv_worlds.specs.States.{WorldView, bare, empty_world}
 use Rattle.fkv_lives.specs.Histories.{backwards, issues_in, issue_of, answers_in}
 use Rattle.fkv_worlds.specs.Headline.{IsHeadline}
 use Rattle.fkv_worlds.specs.Worlds.{world_live}
@@ -40,9 +40,10 @@ use Rattle.fkv_worlds.specs.Reports.{IsKept, RunsTo, Pursues, first_step}
 use Rattle.fkv_steps.specs.Bytes.{standing_of, IsNamedEntry}
 use Rattle.fkv_steps.specs.Printing.{steps_text, map_text}
 
--- the context of an accepted issue
+-- the context of an accepted issue, of an operation or of a relocation
 abbrev pub context_in : {V O : Type 0} → Result (Outcome V O) Refused → Option ℕ
 context_in (Ok (Issued c)) = Some c
+context_in (Ok (Relocating c)) = Some c
 context_in other = None
 
 -- whether a page was taken
@@ -107,12 +108,19 @@ RunsLine {V} {O} {R} stands entry cmp f code written old new told (line.Flush p 
     × (taken : Result (Outcome V O) Refused)
     × IsKept stands entry cmp f code old mid (step.Take p) taken
     × FollowsTake stands entry cmp f code p access mid new told taken
+RunsLine stands entry cmp f code written old new told (line.Truncate p) =
+    IsKept stands entry cmp f code old new (step.Truncate p) told
 RunsLine stands entry cmp f code written old new told (line.Issue p slot op) =
     IsKept stands entry cmp f code old new (step.Issue p slot (op_of written op)) told
 RunsLine {V} {O} {R} stands entry cmp f code written old new told (line.Do p slot op) =
     (mid : WorldView Name V ℤ O R)
     × (issued : Result (Outcome V O) Refused)
     × IsKept stands entry cmp f code old mid (step.Issue p slot (op_of written op)) issued
+    × FollowsIssue stands entry cmp f code p slot mid new told issued
+RunsLine {V} {O} {R} stands entry cmp f code written old new told (line.Compact p slot) =
+    (mid : WorldView Name V ℤ O R)
+    × (issued : Result (Outcome V O) Refused)
+    × IsKept stands entry cmp f code old mid (step.Relocate p slot) issued
     × FollowsIssue stands entry cmp f code p slot mid new told issued
 RunsLine stands entry cmp f code written old new told (line.Go w) =
     IsKept stands entry cmp f code old new (step.Go w) told
@@ -158,7 +166,7 @@ pub record IsPrintedBy {V O R : Type 0} (stands : R → Standing) (entry : ℕ �
   pub stepped : RunsTo stands entry cmp f code (empty_world config record_size) steps world
   pub issued : map issue_of world.state.lives ≡ issues_in (backwards steps world.outcomes [])
   pub answers : answers_in told ≡ answers_in world.outcomes
-  pub map : (k : Name) → lookup (is_at (cmp k)) pairs ≡ world_live cmp code world.state.partitions k
+  pub map : (k : Name) → lookup (is_at (cmp k)) pairs ≡ world_live cmp code (bare world.state.partitions) k
   pub rising : IsStrictlySortedBy cmp (keys_of pairs)
   pub printed : text ≡ steps_text value shown told ++ map_text value pairs
 

@@ -1,11 +1,11 @@
 //! Scripts: the text that asks for the steps of a world, and the text that they print; and, by name, the
-//! worlds of `fkv_worlds` that they run in.
+//! worlds of `fkv_worlds` that they run in and the words of `fkv_lives` in which these speak.
 #![tactic(auto)]
 
 pub mod scripts;
 
-pub use fkv_worlds::laws::wrong_lives;
-pub use fkv_worlds::{
-    Access, End, Finish, Life, LifeOf, Outcome, OutcomeOf, Place, Report, ReportOf, Step, StepOf,
-    Wait, World, replay,
+pub use fkv_lives::laws::wrong_lives;
+pub use fkv_lives::{
+    Access, End, Finish, Life, LifeOf, Outcome, OutcomeOf, Place, Step, StepOf, Wait,
 };
+pub use fkv_worlds::{Report, ReportOf, World, replay};

@@ -7,9 +7,9 @@ pub mod printing;
 pub mod running;
 pub mod written;
 
+pub use fkv_lives::Printed;
 pub use fkv_scripts::{FunctionsName, LIMIT, Line, Opening, Script, one_reading, read_script};
 pub use fkv_streams::{CountedReader, CountedWriter, Sink, Source, write_out};
-pub use fkv_worlds::Printed;
 pub use printing::text_of;
 pub use running::run_script;
 pub use written::Written;

@@ -3,7 +3,7 @@ ghost use Rattle.std.specs.Prelude.{◌≡◌, ◌++◌, IfOk, IfErr, OnOk};
 ghost use Rattle.fkv_steps.specs.Printing.{step_text, steps_text, pair_text, map_text, line};
 
 use fkv_functions::{Name, Refused};
-use fkv_worlds::{Outcome, Printed};
+use fkv_lives::{Outcome, Printed};
 use std::alloc::Global;
 use std::io::Write;
 

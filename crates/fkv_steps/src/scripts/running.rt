@@ -12,19 +12,17 @@ ghost use Rattle.fkv_streams.specs.Streams.{AppendsPrefix};
 ghost use Rattle.fkv_scripts.specs.Configs.{config_of};
 ghost use Rattle.fkv_scripts.specs.Script.{lines_of, IsBadAt};
 ghost use Rattle.fkv_steps.specs.Bytes.{standing_of, IsNamedEntry};
-ghost use Rattle.fkv_steps.specs.Running.{context_in, is_page, op_of, record_size, RunsLine, RunLines, IsPrintedBy, Prints, IsOutputOf, HasBadConfig};
+ghost use Rattle.fkv_steps.specs.Running.{context_in, is_page, op_of, record_size, FollowsIssue, RunsLine, RunLines, IsPrintedBy, Prints, IsOutputOf, HasBadConfig};
 
 use crate::scripts::printing::text_of;
 use crate::scripts::written::Written;
 use fkv_functions::{CountFns, Functions, MaxFns, Name, Refused, SumFns};
+use fkv_lives::{Access, Outcome, OutcomeOf, Place, Printed, Step};
 use fkv_operations::Op;
 use fkv_partition::Config;
 use fkv_scripts::{FunctionsName, LIMIT, Line, Script, read_script};
 use fkv_streams::{Sink, Source, write_out};
-use fkv_worlds::Printed;
-use fkv_worlds::outcomes::{Outcome, OutcomeOf};
 use fkv_worlds::pursuits::Pursuit;
-use fkv_worlds::steps::{Access, Place, Step};
 use fkv_worlds::worlds::World;
 use std::alloc::Global;
 
@@ -52,51 +50,46 @@ where
     ensures { IfSome result (λ told. RunsLine standing_of (IsNamedEntry F.Value.bytes_of F.Value.is_known F.Value.SIZE)
         name_cmp F.meaning F.code F.Value.written world.old world.new told line.now) }
 {
-    match *line {
-        Line::Enter { partition } => world.try_step(functions, Step::Enter(partition as usize)),
+    let step = match *line {
+        Line::Enter { partition } => Step::Enter(partition as usize),
+        Line::Leave { partition, session } => Step::Leave(partition as usize, session as usize),
+        Line::Refresh { partition, session } => Step::Refresh(partition as usize, session as usize),
+        Line::ReadOnly { partition, page } => Step::ReadOnly(partition as usize, page),
+        Line::Head { partition, page } => Step::Head(partition as usize, page),
+        Line::Flush { partition, access } => {
+            return flush(world, functions, partition as usize, access);
+        }
+        Line::Truncate { partition } => Step::Truncate(partition as usize),
         Line::Issue {
             partition,
             session,
             op,
-        } => world.try_step(
-            functions,
-            Step::Issue(partition as usize, session as usize, on_values(op)),
-        ),
+        } => Step::Issue(partition as usize, session as usize, on_values(op)),
         Line::Do {
             partition,
             session,
             op,
-        } => do_operation(world, functions, partition as usize, session as usize, op),
-        Line::Leave { partition, session } => world.try_step(
-            functions,
-            Step::Leave(partition as usize, session as usize),
-        ),
-        Line::Refresh { partition, session } => world.try_step(
-            functions,
-            Step::Refresh(partition as usize, session as usize),
-        ),
-        Line::ReadOnly { partition, page } => {
-            world.try_step(functions, Step::ReadOnly(partition as usize, page))
+        } => return do_operation(world, functions, partition as usize, session as usize, op),
+        Line::Compact { partition, session } => {
+            return compact(world, functions, partition as usize, session as usize);
         }
-        Line::Head { partition, page } => {
-            world.try_step(functions, Step::Head(partition as usize, page))
-        }
-        Line::Flush { partition, access } => flush(world, functions, partition as usize, access),
-        Line::Go(place) => world.try_step(functions, Step::Go(place)),
-        Line::Install(place) => world.try_step(functions, Step::Install(place)),
-        Line::Load(place, access) => world.try_step(functions, Step::Load(place, access)),
-        Line::GiveUp(place) => world.try_step(functions, Step::GiveUp(place)),
-        Line::Ready(place) => world.pursue(functions, Pursuit::Ready, place),
-        Line::Finish(place) => world.pursue(functions, Pursuit::Finish, place),
-    }
+        Line::Go(place) => Step::Go(place),
+        Line::Install(place) => Step::Install(place),
+        Line::Load(place, access) => Step::Load(place, access),
+        Line::GiveUp(place) => Step::GiveUp(place),
+        Line::Ready(place) => return world.pursue(functions, Pursuit::Ready, place),
+        Line::Finish(place) => return world.pursue(functions, Pursuit::Finish, place),
+    };
+    world.try_step(functions, step)
 }
 
-/// The context of an accepted issue.
+/// The context of an accepted issue, of an operation or of a relocation.
 fn context_in<V: Copy, O: Copy>(told: &Result<Outcome<V, O>, Refused>) -> Option<usize>
     ensures { result ≡ context_in told.now }
 {
     match told {
         Ok(Outcome::Issued(context)) => Some(*context),
+        Ok(Outcome::Relocating(context)) => Some(*context),
         _ => None,
     }
 }
@@ -127,6 +120,39 @@ where
     let Some(issued) = world.try_step(functions, Step::Issue(partition, slot, on_values(op))) else {
         return None;
     };
+    finish_issued(world, functions, partition, slot, issued)
+}
+
+/// Issues a relocation, and finishes it.
+fn compact<F: Functions<Key = Name, Input = i64>>(
+    world: &mut World<F>,
+    functions: &F,
+    partition: usize,
+    slot: usize,
+) -> Option<Result<OutcomeOf<F>, Refused>>
+where
+    F::Value: Written,
+    ensures { IfSome result (λ told. RunsLine standing_of (IsNamedEntry F.Value.bytes_of F.Value.is_known F.Value.SIZE)
+        name_cmp F.meaning F.code F.Value.written world.old world.new told (Line.Compact partition slot)) }
+{
+    let Some(issued) = world.try_step(functions, Step::Relocate(partition, slot)) else {
+        return None;
+    };
+    finish_issued(world, functions, partition, slot, issued)
+}
+
+/// Finishes what was issued, and answers what its last step told; where nothing was issued, what the issue told.
+fn finish_issued<F: Functions<Key = Name, Input = i64>>(
+    world: &mut World<F>,
+    functions: &F,
+    partition: usize,
+    slot: usize,
+    issued: Result<OutcomeOf<F>, Refused>,
+) -> Option<Result<OutcomeOf<F>, Refused>>
+    ensures { IfSome result (λ told. FollowsIssue standing_of
+        (IsNamedEntry F.Value.bytes_of F.Value.is_known F.Value.SIZE) name_cmp F.meaning F.code partition slot
+        world.old world.new told issued) }
+{
     let Some(context) = context_in(&issued) else {
         return Some(issued);
     };

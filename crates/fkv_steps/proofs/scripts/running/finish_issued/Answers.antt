@@ -1,0 +1,14 @@
+use Rattle.std.proofs.Common.{sym, refl, ◌∙◌}
+use Rattle.fkv_functions.specs.Names.{name_cmp}
+use Rattle.fkv_steps.specs.Bytes.{standing_of, IsNamedEntry}
+use Rattle.fkv_steps.specs.Running.{FollowsIssue}
+use Rattle.fkv_steps.proofs.RunningLemmas.{did-finish}
+use Rattle.fkv_steps.proofs.scripts.running.finish_issued.Goals as goal
+
+pub returns-in_default : goal.returns-in_default
+returns-in_default g c = FollowsIssue.tells (sym c.context_in.ensures ∙ c.in_default.is) refl refl
+
+pub returns : goal.returns
+returns g c =
+    did-finish standing_of (IsNamedEntry g.F.Value.Fixed.bytes_of g.F.Value.Known.is_known g.F.Value.Fixed.SIZE) name_cmp g.F.Functions.meaning g.F.Functions.code c.args.partition c.args.slot c.in-Some.context _ _ c.args.issued c.pursue.result
+    (sym c.context_in.ensures ∙ c.in-Some.is) c.pursue.ensures.pursues
