@@ -39,9 +39,11 @@ head 1 18446744073709551615
 load 1 15 7 ok
 load 1 15 7 fault
 flush 1 ok
-flush 1 fault";
+flush 1 fault
+compact 1 15
+truncate 1";
 
-const SAID: [Said; 23] = [
+const SAID: [Said; 25] = [
     ("enter", 1, 0, 0, None),
     ("issue", 1, 15, 0, Some(('r', "a", 0))),
     (
@@ -77,6 +79,8 @@ const SAID: [Said; 23] = [
     ("load fault", 1, 15, 7, None),
     ("flush ok", 1, 0, 0, None),
     ("flush fault", 1, 0, 0, None),
+    ("compact", 1, 15, 0, None),
+    ("truncate", 1, 0, 0, None),
 ];
 
 /// Whether an operation is what was asked.
@@ -117,55 +121,63 @@ fn flush_name(access: Access) -> &'static str {
     }
 }
 
-/// Whether a line says this.
-fn says(line: &Line, said: &Said) -> bool {
-    let name = match line {
-        Line::Enter { partition } => {
-            return said.0 == "enter" && *partition == said.1 && said.4 == None;
-        }
-        Line::Leave { partition, session } => {
-            return said.0 == "leave" && *partition == said.1 && *session == said.2;
-        }
-        Line::Refresh { partition, session } => {
-            return said.0 == "refresh" && *partition == said.1 && *session == said.2;
-        }
-        Line::ReadOnly { partition, page } => {
-            return said.0 == "readonly" && *partition == said.1 && *page == said.2;
-        }
-        Line::Head { partition, page } => {
-            return said.0 == "head" && *partition == said.1 && *page == said.2;
-        }
-        Line::Flush { partition, access } => {
-            return said.0 == flush_name(*access) && *partition == said.1;
-        }
+/// What a line of a place is called, and its place.
+fn of_place(line: &Line) -> Option<(&'static str, &Place)> {
+    match line {
+        Line::Go(place) => Some(("go", place)),
+        Line::Install(place) => Some(("install", place)),
+        Line::Load(place, access) => Some((load_name(*access), place)),
+        Line::GiveUp(place) => Some(("giveup", place)),
+        Line::Ready(place) => Some(("ready", place)),
+        Line::Finish(place) => Some(("finish", place)),
+        _ => None,
+    }
+}
+
+/// What a line of one or two numbers is called, and its numbers, the second 0 where there is one alone.
+fn of_numbers(line: &Line) -> Option<(&'static str, u64, u64)> {
+    match *line {
+        Line::Enter { partition } => Some(("enter", partition, 0)),
+        Line::Leave { partition, session } => Some(("leave", partition, session)),
+        Line::Refresh { partition, session } => Some(("refresh", partition, session)),
+        Line::ReadOnly { partition, page } => Some(("readonly", partition, page)),
+        Line::Head { partition, page } => Some(("head", partition, page)),
+        Line::Flush { partition, access } => Some((flush_name(access), partition, 0)),
+        Line::Truncate { partition } => Some(("truncate", partition, 0)),
+        Line::Compact { partition, session } => Some(("compact", partition, session)),
+        _ => None,
+    }
+}
+
+/// What a line of an operation is called, its partition, its session and the operation.
+fn of_operation(line: &Line) -> Option<(&'static str, u64, u64, &Op<Name, i64, i64>)> {
+    match line {
         Line::Issue {
             partition,
             session,
             op,
-        } => {
-            return said.0 == "issue"
-                && *partition == said.1
-                && *session == said.2
-                && is_op(op, said.4);
-        }
+        } => Some(("issue", *partition, *session, op)),
         Line::Do {
             partition,
             session,
             op,
-        } => {
-            return said.0 == "do"
-                && *partition == said.1
-                && *session == said.2
-                && is_op(op, said.4);
-        }
-        Line::Go(place) => ("go", place),
-        Line::Install(place) => ("install", place),
-        Line::Load(place, access) => (load_name(*access), place),
-        Line::GiveUp(place) => ("giveup", place),
-        Line::Ready(place) => ("ready", place),
-        Line::Finish(place) => ("finish", place),
-    };
-    said.0 == name.0 && is_place(name.1, said)
+        } => Some(("do", *partition, *session, op)),
+        _ => None,
+    }
+}
+
+/// Whether a line says this.
+fn says(line: &Line, said: &Said) -> bool {
+    if let Some((name, place)) = of_place(line) {
+        return said.0 == name && is_place(place, said);
+    }
+    if let Some((name, partition, session, op)) = of_operation(line) {
+        return said.0 == name && partition == said.1 && session == said.2 && is_op(op, said.4);
+    }
+    if let Some((name, one, other)) = of_numbers(line) {
+        return said.0 == name && one == said.1 && other == said.2 && said.4 == None;
+    }
+    false
 }
 
 const OPENING: Opening = Opening {
@@ -219,7 +231,7 @@ fn functions_of_each_name(rt: HostRuntime) {
 }
 
 /// A text, the most lines, and the line that is bad, if one is.
-const LIMITED: [(&str, u32, Option<u64>); 9] = [
+const LIMITED: [(&str, u32, Option<u64>); 11] = [
     ("store sum 0 8 8 2\nenter 0\nenter 0\nenter\n", 0, Some(1)),
     ("store sum 0 8 8 2\nenter 0\nenter 0\nenter\n", 1, Some(2)),
     ("store sum 0 8 8 2\nenter 0\nenter 0\nenter\n", 2, Some(3)),
@@ -228,6 +240,8 @@ const LIMITED: [(&str, u32, Option<u64>); 9] = [
     ("store sum 0 8 8 2\nenter 0\nenter 0\n", 2, Some(3)),
     ("store sum 0 8 8 2\nenter 0\nenter 0\n", 3, None),
     ("store sum 0 8 8 2\nenter 0\nenter 0\n", 4294967295, None),
+    ("store sum 0 8 8 2\nenter 0\ncompact 0 0\n", 3, None),
+    ("store sum 0 8 8 2\nenter 0\ntruncate 0\n", 2, Some(3)),
     (
         "store sum 0 8 8 2\nenter 0\ndo 0 0 read a\0\n",
         1_000_000,
@@ -250,6 +264,42 @@ fn the_line_after_the_limit(rt: HostRuntime) {
         assert!(rt;
             bad_line(rt.alloc(), text.as_bytes(), limit) == Ok(bad),
             "{limit} {text}"
+        );
+    }
+}
+
+/// Lines of relocations and truncations that say nothing.
+const BAD: [&str; 20] = [
+    "compact",
+    "compact ",
+    "compact 0",
+    "compact 0 ",
+    "compact 0 0 ",
+    "compact 0 0 0",
+    "compact 0 a",
+    "compact 0  0",
+    "compact 0 +0",
+    "compact 0 18446744073709551616",
+    "Compact 0 0",
+    "COMPACT 0 0",
+    "do 0 0 compact",
+    "truncate",
+    "truncate ",
+    "truncate 0 ",
+    "truncate 0 0",
+    "truncate x",
+    "truncate -1",
+    "Truncate 0",
+];
+
+#[test]
+fn relocations_and_truncations_that_say_nothing(rt: HostRuntime) {
+    let alloc = rt.alloc();
+    for line in BAD {
+        let text = format!(in alloc; "store count 0 8 8 2\nenter 0\n{line}\nenter\n");
+        assert!(rt;
+            text.is_ok_and(|text| bad_line(alloc, text.as_bytes(), LIMIT) == Ok(Some(3))),
+            "{line}"
         );
     }
 }

@@ -8,7 +8,7 @@ use std::alloc::Global;
 
 type Told = Result<Outcome<i128, i128>, Refused>;
 
-const STEPS: [Told; 23] = [
+const STEPS: [Told; 27] = [
     Ok(Outcome::Entered(0)),
     Ok(Outcome::Issued(7)),
     Ok(Outcome::Next),
@@ -27,6 +27,10 @@ const STEPS: [Told; 23] = [
     Ok(Outcome::Taken(0)),
     Ok(Outcome::Flushed(18446744073709551615)),
     Ok(Outcome::Load(64)),
+    Ok(Outcome::Relocating(7)),
+    Ok(Outcome::Cleared),
+    Ok(Outcome::Truncated(256)),
+    Ok(Outcome::Truncated(281474976710656)),
     Err(Refused::NoMemory),
     Err(Refused::Stranger {
         what: What::Page,
@@ -61,6 +65,10 @@ wait full
 taken 0
 flushed 18446744073709551615
 load 64
+issued 7
+done cleared
+begin 256
+begin 281474976710656
 refused NoMemory
 refused Stranger
 refused Stalled
