@@ -191,7 +191,7 @@ module _ {K V I O R : Type 0} (stands : R → Standing) (entry : ℕ → List �
 
   -- a relocation goes on
   moving : (new : StateView K V I O R) (t : Step K V I) (r : Result (Outcome V O) Refused) (p : Moved R)
-      → entered_at (Ok (told_moved p)) t ≡ None → issued_at (Ok (told_moved p)) t ≡ None
+      → entered_at {O = O} (Ok (told_moved p)) t ≡ None → issued_at {O = O} (Ok (told_moved p)) t ≡ None
       → new.moment ≡ suc s.moment → new.enters ≡ s.enters → new.seats ≡ s.seats → new.lives ≡ s.lives → r ≡ Ok (told_moved p)
       → HasHistory new (record { step = t; told = r } ∷ h)
   moving new t r p nobody nothing now tables seated lived is = rw is (quiet s h history new t (told_moved p) nobody nothing now tables seated (ap (map issue_of) lived))
@@ -237,7 +237,7 @@ module _ {K V I O R : Type 0} (stands : R → Standing) (entry : ℕ → List �
   history-acts new t r (acts.worn a b c same is) = kept-state s h history new t r Worn refl same is
   history-acts new t r (acts.lifeless p slot op v a b same is) = kept-state s h history new t r NoMemory refl same is
   history-acts new t r (acts.refuses v e due refused_by same is) = kept-state s h history new t r e (refuses-no stands entry cmp f code s v (suc s.moment) e t refused_by) same is
-  history-acts new t r (acts.enters p slot n v v' a b c d low count to is) =
+  history-acts new t r (acts.enters p slot n v v' a b c d on low count to is) =
       rw (a, is) (entering s h history new p slot n low count (ap (λ (z : StateView K V I O R). z.moment) to) (ap (λ (z : StateView K V I O R). z.enters) to) (ap (λ (z : StateView K V I O R). z.seats) to) (ap (λ (z : StateView K V I O R). z.lives) to))
   history-acts new t r (acts.leaves p slot v v' a b c ev to is) =
       rw (a, is) (quiet s h history new (step.Leave p slot) (outcome.Left) refl refl (ap (λ (z : StateView K V I O R). z.moment) to) (ap (λ (z : StateView K V I O R). z.enters) to) (ap (λ (z : StateView K V I O R). z.seats) to) (ap (λ (z : StateView K V I O R). map issue_of z.lives) to))
