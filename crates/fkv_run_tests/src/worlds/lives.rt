@@ -1,6 +1,6 @@
 //! A life of each end, and the laws called once.
-use fkv_operations::{Answer, Op};
 use fkv_lives::laws::wrong_lives;
+use fkv_operations::{Answer, Op};
 use fkv_worlds::{End, Finish, Life, Outcome};
 
 const ENDS: [End<u64>; 4] = [

@@ -3,5 +3,6 @@ mod evicting;
 mod lives;
 mod pages;
 mod random;
+mod relocations;
 mod rows;
 mod runs;

@@ -8,7 +8,7 @@ use fkv_worlds::{Access, End, Outcome, Place, Step, World};
 use std::alloc::Global;
 
 /// `a`, `b` and `c` are written by the first of two sessions.
-const OPENED: [Row; 14] = [
+pub const OPENED: [Row; 14] = [
     (Step::Enter(0), Ok(Outcome::Entered(0))),
     (Step::Enter(0), Ok(Outcome::Entered(1))),
     (
@@ -35,7 +35,7 @@ const OPENED: [Row; 14] = [
 ];
 
 /// Their page is evicted, which both sessions have seen.
-const EVICTED: [Row; 8] = [
+pub const EVICTED: [Row; 8] = [
     (Step::ReadOnly(0, 1), Ok(Outcome::Shifted)),
     (Step::Refresh(0, 0), Ok(Outcome::Refreshed)),
     (Step::Refresh(0, 1), Ok(Outcome::Refreshed)),
@@ -266,7 +266,7 @@ const SPENT_LIVES: [LifeRow; 1] = [(
 )];
 
 /// Rows after those of [`OPENED`], first how its page is evicted; the lives that they begin; and the map at the end.
-type Run = (
+pub type Run = (
     &'static [Row],
     &'static [Row],
     &'static [LifeRow],
@@ -319,7 +319,7 @@ fn joined<T: Copy>(alloc: Global, lists: &[&[T]]) -> Option<Vec<T>> {
 }
 
 /// Whether the rows tell so after those of [`OPENED`], and leave these lives and this map.
-fn is_run_after(alloc: Global, run: &Run) -> bool {
+pub fn is_run_after(alloc: Global, run: &Run) -> bool {
     let Some(rows) = joined(alloc, &[&OPENED, run.0, run.1]) else {
         return false;
     };
@@ -348,13 +348,22 @@ fn told_again(world: &mut World<SumFns>, step: Step<u8, i128, i64>) -> Told {
     }
 }
 
-fn rows_of_two_updates(alloc: Global) -> Option<Vec<Row>> {
-    joined(alloc, &[&OPENED, &EVICTED, &TWO_UPDATES])
+/// These rows after those of [`OPENED`].
+fn rows_after(alloc: Global, first: &[Row], then: &[Row]) -> Option<Vec<Row>> {
+    joined(alloc, &[&OPENED, first, then])
 }
 
-/// Whether two updates of an evicted key go as told, each step again where memory is refused once.
-fn is_grown(alloc: Global) -> bool {
-    let Some(rows) = rows_of_two_updates(alloc).or_else(|| rows_of_two_updates(alloc)) else {
+/// Whether these rows go as told after those of [`OPENED`], each step again where memory is refused once, and leave so
+/// many lives and this map.
+pub fn is_grown_after(
+    alloc: Global,
+    first: &[Row],
+    then: &[Row],
+    lives: usize,
+    map: &[(u8, i128)],
+) -> bool {
+    let Some(rows) = rows_after(alloc, first, then).or_else(|| rows_after(alloc, first, then))
+    else {
         return false;
     };
     let Ok(mut world) = world(alloc, &ONE) else {
@@ -366,10 +375,7 @@ fn is_grown(alloc: Global) -> bool {
         }
     }
     match report(&world, alloc) {
-        Ok(report) => {
-            report.lives.len() == 5
-                && is_map(report.map.as_slice(), &[(b'a', 16), (b'b', 1), (b'c', 1)])
-        }
+        Ok(report) => report.lives.len() == lives && is_map(report.map.as_slice(), map),
         Err(_) => false,
     }
 }
@@ -377,5 +383,6 @@ fn is_grown(alloc: Global) -> bool {
 /// Run also with each allocation refused in turn, by `rt try --test --fail-alloc N`.
 #[test]
 fn refused_growths_are_called_again(rt: HostRuntime) {
-    assert!(rt; is_grown(rt.alloc()));
+    let map = [(b'a', 16), (b'b', 1), (b'c', 1)];
+    assert!(rt; is_grown_after(rt.alloc(), &EVICTED, &TWO_UPDATES, 5, &map));
 }

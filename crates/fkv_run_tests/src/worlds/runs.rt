@@ -20,7 +20,7 @@ pub const ONE: Config = Config {
 };
 
 /// One bucket: all keys of one lower-case letter have one tag, and so one class.
-const ONE_BUCKET: Config = Config {
+pub const ONE_BUCKET: Config = Config {
     id: 1,
     partition_bits: 0,
     bucket_bits: 0,
@@ -30,7 +30,7 @@ const ONE_BUCKET: Config = Config {
 };
 
 /// Two partitions: `a` belongs to the first, and `b` to the second.
-const TWO: Config = Config {
+pub const TWO: Config = Config {
     id: 1,
     partition_bits: 1,
     bucket_bits: 8,
@@ -62,7 +62,7 @@ pub const SECOND: Place = Place {
     context: 0,
 };
 
-const OTHER: Place = Place {
+pub const OTHER: Place = Place {
     partition: 1,
     slot: 0,
     context: 0,
@@ -486,7 +486,7 @@ const TWO_PARTITIONS_LIVES: [LifeRow; 2] = [
 ];
 
 /// Whether the calls tell so, and leave so many outcomes, these lives and this map.
-fn is_driven(
+pub fn is_driven(
     alloc: Global,
     config: &Config,
     rows: &[(Call, Told)],
