@@ -11,22 +11,22 @@ use std::alloc::Global;
 
 /// What random steps are drawn from: so many partitions, sessions in each, and keys.
 #[derive(Clone, Copy)]
-struct Range {
-    partitions: u64,
-    sessions: u64,
-    keys: u64,
+pub struct Range {
+    pub partitions: u64,
+    pub sessions: u64,
+    pub keys: u64,
 }
 
 /// The pages to whose starts the read-only offset and Head of a partition move next.
 #[derive(Clone, Copy)]
-struct Offsets {
-    read_only: u64,
-    head: u64,
+pub struct Offsets {
+    pub read_only: u64,
+    pub head: u64,
 }
 
 impl Offsets {
     /// What is next after this step, if it is done.
-    fn after(self, step: &StepOf<SumFns>) -> Offsets {
+    pub fn after(self, step: &StepOf<SumFns>) -> Offsets {
         match step {
             Step::ReadOnly(_, page) => Offsets {
                 read_only: page.saturating_add(1),
@@ -42,7 +42,7 @@ impl Offsets {
 }
 
 /// A place that a random word names.
-fn random_place(word: u64, range: Range) -> Place {
+pub fn random_place(word: u64, range: Range) -> Place {
     Place {
         partition: ((word >> 56) % range.partitions.max(1)) as usize,
         slot: ((word >> 32 & 0xff) % range.sessions.max(1)) as usize,
@@ -51,7 +51,7 @@ fn random_place(word: u64, range: Range) -> Place {
 }
 
 /// How the device does, by a random word: one time in sixteen it fails.
-fn random_access(word: u64) -> Access {
+pub fn random_access(word: u64) -> Access {
     if word >> 24 & 15 == 0 {
         Access::Fails
     } else {
@@ -76,7 +76,7 @@ fn partition_of(key: &Name, range: Range) -> usize {
 }
 
 /// A step that a random word names.
-fn random_step(word: u64, range: Range, offsets: Offsets) -> Option<StepOf<SumFns>> {
+pub fn random_step(word: u64, range: Range, offsets: Offsets) -> Option<StepOf<SumFns>> {
     let place = random_place(word, range);
     let key = name(KEYS[((word >> 48 & 7) % range.keys.max(1)) as usize])?;
     Some(match word >> 5 & 15 {
@@ -119,7 +119,7 @@ fn write(world: &mut World<SumFns>, partition: usize, key: Name) -> bool {
 }
 
 /// Lets the sessions enter and writes four keys, so that classes have entries before sessions claim them.
-fn open(world: &mut World<SumFns>, range: Range) -> bool {
+pub fn open(world: &mut World<SumFns>, range: Range) -> bool {
     enter(world, range)
         && KEYS.iter().take(4).all(|letter| match name(*letter) {
             Some(key) => write(world, partition_of(&key, range), key),

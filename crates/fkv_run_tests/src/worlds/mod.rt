@@ -1,4 +1,5 @@
 //! Worlds, step by step, and replays of lists of steps.
+mod cutting;
 mod evicting;
 mod lives;
 mod pages;
