@@ -1,4 +1,4 @@
-//! Worked runs of relocations and truncations: records are cleared by sessions beside operations, the start of the log is
+//! Worked runs of relocations and truncations: records are cleared by sessions beside operations, the log's start is
 //! cut, and what is refused takes no step.
 use super::pages::{EVICTED, Run, is_grown_after, is_run_after};
 use super::rows::{Call, EndRow, LifeRow, Row, Told};
@@ -52,8 +52,9 @@ const UNDER_A_READ_LIVES: [LifeRow; 1] = [(
     EndRow::At(36, Answer::Value(10)),
 )];
 
-/// A relocation waits for the page of a record while another session clears it and the log's start is cut.
-const UNDER_A_RELOCATION: [Row; 15] = [
+/// A relocation waits for the page of a record while another session clears it and the log's start is cut: it begins
+/// anew, and finds its place cleared. Meanwhile no page is asked for, and a load that is refused takes no step.
+const UNDER_A_RELOCATION: [Row; 18] = [
     (Step::Relocate(0, 0), Ok(Outcome::Relocating(0))),
     (Step::Go(FIRST), Ok(Outcome::Load(64))),
     (Step::Relocate(0, 1), Ok(Outcome::Relocating(0))),
@@ -67,12 +68,24 @@ const UNDER_A_RELOCATION: [Row; 15] = [
     (Step::Load(SECOND, Access::Works), Ok(Outcome::Cleared)),
     (Step::Truncate(0), Ok(Outcome::Truncated(256))),
     (Step::Load(FIRST, Access::Works), Ok(Outcome::Next)),
+    (Step::Load(FIRST, Access::Works), Err(Refused::NotReady)),
     (Step::Go(FIRST), Ok(Outcome::Cleared)),
     (Step::Go(FIRST), Err(Refused::Unknown)),
+    (Step::Issue(0, 1, Op::Read(b'b', 0)), Ok(Outcome::Issued(0))),
+    (Step::Go(SECOND), Ok(Outcome::Done(Answer::Value(1)))),
 ];
 
-/// The record of a key that has a newer one is not appended again: the read-only offset can't move to a page to which the
-/// log does not reach, and one more record fills the page before it.
+const UNDER_A_RELOCATION_LIVES: [LifeRow; 1] = [(
+    0,
+    2,
+    1,
+    Op::Read(b'b', 0),
+    37,
+    EndRow::At(38, Answer::Value(1)),
+)];
+
+/// The record of a key that has a newer one is not appended again: the read-only offset can't move to a page to which
+/// the log does not reach, and one more record fills the page before it.
 const DEAD: [Row; 18] = [
     (
         Step::Issue(0, 0, Op::Upsert(b'a', 9)),
@@ -164,8 +177,8 @@ const FILLED: [Row; 17] = [
     (Step::Refresh(0, 0), Ok(Outcome::Refreshed)),
 ];
 
-/// Two relocations wait for room. When a frame is free, one appends its record; the other one begins anew, since the entry
-/// has moved, and finds its place cleared.
+/// Two relocations wait for room. When a frame is free, one appends its record; the other one begins anew, since the
+/// entry has moved, and finds its place cleared.
 const FULL: [Row; 19] = [
     (Step::Truncate(0), Err(Refused::NotDue)),
     (Step::Relocate(0, 0), Ok(Outcome::Relocating(0))),
@@ -277,8 +290,8 @@ const GIVEN_UP_LIVES: [LifeRow; 1] = [(
     EndRow::Other(End::GivenUp),
 )];
 
-/// A fault ends a relocation and takes its step, though it is refused, and it ends no life. Its context is free, and what
-/// stands there next has asked for nothing.
+/// A fault ends a relocation and takes its step, though it is refused, and it ends no life. Its context is free, and
+/// what stands there next has asked for nothing.
 const ENDED_BY_A_FAULT: [Row; 15] = [
     (Step::Relocate(0, 0), Ok(Outcome::Relocating(0))),
     (Step::Load(FIRST, Access::Fails), Err(Refused::NotReady)),
@@ -331,6 +344,46 @@ const FORGOTTEN: [Row; 15] = [
 const FORGOTTEN_LIVES: [LifeRow; 2] = [
     (0, 1, 4, Op::Read(b'a', 0), 23, EndRow::Other(End::GivenUp)),
     (0, 1, 5, Op::Rmw(b'd', 5), 28, EndRow::Other(End::GivenUp)),
+];
+
+/// A relocation and an operation stand beside each other in contexts of one session, each in either of them.
+const BESIDE_AN_OPERATION: [Row; 14] = [
+    (Step::Issue(0, 0, Op::Read(b'b', 0)), Ok(Outcome::Issued(0))),
+    (Step::Relocate(0, 0), Ok(Outcome::Relocating(1))),
+    (Step::Go(FIRST), Ok(Outcome::Load(120))),
+    (Step::Go(BESIDE), Ok(Outcome::Load(64))),
+    (Step::Load(BESIDE, Access::Works), Ok(Outcome::Cleared)),
+    (
+        Step::Load(FIRST, Access::Works),
+        Ok(Outcome::Done(Answer::Value(1))),
+    ),
+    (Step::Relocate(0, 0), Ok(Outcome::Relocating(0))),
+    (Step::Issue(0, 0, Op::Rmw(b'd', 5)), Ok(Outcome::Issued(1))),
+    (Step::Go(BESIDE), Ok(Outcome::Next)),
+    (Step::Go(BESIDE), Ok(Outcome::Next)),
+    (Step::Go(BESIDE), Ok(Outcome::Build(None))),
+    (Step::Install(FIRST), Err(Refused::NotReady)),
+    (Step::GiveUp(FIRST), Ok(Outcome::GivenUp)),
+    (Step::Install(BESIDE), Ok(Outcome::Done(Answer::Value(5)))),
+];
+
+const BESIDE_AN_OPERATION_LIVES: [LifeRow; 2] = [
+    (
+        0,
+        1,
+        4,
+        Op::Read(b'b', 0),
+        23,
+        EndRow::Loaded(25, 28, Answer::Value(1)),
+    ),
+    (
+        0,
+        1,
+        5,
+        Op::Rmw(b'd', 5),
+        30,
+        EndRow::At(35, Answer::Value(5)),
+    ),
 ];
 
 /// A relocation is due by what its own session sees, and so it is refused before the session is refreshed.
@@ -398,9 +451,14 @@ const REFUSED_LIVES: [LifeRow; 2] = [
 /// The map that [`OPENED`] leaves.
 const MAP: [(u8, i128); 3] = [(b'a', 10), (b'b', 1), (b'c', 1)];
 
-const RUNS: [Run; 11] = [
+const RUNS: [Run; 12] = [
     (&EVICTED, &UNDER_A_READ, &UNDER_A_READ_LIVES, &MAP),
-    (&EVICTED, &UNDER_A_RELOCATION, &[], &MAP),
+    (
+        &EVICTED,
+        &UNDER_A_RELOCATION,
+        &UNDER_A_RELOCATION_LIVES,
+        &MAP,
+    ),
     (
         &EVICTED,
         &DEAD,
@@ -423,6 +481,12 @@ const RUNS: [Run; 11] = [
     (&EVICTED, &GIVEN_UP, &GIVEN_UP_LIVES, &MAP),
     (&EVICTED, &ENDED_BY_A_FAULT, &ENDED_BY_A_FAULT_LIVES, &MAP),
     (&EVICTED, &FORGOTTEN, &FORGOTTEN_LIVES, &MAP),
+    (
+        &EVICTED,
+        &BESIDE_AN_OPERATION,
+        &BESIDE_AN_OPERATION_LIVES,
+        &[(b'a', 10), (b'b', 1), (b'c', 1), (b'd', 5)],
+    ),
     (&VIEWS, &[], &[], &MAP),
     (&EVICTED, &REFUSED, &REFUSED_LIVES, &MAP),
 ];
