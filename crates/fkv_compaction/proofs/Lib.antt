@@ -9,3 +9,4 @@ pub mod HeldLemmas
 pub mod LookLemmas
 pub mod ReadLemmas
 pub mod TraceLemmas
+pub mod CompactorLemmas

@@ -8,3 +8,4 @@ pub mod Beginning
 pub mod Going
 pub mod Reading
 pub mod Truncating
+pub mod Compactor

@@ -12,6 +12,7 @@
 #![tactic(auto)]
 
 pub mod compacted;
+pub mod compactor;
 pub mod operations;
 pub mod pages;
 mod places;
@@ -22,4 +23,5 @@ pub mod sessions;
 mod weighing;
 
 pub use compacted::Compacted;
+pub use compactor::Compactor;
 pub use relocations::{Judgement, Moved, MovedOf, Relocation, Stage};

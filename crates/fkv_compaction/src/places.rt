@@ -10,6 +10,7 @@ ghost use Rattle.fkv_partition.specs.Beginning.{IsEntered};
 ghost use Rattle.fkv_compaction.specs.Views.{relocation_at, with_relocation, at_stage, done_at};
 ghost use Rattle.fkv_compaction.specs.Stages.{RelocationStands, StageStands};
 ghost use Rattle.fkv_compaction.specs.Beginning.{IsFree};
+ghost use Rattle.fkv_compaction.specs.Compactor.{IsFirstOpen};
 
 use crate::compacted::Compacted;
 use crate::relocations::{RelocationOf, StageOf, in_stage};
@@ -36,6 +37,16 @@ impl<F: Functions, D: Disk> Compacted<F, D> {
         ensures { IsTrue result ↔ ((c : ℕ) × (x : _) × (relocation_at self.now slot c ≡ Some x)) }
     {
         self.partition.is_session(slot) && open_context(&self.relocations, slot).is_some()
+    }
+
+    /// The lowest context of a session in which a relocation is open.
+    pub(crate) fn open_relocation(&self, slot: usize) -> Option<usize>
+        ensures { IsFirstOpen self.now slot result }
+    {
+        if !self.partition.is_session(slot) {
+            return None;
+        }
+        open_context(&self.relocations, slot)
     }
 
     /// Opens a relocation in a free context.

@@ -24,7 +24,7 @@ struct Asked<R: Drop> {
 #[derive(Drop)]
 pub struct Driven<D: Disk> {
     pub compacted: Compacted<SumFns, D>,
-    reader: D::Reader,
+    pub reader: D::Reader,
     writer: D::Writer,
     asked: Vec<Asked<D::Receipt>>,
     pub now: u64,

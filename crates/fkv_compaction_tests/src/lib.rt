@@ -8,6 +8,8 @@
 #[cfg(test)]
 mod astray;
 #[cfg(test)]
+mod compactors;
+#[cfg(test)]
 mod driven;
 #[cfg(test)]
 mod plain;
