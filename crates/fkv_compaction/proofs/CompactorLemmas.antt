@@ -1,5 +1,5 @@
 -- What a compactor's calls leave, by what each of the calls that it makes leaves.
-use Rattle.std.proofs.Common.{◌≡◌, ◌+◌, ◌*◌, ◌<◌, ◌≤◌, ◌⊎◌, ◌&&◌, inl, inr, ℕ, Bool, true, false, cond, nat_lt, Option, Some, None, Result, Ok, Err, is_some, slice_get, slice_set, subst, refl, sym, ◌∙◌, ap, arith}
+use Rattle.std.proofs.Common.{◌≡◌, ◌+◌, ◌*◌, ◌<◌, ◌&&◌, inl, inr, ℕ, Bool, true, false, nat_lt, Option, Some, None, Result, is_some, slice_set, refl, sym, ◌∙◌, ap, arith}
 use Rattle.std.proofs.lemmas.Bool.{cases_lt}
 use Rattle.std.proofs.lemmas.Bool.Decides.{nat_tests}
 use Rattle.fkv_functions.specs.declared.refusals.Refused.{Refused}
@@ -11,7 +11,7 @@ use Rattle.fkv_partition.proofs.AskedLemmas.{open_at, context-inside, context-ot
 use Rattle.fkv_compaction.specs.declared.relocations.Relocation.{Relocation}
 use Rattle.fkv_compaction.specs.Views.{CompactedView, relocation_at, with_relocation, with_partition}
 use Rattle.fkv_compaction.specs.Beginning.{Drops, LeavesAll}
-use Rattle.fkv_compaction.specs.Compactor.{IsFirstOpen, GivesUpAll}
+use Rattle.fkv_compaction.specs.Compactor.{IsFirstOpen}
 
 -- where a relocation is open it is given up
 pub dropped : {K V I : Type 0} (old new : CompactedView K V I) (slot c now : ℕ) (result : Result (Unit {0}) Refused)

@@ -1,9 +1,7 @@
 //! Compactors: sessions that relocate, one place at a time.
-ghost use Rattle.std.specs.Prelude.{◌≡◌, ◌≢◌, ◌+◌, ◌^◌, ◌<◌, ◌≤◌, ℕ, false, IfOk, IfSome, OnOk, OnErr, Ok, Some, None};
+ghost use Rattle.std.specs.Prelude.{◌≡◌, ◌+◌, ◌^◌, ◌<◌, ◌≤◌, ℕ, IfOk, IfSome, OnOk, OnErr, Ok, Some, None};
 ghost use Rattle.fkv_records.specs.Places.{page_at, start_at};
 ghost use Rattle.fkv_pages.specs.Spelled.{IsEntryIn};
-ghost use Rattle.fkv_partition.specs.Contexts.{is_session};
-ghost use Rattle.fkv_partition.specs.Views.{slots_of};
 ghost use Rattle.fkv_partition.specs.Beginning.{Enters};
 ghost use Rattle.fkv_partition.specs.Effect.{IsQuiet};
 ghost use Rattle.fkv_partition.specs.Truncating.{IsTruncation};

@@ -1,6 +1,6 @@
 use Rattle.std.proofs.Common.{◌∙◌, sym}
 use Rattle.fkv_compaction.specs.Inside.{view_of}
-use Rattle.fkv_compaction.proofs.FreeLemmas.{first-told, none-outside}
+use Rattle.fkv_compaction.proofs.FreeLemmas.{first-told}
 use Rattle.fkv_compaction.proofs.compacted.Compacted.open_relocation.Goals as goal
 
 pub returns : goal.returns

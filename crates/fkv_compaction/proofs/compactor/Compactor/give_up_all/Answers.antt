@@ -1,4 +1,4 @@
-use Rattle.std.proofs.Common.{◌≡◌, ◌+◌, ◌∙◌, None, true, false, is_some, sym, ap, arith}
+use Rattle.std.proofs.Common.{◌≡◌, ◌+◌, ◌∙◌, true, false, is_some, sym, ap, arith}
 use Rattle.fkv_partition.specs.Views.{PartitionView}
 use Rattle.fkv_compaction.specs.Views.{relocation_at}
 use Rattle.fkv_compaction.specs.Compactor.{GivesUpAll}
