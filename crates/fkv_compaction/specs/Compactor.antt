@@ -1,5 +1,5 @@
--- What a session does that relocates, one place at a time: each call takes the lowest context in which a relocation of its
--- session is open, or issues a relocation where none is.
+-- What a session does that relocates, one place at a time: each call takes the lowest context in which a relocation of
+-- its session is open, or issues a relocation where none is.
 use Rattle.std.specs.Prelude.{◌≡◌, ◌+◌, ◌^◌, ◌<◌, ◌≤◌, ℕ, Bool, IsSome, List, Option, Some, None, Result, Ok, Err}
 use Rattle.std.specs.declared.cmp.Ordering.{Ordering}
 use Rattle.fkv_functions.specs.declared.refusals.Refused.{Refused}
@@ -27,8 +27,8 @@ pub data IsInTurn {K V I : Type 0} (v : CompactedView K V I) (slot c : ℕ) : Ty
   begins : IsFirstOpen v slot None → IsFirstFree v slot (Some c) → IsInTurn v slot c
 
 -- an event of a relocation in that context
-pub record IsTurn {K V I : Type 0} (keeps : Bool) (cmp : K → K → Ordering) (old new : CompactedView K V I) (slot now : ℕ)
-    : Type 0 where
+pub record IsTurn {K V I : Type 0} (keeps : Bool) (cmp : K → K → Ordering) (old new : CompactedView K V I)
+    (slot now : ℕ) : Type 0 where
   pub context : ℕ
   pub taken : IsInTurn old slot context
   pub event : IsRelocating keeps cmp old new slot context now
@@ -70,8 +70,8 @@ pub data GivesUpAll {K V I : Type 0} (slot : ℕ) : CompactedView K V I → Comp
       → GivesUpAll slot (with_relocation old slot c None (start + 1)) new (start + 1) end
       → GivesUpAll slot old new start end
 
--- and then the session is left as that of a partition is, at one more moment, where the clock has enough of them for any
--- number of relocations
+-- and then the session is left as that of a partition is, at one more moment, where the clock has enough of them for
+-- any number of relocations
 pub data Parts {K V I : Type 0} (keeps : Bool) (old new : CompactedView K V I) (slot start end : ℕ)
     (result : Result (Unit {0}) Refused) : Type 0 where
   worn : 2 ^ 64 ≤ start + 9

@@ -18,8 +18,8 @@ use fkv_partition::contexts::CONTEXTS;
 use fkv_records::Address;
 use std::marker::Model;
 
-/// A session of a partition that relocates: it finishes one relocation before it issues the next. Which partition it has
-/// joined is not kept, so each call is to be given that one. A contract sees it as its slot.
+/// A session of a partition that relocates: it finishes one relocation before it issues the next. Which partition it
+/// has joined is not kept, so each call is to be given that one. A contract sees it as its slot.
 #[derive(Clone, Copy, Debug)]
 pub struct Compactor {
     slot: usize,
@@ -62,9 +62,9 @@ impl Compactor {
         self.slot
     }
 
-    /// Takes the next step. Where no relocation of its session is open it issues one, as [`Compacted::relocate`] does, and
-    /// answers `Next`; else it goes on with the one of the lowest context in which one is open, as [`Compacted::go_on`]
-    /// does. Refused, and then nothing changes: as those are.
+    /// Takes the next step. Where no relocation of its session is open it issues one, as [`Compacted::relocate`] does,
+    /// and answers `Next`; else it goes on with the one of the lowest context in which one is open, as
+    /// [`Compacted::go_on`] does. Refused, and then nothing changes: as those are.
     pub fn next<F: Functions, D: Disk>(
         &self,
         compacted: &mut Compacted<F, D>,
@@ -89,9 +89,9 @@ impl Compactor {
         }
     }
 
-    /// Goes on with the relocation of the lowest context in which one of its session is open, with the page that it waits
-    /// for, or with the refusal that came in its place, as [`Compacted::load_on`] does, whose refusals it has, and
-    /// `Unknown` where none is open.
+    /// Goes on with the relocation of the lowest context in which one of its session is open, with the page that it
+    /// waits for, or with the refusal that came in its place, as [`Compacted::load_on`] does, whose refusals it has,
+    /// and `Unknown` where none is open.
     pub fn load<F: Functions, D: Disk>(
         &self,
         compacted: &mut Compacted<F, D>,
@@ -136,10 +136,10 @@ impl Compactor {
         compacted.truncate_cleared(now)
     }
 
-    /// Gives up the relocations of its session that are open, the lowest context first, each at a moment of the clock, and
-    /// then leaves the session at one more. Refused: `Worn` where the clock has fewer than nine moments left, which
-    /// changes nothing; and, where the relocations are given up and the session stays, `Unknown` where its slot is that of
-    /// no session, `Busy` where an operation of it is open.
+    /// Gives up the relocations of its session that are open, the lowest context first, each at a moment of the clock,
+    /// and then leaves the session at one more. Refused, in this order: `Worn` where the clock has fewer than nine
+    /// moments left, and then nothing changes; `Unknown` where its slot is that of no session; `Busy` where an
+    /// operation of the session is open, and then the session stays, and its relocations are given up nonetheless.
     pub fn part<F: Functions, D: Disk>(
         self,
         compacted: &mut Compacted<F, D>,

@@ -182,8 +182,8 @@ const MAP: [(u8, i128); 3] = [(b'a', 10), (b'b', 1), (b'c', 1)];
 
 const DEVICE: Refused = Refused::Device { code: 3, page: 0 };
 
-/// The number of the first row that is answered otherwise, where two sessions are entered and `a` to `c` stand at 64, 120
-/// and 176 on page 0, which has left its frame; that of all rows where the live map at the end is another.
+/// The number of the first row that is answered otherwise, where two sessions are entered and `a` to `c` stand at 64,
+/// 120 and 176 on page 0, which has left its frame; that of all rows where the live map at the end is another.
 fn first_wrong(alloc: Global, rows: &[(Step, Told)]) -> Option<usize> {
     let Ok(mut driven) = driven_in_memory(alloc, &SMALL) else {
         return Some(0);
