@@ -1,7 +1,6 @@
 -- The partitions of a world, without their relocations.
-use Rattle.std.proofs.Common.{◌≡◌, ℕ, zero, suc, List, [], ◌∷◌, length, map, Option, Some, None, option_map, slice_get, slice_set, refl, ◌∙◌, ap}
+use Rattle.std.proofs.Common.{◌≡◌, ℕ, zero, suc, List, [], ◌∷◌, length, map, Some, option_map, slice_get, slice_set, refl, ◌∙◌, ap}
 use Rattle.std.proofs.lemmas.Option.{slice_get-map}
-use Rattle.fkv_partition.specs.Views.{PartitionView}
 use Rattle.fkv_compaction.specs.Views.{CompactedView}
 use Rattle.fkv_worlds.specs.States.{bare}
 

@@ -1,4 +1,3 @@
-use Rattle.std.proofs.Common.{sym}
 use Rattle.fkv_functions.proofs.KeyOrder.{key_order}
 use Rattle.fkv_worlds.proofs.ResultLemmas.{some_is}
 use Rattle.fkv_worlds.proofs.EventLemmas.{event-later, refused-state, refused-drop, does-drop, relocating-state}

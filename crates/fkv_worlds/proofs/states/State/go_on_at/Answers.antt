@@ -1,4 +1,3 @@
-use Rattle.std.proofs.Common.{sym}
 use Rattle.fkv_functions.proofs.KeyOrder.{key_order}
 use Rattle.fkv_worlds.specs.States.{context_row}
 use Rattle.fkv_worlds.proofs.ResultLemmas.{some_is}

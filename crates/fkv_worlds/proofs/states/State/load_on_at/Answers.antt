@@ -3,7 +3,7 @@ use Rattle.fkv_functions.proofs.KeyOrder.{key_order}
 use Rattle.fkv_worlds.specs.States.{context_row}
 use Rattle.fkv_worlds.proofs.ResultLemmas.{some_of, some_there, some_is}
 use Rattle.fkv_worlds.proofs.RefusedLemmas.{loads_on-cases, leaves-it, ends-it}
-use Rattle.fkv_worlds.proofs.EventLemmas.{rows, event-later, refused-state, refused-load_on, does-load_on, does-fail_on, moved-state, relocating-state}
+use Rattle.fkv_worlds.proofs.EventLemmas.{event-later, refused-state, refused-load_on, does-load_on, does-fail_on, moved-state, relocating-state}
 use Rattle.fkv_worlds.proofs.states.State.load_on_at.Goals as goal
 
 pub read_asked-came-requires-clause-asked : goal.read_asked-came-requires-clause-asked

@@ -1,5 +1,4 @@
-use Rattle.std.proofs.Common.{◌≡◌, true, None, inl, inr, refl, sym, ◌∙◌}
-use Rattle.fkv_worlds.specs.States.{relocation_in}
+use Rattle.std.proofs.Common.{inl, inr, refl, sym, ◌∙◌}
 use Rattle.fkv_worlds.specs.Acts.{unasked, unknown}
 use Rattle.fkv_worlds.proofs.ResultLemmas.{none_is, some_is}
 use Rattle.fkv_worlds.proofs.RelocationLemmas.{open-at}
