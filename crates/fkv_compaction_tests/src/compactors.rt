@@ -5,8 +5,8 @@ use crate::runs::{EVICTED, SMALL};
 use fkv_compaction::relocations::MovedOf;
 use fkv_compaction::{Compactor, Moved};
 use fkv_device::{Loaded, MemoryDevice, MemoryReceipt};
-use fkv_functions::{Refused, SumFns};
-use fkv_operations::{Answer, Clock, Op};
+use fkv_functions::Refused;
+use fkv_operations::{Answer, Op};
 use std::alloc::Global;
 
 /// One step of a compactor, by its number, or another call.
@@ -44,12 +44,7 @@ struct Crew {
 
 impl Crew {
     fn join(&mut self) -> Told {
-        let Some(now) = self.driven.now.checked_add(1) else {
-            return Told::Refused(Refused::Worn);
-        };
-        let joined = Compactor::join(&mut self.driven.compacted, now);
-        self.driven.now = now;
-        let compactor = match joined {
+        let compactor = match self.driven.join() {
             Err(refused) => return Told::Refused(refused),
             Ok(compactor) => compactor,
         };
@@ -87,12 +82,10 @@ impl Crew {
     }
 
     fn next(&mut self, number: usize) -> Told {
-        let (Some(compactor), Some(now)) = (self.compactor(number), self.driven.now.checked_add(1))
-        else {
+        let Some(compactor) = self.compactor(number) else {
             return Told::Refused(Refused::Stalled);
         };
-        let moved = compactor.next(&mut self.driven.compacted, &SumFns, now);
-        self.driven.now = now;
+        let moved = self.driven.next_of(compactor);
         self.note(number, moved)
     }
 
@@ -103,45 +96,34 @@ impl Crew {
                     compactor: _,
                     receipt: Some(receipt),
                 },
-            ) => Loaded::<MemoryDevice>::fetch(alloc, &mut self.driven.reader, receipt, 256),
+            ) => self.driven.fetched_by(alloc, receipt),
             _ => Err(Refused::NotReady),
         }
     }
 
     fn load(&mut self, number: usize, came: Result<Loaded<MemoryDevice>, Refused>) -> Told {
-        let (Some(compactor), Some(now)) = (self.compactor(number), self.driven.now.checked_add(1))
-        else {
+        let Some(compactor) = self.compactor(number) else {
             return Told::Refused(Refused::Stalled);
         };
-        let moved = compactor.load(&mut self.driven.compacted, came, &SumFns, now);
-        self.driven.now = now;
+        let moved = self.driven.load_of(compactor, came);
         self.note(number, moved)
     }
 
     fn truncate(&mut self, number: usize) -> Told {
-        let (Some(compactor), Some(now)) = (self.compactor(number), self.driven.now.checked_add(1))
-        else {
+        let Some(compactor) = self.compactor(number) else {
             return Told::Refused(Refused::Stalled);
         };
-        let truncated = compactor.truncate_cleared(&mut self.driven.compacted, now);
-        self.driven.now = now;
-        match truncated {
+        match self.driven.truncate_of(compactor) {
             Ok(begin) => Told::At(begin),
             Err(refused) => Told::Refused(refused),
         }
     }
 
-    fn part(&mut self, number: usize, moment: u64) -> Told {
-        if moment < self.driven.now {
-            return Told::Refused(Refused::Stalled);
-        }
+    fn part(&mut self, number: usize, last: u64) -> Told {
         let Some(compactor) = self.compactor(number) else {
             return Told::Refused(Refused::Stalled);
         };
-        let mut clock = Clock::starting(moment);
-        let parted = compactor.part(&mut self.driven.compacted, &mut clock);
-        self.driven.now = clock.last();
-        match parted {
+        match self.driven.part(compactor, last) {
             Ok(()) => Told::Ok,
             Err(refused) => Told::Refused(refused),
         }
@@ -370,7 +352,7 @@ const WORN: [(Step, Told); 9] = [
         Step::PartAt(0, 18_446_744_073_709_551_614),
         Told::Refused(Refused::Stalled),
     ),
-    (Step::Next(0), Told::Refused(Refused::Stalled)),
+    (Step::Next(0), Told::Refused(Refused::Worn)),
     (Step::Slot(0), Told::At(2)),
 ];
 

@@ -2,10 +2,10 @@
 ghost use Rattle.std.specs.Prelude.{◌≤◌};
 
 use fkv_compaction::relocations::MovedOf;
-use fkv_compaction::{Compacted, Moved};
+use fkv_compaction::{Compacted, Compactor, Moved};
 use fkv_device::{Disk, Loaded, Written};
 use fkv_functions::{Ask, Built, Name, Refused, SumFns};
-use fkv_operations::{Answer, OpOf};
+use fkv_operations::{Answer, Clock, OpOf};
 use fkv_partition::{Config, Progress, ProgressOf, Wait};
 use fkv_records::Address;
 use std::alloc::Global;
@@ -24,7 +24,7 @@ struct Asked<R: Drop> {
 #[derive(Drop)]
 pub struct Driven<D: Disk> {
     pub compacted: Compacted<SumFns, D>,
-    pub reader: D::Reader,
+    reader: D::Reader,
     writer: D::Writer,
     asked: Vec<Asked<D::Receipt>>,
     pub now: u64,
@@ -194,6 +194,59 @@ impl<D: Disk> Driven<D> {
         dropped
     }
 
+    pub fn join(&mut self) -> Result<Compactor, Refused> {
+        let Some(now) = self.now.checked_add(1) else {
+            return Err(Refused::Worn);
+        };
+        let joined = Compactor::join(&mut self.compacted, now);
+        self.now = now;
+        joined
+    }
+
+    /// The next step of a compactor.
+    pub fn next_of(&mut self, compactor: Compactor) -> Result<MovedOf<D>, Refused> {
+        let Some(now) = self.now.checked_add(1) else {
+            return Err(Refused::Worn);
+        };
+        let moved = compactor.next(&mut self.compacted, &SumFns, now);
+        self.now = now;
+        moved
+    }
+
+    /// Hands a page to a compactor, or this refusal in its place.
+    pub fn load_of(
+        &mut self,
+        compactor: Compactor,
+        came: Result<Loaded<D>, Refused>,
+    ) -> Result<MovedOf<D>, Refused> {
+        let Some(now) = self.now.checked_add(1) else {
+            return Err(Refused::Worn);
+        };
+        let moved = compactor.load(&mut self.compacted, came, &SumFns, now);
+        self.now = now;
+        moved
+    }
+
+    pub fn truncate_of(&mut self, compactor: Compactor) -> Result<Address, Refused> {
+        let Some(now) = self.now.checked_add(1) else {
+            return Err(Refused::Worn);
+        };
+        let truncated = compactor.truncate_cleared(&mut self.compacted, now);
+        self.now = now;
+        truncated
+    }
+
+    /// A compactor parts by a clock whose last moment is this one, which is not to be past.
+    pub fn part(&mut self, compactor: Compactor, last: u64) -> Result<(), Refused> {
+        if last < self.now {
+            return Err(Refused::Stalled);
+        }
+        let mut clock = Clock::starting(last);
+        let parted = compactor.part(&mut self.compacted, &mut clock);
+        self.now = clock.last();
+        parted
+    }
+
     /// The live map, as a list.
     pub fn live(&mut self, alloc: Global) -> Result<Vec<(Name, i128)>, Refused> {
         self.compacted.live(alloc, &mut self.reader)
@@ -307,6 +360,15 @@ impl<D: Disk> Driven<D> {
             ) => Loaded::<D>::fetch(alloc, &mut self.reader, receipt, 256),
             _ => Err(Refused::NotReady),
         }
+    }
+
+    /// The page of a receipt.
+    pub fn fetched_by(
+        &mut self,
+        alloc: Global,
+        receipt: &D::Receipt,
+    ) -> Result<Loaded<D>, Refused> {
+        Loaded::<D>::fetch(alloc, &mut self.reader, receipt, 256)
     }
 
     /// Hands a page to an operation, or this refusal in its place.
