@@ -23,7 +23,8 @@ use Rattle.fkv_index.specs.Changes.{Writes, SetsEntry, SameEntries}
 use Rattle.fkv_operations.specs.declared.classes.Class.{Class}
 use Rattle.fkv_operations.specs.declared.entries.IndexEntry.{IndexEntry}
 use Rattle.fkv_operations.specs.Classes.{same_class}
-use Rattle.fkv_lookups.specs.RecordsViews.{RecordsView, class_in, entry_of, leads_to, with_record, with_value, moved}
+use Rattle.fkv_operations.specs.KeptWords.{IsLed}
+use Rattle.fkv_lookups.specs.RecordsViews.{RecordsView, class_in, indexed, entry_of, leads_to, with_record, with_value, moved}
 use Rattle.fkv_lookups.specs.RecordsViews.{ChangesAt}
 use Rattle.fkv_lookups.specs.Traced.{AreRegionsBelow, IsTraced}
 use Rattle.fkv_operations.proofs.ClassLemmas.{class_test, entry-set}
@@ -440,3 +441,12 @@ pub traced-low : {K V : Type 0} {keeps : Bool} {code : K → ℕ} (v : RecordsVi
 traced-low v c a t entry =
     let some = tail_from t in
     elim (subst (λ p. IsPrevious v.tail (leads_to p)) entry (t.placed c)) [ inl one ↦ omega arith | inr placed ↦ omega (arith, placed.1) ]
+
+-- the index leads to the last records
+pub traced-led : {K V : Type 0} {keeps : Bool} (cmp : K → K → Ordering) (code : K → ℕ) (v : RecordsView K V) → IsKeyOrder cmp → IsTraced keeps code v → IsLed cmp (class_in code v) (indexed v)
+traced-led cmp code v order t = record {
+  first = t.first;
+  from = λ i e h. (let high = t.from i e h in let begin = from_first t in omega arith);
+  low = λ k e found. traced-low v (class_in code v k) (address_of e.word) t (entry-stands v.words (class_in code v k).bucket (class_in code v k).tag e.place e.word t.map found);
+  leads = λ k e found. traced-held cmp code v k order t (address_of e.word) (entry-stands v.words (class_in code v k).bucket (class_in code v k).tag e.place e.word t.map found);
+}

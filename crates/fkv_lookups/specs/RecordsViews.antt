@@ -17,6 +17,7 @@ use Rattle.fkv_index.specs.Changes.{Probes}
 use Rattle.fkv_operations.specs.declared.classes.Class.{Class}
 use Rattle.fkv_operations.specs.declared.entries.IndexEntry.{IndexEntry}
 use Rattle.fkv_operations.specs.Classes.{class_at}
+use Rattle.fkv_operations.specs.KeptWords.{IndexedText}
 
 -- the records of one of 2 ^ partition_bits partitions, whose classes have 2 ^ bucket_bits buckets: what a log is seen as,
 -- with its text, its regions, its sessions and what each has seen of them, and its pages' receipts; and the words of an
@@ -57,6 +58,16 @@ empty_records partition_bits bucket_bits page_bits record_size frames = record {
 -- the class of a key
 abbrev pub class_in : {K V : Type 0} → (K → ℕ) → RecordsView K V → K → Class
 class_in code v k = class_at v.partition_bits v.bucket_bits (code k)
+
+-- the records and the words of the index over them
+abbrev pub indexed : {K V : Type 0} → RecordsView K V → IndexedText K V
+indexed v = record {
+  begin = v.begin;
+  frozen = v.regions.offsets.safe_read_only;
+  tail = v.tail;
+  text = v.text;
+  words = v.words;
+}
 
 -- the address of the final entry of a class
 abbrev pub entry_of : {K V : Type 0} → RecordsView K V → Class → Option ℕ

@@ -11,11 +11,12 @@ ghost use Rattle.fkv_texts.specs.Text.{entry_at, value_at, value_of, last_of, ne
 ghost use Rattle.fkv_index.specs.Words.{address_of};
 ghost use Rattle.fkv_operations.specs.declared.classes.Class.{Class};
 ghost use Rattle.fkv_operations.specs.declared.entries.IndexEntry.{IndexEntry};
+ghost use Rattle.fkv_operations.specs.KeptWords.{IsLed};
 ghost use Rattle.fkv_lookups.specs.declared.decisions.Met.TheVariants.{NoValue, ReadOnly, Fuzzy, Mutable, OnDisk};
 ghost use Rattle.fkv_lookups.specs.Decisions.{IsHeld};
 ghost use Rattle.fkv_lookups.specs.Lookups.{looked_up, GoesOn};
 ghost use Rattle.fkv_lookups.specs.Meeting.{met_at, IsMetAt, IsWanted};
-ghost use Rattle.fkv_lookups.specs.RecordsViews.{RecordsView, class_in, entry_of, IsEntryOf, with_record, with_value};
+ghost use Rattle.fkv_lookups.specs.RecordsViews.{RecordsView, class_in, indexed, entry_of, IsEntryOf, with_record, with_value};
 ghost use Rattle.fkv_lookups.specs.Traced.{IsTraced};
 ghost use Rattle.fkv_operations.specs.Still.{IsStill};
 
@@ -36,6 +37,9 @@ pub fn entries_lead<K, V>()
         → last_of cmp v.text k ≡ None }
     ensures low { (keeps : Bool) (code : K → ℕ) (v : RecordsView K V) (c : Class) (a : ℕ)
         → IsTraced keeps code v → entry_of v c ≡ Some a → a < v.tail }
+    // so it is of every entry that stands in the index
+    ensures led { (cmp : K → K → Ordering) (keeps : Bool) (code : K → ℕ) (v : RecordsView K V)
+        → IsKeyOrder cmp → IsTraced keeps code v → IsLed cmp (class_in code v) (indexed v) }
 {}
 
 /// What changes once a record is appended.

@@ -1,4 +1,5 @@
 pub mod After
 pub mod AfterLaws
 pub mod Classes
+pub mod KeptWords
 pub mod Still

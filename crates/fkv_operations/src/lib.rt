@@ -8,6 +8,7 @@
 pub mod classes;
 pub mod clocks;
 pub mod entries;
+pub mod kept_words;
 mod maps;
 pub mod operations;
 pub mod plainly;
@@ -15,5 +16,6 @@ pub mod plainly;
 pub use classes::{Class, class_of};
 pub use clocks::Clock;
 pub use entries::IndexEntry;
+pub use kept_words::kept_words_are_sound;
 pub use operations::{Answer, AnswerOf, Op, OpOf};
 pub use plainly::{PlainRun, apply_plainly, run_plainly, shown};

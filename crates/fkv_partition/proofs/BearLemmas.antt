@@ -33,11 +33,12 @@ use Rattle.fkv_index.proofs.Written.{written_there, writes}
 use Rattle.fkv_index.proofs.Emptied.{sweeps}
 use Rattle.fkv_operations.specs.After.{key_of}
 use Rattle.fkv_operations.specs.Still.{IsStill}
+use Rattle.fkv_operations.specs.KeptWords.{IsNext}
 use Rattle.fkv_operations.specs.declared.entries.IndexEntry.{IndexEntry}
 use Rattle.fkv_operations.specs.declared.operations.Op.{Op}
 use Rattle.fkv_operations.specs.declared.operations.Answer.{Answer}
 use Rattle.fkv_lookups.specs.declared.decisions.Decision.TheVariants.{Replace}
-use Rattle.fkv_lookups.specs.RecordsViews.{RecordsView, class_in, with_record, with_value, with_regions, with_receipt, confirmed, released, moved, truncated, ChangesAt, IsTruncationDue}
+use Rattle.fkv_lookups.specs.RecordsViews.{RecordsView, class_in, indexed, with_record, with_value, with_regions, with_receipt, confirmed, released, moved, truncated, ChangesAt, IsTruncationDue}
 use Rattle.fkv_lookups.specs.Traced.{IsTraced}
 use Rattle.fkv_lookups.specs.Cleared.{IsCleared}
 use Rattle.fkv_partition.specs.declared.changes.Write.{Write}
@@ -59,9 +60,9 @@ use Rattle.fkv_partition.specs.Views.{PartitionView, context_at, with_appended, 
 use Rattle.fkv_partition.specs.Writes.{IsWrite}
 use Rattle.fkv_partition.proofs.AskedLemmas.{position-found}
 use Rattle.fkv_partition.proofs.EventLemmas.{kept-entry}
-use Rattle.fkv_partition.proofs.GrownLemmas.{Grows, kept-grown, loading-grown, last-grown, tail-most, tail-up, grown-same, grown-regions, grown-moved, grown-flushed, grown-appended, grown-replaced}
+use Rattle.fkv_partition.proofs.GrownLemmas.{Grows, next-grown, kept-grown, loading-grown, last-grown, tail-most, tail-up, grown-same, grown-regions, grown-moved, grown-flushed, grown-appended, grown-replaced}
 use Rattle.fkv_partition.proofs.ChangeLemmas.{IsMade, grown-words, is-tentative, tentative-place, tentative-made, confirmed-made, released-made}
-use Rattle.fkv_partition.proofs.TruncateLemmas.{none-some, kept-cut, loading-cut, record-cut}
+use Rattle.fkv_partition.proofs.TruncateLemmas.{none-some, kept-cut, loading-cut, record-cut, next-cut}
 
 raised-self : (o : Offsets) → IsRaised o o
 raised-self o = record { closed = omega arith; head = omega arith; safe = omega arith; read_only = omega arith }
@@ -191,6 +192,7 @@ module _ {K V I : Type 0} {keeps : Bool} (cmp : K → K → Ordering) (code : K 
       last = λ k e x was. last-grown keeps cmp code v.records r k e x g was;
     });
     grown = subst (λ u. IsGrown keeps cmp v.records u) (sym is) h;
+    next = λ yes_keeps. subst (λ u. IsNext cmp (indexed v.records) (indexed u)) (sym is) (next-grown v.records r g yes_keeps);
   }
 
   pub borne-same : new.records ≡ v.records → IsBorne keeps cmp code v new
@@ -384,6 +386,7 @@ module _ {K V I : Type 0} {keeps : Bool} (cmp : K → K → Ordering) (code : K 
           last = λ k e x was. record-cut cmp code order v.records s.traced low due.higher (λ yes_keeps. clear yes_keeps due) k e x was;
         });
         grown = subst (λ u. IsGrown keeps cmp v.records u) (sym here) (know-cut cmp code v.records s.traced low due.higher (λ limit c. drops (text_begin keeps low v.records.regions.offsets.closed) limit c));
+        next = λ yes_keeps. subst (λ u. IsNext cmp (indexed v.records) (indexed u)) (sym here) (next-cut cmp code order v.records s.traced low due.higher (λ yes. clear yes due) yes_keeps);
       }
 
 -- a record is appended behind the entry of its class

@@ -26,11 +26,12 @@ use Rattle.fkv_index.specs.Changes.{Writes}
 use Rattle.fkv_index.proofs.Written.{written_there, writes}
 use Rattle.fkv_operations.specs.After.{key_of}
 use Rattle.fkv_operations.specs.Still.{IsStill}
+use Rattle.fkv_operations.specs.KeptWords.{IsNext}
 use Rattle.fkv_operations.specs.declared.entries.IndexEntry.{IndexEntry}
 use Rattle.fkv_operations.specs.declared.operations.Op.{Op}
 use Rattle.fkv_operations.specs.declared.operations.Op.TheVariants.{Read, Upsert, Rmw, Delete}
 use Rattle.fkv_lookups.specs.Lookups.{IsOfClass}
-use Rattle.fkv_lookups.specs.RecordsViews.{RecordsView, class_in, WasEntryOf, with_record, with_value, with_regions, with_receipt, IsMoved}
+use Rattle.fkv_lookups.specs.RecordsViews.{RecordsView, class_in, indexed, WasEntryOf, with_record, with_value, with_regions, with_receipt, IsMoved}
 use Rattle.fkv_lookups.specs.Traced.{IsTraced}
 use Rattle.fkv_lookups.proofs.TracedLemmas.{begin_rises, from_first}
 use Rattle.fkv_partition.specs.declared.contexts.Phase.{Phase}
@@ -67,6 +68,20 @@ pub record Grows {K V : Type 0} (keeps : Bool) (cmp : K → K → Ordering) (cod
       → address_of w < old.tail
       → word_at new.words p ≡ w
       → (word_at old.words p ≡ w) ⊎ (address_of w < 64)
+
+-- so no address is used twice
+pub next-grown : {K V : Type 0} {keeps : Bool} {cmp : K → K → Ordering} {code : K → ℕ} (old new : RecordsView K V) → Grows keeps cmp code old new → IsTrue keeps → IsNext cmp (indexed old) (indexed new)
+next-grown old new g yes_keeps = record {
+  begin = (let same = g.begin in omega arith);
+  frozen = g.safe;
+  tail = g.tail;
+  records = λ k a low still. inl (g.kept yes_keeps k a low still);
+  places = g.places;
+  words = λ p w final here. elim (cases_lt (address_of w) old.tail) [
+    | inl low ↦ elim (g.held p w final low here) [ inl was ↦ inl was | inr none ↦ inr (inl none) ]
+    | inr high ↦ inr (inr high)
+  ];
+}
 
 -- below the first record no key has one
 pub newest-nowhere : {K V : Type 0} {keeps : Bool} {code : K → ℕ} (cmp : K → K → Ordering) (r : RecordsView K V) (k : K) (a : ℕ) → IsTraced keeps code r → a < 64 → newest cmp r.text k a ≡ None

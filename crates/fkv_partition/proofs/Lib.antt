@@ -13,3 +13,4 @@ pub mod ListingLemmas
 pub mod TruncateLemmas
 pub mod BearLemmas
 pub mod SeatLemmas
+pub mod KeptWordLemmas

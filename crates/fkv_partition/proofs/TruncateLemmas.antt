@@ -1,5 +1,5 @@
 -- What a partition keeps where the start of its log is cut.
-use Rattle.std.proofs.Common.{◌≡◌, ◌<◌, ◌≤◌, ◌⊎◌, ◌&&◌, ◌==◌, inl, inr, ℕ, Bool, true, false, IsTrue, IsSome, List, Option, Some, None, nat_le, refl, sym, ◌∙◌, ap, subst, arith}
+use Rattle.std.proofs.Common.{◌≡◌, ◌≢◌, ◌<◌, ◌≤◌, ◌⊎◌, ◌&&◌, ◌==◌, inl, inr, ℕ, Bool, true, false, IsTrue, IsSome, List, Option, Some, None, nat_le, refl, sym, ◌∙◌, ap, subst, arith}
 use Rattle.std.proofs.lemmas.Bool.Decides.{nat_tests}
 use Rattle.std.proofs.lemmas.Bool.{cases_lt, and_parts, eqb-true}
 use Rattle.std.specs.declared.cmp.Ordering.{Ordering}
@@ -22,13 +22,14 @@ use Rattle.fkv_index.proofs.WordFacts.{is_empty-empty, final_not_tentative, tent
 use Rattle.fkv_index.proofs.Emptied.{sweeps, same_tentative}
 use Rattle.fkv_operations.specs.After.{key_of}
 use Rattle.fkv_operations.specs.Still.{IsStill}
+use Rattle.fkv_operations.specs.KeptWords.{IsCut, IsNext}
 use Rattle.fkv_operations.specs.declared.entries.IndexEntry.{IndexEntry}
 use Rattle.fkv_operations.specs.declared.operations.Op.{Op}
 use Rattle.fkv_operations.specs.declared.operations.Op.TheVariants.{Read, Upsert, Rmw, Delete}
-use Rattle.fkv_lookups.specs.RecordsViews.{RecordsView, class_in, IsEntryOf, WasEntryOf, truncated}
+use Rattle.fkv_lookups.specs.RecordsViews.{RecordsView, class_in, indexed, IsEntryOf, WasEntryOf, truncated}
 use Rattle.fkv_lookups.specs.Traced.{IsTraced}
 use Rattle.fkv_lookups.specs.Cleared.{IsCleared}
-use Rattle.fkv_lookups.proofs.TracedLemmas.{entry-stands, traced-held}
+use Rattle.fkv_lookups.proofs.TracedLemmas.{entry-stands, traced-held, highest}
 use Rattle.fkv_partition.specs.declared.contexts.Context.{Context}
 use Rattle.fkv_partition.specs.declared.contexts.Loading.{Loading}
 use Rattle.fkv_partition.specs.declared.contexts.Phase.{Phase}
@@ -209,6 +210,57 @@ module _ {K V : Type 0} {keeps : Bool} (cmp : K → K → Ordering) (code : K �
         let stands = entry-stood k e h.entry here in
         let last = sym (led k e stands) ∙ h.newest yes_keeps (stood k e h.entry here) in
         led-cut k e stands yes_keeps ∙ last-kept yes_keeps k x last h.some;
+  }
+
+  -- the newest record of a key at or below an address is the same, or lies below
+  newest-cut-at : IsTrue keeps → (k : K) (a : ℕ) → (newest cmp (truncated keeps v low).text k a ≡ newest cmp v.text k a) ⊎ IsCut cmp (indexed v) (indexed (truncated keeps v low)) k a
+  newest-cut-at yes_keeps k a = by_newest (newest cmp v.text k a) refl
+    where
+      passes : Entry K V → Bool
+      passes e = nat_le e.address a && has_key cmp k e
+
+      cut : newest cmp (truncated keeps v low).text k a ≡ last_where passes (text_from low v.text)
+      cut = ap (λ u. newest cmp u k a) (cut-text yes_keeps)
+
+      filtered : newest cmp (truncated keeps v low).text k a ≡ last_where (λ x. nat_le low x.address && passes x) v.text
+      filtered = cut ∙ last_where-filter passes (λ x. nat_le low x.address) v.text
+
+      gone : (e : Entry K V) → newest cmp v.text k a ≡ Some e → e.address < low → (o : Option (Entry K V)) → last_where passes (text_from low v.text) ≡ o → o ≡ None
+      gone e h under None g = refl
+      gone e h under (Some d) g = absurd (
+          let m = last_where-in passes (text_from low v.text) d g in
+          let was = filter-in (λ (x : Entry K V). nat_le low x.address) v.text m.place d m.here in
+          let high : low ≤ d.address = cut-from low v.text m.place d m.here in
+          let top : d.address ≤ e.address = highest passes v.text t.rising e h was.0.place d was.0.here (last_where-found passes (text_from low v.text) d g) in
+          omega arith)
+
+      spent : (e : Entry K V) → newest cmp v.text k a ≡ Some e → e.address < low → (e.value ≡ None) ⊎ (last_of cmp v.text k ≢ Some e)
+      spent e h under =
+          let there = entry_at-in v.text t.rising e (last_where-in passes v.text e h) e.address refl in
+          let own : e.key ≡ k = order.same e.key k (and_parts (nat_le e.address a) (has_key cmp k e) (last_where-found passes v.text e h)).1 in
+          elim (clear yes_keeps e there under) [
+            | inl none ↦ inl none
+            | inr other ↦ inr (λ last. other (ap (last_of cmp v.text) own ∙ last))
+          ]
+
+      by_newest : (o : Option (Entry K V)) → newest cmp v.text k a ≡ o
+          → (newest cmp (truncated keeps v low).text k a ≡ newest cmp v.text k a) ⊎ IsCut cmp (indexed v) (indexed (truncated keeps v low)) k a
+      by_newest None h = inl (filtered ∙ last_where-narrow_none passes (λ x. nat_le low x.address) v.text h ∙ sym h)
+      by_newest (Some e) h = elim (cases_lt e.address low) [
+        | inl under ↦ inr (record { entry = e; was = h; below = under; spent = spent e h under; gone = cut ∙ gone e h under (last_where passes (text_from low v.text)) refl })
+        | inr high ↦ (let yes : nat_le low e.address ≡ true = grind (arith, nat_tests) in
+            inl (filtered ∙ last_where-narrow passes (λ x. nat_le low x.address) v.text e h yes ∙ sym h))
+      ]
+
+  -- no address is used twice
+  pub next-cut : IsTrue keeps → IsNext cmp (indexed v) (indexed (truncated keeps v low))
+  next-cut yes_keeps = record {
+    begin = omega arith;
+    frozen = omega arith;
+    tail = omega arith;
+    records = λ k a under still. newest-cut-at yes_keeps k a;
+    places = λ p h. ((sweeps low v.words).places p).1 h;
+    words = λ p w final here. inl (swept-stood low v.words (truncated keeps v low).words (sweeps low v.words) p w final here);
   }
 
   -- a look-up that waits is to look again

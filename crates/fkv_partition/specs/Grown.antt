@@ -1,5 +1,5 @@
 -- What events leave for one who keeps, beside a partition, entries, look-ups, records and addresses of its own.
-use Rattle.std.specs.Prelude.{◌≡◌, ◌<◌, ◌≤◌, Bool, IsTrue, IsSome, true, ℕ, Option, Some, None, slice_get}
+use Rattle.std.specs.Prelude.{◌≡◌, ◌<◌, ◌≤◌, Bool, IsTrue, IsSome, true, ℕ, List, [], ◌∷◌, Option, Some, None, slice_get}
 use Rattle.std.specs.declared.cmp.Ordering.{Ordering}
 use Rattle.fkv_device.specs.Standing.{Standing}
 use Rattle.fkv_regions.specs.Agree.{IsRaised}
@@ -9,11 +9,12 @@ use Rattle.fkv_index.specs.declared.places.Place.{Place}
 use Rattle.fkv_index.specs.Words.{address_of}
 use Rattle.fkv_index.specs.Places.{word_at, IsPlace}
 use Rattle.fkv_operations.specs.declared.entries.IndexEntry.{IndexEntry}
-use Rattle.fkv_lookups.specs.RecordsViews.{RecordsView, class_in, WasEntryOf}
+use Rattle.fkv_operations.specs.KeptWords.{IsNext}
+use Rattle.fkv_lookups.specs.RecordsViews.{RecordsView, class_in, indexed, WasEntryOf}
 use Rattle.fkv_lookups.specs.Cleared.{IsCleared}
 use Rattle.fkv_partition.specs.declared.contexts.Loading.{Loading}
 use Rattle.fkv_partition.specs.Contexts.{joined, is_session}
-use Rattle.fkv_partition.specs.Sound.{IsKept, IsLoading}
+use Rattle.fkv_partition.specs.Sound.{IsKept, IsLoading, IsSound}
 use Rattle.fkv_partition.specs.Views.{PartitionView, slots_of}
 
 -- a record with a value, which nobody changes: on a device that keeps, it is the last of its key while the entry that
@@ -68,11 +69,18 @@ pub record IsGrown {K V : Type 0} (keeps : Bool) (cmp : K → K → Ordering) (o
       → IsCleared cmp new.text limit
   pub places : (p : Place) → IsPlace old.words p → IsPlace new.words p
 
--- both of an event
+-- both of an event; and on a device that keeps, no address is used twice
 pub record IsBorne {K V I : Type 0} (keeps : Bool) (cmp : K → K → Ordering) (code : K → ℕ)
     (old new : PartitionView K V I) : Type 0 where
   pub bears : Bears keeps cmp code old.records new.records
   pub grown : IsGrown keeps cmp old.records new.records
+  pub next : IsTrue keeps → IsNext cmp (indexed old.records) (indexed new.records)
+
+-- events one after another
+abbrev pub AreBorne : {K V I : Type 0} → Bool → (K → K → Ordering) → (K → ℕ) → PartitionView K V I
+    → List (PartitionView K V I) → Type 0
+AreBorne keeps cmp code v [] = Unit {0}
+AreBorne keeps cmp code v (w ∷ ws) = IsBorne keeps cmp code v w × IsSound keeps cmp code w × AreBorne keeps cmp code w ws
 
 -- where no operation was open none is, and who was entered is
 abbrev pub NoneOpens : {K V I : Type 0} → PartitionView K V I → PartitionView K V I → Type 0

@@ -9,13 +9,17 @@ ghost use Rattle.fkv_functions.specs.declared.refusals.Refused.{Refused};
 ghost use Rattle.fkv_records.specs.Places.{start_at};
 ghost use Rattle.fkv_device.specs.Standing.{Standing, Joined};
 ghost use Rattle.fkv_pages.specs.Spelled.{IsEntryIn};
+ghost use Rattle.fkv_texts.specs.Text.{last_of};
+ghost use Rattle.fkv_operations.specs.declared.entries.IndexEntry.{IndexEntry};
 ghost use Rattle.fkv_operations.specs.declared.operations.Op.{Op};
-ghost use Rattle.fkv_lookups.specs.RecordsViews.{IsTruncationDue};
+ghost use Rattle.fkv_operations.specs.KeptWords.{after_last};
+ghost use Rattle.fkv_operations.specs.Still.{IsStill};
+ghost use Rattle.fkv_lookups.specs.RecordsViews.{class_in, IsEntryOf, IsTruncationDue};
 ghost use Rattle.fkv_lookups.specs.Cleared.{IsCleared};
 ghost use Rattle.fkv_partition.specs.declared.changes.Write.{Write};
 ghost use Rattle.fkv_partition.specs.declared.contexts.Progress.{Progress};
 ghost use Rattle.fkv_partition.specs.Contexts.{joined, is_session};
-ghost use Rattle.fkv_partition.specs.Views.{PartitionView, slots_of, with_appended};
+ghost use Rattle.fkv_partition.specs.Views.{PartitionView, slots_of, live_of, with_appended};
 ghost use Rattle.fkv_partition.specs.Beginning.{Enters, Issues, IssuesIn};
 ghost use Rattle.fkv_partition.specs.Ending.{Leaves, GivesUp};
 ghost use Rattle.fkv_partition.specs.Going.{Goes};
@@ -25,13 +29,14 @@ ghost use Rattle.fkv_partition.specs.Flushing.{Flushes};
 ghost use Rattle.fkv_partition.specs.Loading.{Loads};
 ghost use Rattle.fkv_partition.specs.Truncating.{Truncates};
 ghost use Rattle.fkv_partition.specs.Writes.{IsWrite};
-ghost use Rattle.fkv_partition.specs.Grown.{IsBorne, NoneOpens, AllStay};
+ghost use Rattle.fkv_partition.specs.Grown.{IsBorne, AreBorne, NoneOpens, AllStay};
 ghost use Rattle.fkv_partition.specs.Sound.{IsSound};
 
 use fkv_device::Disk;
 use fkv_functions::Functions;
 use fkv_lookups::clearing::cleared_stay;
-use fkv_lookups::laws::{meetings_tell, records_change};
+use fkv_lookups::laws::{entries_lead, meetings_tell, records_change};
+use fkv_operations::kept_words_are_sound;
 
 /// What a prepared update of any key kept, what a look-up of any key that waits for a page is to find, and a frozen
 /// record with a value that is its key's last are kept by every event; no offset falls, what is frozen stays, and what
@@ -104,6 +109,22 @@ pub fn loads_bear<F: Functions, D: Disk>()
         F.Key.SIZE F.Value.SIZE) F.Key.cmp F.meaning old new slot c came now result
         → IsBorne keeps F.Key.cmp code old new }
 {}
+
+/// So an entry that was kept is sound wherever its place holds the kept word, after any number of events, although it was
+/// swept and made again in between: an address is never used again.
+pub fn kept_words_stay_sound<K, V, I>()
+    ensures { (keeps : Bool) (cmp : K → K → Ordering) (code : K → ℕ) (v : PartitionView K V I)
+        (vs : List (PartitionView K V I)) (k : K) (e : IndexEntry)
+        → IsTrue keeps → IsKeyOrder cmp
+        → IsSound keeps cmp code v → AreBorne keeps cmp code v vs
+        → IsEntryOf v.records (class_in code v.records k) e
+        → IsStill v.records.regions.offsets.safe_read_only (last_of cmp v.records.text k)
+        → IsEntryOf (after_last v vs).records (class_in code v.records k) e
+        → live_of cmp (after_last v vs) k ≡ live_of cmp v k }
+{
+    kept_words_are_sound::<K, V>();
+    entries_lead::<K, V>();
+}
 
 /// Where no operation was open none is, and a session that was entered is, by every event but those that are for this:
 /// an issue opens an operation in the context alone that was chosen, and the session alone goes that leaves.

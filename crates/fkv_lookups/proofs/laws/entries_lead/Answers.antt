@@ -1,4 +1,4 @@
-use Rattle.fkv_lookups.proofs.TracedLemmas.{entry-stands, traced-held, traced-none, traced-low}
+use Rattle.fkv_lookups.proofs.TracedLemmas.{entry-stands, traced-held, traced-none, traced-low, traced-led}
 use Rattle.fkv_lookups.proofs.laws.entries_lead.Goals as goal
 
 pub returns : goal.returns
@@ -7,4 +7,5 @@ returns g c = record {
   held = λ cmp keeps code v k a order t entry. traced-held cmp code v k order t a entry;
   none = λ cmp keeps code v k order t entry. traced-none cmp code v k order t entry;
   low = λ keeps code v cl a t entry. traced-low v cl a t entry;
+  led = λ cmp keeps code v order t. traced-led cmp code v order t;
 }
