@@ -8,13 +8,14 @@ use Rattle.std.specs.Ordering.{on, nat_cmp, as_partial_cmp, eq_by_cmp}
 use Rattle.std.specs.declared.cmp.Ordering.{Ordering}
 use Rattle.std.proofs.Common.{refl, sym, ap, ◌∙◌, arith, length-append, length-drop}
 use Rattle.std.proofs.lemmas.List.{drop-replicate, length-take, take-append-drop}
-use Rattle.std.proofs.Math.Seq.{drop-append_seam}
+use Rattle.std.proofs.Math.Seq.{drop-append_seam, take-append_seam}
 use Rattle.std.proofs.Math.Bridge.{le_prop}
 use Rattle.std.proofs.Math.Nat.{ℕ_set}
 use Rattle.std.specs.Coded.{coded_list, coded_ℕ}
 use base.Stored.{Coded-set}
 use mathlib.Core.HLevel.{is_prop→PathP}
 use lib.Pointwise.{pointwise}
+use Rattle.fkv_functions.specs.Hashes.{fnv_1a}
 use Rattle.fkv_functions.specs.declared.names.Name.{Name}
 
 -- the bytes of a name
@@ -44,17 +45,24 @@ name_ties a b = texts_ties (text_of a) (text_of b)
 pub name_ordered : IsPartialOrder same_names (as_partial_cmp name_cmp)
 name_ordered = partial_order_from_agreeing_total name_cmp name_total (λ x y. refl) name_ties
 
+-- names of the same bytes have one hash
+same_hash : (a b : Name) → a.len ≡ b.len → a.bytes ≡ b.bytes → a.hash ≡ b.hash
+same_hash a b f e = a.hashed ∙ (λ i. fnv_1a (take (f i) (e i))) ∙ sym b.hashed
+
 -- two names of the same fields are one
 same_fields : (a b : Name) → a.len ≡ b.len → a.bytes ≡ b.bytes → a ≡ b
 same_fields a b f e = λ i. record {
   len = f i;
   bytes = e i;
+  hash = same_hash a b f e i;
   some = is_prop→PathP (λ j. 1 ≤ f j) (λ j. le_prop) a.some b.some i;
   most = is_prop→PathP (λ j. f j ≤ 31) (λ j. le_prop) a.most b.most i;
   room = is_prop→PathP (λ j. length (e j) ≡ 31) (λ j. ℕ_set _ _) a.room b.room i;
   padded =
       is_prop→PathP (λ j. drop (f j) (e j) ≡ replicate (31 - f j) 0) (λ j. Coded-set (coded_list coded_ℕ) _ _)
       a.padded b.padded i;
+  hashed =
+      is_prop→PathP (λ j. same_hash a b f e j ≡ fnv_1a (take (f j) (e j))) (λ j. ℕ_set _ _) a.hashed b.hashed i;
 }
 
 -- a name's bytes and their number are its fields
@@ -110,3 +118,6 @@ pub room_by : (bytes : List ℕ) → length bytes ≤ 31 → length (bytes ++ dr
 room_by bytes most =
     let zeros : List ℕ = replicate 31 0 in
     omega (arith, length-append bytes (drop (length bytes) zeros), length-drop (length bytes) zeros)
+
+pub hashed_by : (bytes : List ℕ) → fnv_1a bytes ≡ fnv_1a (take (length bytes) (bytes ++ drop (length bytes) (replicate 31 0)))
+hashed_by bytes = ap fnv_1a (sym (take-append_seam bytes (drop (length bytes) (replicate 31 0))))

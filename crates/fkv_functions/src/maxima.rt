@@ -4,7 +4,6 @@ ghost use Rattle.fkv_functions.specs.Hashes.{fnv_1a};
 ghost use Rattle.fkv_functions.specs.Integers.{int_exact};
 ghost use Rattle.fkv_functions.specs.Names.{text_of};
 
-use crate::hashes::fnv_1a_hash;
 use crate::names::Name;
 use crate::updates::{Functions, OrderFree};
 
@@ -42,7 +41,7 @@ impl Functions for MaxFns {
     }
 
     fn hash(&self, key: &Name) -> u64 {
-        fnv_1a_hash(key.bytes())
+        key.hash()
     }
 
     ghost exact_outputs = { int_exact };

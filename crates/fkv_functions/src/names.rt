@@ -1,7 +1,9 @@
 //! Names: keys of 1 to 31 bytes.
 ghost use Rattle.std.specs.Prelude.{◌≡◌, ◌+◌, ◌-◌, ◌<◌, ◌≤◌, ◌↔◌, ℕ, List, ◌∷◌, ◌++◌, length, drop, take, replicate};
 ghost use Rattle.std.specs.Prelude.{refl, IfSome, IsSome, IsTrue, Some};
+ghost use Rattle.fkv_functions.specs.Hashes.{fnv_1a};
 
+use crate::hashes::fnv_1a_hash;
 use crate::values::{Fixed, Known};
 use std::cmp::Ordering;
 
@@ -12,10 +14,13 @@ use std::cmp::Ordering;
 pub struct Name {
     len: u8,
     bytes: [u8; 31],
+    /// Made once for all who ask.
+    hash: u64,
     pub ghost some: { 1 ≤ len },
     pub ghost most: { len ≤ 31 },
     pub ghost room: { length bytes ≡ 31 },
     pub ghost padded: { drop len bytes ≡ replicate (31 - len) 0 },
+    pub ghost hashed: { hash ≡ fnv_1a (take len bytes) },
 }
 
 impl Name {
@@ -34,6 +39,7 @@ impl Name {
         Some(Name {
             len: bytes.len() as u8,
             bytes: all,
+            hash: fnv_1a_hash(bytes),
         })
     }
 
@@ -44,6 +50,13 @@ impl Name {
         ensures most { length result.now ≤ 31 }
     {
         &self.bytes[..self.len as usize]
+    }
+
+    /// The hash of the bytes, FNV-1a of 64 bits.
+    pub fn hash(&self) -> u64
+        ensures { result ≡ fnv_1a (text_of self.now) }
+    {
+        self.hash
     }
 }
 
@@ -132,7 +145,11 @@ impl Fixed for Name {
         }
         let mut all = [0u8; 31];
         all.copy_from_slice(rest);
-        Some(Name { len, bytes: all })
+        Some(Name {
+            len,
+            bytes: all,
+            hash: fnv_1a_hash(&rest[..len as usize]),
+        })
     }
 
     fn stands_in(&self, bytes: &[u8]) -> bool {

@@ -4,7 +4,8 @@ use Rattle.std.specs.Str.{bytes_eq}
 use Rattle.std.specs.List.{list_all}
 use Rattle.std.proofs.Common.{refl}
 use Rattle.std.proofs.lemmas.Bool.{leb-true}
-use Rattle.fkv_functions.specs.Names.{room_by, padded_by}
+use Rattle.fkv_functions.specs.Hashes.{fnv_1a}
+use Rattle.fkv_functions.specs.Names.{room_by, padded_by, hashed_by}
 use Rattle.fkv_functions.specs.declared.names.Name.{Name}
 use Rattle.fkv_operations.specs.declared.operations.Op.{Op}
 use Rattle.fkv_operations.specs.declared.operations.Op.TheVariants.{Read, Upsert, Rmw, Delete}
@@ -23,10 +24,12 @@ abbrev pub name_with : (bytes : List ℕ) → (1 ≤ length bytes) × (length by
 name_with bytes h = record {
   len = length bytes;
   bytes = bytes ++ drop (length bytes) (replicate 31 0);
+  hash = fnv_1a bytes;
   some = h.0;
   most = h.1;
   room = room_by bytes h.1;
   padded = padded_by bytes h.1;
+  hashed = hashed_by bytes;
 }
 
 -- the tests of a key's length say what they test
