@@ -13,7 +13,7 @@ use crate::tidying::tidy_at_times;
 use crate::updating::update;
 use fkv_device::Disk;
 use fkv_functions::{Functions, Name, Refused};
-use fkv_operations::Clock;
+use fkv_operations::{Clock, partition_at};
 use fkv_partition::{Config, Partition};
 use std::alloc::Global;
 
@@ -46,24 +46,6 @@ pub struct Shards<'a, F: Functions, D: Disk> {
     pub(crate) terms: Terms<'a, F>,
     pub(crate) shards: Vec<Shard<F, D>>,
     pub(crate) clock: Clock,
-}
-
-/// What a division of a hash by a count leaves. Counts of partitions are powers of two; where one is written out the
-/// compiler takes a mask, and a division alone would take a part of a row's time that can be seen.
-fn place_of(hash: u64, count: u64) -> u64
-    requires { 0 < count }
-    ensures { result ≡ hash % count }
-{
-    match count {
-        1 => 0,
-        2 => hash % 2,
-        4 => hash % 4,
-        8 => hash % 8,
-        16 => hash % 16,
-        32 => hash % 32,
-        64 => hash % 64,
-        _ => hash % count,
-    }
 }
 
 /// Adds an item. Refused: `NoMemory`.
@@ -197,7 +179,7 @@ impl<'a, F: Functions, D: Disk> Shards<'a, F, D> {
         ensures within { result < length self.now.shards.items }
     {
         let count = self.shards.len() as u64;
-        place_of(self.terms.functions.hash(key), count) as usize
+        partition_at(self.terms.functions.hash(key), count) as usize
     }
 }
 

@@ -1,5 +1,5 @@
-//! The class of a key within its partition.
-ghost use Rattle.std.specs.Prelude.{◌≡◌, ◌≤◌};
+//! The partition of a key, and its class within that.
+ghost use Rattle.std.specs.Prelude.{◌≡◌, ◌<◌, ◌≤◌, ◌%◌};
 ghost use Rattle.fkv_operations.specs.Classes.{class_at, IsClass};
 
 /// What a partition tells keys apart by when it looks for their records: all keys of one class share one entry of
@@ -28,5 +28,23 @@ pub fn class_of(hash: u64, partition_bits: u64, bucket_bits: u64) -> Class
     Class {
         bucket: bucket as usize,
         tag: tag as u16,
+    }
+}
+
+/// The partition of a hash among so many. Their number is a power of two; where one is written out the compiler takes a mask,
+/// and a division would take a part of an update's time that can be seen.
+pub fn partition_at(hash: u64, count: u64) -> u64
+    requires { 0 < count }
+    ensures { result ≡ hash % count }
+{
+    match count {
+        1 => 0,
+        2 => hash % 2,
+        4 => hash % 4,
+        8 => hash % 8,
+        16 => hash % 16,
+        32 => hash % 32,
+        64 => hash % 64,
+        _ => hash % count,
     }
 }

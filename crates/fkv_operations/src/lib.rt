@@ -13,7 +13,7 @@ mod maps;
 pub mod operations;
 pub mod plainly;
 
-pub use classes::{Class, class_of};
+pub use classes::{Class, class_of, partition_at};
 pub use clocks::Clock;
 pub use entries::IndexEntry;
 pub use kept_words::kept_words_are_sound;

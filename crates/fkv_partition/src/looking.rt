@@ -15,7 +15,7 @@ use crate::partitions::Partition;
 use fkv_device::Disk;
 use fkv_functions::Functions;
 use fkv_lookups::{DecisionOf, decide, low_of, met_by};
-use fkv_operations::{Class, IndexEntry, OpOf};
+use fkv_operations::{Class, IndexEntry, OpOf, partition_at};
 use fkv_records::Address;
 use fkv_texts::Reached;
 
@@ -81,7 +81,8 @@ impl<F: Functions, D: Disk> Partition<F, D> {
     pub fn home(&self, functions: &F, key: &F::Key) -> u64
         ensures { result ≡ partition_of self.now.count (F.code key.now) }
     {
-        functions.hash(key) % self.count
+        self.known();
+        partition_at(functions.hash(key), self.count)
     }
 
     /// The class of a key, and its final entry.
