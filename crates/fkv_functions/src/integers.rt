@@ -119,7 +119,7 @@ impl Fixed for i128 {
 }
 
 /// The number that these eight bytes spell.
-fn word_of(bytes: &[u8]) -> u64
+pub(crate) fn word_of(bytes: &[u8]) -> u64
     requires { length bytes.now ≡ 8 }
     ensures { to_le_bytes w64 result ≡ bytes.now }
 {

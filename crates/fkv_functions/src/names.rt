@@ -4,6 +4,7 @@ ghost use Rattle.std.specs.Prelude.{refl, IfSome, IsSome, IsTrue, Some};
 ghost use Rattle.fkv_functions.specs.Hashes.{fnv_1a};
 
 use crate::hashes::fnv_1a_hash;
+use crate::integers::word_of;
 use crate::values::{Fixed, Known};
 use std::cmp::Ordering;
 
@@ -154,12 +155,32 @@ impl Fixed for Name {
 
     fn stands_in(&self, bytes: &[u8]) -> bool {
         let (length, rest) = bytes.split_at(1);
-        length[0] == self.len && rest == self.bytes.as_slice()
+        length[0] == self.len && is_same(rest, self.bytes.as_slice())
     }
 
     ghost sized = { λ v h. name_sized v };
 
     ghost readable = { λ v w h k e. name_readable v w e };
+}
+
+/// Whether these 31 bytes are those, eight by eight: each key on a look-up's way is compared so.
+fn is_same(bytes: &[u8], other: &[u8]) -> bool
+    requires bytes { length bytes.now ≡ 31 }
+    requires other { length other.now ≡ 31 }
+    ensures { IsTrue result ↔ (bytes.now ≡ other.now) }
+{
+    let (first, after) = bytes.split_at(8);
+    let (second, after) = after.split_at(8);
+    let (third, _seven) = after.split_at(8);
+    let (_seven, last) = after.split_at(7);
+    let (other_first, other_after) = other.split_at(8);
+    let (other_second, other_after) = other_after.split_at(8);
+    let (other_third, _seven) = other_after.split_at(8);
+    let (_seven, other_last) = other_after.split_at(7);
+    word_of(first) == word_of(other_first)
+        && word_of(second) == word_of(other_second)
+        && word_of(third) == word_of(other_third)
+        && word_of(last) == word_of(other_last)
 }
 
 /// Whether these bytes are all zero.
