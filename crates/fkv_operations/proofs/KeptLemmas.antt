@@ -13,10 +13,11 @@ use Rattle.fkv_operations.specs.declared.entries.IndexEntry.{IndexEntry}
 use Rattle.fkv_operations.specs.Still.{IsStill}
 use Rattle.fkv_operations.specs.KeptWords.{IndexedText, IsFound, IsLed, AreNext, after_last}
 
-still-up : {K V : Type 0} (a b : ℕ) (o : Option (Entry K V)) → a ≤ b → IsStill a o → IsStill b o
-still-up a b None up h = tt
-still-up a b (Some e) up (inl none) = inl none
-still-up a b (Some e) up (inr low) = inr (omega arith)
+-- what is still stays so while more is frozen
+pub still-raised : {K V : Type 0} (a b : ℕ) (o : Option (Entry K V)) → a ≤ b → IsStill a o → IsStill b o
+still-raised a b None up h = tt
+still-raised a b (Some e) up (inl none) = inl none
+still-raised a b (Some e) up (inr low) = inr (omega arith)
 
 module _ {K V : Type 0} (cmp : K → K → Ordering) (class : K → Class) where
   -- below Begin no key has a record
@@ -51,7 +52,7 @@ module _ {K V : Type 0} (cmp : K → K → Ordering) (class : K → Class) where
         let there : word_at u.words e.place ≡ e.word = stood u us next found.final (omega arith) here in
         let again : IsFound class u k e = record { bucket = found.bucket; place = n.places e.place found.place; word = there; final = found.final; tag = found.tag } in
         elim (n.records k (address_of e.word) low still) [
-          | inl same ↦ stays u us m next again (subst (IsStill u.frozen) (sym same) (still-up v.frozen u.frozen (newest cmp v.text k (address_of e.word)) n.frozen still)) here ∙ ap value_of same
+          | inl same ↦ stays u us m next again (subst (IsStill u.frozen) (sym same) (still-raised v.frozen u.frozen (newest cmp v.text k (address_of e.word)) n.frozen still)) here ∙ ap value_of same
           | inr cut ↦ stays u us m next again (subst (IsStill u.frozen) (sym cut.gone) tt) here ∙ ap value_of cut.gone ∙ sym (ap value_of cut.was ∙ elim cut.spent [
             | inl none ↦ none
             | inr other ↦ absurd (other (sym (l.leads k e found) ∙ cut.was))

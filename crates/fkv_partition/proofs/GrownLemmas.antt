@@ -30,6 +30,7 @@ use Rattle.fkv_operations.specs.KeptWords.{IsNext}
 use Rattle.fkv_operations.specs.declared.entries.IndexEntry.{IndexEntry}
 use Rattle.fkv_operations.specs.declared.operations.Op.{Op}
 use Rattle.fkv_operations.specs.declared.operations.Op.TheVariants.{Read, Upsert, Rmw, Delete}
+use Rattle.fkv_operations.proofs.KeptLemmas.{still-raised}
 use Rattle.fkv_lookups.specs.Lookups.{IsOfClass}
 use Rattle.fkv_lookups.specs.RecordsViews.{RecordsView, class_in, indexed, WasEntryOf, with_record, with_value, with_regions, with_receipt, IsMoved}
 use Rattle.fkv_lookups.specs.Traced.{IsTraced}
@@ -91,11 +92,6 @@ newest-nowhere cmp r k a t low = last_where-none (λ e. nat_le e.address a && ha
     let least = t.first in
     let no : nat_le e.address a ≡ false = grind (arith, nat_tests) in
     rw no refl)
-
-still-raised : {K V : Type 0} (a b : ℕ) (l : Option (Entry K V)) → a ≤ b → IsStill a l → IsStill b l
-still-raised a b None up h = tt
-still-raised a b (Some e) up (inl none) = inl none
-still-raised a b (Some e) up (inr low) = inr (omega arith)
 
 -- the newest of a key below a frozen address is still
 pub still-below : {K V : Type 0} (cmp : K → K → Ordering) (text : List (Entry K V)) (k : K) (a safe : ℕ) → a < safe → IsStill safe (newest cmp text k a)
