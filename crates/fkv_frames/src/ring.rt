@@ -111,6 +111,15 @@ impl Frames {
     {
         let page = address >> self.page_bits;
         let offset = offset_in(self.page_bits, address);
+        self.write_in(page, offset, bytes);
+    }
+
+    /// Writes bytes at an offset of a page, which is in its frame and has room for them.
+    pub fn write_in(&mut self, page: u64, offset: usize, bytes: &[u8])
+        requires held { IsSome (held self.old page) }
+        requires fits { offset + length bytes.now ≤ 2 ^ self.old.bits }
+        ensures { Writes page offset bytes.now self.old self.new }
+    {
         let at = (page % self.frames.len() as u64) as usize;
         let frame = &mut self.frames[at];
         splice(&mut frame.bytes, offset, bytes);

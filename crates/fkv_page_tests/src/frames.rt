@@ -76,7 +76,7 @@ fn open_plainly(plain: &mut Plain, page: u64, count: u64) -> bool
     plain.insert(page, [0u8; 256]).is_ok()
 }
 
-/// Writes sixteen bytes of a page that is held, in the frames and in the map.
+/// Writes sixteen bytes of a page that is held, in the frames, at their address or in their page, and in the map.
 fn write_both(frames: &mut Frames, plain: &mut Plain, page: u64, offset: usize, byte: u8) -> bool
     requires page { page < 64 }
     requires offset { offset < 240 }
@@ -84,7 +84,11 @@ fn write_both(frames: &mut Frames, plain: &mut Plain, page: u64, offset: usize, 
     if !frames.holds(page) || frames.bytes(page).len() != 256 {
         return false;
     }
-    frames.write_at(page * 256 + offset as u64, &[byte; 16]);
+    if byte % 2 == 0 {
+        frames.write_at(page * 256 + offset as u64, &[byte; 16]);
+    } else {
+        frames.write_in(page, offset, &[byte; 16]);
+    }
     match plain.get_mut(&page) {
         Some(bytes) => {
             bytes[offset..offset + 16].fill(byte);

@@ -1,6 +1,7 @@
 -- Texts by what spells them, and bytes written into pages.
 use Rattle.std.proofs.Common.{◌≡◌, ◌+◌, ◌-◌, ◌^◌, ◌<◌, ◌≤◌, inl, inr, ℕ, List, ◌++◌, length, take, drop, Option, refl, sym, ◌∙◌, ap, arith, length-append, length-take, length-drop, append_assoc}
-use Rattle.std.proofs.lemmas.List.{take-append-drop, take-append-le, drop-append-le}
+use Rattle.std.proofs.lemmas.List.{take-append-drop, take-append-le, drop-append-le, drop-drop, drop-take}
+use Rattle.std.proofs.Math.Seq.{take-add, take-take}
 use Rattle.std.proofs.lemmas.Slice.{drop-append-drop}
 use Rattle.std.specs.Prelude.{slice_range, unwrap_or, IfSome, OnErr, Result, Ok, Err}
 use Rattle.std.specs.Coded.{Coded, Coded-set, coded_ℕ, coded_list, coded×, coded_option, code_by}
@@ -74,6 +75,31 @@ module _ (page bytes : List ℕ) (offset : ℕ) (room : offset + length bytes �
 
 pub part-length : (page : List ℕ) (offset size : ℕ) → offset + size ≤ length page → length (part_of page offset size) ≡ size
 part-length page offset size room = omega (arith, length-take (offset + size - offset) (drop offset page), length-drop offset page)
+
+-- bytes written inside of a part: the whole part is written, with these in it
+pub written-inside : (page bytes : List ℕ) (offset d e : ℕ) → offset + (d + length bytes + e) ≤ length page
+    → written_at page (offset + d) bytes
+    ≡ written_at page offset (take d (part_of page offset (d + length bytes + e)) ++ (bytes ++ drop (d + length bytes) (part_of page offset (d + length bytes + e))))
+written-inside page bytes offset d e room =
+    let n = length bytes in
+    let rest : List ℕ = drop offset page in
+    let part : part_of page offset (d + n + e) ≡ take (d + n + e) rest = ap (λ (k : ℕ). take k rest) (omega arith) in
+    let front : take d (take (d + n + e) rest) ≡ take d rest = take-take d (d + n + e) rest (omega arith) in
+    let back : drop (d + n) (take (d + n + e) rest) ≡ take e (drop (d + n) rest) = drop-take (d + n) e rest in
+    let behind : drop (d + n) rest ≡ drop (offset + d + n) page = drop-drop (d + n) offset page ∙ ap (λ (k : ℕ). drop k page) (omega arith) in
+    let inside : List ℕ = take d rest ++ (bytes ++ take e (drop (d + n) rest)) in
+    let long : length (drop offset page) ≡ length page - offset = length-drop offset page in
+    let sized : length inside ≡ d + n + e =
+    omega (arith, long, length-append (take d rest) (bytes ++ take e (drop (d + n) rest)), length-append bytes (take e (drop (d + n) rest)), length-take d rest, length-take e (drop (d + n) rest), length-drop (d + n) rest) in
+    let last : drop (offset + length inside) page ≡ drop e (drop (d + n) rest) =
+    ap (λ (k : ℕ). drop k page) (omega (arith, sized)) ∙ sym (ap (drop e) behind ∙ drop-drop e (offset + d + n) page) in
+    let whole : take e (drop (d + n) rest) ++ drop e (drop (d + n) rest) ≡ drop (offset + d + n) page = take-append-drop e (drop (d + n) rest) ∙ behind in
+    rw (part, front, back)
+    (rw (last, take-add offset d page)
+    (append_assoc (take offset page) (take d rest) (bytes ++ drop (offset + d + n) page)
+    ∙ ap (λ (x : List ℕ). take offset page ++ (take d rest ++ (bytes ++ x))) (sym whole)
+    ∙ ap (λ (x : List ℕ). take offset page ++ (take d rest ++ x)) (sym (append_assoc bytes (take e (drop (d + n) rest)) (drop e (drop (d + n) rest))))
+    ∙ ap (λ (x : List ℕ). take offset page ++ x) (sym (append_assoc (take d rest) (bytes ++ take e (drop (d + n) rest)) (drop e (drop (d + n) rest))))))
 
 -- a part behind the bytes that are written stays
 pub written-above : (page bytes : List ℕ) (offset at size : ℕ) → offset + length bytes ≤ length page → offset + length bytes ≤ at → part_of (written_at page offset bytes) at size ≡ part_of page at size

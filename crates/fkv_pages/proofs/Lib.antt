@@ -8,3 +8,4 @@ pub mod FlushLemmas
 pub mod HeldLemmas
 pub mod ReadLemmas
 pub mod DifferenceLemmas
+mod ValueLemmas

@@ -8,7 +8,9 @@ ghost use Rattle.fkv_pages.specs.Pages.{OpensAndWrites, IsEdited};
 
 use fkv_frames::Frames;
 use fkv_functions::Fixed;
-use fkv_records::{Address, Record, Shape, set_tombstone, write_record, write_value};
+use fkv_records::{
+    Address, Record, Shape, set_tombstone, value_offset, write_record, write_value,
+};
 
 /// So many bytes at an offset of a page.
 pub(crate) fn part(page: &[u8], offset: usize, size: usize) -> &[u8]
@@ -50,7 +52,7 @@ pub(crate) fn put_record<K: Fixed, V: Fixed>(
     frames.write_at(address, bytes);
 }
 
-/// Writes another value into the bytes of the record at an address.
+/// Writes another value into the bytes of the record at an address: the value's own, and no others.
 pub(crate) fn put_value<K: Fixed, V: Fixed>(
     frames: &mut Frames,
     shape: Shape,
@@ -66,14 +68,13 @@ pub(crate) fn put_value<K: Fixed, V: Fixed>(
         frames.old.bits address frames.old frames.new) }
     ensures known { V.is_known value.now }
 {
+    frames.known();
     let page = shape.page_of(address);
-    let offset = shape.offset_of(address);
-    let size = shape.record_size;
+    let offset = shape.offset_of(address) + value_offset::<K, V>();
     let mut buffer = [0u8; 192];
-    let bytes = &mut buffer[..size];
-    bytes.copy_from_slice(part(frames.bytes(page), offset, size));
+    let bytes = &mut buffer[..V::SIZE];
     write_value::<K, V>(value, bytes);
-    frames.write_at(address, bytes);
+    frames.write_in(page, offset, bytes);
 }
 
 /// Makes the record in the bytes at an address a tombstone.

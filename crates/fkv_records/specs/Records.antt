@@ -25,6 +25,10 @@ value_part ksize vsize bytes = slice_range bytes (8 + ksize) (8 + ksize + vsize)
 abbrev pub padding_part : ℕ → ℕ → List ℕ → List ℕ
 padding_part ksize vsize bytes = drop (8 + ksize + vsize) bytes
 
+-- the bytes with these in the value's place
+abbrev pub with_value_part : ℕ → ℕ → List ℕ → List ℕ → List ℕ
+with_value_part ksize vsize bytes middle = take (8 + ksize) bytes ++ (middle ++ drop (8 + ksize + vsize) bytes)
+
 -- the bytes are those of the record; where it is a tombstone, the value's bytes may be any
 pub record Spells {K V : Type 0} (key : K → List ℕ) (value : V → List ℕ) (ksize vsize : ℕ)
     (bytes : List ℕ) (r : Record K V) : Type 0 where

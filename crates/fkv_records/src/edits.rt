@@ -1,25 +1,30 @@
 //! Changes of a record where it stands.
-ghost use Rattle.std.specs.Prelude.{◌≡◌, ◌+◌, ◌^◌, ◌<◌, ◌≤◌, ◌++◌, length, take, drop};
+ghost use Rattle.std.specs.Prelude.{◌≡◌, ◌+◌, ◌^◌, ◌<◌, ◌≤◌, ℕ, List, length};
 ghost use Rattle.std.specs.Prelude.{slice_set, slice_index, bit_or, IsSome, Some, None};
-ghost use Rattle.fkv_records.specs.Records.{size_of, Spells};
+ghost use Rattle.fkv_records.specs.Records.{size_of, with_value_part, Spells};
 ghost use Rattle.fkv_records.specs.declared.records.Record.{Record};
 
 use fkv_functions::Fixed;
 
-/// Writes another value into the bytes of a record that has one. All other bytes stay.
-pub fn write_value<K: Fixed, V: Fixed>(value: &V, bytes: &mut [u8])
-    requires most { size_of K.SIZE V.SIZE ≤ 192 }
-    requires room { length bytes.old ≡ size_of K.SIZE V.SIZE }
-    ensures bytes { bytes.new ≡ take (8 + K.SIZE) bytes.old
-        ++ (V.bytes_of value.now ++ drop (8 + K.SIZE + V.SIZE) bytes.old) }
-    ensures spells { (r : Record K V) → IsSome r.value
-        → Spells K.bytes_of V.bytes_of K.SIZE V.SIZE bytes.old r
-        → Spells K.bytes_of V.bytes_of K.SIZE V.SIZE bytes.new (record r { value = Some value.now }) }
+/// Where in a record the bytes of its value begin.
+pub fn value_offset<K: Fixed, V: Fixed>() -> usize
+    requires { size_of K.SIZE V.SIZE ≤ 192 }
+    ensures { result ≡ 8 + K.SIZE }
+{
+    8 + K::SIZE
+}
+
+/// Writes another value over the bytes of the value of a record that has one.
+pub fn write_value<K: Fixed, V: Fixed>(value: &V, place: &mut [u8])
+    requires room { length place.old ≡ V.SIZE }
+    ensures bytes { place.new ≡ V.bytes_of value.now }
+    ensures spells { (bytes : List ℕ) (r : Record K V) → length bytes ≡ size_of K.SIZE V.SIZE → IsSome r.value
+        → Spells K.bytes_of V.bytes_of K.SIZE V.SIZE bytes r
+        → Spells K.bytes_of V.bytes_of K.SIZE V.SIZE (with_value_part K.SIZE V.SIZE bytes place.new)
+        (record r { value = Some value.now }) }
     ensures known { V.is_known value.now }
 {
     value.known();
-    let (_front, rest) = bytes.split_at_mut(8 + K::SIZE);
-    let (place, _padding) = rest.split_at_mut(V::SIZE);
     value.put(place);
 }
 

@@ -15,7 +15,7 @@ pub mod records;
 pub mod shapes;
 
 pub use addresses::{Address, END, FIRST, NO_RECORD};
-pub use edits::{set_tombstone, write_value};
+pub use edits::{set_tombstone, value_offset, write_value};
 pub use headers::Header;
 pub use records::{Damaged, Record, read_record, record_size, write_record};
 pub use shapes::Shape;

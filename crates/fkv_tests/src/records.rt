@@ -4,8 +4,8 @@ ghost use Rattle.fkv_records.specs.Records.{size_of, IsRecord};
 
 use fkv_functions::{Fixed, Known, Name};
 use fkv_records::{
-    Damaged, END, Header, Record, Shape, read_record, record_size, set_tombstone, write_record,
-    write_value,
+    Damaged, END, Header, Record, Shape, read_record, record_size, set_tombstone, value_offset,
+    write_record, write_value,
 };
 
 /// The bytes of the record of key `a` with the value 5 and no record before it.
@@ -412,7 +412,8 @@ const DEAD: [u8; 56] = [
 #[test]
 fn changes(rt: HostRuntime) {
     let mut bytes = A;
-    write_value::<Name, i128>(&-2, &mut bytes);
+    let start = value_offset::<Name, i128>();
+    write_value::<Name, i128>(&-2, &mut bytes[start..]);
     assert!(rt; bytes == CHANGED && spells(&bytes, Some(-2)));
     for _ in 0..2 {
         set_tombstone::<Name, i128>(&mut bytes);
