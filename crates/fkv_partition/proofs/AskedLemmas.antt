@@ -131,6 +131,17 @@ free-here slots contexts slot c places session low inside free = by_get (slice_g
     by_get (Some None) e = e
     by_get (Some (Some x)) e = absurd (let is = sym (context-inside slots contexts slot c inside low ∙ ap joined e) ∙ free in cc)
 
+-- a place written and written back, and one past the end
+pub set-back : {A : Type 0} (xs : List A) (i : ℕ) (x y : A) → slice_get xs i ≡ Some y → slice_set (slice_set xs i x) i y ≡ xs
+set-back [] i x y h = refl
+set-back (z ∷ zs) zero x y h = let same : y ≡ z = cc in ap (λ w. w ∷ zs) same
+set-back (z ∷ zs) (suc i) x y h = ap (λ ws. z ∷ ws) (set-back zs i x y h)
+
+pub set-past : {A : Type 0} (xs : List A) (i : ℕ) (x : A) → length xs ≤ i → slice_set xs i x ≡ xs
+set-past [] i x h = refl
+set-past (z ∷ zs) zero x h = absurd (omega arith)
+set-past (z ∷ zs) (suc i) x h = ap (λ ws. z ∷ ws) (set-past zs i x (omega arith))
+
 -- and is one of a session's eight
 pub free-low : {K V I : Type 0} (v : PartitionView K V I) (slot c : ℕ) → free_context v slot ≡ Some c → c < 8
 free-low v slot c h =

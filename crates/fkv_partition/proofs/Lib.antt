@@ -14,3 +14,4 @@ pub mod TruncateLemmas
 pub mod BearLemmas
 pub mod SeatLemmas
 pub mod KeptWordLemmas
+mod AtOnceLemmas

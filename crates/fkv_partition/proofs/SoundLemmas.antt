@@ -1,6 +1,8 @@
 -- What the changes of a partition keep.
-use Rattle.std.proofs.Common.{◌≡◌, ◌≢◌, true, false, ℕ, zero, suc, ◌+◌, ◌*◌, ◌^◌, ◌<◌, ◌≤◌, inl, inr, IsTrue, List, replicate, Option, Some, None, slice_get, slice_set, refl, sym, ◌∙◌, ap, subst, arith}
+use Rattle.std.proofs.Common.{◌≡◌, ◌≢◌, true, false, ℕ, zero, suc, ◌+◌, ◌*◌, ◌^◌, ◌<◌, ◌≤◌, inl, inr, IsTrue, List, length, replicate, Option, Some, None, slice_get, slice_set, refl, sym, ◌∙◌, ap, subst, arith}
 use Rattle.std.proofs.lemmas.List.{length-set}
+use Rattle.std.proofs.lemmas.Option.{slice_get_past}
+use Rattle.fkv_partition.proofs.AskedLemmas.{set-past}
 use Rattle.std.proofs.lemmas.Bool.{cases_eq}
 use Rattle.std.specs.declared.cmp.Ordering.{Ordering}
 use Rattle.fkv_texts.specs.declared.entries.Entry.{Entry}
@@ -297,6 +299,19 @@ module _ {K V I : Type 0} {keeps : Bool} {cmp : K → K → Ordering} {code : K 
           others = λ p x n h. stands-grown keeps cmp code v.records (with_value v.records a value) x.op x.phase s.traced (grown-replaced cmp code v.records s.traced a value high kept) (λ q e. refl) (s.stands p x h);
           owned = owned-quiet v.records.words v.records.words v.contexts (slot * 8 + c) None s.owned (λ q. refl) old refl;
         }) (λ y h. absurd (cc))
+
+    -- the same where no context changes
+    pub sound-revalued : (now a : ℕ) (value : Option V)
+        → v.records.regions.offsets.safe_read_only ≤ a
+        → IsTraced keeps code (with_value v.records a value)
+        → ((q : K) (b : ℕ) → IsStill v.records.regions.offsets.safe_read_only (newest cmp v.records.text q b) → newest cmp (with_value v.records a value).text q b ≡ newest cmp v.records.text q b)
+        → IsSound keeps cmp code (record v { records = with_value v.records a value; moment = now })
+    sound-revalued now a value high traced kept =
+        let long : length v.contexts ≤ 16 * 8 + 0 = omega (arith, s.places) in
+        let past : slice_get v.contexts (16 * 8 + 0) ≡ None = slice_get_past v.contexts (16 * 8 + 0) long in
+        subst (λ (cs : List (Option (Context K V I))). IsSound keeps cmp code (record v { contexts = cs; records = with_value v.records a value; moment = now }))
+        (set-past v.contexts (16 * 8 + 0) None long)
+        (sound-replaced 16 0 now a value (ap (λ o. claim_of (joined o)) past) high traced kept)
 
 -- a session stays where the regions that the records have followed have it
 pub slots-moved : {K V : Type 0} {keeps : Bool} (old new : RecordsView K V) (regions : RegionsView) (t : ℕ) → IsMoved keeps regions old new → is_session regions.epochs.slots t ≡ true → is_session new.regions.epochs.slots t ≡ true

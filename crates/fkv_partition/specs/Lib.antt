@@ -17,3 +17,4 @@ pub mod Loading
 pub mod Flushing
 pub mod Truncating
 pub mod Grown
+pub mod AtOnce

@@ -7,7 +7,7 @@ ghost use Rattle.fkv_index.specs.Places.{words_of};
 ghost use Rattle.fkv_index.specs.Entries.{IsAlone};
 ghost use Rattle.fkv_operations.specs.After.{key_of};
 ghost use Rattle.fkv_operations.specs.Classes.{IsClass};
-ghost use Rattle.fkv_lookups.specs.RecordsViews.{class_in, confirmed, released, IsFull};
+ghost use Rattle.fkv_lookups.specs.RecordsViews.{class_in, confirmed, released, with_value, IsFull};
 ghost use Rattle.fkv_partition.specs.Contexts.{at_phase, claim_by, claim_at};
 ghost use Rattle.fkv_partition.specs.Claiming.{IsClaimed};
 ghost use Rattle.fkv_regions.specs.RegionsView.{left};
@@ -130,6 +130,19 @@ impl<F: Functions, D: Disk> Partition<F, D> {
         self.records.known();
         self.moment = now;
         set_context(&mut self.contexts, slot, context, None);
+    }
+
+    /// Gives the record at an address, which has a value, another one where it stands. No context changes.
+    pub(crate) fn revalue(&mut self, address: Address, value: F::Value, now: u64)
+        requires value { IsSome (value_at self.old.records.text address) }
+        requires mutable { self.old.records.regions.offsets.safe_read_only ≤ address }
+        ensures { self.new ≡ record self.old { records = with_value self.old.records address (Some value); moment = now } }
+    {
+        records_change::<F::Key, F::Value>();
+        self.records.known();
+        self.records.replace(address, Some(value));
+        self.records.known();
+        self.moment = now;
     }
 
     /// Makes a tentative entry for the class of an operation's key, which the operation then waits to confirm. Refused,

@@ -23,6 +23,7 @@ pub mod loading;
 mod looking;
 pub mod partitions;
 pub mod regions;
+pub mod updating;
 
 pub use changes::Write;
 pub use contexts::{Context, Loading, Phase, Progress, ProgressOf, Wait};

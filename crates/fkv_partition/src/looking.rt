@@ -14,7 +14,7 @@ use crate::contexts::{ContextOf, free_context, open_at, open_context};
 use crate::partitions::Partition;
 use fkv_device::Disk;
 use fkv_functions::Functions;
-use fkv_lookups::{DecisionOf, decide, low_of, met_by};
+use fkv_lookups::{DecisionOf, Met, decide, low_of, met_by};
 use fkv_operations::{Class, IndexEntry, OpOf, partition_at};
 use fkv_records::Address;
 use fkv_texts::Reached;
@@ -120,6 +120,22 @@ impl<F: Functions, D: Disk> Partition<F, D> {
         }
     }
 
+    /// What the session at a slot meets, by the entry of a key's class and by what the look-up of the key comes to.
+    pub(crate) fn met(
+        &self,
+        slot: usize,
+        entry: &Option<IndexEntry>,
+        reached: &Reached<F::Key, F::Value>,
+    ) -> Met<F::Value>
+        requires entered { IsEntered self.now slot }
+        ensures { (key : F.Key) → option_map (λ e. address_of e.word) entry.now ≡ entry_for F.code self.now key
+            → reached.now ≡ reached_from F.Key.cmp F.code self.now slot key (entry_for F.code self.now key)
+            → result ≡ met_at F.Key.cmp F.code self.now slot key }
+    {
+        let view = self.records.view(slot);
+        met_by(address_of(entry), self.records.begin(), &view, reached)
+    }
+
     /// What an operation of the session at a slot does for what it meets: by the entry of its key's class, and by what
     /// the look-up comes to.
     pub(crate) fn decided(
@@ -136,8 +152,7 @@ impl<F: Functions, D: Disk> Partition<F, D> {
             (entry_for F.code self.now (key_of op.now)) }
         ensures { result ≡ decision F.meaning op.now (met_at F.Key.cmp F.code self.now slot (key_of op.now)) }
     {
-        let view = self.records.view(slot);
-        let met = met_by(address_of(entry), self.records.begin(), &view, reached);
+        let met = self.met(slot, entry, reached);
         decide(functions, op, &met)
     }
 }

@@ -1,0 +1,34 @@
+-- An update that is issued and done in one call.
+use Rattle.std.specs.Prelude.{◌≡◌, ℕ, Some, Ok}
+use Rattle.std.specs.declared.cmp.Ordering.{Ordering}
+use Rattle.fkv_functions.specs.Meanings.{Meanings}
+use Rattle.fkv_device.specs.Standing.{Standing}
+use Rattle.fkv_operations.specs.declared.operations.Op.TheVariants.{Rmw}
+use Rattle.fkv_operations.specs.declared.operations.Answer.TheVariants.{Value}
+use Rattle.fkv_lookups.specs.declared.decisions.Met.TheVariants.{Mutable}
+use Rattle.fkv_partition.specs.declared.contexts.Progress.TheVariants.{Done}
+use Rattle.fkv_partition.specs.Views.{PartitionView, partition_of, free_context, met_at}
+use Rattle.fkv_partition.specs.Beginning.{IsEntered, Issues}
+use Rattle.fkv_partition.specs.Going.{Goes}
+use Rattle.fkv_partition.specs.Effect.{IsIssue, IsEvent}
+
+-- an operation of this key would be issued here, and would meet this value where it may be changed in place
+pub record IsAtHand {K V I : Type 0} (cmp : K → K → Ordering) (code : K → ℕ) (v : PartitionView K V I) (slot : ℕ)
+    (key : K) (held : V) : Type 0 where
+  pub entered : IsEntered v slot
+  pub own : partition_of v.count (code key) ≡ v.number
+  pub context : ℕ
+  pub free : free_context v slot ≡ Some context
+  pub met : met_at cmp code v slot key ≡ Mutable held
+
+-- the update is issued at one moment, and done with this answer when it goes on at another: what stands between them is
+-- what the issue makes
+pub record IsDoneAtOnce {K V I O R : Type 0} (stands : R → Standing) (cmp : K → K → Ordering) (f : Meanings K V I O)
+    (code : K → ℕ) (old new : PartitionView K V I) (slot : ℕ) (key : K) (input : I) (issued now : ℕ) (shown : O)
+    : Type 0 where
+  pub context : ℕ
+  pub between : PartitionView K V I
+  pub issues : Issues code old between slot (Rmw key input) issued (Ok context)
+  pub issue : IsIssue code old between slot context (Rmw key input) issued
+  pub goes : Goes stands cmp f code between new slot context now (Ok (Done (Value shown) now))
+  pub event : IsEvent {R = R} cmp f between new slot context now (Done (Value shown) now)

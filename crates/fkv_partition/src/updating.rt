@@ -1,0 +1,126 @@
+//! Updates of values where they stand, each in one call: most updates of a feed are such.
+ghost use Rattle.std.specs.Prelude.{◌≡◌, ◌<◌, ◌≤◌, None, Some, IfSome};
+ghost use Rattle.fkv_lookups.specs.declared.decisions.Met.TheVariants.{Mutable};
+ghost use Rattle.fkv_texts.specs.declared.entries.Reached.TheVariants.{Found};
+ghost use Rattle.fkv_partition.specs.Views.{entry_for, free_context, met_at, partition_of, reached_from};
+ghost use Rattle.fkv_partition.specs.AtOnce.{IsAtHand, IsDoneAtOnce};
+ghost use Rattle.fkv_partition.specs.Beginning.{IsEntered};
+
+use crate::partitions::Partition;
+use fkv_device::Disk;
+use fkv_functions::Functions;
+use fkv_lookups::Met;
+use fkv_lookups::laws::{meetings_tell, records_change};
+use fkv_texts::{Entry, Reached};
+
+impl<F: Functions, D: Disk> Partition<F, D> {
+    /// Issues an update at one moment and goes on with it at another, where that finishes it: where the last record of its
+    /// key may be changed in place. That is what [`Partition::issue`] and [`Partition::go`] do then, but no context is
+    /// written and read again. Answers what the update shows, or `None` where it can't be issued or would not be finished
+    /// so, and then nothing changes.
+    pub fn update_at_once(
+        &mut self,
+        slot: usize,
+        key: &F::Key,
+        input: &F::Input,
+        functions: &F,
+        issued: u64,
+        now: u64,
+    ) -> Option<F::Output>
+        requires later { self.old.moment < issued }
+        requires after { issued < now }
+        ensures done { IfSome result (λ shown. IsDoneAtOnce D.Receipt.stands F.Key.cmp F.meaning F.code self.old self.new
+            slot key.now input.now issued now shown) }
+        ensures not { result ≡ None → (held : F.Value)
+            → ¬ IsAtHand F.Key.cmp F.code self.old slot key.now held }
+        ensures none { result ≡ None → self.new ≡ self.old }
+        ensures within { IfSome result (λ _. slot < 16) }
+        ensures moment { self.new.moment ≤ now }
+    {
+        let Some(context) = self.place_for(slot, key, functions) else {
+            return None;
+        };
+        let Some((last, held)) = self.at_hand(slot, key, functions) else {
+            return None;
+        };
+        Some(self.update_at(
+            slot, context, key, input, last, held, functions, issued, now,
+        ))
+    }
+
+    /// The context in which an operation of a key would be issued.
+    fn place_for(&self, slot: usize, key: &F::Key, functions: &F) -> Option<usize>
+        ensures entered { IfSome result (λ _. IsEntered self.now slot) }
+        ensures own { IfSome result (λ _. partition_of self.now.count (F.code key.now) ≡ self.now.number) }
+        ensures free { IfSome result (λ c. free_context self.now slot ≡ Some c) }
+        ensures within { IfSome result (λ c. (slot < 16) × (c < 8)) }
+        ensures none { result ≡ None → (held : F.Value) → ¬ IsAtHand F.Key.cmp F.code self.now slot key.now held }
+    {
+        if !self.is_session(slot) {
+            return None;
+        }
+        if self.home(functions, key) != self.number {
+            return None;
+        }
+        self.first_free(slot)
+    }
+
+    /// The last record of a key and its value, where it may be changed in place.
+    fn at_hand(
+        &self,
+        slot: usize,
+        key: &F::Key,
+        functions: &F,
+    ) -> Option<(Entry<F::Key, F::Value>, F::Value)>
+        requires { IsEntered self.now slot }
+        ensures reached { IfSome result (λ r. reached_from F.Key.cmp F.code self.now slot key.now
+            (entry_for F.code self.now key.now) ≡ Found r.0) }
+        ensures met { IfSome result (λ r. met_at F.Key.cmp F.code self.now slot key.now ≡ Mutable r.1) }
+        ensures none { result ≡ None → (held : F.Value) → ¬ (met_at F.Key.cmp F.code self.now slot key.now ≡ Mutable held) }
+    {
+        let (_class, entry) = self.find(functions, key);
+        let reached = self.reach(slot, key, &entry);
+        match self.met(slot, &entry, &reached) {
+            Met::Mutable(held) => match reached {
+                Reached::Found(last) => Some((last, held)),
+                Reached::Below(_) => None,
+            },
+            _ => None,
+        }
+    }
+
+    /// Gives the last record of a key, which may be changed in place, its new value, by an update that is issued and done at
+    /// once.
+    fn update_at(
+        &mut self,
+        slot: usize,
+        _context: usize,
+        key: &F::Key,
+        input: &F::Input,
+        last: Entry<F::Key, F::Value>,
+        held: F::Value,
+        functions: &F,
+        _issued: u64,
+        now: u64,
+    ) -> F::Output
+        requires entered { IsEntered self.old slot }
+        requires own { partition_of self.old.count (F.code key.now) ≡ self.old.number }
+        requires free { free_context self.old slot ≡ Some _context }
+        requires low { _context < 8 }
+        requires reached { reached_from F.Key.cmp F.code self.old slot key.now (entry_for F.code self.old key.now)
+            ≡ Found last }
+        requires met { met_at F.Key.cmp F.code self.old slot key.now ≡ Mutable held }
+        ensures done { IsDoneAtOnce D.Receipt.stands F.Key.cmp F.meaning F.code self.old self.new
+            slot key.now input.now _issued now result }
+        ensures moment { self.new.moment ≤ now }
+    {
+        self.known();
+        records_change::<F::Key, F::Value>();
+        meetings_tell::<F::Key, F::Value>();
+        let mut value = held;
+        functions.in_place(key, input, &mut value);
+        let shown = functions.read(key, input, &value);
+        self.revalue(last.address, value, now);
+        shown
+    }
+}
