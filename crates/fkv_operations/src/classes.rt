@@ -31,20 +31,16 @@ pub fn class_of(hash: u64, partition_bits: u64, bucket_bits: u64) -> Class
     }
 }
 
-/// The partition of a hash among so many. Their number is a power of two; where one is written out the compiler takes a mask,
-/// and a division would take a part of an update's time that can be seen.
+/// The partition of a hash among so many. Their number is a power of two, for which a mask is enough: a division would take
+/// a part of an update's time that can be seen.
 pub fn partition_at(hash: u64, count: u64) -> u64
     requires { 0 < count }
     ensures { result ≡ hash % count }
 {
-    match count {
-        1 => 0,
-        2 => hash % 2,
-        4 => hash % 4,
-        8 => hash % 8,
-        16 => hash % 16,
-        32 => hash % 32,
-        64 => hash % 64,
-        _ => hash % count,
+    let bits = count.trailing_zeros();
+    if count == 1u64 << bits {
+        hash & (count - 1)
+    } else {
+        hash % count
     }
 }
