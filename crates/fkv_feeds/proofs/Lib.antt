@@ -3,3 +3,4 @@ pub mod SeatLemmas
 pub mod UnionLemmas
 pub mod RunLemmas
 pub mod FeedsLemmas
+mod AtOnceLemmas

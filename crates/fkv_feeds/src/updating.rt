@@ -1,5 +1,5 @@
 //! One row: an update of a partition, through its own events.
-ghost use Rattle.std.specs.Prelude.{◌≡◌, ◌+◌, ◌<◌, ◌≤◌, ◌⊎◌, ◌↔◌, ℕ, IsTrue, Some, None, Ok, Err, OnOk, IfOk, IfErr, option_map};
+ghost use Rattle.std.specs.Prelude.{◌≡◌, ◌+◌, ◌<◌, ◌≤◌, ◌⊎◌, ◌↔◌, ℕ, IsTrue, Some, None, Ok, Err, OnOk, IfOk, IfErr, option_map, true, false};
 ghost use Rattle.fkv_functions.specs.Plain.{Same};
 ghost use Rattle.fkv_operations.specs.After.{after};
 ghost use Rattle.fkv_operations.specs.declared.operations.Op.{Op};
@@ -209,12 +209,48 @@ fn attempt<F: Functions, D: Disk>(
     }
 }
 
-/// Makes an update in a session that has no operation open, by the events of its partition, at moments that follow
-/// those that the clock gave. Where it can't go on yet the partition's pages move on, and where its key's last record
-/// is not in memory that record's page is read. Refused: `Worn` where no address or no moment is left, `NoMemory`, as
-/// the device refuses a page, `Damaged` where a page's bytes spell no record on the way, and `Stalled` where it is not
-/// done at one of so many tries.
-pub fn update<F: Functions, D: Disk>(
+/// Makes an update in a session that has no operation open in one call, where the key's last record may be changed in place.
+/// Answers whether it is done; where it is not nothing has changed. Refused: `Worn` where no moment is left.
+fn done_at_once<F: Functions, D: Disk>(
+    terms: &Terms<'_, F>,
+    shard: &mut Shard<F, D>,
+    key: &F::Key,
+    input: &F::Input,
+    clock: &mut Clock,
+) -> Result<bool, Refused>
+    requires idle { IsIdle shard.old.partition terms.now.slot }
+    requires past { shard.old.partition.moment ≤ clock.old }
+    ensures idle { result ≡ Ok true → IsIdle shard.new.partition terms.now.slot }
+    ensures done { result ≡ Ok true → Same (live_of F.Key.cmp shard.new.partition)
+        (after F.Key.cmp F.meaning (live_of F.Key.cmp shard.old.partition) (Rmw key.now input.now)) }
+    ensures number { result ≡ Ok true → shard.new.partition.number ≡ shard.old.partition.number }
+    ensures count { result ≡ Ok true → shard.new.partition.count ≡ shard.old.partition.count }
+    ensures same { result ≡ Ok false → shard.new.partition ≡ shard.old.partition }
+    ensures past { OnOk result (shard.new.partition.moment ≤ clock.new) }
+    ensures later { OnOk result (clock.old < clock.new) }
+    ensures steady { (shard.new.writer ≡ shard.old.writer) × (shard.new.reader ≡ shard.old.reader) }
+    ensures told { IfErr result (λ e. e ≡ Refused.Worn) }
+{
+    let issued = match clock.tick() {
+        Ok(issued) => issued,
+        Err(refused) => return Err(refused),
+    };
+    let now = match clock.tick() {
+        Ok(now) => now,
+        Err(refused) => return Err(refused),
+    };
+    shard.partition.known();
+    match shard
+        .partition
+        .update_at_once(terms.slot, key, input, terms.functions, issued, now)
+    {
+        Some(_shown) => Ok(true),
+        None => Ok(false),
+    }
+}
+
+/// Makes an update as [`update`] does, turn by turn.
+fn update_by_turns<F: Functions, D: Disk>(
     terms: &Terms<'_, F>,
     shard: &mut Shard<F, D>,
     key: F::Key,
@@ -259,4 +295,42 @@ pub fn update<F: Functions, D: Disk>(
         }
     }
     Err(Refused::Stalled)
+}
+
+/// Makes an update in a session that has no operation open, by the events of its partition, at moments that follow
+/// those that the clock gave. Where it can't go on yet the partition's pages move on, and where its key's last record
+/// is not in memory that record's page is read. Refused: `Worn` where no address or no moment is left, `NoMemory`, as
+/// the device refuses a page, `Damaged` where a page's bytes spell no record on the way, and `Stalled` where it is not
+/// done at one of so many tries.
+pub fn update<F: Functions, D: Disk>(
+    terms: &Terms<'_, F>,
+    shard: &mut Shard<F, D>,
+    key: F::Key,
+    input: F::Input,
+    clock: &mut Clock,
+) -> Result<(), Refused>
+    requires idle { IsIdle shard.old.partition terms.now.slot }
+    requires own { partition_of shard.old.partition.count (F.code key) ≡ shard.old.partition.number }
+    requires past { shard.old.partition.moment ≤ clock.old }
+    ensures idle { OnOk result (IsIdle shard.new.partition terms.now.slot) }
+    ensures done { OnOk result (IsTrue D.keeps → Same (live_of F.Key.cmp shard.new.partition)
+        (after F.Key.cmp F.meaning (live_of F.Key.cmp shard.old.partition) (Rmw key input))) }
+    ensures number { OnOk result (shard.new.partition.number ≡ shard.old.partition.number) }
+    ensures count { OnOk result (shard.new.partition.count ≡ shard.old.partition.count) }
+    ensures past { OnOk result (shard.new.partition.moment ≤ clock.new) }
+    ensures later { OnOk result (clock.old < clock.new) }
+    ensures steady { OnOk result ((D.Writer.failures shard.new.writer ≡ D.Writer.failures shard.old.writer)
+        × (D.Reader.failures shard.new.reader ≡ D.Reader.failures shard.old.reader)) }
+    ensures told { IfErr result (λ e. (e ≡ Refused.NoMemory) ⊎ (e ≡ Refused.Worn) ⊎ (e ≡ Refused.Stalled)
+        ⊎ IsFault (IsEntryIn F.Key.bytes_of F.Value.bytes_of F.Key.is_known F.Value.is_known F.Key.SIZE F.Value.SIZE)
+        F.Key.cmp (D.Writer.failures shard.old.writer) (D.Writer.failures shard.new.writer)
+        (D.Reader.failures shard.old.reader) (D.Reader.failures shard.new.reader) e) }
+    // so many moments have passed at least
+    ensures stalled { result ≡ Err Refused.Stalled → clock.old + terms.now.tries < clock.new }
+{
+    match done_at_once(terms, shard, &key, &input, clock) {
+        Ok(true) => Ok(()),
+        Ok(false) => update_by_turns(terms, shard, key, input, clock),
+        Err(refused) => Err(refused),
+    }
 }

@@ -85,6 +85,7 @@ module _ {K V I O : Type 0} (cmp : K → K → Ordering) (f : Meanings K V I O) 
     pub done-at_once : {R : Type 0} (stands : R → Standing) → IsDoneAtOnce stands cmp f code v after slot key input issued now (f.shown key input (f.next key held input))
     done-at_once {R} stands = record {
       context = c;
+      low = low;
       between = between;
       issues = issues c inside own free refl refl;
       issue = event-issue code v slot c issued (Rmw key input) inside free low own;

@@ -1,5 +1,5 @@
 -- An update that is issued and done in one call.
-use Rattle.std.specs.Prelude.{◌≡◌, ℕ, Some, Ok}
+use Rattle.std.specs.Prelude.{◌≡◌, ◌<◌, ℕ, Some, Ok}
 use Rattle.std.specs.declared.cmp.Ordering.{Ordering}
 use Rattle.fkv_functions.specs.Meanings.{Meanings}
 use Rattle.fkv_device.specs.Standing.{Standing}
@@ -27,6 +27,7 @@ pub record IsDoneAtOnce {K V I O R : Type 0} (stands : R → Standing) (cmp : K 
     (code : K → ℕ) (old new : PartitionView K V I) (slot : ℕ) (key : K) (input : I) (issued now : ℕ) (shown : O)
     : Type 0 where
   pub context : ℕ
+  pub low : context < 8
   pub between : PartitionView K V I
   pub issues : Issues code old between slot (Rmw key input) issued (Ok context)
   pub issue : IsIssue code old between slot context (Rmw key input) issued

@@ -3,7 +3,7 @@ use Rattle.fkv_functions.specs.Plain.{Same}
 use Rattle.fkv_operations.specs.declared.operations.Op.TheVariants.{Rmw}
 use Rattle.fkv_partition.specs.Views.{live_of}
 use Rattle.fkv_feeds.specs.Seats.{IsOpen}
-use Rattle.fkv_feeds.proofs.updating.update.Given as goal
+use Rattle.fkv_feeds.proofs.updating.update_by_turns.Given as goal
 
 abbrev pub invariant-loop-turn : goal.invariant-loop-turn
 invariant-loop-turn g l = record {
