@@ -8,9 +8,7 @@ ghost use Rattle.fkv_pages.specs.Pages.{OpensAndWrites, IsEdited};
 
 use fkv_frames::Frames;
 use fkv_functions::Fixed;
-use fkv_records::{
-    Address, Record, Shape, set_tombstone, value_offset, write_record, write_value,
-};
+use fkv_records::{Address, Record, Shape, set_tombstone, value_offset, write_record, write_value};
 
 /// So many bytes at an offset of a page.
 pub(crate) fn part(page: &[u8], offset: usize, size: usize) -> &[u8]
