@@ -1,5 +1,5 @@
 -- A value's bytes, written alone: the record of which they are a part is edited.
-use Rattle.std.proofs.Common.{◌≡◌, ◌+◌, ◌-◌, ◌^◌, ◌≤◌, ℕ, List, ◌++◌, length, take, drop, Option, None, Some, IsSome, refl, sym, ◌∙◌, ap, subst, arith, append_assoc, length-append, length-take, length-drop}
+use Rattle.std.proofs.Common.{◌≡◌, ◌+◌, ◌-◌, ◌^◌, ◌≤◌, ℕ, List, ◌++◌, length, take, drop, Option, None, Some, IsSome, refl, sym, ◌∙◌, ap, arith, append_assoc, length-append, length-take, length-drop}
 use Rattle.std.specs.Prelude.{IfSome}
 use Rattle.fkv_records.specs.Places.{page_at, offset_at}
 use Rattle.fkv_records.specs.Records.{size_of, with_value_part, Spells}

@@ -1,8 +1,8 @@
 -- An update that is issued and done in one call.
-use Rattle.std.proofs.Common.{◌≡◌, ◌+◌, ◌*◌, ◌<◌, ◌≤◌, Bool, true, false, cond, nat_lt, ℕ, Option, Some, None, IsSome, Ok, slice_set, refl, sym, ◌∙◌, ap, subst}
+use Rattle.std.proofs.Common.{◌≡◌, ◌+◌, ◌*◌, ◌<◌, ◌≤◌, Bool, true, false, cond, nat_lt, ℕ, Option, Some, None, IsSome, refl, sym, ◌∙◌, ap, subst}
 use Rattle.std.specs.declared.cmp.Ordering.{Ordering}
 use Rattle.fkv_functions.specs.Meanings.{Meanings}
-use Rattle.fkv_functions.specs.Plain.{Same, with_at, IsKeyOrder}
+use Rattle.fkv_functions.specs.Plain.{Same, with_at}
 use Rattle.fkv_device.specs.Standing.{Standing}
 use Rattle.fkv_regions.specs.declared.offsets.View.{View}
 use Rattle.fkv_regions.specs.declared.offsets.Region.TheVariants as region
@@ -22,7 +22,7 @@ use Rattle.fkv_partition.specs.declared.contexts.Progress.TheVariants.{Done}
 use Rattle.fkv_partition.specs.Contexts.{joined, is_session}
 use Rattle.fkv_partition.specs.Views.{PartitionView, slots_of, seen_at, entry_for, met_at, reached_from, context_at, partition_of, free_context, live_of, with_context, with_replaced}
 use Rattle.fkv_partition.specs.Beginning.{issues}
-use Rattle.fkv_partition.specs.Going.{Decides, replaces}
+use Rattle.fkv_partition.specs.Going.{replaces}
 use Rattle.fkv_partition.specs.Effect.{IsEvent}
 use Rattle.fkv_partition.specs.AtOnce.{IsDoneAtOnce}
 use Rattle.fkv_functions.proofs.ListLemmas.{get-set_same}

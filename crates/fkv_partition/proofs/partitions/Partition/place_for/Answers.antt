@@ -1,4 +1,4 @@
-use Rattle.std.proofs.Common.{◌≡◌, true, false, Some, None, sym, ◌∙◌, ap}
+use Rattle.std.proofs.Common.{◌≡◌, sym, ◌∙◌, ap}
 use Rattle.fkv_partition.proofs.partitions.Partition.place_for.Goals as goal
 
 pub returns-then-not-is_session-clause-none : goal.returns-then-not-is_session-clause-none

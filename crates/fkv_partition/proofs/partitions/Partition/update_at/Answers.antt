@@ -1,4 +1,4 @@
-use Rattle.std.proofs.Common.{Some, ◌∙◌, ap}
+use Rattle.std.proofs.Common.{Some}
 use Rattle.fkv_functions.proofs.KeyOrder.{key_order}
 use Rattle.fkv_partition.proofs.AtOnceLemmas.{at_once-some, at_once-high, at_once-last, done-at_once}
 use Rattle.fkv_partition.proofs.partitions.Partition.update_at.Goals as goal
