@@ -31,7 +31,7 @@ impl<F: Functions, D: Disk> Partition<F, D> {
         requires after { issued < now }
         ensures done { IfSome result (λ shown. IsDoneAtOnce D.Receipt.stands F.Key.cmp F.meaning F.code self.old self.new
             slot key.now input.now issued now shown) }
-        ensures not { result ≡ None → (held : F.Value)
+        ensures declined { result ≡ None → (held : F.Value)
             → ¬ IsAtHand F.Key.cmp F.code self.old slot key.now held }
         ensures none { result ≡ None → self.new ≡ self.old }
         ensures within { IfSome result (λ _. slot < 16) }
