@@ -36,6 +36,8 @@ impl PageReader for Straying {
 
     ghost failures = { λ r. r.failures };
 
+    ghost can_fail = { λ _ _. Unit {0} };
+
     fn read(&mut self, receipt: &MemoryReceipt, out: &mut [u8]) -> Result<(), Refused> {
         let (left, strays) = self.left.overflowing_sub(1);
         self.left = left;

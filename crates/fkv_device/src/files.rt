@@ -39,6 +39,10 @@ impl Receipt for FileReceipt {
         self.page
     }
 
+    fn size(&self) -> usize {
+        self.length
+    }
+
     fn same(&self, other: &FileReceipt) -> bool {
         self.number == other.number
             && self.page == other.page
@@ -126,6 +130,9 @@ impl<F: Write + Seek + Drop + Send> PageWriter for FileWriter<F> {
 
     ghost next = { λ w. w.next };
 
+    // a file may fail whenever it is written
+    ghost can_fail = { λ _. Unit {0} };
+
     /// Writes a page.
     ///
     /// # Errors
@@ -198,6 +205,9 @@ impl<F: Read + Seek + Drop + Send> PageReader for FileReader<F> {
     ghost keeps = { false };
 
     ghost failures = { λ r. r.failures };
+
+    // and whenever it is read
+    ghost can_fail = { λ _ _. Unit {0} };
 
     /// Reads a page, and compares its digest with that of the bytes that were written.
     ///

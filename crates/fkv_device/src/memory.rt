@@ -46,6 +46,10 @@ impl Receipt for MemoryReceipt {
         self.page
     }
 
+    fn size(&self) -> usize {
+        self.bytes().len()
+    }
+
     fn same(&self, other: &MemoryReceipt) -> bool {
         self.number == other.number && self.page == other.page && self.bytes() == other.bytes()
     }
@@ -92,6 +96,9 @@ impl PageWriter for MemoryWriter {
 
     ghost next = { λ w. w.next };
 
+    // where no number is left
+    ghost can_fail = { λ w. w.next + 1 ≡ 2 ^ 64 };
+
     /// Writes a page: one copy of its bytes.
     ///
     /// # Errors
@@ -105,7 +112,7 @@ impl PageWriter for MemoryWriter {
         ensures same_next { IfErr result (λ _. self.new.next ≡ self.old.next) }
         ensures steady { OnOk result (self.new.failures ≡ self.old.failures) }
         ensures counted { IfErr result (FailsOnlyBy 2 page self.old.failures self.new.failures) }
-        ensures spent { IfErr result (λ e. e ≢ refused.NoMemory → self.old.next + 1 ≡ 2 ^ 64) }
+        ensures caused { IfErr result (λ e. e ≢ refused.NoMemory → self.old.next + 1 ≡ 2 ^ 64) }
     {
         let Some(next) = self.next.checked_add(1) else {
             return Err(self.failures.count(Refused::Device { code: 2, page }));
@@ -139,6 +146,8 @@ impl PageReader for MemoryReader {
 
     ghost failures = { λ r. r.failures };
 
+    ghost can_fail = { λ receipt size. size ≢ length (arc_value receipt.bytes).items };
+
     /// Reads a page: one copy of its bytes.
     ///
     /// # Errors
@@ -150,6 +159,8 @@ impl PageReader for MemoryReader {
         ensures length { IsOk result ↔ (length out.old ≡ length (arc_value receipt.now.bytes).items) }
         ensures steady { OnOk result (self.new.failures ≡ self.old.failures) }
         ensures counted { IfErr result (FailsOnlyBy 3 receipt.now.page self.old.failures self.new.failures) }
+        ensures caused { IfErr result (λ e. e ≢ refused.NoMemory
+            → length out.old ≢ length (arc_value receipt.now.bytes).items) }
     {
         let bytes = receipt.bytes();
         if out.len() != bytes.len() {

@@ -1,5 +1,6 @@
 //! Pages on their way to a device and back.
-ghost use Rattle.std.specs.Prelude.{◌≡◌, ◌+◌, length, IsTrue, IfOk, IfErr, OnOk};
+ghost use Rattle.std.specs.Prelude.{◌≡◌, ◌≢◌, ◌+◌, length, IsTrue, IfOk, IfErr, OnOk};
+ghost use Rattle.fkv_functions.specs.declared.refusals.Refused.TheVariants as refused;
 ghost use Rattle.fkv_device.specs.Failing.{FailsOnlyBy, ReadFailsBy};
 
 use crate::disks::Disk;
@@ -53,6 +54,7 @@ impl<D: Disk> Written<D> {
         ensures steady { OnOk result (D.Writer.failures writer.new ≡ D.Writer.failures writer.old) }
         ensures counted { IfErr result
             (FailsOnlyBy 2 job.page (D.Writer.failures writer.old) (D.Writer.failures writer.new)) }
+        ensures caused { IfErr result (λ e. e ≢ refused.NoMemory → D.Writer.can_fail writer.old) }
     {
         let FlushJob { page, bytes } = job;
         let receipt = writer.write(page, bytes.as_slice())?;
@@ -124,6 +126,7 @@ impl<D: Disk> Loaded<D> {
         ensures counted { IfErr result
             (ReadFailsBy (D.Receipt.stands receipt.now).page (D.Reader.failures reader.old)
             (D.Reader.failures reader.new)) }
+        ensures caused { IfErr result (λ e. e ≢ refused.NoMemory → D.Reader.can_fail receipt.now size) }
     {
         let Ok(mut bytes) = vec![in alloc; 0u8; size] else {
             return Err(Refused::NoMemory);

@@ -1,5 +1,6 @@
 //! What writes pages and what reads them.
-ghost use Rattle.std.specs.Prelude.{◌≡◌, ◌+◌, ℕ, Bool, length, IsTrue, IfOk, IfErr, OnOk};
+ghost use Rattle.std.specs.Prelude.{◌≡◌, ◌≢◌, ◌+◌, ℕ, Bool, length, IsTrue, IfOk, IfErr, OnOk};
+ghost use Rattle.fkv_functions.specs.declared.refusals.Refused.TheVariants as refused;
 ghost use Rattle.fkv_device.specs.Failing.{FailsOnlyBy, ReadFailsBy};
 
 use crate::receipts::Receipt;
@@ -18,6 +19,9 @@ pub trait PageWriter: Drop + Send {
     /// The number of the next receipt.
     ghost next: { Self → ℕ };
 
+    /// What holds of a writer wherever a write of it comes to a fault.
+    ghost can_fail: { Self → Type 0 };
+
     /// Writes a page.
     ///
     /// # Errors
@@ -31,7 +35,8 @@ pub trait PageWriter: Drop + Send {
         ensures next { OnOk result (next self.new ≡ next self.old + 1) }
         ensures same_next { IfErr result (λ _. next self.new ≡ next self.old) }
         ensures steady { OnOk result (failures self.new ≡ failures self.old) }
-        ensures counted { IfErr result (FailsOnlyBy 2 page (failures self.old) (failures self.new)) };
+        ensures counted { IfErr result (FailsOnlyBy 2 page (failures self.old) (failures self.new)) }
+        ensures caused { IfErr result (λ e. e ≢ refused.NoMemory → can_fail self.old) };
 }
 
 /// Reads pages by their receipts.
@@ -44,6 +49,9 @@ pub trait PageReader: Drop + Send {
     /// How often a call has failed: once for each fault that was told.
     ghost failures: { Self → ℕ };
 
+    /// What holds of a receipt and a number of bytes wherever a read by it, into so many bytes, comes to a fault.
+    ghost can_fail: { Self.Receipt → ℕ → Type 0 };
+
     /// Reads a page over all of `out`. After a refusal `out` holds any bytes.
     ///
     /// # Errors
@@ -55,5 +63,6 @@ pub trait PageReader: Drop + Send {
         ensures length { OnOk result (length out.old ≡ (Self.Receipt.stands receipt.now).length) }
         ensures steady { OnOk result (failures self.new ≡ failures self.old) }
         ensures counted { IfErr result (ReadFailsBy (Self.Receipt.stands receipt.now).page
-            (failures self.old) (failures self.new)) };
+            (failures self.old) (failures self.new)) }
+        ensures caused { IfErr result (λ e. e ≢ refused.NoMemory → can_fail receipt.now (length out.old)) };
 }

@@ -18,6 +18,10 @@ pub trait Receipt: Drop + Send {
     fn page(&self) -> u64
         ensures { result ≡ (stands self.now).page };
 
+    /// How many bytes the page has.
+    fn size(&self) -> usize
+        ensures { result ≡ (stands self.now).length };
+
     /// Whether both stand for the same, in each part.
     fn same(&self, other: &Self) -> bool
         ensures { IsTrue result ↔ (stands self.now ≡ stands other.now) };

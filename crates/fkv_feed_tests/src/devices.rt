@@ -41,6 +41,8 @@ impl PageWriter for Stopping {
 
     ghost next = { λ w. w.inner.next };
 
+    ghost can_fail = { λ _. Unit {0} };
+
     fn write(&mut self, page: u64, bytes: &[u8]) -> Result<MemoryReceipt, Refused> {
         let (left, fails) = self.left.overflowing_sub(1);
         self.left = left;
@@ -78,6 +80,8 @@ impl PageReader for Straying {
     ghost keeps = { false };
 
     ghost failures = { λ r. r.failures };
+
+    ghost can_fail = { λ _ _. Unit {0} };
 
     fn read(&mut self, receipt: &MemoryReceipt, out: &mut [u8]) -> Result<(), Refused> {
         let (left, strays) = self.left.overflowing_sub(1);

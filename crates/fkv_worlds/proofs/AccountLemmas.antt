@@ -263,7 +263,7 @@ module _ {K V I O R : Type 0} (stands : R → Standing) (entry : ℕ → List �
   account-acts new step r (acts.takes p v job a due page bytes to is) = silent new r (outcome.Taken job.page) refl refl (ap (λ (z : StateView K V I O R). z.lives) to) (ap (λ (z : StateView K V I O R). z.moment) to) is
   account-acts new step r (acts.spoils p access v job e a due has h to is) =
       rw (is, ap (λ (z : StateView K V I O R). z.lives) to, ap (λ (z : StateView K V I O R). z.moment) to) (account-refused e (spoils-no v.partition (suc s.moment) job access e h))
-  account-acts new step r (acts.writes p v v' job receipt a due has of does ev on to is) = silent new r (outcome.Flushed job.page) refl refl (ap (λ (z : StateView K V I O R). z.lives) to) (ap (λ (z : StateView K V I O R). z.moment) to) is
+  account-acts new step r (acts.writes p v v' job a due has does ev on to is) = silent new r (outcome.Flushed job.page) refl refl (ap (λ (z : StateView K V I O R). z.lives) to) (ap (λ (z : StateView K V I O R). z.moment) to) is
   account-acts new step r (acts.gives_up w v v' a due c ev on to is) =
       let l = open_life w v ev.question (here-of w v step (GiveUp w) a refl due.here) ev.was in
       rw (is, to, taken-took rs (Ok outcome.GivenUp) refl) (account-ended s.lives (taken rs) s.moment account GivenUp refl (Ok outcome.GivenUp) refl refl (life_in s.begun w) l.0 l.1 l.2)

@@ -36,7 +36,7 @@ use Rattle.fkv_lives.specs.declared.steps.Place.{Place}
 use Rattle.fkv_lives.specs.declared.steps.Step.{Step}
 use Rattle.fkv_lives.specs.declared.steps.Step.TheVariants.{Enter, Leave, Refresh, ReadOnly, Take, Write, Head, Issue, Relocate, Go, Install, Load, GiveUp, Truncate}
 use Rattle.fkv_worlds.specs.declared.tables.Seat.{Seat}
-use Rattle.fkv_worlds.specs.Devices.{IsReceiptOf, Comes, Spoils}
+use Rattle.fkv_worlds.specs.Devices.{receipt_of, Comes, Spoils}
 use Rattle.fkv_worlds.specs.Refusing.{Refuses}
 use Rattle.fkv_lives.specs.Told.{ends_operation}
 use Rattle.fkv_worlds.specs.States.{StateView, IsPassedOn, seat_row, context_row, question_in, receipt_in, job_in, is_unasked, life_in}
@@ -88,12 +88,12 @@ module _ {K V I O R : Type 0} (stands : R → Standing) (entry : ℕ → List �
         → Acts stands entry cmp f code s (record s { jobs = slice_set s.jobs p None }) (Write p access) (Err r)
     acts-spoil access job r asked has spoils = acts.spoils p access old job r refl (due (Write p access) old here asked) has (subst (λ m. Spoils old.partition m job access r) e spoils) refl refl
 
-    pub acts-write : (access : Access) (job : FlushJob) (receipt : Standing) → access ≡ Works → is_unasked s (Write p access) ≡ false → job_in s.jobs p ≡ Some job → IsReceiptOf job receipt
-        → Flushes old.partition new.partition receipt job.bytes.items next (Ok tt) → IsQuiet true old.partition new.partition next → IsPassedOn old new
+    pub acts-write : (access : Access) (job : FlushJob) → access ≡ Works → is_unasked s (Write p access) ≡ false → job_in s.jobs p ≡ Some job
+        → Flushes old.partition new.partition (receipt_of job) job.bytes.items next (Ok tt) → IsQuiet true old.partition new.partition next → IsPassedOn old new
         → Acts stands entry cmp f code s (record s { partitions = slice_set s.partitions p new; jobs = slice_set s.jobs p None; moment = next }) (Write p access) (Ok (outcome.Flushed job.page))
-    acts-write access job receipt works asked has of does ev passed =
-        rw (e, works) (acts.writes p old new job receipt refl (due (Write p Works) old here (ap (λ a. is_unasked s (Write p a)) (sym works) ∙ asked)) has of
-        (subst (λ m. Flushes old.partition new.partition receipt job.bytes.items m (Ok tt)) e does) (subst (λ m. IsQuiet true old.partition new.partition m) e ev) passed refl refl)
+    acts-write access job works asked has does ev passed =
+        rw (e, works) (acts.writes p old new job refl (due (Write p Works) old here (ap (λ a. is_unasked s (Write p a)) (sym works) ∙ asked)) has
+        (subst (λ m. Flushes old.partition new.partition (receipt_of job) job.bytes.items m (Ok tt)) e does) (subst (λ m. IsQuiet true old.partition new.partition m) e ev) passed refl refl)
 
     pub acts-relocate : (slot c : ℕ) → Relocates old new slot next (Ok c) → IsRelocating true cmp old new slot c next → slot < 16
         → Acts stands entry cmp f code s (record s {

@@ -250,7 +250,7 @@ module _ {K V I O R : Type 0} (stands : R → Standing) (entry : ℕ → List �
       rw (a, is) (quiet s h history new (step.Take p) (outcome.Taken job.page) refl refl (ap (λ (z : StateView K V I O R). z.moment) to) (ap (λ (z : StateView K V I O R). z.enters) to) (ap (λ (z : StateView K V I O R). z.seats) to) (ap (λ (z : StateView K V I O R). map issue_of z.lives) to))
   history-acts new t r (acts.spoils p access v job e a due has spoiled to is) =
       rw is (spoiling s h history new t e (spoils-no v.partition (suc s.moment) job access e spoiled) (ap (λ (z : StateView K V I O R). z.moment) to) (ap (λ (z : StateView K V I O R). z.enters) to) (ap (λ (z : StateView K V I O R). z.seats) to) (ap (λ (z : StateView K V I O R). z.lives) to))
-  history-acts new t r (acts.writes p v v' job receipt a due has of does ev on to is) =
+  history-acts new t r (acts.writes p v v' job a due has does ev on to is) =
       rw (a, is) (quiet s h history new (step.Write p Works) (outcome.Flushed job.page) refl refl (ap (λ (z : StateView K V I O R). z.moment) to) (ap (λ (z : StateView K V I O R). z.enters) to) (ap (λ (z : StateView K V I O R). z.seats) to) (ap (λ (z : StateView K V I O R). map issue_of z.lives) to))
   history-acts new t r (acts.gives_up w v v' a due c ev on to is) =
       rw (a, is) (quiet s h history new (step.GiveUp w) (outcome.GivenUp) refl refl (ap (λ (z : StateView K V I O R). z.moment) to) (ap (λ (z : StateView K V I O R). z.enters) to) (ap (λ (z : StateView K V I O R). z.seats) to) (ap (λ (z : StateView K V I O R). map issue_of z.lives) to ∙ ended-issue_of s.lives _ _))

@@ -16,7 +16,7 @@ use Rattle.fkv_lives.specs.declared.outcomes.Outcome.TheVariants as outcome
 use Rattle.fkv_lives.specs.declared.steps.Access.{Access}
 use Rattle.fkv_lives.specs.declared.steps.Access.TheVariants.{Works}
 use Rattle.fkv_lives.specs.declared.steps.Step.TheVariants.{Take, Write}
-use Rattle.fkv_worlds.specs.Devices.{IsReceiptOf, Unwritten, Spoils}
+use Rattle.fkv_worlds.specs.Devices.{receipt_of, Unwritten, Spoils}
 use Rattle.fkv_worlds.specs.Refusing as refusing
 use Rattle.fkv_worlds.specs.States.{StateView, IsPassedOn, job_in, is_unasked}
 use Rattle.fkv_worlds.specs.Moments.{IsMomentIn}
@@ -63,16 +63,16 @@ module _ {K V I O R : Type 0} {stands : R → Standing} {entry : ℕ → List �
     pub spoils-unwritten : (r : Refused) → Unwritten job access r → Acts stands entry cmp f code s (record s { jobs = slice_set s.jobs p None }) (Write p access) (Err r)
     spoils-unwritten r h = acts-spoil stands entry cmp f code s now due.next due.fits p old old (here cmp f code s state p now due old is) access job r asked has (Spoils.unwritten h)
 
-    module _ (new : CompactedView K V I) (receipt : Standing) (bytes : List ℕ) (works : access ≡ Works) (of : IsReceiptOf job receipt) (same_bytes : bytes ≡ job.bytes.items) where
+    module _ (new : CompactedView K V I) (receipt : Standing) (bytes : List ℕ) (works : access ≡ Works) (of : receipt ≡ receipt_of job) (same_bytes : bytes ≡ job.bytes.items) where
       pub spoils-strange : (r : Refused) → new ≡ old → Flushes old.partition new.partition receipt bytes now (Err r) → Acts stands entry cmp f code s (record s { partitions = slice_set s.partitions p new; jobs = slice_set s.jobs p None }) (Write p access) (Err r)
       spoils-strange r same does =
           rw (set-unchanged s.partitions p old new (here cmp f code s state p now due old is) same)
           (acts-spoil stands entry cmp f code s now due.next due.fits p old old (here cmp f code s state p now due old is) access job r asked has
-          (Spoils.strange receipt works of (subst (λ b. Flushes old.partition old.partition receipt b now (Err r)) same_bytes (subst (λ (v : CompactedView K V I). Flushes old.partition v.partition receipt bytes now (Err r)) same does))))
+          (Spoils.strange works (subst (λ b. Flushes old.partition old.partition (receipt_of job) b now (Err r)) same_bytes (subst (λ s. Flushes old.partition old.partition s bytes now (Err r)) of (subst (λ (v : CompactedView K V I). Flushes old.partition v.partition receipt bytes now (Err r)) same does)))))
 
       pub does-write : (page : ℕ) → page ≡ receipt.page → Flushes old.partition new.partition receipt bytes now (Ok tt) → IsQuiet true old.partition new.partition now → IsPassedOn old new
           → Acts stands entry cmp f code s (record s { partitions = slice_set s.partitions p new; jobs = slice_set s.jobs p None; moment = now }) (Write p access) (Ok (outcome.Flushed page))
       does-write page at does ev passed =
-          rw (at ∙ of.page)
-          (acts-write stands entry cmp f code s now due.next due.fits p old new (here cmp f code s state p now due old is) access job receipt works asked has of
-          (subst (λ b. Flushes old.partition new.partition receipt b now (Ok tt)) same_bytes does) ev passed)
+          rw (at ∙ ap (λ (s : Standing). s.page) of)
+          (acts-write stands entry cmp f code s now due.next due.fits p old new (here cmp f code s state p now due old is) access job works asked has
+          (subst (λ b. Flushes old.partition new.partition (receipt_of job) b now (Ok tt)) same_bytes (subst (λ s. Flushes old.partition new.partition s bytes now (Ok tt)) of does)) ev passed)

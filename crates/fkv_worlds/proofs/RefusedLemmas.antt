@@ -170,13 +170,13 @@ flush-no r page came e h = by_test (page == length r.receipts) refl
 
 unwritten-no : (job : FlushJob) (access : Access) (e : Refused) → Unwritten job access e → ends_operation e ≡ false
 unwritten-no job access e (Unwritten.fails a h) = is e (Device 2 job.page) h refl
-unwritten-no job access e (Unwritten.refuses a h) = elim h [ inl m ↦ is e NoMemory m refl | inr d ↦ is e (Device 2 job.page) d refl ]
+unwritten-no job access e (Unwritten.wants a h) = is e NoMemory h refl
 
 pub spoils-no : {K V I : Type 0} (v : PartitionView K V I) (now : ℕ) (job : FlushJob) (access : Access) (e : Refused) → Spoils v now job access e → ends_operation e ≡ false
 spoils-no v now job access e (Spoils.unwritten h) = unwritten-no job access e h
-spoils-no v now job access e (Spoils.strange s a of (Flushes.refused why r b h)) = let k : e ≡ why = cc in is e why k (flush-no v.records s.page job.bytes.items why r)
-spoils-no v now job access e (Spoils.strange s a of (Flushes.unkept r b h)) = is e NoMemory (ok-err e _ h) refl
-spoils-no v now job access e (Spoils.strange s a of (Flushes.keeps r b h)) = absurd (cc)
+spoils-no v now job access e (Spoils.strange a (Flushes.refused why r b h)) = let k : e ≡ why = cc in is e why k (flush-no v.records job.page job.bytes.items why r)
+spoils-no v now job access e (Spoils.strange a (Flushes.unkept r b h)) = is e NoMemory (ok-err e _ h) refl
+spoils-no v now job access e (Spoils.strange a (Flushes.keeps r b h)) = absurd (cc)
 
 pub refuses-no : {K V I O R : Type 0} (stands : R → Standing) (entry : ℕ → List ℕ → ℕ → Entry K V → Type 0) (cmp : K → K → Ordering) (f : Meanings K V I O) (code : K → ℕ) (s : StateView K V I O R) (v : CompactedView K V I) (now : ℕ) (e : Refused) (t : Step K V I)
     → Refuses stands entry cmp f code s v now e t → ends_operation e ≡ false
@@ -200,10 +200,7 @@ refuses-no stands entry cmp f code s v now e t (refusing.truncate p h) = truncat
 -- what comes in place of a page ends the operation, but for want of memory
 comes-cases : {R : Type 0} (stands : R → Standing) (r : R) (access : Access) (came : Result (Joined R) Refused) (e : Refused) → Comes stands r access came → came ≡ Err e → (e ≡ NoMemory) ⊎ (ends_operation e ≡ true)
 comes-cases stands r access came e (Comes.fails a h) is_err = let k : e ≡ Device 3 (stands r).page = cc in inr (ap ends_operation k)
-comes-cases stands r access came e (Comes.refuses d a h k) is_err = let m : e ≡ d = cc in elim h [
-  | inl n ↦ inl (m ∙ n)
-  | inr n ↦ inr (elim n [ inl x ↦ ap ends_operation (m ∙ x) | inr x ↦ ap ends_operation (m ∙ x) ])
-]
+comes-cases stands r access came e (Comes.wants a h) is_err = let m : e ≡ NoMemory = cc in inl m
 comes-cases stands r access came e (Comes.gives p a b c h) is_err = absurd (cc)
 
 -- a moment that passed is that of an operation that ended

@@ -44,7 +44,7 @@ use Rattle.fkv_lives.specs.declared.steps.Step.{Step}
 use Rattle.fkv_lives.specs.declared.steps.Step.TheVariants.{Enter, Leave, Refresh, ReadOnly, Take, Write, Head, Issue, Relocate, Go, Install, Load, GiveUp, Truncate}
 use Rattle.fkv_lives.specs.Steps.{partition_in}
 use Rattle.fkv_lives.specs.Changes.{ended_at}
-use Rattle.fkv_worlds.specs.Devices.{IsReceiptOf, Comes, Spoils}
+use Rattle.fkv_worlds.specs.Devices.{receipt_of, Comes, Spoils}
 use Rattle.fkv_worlds.specs.Refusing.{Refuses}
 use Rattle.fkv_lives.specs.Told.{ends_operation}
 use Rattle.fkv_worlds.specs.States.{StateView, WorldView, IsPassedOn, IsOpenAt, seat_row, context_row, life_in, question_in, receipt_in, job_in, is_unasked}
@@ -304,12 +304,11 @@ pub data Acts {K V I O R : Type 0} (stands : R → Standing) (entry : ℕ → Li
       → new ≡ with_job old p None
       → result ≡ Err e
       → Acts stands entry cmp f code old new step result
-  writes : (p : ℕ) (v v' : CompactedView K V I) (job : FlushJob) (s : Standing)
+  writes : (p : ℕ) (v v' : CompactedView K V I) (job : FlushJob)
       → step ≡ Write p Works
       → IsDue old step v
       → job_in old.jobs p ≡ Some job
-      → IsReceiptOf job s
-      → Flushes v.partition v'.partition s job.bytes.items (suc old.moment) (Ok tt)
+      → Flushes v.partition v'.partition (receipt_of job) job.bytes.items (suc old.moment) (Ok tt)
       → IsQuiet true v.partition v'.partition (suc old.moment)
       → IsPassedOn v v'
       → new ≡ with_job (with_partition old p v') p None

@@ -1,5 +1,5 @@
 -- What the device of a world does with a page that is written, and gives where one is read.
-use Rattle.std.specs.Prelude.{◌≡◌, ◌⊎◌, ℕ, Result, Ok, Err}
+use Rattle.std.specs.Prelude.{◌≡◌, ℕ, [], Result, Ok, Err, length}
 use Rattle.fkv_functions.specs.declared.refusals.Refused.{Refused}
 use Rattle.fkv_functions.specs.declared.refusals.Refused.TheVariants as refused
 use Rattle.fkv_device.specs.Standing.{Standing, Joined}
@@ -9,10 +9,15 @@ use Rattle.fkv_partition.specs.Views.{PartitionView}
 use Rattle.fkv_lives.specs.declared.steps.Access.{Access}
 use Rattle.fkv_lives.specs.declared.steps.Access.TheVariants.{Works, Fails}
 
--- a receipt stands for a page that was taken: it has the page's number, and its bytes
-pub record IsReceiptOf (job : FlushJob) (s : Standing) : Type 0 where
-  pub page : s.page ≡ job.page
-  pub bytes : s.bytes ≡ job.bytes.items
+-- what the receipt of a page that was taken stands for; a writer writes one page, so that its receipt is the writer's first
+abbrev pub receipt_of : FlushJob → Standing
+receipt_of job = record {
+  number = 0;
+  page = job.page;
+  length = length job.bytes.items;
+  bytes = job.bytes.items;
+  mark = [];
+}
 
 -- what comes of a page that is read by a receipt
 pub data Comes {R : Type 0} (stands : R → Standing) (receipt : R) (access : Access)
@@ -21,11 +26,9 @@ pub data Comes {R : Type 0} (stands : R → Standing) (receipt : R) (access : Ac
   fails : access ≡ Fails
       → came ≡ Err (refused.Device 3 (stands receipt).page)
       → Comes stands receipt access came
-  -- a refusal of the device, or want of memory
-  refuses : (e : Refused)
-      → access ≡ Works
-      → (e ≡ refused.NoMemory) ⊎ (e ≡ refused.Device 3 (stands receipt).page) ⊎ (e ≡ refused.Damaged (stands receipt).page)
-      → came ≡ Err e
+  -- else only memory may be wanting
+  wants : access ≡ Works
+      → came ≡ Err refused.NoMemory
       → Comes stands receipt access came
   -- the bytes that the receipt stands for
   gives : (p : Joined R)
@@ -39,15 +42,13 @@ pub data Comes {R : Type 0} (stands : R → Standing) (receipt : R) (access : Ac
 pub data Unwritten (job : FlushJob) (access : Access) (e : Refused) : Type 0 where
   -- the fault that the step says
   fails : access ≡ Fails → e ≡ refused.Device 2 job.page → Unwritten job access e
-  -- a refusal of the device, or want of memory
-  refuses : access ≡ Works → (e ≡ refused.NoMemory) ⊎ (e ≡ refused.Device 2 job.page) → Unwritten job access e
+  -- else only memory may be wanting
+  wants : access ≡ Works → e ≡ refused.NoMemory → Unwritten job access e
 
 -- why it is not flushed by a write at this moment: it is not written, or the partition does not take it in
 pub data Spoils {K V I : Type 0} (v : PartitionView K V I) (now : ℕ) (job : FlushJob) (access : Access) (e : Refused)
     : Type 0 where
   unwritten : Unwritten job access e → Spoils v now job access e
-  strange : (s : Standing)
-      → access ≡ Works
-      → IsReceiptOf job s
-      → Flushes v v s job.bytes.items now (Err e)
+  strange : access ≡ Works
+      → Flushes v v (receipt_of job) job.bytes.items now (Err e)
       → Spoils v now job access e

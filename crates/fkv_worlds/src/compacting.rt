@@ -77,8 +77,7 @@ impl<F: Functions> State<F> {
         ensures does { Acts ⟦<MemoryReceipt as Receipt>⟧.stands (IsEntryIn F.Key.bytes_of F.Value.bytes_of F.Key.is_known F.Value.is_known
             F.Key.SIZE F.Value.SIZE) F.Key.cmp F.meaning F.code self.old self.new (Load place access) result }
     {
-        let size = self.partitions[place.partition].page_size();
-        let came = read_asked(self.alloc, &self.tables.receipts, place, size, access);
+        let came = read_asked(self.alloc, &self.tables.receipts, place, access);
         let partition = &mut self.partitions[place.partition];
         match partition.load_on(place.slot, place.context, came, functions, now) {
             Ok(progress) => {

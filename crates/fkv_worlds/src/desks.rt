@@ -1,10 +1,10 @@
-//! The device of a world, which is one in memory: who writes the pages of a partition, and how they are read.
+//! The device of a world, which is one in memory: how the pages of its partitions are written, and how they are read.
 ghost use Rattle.std.specs.Prelude.{◌≡◌, Some, None, IsSome, IfOk, IfErr};
-ghost use Rattle.fkv_worlds.specs.Devices.{IsReceiptOf, Comes, Unwritten};
+ghost use Rattle.fkv_worlds.specs.Devices.{receipt_of, Comes, Unwritten};
 
 use fkv_device::{
-    Disk, FlushJob, Loaded, MemoryDevice, MemoryReader, MemoryReceipt, MemoryWriter, Receipt,
-    Written,
+    Disk, FlushJob, Loaded, MemoryDevice, MemoryReader, MemoryReceipt, MemoryWriter, PageWriter,
+    Receipt, Written,
 };
 use fkv_functions::Refused;
 use fkv_lives::steps::Access;
@@ -13,31 +13,27 @@ use std::alloc::Global;
 /// Where the pages of a partition are written.
 #[derive(Drop)]
 pub struct Desk {
-    writer: MemoryWriter,
     /// The page that was taken last, to be written.
     pub(crate) job: Option<FlushJob>,
 }
 
 impl Desk {
     /// The desk of a partition that has written nothing.
-    pub fn new(alloc: Global, partition: u64) -> Desk
+    pub fn new() -> Desk
         ensures { result.job ≡ None }
     {
-        let mut device = MemoryDevice::new(alloc);
-        let Ok(writer) = device.writer(partition) else {
-            unreachable!()
-        };
-        Desk { writer, job: None }
+        Desk { job: None }
     }
 
     /// Writes the page that was taken last, which is spent by it. Refused: `Device` with code 2 where the device is to
-    /// fail, or as it refuses, `NoMemory`.
-    pub fn write(&mut self, access: Access) -> Result<Written<MemoryDevice>, Refused>
+    /// fail, and where it works `NoMemory` alone.
+    pub fn write(&mut self, alloc: Global, access: Access) -> Result<Written<MemoryDevice>, Refused>
         requires { IsSome self.old.job }
         ensures spent { self.new.job ≡ None }
         ensures written { IfOk result (λ w. (job : FlushJob)
             → self.old.job ≡ Some job
-            → (access ≡ Access.Works) × IsReceiptOf job (⟦<MemoryReceipt as Receipt>⟧.stands w.receipt) × (w.bytes ≡ job.bytes.items)) }
+            → (access ≡ Access.Works) × (⟦<MemoryReceipt as Receipt>⟧.stands w.receipt ≡ receipt_of job)
+            × (w.bytes ≡ job.bytes.items)) }
         ensures unwritten { IfErr result (λ e. (job : FlushJob) → self.old.job ≡ Some job → Unwritten job access e) }
     {
         let Some(job) = self.job.take() else {
@@ -48,9 +44,21 @@ impl Desk {
                 code: 2,
                 page: job.page,
             }),
-            Access::Works => Written::<MemoryDevice>::write(&mut self.writer, job),
+            Access::Works => Written::<MemoryDevice>::write(&mut writer(alloc), job),
         }
     }
+}
+
+/// A writer of pages in memory, which has written none: a page stands by its receipt alone, so each is written by a writer
+/// of its own, that never runs out of numbers.
+fn writer(alloc: Global) -> MemoryWriter
+    ensures { ⟦<MemoryWriter as PageWriter>⟧.next result ≡ 0 }
+{
+    let mut device = MemoryDevice::new(alloc);
+    let Ok(writer) = device.writer(0) else {
+        unreachable!()
+    };
+    writer
 }
 
 /// A reader of pages in memory: it reads by any receipt.
@@ -62,11 +70,11 @@ pub fn reader(alloc: Global) -> MemoryReader {
     reader
 }
 
-/// Reads a page of `size` bytes. Refused: `Device` with code 3 where the device is to fail, or as it refuses, `NoMemory`.
+/// Reads the page that a receipt stands for. Refused: `Device` with code 3 where the device is to fail, and where it works
+/// `NoMemory` alone.
 pub fn read(
     alloc: Global,
     receipt: &MemoryReceipt,
-    size: usize,
     access: Access,
 ) -> Result<Loaded<MemoryDevice>, Refused>
     ensures { Comes ⟦<MemoryReceipt as Receipt>⟧.stands receipt.now access result }
@@ -77,7 +85,12 @@ pub fn read(
             page: receipt.page(),
         }),
         Access::Works => {
-            match Loaded::<MemoryDevice>::fetch(alloc, &mut reader(alloc), receipt, size) {
+            match Loaded::<MemoryDevice>::fetch(
+                alloc,
+                &mut reader(alloc),
+                receipt,
+                receipt.size(),
+            ) {
                 Ok(loaded) => {
                     // its bytes are those that the receipt stands for
                     let _kept = loaded.receipt();

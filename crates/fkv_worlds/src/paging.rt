@@ -35,7 +35,6 @@ pub(crate) fn read_asked(
     alloc: Global,
     receipts: &[Option<MemoryReceipt>],
     place: Place,
-    size: usize,
     access: Access,
 ) -> Result<Loaded<MemoryDevice>, Refused>
     requires partition { place.partition < 64 }
@@ -48,7 +47,7 @@ pub(crate) fn read_asked(
     let Some(receipt) = &receipts[row_of(place)] else {
         unreachable!()
     };
-    read(alloc, receipt, size, access)
+    read(alloc, receipt, access)
 }
 
 impl<F: Functions> State<F> {
@@ -101,7 +100,7 @@ impl<F: Functions> State<F> {
         ensures does { Acts ⟦<MemoryReceipt as Receipt>⟧.stands (IsEntryIn F.Key.bytes_of F.Value.bytes_of F.Key.is_known F.Value.is_known
             F.Key.SIZE F.Value.SIZE) F.Key.cmp F.meaning F.code self.old self.new (Write partition access) result }
     {
-        match self.desks[partition].write(access) {
+        match self.desks[partition].write(self.alloc, access) {
             Ok(written) => {
                 let page = written.page();
                 match flush_done(&mut self.partitions[partition], written, now) {
@@ -171,8 +170,7 @@ impl<F: Functions> State<F> {
         ensures does { Acts ⟦<MemoryReceipt as Receipt>⟧.stands (IsEntryIn F.Key.bytes_of F.Value.bytes_of F.Key.is_known F.Value.is_known
             F.Key.SIZE F.Value.SIZE) F.Key.cmp F.meaning F.code self.old self.new (Load place access) result }
     {
-        let size = self.partitions[place.partition].page_size();
-        let came = read_asked(self.alloc, &self.tables.receipts, place, size, access);
+        let came = read_asked(self.alloc, &self.tables.receipts, place, access);
         let partition = &mut self.partitions[place.partition];
         match load(partition, place.slot, place.context, came, functions, now) {
             Ok(progress) => {

@@ -122,8 +122,8 @@ fn empty_desks(alloc: Global, count: u64) -> Result<Vec<Desk>, Refused>
     ensures only { IfErr result (λ refused. refused ≡ Refused.NoMemory) }
 {
     let mut desks = Vec::new(alloc);
-    for number in 0..count {
-        let Ok(()) = keep(&mut desks, Desk::new(alloc, number)) else {
+    for _number in 0..count {
+        let Ok(()) = keep(&mut desks, Desk::new()) else {
             return Err(Refused::NoMemory);
         };
     }

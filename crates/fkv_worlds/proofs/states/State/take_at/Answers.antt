@@ -10,13 +10,13 @@ invariant_of-self g c =
     let known = g.met.F.Key.Known g.world.𝓛 g.world.𝓜 g.world.𝓡 ((λ s x. x), (λ x. x), (λ x. x), λ x. x) in
     let order = key_order g.F.Key.PartialEq.eq g.F.Key.Ord.cmp ord.matches_eq known.exact ord.total in
     let due = rw (← c.self.view_is) at c.requires.due in
-    rw (desk-set c.self.inside.desks.items c.args.partition (record { writer = c.index_mut.result.now.writer; job = Some c.in-Ok.job }) (Some c.in-Ok.job) refl)
+    rw (desk-set c.self.inside.desks.items c.args.partition (record { job = Some c.in-Ok.job }) (Some c.in-Ok.job) refl)
     (state-take g.F.Key.Ord.cmp order g.F.Functions.meaning g.F.Functions.code _ c.self.invariant c.args.now due.next c.args.partition (Some c.in-Ok.job))
 
 pub returns-in-Ok : goal.returns-in-Ok
 returns-in-Ok g c =
     let due = rw (← c.self.view_is) at c.requires.due in
-    rw (← c.self.view_is, desk-set c.self.inside.desks.items c.args.partition (record { writer = c.index_mut.result.now.writer; job = Some c.in-Ok.job }) (Some c.in-Ok.job) refl)
+    rw (← c.self.view_is, desk-set c.self.inside.desks.items c.args.partition (record { job = Some c.in-Ok.job }) (Some c.in-Ok.job) refl)
     (record { does = does-take g.F.Key.Ord.cmp g.F.Functions.meaning g.F.Functions.code _ c.self.invariant c.args.partition c.args.now due c.index.result.now c.index.ensures c.in-Ok.job c.in-Ok.ensures.page c.in-Ok.ensures.bytes })
 
 pub returns-in-Err : goal.returns-in-Err
