@@ -96,7 +96,7 @@ impl<F: Functions, D: Disk> Compacted<F, D> {
     {
         self.known();
         let place = relocation.place;
-        let reached = self.partition.reach(slot, &entry.key, &Some(kept));
+        let reached = self.partition.reach(slot, &entry.key, Some(kept.address()));
         match judge(place, &reached) {
             Judgement::Dead => {
                 self.finish(slot, context, place, now);

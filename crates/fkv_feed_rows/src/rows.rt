@@ -33,10 +33,10 @@ pub fn row_of(fields: &ByteRecord) -> Option<(Name, i64)>
     let Some((key, written)) = two_fields(fields) else {
         return None;
     };
-    let Some(name) = Name::new(key) else {
+    let Some(amount) = amount(written) else {
         return None;
     };
-    let Some(amount) = amount(written) else {
+    let Some(name) = Name::new(key) else {
         return None;
     };
     Some((name, amount))

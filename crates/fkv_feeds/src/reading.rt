@@ -61,7 +61,7 @@ fn add_rows<R: Read, F: Functions<Key = Name, Input = i64>, D: Disk>(
                 row: count + 1,
             });
         };
-        match add_row(shards, key, amount) {
+        match add_row(shards, &key, amount) {
             Ok(()) => {}
             Err(refused) => return Err(refused),
         }

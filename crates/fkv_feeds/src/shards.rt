@@ -1,5 +1,5 @@
 //! The partitions of a run, with a session in each, and what moves their pages to a device and back.
-ghost use Rattle.std.specs.Prelude.{◌≡◌, ◌<◌, ◌%◌, ◌^◌, ◌⊎◌, ℤ, List, [], ◌∷◌, ◌++◌, length, map, IfOk, IfErr, OnOk};
+ghost use Rattle.std.specs.Prelude.{◌≡◌, ◌<◌, ◌%◌, ◌^◌, ◌⊎◌, ℕ, ℤ, List, [], ◌∷◌, ◌++◌, length, map, IfOk, IfErr, OnOk};
 ghost use Rattle.fkv_functions.specs.Names.{name_cmp};
 ghost use Rattle.fkv_functions.specs.declared.names.Name.{Name};
 ghost use Rattle.fkv_records.specs.Records.{size_of};
@@ -22,8 +22,9 @@ use std::alloc::Global;
 pub struct Terms<'a, F: Functions> {
     pub alloc: Global,
     pub functions: &'a F,
-    /// The slot of the session in each partition.
+    /// The slot of the session in each partition: the first, which is named where a row's time shows it.
     pub slot: usize,
+    pub ghost first: { slot ≡ 0 },
     /// The page frames of each partition.
     pub frames: u64,
     /// How often an update may be tried: one more than it may take turns.
@@ -174,7 +175,8 @@ impl<'a, F: Functions, D: Disk> Shards<'a, F, D> {
 
     /// The place of the partition of a key.
     fn home(&self, key: &F::Key) -> usize
-        requires { 0 < length self.now.shards.items }
+        requires some { 0 < length self.now.shards.items }
+        requires doubled { (bits : ℕ) × (length self.now.shards.items ≡ 2 ^ bits) }
         ensures value { result ≡ partition_of (length self.now.shards.items) (F.code key.now) }
         ensures within { result < length self.now.shards.items }
     {
@@ -187,7 +189,7 @@ impl<'a, F: Functions, D: Disk> Shards<'a, F, D> {
 /// `Worn`, `Stalled`, and as the device refuses a page; then the store stands for no rows.
 pub fn add_row<F: Functions<Key = Name, Input = i64>, D: Disk>(
     shards: &mut Shards<'_, F, D>,
-    key: Name,
+    key: &Name,
     amount: i64,
 ) -> Result<(), Refused>
     requires stands { (rows : List (Name × ℤ)) × StandFor D.keeps name_cmp F.meaning F.code
@@ -197,14 +199,16 @@ pub fn add_row<F: Functions<Key = Name, Input = i64>, D: Disk>(
         (map (λ shard. shard.partition) shards.old.shards.items) shards.old.terms.slot shards.old.clock rows
         → StandFor D.keeps name_cmp F.meaning F.code
         (map (λ shard. shard.partition) shards.new.shards.items) shards.new.terms.slot shards.new.clock
-        (rows ++ (key, amount) ∷ [])) }
+        (rows ++ (key.now, amount) ∷ [])) }
     ensures told { IfErr result (λ e. (e ≡ Refused.NoMemory) ⊎ (e ≡ Refused.Worn) ⊎ (e ≡ Refused.Stalled)
         ⊎ IsRunFault D.keeps D.failures D.Writer.failures D.Reader.failures F.Value.bytes_of F.Value.is_known
         F.Value.SIZE e) }
 {
-    let home = shards.home(&key);
+    // which says that their number is a power of two
+    shards.shards[0].partition.known();
+    let home = shards.home(key);
     let shard = &mut shards.shards[home];
-    match update(&shards.terms, shard, key, amount, &mut shards.clock) {
+    match update(&shards.terms, shard, key, &amount, &mut shards.clock) {
         Ok(()) => tidy_at_times(&shards.terms, shard, &mut shards.clock),
         Err(refused) => Err(refused),
     }

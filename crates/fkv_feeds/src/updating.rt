@@ -16,6 +16,9 @@ use fkv_functions::{AskOf, Built, Functions, Refused};
 use fkv_operations::{Clock, Op};
 use fkv_partition::Progress;
 
+/// The slot of a partition's first session.
+const FIRST_SLOT: usize = 0;
+
 /// What a turn of an update comes to.
 #[derive(Drop)]
 pub enum Turn<R: Drop> {
@@ -231,18 +234,14 @@ fn done_at_once<F: Functions, D: Disk>(
     ensures steady { (shard.new.writer ≡ shard.old.writer) × (shard.new.reader ≡ shard.old.reader) }
     ensures told { IfErr result (λ e. e ≡ Refused.Worn) }
 {
-    let issued = match clock.tick() {
-        Ok(issued) => issued,
-        Err(refused) => return Err(refused),
-    };
-    let now = match clock.tick() {
-        Ok(now) => now,
+    let (issued, now) = match clock.tick_twice() {
+        Ok(moments) => moments,
         Err(refused) => return Err(refused),
     };
     shard.partition.known();
     match shard
         .partition
-        .update_at_once(terms.slot, key, input, terms.functions, issued, now)
+        .update_at_once(FIRST_SLOT, key, input, terms.functions, issued, now)
     {
         Some(_shown) => Ok(true),
         None => Ok(false),
@@ -253,16 +252,16 @@ fn done_at_once<F: Functions, D: Disk>(
 fn update_by_turns<F: Functions, D: Disk>(
     terms: &Terms<'_, F>,
     shard: &mut Shard<F, D>,
-    key: F::Key,
-    input: F::Input,
+    key: &F::Key,
+    input: &F::Input,
     clock: &mut Clock,
 ) -> Result<(), Refused>
     requires idle { IsIdle shard.old.partition terms.now.slot }
-    requires own { partition_of shard.old.partition.count (F.code key) ≡ shard.old.partition.number }
+    requires own { partition_of shard.old.partition.count (F.code key.now) ≡ shard.old.partition.number }
     requires past { shard.old.partition.moment ≤ clock.old }
     ensures idle { OnOk result (IsIdle shard.new.partition terms.now.slot) }
     ensures done { OnOk result (IsTrue D.keeps → Same (live_of F.Key.cmp shard.new.partition)
-        (after F.Key.cmp F.meaning (live_of F.Key.cmp shard.old.partition) (Rmw key input))) }
+        (after F.Key.cmp F.meaning (live_of F.Key.cmp shard.old.partition) (Rmw key.now input.now))) }
     ensures number { OnOk result (shard.new.partition.number ≡ shard.old.partition.number) }
     ensures count { OnOk result (shard.new.partition.count ≡ shard.old.partition.count) }
     ensures past { OnOk result (shard.new.partition.moment ≤ clock.new) }
@@ -281,7 +280,7 @@ fn update_by_turns<F: Functions, D: Disk>(
         Err(refused) => return Err(refused),
     };
     shard.partition.known();
-    let op = Op::Rmw(key, input);
+    let op = Op::Rmw(*key, *input);
     let context = match shard.partition.issue(terms.slot, op, terms.functions, now) {
         Ok(context) => context,
         Err(refused) => return Err(refused),
@@ -305,16 +304,16 @@ fn update_by_turns<F: Functions, D: Disk>(
 pub fn update<F: Functions, D: Disk>(
     terms: &Terms<'_, F>,
     shard: &mut Shard<F, D>,
-    key: F::Key,
-    input: F::Input,
+    key: &F::Key,
+    input: &F::Input,
     clock: &mut Clock,
 ) -> Result<(), Refused>
     requires idle { IsIdle shard.old.partition terms.now.slot }
-    requires own { partition_of shard.old.partition.count (F.code key) ≡ shard.old.partition.number }
+    requires own { partition_of shard.old.partition.count (F.code key.now) ≡ shard.old.partition.number }
     requires past { shard.old.partition.moment ≤ clock.old }
     ensures idle { OnOk result (IsIdle shard.new.partition terms.now.slot) }
     ensures done { OnOk result (IsTrue D.keeps → Same (live_of F.Key.cmp shard.new.partition)
-        (after F.Key.cmp F.meaning (live_of F.Key.cmp shard.old.partition) (Rmw key input))) }
+        (after F.Key.cmp F.meaning (live_of F.Key.cmp shard.old.partition) (Rmw key.now input.now))) }
     ensures number { OnOk result (shard.new.partition.number ≡ shard.old.partition.number) }
     ensures count { OnOk result (shard.new.partition.count ≡ shard.old.partition.count) }
     ensures past { OnOk result (shard.new.partition.moment ≤ clock.new) }
@@ -328,7 +327,7 @@ pub fn update<F: Functions, D: Disk>(
     // so many moments have passed at least
     ensures stalled { result ≡ Err Refused.Stalled → clock.old + terms.now.tries < clock.new }
 {
-    match done_at_once(terms, shard, &key, &input, clock) {
+    match done_at_once(terms, shard, key, input, clock) {
         Ok(true) => Ok(()),
         Ok(false) => update_by_turns(terms, shard, key, input, clock),
         Err(refused) => Err(refused),

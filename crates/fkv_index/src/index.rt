@@ -88,6 +88,7 @@ impl Index {
     }
 
     /// The final entry of a tag in a bucket: its place and its word.
+    #[inline(always)]
     pub fn find(&self, bucket: usize, tag: u16) -> Option<(Place, Word)>
         requires bucket { bucket < length self.now }
         requires tag { tag < 2 ^ 15 }

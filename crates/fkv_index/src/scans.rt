@@ -21,6 +21,7 @@ pub fn first_empty(buckets: &Buckets, bucket: usize) -> Option<usize>
 }
 
 /// The first place of a bucket with a final entry of the tag, and its word.
+#[inline(always)]
 pub fn first_final(buckets: &Buckets, bucket: usize, tag: u16) -> Option<(usize, Word)>
     requires bucket { bucket < length buckets.now }
     requires tag { tag < 2 ^ 15 }
@@ -52,6 +53,7 @@ fn empty_place(words: &[Word]) -> Option<usize>
     words.iter().position(|word| word.is_empty())
 }
 
+#[inline(always)]
 fn final_place(words: &[Word], tag: u16) -> Option<usize>
     requires { tag < 2 ^ 15 }
     ensures some { IfSome result (λ at. IsFirst (is_final_of tag) words.now at) }

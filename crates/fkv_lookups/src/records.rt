@@ -121,6 +121,17 @@ impl<F: Functions, D: Disk> Records<F, D> {
         }
     }
 
+    /// The address to which the final entry of a class leads.
+    pub fn leads(&self, class: &Class) -> Option<Address>
+        requires { IsClass self.now.bucket_bits class.now }
+        ensures { result ≡ entry_of self.now class.now }
+    {
+        match self.index.find(class.bucket, class.tag) {
+            None => None,
+            Some((_place, word)) => Some(word.address()),
+        }
+    }
+
     /// Whether an entry stands as it was found.
     pub fn holds(&self, entry: &IndexEntry) -> bool
         requires { IsPlace self.now.words entry.now.place }

@@ -1,5 +1,5 @@
 //! The partition of a key, and its class within that.
-ghost use Rattle.std.specs.Prelude.{◌≡◌, ◌<◌, ◌≤◌, ◌%◌};
+ghost use Rattle.std.specs.Prelude.{◌≡◌, ◌≤◌, ◌%◌, ◌^◌, ℕ};
 ghost use Rattle.fkv_operations.specs.Classes.{class_at, IsClass};
 
 /// What a partition tells keys apart by when it looks for their records: all keys of one class share one entry of
@@ -31,16 +31,11 @@ pub fn class_of(hash: u64, partition_bits: u64, bucket_bits: u64) -> Class
     }
 }
 
-/// The partition of a hash among so many. Their number is a power of two, for which a mask is enough: a division would take
-/// a part of an update's time that can be seen.
+/// The partition of a hash among so many, whose number is a power of two: so a mask is enough. A division would take a part of an
+/// update's time that can be seen.
 pub fn partition_at(hash: u64, count: u64) -> u64
-    requires { 0 < count }
+    requires { (bits : ℕ) × (count ≡ 2 ^ bits) }
     ensures { result ≡ hash % count }
 {
-    let bits = count.trailing_zeros();
-    if count == 1u64 << bits {
-        hash & (count - 1)
-    } else {
-        hash % count
-    }
+    hash & (count - 1)
 }

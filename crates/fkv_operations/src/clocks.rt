@@ -1,5 +1,5 @@
 //! Moments in order.
-ghost use Rattle.std.specs.Prelude.{◌≡◌, ◌+◌, ◌-◌, ◌^◌, ◌↔◌, Ok, Err, IfOk, IfErr, OnErr};
+ghost use Rattle.std.specs.Prelude.{◌≡◌, ◌+◌, ◌-◌, ◌^◌, ◌≤◌, ◌↔◌, Ok, Err, IfOk, IfErr, OnErr};
 
 use fkv_functions::Refused;
 use std::marker::Model;
@@ -50,5 +50,21 @@ impl Clock {
                 Ok(moment)
             }
         }
+    }
+
+    /// The next two moments, in order. It is `Worn` where not both are left, and stays as it is.
+    pub fn tick_twice(&mut self) -> Result<(u64, u64), Refused>
+        ensures first { IfOk result (λ moments. moments.0 ≡ self.old + 1) }
+        ensures second { IfOk result (λ moments. moments.1 ≡ self.old + 2) }
+        ensures given { IfOk result (λ moments. self.new ≡ moments.1) }
+        ensures worn { (result ≡ Err Refused.Worn) ↔ (2 ^ 64 ≤ self.old + 2) }
+        ensures only { IfErr result (λ refused. refused ≡ Refused.Worn) }
+        ensures err { OnErr result (self.new ≡ self.old) }
+    {
+        let Some(moment) = self.last.checked_add(2) else {
+            return Err(Refused::Worn);
+        };
+        self.last = moment;
+        Ok((moment - 1, moment))
     }
 }

@@ -45,10 +45,11 @@ impl<K: Fixed + Ord, V: Fixed, D: Disk> Pages<K, V, D> {
         ensures falls { IfErr result (λ previous. previous < address) }
     {
         let bytes = self.bytes_at(address);
-        let (previous, is_tombstone) = link_of::<K, V>(bytes);
         if !is_of::<K, V>(bytes, key) {
+            let (previous, _is_tombstone) = link_of::<K, V>(bytes);
             return Err(previous);
         }
+        let (previous, is_tombstone) = link_of::<K, V>(bytes);
         if is_tombstone {
             return Ok(entry_with(address, previous, key, None));
         }

@@ -1,20 +1,19 @@
 -- An update that is issued and done in one call.
-use Rattle.std.proofs.Common.{◌≡◌, ◌+◌, ◌*◌, ◌<◌, ◌≤◌, Bool, true, false, cond, nat_lt, ℕ, Option, Some, None, IsSome, refl, sym, ◌∙◌, ap, subst}
+use Rattle.std.proofs.Common.{◌≡◌, ◌+◌, ◌*◌, ◌<◌, ◌≤◌, true, ℕ, Some, None, IsSome, refl, sym, ◌∙◌, ap, subst}
 use Rattle.std.specs.declared.cmp.Ordering.{Ordering}
 use Rattle.fkv_functions.specs.Meanings.{Meanings}
 use Rattle.fkv_functions.specs.Plain.{Same, with_at}
 use Rattle.fkv_device.specs.Standing.{Standing}
-use Rattle.fkv_regions.specs.declared.offsets.View.{View}
 use Rattle.fkv_regions.specs.declared.offsets.Region.TheVariants as region
 use Rattle.fkv_texts.specs.declared.entries.Entry.{Entry}
-use Rattle.fkv_texts.specs.declared.entries.Reached.TheVariants.{Found, Below}
+use Rattle.fkv_texts.specs.declared.entries.Reached.TheVariants.{Found}
 use Rattle.fkv_texts.specs.Text.{last_of, live, value_at}
 use Rattle.fkv_operations.specs.declared.operations.Op.TheVariants.{Rmw}
 use Rattle.fkv_operations.specs.declared.operations.Answer.TheVariants.{Value}
 use Rattle.fkv_lookups.specs.RecordsViews.{with_value}
-use Rattle.fkv_lookups.specs.declared.decisions.Met.TheVariants.{NoValue, OnDisk, Mutable}
+use Rattle.fkv_lookups.specs.declared.decisions.Met.TheVariants.{Mutable}
 use Rattle.fkv_lookups.specs.declared.decisions.Decision.TheVariants.{Replace}
-use Rattle.fkv_lookups.specs.Decisions.{IsHeld, decision, met_by}
+use Rattle.fkv_lookups.specs.Decisions.{IsHeld, decision}
 use Rattle.fkv_lookups.specs.Meeting.{IsMetAt}
 use Rattle.fkv_partition.specs.declared.contexts.Context.{Context}
 use Rattle.fkv_partition.specs.declared.contexts.Phase.TheVariants.{Fresh}
@@ -27,23 +26,8 @@ use Rattle.fkv_partition.specs.Effect.{IsEvent}
 use Rattle.fkv_partition.specs.AtOnce.{IsDoneAtOnce}
 use Rattle.fkv_functions.proofs.ListLemmas.{get-set_same}
 use Rattle.fkv_partition.proofs.AskedLemmas.{context-inside, free-context, set-back}
-use Rattle.fkv_partition.proofs.DecidedLemmas.{reached-is, found-same, met-is}
+use Rattle.fkv_partition.proofs.DecidedLemmas.{reached-is, found-same}
 use Rattle.fkv_partition.proofs.EventLemmas.{event-issue, event-replaces}
-
--- what is not found in memory can't be changed in place
-not-below : (K : Type 0) {V : Type 0} (o : Option ℕ) (begin : ℕ) (view : View) (b : ℕ) (held : V) → met_by {K = K} o begin view (Below b) ≡ Mutable held → ⊥
-not-below K None begin view b held h = absurd (cc)
-not-below K (Some a) begin view b held h = by (nat_lt b begin) h
-  where
-    by : (low : Bool) → cond low NoValue (OnDisk b) ≡ Mutable held → ⊥
-    by true e = absurd (cc)
-    by false e = absurd (cc)
-
-pub below-met : {K V I O : Type 0} (cmp : K → K → Ordering) (f : Meanings K V I O) (code : K → ℕ) (v : PartitionView K V I) (slot : ℕ) (key : K) (b : ℕ)
-    → reached_from cmp code v slot key (entry_for code v key) ≡ Below b → (held : V) → met_at cmp code v slot key ≡ Mutable held → ⊥
-below-met {K} cmp f code v slot key b e held h =
-    let o = entry_for code v key in
-    not-below K o v.records.begin (seen_at v slot) b held (ap (met_by o v.records.begin (seen_at v slot)) (sym e) ∙ met-is cmp f code v slot key o ∙ h)
 
 module _ {K V I O : Type 0} (cmp : K → K → Ordering) (f : Meanings K V I O) (code : K → ℕ) (v : PartitionView K V I) (slot : ℕ) (key : K) (held : V) (last : Entry K V)
     (m : IsMetAt cmp code v.records (seen_at v slot) key held region.Mutable) (reached : reached_from cmp code v slot key (entry_for code v key) ≡ Found last) where

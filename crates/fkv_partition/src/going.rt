@@ -13,6 +13,7 @@ use crate::changes::Write;
 use crate::contexts::{
     ContextOf, Loading, Phase, Progress, ProgressOf, Wait, claim_of, loading_of, question_of,
 };
+use crate::looking::address_of;
 use crate::partitions::Partition;
 use fkv_device::Disk;
 use fkv_functions::{Ask, Functions, Refused};
@@ -115,8 +116,9 @@ impl<F: Functions, D: Disk> Partition<F, D> {
         meetings_tell::<F::Key, F::Value>();
         let key = operation.op.key();
         let (class, entry) = self.find(functions, &key);
-        let reached = self.reach(slot, &key, &entry);
-        match self.decided(slot, functions, &operation.op, &entry, &reached) {
+        let address = address_of(&entry);
+        let reached = self.reach(slot, &key, address);
+        match self.decided(slot, functions, &operation.op, address, &reached) {
             Decision::Done(answer) => {
                 self.free(slot, context, now);
                 Ok(Progress::Done(answer, now))

@@ -23,7 +23,7 @@ use fkv_texts::Reached;
 const NOWHERE: Address = 1;
 
 /// Where an entry leads.
-fn address_of(entry: &Option<IndexEntry>) -> Option<Address>
+pub(crate) fn address_of(entry: &Option<IndexEntry>) -> Option<Address>
     ensures { result ≡ option_map (λ e. address_of e.word) entry.now }
 {
     match entry {
@@ -99,18 +99,28 @@ impl<F: Functions, D: Disk> Partition<F, D> {
         (class, entry)
     }
 
-    /// What a look-up of a key comes to, as the session at a slot reads in memory, by the entry of the key's class.
+    /// The address to which the final entry of a key's class leads.
+    pub(crate) fn leads(&self, functions: &F, key: &F::Key) -> Option<Address>
+        ensures { result ≡ entry_for F.code self.now key.now }
+    {
+        let class = self.records.class(functions, key);
+        self.records.leads(&class)
+    }
+
+    /// What a look-up of a key comes to, as the session at a slot reads in memory, by the address to which the entry of the
+    /// key's class leads.
+    #[inline(always)]
     pub fn reach(
         &self,
         slot: usize,
         key: &F::Key,
-        entry: &Option<IndexEntry>,
+        entry: Option<Address>,
     ) -> Reached<F::Key, F::Value>
         requires entered { IsEntered self.now slot }
-        requires entry { option_map (λ e. address_of e.word) entry.now ≡ entry_for F.code self.now key.now }
+        requires entry { entry ≡ entry_for F.code self.now key.now }
         ensures { result ≡ reached_from F.Key.cmp F.code self.now slot key.now (entry_for F.code self.now key.now) }
     {
-        match address_of(entry) {
+        match entry {
             None => Reached::Below(NOWHERE),
             Some(address) => {
                 let view = self.records.view(slot);
@@ -120,20 +130,21 @@ impl<F: Functions, D: Disk> Partition<F, D> {
         }
     }
 
-    /// What the session at a slot meets, by the entry of a key's class and by what the look-up of the key comes to.
+    /// What the session at a slot meets, by the address to which the entry of a key's class leads and by what the look-up of
+    /// the key comes to.
     pub(crate) fn met(
         &self,
         slot: usize,
-        entry: &Option<IndexEntry>,
+        entry: Option<Address>,
         reached: &Reached<F::Key, F::Value>,
     ) -> Met<F::Value>
         requires entered { IsEntered self.now slot }
-        ensures { (key : F.Key) → option_map (λ e. address_of e.word) entry.now ≡ entry_for F.code self.now key
+        ensures { (key : F.Key) → entry ≡ entry_for F.code self.now key
             → reached.now ≡ reached_from F.Key.cmp F.code self.now slot key (entry_for F.code self.now key)
             → result ≡ met_at F.Key.cmp F.code self.now slot key }
     {
         let view = self.records.view(slot);
-        met_by(address_of(entry), self.records.begin(), &view, reached)
+        met_by(entry, self.records.begin(), &view, reached)
     }
 
     /// What an operation of the session at a slot does for what it meets: by the entry of its key's class, and by what
@@ -143,11 +154,11 @@ impl<F: Functions, D: Disk> Partition<F, D> {
         slot: usize,
         functions: &F,
         op: &OpOf<F>,
-        entry: &Option<IndexEntry>,
+        entry: Option<Address>,
         reached: &Reached<F::Key, F::Value>,
     ) -> DecisionOf<F>
         requires entered { IsEntered self.now slot }
-        requires entry { option_map (λ e. address_of e.word) entry.now ≡ entry_for F.code self.now (key_of op.now) }
+        requires entry { entry ≡ entry_for F.code self.now (key_of op.now) }
         requires reached { reached.now ≡ reached_from F.Key.cmp F.code self.now slot (key_of op.now)
             (entry_for F.code self.now (key_of op.now)) }
         ensures { result ≡ decision F.meaning op.now (met_at F.Key.cmp F.code self.now slot (key_of op.now)) }

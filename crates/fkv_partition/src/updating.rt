@@ -9,7 +9,6 @@ ghost use Rattle.fkv_partition.specs.Beginning.{IsEntered};
 use crate::partitions::Partition;
 use fkv_device::Disk;
 use fkv_functions::Functions;
-use fkv_lookups::Met;
 use fkv_lookups::laws::{meetings_tell, records_change};
 use fkv_texts::{Entry, Reached};
 
@@ -78,15 +77,18 @@ impl<F: Functions, D: Disk> Partition<F, D> {
         ensures met { IfSome result (λ r. met_at F.Key.cmp F.code self.now slot key.now ≡ Mutable r.1) }
         ensures none { result ≡ None → (held : F.Value) → ¬ (met_at F.Key.cmp F.code self.now slot key.now ≡ Mutable held) }
     {
-        let (_class, entry) = self.find(functions, key);
-        let reached = self.reach(slot, key, &entry);
-        match self.met(slot, &entry, &reached) {
-            Met::Mutable(held) => match reached {
-                Reached::Found(last) => Some((last, held)),
-                Reached::Below(_) => None,
-            },
-            _ => None,
+        self.known();
+        let entry = self.leads(functions, key);
+        let Reached::Found(last) = self.reach(slot, key, entry) else {
+            return None;
+        };
+        let Some(held) = last.value else {
+            return None;
+        };
+        if !self.records.view(slot).is_mutable(last.address) {
+            return None;
         }
+        Some((last, held))
     }
 
     /// Gives the last record of a key, which may be changed in place, its new value, by an update that is issued and done at

@@ -1,6 +1,7 @@
 //! Offsets of a log, views of them, and the regions of a view.
-ghost use Rattle.std.specs.Prelude.{◌≡◌};
+ghost use Rattle.std.specs.Prelude.{◌≡◌, ◌≤◌, ◌↔◌, IsTrue};
 ghost use Rattle.fkv_regions.specs.Offsets.{view_of, region_of, ran_all};
+ghost use Rattle.fkv_regions.specs.declared.offsets.Region.TheVariants.{Mutable};
 
 use fkv_epoch::Action;
 use fkv_records::Address;
@@ -67,6 +68,15 @@ impl View {
         } else {
             Region::Mutable
         }
+    }
+
+    /// Whether the record at an address may be changed in place, by a view whose offsets stand in their order.
+    pub fn is_mutable(&self, address: Address) -> bool
+        requires head { self.now.head ≤ self.now.read_only }
+        requires safe { self.now.safe_read_only ≤ self.now.read_only }
+        ensures { IsTrue result ↔ (region_of self.now address ≡ Mutable) }
+    {
+        self.read_only <= address
     }
 }
 

@@ -1,4 +1,4 @@
-use Rattle.std.proofs.Common.{◌<◌, ◌++◌, ◌∷◌, [], length, map, inl, inr, refl, sym, ap, ◌∙◌, subst, arith}
+use Rattle.std.proofs.Common.{◌<◌, ◌++◌, ◌∷◌, [], ℕ, length, map, inl, inr, refl, sym, ap, ◌∙◌, subst, arith}
 use Rattle.std.specs.Int.{w64}
 use Rattle.std.proofs.lemmas.Int.{to_z-of_z}
 use Rattle.std.proofs.lemmas.Option.{slice_get_read}
@@ -12,6 +12,15 @@ use Rattle.fkv_feeds.proofs.RunLemmas.{stand-more, view-get, view-set, view-leng
 use Rattle.fkv_feeds.proofs.SeatLemmas.{idle-tidied}
 use Rattle.fkv_feeds.proofs.shards.add_row.Goals as goal
 
+pub home-home-requires-clause-doubled : goal.home-home-requires-clause-doubled
+home-home-requires-clause-doubled g c κs within =
+    let items = c.args.shards.now.shards.items in
+    let first = c.index.result.now in
+    let here = slice_get_read items (length items) 0 first refl (subst (λ (n : ℕ). 0 < n) (view-length (λ shard. shard.partition) items) c.requires.stands.1.some) c.index.ensures in (
+      first.partition.records.partition_bits,
+      sym (view-length (λ shard. shard.partition) items) ∙ sym (c.requires.stands.1.idle.counted 0 first.partition (view-get (λ shard. shard.partition) items 0 first here)) ∙ c.known.ensures.counted,
+    )
+
 pub update-requires-clause-idle : goal.update-requires-clause-idle
 update-requires-clause-idle g c κs within =
     let items = c.args.shards.now.shards.items in
@@ -23,7 +32,7 @@ update-requires-clause-own g c κs within =
     let items = c.args.shards.now.shards.items in
     let here = slice_get_read items (length items) c.home-home.result c.index_mut-shard.result.now refl c.home-home.ensures.within c.index_mut-shard.ensures.value in
     let there = view-get (λ shard. shard.partition) items c.home-home.result c.index_mut-shard.result.now here in
-    ap (λ n. partition_of n (g.F.Functions.code c.args.key)) (c.requires.stands.1.idle.counted c.home-home.result c.index_mut-shard.result.now.partition there ∙ view-length (λ shard. shard.partition) items)
+    ap (λ n. partition_of n (g.F.Functions.code c.args.key.now)) (c.requires.stands.1.idle.counted c.home-home.result c.index_mut-shard.result.now.partition there ∙ view-length (λ shard. shard.partition) items)
     ∙ sym c.home-home.ensures.value ∙ sym (c.requires.stands.1.idle.numbered c.home-home.result c.index_mut-shard.result.now.partition there)
 
 pub update-requires-clause-past : goal.update-requires-clause-past
@@ -45,9 +54,9 @@ returns-in-Ok-clause-ok g c =
     let slot = c.args.shards.now.terms.slot in
     three_ok c.tidy_at_times.result c.tidy_at_times.ensures.tidied c.tidy_at_times.ensures.past c.tidy_at_times.ensures.later
     (λ tidied past later rows stand. (let after : c.args.shards.now.clock < c.tidy_at_times.new.clock = (let a = c.in-Ok.ensures.later in omega arith) in
-    subst (λ views. StandFor g.D.Disk.keeps name_cmp g.F.Functions.meaning g.F.Functions.code views slot c.tidy_at_times.new.clock (rows ++ (c.args.key, c.args.amount) ∷ [])) (sym (view-set (λ shard. shard.partition) items home new))
+    subst (λ views. StandFor g.D.Disk.keeps name_cmp g.F.Functions.meaning g.F.Functions.code views slot c.tidy_at_times.new.clock (rows ++ (c.args.key.now, c.args.amount) ∷ [])) (sym (view-set (λ shard. shard.partition) items home new))
     (stand-more g.D.Disk.keeps name_cmp order g.F.Functions.meaning g.F.Functions.code (map (λ shard. shard.partition) items) slot c.args.shards.now.clock c.tidy_at_times.new.clock rows
-    home old.partition new.partition c.args.key c.args.amount stand there (ap (λ n. partition_of n (g.F.Functions.code c.args.key)) (view-length (λ shard. shard.partition) items) ∙ sym c.home-home.ensures.value)
+    home old.partition new.partition c.args.key.now c.args.amount stand there (ap (λ n. partition_of n (g.F.Functions.code c.args.key.now)) (view-length (λ shard. shard.partition) items) ∙ sym c.home-home.ensures.value)
     (tidied.number ∙ c.in-Ok.ensures.number) (tidied.count ∙ c.in-Ok.ensures.count) past after (idle-tidied g.D.Disk.keeps name_cmp c.update.new.shard.partition new.partition slot c.in-Ok.ensures.idle tidied)
     (λ keeps q. tidied.live keeps q ∙ done keeps q))))
 

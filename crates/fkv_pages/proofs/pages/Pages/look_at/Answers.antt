@@ -28,7 +28,7 @@ pub returns-then-is_tombstone-clause-met : goal.returns-then-is_tombstone-clause
 returns-then-is_tombstone-clause-met g c =
     let f = some_is (entry_at c.args.self.now.text c.args.address) c.requires.there in
     let h = if_is (entry_at c.args.self.now.text c.args.address) (IsIn g.K.Fixed.bytes_of g.V.Fixed.bytes_of g.K.Known.is_known g.V.Known.is_known g.K.Fixed.SIZE g.V.Fixed.SIZE c.args.address c.bytes_at-bytes.result.now) f.0 c.bytes_at-bytes.ensures.spelled f.1 in
-    let link = c.link_of-previous.ensures (record_of f.0) h.sound.fits h.spells in
+    let link = c.link_of-previous-2.ensures (record_of f.0) h.sound.fits h.spells in
     let key = (c.is_of.ensures (record_of f.0) h.sound.key h.spells).0 c.if-not-is_of.false in
     let none = no_value f.0.value (sym link.1 ∙ c.if-is_tombstone.true) in
     rw c.entry_with.ensures (
@@ -40,7 +40,7 @@ pub returns-clause-met : goal.returns-clause-met
 returns-clause-met g c =
     let f = some_is (entry_at c.args.self.now.text c.args.address) c.requires.there in
     let h = if_is (entry_at c.args.self.now.text c.args.address) (IsIn g.K.Fixed.bytes_of g.V.Fixed.bytes_of g.K.Known.is_known g.V.Known.is_known g.K.Fixed.SIZE g.V.Fixed.SIZE c.args.address c.bytes_at-bytes.result.now) f.0 c.bytes_at-bytes.ensures.spelled f.1 in
-    let link = c.link_of-previous.ensures (record_of f.0) h.sound.fits h.spells in
+    let link = c.link_of-previous-2.ensures (record_of f.0) h.sound.fits h.spells in
     let key = (c.is_of.ensures (record_of f.0) h.sound.key h.spells).0 c.if-not-is_of.false in
     let some = a_value f.0.value (sym link.1 ∙ c.if-is_tombstone.false) in
     let known : g.V.Known.is_known some.0 = if_is f.0.value g.V.Known.is_known some.0 h.sound.value some.1 in
