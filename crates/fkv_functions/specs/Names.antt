@@ -66,10 +66,10 @@ same_fields a b f e = λ i. record {
 }
 
 -- a name's bytes and their number are its fields
-length-text : (a : Name) → length (text_of a) ≡ a.len
+pub length-text : (a : Name) → length (text_of a) ≡ a.len
 length-text a = omega (arith, length-take a.len a.bytes, a.room, a.most)
 
-whole : (a : Name) → text_of a ++ replicate (31 - a.len) 0 ≡ a.bytes
+pub whole : (a : Name) → text_of a ++ replicate (31 - a.len) 0 ≡ a.bytes
 whole a = rw (← a.padded) (take-append-drop a.len a.bytes)
 
 -- names of the same bytes are one

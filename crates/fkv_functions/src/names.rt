@@ -1,6 +1,9 @@
 //! Names: keys of 1 to 31 bytes.
 ghost use Rattle.std.specs.Prelude.{◌≡◌, ◌+◌, ◌-◌, ◌<◌, ◌≤◌, ◌↔◌, ℕ, List, ◌∷◌, ◌++◌, length, drop, take, replicate};
 ghost use Rattle.std.specs.Prelude.{refl, IfSome, IsSome, IsTrue, Some};
+ghost use Rattle.std.specs.Cmp.Lexicographic.{slice_cmp};
+ghost use Rattle.std.specs.Int.{w64, to_be_bytes};
+ghost use Rattle.std.specs.Ordering.{nat_cmp};
 ghost use Rattle.fkv_functions.specs.Hashes.{fnv_1a};
 
 use crate::hashes::fnv_1a_hash;
@@ -91,8 +94,12 @@ impl Ord for Name {
 
     ghost matches_eq = { name_ties };
 
+    /// The zeros behind two names tell them apart but where one is the other with NULs behind it.
     fn cmp(&self, other: &Name) -> Ordering {
-        self.bytes().cmp(other.bytes())
+        match order_of(self.bytes.as_slice(), other.bytes.as_slice()) {
+            Ordering::Equal => self.len.cmp(&other.len),
+            apart => apart,
+        }
     }
 }
 
@@ -183,9 +190,60 @@ fn is_same(bytes: &[u8], other: &[u8]) -> bool
         && word_of(last) == word_of(other_last)
 }
 
-/// Whether these bytes are all zero.
+/// The order of these 31 bytes and those, eight by eight: a table of a feed asks for it some ten times a line.
+fn order_of(bytes: &[u8], other: &[u8]) -> Ordering
+    requires bytes { length bytes.now ≡ 31 }
+    requires other { length other.now ≡ 31 }
+    ensures { result ≡ slice_cmp nat_cmp bytes.now other.now }
+{
+    let (first, after) = bytes.split_at(8);
+    let (other_first, other_after) = other.split_at(8);
+    match order_of_words(first, other_first) {
+        Ordering::Equal => {}
+        apart => return apart,
+    }
+    let (second, after) = after.split_at(8);
+    let (other_second, other_after) = other_after.split_at(8);
+    match order_of_words(second, other_second) {
+        Ordering::Equal => {}
+        apart => return apart,
+    }
+    let (third, _seven) = after.split_at(8);
+    let (other_third, _seven) = other_after.split_at(8);
+    match order_of_words(third, other_third) {
+        Ordering::Equal => {}
+        apart => return apart,
+    }
+    let (_seven, last) = after.split_at(7);
+    let (_seven, other_last) = other_after.split_at(7);
+    order_of_words(last, other_last)
+}
+
+#[tactic(auto, using(crate::proofs::NameOrder::words_ordered))]
+/// The order of these eight bytes and those.
+fn order_of_words(bytes: &[u8], other: &[u8]) -> Ordering
+    requires bytes { length bytes.now ≡ 8 }
+    requires other { length other.now ≡ 8 }
+    ensures { result ≡ slice_cmp nat_cmp bytes.now other.now }
+{
+    high_word_of(bytes).cmp(&high_word_of(other))
+}
+
+/// The number that these eight bytes spell, the highest first.
+fn high_word_of(bytes: &[u8]) -> u64
+    requires { length bytes.now ≡ 8 }
+    ensures { to_be_bytes w64 result ≡ bytes.now }
+{
+    let mut word = [0u8; 8];
+    word.copy_from_slice(bytes);
+    u64::from_be_bytes(word)
+}
+
+/// Whether these bytes, 31 at most, are all zero.
 fn is_zeros(bytes: &[u8]) -> bool
+    requires { length bytes.now ≤ 31 }
     ensures { IsTrue result ↔ (bytes.now ≡ replicate (length bytes.now) 0) }
 {
-    bytes.iter().all(|byte| *byte == 0)
+    let zeros = [0u8; 31];
+    bytes == &zeros[..bytes.len()]
 }
