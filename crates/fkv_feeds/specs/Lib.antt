@@ -5,4 +5,3 @@ pub mod Faults
 pub mod Seats
 pub mod Unions
 pub mod Runs
-pub mod Gathering

@@ -1,11 +1,10 @@
 //! The table of a store: the live maps of its partitions as one.
-ghost use Rattle.std.specs.Prelude.{◌≡◌, ◌<◌, ◌⊎◌, ℕ, [], length, map, IsTrue, Some, IfOk, IfErr, OnOk};
+ghost use Rattle.std.specs.Prelude.{◌≡◌, ◌<◌, ◌⊎◌, ℕ, [], length, map, IsTrue, IfOk, IfErr, OnOk};
 ghost use Rattle.std.specs.BTreeMap.{get, is_at};
 ghost use Rattle.std.specs.Map.{lookup, keys_of};
 ghost use Rattle.std.specs.List.Sorted.{IsStrictlySortedBy};
-ghost use Rattle.fkv_functions.specs.Plain.{Same, with_at};
+ghost use Rattle.fkv_functions.specs.Plain.{Same};
 ghost use Rattle.fkv_hybrid.specs.Scans.{IsScanRefusal};
-ghost use Rattle.fkv_feeds.specs.Gathering.{with_all};
 ghost use Rattle.fkv_feeds.specs.Runs.{AreIdle};
 ghost use Rattle.fkv_feeds.specs.Unions.{union_of};
 
@@ -15,33 +14,6 @@ use fkv_functions::{Functions, Refused};
 use fkv_partition::pairs_of;
 use std::alloc::Global;
 use std::collections::BTreeMap;
-
-/// Gives a key this value. Refused: `NoMemory`.
-fn put<K: Ord + Drop, V: Drop>(tree: &mut BTreeMap<K, V>, key: K, value: V) -> Result<(), Refused>
-    ensures ok { OnOk result (Same (get K.cmp tree.new) (with_at K.cmp (get K.cmp tree.old) key (Some value))) }
-    ensures only { IfErr result (λ refused. refused ≡ Refused.NoMemory) }
-{
-    match tree.insert(key, value) {
-        Ok(_) => Ok(()),
-        Err(_) => Err(Refused::NoMemory),
-    }
-}
-
-/// Gives each of these keys its value. Refused: `NoMemory`.
-fn put_all<K: Ord + Copy + Drop, V: Copy + Drop>(
-    tree: &mut BTreeMap<K, V>,
-    pairs: &[(K, V)],
-) -> Result<(), Refused>
-    ensures ok { OnOk result (Same (get K.cmp tree.new) (with_all K.cmp (get K.cmp tree.old) pairs.now)) }
-    ensures only { IfErr result (λ refused. refused ≡ Refused.NoMemory) }
-{
-    for pair in pairs {
-        let Ok(()) = put(tree, pair.0, pair.1) else {
-            return Err(Refused::NoMemory);
-        };
-    }
-    Ok(())
-}
 
 /// Puts each live key of all partitions with its value into an empty map. Refused: `NoMemory`, and as a device refuses
 /// pages of a partition.
@@ -61,11 +33,7 @@ fn gather<F: Functions, D: Disk>(
 {
     for index in 0..shards.len() {
         let shard = &mut shards[index];
-        let pairs = match shard.partition.live(alloc, &mut shard.reader) {
-            Ok(pairs) => pairs,
-            Err(refused) => return Err(refused),
-        };
-        match put_all(tree, &pairs) {
+        match shard.partition.put_live(alloc, &mut shard.reader, tree) {
             Ok(()) => {}
             Err(refused) => return Err(refused),
         }

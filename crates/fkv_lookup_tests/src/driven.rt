@@ -356,8 +356,9 @@ impl Driven {
 
     /// Whether the live map is the plain one.
     fn live(&mut self, alloc: Global) -> Told {
-        match self.records.live(alloc, &mut self.reader) {
-            Ok(map) => Told::Is(are_same(&map, &self.plain)),
+        let mut map = BTreeMap::new(alloc);
+        match self.records.put_live(alloc, &mut self.reader, &mut map) {
+            Ok(()) => Told::Is(are_same(&map, &self.plain)),
             Err(refused) => Told::Refused(refused),
         }
     }

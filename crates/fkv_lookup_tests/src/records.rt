@@ -7,6 +7,7 @@ use fkv_functions::{Functions, Name, Refused, SumFns};
 use fkv_records::Address;
 use fkv_texts::Reached;
 use std::alloc::Global;
+use std::collections::BTreeMap;
 
 /// The page frames: no page leaves its own.
 const FRAMES: u64 = 8;
@@ -150,11 +151,12 @@ fn are_last(kept: &Kept, rows: &[Row]) -> bool {
 /// How many keys are live, asked for again where memory is refused once, if each row's key has the value of its
 /// last row.
 fn live_keys(kept: &mut Kept, alloc: Global, rows: &[Row]) -> Option<usize> {
-    let live = match kept.records.live(alloc, &mut kept.reader) {
-        Err(Refused::NoMemory) => kept.records.live(alloc, &mut kept.reader),
-        live => live,
+    let mut live = BTreeMap::new(alloc);
+    let read = match kept.records.put_live(alloc, &mut kept.reader, &mut live) {
+        Err(Refused::NoMemory) => kept.records.put_live(alloc, &mut kept.reader, &mut live),
+        read => read,
     };
-    let Ok(live) = live else {
+    let Ok(()) = read else {
         return None;
     };
     for row in rows {

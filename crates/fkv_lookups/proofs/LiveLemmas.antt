@@ -4,9 +4,8 @@ use Rattle.std.proofs.lemmas.Bool.{cases_lt}
 use Rattle.std.specs.Prelude.{IsTrue, IsOk, Result, Err}
 use Rattle.std.specs.declared.cmp.Ordering.{Ordering}
 use Rattle.fkv_functions.specs.declared.refusals.Refused.{Refused}
-use Rattle.fkv_functions.specs.Plain.{PlainMap, Same}
+use Rattle.fkv_functions.specs.Plain.{PlainMap}
 use Rattle.fkv_records.specs.Places.{page_at}
-use Rattle.fkv_texts.specs.Text.{live}
 use Rattle.fkv_texts.specs.Places.{tail_after}
 use Rattle.fkv_texts.proofs.PlaceLemmas.{after}
 use Rattle.fkv_pages.proofs.FrameLemmas.{page_rises}
@@ -18,13 +17,13 @@ use Rattle.fkv_hybrid.proofs.ScanLemmas.{begins_kept, is_place}
 
 module _ {K V : Type 0} (keeps : Bool) (size : ℕ) (log : LogView K V) (h : IsLogOf keeps size log) where
   -- at Begin nothing is done
-  pub scan_begins : (cmp : K → K → Ordering) (begin : ℕ) (map : PlainMap K V) → IsTrue keeps → begin ≡ log.begin → Same map (live cmp []) → IsScanned cmp log.bits size log.tail log.text begin map
-  scan_begins cmp begin map k is none = rw is (record {
+  pub scan_begins : (cmp : K → K → Ordering) (begin : ℕ) (map : PlainMap K V) → IsTrue keeps → begin ≡ log.begin → IsScanned cmp map log.bits size log.tail log.text begin map
+  scan_begins cmp begin map k is = rw is (record {
     done = [];
     rest = log.text;
     whole = refl;
     laid_out = rw (h.begins, begins_kept keeps log.begin log.regions.offsets.closed k) at h.laid_out;
-    live = none;
+    said = λ q. refl;
   })
 
   module _ (scan : ScanView) (s : IsScanOf size log scan) (more : scan.address < log.tail) where

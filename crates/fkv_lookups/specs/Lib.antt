@@ -8,3 +8,4 @@ pub mod DecisionLaws
 pub mod Meeting
 pub mod Cleared
 pub mod WrongCleared
+pub mod Overlays

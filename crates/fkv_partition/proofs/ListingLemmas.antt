@@ -6,9 +6,10 @@ use Rattle.std.specs.Option.{option_or}
 use Rattle.std.specs.Map.{lookup, keys_of}
 use Rattle.std.specs.Cmp.{IsTotalOrder, eq_by_cmp_equiv}
 use Rattle.std.proofs.lemmas.Map.Views.{All-keys_from_lookup}
-use Rattle.fkv_functions.specs.Plain.{IsKeyOrder}
 use Rattle.fkv_texts.specs.declared.entries.Entry.{Entry}
 use Rattle.fkv_texts.specs.Text.{last_of, value_of, live}
+use Rattle.fkv_lookups.specs.Overlays.{said_over, with_text}
+use Rattle.fkv_functions.specs.Plain.{IsKeyOrder, PlainMap}
 
 module _ {K V : Type 0} (cmp : K → K → Ordering) (order : IsKeyOrder cmp) (P : K → Type 0) where
   by_case : (x : Entry K V) (q : K) (l : Option (Entry K V)) (b : Bool) → is_at (cmp x.key) q ≡ b → (IsSome l → P q) → P x.key → IsSome (option_or l (cond b (Some x) None)) → P q
@@ -27,3 +28,20 @@ module _ {K V : Type 0} (cmp : K → K → Ordering) (order : IsKeyOrder cmp) (P
   -- what holds of the key of each record holds of each key that is listed with its value in the live map
   pub listed-keys : (o : IsTotalOrder cmp) (text : List (Entry K V)) (pairs : List (K × V)) → ((i : ℕ) (e : Entry K V) → slice_get text i ≡ Some e → P e.key) → ((q : K) → lookup (is_at (cmp q)) pairs ≡ live cmp text q) → All P (keys_of pairs)
   listed-keys o text pairs h l = All-keys_from_lookup (eq_by_cmp_equiv o) P pairs (λ q s. last-key text h q (held-some (last_of cmp text q) (subst IsSome (l q) s)))
+
+module _ {K V : Type 0} (cmp : K → K → Ordering) (m : PlainMap K V) (text : List (Entry K V)) (q : K) where
+  -- a key of no value gets what the text says
+  pub said-live : m q ≡ None → with_text cmp m text q ≡ live cmp text q
+  said-live none = by_last (last_of cmp text q)
+    where
+      by_last : (l : Option (Entry K V)) → said_over l (m q) ≡ value_of l
+      by_last None = none
+      by_last (Some e) = refl
+
+  -- and one of which no record can be stays
+  pub said-elsewhere : (order : IsKeyOrder cmp) (P : K → Type 0) → ((i : ℕ) (e : Entry K V) → slice_get text i ≡ Some e → P e.key) → (P q → ⊥) → with_text cmp m text q ≡ m q
+  said-elsewhere order P own off = by_last (last_of cmp text q) refl
+    where
+      by_last : (l : Option (Entry K V)) → last_of cmp text q ≡ l → said_over l (m q) ≡ m q
+      by_last None e = refl
+      by_last (Some x) e = absurd (off (last-key cmp order P text own q (rw e refl)))

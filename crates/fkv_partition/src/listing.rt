@@ -1,10 +1,12 @@
 //! The live map of a partition as a list.
-ghost use Rattle.std.specs.Prelude.{◌≡◌, All, IsTrue, IfOk, IfErr, OnOk, length};
-ghost use Rattle.std.specs.BTreeMap.{is_at};
+ghost use Rattle.std.specs.Prelude.{◌≡◌, ◌≢◌, All, IsTrue, IfOk, IfErr, OnOk, None, length};
+ghost use Rattle.std.specs.BTreeMap.{get, is_at};
 ghost use Rattle.std.specs.Map.{lookup, keys_of};
 ghost use Rattle.std.specs.List.Sorted.{IsStrictlySortedBy};
+ghost use Rattle.fkv_functions.specs.Plain.{Same};
 ghost use Rattle.fkv_records.specs.Places.{page_at};
 ghost use Rattle.fkv_hybrid.specs.Scans.{IsScanRefusal};
+ghost use Rattle.fkv_lookups.specs.Overlays.{with_text};
 ghost use Rattle.fkv_partition.specs.Views.{live_of, partition_of};
 
 use crate::partitions::Partition;
@@ -31,9 +33,34 @@ pub fn pairs_of<K: Ord + Copy + Drop, V: Copy + Drop>(
 }
 
 impl<F: Functions, D: Disk> Partition<F, D> {
-    /// The live map: each live key with its value, keys rising. Flushed pages are read from the device, each once, the
-    /// others from their frames. On a device that keeps all keys belong to this partition. Refused: `NoMemory`, or as the
-    /// device refuses a flushed page; `Damaged` where a page's bytes spell no record at a place.
+    /// Puts the live map into a map: each key that has a record gets its value there, none where it is gone, and the others
+    /// stay. Flushed pages are read from the device, each once, the others from their frames. On a device that keeps all
+    /// keys with a record belong to this partition. Refused: `NoMemory`, or as the device refuses a flushed page; `Damaged`
+    /// where a page's bytes spell no record at a place.
+    pub fn put_live(
+        &self,
+        alloc: Global,
+        reader: &mut D::Reader,
+        map: &mut BTreeMap<F::Key, F::Value>,
+    ) -> Result<(), Refused>
+        ensures map { IsTrue D.keeps → OnOk result (Same (get F.Key.cmp map.new)
+            (with_text F.Key.cmp (get F.Key.cmp map.old) self.now.records.text)) }
+        // a key of no value gets its live one
+        ensures live { IsTrue D.keeps → OnOk result ((k : F.Key) → get F.Key.cmp map.old k ≡ None
+            → get F.Key.cmp map.new k ≡ live_of F.Key.cmp self.now k) }
+        // and those of other partitions stay
+        ensures others { IsTrue D.keeps → OnOk result ((k : F.Key)
+            → partition_of self.now.count (F.code k) ≢ self.now.number
+            → get F.Key.cmp map.new k ≡ get F.Key.cmp map.old k) }
+        ensures steady { OnOk result (D.Reader.failures reader.new ≡ D.Reader.failures reader.old) }
+        ensures refused { IfErr result (IsScanRefusal D.keeps (page_at self.now.records.page_bits self.now.records.begin)
+            (length self.now.records.receipts) (D.Reader.failures reader.old) (D.Reader.failures reader.new)) }
+    {
+        self.records.put_live(alloc, reader, map)
+    }
+
+    /// The live map: each live key with its value, keys rising. It is read as [`Partition::put_live`] reads it. Refused:
+    /// as there.
     pub fn live(
         &self,
         alloc: Global,
@@ -48,10 +75,11 @@ impl<F: Functions, D: Disk> Partition<F, D> {
         ensures refused { IfErr result (IsScanRefusal D.keeps (page_at self.now.records.page_bits self.now.records.begin)
             (length self.now.records.receipts) (D.Reader.failures reader.old) (D.Reader.failures reader.new)) }
     {
-        let map = match self.records.live(alloc, reader) {
+        let mut map = BTreeMap::new(alloc);
+        match self.records.put_live(alloc, reader, &mut map) {
             Err(refused) => return Err(refused),
-            Ok(map) => map,
-        };
+            Ok(()) => (),
+        }
         let _ordered = map.len();
         pairs_of(alloc, &map)
     }

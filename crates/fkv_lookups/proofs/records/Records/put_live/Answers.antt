@@ -1,15 +1,14 @@
-use Rattle.std.proofs.Common.{◌<◌, ◌≤◌, refl, ap, arith, ◌∙◌}
-use Rattle.std.specs.BTreeMap.{get, is_at}
-use Rattle.std.specs.Map.{lookup}
+use Rattle.std.proofs.Common.{◌<◌, ◌≤◌, refl, arith, ◌∙◌}
+use Rattle.std.specs.BTreeMap.{get}
 use Rattle.fkv_lookups.proofs.ScanLemmas.{ended, goes_on}
 use Rattle.fkv_hybrid.specs.Scans.{memory}
 use Rattle.fkv_lookups.proofs.LiveLemmas.{scan_begins, scan_rises, scan_refused}
-use Rattle.fkv_lookups.proofs.records.Records.live.Goals as goal
+use Rattle.fkv_lookups.proofs.records.Records.put_live.Goals as goal
 
 pub loop-self-init : goal.loop-self-init
 loop-self-init g c = record {
   scan = c.scan-scan.ensures.scan;
-  scanned = λ keeps. scan_begins g.D.Disk.keeps _ c.self.inside.log c.known.ensures.log g.F.Key.Ord.cmp _ _ keeps c.scan-scan.ensures.begins (λ q. ap (lookup (is_at (g.F.Key.Ord.cmp q))) c.new-map.ensures.empty);
+  scanned = λ keeps. scan_begins g.D.Disk.keeps _ c.self.inside.log c.known.ensures.log g.F.Key.Ord.cmp _ _ keeps c.scan-scan.ensures.begins;
   steady = refl;
 }
 
@@ -20,7 +19,7 @@ loop-self-preserved g c =
     record {
       scan = c.step.ensures.scan;
       scanned = λ keeps. rw c.in-Ok.ensures.goes
-          (goes_on g.F.Key.Ord.cmp _ _ _ _ _ _ (c.loop-self.invariant.scanned keeps) (c.appended.ensures.live g.F.Key.Ord.cmp) l.rising low
+          (goes_on g.F.Key.Ord.cmp _ _ _ _ _ _ _ (c.loop-self.invariant.scanned keeps) l.rising low
           c.in-Ok.entry (c.in-Ok.ensures.kept keeps) (get g.F.Key.Ord.cmp c.put.new.map) c.in-Ok-put.ensures.ok);
       steady = c.in-Ok.ensures.steady ∙ c.loop-self.invariant.steady;
     }
@@ -35,7 +34,7 @@ loop-self-smaller g c =
 pub returns-clause-ok : goal.returns-clause-ok
 returns-clause-ok g c = λ keeps.
     let high : c.self.inside.log.tail ≤ c.loop-self.scan.address = omega (arith, c.tail.ensures.tail, c.address.ensures, c.loop-self-test.false) in
-    rw (← c.self.view_is) (ended g.F.Key.Ord.cmp _ _ _ _ _ _ (c.loop-self.invariant.scanned keeps) high)
+    rw (← c.self.view_is) (ended g.F.Key.Ord.cmp _ _ _ _ _ _ _ (c.loop-self.invariant.scanned keeps) high)
 
 pub returns-in-Err-clause-refused : goal.returns-in-Err-clause-refused
 returns-in-Err-clause-refused g c =

@@ -4,16 +4,16 @@ use Rattle.std.specs.BTreeMap.{get}
 use Rattle.fkv_records.specs.Records.{size_of}
 use Rattle.fkv_hybrid.specs.Scans.{IsScanOf}
 use Rattle.fkv_lookups.proofs.ScanLemmas.{IsScanned}
-use Rattle.fkv_lookups.proofs.records.Records.live.Given as goal
+use Rattle.fkv_lookups.proofs.records.Records.put_live.Given as goal
 
--- on a device that keeps, the map is the live one of the entries below where the scan stands
+-- on a device that keeps, the map has what the entries below where the scan stands say
 abbrev pub invariant-loop-self : goal.invariant-loop-self
 invariant-loop-self g l =
     let log = l.self-inside.log in
     let size = size_of g.F.Key.Fixed.SIZE g.F.Value.Fixed.SIZE in
     record {
       scan : IsScanOf size log l.scan;
-      scanned : IsTrue g.D.Disk.keeps → IsScanned g.F.Key.Ord.cmp log.bits size log.tail log.text l.scan.address (get g.F.Key.Ord.cmp l.map);
+      scanned : IsTrue g.D.Disk.keeps → IsScanned g.F.Key.Ord.cmp (get g.F.Key.Ord.cmp l.initial.map) log.bits size log.tail log.text l.scan.address (get g.F.Key.Ord.cmp l.map);
       steady : g.D.Reader.PageReader.failures l.reader ≡ g.D.Reader.PageReader.failures l.fn.reader;
     }
 
