@@ -190,7 +190,7 @@ fn is_same(bytes: &[u8], other: &[u8]) -> bool
         && word_of(last) == word_of(other_last)
 }
 
-/// The order of these 31 bytes and those, eight by eight: a table of a feed asks for it some ten times a line.
+/// The order of these 31 bytes and those, eight by eight: a table of a feed asks for it at each step down its tree.
 fn order_of(bytes: &[u8], other: &[u8]) -> Ordering
     requires bytes { length bytes.now ≡ 31 }
     requires other { length other.now ≡ 31 }
@@ -219,8 +219,8 @@ fn order_of(bytes: &[u8], other: &[u8]) -> Ordering
     order_of_words(last, other_last)
 }
 
-#[tactic(auto, using(crate::proofs::NameOrder::words_ordered))]
 /// The order of these eight bytes and those.
+#[tactic(auto, using(crate::proofs::NameOrder::words_ordered))]
 fn order_of_words(bytes: &[u8], other: &[u8]) -> Ordering
     requires bytes { length bytes.now ≡ 8 }
     requires other { length other.now ≡ 8 }

@@ -36,7 +36,7 @@ impl<F: Functions, D: Disk> Partition<F, D> {
     /// Puts the live map into a map: each key that has a record gets its value there, none where it is gone, and the others
     /// stay. Flushed pages are read from the device, each once, the others from their frames. On a device that keeps all
     /// keys with a record belong to this partition. Refused: `NoMemory`, or as the device refuses a flushed page; `Damaged`
-    /// where a page's bytes spell no record at a place.
+    /// where a page's bytes spell no record at a place. What the map holds after a refusal is not told.
     pub fn put_live(
         &self,
         alloc: Global,

@@ -17,7 +17,7 @@ impl<F: Functions, D: Disk> Records<F, D> {
     /// Puts what all records from Begin on say in turn into a map: those of flushed pages are read from the device, each
     /// page once, the others from their frames. On a device that keeps, a key of a record gets the value of its last one,
     /// none where that is a tombstone, and the others stay. Refused: `NoMemory`, or as the device refuses a flushed page;
-    /// `Damaged` where a page's bytes spell no record at a place.
+    /// `Damaged` where a page's bytes spell no record at a place. What the map holds after a refusal is not told.
     pub fn put_live(
         &self,
         alloc: Global,
