@@ -1,6 +1,5 @@
 pub mod FlushLemmas
 pub mod SeatLemmas
-pub mod UnionLemmas
 pub mod RunLemmas
 pub mod FeedsLemmas
 mod AtOnceLemmas
