@@ -3,3 +3,4 @@ pub mod SeatLemmas
 pub mod RunLemmas
 pub mod FeedsLemmas
 mod AtOnceLemmas
+mod WritingLemmas

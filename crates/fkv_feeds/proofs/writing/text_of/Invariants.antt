@@ -1,4 +1,4 @@
-use Rattle.std.proofs.Common.{◌≡◌, ◌×◌, ℕ, List, ◌++◌, Some, false}
+use Rattle.std.proofs.Common.{◌≡◌, ℕ, List, ◌++◌, Some, false}
 use Rattle.csv.specs.Writing.{text_written, fields_written, has_written, writer_setup, default_writer}
 use Rattle.fkv_feeds.specs.Writing.{table_text}
 use Rattle.fkv_feeds.proofs.writing.text_of.Given as goal
