@@ -1,0 +1,6 @@
+mod OneLemmas
+mod SessionLemmas
+mod OffsetLemmas
+mod ClaimLemmas
+mod OperationLemmas
+mod LoadLemmas
