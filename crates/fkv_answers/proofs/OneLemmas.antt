@@ -1,10 +1,10 @@
 -- What holds of one thing at most: of a value that is named, by a test, and by whether something is there.
-use Rattle.std.proofs.Common.{◌≡◌, ◌≢◌, ◌^◌, Bool, ℕ, [], Option, Some, None, Result, Ok, Err, OnErr, sym, ◌∙◌, ap, subst, arith}
+use Rattle.std.proofs.Common.{◌≡◌, ◌≢◌, ◌^◌, Bool, ℕ, [], Option, Some, None, Result, Ok, Err, refl, sym, ◌∙◌, ap, subst, arith}
 use Rattle.fkv_functions.specs.declared.refusals.Refused.{Refused}
 use Rattle.fkv_regions.specs.RegionsView.{RegionsView}
 use Rattle.fkv_lookups.specs.RecordsViews.{RecordsView, IsFull, moved}
 use Rattle.fkv_partition.specs.Views.{PartitionView, MovesTo}
-use Rattle.fkv_answers.specs.OneAnswer.{IsSame, IsSameButWaiting, without_waiting}
+use Rattle.fkv_answers.specs.OneAnswer.{IsSame, without_waiting, but_waiting}
 
 -- it holds of one value at most
 pub record IsOne {A : Type 0} (P : A → Type 0) : Type 0 where
@@ -52,6 +52,17 @@ option-one {X} {A} {none} {some} {o} n s = record { one = same }
     same a b (ByOption.is_some x e h) (ByOption.is_none d k) = absurd (cc)
     same a b (ByOption.is_some x e h) (ByOption.is_some y d k) = let at : y ≡ x = cc in (s x).one a b h (subst (λ (z : X). some z b) at k)
 
+-- of one by the one value of which something holds
+pub record ByThe {X A : Type 0} (P : X → Type 0) (then : X → A → Type 0) (a : A) : Type 0 where
+  pub which : X
+  pub is : P which
+  pub end : then which a
+
+pub the-one : {X A : Type 0} {P : X → Type 0} {then : X → A → Type 0} → IsOne P → ((x : X) → IsOne (then x)) → IsOne (ByThe P then)
+the-one {X} {A} {P} {then} p t = record {
+  one = λ a b h k. (t h.which).one a b h.end (subst (λ (x : X). then x b) (p.one k.which h.which k.is h.is) k.end);
+}
+
 -- of one by whether an address is left, and whether there is room
 abbrev pub ByRoom : {K V A : Type 0} → RecordsView K V → (A → Type 0) → (A → Type 0) → (A → Type 0) → A → Type 0
 ByRoom r worn full fits = ByTest (r.tail ≡ 2 ^ 48) worn (ByTest (IsFull r) full fits)
@@ -60,39 +71,27 @@ pub full-leaves : {K V : Type 0} (r : RecordsView K V) → IsFull r → r.tail �
 full-leaves r h e = let more = h.more in omega arith
 
 -- what an event leaves and tells
-abbrev pub Out : (K V I T : Type 0) → Type 0
-Out K V I T = PartitionView K V I × Result T Refused
+abbrev pub Out : (W T : Type 0) → Type 0
+Out W T = W × Result T Refused
 
-pub out : {K V I T : Type 0} {new v : PartitionView K V I} {result r : Result T Refused} → new ≡ v → result ≡ r → Only {A = Out K V I T} (v, r) (new, result)
+pub out : {W T : Type 0} {new v : W} {result r : Result T Refused} → new ≡ v → result ≡ r → Only {A = Out W T} (v, r) (new, result)
 out e h = record { is = λ i. (e i, h i) }
 
--- two that leave a view where they are refused leave the same
-both-old : {A T : Type 0} (new other old : A) (result : Result T Refused) → OnErr result (new ≡ old) → OnErr result (other ≡ old) → OnErr result (new ≡ other)
-both-old new other old (Ok x) h k = tt
-both-old new other old (Err why) h k = h ∙ sym k
+pub same-by : {W T : Type 0} {P : Out W T → Type 0} {new other : W} {result told : Result T Refused} → IsOne P → P (new, result) → P (other, told) → IsSame new other result told
+same-by {W} {T} {P} {new} {other} {result} {told} one h k =
+    let e = one.one (new, result) (other, told) h k in
+    record { view = ap (λ (o : Out W T). o.0) e; answer = ap (λ (o : Out W T). o.1) e }
 
-module _ {K V I T : Type 0} {P : Out K V I T → Type 0} {new other : PartitionView K V I} {result told : Result T Refused} (one : IsOne P) where
-  pub same-by : P (new, result) → P (other, told) → IsSame new other result told
-  same-by h k =
-      let e = one.one (new, result) (other, told) h k in
-      record { view = ap (λ (o : Out K V I T). o.0) e; answer = ap (λ (o : Out K V I T). o.1) e }
+-- where offsets may move: refused, an event leaves the view; else all but the pages that wait is known
+pub stays : {K V I T : Type 0} {old new : PartitionView K V I} {result : Result T Refused} {why : Refused} → new ≡ old → result ≡ Err why
+    → Only {A = Out (PartitionView K V I) T} (old, Err why) (but_waiting result new, result)
+stays {K} {V} {I} {T} {old} {new} {result} {why} is told =
+    subst (λ (r : Result T Refused). Only {A = Out (PartitionView K V I) T} (old, Err why) (but_waiting r new, r)) (sym told) (out is refl)
 
-  pub same-but-by : (old : PartitionView K V I) → P (without_waiting new, result) × OnErr result (new ≡ old) → P (without_waiting other, told) × OnErr told (other ≡ old) → IsSameButWaiting new other result told
-  same-but-by old h k =
-      let e = one.one (without_waiting new, result) (without_waiting other, told) h.0 k.0 in
-      let answer : result ≡ told = ap (λ (o : Out K V I T). o.1) e in
-      record {
-        view = ap (λ (o : Out K V I T). o.0) e;
-        answer = answer;
-        refused = both-old new other old result h.1 (subst (λ (r : Result T Refused). OnErr r (other ≡ old)) (sym answer) k.1);
-      }
-
--- refused, it leaves the view; else it may move it
-pub refuses : {T P Q : Type 0} {result : Result T Refused} {why : Refused} → result ≡ Err why → P → Q → P × OnErr result Q
-refuses {T} {P} {Q} is p q = (p, subst (λ (r : Result T Refused). OnErr r Q) (sym is) q)
-
-pub moves : {T P : Type 0} {result : Result T Refused} {x : T} (Q : Type 0) → result ≡ Ok x → P → P × OnErr result Q
-moves {T} {P} Q is p = (p, subst (λ (r : Result T Refused). OnErr r Q) (sym is) tt)
+pub moves : {K V I T : Type 0} (new : PartitionView K V I) {v : PartitionView K V I} {result : Result T Refused} {x : T} → without_waiting new ≡ v → result ≡ Ok x
+    → Only {A = Out (PartitionView K V I) T} (v, Ok x) (but_waiting result new, result)
+moves {K} {V} {I} {T} new {v} {result} {x} is told =
+    subst (λ (r : Result T Refused). Only {A = Out (PartitionView K V I) T} (v, Ok x) (but_waiting r new, r)) (sym told) (out is refl)
 
 -- where regions move, the view but for the pages that wait
 abbrev pub moved_to : {K V I : Type 0} → Bool → RegionsView → PartitionView K V I → ℕ → PartitionView K V I

@@ -38,7 +38,7 @@ use Rattle.fkv_answers.proofs.OneLemmas.{IsOne, Only, Never, ByTest, ByOption, B
 use Rattle.fkv_answers.proofs.ClaimLemmas.{claimed-same}
 
 abbrev pub GoesOut : (K V I O : Type 0) → Type 0
-GoesOut K V I O = Out K V I (Progress K V I O Standing)
+GoesOut K V I O = Out (PartitionView K V I) (Progress K V I O Standing)
 
 -- a tentative entry was made
 record HasClaimed {K V I O : Type 0} (code : K → ℕ) (old : PartitionView K V I) (slot c now : ℕ) (x : Context K V I) (o : GoesOut K V I O) : Type 0 where
@@ -148,7 +148,7 @@ go-decided stands cmp f code old new other slot c now result told h k n m =
 
 -- ---- install
 module _ {K V I O R : Type 0} (f : Meanings K V I O) (old : PartitionView K V I) (slot c : ℕ) (ask : Ask K V I) (now : ℕ) where
-  abbrev InstallOut : Out K V I (Progress K V I O R) → Type 0
+  abbrev InstallOut : Out (PartitionView K V I) (Progress K V I O R) → Type 0
   InstallOut =
       ByOption (Only (old, Err Unknown))
       (λ (x : Context K V I). ByOption (Only (old, Err NotReady))

@@ -1,5 +1,5 @@
 -- Sessions and issues: a view and a call have one answer.
-use Rattle.std.proofs.Common.{OnErr, ◌≡◌, Bool, true, false, ℕ, Some, None, Result, Ok, Err, ap}
+use Rattle.std.proofs.Common.{◌≡◌, Bool, true, false, ℕ, Some, None, Result, Ok, Err, ap}
 use Rattle.fkv_functions.specs.declared.refusals.Refused.{Refused}
 use Rattle.fkv_functions.specs.declared.refusals.Refused.TheVariants.{NoSlot, Unknown, Stranger, NoContext, Busy}
 use Rattle.fkv_functions.specs.declared.refusals.What.TheVariants.{Partition}
@@ -14,15 +14,15 @@ use Rattle.fkv_partition.specs.Contexts.{claim_by}
 use Rattle.fkv_partition.specs.Views.{PartitionView, partition_of, context_at, with_context, in_regions, free_slot, free_context, open_context}
 use Rattle.fkv_partition.specs.Beginning.{IsEntered, Enters, Issues, IssuesIn}
 use Rattle.fkv_partition.specs.Ending.{Leaves, GivesUp}
-use Rattle.fkv_answers.specs.OneAnswer.{EnterIsDecided, IssueIsDecided, IssueInIsDecided, GiveUpIsDecided, LeaveIsDecided, without_waiting}
-use Rattle.fkv_answers.proofs.OneLemmas.{IsOne, Only, ByTest, ByOption, Out, only-one, test-one, option-one, out, same-by, same-but-by, refuses, moves, moved_to, moves-out}
+use Rattle.fkv_answers.specs.OneAnswer.{EnterIsDecided, IssueIsDecided, IssueInIsDecided, GiveUpIsDecided, LeaveIsDecided, but_waiting}
+use Rattle.fkv_answers.proofs.OneLemmas.{IsOne, Only, ByTest, ByOption, Out, only-one, test-one, option-one, out, same-by, stays, moves, moved_to, moves-out}
 
 -- no session stands at a slot: none is entered there
 pub no-session : (b : Bool) → b ≡ false → ¬ (b ≡ true)
 no-session b h k = cc
 
 -- ---- enter
-abbrev EnterOut : {K V I : Type 0} → PartitionView K V I → ℕ → Out K V I ℕ → Type 0
+abbrev EnterOut : {K V I : Type 0} → PartitionView K V I → ℕ → Out (PartitionView K V I) ℕ → Type 0
 EnterOut old now = ByOption (Only (old, Err NoSlot)) (λ (slot : ℕ). Only (in_regions old (entered old.records.regions slot) now, Ok slot)) (free_slot old)
 
 enter-out : {K V I : Type 0} (old new : PartitionView K V I) (now : ℕ) (result : Result ℕ Refused) → Enters old new now result → EnterOut old now (new, result)
@@ -35,7 +35,7 @@ enter-decided old new other now result told h k =
     same-by one (enter-out old new now result h) (enter-out old other now told k)
 
 -- ---- issue
-abbrev IssueOut : {K V I : Type 0} → (K → ℕ) → PartitionView K V I → ℕ → Op K V I → ℕ → Out K V I ℕ → Type 0
+abbrev IssueOut : {K V I : Type 0} → (K → ℕ) → PartitionView K V I → ℕ → Op K V I → ℕ → Out (PartitionView K V I) ℕ → Type 0
 IssueOut code old slot op now =
     ByTest (IsEntered old slot)
     (ByTest (partition_of old.count (code (key_of op)) ≡ old.number)
@@ -55,7 +55,7 @@ issue-decided code old new other slot op now result told h k =
     same-by one (issue-out code old new slot op now result h) (issue-out code old other slot op now told k)
 
 -- ---- issue_in
-abbrev IssueInOut : {K V I : Type 0} → (K → ℕ) → PartitionView K V I → ℕ → ℕ → Op K V I → ℕ → Out K V I (Unit {0}) → Type 0
+abbrev IssueInOut : {K V I : Type 0} → (K → ℕ) → PartitionView K V I → ℕ → ℕ → Op K V I → ℕ → Out (PartitionView K V I) (Unit {0}) → Type 0
 IssueInOut code old slot c op now =
     ByTest (partition_of old.count (code (key_of op)) ≡ old.number)
     (Only (with_context old slot c (Some (record { number = now; op = op; phase = Fresh })) now, Ok tt))
@@ -71,7 +71,7 @@ issue-in-decided code old new other slot c op now result told h k =
     same-by one (issue-in-out code old new slot c op now result h) (issue-in-out code old other slot c op now told k)
 
 -- ---- give_up
-abbrev GiveUpOut : {K V I : Type 0} → PartitionView K V I → ℕ → ℕ → ℕ → Out K V I (Unit {0}) → Type 0
+abbrev GiveUpOut : {K V I : Type 0} → PartitionView K V I → ℕ → ℕ → ℕ → Out (PartitionView K V I) (Unit {0}) → Type 0
 GiveUpOut {K} {V} {I} old slot c now =
     ByOption (Only (old, Err Unknown))
     (λ (x : Context K V I). ByOption (Only (with_context old slot c None now, Ok tt))
@@ -89,18 +89,18 @@ give-up-decided old new other slot c now result told h k =
     same-by one (give-up-out old new slot c now result h) (give-up-out old other slot c now told k)
 
 -- ---- leave
-abbrev LeaveOut : {K V I : Type 0} → Bool → PartitionView K V I → ℕ → ℕ → Out K V I (Unit {0}) → Type 0
+abbrev LeaveOut : {K V I : Type 0} → Bool → PartitionView K V I → ℕ → ℕ → Out (PartitionView K V I) (Unit {0}) → Type 0
 LeaveOut keeps old slot now =
     ByTest (IsEntered old slot)
-    (ByOption (Only (moved_to keeps (left old.records.regions slot) old now, Ok tt)) (λ (c : ℕ). Only (without_waiting old, Err Busy)) (open_context old slot))
-    (Only (without_waiting old, Err Unknown))
+    (ByOption (Only (moved_to keeps (left old.records.regions slot) old now, Ok tt)) (λ (c : ℕ). Only (old, Err Busy)) (open_context old slot))
+    (Only (old, Err Unknown))
 
-leave-out : {K V I : Type 0} (keeps : Bool) (old new : PartitionView K V I) (slot now : ℕ) (result : Result (Unit {0}) Refused) → Leaves keeps old new slot now result → LeaveOut keeps old slot now (without_waiting new, result) × OnErr result (new ≡ old)
-leave-out keeps old new slot now result (Leaves.unknown outside is told) = refuses told (ByTest.fails (no-session _ outside) (out (ap without_waiting is) told)) is
-leave-out keeps old new slot now result (Leaves.busy c inside busy is told) = refuses told (ByTest.holds inside (ByOption.is_some c busy (out (ap without_waiting is) told))) is
-leave-out keeps old new slot now result (Leaves.leaves inside none shifted told) = moves (new ≡ old) told (ByTest.holds inside (ByOption.is_none none (out (moves-out shifted) told)))
+leave-out : {K V I : Type 0} (keeps : Bool) (old new : PartitionView K V I) (slot now : ℕ) (result : Result (Unit {0}) Refused) → Leaves keeps old new slot now result → LeaveOut keeps old slot now (but_waiting result new, result)
+leave-out keeps old new slot now result (Leaves.unknown outside is told) = ByTest.fails (no-session _ outside) (stays is told)
+leave-out keeps old new slot now result (Leaves.busy c inside busy is told) = ByTest.holds inside (ByOption.is_some c busy (stays is told))
+leave-out keeps old new slot now result (Leaves.leaves inside none shifted told) = ByTest.holds inside (ByOption.is_none none (moves new (moves-out shifted) told))
 
 pub leave-decided : {K V I : Type 0} → LeaveIsDecided K V I
 leave-decided keeps old new other slot now result told h k =
     let one : IsOne (LeaveOut keeps old slot now) = test-one (option-one only-one (λ c. only-one)) only-one in
-    same-but-by one old (leave-out keeps old new slot now result h) (leave-out keeps old other slot now told k)
+    same-by one (leave-out keeps old new slot now result h) (leave-out keeps old other slot now told k)

@@ -1,7 +1,7 @@
 -- What an event of a partition tells is decided by the partition's view before it and by what the event is given, want
 -- of memory aside: two events with the same view before them, which are given the same, tell the same, and leave the
 -- same view.
-use Rattle.std.specs.Prelude.{◌≡◌, ◌≢◌, Bool, ℕ, List, [], Result, Ok, Err, OnErr}
+use Rattle.std.specs.Prelude.{◌≡◌, ◌≢◌, Bool, ℕ, List, [], Result, Ok, Err}
 use Rattle.std.specs.declared.cmp.Ordering.{Ordering}
 use Rattle.fkv_functions.specs.Meanings.{Meanings}
 use Rattle.fkv_functions.specs.declared.asks.Ask.{Ask}
@@ -23,7 +23,7 @@ use Rattle.fkv_partition.specs.Flushing.{Flushes}
 use Rattle.fkv_partition.specs.Truncating.{Truncates}
 
 -- two events told the same, and left the same view
-pub record IsSame {K V I T : Type 0} (new other : PartitionView K V I) (result told : Result T Refused) : Type 0 where
+pub record IsSame {W T : Type 0} (new other : W) (result told : Result T Refused) : Type 0 where
   pub view : new ≡ other
   pub answer : result ≡ told
 
@@ -31,13 +31,11 @@ pub record IsSame {K V I T : Type 0} (new other : PartitionView K V I) (result t
 abbrev pub without_waiting : {K V I : Type 0} → PartitionView K V I → PartitionView K V I
 without_waiting v = record v { records = record v.records { waiting = [] } }
 
--- two events told the same, and left the same view: but for the pages that wait to be flushed, where they were not
--- refused
-pub record IsSameButWaiting {K V I T : Type 0} (new other : PartitionView K V I) (result told : Result T Refused)
-    : Type 0 where
-  pub view : without_waiting new ≡ without_waiting other
-  pub answer : result ≡ told
-  pub refused : OnErr result (new ≡ other)
+-- what is decided of the view that an event leaves by which offsets move: all of it where the event was refused, and else
+-- all but the pages that wait to be flushed, of which the rules say only that more may wait
+abbrev pub but_waiting : {K V I T : Type 0} → Result T Refused → PartitionView K V I → PartitionView K V I
+but_waiting (Ok x) v = without_waiting v
+but_waiting (Err why) v = v
 
 -- what an event of an operation told, with what a receipt stands for in the receipt's place
 abbrev pub progress_of : {K V I O R : Type 0} → (R → Standing) → Progress K V I O R → Progress K V I O Standing
@@ -96,13 +94,12 @@ GiveUpIsDecided K V I =
     → GivesUp old other slot c now told
     → IsSame new other result told
 
--- the rules leave open which pages wait to be flushed where offsets move: here and below
 abbrev pub LeaveIsDecided : (K V I : Type 0) → Type 0
 LeaveIsDecided K V I =
     (keeps : Bool) (old new other : PartitionView K V I) (slot now : ℕ) (result told : Result (Unit {0}) Refused)
     → Leaves keeps old new slot now result
     → Leaves keeps old other slot now told
-    → IsSameButWaiting new other result told
+    → IsSame (but_waiting result new) (but_waiting told other) result told
 
 -- ---- offsets and pages
 abbrev pub RefreshIsDecided : (K V I : Type 0) → Type 0
@@ -110,21 +107,21 @@ RefreshIsDecided K V I =
     (keeps : Bool) (old new other : PartitionView K V I) (slot now : ℕ) (result told : Result (Unit {0}) Refused)
     → Refreshes keeps old new slot now result
     → Refreshes keeps old other slot now told
-    → IsSameButWaiting new other result told
+    → IsSame (but_waiting result new) (but_waiting told other) result told
 
 abbrev pub ShiftIsDecided : (K V I : Type 0) → Type 0
 ShiftIsDecided K V I =
     (keeps : Bool) (old new other : PartitionView K V I) (page now : ℕ) (result told : Result (Unit {0}) Refused)
     → Shifts keeps old new page now result
     → Shifts keeps old other page now told
-    → IsSameButWaiting new other result told
+    → IsSame (but_waiting result new) (but_waiting told other) result told
 
 abbrev pub EvictIsDecided : (K V I : Type 0) → Type 0
 EvictIsDecided K V I =
     (keeps : Bool) (old new other : PartitionView K V I) (page now : ℕ) (result told : Result (Unit {0}) Refused)
     → Evicts keeps old new page now result
     → Evicts keeps old other page now told
-    → IsSameButWaiting new other result told
+    → IsSame (but_waiting result new) (but_waiting told other) result told
 
 abbrev pub FlushIsDecided : (K V I : Type 0) → Type 0
 FlushIsDecided K V I =
