@@ -4,3 +4,5 @@ mod OffsetLemmas
 mod ClaimLemmas
 mod OperationLemmas
 mod LoadLemmas
+mod TurnLemmas
+mod RelocationLemmas

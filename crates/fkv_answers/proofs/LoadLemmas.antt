@@ -25,7 +25,7 @@ use Rattle.fkv_partition.specs.Contexts.{at_phase, loading_by}
 use Rattle.fkv_partition.specs.Views.{PartitionView, context_at, with_context}
 use Rattle.fkv_partition.specs.Loading.{Tells, AwaitsPage, ReadsOn, IsTold, Loads, found, ended}
 use Rattle.fkv_answers.specs.OneAnswer.{IsOneSpelling, LoadIsDecided, told_of, came_of}
-use Rattle.fkv_answers.proofs.OneLemmas.{IsOne, Only, Never, ByTest, ByOption, only-one, never-one, test-one, option-one, out, same-by}
+use Rattle.fkv_answers.proofs.OneLemmas.{IsOne, Only, Never, ByTest, ByOption, ByThe, only-one, never-one, test-one, option-one, the-one, out, same-by}
 use Rattle.fkv_answers.proofs.OperationLemmas.{GoesOut}
 
 -- a way through a page comes to one end, where its bytes spell one entry at most at an address
@@ -95,17 +95,12 @@ module _ {K V I O : Type 0} (entry : ℕ → List ℕ → ℕ → Entry K V → 
   Way x l bytes r =
       IsReached (entry old.records.page_bits bytes) cmp (key_of x.op) old.records.page_bits (first_place old.records.page_bits (page_at old.records.page_bits l.wanted)) l.wanted r
 
-  record Reads (x : Context K V I) (l : Loading) (bytes : List ℕ) (o : GoesOut K V I O) : Type 0 where
-    reached : Result (Reached K V) Refused
-    way : Way x l bytes reached
-    end : Ended x l reached o
-
   -- by what came
   abbrev Came : Context K V I → Loading → Result (Joined Standing) Refused → GoesOut K V I O → Type 0
   Came x l (Err why) = Only (with_context old slot c None now, Err why)
   Came x l (Ok p) =
       ByOption Never
-      (λ (s : Standing). ByTest (s ≡ p.receipt) (Reads x l p.bytes) (Only (old, Err (Stranger what.Receipt s.number (p.receipt).number))))
+      (λ (s : Standing). ByTest (s ≡ p.receipt) (ByThe (Way x l p.bytes) (Ended x l)) (Only (old, Err (Stranger what.Receipt s.number (p.receipt).number))))
       (slice_get old.records.receipts (page_at old.records.page_bits l.wanted))
 
   abbrev LoadOut : Result (Joined Standing) Refused → GoesOut K V I O → Type 0
@@ -117,18 +112,14 @@ module _ {K V I O : Type 0} (entry : ℕ → List ℕ → ℕ → Entry K V → 
       (context_at old slot c)
 
   module _ (one : IsOneSpelling entry) where
-    reads-one : (x : Context K V I) (l : Loading) (bytes : List ℕ) → IsOne (Reads x l bytes)
-    reads-one x l bytes = record { one = same }
-      where
-        same : (a b : GoesOut K V I O) → Reads x l bytes a → Reads x l bytes b → a ≡ b
-        same a b h k =
-            let ends : k.reached ≡ h.reached = reached-same (entry old.records.page_bits bytes) (one old.records.page_bits bytes) cmp (key_of x.op) old.records.page_bits
-            (first_place old.records.page_bits (page_at old.records.page_bits l.wanted)) l.wanted k.reached h.reached k.way h.way in
-            (ended-one x l h.reached).one a b h.end (subst (λ (r : Result (Reached K V) Refused). Ended x l r b) ends k.end)
+    way-one : (x : Context K V I) (l : Loading) (bytes : List ℕ) → IsOne (Way x l bytes)
+    way-one x l bytes = record {
+      one = reached-same (entry old.records.page_bits bytes) (one old.records.page_bits bytes) cmp (key_of x.op) old.records.page_bits (first_place old.records.page_bits (page_at old.records.page_bits l.wanted)) l.wanted;
+    }
 
     came-one : (x : Context K V I) (l : Loading) (came : Result (Joined Standing) Refused) → IsOne (Came x l came)
     came-one x l (Err why) = only-one
-    came-one x l (Ok p) = option-one never-one (λ s. test-one (reads-one x l p.bytes) only-one)
+    came-one x l (Ok p) = option-one never-one (λ s. test-one (the-one (way-one x l p.bytes) (ended-one x l)) only-one)
 
     load-one : (came : Result (Joined Standing) Refused) → IsOne (LoadOut came)
     load-one came = option-one only-one (λ x. option-one only-one (λ l. test-one (came-one x l came) only-one))
@@ -144,7 +135,7 @@ module _ {K V I O : Type 0} (entry : ℕ → List ℕ → ℕ → Entry K V → 
     when-came x l r is h = subst (λ (q : Result (Joined R) Refused). Came x l (came_of stands q) (new, told_of stands result)) (sym is) h
 
     reads-out : (x : Context K V I) (l : Loading) (p : Joined R) (r : Result (Reached K V) Refused) → ReadsOn entry cmp old slot c x l (stands p.receipt) p.bytes r → came ≡ Ok p → Ended x l r (new, told_of stands result) → LoadOut (came_of stands came) (new, told_of stands result)
-    reads-out x l p r h is end = awaited x l h.awaits (when-came x l (Ok p) is (ByOption.is_some (stands p.receipt) h.own (ByTest.holds refl (record { reached = r; way = h.reads; end = end }))))
+    reads-out x l p r h is end = awaited x l h.awaits (when-came x l (Ok p) is (ByOption.is_some (stands p.receipt) h.own (ByTest.holds refl (record { which = r; is = h.reads; end = end }))))
 
     tells-out : (x : Context K V I) (l : Loading) (r : Reached K V) (value : Option V) → Tells old.records.begin r value → Told x l value x.op (new, told_of stands result) → Ended x l (Ok r) (new, told_of stands result)
     tells-out x l r value (found e) h = h

@@ -89,18 +89,20 @@ give-up-decided old new other slot c now result told h k =
     same-by one (give-up-out old new slot c now result h) (give-up-out old other slot c now told k)
 
 -- ---- leave
-abbrev LeaveOut : {K V I : Type 0} → Bool → PartitionView K V I → ℕ → ℕ → Out (PartitionView K V I) (Unit {0}) → Type 0
+abbrev pub LeaveOut : {K V I : Type 0} → Bool → PartitionView K V I → ℕ → ℕ → Out (PartitionView K V I) (Unit {0}) → Type 0
 LeaveOut keeps old slot now =
     ByTest (IsEntered old slot)
     (ByOption (Only (moved_to keeps (left old.records.regions slot) old now, Ok tt)) (λ (c : ℕ). Only (old, Err Busy)) (open_context old slot))
     (Only (old, Err Unknown))
 
-leave-out : {K V I : Type 0} (keeps : Bool) (old new : PartitionView K V I) (slot now : ℕ) (result : Result (Unit {0}) Refused) → Leaves keeps old new slot now result → LeaveOut keeps old slot now (but_waiting result new, result)
+pub leave-out : {K V I : Type 0} (keeps : Bool) (old new : PartitionView K V I) (slot now : ℕ) (result : Result (Unit {0}) Refused) → Leaves keeps old new slot now result → LeaveOut keeps old slot now (but_waiting result new, result)
 leave-out keeps old new slot now result (Leaves.unknown outside is told) = ByTest.fails (no-session _ outside) (stays is told)
 leave-out keeps old new slot now result (Leaves.busy c inside busy is told) = ByTest.holds inside (ByOption.is_some c busy (stays is told))
 leave-out keeps old new slot now result (Leaves.leaves inside none shifted told) = ByTest.holds inside (ByOption.is_none none (moves new (moves-out shifted) told))
 
+pub leave-one : {K V I : Type 0} (keeps : Bool) (old : PartitionView K V I) (slot now : ℕ) → IsOne (LeaveOut keeps old slot now)
+leave-one keeps old slot now = test-one (option-one only-one (λ c. only-one)) only-one
+
 pub leave-decided : {K V I : Type 0} → LeaveIsDecided K V I
 leave-decided keeps old new other slot now result told h k =
-    let one : IsOne (LeaveOut keeps old slot now) = test-one (option-one only-one (λ c. only-one)) only-one in
-    same-by one (leave-out keeps old new slot now result h) (leave-out keeps old other slot now told k)
+    same-by (leave-one keeps old slot now) (leave-out keeps old new slot now result h) (leave-out keeps old other slot now told k)

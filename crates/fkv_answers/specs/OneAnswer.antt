@@ -31,8 +31,8 @@ pub record IsSame {W T : Type 0} (new other : W) (result told : Result T Refused
 abbrev pub without_waiting : {K V I : Type 0} → PartitionView K V I → PartitionView K V I
 without_waiting v = record v { records = record v.records { waiting = [] } }
 
--- what is decided of the view that an event leaves by which offsets move: all of it where the event was refused, and else
--- all but the pages that wait to be flushed, of which the rules say only that more may wait
+-- what is decided of the view that an event leaves by which offsets move: all of it where the event was refused, and
+-- else all but the pages that wait to be flushed, of which the rules say only that more may wait
 abbrev pub but_waiting : {K V I T : Type 0} → Result T Refused → PartitionView K V I → PartitionView K V I
 but_waiting (Ok x) v = without_waiting v
 but_waiting (Err why) v = v

@@ -4,6 +4,9 @@ ghost use Rattle.fkv_answers.specs.OneAnswer.{EnterIsDecided, IssueIsDecided, Is
 ghost use Rattle.fkv_answers.specs.OneAnswer.{LeaveIsDecided, RefreshIsDecided, ShiftIsDecided, EvictIsDecided};
 ghost use Rattle.fkv_answers.specs.OneAnswer.{FlushIsDecided, TruncateIsDecided, GoIsDecided, InstallIsDecided};
 ghost use Rattle.fkv_answers.specs.OneAnswer.{IsOneSpelling, LoadIsDecided};
+ghost use Rattle.fkv_answers.specs.OneRelocation.{CompactedIssueIsDecided, RelocateIsDecided, DropIsDecided};
+ghost use Rattle.fkv_answers.specs.OneRelocation.{LeaveAllIsDecided, PartIsDecided, CutIsDecided, GoOnIsDecided};
+ghost use Rattle.fkv_answers.specs.OneRelocation.{NextIsDecided, LoadOnIsDecided, NextLoadIsDecided};
 
 use fkv_device::Disk;
 use fkv_functions::Functions;
@@ -44,4 +47,21 @@ pub fn loads_are_decided<F: Functions, D: Disk>()
         F.Key.SIZE F.Value.SIZE) }
     ensures loads { LoadIsDecided D.Receipt.stands (IsEntryIn F.Key.bytes_of F.Value.bytes_of F.Key.is_known
         F.Value.is_known F.Key.SIZE F.Value.SIZE) F.Key.cmp F.meaning }
+{}
+
+/// The same of a partition that relocates: of its sessions and its issues, of the relocation in a context and of the
+/// one that is next in turn, of a session that parts, with the moment at which it is done, and of the move of Begin.
+pub fn relocations_are_decided<F: Functions, D: Disk>()
+    ensures issues { CompactedIssueIsDecided F.Key F.Value F.Input }
+    ensures relocates { RelocateIsDecided F.Key F.Value F.Input }
+    ensures drops { DropIsDecided F.Key F.Value F.Input }
+    ensures leaves { LeaveAllIsDecided F.Key F.Value F.Input }
+    ensures parts { PartIsDecided F.Key F.Value F.Input }
+    ensures truncates { CutIsDecided F.Key F.Value F.Input }
+    ensures goes_on { GoOnIsDecided F.Key F.Value F.Input D.Receipt }
+    ensures next { NextIsDecided F.Key F.Value F.Input D.Receipt }
+    ensures loads_on { LoadOnIsDecided F.Input D.Receipt.stands (IsEntryIn F.Key.bytes_of F.Value.bytes_of
+        F.Key.is_known F.Value.is_known F.Key.SIZE F.Value.SIZE) F.Key.cmp F.code }
+    ensures next_loads { NextLoadIsDecided F.Input D.Receipt.stands (IsEntryIn F.Key.bytes_of F.Value.bytes_of
+        F.Key.is_known F.Value.is_known F.Key.SIZE F.Value.SIZE) F.Key.cmp F.code }
 {}
