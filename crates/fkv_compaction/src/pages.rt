@@ -1,12 +1,14 @@
 //! Pages of a compacted partition: how the regions move, how pages get to a device, and how the log's start is cut.
-ghost use Rattle.std.specs.Prelude.{◌≡◌, ◌+◌, ◌-◌, ◌^◌, ◌<◌, ◌≤◌, ◌↔◌, ◌⊎◌, ℕ, All, List, [], Err, IsTrue, IfOk, IfErr, OnOk, OnErr, Some, length, slice_get};
-ghost use Rattle.std.specs.BTreeMap.{is_at};
+ghost use Rattle.std.specs.Prelude.{◌≡◌, ◌≢◌, ◌+◌, ◌-◌, ◌^◌, ◌<◌, ◌≤◌, ◌↔◌, ◌⊎◌, ℕ, All, List, [], Err, IsTrue, IfOk, IfErr, OnOk, OnErr, Some, length, None, slice_get};
+ghost use Rattle.std.specs.BTreeMap.{get, is_at};
 ghost use Rattle.std.specs.Map.{lookup, keys_of};
 ghost use Rattle.std.specs.List.Sorted.{IsStrictlySortedBy};
 ghost use Rattle.fkv_records.specs.Places.{page_at, start_at};
 ghost use Rattle.fkv_device.specs.Standing.{Standing};
 ghost use Rattle.fkv_pages.specs.Spelled.{IsPageOf};
-ghost use Rattle.fkv_hybrid.specs.Scans.{IsScanRefusal};
+ghost use Rattle.fkv_functions.specs.Plain.{Same};
+ghost use Rattle.fkv_hybrid.specs.Scans.{IsScanRefusal, MayFail};
+ghost use Rattle.fkv_lookups.specs.Overlays.{with_text, HasFront};
 ghost use Rattle.fkv_partition.specs.Views.{live_of, partition_of};
 ghost use Rattle.fkv_partition.specs.Looking.{Shifts, Evicts};
 ghost use Rattle.fkv_partition.specs.Flushing.{Flushes};
@@ -22,6 +24,7 @@ use fkv_lookups::clearing::cleared_stay;
 use fkv_partition::bearing::{events_bear, seats_stay};
 use fkv_records::Address;
 use std::alloc::Global;
+use std::collections::BTreeMap;
 
 impl<F: Functions, D: Disk> Compacted<F, D> {
     /// Moves the read-only offset to the start of a page, as [`fkv_partition::Partition::shift_read_only`] does, whose
@@ -176,7 +179,38 @@ impl<F: Functions, D: Disk> Compacted<F, D> {
             (page_at self.now.partition.records.page_bits self.now.partition.records.begin)
             (length self.now.partition.records.receipts) (D.Reader.failures reader.old)
             (D.Reader.failures reader.new)) }
+        ensures caused { IsTrue D.keeps → IfErr result (λ e. e ≢ Refused.NoMemory → (page : ℕ)
+            × MayFail D.Receipt.stands D.Reader.can_fail self.now.partition.records.receipts
+            self.now.partition.records.page_bits page) }
     {
         self.partition.live(alloc, reader)
+    }
+
+    /// Puts the live map into a map, as [`fkv_partition::Partition::put_live`] does, whose refusals it has.
+    pub fn put_live(
+        &self,
+        alloc: Global,
+        reader: &mut D::Reader,
+        map: &mut BTreeMap<F::Key, F::Value>,
+    ) -> Result<(), Refused>
+        ensures map { IsTrue D.keeps → OnOk result (Same (get F.Key.cmp map.new)
+            (with_text F.Key.cmp (get F.Key.cmp map.old) self.now.partition.records.text)) }
+        ensures live { IsTrue D.keeps → OnOk result ((k : F.Key) → get F.Key.cmp map.old k ≡ None
+            → get F.Key.cmp map.new k ≡ live_of F.Key.cmp self.now.partition k) }
+        ensures others { IsTrue D.keeps → OnOk result ((k : F.Key)
+            → partition_of self.now.partition.count (F.code k) ≢ self.now.partition.number
+            → get F.Key.cmp map.new k ≡ get F.Key.cmp map.old k) }
+        ensures err { IsTrue D.keeps → OnErr result
+            (HasFront F.Key.cmp (get F.Key.cmp map.old) (get F.Key.cmp map.new) self.now.partition.records.text) }
+        ensures steady { OnOk result (D.Reader.failures reader.new ≡ D.Reader.failures reader.old) }
+        ensures refused { IfErr result (IsScanRefusal D.keeps
+            (page_at self.now.partition.records.page_bits self.now.partition.records.begin)
+            (length self.now.partition.records.receipts) (D.Reader.failures reader.old)
+            (D.Reader.failures reader.new)) }
+        ensures caused { IsTrue D.keeps → IfErr result (λ e. e ≢ Refused.NoMemory → (page : ℕ)
+            × MayFail D.Receipt.stands D.Reader.can_fail self.now.partition.records.receipts
+            self.now.partition.records.page_bits page) }
+    {
+        self.partition.put_live(alloc, reader, map)
     }
 }

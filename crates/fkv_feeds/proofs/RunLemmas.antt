@@ -13,6 +13,7 @@ use Rattle.fkv_functions.specs.Plain.{PlainMap, Same, with_at, IsKeyOrder}
 use Rattle.fkv_functions.specs.declared.refusals.Refused.{Refused}
 use Rattle.fkv_functions.proofs.ListLemmas.{get-append_cases, get-set_cases}
 use Rattle.fkv_operations.specs.AfterLaws.{same_map}
+use Rattle.fkv_operations.specs.declared.operations.Op.TheVariants.{Rmw}
 use Rattle.fkv_partition.specs.declared.limits.Config.{Config}
 use Rattle.fkv_partition.specs.declared.contexts.Context.{Context}
 use Rattle.fkv_partition.specs.Beginning.{Enters}
@@ -20,9 +21,9 @@ use Rattle.fkv_partition.specs.Contexts.{joined, is_session, context_in}
 use Rattle.fkv_partition.specs.Views.{PartitionView, slots_of, context_at, live_of, partition_of, empty_partition}
 use Rattle.fkv_feeds.specs.Tables.{amounts_of, folded}
 use Rattle.fkv_feeds.specs.Seats.{IsIdle}
-use Rattle.fkv_feeds.specs.Unions.{live_at, union_of}
+use Rattle.fkv_partition.specs.Unions.{live_at, union_of}
 use Rattle.fkv_feeds.specs.Runs.{IsSeatedIn, AreNew, StandFor}
-use Rattle.fkv_feeds.proofs.UnionLemmas.{union-updated, is_at-turned}
+use Rattle.fkv_partition.proofs.UnionLemmas.{live-after, is_at-turned}
 
 -- ---- a partition with nothing in it but a session
 nothing-entered : (n slot : ℕ) → is_session (replicate n None) slot ≡ false
@@ -151,7 +152,7 @@ module _ {K V I O : Type 0} (keeps : Bool) (cmp : K → K → Ordering) (order :
       ];
     };
     denotes = λ kept. (let maps : union_of cmp code views ≡ (λ q. folded f q (amounts_of cmp q rows)) = same_map (union_of cmp code views) (λ q. folded f q (amounts_of cmp q rows)) (stand.denotes kept) in
-        λ q. union-updated cmp order f code views p old new here k i own (done kept) q
+        λ q. live-after cmp order f code views p old new here (Rmw k i) own (done kept) q
         ∙ ap (λ (m : PlainMap K V). with_at cmp m k (Some (updated f k i (m k))) q) maps
         ∙ table-more cmp order f rows k i q);
   }

@@ -3,5 +3,4 @@ pub mod Writing
 pub mod Refusing
 pub mod Faults
 pub mod Seats
-pub mod Unions
 pub mod Runs

@@ -7,7 +7,7 @@ use Rattle.fkv_partition.specs.declared.limits.Config.{Config}
 use Rattle.fkv_partition.specs.Views.{PartitionView, live_of}
 use Rattle.fkv_feeds.specs.Tables.{amounts_of, folded}
 use Rattle.fkv_feeds.specs.Seats.{IsIdle}
-use Rattle.fkv_feeds.specs.Unions.{union_of}
+use Rattle.fkv_partition.specs.Unions.{union_of}
 
 -- a partition of this number with nothing in it but a session, of slot 0
 pub record IsSeatedIn {K V I : Type 0} (cmp : K → K → Ordering) (config : Config) (number : ℕ) (v : PartitionView K V I)

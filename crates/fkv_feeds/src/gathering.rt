@@ -1,17 +1,14 @@
 //! The table of a store: the live maps of its partitions as one.
 ghost use Rattle.std.specs.Prelude.{◌≡◌, ◌<◌, ◌⊎◌, ℕ, [], length, map, IsTrue, IfOk, IfErr, OnOk};
-ghost use Rattle.std.specs.BTreeMap.{get, is_at};
-ghost use Rattle.std.specs.Map.{lookup, keys_of};
-ghost use Rattle.std.specs.List.Sorted.{IsStrictlySortedBy};
+ghost use Rattle.std.specs.BTreeMap.{get};
 ghost use Rattle.fkv_functions.specs.Plain.{Same};
 ghost use Rattle.fkv_hybrid.specs.Scans.{IsScanRefusal};
 ghost use Rattle.fkv_feeds.specs.Runs.{AreIdle};
-ghost use Rattle.fkv_feeds.specs.Unions.{union_of};
+ghost use Rattle.fkv_partition.specs.Unions.{union_of};
 
 use crate::shards::Shard;
 use fkv_device::Disk;
 use fkv_functions::{Functions, Refused};
-use fkv_partition::pairs_of;
 use std::alloc::Global;
 use std::collections::BTreeMap;
 
@@ -41,27 +38,22 @@ fn gather<F: Functions, D: Disk>(
     Ok(())
 }
 
-/// Each live key of all partitions with its value, keys rising. Refused: `NoMemory`, and as a device refuses pages of a
-/// partition.
+/// Each live key of all partitions with its value. Refused: `NoMemory`, and as a device refuses pages of a partition.
 pub fn live<F: Functions, D: Disk>(
     alloc: Global,
     shards: &mut [Shard<F, D>],
-) -> Result<Vec<(F::Key, F::Value)>, Refused>
+) -> Result<BTreeMap<F::Key, F::Value>, Refused>
     requires some { 0 < length shards.old }
     requires numbered { (slot : ℕ) × (now : ℕ) × AreIdle (map (λ shard. shard.partition) shards.old) slot now }
-    ensures map { IsTrue D.keeps → IfOk result (λ pairs. (k : F.Key) → lookup (is_at (F.Key.cmp k)) pairs.items
-        ≡ union_of F.Key.cmp F.code (map (λ shard. shard.partition) shards.old) k) }
-    ensures rising { IfOk result (λ pairs. IsStrictlySortedBy F.Key.cmp (keys_of pairs.items)) }
+    ensures map { IsTrue D.keeps → IfOk result (λ live. Same (get F.Key.cmp live)
+        (union_of F.Key.cmp F.code (map (λ shard. shard.partition) shards.old))) }
     ensures told { IfErr result (λ why. (why ≡ Refused.NoMemory)
         ⊎ ((low : ℕ) × (flushed : ℕ) × (old : D.Reader) × (new : D.Reader)
         × IsScanRefusal D.keeps low flushed (D.Reader.failures old) (D.Reader.failures new) why)) }
 {
     let mut tree = BTreeMap::new(alloc);
     match gather(alloc, &mut tree, shards) {
-        Ok(()) => {
-            let _ordered = tree.len();
-            pairs_of(alloc, &tree)
-        }
+        Ok(()) => Ok(tree),
         Err(refused) => Err(refused),
     }
 }

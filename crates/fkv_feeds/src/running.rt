@@ -45,7 +45,7 @@ fn table_in<F: Functions<Key = Name, Input = i64>, D: Disk>(
         × IsScanRefusal D.keeps low flushed (D.Reader.failures old) (D.Reader.failures new) why)) }
 {
     match live(alloc, shards.shards.as_mut_slice()) {
-        Ok(pairs) => Ok(Table::new(pairs)),
+        Ok(live) => Ok(Table::new(live)),
         Err(refused) => Err(refused),
     }
 }

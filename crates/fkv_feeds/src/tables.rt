@@ -5,12 +5,13 @@ ghost use Rattle.std.specs.List.Sorted.{IsStrictlySortedBy};
 ghost use Rattle.fkv_functions.specs.Names.{name_cmp};
 
 use fkv_functions::Name;
+use std::collections::BTreeMap;
 use std::marker::Model;
 
 /// Keys with their values, keys rising. A contract sees the list of the pairs.
 #[derive(Drop)]
 pub struct Table<V> {
-    pairs: Vec<(Name, V)>,
+    map: BTreeMap<Name, V>,
 }
 
 impl<V> Model for Table<V> {
@@ -22,24 +23,25 @@ impl<V> Model for Table<V> {
 
     ghost Value = { List (Name × V) };
 
-    ghost view = { λ t. t.pairs.items };
+    ghost view = { λ t. t.map.entries };
 
-    ghost invariant = { λ t. IsStrictlySortedBy name_cmp (keys_of t.pairs.items) };
+    ghost invariant = { λ t. IsStrictlySortedBy name_cmp (keys_of t.map.entries) };
 }
 
 impl<V> Table<V> {
-    /// The table of these pairs, whose keys rise.
-    pub fn new(pairs: Vec<(Name, V)>) -> Table<V>
-        requires { IsStrictlySortedBy name_cmp (keys_of pairs.items) }
-        ensures { result ≡ pairs.items }
+    /// The table of a map's pairs.
+    pub fn new(map: BTreeMap<Name, V>) -> Table<V>
+        ensures pairs { result ≡ map.entries }
+        ensures rising { IsStrictlySortedBy name_cmp (keys_of map.entries) }
     {
-        Table { pairs }
+        let _rising = map.len();
+        Table { map }
     }
 
-    /// The pairs, keys rising.
-    pub fn pairs(&self) -> &[(Name, V)]
-        ensures { result.now ≡ self.now }
+    /// The pairs as a map, keys rising.
+    pub fn map(&self) -> &BTreeMap<Name, V>
+        ensures { result.now.entries ≡ self.now }
     {
-        self.pairs.as_slice()
+        &self.map
     }
 }

@@ -11,10 +11,11 @@ use fkv_functions::{Name, Refused};
 use fkv_streams::{Sink, write_out};
 use itoa::{Buffer, Integer};
 use std::alloc::Global;
+use std::collections::BTreeMap;
 
 /// The text of a table's pairs. Refused: `NoMemory`.
-fn text_of<V: Integer>(alloc: Global, pairs: &[(Name, V)]) -> Result<Vec<u8>, Refused>
-    ensures ok { IfOk result (λ text. text.items ≡ table_text V.text pairs.now) }
+fn text_of<V: Integer>(alloc: Global, pairs: &BTreeMap<Name, V>) -> Result<Vec<u8>, Refused>
+    ensures ok { IfOk result (λ text. text.items ≡ table_text V.text pairs.now.entries) }
     ensures only { IfErr result (λ refused. refused ≡ Refused.NoMemory) }
 {
     let mut writer = WriterBuilder::new().from_writer(Vec::new(alloc));
@@ -54,7 +55,7 @@ pub fn write_table<V: Integer, W: Sink>(
     ensures out { OnOk result (W.is_out writer.new ≡ true) }
     ensures counted { CountsOnly Refused.Unwritable result (W.failures writer.old) (W.failures writer.new) }
 {
-    match text_of(alloc, table.pairs()) {
+    match text_of(alloc, table.map()) {
         Ok(text) => write_out(writer, text.as_slice()),
         Err(refused) => Err(refused),
     }

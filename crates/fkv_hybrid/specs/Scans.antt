@@ -1,5 +1,5 @@
 -- What a scan has of a log, and why it is refused.
-use Rattle.std.specs.Prelude.{◌≡◌, ◌^◌, ◌<◌, ◌≤◌, ◌⊎◌, ℕ, Bool, IsTrue, Option, IfSome, IsSomeAnd}
+use Rattle.std.specs.Prelude.{◌≡◌, ◌^◌, ◌<◌, ◌≤◌, ◌⊎◌, ℕ, Bool, IsTrue, List, Option, IfSome, IsSomeAnd}
 use Rattle.fkv_functions.specs.declared.refusals.Refused.{Refused}
 use Rattle.fkv_functions.specs.declared.refusals.Refused.TheVariants.{Damaged, NoMemory}
 use Rattle.fkv_records.specs.Places.{IsPlace}
@@ -22,6 +22,15 @@ pub record IsScanOf {K V : Type 0} (size : ℕ) (log : LogView K V) (scan : Scan
 -- a scan has this page
 abbrev pub HasPage : ScanView → ℕ → Type 0
 HasPage scan page = IsSomeAnd scan.loaded (λ s. s.page ≡ page)
+
+-- a read of a flushed page may fail, by what its device says of the receipt that is kept of it and of a buffer as long as
+-- the page
+pub record MayFail {R : Type 0} (stands : R → Standing) (can_fail : R → ℕ → Type 0) (receipts : List Standing)
+    (bits page : ℕ) : Type 0 where
+  pub receipt : R
+  pub own : IsHeldBy receipts page (stands receipt)
+  pub long : (stands receipt).length ≡ 2 ^ bits
+  pub fails : can_fail receipt (2 ^ bits)
 
 -- why the entry of a flushed page is not read: the device refuses the page, and has counted a fault that it tells of; or
 -- the page's bytes spell no record there, which no keeping device comes to and none counts

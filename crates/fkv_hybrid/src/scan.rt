@@ -2,14 +2,14 @@
 //!
 //! Entries of flushed pages are read by their receipts, each page once; the others from their frames. So on a device that
 //! keeps what it is given, what a scan reads is the log's text.
-ghost use Rattle.std.specs.Prelude.{◌≡◌, ◌<◌, ◌≤◌, IsTrue, IsOk, IsSomeAnd, IfOk, IfErr, IfSome, OnOk, OnErr, Ok, length};
+ghost use Rattle.std.specs.Prelude.{◌≡◌, ◌≢◌, ◌<◌, ◌≤◌, IsTrue, IsOk, IsSomeAnd, IfOk, IfErr, IfSome, OnOk, OnErr, Ok, length};
 ghost use Rattle.fkv_records.specs.Places.{page_at};
 ghost use Rattle.fkv_records.specs.Records.{size_of};
 ghost use Rattle.fkv_device.specs.Failing.{ReadFailsBy};
 ghost use Rattle.fkv_texts.specs.Places.{tail_after};
 ghost use Rattle.fkv_texts.specs.Text.{entry_at};
 ghost use Rattle.fkv_pages.specs.Loads.{IsHeldBy};
-ghost use Rattle.fkv_hybrid.specs.Scans.{IsScanOf, HasPage, IsStepRefusal};
+ghost use Rattle.fkv_hybrid.specs.Scans.{IsScanOf, HasPage, MayFail, IsStepRefusal};
 
 use crate::log::Log;
 use fkv_device::{Disk, Loaded, Receipt};
@@ -87,6 +87,9 @@ impl<K: Fixed, V: Fixed, D: Disk> Log<K, V, D> {
         ensures steady { OnOk result (D.Reader.failures reader.new ≡ D.Reader.failures reader.old) }
         ensures refused { IfErr result (IsStepRefusal D.keeps (page_at self.now.bits scan.old.address)
             (D.Reader.failures reader.old) (D.Reader.failures reader.new)) }
+        ensures caused { IsTrue D.keeps → IfErr result (λ e. e ≢ Refused.NoMemory
+            → MayFail D.Receipt.stands D.Reader.can_fail self.now.receipts self.now.bits
+            (page_at self.now.bits scan.old.address)) }
     {
         self.known();
         let address = scan.address;
@@ -127,6 +130,8 @@ impl<K: Fixed, V: Fixed, D: Disk> Log<K, V, D> {
         ensures steady { OnOk result (D.Reader.failures reader.new ≡ D.Reader.failures reader.old) }
         ensures counted { IfErr result (ReadFailsBy page (D.Reader.failures reader.old)
             (D.Reader.failures reader.new)) }
+        ensures caused { IfErr result (λ e. e ≢ Refused.NoMemory
+            → MayFail D.Receipt.stands D.Reader.can_fail self.now.receipts self.now.bits page) }
     {
         match held {
             None => self.load(alloc, reader, page),
@@ -148,6 +153,8 @@ impl<K: Fixed, V: Fixed, D: Disk> Log<K, V, D> {
         ensures steady { OnOk result (D.Reader.failures reader.new ≡ D.Reader.failures reader.old) }
         ensures counted { IfErr result (ReadFailsBy page (D.Reader.failures reader.old)
             (D.Reader.failures reader.new)) }
+        ensures caused { IfErr result (λ e. e ≢ Refused.NoMemory
+            → MayFail D.Receipt.stands D.Reader.can_fail self.now.receipts self.now.bits page) }
     {
         self.known();
         let receipt = match self.receipt(page) {

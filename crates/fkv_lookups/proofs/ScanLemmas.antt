@@ -6,7 +6,7 @@ use Rattle.fkv_texts.specs.declared.entries.Entry.{Entry}
 use Rattle.fkv_texts.specs.Places.{IsLaidOut, tail_after}
 use Rattle.fkv_texts.specs.Text.{entry_at, has_key, last_of, IsRising}
 use Rattle.fkv_texts.proofs.TextLemmas.{entry_at-in, last_of-append}
-use Rattle.fkv_lookups.specs.Overlays.{said_over, with_text}
+use Rattle.fkv_lookups.specs.Overlays.{said_over, with_text, HasFront}
 
 -- the entries below an address are done: the map is the first one with what they say
 pub record IsScanned {K V : Type 0} (cmp : K → K → Ordering) (first : PlainMap K V) (bits size tail : ℕ) (text : List (Entry K V)) (address : ℕ) (map : PlainMap K V) : Type 0 where
@@ -36,6 +36,13 @@ module _ {K V : Type 0} (cmp : K → K → Ordering) (first : PlainMap K V) (bit
 
   pub ended : tail ≤ address → Same map (with_text cmp first text)
   ended high = ended-by s.done s.rest s.whole s.laid_out s.said high
+
+  -- wherever it stops, the map has the entries below
+  pub has_front : HasFront cmp first map text
+  has_front = record { done = s.done; rest = s.rest; whole = s.whole; said = s.said }
+
+  pub front_stays : (after : PlainMap K V) → Same after map → HasFront cmp first after text
+  front_stays after same = record { done = s.done; rest = s.rest; whole = s.whole; said = λ q. same q ∙ s.said q }
 
   -- below it the next entry stands at the address
   record IsNext (e : Entry K V) : Type 0 where

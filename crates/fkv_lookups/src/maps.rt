@@ -1,12 +1,12 @@
 //! Ordered maps, changed as plain maps are.
-ghost use Rattle.std.specs.Prelude.{◌≡◌, IfErr, OnOk};
+ghost use Rattle.std.specs.Prelude.{◌≡◌, IfErr, OnOk, OnErr};
 ghost use Rattle.std.specs.BTreeMap.{get};
 ghost use Rattle.fkv_functions.specs.Plain.{Same, with_at};
 
 use fkv_functions::{Fixed, Refused};
 use std::collections::BTreeMap;
 
-/// Gives a key this value, or none. Refused: `NoMemory`.
+/// Gives a key this value, or none. Refused, and then the map stays: `NoMemory`.
 pub(crate) fn put<K: Fixed + Ord, V: Fixed>(
     map: &mut BTreeMap<K, V>,
     key: K,
@@ -14,6 +14,7 @@ pub(crate) fn put<K: Fixed + Ord, V: Fixed>(
 ) -> Result<(), Refused>
     ensures ok { OnOk result (Same (get K.cmp map.new) (with_at K.cmp (get K.cmp map.old) key value)) }
     ensures only { IfErr result (λ refused. refused ≡ Refused.NoMemory) }
+    ensures err { OnErr result (Same (get K.cmp map.new) (get K.cmp map.old)) }
 {
     match value {
         None => {

@@ -10,6 +10,7 @@ pub mod PendingLemmas
 pub mod StayLemmas
 pub mod FindsLemmas
 pub mod ListingLemmas
+pub mod UnionLemmas
 pub mod TruncateLemmas
 pub mod BearLemmas
 pub mod SeatLemmas

@@ -1,6 +1,7 @@
 pub mod Limits
 pub mod Contexts
 pub mod Views
+pub mod Unions
 pub mod Inside
 pub mod Writes
 pub mod Effect

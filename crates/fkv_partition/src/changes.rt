@@ -17,7 +17,7 @@ ghost use Rattle.fkv_partition.specs.Sound.{StandsFor};
 ghost use Rattle.fkv_partition.specs.Beginning.{IsEntered};
 ghost use Rattle.fkv_partition.specs.Writes.{IsWrite};
 
-use crate::contexts::{Context, ContextOf, Phase, in_phase, set_context};
+use crate::contexts::{Context, ContextOf, Phase, move_on, set_context};
 use crate::partitions::Partition;
 use fkv_device::Disk;
 use fkv_functions::{Functions, Refused};
@@ -92,8 +92,7 @@ impl<F: Functions, D: Disk> Partition<F, D> {
         ensures { self.new ≡ with_context self.old slot context (Some (at_phase operation.now phase)) now }
     {
         self.moment = now;
-        let moved = in_phase(operation, phase);
-        set_context(&mut self.contexts, slot, context, Some(moved));
+        move_on(&mut self.contexts, slot, context, operation, phase);
     }
 
     /// Frees the slot of a session that has no open operation, and moves the offsets that are due then.
@@ -172,8 +171,8 @@ impl<F: Functions, D: Disk> Partition<F, D> {
         };
         self.records.known();
         self.moment = now;
-        let waiting = in_phase(operation, Phase::Confirm { place });
-        set_context(&mut self.contexts, slot, context, Some(waiting));
+        let waiting = Phase::Confirm { place };
+        move_on(&mut self.contexts, slot, context, operation, waiting);
         Ok(())
     }
 
@@ -202,8 +201,7 @@ impl<F: Functions, D: Disk> Partition<F, D> {
         let is_final = self.records.confirm(place);
         self.records.known();
         self.moment = now;
-        let fresh = in_phase(operation, Phase::Fresh);
-        set_context(&mut self.contexts, slot, context, Some(fresh));
+        move_on(&mut self.contexts, slot, context, operation, Phase::Fresh);
         is_final
     }
 

@@ -88,20 +88,6 @@ pub type ProgressOf<F, D> = Progress<
     <D as Disk>::Receipt,
 >;
 
-/// An operation in another phase.
-pub fn in_phase<K: Copy, V: Copy, I: Copy>(
-    operation: &Context<K, V, I>,
-    phase: Phase<V>,
-) -> Context<K, V, I>
-    ensures { result ≡ at_phase operation.now phase }
-{
-    Context {
-        number: operation.number,
-        op: operation.op,
-        phase,
-    }
-}
-
 /// What stands in a context of a session: the operation that is open there, for one.
 pub fn open_at<T: Copy>(contexts: &[Option<T>], slot: usize, context: usize) -> Option<T>
     requires session { slot < 16 }
@@ -159,6 +145,25 @@ pub fn set_context<T: Copy>(
     ensures { contexts.new.items ≡ slice_set contexts.old.items (slot * 8 + context) operation }
 {
     contexts[slot * CONTEXTS + context] = operation;
+}
+
+/// Moves the operation that is open in a context to another phase, where it stands.
+pub fn move_on<K: Copy, V: Copy, I: Copy>(
+    contexts: &mut Vec<Option<Context<K, V, I>>>,
+    slot: usize,
+    context: usize,
+    _operation: &Context<K, V, I>,
+    phase: Phase<V>,
+)
+    requires session { slot < 16 }
+    requires context { context < 8 }
+    requires here { slice_get contexts.old.items (slot * 8 + context) ≡ Some (Some _operation.now) }
+    ensures { contexts.new.items
+        ≡ slice_set contexts.old.items (slot * 8 + context) (Some (at_phase _operation.now phase)) }
+{
+    if let Some(open) = &mut contexts[slot * CONTEXTS + context] {
+        open.phase = phase;
+    }
 }
 
 /// The place of the tentative entry that an operation made, and waits to confirm.

@@ -1,12 +1,12 @@
 //! The live map of a partition as a list.
-ghost use Rattle.std.specs.Prelude.{◌≡◌, ◌≢◌, All, IsTrue, IfOk, IfErr, OnOk, None, length};
+ghost use Rattle.std.specs.Prelude.{◌≡◌, ◌≢◌, ℕ, All, IsTrue, IfOk, IfErr, OnOk, OnErr, None, length};
 ghost use Rattle.std.specs.BTreeMap.{get, is_at};
 ghost use Rattle.std.specs.Map.{lookup, keys_of};
 ghost use Rattle.std.specs.List.Sorted.{IsStrictlySortedBy};
 ghost use Rattle.fkv_functions.specs.Plain.{Same};
 ghost use Rattle.fkv_records.specs.Places.{page_at};
-ghost use Rattle.fkv_hybrid.specs.Scans.{IsScanRefusal};
-ghost use Rattle.fkv_lookups.specs.Overlays.{with_text};
+ghost use Rattle.fkv_hybrid.specs.Scans.{IsScanRefusal, MayFail};
+ghost use Rattle.fkv_lookups.specs.Overlays.{with_text, HasFront};
 ghost use Rattle.fkv_partition.specs.Views.{live_of, partition_of};
 
 use crate::partitions::Partition;
@@ -36,7 +36,8 @@ impl<F: Functions, D: Disk> Partition<F, D> {
     /// Puts the live map into a map: each key that has a record gets its value there, none where it is gone, and the others
     /// stay. Flushed pages are read from the device, each once, the others from their frames. On a device that keeps all
     /// keys with a record belong to this partition. Refused: `NoMemory`, or as the device refuses a flushed page; `Damaged`
-    /// where a page's bytes spell no record at a place. What the map holds after a refusal is not told.
+    /// where a page's bytes spell no record at a place; on a device that keeps, the map then has what the first of the records
+    /// say.
     pub fn put_live(
         &self,
         alloc: Global,
@@ -52,9 +53,13 @@ impl<F: Functions, D: Disk> Partition<F, D> {
         ensures others { IsTrue D.keeps → OnOk result ((k : F.Key)
             → partition_of self.now.count (F.code k) ≢ self.now.number
             → get F.Key.cmp map.new k ≡ get F.Key.cmp map.old k) }
+        ensures err { IsTrue D.keeps → OnErr result
+            (HasFront F.Key.cmp (get F.Key.cmp map.old) (get F.Key.cmp map.new) self.now.records.text) }
         ensures steady { OnOk result (D.Reader.failures reader.new ≡ D.Reader.failures reader.old) }
         ensures refused { IfErr result (IsScanRefusal D.keeps (page_at self.now.records.page_bits self.now.records.begin)
             (length self.now.records.receipts) (D.Reader.failures reader.old) (D.Reader.failures reader.new)) }
+        ensures caused { IsTrue D.keeps → IfErr result (λ e. e ≢ Refused.NoMemory → (page : ℕ)
+            × MayFail D.Receipt.stands D.Reader.can_fail self.now.records.receipts self.now.records.page_bits page) }
     {
         self.records.put_live(alloc, reader, map)
     }
@@ -74,6 +79,8 @@ impl<F: Functions, D: Disk> Partition<F, D> {
         ensures steady { OnOk result (D.Reader.failures reader.new ≡ D.Reader.failures reader.old) }
         ensures refused { IfErr result (IsScanRefusal D.keeps (page_at self.now.records.page_bits self.now.records.begin)
             (length self.now.records.receipts) (D.Reader.failures reader.old) (D.Reader.failures reader.new)) }
+        ensures caused { IsTrue D.keeps → IfErr result (λ e. e ≢ Refused.NoMemory → (page : ℕ)
+            × MayFail D.Receipt.stands D.Reader.can_fail self.now.records.receipts self.now.records.page_bits page) }
     {
         let mut map = BTreeMap::new(alloc);
         match self.records.put_live(alloc, reader, &mut map) {

@@ -29,7 +29,7 @@ use Rattle.fkv_functions.specs.Names.{name_cmp}
 use Rattle.fkv_partition.specs.declared.limits.Config.{Config}
 use Rattle.fkv_worlds.specs.States.{WorldView, bare, empty_world}
 use Rattle.fkv_worlds.specs.Headline.{IsHeadline}
-use Rattle.fkv_worlds.specs.Worlds.{world_live}
+use Rattle.fkv_partition.specs.Unions.{union_of}
 use Rattle.fkv_worlds.proofs.HistoryLemmas.{issued-runs}
 use Rattle.fkv_steps.specs.Printing.{steps_text, map_text}
 use Rattle.fkv_steps.specs.Running.{context_in, is_page, op_of, FollowsIssue, FollowsTake, finishes, writes, RunsLine, RunLines, IsPrintedBy}
@@ -253,7 +253,7 @@ module _ {V O R : Type 0} (stands : R → Standing) (entry : ℕ → List ℕ �
       → v ≡ empty_world config size
       → RunLines stands entry name_cmp f code written v lines told w
       → IsHeadline name_cmp f code w
-      → ((k : Name) → lookup (is_at (name_cmp k)) pairs ≡ world_live name_cmp code (bare w.state.partitions) k)
+      → ((k : Name) → lookup (is_at (name_cmp k)) pairs ≡ union_of name_cmp code (bare w.state.partitions) k)
       → IsStrictlySortedBy name_cmp (keys_of pairs)
       → text ≡ steps_text value shown told ++ map_text value pairs
       → IsPrintedBy stands entry name_cmp f code written value shown config size lines text

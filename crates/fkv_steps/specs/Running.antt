@@ -35,7 +35,7 @@ use Rattle.fkv_scripts.specs.Script.{lines_of, SaysScript}
 use Rattle.fkv_worlds.specs.States.{WorldView, bare, empty_world}
 use Rattle.fkv_lives.specs.Histories.{backwards, issues_in, issue_of, answers_in}
 use Rattle.fkv_worlds.specs.Headline.{IsHeadline}
-use Rattle.fkv_worlds.specs.Worlds.{world_live}
+use Rattle.fkv_partition.specs.Unions.{union_of}
 use Rattle.fkv_worlds.specs.Reports.{IsKept, RunsTo, Pursues, first_step}
 use Rattle.fkv_steps.specs.Bytes.{standing_of, IsNamedEntry}
 use Rattle.fkv_steps.specs.Printing.{steps_text, map_text}
@@ -166,7 +166,7 @@ pub record IsPrintedBy {V O R : Type 0} (stands : R → Standing) (entry : ℕ �
   pub stepped : RunsTo stands entry cmp f code (empty_world config record_size) steps world
   pub issued : map issue_of world.state.lives ≡ issues_in (backwards steps world.outcomes [])
   pub answers : answers_in told ≡ answers_in world.outcomes
-  pub map : (k : Name) → lookup (is_at (cmp k)) pairs ≡ world_live cmp code (bare world.state.partitions) k
+  pub map : (k : Name) → lookup (is_at (cmp k)) pairs ≡ union_of cmp code (bare world.state.partitions) k
   pub rising : IsStrictlySortedBy cmp (keys_of pairs)
   pub printed : text ≡ steps_text value shown told ++ map_text value pairs
 

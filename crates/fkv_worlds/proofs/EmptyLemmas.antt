@@ -18,7 +18,8 @@ use Rattle.fkv_compaction.specs.Views.{CompactedView, empty_compacted}
 use Rattle.fkv_worlds.specs.States.{bare, empty_partitions, empty_state}
 use Rattle.fkv_partition.specs.Pending.{Pending}
 use Rattle.fkv_lives.specs.declared.steps.Place.{Place}
-use Rattle.fkv_worlds.specs.Worlds.{live_at, asked_at, pending_in}
+use Rattle.fkv_partition.specs.Unions.{live_at}
+use Rattle.fkv_worlds.specs.Worlds.{asked_at, pending_in}
 use Rattle.fkv_worlds.proofs.HeldLemmas.{waiting-at}
 use Rattle.fkv_worlds.specs.Sound.{IsState}
 

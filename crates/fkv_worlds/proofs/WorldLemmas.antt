@@ -23,10 +23,12 @@ use Rattle.fkv_lives.specs.declared.lives.Finish.{Finish}
 use Rattle.fkv_lives.specs.Lives.{finish_of, finish_in, map_before}
 use Rattle.fkv_lives.specs.Changes.{ended_at}
 use Rattle.fkv_lives.specs.declared.steps.Place.{Place}
-use Rattle.fkv_worlds.specs.Worlds.{world_live, asked_in, pending_in, IsOpenLife, IsLinked, IsHoused, IsHeld, IsWorld}
+use Rattle.fkv_partition.specs.Unions.{union_of}
+use Rattle.fkv_partition.proofs.UnionLemmas.{live-here, live-quiet, live-after, answer-here}
+use Rattle.fkv_worlds.specs.Worlds.{asked_in, pending_in, IsOpenLife, IsLinked, IsHoused, IsHeld, IsWorld}
 use Rattle.fkv_worlds.proofs.LivesLemmas.{append_cases, append_old, ended_cases, ended_other}
 use Rattle.fkv_worlds.proofs.PlacedLemmas.{placed-quiet, map-quiet, same_append, placed-append, map-append, same_ended, placed-ended, map-ended, same_now, placed-now, map-now, same_before, placed-before, map-before}
-use Rattle.fkv_worlds.proofs.ManyLemmas.{live-here, live-quiet, live-after, answer-here, asked-here, asked-was, asked-others, asked-all}
+use Rattle.fkv_worlds.proofs.ManyLemmas.{asked-here, asked-was, asked-others, asked-all}
 use Rattle.fkv_worlds.proofs.HeldLemmas.{same_where, closed-none, waiting-at, pend-here, pend-was, pend-others, pend-all, pend-sub, pend-same, pend-rest, held-on, held-same, held-sub, held-more}
 
 -- a life that stands in a longer list, or beside one that ends
@@ -34,8 +36,8 @@ open-append : {K V I O : Type 0} (lives : List (Life K V I O)) (y : Life K V I O
 open-append lives y j x l = record { life = l.life; here = append_old lives y j l.life l.here; op = l.op; issue = l.issue; unended = l.unended }
 
 module _ {K V I O : Type 0} (cmp : K → K → Ordering) (o : IsKeyOrder cmp) (f : Meanings K V I O) (code : K → ℕ) (views : List (PartitionView K V I)) (life_at : Place → ℕ) (lives : List (Life K V I O)) (now next : ℕ) (e : next ≡ suc now) (world : IsWorld cmp f code views life_at lives now) where
-  live-then : world_live cmp code views ≡ map_before cmp f lives (suc now)
-  live-then = same_map (world_live cmp code views) (map_before cmp f lives (suc now)) world.denotes
+  live-then : union_of cmp code views ≡ map_before cmp f lives (suc now)
+  live-then = same_map (union_of cmp code views) (map_before cmp f lives (suc now)) world.denotes
 
   module _ (p : ℕ) (old new : PartitionView K V I) (here : slice_get views p ≡ Some old) (number : new.number ≡ old.number) (count : new.count ≡ old.count) (moment : new.moment ≡ next) where
     -- the partitions stay where they are

@@ -5,7 +5,6 @@ use Rattle.std.specs.BTreeMap.{is_at}
 use Rattle.std.specs.Map.{lookup, keys_of}
 use Rattle.std.specs.List.Sorted.{IsStrictlySortedBy}
 use Rattle.fkv_functions.specs.Meanings.{Meanings}
-use Rattle.fkv_functions.specs.Plain.{PlainMap, with_at}
 use Rattle.fkv_functions.specs.declared.refusals.Refused.{Refused}
 use Rattle.fkv_functions.specs.declared.refusals.Refused.TheVariants.{Stalled, NoMemory}
 use Rattle.fkv_texts.specs.declared.entries.Entry.{Entry}
@@ -24,22 +23,17 @@ use Rattle.fkv_lives.specs.declared.steps.Step.TheVariants as step
 use Rattle.fkv_worlds.specs.declared.pursuits.Pursuit.{Pursuit}
 use Rattle.fkv_worlds.specs.declared.pursuits.Pursuit.TheVariants.{Ready, Finish}
 use Rattle.fkv_worlds.specs.States.{WorldView, bare, empty_world}
-use Rattle.fkv_worlds.specs.Worlds.{world_live}
+use Rattle.fkv_partition.specs.Unions.{union_of}
 use Rattle.fkv_worlds.specs.Acts.{Acts}
 use Rattle.fkv_lives.specs.Histories.{backwards, issues_in, issue_of}
 use Rattle.fkv_worlds.specs.Headline.{IsHeadline}
-
--- the map with all these pairs, one after the other
-abbrev pub with_all : {K V : Type 0} → (K → K → Ordering) → PlainMap K V → List (K × V) → PlainMap K V
-with_all cmp m [] = m
-with_all cmp m (p ∷ ps) = with_all cmp (with_at cmp m p.0 (Some p.1)) ps
 
 -- a report of a world: its outcomes, its lives, and each live key with its value, keys rising
 pub record IsReport {K V I O R : Type 0} (cmp : K → K → Ordering) (code : K → ℕ) (w : WorldView K V I O R)
     (told : List (Result (Outcome V O) Refused)) (lived : List (Life K V I O)) (pairs : List (K × V)) : Type 0 where
   pub outcomes : told ≡ w.outcomes
   pub lives : lived ≡ w.state.lives
-  pub map : (k : K) → lookup (is_at (cmp k)) pairs ≡ world_live cmp code (bare w.state.partitions) k
+  pub map : (k : K) → lookup (is_at (cmp k)) pairs ≡ union_of cmp code (bare w.state.partitions) k
   pub rising : IsStrictlySortedBy cmp (keys_of pairs)
 
 -- a step that was done, or refused, and kept

@@ -2,9 +2,10 @@
 use Rattle.std.specs.Prelude.{◌≡◌, ◌≢◌, ℕ, suc, ◌≤◌, ◌<◌, List, Option, Some, None, slice_get, length}
 use Rattle.std.specs.declared.cmp.Ordering.{Ordering}
 use Rattle.fkv_functions.specs.Meanings.{Meanings}
-use Rattle.fkv_functions.specs.Plain.{PlainMap, Same}
+use Rattle.fkv_functions.specs.Plain.{Same}
 use Rattle.fkv_operations.specs.After.{key_of}
-use Rattle.fkv_partition.specs.Views.{PartitionView, live_of, partition_of}
+use Rattle.fkv_partition.specs.Views.{PartitionView, partition_of}
+use Rattle.fkv_partition.specs.Unions.{union_of}
 use Rattle.fkv_partition.specs.Effect.{Asked, asked}
 use Rattle.fkv_partition.specs.Pending.{Pending, pending}
 use Rattle.fkv_lives.specs.declared.lives.Finish.{Finish}
@@ -13,15 +14,6 @@ use Rattle.fkv_lives.specs.declared.steps.Place.{Place}
 use Rattle.fkv_lives.specs.declared.lives.End.TheVariants.{Open}
 use Rattle.fkv_lives.specs.Lives.{finish_of, map_before}
 use Rattle.fkv_lives.specs.Placed.{IsPlaced}
-
--- the live map of the partition at a place; empty where there is none
-abbrev pub live_at : {K V I : Type 0} → (K → K → Ordering) → Option (PartitionView K V I) → PlainMap K V
-live_at cmp None = λ k. None
-live_at cmp (Some v) = live_of cmp v
-
--- the live map of a world: each key's value in the partition that its hash names
-abbrev pub world_live : {K V I : Type 0} → (K → K → Ordering) → (K → ℕ) → List (PartitionView K V I) → PlainMap K V
-world_live cmp code views k = live_at cmp (slice_get views (partition_of (length views) (code k))) k
 
 abbrev pub asked_at : {K V I : Type 0} → Option (PartitionView K V I) → ℕ → ℕ → Option (Asked K V I)
 asked_at None slot c = None
@@ -97,7 +89,7 @@ pub record IsHeld {K V I O : Type 0} (cmp : K → K → Ordering) (f : Meanings 
 pub record IsWorld {K V I O : Type 0} (cmp : K → K → Ordering) (f : Meanings K V I O) (code : K → ℕ)
     (views : List (PartitionView K V I)) (life_at : Place → ℕ) (lives : List (Life K V I O)) (now : ℕ) : Type 0 where
   pub placed : IsPlaced cmp f lives now
-  pub denotes : Same (world_live cmp code views) (map_before cmp f lives (suc now))
+  pub denotes : Same (union_of cmp code views) (map_before cmp f lives (suc now))
   pub linked : IsLinked (asked_in views) life_at lives
   pub housed : IsHoused code views now
   pub held : IsHeld cmp f views life_at lives now

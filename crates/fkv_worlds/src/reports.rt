@@ -3,10 +3,10 @@ ghost use Rattle.std.specs.Prelude.{◌≡◌, [], IfOk, IfErr, OnOk};
 ghost use Rattle.std.specs.BTreeMap.{get, is_at};
 ghost use Rattle.std.specs.Map.{lookup, keys_of};
 ghost use Rattle.std.specs.List.Sorted.{IsStrictlySortedBy};
-ghost use Rattle.fkv_functions.specs.Plain.{Same, with_at};
+ghost use Rattle.fkv_functions.specs.Plain.{Same};
 ghost use Rattle.fkv_worlds.specs.States.{bare};
-ghost use Rattle.fkv_worlds.specs.Worlds.{world_live};
-ghost use Rattle.fkv_worlds.specs.Reports.{with_all, IsReport};
+ghost use Rattle.fkv_partition.specs.Unions.{union_of};
+ghost use Rattle.fkv_worlds.specs.Reports.{IsReport};
 
 use crate::desks::reader;
 use crate::states::State;
@@ -36,33 +36,6 @@ pub type ReportOf<F> = Report<
     <F as Functions>::Input,
     <F as Functions>::Output,
 >;
-
-/// Gives a key this value. Refused: `NoMemory`.
-fn put<K: Ord + Drop, V: Drop>(map: &mut BTreeMap<K, V>, key: K, value: V) -> Result<(), Refused>
-    ensures ok { OnOk result (Same (get K.cmp map.new) (with_at K.cmp (get K.cmp map.old) key (Some value))) }
-    ensures only { IfErr result (λ refused. refused ≡ Refused.NoMemory) }
-{
-    match map.insert(key, value) {
-        Ok(_) => Ok(()),
-        Err(_) => Err(Refused::NoMemory),
-    }
-}
-
-/// Gives each of these keys its value. Refused: `NoMemory`.
-fn put_all<K: Ord + Copy + Drop, V: Copy + Drop>(
-    map: &mut BTreeMap<K, V>,
-    pairs: &[(K, V)],
-) -> Result<(), Refused>
-    ensures ok { OnOk result (Same (get K.cmp map.new) (with_all K.cmp (get K.cmp map.old) pairs.now)) }
-    ensures only { IfErr result (λ refused. refused ≡ Refused.NoMemory) }
-{
-    for pair in pairs {
-        let Ok(()) = put(map, pair.0, pair.1) else {
-            return Err(Refused::NoMemory);
-        };
-    }
-    Ok(())
-}
 
 /// A list with the same items. Refused: `NoMemory`.
 fn copied<T: Copy>(alloc: Global, items: &[T]) -> Result<Vec<T>, Refused>
@@ -103,7 +76,7 @@ impl<F: Functions> State<F> {
     /// Each live key of all partitions with its value, keys rising. Refused: `NoMemory`.
     pub fn live(&self, alloc: Global) -> Result<Vec<(F::Key, F::Value)>, Refused>
         ensures map { IfOk result (λ pairs. (k : F.Key)
-            → lookup (is_at (F.Key.cmp k)) pairs.items ≡ world_live F.Key.cmp F.code (bare self.now.partitions) k) }
+            → lookup (is_at (F.Key.cmp k)) pairs.items ≡ union_of F.Key.cmp F.code (bare self.now.partitions) k) }
         ensures rising { IfOk result (λ pairs. IsStrictlySortedBy F.Key.cmp (keys_of pairs.items)) }
         ensures only { IfErr result (λ refused. refused ≡ Refused.NoMemory) }
     {
@@ -121,17 +94,15 @@ impl<F: Functions> State<F> {
     fn gather(&self, map: &mut BTreeMap<F::Key, F::Value>, alloc: Global) -> Result<(), Refused>
         requires { map.old.entries ≡ [] }
         ensures ok { OnOk result
-            (Same (get F.Key.cmp map.new) (world_live F.Key.cmp F.code (bare self.now.partitions))) }
+            (Same (get F.Key.cmp map.new) (union_of F.Key.cmp F.code (bare self.now.partitions))) }
         ensures only { IfErr result (λ refused. refused ≡ Refused.NoMemory) }
     {
         for partition in &self.partitions {
             // a device in memory refuses no page of the partition's size: what is refused is memory
-            let Ok(pairs) = partition.live(alloc, &mut reader(alloc)) else {
-                return Err(Refused::NoMemory);
-            };
-            let Ok(()) = put_all(map, &pairs) else {
-                return Err(Refused::NoMemory);
-            };
+            match partition.put_live(alloc, &mut reader(alloc), map) {
+                Ok(()) => (),
+                Err(refused) => return Err(refused),
+            }
         }
         Ok(())
     }
@@ -141,7 +112,7 @@ impl<F: Functions> World<F> {
     /// Each live key of all partitions with its value, keys rising. Refused: `NoMemory`.
     pub fn live(&self, alloc: Global) -> Result<Vec<(F::Key, F::Value)>, Refused>
         ensures map { IfOk result (λ pairs. (k : F.Key)
-            → lookup (is_at (F.Key.cmp k)) pairs.items ≡ world_live F.Key.cmp F.code (bare self.now.state.partitions) k) }
+            → lookup (is_at (F.Key.cmp k)) pairs.items ≡ union_of F.Key.cmp F.code (bare self.now.state.partitions) k) }
         ensures rising { IfOk result (λ pairs. IsStrictlySortedBy F.Key.cmp (keys_of pairs.items)) }
         ensures only { IfErr result (λ refused. refused ≡ Refused.NoMemory) }
     {

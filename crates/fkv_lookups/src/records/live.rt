@@ -1,10 +1,10 @@
 //! What all records say of each key.
-ghost use Rattle.std.specs.Prelude.{◌≡◌, IsTrue, IfErr, OnOk, length};
+ghost use Rattle.std.specs.Prelude.{◌≡◌, ◌≢◌, ℕ, IsTrue, IfErr, OnOk, OnErr, length};
 ghost use Rattle.std.specs.BTreeMap.{get};
 ghost use Rattle.fkv_functions.specs.Plain.{Same};
 ghost use Rattle.fkv_records.specs.Places.{page_at};
-ghost use Rattle.fkv_hybrid.specs.Scans.{IsScanRefusal};
-ghost use Rattle.fkv_lookups.specs.Overlays.{with_text};
+ghost use Rattle.fkv_hybrid.specs.Scans.{IsScanRefusal, MayFail};
+ghost use Rattle.fkv_lookups.specs.Overlays.{with_text, HasFront};
 
 use crate::maps::put;
 use crate::records::Records;
@@ -17,7 +17,8 @@ impl<F: Functions, D: Disk> Records<F, D> {
     /// Puts what all records from Begin on say in turn into a map: those of flushed pages are read from the device, each
     /// page once, the others from their frames. On a device that keeps, a key of a record gets the value of its last one,
     /// none where that is a tombstone, and the others stay. Refused: `NoMemory`, or as the device refuses a flushed page;
-    /// `Damaged` where a page's bytes spell no record at a place. What the map holds after a refusal is not told.
+    /// `Damaged` where a page's bytes spell no record at a place; on a device that keeps, the map then has what the first
+    /// of the records say.
     pub fn put_live(
         &self,
         alloc: Global,
@@ -26,9 +27,13 @@ impl<F: Functions, D: Disk> Records<F, D> {
     ) -> Result<(), Refused>
         ensures ok { IsTrue D.keeps → OnOk result (Same (get F.Key.cmp map.new)
             (with_text F.Key.cmp (get F.Key.cmp map.old) self.now.text)) }
+        ensures err { IsTrue D.keeps
+            → OnErr result (HasFront F.Key.cmp (get F.Key.cmp map.old) (get F.Key.cmp map.new) self.now.text) }
         ensures steady { OnOk result (D.Reader.failures reader.new ≡ D.Reader.failures reader.old) }
         ensures refused { IfErr result (IsScanRefusal D.keeps (page_at self.now.page_bits self.now.begin)
             (length self.now.receipts) (D.Reader.failures reader.old) (D.Reader.failures reader.new)) }
+        ensures caused { IsTrue D.keeps → IfErr result (λ e. e ≢ Refused.NoMemory → (page : ℕ)
+            × MayFail D.Receipt.stands D.Reader.can_fail self.now.receipts self.now.page_bits page) }
     {
         self.log.known();
         let mut scan = self.log.scan();

@@ -4,7 +4,7 @@ use Rattle.std.proofs.lemmas.Option.{slice_get-get_or}
 use Rattle.std.specs.BTreeMap.{get}
 use Rattle.fkv_partition.specs.Views.{partition_of}
 use Rattle.fkv_feeds.proofs.RunLemmas.{view-get, view-same}
-use Rattle.fkv_feeds.proofs.UnionLemmas.{live-more}
+use Rattle.fkv_partition.proofs.UnionLemmas.{live-more}
 use Rattle.fkv_feeds.proofs.gathering.gather.Goals as goal
 
 pub loop-index-preserved : goal.loop-index-preserved

@@ -2,7 +2,7 @@ use Rattle.std.proofs.Common.{◌≡◌, IsTrue, None, cond, nat_lt, length, map
 use Rattle.std.specs.BTreeMap.{get}
 use Rattle.fkv_functions.specs.Plain.{Same}
 use Rattle.fkv_partition.specs.Views.{partition_of}
-use Rattle.fkv_feeds.specs.Unions.{union_of}
+use Rattle.fkv_partition.specs.Unions.{union_of}
 use Rattle.fkv_feeds.proofs.gathering.gather.Given as goal
 
 -- the partitions stay, and on a device that keeps the map has what is live in those so far

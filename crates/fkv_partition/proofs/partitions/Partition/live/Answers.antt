@@ -31,3 +31,6 @@ returns-clause-own g c = λ keeps.
 
 pub returns-in-Err-clause-refused : goal.returns-in-Err-clause-refused
 returns-in-Err-clause-refused g c = rw (← c.self.view_is) c.in-Err.ensures.refused
+
+pub returns-in-Err-clause-caused : goal.returns-in-Err-clause-caused
+returns-in-Err-clause-caused g c = rw (← c.self.view_is) c.in-Err.ensures.caused

@@ -21,3 +21,6 @@ returns-clause-others g c = λ keeps.
     (λ said k off. said k ∙ said-elsewhere g.F.Key.Ord.cmp (get g.F.Key.Ord.cmp c.args.map.now) c.self.inside.records.text k order
     (λ q. partition_of c.self.inside.count (g.F.Functions.code q) ≡ c.self.inside.number) c.self.invariant.routed off)
     (c.put_live.ensures.ok keeps))
+
+pub returns-clause-caused : goal.returns-clause-caused
+returns-clause-caused g c = rw (← c.self.view_is) c.put_live.ensures.caused

@@ -11,7 +11,7 @@ invariant_of-self g c =
     let x = c.args.operation.now in
     let at : context_in c.self.inside.records.regions.epochs.slots c.self.inside.contexts.items c.args.slot c.args.context ≡ Some x = rw (← c.self.view_is) at c.requires.here in
     let here = open_at c.self.inside.records.regions.epochs.slots c.self.inside.contexts.items c.args.slot c.args.context x at in
-    rw (c.set_context.ensures, c.in_phase-moved.ensures)
+    rw (c.move_on.ensures)
     (sound-context c.self.invariant c.args.slot c.args.context c.args.now (at_phase x c.args.phase)
     (claims-none (view_of c.self.inside.number c.self.inside.count c.self.inside.records c.self.inside.contexts.items c.self.inside.moment) c.args.slot c.args.context x at c.requires.unclaimed) c.requires.claims_nothing
     (record {
@@ -20,3 +20,8 @@ invariant_of-self g c =
       inside = here.inside;
       low = here.low;
     }))
+
+pub move_on-requires-clause-here : goal.move_on-requires-clause-here
+move_on-requires-clause-here g c =
+    let at : context_in c.self.inside.records.regions.epochs.slots c.self.inside.contexts.items c.args.slot c.args.context ≡ Some c.args.operation.now = rw (← c.self.view_is) at c.requires.here in
+    (open_at c.self.inside.records.regions.epochs.slots c.self.inside.contexts.items c.args.slot c.args.context c.args.operation.now at).here

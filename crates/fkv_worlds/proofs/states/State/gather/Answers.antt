@@ -1,17 +1,16 @@
-use Rattle.std.proofs.Common.{◌≡◌, false, cond, None, nat_lt, All, length, slice_get, Some, refl, sym, ap, ◌∙◌, subst, arith}
+use Rattle.std.proofs.Common.{◌≡◌, ◌≢◌, false, cond, None, nat_lt, length, slice_get, Some, refl, sym, ap, ◌∙◌, subst, arith}
 use Rattle.std.proofs.lemmas.Bool.Decides.{nat_tests}
 use Rattle.std.specs.BTreeMap.{get, is_at}
-use Rattle.std.specs.Map.{lookup, keys_of}
-use Rattle.fkv_functions.proofs.KeyOrder.{key_order}
+use Rattle.std.specs.Map.{lookup}
 use Rattle.fkv_partition.specs.Views.{partition_of}
+use Rattle.fkv_partition.specs.Unions.{union_of}
+use Rattle.fkv_partition.proofs.UnionLemmas.{live-more, live-all}
 use Rattle.fkv_functions.specs.Plain.{Same}
 use Rattle.fkv_device.specs.declared.memory.MemoryReceipt.{MemoryReceipt}
 use Rattle.fkv_worlds.specs.States.{StateView, bare}
-use Rattle.fkv_worlds.specs.Worlds.{world_live}
-use Rattle.fkv_worlds.specs.Reports.{with_all}
 use Rattle.fkv_worlds.proofs.StateLemmas.{at-index}
 use Rattle.fkv_worlds.proofs.BareLemmas.{bare-get, bare-length}
-use Rattle.fkv_worlds.proofs.ReportLemmas.{live-more, live-all}
+use Rattle.fkv_worlds.proofs.ReportLemmas.{memory-only}
 use Rattle.fkv_worlds.proofs.states.State.gather.Goals as goal
 
 pub loop-partition-init : goal.loop-partition-init
@@ -19,28 +18,33 @@ loop-partition-init g c = λ q. (let t : nat_lt (partition_of (length (bare c.ar
 
 pub loop-partition-preserved : goal.loop-partition-preserved
 loop-partition-preserved g c =
-    let ord = g.met.F.Key.Ord g.world.𝓛 g.world.𝓜 g.world.𝓡 ((λ s x. x), (λ x. x), (λ x. x), λ x. x) in
-    let known = g.met.F.Key.Known g.world.𝓛 g.world.𝓜 g.world.𝓡 ((λ s x. x), (λ x. x), (λ x. x), λ x. x) in
-    let order = key_order g.F.Key.PartialEq.eq g.F.Key.Ord.cmp ord.matches_eq known.exact ord.total in
-    let here : slice_get c.self.inside.partitions.items c.loop-partition.partition-index ≡ Some c.partition-item.result =
-    ap (λ xs. slice_get xs c.loop-partition.partition-index) (sym c.deref-partition-items.ensures.value)
-    ∙ at-index c.deref-partition-items.result.now c.loop-partition.partition-index c.partition-item.result c.loop-partition-test.true c.partition-item.is in
-    let at = bare-get c.self.inside.partitions.items c.loop-partition.partition-index c.partition-item.result here in
-    let own : All (λ k. partition_of (length (bare c.self.inside.partitions.items)) (g.F.Functions.code k) ≡ c.loop-partition.partition-index) (keys_of c.in-Ok.pairs.items) =
-    subst (λ n. All (λ k. partition_of n (g.F.Functions.code k) ≡ c.loop-partition.partition-index) (keys_of c.in-Ok.pairs.items)) (c.self.invariant.world.housed.counted c.loop-partition.partition-index c.partition-item.result.partition at)
-    (subst (λ p. All (λ k. partition_of c.partition-item.result.partition.count (g.F.Functions.code k) ≡ p) (keys_of c.in-Ok.pairs.items)) (c.self.invariant.world.housed.numbered c.loop-partition.partition-index c.partition-item.result.partition at)
-    (c.in-Ok.ensures.own refl)) in
-    rw (← c.self.view_is) (λ q. c.in-Ok-put_all.ensures.ok q
-    ∙ ap (λ ps. with_all g.F.Key.Ord.cmp (get g.F.Key.Ord.cmp c.loop-partition.map) ps q) c.deref.ensures.value
-    ∙ live-more g.F.Key.Ord.cmp ord.total order g.F.Functions.code (bare c.self.inside.partitions.items) c.loop-partition.partition-index c.partition-item.result.partition c.in-Ok.pairs.items
-    (get g.F.Key.Ord.cmp c.loop-partition.map) at (c.in-Ok.ensures.map refl) c.in-Ok.ensures.rising own (subst (λ (v : StateView g.row.F-Key.Denot g.row.F-Value.Denot g.row.F-Input.Denot g.row.F-Output.Denot MemoryReceipt). Same (get g.F.Key.Ord.cmp c.loop-partition.map) (λ q. cond (nat_lt (partition_of (length (bare v.partitions)) (g.F.Functions.code q)) c.loop-partition.partition-index) (world_live g.F.Key.Ord.cmp g.F.Functions.code (bare v.partitions) q) None)) (sym c.self.view_is) c.loop-partition.invariant) q)
+    let i = c.loop-partition.partition-index in
+    let views = bare c.self.inside.partitions.items in
+    let x = c.partition-item.result.partition in
+    let m = get g.F.Key.Ord.cmp c.loop-partition.map in
+    let new = get g.F.Key.Ord.cmp c.put_live.new.map in
+    let here : slice_get c.self.inside.partitions.items i ≡ Some c.partition-item.result =
+    ap (λ xs. slice_get xs i) (sym c.deref-partition-items.ensures.value)
+    ∙ at-index c.deref-partition-items.result.now i c.partition-item.result c.loop-partition-test.true c.partition-item.is in
+    let at = bare-get c.self.inside.partitions.items i c.partition-item.result here in
+    rw (← c.self.view_is) (λ q. live-more g.F.Key.Ord.cmp g.F.Functions.code views i x m new at
+    (c.in-Ok.ensures.live refl)
+    (subst (λ n. (q : g.row.F-Key.Denot) → partition_of n (g.F.Functions.code q) ≢ i → new q ≡ m q) (c.self.invariant.world.housed.counted i x at)
+    (subst (λ p. (q : g.row.F-Key.Denot) → partition_of x.count (g.F.Functions.code q) ≢ p → new q ≡ m q) (c.self.invariant.world.housed.numbered i x at)
+    (c.in-Ok.ensures.others refl)))
+    (subst (λ (v : StateView g.row.F-Key.Denot g.row.F-Value.Denot g.row.F-Input.Denot g.row.F-Output.Denot MemoryReceipt). Same m (λ q. cond (nat_lt (partition_of (length (bare v.partitions)) (g.F.Functions.code q)) i) (union_of g.F.Key.Ord.cmp g.F.Functions.code (bare v.partitions) q) None)) (sym c.self.view_is) c.loop-partition.invariant) q)
 
 pub returns-clause-ok : goal.returns-clause-ok
 returns-clause-ok g c =
-    let ord = g.met.F.Key.Ord g.world.𝓛 g.world.𝓜 g.world.𝓡 ((λ s x. x), (λ x. x), (λ x. x), λ x. x) in
-    let known = g.met.F.Key.Known g.world.𝓛 g.world.𝓜 g.world.𝓡 ((λ s x. x), (λ x. x), (λ x. x), λ x. x) in
-    let order = key_order g.F.Key.PartialEq.eq g.F.Key.Ord.cmp ord.matches_eq known.exact ord.total in
-    let end : c.loop-partition.partition-index ≡ length (bare c.self.inside.partitions.items) =
+    let views = bare c.self.inside.partitions.items in
+    let m = get g.F.Key.Ord.cmp c.loop-partition.map in
+    let end : c.loop-partition.partition-index ≡ length views =
     (let v = ap length c.deref-partition-items.ensures.value in let t = c.loop-partition-test.false in let u = c.loop-partition.auto in let l = bare-length c.self.inside.partitions.items in omega arith) in
-    let all = live-all g.F.Key.Ord.cmp ord.total order g.F.Functions.code (bare c.self.inside.partitions.items) (get g.F.Key.Ord.cmp c.loop-partition.map) c.self.invariant.world.housed.some (subst (λ n. Same (get g.F.Key.Ord.cmp c.loop-partition.map) (λ q. cond (nat_lt (partition_of (length (bare c.self.inside.partitions.items)) (g.F.Functions.code q)) n) (world_live g.F.Key.Ord.cmp g.F.Functions.code (bare c.self.inside.partitions.items) q) None)) end (subst (λ (v : StateView g.row.F-Key.Denot g.row.F-Value.Denot g.row.F-Input.Denot g.row.F-Output.Denot MemoryReceipt). Same (get g.F.Key.Ord.cmp c.loop-partition.map) (λ q. cond (nat_lt (partition_of (length (bare v.partitions)) (g.F.Functions.code q)) c.loop-partition.partition-index) (world_live g.F.Key.Ord.cmp g.F.Functions.code (bare v.partitions) q) None)) (sym c.self.view_is) c.loop-partition.invariant)) in
-    rw (← c.self.view_is) all
+    let so_far = subst (λ (v : StateView g.row.F-Key.Denot g.row.F-Value.Denot g.row.F-Input.Denot g.row.F-Output.Denot MemoryReceipt). Same m (λ q. cond (nat_lt (partition_of (length (bare v.partitions)) (g.F.Functions.code q)) c.loop-partition.partition-index) (union_of g.F.Key.Ord.cmp g.F.Functions.code (bare v.partitions) q) None)) (sym c.self.view_is) c.loop-partition.invariant in
+    rw (← c.self.view_is) (live-all g.F.Key.Ord.cmp g.F.Functions.code views m c.self.invariant.world.housed.some
+    (subst (λ n. Same m (λ q. cond (nat_lt (partition_of (length views) (g.F.Functions.code q)) n) (union_of g.F.Key.Ord.cmp g.F.Functions.code views q) None)) end so_far))
+
+-- a device in memory reads into as many bytes as the page has
+pub returns-in-Err-clause-only : goal.returns-in-Err-clause-only
+returns-in-Err-clause-only g c =
+    memory-only _ _ _ _ (λ page f. f.fails (ap (λ n. n) (sym f.long))) _ _ _ _ _ c.in-Err.ensures.refused (c.in-Err.ensures.caused refl)

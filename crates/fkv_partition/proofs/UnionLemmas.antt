@@ -1,4 +1,4 @@
--- An update of one partition, seen in the live map of all of them; and that map as a list.
+-- The live map of several partitions: what a change of one of them does to it, and how it comes together.
 use Rattle.std.proofs.Common.{◌≡◌, ◌≢◌, Bool, true, false, cond, ℕ, ◌+◌, ◌<◌, inl, inr, List, length, nat_lt, Option, Some, None, slice_get, slice_set, refl, sym, ◌∙◌, ap, arith}
 use Rattle.std.proofs.lemmas.Bool.{cases_eq}
 use Rattle.std.proofs.lemmas.Bool.Decides.{nat_tests}
@@ -8,13 +8,17 @@ use Rattle.std.specs.declared.cmp.Ordering.{Ordering}
 use Rattle.std.specs.BTreeMap.{is_at}
 use Rattle.fkv_functions.specs.Meanings.{Meanings, updated}
 use Rattle.fkv_functions.specs.Plain.{PlainMap, Same, with_at, IsKeyOrder}
-use Rattle.fkv_partition.specs.Views.{PartitionView, live_of, partition_of}
 use Rattle.fkv_functions.proofs.ListLemmas.{get-set_same, get-set_other}
-use Rattle.fkv_feeds.specs.Unions.{live_at, union_of}
+use Rattle.fkv_operations.specs.After.{after, answer, key_of, shown_of}
+use Rattle.fkv_operations.specs.declared.operations.Op.{Op}
+use Rattle.fkv_operations.specs.declared.operations.Op.TheVariants.{Read, Upsert, Rmw, Delete}
+use Rattle.fkv_partition.specs.Views.{PartitionView, live_of, partition_of}
+use Rattle.fkv_partition.specs.Unions.{live_at, union_of}
 
--- ---- one value changes
+-- ---- one partition changes
 module _ {K V I O : Type 0} (cmp : K → K → Ordering) (o : IsKeyOrder cmp) (f : Meanings K V I O) (code : K → ℕ) (views : List (PartitionView K V I)) (p : ℕ) (old new : PartitionView K V I) (here : slice_get views p ≡ Some old) where
-  live-here : (k : K) → partition_of (length views) (code k) ≡ p → union_of cmp code views k ≡ live_of cmp old k
+  -- a key that belongs to this partition, and one that does not
+  pub live-here : (k : K) → partition_of (length views) (code k) ≡ p → union_of cmp code views k ≡ live_of cmp old k
   live-here k r = ap (λ (q : ℕ). live_at cmp (slice_get views q) k) r ∙ ap (λ t. live_at cmp t k) here
 
   live-set_here : (k : K) → partition_of (length views) (code k) ≡ p → union_of cmp code (slice_set views p new) k ≡ live_of cmp new k
@@ -28,6 +32,14 @@ module _ {K V I O : Type 0} (cmp : K → K → Ordering) (o : IsKeyOrder cmp) (f
       ap (λ (n : ℕ). live_at cmp (slice_get (slice_set views p new) (partition_of n (code k))) k) (length-set views p new)
       ∙ ap (λ t. live_at cmp t k) (get-set_other views p (partition_of (length views) (code k)) new r)
 
+  -- nothing changed in the partition: nothing in the union
+  pub live-quiet : Same (live_of cmp new) (live_of cmp old) → Same (union_of cmp code (slice_set views p new)) (union_of cmp code views)
+  live-quiet h k = elim (cases_eq (partition_of (length views) (code k)) p) [
+    | inl r ↦ live-set_here k r ∙ h k ∙ sym (live-here k r)
+    | inr r ↦ live-set_elsewhere k r
+  ]
+
+  -- one value changed, at a key that belongs here
   live-with_at : (k : K) (v : Option V) → partition_of (length views) (code k) ≡ p → Same (live_of cmp new) (with_at cmp (live_of cmp old) k v) → Same (union_of cmp code (slice_set views p new)) (with_at cmp (union_of cmp code views) k v)
   live-with_at k v rk h q = elim (cases_eq (partition_of (length views) (code q)) p) [
     | inl r ↦ live-set_here q r ∙ h q ∙ ap (cond (is_at (cmp k) q) v) (sym (live-here q r))
@@ -38,10 +50,19 @@ module _ {K V I O : Type 0} (cmp : K → K → Ordering) (o : IsKeyOrder cmp) (f
       off true t n = absurd (n t)
       off false t n = rw t refl
 
-  -- an update of a key that belongs here
-  pub union-updated : (k : K) (i : I) → partition_of (length views) (code k) ≡ p → Same (live_of cmp new) (with_at cmp (live_of cmp old) k (Some (updated f k i (live_of cmp old k))))
-      → Same (union_of cmp code (slice_set views p new)) (with_at cmp (union_of cmp code views) k (Some (updated f k i (union_of cmp code views k))))
-  union-updated k i r h q = live-with_at k (Some (updated f k i (live_of cmp old k))) r h q ∙ ap (λ v. cond (is_at (cmp k) q) (Some (updated f k i v)) (union_of cmp code views q)) (sym (live-here k r))
+  -- an operation with its key here does to the union what it does to the partition
+  pub live-after : (op : Op K V I) → partition_of (length views) (code (key_of op)) ≡ p → Same (live_of cmp new) (after cmp f (live_of cmp old) op) → Same (union_of cmp code (slice_set views p new)) (after cmp f (union_of cmp code views) op)
+  live-after (Read k i) r h = live-quiet h
+  live-after (Upsert k v) r h = live-with_at k (Some v) r h
+  live-after (Rmw k i) r h = λ q. live-with_at k (Some (updated f k i (live_of cmp old k))) r h q ∙ ap (λ v. cond (is_at (cmp k) q) (Some (updated f k i v)) (union_of cmp code views q)) (sym (live-here k r))
+  live-after (Delete k) r h = live-with_at k None r h
+
+  -- and is answered the same
+  pub answer-here : (op : Op K V I) → partition_of (length views) (code (key_of op)) ≡ p → answer f (live_of cmp old) op ≡ answer f (union_of cmp code views) op
+  answer-here (Read k i) r = ap (shown_of f k i) (sym (live-here k r))
+  answer-here (Upsert k v) r = refl
+  answer-here (Rmw k i) r = ap (λ (m : Option V). answer f (λ q. m) (Rmw k i)) (sym (live-here k r))
+  answer-here (Delete k) r = refl
 
 -- ---- one key, asked for by another
 pub is_at-turned : {K : Type 0} (cmp : K → K → Ordering) (order : IsKeyOrder cmp) (k q : K) (b : Bool) → is_at (cmp k) q ≡ b → is_at (cmp q) k ≡ b

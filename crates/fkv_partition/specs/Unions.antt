@@ -1,4 +1,4 @@
--- The live map of several partitions.
+-- The live map of several partitions, the union of theirs.
 use Rattle.std.specs.Prelude.{ℕ, List, Option, Some, None, slice_get, length}
 use Rattle.std.specs.declared.cmp.Ordering.{Ordering}
 use Rattle.fkv_functions.specs.Plain.{PlainMap}
