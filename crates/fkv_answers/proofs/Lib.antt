@@ -1,0 +1,8 @@
+mod OneLemmas
+mod SessionLemmas
+mod OffsetLemmas
+mod ClaimLemmas
+mod OperationLemmas
+mod LoadLemmas
+mod TurnLemmas
+mod RelocationLemmas

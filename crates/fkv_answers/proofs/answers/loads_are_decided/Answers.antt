@@ -1,0 +1,12 @@
+use Rattle.fkv_pages.proofs.ReadLemmas.{one_entry_in}
+use Rattle.fkv_answers.proofs.LoadLemmas.{load-decided}
+use Rattle.fkv_answers.proofs.answers.loads_are_decided.Goals as goal
+
+pub returns-clause-spells : goal.returns-clause-spells
+returns-clause-spells g c =
+    let k = g.met.F.Key.Fixed g.world.𝓛 g.world.𝓜 g.world.𝓡 ((λ s x. x), (λ x. x), (λ x. x), λ x. x) in
+    let v = g.met.F.Value.Fixed g.world.𝓛 g.world.𝓜 g.world.𝓡 ((λ s x. x), (λ x. x), (λ x. x), λ x. x) in
+    one_entry_in g.F.Key.Fixed.bytes_of g.F.Value.Fixed.bytes_of g.F.Key.Known.is_known g.F.Value.Known.is_known g.F.Key.Fixed.SIZE g.F.Value.Fixed.SIZE k.readable v.readable
+
+pub returns-clause-loads : goal.returns-clause-loads
+returns-clause-loads g c = load-decided _ _ _ _ (returns-clause-spells g c)

@@ -1,0 +1,11 @@
+//! What an event of a partition tells is decided by the partition's view before it and by what the event is given,
+//! want of memory aside: the rules of an event (`specs/` of `fkv_partition` and `fkv_compaction`) leave no choice. Each
+//! law is what a function without a body ensures; `specs/OneAnswer.antt` and `specs/OneRelocation.antt` state them.
+#![tactic(auto)]
+
+pub mod answers;
+
+pub use answers::{
+    loads_are_decided, offsets_are_decided, operations_are_decided, relocations_are_decided,
+    sessions_are_decided,
+};
