@@ -6,3 +6,4 @@ mod OperationLemmas
 mod LoadLemmas
 mod TurnLemmas
 mod RelocationLemmas
+mod StepLemmas

@@ -1,2 +1,3 @@
 pub mod OneAnswer
 pub mod OneRelocation
+pub mod OneStep
