@@ -7,3 +7,4 @@ mod LoadLemmas
 mod TurnLemmas
 mod RelocationLemmas
 mod StepLemmas
+mod ContextLemmas

@@ -1,5 +1,5 @@
 -- A step of a world: a state and a step have one answer, and leave one shape of a state.
-use Rattle.std.proofs.Common.{◌≡◌, ◌≢◌, inl, inr, ◌<◌, ◌≤◌, ◌+◌, ◌*◌, ◌-◌, ◌^◌, ◌&&◌, nat_lt, Bool, true, false, cond, ℕ, zero, suc, List, [], ◌∷◌, ◌++◌, length, map, Option, Some, None, option_map, Result, Ok, Err, slice_get, slice_set, is_some, refl, sym, ◌∙◌, ap, subst, arith}
+use Rattle.std.proofs.Common.{◌≡◌, ◌≢◌, inl, inr, ◌<◌, ◌≤◌, ◌-◌, ◌^◌, true, false, ℕ, zero, suc, List, [], ◌∷◌, ◌++◌, length, map, Option, Some, None, option_map, Result, Ok, Err, slice_get, slice_set, is_some, refl, sym, ◌∙◌, ap, subst, arith}
 use Rattle.std.proofs.lemmas.Option.{slice_get_within}
 use Rattle.std.specs.declared.cmp.Ordering.{Ordering}
 use Rattle.fkv_functions.specs.Meanings.{Meanings}
@@ -12,9 +12,8 @@ use Rattle.fkv_device.specs.declared.messages.FlushJob.{FlushJob}
 use Rattle.fkv_texts.specs.declared.entries.Entry.{Entry}
 use Rattle.fkv_partition.specs.declared.contexts.Progress.{Progress}
 use Rattle.fkv_partition.specs.declared.contexts.Progress.TheVariants.{Done, Next, NeedsBuild, NeedsLoad, Waits}
-use Rattle.fkv_partition.specs.Effect.{Asked, asked, asked_by}
-use Rattle.fkv_partition.specs.Contexts.{joined, is_session}
-use Rattle.fkv_partition.specs.Views.{PartitionView, slots_of}
+use Rattle.fkv_partition.specs.Effect.{Asked, asked}
+use Rattle.fkv_partition.specs.Views.{PartitionView}
 use Rattle.fkv_partition.specs.Beginning.{Enters}
 use Rattle.fkv_partition.specs.Going.{Goes}
 use Rattle.fkv_partition.specs.Installing.{Installs}
@@ -49,7 +48,7 @@ use Rattle.fkv_worlds.specs.Acts as acts
 use Rattle.fkv_worlds.specs.Acts.{Acts, Steps, IsDue, answers_in, lives_by, questions_by, receipts_by, receipts_moved, with_session, with_life, with_progress, with_moved, with_end, with_job}
 use Rattle.fkv_answers.specs.OneAnswer.{IsSame, IsOneSpelling, but_waiting, without_waiting, told_of, progress_of, came_of}
 use Rattle.fkv_answers.specs.OneRelocation.{moved_of, all_but_waiting}
-use Rattle.fkv_answers.specs.OneStep.{TakenPage, page_of, StateShape, shape, spared, decided_of, IsAlone, AreAlone, CompactingIsAlone, ActIsDecided, StepIsDecided}
+use Rattle.fkv_answers.specs.OneStep.{TakenPage, page_of, StateShape, shape, spared, decided_of, IsAlone, AreAlone, ActIsDecided, StepIsDecided}
 use Rattle.fkv_answers.proofs.OneLemmas.{IsOne, Only, Never, ByTest, ByOption, ByThe, Out, only-one, never-one, test-one, option-one, the-one, out, same-by}
 use Rattle.fkv_answers.proofs.SessionLemmas.{no-session, enter-decided, give-up-decided}
 use Rattle.fkv_answers.proofs.OffsetLemmas.{refresh-decided, shift-decided, evict-decided, flush-decided}
@@ -64,7 +63,7 @@ map-set f [] i y = refl
 map-set f (x ∷ xs) zero y = refl
 map-set f (x ∷ xs) (suc i) y = ap (λ ys. f x ∷ ys) (map-set f xs i y)
 
-get-set : {A : Type 0} (xs : List A) (i : ℕ) (x y : A) → slice_get xs i ≡ Some x → slice_get (slice_set xs i y) i ≡ Some y
+pub get-set : {A : Type 0} (xs : List A) (i : ℕ) (x y : A) → slice_get xs i ≡ Some x → slice_get (slice_set xs i y) i ≡ Some y
 get-set [] i x y h = absurd (cc)
 get-set (z ∷ xs) zero x y h = refl
 get-set (z ∷ xs) (suc i) x y h = get-set xs i x y h
@@ -75,7 +74,7 @@ set-set (x ∷ xs) zero y z = refl
 set-set (x ∷ xs) (suc i) y z = ap (λ ys. x ∷ ys) (set-set xs i y z)
 
 -- a partition that has become this one, without the pages that wait
-pub spared-set : {K V I : Type 0} (views : List (CompactedView K V I)) (p : ℕ) (v u : CompactedView K V I) → slice_get views p ≡ Some v
+spared-set : {K V I : Type 0} (views : List (CompactedView K V I)) (p : ℕ) (v u : CompactedView K V I) → slice_get views p ≡ Some v
     → spared (slice_set views p u) p (slice_get (slice_set views p u) p) ≡ slice_set views p (compaction.with_partition u (without_waiting u.partition))
 spared-set {K} {V} {I} views p v u here =
     ap (λ (o : Option (CompactedView K V I)). spared (slice_set views p u) p o) (get-set views p v u here) ∙ set-set views p u (compaction.with_partition u (without_waiting u.partition))
@@ -146,7 +145,7 @@ after_moved s w progress v = record s {
 
 -- ---- where nothing is open that a rule needs
 -- a relocation that goes on, or takes a page in, is open
-moving : {K V I R : Type 0} (stands : R → Standing) (cmp : K → K → Ordering) (code : K → ℕ) (old new : CompactedView K V I) (slot c now : ℕ) (result : Result (Moved R) Refused) → GoesOn stands cmp code old new slot c now result → result ≢ Err Unknown
+pub moving : {K V I R : Type 0} (stands : R → Standing) (cmp : K → K → Ordering) (code : K → ℕ) (old new : CompactedView K V I) (slot c now : ℕ) (result : Result (Moved R) Refused) → GoesOn stands cmp code old new slot c now result → result ≢ Err Unknown
     → (x : Relocation K V) × (relocation_at old slot c ≡ Some x)
 moving stands cmp code old new slot c now result (GoesOn.unknown none is t) n = absurd (n t)
 moving stands cmp code old new slot c now result (GoesOn.not_ready x a here awaits is t) n = (x, here)
@@ -155,7 +154,7 @@ moving stands cmp code old new slot c now result (GoesOn.passed x here stage low
 moving stands cmp code old new slot c now result (GoesOn.weighs x entry here stage next high there weighs) n = (x, here)
 moving stands cmp code old new slot c now result (GoesOn.reads x here stage next low asking) n = (x, here)
 
-reading : {K V I R : Type 0} (stands : R → Standing) (spells : ℕ → List ℕ → ℕ → Entry K V → Type 0) (cmp : K → K → Ordering) (code : K → ℕ) (old new : CompactedView K V I) (slot c : ℕ) (came : Result (Joined R) Refused) (now : ℕ) (result : Result (Moved R) Refused)
+pub reading : {K V I R : Type 0} (stands : R → Standing) (spells : ℕ → List ℕ → ℕ → Entry K V → Type 0) (cmp : K → K → Ordering) (code : K → ℕ) (old new : CompactedView K V I) (slot c : ℕ) (came : Result (Joined R) Refused) (now : ℕ) (result : Result (Moved R) Refused)
     → LoadsOn stands spells cmp code old new slot c came now result → result ≢ Err Unknown → (x : Relocation K V) × (relocation_at old slot c ≡ Some x)
 reading stands spells cmp code old new slot c came now result (LoadsOn.unknown none is t) n = absurd (n t)
 reading stands spells cmp code old new slot c came now result (LoadsOn.not_ready x here none is t) n = (x, here)
@@ -171,9 +170,17 @@ reading stands spells cmp code old new slot c came now result (LoadsOn.further x
 reading stands spells cmp code old new slot c came now result (LoadsOn.lost x e l p why at page read traces is t) n = (x, page.awaits.here)
 reading stands spells cmp code old new slot c came now result (LoadsOn.astray x e l p b at page read traces above else is t) n = (x, page.awaits.here)
 
-dropped : {K V I : Type 0} (old new : CompactedView K V I) (slot c now : ℕ) (result : Result (Unit {0}) Refused) → Drops old new slot c now result → result ≢ Err Unknown → (x : Relocation K V) × (relocation_at old slot c ≡ Some x)
+pub dropped : {K V I : Type 0} (old new : CompactedView K V I) (slot c now : ℕ) (result : Result (Unit {0}) Refused) → Drops old new slot c now result → result ≢ Err Unknown → (x : Relocation K V) × (relocation_at old slot c ≡ Some x)
 dropped old new slot c now result (Drops.unknown none is t) n = absurd (n t)
 dropped old new slot c now result (Drops.drops x here is t) n = (x, here)
+
+-- what ends an operation or a relocation is not that none is open
+pub ending : {T : Type 0} (r : Result T Refused) (e : Refused) → r ≡ Err e → ends_operation e ≡ true → r ≢ Err Unknown
+ending r e is ends bad =
+    let same : e ≡ Unknown = cc in
+    let no : ends_operation e ≡ false = ap ends_operation same in
+    let differ : false ≡ true = sym no ∙ ends in
+    cc
 
 -- where an operation is open there is no relocation
 no-relocation : {K V I : Type 0} (v : CompactedView K V I) (slot c : ℕ) → IsAlone v → (q : Asked K V I) → asked v.partition slot c ≡ Some q → relocation_at v slot c ≡ None
@@ -540,7 +547,7 @@ module _ {K V I O R : Type 0} (stands : R → Standing) (entry : ℕ → List �
       ap (λ (views : List (CompactedView K V I)). record (shape stands (acts.with_partition old p v')) { partitions = views }) (spared-set old.partitions p v v' here)
       ∙ ap (λ (x : CompactedView K V I). shape stands (acts.with_partition old p x)) is
 
-  here-at : (step s : Step K V I) (v : CompactedView K V I) → step ≡ s → IsDue old step v → slice_get old.partitions (partition_in s) ≡ Some v
+  pub here-at : (step s : Step K V I) (v : CompactedView K V I) → step ≡ s → IsDue old step v → slice_get old.partitions (partition_in s) ≡ Some v
   here-at step s v is due = subst (λ (q : Step K V I). slice_get old.partitions (partition_in q) ≡ Some v) is due.here
 
   err-is : (result : Result (Outcome V O) Refused) (e : Refused) → result ≡ Err e → result ≢ Err NoMemory → e ≢ NoMemory
@@ -657,13 +664,6 @@ module _ {K V I O R : Type 0} (stands : R → Standing) (entry : ℕ → List �
         is = record { receipt = receipt; came = came; new = v'; result = Err e; here = held; comes = comes; does = does; some = err-some _ e refl (err-is result e told n); is = refl };
         end = ByTest.holds ends (out refl refl);
       })))
-    where
-      ending : (r : Result (Moved R) Refused) (e : Refused) → r ≡ Err e → ends_operation e ≡ true → r ≢ Err Unknown
-      ending r e is ends bad =
-          let same : e ≡ Unknown = cc in
-          let no : ends_operation e ≡ false = ap ends_operation same in
-          let differ : false ≡ true = sym no ∙ ends in
-          cc
   acts-out new step result alone (Acts.gives_up w v v' is due does gives passed left told) n =
       due-out step v _ due (as-said v step (GiveUp w) new _ result _ is left told
       (ByOption.is_none (no-relocation v w.slot w.context (alone (partition_in step) v due.here) gives.question gives.was) (record {
@@ -693,16 +693,3 @@ step-decided {K} {V} {I} {O} {R} stands entry cmp f code one old new other step 
         let s = act-decided stands entry cmp f code one old.state new.state other.state step result told alone does so n m in
         let outcomes : new.outcomes ≡ other.outcomes = kept ∙ ap (λ (r : Result (Outcome V O) Refused). old.outcomes ++ r ∷ []) s.answer ∙ sym keeps in
         record { view = λ i. (s.view i, outcomes i); answer = s.answer }
-
--- ---- a context holds an operation or a relocation, not both
--- what stands at a place of a list of places
-joined-some : {A : Type 0} (o : Option (Option A)) (x : A) → joined o ≡ Some x → o ≡ Some (Some x)
-joined-some None x h = absurd (cc)
-joined-some (Some y) x h = ap Some h
-
-pub compacting-alone : {K : Type 0} (V I : Type 0) (cmp : K → K → Ordering) (code : K → ℕ) → CompactingIsAlone V I cmp code
-compacting-alone {K} V I cmp code keeps v h slot c x here = by (is_session (slots_of v.partition) slot && nat_lt c 8) here
-  where
-    by : (b : Bool) → cond b (joined (slice_get v.relocations (slot * 8 + c))) None ≡ Some x → option_map asked_by (cond b (joined (slice_get v.partition.contexts (slot * 8 + c))) None) ≡ None
-    by true some = ap (option_map asked_by) (h.alone (slot * 8 + c) x (joined-some (slice_get v.relocations (slot * 8 + c)) x some))
-    by false some = refl

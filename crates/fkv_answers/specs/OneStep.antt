@@ -1,6 +1,6 @@
--- What a step of a world tells is decided by the world's state before it and by the step, want of memory aside; and so is
--- the state that it leaves, as far as a step can tell states apart. Of a list of steps this does not follow yet: once
--- offsets have moved, it is open which pages wait to be flushed, and a later step may take one.
+-- What a step of a world tells is decided by the world's state before it and by the step, want of memory aside; and so
+-- is the state that it leaves, but for where bytes lie in memory, and for which pages wait to be flushed once offsets
+-- have moved. Of a list of steps this does not follow yet: a later step may take one of those pages.
 use Rattle.std.specs.Prelude.{◌≡◌, ◌≢◌, Bool, true, false, cond, ℕ, List, Option, Some, None, Result, Ok, Err, map, option_map, slice_get, slice_set}
 use Rattle.std.specs.declared.cmp.Ordering.{Ordering}
 use Rattle.fkv_functions.specs.Meanings.{Meanings}
@@ -12,7 +12,6 @@ use Rattle.fkv_device.specs.declared.messages.FlushJob.{FlushJob}
 use Rattle.fkv_texts.specs.declared.entries.Entry.{Entry}
 use Rattle.fkv_partition.specs.Effect.{asked}
 use Rattle.fkv_compaction.specs.declared.relocations.Relocation.{Relocation}
-use Rattle.fkv_compaction.specs.Sound.{IsCompacting}
 use Rattle.fkv_compaction.specs.Views.{CompactedView, relocation_at, with_partition}
 use Rattle.fkv_lives.specs.declared.lives.Life.{Life}
 use Rattle.fkv_lives.specs.declared.outcomes.Outcome.{Outcome}
@@ -80,8 +79,8 @@ abbrev pub spared : {K V I : Type 0} → List (CompactedView K V I) → ℕ → 
 spared views p None = views
 spared views p (Some v) = slice_set views p (with_partition v (without_waiting v.partition))
 
--- what is decided of the state that a step leaves: its shape; but where the step moved offsets, and was not refused, not
--- the pages of its partition that wait to be flushed, of which the rules say only that more may wait
+-- what is decided of the state that a step leaves: its shape; but where the step moves offsets, and is not refused,
+-- not the pages of its partition that wait to be flushed, of which the rules say only that more may wait
 abbrev pub decided_of : {K V I O R : Type 0} → (R → Standing) → Step K V I → Result (Outcome V O) Refused
     → StateView K V I O R → StateShape K V I O
 decided_of stands step (Ok x) s = record (shape stands s) {
@@ -94,16 +93,12 @@ decided_of stands step (Err why) s = shape stands s
 abbrev pub IsAlone : {K V I : Type 0} → CompactedView K V I → Type 0
 IsAlone {K} v = (slot c : ℕ) (x : Relocation K _) → relocation_at v slot c ≡ Some x → asked v.partition slot c ≡ None
 
--- so it is in each partition: of an operation and a relocation that were open in one context, a step could go on with
--- either, and give up either
+-- so it is in each partition. Of an operation and a relocation that were open in one context, the rules would not say
+-- which of them a step goes on with, reads for, or gives up; to other steps it is nothing
 abbrev pub AreAlone : {K V I O R : Type 0} → StateView K V I O R → Type 0
 AreAlone {K} {V} {I} s = (p : ℕ) (v : CompactedView K V I) → slice_get s.partitions p ≡ Some v → IsAlone v
 
--- every partition that is compacted keeps it
-abbrev pub CompactingIsAlone : {K : Type 0} → (V I : Type 0) → (K → K → Ordering) → (K → ℕ) → Type 0
-CompactingIsAlone {K} V I cmp code =
-    (keeps : Bool) (v : CompactedView K V I) → IsCompacting keeps cmp code v → IsAlone v
-
+-- ---- a step
 abbrev pub ActIsDecided : {K V I O R : Type 0} → (R → Standing) → (ℕ → List ℕ → ℕ → Entry K V → Type 0)
     → (K → K → Ordering) → Meanings K V I O → (K → ℕ) → Type 0
 ActIsDecided {K} {V} {I} {O} {R} stands entry cmp f code =

@@ -1,0 +1,10 @@
+use Rattle.fkv_answers.proofs.ContextLemmas.{apart-alone, compacting-apart, empty-apart, act-apart}
+use Rattle.fkv_answers.proofs.answers.contexts_are_alone.Goals as goal
+
+pub returns : goal.returns
+returns g c = record {
+  alone = apart-alone _ _ _;
+  compacting = compacting-apart _ _ _ _;
+  empty = empty-apart _ _ _ g.row.F-Output.Denot g.row.D-Receipt.Denot;
+  keeps = act-apart _ _ _ _ _;
+}

@@ -1,0 +1,49 @@
+-- A context of a world holds an operation or a relocation, not both: of the world before its first step, and, step by
+-- step, of every world. It is so of each compacted partition.
+use Rattle.std.specs.Prelude.{◌≡◌, ◌+◌, ◌*◌, ◌<◌, Bool, ℕ, List, Some, None, Result, slice_get}
+use Rattle.std.specs.declared.cmp.Ordering.{Ordering}
+use Rattle.fkv_functions.specs.Meanings.{Meanings}
+use Rattle.fkv_functions.specs.declared.refusals.Refused.{Refused}
+use Rattle.fkv_device.specs.Standing.{Standing}
+use Rattle.fkv_texts.specs.declared.entries.Entry.{Entry}
+use Rattle.fkv_partition.specs.declared.limits.Config.{Config}
+use Rattle.fkv_partition.specs.Effect.{asked}
+use Rattle.fkv_compaction.specs.declared.relocations.Relocation.{Relocation}
+use Rattle.fkv_compaction.specs.Sound.{IsCompacting}
+use Rattle.fkv_compaction.specs.Views.{CompactedView}
+use Rattle.fkv_lives.specs.declared.outcomes.Outcome.{Outcome}
+use Rattle.fkv_lives.specs.declared.steps.Step.{Step}
+use Rattle.fkv_worlds.specs.States.{StateView, empty_state}
+use Rattle.fkv_worlds.specs.Acts.{Acts}
+use Rattle.fkv_answers.specs.OneStep.{IsAlone}
+
+-- a context at whose place a relocation stands asks nothing, whether a session is entered at its slot or not
+abbrev pub IsApart : {K V I : Type 0} → CompactedView K V I → Type 0
+IsApart {K} v =
+    (slot c : ℕ) (x : Relocation K _)
+    → c < 8
+    → slice_get v.relocations (slot * 8 + c) ≡ Some (Some x)
+    → asked v.partition slot c ≡ None
+
+abbrev pub AreApart : {K V I O R : Type 0} → StateView K V I O R → Type 0
+AreApart {K} {V} {I} s = (p : ℕ) (v : CompactedView K V I) → slice_get s.partitions p ≡ Some v → IsApart v
+
+abbrev pub ApartIsAlone : (K V I : Type 0) → Type 0
+ApartIsAlone K V I = (v : CompactedView K V I) → IsApart v → IsAlone v
+
+abbrev pub CompactingIsApart : {K : Type 0} → (V I : Type 0) → (K → K → Ordering) → (K → ℕ) → Type 0
+CompactingIsApart {K} V I cmp code =
+    (keeps : Bool) (v : CompactedView K V I) → IsCompacting keeps cmp code v → IsApart v
+
+abbrev pub EmptyIsApart : (K V I O R : Type 0) → Type 0
+EmptyIsApart K V I O R =
+    (config : Config) (record_size : ℕ)
+    → AreApart {O = O} {R = R} (empty_state {K = K} {V = V} {I = I} config record_size)
+
+abbrev pub ActKeepsApart : {K V I O R : Type 0} → (R → Standing) → (ℕ → List ℕ → ℕ → Entry K V → Type 0)
+    → (K → K → Ordering) → Meanings K V I O → (K → ℕ) → Type 0
+ActKeepsApart {K} {V} {I} {O} {R} stands entry cmp f code =
+    (old new : StateView K V I O R) (step : Step K V I) (result : Result (Outcome V O) Refused)
+    → AreApart old
+    → Acts stands entry cmp f code old new step result
+    → AreApart new
