@@ -26,9 +26,10 @@ use Rattle.fkv_lives.specs.declared.steps.Access.TheVariants.{Works}
 use Rattle.fkv_lives.specs.declared.steps.Step.{Step}
 use Rattle.fkv_lives.specs.declared.steps.Step.TheVariants.{Enter, Leave, Refresh, ReadOnly, Write, Head, Issue, Relocate, Go, Install, Load, GiveUp, Truncate}
 use Rattle.fkv_lives.specs.Steps.{partition_in}
-use Rattle.fkv_worlds.specs.States.{StateView}
-use Rattle.fkv_worlds.specs.Acts.{Acts, IsDue}
-use Rattle.fkv_answers.specs.OneContext.{IsApart, AreApart, ApartIsAlone, CompactingIsApart, EmptyIsApart, ActKeepsApart}
+use Rattle.fkv_worlds.specs.States.{StateView, WorldView, empty_world}
+use Rattle.fkv_worlds.specs.Acts.{Acts, Steps, IsDue}
+use Rattle.fkv_worlds.specs.Reports.{Pursues, RunsTo}
+use Rattle.fkv_answers.specs.OneContext.{IsApart, AreApart, ApartIsAlone, CompactingIsApart, EmptyIsApart, ActKeepsApart, StepKeepsApart, PursuitKeepsApart, RunIsAlone}
 use Rattle.fkv_answers.proofs.StepLemmas.{get-set, moving, reading, dropped, ending}
 
 -- ---- numbers and lists
@@ -321,3 +322,26 @@ module _ {K V I O R : Type 0} (stands : R → Standing) (entry : ℕ → List �
 
 pub act-apart : {K V I O R : Type 0} (stands : R → Standing) (entry : ℕ → List ℕ → ℕ → Entry K V → Type 0) (cmp : K → K → Ordering) (f : Meanings K V I O) (code : K → ℕ) → ActKeepsApart stands entry cmp f code
 act-apart stands entry cmp f code old new step result apart h = acts-apart stands entry cmp f code old apart new step result h
+
+pub step-apart : {K V I O R : Type 0} (stands : R → Standing) (entry : ℕ → List ℕ → ℕ → Entry K V → Type 0) (cmp : K → K → Ordering) (f : Meanings K V I O) (code : K → ℕ) → StepKeepsApart stands entry cmp f code
+step-apart {K} {V} {I} {O} {R} stands entry cmp f code old new step result apart h = by h
+  where
+    by : Steps stands entry cmp f code old new step result → AreApart new.state
+    by (Steps.unkept is t) = same-apart stands entry cmp f code old.state apart new.state (ap (λ (w : WorldView K V I O R). w.state.partitions) is)
+    by (Steps.kept does kept) = act-apart stands entry cmp f code old.state new.state step result apart does
+
+pub pursuit-apart : {K V I O R : Type 0} (stands : R → Standing) (entry : ℕ → List ℕ → ℕ → Entry K V → Type 0) (cmp : K → K → Ordering) (f : Meanings K V I O) (code : K → ℕ) → PursuitKeepsApart stands entry cmp f code
+pursuit-apart {K} {V} {I} {O} {R} stands entry cmp f code pursuit place old new result most step apart h = by most step old apart h
+  where
+    by : (n : ℕ) (s : Step K V I) (v : WorldView K V I O R) → AreApart v.state → Pursues stands entry cmp f code pursuit place new result n s v → AreApart new.state
+    by n s v a (Pursues.unkept m t u is told) = same-apart stands entry cmp f code v.state a new.state (ap (λ (w : WorldView K V I O R). w.state.partitions) is)
+    by n s v a (Pursues.stalls t u is told) = same-apart stands entry cmp f code v.state a new.state (ap (λ (w : WorldView K V I O R). w.state.partitions) is)
+    by n s v a (Pursues.ends m t u x kept last told) = act-apart stands entry cmp f code v.state new.state s x a kept.acts
+    by n s v a (Pursues.goes_on m t next u between x kept more rest) = by m next between (act-apart stands entry cmp f code v.state between.state s x a kept.acts) rest
+
+pub run-alone : {K V I O R : Type 0} (stands : R → Standing) (entry : ℕ → List ℕ → ℕ → Entry K V → Type 0) (cmp : K → K → Ordering) (f : Meanings K V I O) (code : K → ℕ) → RunIsAlone stands entry cmp f code
+run-alone {K} {V} {I} {O} {R} stands entry cmp f code config size steps w ran p v here = apart-alone K V I v (by steps (empty_world config size) (empty-apart K V I O R config size) ran p v here)
+  where
+    by : (ss : List (Step K V I)) (u : WorldView K V I O R) → AreApart u.state → RunsTo stands entry cmp f code u ss w → AreApart w.state
+    by [] u a is = same-apart stands entry cmp f code u.state a w.state (ap (λ (x : WorldView K V I O R). x.state.partitions) is)
+    by (s ∷ ss) u a h = by ss h.0 (act-apart stands entry cmp f code u.state (h.0).state s h.1 a (h.2).acts) h.3
