@@ -28,16 +28,20 @@ IsApart {K} v =
     → slice_get v.relocations (slot * 8 + c) ≡ Some (Some x)
     → asked v.partition slot c ≡ None
 
+-- so it is in each partition
 abbrev pub AreApart : {K V I O R : Type 0} → StateView K V I O R → Type 0
 AreApart {K} {V} {I} s = (p : ℕ) (v : CompactedView K V I) → slice_get s.partitions p ≡ Some v → IsApart v
 
+-- then a context in which a relocation is open holds no operation
 abbrev pub ApartIsAlone : (K V I : Type 0) → Type 0
 ApartIsAlone K V I = (v : CompactedView K V I) → IsApart v → IsAlone v
 
+-- each compacted partition keeps it
 abbrev pub CompactingIsApart : {K : Type 0} → (V I : Type 0) → (K → K → Ordering) → (K → ℕ) → Type 0
 CompactingIsApart {K} V I cmp code =
     (keeps : Bool) (v : CompactedView K V I) → IsCompacting keeps cmp code v → IsApart v
 
+-- ---- it is so of the world before its first step, and of the state after a step, whatever that tells
 abbrev pub EmptyIsApart : (K V I O R : Type 0) → Type 0
 EmptyIsApart K V I O R =
     (config : Config) (record_size : ℕ)
@@ -51,7 +55,7 @@ ActKeepsApart {K} {V} {I} {O} {R} stands entry cmp f code =
     → Acts stands entry cmp f code old new step result
     → AreApart new
 
--- ---- so it is of a world after a step, after a pursuit, and after a list of steps from the empty world on
+-- so it is of a world after a step, after a pursuit, and after a list of steps from the empty world on
 abbrev pub StepKeepsApart : {K V I O R : Type 0} → (R → Standing) → (ℕ → List ℕ → ℕ → Entry K V → Type 0)
     → (K → K → Ordering) → Meanings K V I O → (K → ℕ) → Type 0
 StepKeepsApart {K} {V} {I} {O} {R} stands entry cmp f code =
