@@ -1,2 +1,4 @@
 pub mod OneAnswer
 pub mod OneRelocation
+pub mod OneStep
+pub mod OneContext

@@ -7,6 +7,9 @@ ghost use Rattle.fkv_answers.specs.OneAnswer.{IsOneSpelling, LoadIsDecided};
 ghost use Rattle.fkv_answers.specs.OneRelocation.{CompactedIssueIsDecided, RelocateIsDecided, DropIsDecided};
 ghost use Rattle.fkv_answers.specs.OneRelocation.{LeaveAllIsDecided, PartIsDecided, CutIsDecided, GoOnIsDecided};
 ghost use Rattle.fkv_answers.specs.OneRelocation.{NextIsDecided, LoadOnIsDecided, NextLoadIsDecided};
+ghost use Rattle.fkv_answers.specs.OneStep.{ActIsDecided, StepIsDecided};
+ghost use Rattle.fkv_answers.specs.OneContext.{ApartIsAlone, CompactingIsApart, EmptyIsApart, ActKeepsApart};
+ghost use Rattle.fkv_answers.specs.OneContext.{StepKeepsApart, PursuitKeepsApart, RunIsAlone};
 
 use fkv_device::Disk;
 use fkv_functions::Functions;
@@ -64,4 +67,31 @@ pub fn relocations_are_decided<F: Functions, D: Disk>()
         F.Key.is_known F.Value.is_known F.Key.SIZE F.Value.SIZE) F.Key.cmp F.code }
     ensures next_loads { NextLoadIsDecided F.Input D.Receipt.stands (IsEntryIn F.Key.bytes_of F.Value.bytes_of
         F.Key.is_known F.Value.is_known F.Key.SIZE F.Value.SIZE) F.Key.cmp F.code }
+{}
+
+/// What a step of a world tells, unless memory is refused, the state after it, and the outcomes that are kept: in a
+/// state in which a context holds an operation or a relocation, not both. The rules leave open only which pages of its
+/// partition wait to be flushed once offsets have moved.
+pub fn steps_are_decided<F: Functions, D: Disk>()
+    ensures acts { ActIsDecided {O = F.Output} D.Receipt.stands (IsEntryIn F.Key.bytes_of F.Value.bytes_of
+        F.Key.is_known F.Value.is_known F.Key.SIZE F.Value.SIZE) F.Key.cmp F.meaning F.code }
+    ensures steps { StepIsDecided {O = F.Output} D.Receipt.stands (IsEntryIn F.Key.bytes_of F.Value.bytes_of
+        F.Key.is_known F.Value.is_known F.Key.SIZE F.Value.SIZE) F.Key.cmp F.meaning F.code }
+{}
+
+/// Of every world a context holds an operation or a relocation, not both: of each compacted partition, of the world
+/// before its first step, and of what a step or a pursuit leaves where it is so of what was before. So it is of each
+/// world to which steps lead from the empty one.
+pub fn contexts_are_alone<F: Functions, D: Disk>()
+    ensures alone { ApartIsAlone F.Key F.Value F.Input }
+    ensures compacting { CompactingIsApart F.Value F.Input F.Key.cmp F.code }
+    ensures empty { EmptyIsApart F.Key F.Value F.Input F.Output D.Receipt }
+    ensures acts { ActKeepsApart {O = F.Output} D.Receipt.stands (IsEntryIn F.Key.bytes_of F.Value.bytes_of
+        F.Key.is_known F.Value.is_known F.Key.SIZE F.Value.SIZE) F.Key.cmp F.meaning F.code }
+    ensures steps { StepKeepsApart {O = F.Output} D.Receipt.stands (IsEntryIn F.Key.bytes_of F.Value.bytes_of
+        F.Key.is_known F.Value.is_known F.Key.SIZE F.Value.SIZE) F.Key.cmp F.meaning F.code }
+    ensures pursuits { PursuitKeepsApart {O = F.Output} D.Receipt.stands (IsEntryIn F.Key.bytes_of F.Value.bytes_of
+        F.Key.is_known F.Value.is_known F.Key.SIZE F.Value.SIZE) F.Key.cmp F.meaning F.code }
+    ensures runs { RunIsAlone {O = F.Output} D.Receipt.stands (IsEntryIn F.Key.bytes_of F.Value.bytes_of
+        F.Key.is_known F.Value.is_known F.Key.SIZE F.Value.SIZE) F.Key.cmp F.meaning F.code }
 {}
