@@ -1,0 +1,4 @@
+mod PartitionLemmas
+mod RelocationLemmas
+mod StateLemmas
+mod AlikeLemmas
