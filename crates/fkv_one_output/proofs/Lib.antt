@@ -2,3 +2,4 @@ mod PartitionLemmas
 mod RelocationLemmas
 mod StateLemmas
 mod AlikeLemmas
+mod LineLemmas

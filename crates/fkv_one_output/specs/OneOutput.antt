@@ -1,21 +1,29 @@
 -- A script that flushes nothing has one output, want of memory aside. What a step leaves open is which pages wait to be
 -- flushed, and which of the receipts that stand for the same it carries; but only a flush takes a page that waits, and
 -- of a receipt nothing is read but what it stands for.
-use Rattle.std.specs.Prelude.{◌≡◌, ◌≢◌, ℕ, Bool, true, false, List, [], map, Option, option_map, Result, Err}
+use Rattle.std.specs.Prelude.{◌≡◌, ◌≢◌, ℕ, ℤ, Bool, true, false, List, [], ◌∷◌, map, Option, Some, option_map, Result, Err}
 use Rattle.std.specs.declared.cmp.Ordering.{Ordering}
 use Rattle.fkv_functions.specs.Meanings.{Meanings}
+use Rattle.fkv_functions.specs.declared.names.Name.{Name}
 use Rattle.fkv_functions.specs.declared.refusals.Refused.{Refused}
 use Rattle.fkv_functions.specs.declared.refusals.Refused.TheVariants.{NoMemory}
 use Rattle.fkv_device.specs.Standing.{Standing}
 use Rattle.fkv_texts.specs.declared.entries.Entry.{Entry}
 use Rattle.fkv_compaction.specs.Views.{CompactedView, with_partition}
 use Rattle.fkv_lives.specs.declared.outcomes.Outcome.{Outcome}
+use Rattle.fkv_lives.specs.declared.steps.Place.{Place}
 use Rattle.fkv_lives.specs.declared.steps.Step.{Step}
 use Rattle.fkv_lives.specs.declared.steps.Step.TheVariants.{Enter, Leave, Refresh, ReadOnly, Take, Write, Head, Issue, Relocate, Go, Install, Load, GiveUp, Truncate}
-use Rattle.fkv_worlds.specs.States.{StateView}
+use Rattle.fkv_worlds.specs.declared.pursuits.Pursuit.{Pursuit}
+use Rattle.fkv_worlds.specs.States.{StateView, WorldView}
 use Rattle.fkv_worlds.specs.Acts.{Acts}
+use Rattle.fkv_worlds.specs.Reports.{Pursues}
+use Rattle.fkv_scripts.specs.declared.lines.Line.{Line}
+use Rattle.fkv_scripts.specs.declared.lines.Line.TheVariants as line
+use Rattle.fkv_steps.specs.Running.{RunLines}
 use Rattle.fkv_answers.specs.OneAnswer.{IsSame, without_waiting}
 use Rattle.fkv_answers.specs.OneStep.{AreAlone}
+use Rattle.fkv_answers.specs.OneContext.{AreApart}
 
 -- a partition without the pages that wait to be flushed
 abbrev pub spare : {K V I : Type 0} → CompactedView K V I → CompactedView K V I
@@ -70,3 +78,53 @@ ActIsAlike {K} {V} {I} {O} {R} stands entry cmp f code =
     → result ≢ Err NoMemory
     → told ≢ Err NoMemory
     → IsSame (core_of stands new) (core_of stands next) result told
+
+-- so does a pursuit, whose steps flush nothing
+abbrev pub PursuitIsAlike : {K V I O R : Type 0} → (R → Standing) → (ℕ → List ℕ → ℕ → Entry K V → Type 0)
+    → (K → K → Ordering) → Meanings K V I O → (K → ℕ) → Type 0
+PursuitIsAlike {K} {V} {I} {O} {R} stands entry cmp f code =
+    (pursuit : Pursuit) (place : Place) (old new other next : WorldView K V I O R)
+    (result told : Result (Outcome V O) Refused) (most : ℕ) (step : Step K V I)
+    → AreApart old.state
+    → AreAlike stands old.state other.state
+    → flushes step ≡ false
+    → Pursues stands entry cmp f code pursuit place new (Some result) most step old
+    → Pursues stands entry cmp f code pursuit place next (Some told) most step other
+    → result ≢ Err NoMemory
+    → told ≢ Err NoMemory
+    → IsSame (core_of stands new.state) (core_of stands next.state) result told
+
+-- ---- scripts
+-- whether a line is a flush
+abbrev pub is_flush : Line → Bool
+is_flush (line.Flush p access) = true
+is_flush other = false
+
+abbrev pub FlushNothing : List Line → Type 0
+FlushNothing [] = Unit {0}
+FlushNothing (l ∷ ls) = (is_flush l ≡ false) × FlushNothing ls
+
+-- what lines told has no want of memory
+abbrev pub WantNone : {V O : Type 0} → List (Result (Outcome V O) Refused) → Type 0
+WantNone [] = Unit {0}
+WantNone (t ∷ ts) = (t ≢ Err NoMemory) × WantNone ts
+
+-- two runs of lines told the same, and left worlds that are alike
+pub record AreOne {V O R : Type 0} (stands : R → Standing) (new next : WorldView Name V ℤ O R)
+    (told said : List (Result (Outcome V O) Refused)) : Type 0 where
+  pub same : told ≡ said
+  pub alike : AreAlike stands new.state next.state
+
+-- lines that flush nothing tell the same from worlds that are alike, and leave worlds that are alike
+abbrev pub LinesAreAlike : {V O R : Type 0} → (R → Standing) → (ℕ → List ℕ → ℕ → Entry Name V → Type 0)
+    → (Name → Name → Ordering) → Meanings Name V ℤ O → (Name → ℕ) → (ℤ → V) → Type 0
+LinesAreAlike {V} {O} {R} stands entry cmp f code written =
+    (old new other next : WorldView Name V ℤ O R) (lines : List Line) (told said : List (Result (Outcome V O) Refused))
+    → AreApart old.state
+    → AreAlike stands old.state other.state
+    → FlushNothing lines
+    → RunLines stands entry cmp f code written old lines told new
+    → RunLines stands entry cmp f code written other lines said next
+    → WantNone told
+    → WantNone said
+    → AreOne stands new next told said
