@@ -3,3 +3,4 @@ mod RelocationLemmas
 mod StateLemmas
 mod AlikeLemmas
 mod LineLemmas
+mod OutputLemmas

@@ -18,9 +18,13 @@ use Rattle.fkv_worlds.specs.declared.pursuits.Pursuit.{Pursuit}
 use Rattle.fkv_worlds.specs.States.{StateView, WorldView}
 use Rattle.fkv_worlds.specs.Acts.{Acts}
 use Rattle.fkv_worlds.specs.Reports.{Pursues}
+use Rattle.fkv_partition.specs.declared.limits.Config.{Config}
+use Rattle.fkv_scripts.specs.Configs.{config_of}
+use Rattle.fkv_scripts.specs.declared.lines.FunctionsName.{FunctionsName}
+use Rattle.fkv_scripts.specs.declared.lines.FunctionsName.TheVariants.{Count, Sum, Max}
 use Rattle.fkv_scripts.specs.declared.lines.Line.{Line}
 use Rattle.fkv_scripts.specs.declared.lines.Line.TheVariants as line
-use Rattle.fkv_steps.specs.Running.{RunLines}
+use Rattle.fkv_steps.specs.Running.{RunLines, IsPrintedBy, Prints, IsOutputOf}
 use Rattle.fkv_answers.specs.OneAnswer.{IsSame, without_waiting}
 use Rattle.fkv_answers.specs.OneStep.{AreAlone}
 use Rattle.fkv_answers.specs.OneContext.{AreApart}
@@ -128,3 +132,41 @@ LinesAreAlike {V} {O} {R} stands entry cmp f code written =
     → WantNone told
     → WantNone said
     → AreOne stands new next told said
+
+-- two texts that a script prints are one, where its lines flush nothing and neither tells a want of memory
+abbrev pub IsPrintedOnce : {V O R : Type 0} → (R → Standing) → (ℕ → List ℕ → ℕ → Entry Name V → Type 0)
+    → (Name → Name → Ordering) → Meanings Name V ℤ O → (Name → ℕ) → (ℤ → V) → (V → List ℕ) → (O → List ℕ) → Type 0
+IsPrintedOnce {V} {O} {R} stands entry cmp f code written value shown =
+    (config : Config) (size : ℕ) (lines : List Line) (text other : List ℕ)
+    (p : IsPrintedBy {R = R} stands entry cmp f code written value shown config size lines text)
+    (q : IsPrintedBy stands entry cmp f code written value shown config size lines other)
+    → FlushNothing lines
+    → WantNone p.told
+    → WantNone q.told
+    → text ≡ other
+
+-- what is told by a text that a script prints has no want of memory
+abbrev pub IsSated : (functions : FunctionsName) (config : Config) (lines : List Line) (text : List ℕ)
+    → Prints functions config lines text → Type 0
+IsSated Count config lines text p = WantNone p.told
+IsSated Sum config lines text p = WantNone p.told
+IsSated Max config lines text p = WantNone p.told
+
+-- so it is with each of the functions that a first line names
+abbrev pub PrintsOnce : Type 0
+PrintsOnce =
+    (functions : FunctionsName) (config : Config) (lines : List Line) (text other : List ℕ)
+    (p : Prints functions config lines text) (q : Prints functions config lines other)
+    → FlushNothing lines
+    → IsSated functions config lines text p
+    → IsSated functions config lines other q
+    → text ≡ other
+
+-- and so the output of an input is one
+abbrev pub IsOneOutput : Type 0
+IsOneOutput =
+    (input text other : List ℕ) (p : IsOutputOf input text) (q : IsOutputOf input other)
+    → FlushNothing p.lines
+    → IsSated p.opening.functions (config_of p.opening) p.lines text p.prints
+    → IsSated q.opening.functions (config_of q.opening) q.lines other q.prints
+    → text ≡ other

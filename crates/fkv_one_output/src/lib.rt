@@ -5,4 +5,4 @@
 
 pub mod outputs;
 
-pub use outputs::steps_are_alike;
+pub use outputs::{output_is_one, steps_are_alike};
