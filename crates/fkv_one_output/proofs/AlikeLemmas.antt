@@ -1,9 +1,8 @@
 -- A step that flushes nothing tells the same in states that are alike, and leaves states that are alike.
-use Rattle.std.proofs.Common.{◌≡◌, ◌≢◌, Bool, true, false, cond, ℕ, zero, suc, List, [], ◌∷◌, map, Option, Some, None, option_map, Result, Ok, Err, slice_get, slice_set, refl, sym, ◌∙◌, ap, subst}
+use Rattle.std.proofs.Common.{◌≡◌, Bool, true, false, cond, ℕ, zero, suc, List, [], ◌∷◌, map, Option, Some, None, option_map, Result, Ok, Err, slice_get, refl, sym, ◌∙◌, ap, subst}
 use Rattle.std.specs.declared.cmp.Ordering.{Ordering}
 use Rattle.fkv_functions.specs.Meanings.{Meanings}
 use Rattle.fkv_functions.specs.declared.refusals.Refused.{Refused}
-use Rattle.fkv_functions.specs.declared.refusals.Refused.TheVariants.{NoMemory}
 use Rattle.fkv_device.specs.Standing.{Standing}
 use Rattle.fkv_texts.specs.declared.entries.Entry.{Entry}
 use Rattle.fkv_compaction.specs.Views.{CompactedView}
@@ -12,10 +11,10 @@ use Rattle.fkv_lives.specs.declared.steps.Step.{Step}
 use Rattle.fkv_lives.specs.Steps.{partition_in}
 use Rattle.fkv_worlds.specs.States.{StateView}
 use Rattle.fkv_worlds.specs.Acts.{Acts}
-use Rattle.fkv_answers.specs.OneAnswer.{IsSame, IsOneSpelling}
+use Rattle.fkv_answers.specs.OneAnswer.{IsOneSpelling}
 use Rattle.fkv_answers.specs.OneStep.{StateShape, spared, decided_of, moves_offsets, IsAlone, AreAlone}
 use Rattle.fkv_answers.proofs.StepLemmas.{act-decided}
-use Rattle.fkv_one_output.specs.OneOutput.{spare, core_of, flushes, ActIsAlike}
+use Rattle.fkv_one_output.specs.OneOutput.{spare, core_of, ActIsAlike}
 use Rattle.fkv_one_output.proofs.StateLemmas.{get-map, acts-core}
 
 same-map : {A : Type 0} (xs : List (Option A)) → map (option_map (λ (x : A). x)) xs ≡ xs

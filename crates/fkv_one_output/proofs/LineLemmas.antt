@@ -1,5 +1,5 @@
 -- Pursuits, lines and lists of lines that flush nothing, from worlds that are alike.
-use Rattle.std.proofs.Common.{◌≡◌, ◌≢◌, Bool, true, false, cond, ℕ, ℤ, zero, suc, List, [], ◌∷◌, map, Option, Some, None, option_map, Result, Ok, Err, slice_get, refl, sym, ◌∙◌, ap, subst}
+use Rattle.std.proofs.Common.{◌≡◌, ◌≢◌, Bool, true, false, cond, ℕ, ℤ, List, [], ◌∷◌, map, Option, Some, None, option_map, Result, Ok, Err, slice_get, refl, sym, ◌∙◌, ap, subst}
 use Rattle.std.specs.declared.cmp.Ordering.{Ordering}
 use Rattle.fkv_functions.specs.Meanings.{Meanings}
 use Rattle.fkv_functions.specs.declared.names.Name.{Name}
@@ -20,12 +20,12 @@ use Rattle.fkv_worlds.specs.States.{StateView, WorldView}
 use Rattle.fkv_worlds.specs.Reports.{IsKept, Pursues, follows, first_step, awaits_at}
 use Rattle.fkv_scripts.specs.declared.lines.Line.{Line}
 use Rattle.fkv_scripts.specs.declared.lines.Line.TheVariants as line
-use Rattle.fkv_steps.specs.Running.{FollowsIssue, RunsLine, RunLines, context_in, op_of}
+use Rattle.fkv_steps.specs.Running.{FollowsIssue, RunsLine, context_in, op_of}
 use Rattle.fkv_answers.specs.OneAnswer.{IsSame, IsOneSpelling}
 use Rattle.fkv_answers.specs.OneStep.{AreAlone}
 use Rattle.fkv_answers.specs.OneContext.{AreApart}
 use Rattle.fkv_answers.proofs.ContextLemmas.{apart-alone, act-apart, pursuit-apart}
-use Rattle.fkv_one_output.specs.OneOutput.{spare, core_of, AreAlike, flushes, is_flush, FlushNothing, WantNone, PursuitIsAlike, LinesAreAlike}
+use Rattle.fkv_one_output.specs.OneOutput.{spare, core_of, AreAlike, flushes, is_flush, PursuitIsAlike, LinesAreAlike}
 use Rattle.fkv_one_output.proofs.StateLemmas.{get-map}
 use Rattle.fkv_one_output.proofs.AlikeLemmas.{act-alike}
 

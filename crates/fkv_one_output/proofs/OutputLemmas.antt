@@ -1,10 +1,9 @@
 -- Two outputs of one script that flushes nothing are the same text.
-use Rattle.std.proofs.Common.{◌≡◌, ◌≢◌, ◌<◌, ◌^◌, ◌&&◌, Bool, true, false, cond, FitsSigned, ℕ, ℤ, zero, suc, List, [], ◌∷◌, ◌++◌, length, map, Option, Some, None, option_map, slice_get, refl, sym, ◌∙◌, ap, subst}
+use Rattle.std.proofs.Common.{◌≡◌, ◌<◌, ◌^◌, ◌&&◌, true, cond, FitsSigned, ℕ, ℤ, zero, suc, List, [], ◌∷◌, ◌++◌, length, map, Some, slice_get, refl, sym, ◌∙◌, ap, subst}
 use Rattle.std.proofs.Math.Dec.{T}
 use Rattle.std.specs.declared.cmp.Ordering.{Ordering}
 use Rattle.std.specs.declared.cmp.Ordering.TheVariants.{Less, Equal}
 use Rattle.std.specs.Ordering.{is_lt, is_eq}
-use Rattle.std.specs.Cmp.{IsTotalOrder}
 use Rattle.std.specs.BTreeMap.{is_at}
 use Rattle.std.specs.Fmt.{decimal, signed_decimal}
 use Rattle.std.specs.FinMap.Entries.{find, below_all, is_sorted, same_entries}
@@ -20,12 +19,10 @@ use Rattle.fkv_functions.specs.declared.names.Name.{Name}
 use Rattle.fkv_device.specs.Standing.{Standing}
 use Rattle.fkv_texts.specs.declared.entries.Entry.{Entry}
 use Rattle.fkv_pages.proofs.ReadLemmas.{one_entry_in}
-use Rattle.fkv_partition.specs.declared.limits.Config.{Config}
 use Rattle.fkv_partition.specs.Unions.{live_at, union_of}
-use Rattle.fkv_partition.specs.Views.{PartitionView, partition_of}
+use Rattle.fkv_partition.specs.Views.{partition_of}
 use Rattle.fkv_compaction.specs.Views.{CompactedView}
-use Rattle.fkv_worlds.specs.States.{StateView, WorldView, bare, empty_world}
-use Rattle.fkv_scripts.specs.Grammar.{Says}
+use Rattle.fkv_worlds.specs.States.{StateView, bare, empty_world}
 use Rattle.fkv_scripts.specs.Script.{SaysScript, SayAll, lines_of}
 use Rattle.fkv_scripts.specs.Configs.{config_of}
 use Rattle.fkv_scripts.specs.declared.lines.FunctionsName.{FunctionsName}
@@ -35,11 +32,10 @@ use Rattle.fkv_scripts.specs.declared.lines.Opening.{Opening}
 use Rattle.fkv_scripts.proofs.OneReadingLemmas.{says_once, opens_once}
 use Rattle.fkv_steps.specs.Bytes.{standing_of, IsNamedEntry}
 use Rattle.fkv_steps.specs.Printing.{steps_text, map_text}
-use Rattle.fkv_steps.specs.Running.{IsPrintedBy, Prints, hash_of, count_of, record_size}
+use Rattle.fkv_steps.specs.Running.{Prints, hash_of, count_of, record_size}
 use Rattle.fkv_answers.specs.OneAnswer.{IsOneSpelling}
 use Rattle.fkv_answers.proofs.ContextLemmas.{empty-apart}
-use Rattle.fkv_one_output.specs.OneOutput.{spare, core_of, AreAlike, FlushNothing, IsPrintedOnce, IsSated, PrintsOnce, IsOneOutput}
-use Rattle.fkv_one_output.proofs.StateLemmas.{get-map, length-map}
+use Rattle.fkv_one_output.specs.OneOutput.{spare, AreAlike, IsPrintedOnce, IsSated, PrintsOnce, IsOneOutput}
 use Rattle.fkv_one_output.proofs.LineLemmas.{lines-alike}
 
 -- ---- the live map

@@ -1,6 +1,6 @@
 -- An event of a partition reads nothing of the pages that wait to be flushed, and of a receipt nothing but what it
 -- stands for.
-use Rattle.std.proofs.Common.{◌≡◌, ◌≢◌, ◌<◌, ◌≤◌, Bool, ℕ, List, [], Option, Some, None, Result, Ok, Err, ap}
+use Rattle.std.proofs.Common.{Bool, ℕ, List, [], Option, Result, ap}
 use Rattle.std.specs.declared.cmp.Ordering.{Ordering}
 use Rattle.fkv_functions.specs.Meanings.{Meanings}
 use Rattle.fkv_functions.specs.declared.asks.Ask.{Ask}

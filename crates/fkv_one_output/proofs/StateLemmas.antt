@@ -1,11 +1,9 @@
 -- What a step does to a state it does to its core, if it flushes nothing.
-use Rattle.std.proofs.Common.{◌≡◌, ◌≢◌, ◌⊎◌, inl, inr, ◌<◌, ◌≤◌, Bool, true, false, cond, ℕ, zero, suc, List, [], ◌∷◌, length, map, Option, Some, None, option_map, is_none, unwrap_or, Result, Ok, Err, slice_get, slice_set, refl, sym, ◌∙◌, ap, subst}
+use Rattle.std.proofs.Common.{◌≡◌, ◌<◌, ◌≤◌, Bool, true, false, cond, ℕ, zero, suc, List, [], ◌∷◌, length, map, Option, Some, None, option_map, is_none, unwrap_or, Result, Ok, slice_get, slice_set, refl, sym, ◌∙◌, ap, subst}
 use Rattle.std.specs.declared.cmp.Ordering.{Ordering}
 use Rattle.fkv_functions.specs.Meanings.{Meanings}
 use Rattle.fkv_functions.specs.Plain.{PlainMap}
-use Rattle.fkv_functions.specs.declared.asks.Ask.{Ask}
 use Rattle.fkv_functions.specs.declared.refusals.Refused.{Refused}
-use Rattle.fkv_records.specs.Places.{page_at}
 use Rattle.fkv_device.specs.Standing.{Standing, Joined}
 use Rattle.fkv_texts.specs.declared.entries.Entry.{Entry}
 use Rattle.fkv_operations.specs.declared.operations.Op.{Op}
@@ -21,7 +19,7 @@ use Rattle.fkv_compaction.specs.declared.relocations.Moved.TheVariants as moved
 use Rattle.fkv_compaction.specs.Effect.{IsRelocating}
 use Rattle.fkv_compaction.specs.Going.{GoesOn}
 use Rattle.fkv_compaction.specs.Reading.{LoadsOn}
-use Rattle.fkv_compaction.specs.Views.{CompactedView, relocation_at}
+use Rattle.fkv_compaction.specs.Views.{CompactedView}
 use Rattle.fkv_lives.specs.declared.lives.End.{End}
 use Rattle.fkv_lives.specs.declared.lives.End.TheVariants.{Failed, GivenUp}
 use Rattle.fkv_lives.specs.declared.outcomes.Outcome.{Outcome}
@@ -39,7 +37,7 @@ use Rattle.fkv_worlds.specs.Acts.{Acts, IsDue, with_session, with_life, with_pro
 use Rattle.fkv_answers.specs.OneAnswer.{without_waiting, progress_of, came_of}
 use Rattle.fkv_answers.specs.OneRelocation.{moved_of}
 use Rattle.fkv_one_output.specs.OneOutput.{spare, core_of, flushes}
-use Rattle.fkv_one_output.proofs.PartitionLemmas.{enters-spare, leaves-spare, gives-up-spare, refreshes-spare, shifts-spare, evicts-spare, goes-spare, installs-spare, loads-spare}
+use Rattle.fkv_one_output.proofs.PartitionLemmas.{enters-spare, gives-up-spare, refreshes-spare, shifts-spare, evicts-spare, goes-spare, installs-spare, loads-spare}
 use Rattle.fkv_one_output.proofs.RelocationLemmas.{issues-spare, relocates-spare, leaves-all-spare, drops-spare, truncates-spare, goes-on-spare, loads-on-spare}
 
 -- ---- lists

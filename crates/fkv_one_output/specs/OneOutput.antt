@@ -1,7 +1,7 @@
 -- A script that flushes nothing has one output, want of memory aside. What a step leaves open is which pages wait to be
 -- flushed, and which of the receipts that stand for the same it carries; but only a flush takes a page that waits, and
 -- of a receipt nothing is read but what it stands for.
-use Rattle.std.specs.Prelude.{◌≡◌, ◌≢◌, ℕ, ℤ, Bool, true, false, List, [], ◌∷◌, map, Option, Some, option_map, Result, Err}
+use Rattle.std.specs.Prelude.{◌≡◌, ◌≢◌, ℕ, ℤ, Bool, true, false, List, [], ◌∷◌, map, Some, option_map, Result, Err}
 use Rattle.std.specs.declared.cmp.Ordering.{Ordering}
 use Rattle.fkv_functions.specs.Meanings.{Meanings}
 use Rattle.fkv_functions.specs.declared.names.Name.{Name}
