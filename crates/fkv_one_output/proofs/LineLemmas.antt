@@ -88,12 +88,12 @@ module _ {K V I O R : Type 0} (stands : R → Standing) (entry : ℕ → List �
   first-same s t p place alike = sym (first-core s.partitions p place) ∙ ap (λ (x : StateView K V I O Standing). first_step x.partitions p place) alike ∙ first-core t.partitions p place
 
   -- what is so of worlds to which the same led from worlds that are alike
-  record Goes (new next : StateView K V I O R) (told said : Result (Outcome V O) Refused) : Type 0 where
+  record GoTogether (new next : StateView K V I O R) (told said : Result (Outcome V O) Refused) : Type 0 where
     same : IsSame (core_of stands new) (core_of stands next) told said
     apart : AreApart new
 
   kept-alike : (old new other next : WorldView K V I O R) (s : Step K V I) (told said : Result (Outcome V O) Refused) → AreApart old.state → AreAlike stands old.state other.state → flushes s ≡ false
-      → IsKept stands entry cmp f code old new s told → IsKept stands entry cmp f code other next s said → told ≢ Err NoMemory → said ≢ Err NoMemory → Goes new.state next.state told said
+      → IsKept stands entry cmp f code old new s told → IsKept stands entry cmp f code other next s said → told ≢ Err NoMemory → said ≢ Err NoMemory → GoTogether new.state next.state told said
   kept-alike old new other next s told said apart alike calm h k n m = record {
     same = act-alike stands entry cmp f code one old.state new.state other.state next.state s told said (are-alone old.state apart) alike calm h.acts k.acts n m;
     apart = act-apart stands entry cmp f code old.state new.state s told apart h.acts;
@@ -135,7 +135,7 @@ module _ {K V I O R : Type 0} (stands : R → Standing) (entry : ℕ → List �
   -- a pursuit from its first step
   pursued-alike : (p : Pursuit) (place : Place) (old new other next : WorldView K V I O R) (told said : Result (Outcome V O) Refused) → AreApart old.state → AreAlike stands old.state other.state
       → Pursues stands entry cmp f code p place new (Some told) 10000 (first_step old.state.partitions p place) old → Pursues stands entry cmp f code p place next (Some said) 10000 (first_step other.state.partitions p place) other
-      → told ≢ Err NoMemory → said ≢ Err NoMemory → Goes new.state next.state told said
+      → told ≢ Err NoMemory → said ≢ Err NoMemory → GoTogether new.state next.state told said
   pursued-alike p place old new other next told said apart alike h k n m =
       let first = first-same old.state other.state p place alike in
       record {
@@ -152,7 +152,7 @@ module _ {V O R : Type 0} (stands : R → Standing) (entry : ℕ → List ℕ �
   Told = Result (Outcome V O) Refused
 
   abbrev Along : World → World → Told → Told → Type 0
-  Along new next told said = Goes stands entry cmp f code one new.state next.state told said
+  Along new next told said = GoTogether stands entry cmp f code one new.state next.state told said
 
   -- an issue is no want of memory
   some-issued : (issued : Told) (c : ℕ) → context_in issued ≡ Some c → issued ≢ Err NoMemory

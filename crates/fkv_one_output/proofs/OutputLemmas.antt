@@ -35,7 +35,7 @@ use Rattle.fkv_steps.specs.Printing.{steps_text, map_text}
 use Rattle.fkv_steps.specs.Running.{Prints, hash_of, count_of, record_size}
 use Rattle.fkv_answers.specs.OneAnswer.{IsOneSpelling}
 use Rattle.fkv_answers.proofs.ContextLemmas.{empty-apart}
-use Rattle.fkv_one_output.specs.OneOutput.{spare, AreAlike, IsPrintedOnce, IsSated, PrintsOnce, IsOneOutput}
+use Rattle.fkv_one_output.specs.OneOutput.{spare, AreAlike, IsPrintedOnce, IsSated, ScriptsAreAlike, PrintsOnce, IsOneOutput}
 use Rattle.fkv_one_output.proofs.LineLemmas.{lines-alike}
 
 -- ---- the live map
@@ -90,6 +90,11 @@ printed-once {V} {O} {R} stands entry f code written value shown one config size
 
 named-once : {V : Type 0} (value : V → List ℕ) (is_value : V → Type 0) (size : ℕ) → ((a b : V) → is_value a → is_value b → value a ≡ value b → a ≡ b) → IsOneSpelling (IsNamedEntry value is_value size)
 named-once value is_value size readable = one_entry_in name_bytes value (λ name. Unit {0}) is_value 32 size (λ a b h k e. name_readable a b e) readable
+
+pub scripts-alike : ScriptsAreAlike
+scripts-alike Count = lines-alike standing_of (IsNamedEntry (to_le_bytes w64) (λ n. n < 2 ^ 64) 8) name_cmp counts hash_of count_of (named-once (to_le_bytes w64) (λ n. n < 2 ^ 64) 8 word_readable)
+scripts-alike Sum = lines-alike standing_of (IsNamedEntry long_bytes (FitsSigned w128) 16) name_cmp sums hash_of (λ n. n) (named-once long_bytes (FitsSigned w128) 16 long_readable)
+scripts-alike Max = lines-alike standing_of (IsNamedEntry signed_bytes (FitsSigned w64) 8) name_cmp maxima hash_of (λ n. n) (named-once signed_bytes (FitsSigned w64) 8 signed_readable)
 
 pub prints-once : PrintsOnce
 prints-once Count config lines text other p q calm n m =

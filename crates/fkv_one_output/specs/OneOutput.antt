@@ -1,8 +1,12 @@
 -- A script that flushes nothing has one output, want of memory aside. What a step leaves open is which pages wait to be
 -- flushed, and which of the receipts that stand for the same it carries; but only a flush takes a page that waits, and
 -- of a receipt nothing is read but what it stands for.
-use Rattle.std.specs.Prelude.{◌≡◌, ◌≢◌, ℕ, ℤ, Bool, true, false, List, [], ◌∷◌, map, Some, option_map, Result, Err}
+use Rattle.std.specs.Prelude.{◌≡◌, ◌≢◌, ◌<◌, ◌^◌, FitsSigned, ℕ, ℤ, Bool, true, false, List, [], ◌∷◌, map, Some, option_map, Result, Err}
+use Rattle.std.specs.Int.{w64, w128, to_le_bytes}
 use Rattle.std.specs.declared.cmp.Ordering.{Ordering}
+use Rattle.fkv_functions.specs.Integers.{signed_bytes, long_bytes}
+use Rattle.fkv_functions.specs.Names.{name_cmp}
+use Rattle.fkv_functions.specs.Sets.{counts, sums, maxima}
 use Rattle.fkv_functions.specs.Meanings.{Meanings}
 use Rattle.fkv_functions.specs.declared.names.Name.{Name}
 use Rattle.fkv_functions.specs.declared.refusals.Refused.{Refused}
@@ -24,7 +28,8 @@ use Rattle.fkv_scripts.specs.declared.lines.FunctionsName.{FunctionsName}
 use Rattle.fkv_scripts.specs.declared.lines.FunctionsName.TheVariants.{Count, Sum, Max}
 use Rattle.fkv_scripts.specs.declared.lines.Line.{Line}
 use Rattle.fkv_scripts.specs.declared.lines.Line.TheVariants as line
-use Rattle.fkv_steps.specs.Running.{RunLines, IsPrintedBy, Prints, IsOutputOf}
+use Rattle.fkv_steps.specs.Bytes.{standing_of, IsNamedEntry}
+use Rattle.fkv_steps.specs.Running.{hash_of, count_of, RunLines, IsPrintedBy, Prints, IsOutputOf}
 use Rattle.fkv_answers.specs.OneAnswer.{IsSame, without_waiting}
 use Rattle.fkv_answers.specs.OneStep.{AreAlone}
 use Rattle.fkv_answers.specs.OneContext.{AreApart}
@@ -133,6 +138,18 @@ LinesAreAlike {V} {O} {R} stands entry cmp f code written =
     → WantNone said
     → AreOne stands new next told said
 
+-- so it is with each of the functions that a script's first line names
+abbrev pub LinesAreAlikeBy : FunctionsName → Type 0
+LinesAreAlikeBy Count =
+    LinesAreAlike standing_of (IsNamedEntry (to_le_bytes w64) (λ n. n < 2 ^ 64) 8) name_cmp counts hash_of count_of
+LinesAreAlikeBy Sum =
+    LinesAreAlike standing_of (IsNamedEntry long_bytes (FitsSigned w128) 16) name_cmp sums hash_of (λ n. n)
+LinesAreAlikeBy Max =
+    LinesAreAlike standing_of (IsNamedEntry signed_bytes (FitsSigned w64) 8) name_cmp maxima hash_of (λ n. n)
+
+abbrev pub ScriptsAreAlike : Type 0
+ScriptsAreAlike = (functions : FunctionsName) → LinesAreAlikeBy functions
+
 -- two texts that a script prints are one, where its lines flush nothing and neither tells a want of memory
 abbrev pub IsPrintedOnce : {V O R : Type 0} → (R → Standing) → (ℕ → List ℕ → ℕ → Entry Name V → Type 0)
     → (Name → Name → Ordering) → Meanings Name V ℤ O → (Name → ℕ) → (ℤ → V) → (V → List ℕ) → (O → List ℕ) → Type 0
@@ -152,7 +169,7 @@ IsSated Count config lines text p = WantNone p.told
 IsSated Sum config lines text p = WantNone p.told
 IsSated Max config lines text p = WantNone p.told
 
--- so it is with each of the functions that a first line names
+-- so it is with each of these functions
 abbrev pub PrintsOnce : Type 0
 PrintsOnce =
     (functions : FunctionsName) (config : Config) (lines : List Line) (text other : List ℕ)

@@ -1,5 +1,5 @@
 //! One output of a script that flushes nothing. Each law is what a function without a body ensures.
-ghost use Rattle.fkv_one_output.specs.OneOutput.{ActIsAlike, PursuitIsAlike, PrintsOnce, IsOneOutput};
+ghost use Rattle.fkv_one_output.specs.OneOutput.{ActIsAlike, PursuitIsAlike, ScriptsAreAlike, PrintsOnce, IsOneOutput};
 ghost use Rattle.fkv_pages.specs.Spelled.{IsEntryIn};
 
 use fkv_device::Disk;
@@ -14,9 +14,11 @@ pub fn steps_are_alike<F: Functions, D: Disk>()
         F.Key.is_known F.Value.is_known F.Key.SIZE F.Value.SIZE) F.Key.cmp F.meaning F.code }
 {}
 
-/// A script that flushes nothing has one output, unless memory is refused: two texts that its lines print, with the
-/// functions that its first line names, are the same text, and so are two outputs of one input.
+/// A script that flushes nothing has one output, unless memory is refused. Its lines tell the same from worlds that are
+/// alike, and leave such worlds, with each of the functions that a first line names; so two texts that they print are
+/// the same text; and so are two outputs of one input.
 pub fn output_is_one()
+    ensures lines { ScriptsAreAlike }
     ensures prints { PrintsOnce }
     ensures output { IsOneOutput }
 {}
