@@ -6,5 +6,5 @@ mod OperationLemmas
 mod LoadLemmas
 mod TurnLemmas
 mod RelocationLemmas
-mod StepLemmas
-mod ContextLemmas
+pub mod StepLemmas
+pub mod ContextLemmas

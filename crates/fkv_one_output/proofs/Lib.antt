@@ -1,0 +1,6 @@
+mod PartitionLemmas
+mod RelocationLemmas
+mod StateLemmas
+mod AlikeLemmas
+mod LineLemmas
+mod OutputLemmas
