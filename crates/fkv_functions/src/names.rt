@@ -239,11 +239,21 @@ fn high_word_of(bytes: &[u8]) -> u64
     u64::from_be_bytes(word)
 }
 
-/// Whether these bytes, 31 at most, are all zero.
+/// Whether these bytes, 31 at most, are all zero: eight by eight, and then the last eight, of which some may have been
+/// read before.
 fn is_zeros(bytes: &[u8]) -> bool
     requires { length bytes.now ≤ 31 }
     ensures { IsTrue result ↔ (bytes.now ≡ replicate (length bytes.now) 0) }
 {
-    let zeros = [0u8; 31];
-    bytes == &zeros[..bytes.len()]
+    if bytes.len() < 8 {
+        return bytes.iter().all(|byte| *byte == 0);
+    }
+    let mut at = 0;
+    while at + 8 < bytes.len() {
+        if word_of(&bytes[at..at + 8]) != 0 {
+            return false;
+        }
+        at += 8;
+    }
+    word_of(&bytes[bytes.len() - 8..]) == 0
 }

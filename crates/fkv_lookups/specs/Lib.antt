@@ -9,3 +9,4 @@ pub mod Meeting
 pub mod Cleared
 pub mod WrongCleared
 pub mod Overlays
+pub mod Paged

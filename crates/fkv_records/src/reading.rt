@@ -1,10 +1,11 @@
 //! Parts of a record that is known to stand in these bytes, each read without the others.
-ghost use Rattle.std.specs.Prelude.{◌≡◌, ◌^◌, ◌<◌, ◌≤◌, ◌↔◌, length, is_none, IsTrue, Some};
+ghost use Rattle.std.specs.Prelude.{◌≡◌, ◌^◌, ◌<◌, ◌≤◌, ◌↔◌, length, is_none, IsTrue, IfSome, Some};
 ghost use Rattle.fkv_records.specs.Records.{size_of, Spells};
 ghost use Rattle.fkv_records.specs.declared.records.Record.{Record};
 
 use crate::addresses::{Address, NO_RECORD};
 use crate::headers::Header;
+use crate::records::Record;
 use fkv_functions::Fixed;
 
 /// Whether the record is one of this key: the key's bytes are compared, and no key is read.
@@ -41,4 +42,44 @@ pub fn value_of<K: Fixed, V: Fixed>(bytes: &[u8]) -> Option<V>
 {
     let start = 8 + K::SIZE;
     V::take(&bytes[start..start + V::SIZE])
+}
+
+/// The record's key.
+pub fn key_of<K: Fixed, V: Fixed>(bytes: &[u8]) -> Option<K>
+    requires most { size_of K.SIZE V.SIZE ≤ 192 }
+    requires room { length bytes.now ≡ size_of K.SIZE V.SIZE }
+    ensures { (r : Record K V) → K.is_known r.key → Spells K.bytes_of V.bytes_of K.SIZE V.SIZE bytes.now r
+        → result ≡ Some r.key }
+{
+    K::take(&bytes[8..8 + K::SIZE])
+}
+
+/// The whole record: nothing is tested that is known.
+#[inline(always)]
+pub fn record_of<K: Fixed, V: Fixed>(bytes: &[u8]) -> Option<Record<K, V>>
+    requires most { size_of K.SIZE V.SIZE ≤ 192 }
+    requires room { length bytes.now ≡ size_of K.SIZE V.SIZE }
+    ensures { (r : Record K V) → K.is_known r.key → IfSome r.value V.is_known → r.previous < 2 ^ 48
+        → Spells K.bytes_of V.bytes_of K.SIZE V.SIZE bytes.now r
+        → result ≡ Some r }
+{
+    let (previous, is_tombstone) = link_of::<K, V>(bytes);
+    let Some(key) = key_of::<K, V>(bytes) else {
+        return None;
+    };
+    if is_tombstone {
+        return Some(Record {
+            previous,
+            key,
+            value: None,
+        });
+    }
+    match value_of::<K, V>(bytes) {
+        None => None,
+        value => Some(Record {
+            previous,
+            key,
+            value,
+        }),
+    }
 }
