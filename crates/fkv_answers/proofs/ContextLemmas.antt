@@ -33,7 +33,7 @@ use Rattle.fkv_answers.specs.OneContext.{IsApart, AreApart, ApartIsAlone, Compac
 use Rattle.fkv_answers.proofs.StepLemmas.{get-set, moving, reading, dropped, ending}
 
 -- ---- numbers and lists
-even-or : (i j : ℕ) → (i ≡ j) ⊎ (i ≢ j)
+pub even-or : (i j : ℕ) → (i ≡ j) ⊎ (i ≢ j)
 even-or zero zero = inl refl
 even-or zero (suc j) = inr (λ e. omega arith)
 even-or (suc i) zero = inr (λ e. omega arith)
@@ -63,19 +63,19 @@ get-set-other (x ∷ xs) zero (suc j) y n = refl
 get-set-other (x ∷ xs) (suc i) zero y n = refl
 get-set-other (x ∷ xs) (suc i) (suc j) y n = get-set-other xs i j y (λ e. n (ap suc e))
 
-replicate-at : {A : Type 0} (n : ℕ) (x y : A) (i : ℕ) → slice_get (replicate n x) i ≡ Some y → y ≡ x
+pub replicate-at : {A : Type 0} (n : ℕ) (x y : A) (i : ℕ) → slice_get (replicate n x) i ≡ Some y → y ≡ x
 replicate-at zero x y i h = absurd (cc)
 replicate-at (suc n) x y zero h = let same : x ≡ y = cc in sym same
 replicate-at (suc n) x y (suc i) h = replicate-at n x y i h
 
 -- what stands at a place of a list of places
-joined-some : {A : Type 0} (o : Option (Option A)) (x : A) → joined o ≡ Some x → o ≡ Some (Some x)
+pub joined-some : {A : Type 0} (o : Option (Option A)) (x : A) → joined o ≡ Some x → o ≡ Some (Some x)
 joined-some None x h = absurd (cc)
 joined-some (Some y) x h = ap Some h
 
 -- ---- what is so of a partition
 -- the relocation that is open in a context stands at its place
-relocation-there : {K V I : Type 0} (v : CompactedView K V I) (slot c : ℕ) (x : Relocation K V) → relocation_at v slot c ≡ Some x → (c < 8) × (slice_get v.relocations (slot * 8 + c) ≡ Some (Some x))
+pub relocation-there : {K V I : Type 0} (v : CompactedView K V I) (slot c : ℕ) (x : Relocation K V) → relocation_at v slot c ≡ Some x → (c < 8) × (slice_get v.relocations (slot * 8 + c) ≡ Some (Some x))
 relocation-there {K} {V} v slot c x here = by (is_session (slots_of v.partition) slot) (nat_lt c 8) refl here
   where
     by : (b t : Bool) → nat_lt c 8 ≡ t → cond (b && t) (joined (slice_get v.relocations (slot * 8 + c))) None ≡ Some x → (c < 8) × (slice_get v.relocations (slot * 8 + c) ≡ Some (Some x))
@@ -328,7 +328,7 @@ step-apart {K} {V} {I} {O} {R} stands entry cmp f code old new step result apart
   where
     by : Steps stands entry cmp f code old new step result → AreApart new.state
     by (Steps.unkept is t) = same-apart stands entry cmp f code old.state apart new.state (ap (λ (w : WorldView K V I O R). w.state.partitions) is)
-    by (Steps.kept does kept) = act-apart stands entry cmp f code old.state new.state step result apart does
+    by (Steps.kept does kept at) = act-apart stands entry cmp f code old.state new.state step result apart does
 
 pub pursuit-apart : {K V I O R : Type 0} (stands : R → Standing) (entry : ℕ → List ℕ → ℕ → Entry K V → Type 0) (cmp : K → K → Ordering) (f : Meanings K V I O) (code : K → ℕ) → PursuitKeepsApart stands entry cmp f code
 pursuit-apart {K} {V} {I} {O} {R} stands entry cmp f code pursuit place old new result most step apart h = by most step old apart h

@@ -1,4 +1,4 @@
-mod OneLemmas
+pub mod OneLemmas
 mod SessionLemmas
 mod OffsetLemmas
 mod ClaimLemmas
@@ -8,3 +8,8 @@ mod TurnLemmas
 mod RelocationLemmas
 pub mod StepLemmas
 pub mod ContextLemmas
+mod RowLemmas
+mod RowTurnLemmas
+mod RowRuleLemmas
+mod RowStateLemmas
+pub mod RowStepLemmas

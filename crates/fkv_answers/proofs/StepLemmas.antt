@@ -80,12 +80,12 @@ spared-set {K} {V} {I} views p v u here =
     ap (λ (o : Option (CompactedView K V I)). spared (slice_set views p u) p o) (get-set views p v u here) ∙ set-set views p u (compaction.with_partition u (without_waiting u.partition))
 
 -- ---- what an event of a rule leaves and tells, as far as that is seen
-record Event {W T X U : Type 0} (rule : W → Result T Refused → Type 0) (view : Result T Refused → W → X) (of : Result T Refused → Result U Refused) (o : Out X U) : Type 0 where
-  new : W
-  result : Result T Refused
-  does : rule new result
-  some : result ≢ Err NoMemory
-  is : o ≡ (view result new, of result)
+pub record Event {W T X U : Type 0} (rule : W → Result T Refused → Type 0) (view : Result T Refused → W → X) (of : Result T Refused → Result U Refused) (o : Out X U) : Type 0 where
+  pub new : W
+  pub result : Result T Refused
+  pub does : rule new result
+  pub some : result ≢ Err NoMemory
+  pub is : o ≡ (view result new, of result)
 
 event : {W T X U : Type 0} {rule : W → Result T Refused → Type 0} {view : Result T Refused → W → X} {of : Result T Refused → Result U Refused} (new : W) (result : Result T Refused) → rule new result → result ≢ Err NoMemory
     → Event rule view of (view result new, of result)
@@ -223,7 +223,7 @@ any-page-on stands spells cmp code old new slot c came page now result w (LoadsO
 any-page-on stands spells cmp code old new slot c came page now result w (LoadsOn.astray x e l p b at has read traces above else is t) n = absurd (cc)
 
 -- a page that came for what waits in a context, whatever it brought: what is told of it, as far as that is seen
-record PageEvent {W T U R : Type 0} (stands : R → Standing) (access : Access) (held : Option R) (rule : Result (Joined R) Refused → W → Result T Refused → Type 0) (of : Result T Refused → Result U Refused) (o : Out W U) : Type 0 where
+pub record PageEvent {W T U R : Type 0} (stands : R → Standing) (access : Access) (held : Option R) (rule : Result (Joined R) Refused → W → Result T Refused → Type 0) (of : Result T Refused → Result U Refused) (o : Out W U) : Type 0 where
   receipt : R
   came : Result (Joined R) Refused
   new : W
@@ -287,7 +287,7 @@ module _ {K V I O R : Type 0} (stands : R → Standing) (entry : ℕ → List �
   end-one end h (w, Err e) = only-one
 
   -- a page that was taken is written
-  abbrev WriteEnd : CompactedView K V I → ℕ → FlushJob → Out (PartitionView K V I) (Unit {0}) → StepsOut → Type 0
+  abbrev pub WriteEnd : CompactedView K V I → ℕ → FlushJob → Out (PartitionView K V I) (Unit {0}) → StepsOut → Type 0
   WriteEnd v p job (q, Ok x) = Ends (with_job (acts.with_partition old p (compaction.with_partition v q)) p None) (outcome.Flushed job.page)
   WriteEnd v p job (q, Err e) = Only (shape stands (with_job old p None), Err e)
 
@@ -295,7 +295,7 @@ module _ {K V I O R : Type 0} (stands : R → Standing) (entry : ℕ → List �
   write-end-one v p job (q, Ok x) = only-one
   write-end-one v p job (q, Err e) = only-one
 
-  abbrev WriteOut : CompactedView K V I → ℕ → FlushJob → Access → StepsOut → Type 0
+  abbrev pub WriteOut : CompactedView K V I → ℕ → FlushJob → Access → StepsOut → Type 0
   WriteOut v p job Fails = Only (shape stands (with_job old p None), Err (Device 2 job.page))
   WriteOut v p job Works =
       ByThe (Event (λ (q : PartitionView K V I) (r : Result (Unit {0}) Refused). Flushes v.partition q (receipt_of job) job.bytes.items now r) whole as-told) (WriteEnd v p job)
@@ -330,7 +330,7 @@ module _ {K V I O R : Type 0} (stands : R → Standing) (entry : ℕ → List �
   load-on-end-one w (u, Err e) = test-one only-one only-one
 
   -- ---- a step that is due, in this partition
-  abbrev Due : CompactedView K V I → Step K V I → StepsOut → Type 0
+  abbrev pub Due : CompactedView K V I → Step K V I → StepsOut → Type 0
   Due v (Enter p) =
       ByThe (Event (λ (q : PartitionView K V I) (r : Result ℕ Refused). Enters v.partition q now r) whole as-told)
       (ByEnd (λ q slot. ByOption Never (λ (n : ℕ). Ends (with_session old p slot n (compaction.with_partition v q)) (outcome.Entered slot)) (slice_get old.enters p)))
@@ -471,7 +471,7 @@ module _ {K V I O R : Type 0} (stands : R → Standing) (entry : ℕ → List �
       (λ (w : Place). ByOption Never (λ (v : CompactedView K V I). ByTest (IsOpenAt v w.slot w.context) (Refuse NotReady) (Refuse Unknown)) (slice_get old.partitions w.partition))
       (answers_in step)
 
-  abbrev StepOut : Step K V I → StepsOut → Type 0
+  abbrev pub StepOut : Step K V I → StepsOut → Type 0
   StepOut step =
       ByTest (length old.partitions ≤ partition_in step) (Refuse Unknown)
       (ByTest (is_unasked old step ≡ true) (Unasked step)
@@ -553,7 +553,7 @@ module _ {K V I O R : Type 0} (stands : R → Standing) (entry : ℕ → List �
   err-is : (result : Result (Outcome V O) Refused) (e : Refused) → result ≡ Err e → result ≢ Err NoMemory → e ≢ NoMemory
   err-is result e told n same = n (told ∙ (λ i. Err (same i)))
 
-  acts-out : (new : StateView K V I O R) (step : Step K V I) (result : Result (Outcome V O) Refused) → AreAlone old → Acts stands entry cmp f code old new step result → result ≢ Err NoMemory → StepOut step (decided_of stands step result new, result)
+  pub acts-out : (new : StateView K V I O R) (step : Step K V I) (result : Result (Outcome V O) Refused) → AreAlone old → Acts stands entry cmp f code old new step result → result ≢ Err NoMemory → StepOut step (decided_of stands step result new, result)
   acts-out new step result alone (Acts.nowhere high left told) n = ByTest.holds high (stays step new result Unknown left told)
   acts-out new step result alone (Acts.unasked w v answers here un opened left told) n =
       ByTest.fails (within step w v answers here) (ByTest.holds un (ByOption.is_some w answers (ByOption.is_some v here (ByTest.holds opened (stays step new result NotReady left told)))))
@@ -688,8 +688,8 @@ step-decided {K} {V} {I} {O} {R} stands entry cmp f code one old new other step 
     by : Steps stands entry cmp f code old new step result → Steps stands entry cmp f code old other step told
         → IsSame {W = StateShape K V I O × List (Result (Outcome V O) Refused)} (decided_of stands step result new.state, new.outcomes) (decided_of stands step told other.state, other.outcomes) result told
     by (Steps.unkept is t) so = absurd (n t)
-    by (Steps.kept does kept) (Steps.unkept is t) = absurd (m t)
-    by (Steps.kept does kept) (Steps.kept so keeps) =
+    by (Steps.kept does kept at) (Steps.unkept is t) = absurd (m t)
+    by (Steps.kept does kept at) (Steps.kept so keeps there) =
         let s = act-decided stands entry cmp f code one old.state new.state other.state step result told alone does so n m in
         let outcomes : new.outcomes ≡ other.outcomes = kept ∙ ap (λ (r : Result (Outcome V O) Refused). old.outcomes ++ r ∷ []) s.answer ∙ sym keeps in
         record { view = λ i. (s.view i, outcomes i); answer = s.answer }

@@ -2,3 +2,4 @@ pub mod OneAnswer
 pub mod OneRelocation
 pub mod OneStep
 pub mod OneContext
+pub mod OneRow

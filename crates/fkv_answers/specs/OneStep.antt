@@ -1,6 +1,6 @@
 -- What a step of a world tells is decided by the world's state before it and by the step, want of memory aside; and so
 -- is the state that it leaves, but for where bytes lie in memory, and for which pages wait to be flushed once offsets
--- have moved. Of a list of steps this does not follow yet: a later step may take one of those pages.
+-- have moved. Of a list of steps it does not follow by that alone, since a later step may take one of those pages.
 use Rattle.std.specs.Prelude.{◌≡◌, ◌≢◌, Bool, true, false, cond, ℕ, List, Option, Some, None, Result, Ok, Err, map, option_map, slice_get, slice_set}
 use Rattle.std.specs.declared.cmp.Ordering.{Ordering}
 use Rattle.fkv_functions.specs.Meanings.{Meanings}

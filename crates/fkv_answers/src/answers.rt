@@ -10,6 +10,7 @@ ghost use Rattle.fkv_answers.specs.OneRelocation.{NextIsDecided, LoadOnIsDecided
 ghost use Rattle.fkv_answers.specs.OneStep.{ActIsDecided, StepIsDecided};
 ghost use Rattle.fkv_answers.specs.OneContext.{ApartIsAlone, CompactingIsApart, EmptyIsApart, ActKeepsApart};
 ghost use Rattle.fkv_answers.specs.OneContext.{StepKeepsApart, PursuitKeepsApart, RunIsAlone};
+ghost use Rattle.fkv_answers.specs.OneRow.{EmptyIsHeld, ActKeepsHeld, StepKeepsHeld, PursuitKeepsHeld};
 
 use fkv_device::Disk;
 use fkv_functions::Functions;
@@ -93,5 +94,19 @@ pub fn contexts_are_alone<F: Functions, D: Disk>()
     ensures pursuits { PursuitKeepsApart {O = F.Output} D.Receipt.stands (IsEntryIn F.Key.bytes_of F.Value.bytes_of
         F.Key.is_known F.Value.is_known F.Key.SIZE F.Value.SIZE) F.Key.cmp F.meaning F.code }
     ensures runs { RunIsAlone {O = F.Output} D.Receipt.stands (IsEntryIn F.Key.bytes_of F.Value.bytes_of
+        F.Key.is_known F.Value.is_known F.Key.SIZE F.Value.SIZE) F.Key.cmp F.meaning F.code }
+{}
+
+/// In every world the rows hold the receipts that are kept: where an operation or a relocation waits for a page, its
+/// row has the receipt that its partition keeps of that page; and a page that was taken is the lowest that is not
+/// flushed, with the bytes that wait first. So it is of the world before its first step, and of what a step or a
+/// pursuit leaves where it is so of what was before.
+pub fn rows_are_held<F: Functions, D: Disk>()
+    ensures empty { EmptyIsHeld F.Key F.Value F.Input F.Output D.Receipt.stands }
+    ensures acts { ActKeepsHeld {O = F.Output} D.Receipt.stands (IsEntryIn F.Key.bytes_of F.Value.bytes_of
+        F.Key.is_known F.Value.is_known F.Key.SIZE F.Value.SIZE) F.Key.cmp F.meaning F.code }
+    ensures steps { StepKeepsHeld {O = F.Output} D.Receipt.stands (IsEntryIn F.Key.bytes_of F.Value.bytes_of
+        F.Key.is_known F.Value.is_known F.Key.SIZE F.Value.SIZE) F.Key.cmp F.meaning F.code }
+    ensures pursuits { PursuitKeepsHeld {O = F.Output} D.Receipt.stands (IsEntryIn F.Key.bytes_of F.Value.bytes_of
         F.Key.is_known F.Value.is_known F.Key.SIZE F.Value.SIZE) F.Key.cmp F.meaning F.code }
 {}

@@ -16,3 +16,4 @@ pub mod AccountLemmas
 pub mod ReportLemmas
 pub mod HistoryLemmas
 pub mod PagingLemmas
+pub mod PagedLemmas

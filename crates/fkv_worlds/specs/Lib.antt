@@ -7,3 +7,4 @@ pub mod Worlds
 pub mod Headline
 pub mod Sound
 pub mod Reports
+pub mod Paged

@@ -29,13 +29,15 @@ pub struct World<F: Functions> {
 impl<F: Functions> Model for World<F> {
     ghost use Rattle.fkv_device.specs.declared.memory.MemoryReceipt.{MemoryReceipt};
     ghost use Rattle.fkv_worlds.specs.States.{WorldView};
-    ghost use Rattle.fkv_lives.specs.Told.{IsAccount, taken};
+    ghost use Rattle.fkv_pages.specs.Spelled.{IsEntryIn};
+    ghost use Rattle.fkv_worlds.specs.Sound.{IsTold};
 
     ghost Value = { WorldView F.Key F.Value F.Input F.Output MemoryReceipt };
 
     ghost view = { λ w. record { state = w.state; outcomes = w.outcomes.items } };
 
-    ghost invariant = { λ w. IsAccount w.state.lives (taken w.outcomes.items) w.state.moment };
+    ghost invariant = { λ w. IsTold (IsEntryIn F.Key.bytes_of F.Value.bytes_of F.Key.is_known F.Value.is_known
+        F.Key.SIZE F.Value.SIZE) (record { state = w.state; outcomes = w.outcomes.items }) };
 }
 
 impl<F: Functions> World<F> {
@@ -72,6 +74,7 @@ impl<F: Functions> World<F> {
         };
         self.state.sound();
         let result = self.state.act(functions, step);
+        self.state.pages_known(step.partition());
         // there is room for it
         let _kept = self.outcomes.push(result);
         Some(result)
