@@ -1,6 +1,10 @@
+mod ListLemmas
+mod PageLemmas
 mod PartitionLemmas
 mod RelocationLemmas
 mod StateLemmas
+mod FlushLemmas
 mod AlikeLemmas
+mod KnownLemmas
 mod LineLemmas
 mod OutputLemmas

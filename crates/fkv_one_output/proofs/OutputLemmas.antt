@@ -1,4 +1,4 @@
--- Two outputs of one script that flushes nothing are the same text.
+-- Two outputs of one script are the same text.
 use Rattle.std.proofs.Common.{◌≡◌, ◌<◌, ◌^◌, ◌&&◌, true, cond, FitsSigned, ℕ, ℤ, zero, suc, List, [], ◌∷◌, ◌++◌, length, map, Some, slice_get, refl, sym, ◌∙◌, ap, subst}
 use Rattle.std.proofs.Math.Dec.{T}
 use Rattle.std.specs.declared.cmp.Ordering.{Ordering}
@@ -11,14 +11,13 @@ use Rattle.std.specs.Int.{w64, w128, to_le_bytes}
 use Rattle.std.specs.List.{AllByRecursion}
 use Rattle.std.specs.List.Sorted.{IsStrictlySortedBy}
 use Rattle.std.specs.Map.{lookup, keys_of}
-use Rattle.fkv_functions.specs.Integers.{signed_bytes, long_bytes, word_readable, signed_readable, long_readable}
+use Rattle.fkv_functions.specs.Integers.{signed_bytes, long_bytes}
 use Rattle.fkv_functions.specs.Meanings.{Meanings}
-use Rattle.fkv_functions.specs.Names.{name_bytes, name_cmp, name_total, name_exact, name_readable, name_ties}
+use Rattle.fkv_functions.specs.Names.{name_bytes, name_cmp, name_total, name_exact, name_ties}
 use Rattle.fkv_functions.specs.Sets.{counts, sums, maxima}
 use Rattle.fkv_functions.specs.declared.names.Name.{Name}
 use Rattle.fkv_device.specs.Standing.{Standing}
 use Rattle.fkv_texts.specs.declared.entries.Entry.{Entry}
-use Rattle.fkv_pages.proofs.ReadLemmas.{one_entry_in}
 use Rattle.fkv_partition.specs.Unions.{live_at, union_of}
 use Rattle.fkv_partition.specs.Views.{partition_of}
 use Rattle.fkv_compaction.specs.Views.{CompactedView}
@@ -33,29 +32,30 @@ use Rattle.fkv_scripts.proofs.OneReadingLemmas.{says_once, opens_once}
 use Rattle.fkv_steps.specs.Bytes.{standing_of, IsNamedEntry}
 use Rattle.fkv_steps.specs.Printing.{steps_text, map_text}
 use Rattle.fkv_steps.specs.Running.{Prints, hash_of, count_of, record_size}
-use Rattle.fkv_answers.specs.OneAnswer.{IsOneSpelling}
-use Rattle.fkv_answers.proofs.ContextLemmas.{empty-apart}
-use Rattle.fkv_one_output.specs.OneOutput.{spare, AreAlike, IsPrintedOnce, IsSated, ScriptsAreAlike, PrintsOnce, IsOneOutput}
+use Rattle.fkv_answers.specs.OneStep.{StateShape}
+use Rattle.fkv_one_output.specs.OneOutput.{blank, AreAlike, IsPrintedOnce, IsSated, ScriptsAreAlike, PrintsOnce, IsOneOutput}
+use Rattle.fkv_one_output.proofs.KnownLemmas.{empty-known}
+use Rattle.fkv_one_output.proofs.PageLemmas.{IsBehind, entry-behind}
 use Rattle.fkv_one_output.proofs.LineLemmas.{lines-alike}
 
 -- ---- the live map
-bare-spare : {K V I : Type 0} (views : List (CompactedView K V I)) → length (bare (map spare views)) ≡ length (bare views)
-bare-spare [] = refl
-bare-spare (v ∷ vs) = ap suc (bare-spare vs)
+bare-blank : {K V I : Type 0} (views : List (CompactedView K V I)) → length (bare (map blank views)) ≡ length (bare views)
+bare-blank [] = refl
+bare-blank (v ∷ vs) = ap suc (bare-blank vs)
 
--- it is read of the text alone, and so of the core
-live-spare : {K V I : Type 0} (cmp : K → K → Ordering) (k : K) (views : List (CompactedView K V I)) (p : ℕ) → live_at cmp (slice_get (bare (map spare views)) p) k ≡ live_at cmp (slice_get (bare views) p) k
-live-spare cmp k [] p = refl
-live-spare cmp k (v ∷ vs) zero = refl
-live-spare cmp k (v ∷ vs) (suc p) = live-spare cmp k vs p
+-- it is read of the text alone, and so of the outline
+live-blank : {K V I : Type 0} (cmp : K → K → Ordering) (k : K) (views : List (CompactedView K V I)) (p : ℕ) → live_at cmp (slice_get (bare (map blank views)) p) k ≡ live_at cmp (slice_get (bare views) p) k
+live-blank cmp k [] p = refl
+live-blank cmp k (v ∷ vs) zero = refl
+live-blank cmp k (v ∷ vs) (suc p) = live-blank cmp k vs p
 
-union-spare : {K V I : Type 0} (cmp : K → K → Ordering) (code : K → ℕ) (views : List (CompactedView K V I)) (k : K) → union_of cmp code (bare (map spare views)) k ≡ union_of cmp code (bare views) k
-union-spare cmp code views k =
-    ap (λ (n : ℕ). live_at cmp (slice_get (bare (map spare views)) (partition_of n (code k))) k) (bare-spare views) ∙ live-spare cmp k views (partition_of (length (bare views)) (code k))
+union-blank : {K V I : Type 0} (cmp : K → K → Ordering) (code : K → ℕ) (views : List (CompactedView K V I)) (k : K) → union_of cmp code (bare (map blank views)) k ≡ union_of cmp code (bare views) k
+union-blank cmp code views k =
+    ap (λ (n : ℕ). live_at cmp (slice_get (bare (map blank views)) (partition_of n (code k))) k) (bare-blank views) ∙ live-blank cmp k views (partition_of (length (bare views)) (code k))
 
 union-same : {K V I O R : Type 0} (stands : R → Standing) (cmp : K → K → Ordering) (code : K → ℕ) (s t : StateView K V I O R) (k : K) → AreAlike stands s t → union_of cmp code (bare s.partitions) k ≡ union_of cmp code (bare t.partitions) k
 union-same {K} {V} {I} {O} {R} stands cmp code s t k alike =
-    sym (union-spare cmp code s.partitions k) ∙ ap (λ (x : StateView K V I O Standing). union_of cmp code (bare x.partitions) k) alike ∙ union-spare cmp code t.partitions k
+    sym (union-blank cmp code s.partitions k) ∙ ap (λ (x : StateShape K V I O). union_of cmp code (bare x.partitions) k) alike ∙ union-blank cmp code t.partitions k
 
 -- ---- pairs whose keys rise
 all-below : {K X : Type 0} (R : K → K → Ordering) (x : K) (es : List (K × X)) → AllByRecursion (λ (y : K). R x y ≡ Less) (keys_of es) → below_all R x es ≡ true
@@ -81,28 +81,29 @@ pairs-same ps qs h k same =
     (λ q. found-same name_cmp q ps ∙ same q ∙ sym (found-same name_cmp q qs))
 
 -- ---- what is printed
-printed-once : {V O R : Type 0} (stands : R → Standing) (entry : ℕ → List ℕ → ℕ → Entry Name V → Type 0) (f : Meanings Name V ℤ O) (code : Name → ℕ) (written : ℤ → V) (value : V → List ℕ) (shown : O → List ℕ) → IsOneSpelling entry
+printed-once : {V O R : Type 0} (stands : R → Standing) (entry : ℕ → List ℕ → ℕ → Entry Name V → Type 0) (f : Meanings Name V ℤ O) (code : Name → ℕ) (written : ℤ → V) (value : V → List ℕ) (shown : O → List ℕ) → IsBehind entry
     → IsPrintedOnce stands entry name_cmp f code written value shown
-printed-once {V} {O} {R} stands entry f code written value shown one config size lines text other p q calm n m =
-    let a = lines-alike stands entry name_cmp f code written one (empty_world config size) p.world (empty_world config size) q.world lines p.told q.told (empty-apart Name V ℤ O R config size) refl calm p.ran q.ran n m in
+printed-once {V} {O} {R} stands entry f code written value shown behind config size lines text other p q n m =
+    let known = empty-known ℤ O stands entry config size in
+    let a = lines-alike stands entry name_cmp f code written behind (empty_world config size) p.world (empty_world config size) q.world lines p.told q.told known known refl p.ran q.ran n m in
     let pairs = pairs-same p.pairs q.pairs p.rising q.rising (λ k. p.map k ∙ union-same stands name_cmp code p.world.state q.world.state k a.alike ∙ sym (q.map k)) in
     p.printed ∙ (λ i. steps_text value shown (a.same i) ++ map_text value (pairs i)) ∙ sym q.printed
 
-named-once : {V : Type 0} (value : V → List ℕ) (is_value : V → Type 0) (size : ℕ) → ((a b : V) → is_value a → is_value b → value a ≡ value b → a ≡ b) → IsOneSpelling (IsNamedEntry value is_value size)
-named-once value is_value size readable = one_entry_in name_bytes value (λ name. Unit {0}) is_value 32 size (λ a b h k e. name_readable a b e) readable
+named-behind : {V : Type 0} (value : V → List ℕ) (is_value : V → Type 0) (size : ℕ) → IsBehind (IsNamedEntry value is_value size)
+named-behind value is_value size = entry-behind name_bytes value (λ name. Unit {0}) is_value 32 size
 
 pub scripts-alike : ScriptsAreAlike
-scripts-alike Count = lines-alike standing_of (IsNamedEntry (to_le_bytes w64) (λ n. n < 2 ^ 64) 8) name_cmp counts hash_of count_of (named-once (to_le_bytes w64) (λ n. n < 2 ^ 64) 8 word_readable)
-scripts-alike Sum = lines-alike standing_of (IsNamedEntry long_bytes (FitsSigned w128) 16) name_cmp sums hash_of (λ n. n) (named-once long_bytes (FitsSigned w128) 16 long_readable)
-scripts-alike Max = lines-alike standing_of (IsNamedEntry signed_bytes (FitsSigned w64) 8) name_cmp maxima hash_of (λ n. n) (named-once signed_bytes (FitsSigned w64) 8 signed_readable)
+scripts-alike Count = lines-alike standing_of (IsNamedEntry (to_le_bytes w64) (λ n. n < 2 ^ 64) 8) name_cmp counts hash_of count_of (named-behind (to_le_bytes w64) (λ n. n < 2 ^ 64) 8)
+scripts-alike Sum = lines-alike standing_of (IsNamedEntry long_bytes (FitsSigned w128) 16) name_cmp sums hash_of (λ n. n) (named-behind long_bytes (FitsSigned w128) 16)
+scripts-alike Max = lines-alike standing_of (IsNamedEntry signed_bytes (FitsSigned w64) 8) name_cmp maxima hash_of (λ n. n) (named-behind signed_bytes (FitsSigned w64) 8)
 
 pub prints-once : PrintsOnce
-prints-once Count config lines text other p q calm n m =
-    printed-once standing_of (IsNamedEntry (to_le_bytes w64) (λ n. n < 2 ^ 64) 8) counts hash_of count_of decimal decimal (named-once (to_le_bytes w64) (λ n. n < 2 ^ 64) 8 word_readable) config (record_size Count) lines text other p q calm n m
-prints-once Sum config lines text other p q calm n m =
-    printed-once standing_of (IsNamedEntry long_bytes (FitsSigned w128) 16) sums hash_of (λ n. n) signed_decimal signed_decimal (named-once long_bytes (FitsSigned w128) 16 long_readable) config (record_size Sum) lines text other p q calm n m
-prints-once Max config lines text other p q calm n m =
-    printed-once standing_of (IsNamedEntry signed_bytes (FitsSigned w64) 8) maxima hash_of (λ n. n) signed_decimal signed_decimal (named-once signed_bytes (FitsSigned w64) 8 signed_readable) config (record_size Max) lines text other p q calm n m
+prints-once Count config lines text other p q n m =
+    printed-once standing_of (IsNamedEntry (to_le_bytes w64) (λ n. n < 2 ^ 64) 8) counts hash_of count_of decimal decimal (named-behind (to_le_bytes w64) (λ n. n < 2 ^ 64) 8) config (record_size Count) lines text other p q n m
+prints-once Sum config lines text other p q n m =
+    printed-once standing_of (IsNamedEntry long_bytes (FitsSigned w128) 16) sums hash_of (λ n. n) signed_decimal signed_decimal (named-behind long_bytes (FitsSigned w128) 16) config (record_size Sum) lines text other p q n m
+prints-once Max config lines text other p q n m =
+    printed-once standing_of (IsNamedEntry signed_bytes (FitsSigned w64) 8) maxima hash_of (λ n. n) signed_decimal signed_decimal (named-behind signed_bytes (FitsSigned w64) 8) config (record_size Max) lines text other p q n m
 
 -- ---- an input says one script
 says-all-once : (f g : FunctionsName) (bytes : List (List ℕ)) (ls ks : List Line) → SayAll f bytes ls → SayAll g bytes ks → ls ≡ ks
@@ -121,8 +122,8 @@ script-once [] o p ls ks h k = absurd h
 script-once (b ∷ bs) o p ls ks h k = (opens_once b o p h.0 k.0, says-all-once o.functions p.functions bs ls ks h.1 k.1)
 
 pub one-output : IsOneOutput
-one-output input text other p q calm n m =
+one-output input text other p q n m =
     let same = script-once (lines_of input) q.opening p.opening q.lines p.lines q.says p.says in
     let moved = subst (λ (o : Opening). (z : Prints o.functions (config_of o) q.lines other) × IsSated o.functions (config_of o) q.lines other z) same.0 (q.prints, m) in
     let there = subst (λ (ls : List Line). (z : Prints p.opening.functions (config_of p.opening) ls other) × IsSated p.opening.functions (config_of p.opening) ls other z) same.1 moved in
-    prints-once p.opening.functions (config_of p.opening) p.lines text other p.prints there.0 calm n there.1
+    prints-once p.opening.functions (config_of p.opening) p.lines text other p.prints there.0 n there.1

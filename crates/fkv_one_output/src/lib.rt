@@ -1,6 +1,6 @@
-//! A script that flushes nothing has one output, want of memory aside: two outputs of it are the same text, unless one
-//! of them tells that memory was refused. `specs/OneOutput.antt` states it, and what it rests on: that a step reads
-//! neither the pages that wait to be flushed nor of a receipt more than what it stands for.
+//! A script has one output, want of memory aside: two outputs of it are the same text, unless one of them tells that
+//! memory was refused. `specs/OneOutput.antt` states it, and what it rests on: that a step reads of the bytes of pages
+//! what the text has there, and no more.
 #![tactic(auto)]
 
 pub mod outputs;
