@@ -27,7 +27,7 @@ pub record IsState {K V I O R : Type 0} (cmp : K → K → Ordering) (f : Meanin
   pub world : IsWorld cmp f code (bare s.partitions) (life_in s.begun) s.lives s.moment
 
 -- what every world keeps besides: the outcomes told are those of its lives, and flushed pages spell its texts
-pub record IsTold {K V I O R : Type 0} (entry : ℕ → List ℕ → ℕ → Entry K V → Type 0) (w : WorldView K V I O R)
+pub record IsSoundWorld {K V I O R : Type 0} (entry : ℕ → List ℕ → ℕ → Entry K V → Type 0) (w : WorldView K V I O R)
     : Type 0 where
   pub account : IsAccount w.state.lives (taken w.outcomes) w.state.moment
   pub paged : ArePaged entry w.state

@@ -30,13 +30,13 @@ impl<F: Functions> Model for World<F> {
     ghost use Rattle.fkv_device.specs.declared.memory.MemoryReceipt.{MemoryReceipt};
     ghost use Rattle.fkv_worlds.specs.States.{WorldView};
     ghost use Rattle.fkv_pages.specs.Spelled.{IsEntryIn};
-    ghost use Rattle.fkv_worlds.specs.Sound.{IsTold};
+    ghost use Rattle.fkv_worlds.specs.Sound.{IsSoundWorld};
 
     ghost Value = { WorldView F.Key F.Value F.Input F.Output MemoryReceipt };
 
     ghost view = { λ w. record { state = w.state; outcomes = w.outcomes.items } };
 
-    ghost invariant = { λ w. IsTold (IsEntryIn F.Key.bytes_of F.Value.bytes_of F.Key.is_known F.Value.is_known
+    ghost invariant = { λ w. IsSoundWorld (IsEntryIn F.Key.bytes_of F.Value.bytes_of F.Key.is_known F.Value.is_known
         F.Key.SIZE F.Value.SIZE) (record { state = w.state; outcomes = w.outcomes.items }) };
 }
 
