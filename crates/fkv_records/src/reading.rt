@@ -44,7 +44,7 @@ pub fn value_of<K: Fixed, V: Fixed>(bytes: &[u8]) -> Option<V>
     V::take(&bytes[start..start + V::SIZE])
 }
 
-/// The record's key.
+/// The record's key. `None` comes only of bytes that spell no record.
 pub fn key_of<K: Fixed, V: Fixed>(bytes: &[u8]) -> Option<K>
     requires most { size_of K.SIZE V.SIZE ≤ 192 }
     requires room { length bytes.now ≡ size_of K.SIZE V.SIZE }
@@ -54,7 +54,7 @@ pub fn key_of<K: Fixed, V: Fixed>(bytes: &[u8]) -> Option<K>
     K::take(&bytes[8..8 + K::SIZE])
 }
 
-/// The whole record: nothing is tested that is known.
+/// The whole record, with no test of what is known of it. `None` comes only of bytes that spell no record.
 #[inline(always)]
 pub fn record_of<K: Fixed, V: Fixed>(bytes: &[u8]) -> Option<Record<K, V>>
     requires most { size_of K.SIZE V.SIZE ≤ 192 }
