@@ -45,7 +45,7 @@ pub fn value_of<K: Fixed, V: Fixed>(bytes: &[u8]) -> Option<V>
 }
 
 /// The record's key. `None` comes only of bytes that spell no record.
-pub fn key_of<K: Fixed, V: Fixed>(bytes: &[u8]) -> Option<K>
+fn key_of<K: Fixed, V: Fixed>(bytes: &[u8]) -> Option<K>
     requires most { size_of K.SIZE V.SIZE ≤ 192 }
     requires room { length bytes.now ≡ size_of K.SIZE V.SIZE }
     ensures { (r : Record K V) → K.is_known r.key → Spells K.bytes_of V.bytes_of K.SIZE V.SIZE bytes.now r
