@@ -96,7 +96,7 @@ parted n xs ys hx hy =
     ∙ ap (slice_cmp nat_cmp (take n xs ++ drop n xs)) (sym (take-append-drop n ys))
     ∙ behind (take n xs) (take n ys) (drop n xs) (drop n ys) (omega (arith, length-take n xs, length-take n ys))
 
-same_lists : (xs : List ℕ) → slice_cmp nat_cmp xs xs ≡ Equal
+pub same_lists : (xs : List ℕ) → slice_cmp nat_cmp xs xs ≡ Equal
 same_lists [] = refl
 same_lists (x ∷ xs) = rw (same x x refl) (same_lists xs)
 

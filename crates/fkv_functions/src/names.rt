@@ -151,13 +151,12 @@ impl Fixed for Name {
         if len == 0 || len > 31 || !is_zeros(&rest[len as usize..]) {
             return None;
         }
-        let mut all = [0u8; 31];
-        all.copy_from_slice(rest);
-        Some(Name {
-            len,
-            bytes: all,
-            hash: fnv_1a_hash(&rest[..len as usize]),
-        })
+        Some(padded_name(len, rest))
+    }
+
+    fn held_in(bytes: &[u8]) -> Name {
+        let (length, rest) = bytes.split_at(1);
+        padded_name(length[0], rest)
     }
 
     fn stands_in(&self, bytes: &[u8]) -> bool {
@@ -168,6 +167,24 @@ impl Fixed for Name {
     ghost sized = { λ v h. name_sized v };
 
     ghost readable = { λ v w h k e. name_readable v w e };
+}
+
+/// The name of the first of these 31 bytes, so many, with zeros behind them.
+fn padded_name(len: u8, padded: &[u8]) -> Name
+    requires some { 1 ≤ len }
+    requires most { len ≤ 31 }
+    requires room { length padded.now ≡ 31 }
+    requires padded { drop len padded.now ≡ replicate (31 - len) 0 }
+    ensures len { result.len ≡ len }
+    ensures bytes { result.bytes ≡ padded.now }
+{
+    let mut bytes = [0u8; 31];
+    bytes.copy_from_slice(padded);
+    Name {
+        len,
+        bytes,
+        hash: fnv_1a_hash(&padded[..len as usize]),
+    }
 }
 
 /// Whether these 31 bytes are those, eight by eight: each key on a look-up's way is compared so.
@@ -219,13 +236,17 @@ fn order_of(bytes: &[u8], other: &[u8]) -> Ordering
     order_of_words(last, other_last)
 }
 
-/// The order of these eight bytes and those.
+/// The order of these eight bytes and those: as they stand they tell whether they tie, which takes fewer steps than to
+/// turn both round first.
 #[tactic(auto, using(crate::proofs::NameOrder::words_ordered))]
 fn order_of_words(bytes: &[u8], other: &[u8]) -> Ordering
     requires bytes { length bytes.now ≡ 8 }
     requires other { length other.now ≡ 8 }
     ensures { result ≡ slice_cmp nat_cmp bytes.now other.now }
 {
+    if word_of(bytes) == word_of(other) {
+        return Ordering::Equal;
+    }
     high_word_of(bytes).cmp(&high_word_of(other))
 }
 

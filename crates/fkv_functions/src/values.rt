@@ -36,6 +36,17 @@ pub trait Fixed: Known {
         ensures found { IfSome result (λ v. Self.is_known v × (bytes_of v ≡ bytes.now)) }
         ensures only { (v : Self) → Self.is_known v → bytes_of v ≡ bytes.now → result ≡ Some v };
 
+    /// The value whose bytes these are known to be. An impl may read it without a test.
+    fn held_in(bytes: &[u8]) -> Self
+        requires { (v : Self) × Self.is_known v × (bytes_of v ≡ bytes.now) }
+        ensures { Self.is_known result × (bytes_of result ≡ bytes.now) }
+    {
+        match Self::take(bytes) {
+            Some(value) => value,
+            None => unreachable!(),
+        }
+    }
+
     /// Whether these bytes are those of the value.
     fn stands_in(&self, bytes: &[u8]) -> bool
         requires { length bytes.now ≡ SIZE }

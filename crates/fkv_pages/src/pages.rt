@@ -175,10 +175,7 @@ impl<K: Fixed, V: Fixed, D: Disk> Pages<K, V, D> {
         ensures previous { IsPrevious address result.previous }
         ensures falls { result.previous < address }
     {
-        match record_of(self.bytes_at(address)) {
-            Some(found) => entry_of(address, found),
-            None => unreachable!(),
-        }
+        entry_of(address, record_of(self.bytes_at(address)))
     }
 
     /// The bytes of the record at an address that is not closed, where one stands.

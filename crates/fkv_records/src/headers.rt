@@ -33,16 +33,25 @@ impl Header {
         ensures found { IfSome result (IsSpelledBy bytes.now) }
         ensures only { (h : Header) → IsSpelledBy bytes.now h → result ≡ Some h }
     {
-        let word = word_of(bytes);
-        let flags = word >> 48;
+        let flags = word_of(bytes) >> 48;
         if flags < 4 || flags > 7 {
             return None;
         }
-        Some(Header {
+        Some(Header::held_in(bytes))
+    }
+
+    /// The header that these eight bytes are known to be, with no test of them.
+    pub fn held_in(bytes: &[u8]) -> Header
+        requires { length bytes.now ≡ 8 }
+        ensures { (h : Header) → IsSpelledBy bytes.now h → result ≡ h }
+    {
+        let word = word_of(bytes);
+        let flags = word >> 48;
+        Header {
             previous: word & 0xffff_ffff_ffff,
             is_tombstone: flags & 1 == 1,
             is_delta: flags & 2 == 2,
-        })
+        }
     }
 }
 

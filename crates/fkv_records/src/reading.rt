@@ -1,9 +1,9 @@
 //! Parts of a record that is known to stand in these bytes, each read without the others.
-ghost use Rattle.std.specs.Prelude.{◌≡◌, ◌^◌, ◌<◌, ◌≤◌, ◌↔◌, length, is_none, IsTrue, IfSome, Some};
-ghost use Rattle.fkv_records.specs.Records.{size_of, Spells};
+ghost use Rattle.std.specs.Prelude.{◌≡◌, ◌^◌, ◌<◌, ◌≤◌, ◌↔◌, ℕ, length, is_none, IsTrue, Some};
+ghost use Rattle.fkv_records.specs.Records.{size_of, IsRecord, Spells};
 ghost use Rattle.fkv_records.specs.declared.records.Record.{Record};
 
-use crate::addresses::{Address, NO_RECORD};
+use crate::addresses::Address;
 use crate::headers::Header;
 use crate::records::Record;
 use fkv_functions::Fixed;
@@ -26,10 +26,8 @@ pub fn link_of<K: Fixed, V: Fixed>(bytes: &[u8]) -> (Address, bool)
     ensures { (r : Record K V) → r.previous < 2 ^ 48 → Spells K.bytes_of V.bytes_of K.SIZE V.SIZE bytes.now r
         → (result.0 ≡ r.previous) × (result.1 ≡ is_none r.value) }
 {
-    match Header::from_bytes(&bytes[..8]) {
-        Some(header) => (header.previous, header.is_tombstone),
-        None => (NO_RECORD, true),
-    }
+    let header = Header::held_in(&bytes[..8]);
+    (header.previous, header.is_tombstone)
 }
 
 /// The record's value, where it is no tombstone.
@@ -44,42 +42,26 @@ pub fn value_of<K: Fixed, V: Fixed>(bytes: &[u8]) -> Option<V>
     V::take(&bytes[start..start + V::SIZE])
 }
 
-/// The record's key. `None` comes only of bytes that spell no record.
-fn key_of<K: Fixed, V: Fixed>(bytes: &[u8]) -> Option<K>
-    requires most { size_of K.SIZE V.SIZE ≤ 192 }
-    requires room { length bytes.now ≡ size_of K.SIZE V.SIZE }
-    ensures { (r : Record K V) → K.is_known r.key → Spells K.bytes_of V.bytes_of K.SIZE V.SIZE bytes.now r
-        → result ≡ Some r.key }
-{
-    K::take(&bytes[8..8 + K::SIZE])
-}
-
-/// The whole record, with no test of what is known of it. `None` comes only of bytes that spell no record.
+/// The record, with no test of what is known of it.
 #[inline(always)]
-pub fn record_of<K: Fixed, V: Fixed>(bytes: &[u8]) -> Option<Record<K, V>>
+pub fn record_of<K: Fixed, V: Fixed>(bytes: &[u8]) -> Record<K, V>
     requires most { size_of K.SIZE V.SIZE ≤ 192 }
     requires room { length bytes.now ≡ size_of K.SIZE V.SIZE }
-    ensures { (r : Record K V) → K.is_known r.key → IfSome r.value V.is_known → r.previous < 2 ^ 48
+    requires stands { (address : ℕ) × (r : Record K V) × IsRecord K.is_known V.is_known address r
+        × Spells K.bytes_of V.bytes_of K.SIZE V.SIZE bytes.now r }
+    ensures { (address : ℕ) (r : Record K V) → IsRecord K.is_known V.is_known address r
         → Spells K.bytes_of V.bytes_of K.SIZE V.SIZE bytes.now r
-        → result ≡ Some r }
+        → result ≡ r }
 {
     let (previous, is_tombstone) = link_of::<K, V>(bytes);
-    let Some(key) = key_of::<K, V>(bytes) else {
-        return None;
+    let value = if is_tombstone {
+        None
+    } else {
+        value_of::<K, V>(bytes)
     };
-    if is_tombstone {
-        return Some(Record {
-            previous,
-            key,
-            value: None,
-        });
-    }
-    match value_of::<K, V>(bytes) {
-        None => None,
-        value => Some(Record {
-            previous,
-            key,
-            value,
-        }),
+    Record {
+        previous,
+        key: K::held_in(&bytes[8..8 + K::SIZE]),
+        value,
     }
 }
