@@ -78,7 +78,8 @@ fn is_spelled<V: Fixed>(value: V, bytes: &[u8]) -> bool {
     let mut out = [7u8; 32];
     value.put(&mut out[..size]);
     let again = V::take(bytes);
-    &out[..size] == bytes && again == Some(value)
+    let held = V::held_in(&out[..size]);
+    &out[..size] == bytes && again == Some(value) && held == value
 }
 
 /// The bytes of the name `ab`.
