@@ -5,10 +5,9 @@ ghost use Rattle.std.specs.Map.{lookup, keys_of};
 ghost use Rattle.std.specs.List.Sorted.{IsStrictlySortedBy};
 ghost use Rattle.fkv_records.specs.Places.{page_at, start_at};
 ghost use Rattle.fkv_device.specs.Standing.{Standing};
-ghost use Rattle.fkv_pages.specs.Spelled.{IsPageOf, IsEntryIn};
+ghost use Rattle.fkv_pages.specs.Spelled.{IsPageOf};
 ghost use Rattle.fkv_functions.specs.Plain.{Same};
 ghost use Rattle.fkv_hybrid.specs.Scans.{IsScanRefusal, MayFail};
-ghost use Rattle.fkv_lookups.specs.Paged.{IsPaged};
 ghost use Rattle.fkv_lookups.specs.Overlays.{with_text, HasFront};
 ghost use Rattle.fkv_partition.specs.Views.{live_of, partition_of};
 ghost use Rattle.fkv_partition.specs.Looking.{Shifts, Evicts};
@@ -83,9 +82,6 @@ impl<F: Functions, D: Disk> Compacted<F, D> {
             → slice_get self.now.partition.records.waiting i ≡ Some page
             → IsPageOf F.Key.bytes_of F.Value.bytes_of F.Key.SIZE F.Value.SIZE self.now.partition.records.page_bits
             (length self.now.partition.records.receipts + i) self.now.partition.records.text page }
-        // on a device that keeps, a flushed page that is not dropped spells the text's entries there, and no others
-        ensures paged { IsPaged D.keeps (IsEntryIn F.Key.bytes_of F.Value.bytes_of F.Key.is_known F.Value.is_known
-            F.Key.SIZE F.Value.SIZE) self.now.partition.records }
     {
         self.partition.pages_known();
     }

@@ -5,8 +5,7 @@ ghost use Rattle.fkv_records.specs.Places.{page_at};
 ghost use Rattle.fkv_records.specs.Records.{size_of, IsPrevious};
 ghost use Rattle.fkv_device.specs.Standing.{Standing};
 ghost use Rattle.fkv_texts.specs.Places.{tail_after};
-ghost use Rattle.fkv_pages.specs.Spelled.{IsPageOf, IsEntryIn};
-ghost use Rattle.fkv_pages.specs.Loads.{SpellsPage};
+ghost use Rattle.fkv_pages.specs.Spelled.{IsPageOf};
 ghost use Rattle.fkv_hybrid.specs.Views.{empty_log, with_entry, IsFull};
 ghost use Rattle.fkv_hybrid.specs.Logs.{IsLogOf};
 
@@ -134,12 +133,6 @@ impl<K: Fixed, V: Fixed, D: Disk> Log<K, V, D> {
             → slice_get self.now.waiting i ≡ Some page
             → IsPageOf K.bytes_of V.bytes_of K.SIZE V.SIZE self.now.bits (length self.now.receipts + i)
             self.now.text page }
-        // on a device that keeps, a flushed page from Begin's on spells the text's entries there, and no others
-        ensures flushed { IsTrue D.keeps → (n : ℕ) (s : Standing)
-            → page_at self.now.bits self.now.begin ≤ n
-            → slice_get self.now.receipts n ≡ Some s
-            → SpellsPage (IsEntryIn K.bytes_of V.bytes_of K.is_known V.is_known K.SIZE V.SIZE) self.now.bits
-            self.now.text n s.bytes }
     {
         self.pages.known();
         self.regions.known();

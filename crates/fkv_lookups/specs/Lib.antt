@@ -9,4 +9,3 @@ pub mod Meeting
 pub mod Cleared
 pub mod WrongCleared
 pub mod Overlays
-pub mod Paged

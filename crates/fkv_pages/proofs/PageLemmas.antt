@@ -1,6 +1,6 @@
 -- The text that pages spell: there is one at most, and what is known of it.
 use Rattle.std.proofs.Common.{◌≡◌, ◌-◌, ◌/◌, ◌^◌, ◌<◌, ◌≤◌, ◌↔◌, inl, inr, ℕ, zero, suc, Bool, true, false, cond, List, [], ◌∷◌, ◌++◌, length, Option, Some, None, map, IsSome, nat_le, slice_get, refl, sym, ◌∙◌, ap, subst, arith}
-use Rattle.std.specs.Prelude.{IsTrue, IfSome, IfErr, Result, Ok, Err, OnOk, OnErr}
+use Rattle.std.specs.Prelude.{IfSome, IfErr, Result, Ok, Err, OnOk, OnErr}
 use Rattle.std.proofs.lemmas.Bool.Decides.{nat_tests}
 use Rattle.std.proofs.lemmas.Bool.{cases_lt}
 use Rattle.std.specs.Coded.{Coded}
@@ -45,11 +45,6 @@ same_begin false = refl
 pub begins_low : (b : Bool) (begin closed a : ℕ) → begin ≤ a → closed ≤ a → text_begin b begin closed ≤ a
 begins_low true begin closed a h k = h
 begins_low false begin closed a h k = higher (λ n. n ≤ a) begin closed h k
-
--- where the device keeps, it is Begin
-pub begins_kept : (b : Bool) (begin closed a : ℕ) → IsTrue b → begin ≤ a → text_begin b begin closed ≤ a
-begins_kept true begin closed a t h = h
-begins_kept false begin closed a t h = absurd (cc)
 
 pub begins_high : (b : Bool) (begin closed : ℕ) → begin ≤ text_begin b begin closed
 begins_high true begin closed = omega arith

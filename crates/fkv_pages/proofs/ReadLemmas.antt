@@ -1,8 +1,7 @@
 -- Entries of a loaded page, and chains in it.
-use Rattle.std.proofs.Common.{◌≡◌, ◌+◌, ◌<◌, ◌≤◌, ◌↔◌, ◌==◌, inl, inr, ℕ, Bool, true, false, List, Option, Some, None, is_none, length, slice_get, refl, sym, ◌∙◌, ap, subst, arith}
+use Rattle.std.proofs.Common.{◌≡◌, ◌<◌, ◌≤◌, ◌==◌, inl, inr, ℕ, Bool, true, false, List, Option, Some, None, is_none, slice_get, refl, sym, ◌∙◌, ap, subst, arith}
 use Rattle.std.specs.Prelude.{IsTrue, Result, Ok, Err}
 use Rattle.std.proofs.lemmas.Bool.{cases_lt, ne_eqb}
-use Rattle.std.proofs.lemmas.Option.{slice_get_within}
 use Rattle.fkv_records.specs.Places.{IsShape, page_at, offset_at, start_at, IsPlace}
 use Rattle.fkv_records.specs.Records.{size_of, IsRecord, Spells}
 use Rattle.fkv_records.specs.declared.shapes.Shape.{Shape}
@@ -17,7 +16,7 @@ use Rattle.fkv_texts.proofs.PlaceLemmas.{entry_found, entry_stands}
 use Rattle.fkv_pages.specs.Views.{text_begin}
 use Rattle.fkv_pages.specs.Spelled.{record_of, part_of, IsEntryIn}
 use Rattle.fkv_pages.specs.Pages.{page_in, IsPages}
-use Rattle.fkv_pages.proofs.FrameLemmas.{page_high, page_rises, page_holds, start_rises, page_in-high, page_in-low}
+use Rattle.fkv_pages.proofs.FrameLemmas.{page_high, page_rises, page_in-high, page_in-low}
 use Rattle.std.specs.List.{find}
 use Rattle.std.specs.declared.cmp.Ordering.{Ordering}
 use Rattle.fkv_functions.specs.declared.refusals.Refused.{Refused}
@@ -26,7 +25,7 @@ use Rattle.fkv_texts.specs.declared.entries.Reached.{Reached}
 use Rattle.fkv_texts.specs.declared.entries.Reached.TheVariants.{Found}
 use Rattle.fkv_records.proofs.RecordLemmas.{same_record}
 use Rattle.fkv_pages.specs.Loads.{IsReached, below, none, found, on, first_place}
-use Rattle.fkv_pages.proofs.PageLemmas.{begin_place, begins_kept, text_places, some_is}
+use Rattle.fkv_pages.proofs.PageLemmas.{begin_place}
 
 module _ {K V : Type 0} (key : K → List ℕ) (value : V → List ℕ) (is_key : K → Type 0) (is_value : V → Type 0) (ksize vsize : ℕ) where
   pub entry_in : (keeps : Bool) (shape : Shape) (begin closed frozen tail : ℕ) (receipts : List Standing) (ring : Ring) (text : List (Entry K V)) (a : ℕ) (s : Standing) (e : Entry K V)
@@ -86,29 +85,6 @@ module _ {K V : Type 0} (key : K → List ℕ) (value : V → List ℕ) (is_key 
       (record_of d) (record_of e) h.sound k.sound h.spells k.spells in
       let at : d.address ≡ e.address = h.stands ∙ sym k.stands in
       λ i. record { address = at i; previous = (r i).previous; key = (r i).key; value = (r i).value }
-
-  -- a flushed page spells the text's entries from Begin on, and no others
-  pub entry_stored : (key_readable : (a b : K) → is_key a → is_key b → key a ≡ key b → a ≡ b) (value_readable : (a b : V) → is_value a → is_value b → value a ≡ value b → a ≡ b)
-      (keeps : Bool) (shape : Shape) (begin closed frozen tail : ℕ) (receipts : List Standing) (ring : Ring) (text : List (Entry K V))
-      → IsPages key value is_key is_value ksize vsize keeps shape begin closed frozen tail receipts ring text → IsTrue keeps → (a : ℕ) (s : Standing) (e : Entry K V)
-      → begin ≤ a → slice_get receipts (page_at shape.page_bits a) ≡ Some s
-      → IsEntryIn key value is_key is_value ksize vsize shape.page_bits s.bytes a e ↔ (entry_at text a ≡ Some e)
-  entry_stored key_readable value_readable keeps shape begin closed frozen tail receipts ring text log h a s e low g =
-      let bits = shape.page_bits in
-      let o = log.ordered in (
-        (λ spelled.
-            let within = slice_get_within receipts (page_at bits a) s g in
-            let holds = page_holds bits a in
-            let up = start_rises bits (page_at bits a + 1) (length receipts) (omega arith) in
-            let flushed = o.flushed_high in
-            let frozen_low = o.frozen_tail in
-            let below : a < tail = omega arith in
-            let there = (text_places key value is_key is_value ksize vsize keeps shape begin closed frozen tail receipts ring text log a).1 (begins_kept keeps begin closed a h low, below, spelled.place) in
-            let x = some_is (entry_at text a) there in
-            let own = entry_in keeps shape begin closed frozen tail receipts ring text a s x.0 log h g x.1 in
-            x.1 ∙ ap Some (one_entry_in key_readable value_readable bits s.bytes a x.0 e own spelled)),
-        (λ is. entry_in keeps shape begin closed frozen tail receipts ring text a s e log h g is),
-      )
 
   -- the entries of the text in a flushed page are those that its receipt's bytes spell
   pub entries_in : (keeps : Bool) (shape : Shape) (begin closed frozen tail : ℕ) (receipts : List Standing) (ring : Ring) (text : List (Entry K V)) (from : ℕ) (s : Standing)

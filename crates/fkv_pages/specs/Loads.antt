@@ -1,5 +1,5 @@
 -- What a reader of one loaded page comes to.
-use Rattle.std.specs.Prelude.{◌≡◌, ◌+◌, ◌<◌, ◌≤◌, ◌↔◌, ℕ, List, true, false, Some, slice_get, Result, Ok, Err}
+use Rattle.std.specs.Prelude.{◌≡◌, ◌+◌, ◌<◌, ◌≤◌, ℕ, List, true, false, Some, slice_get, Result, Ok, Err}
 use Rattle.std.specs.declared.cmp.Ordering.{Ordering}
 use Rattle.fkv_functions.specs.declared.refusals.Refused.{Refused}
 use Rattle.fkv_functions.specs.declared.refusals.Refused.TheVariants.{Damaged}
@@ -8,7 +8,7 @@ use Rattle.fkv_device.specs.Standing.{Standing}
 use Rattle.fkv_texts.specs.declared.entries.Entry.{Entry}
 use Rattle.fkv_texts.specs.declared.entries.Reached.{Reached}
 use Rattle.fkv_texts.specs.declared.entries.Reached.TheVariants.{Found, Below}
-use Rattle.fkv_texts.specs.Text.{entry_at, has_key}
+use Rattle.fkv_texts.specs.Text.{has_key}
 
 -- the receipt of a page stands for this
 abbrev pub IsHeldBy : List Standing → ℕ → Standing → Type 0
@@ -38,12 +38,3 @@ pub data IsReached {K V : Type 0} (entry : ℕ → Entry K V → Type 0) (cmp : 
       → has_key cmp k e ≡ false
       → IsReached entry cmp k bits low e.previous r
       → IsReached entry cmp k bits low a r
-
--- the bytes of a page spell the text's entries there, from its first place on, and no others
-abbrev pub SpellsPage : {K V : Type 0} → (ℕ → List ℕ → ℕ → Entry K V → Type 0) → ℕ → List (Entry K V) → ℕ → List ℕ
-    → Type 0
-SpellsPage {K} {V} entry bits text n bytes =
-    (a : ℕ) (e : Entry K V)
-    → first_place bits n ≤ a
-    → page_at bits a ≡ n
-    → entry bits bytes a e ↔ (entry_at text a ≡ Some e)

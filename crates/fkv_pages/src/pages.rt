@@ -6,9 +6,8 @@ ghost use Rattle.fkv_records.specs.Places.{page_at, IsShape, IsPlace};
 ghost use Rattle.fkv_records.specs.Records.{size_of, IsPrevious};
 ghost use Rattle.fkv_device.specs.Standing.{Standing};
 ghost use Rattle.fkv_texts.specs.Places.{IsLaidOut, tail_after};
-ghost use Rattle.fkv_texts.specs.declared.entries.Entry.{Entry};
 ghost use Rattle.fkv_texts.specs.Text.{entry_at, IsRising, IsFrom, IsBelow};
-ghost use Rattle.fkv_pages.specs.Spelled.{TheOne, IsTextOf, IsPageOf, IsEntryIn, IsIn};
+ghost use Rattle.fkv_pages.specs.Spelled.{TheOne, IsTextOf, IsPageOf, IsIn};
 ghost use Rattle.fkv_pages.specs.Pages.{page_in};
 ghost use Rattle.fkv_pages.specs.Views.{text_begin, IsFull, empty_pages, with_entry};
 
@@ -226,12 +225,6 @@ impl<K: Fixed, V: Fixed, D: Disk> Pages<K, V, D> {
         ensures receipts { (n : ℕ) (s : Standing)
             → slice_get self.now.receipts n ≡ Some s
             → (s.page ≡ n) × (s.length ≡ 2 ^ self.now.bits) }
-        // on a device that keeps, a flushed page spells the text's entries from Begin on, and no others
-        ensures stored { IsTrue D.keeps → (a : ℕ) (s : Standing) (e : Entry K V)
-            → self.now.begin ≤ a
-            → slice_get self.now.receipts (page_at self.now.bits a) ≡ Some s
-            → IsEntryIn K.bytes_of V.bytes_of K.is_known V.is_known K.SIZE V.SIZE self.now.bits s.bytes a e
-            ↔ (entry_at self.now.text a ≡ Some e) }
         // the pages from the first that is not flushed to below that of `frozen` wait, each with the text's entries
         ensures waiting { length self.now.waiting
             ≡ page_at self.now.bits self.now.frozen - length self.now.receipts }

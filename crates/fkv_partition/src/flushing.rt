@@ -2,8 +2,7 @@
 ghost use Rattle.std.specs.Prelude.{◌≡◌, ◌+◌, ◌-◌, ◌^◌, ◌<◌, ◌≤◌, ◌↔◌, ◌⊎◌, ℕ, List, [], Some, Err, IfOk, IfErr, OnOk, OnErr, length, slice_get};
 ghost use Rattle.fkv_records.specs.Places.{page_at};
 ghost use Rattle.fkv_device.specs.Standing.{Standing};
-ghost use Rattle.fkv_pages.specs.Spelled.{IsPageOf, IsEntryIn};
-ghost use Rattle.fkv_lookups.specs.Paged.{IsPaged};
+ghost use Rattle.fkv_pages.specs.Spelled.{IsPageOf};
 ghost use Rattle.fkv_partition.specs.Flushing.{Flushes};
 ghost use Rattle.fkv_partition.specs.Effect.{IsQuiet};
 
@@ -33,9 +32,6 @@ impl<F: Functions, D: Disk> Partition<F, D> {
             → slice_get self.now.records.waiting i ≡ Some page
             → IsPageOf F.Key.bytes_of F.Value.bytes_of F.Key.SIZE F.Value.SIZE self.now.records.page_bits
             (length self.now.records.receipts + i) self.now.records.text page }
-        // on a device that keeps, a flushed page that is not dropped spells the text's entries there, and no others
-        ensures paged { IsPaged D.keeps (IsEntryIn F.Key.bytes_of F.Value.bytes_of F.Key.is_known F.Value.is_known
-            F.Key.SIZE F.Value.SIZE) self.now.records }
     {
         self.records.pages_known();
     }

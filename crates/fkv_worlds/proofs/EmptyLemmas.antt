@@ -39,7 +39,7 @@ replicate-none (suc n) zero = refl
 replicate-none (suc n) (suc slot) = replicate-none n slot
 
 -- the only partitions are empty ones, each with the number of its place
-pub made-some : {A : Type 0} (f : ℕ → A) (o : Option ℕ) (v : A) → option_map f o ≡ Some v → (i : ℕ) × (o ≡ Some i) × (v ≡ f i)
+made-some : {A : Type 0} (f : ℕ → A) (o : Option ℕ) (v : A) → option_map f o ≡ Some v → (i : ℕ) × (o ≡ Some i) × (v ≡ f i)
 made-some f None v h = absurd (cc)
 made-some f (Some i) v h = let same : f i ≡ v = cc in (i, refl, sym same)
 

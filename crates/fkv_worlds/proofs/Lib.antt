@@ -16,4 +16,3 @@ pub mod AccountLemmas
 pub mod ReportLemmas
 pub mod HistoryLemmas
 pub mod PagingLemmas
-pub mod PagedLemmas

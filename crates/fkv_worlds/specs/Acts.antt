@@ -45,7 +45,6 @@ use Rattle.fkv_lives.specs.declared.steps.Step.TheVariants.{Enter, Leave, Refres
 use Rattle.fkv_lives.specs.Steps.{partition_in}
 use Rattle.fkv_lives.specs.Changes.{ended_at}
 use Rattle.fkv_worlds.specs.Devices.{receipt_of, Comes, Spoils}
-use Rattle.fkv_worlds.specs.Paged.{ArePaged}
 use Rattle.fkv_worlds.specs.Refusing.{Refuses}
 use Rattle.fkv_lives.specs.Told.{ends_operation}
 use Rattle.fkv_worlds.specs.States.{StateView, WorldView, IsPassedOn, IsOpenAt, seat_row, context_row, life_in, question_in, receipt_in, job_in, is_unasked}
@@ -440,13 +439,12 @@ pub data Acts {K V I O R : Type 0} (stands : R → Standing) (entry : ℕ → Li
       → result ≡ Ok (outcome.Truncated v'.partition.records.begin)
       → Acts stands entry cmp f code old new step result
 
--- a step of a world: its outcome is kept, after those of the steps before it, and of each partition the pages that wait
--- are counted and those that were flushed spell its text; where there is no memory to keep it, nothing is done
+-- a step of a world: its outcome is kept, after those of the steps before it; where there is no memory to keep it,
+-- nothing is done
 pub data Steps {K V I O R : Type 0} (stands : R → Standing) (entry : ℕ → List ℕ → ℕ → Entry K V → Type 0)
     (cmp : K → K → Ordering) (f : Meanings K V I O) (code : K → ℕ) (old new : WorldView K V I O R) (step : Step K V I)
     (result : Result (Outcome V O) Refused) : Type 0 where
   unkept : new ≡ old → result ≡ Err NoMemory → Steps stands entry cmp f code old new step result
   kept : Acts stands entry cmp f code old.state new.state step result
       → new.outcomes ≡ old.outcomes ++ result ∷ []
-      → ArePaged entry new.state
       → Steps stands entry cmp f code old new step result

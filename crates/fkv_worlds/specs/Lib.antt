@@ -7,4 +7,3 @@ pub mod Worlds
 pub mod Headline
 pub mod Sound
 pub mod Reports
-pub mod Paged

@@ -27,7 +27,6 @@ use Rattle.fkv_partition.specs.Unions.{union_of}
 use Rattle.fkv_worlds.specs.Acts.{Acts}
 use Rattle.fkv_lives.specs.Histories.{backwards, issues_in, issue_of}
 use Rattle.fkv_worlds.specs.Headline.{IsHeadline}
-use Rattle.fkv_worlds.specs.Paged.{ArePaged}
 
 -- a report of a world: its outcomes, its lives, and each live key with its value, keys rising
 pub record IsReport {K V I O R : Type 0} (cmp : K → K → Ordering) (code : K → ℕ) (w : WorldView K V I O R)
@@ -37,13 +36,12 @@ pub record IsReport {K V I O R : Type 0} (cmp : K → K → Ordering) (code : K 
   pub map : (k : K) → lookup (is_at (cmp k)) pairs ≡ union_of cmp code (bare w.state.partitions) k
   pub rising : IsStrictlySortedBy cmp (keys_of pairs)
 
--- a step that was done, or refused, and kept, and what then holds of the pages of each partition
+-- a step that was done, or refused, and kept
 pub record IsKept {K V I O R : Type 0} (stands : R → Standing) (entry : ℕ → List ℕ → ℕ → Entry K V → Type 0)
     (cmp : K → K → Ordering) (f : Meanings K V I O) (code : K → ℕ) (old new : WorldView K V I O R) (step : Step K V I)
     (r : Result (Outcome V O) Refused) : Type 0 where
   pub acts : Acts stands entry cmp f code old.state new.state step r
   pub outcomes : new.outcomes ≡ old.outcomes ++ r ∷ []
-  pub paged : ArePaged entry new.state
 
 -- the steps of a list, in turn, each of them kept
 abbrev pub RunsTo : {K V I O R : Type 0} → (R → Standing) → (ℕ → List ℕ → ℕ → Entry K V → Type 0) → (K → K → Ordering)

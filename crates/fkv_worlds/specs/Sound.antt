@@ -1,13 +1,10 @@
 -- What every world keeps.
-use Rattle.std.specs.Prelude.{◌≡◌, ◌*◌, ◌≤◌, ℕ, List, length, Some, slice_get}
+use Rattle.std.specs.Prelude.{◌≡◌, ◌*◌, ◌≤◌, ℕ, length, Some, slice_get}
 use Rattle.std.specs.declared.cmp.Ordering.{Ordering}
 use Rattle.fkv_functions.specs.Meanings.{Meanings}
-use Rattle.fkv_texts.specs.declared.entries.Entry.{Entry}
-use Rattle.fkv_lives.specs.Told.{IsAccount, taken}
 use Rattle.fkv_worlds.specs.declared.tables.Seat.{Seat}
-use Rattle.fkv_worlds.specs.States.{StateView, WorldView, bare, life_in}
+use Rattle.fkv_worlds.specs.States.{StateView, bare, life_in}
 use Rattle.fkv_worlds.specs.Worlds.{IsWorld}
-use Rattle.fkv_worlds.specs.Paged.{ArePaged}
 
 -- the tables have a row for each partition, slot and context, and their counts are of past steps
 pub record HasTables {K V I O R : Type 0} (s : StateView K V I O R) : Type 0 where
@@ -25,9 +22,3 @@ pub record IsState {K V I O R : Type 0} (cmp : K → K → Ordering) (f : Meanin
     (s : StateView K V I O R) : Type 0 where
   pub tables : HasTables s
   pub world : IsWorld cmp f code (bare s.partitions) (life_in s.begun) s.lives s.moment
-
--- what every world keeps besides: the outcomes told are those of its lives, and flushed pages spell its texts
-pub record IsSoundWorld {K V I O R : Type 0} (entry : ℕ → List ℕ → ℕ → Entry K V → Type 0) (w : WorldView K V I O R)
-    : Type 0 where
-  pub account : IsAccount w.state.lives (taken w.outcomes) w.state.moment
-  pub paged : ArePaged entry w.state

@@ -1,5 +1,5 @@
 //! The state of a world, and what each step does to it.
-ghost use Rattle.std.specs.Prelude.{◌≢◌, ◌⊎◌, ◌≡◌, ◌+◌, ◌-◌, ◌^◌, ◌<◌, ◌↔◌, ◌∷◌, [], ◌++◌, true, Some, None, Err, IfOk, IfErr, IfSome, OnOk, length, map, replicate, slice_get, is_some};
+ghost use Rattle.std.specs.Prelude.{◌≢◌, ◌⊎◌, ◌≡◌, ◌+◌, ◌-◌, ◌^◌, ◌<◌, ◌↔◌, ◌∷◌, [], ◌++◌, true, Some, None, Err, IfOk, IfErr, OnOk, length, map, replicate, slice_get, is_some};
 ghost use Rattle.fkv_records.specs.Records.{size_of};
 ghost use Rattle.fkv_partition.specs.Limits.{IsWithinLimits};
 ghost use Rattle.fkv_compaction.specs.Views.{empty_compacted};
@@ -7,7 +7,6 @@ ghost use Rattle.fkv_worlds.specs.States.{empty_partitions, empty_state, relocat
 ghost use Rattle.fkv_worlds.specs.Sound.{IsState};
 ghost use Rattle.fkv_worlds.specs.Reports.{awaits_at};
 ghost use Rattle.fkv_pages.specs.Spelled.{IsEntryIn};
-ghost use Rattle.fkv_lookups.specs.Paged.{IsPaged};
 ghost use Rattle.fkv_worlds.specs.declared.desks.Desk.{Desk};
 ghost use Rattle.fkv_worlds.specs.Acts.{Acts, answers_in};
 ghost use Rattle.fkv_lives.specs.Steps.{partition_in};
@@ -496,17 +495,6 @@ impl<F: Functions> State<F> {
         ensures { result.now ≡ self.now.lives }
     {
         self.lives.as_slice()
-    }
-
-    /// What holds of the pages of a partition at any time. It changes nothing.
-    pub fn pages_known(&self, partition: usize)
-        ensures { IfSome (slice_get self.now.partitions partition) (λ v. IsPaged true
-            (IsEntryIn F.Key.bytes_of F.Value.bytes_of F.Key.is_known F.Value.is_known F.Key.SIZE F.Value.SIZE)
-            v.partition.records) }
-    {
-        if let Some(partition) = self.partitions.get(partition) {
-            partition.pages_known();
-        }
     }
 
     /// What holds of every state.

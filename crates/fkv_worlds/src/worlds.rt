@@ -29,15 +29,13 @@ pub struct World<F: Functions> {
 impl<F: Functions> Model for World<F> {
     ghost use Rattle.fkv_device.specs.declared.memory.MemoryReceipt.{MemoryReceipt};
     ghost use Rattle.fkv_worlds.specs.States.{WorldView};
-    ghost use Rattle.fkv_pages.specs.Spelled.{IsEntryIn};
-    ghost use Rattle.fkv_worlds.specs.Sound.{IsSoundWorld};
+    ghost use Rattle.fkv_lives.specs.Told.{IsAccount, taken};
 
     ghost Value = { WorldView F.Key F.Value F.Input F.Output MemoryReceipt };
 
     ghost view = { λ w. record { state = w.state; outcomes = w.outcomes.items } };
 
-    ghost invariant = { λ w. IsSoundWorld (IsEntryIn F.Key.bytes_of F.Value.bytes_of F.Key.is_known F.Value.is_known
-        F.Key.SIZE F.Value.SIZE) (record { state = w.state; outcomes = w.outcomes.items }) };
+    ghost invariant = { λ w. IsAccount w.state.lives (taken w.outcomes.items) w.state.moment };
 }
 
 impl<F: Functions> World<F> {
@@ -74,7 +72,6 @@ impl<F: Functions> World<F> {
         };
         self.state.sound();
         let result = self.state.act(functions, step);
-        self.state.pages_known(step.partition());
         // there is room for it
         let _kept = self.outcomes.push(result);
         Some(result)

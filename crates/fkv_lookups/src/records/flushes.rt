@@ -4,9 +4,8 @@ ghost use Rattle.std.specs.Prelude.{length, slice_get};
 ghost use Rattle.fkv_records.specs.Places.{page_at};
 ghost use Rattle.fkv_device.specs.Standing.{Standing};
 ghost use Rattle.fkv_pages.specs.Loads.{IsHeldBy};
-ghost use Rattle.fkv_pages.specs.Spelled.{IsPageOf, IsEntryIn};
+ghost use Rattle.fkv_pages.specs.Spelled.{IsPageOf};
 ghost use Rattle.fkv_lookups.specs.Flushes.{flush_refusal};
-ghost use Rattle.fkv_lookups.specs.Paged.{IsPaged};
 ghost use Rattle.fkv_lookups.specs.RecordsViews.{with_receipt};
 
 use crate::records::Records;
@@ -34,9 +33,6 @@ impl<F: Functions, D: Disk> Records<F, D> {
             → slice_get self.now.waiting i ≡ Some page
             → IsPageOf F.Key.bytes_of F.Value.bytes_of F.Key.SIZE F.Value.SIZE self.now.page_bits
             (length self.now.receipts + i) self.now.text page }
-        // on a device that keeps, a flushed page that is not dropped spells the text's entries there, and no others
-        ensures paged { IsPaged D.keeps (IsEntryIn F.Key.bytes_of F.Value.bytes_of F.Key.is_known F.Value.is_known
-            F.Key.SIZE F.Value.SIZE) self.now }
     {
         self.log.known();
     }

@@ -2,6 +2,3 @@ use Rattle.fkv_compaction.proofs.compacted.Compacted.pages_known.Goals as goal
 
 pub returns-clause-receipts : goal.returns-clause-receipts
 returns-clause-receipts g c = rw (← c.self.view_is) c.pages_known.ensures.receipts
-
-pub returns-clause-paged : goal.returns-clause-paged
-returns-clause-paged g c = rw (← c.self.view_is) c.pages_known.ensures.paged

@@ -1,7 +1,5 @@
 use Rattle.std.proofs.Common.{◌∙◌, ap}
-use Rattle.fkv_pages.specs.Spelled.{IsEntryIn}
 use Rattle.fkv_pages.specs.Views.{text_begin}
-use Rattle.fkv_hybrid.proofs.TiedLemmas.{spells_page}
 use Rattle.fkv_hybrid.proofs.log.Log.known.Goals as goal
 
 pub returns-clause-receipts : goal.returns-clause-receipts
@@ -32,9 +30,3 @@ returns-clause-log g c =
       read_only = t.begun;
       flushed = t.flushed;
     })
-
-pub returns-clause-flushed : goal.returns-clause-flushed
-returns-clause-flushed g c =
-    let p = c.known.ensures in
-    let v = c.self.inside.pages in
-    rw (← c.self.view_is) (λ keeps. spells_page (IsEntryIn g.K.Fixed.bytes_of g.V.Fixed.bytes_of g.K.Known.is_known g.V.Known.is_known g.K.Fixed.SIZE g.V.Fixed.SIZE) v.bits _ v.begin v.receipts v.text p.shape c.self.invariant.marked (p.stored keeps))

@@ -2,7 +2,6 @@ use Rattle.std.proofs.Common.{arith}
 use Rattle.fkv_pages.proofs.PageLemmas.{text_places, text_rises, text_stands, place_first}
 use Rattle.fkv_pages.proofs.FrameLemmas.{pages_from-length}
 use Rattle.fkv_pages.proofs.FlushLemmas.{waits_spelled}
-use Rattle.fkv_pages.proofs.ReadLemmas.{entry_stored}
 use Rattle.fkv_pages.proofs.pages.Pages.known.Goals as goal
 
 pub returns-clause-places : goal.returns-clause-places
@@ -45,10 +44,3 @@ returns-clause-shape g c = rw (← c.self.view_is, ← c.self.invariant.size) c.
 
 pub returns-clause-end : goal.returns-clause-end
 returns-clause-end g c = rw (← c.self.view_is, ← c.self.invariant.size) c.self.invariant.ordered.tail_place
-
-pub returns-clause-stored : goal.returns-clause-stored
-returns-clause-stored g c =
-    let k = g.met.K.Fixed g.world.𝓛 g.world.𝓜 g.world.𝓡 ((λ s x. x), (λ x. x), (λ x. x), λ x. x) in
-    let v = g.met.V.Fixed g.world.𝓛 g.world.𝓜 g.world.𝓡 ((λ s x. x), (λ x. x), (λ x. x), λ x. x) in
-    let i = c.self.inside in
-    rw (← c.self.view_is) (entry_stored g.K.Fixed.bytes_of g.V.Fixed.bytes_of g.K.Known.is_known g.V.Known.is_known g.K.Fixed.SIZE g.V.Fixed.SIZE k.readable v.readable g.D.Disk.keeps i.shape i.begin i.closed i.frozen i.tail _ i.frames i.text.0.0 c.self.invariant)

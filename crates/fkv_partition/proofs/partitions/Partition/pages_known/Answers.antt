@@ -1,8 +1,7 @@
 use Rattle.std.proofs.Common.{◌≡◌, ◌+◌, ◌^◌, ◌-◌, ℕ, List, Some, length, slice_get, subst}
 use Rattle.fkv_records.specs.Places.{page_at}
 use Rattle.fkv_device.specs.Standing.{Standing}
-use Rattle.fkv_pages.specs.Spelled.{IsPageOf, IsEntryIn}
-use Rattle.fkv_lookups.specs.Paged.{IsPaged}
+use Rattle.fkv_pages.specs.Spelled.{IsPageOf}
 use Rattle.fkv_partition.specs.Views.{PartitionView}
 use Rattle.fkv_partition.proofs.partitions.Partition.pages_known.Goals as goal
 
@@ -14,6 +13,3 @@ returns-clause-waiting g c = subst (λ (v : PartitionView _ _ _). length v.recor
 
 pub returns-clause-spelled : goal.returns-clause-spelled
 returns-clause-spelled g c = subst (λ (v : PartitionView _ _ _). (i : ℕ) (page : List ℕ) → slice_get v.records.waiting i ≡ Some page → IsPageOf {K = g.row.F-Key.Denot} {V = g.row.F-Value.Denot} g.F.Key.Fixed.bytes_of g.F.Value.Fixed.bytes_of g.F.Key.Fixed.SIZE g.F.Value.Fixed.SIZE v.records.page_bits (length v.records.receipts + i) v.records.text page) c.self.view_is c.pages_known.ensures.spelled
-
-pub returns-clause-paged : goal.returns-clause-paged
-returns-clause-paged g c = subst (λ (v : PartitionView _ _ _). IsPaged g.D.Disk.keeps (IsEntryIn g.F.Key.Fixed.bytes_of g.F.Value.Fixed.bytes_of g.F.Key.Known.is_known g.F.Value.Known.is_known g.F.Key.Fixed.SIZE g.F.Value.Fixed.SIZE) v.records) c.self.view_is c.pages_known.ensures.paged

@@ -1,13 +1,10 @@
 use Rattle.std.proofs.Common.{◌≡◌, Err, refl, ap}
 use Rattle.fkv_functions.specs.declared.refusals.Refused.TheVariants.{BadConfig}
-use Rattle.fkv_device.specs.declared.memory.MemoryReceipt.{MemoryReceipt}
 use Rattle.fkv_worlds.proofs.AccountLemmas.{account-empty}
-use Rattle.fkv_worlds.proofs.PagedLemmas.{paged-empty}
 use Rattle.fkv_worlds.proofs.worlds.World.new.Goals as goal
 
 pub invariant_of-result : goal.invariant_of-result
-invariant_of-result g c =
-    rw (c.in-Ok.ensures.ok, c.new-in-Ok.ensures.items) (record { account = account-empty; paged = paged-empty g.row.F-Output.Denot MemoryReceipt _ c.args.config.now _ (c.in-Ok.ensures.good (λ e. absurd (cc))) })
+invariant_of-result g c = rw (c.in-Ok.ensures.ok, c.new-in-Ok.ensures.items) account-empty
 
 pub returns-in-Ok-clause-good : goal.returns-in-Ok-clause-good
 returns-in-Ok-clause-good g c = λ _. c.in-Ok.ensures.good (λ e. absurd (cc))

@@ -1,6 +1,5 @@
 use Rattle.std.proofs.Common.{refl, arith}
 use Rattle.fkv_worlds.proofs.AccountLemmas.{account-acts}
-use Rattle.fkv_worlds.proofs.PagedLemmas.{acts-paged}
 use Rattle.fkv_worlds.proofs.worlds.World.try_step.Goals as goal
 
 pub invariant_of-self : goal.invariant_of-self
@@ -9,16 +8,10 @@ invariant_of-self g c = rw c.try_reserve.ensures.items c.self.invariant
 pub invariant_of-self-2 : goal.invariant_of-self-2
 invariant_of-self-2 g c =
     let pushed = c.push-kept.ensures.succeeds (let room = c.in-Ok.ensures.ok in omega arith) in
-    rw (c.push-kept.ensures.items, pushed, c.try_reserve.ensures.items) (record {
-      account = account-acts _ _ g.F.Key.Ord.cmp g.F.Functions.meaning g.F.Functions.code c.self.inside.state c.sound.ensures c.self.inside.outcomes.items c.self.invariant.account c.act-result.new.self c.args.step c.act-result.result c.act-result.ensures.does;
-      paged = acts-paged _ _ g.F.Key.Ord.cmp g.F.Functions.meaning g.F.Functions.code c.self.inside.state c.act-result.new.self c.args.step c.act-result.result c.act-result.ensures.does c.self.invariant.paged (rw (← c.partition.ensures) c.pages_known.ensures);
-    })
+    rw (c.push-kept.ensures.items, pushed, c.try_reserve.ensures.items)
+    (account-acts _ _ g.F.Key.Ord.cmp g.F.Functions.meaning g.F.Functions.code c.self.inside.state c.sound.ensures c.self.inside.outcomes.items c.self.invariant c.act-result.new.self c.args.step c.act-result.result c.act-result.ensures.does)
 
 pub returns-clause-kept : goal.returns-clause-kept
 returns-clause-kept g c =
     let pushed = c.push-kept.ensures.succeeds (let room = c.in-Ok.ensures.ok in omega arith) in
-    rw (← c.self.view_is) (record {
-      acts = c.act-result.ensures.does;
-      outcomes = rw (c.push-kept.ensures.items, pushed, c.try_reserve.ensures.items) refl;
-      paged = acts-paged _ _ g.F.Key.Ord.cmp g.F.Functions.meaning g.F.Functions.code c.self.inside.state c.act-result.new.self c.args.step c.act-result.result c.act-result.ensures.does c.self.invariant.paged (rw (← c.partition.ensures) c.pages_known.ensures);
-    })
+    rw (← c.self.view_is) (record { acts = c.act-result.ensures.does; outcomes = rw (c.push-kept.ensures.items, pushed, c.try_reserve.ensures.items) refl })

@@ -1,5 +1,0 @@
-pub mod OneAnswer
-pub mod OneRelocation
-pub mod OneStep
-pub mod OneContext
-pub mod OneRow
