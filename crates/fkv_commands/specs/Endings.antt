@@ -1,5 +1,5 @@
 -- What a run leaves on its output, by what was read.
-use Rattle.std.specs.Prelude.{◌≡◌, ◌⊎◌, List, [], ◌∷◌, map, ℕ, ℤ, Option, IfSome, codes, string_bytes}
+use Rattle.std.specs.Prelude.{◌≡◌, ◌⊎◌, List, [], ◌∷◌, map, ℕ, ℤ, Option, None, IfSome, codes, option_map, string_bytes}
 use Rattle.std.specs.Fmt.{decimal, signed_decimal}
 use Rattle.fkv_functions.specs.Meanings.{Meanings}
 use Rattle.fkv_functions.specs.Sets.{counts, sums, maxima}
@@ -24,28 +24,33 @@ PrintsAll input old new = IfSome input (λ bytes. (text : List ℕ) × IsOutputO
 abbrev pub PrintsPart : Option (List ℕ) → Option (List ℕ) → Option (List ℕ) → Type 0
 PrintsPart input old new = IfSome input (λ bytes. (text : List ℕ) × IsOutputOf bytes text × AppendsPrefix old new text)
 
--- the text of a table of these meanings; where no path is named, it is that of the input, and nothing is known of files
-abbrev pub IsTableBy : {V : Type 0} → Meanings Name V ℤ V → (V → List ℕ) → List Text → Option (List ℕ) → List ℕ
+-- the text of a table of these meanings; where no folder and no path is named, it is that of the input, and nothing is
+-- known of files
+abbrev pub IsTableBy : {V : Type 0} → Meanings Name V ℤ V → (V → List ℕ) → Option Text → List Text → Option (List ℕ)
+    → List ℕ
     → Type 0
-IsTableBy {V} f value paths input text =
+IsTableBy {V} f value folder paths input text =
     (pairs : List (Name × V))
-    × (paths ≡ [] → IsTableOf f (input ∷ []) pairs)
+    × (folder ≡ None → paths ≡ [] → IsTableOf f (input ∷ []) pairs)
     × (text ≡ table_text value pairs)
 
 -- the text of the table that is asked for
-abbrev pub IsTableText : Shown → List Text → Option (List ℕ) → List ℕ → Type 0
-IsTableText Count paths input text = IsTableBy counts decimal paths input text
-IsTableText Sum paths input text = IsTableBy sums signed_decimal paths input text
-IsTableText Max paths input text = IsTableBy maxima signed_decimal paths input text
+abbrev pub IsTableText : Shown → Option Text → List Text → Option (List ℕ) → List ℕ → Type 0
+IsTableText Count folder paths input text = IsTableBy counts decimal folder paths input text
+IsTableText Sum folder paths input text = IsTableBy sums signed_decimal folder paths input text
+IsTableText Max folder paths input text = IsTableBy maxima signed_decimal folder paths input text
 
 -- that text was written whole, and nothing else; or a part of it, from its front
-abbrev pub PrintsTable : Shown → List Text → Option (List ℕ) → Option (List ℕ) → Option (List ℕ) → Type 0
-PrintsTable shown paths input old new = (text : List ℕ) × IsTableText shown paths input text × Appends old new text
-
-abbrev pub PrintsTablePart : Shown → List Text → Option (List ℕ) → Option (List ℕ) → Option (List ℕ) → Type 0
-PrintsTablePart shown paths input old new =
+abbrev pub PrintsTable : Shown → Option Text → List Text → Option (List ℕ) → Option (List ℕ) → Option (List ℕ) → Type 0
+PrintsTable shown folder paths input old new =
     (text : List ℕ)
-    × IsTableText shown paths input text
+    × IsTableText shown folder paths input text
+    × Appends old new text
+
+abbrev pub PrintsTablePart : Shown → Option Text → List Text → Option (List ℕ) → Option (List ℕ) → Option (List ℕ) → Type 0
+PrintsTablePart shown folder paths input old new =
+    (text : List ℕ)
+    × IsTableText shown folder paths input text
     × AppendsPrefix old new text
 
 -- what the program tells of its version
@@ -58,7 +63,7 @@ IsDone words input old new =
     (AsksReplay words × PrintsAll input old new)
     ⊎ ((table : TableRequest)
     × AsksTable words table
-    × PrintsTable table.shown (map string_bytes table.paths.items) input old new)
+    × PrintsTable table.shown (option_map string_bytes table.folder) (map string_bytes table.paths.items) input old new)
     ⊎ (MayAskVersion words × Appends old new version_line)
     ⊎ MayAskHelp words
 
@@ -69,7 +74,7 @@ IsStopped words input old new =
     ⊎ (AsksReplay words × PrintsPart input old new)
     ⊎ ((table : TableRequest)
     × AsksTable words table
-    × PrintsTablePart table.shown (map string_bytes table.paths.items) input old new)
+    × PrintsTablePart table.shown (option_map string_bytes table.folder) (map string_bytes table.paths.items) input old new)
     ⊎ (MayAskVersion words × AppendsPrefix old new version_line)
     ⊎ MayAskHelp words
 

@@ -1,5 +1,5 @@
 //! Making tables of feeds.
-ghost use Rattle.std.specs.Prelude.{◌≡◌, ◌≢◌, ◌⊎◌, ◌∷◌, [], List, Err, true, map, string_bytes, IfOk, IfErr, OnOk};
+ghost use Rattle.std.specs.Prelude.{◌≡◌, ◌≢◌, ◌⊎◌, ◌∷◌, [], List, Err, None, true, map, option_map, string_bytes, IfOk, IfErr, IsTrue, OnOk};
 ghost use Rattle.std.specs.Io.KnownBytes.{Appends};
 ghost use Rattle.fkv_functions.specs.declared.names.Name.{Name};
 ghost use Rattle.fkv_streams.specs.Streams.{AppendsPrefix};
@@ -7,7 +7,7 @@ ghost use Rattle.fkv_feeds.specs.Tables.{IsTableOf};
 ghost use Rattle.fkv_feeds.specs.Writing.{table_text};
 ghost use Rattle.fkv_commands.specs.Endings.{PrintsTable, PrintsTablePart};
 
-use fkv_device::MemoryDevice;
+use fkv_device::{Disk, FileDevice, MemoryDevice};
 use fkv_feeds::{Table, run_alone, run_one, write_table};
 use fkv_functions::{CountFns, Functions, MaxFns, Name, Refused, SumFns};
 use fkv_requests::{Shown, TableRequest};
@@ -54,21 +54,21 @@ fn all_opened<H: Files>(
     Ok(feeds)
 }
 
-/// The table that is asked for, of the feeds that are named, or of the reader, by a store whose pages go to memory. Of
-/// the files nothing is known.
-fn table_of<R: Source, F: Functions<Key = Name, Input = i64>, H: Files>(
+/// The table that is asked for, of the feeds that are named, or of the reader, by a store whose pages go to this device. Of
+/// the files of feeds nothing is known.
+fn table_on<R: Source, F: Functions<Key = Name, Input = i64>, H: Files, D: Disk>(
     alloc: Global,
     files: &H,
     table: &TableRequest,
     functions: &F,
     reader: &mut R,
+    device: D,
 ) -> Result<Table<F::Value>, Refused>
-    ensures ok { IfOk result (λ pairs. map string_bytes table.now.paths.items ≡ []
+    ensures ok { IsTrue D.Receipt.keeps → IfOk result (λ pairs. map string_bytes table.now.paths.items ≡ []
         → IsTableOf F.meaning (R.remaining reader.old ∷ []) pairs) }
     ensures steady { OnOk result (R.failures reader.new ≡ R.failures reader.old) }
     ensures only { IfErr result (λ e. e ≢ Refused.Unwritable) }
 {
-    let device = MemoryDevice::new(alloc);
     if table.paths.is_empty() {
         return run_alone(alloc, reader, functions, &table.config, device);
     }
@@ -84,6 +84,33 @@ fn table_of<R: Source, F: Functions<Key = Name, Input = i64>, H: Files>(
     }
 }
 
+/// The table that is asked for, by a store whose pages go to the folder that is named, else to memory. What a file gives
+/// back is not known.
+fn table_of<R: Source, F: Functions<Key = Name, Input = i64>, H: Files>(
+    alloc: Global,
+    files: &H,
+    table: &TableRequest,
+    functions: &F,
+    reader: &mut R,
+) -> Result<Table<F::Value>, Refused>
+    ensures ok { IfOk result (λ pairs. option_map string_bytes table.now.folder ≡ None
+        → map string_bytes table.now.paths.items ≡ []
+        → IsTableOf F.meaning (R.remaining reader.old ∷ []) pairs) }
+    ensures steady { OnOk result (R.failures reader.new ≡ R.failures reader.old) }
+    ensures only { IfErr result (λ e. e ≢ Refused.Unwritable) }
+{
+    let Some(folder) = &table.folder else {
+        let device = MemoryDevice::new(alloc);
+        return table_on(alloc, files, table, functions, reader, device);
+    };
+    let Ok(folder) = String::from_str(alloc, folder.as_str()) else {
+        return Err(Refused::NoMemory);
+    };
+    let page_bits = u32::try_from(table.config.page_bits).unwrap_or(u32::MAX);
+    let device = FileDevice::new(files, alloc, folder, page_bits);
+    table_on(alloc, files, table, functions, reader, device)
+}
+
 /// Makes a table by these functions, and writes it.
 fn tabulate_by<R: Source, W: Sink, F: Functions<Key = Name, Input = i64>, H: Files>(
     alloc: Global,
@@ -96,10 +123,12 @@ fn tabulate_by<R: Source, W: Sink, F: Functions<Key = Name, Input = i64>, H: Fil
 where
     F::Value: Integer,
     ensures ok { OnOk result ((pairs : List (Name × F.Value))
-        × (map string_bytes table.now.paths.items ≡ [] → IsTableOf F.meaning (R.remaining reader.old ∷ []) pairs)
+        × (option_map string_bytes table.now.folder ≡ None → map string_bytes table.now.paths.items ≡ []
+        → IsTableOf F.meaning (R.remaining reader.old ∷ []) pairs)
         × Appends (W.contents writer.old) (W.contents writer.new) (table_text F.Value.text pairs)) }
     ensures unwritable { result ≡ Err Refused.Unwritable → (pairs : List (Name × F.Value))
-        × (map string_bytes table.now.paths.items ≡ [] → IsTableOf F.meaning (R.remaining reader.old ∷ []) pairs)
+        × (option_map string_bytes table.now.folder ≡ None → map string_bytes table.now.paths.items ≡ []
+        → IsTableOf F.meaning (R.remaining reader.old ∷ []) pairs)
         × AppendsPrefix (W.contents writer.old) (W.contents writer.new) (table_text F.Value.text pairs) }
     ensures nothing { IfErr result (λ e. e ≢ Refused.Unwritable → W.contents writer.new ≡ W.contents writer.old) }
     ensures out { OnOk result (W.is_out writer.new ≡ true) }
@@ -124,10 +153,10 @@ pub fn tabulate<R: Source, W: Sink, H: Files>(
     reader: &mut R,
     writer: &mut W,
 ) -> Result<(), Refused>
-    ensures ok { OnOk result (PrintsTable table.now.shown (map string_bytes table.now.paths.items)
-        (R.remaining reader.old) (W.contents writer.old) (W.contents writer.new)) }
+    ensures ok { OnOk result (PrintsTable table.now.shown (option_map string_bytes table.now.folder)
+        (map string_bytes table.now.paths.items) (R.remaining reader.old) (W.contents writer.old) (W.contents writer.new)) }
     ensures unwritable { result ≡ Err Refused.Unwritable → PrintsTablePart table.now.shown
-        (map string_bytes table.now.paths.items) (R.remaining reader.old) (W.contents writer.old)
+        (option_map string_bytes table.now.folder) (map string_bytes table.now.paths.items) (R.remaining reader.old) (W.contents writer.old)
         (W.contents writer.new) }
     ensures nothing { IfErr result (λ e. e ≢ Refused.Unwritable → W.contents writer.new ≡ W.contents writer.old) }
     ensures out { OnOk result (W.is_out writer.new ≡ true) }

@@ -44,8 +44,8 @@ fn behind_sign(field: &[u8]) -> (bool, &[u8])
     }
 }
 
-/// The number that so few ASCII digits write; none where there is no digit, or another byte.
-fn short_number(digits: &[u8]) -> Option<u64>
+/// The number that up to 18 ASCII digits write; none where there is no digit, or another byte.
+pub fn short_number(digits: &[u8]) -> Option<u64>
     requires few { length digits.now ≤ 18 }
     ensures { result ≡ number_of digits.now }
 {

@@ -1,5 +1,5 @@
 -- What the words of a command line ask for. The first word is the program's name.
-use Rattle.std.specs.Prelude.{◌≡◌, ◌≢◌, true, ◌&&◌, ◌-◌, ◌^◌, ℕ, List, [], ◌∷◌, map, Option, Some, None, codes, nat_lt, string_bytes, if◌then◌else◌}
+use Rattle.std.specs.Prelude.{◌≡◌, ◌≢◌, ◌⊎◌, ⊤, true, ◌&&◌, ◌-◌, ◌^◌, ℕ, List, [], ◌∷◌, map, Option, Some, None, codes, nat_lt, option_map, string_bytes, if◌then◌else◌}
 use Rattle.std.specs.Str.{bytes_eq}
 use Rattle.std.specs.Option.{option_map_or}
 use Rattle.std.specs.Str.Parse.{digits_value, without_leading_plus}
@@ -10,6 +10,7 @@ use Rattle.clap.specs.declared.error.kind.ErrorKind.{ErrorKind}
 use Rattle.clap.specs.declared.error.kind.ErrorKind.TheVariants.{DisplayHelp, DisplayVersion, OutOfMemory}
 use Rattle.fkv_partition.specs.declared.limits.Config.{Config}
 use Rattle.fkv_feed_rows.specs.Amounts.{is_numeral}
+use Rattle.fkv_requests.specs.Memory.{size_of, share_of, bucket_bits_in, page_bits_in, frames_in}
 use Rattle.fkv_requests.specs.declared.requests.Shown.{Shown}
 use Rattle.fkv_requests.specs.declared.requests.Shown.TheVariants.{Count, Sum, Max}
 use Rattle.fkv_requests.specs.declared.requests.TableRequest.{TableRequest}
@@ -25,22 +26,40 @@ number_rule name least most usual = record (new_rule name) {
   defaults = usual ∷ [];
 }
 
+-- the same with no such text
+abbrev pub free_number_rule : Text → ℕ → ℕ → Rule
+free_number_rule name least most = record (new_rule name) {
+  long = Some name;
+  parser = Some (parser.Unsigned least most);
+  value_names = 1;
+}
+
+-- an option that has a size
+abbrev pub memory_rule : Rule
+memory_rule = record (new_rule (codes "memory")) { long = Some (codes "memory"); value_names = 1 }
+
+-- an option that has a path
+abbrev pub dir_rule : Rule
+dir_rule = record (new_rule (codes "dir")) { long = Some (codes "dir"); value_names = 1 }
+
 -- up to 64 paths
 abbrev pub feeds_rule : Rule
 feeds_rule = record (new_rule (codes "FEED")) { range = Some (record { start_inclusive = 0; end_inclusive = 64 }) }
 
--- a subcommand that makes a table
-abbrev pub table_app : Text → App
-table_app name =
+-- a subcommand with the numbers of a store
+abbrev pub numbered_app : Text → App
+numbered_app name =
     with_rule
     (with_rule
     (with_rule
-    (with_rule
     (with_rule (new_app name) (number_rule (codes "partition-bits") 0 6 (codes "2")))
-    (number_rule (codes "bucket-bits") 0 20 (codes "10")))
-    (number_rule (codes "page-bits") 8 20 (codes "16")))
-    (number_rule (codes "frames") 2 1024 (codes "4")))
-    feeds_rule
+    (free_number_rule (codes "bucket-bits") 0 20))
+    (free_number_rule (codes "page-bits") 8 20))
+    (free_number_rule (codes "frames") 2 1024)
+
+-- a subcommand that makes a table
+abbrev pub table_app : Text → App
+table_app name = with_rule (with_rule (with_rule (numbered_app name) memory_rule) dir_rule) feeds_rule
 
 -- a program that has a version
 abbrev pub with_version : App → App
@@ -77,28 +96,75 @@ number_of (Some text) =
     then digits_value 10 (without_leading_plus text)
     else 2 ^ 64 - 1
 
--- the configuration that the options of a subcommand say
-abbrev pub config_of : List Row → Config
-config_of rows = record {
+-- the number that a text writes, or this one where there is no text
+abbrev pub number_or : Option Text → ℕ → ℕ
+number_or None usual = usual
+number_or (Some text) usual = number_of (Some text)
+
+-- the memory that is named, or that none is; none at all where the size can't be read
+abbrev pub memory_in : Option Text → Option (Option ℕ)
+memory_in None = Some None
+memory_in (Some text) = option_map (λ n. Some n) (size_of text)
+
+abbrev pub memory_of : List Row → Option (Option ℕ)
+memory_of rows = memory_in (first_of (codes "memory") rows)
+
+-- the configuration of these partitions, by the numbers that are given and, where one is not, by its share of the memory
+abbrev pub shared_config : ℕ → ℕ → ℕ → ℕ → List Row → Config
+shared_config share partition_bits bucket_bits page_bits rows = record {
   id = 1;
-  partition_bits = number_of (first_of (codes "partition-bits") rows);
-  bucket_bits = number_of (first_of (codes "bucket-bits") rows);
-  page_bits = number_of (first_of (codes "page-bits") rows);
-  frames = number_of (first_of (codes "frames") rows);
+  partition_bits = partition_bits;
+  bucket_bits = bucket_bits;
+  page_bits = page_bits;
+  frames = number_or (first_of (codes "frames") rows) (frames_in bucket_bits page_bits share);
   turns = 1000000;
 }
+
+-- the configuration that the options of a subcommand say, within so much memory where a size is named
+abbrev pub config_of : Option ℕ → List Row → Config
+config_of None rows = record {
+  id = 1;
+  partition_bits = number_of (first_of (codes "partition-bits") rows);
+  bucket_bits = number_or (first_of (codes "bucket-bits") rows) 10;
+  page_bits = number_or (first_of (codes "page-bits") rows) 16;
+  frames = number_or (first_of (codes "frames") rows) 4;
+  turns = 1000000;
+}
+config_of (Some memory) rows =
+    shared_config (share_of memory (number_of (first_of (codes "partition-bits") rows)))
+    (number_of (first_of (codes "partition-bits") rows))
+    (number_or (first_of (codes "bucket-bits") rows) (bucket_bits_in (share_of memory (number_of (first_of (codes "partition-bits") rows)))))
+    (number_or (first_of (codes "page-bits") rows) (page_bits_in (share_of memory (number_of (first_of (codes "partition-bits") rows)))))
+    rows
+
+-- the folder that keeps its pages, if one is named
+abbrev pub folder_of : List Row → Option Text
+folder_of rows = first_of (codes "dir") rows
 
 -- the paths of its feeds
 abbrev pub paths_of : List Row → List Text
 paths_of rows = option_map_or (λ values. values) (all_of (codes "FEED") rows) []
+
+-- the options of a table, within so much memory where a size is named
+abbrev pub IsTableBy : Option ℕ → List Row → TableRequest → Type 0
+IsTableBy memory rows table =
+    (table.config ≡ config_of memory rows)
+    × (option_map string_bytes table.folder ≡ folder_of rows)
+    × (map string_bytes table.paths.items ≡ paths_of rows)
 
 -- a table is asked for by a subcommand, its options and its feeds
 abbrev pub IsTableIn : Option (Text × List Row) → TableRequest → Type 0
 IsTableIn None table = ⊥
 IsTableIn (Some p) table =
     (table_named p.0 ≡ Some table.shown)
-    × (table.config ≡ config_of p.1)
-    × (map string_bytes table.paths.items ≡ paths_of p.1)
+    × (memory : Option ℕ)
+    × (memory_of p.1 ≡ Some memory)
+    × IsTableBy memory p.1 table
+
+-- a table is asked for, and the size of its memory can't be read
+abbrev pub HasBadSize : Option (Text × List Row) → Type 0
+HasBadSize None = ⊥
+HasBadSize (Some p) = (table_named p.0 ≢ None) × (memory_of p.1 ≡ None)
 
 -- clap finds nothing in the words to refuse, and they name no table: they name the other subcommand or nothing
 unfoldable pub AsksReplay : List Text → Type 0
@@ -116,13 +182,15 @@ MayAskHelp words = IsAmong DisplayHelp (fault_of program words)
 unfoldable pub MayAskVersion : List Text → Type 0
 MayAskVersion words = IsAmong DisplayVersion (fault_of program words)
 
--- clap refuses the words, or may refuse them where they are `help` and more
+-- clap refuses the words, or may refuse them where they are `help` and more; or it takes them, and the size of the memory
+-- can't be read
 unfoldable pub MayBeMistaken : List Text → Type 0
 MayBeMistaken words =
-    (kind : ErrorKind)
+    ((kind : ErrorKind)
     × IsAmong kind (fault_of program words)
     × (kind ≢ DisplayHelp)
-    × (kind ≢ DisplayVersion)
+    × (kind ≢ DisplayVersion))
+    ⊎ ((fault_of program words ≡ []) × HasBadSize (subcommand_of program words))
 
 -- what a parse that clap takes asks for
 abbrev pub IsAskedIn : Option (Text × List Row) → Request → Type 0
@@ -130,7 +198,7 @@ IsAskedIn sub Replay = table_in sub ≡ None
 IsAskedIn sub (Table table) = IsTableIn sub table
 IsAskedIn sub (Help text) = ⊥
 IsAskedIn sub Version = ⊥
-IsAskedIn sub (Mistake text) = ⊥
+IsAskedIn sub (Mistake text) = HasBadSize sub
 
 -- what a parse asks for that clap ends with an error of this kind
 abbrev pub IsAskedByKind : ErrorKind → Request → Type 0
@@ -139,6 +207,11 @@ IsAskedByKind kind (Table table) = ⊥
 IsAskedByKind kind (Help text) = kind ≡ DisplayHelp
 IsAskedByKind kind Version = kind ≡ DisplayVersion
 IsAskedByKind kind (Mistake text) = (kind ≢ DisplayHelp) × (kind ≢ DisplayVersion) × (kind ≢ OutOfMemory)
+
+-- it is a mistake that is told
+abbrev pub IsMistake : Request → Type 0
+IsMistake (Mistake text) = ⊤
+IsMistake request = ⊥
 
 -- the words ask for this
 abbrev pub IsAskedBy : List Text → Request → Type 0

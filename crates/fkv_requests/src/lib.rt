@@ -6,6 +6,7 @@
 #![tactic(auto)]
 
 pub mod laws;
+mod memory;
 pub mod requests;
 pub mod words;
 

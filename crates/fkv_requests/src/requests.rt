@@ -1,5 +1,5 @@
 //! What the words of a command line ask for.
-ghost use Rattle.std.specs.Prelude.{◌≡◌, false, IfOk, IfErr, codes, map, string_bytes};
+ghost use Rattle.std.specs.Prelude.{◌≡◌, false, IfOk, IfErr, codes, map, option_map, string_bytes, Some};
 ghost use Rattle.clap.specs.Words.{app_of, first_value, found_of, kind_of, new_app, rows_of, rule_of, subcommand_rows_of};
 ghost use Rattle.clap.specs.declared.builder.command.Command.TheViews.{out-Command};
 ghost use Rattle.fkv_requests.specs.Requests.{
@@ -8,15 +8,25 @@ ghost use Rattle.fkv_requests.specs.Requests.{
   IsAskedIn,
   program,
   with_version,
+  IsMistake,
+  IsTableBy,
   number_rule,
+  free_number_rule,
+  memory_rule,
   feeds_rule,
+  numbered_app,
   table_app,
   table_named,
+  dir_rule,
   number_of,
+  number_or,
+  memory_of,
   config_of,
+  folder_of,
   paths_of,
 };
 
+use crate::memory::{bucket_bits_in, frames_in, page_bits_in, share_of, size_of};
 use clap::builder::ValueParser;
 use clap::error::ErrorKind;
 use clap::{Arg, ArgMatches, Command, Error};
@@ -26,6 +36,10 @@ use std::alloc::{AllocError, Global};
 
 /// The program's version. `fkv_commands` writes it behind the name.
 const VERSION: &str = "0.1.0";
+
+/// What is told of a size that can't be read.
+const BAD_SIZE: &str =
+    "error: --memory takes a number of one to eighteen digits with K, M or G behind it, such as 64M\n";
 
 /// What a table shows of the amounts of each key.
 #[derive(Clone, Copy, PartialEq, Eq, Debug)]
@@ -44,6 +58,8 @@ pub struct TableRequest {
     pub shown: Shown,
     /// The configuration of the store that makes it.
     pub config: Config,
+    /// The folder whose files keep its pages; with none they are kept in memory.
+    pub folder: Option<String>,
     /// Where its feeds are; with none the one feed is standard input.
     pub paths: Vec<String>,
 }
@@ -117,14 +133,60 @@ fn asked(alloc: Global, matches: &ArgMatches<'_>) -> Result<Request, Refused>
     let Some(shown) = shown_by(name) else {
         return Ok(Request::Replay);
     };
-    let config = config_by(options);
+    match memory_by(options) {
+        Some(memory) => table_by(alloc, options, shown, memory),
+        None => mistake(alloc),
+    }
+}
+
+/// The memory that the options name, or that they name none; `None` where the size can't be read.
+fn memory_by(options: &ArgMatches<'_>) -> Option<Option<u64>>
+    ensures { result ≡ memory_of (rows_of (found_of options.now)) }
+{
+    match options.get_str("memory") {
+        None => Some(None),
+        Some(text) => match size_of(text.as_bytes()) {
+            Some(size) => Some(Some(size)),
+            None => None,
+        },
+    }
+}
+
+/// The table that the options ask for, within so much memory where a size is named. Refused: `NoMemory`.
+fn table_by(
+    alloc: Global,
+    options: &ArgMatches<'_>,
+    shown: Shown,
+    memory: Option<u64>,
+) -> Result<Request, Refused>
+    ensures ok { IfOk result (λ request. (table : TableRequest) × (request ≡ Request.Table table)
+        × (table.shown ≡ shown) × IsTableBy memory (rows_of (found_of options.now)) table) }
+    ensures only { IfErr result (λ refused. refused ≡ Refused.NoMemory) }
+{
+    let config = config_by(options, memory);
+    let folder = match folder_by(alloc, options) {
+        Ok(folder) => folder,
+        Err(refused) => return Err(refused),
+    };
     match paths_by(alloc, options) {
         Ok(paths) => Ok(Request::Table(TableRequest {
             shown,
             config,
+            folder,
             paths,
         })),
         Err(refused) => Err(refused),
+    }
+}
+
+/// A mistake that clap does not find: the size of the memory can't be read. Refused: `NoMemory`.
+fn mistake(alloc: Global) -> Result<Request, Refused>
+    ensures mistake { IfOk result IsMistake }
+    ensures only { IfErr result (λ refused. refused ≡ Refused.NoMemory) }
+{
+    match String::from_str(alloc, BAD_SIZE) {
+        Ok(text) => Ok(Request::Mistake(text)),
+        Err(_) => Err(Refused::NoMemory),
     }
 }
 
@@ -156,17 +218,57 @@ fn number_by(options: &ArgMatches<'_>, id: &str) -> u64
     }
 }
 
-/// The configuration that the options say.
-fn config_by(options: &ArgMatches<'_>) -> Config
-    ensures { result ≡ config_of (rows_of (found_of options.now)) }
+/// The number of an option, or this one where it is not given.
+fn number_or(options: &ArgMatches<'_>, id: &str, usual: u64) -> u64
+    ensures { result ≡ number_or (first_value (found_of options.now) id.now) usual }
 {
+    match options.get_str(id) {
+        None => usual,
+        Some(_text) => number_by(options, id),
+    }
+}
+
+/// The configuration that the options say, within so much memory where a size is named.
+fn config_by(options: &ArgMatches<'_>, memory: Option<u64>) -> Config
+    ensures { result ≡ config_of memory (rows_of (found_of options.now)) }
+{
+    let partition_bits = number_by(options, "partition-bits");
+    let Some(memory) = memory else {
+        return Config {
+            id: 1,
+            partition_bits,
+            bucket_bits: number_or(options, "bucket-bits", 10),
+            page_bits: number_or(options, "page-bits", 16),
+            frames: number_or(options, "frames", 4),
+            turns: 1_000_000,
+        };
+    };
+    let share = share_of(memory, partition_bits);
+    let bucket_bits = number_or(options, "bucket-bits", bucket_bits_in(share));
+    let page_bits = number_or(options, "page-bits", page_bits_in(share));
+    let frames = frames_in(bucket_bits, page_bits, share);
     Config {
         id: 1,
-        partition_bits: number_by(options, "partition-bits"),
-        bucket_bits: number_by(options, "bucket-bits"),
-        page_bits: number_by(options, "page-bits"),
-        frames: number_by(options, "frames"),
+        partition_bits,
+        bucket_bits,
+        page_bits,
+        frames: number_or(options, "frames", frames),
         turns: 1_000_000,
+    }
+}
+
+/// The folder that keeps the pages, if one is named. Refused: `NoMemory`.
+fn folder_by(alloc: Global, options: &ArgMatches<'_>) -> Result<Option<String>, Refused>
+    ensures ok { IfOk result
+        (λ folder. option_map string_bytes folder ≡ folder_of (rows_of (found_of options.now))) }
+    ensures only { IfErr result (λ refused. refused ≡ Refused.NoMemory) }
+{
+    let Some(text) = options.get_str("dir") else {
+        return Ok(None);
+    };
+    match String::from_str(alloc, text) {
+        Ok(folder) => Ok(Some(folder)),
+        Err(_) => Err(Refused::NoMemory),
     }
 }
 
@@ -200,23 +302,48 @@ fn copied(alloc: Global, texts: &[&str]) -> Result<Vec<String>, Refused>
 }
 
 /// An option that has a number of a range.
-fn number<'a>(
-    alloc: Global,
-    name: &'a str,
-    least: u64,
-    most: u64,
-    usual: &'a str,
-    help: &'a str,
-) -> Arg<'a>
-    ensures rule { rule_of result ≡ number_rule name.entry.now least most usual.entry.now }
+fn number<'a>(alloc: Global, name: &'a str, least: u64, most: u64, help: &'a str) -> Arg<'a>
+    ensures rule { rule_of result ≡ free_number_rule name.entry.now least most }
     ensures local { result.global ≡ false }
 {
     Arg::new(alloc, name)
         .long(name)
         .value_name("N")
         .value_parser(ValueParser::unsigned(least, most))
-        .default_value(usual)
         .help(help)
+}
+
+/// The number of partitions.
+fn partition_bits<'a>(alloc: Global) -> Arg<'a>
+    ensures rule { rule_of result ≡ number_rule (codes "partition-bits") 0 6 (codes "2") }
+    ensures local { result.global ≡ false }
+{
+    let help = "There are 2 to this many partitions: 0 to 6";
+    number(alloc, "partition-bits", 0, 6, help).default_value("2")
+}
+
+/// How much memory the store may take.
+fn memory<'a>(alloc: Global) -> Arg<'a>
+    ensures rule { rule_of result ≡ memory_rule }
+    ensures local { result.global ≡ false }
+{
+    Arg::new(alloc, "memory")
+        .long("memory")
+        .value_name("SIZE")
+        .help(
+            "Sets --bucket-bits, --page-bits and --frames, where they are not given, so that buckets and frames take at most \
+this much, as 64M or 2G",
+        )
+}
+
+/// The folder whose files keep the pages.
+fn dir<'a>(alloc: Global) -> Arg<'a>
+    ensures rule { rule_of result ≡ dir_rule }
+    ensures local { result.global ≡ false }
+{
+    Arg::new(alloc, "dir").long("dir").value_name("PATH").help(
+        "Keep pages in files of this folder, made anew; without it they are kept in memory",
+    )
 }
 
 /// The paths of the feeds.
@@ -229,6 +356,41 @@ fn feeds<'a>(alloc: Global) -> Arg<'a>
     )
 }
 
+/// A subcommand with the numbers of a store.
+fn numbered<'a>(
+    alloc: Global,
+    name: &'static str,
+    about: &'static str,
+) -> Result<Command<'a>, AllocError>
+    ensures { IfOk result (λ command. (app_of command ≡ numbered_app name.now)
+        × ((out-Command command).has_globals ≡ false)) }
+{
+    Command::new(alloc, name)
+        .about(about)
+        .arg(partition_bits(alloc))?
+        .arg(number(
+            alloc,
+            "bucket-bits",
+            0,
+            20,
+            "There are 2 to this many buckets in each: 0 to 20 [default: 10]",
+        ))?
+        .arg(number(
+            alloc,
+            "page-bits",
+            8,
+            20,
+            "A page has 2 to this many bytes: 8 to 20 [default: 16]",
+        ))?
+        .arg(number(
+            alloc,
+            "frames",
+            2,
+            1024,
+            "The page frames of each partition: 2 to 1024 [default: 4]",
+        ))
+}
+
 /// A subcommand that makes a table.
 fn table<'a>(
     alloc: Global,
@@ -238,40 +400,9 @@ fn table<'a>(
     ensures { IfOk result (λ command. (app_of command ≡ table_app name.now)
         × ((out-Command command).has_globals ≡ false)) }
 {
-    Command::new(alloc, name)
-        .about(about)
-        .arg(number(
-            alloc,
-            "partition-bits",
-            0,
-            6,
-            "2",
-            "There are 2 to this many partitions: 0 to 6",
-        ))?
-        .arg(number(
-            alloc,
-            "bucket-bits",
-            0,
-            20,
-            "10",
-            "There are 2 to this many buckets in each: 0 to 20",
-        ))?
-        .arg(number(
-            alloc,
-            "page-bits",
-            8,
-            20,
-            "16",
-            "A page has 2 to this many bytes: 8 to 20",
-        ))?
-        .arg(number(
-            alloc,
-            "frames",
-            2,
-            1024,
-            "4",
-            "The page frames of each partition: 2 to 1024",
-        ))?
+    numbered(alloc, name, about)?
+        .arg(memory(alloc))?
+        .arg(dir(alloc))?
         .arg(feeds(alloc))
 }
 

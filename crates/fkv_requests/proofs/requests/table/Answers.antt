@@ -1,26 +1,15 @@
-use Rattle.std.proofs.Common.{rules, ap₂, refl, ◌≡◌, ◌∙◌, false, Bool}
+use Rattle.std.proofs.Common.{ap₂, ◌≡◌, ◌∙◌}
 use Rattle.std.proofs.lemmas.Result.{IfOk-weaker}
-use Rattle.std.specs.Prelude.{◌||◌}
-use Rattle.clap.specs.Words.{app_of, new_app, with_rule}
-use Rattle.clap.specs.declared.builder.command.Command.TheViews.{out-Command}
+use Rattle.clap.specs.Words.{app_of, with_rule}
+use Rattle.fkv_requests.proofs.RequestLemmas.{neither}
 use Rattle.fkv_requests.proofs.requests.table.Goals as goal
-
--- neither is global
-or-false : (a b : Bool) → a ≡ false → b ≡ false → (a || b) ≡ false
-or-false a b e f = rw (e, f) refl
 
 pub returns : goal.returns
 returns c =
-    let zero : app_of c.about.result ≡ new_app c.args.name.now = search rules in
-    let zero_local : (out-Command c.about.result).has_globals ≡ false = search rules in
-    let one : app_of c.in_ok-arg.field-0 ≡ _ = c.in_ok-arg.ensures.shape c.number.ensures.local ∙ ap₂ with_rule zero c.number.ensures.rule in
-    let one_local = c.in_ok-arg.ensures.globals ∙ or-false _ _ zero_local c.number.ensures.local in
-    let two : app_of c.in_ok-arg-2.field-0 ≡ _ = c.in_ok-arg-2.ensures.shape c.number-2.ensures.local ∙ ap₂ with_rule one c.number-2.ensures.rule in
-    let two_local = c.in_ok-arg-2.ensures.globals ∙ or-false _ _ one_local c.number-2.ensures.local in
-    let three : app_of c.in_ok-arg-3.field-0 ≡ _ = c.in_ok-arg-3.ensures.shape c.number-3.ensures.local ∙ ap₂ with_rule two c.number-3.ensures.rule in
-    let three_local = c.in_ok-arg-3.ensures.globals ∙ or-false _ _ two_local c.number-3.ensures.local in
-    let four : app_of c.in_ok-arg-4.field-0 ≡ _ = c.in_ok-arg-4.ensures.shape c.number-4.ensures.local ∙ ap₂ with_rule three c.number-4.ensures.rule in
-    let four_local = c.in_ok-arg-4.ensures.globals ∙ or-false _ _ three_local c.number-4.ensures.local in
-    IfOk-weaker c.arg-5.result _ _
-    (λ command added. (added.shape c.feeds.ensures.local ∙ ap₂ with_rule four c.feeds.ensures.rule, added.globals ∙ or-false _ _ four_local c.feeds.ensures.local))
-    c.arg-5.ensures
+    let one : app_of c.in_ok-arg.field-0 ≡ _ = c.in_ok-arg.ensures.shape c.memory.ensures.local ∙ ap₂ with_rule c.in_ok-numbered.ensures.0 c.memory.ensures.rule in
+    let one_local = c.in_ok-arg.ensures.globals ∙ neither _ _ c.in_ok-numbered.ensures.1 c.memory.ensures.local in
+    let two : app_of c.in_ok-arg-2.field-0 ≡ _ = c.in_ok-arg-2.ensures.shape c.dir.ensures.local ∙ ap₂ with_rule one c.dir.ensures.rule in
+    let two_local = c.in_ok-arg-2.ensures.globals ∙ neither _ _ one_local c.dir.ensures.local in
+    IfOk-weaker c.arg-3.result _ _
+    (λ command added. (added.shape c.feeds.ensures.local ∙ ap₂ with_rule two c.feeds.ensures.rule, added.globals ∙ neither _ _ two_local c.feeds.ensures.local))
+    c.arg-3.ensures

@@ -1,0 +1,11 @@
+use Rattle.std.proofs.Common.{◌∙◌, ap, Some}
+use Rattle.std.specs.Prelude.{codes}
+use Rattle.clap.specs.Words.{found_of}
+use Rattle.clap.proofs.WalkLemmas.{first_value-rows}
+use Rattle.fkv_requests.proofs.requests.folder_by.Goals as goal
+
+pub returns-in_default-clause-ok : goal.returns-in_default-clause-ok
+returns-in_default-clause-ok c = c.in_default.ensures ∙ first_value-rows (found_of c.args.options.now) (codes "dir")
+
+pub returns-in-Ok-clause-ok : goal.returns-in-Ok-clause-ok
+returns-in-Ok-clause-ok c = ap Some c.in-Ok.ensures.ok ∙ c.in-Some.ensures ∙ first_value-rows (found_of c.args.options.now) (codes "dir")

@@ -1,0 +1,46 @@
+-- How much memory a store may take, and the numbers that follow from it.
+use Rattle.std.specs.Prelude.{◌+◌, ◌-◌, ◌*◌, ◌/◌, ◌^◌, ◌==◌, ℕ, List, length, take, get_or, Option, Some, None, min, max, nat_lt, if◌then◌else◌}
+use Rattle.std.specs.Int.{w64, leading_zeros}
+use Rattle.fkv_feed_rows.specs.Amounts.{number_of}
+
+-- what a letter behind a number stands for: K, M and G
+abbrev pub unit_of : ℕ → Option ℕ
+unit_of letter =
+    if letter == 75 then Some (2 ^ 10)
+    else if letter == 77 then Some (2 ^ 20)
+    else if letter == 71 then Some (2 ^ 30)
+    else None
+
+-- one to eighteen digits, times a unit, where that is below 2^64
+abbrev pub product : Option ℕ → ℕ → Option ℕ
+product None unit = None
+product (Some number) unit = if nat_lt (number * unit) (2 ^ 64) then Some (number * unit) else None
+
+abbrev pub scaled : List ℕ → Option ℕ → Option ℕ
+scaled digits None = None
+scaled digits (Some unit) = if nat_lt 18 (length digits) then None else product (number_of digits) unit
+
+-- the number of bytes that a text names: digits with a letter behind them
+unfoldable pub size_of : List ℕ → Option ℕ
+size_of text = scaled (take (length text - 1) text) (unit_of (get_or text (length text - 1) 0))
+
+-- the greatest number of bits, up to so many, whose power of two is at most n; 0 where there is none
+abbrev pub bits_within : ℕ → ℕ → ℕ
+bits_within n most = min (63 - leading_zeros w64 n) most
+
+-- what each partition may take of the memory; there are at most 2^6
+abbrev pub share_of : ℕ → ℕ → ℕ
+share_of memory partition_bits = memory / 2 ^ min partition_bits 6
+
+-- buckets of 64 bytes, in a quarter of the share
+abbrev pub bucket_bits_in : ℕ → ℕ
+bucket_bits_in share = bits_within (share / 256) 20
+
+-- pages of 2^8 to 2^20 bytes, so small that their frames are some hundreds
+abbrev pub page_bits_in : ℕ → ℕ
+page_bits_in share = 8 + bits_within (share / 2 ^ 17) 12
+
+-- frames in what the buckets leave, from 2 to 1024; there are at most 2^20 buckets, and a page has at most 2^20 bytes
+abbrev pub frames_in : ℕ → ℕ → ℕ → ℕ
+frames_in bucket_bits page_bits share =
+    max (min ((share - 64 * 2 ^ min bucket_bits 20) / 2 ^ min page_bits 20) 1024) 2

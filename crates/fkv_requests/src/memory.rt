@@ -1,0 +1,93 @@
+//! How much memory a store may take, and the numbers that follow from it.
+//!
+//! Each partition has its share. A quarter of that, at most, is for its buckets, 64 bytes each; the rest is for its page
+//! frames. Pages are as small as some hundreds of frames allow, since whoever reads one page reads it whole.
+ghost use Rattle.std.specs.Prelude.{◌≡◌};
+ghost use Rattle.fkv_requests.specs.Memory.{
+  size_of,
+  unit_of,
+  scaled,
+  bits_within,
+  share_of,
+  bucket_bits_in,
+  page_bits_in,
+  frames_in,
+};
+
+use fkv_feed_rows::amounts::short_number;
+
+/// What a letter behind a number stands for: K 2^10, M 2^20 and G 2^30.
+fn unit_of(letter: u8) -> Option<u64>
+    ensures { result ≡ unit_of letter }
+{
+    match letter {
+        b'K' => Some(1 << 10),
+        b'M' => Some(1 << 20),
+        b'G' => Some(1 << 30),
+        _ => None,
+    }
+}
+
+/// The number of bytes that a text names: one to eighteen digits, and K, M or G behind them (`64M`).
+pub fn size_of(text: &[u8]) -> Option<u64>
+    ensures { result ≡ size_of text.now }
+{
+    let Some(last) = text.len().checked_sub(1) else {
+        return None;
+    };
+    scaled(&text[..last], unit_of(text[last]))
+}
+
+/// A number of one to eighteen digits, times a unit, if there is one; `None` also where that has no 64 bits.
+fn scaled(digits: &[u8], unit: Option<u64>) -> Option<u64>
+    ensures { result ≡ scaled digits.now unit }
+{
+    let Some(unit) = unit else {
+        return None;
+    };
+    if digits.len() > 18 {
+        return None;
+    }
+    match short_number(digits) {
+        Some(number) => number.checked_mul(unit),
+        None => None,
+    }
+}
+
+/// The greatest number of bits, at most `most`, whose power of two is at most `number`; 0 where there is none.
+fn bits_within(number: u64, most: u64) -> u64
+    ensures { result ≡ bits_within number most }
+{
+    let bits = 63u64.saturating_sub(u64::from(number.leading_zeros()));
+    bits.min(most)
+}
+
+/// What each of 2^`partition_bits` partitions may take; there are at most 2^6.
+pub fn share_of(memory: u64, partition_bits: u64) -> u64
+    ensures { result ≡ share_of memory partition_bits }
+{
+    memory >> partition_bits.min(6)
+}
+
+/// The bits of the number of a partition's buckets.
+pub fn bucket_bits_in(share: u64) -> u64
+    ensures { result ≡ bucket_bits_in share }
+{
+    bits_within(share / 256, 20)
+}
+
+/// The bits of a page's size.
+pub fn page_bits_in(share: u64) -> u64
+    ensures { result ≡ page_bits_in share }
+{
+    8 + bits_within(share / (1 << 17), 12)
+}
+
+/// The page frames of a partition: from 2 to 1024. There are at most 2^20 buckets, and a page has at most 2^20 bytes.
+pub fn frames_in(bucket_bits: u64, page_bits: u64, share: u64) -> u64
+    ensures { result ≡ frames_in bucket_bits page_bits share }
+{
+    let buckets = 64u64 << bucket_bits.min(20);
+    let rest = share.saturating_sub(buckets);
+    (rest >> page_bits.min(20)).min(1024).max(2)
+}
