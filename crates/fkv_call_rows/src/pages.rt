@@ -1,0 +1,294 @@
+//! Calls on pages of 256 bytes in a ring of frames, with a writer and a reader of a device: records take 48 bytes.
+ghost use Rattle.std.specs.Prelude.{◌≡◌, ◌≤◌, ◌↔◌, IsTrue, length};
+ghost use Rattle.fkv_records.specs.Places.{page_at, IsPlace};
+ghost use Rattle.fkv_records.specs.Records.{size_of, IsPrevious};
+
+use crate::lines::{Line, Subject};
+use fkv_device::{Disk, FileDevice, FlushJob, Loaded, MemoryDevice, Page, Receipt, Written};
+use fkv_functions::{Fixed, Name, Refused};
+use fkv_pages::Pages;
+use fkv_records::{Address, Shape, record_size};
+use fkv_texts::{Entry, Reached};
+use std::alloc::{AllocError, Global};
+
+/// Pages, a writer and a reader.
+#[derive(Drop)]
+pub struct Driven<D: Disk> {
+    alloc: Global,
+    pages: Pages<Name, u64, D::Receipt>,
+    writer: D::Writer,
+    reader: D::Reader,
+}
+
+/// What a call answers.
+#[derive(Clone, Copy, Debug, PartialEq)]
+enum Told {
+    Done,
+    /// An address, or a page.
+    At(u64),
+    Full,
+    /// The first letter of a record's key, its previous address and its value.
+    Record(char, Address, Option<u64>),
+    Below(Address),
+    Refused(Refused),
+    /// The call may not be made.
+    Never,
+}
+
+fn record_told(read: Result<Entry<Name, u64>, Refused>) -> Told {
+    match read {
+        Ok(entry) => {
+            let letter = entry.key.bytes().first().copied().unwrap_or(b'?');
+            Told::Record(char::from(letter), entry.previous, entry.value)
+        }
+        Err(refused) => Told::Refused(refused),
+    }
+}
+
+fn page_told(done: Result<u64, Refused>) -> Told {
+    match done {
+        Ok(page) => Told::At(page),
+        Err(refused) => Told::Refused(refused),
+    }
+}
+
+/// Whether a record may lead from an address to this one.
+fn is_previous(address: Address, previous: Address) -> bool
+    ensures { IsTrue result ↔ IsPrevious address previous }
+{
+    previous == 1 || (64 <= previous && previous < address)
+}
+
+/// Whether an address is a place whose page is at most the first that is not flushed.
+fn is_low<K: Fixed, V: Fixed, R: Receipt>(pages: &Pages<K, V, R>, address: Address) -> bool
+    ensures place { IsTrue result → IsPlace pages.now.bits (size_of K.SIZE V.SIZE) address }
+    ensures flushed { IsTrue result → page_at pages.now.bits address ≤ length pages.now.receipts }
+    ensures frozen { IsTrue result → address ≤ pages.now.frozen }
+{
+    let shape = pages.shape();
+    shape.is_place(address)
+        && shape.page_of(address) <= pages.unflushed()
+        && address <= pages.frozen()
+}
+
+/// A page as it was taken; or with another number, with another byte at a place, or without its last byte, as the line
+/// says.
+fn changed(alloc: Global, job: FlushJob, line: &Line) -> Result<FlushJob, Refused> {
+    let FlushJob { page, bytes } = job;
+    let [number, byte, ..] = line.numbers;
+    let Ok(mut copy) = bytes.bytes().to_vec(alloc) else {
+        return Err(Refused::NoMemory);
+    };
+    let mut page = page;
+    match line.word {
+        "flush_as" => page = number,
+        "flush_with" => {
+            if let Some(place) = copy.get_mut(number as usize) {
+                *place = (byte % 256) as u8;
+            }
+        }
+        "flush_short" => {
+            let _last = copy.pop();
+        }
+        _ => return Ok(FlushJob { page, bytes }),
+    }
+    match Page::new(alloc, copy) {
+        Ok(bytes) => Ok(FlushJob { page, bytes }),
+        Err(refused) => Err(refused),
+    }
+}
+
+impl<D: Disk> Driven<D> {
+    fn append(&mut self, line: &Line) -> Told {
+        let previous = line.numbers[1];
+        let Some(key) = Name::new(line.texts[0].as_bytes()) else {
+            return Told::Never;
+        };
+        if !is_previous(self.pages.tail(), previous) {
+            return Told::Never;
+        }
+        let value = line.texts[2].parse::<u64>().ok();
+        match self.pages.append(previous, key, value) {
+            Ok(Some(address)) => Told::At(address),
+            Ok(None) => Told::Full,
+            Err(refused) => Told::Refused(refused),
+        }
+    }
+
+    fn read(&self, address: Address) -> Told {
+        if !self.pages.has_entry(address) {
+            return Told::Never;
+        }
+        record_told(Ok(self.pages.record_at(address)))
+    }
+
+    /// Gives a record another value, or makes it a tombstone, where it is not frozen and has a value.
+    fn change(&mut self, address: Address, value: Option<u64>) -> Told {
+        if !self.pages.has_entry(address) || address < self.pages.frozen() {
+            return Told::Never;
+        }
+        match (self.pages.record_at(address).value, value) {
+            (Some(_), Some(value)) => self.pages.write_value(address, value),
+            (_, None) => self.pages.set_tombstone(address),
+            (None, Some(_)) => return Told::Never,
+        }
+        Told::Done
+    }
+
+    fn freeze(&mut self, address: Address) -> Told {
+        if address < self.pages.frozen() || self.pages.tail() < address {
+            return Told::Never;
+        }
+        self.pages.freeze(address);
+        Told::Done
+    }
+
+    fn close(&mut self, address: Address) -> Told {
+        if address < self.pages.closed() || !is_low(&self.pages, address) {
+            return Told::Never;
+        }
+        self.pages.close(address);
+        Told::Done
+    }
+
+    fn truncate(&mut self, address: Address) -> Told {
+        if address < self.pages.begin() || !is_low(&self.pages, address) {
+            return Told::Never;
+        }
+        self.pages.truncate(address);
+        Told::Done
+    }
+
+    /// Takes a page, writes it as the line says, and hands it in.
+    fn flush(&mut self, line: &Line) -> Result<u64, Refused> {
+        let taken = match self.pages.flush_take(self.alloc) {
+            Ok(job) => changed(self.alloc, job, line),
+            Err(refused) => Err(refused),
+        };
+        let job = match taken {
+            Ok(job) => job,
+            Err(refused) => return Err(refused),
+        };
+        let page = job.page;
+        let written = match Written::write(&mut self.writer, job) {
+            Ok(written) => written,
+            Err(refused) => return Err(refused),
+        };
+        match self.pages.flush_done(written) {
+            Ok(()) => Ok(page),
+            Err(refused) => Err(refused),
+        }
+    }
+
+    /// Reads a flushed page by its receipt.
+    fn fetch(&mut self, page: u64) -> Result<Loaded<D::Receipt>, Refused> {
+        if page >= self.pages.unflushed() {
+            return Err(Refused::NotReady);
+        }
+        match self.pages.receipt(page) {
+            Ok(receipt) => Loaded::fetch(&mut self.reader, &receipt, 256),
+            Err(refused) => Err(refused),
+        }
+    }
+
+    /// The record at an address, or the first of a key from there on, in the page that is read by the receipt of a page.
+    fn load(&mut self, line: &Line) -> Told {
+        let [page, address, ..] = line.numbers;
+        let loaded = match self.fetch(page) {
+            Ok(loaded) => loaded,
+            Err(refused) => return Told::Refused(refused),
+        };
+        if self.pages.shape().page_of(address) >= self.pages.unflushed() {
+            return Told::Refused(Refused::NotReady);
+        }
+        let Some(key) = Name::new(line.texts[2].as_bytes()) else {
+            return record_told(self.pages.record_in(&loaded, address));
+        };
+        match self.pages.first_in_page(&loaded, &key, address) {
+            Ok(Reached::Found(entry)) => record_told(Ok(entry)),
+            Ok(Reached::Below(address)) => Told::Below(address),
+            Err(refused) => Told::Refused(refused),
+        }
+    }
+
+    fn answer(&mut self, line: &Line) -> Told {
+        let address = line.numbers[0];
+        match line.word {
+            "append" => self.append(line),
+            "read" => self.read(address),
+            "write" => self.change(address, Some(line.numbers[1])),
+            "bury" => self.change(address, None),
+            "freeze" => self.freeze(address),
+            "close" => self.close(address),
+            "truncate" => self.truncate(address),
+            "flush" | "flush_as" | "flush_with" | "flush_short" => page_told(self.flush(line)),
+            "load" => self.load(line),
+            "tail" => Told::At(self.pages.tail()),
+            "next" => Told::At(self.pages.next(address)),
+            _ => Told::Never,
+        }
+    }
+}
+
+impl<D: Disk> Subject for Driven<D> {
+    fn call(&mut self, line: &Line, out: &mut String) -> Result<(), AllocError> {
+        if line.word == "entries" {
+            for address in 0..line.numbers[0].min(1 << 20) {
+                if self.pages.has_entry(address) {
+                    write!(out, "{address} ")?;
+                }
+            }
+            return writeln!(out);
+        }
+        let told = match self.answer(line) {
+            Told::Refused(Refused::NoMemory) => self.answer(line),
+            told => told,
+        };
+        writeln!(out, "{told:?}")
+    }
+}
+
+/// Pages, and partition 3 of a device.
+fn make_driven<D: Disk>(alloc: Global, mut disk: D, frames: u64) -> Result<Driven<D>, Refused> {
+    let Some(size) = record_size::<Name, u64>() else {
+        return Err(Refused::BadConfig);
+    };
+    let Some(shape) = Shape::new(8, size) else {
+        return Err(Refused::BadConfig);
+    };
+    if frames == 0 {
+        return Err(Refused::BadConfig);
+    }
+    let made = match Pages::new(alloc, shape, frames) {
+        Err(Refused::NoMemory) => Pages::new(alloc, shape, frames),
+        made => made,
+    };
+    let (pages, writer, reader) = match (made, disk.writer(3), disk.reader(3)) {
+        (Ok(pages), Ok(writer), Ok(reader)) => (pages, writer, reader),
+        _ => return Err(Refused::NoMemory),
+    };
+    Ok(Driven {
+        alloc,
+        pages,
+        writer,
+        reader,
+    })
+}
+
+/// Pages in so many frames over a device in memory.
+pub fn memory_calls(alloc: Global, frames: u64) -> Option<Driven<MemoryDevice>> {
+    make_driven(alloc, MemoryDevice::new(alloc), frames).ok()
+}
+
+/// Pages in so many frames over files.
+pub fn file_calls(rt: &HostRuntime, frames: u64) -> Option<Driven<FileDevice<HostRuntime>>> {
+    let own: Result<HostRuntime, AllocError> = rt.clone();
+    let folder = String::from_str(rt.alloc(), "device_files/pages");
+    match (own, folder) {
+        (Ok(own), Ok(folder)) => {
+            let device = FileDevice::new(own, rt.alloc(), folder, 8);
+            make_driven(rt.alloc(), device, frames).ok()
+        }
+        _ => None,
+    }
+}

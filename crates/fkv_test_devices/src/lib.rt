@@ -1,0 +1,11 @@
+//! Devices in memory for tests: a writer that fails once, and a reader that fails, gives zeros or gives another byte
+//! once, each after so many pages. Else they do what a device in memory does.
+//!
+//! Nothing is promised of what is read, so no contract that asks for a device that keeps holds of these.
+#![tactic(auto)]
+
+pub mod devices;
+pub mod receipts;
+
+pub use devices::{Turn, UnsureDevice, UnsureReader, UnsureWriter};
+pub use receipts::UnsureReceipt;

@@ -1,0 +1,141 @@
+//! Writers and readers over a file of which each call fails in turn, and writers at their last numbers.
+use crate::devices::receipt_of;
+use fkv_device::{
+    Disk, FileDevice, FileReader, FileReceipt, FileWriter, MemoryWriter, PageReader, PageWriter,
+    Receipt,
+};
+use fkv_functions::Refused;
+use std::alloc::Global;
+use std::fs::File;
+use std::io::{Error, ErrorKind, Read, Seek, SeekFrom, Write};
+use std::test::Fail;
+use std::{fs, io};
+
+/// A file of sevens, which moves ten bytes at a time and fails once, after so many calls.
+#[derive(Drop)]
+struct Faulty {
+    left: u64,
+}
+
+impl Faulty {
+    fn call(&mut self) -> io::Result<()> {
+        let (left, fails) = self.left.overflowing_sub(1);
+        self.left = left;
+        if fails {
+            return Err(Error::from(ErrorKind::Other));
+        }
+        Ok(())
+    }
+}
+
+impl Read for Faulty {
+    fn read(&mut self, buf: &mut [u8]) -> io::Result<usize> {
+        self.call()?;
+        let count = buf.len().min(10);
+        buf[..count].fill(7);
+        Ok(count)
+    }
+}
+
+impl Write for Faulty {
+    fn write(&mut self, buf: &[u8]) -> io::Result<usize> {
+        self.call()?;
+        Ok(buf.len().min(10))
+    }
+
+    fn flush(&mut self) -> io::Result<()> {
+        self.call()
+    }
+}
+
+impl Seek for Faulty {
+    fn seek(&mut self, _to: SeekFrom) -> io::Result<u64> {
+        self.call()?;
+        Ok(0)
+    }
+}
+
+/// What writing pages 0 and 1 is answered by, where the call after so many fails.
+fn written(
+    alloc: Global,
+    left: u64,
+) -> (Result<FileReceipt, Refused>, Result<FileReceipt, Refused>) {
+    let mut writer = FileWriter::at(alloc, Faulty { left }, 6, 0);
+    let first = receipt_of(alloc, &mut writer, 0, &[7u8; 64]);
+    (first, receipt_of(alloc, &mut writer, 1, &[7u8; 64]))
+}
+
+/// What reading two pages is refused by, where the call after so many fails.
+fn read(
+    alloc: Global,
+    left: u64,
+    first: &FileReceipt,
+    second: &FileReceipt,
+) -> (Option<Refused>, Option<Refused>) {
+    let mut reader = FileReader::new(alloc, Faulty { left }, 6);
+    let one = reader.read(first, 64).err();
+    (one, reader.read(second, 64).err())
+}
+
+/// A device fault of this code on page 0, where the failing call is one of the first page's, or on page 1. A page is a
+/// seek and seven pieces.
+fn faults(call: u64, code: u8) -> (Option<Refused>, Option<Refused>) {
+    let first = Refused::Device { code, page: 0 };
+    let second = Refused::Device { code, page: 1 };
+    let (on_first, on_second) = (call < 8, 8 <= call && call < 16);
+    (on_first.then_some(first), on_second.then_some(second))
+}
+
+#[test]
+fn each_call_of_a_file_fails_in_turn(rt: HostRuntime) {
+    let (first, second) = written(rt.alloc(), 100);
+    assert!(rt; first.is_ok() && second.is_ok());
+    if let (Ok(first), Ok(second)) = (first, second) {
+        assert!(rt; first.number() == 0 && second.number() == 1);
+        for call in 0..20u64 {
+            let (one, other) = written(rt.alloc(), call);
+            assert!(rt; (one.err(), other.err()) == faults(call, 2), "write {call}");
+            assert!(rt;
+                read(rt.alloc(), call, &first, &second) == faults(call, 3),
+                "read {call}"
+            );
+        }
+    }
+}
+
+/// The numbers of the receipts that a writer gives in turn, or what it refuses by.
+fn numbers<W: PageWriter>(alloc: Global, writer: &mut W, page: u64) -> [Result<u64, Refused>; 3] {
+    let mut told = [Ok(0); 3];
+    for at in 0..3 {
+        told[at] = match receipt_of(alloc, writer, page, &[7u8; 64]) {
+            Ok(receipt) => Ok(receipt.number()),
+            Err(refused) => Err(refused),
+        };
+    }
+    told
+}
+
+#[test]
+fn numbers_are_used_up(rt: HostRuntime) {
+    let fault = Err(Refused::Device { code: 2, page: 6 });
+    let last = [Ok(u64::MAX - 1), fault, fault];
+    let mut memory = MemoryWriter::at(rt.alloc(), u64::MAX - 1);
+    assert!(rt; numbers(rt.alloc(), &mut memory, 6) == last);
+    let mut file = FileWriter::at(rt.alloc(), Faulty { left: 100 }, 6, u64::MAX - 1);
+    assert!(rt; numbers(rt.alloc(), &mut file, 6) == last);
+    let mut spent = FileWriter::at(rt.alloc(), Faulty { left: 100 }, 6, u64::MAX);
+    assert!(rt; numbers(rt.alloc(), &mut spent, 6) == [fault; 3]);
+}
+
+#[test]
+fn a_file_that_is_open_to_be_read_alone(rt: HostRuntime) -> Result<(), Fail> {
+    let folder = String::from_str(rt.alloc(), "device_files/alone")?;
+    let mut disk = FileDevice::new(rt.clone()?, rt.alloc(), folder, 6);
+    let _writer = disk.writer(0)?;
+    let file = File::open(&rt, "device_files/alone/part-00.log")?;
+    let mut writer = FileWriter::at(rt.alloc(), file, 6, 0);
+    let fault = Err(Refused::Device { code: 2, page: 8 });
+    assert!(rt; numbers(rt.alloc(), &mut writer, 8) == [fault; 3]);
+    fs::remove_dir_all(&rt, "device_files/alone")?;
+    Ok(())
+}

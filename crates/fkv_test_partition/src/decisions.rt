@@ -1,0 +1,179 @@
+//! The table of decisions, row by row, for a sum, and what a session's view makes of what a look-up comes to.
+use crate::calls::on_name;
+use fkv_functions::SumFns;
+use fkv_lookups::{Decision, Met, decide, low_of, met_by};
+use fkv_operations::{Answer, Op};
+use fkv_records::Address;
+use fkv_regions::View;
+use fkv_texts::{Entry, Reached};
+
+type Row = (Op<u8, i128, i64>, Met<i128>, Decision<i128, i64, i128>);
+
+const READ: Op<u8, i128, i64> = Op::Read(b'a', 0);
+
+const UPSERT: Op<u8, i128, i64> = Op::Upsert(b'a', 4);
+
+const UPDATE: Op<u8, i128, i64> = Op::Rmw(b'a', 5);
+
+const DELETE: Op<u8, i128, i64> = Op::Delete(b'a');
+
+const ROWS: [Row; 24] = [
+    (READ, Met::NoEntry, Decision::Done(Answer::Absent)),
+    (READ, Met::NoValue, Decision::Done(Answer::Absent)),
+    (READ, Met::ReadOnly(3), Decision::Done(Answer::Value(3))),
+    (READ, Met::Fuzzy(3), Decision::Done(Answer::Value(3))),
+    (READ, Met::Mutable(3), Decision::Done(Answer::Value(3))),
+    (READ, Met::OnDisk(64), Decision::Load(64)),
+    (UPSERT, Met::NoEntry, Decision::Claim),
+    (
+        UPSERT,
+        Met::NoValue,
+        Decision::Append(Some(4), Answer::Stored),
+    ),
+    (
+        UPSERT,
+        Met::ReadOnly(3),
+        Decision::Append(Some(4), Answer::Stored),
+    ),
+    (
+        UPSERT,
+        Met::Fuzzy(3),
+        Decision::Append(Some(4), Answer::Stored),
+    ),
+    (
+        UPSERT,
+        Met::Mutable(3),
+        Decision::Replace(Some(4), Answer::Stored),
+    ),
+    // what is on disk is neither needed by an upsert nor by a delete
+    (
+        UPSERT,
+        Met::OnDisk(64),
+        Decision::Append(Some(4), Answer::Stored),
+    ),
+    (UPDATE, Met::NoEntry, Decision::Claim),
+    (UPDATE, Met::NoValue, Decision::Prepare(None, 5)),
+    (UPDATE, Met::ReadOnly(3), Decision::Prepare(Some(3), 5)),
+    (UPDATE, Met::Fuzzy(3), Decision::Wait),
+    (
+        UPDATE,
+        Met::Mutable(3),
+        Decision::Replace(Some(8), Answer::Value(8)),
+    ),
+    (UPDATE, Met::OnDisk(64), Decision::Load(64)),
+    (DELETE, Met::NoEntry, Decision::Done(Answer::Deleted)),
+    (DELETE, Met::NoValue, Decision::Done(Answer::Deleted)),
+    (
+        DELETE,
+        Met::ReadOnly(3),
+        Decision::Append(None, Answer::Deleted),
+    ),
+    (
+        DELETE,
+        Met::Fuzzy(3),
+        Decision::Append(None, Answer::Deleted),
+    ),
+    (
+        DELETE,
+        Met::Mutable(3),
+        Decision::Replace(None, Answer::Deleted),
+    ),
+    (
+        DELETE,
+        Met::OnDisk(64),
+        Decision::Append(None, Answer::Deleted),
+    ),
+];
+
+fn is_decided(row: &Row) -> bool {
+    match on_name(row.0) {
+        Some(op) => decide(&SumFns, &op, &row.1) == row.2,
+        None => false,
+    }
+}
+
+#[test]
+fn decisions(rt: HostRuntime) {
+    for (at, row) in ROWS.iter().enumerate() {
+        assert!(rt; is_decided(row), "row {at}");
+    }
+}
+
+/// A view of three pages: the first is frozen, the second fuzzy, the third mutable.
+const SEEN: View = View {
+    head: 64,
+    safe_read_only: 256,
+    read_only: 512,
+};
+
+/// What a look-up comes to.
+#[derive(Clone, Copy)]
+enum Came {
+    /// The last record of key 7 stands at this address, with this value or none for a tombstone.
+    Found(Address, Option<i128>),
+    /// The records of the class lead to this address, below those that were read.
+    Below(Address),
+}
+
+/// An entry's address, Begin, what the look-up comes to, and what is met.
+type Meeting = (Option<Address>, Address, Came, Met<i128>);
+
+const MEETINGS: [Meeting; 15] = [
+    (None, 64, Came::Below(1), Met::NoEntry),
+    (None, 64, Came::Below(200), Met::NoEntry),
+    (None, 64, Came::Found(512, Some(3)), Met::NoEntry),
+    (Some(1), 64, Came::Below(1), Met::NoValue),
+    (Some(64), 64, Came::Found(64, None), Met::NoValue),
+    (Some(600), 64, Came::Found(64, Some(3)), Met::ReadOnly(3)),
+    (Some(600), 64, Came::Found(200, Some(3)), Met::ReadOnly(3)),
+    (Some(600), 64, Came::Found(256, Some(3)), Met::Fuzzy(3)),
+    (Some(600), 64, Came::Found(480, Some(3)), Met::Fuzzy(3)),
+    (Some(600), 64, Came::Found(512, Some(3)), Met::Mutable(3)),
+    // a record that was found below the view's Head changes no more
+    (Some(600), 8, Came::Found(32, Some(3)), Met::ReadOnly(3)),
+    // what lies at or above Begin is on disk, what lies below it is gone
+    (Some(600), 64, Came::Below(64), Met::OnDisk(64)),
+    (Some(600), 64, Came::Below(200), Met::OnDisk(200)),
+    (Some(600), 256, Came::Below(256), Met::OnDisk(256)),
+    (Some(600), 256, Came::Below(255), Met::NoValue),
+];
+
+fn reached(came: Came) -> Reached<u8, i128> {
+    match came {
+        Came::Below(address) => Reached::Below(address),
+        Came::Found(address, value) => Reached::Found(Entry {
+            address,
+            previous: 1,
+            key: 7,
+            value,
+        }),
+    }
+}
+
+#[test]
+fn meetings(rt: HostRuntime) {
+    for (at, (entry, begin, came, wanted)) in MEETINGS.iter().enumerate() {
+        let met = met_by(*entry, *begin, &SEEN, &reached(*came));
+        assert!(rt; met == *wanted, "row {at}");
+    }
+}
+
+/// Begin, and the lowest address that a session with this view reads in memory.
+const LOWS: [(Address, Address); 4] = [(0, 64), (64, 64), (65, 65), (256, 256)];
+
+#[test]
+fn lows(rt: HostRuntime) {
+    for (begin, low) in LOWS {
+        assert!(rt; low_of(begin, &SEEN) == low, "{begin}");
+    }
+}
+
+#[test]
+fn laws_are_called() {
+    fkv_hybrid::laws::wrong_logs();
+    fkv_hybrid::laws::frozen_stay::<u64, u64>();
+    fkv_lookups::laws::entries_lead::<u64, u64>();
+    fkv_lookups::laws::records_grow::<u64, u64>();
+    fkv_lookups::laws::records_change::<u64, u64>();
+    fkv_lookups::laws::meetings_tell::<u64, u64>();
+}

@@ -1,0 +1,40 @@
+//! Names of one letter, so that keys of constant rows are bytes.
+use fkv_functions::Name;
+use fkv_operations::Op;
+
+/// The name of one letter.
+pub fn name(letter: u8) -> Option<Name> {
+    Name::new(&[letter])
+}
+
+/// The letter of a name of one, or 0.
+pub fn letter(name: &Name) -> u8 {
+    match name.bytes() {
+        [letter] => *letter,
+        _ => 0,
+    }
+}
+
+/// The operation on a name.
+pub fn on_name<V, I>(op: Op<u8, V, I>) -> Option<Op<Name, V, I>>
+where
+    V: Copy,
+    I: Copy,
+{
+    let key = name(op.key())?;
+    Some(match op {
+        Op::Read(_, input) => Op::Read(key, input),
+        Op::Upsert(_, value) => Op::Upsert(key, value),
+        Op::Rmw(_, input) => Op::Rmw(key, input),
+        Op::Delete(_) => Op::Delete(key),
+    })
+}
+
+/// Whether these are the pairs of a map, in its order.
+pub fn is_map(pairs: &[(Name, i128)], wanted: &[(u8, i128)]) -> bool {
+    pairs.len() == wanted.len()
+        && pairs
+            .iter()
+            .zip(wanted.iter())
+            .all(|(pair, it)| letter(&pair.0) == it.0 && pair.1 == it.1)
+}

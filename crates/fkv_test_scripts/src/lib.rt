@@ -1,0 +1,10 @@
+//! Tests of scripts and of the command line: what is printed, how runs end, and readers and writers that fail. Whole
+//! scripts, and what their lines say, stand in `fkv_rows`.
+#![tactic(auto)]
+
+#[cfg(test)]
+mod commands;
+#[cfg(test)]
+mod printed;
+#[cfg(test)]
+mod streams;
