@@ -1,7 +1,7 @@
 //! How an operation ends that is driven alone.
 ghost use Rattle.std.specs.Prelude.{◌≡◌, ◌↔◌, IsTrue};
 
-use fkv_device::Disk;
+use fkv_device::Receipt;
 use fkv_functions::{Functions, Refused};
 use fkv_partition::Progress;
 
@@ -15,10 +15,10 @@ pub struct Alone<K, V, I, O, R: Drop> {
 }
 
 /// The outcome of one type of functions on one kind of device.
-pub type AloneOf<F, D> = Alone<
+pub type AloneOf<F, R> = Alone<
     <F as Functions>::Key,
     <F as Functions>::Value,
     <F as Functions>::Input,
     <F as Functions>::Output,
-    <D as Disk>::Receipt,
+    R,
 >;

@@ -10,12 +10,11 @@ ghost use Rattle.fkv_alone.specs.Ending.{Ends, IsOn, IsOver, Drives};
 
 use crate::outcomes::{Alone, AloneOf};
 use crate::stepping::step;
-use fkv_device::Disk;
+use fkv_device::{PageReader, Receipt};
 use fkv_functions::{Functions, Refused};
 use fkv_operations::{Clock, OpOf};
 use fkv_partition::laws::pendings_stay;
 use fkv_partition::{Partition, Progress, ProgressOf};
-use std::alloc::Global;
 
 /// Whether an operation is to go on that told this.
 fn is_on<K, V, I, O, R: Drop>(told: &Progress<K, V, I, O, R>) -> bool
@@ -28,8 +27,8 @@ fn is_on<K, V, I, O, R: Drop>(told: &Progress<K, V, I, O, R>) -> bool
 }
 
 /// Gives up an operation, unless it is over.
-fn abandon<F: Functions, D: Disk>(
-    partition: &mut Partition<F, D>,
+fn abandon<F: Functions, R: Receipt>(
+    partition: &mut Partition<F, R>,
     slot: usize,
     context: usize,
     now: u64,
@@ -39,7 +38,7 @@ fn abandon<F: Functions, D: Disk>(
     ensures others { OthersPend F.Key.cmp partition.old partition.new slot context }
     ensures past { partition.old.moment ≤ now → partition.new.moment ≤ now }
 {
-    pendings_stay::<F::Key, F::Value, F::Input, F::Output, D::Receipt>();
+    pendings_stay::<F::Key, F::Value, F::Input, F::Output, R>();
     match partition.asked(slot, context) {
         Err(_unknown) => (),
         Ok(_asked) => {
@@ -83,25 +82,24 @@ fn next_moment(clock: &mut Clock) -> Result<u64, Refused>
 /// Goes on with an open operation until it is done, waits or is refused, by at most so many events. Where it is refused
 /// and open still, the last moment of the clock is free to give it up. Refused: as the events are; `Worn` where the
 /// clock has no moment left but that one; `Stalled`.
-fn drive<F: Functions, D: Disk>(
-    alloc: Global,
-    partition: &mut Partition<F, D>,
+fn drive<F: Functions, R: Receipt, P: PageReader<Receipt = R>>(
+    partition: &mut Partition<F, R>,
     slot: usize,
     context: usize,
     functions: &F,
-    reader: &mut D::Reader,
+    reader: &mut P,
     clock: &mut Clock,
     left: u64,
-) -> Result<ProgressOf<F, D>, Refused>
+) -> Result<ProgressOf<F, R>, Refused>
     requires past { partition.old.moment ≤ clock.old }
     requires spare { clock.old < 2 ^ 64 - 1 }
     ensures drives { (op : Op F.Key F.Value F.Input) (old : PartitionView F.Key F.Value F.Input) (started : ℕ)
         → IsReady op old partition.old slot context started
-        → Drives D.keeps D.Receipt.stands F.Key.cmp F.meaning F.code op old partition.new slot context started left
-        clock.old clock.new (D.Reader.failures reader.old) (D.Reader.failures reader.new) result }
-    ensures others { IsTrue D.keeps → OthersPend F.Key.cmp partition.old partition.new slot context }
-    ensures bound { (n : ℕ) → IsTrue D.keeps
-        → IsNear {O = F.Output} {R = D.Receipt} F.code partition.old slot context Progress.Next n
+        → Drives R.keeps R.stands F.Key.cmp F.meaning F.code op old partition.new slot context started left
+        clock.old clock.new (P.failures reader.old) (P.failures reader.new) result }
+    ensures others { IsTrue R.keeps → OthersPend F.Key.cmp partition.old partition.new slot context }
+    ensures bound { (n : ℕ) → IsTrue R.keeps
+        → IsNear {O = F.Output} {R = R} F.code partition.old slot context Progress.Next n
         → clock.new ≤ clock.old + n }
     ensures past { partition.new.moment ≤ clock.new }
     ensures onward { clock.old ≤ clock.new }
@@ -112,9 +110,7 @@ fn drive<F: Functions, D: Disk>(
             Err(refused) => return Err(refused),
             Ok(now) => now,
         };
-        let progress = match step(
-            alloc, partition, slot, context, told, functions, reader, now,
-        ) {
+        let progress = match step(partition, slot, context, told, functions, reader, now) {
             Err(refused) => return Err(refused),
             Ok(progress) => progress,
         };
@@ -128,30 +124,29 @@ fn drive<F: Functions, D: Disk>(
 }
 
 /// Issues an operation, goes on with it, and gives it up where it is refused.
-fn attempt<F: Functions, D: Disk>(
-    alloc: Global,
-    partition: &mut Partition<F, D>,
+fn attempt<F: Functions, R: Receipt, P: PageReader<Receipt = R>>(
+    partition: &mut Partition<F, R>,
     slot: usize,
     op: OpOf<F>,
     functions: &F,
-    reader: &mut D::Reader,
+    reader: &mut P,
     clock: &mut Clock,
     limit: u64,
-) -> Result<ProgressOf<F, D>, Refused>
+) -> Result<ProgressOf<F, R>, Refused>
     requires past { partition.old.moment ≤ clock.old }
-    ensures ends { Ends D.keeps F.Key.cmp F.meaning F.code op partition.old partition.new slot limit
-        clock.old clock.new (D.Reader.failures reader.old) (D.Reader.failures reader.new) result }
-    ensures others { IsTrue D.keeps → (s c : ℕ)
+    ensures ends { Ends R.keeps F.Key.cmp F.meaning F.code op partition.old partition.new slot limit
+        clock.old clock.new (P.failures reader.old) (P.failures reader.new) result }
+    ensures others { IsTrue R.keeps → (s c : ℕ)
         → (s ≢ slot) ⊎ (Some c ≢ free_context partition.old slot)
         → pending F.Key.cmp partition.new s c ≡ pending F.Key.cmp partition.old s c }
-    ensures bound { IsTrue D.keeps → NoneClaims partition.old
+    ensures bound { IsTrue R.keeps → NoneClaims partition.old
         → clock.new ≤ clock.old + (5 + evicted F.code partition.old.records (key_of op)) }
     ensures past { partition.new.moment ≤ clock.new }
     ensures onward { clock.old ≤ clock.new }
 {
     // that a hash has 64 bits is known of one in hand
     let _hash = functions.hash(&op.key());
-    pendings_stay::<F::Key, F::Value, F::Input, F::Output, D::Receipt>();
+    pendings_stay::<F::Key, F::Value, F::Input, F::Output, R>();
     let now = match first_moment(clock, limit) {
         Err(refused) => return Err(refused),
         Ok(now) => now,
@@ -161,7 +156,6 @@ fn attempt<F: Functions, D: Disk>(
         Ok(context) => context,
     };
     match drive(
-        alloc,
         partition,
         slot,
         context,
@@ -193,34 +187,33 @@ fn attempt<F: Functions, D: Disk>(
 /// [`Partition::issue`]; and then, as events come, `NoMemory`, `Worn` where no address is left, `Device` and `Damaged`
 /// as the reader tells, `Damaged` where the bytes that were read spell no record, `Worn` where the clock has one moment
 /// left, and `Stalled` after `limit` events.
-pub fn run_alone<F: Functions, D: Disk>(
-    alloc: Global,
-    partition: &mut Partition<F, D>,
+pub fn run_alone<F: Functions, R: Receipt, P: PageReader<Receipt = R>>(
+    partition: &mut Partition<F, R>,
     slot: usize,
     op: OpOf<F>,
     functions: &F,
-    reader: &mut D::Reader,
+    reader: &mut P,
     clock: &mut Clock,
     limit: u64,
-) -> AloneOf<F, D>
+) -> AloneOf<F, R>
     requires past { partition.old.moment ≤ clock.old }
-    ensures ends { Ends D.keeps F.Key.cmp F.meaning F.code op partition.old partition.new slot limit
-        clock.old clock.new (D.Reader.failures reader.old) (D.Reader.failures reader.new) result.progress }
+    ensures ends { Ends R.keeps F.Key.cmp F.meaning F.code op partition.old partition.new slot limit
+        clock.old clock.new (P.failures reader.old) (P.failures reader.new) result.progress }
     ensures events { clock.new ≡ clock.old + result.events }
     // on a device that keeps, what the look-ups of all other contexts are to find stays
-    ensures others { IsTrue D.keeps → (s c : ℕ)
+    ensures others { IsTrue R.keeps → (s c : ℕ)
         → (s ≢ slot) ⊎ (Some c ≢ free_context partition.old slot)
         → pending F.Key.cmp partition.new s c ≡ pending F.Key.cmp partition.old s c }
     // the issue, a claim, its confirmation, a look-up, a load for each record of the class below Head, and the install
-    ensures bound { IsTrue D.keeps → NoneClaims partition.old
+    ensures bound { IsTrue R.keeps → NoneClaims partition.old
         → result.events ≤ 5 + evicted F.code partition.old.records (key_of op) }
-    ensures enough { IsTrue D.keeps → NoneClaims partition.old
+    ensures enough { IsTrue R.keeps → NoneClaims partition.old
         → 5 + evicted F.code partition.old.records (key_of op) ≤ limit
         → result.progress ≢ Err Refused.Stalled }
     ensures past { partition.new.moment ≤ clock.new }
 {
     let started = clock.last();
-    let progress = attempt(alloc, partition, slot, op, functions, reader, clock, limit);
+    let progress = attempt(partition, slot, op, functions, reader, clock, limit);
     let events = clock.last() - started;
     Alone { progress, events }
 }

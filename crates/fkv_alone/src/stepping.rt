@@ -7,68 +7,65 @@ ghost use Rattle.fkv_alone.specs.Stages.{HasCome, IsFetching};
 ghost use Rattle.fkv_alone.specs.Ending.{Advances, IsOn};
 ghost use Rattle.fkv_alone.specs.Bound.{IsNear, IsNearer};
 
-use fkv_device::{Disk, Loaded};
+use fkv_device::{Loaded, PageReader, Receipt};
 use fkv_functions::{Built, Functions, Refused};
 use fkv_partition::laws::{loads_end, pendings_stay};
 use fkv_partition::{Partition, Progress, ProgressOf};
-use std::alloc::Global;
 
 /// Reads the page that an operation asked for, and hands it in, or what came in its place.
-fn load<F: Functions, D: Disk>(
-    alloc: Global,
-    partition: &mut Partition<F, D>,
+fn load<F: Functions, R: Receipt, P: PageReader<Receipt = R>>(
+    partition: &mut Partition<F, R>,
     slot: usize,
     context: usize,
-    receipt: D::Receipt,
+    receipt: R,
     functions: &F,
-    reader: &mut D::Reader,
+    reader: &mut P,
     now: u64,
-) -> Result<ProgressOf<F, D>, Refused>
+) -> Result<ProgressOf<F, R>, Refused>
     requires later { partition.old.moment < now }
     ensures advances { (op : Op F.Key F.Value F.Input) (old : PartitionView F.Key F.Value F.Input) (started a : ℕ)
-        → IsFetching D.keeps F.Key.cmp op old partition.old slot context started (D.Receipt.stands receipt) a
-        → Advances D.keeps D.Receipt.stands F.Key.cmp F.meaning F.code op old partition.old partition.new slot context
-        started (D.Reader.failures reader.old) (D.Reader.failures reader.new) result }
+        → IsFetching R.keeps F.Key.cmp op old partition.old slot context started (R.stands receipt) a
+        → Advances R.keeps R.stands F.Key.cmp F.meaning F.code op old partition.old partition.new slot context
+        started (P.failures reader.old) (P.failures reader.new) result }
     ensures others { OthersPend F.Key.cmp partition.old partition.new slot context }
-    ensures nearer { (n a : ℕ) → IsTrue D.keeps
+    ensures nearer { (n a : ℕ) → IsTrue R.keeps
         → IsNear {O = F.Output} F.code partition.old slot context (Progress.NeedsLoad receipt a) n
         → IfOk result (λ progress. IsOn progress → IsNearer F.code partition.new slot context progress n) }
     ensures past { partition.new.moment ≤ now }
 {
     partition.known();
-    loads_end::<F, D>();
+    loads_end::<F, R>();
     let size = partition.page_size();
-    let came = Loaded::<D>::fetch(alloc, reader, &receipt, size);
+    let came = Loaded::<R>::fetch(reader, &receipt, size);
     partition.load(slot, context, came, functions, now)
 }
 
 /// Makes one event of an operation, by what it told last: it goes on, or what it asked for is built and installed, or
 /// read and handed in.
-pub(crate) fn step<F: Functions, D: Disk>(
-    alloc: Global,
-    partition: &mut Partition<F, D>,
+pub(crate) fn step<F: Functions, R: Receipt, P: PageReader<Receipt = R>>(
+    partition: &mut Partition<F, R>,
     slot: usize,
     context: usize,
-    told: ProgressOf<F, D>,
+    told: ProgressOf<F, R>,
     functions: &F,
-    reader: &mut D::Reader,
+    reader: &mut P,
     now: u64,
-) -> Result<ProgressOf<F, D>, Refused>
+) -> Result<ProgressOf<F, R>, Refused>
     requires later { partition.old.moment < now }
     requires on { IsOn told }
     ensures advances { (op : Op F.Key F.Value F.Input) (old : PartitionView F.Key F.Value F.Input) (started : ℕ)
-        → HasCome D.keeps D.Receipt.stands F.Key.cmp F.meaning F.code op old partition.old slot context started told
-        → Advances D.keeps D.Receipt.stands F.Key.cmp F.meaning F.code op old partition.old partition.new slot context
-        started (D.Reader.failures reader.old) (D.Reader.failures reader.new) result }
-    ensures others { IsTrue D.keeps → OthersPend F.Key.cmp partition.old partition.new slot context }
+        → HasCome R.keeps R.stands F.Key.cmp F.meaning F.code op old partition.old slot context started told
+        → Advances R.keeps R.stands F.Key.cmp F.meaning F.code op old partition.old partition.new slot context
+        started (P.failures reader.old) (P.failures reader.new) result }
+    ensures others { IsTrue R.keeps → OthersPend F.Key.cmp partition.old partition.new slot context }
     // on a device that keeps, where nobody is in its way, the operation comes nearer to its end
-    ensures nearer { (n : ℕ) → IsTrue D.keeps
+    ensures nearer { (n : ℕ) → IsTrue R.keeps
         → IsNear F.code partition.old slot context told n
         → IfOk result (λ progress. IsOn progress → IsNearer F.code partition.new slot context progress n) }
     ensures past { partition.new.moment ≤ now }
 {
     partition.known();
-    pendings_stay::<F::Key, F::Value, F::Input, F::Output, D::Receipt>();
+    pendings_stay::<F::Key, F::Value, F::Input, F::Output, R>();
     match told {
         Progress::Next => partition.go(slot, context, functions, now),
         Progress::NeedsBuild(ask) => {
@@ -76,7 +73,7 @@ pub(crate) fn step<F: Functions, D: Disk>(
             partition.install(slot, context, built, functions, now)
         }
         Progress::NeedsLoad(receipt, _address) => load(
-            alloc, partition, slot, context, receipt, functions, reader, now,
+            partition, slot, context, receipt, functions, reader, now,
         ),
         Progress::Done(_, _) | Progress::Waits(_) => unreachable!(),
     }

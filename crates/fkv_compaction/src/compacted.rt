@@ -13,7 +13,7 @@ ghost use Rattle.fkv_compaction.specs.Sound.{IsCompacting};
 ghost use Rattle.fkv_compaction.specs.Beginning.{IsFirstFree};
 
 use crate::relocations::{Relocation, RelocationOf, awaited};
-use fkv_device::Disk;
+use fkv_device::Receipt;
 use fkv_functions::{Functions, Refused};
 use fkv_operations::OpOf;
 use fkv_partition::contexts::{CONTEXTS, open_at};
@@ -27,13 +27,13 @@ const PLACES: usize = 128;
 
 /// One partition of a store, the relocations of its sessions, and the address below which its records are spent.
 #[derive(Drop)]
-pub struct Compacted<F: Functions, D: Disk> {
-    pub(crate) partition: Partition<F, D>,
+pub struct Compacted<F: Functions, R: Receipt> {
+    pub(crate) partition: Partition<F, R>,
     pub(crate) cleared: Address,
     pub(crate) relocations: Vec<Option<Relocation<F::Key, F::Value>>>,
 }
 
-impl<F: Functions, D: Disk> Model for Compacted<F, D> {
+impl<F: Functions, R: Receipt> Model for Compacted<F, R> {
     ghost use Rattle.fkv_compaction.specs.Views.{CompactedView};
     ghost use Rattle.fkv_compaction.specs.Inside.{view_of};
     ghost use Rattle.fkv_compaction.specs.Sound.{IsCompacting};
@@ -42,7 +42,7 @@ impl<F: Functions, D: Disk> Model for Compacted<F, D> {
 
     ghost view = { λ c. view_of c.partition c.cleared c.relocations.items };
 
-    ghost invariant = { λ c. IsCompacting D.keeps F.Key.cmp F.code
+    ghost invariant = { λ c. IsCompacting R.keeps F.Key.cmp F.code
         (view_of c.partition c.cleared c.relocations.items) };
 }
 
@@ -60,7 +60,7 @@ fn free_places<T: Drop>(alloc: Global) -> Result<Vec<Option<T>>, Refused>
     Ok(places)
 }
 
-impl<F: Functions, D: Disk> Compacted<F, D> {
+impl<F: Functions, R: Receipt> Compacted<F, R> {
     /// The partition of this number, with nothing in it. Refused, in this order: `BadConfig` where a number of the
     /// configuration is outside its limits, a record is too large, or there is no partition of this number, `NoMemory`.
     pub fn new(alloc: Global, config: &Config, number: u64) -> Result<Self, Refused>
@@ -89,8 +89,8 @@ impl<F: Functions, D: Disk> Compacted<F, D> {
 
     /// What holds of every compacted partition. It does nothing when it runs.
     pub fn known(&self)
-        ensures partition { IsSound D.keeps F.Key.cmp F.code self.now.partition }
-        ensures compacting { IsCompacting D.keeps F.Key.cmp F.code self.now }
+        ensures partition { IsSound R.keeps F.Key.cmp F.code self.now.partition }
+        ensures compacting { IsCompacting R.keeps F.Key.cmp F.code self.now }
     {
         self.partition.known();
         let _cleared = self.cleared;

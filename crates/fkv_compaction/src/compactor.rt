@@ -10,8 +10,8 @@ ghost use Rattle.fkv_compaction.specs.Truncating.{Truncates, told_of};
 ghost use Rattle.fkv_compaction.specs.Compactor.{IsFirstOpen, IsTurn, CompactsNext, CompactsLoad, GivesUpAll, Parts};
 
 use crate::compacted::Compacted;
-use crate::relocations::{Moved, MovedOf};
-use fkv_device::{Disk, Loaded};
+use crate::relocations::Moved;
+use fkv_device::{Loaded, Receipt};
 use fkv_functions::{Functions, Refused};
 use fkv_operations::Clock;
 use fkv_partition::contexts::CONTEXTS;
@@ -37,14 +37,14 @@ impl Model for Compactor {
 
 impl Compactor {
     /// Enters a session of a partition. Refused, and then nothing changes: `NoSlot` where sixteen sessions are entered.
-    pub fn join<F: Functions, D: Disk>(
-        compacted: &mut Compacted<F, D>,
+    pub fn join<F: Functions, R: Receipt>(
+        compacted: &mut Compacted<F, R>,
         now: u64,
     ) -> Result<Self, Refused>
         requires later { compacted.old.partition.moment < now }
         ensures does { Enters compacted.old.partition compacted.new.partition now result }
         ensures rest { compacted.new ≡ with_partition compacted.old compacted.new.partition }
-        ensures event { IfOk result (λ _. IsQuiet D.keeps compacted.old.partition compacted.new.partition now) }
+        ensures event { IfOk result (λ _. IsQuiet R.keeps compacted.old.partition compacted.new.partition now) }
         ensures within { IfOk result (λ slot. slot < 16) }
         ensures err { OnErr result (compacted.new ≡ compacted.old) }
         ensures moment { compacted.new.partition.moment ≤ now }
@@ -65,15 +65,15 @@ impl Compactor {
     /// Takes the next step. Where no relocation of its session is open it issues one, as [`Compacted::relocate`] does,
     /// and answers `Next`; else it goes on with the one of the lowest context in which one is open, as
     /// [`Compacted::go_on`] does. Refused, and then nothing changes: as those are.
-    pub fn next<F: Functions, D: Disk>(
+    pub fn next<F: Functions, R: Receipt>(
         &self,
-        compacted: &mut Compacted<F, D>,
+        compacted: &mut Compacted<F, R>,
         functions: &F,
         now: u64,
-    ) -> Result<MovedOf<D>, Refused>
+    ) -> Result<Moved<R>, Refused>
         requires later { compacted.old.partition.moment < now }
-        ensures does { CompactsNext D.Receipt.stands F.Key.cmp F.code compacted.old compacted.new self.now now result }
-        ensures event { IfOk result (λ _. IsTurn D.keeps F.Key.cmp compacted.old compacted.new self.now now) }
+        ensures does { CompactsNext R.stands F.Key.cmp F.code compacted.old compacted.new self.now now result }
+        ensures event { IfOk result (λ _. IsTurn R.keeps F.Key.cmp compacted.old compacted.new self.now now) }
         ensures cleared { result ≡ Ok Moved.Cleared → (c : ℕ)
             → IsFirstOpen compacted.old self.now (Some c)
             → IfSome (relocation_at compacted.old self.now c) (λ x. x.place < compacted.new.cleared) }
@@ -92,18 +92,18 @@ impl Compactor {
     /// Goes on with the relocation of the lowest context in which one of its session is open, with the page that it
     /// waits for, or with the refusal that came in its place, as [`Compacted::load_on`] does, whose refusals it has,
     /// and `Unknown` where none is open.
-    pub fn load<F: Functions, D: Disk>(
+    pub fn load<F: Functions, R: Receipt>(
         &self,
-        compacted: &mut Compacted<F, D>,
-        came: Result<Loaded<D>, Refused>,
+        compacted: &mut Compacted<F, R>,
+        came: Result<Loaded<R>, Refused>,
         functions: &F,
         now: u64,
-    ) -> Result<MovedOf<D>, Refused>
+    ) -> Result<Moved<R>, Refused>
         requires later { compacted.old.partition.moment < now }
-        ensures does { CompactsLoad D.Receipt.stands (IsEntryIn F.Key.bytes_of F.Value.bytes_of F.Key.is_known
+        ensures does { CompactsLoad R.stands (IsEntryIn F.Key.bytes_of F.Value.bytes_of F.Key.is_known
             F.Value.is_known F.Key.SIZE F.Value.SIZE) F.Key.cmp F.code compacted.old compacted.new self.now came now
             result }
-        ensures event { IfOk result (λ _. IsTurn D.keeps F.Key.cmp compacted.old compacted.new self.now now) }
+        ensures event { IfOk result (λ _. IsTurn R.keeps F.Key.cmp compacted.old compacted.new self.now now) }
         ensures cleared { result ≡ Ok Moved.Cleared → (c : ℕ)
             → IsFirstOpen compacted.old self.now (Some c)
             → IfSome (relocation_at compacted.old self.now c) (λ x. x.place < compacted.new.cleared) }
@@ -117,18 +117,18 @@ impl Compactor {
 
     /// Moves Begin to the start of the page up to which all is cleared, as [`Compacted::truncate_cleared`] does, whose
     /// refusals it has.
-    pub fn truncate_cleared<F: Functions, D: Disk>(
+    pub fn truncate_cleared<F: Functions, R: Receipt>(
         &self,
-        compacted: &mut Compacted<F, D>,
+        compacted: &mut Compacted<F, R>,
         now: u64,
     ) -> Result<Address, Refused>
         requires later { compacted.old.partition.moment < now }
-        ensures does { Truncates D.keeps compacted.old compacted.new
+        ensures does { Truncates R.keeps compacted.old compacted.new
             (page_at compacted.old.partition.records.page_bits compacted.old.cleared) now (told_of result) }
         ensures begin { IfOk result (λ begin. (begin ≡ compacted.new.partition.records.begin)
             × (begin ≡ start_at compacted.old.partition.records.page_bits
             (page_at compacted.old.partition.records.page_bits compacted.old.cleared))) }
-        ensures event { OnOk result (IsTruncation D.keeps F.Key.cmp compacted.old.partition compacted.new.partition
+        ensures event { OnOk result (IsTruncation R.keeps F.Key.cmp compacted.old.partition compacted.new.partition
             (page_at compacted.old.partition.records.page_bits compacted.old.cleared) now) }
         ensures err { OnErr result (compacted.new ≡ compacted.old) }
         ensures moment { compacted.new.partition.moment ≤ now }
@@ -140,14 +140,14 @@ impl Compactor {
     /// and then leaves the session at one more. Refused, in this order: `Worn` where the clock has fewer than nine
     /// moments left, and then nothing changes; `Unknown` where its slot is that of no session; `Busy` where an
     /// operation of the session is open, and then the session stays, and its relocations are given up nonetheless.
-    pub fn part<F: Functions, D: Disk>(
+    pub fn part<F: Functions, R: Receipt>(
         self,
-        compacted: &mut Compacted<F, D>,
+        compacted: &mut Compacted<F, R>,
         clock: &mut Clock,
     ) -> Result<(), Refused>
         requires past { compacted.old.partition.moment ≤ clock.old }
-        ensures does { Parts D.keeps compacted.old compacted.new self clock.old clock.new result }
-        ensures event { OnOk result (IsQuiet D.keeps compacted.old.partition compacted.new.partition clock.new) }
+        ensures does { Parts R.keeps compacted.old compacted.new self clock.old clock.new result }
+        ensures event { OnOk result (IsQuiet R.keeps compacted.old.partition compacted.new.partition clock.new) }
         ensures cleared { compacted.new.cleared ≡ compacted.old.cleared }
         ensures past { compacted.new.partition.moment ≤ clock.new }
     {
@@ -162,7 +162,11 @@ impl Compactor {
     }
 
     /// Gives up the relocations of its session that are open.
-    fn give_up_all<F: Functions, D: Disk>(&self, compacted: &mut Compacted<F, D>, clock: &mut Clock)
+    fn give_up_all<F: Functions, R: Receipt>(
+        &self,
+        compacted: &mut Compacted<F, R>,
+        clock: &mut Clock,
+    )
         requires past { compacted.old.partition.moment ≤ clock.old }
         requires spare { clock.old + 9 < 2 ^ 64 }
         ensures does { GivesUpAll self.now compacted.old compacted.new clock.old clock.new }

@@ -24,4 +24,4 @@ mod weighing;
 
 pub use compacted::Compacted;
 pub use compactor::Compactor;
-pub use relocations::{Judgement, Moved, MovedOf, Relocation, Stage};
+pub use relocations::{Judgement, Moved, Relocation, Stage};

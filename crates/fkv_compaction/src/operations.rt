@@ -10,12 +10,12 @@ ghost use Rattle.fkv_partition.specs.Pending.{IsLoad};
 ghost use Rattle.fkv_compaction.specs.Views.{with_partition};
 
 use crate::compacted::Compacted;
-use fkv_device::{Disk, Loaded};
+use fkv_device::{Loaded, Receipt};
 use fkv_functions::{Built, Functions, Refused};
 use fkv_partition::ProgressOf;
 use fkv_partition::bearing::{events_bear, loads_bear, loads_keep_seats, seats_stay};
 
-impl<F: Functions, D: Disk> Compacted<F, D> {
+impl<F: Functions, R: Receipt> Compacted<F, R> {
     /// Goes on with an operation, as [`fkv_partition::Partition::go`] does, whose refusals it has.
     pub fn go(
         &mut self,
@@ -23,9 +23,9 @@ impl<F: Functions, D: Disk> Compacted<F, D> {
         context: usize,
         functions: &F,
         now: u64,
-    ) -> Result<ProgressOf<F, D>, Refused>
+    ) -> Result<ProgressOf<F, R>, Refused>
         requires later { self.old.partition.moment < now }
-        ensures does { Goes D.Receipt.stands F.Key.cmp F.meaning F.code self.old.partition self.new.partition
+        ensures does { Goes R.stands F.Key.cmp F.meaning F.code self.old.partition self.new.partition
             slot context now result }
         ensures rest { self.new ≡ with_partition self.old self.new.partition }
         ensures event { IfOk result (λ progress.
@@ -34,8 +34,8 @@ impl<F: Functions, D: Disk> Compacted<F, D> {
         ensures err { OnErr result (self.new ≡ self.old) }
         ensures moment { self.new.partition.moment ≤ now }
     {
-        events_bear::<F::Key, F::Value, F::Input, F::Output, D::Receipt>();
-        seats_stay::<F::Key, F::Value, F::Input, F::Output, D::Receipt>();
+        events_bear::<F::Key, F::Value, F::Input, F::Output, R>();
+        seats_stay::<F::Key, F::Value, F::Input, F::Output, R>();
         self.partition.known();
         let gone = self.partition.go(slot, context, functions, now);
         self.partition.known();
@@ -51,19 +51,19 @@ impl<F: Functions, D: Disk> Compacted<F, D> {
         built: Built<F>,
         functions: &F,
         now: u64,
-    ) -> Result<ProgressOf<F, D>, Refused>
+    ) -> Result<ProgressOf<F, R>, Refused>
         requires later { self.old.partition.moment < now }
         ensures does { Installs F.Key.cmp F.meaning F.code self.old.partition self.new.partition
             slot context built now result }
         ensures rest { self.new ≡ with_partition self.old self.new.partition }
-        ensures event { IsTrue D.keeps → IfOk result (λ progress.
+        ensures event { IsTrue R.keeps → IfOk result (λ progress.
             IsEvent F.Key.cmp F.meaning self.old.partition self.new.partition slot context now progress) }
         ensures within { IfOk result (λ _. (slot < 16) × (context < 8)) }
         ensures err { OnErr result (self.new ≡ self.old) }
         ensures moment { self.new.partition.moment ≤ now }
     {
-        events_bear::<F::Key, F::Value, F::Input, F::Output, D::Receipt>();
-        seats_stay::<F::Key, F::Value, F::Input, F::Output, D::Receipt>();
+        events_bear::<F::Key, F::Value, F::Input, F::Output, R>();
+        seats_stay::<F::Key, F::Value, F::Input, F::Output, R>();
         self.partition.known();
         let installed = self.partition.install(slot, context, built, functions, now);
         self.partition.known();
@@ -75,22 +75,22 @@ impl<F: Functions, D: Disk> Compacted<F, D> {
         &mut self,
         slot: usize,
         context: usize,
-        came: Result<Loaded<D>, Refused>,
+        came: Result<Loaded<R>, Refused>,
         functions: &F,
         now: u64,
-    ) -> Result<ProgressOf<F, D>, Refused>
+    ) -> Result<ProgressOf<F, R>, Refused>
         requires later { self.old.partition.moment < now }
-        ensures does { Loads D.Receipt.stands (IsEntryIn F.Key.bytes_of F.Value.bytes_of F.Key.is_known F.Value.is_known
+        ensures does { Loads R.stands (IsEntryIn F.Key.bytes_of F.Value.bytes_of F.Key.is_known F.Value.is_known
             F.Key.SIZE F.Value.SIZE) F.Key.cmp F.meaning self.old.partition self.new.partition
             slot context came now result }
         ensures rest { self.new ≡ with_partition self.old self.new.partition }
-        ensures event { IsTrue D.keeps → IfOk result (λ progress.
+        ensures event { IsTrue R.keeps → IfOk result (λ progress.
             IsLoad F.Key.cmp F.meaning self.old.partition self.new.partition slot context now progress) }
         ensures within { IfOk result (λ _. (slot < 16) × (context < 8)) }
         ensures moment { self.new.partition.moment ≤ now }
     {
-        loads_bear::<F, D>();
-        loads_keep_seats::<F, D>();
+        loads_bear::<F, R>();
+        loads_keep_seats::<F, R>();
         self.partition.known();
         let loaded = self.partition.load(slot, context, came, functions, now);
         self.partition.known();
@@ -108,8 +108,8 @@ impl<F: Functions, D: Disk> Compacted<F, D> {
         ensures err { OnErr result (self.new ≡ self.old) }
         ensures moment { self.new.partition.moment ≤ now }
     {
-        events_bear::<F::Key, F::Value, F::Input, F::Output, D::Receipt>();
-        seats_stay::<F::Key, F::Value, F::Input, F::Output, D::Receipt>();
+        events_bear::<F::Key, F::Value, F::Input, F::Output, R>();
+        seats_stay::<F::Key, F::Value, F::Input, F::Output, R>();
         self.partition.known();
         let given = self.partition.give_up(slot, context, now);
         self.partition.known();

@@ -18,7 +18,7 @@ ghost use Rattle.fkv_compaction.specs.Views.{with_partition};
 ghost use Rattle.fkv_compaction.specs.Truncating.{Truncates, told_of};
 
 use crate::compacted::Compacted;
-use fkv_device::{Disk, FlushJob, Written};
+use fkv_device::{FlushJob, PageReader, Receipt, Written};
 use fkv_functions::{Functions, Refused};
 use fkv_lookups::clearing::cleared_stay;
 use fkv_partition::bearing::{events_bear, seats_stay};
@@ -26,19 +26,19 @@ use fkv_records::Address;
 use std::alloc::Global;
 use std::collections::BTreeMap;
 
-impl<F: Functions, D: Disk> Compacted<F, D> {
+impl<F: Functions, R: Receipt> Compacted<F, R> {
     /// Moves the read-only offset to the start of a page, as [`fkv_partition::Partition::shift_read_only`] does, whose
     /// refusals it has.
     pub fn shift_read_only(&mut self, page: u64, now: u64) -> Result<(), Refused>
         requires later { self.old.partition.moment < now }
-        ensures does { Shifts D.keeps self.old.partition self.new.partition page now result }
+        ensures does { Shifts R.keeps self.old.partition self.new.partition page now result }
         ensures rest { self.new ≡ with_partition self.old self.new.partition }
-        ensures event { OnOk result (IsQuiet D.keeps self.old.partition self.new.partition now) }
+        ensures event { OnOk result (IsQuiet R.keeps self.old.partition self.new.partition now) }
         ensures err { OnErr result (self.new ≡ self.old) }
         ensures moment { self.new.partition.moment ≤ now }
     {
-        events_bear::<F::Key, F::Value, F::Input, F::Output, D::Receipt>();
-        seats_stay::<F::Key, F::Value, F::Input, F::Output, D::Receipt>();
+        events_bear::<F::Key, F::Value, F::Input, F::Output, R>();
+        seats_stay::<F::Key, F::Value, F::Input, F::Output, R>();
         self.partition.known();
         let shifted = self.partition.shift_read_only(page, now);
         self.partition.known();
@@ -48,14 +48,14 @@ impl<F: Functions, D: Disk> Compacted<F, D> {
     /// Moves Head to the start of a page, as [`fkv_partition::Partition::shift_head`] does, whose refusals it has.
     pub fn shift_head(&mut self, page: u64, now: u64) -> Result<(), Refused>
         requires later { self.old.partition.moment < now }
-        ensures does { Evicts D.keeps self.old.partition self.new.partition page now result }
+        ensures does { Evicts R.keeps self.old.partition self.new.partition page now result }
         ensures rest { self.new ≡ with_partition self.old self.new.partition }
-        ensures event { OnOk result (IsQuiet D.keeps self.old.partition self.new.partition now) }
+        ensures event { OnOk result (IsQuiet R.keeps self.old.partition self.new.partition now) }
         ensures err { OnErr result (self.new ≡ self.old) }
         ensures moment { self.new.partition.moment ≤ now }
     {
-        events_bear::<F::Key, F::Value, F::Input, F::Output, D::Receipt>();
-        seats_stay::<F::Key, F::Value, F::Input, F::Output, D::Receipt>();
+        events_bear::<F::Key, F::Value, F::Input, F::Output, R>();
+        seats_stay::<F::Key, F::Value, F::Input, F::Output, R>();
         self.partition.known();
         let shifted = self.partition.shift_head(page, now);
         self.partition.known();
@@ -91,7 +91,7 @@ impl<F: Functions, D: Disk> Compacted<F, D> {
     pub fn flush_take(&self, alloc: Global) -> Result<FlushJob, Refused>
         ensures page { IfOk result (λ job. job.page ≡ length self.now.partition.records.receipts) }
         ensures bytes { IfOk result
-            (λ job. slice_get self.now.partition.records.waiting 0 ≡ Some job.bytes.items) }
+            (λ job. slice_get self.now.partition.records.waiting 0 ≡ Some job.bytes) }
         ensures due { (result ≡ Err Refused.NotDue) ↔ (self.now.partition.records.waiting ≡ []) }
         ensures only { IfErr result (λ refused. (refused ≡ Refused.NotDue) ⊎ (refused ≡ Refused.NoMemory)) }
     {
@@ -100,17 +100,17 @@ impl<F: Functions, D: Disk> Compacted<F, D> {
 
     /// Takes in that the lowest page that is not flushed was written, as [`fkv_partition::Partition::flush_done`] does,
     /// whose refusals it has.
-    pub fn flush_done(&mut self, written: Written<D>, now: u64) -> Result<(), Refused>
+    pub fn flush_done(&mut self, written: Written<R>, now: u64) -> Result<(), Refused>
         requires later { self.old.partition.moment < now }
-        ensures does { Flushes self.old.partition self.new.partition (D.Receipt.stands written.receipt) written.bytes now
+        ensures does { Flushes self.old.partition self.new.partition (R.stands written.receipt) written.bytes now
             result }
         ensures rest { self.new ≡ with_partition self.old self.new.partition }
-        ensures event { OnOk result (IsQuiet D.keeps self.old.partition self.new.partition now) }
+        ensures event { OnOk result (IsQuiet R.keeps self.old.partition self.new.partition now) }
         ensures err { OnErr result (self.new ≡ self.old) }
         ensures moment { self.new.partition.moment ≤ now }
     {
-        events_bear::<F::Key, F::Value, F::Input, F::Output, D::Receipt>();
-        seats_stay::<F::Key, F::Value, F::Input, F::Output, D::Receipt>();
+        events_bear::<F::Key, F::Value, F::Input, F::Output, R>();
+        seats_stay::<F::Key, F::Value, F::Input, F::Output, R>();
         self.partition.known();
         let done = self.partition.flush_done(written, now);
         self.partition.known();
@@ -122,15 +122,15 @@ impl<F: Functions, D: Disk> Compacted<F, D> {
     /// Begin would not rise, or would pass Head, or what is cleared.
     pub fn truncate(&mut self, page: u64, now: u64) -> Result<(), Refused>
         requires later { self.old.partition.moment < now }
-        ensures does { Truncates D.keeps self.old self.new page now result }
+        ensures does { Truncates R.keeps self.old self.new page now result }
         ensures event { OnOk result
-            (IsTruncation D.keeps F.Key.cmp self.old.partition self.new.partition page now) }
+            (IsTruncation R.keeps F.Key.cmp self.old.partition self.new.partition page now) }
         ensures err { OnErr result (self.new ≡ self.old) }
         ensures moment { self.new.partition.moment ≤ now }
     {
         cleared_stay::<F::Key, F::Value>();
-        events_bear::<F::Key, F::Value, F::Input, F::Output, D::Receipt>();
-        seats_stay::<F::Key, F::Value, F::Input, F::Output, D::Receipt>();
+        events_bear::<F::Key, F::Value, F::Input, F::Output, R>();
+        seats_stay::<F::Key, F::Value, F::Input, F::Output, R>();
         self.partition.known();
         if page > self.partition.records().page_of(self.cleared) {
             return Err(Refused::NotDue);
@@ -144,12 +144,12 @@ impl<F: Functions, D: Disk> Compacted<F, D> {
     /// changes: `NotDue` where Begin would not rise, or would pass Head.
     pub fn truncate_cleared(&mut self, now: u64) -> Result<Address, Refused>
         requires later { self.old.partition.moment < now }
-        ensures does { Truncates D.keeps self.old self.new (page_at self.old.partition.records.page_bits self.old.cleared)
+        ensures does { Truncates R.keeps self.old self.new (page_at self.old.partition.records.page_bits self.old.cleared)
             now (told_of result) }
         ensures begin { IfOk result (λ begin. (begin ≡ self.new.partition.records.begin)
             × (begin ≡ start_at self.old.partition.records.page_bits
             (page_at self.old.partition.records.page_bits self.old.cleared))) }
-        ensures event { OnOk result (IsTruncation D.keeps F.Key.cmp self.old.partition self.new.partition
+        ensures event { OnOk result (IsTruncation R.keeps F.Key.cmp self.old.partition self.new.partition
             (page_at self.old.partition.records.page_bits self.old.cleared) now) }
         ensures err { OnErr result (self.new ≡ self.old) }
         ensures moment { self.new.partition.moment ≤ now }
@@ -163,54 +163,53 @@ impl<F: Functions, D: Disk> Compacted<F, D> {
     }
 
     /// The live map, as [`fkv_partition::Partition::live`] gives it, whose refusals it has.
-    pub fn live(
+    pub fn live<P: PageReader<Receipt = R>>(
         &self,
         alloc: Global,
-        reader: &mut D::Reader,
+        reader: &mut P,
     ) -> Result<Vec<(F::Key, F::Value)>, Refused>
-        ensures map { IsTrue D.keeps → IfOk result
+        ensures map { IsTrue R.keeps → IfOk result
             (λ pairs. (q : F.Key) → lookup (is_at (F.Key.cmp q)) pairs.items ≡ live_of F.Key.cmp self.now.partition q) }
         ensures rising { IfOk result (λ pairs. IsStrictlySortedBy F.Key.cmp (keys_of pairs.items)) }
-        ensures own { IsTrue D.keeps → IfOk result
+        ensures own { IsTrue R.keeps → IfOk result
             (λ pairs. All (λ k. partition_of self.now.partition.count (F.code k) ≡ self.now.partition.number)
             (keys_of pairs.items)) }
-        ensures steady { OnOk result (D.Reader.failures reader.new ≡ D.Reader.failures reader.old) }
-        ensures refused { IfErr result (IsScanRefusal D.keeps
+        ensures steady { OnOk result (P.failures reader.new ≡ P.failures reader.old) }
+        ensures refused { IfErr result (IsScanRefusal R.keeps
             (page_at self.now.partition.records.page_bits self.now.partition.records.begin)
-            (length self.now.partition.records.receipts) (D.Reader.failures reader.old)
-            (D.Reader.failures reader.new)) }
-        ensures caused { IsTrue D.keeps → IfErr result (λ e. e ≢ Refused.NoMemory → (page : ℕ)
-            × MayFail D.Receipt.stands D.Reader.can_fail self.now.partition.records.receipts
+            (length self.now.partition.records.receipts) (P.failures reader.old)
+            (P.failures reader.new)) }
+        ensures caused { IsTrue R.keeps → IfErr result (λ e. e ≢ Refused.NoMemory → (page : ℕ)
+            × MayFail R.stands P.can_fail self.now.partition.records.receipts
             self.now.partition.records.page_bits page) }
     {
         self.partition.live(alloc, reader)
     }
 
     /// Puts the live map into a map, as [`fkv_partition::Partition::put_live`] does, whose refusals it has.
-    pub fn put_live(
+    pub fn put_live<P: PageReader<Receipt = R>>(
         &self,
-        alloc: Global,
-        reader: &mut D::Reader,
+        reader: &mut P,
         map: &mut BTreeMap<F::Key, F::Value>,
     ) -> Result<(), Refused>
-        ensures map { IsTrue D.keeps → OnOk result (Same (get F.Key.cmp map.new)
+        ensures map { IsTrue R.keeps → OnOk result (Same (get F.Key.cmp map.new)
             (with_text F.Key.cmp (get F.Key.cmp map.old) self.now.partition.records.text)) }
-        ensures live { IsTrue D.keeps → OnOk result ((k : F.Key) → get F.Key.cmp map.old k ≡ None
+        ensures live { IsTrue R.keeps → OnOk result ((k : F.Key) → get F.Key.cmp map.old k ≡ None
             → get F.Key.cmp map.new k ≡ live_of F.Key.cmp self.now.partition k) }
-        ensures others { IsTrue D.keeps → OnOk result ((k : F.Key)
+        ensures others { IsTrue R.keeps → OnOk result ((k : F.Key)
             → partition_of self.now.partition.count (F.code k) ≢ self.now.partition.number
             → get F.Key.cmp map.new k ≡ get F.Key.cmp map.old k) }
-        ensures err { IsTrue D.keeps → OnErr result
+        ensures err { IsTrue R.keeps → OnErr result
             (HasFront F.Key.cmp (get F.Key.cmp map.old) (get F.Key.cmp map.new) self.now.partition.records.text) }
-        ensures steady { OnOk result (D.Reader.failures reader.new ≡ D.Reader.failures reader.old) }
-        ensures refused { IfErr result (IsScanRefusal D.keeps
+        ensures steady { OnOk result (P.failures reader.new ≡ P.failures reader.old) }
+        ensures refused { IfErr result (IsScanRefusal R.keeps
             (page_at self.now.partition.records.page_bits self.now.partition.records.begin)
-            (length self.now.partition.records.receipts) (D.Reader.failures reader.old)
-            (D.Reader.failures reader.new)) }
-        ensures caused { IsTrue D.keeps → IfErr result (λ e. e ≢ Refused.NoMemory → (page : ℕ)
-            × MayFail D.Receipt.stands D.Reader.can_fail self.now.partition.records.receipts
+            (length self.now.partition.records.receipts) (P.failures reader.old)
+            (P.failures reader.new)) }
+        ensures caused { IsTrue R.keeps → IfErr result (λ e. e ≢ Refused.NoMemory → (page : ℕ)
+            × MayFail R.stands P.can_fail self.now.partition.records.receipts
             self.now.partition.records.page_bits page) }
     {
-        self.partition.put_live(alloc, reader, map)
+        self.partition.put_live(reader, map)
     }
 }

@@ -14,13 +14,13 @@ ghost use Rattle.fkv_compaction.specs.Compactor.{IsFirstOpen};
 
 use crate::compacted::Compacted;
 use crate::relocations::{RelocationOf, StageOf, in_stage};
-use fkv_device::Disk;
+use fkv_device::Receipt;
 use fkv_functions::Functions;
 use fkv_lookups::clearing::cleared_stay;
 use fkv_partition::contexts::{open_at, open_context, set_context};
 use fkv_records::Address;
 
-impl<F: Functions, D: Disk> Compacted<F, D> {
+impl<F: Functions, R: Receipt> Compacted<F, R> {
     /// Whether neither an operation nor a relocation stands in a context of a session.
     pub(crate) fn is_free(&self, slot: usize, context: usize) -> bool
         requires session { slot < 16 }
@@ -61,7 +61,7 @@ impl<F: Functions, D: Disk> Compacted<F, D> {
         requires context { context < 8 }
         requires entered { IsEntered self.old.partition slot }
         requires free { IsFree self.old slot context }
-        requires stands { RelocationStands D.keeps F.Key.cmp F.code self.old.partition self.old.cleared relocation }
+        requires stands { RelocationStands R.keeps F.Key.cmp F.code self.old.partition self.old.cleared relocation }
         ensures { self.new ≡ with_relocation self.old slot context (Some relocation) now }
     {
         self.partition.pass(now);
@@ -80,7 +80,7 @@ impl<F: Functions, D: Disk> Compacted<F, D> {
         requires session { slot < 16 }
         requires context { context < 8 }
         requires here { relocation_at self.old slot context ≡ Some relocation.now }
-        requires stands { StageStands D.keeps F.Key.cmp F.code self.old.partition relocation.now.place stage }
+        requires stands { StageStands R.keeps F.Key.cmp F.code self.old.partition relocation.now.place stage }
         ensures { self.new ≡ with_relocation self.old slot context (Some (at_stage relocation.now stage)) now }
     {
         self.partition.pass(now);
@@ -105,7 +105,7 @@ impl<F: Functions, D: Disk> Compacted<F, D> {
         requires issued { place ≤ self.old.cleared }
         requires place { IsPlace self.old.partition.records.page_bits self.old.partition.records.record_size place }
         requires low { place < self.old.partition.records.tail }
-        requires spent { IsTrue D.keeps → (e : Entry F.Key F.Value)
+        requires spent { IsTrue R.keeps → (e : Entry F.Key F.Value)
             → entry_at self.old.partition.records.text place ≡ Some e
             → IsSpent F.Key.cmp self.old.partition.records.text e }
         ensures { self.new ≡ done_at self.old slot context place now }

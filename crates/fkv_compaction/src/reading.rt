@@ -8,13 +8,13 @@ ghost use Rattle.fkv_compaction.specs.Effect.{IsRelocating};
 ghost use Rattle.fkv_compaction.specs.Reading.{AwaitsPage, LoadsOn};
 
 use crate::compacted::Compacted;
-use crate::relocations::{EntryOf, Judgement, Moved, MovedOf, RelocationOf, Stage, awaited, judge};
-use fkv_device::{Disk, Loaded};
+use crate::relocations::{EntryOf, Judgement, Moved, RelocationOf, Stage, awaited, judge};
+use fkv_device::{Loaded, Receipt};
 use fkv_functions::{Functions, Refused};
 use fkv_partition::Loading;
 use fkv_partition::loading::is_no_memory;
 
-impl<F: Functions, D: Disk> Compacted<F, D> {
+impl<F: Functions, R: Receipt> Compacted<F, R> {
     /// Goes on with a relocation that waits for a page, with that page as a device gave it, or with the refusal that came in
     /// its place. Where Begin has moved since it asked it is to begin anew, whatever came, and the answer is `Next`. Else
     /// the page of its place gives its record, which is weighed as [`Compacted::go_on`] does, and a page on the way from the
@@ -29,14 +29,14 @@ impl<F: Functions, D: Disk> Compacted<F, D> {
         &mut self,
         slot: usize,
         context: usize,
-        came: Result<Loaded<D>, Refused>,
+        came: Result<Loaded<R>, Refused>,
         functions: &F,
         now: u64,
-    ) -> Result<MovedOf<D>, Refused>
+    ) -> Result<Moved<R>, Refused>
         requires later { self.old.partition.moment < now }
-        ensures does { LoadsOn D.Receipt.stands (IsEntryIn F.Key.bytes_of F.Value.bytes_of F.Key.is_known F.Value.is_known
+        ensures does { LoadsOn R.stands (IsEntryIn F.Key.bytes_of F.Value.bytes_of F.Key.is_known F.Value.is_known
             F.Key.SIZE F.Value.SIZE) F.Key.cmp F.code self.old self.new slot context came now result }
-        ensures event { IfOk result (λ _. IsRelocating D.keeps F.Key.cmp self.old self.new slot context now) }
+        ensures event { IfOk result (λ _. IsRelocating R.keeps F.Key.cmp self.old self.new slot context now) }
         ensures cleared { result ≡ Ok Moved.Cleared
             → IfSome (relocation_at self.old slot context) (λ x. x.place < self.new.cleared) }
         ensures within { IfOk result (λ _. (slot < 16) × (context < 8)) }
@@ -70,17 +70,17 @@ impl<F: Functions, D: Disk> Compacted<F, D> {
         slot: usize,
         context: usize,
         relocation: &RelocationOf<F>,
-        loaded: Loaded<D>,
+        loaded: Loaded<R>,
         functions: &F,
         now: u64,
-    ) -> Result<MovedOf<D>, Refused>
+    ) -> Result<Moved<R>, Refused>
         requires later { self.old.partition.moment < now }
         requires session { slot < 16 }
         requires context { context < 8 }
         requires awaits { (wanted : _) × AwaitsPage self.old slot context relocation.now wanted }
-        ensures does { LoadsOn D.Receipt.stands (IsEntryIn F.Key.bytes_of F.Value.bytes_of F.Key.is_known F.Value.is_known
+        ensures does { LoadsOn R.stands (IsEntryIn F.Key.bytes_of F.Value.bytes_of F.Key.is_known F.Value.is_known
             F.Key.SIZE F.Value.SIZE) F.Key.cmp F.code self.old self.new slot context (Ok loaded) now result }
-        ensures event { IfOk result (λ _. IsRelocating D.keeps F.Key.cmp self.old self.new slot context now) }
+        ensures event { IfOk result (λ _. IsRelocating R.keeps F.Key.cmp self.old self.new slot context now) }
         ensures cleared { result ≡ Ok Moved.Cleared → relocation.now.place < self.new.cleared }
         ensures moment { self.new.partition.moment ≤ now }
     {
@@ -101,18 +101,18 @@ impl<F: Functions, D: Disk> Compacted<F, D> {
         slot: usize,
         context: usize,
         relocation: &RelocationOf<F>,
-        loaded: &Loaded<D>,
+        loaded: &Loaded<R>,
         functions: &F,
         now: u64,
-    ) -> Result<MovedOf<D>, Refused>
+    ) -> Result<Moved<R>, Refused>
         requires later { self.old.partition.moment < now }
         requires session { slot < 16 }
         requires context { context < 8 }
         requires awaits { AwaitsPage self.old slot context relocation.now relocation.now.place }
         requires reads { relocation.now.stage ≡ Reading self.old.partition.records.begin }
-        ensures does { LoadsOn D.Receipt.stands (IsEntryIn F.Key.bytes_of F.Value.bytes_of F.Key.is_known F.Value.is_known
+        ensures does { LoadsOn R.stands (IsEntryIn F.Key.bytes_of F.Value.bytes_of F.Key.is_known F.Value.is_known
             F.Key.SIZE F.Value.SIZE) F.Key.cmp F.code self.old self.new slot context (Ok loaded.now) now result }
-        ensures event { IfOk result (λ _. IsRelocating D.keeps F.Key.cmp self.old self.new slot context now) }
+        ensures event { IfOk result (λ _. IsRelocating R.keeps F.Key.cmp self.old self.new slot context now) }
         ensures cleared { result ≡ Ok Moved.Cleared → relocation.now.place < self.new.cleared }
         ensures moment { self.new.partition.moment ≤ now }
     {
@@ -139,17 +139,17 @@ impl<F: Functions, D: Disk> Compacted<F, D> {
         relocation: &RelocationOf<F>,
         entry: EntryOf<F>,
         loading: Loading,
-        loaded: &Loaded<D>,
+        loaded: &Loaded<R>,
         now: u64,
-    ) -> Result<MovedOf<D>, Refused>
+    ) -> Result<Moved<R>, Refused>
         requires later { self.old.partition.moment < now }
         requires session { slot < 16 }
         requires context { context < 8 }
         requires awaits { AwaitsPage self.old slot context relocation.now loading.wanted }
         requires traces { relocation.now.stage ≡ Tracing entry loading }
-        ensures does { LoadsOn D.Receipt.stands (IsEntryIn F.Key.bytes_of F.Value.bytes_of F.Key.is_known F.Value.is_known
+        ensures does { LoadsOn R.stands (IsEntryIn F.Key.bytes_of F.Value.bytes_of F.Key.is_known F.Value.is_known
             F.Key.SIZE F.Value.SIZE) F.Key.cmp F.code self.old self.new slot context (Ok loaded.now) now result }
-        ensures event { IfOk result (λ _. IsRelocating D.keeps F.Key.cmp self.old self.new slot context now) }
+        ensures event { IfOk result (λ _. IsRelocating R.keeps F.Key.cmp self.old self.new slot context now) }
         ensures cleared { result ≡ Ok Moved.Cleared → relocation.now.place < self.new.cleared }
         ensures moment { self.new.partition.moment ≤ now }
     {

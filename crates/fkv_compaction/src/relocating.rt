@@ -9,8 +9,8 @@ ghost use Rattle.fkv_compaction.specs.Weighing.{Ends, Asks};
 ghost use Rattle.fkv_compaction.specs.Going.{GoesOn};
 
 use crate::compacted::Compacted;
-use crate::relocations::{EntryOf, Moved, MovedOf, RelocationOf, Stage, StageOf};
-use fkv_device::Disk;
+use crate::relocations::{EntryOf, Moved, RelocationOf, Stage, StageOf};
+use fkv_device::Receipt;
 use fkv_functions::{Functions, Refused};
 use fkv_lookups::low_of;
 use fkv_operations::IndexEntry;
@@ -18,7 +18,7 @@ use fkv_partition::Write;
 use fkv_partition::bearing::events_bear;
 use fkv_records::Address;
 
-impl<F: Functions, D: Disk> Compacted<F, D> {
+impl<F: Functions, R: Receipt> Compacted<F, R> {
     /// Goes on with a relocation. Where its place was cleared meanwhile it is finished. Else its record is read, in memory,
     /// or a page is asked for. Where the record is a tombstone, or its class has no entry, or a newer record of its key is
     /// met, its place is cleared as it is; where the way from the entry of its class goes on, above its place, below what
@@ -33,10 +33,10 @@ impl<F: Functions, D: Disk> Compacted<F, D> {
         context: usize,
         functions: &F,
         now: u64,
-    ) -> Result<MovedOf<D>, Refused>
+    ) -> Result<Moved<R>, Refused>
         requires later { self.old.partition.moment < now }
-        ensures does { GoesOn D.Receipt.stands F.Key.cmp F.code self.old self.new slot context now result }
-        ensures event { IfOk result (λ _. IsRelocating D.keeps F.Key.cmp self.old self.new slot context now) }
+        ensures does { GoesOn R.stands F.Key.cmp F.code self.old self.new slot context now result }
+        ensures event { IfOk result (λ _. IsRelocating R.keeps F.Key.cmp self.old self.new slot context now) }
         ensures cleared { result ≡ Ok Moved.Cleared
             → IfSome (relocation_at self.old slot context) (λ x. x.place < self.new.cleared) }
         ensures within { IfOk result (λ _. (slot < 16) × (context < 8)) }
@@ -70,15 +70,15 @@ impl<F: Functions, D: Disk> Compacted<F, D> {
         relocation: &RelocationOf<F>,
         functions: &F,
         now: u64,
-    ) -> Result<MovedOf<D>, Refused>
+    ) -> Result<Moved<R>, Refused>
         requires later { self.old.partition.moment < now }
         requires session { slot < 16 }
         requires context { context < 8 }
         requires here { relocation_at self.old slot context ≡ Some relocation.now }
         requires fresh { relocation.now.stage ≡ Fresh }
         requires uncleared { relocation.now.place ≡ self.old.cleared }
-        ensures does { GoesOn D.Receipt.stands F.Key.cmp F.code self.old self.new slot context now result }
-        ensures event { IfOk result (λ _. IsRelocating D.keeps F.Key.cmp self.old self.new slot context now) }
+        ensures does { GoesOn R.stands F.Key.cmp F.code self.old self.new slot context now result }
+        ensures event { IfOk result (λ _. IsRelocating R.keeps F.Key.cmp self.old self.new slot context now) }
         ensures cleared { result ≡ Ok Moved.Cleared → relocation.now.place < self.new.cleared }
         ensures err { OnErr result (self.new ≡ self.old) }
         ensures moment { self.new.partition.moment ≤ now }
@@ -103,17 +103,17 @@ impl<F: Functions, D: Disk> Compacted<F, D> {
         stage: StageOf<F>,
         wanted: Address,
         now: u64,
-    ) -> Result<MovedOf<D>, Refused>
+    ) -> Result<Moved<R>, Refused>
         requires session { slot < 16 }
         requires context { context < 8 }
         requires here { relocation_at self.old slot context ≡ Some relocation.now }
         requires later { self.old.partition.moment < now }
         requires flushed { page_at self.old.partition.records.page_bits wanted
             < length self.old.partition.records.receipts }
-        requires stands { StageStands D.keeps F.Key.cmp F.code self.old.partition relocation.now.place stage }
-        ensures does { Asks D.Receipt.stands self.old self.new
+        requires stands { StageStands R.keeps F.Key.cmp F.code self.old.partition relocation.now.place stage }
+        ensures does { Asks R.stands self.old self.new
             (with_relocation self.old slot context (Some (at_stage relocation.now stage)) now) wanted result }
-        ensures event { IfOk result (λ _. IsRelocating D.keeps F.Key.cmp self.old self.new slot context now) }
+        ensures event { IfOk result (λ _. IsRelocating R.keeps F.Key.cmp self.old self.new slot context now) }
         ensures uncleared { result ≡ Ok Moved.Cleared → ⊥ }
         ensures err { OnErr result (self.new ≡ self.old) }
         ensures moment { self.new.partition.moment ≤ now }
@@ -138,19 +138,19 @@ impl<F: Functions, D: Disk> Compacted<F, D> {
         entry: EntryOf<F>,
         kept: IndexEntry,
         now: u64,
-    ) -> Result<MovedOf<D>, Refused>
+    ) -> Result<Moved<R>, Refused>
         requires later { self.old.partition.moment < now }
         requires session { slot < 16 }
         requires context { context < 8 }
         requires here { relocation_at self.old slot context ≡ Some relocation.now }
-        requires stands { StageStands D.keeps F.Key.cmp F.code self.old.partition relocation.now.place (Ready entry kept) }
+        requires stands { StageStands R.keeps F.Key.cmp F.code self.old.partition relocation.now.place (Ready entry kept) }
         ensures does { Ends self.old self.new slot context relocation.now entry kept now result }
-        ensures event { IfOk result (λ _. IsRelocating D.keeps F.Key.cmp self.old self.new slot context now) }
+        ensures event { IfOk result (λ _. IsRelocating R.keeps F.Key.cmp self.old self.new slot context now) }
         ensures cleared { result ≡ Ok Moved.Cleared → relocation.now.place < self.new.cleared }
         ensures err { OnErr result (self.new ≡ self.old) }
         ensures moment { self.new.partition.moment ≤ now }
     {
-        events_bear::<F::Key, F::Value, F::Input, F::Output, D::Receipt>();
+        events_bear::<F::Key, F::Value, F::Input, F::Output, R>();
         self.known();
         if !self.partition.records().holds(&kept) {
             self.set_stage(slot, context, relocation, Stage::Fresh, now);

@@ -1,18 +1,19 @@
 //! Relocations: how far each is, and what an event of it answers.
-ghost use Rattle.std.specs.Prelude.{◌≡◌, option_map};
+ghost use Rattle.std.specs.Prelude.{◌≡◌, ⊤, option_map};
 ghost use Rattle.fkv_compaction.specs.Views.{at_stage};
 ghost use Rattle.fkv_compaction.specs.Weighing.{judged};
 ghost use Rattle.fkv_compaction.specs.Going.{awaited_by};
 
-use fkv_device::Disk;
+use fkv_device::Receipt;
 use fkv_functions::Functions;
 use fkv_operations::IndexEntry;
 use fkv_partition::Loading;
 use fkv_records::Address;
 use fkv_texts::{Entry, Reached};
+use std::alloc::AllocError;
 
 /// How far a relocation is.
-#[derive(Clone, Copy)]
+#[derive(Copy)]
 pub enum Stage<K, V> {
     /// Nothing is known.
     Fresh,
@@ -24,14 +25,34 @@ pub enum Stage<K, V> {
     Ready(Entry<K, V>, IndexEntry),
 }
 
+impl<K: Copy, V: Copy> Clone for Stage<K, V> {
+    ghost is_clone = { λ x y. y ≡ x };
+
+    ghost is_infallible = { λ _. ⊤ };
+
+    fn clone(&self) -> Result<Self, AllocError> {
+        Ok(*self)
+    }
+}
+
 /// An open relocation.
-#[derive(Clone, Copy)]
+#[derive(Copy)]
 pub struct Relocation<K, V> {
     /// The moment of its issue.
     pub number: u64,
     /// Where the record stands that it is to clear.
     pub place: Address,
     pub stage: Stage<K, V>,
+}
+
+impl<K: Copy, V: Copy> Clone for Relocation<K, V> {
+    ghost is_clone = { λ x y. y ≡ x };
+
+    ghost is_infallible = { λ _. ⊤ };
+
+    fn clone(&self) -> Result<Self, AllocError> {
+        Ok(*self)
+    }
 }
 
 /// The relocations of one type of functions.
@@ -56,9 +77,6 @@ pub enum Moved<R: Drop> {
     /// tried again.
     Waits,
 }
-
-/// What an event of a relocation answers on one kind of device.
-pub type MovedOf<D> = Moved<<D as Disk>::Receipt>;
 
 /// What the way from the entry of a record's class tells of the record.
 #[derive(Clone, Copy, PartialEq, Eq, Debug)]

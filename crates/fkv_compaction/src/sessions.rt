@@ -9,25 +9,25 @@ ghost use Rattle.fkv_compaction.specs.Beginning.{Issues, Relocates, LeavesAll, D
 
 use crate::compacted::Compacted;
 use crate::relocations::{Relocation, Stage};
-use fkv_device::Disk;
+use fkv_device::Receipt;
 use fkv_functions::{Functions, Refused, What};
 use fkv_operations::OpOf;
 use fkv_partition::bearing::{events_bear, seats_stay};
 
-impl<F: Functions, D: Disk> Compacted<F, D> {
+impl<F: Functions, R: Receipt> Compacted<F, R> {
     /// Enters a session, which has the view of now, and answers its slot, the lowest free one. Refused, and then
     /// nothing changes: `NoSlot` where sixteen sessions are entered.
     pub fn enter(&mut self, now: u64) -> Result<usize, Refused>
         requires later { self.old.partition.moment < now }
         ensures does { Enters self.old.partition self.new.partition now result }
         ensures rest { self.new ≡ with_partition self.old self.new.partition }
-        ensures event { IfOk result (λ _. IsQuiet D.keeps self.old.partition self.new.partition now) }
+        ensures event { IfOk result (λ _. IsQuiet R.keeps self.old.partition self.new.partition now) }
         ensures within { IfOk result (λ slot. slot < 16) }
         ensures err { OnErr result (self.new ≡ self.old) }
         ensures moment { self.new.partition.moment ≤ now }
     {
-        events_bear::<F::Key, F::Value, F::Input, F::Output, D::Receipt>();
-        seats_stay::<F::Key, F::Value, F::Input, F::Output, D::Receipt>();
+        events_bear::<F::Key, F::Value, F::Input, F::Output, R>();
+        seats_stay::<F::Key, F::Value, F::Input, F::Output, R>();
         self.partition.known();
         let entered = self.partition.enter(now);
         self.partition.known();
@@ -39,14 +39,14 @@ impl<F: Functions, D: Disk> Compacted<F, D> {
     /// that of no session.
     pub fn refresh(&mut self, slot: usize, now: u64) -> Result<(), Refused>
         requires later { self.old.partition.moment < now }
-        ensures does { Refreshes D.keeps self.old.partition self.new.partition slot now result }
+        ensures does { Refreshes R.keeps self.old.partition self.new.partition slot now result }
         ensures rest { self.new ≡ with_partition self.old self.new.partition }
-        ensures event { OnOk result (IsQuiet D.keeps self.old.partition self.new.partition now) }
+        ensures event { OnOk result (IsQuiet R.keeps self.old.partition self.new.partition now) }
         ensures err { OnErr result (self.new ≡ self.old) }
         ensures moment { self.new.partition.moment ≤ now }
     {
-        events_bear::<F::Key, F::Value, F::Input, F::Output, D::Receipt>();
-        seats_stay::<F::Key, F::Value, F::Input, F::Output, D::Receipt>();
+        events_bear::<F::Key, F::Value, F::Input, F::Output, R>();
+        seats_stay::<F::Key, F::Value, F::Input, F::Output, R>();
         self.partition.known();
         let refreshed = self.partition.refresh(slot, now);
         self.partition.known();
@@ -58,13 +58,13 @@ impl<F: Functions, D: Disk> Compacted<F, D> {
     /// open.
     pub fn leave(&mut self, slot: usize, now: u64) -> Result<(), Refused>
         requires later { self.old.partition.moment < now }
-        ensures does { LeavesAll D.keeps self.old self.new slot now result }
-        ensures event { OnOk result (IsQuiet D.keeps self.old.partition self.new.partition now) }
+        ensures does { LeavesAll R.keeps self.old self.new slot now result }
+        ensures event { OnOk result (IsQuiet R.keeps self.old.partition self.new.partition now) }
         ensures err { OnErr result (self.new ≡ self.old) }
         ensures moment { self.new.partition.moment ≤ now }
     {
-        events_bear::<F::Key, F::Value, F::Input, F::Output, D::Receipt>();
-        seats_stay::<F::Key, F::Value, F::Input, F::Output, D::Receipt>();
+        events_bear::<F::Key, F::Value, F::Input, F::Output, R>();
+        seats_stay::<F::Key, F::Value, F::Input, F::Output, R>();
         self.partition.known();
         if self.has_relocation(slot) {
             return Err(Refused::Busy);
@@ -92,8 +92,8 @@ impl<F: Functions, D: Disk> Compacted<F, D> {
         ensures err { OnErr result (self.new ≡ self.old) }
         ensures moment { self.new.partition.moment ≤ now }
     {
-        events_bear::<F::Key, F::Value, F::Input, F::Output, D::Receipt>();
-        seats_stay::<F::Key, F::Value, F::Input, F::Output, D::Receipt>();
+        events_bear::<F::Key, F::Value, F::Input, F::Output, R>();
+        seats_stay::<F::Key, F::Value, F::Input, F::Output, R>();
         self.partition.known();
         if !self.partition.is_session(slot) {
             return Err(Refused::Unknown);
@@ -124,7 +124,7 @@ impl<F: Functions, D: Disk> Compacted<F, D> {
     pub fn relocate(&mut self, slot: usize, now: u64) -> Result<usize, Refused>
         requires later { self.old.partition.moment < now }
         ensures does { Relocates self.old self.new slot now result }
-        ensures event { IfOk result (λ context. IsRelocating D.keeps F.Key.cmp self.old self.new slot context now) }
+        ensures event { IfOk result (λ context. IsRelocating R.keeps F.Key.cmp self.old self.new slot context now) }
         ensures within { IfOk result (λ context. (slot < 16) × (context < 8)) }
         ensures closed { IfOk result (λ context. relocation_at self.old slot context ≡ None) }
         ensures err { OnErr result (self.new ≡ self.old) }
@@ -156,7 +156,7 @@ impl<F: Functions, D: Disk> Compacted<F, D> {
     pub fn drop_relocation(&mut self, slot: usize, context: usize, now: u64) -> Result<(), Refused>
         requires later { self.old.partition.moment < now }
         ensures does { Drops self.old self.new slot context now result }
-        ensures event { OnOk result (IsRelocating D.keeps F.Key.cmp self.old self.new slot context now) }
+        ensures event { OnOk result (IsRelocating R.keeps F.Key.cmp self.old self.new slot context now) }
         ensures within { OnOk result ((slot < 16) × (context < 8)) }
         ensures err { OnErr result (self.new ≡ self.old) }
         ensures moment { self.new.partition.moment ≤ now }

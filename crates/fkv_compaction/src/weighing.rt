@@ -9,13 +9,13 @@ ghost use Rattle.fkv_compaction.specs.Effect.{IsRelocating};
 ghost use Rattle.fkv_compaction.specs.Weighing.{Weighs};
 
 use crate::compacted::Compacted;
-use crate::relocations::{EntryOf, Judgement, Moved, MovedOf, RelocationOf, Stage, judge};
-use fkv_device::Disk;
+use crate::relocations::{EntryOf, Judgement, Moved, RelocationOf, Stage, judge};
+use fkv_device::Receipt;
 use fkv_functions::{Functions, Refused};
 use fkv_operations::IndexEntry;
 use fkv_partition::Loading;
 
-impl<F: Functions, D: Disk> Compacted<F, D> {
+impl<F: Functions, R: Receipt> Compacted<F, R> {
     /// Weighs the record of a relocation's place: clears the place, asks for a page where the way from the entry of the
     /// record's class goes on above its place, or appends the record again. Refused, and then nothing changes: `Worn`,
     /// `NoMemory`.
@@ -27,17 +27,17 @@ impl<F: Functions, D: Disk> Compacted<F, D> {
         entry: EntryOf<F>,
         functions: &F,
         now: u64,
-    ) -> Result<MovedOf<D>, Refused>
+    ) -> Result<Moved<R>, Refused>
         requires later { self.old.partition.moment < now }
         requires session { slot < 16 }
         requires context { context < 8 }
         requires here { relocation_at self.old slot context ≡ Some relocation.now }
         requires stands { entry.address ≡ relocation.now.place }
         requires begun { self.old.partition.records.begin ≤ relocation.now.place }
-        requires is { IsTrue D.keeps → entry_at self.old.partition.records.text relocation.now.place ≡ Some entry }
-        ensures does { Weighs D.Receipt.stands F.Key.cmp F.code self.old self.new slot context relocation.now entry now
+        requires is { IsTrue R.keeps → entry_at self.old.partition.records.text relocation.now.place ≡ Some entry }
+        ensures does { Weighs R.stands F.Key.cmp F.code self.old self.new slot context relocation.now entry now
             result }
-        ensures event { IfOk result (λ _. IsRelocating D.keeps F.Key.cmp self.old self.new slot context now) }
+        ensures event { IfOk result (λ _. IsRelocating R.keeps F.Key.cmp self.old self.new slot context now) }
         ensures cleared { result ≡ Ok Moved.Cleared → relocation.now.place < self.new.cleared }
         ensures err { OnErr result (self.new ≡ self.old) }
         ensures moment { self.new.partition.moment ≤ now }
@@ -73,23 +73,23 @@ impl<F: Functions, D: Disk> Compacted<F, D> {
         entry: EntryOf<F>,
         kept: IndexEntry,
         now: u64,
-    ) -> Result<MovedOf<D>, Refused>
+    ) -> Result<Moved<R>, Refused>
         requires later { self.old.partition.moment < now }
         requires session { slot < 16 }
         requires context { context < 8 }
         requires here { relocation_at self.old slot context ≡ Some relocation.now }
         requires stands { entry.address ≡ relocation.now.place }
         requires begun { self.old.partition.records.begin ≤ relocation.now.place }
-        requires is { IsTrue D.keeps → entry_at self.old.partition.records.text relocation.now.place ≡ Some entry }
+        requires is { IsTrue R.keeps → entry_at self.old.partition.records.text relocation.now.place ≡ Some entry }
         requires some { entry.value ≢ None }
         requires own { partition_of self.old.partition.count (F.code entry.key) ≡ self.old.partition.number }
         requires found { found_for F.code self.old.partition entry.key ≡ Some kept }
         requires leads { entry_for F.code self.old.partition entry.key ≡ Some (address_of kept.word) }
         requires entry_stands { IsEntryOf self.old.partition.records
             (class_in F.code self.old.partition.records entry.key) kept }
-        ensures does { Weighs D.Receipt.stands F.Key.cmp F.code self.old self.new slot context relocation.now entry now
+        ensures does { Weighs R.stands F.Key.cmp F.code self.old self.new slot context relocation.now entry now
             result }
-        ensures event { IfOk result (λ _. IsRelocating D.keeps F.Key.cmp self.old self.new slot context now) }
+        ensures event { IfOk result (λ _. IsRelocating R.keeps F.Key.cmp self.old self.new slot context now) }
         ensures cleared { result ≡ Ok Moved.Cleared → relocation.now.place < self.new.cleared }
         ensures err { OnErr result (self.new ≡ self.old) }
         ensures moment { self.new.partition.moment ≤ now }

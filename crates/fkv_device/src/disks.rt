@@ -8,15 +8,12 @@ use fkv_functions::Refused;
 
 /// A device with a place for the pages of each partition. One parameter `D: Disk` names its receipts,
 /// its writers and its readers.
-pub trait Disk: Drop + Send {
+pub trait Disk: Drop {
     type Receipt: Receipt;
 
     type Writer: PageWriter<Receipt = Self::Receipt>;
 
     type Reader: PageReader<Receipt = Self::Receipt>;
-
-    /// Whether the device keeps what it is given: its writers and its readers do.
-    ghost keeps: { Bool };
 
     /// How often a call has failed: once for each fault that was told.
     ghost failures: { Self → ℕ };
@@ -39,10 +36,4 @@ pub trait Disk: Drop + Send {
     fn reader(&mut self, partition: u64) -> Result<Self::Reader, Refused>
         ensures steady { OnOk result (failures self.new ≡ failures self.old) }
         ensures counted { IfErr result (FailsOnlyBy 1 0 (failures self.old) (failures self.new)) };
-
-    /// Its writers keep where it does.
-    ghost writer_keeps: { IsTrue keeps → IsTrue Self.Writer.keeps };
-
-    /// Its readers keep where it does.
-    ghost reader_keeps: { IsTrue keeps → IsTrue Self.Reader.keeps };
 }

@@ -1,6 +1,7 @@
 //! A device of files, which promises no bytes: a page that was changed is found by its digest.
-ghost use Rattle.std.specs.Prelude.{◌≡◌, ◌≢◌, ◌+◌, ◌*◌, ◌^◌, ℕ, Some, [], length, false};
+ghost use Rattle.std.specs.Prelude.{◌≡◌, ◌≢◌, ◌+◌, ◌*◌, ◌^◌, ℕ, List, Some, [], length, false};
 ghost use Rattle.std.specs.Prelude.{IsTrue, IsOk, IfOk, IfErr, IfSome, OnOk};
+ghost use Rattle.std.specs.Arc.{arc_value};
 ghost use Rattle.sha2.specs.Sha256.{sha256};
 ghost use Rattle.fkv_functions.specs.declared.refusals.Refused.TheVariants as refused;
 ghost use Rattle.fkv_device.specs.Failing.{FailsOnlyBy, ReadFailsBy};
@@ -8,10 +9,12 @@ ghost use Rattle.fkv_device.specs.Failing.{FailsOnlyBy, ReadFailsBy};
 use crate::failures::Failures;
 use crate::pages::{PageReader, PageWriter};
 use crate::receipts::Receipt;
+use crate::shared::Page;
 use fkv_functions::Refused;
 use sha2::{Digest, Sha256};
 use std::alloc::Global;
 use std::io::{Read, Seek, SeekFrom, Write};
+use std::sync::Arc;
 
 /// A receipt of a page in a file: the SHA-256 of the bytes that were written.
 #[derive(Drop)]
@@ -23,6 +26,8 @@ pub struct FileReceipt {
 }
 
 impl Receipt for FileReceipt {
+    ghost keeps = { false };
+
     ghost stands = { λ r. record {
       number = r.number;
       page = r.page;
@@ -97,7 +102,7 @@ pub struct FileWriter<F: Write + Seek + Drop> {
 
 impl<F: Write + Seek + Drop> FileWriter<F> {
     /// A writer whose next receipt has this number.
-    pub(crate) fn at(alloc: Global, file: F, page_bits: u32, next: u64) -> FileWriter<F>
+    pub fn at(alloc: Global, file: F, page_bits: u32, next: u64) -> FileWriter<F>
         ensures next { result.next ≡ next }
         ensures bits { result.page_bits ≡ page_bits }
     {
@@ -121,10 +126,8 @@ impl<F: Write + Seek + Drop> FileWriter<F> {
     }
 }
 
-impl<F: Write + Seek + Drop + Send> PageWriter for FileWriter<F> {
+impl<F: Write + Seek + Drop> PageWriter for FileWriter<F> {
     type Receipt = FileReceipt;
-
-    ghost keeps = { false };
 
     ghost failures = { λ w. w.failures };
 
@@ -139,7 +142,7 @@ impl<F: Write + Seek + Drop + Send> PageWriter for FileWriter<F> {
     ///
     /// `Device` with code 2 where the bytes are not `2^page_bits`, the file refuses them or no number is
     /// left; `NoMemory` where the failure can not be counted.
-    fn write(&mut self, page: u64, bytes: &[u8]) -> Result<FileReceipt, Refused>
+    fn write(&mut self, page: u64, bytes: &Page) -> Result<FileReceipt, Refused>
         ensures digest { IfOk result (λ r. r.digest ≡ sha256 bytes.now) }
         ensures page { IfOk result (λ r. r.page ≡ page) }
         ensures length { IfOk result (λ r. r.length ≡ length bytes.now) }
@@ -153,6 +156,7 @@ impl<F: Write + Seek + Drop + Send> PageWriter for FileWriter<F> {
         let Some(next) = self.next.checked_add(1) else {
             return Err(self.failures.count(Refused::Device { code: 2, page }));
         };
+        let bytes = bytes.bytes();
         if !self.put(page, bytes) {
             return Err(self.failures.count(Refused::Device { code: 2, page }));
         }
@@ -167,22 +171,27 @@ impl<F: Write + Seek + Drop + Send> PageWriter for FileWriter<F> {
     }
 }
 
-/// Reads pages of a file.
+/// Reads pages of a file. It keeps the room of the page that it read last, and reads the next one there where nobody holds
+/// that page any more.
 #[derive(Drop)]
 pub struct FileReader<F: Read + Seek + Drop> {
+    alloc: Global,
     file: F,
     page_bits: u32,
+    last: Option<Page>,
     failures: Failures,
 }
 
 impl<F: Read + Seek + Drop> FileReader<F> {
     /// A reader of this file.
-    pub(crate) fn new(alloc: Global, file: F, page_bits: u32) -> FileReader<F>
+    pub fn new(alloc: Global, file: F, page_bits: u32) -> FileReader<F>
         ensures { result.page_bits ≡ page_bits }
     {
         FileReader {
+            alloc,
             file,
             page_bits,
+            last: None,
             failures: Failures::new(alloc),
         }
     }
@@ -197,12 +206,44 @@ impl<F: Read + Seek + Drop> FileReader<F> {
             && go_to_page(&mut self.file, self.page_bits, receipt.page)
             && self.file.read_exact(out).is_ok()
     }
+
+    /// Reads a page of `size` bytes into the room of the last one where nobody holds that any more, else into new room.
+    /// `None` where it was not there.
+    ///
+    /// # Errors
+    ///
+    /// `NoMemory`.
+    fn fill(&mut self, receipt: &FileReceipt, size: usize) -> Result<Option<Arc<Vec<u8>>>, Refused>
+        ensures size { IfOk result (λ o. IfSome o (λ p. length (arc_value p).items ≡ size)) }
+        ensures length { IfOk result (λ o. IfSome o (λ _. size ≡ receipt.now.length)) }
+        ensures memory { IfErr result (λ e. e ≡ refused.NoMemory) }
+        ensures failures { self.new.failures ≡ self.old.failures }
+        ensures bits { self.new.page_bits ≡ self.old.page_bits }
+    {
+        if let Some(last) = self.last.take() {
+            let mut last = last.into_shared();
+            if let Some(bytes) = Arc::get_mut(&mut last) {
+                if bytes.len() == size {
+                    let is_there = self.take(receipt, bytes.as_mut_slice());
+                    return Ok(if is_there { Some(last) } else { None });
+                }
+            }
+        }
+        let Ok(mut bytes) = vec![in self.alloc; 0u8; size] else {
+            return Err(Refused::NoMemory);
+        };
+        if !self.take(receipt, &mut bytes) {
+            return Ok(None);
+        }
+        match Arc::new(self.alloc, bytes) {
+            Ok(page) => Ok(Some(page)),
+            Err(_) => Err(Refused::NoMemory),
+        }
+    }
 }
 
-impl<F: Read + Seek + Drop + Send> PageReader for FileReader<F> {
+impl<F: Read + Seek + Drop> PageReader for FileReader<F> {
     type Receipt = FileReceipt;
-
-    ghost keeps = { false };
 
     ghost failures = { λ r. r.failures };
 
@@ -213,24 +254,32 @@ impl<F: Read + Seek + Drop + Send> PageReader for FileReader<F> {
     ///
     /// # Errors
     ///
-    /// `Device` with code 3 where `out` is not as long as the page, or the file fails or ends;
-    /// `Damaged` where the digest differs; `NoMemory` where the failure can not be counted.
-    fn read(&mut self, receipt: &FileReceipt, out: &mut [u8]) -> Result<(), Refused>
-        ensures digest { OnOk result (sha256 out.new ≡ receipt.now.digest) }
-        ensures length { OnOk result (length out.old ≡ receipt.now.length) }
+    /// `Device` with code 3 where the page has not `size` bytes, or the file fails or ends; `Damaged` where the digest
+    /// differs; `NoMemory`, also where a failure can't be counted.
+    fn read(&mut self, receipt: &FileReceipt, size: usize) -> Result<Page, Refused>
+        ensures digest { IfOk result (λ page. sha256 page ≡ receipt.now.digest) }
+        ensures size { IfOk result (λ page. length page ≡ size) }
+        ensures length { OnOk result (size ≡ receipt.now.length) }
         ensures steady { OnOk result (self.new.failures ≡ self.old.failures) }
         ensures counted { IfErr result (ReadFailsBy receipt.now.page self.old.failures self.new.failures) }
         ensures bits { self.new.page_bits ≡ self.old.page_bits }
+        // the page that was read is kept, and its digest is another
         ensures damaged { IfErr result (λ e. e ≡ refused.Damaged receipt.now.page
-            → sha256 out.new ≢ receipt.now.digest) }
+            → (last : List ℕ) × (self.new.last ≡ Some last)
+            × (sha256 last ≢ receipt.now.digest)) }
     {
         let page = receipt.page;
-        if !self.take(receipt, out) {
+        let Some(read) = self.fill(receipt, size)? else {
             return Err(self.failures.count(Refused::Device { code: 3, page }));
-        }
-        if digest_of(out) != receipt.digest {
+        };
+        let Ok(kept) = read.clone() else {
+            return Err(Refused::NoMemory);
+        };
+        self.last = Some(Page::of(kept));
+        let read = Page::of(read);
+        if digest_of(read.bytes()) != receipt.digest {
             return Err(self.failures.count(Refused::Damaged { page }));
         }
-        Ok(())
+        Ok(read)
     }
 }

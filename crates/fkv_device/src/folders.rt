@@ -56,17 +56,12 @@ impl<R: Files + Drop> FileDevice<R> {
     }
 }
 
-impl<R: Files + Drop + Send> Disk for FileDevice<R>
-where
-    R::File: Send,
-{
+impl<R: Files + Drop> Disk for FileDevice<R> {
     type Receipt = FileReceipt;
 
     type Writer = FileWriter<R::File>;
 
     type Reader = FileReader<R::File>;
-
-    ghost keeps = { false };
 
     ghost failures = { λ d. d.failures };
 
@@ -96,8 +91,4 @@ where
         let file = self.open(partition, how.read(true))?;
         Ok(FileReader::new(self.alloc, file, self.page_bits))
     }
-
-    ghost writer_keeps = { λ h. h };
-
-    ghost reader_keeps = { λ h. h };
 }

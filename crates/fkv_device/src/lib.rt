@@ -13,6 +13,7 @@ pub mod memory;
 pub mod messages;
 pub mod pages;
 pub mod receipts;
+pub mod shared;
 
 pub use disks::Disk;
 pub use files::{FileReader, FileReceipt, FileWriter};
@@ -21,6 +22,4 @@ pub use memory::{MemoryDevice, MemoryReader, MemoryReceipt, MemoryWriter};
 pub use messages::{FlushJob, Loaded, Written};
 pub use pages::{PageReader, PageWriter};
 pub use receipts::Receipt;
-
-#[cfg(test)]
-mod tests;
+pub use shared::Page;

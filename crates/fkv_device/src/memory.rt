@@ -1,6 +1,5 @@
 //! A device in memory, which keeps what it is given.
 ghost use Rattle.std.specs.Prelude.{◌≡◌, ◌≢◌, ◌+◌, ◌^◌, ℕ, List, [], length, ◌↔◌, true, IfOk, IfErr, OnOk, IsOk};
-ghost use Rattle.std.specs.Arc.{arc_value};
 ghost use Rattle.fkv_functions.specs.declared.refusals.Refused.TheVariants as refused;
 ghost use Rattle.fkv_device.specs.Failing.{FailsOnlyBy};
 
@@ -8,33 +7,26 @@ use crate::disks::Disk;
 use crate::failures::Failures;
 use crate::pages::{PageReader, PageWriter};
 use crate::receipts::Receipt;
+use crate::shared::Page;
 use fkv_functions::Refused;
 use std::alloc::Global;
-use std::sync::Arc;
 
 /// A receipt of a page in memory, which shares the page.
 #[derive(Drop)]
 pub struct MemoryReceipt {
     number: u64,
     page: u64,
-    bytes: Arc<Vec<u8>>,
-}
-
-impl MemoryReceipt {
-    fn bytes(&self) -> &[u8]
-        ensures { result.now ≡ (arc_value self.now.bytes).items }
-    {
-        let bytes: &Vec<u8> = &self.bytes;
-        bytes.as_slice()
-    }
+    bytes: Page,
 }
 
 impl Receipt for MemoryReceipt {
+    ghost keeps = { true };
+
     ghost stands = { λ r. record {
       number = r.number;
       page = r.page;
-      length = length (arc_value r.bytes).items;
-      bytes = (arc_value r.bytes).items;
+      length = length r.bytes;
+      bytes = r.bytes;
       mark = [];
     } };
 
@@ -47,16 +39,18 @@ impl Receipt for MemoryReceipt {
     }
 
     fn size(&self) -> usize {
-        self.bytes().len()
+        self.bytes.bytes().len()
     }
 
     fn same(&self, other: &MemoryReceipt) -> bool {
-        self.number == other.number && self.page == other.page && self.bytes() == other.bytes()
+        self.number == other.number
+            && self.page == other.page
+            && self.bytes.bytes() == other.bytes.bytes()
     }
 
     fn again(&self) -> Result<MemoryReceipt, Refused> {
-        match self.bytes.clone() {
-            Err(_) => Err(Refused::NoMemory),
+        match self.bytes.again() {
+            Err(refused) => Err(refused),
             Ok(bytes) => Ok(MemoryReceipt {
                 number: self.number,
                 page: self.page,
@@ -69,18 +63,16 @@ impl Receipt for MemoryReceipt {
 /// Writes pages to memory. It has the numbers below 2^64 - 1 for its receipts.
 #[derive(Drop)]
 pub struct MemoryWriter {
-    alloc: Global,
     next: u64,
     failures: Failures,
 }
 
 impl MemoryWriter {
     /// A writer whose next receipt has this number.
-    pub(crate) fn at(alloc: Global, next: u64) -> MemoryWriter
+    pub fn at(alloc: Global, next: u64) -> MemoryWriter
         ensures { result.next ≡ next }
     {
         MemoryWriter {
-            alloc,
             next,
             failures: Failures::new(alloc),
         }
@@ -90,8 +82,6 @@ impl MemoryWriter {
 impl PageWriter for MemoryWriter {
     type Receipt = MemoryReceipt;
 
-    ghost keeps = { true };
-
     ghost failures = { λ w. w.failures };
 
     ghost next = { λ w. w.next };
@@ -99,13 +89,13 @@ impl PageWriter for MemoryWriter {
     // where no number is left
     ghost can_fail = { λ w. w.next + 1 ≡ 2 ^ 64 };
 
-    /// Writes a page: one copy of its bytes.
+    /// Writes a page: its bytes are shared, not copied.
     ///
     /// # Errors
     ///
     /// `NoMemory`; `Device` with code 2 where no number is left, and never else.
-    fn write(&mut self, page: u64, bytes: &[u8]) -> Result<MemoryReceipt, Refused>
-        ensures kept { IfOk result (λ r. (arc_value r.bytes).items ≡ bytes.now) }
+    fn write(&mut self, page: u64, bytes: &Page) -> Result<MemoryReceipt, Refused>
+        ensures kept { IfOk result (λ r. r.bytes ≡ bytes.now) }
         ensures page { IfOk result (λ r. r.page ≡ page) }
         ensures number { IfOk result (λ r. r.number ≡ self.old.next) }
         ensures next { OnOk result (self.new.next ≡ self.old.next + 1) }
@@ -117,18 +107,13 @@ impl PageWriter for MemoryWriter {
         let Some(next) = self.next.checked_add(1) else {
             return Err(self.failures.count(Refused::Device { code: 2, page }));
         };
-        let Ok(copy) = bytes.to_vec(self.alloc) else {
-            return Err(Refused::NoMemory);
-        };
-        let Ok(shared) = Arc::new(self.alloc, copy) else {
-            return Err(Refused::NoMemory);
-        };
+        let bytes = bytes.again()?;
         let number = self.next;
         self.next = next;
         Ok(MemoryReceipt {
             number,
             page,
-            bytes: shared,
+            bytes,
         })
     }
 }
@@ -142,33 +127,29 @@ pub struct MemoryReader {
 impl PageReader for MemoryReader {
     type Receipt = MemoryReceipt;
 
-    ghost keeps = { true };
-
     ghost failures = { λ r. r.failures };
 
-    ghost can_fail = { λ receipt size. size ≢ length (arc_value receipt.bytes).items };
+    ghost can_fail = { λ receipt size. size ≢ length receipt.bytes };
 
-    /// Reads a page: one copy of its bytes.
+    /// Reads a page: it is shared, not copied.
     ///
     /// # Errors
     ///
-    /// None where `out` is as long as the page, else `Device` with code 3, or `NoMemory` where the
-    /// failure can not be counted.
-    fn read(&mut self, receipt: &MemoryReceipt, out: &mut [u8]) -> Result<(), Refused>
-        ensures kept { OnOk result (out.new ≡ (arc_value receipt.now.bytes).items) }
-        ensures length { IsOk result ↔ (length out.old ≡ length (arc_value receipt.now.bytes).items) }
+    /// `Device` with code 3 where the page has not `size` bytes; `NoMemory` where it can't be shared once more or a
+    /// failure can't be counted.
+    fn read(&mut self, receipt: &MemoryReceipt, size: usize) -> Result<Page, Refused>
+        ensures kept { IfOk result (λ page. page ≡ receipt.now.bytes) }
+        ensures length { OnOk result (size ≡ length receipt.now.bytes) }
         ensures steady { OnOk result (self.new.failures ≡ self.old.failures) }
         ensures counted { IfErr result (FailsOnlyBy 3 receipt.now.page self.old.failures self.new.failures) }
         ensures caused { IfErr result (λ e. e ≢ refused.NoMemory
-            → length out.old ≢ length (arc_value receipt.now.bytes).items) }
+            → size ≢ length receipt.now.bytes) }
     {
-        let bytes = receipt.bytes();
-        if out.len() != bytes.len() {
+        if size != receipt.bytes.bytes().len() {
             let page = receipt.page;
             return Err(self.failures.count(Refused::Device { code: 3, page }));
         }
-        out.copy_from_slice(bytes);
-        Ok(())
+        receipt.bytes.again()
     }
 }
 
@@ -192,8 +173,6 @@ impl Disk for MemoryDevice {
 
     type Reader = MemoryReader;
 
-    ghost keeps = { true };
-
     ghost failures = { λ _. 0 };
 
     /// A writer, which is never refused.
@@ -212,8 +191,4 @@ impl Disk for MemoryDevice {
             failures: Failures::new(self.alloc),
         })
     }
-
-    ghost writer_keeps = { λ h. h };
-
-    ghost reader_keeps = { λ h. h };
 }

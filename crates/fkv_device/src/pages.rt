@@ -1,17 +1,15 @@
 //! What writes pages and what reads them.
-ghost use Rattle.std.specs.Prelude.{◌≡◌, ◌≢◌, ◌+◌, ℕ, Bool, length, IsTrue, IfOk, IfErr, OnOk};
+ghost use Rattle.std.specs.Prelude.{◌≡◌, ◌≢◌, ◌+◌, ℕ, length, IsTrue, IfOk, IfErr, OnOk};
 ghost use Rattle.fkv_functions.specs.declared.refusals.Refused.TheVariants as refused;
 ghost use Rattle.fkv_device.specs.Failing.{FailsOnlyBy, ReadFailsBy};
 
 use crate::receipts::Receipt;
+use crate::shared::Page;
 use fkv_functions::Refused;
 
 /// Writes pages, and gives a receipt for each.
-pub trait PageWriter: Drop + Send {
+pub trait PageWriter: Drop {
     type Receipt: Receipt;
-
-    /// Whether a receipt of this writer stands for the bytes that were written with it.
-    ghost keeps: { Bool };
 
     /// How often a call has failed: once for each fault that was told.
     ghost failures: { Self → ℕ };
@@ -27,8 +25,8 @@ pub trait PageWriter: Drop + Send {
     /// # Errors
     ///
     /// `NoMemory`; `Device` with code 2 where the device failed or the writer has no number left.
-    fn write(&mut self, page: u64, bytes: &[u8]) -> Result<Self::Receipt, Refused>
-        ensures kept { IfOk result (λ r. IsTrue keeps → (Self.Receipt.stands r).bytes ≡ bytes.now) }
+    fn write(&mut self, page: u64, bytes: &Page) -> Result<Self::Receipt, Refused>
+        ensures kept { IfOk result (λ r. IsTrue Self.Receipt.keeps → (Self.Receipt.stands r).bytes ≡ bytes.now) }
         ensures page { IfOk result (λ r. (Self.Receipt.stands r).page ≡ page) }
         ensures length { IfOk result (λ r. (Self.Receipt.stands r).length ≡ length bytes.now) }
         ensures number { IfOk result (λ r. (Self.Receipt.stands r).number ≡ next self.old) }
@@ -40,29 +38,28 @@ pub trait PageWriter: Drop + Send {
 }
 
 /// Reads pages by their receipts.
-pub trait PageReader: Drop + Send {
+pub trait PageReader: Drop {
     type Receipt: Receipt;
-
-    /// Whether a read that answers `Ok` gives the bytes that its receipt stands for.
-    ghost keeps: { Bool };
 
     /// How often a call has failed: once for each fault that was told.
     ghost failures: { Self → ℕ };
 
-    /// What holds of a receipt and a number of bytes wherever a read by it, into so many bytes, comes to a fault.
+    /// What holds of a receipt and a number of bytes wherever a read of so many bytes by it comes to a fault.
     ghost can_fail: { Self.Receipt → ℕ → Type 0 };
 
-    /// Reads a page over all of `out`. After a refusal `out` holds any bytes.
+    /// Reads a page of `size` bytes.
     ///
     /// # Errors
     ///
-    /// `NoMemory`; `Device` with code 3 where the device failed or `out` is not as long as the page;
+    /// `NoMemory`; `Device` with code 3 where the device failed or the page has not `size` bytes;
     /// `Damaged` where the device gave other bytes than were written.
-    fn read(&mut self, receipt: &Self::Receipt, out: &mut [u8]) -> Result<(), Refused>
-        ensures kept { OnOk result (IsTrue keeps → out.new ≡ (Self.Receipt.stands receipt.now).bytes) }
-        ensures length { OnOk result (length out.old ≡ (Self.Receipt.stands receipt.now).length) }
+    fn read(&mut self, receipt: &Self::Receipt, size: usize) -> Result<Page, Refused>
+        ensures kept { IfOk result (λ page. IsTrue Self.Receipt.keeps
+            → page ≡ (Self.Receipt.stands receipt.now).bytes) }
+        ensures size { IfOk result (λ page. length page ≡ size) }
+        ensures length { OnOk result (size ≡ (Self.Receipt.stands receipt.now).length) }
         ensures steady { OnOk result (failures self.new ≡ failures self.old) }
         ensures counted { IfErr result (ReadFailsBy (Self.Receipt.stands receipt.now).page
             (failures self.old) (failures self.new)) }
-        ensures caused { IfErr result (λ e. e ≢ refused.NoMemory → can_fail receipt.now (length out.old)) };
+        ensures caused { IfErr result (λ e. e ≢ refused.NoMemory → can_fail receipt.now size) };
 }

@@ -1,14 +1,17 @@
 //! What a written page is read by.
-ghost use Rattle.std.specs.Prelude.{◌≡◌, ◌↔◌, IsTrue, IfOk, IfErr};
+ghost use Rattle.std.specs.Prelude.{◌≡◌, ◌↔◌, IsTrue, Bool, IfOk, IfErr};
 ghost use Rattle.fkv_functions.specs.declared.refusals.Refused.TheVariants as refused;
 ghost use Rattle.fkv_device.specs.Standing.{Standing};
 
 use fkv_functions::Refused;
 
 /// A receipt of a written page. Two receipts that are the same stand for the same bytes.
-pub trait Receipt: Drop + Send {
+pub trait Receipt: Drop {
     /// What it stands for: its number, page, length and bytes, and what else tells it from others.
     ghost stands: { Self → Standing };
+
+    /// Whether it stands for the bytes that were written with it, and reads give those.
+    ghost keeps: { Bool };
 
     /// Its number among the receipts of its writer, which are numbered from 0 in the order of the writes.
     fn number(&self) -> u64

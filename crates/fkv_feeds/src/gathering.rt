@@ -15,22 +15,21 @@ use std::collections::BTreeMap;
 /// Puts each live key of all partitions with its value into an empty map. Refused: `NoMemory`, and as a device refuses
 /// pages of a partition.
 fn gather<F: Functions, D: Disk>(
-    alloc: Global,
     tree: &mut BTreeMap<F::Key, F::Value>,
     shards: &mut [Shard<F, D>],
 ) -> Result<(), Refused>
     requires empty { tree.old.entries ≡ [] }
     requires some { 0 < length shards.old }
     requires numbered { (slot : ℕ) × (now : ℕ) × AreIdle (map (λ shard. shard.partition) shards.old) slot now }
-    ensures ok { IsTrue D.keeps → OnOk result (Same (get F.Key.cmp tree.new)
+    ensures ok { IsTrue D.Receipt.keeps → OnOk result (Same (get F.Key.cmp tree.new)
         (union_of F.Key.cmp F.code (map (λ shard. shard.partition) shards.old))) }
     ensures told { IfErr result (λ why. (why ≡ Refused.NoMemory)
         ⊎ ((low : ℕ) × (flushed : ℕ) × (old : D.Reader) × (new : D.Reader)
-        × IsScanRefusal D.keeps low flushed (D.Reader.failures old) (D.Reader.failures new) why)) }
+        × IsScanRefusal D.Receipt.keeps low flushed (D.Reader.failures old) (D.Reader.failures new) why)) }
 {
     for index in 0..shards.len() {
         let shard = &mut shards[index];
-        match shard.partition.put_live(alloc, &mut shard.reader, tree) {
+        match shard.partition.put_live(&mut shard.reader, tree) {
             Ok(()) => {}
             Err(refused) => return Err(refused),
         }
@@ -45,14 +44,14 @@ pub fn live<F: Functions, D: Disk>(
 ) -> Result<BTreeMap<F::Key, F::Value>, Refused>
     requires some { 0 < length shards.old }
     requires numbered { (slot : ℕ) × (now : ℕ) × AreIdle (map (λ shard. shard.partition) shards.old) slot now }
-    ensures map { IsTrue D.keeps → IfOk result (λ live. Same (get F.Key.cmp live)
+    ensures map { IsTrue D.Receipt.keeps → IfOk result (λ live. Same (get F.Key.cmp live)
         (union_of F.Key.cmp F.code (map (λ shard. shard.partition) shards.old))) }
     ensures told { IfErr result (λ why. (why ≡ Refused.NoMemory)
         ⊎ ((low : ℕ) × (flushed : ℕ) × (old : D.Reader) × (new : D.Reader)
-        × IsScanRefusal D.keeps low flushed (D.Reader.failures old) (D.Reader.failures new) why)) }
+        × IsScanRefusal D.Receipt.keeps low flushed (D.Reader.failures old) (D.Reader.failures new) why)) }
 {
     let mut tree = BTreeMap::new(alloc);
-    match gather(alloc, &mut tree, shards) {
+    match gather(&mut tree, shards) {
         Ok(()) => Ok(tree),
         Err(refused) => Err(refused),
     }

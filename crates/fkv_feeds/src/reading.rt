@@ -36,15 +36,15 @@ fn add_rows<R: Read, F: Functions<Key = Name, Input = i64>, D: Disk>(
     shards: &mut Shards<'_, F, D>,
 ) -> Result<(), Refused>
     requires fresh { IsFresh reader.old }
-    requires stands { (rows : List (Name × ℤ)) × StandFor D.keeps name_cmp F.meaning F.code
+    requires stands { (rows : List (Name × ℤ)) × StandFor D.Receipt.keeps name_cmp F.meaning F.code
         (map (λ shard. shard.partition) shards.old.shards.items) shards.old.terms.slot shards.old.clock rows }
-    ensures ok { OnOk result ((before : List (Name × ℤ)) → StandFor D.keeps name_cmp F.meaning F.code
+    ensures ok { OnOk result ((before : List (Name × ℤ)) → StandFor D.Receipt.keeps name_cmp F.meaning F.code
         (map (λ shard. shard.partition) shards.old.shards.items) shards.old.terms.slot shards.old.clock before
         → (rows : List (Name × ℤ)) × AreRowsIn limit (source_of R.remaining reader.old) rows
-        × StandFor D.keeps name_cmp F.meaning F.code
+        × StandFor D.Receipt.keeps name_cmp F.meaning F.code
         (map (λ shard. shard.partition) shards.new.shards.items) shards.new.terms.slot shards.new.clock
         (before ++ rows)) }
-    ensures told { IfErr result (TellsOf (IsRunFault D.keeps D.failures D.Writer.failures
+    ensures told { IfErr result (TellsOf (IsRunFault D.Receipt.keeps D.failures D.Writer.failures
         D.Reader.failures F.Value.bytes_of F.Value.is_known F.Value.SIZE)
         feed limit (source_of R.remaining reader.old)) }
 {
@@ -83,17 +83,17 @@ fn read_lent<'a, S: Source, B: Since, F: Functions<Key = Name, Input = i64>, D: 
 ) -> Ended<'a, S>
     requires name { source.ghost_name ≡ B.name }
     requires count { S.failures source.old ≡ B.count }
-    requires stands { (rows : List (Name × ℤ)) × StandFor D.keeps name_cmp F.meaning F.code
+    requires stands { (rows : List (Name × ℤ)) × StandFor D.Receipt.keeps name_cmp F.meaning F.code
         (map (λ shard. shard.partition) shards.old.shards.items) shards.old.terms.slot shards.old.clock rows }
     ensures same { result.source.ghost_name ≡ source.entry.ghost_name }
     ensures counted { S.failures result.source.now ≡ count_of result.failed (S.failures source.old) }
-    ensures ok { OnOk result.told ((before : List (Name × ℤ)) → StandFor D.keeps name_cmp F.meaning F.code
+    ensures ok { OnOk result.told ((before : List (Name × ℤ)) → StandFor D.Receipt.keeps name_cmp F.meaning F.code
         (map (λ shard. shard.partition) shards.old.shards.items) shards.old.terms.slot shards.old.clock before
         → (rows : List (Name × ℤ)) × IsFeed limit (S.remaining source.old) rows
-        × StandFor D.keeps name_cmp F.meaning F.code
+        × StandFor D.Receipt.keeps name_cmp F.meaning F.code
         (map (λ shard. shard.partition) shards.new.shards.items) shards.new.terms.slot shards.new.clock
         (before ++ rows)) }
-    ensures told { IfErr result.told (TellsOf (IsRunFault D.keeps D.failures D.Writer.failures
+    ensures told { IfErr result.told (TellsOf (IsRunFault D.Receipt.keeps D.failures D.Writer.failures
         D.Reader.failures F.Value.bytes_of F.Value.is_known F.Value.SIZE)
         feed limit (option_map without_mark (S.remaining source.old))) }
 {
@@ -124,17 +124,17 @@ pub fn read_feed<S: Source, F: Functions<Key = Name, Input = i64>, D: Disk>(
     limit: u64,
     shards: &mut Shards<'_, F, D>,
 ) -> Result<(), Refused>
-    requires { (rows : List (Name × ℤ)) × StandFor D.keeps name_cmp F.meaning F.code
+    requires { (rows : List (Name × ℤ)) × StandFor D.Receipt.keeps name_cmp F.meaning F.code
         (map (λ shard. shard.partition) shards.old.shards.items) shards.old.terms.slot shards.old.clock rows }
-    ensures ok { OnOk result ((before : List (Name × ℤ)) → StandFor D.keeps name_cmp F.meaning F.code
+    ensures ok { OnOk result ((before : List (Name × ℤ)) → StandFor D.Receipt.keeps name_cmp F.meaning F.code
         (map (λ shard. shard.partition) shards.old.shards.items) shards.old.terms.slot shards.old.clock before
         → (rows : List (Name × ℤ)) × IsFeed limit (S.remaining source.old) rows
-        × StandFor D.keeps name_cmp F.meaning F.code
+        × StandFor D.Receipt.keeps name_cmp F.meaning F.code
         (map (λ shard. shard.partition) shards.new.shards.items) shards.new.terms.slot shards.new.clock
         (before ++ rows)) }
     ensures steady { OnOk result (S.failures source.new ≡ S.failures source.old) }
     ensures told { IfErr result
-        (TellsWhy (IsRunFault D.keeps D.failures D.Writer.failures
+        (TellsWhy (IsRunFault D.Receipt.keeps D.failures D.Writer.failures
         D.Reader.failures F.Value.bytes_of F.Value.is_known F.Value.SIZE)
         feed limit (S.remaining source.old) (S.failures source.old) (S.failures source.new)) }
 {

@@ -33,16 +33,16 @@ fn table_in<F: Functions<Key = Name, Input = i64>, D: Disk>(
     alloc: Global,
     shards: &mut Shards<'_, F, D>,
 ) -> Result<Table<F::Value>, Refused>
-    requires stands { (rows : List (Name × ℤ)) × StandFor D.keeps name_cmp F.meaning F.code
+    requires stands { (rows : List (Name × ℤ)) × StandFor D.Receipt.keeps name_cmp F.meaning F.code
         (map (λ shard. shard.partition) shards.old.shards.items) shards.old.terms.slot shards.old.clock rows }
-    ensures value { IsTrue D.keeps → IfOk result (λ pairs. (rows : List (Name × ℤ))
-        → StandFor D.keeps name_cmp F.meaning F.code
+    ensures value { IsTrue D.Receipt.keeps → IfOk result (λ pairs. (rows : List (Name × ℤ))
+        → StandFor D.Receipt.keeps name_cmp F.meaning F.code
         (map (λ shard. shard.partition) shards.old.shards.items) shards.old.terms.slot shards.old.clock rows
         → (k : Name) → lookup (is_at (name_cmp k)) pairs ≡ folded F.meaning k (amounts_of name_cmp k rows)) }
     ensures rising { IfOk result (λ pairs. IsStrictlySortedBy name_cmp (keys_of pairs)) }
     ensures told { IfErr result (λ why. (why ≡ Refused.NoMemory)
         ⊎ ((low : ℕ) × (flushed : ℕ) × (old : D.Reader) × (new : D.Reader)
-        × IsScanRefusal D.keeps low flushed (D.Reader.failures old) (D.Reader.failures new) why)) }
+        × IsScanRefusal D.Receipt.keeps low flushed (D.Reader.failures old) (D.Reader.failures new) why)) }
 {
     match live(alloc, shards.shards.as_mut_slice()) {
         Ok(live) => Ok(Table::new(live)),
@@ -57,13 +57,13 @@ fn read_feeds<S: Source, F: Functions<Key = Name, Input = i64>, D: Disk>(
     shards: &mut Shards<'_, F, D>,
 ) -> Result<(), Refused>
     requires most { length feeds.old ≤ 64 }
-    requires stands { StandFor D.keeps name_cmp F.meaning F.code
+    requires stands { StandFor D.Receipt.keeps name_cmp F.meaning F.code
         (map (λ shard. shard.partition) shards.old.shards.items) shards.old.terms.slot shards.old.clock [] }
     ensures ok { OnOk result ((rows : List (Name × ℤ)) × AreFeeds most_rows (map S.remaining feeds.old) rows
-        × StandFor D.keeps name_cmp F.meaning F.code
+        × StandFor D.Receipt.keeps name_cmp F.meaning F.code
         (map (λ shard. shard.partition) shards.new.shards.items) shards.new.terms.slot shards.new.clock rows) }
     ensures steady { OnOk result (map S.failures feeds.new ≡ map S.failures feeds.old) }
-    ensures told { IfErr result (TellsStopped (IsRunFault D.keeps D.failures D.Writer.failures
+    ensures told { IfErr result (TellsStopped (IsRunFault D.Receipt.keeps D.failures D.Writer.failures
         D.Reader.failures F.Value.bytes_of F.Value.is_known F.Value.SIZE)
         (map S.remaining feeds.old) (map S.failures feeds.old)
         (map S.failures feeds.new)) }
@@ -99,11 +99,11 @@ pub fn run_one<S: Source, F: Functions<Key = Name, Input = i64>, D: Disk>(
     config: &Config,
     mut device: D,
 ) -> Result<Table<F::Value>, Refused>
-    ensures ok { IsTrue D.keeps → IfOk result (IsTableOf F.meaning (map S.remaining feeds.old)) }
+    ensures ok { IsTrue D.Receipt.keeps → IfOk result (IsTableOf F.meaning (map S.remaining feeds.old)) }
     ensures steady { OnOk result (map S.failures feeds.new ≡ map S.failures feeds.old) }
     ensures good { result ≢ Err Refused.BadConfig
         → IsRunnable config.now (size_of 32 F.Value.SIZE) (length feeds.old) }
-    ensures told { IfErr result (TellsWhyNone (IsRunFault D.keeps D.failures D.Writer.failures
+    ensures told { IfErr result (TellsWhyNone (IsRunFault D.Receipt.keeps D.failures D.Writer.failures
         D.Reader.failures F.Value.bytes_of F.Value.is_known F.Value.SIZE)
         config.now (size_of 32 F.Value.SIZE) (map S.remaining feeds.old)
         (map S.failures feeds.old) (map S.failures feeds.new)) }
@@ -134,10 +134,10 @@ pub fn run_alone<S: Source, F: Functions<Key = Name, Input = i64>, D: Disk>(
     config: &Config,
     mut device: D,
 ) -> Result<Table<F::Value>, Refused>
-    ensures ok { IsTrue D.keeps → IfOk result (IsTableOf F.meaning (S.remaining feed.old ∷ [])) }
+    ensures ok { IsTrue D.Receipt.keeps → IfOk result (IsTableOf F.meaning (S.remaining feed.old ∷ [])) }
     ensures steady { OnOk result (S.failures feed.new ≡ S.failures feed.old) }
     ensures good { result ≢ Err Refused.BadConfig → IsRunnable config.now (size_of 32 F.Value.SIZE) 1 }
-    ensures told { IfErr result (TellsWhyNone (IsRunFault D.keeps D.failures D.Writer.failures
+    ensures told { IfErr result (TellsWhyNone (IsRunFault D.Receipt.keeps D.failures D.Writer.failures
         D.Reader.failures F.Value.bytes_of F.Value.is_known F.Value.SIZE)
         config.now (size_of 32 F.Value.SIZE) (S.remaining feed.old ∷ [])
         (S.failures feed.old ∷ []) (S.failures feed.new ∷ [])) }

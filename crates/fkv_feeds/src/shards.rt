@@ -34,7 +34,7 @@ pub struct Terms<'a, F: Functions> {
 /// One partition of a run, with what writes its pages to the device and what reads them back.
 #[derive(Drop)]
 pub struct Shard<F: Functions, D: Disk> {
-    pub partition: Partition<F, D>,
+    pub partition: Partition<F, D::Receipt>,
     pub writer: D::Writer,
     pub reader: D::Reader,
     /// The rows that came here, as far as a byte counts.
@@ -65,7 +65,7 @@ fn seated<F: Functions, D: Disk>(
     alloc: Global,
     config: &Config,
     number: u64,
-) -> Result<Partition<F, D>, Refused>
+) -> Result<Partition<F, D::Receipt>, Refused>
     requires small { number < 64 }
     requires of { IsPartitionOf config.now (size_of F.Key.SIZE F.Value.SIZE) number }
     ensures ok { IfOk result (IsSeatedIn F.Key.cmp config.now number) }
@@ -152,7 +152,7 @@ impl<'a, F: Functions, D: Disk> Shards<'a, F, D> {
         device: &mut D,
     ) -> Result<Shards<'a, F, D>, Refused>
         requires { IsWithinLimits config.now (size_of F.Key.SIZE F.Value.SIZE) }
-        ensures ok { IfOk result (λ s. StandFor D.keeps F.Key.cmp F.meaning F.code
+        ensures ok { IfOk result (λ s. StandFor D.Receipt.keeps F.Key.cmp F.meaning F.code
             (map (λ shard. shard.partition) s.shards.items) s.terms.slot s.clock []) }
         ensures told { IfErr result (FailsOnlyBy 1 0 (D.failures device.old) (D.failures device.new)) }
     {
@@ -192,16 +192,16 @@ pub fn add_row<F: Functions<Key = Name, Input = i64>, D: Disk>(
     key: &Name,
     amount: i64,
 ) -> Result<(), Refused>
-    requires stands { (rows : List (Name × ℤ)) × StandFor D.keeps name_cmp F.meaning F.code
+    requires stands { (rows : List (Name × ℤ)) × StandFor D.Receipt.keeps name_cmp F.meaning F.code
         (map (λ shard. shard.partition) shards.old.shards.items) shards.old.terms.slot shards.old.clock rows }
     ensures ok { OnOk result ((rows : List (Name × ℤ))
-        → StandFor D.keeps name_cmp F.meaning F.code
+        → StandFor D.Receipt.keeps name_cmp F.meaning F.code
         (map (λ shard. shard.partition) shards.old.shards.items) shards.old.terms.slot shards.old.clock rows
-        → StandFor D.keeps name_cmp F.meaning F.code
+        → StandFor D.Receipt.keeps name_cmp F.meaning F.code
         (map (λ shard. shard.partition) shards.new.shards.items) shards.new.terms.slot shards.new.clock
         (rows ++ (key.now, amount) ∷ [])) }
     ensures told { IfErr result (λ e. (e ≡ Refused.NoMemory) ⊎ (e ≡ Refused.Worn) ⊎ (e ≡ Refused.Stalled)
-        ⊎ IsRunFault D.keeps D.failures D.Writer.failures D.Reader.failures F.Value.bytes_of F.Value.is_known
+        ⊎ IsRunFault D.Receipt.keeps D.failures D.Writer.failures D.Reader.failures F.Value.bytes_of F.Value.is_known
         F.Value.SIZE e) }
 {
     // which says that their number is a power of two

@@ -8,20 +8,20 @@ ghost use Rattle.fkv_partition.specs.Beginning.{IsEntered};
 ghost use Rattle.fkv_feeds.specs.Seats.{IsTidied};
 
 use crate::shards::{Shard, Terms};
-use fkv_device::{Disk, Written};
+use fkv_device::{Disk, Receipt, Written};
 use fkv_functions::{Functions, Refused};
 use fkv_operations::Clock;
 use fkv_partition::Partition;
 
 /// Refreshes a session. Refused: `Worn` where no moment is left.
-fn refresh<F: Functions, D: Disk>(
-    partition: &mut Partition<F, D>,
+fn refresh<F: Functions, R: Receipt>(
+    partition: &mut Partition<F, R>,
     slot: usize,
     clock: &mut Clock,
 ) -> Result<(), Refused>
     requires entered { IsEntered partition.old slot }
     requires past { partition.old.moment ≤ clock.old }
-    ensures tidied { OnOk result (IsTidied D.keeps F.Key.cmp partition.old partition.new) }
+    ensures tidied { OnOk result (IsTidied R.keeps F.Key.cmp partition.old partition.new) }
     ensures past { OnOk result (partition.new.moment ≤ clock.new) }
     ensures later { OnOk result (clock.old ≤ clock.new) }
     ensures only { IfErr result (λ refused. refused ≡ Refused.Worn) }
@@ -38,15 +38,15 @@ fn refresh<F: Functions, D: Disk>(
 
 /// Moves ReadOnly to a page, where that is due and there is room for the move, and refreshes a session. Refused: `Worn`
 /// where no moment is left.
-fn freeze<F: Functions, D: Disk>(
-    partition: &mut Partition<F, D>,
+fn freeze<F: Functions, R: Receipt>(
+    partition: &mut Partition<F, R>,
     slot: usize,
     page: u64,
     clock: &mut Clock,
 ) -> Result<(), Refused>
     requires entered { IsEntered partition.old slot }
     requires past { partition.old.moment ≤ clock.old }
-    ensures tidied { OnOk result (IsTidied D.keeps F.Key.cmp partition.old partition.new) }
+    ensures tidied { OnOk result (IsTidied R.keeps F.Key.cmp partition.old partition.new) }
     ensures past { OnOk result (partition.new.moment ≤ clock.new) }
     ensures later { OnOk result (clock.old ≤ clock.new) }
     ensures only { IfErr result (λ refused. refused ≡ Refused.Worn) }
@@ -61,15 +61,15 @@ fn freeze<F: Functions, D: Disk>(
 
 /// Moves Head to a page, where that is due and there is room for the move, and refreshes a session. Refused: `Worn`
 /// where no moment is left.
-fn evict<F: Functions, D: Disk>(
-    partition: &mut Partition<F, D>,
+fn evict<F: Functions, R: Receipt>(
+    partition: &mut Partition<F, R>,
     slot: usize,
     page: u64,
     clock: &mut Clock,
 ) -> Result<(), Refused>
     requires entered { IsEntered partition.old slot }
     requires past { partition.old.moment ≤ clock.old }
-    ensures tidied { OnOk result (IsTidied D.keeps F.Key.cmp partition.old partition.new) }
+    ensures tidied { OnOk result (IsTidied R.keeps F.Key.cmp partition.old partition.new) }
     ensures past { OnOk result (partition.new.moment ≤ clock.new) }
     ensures later { OnOk result (clock.old ≤ clock.new) }
     ensures only { IfErr result (λ refused. refused ≡ Refused.Worn) }
@@ -90,7 +90,7 @@ fn flush<F: Functions, D: Disk>(
     clock: &mut Clock,
 ) -> Result<bool, Refused>
     requires past { shard.old.partition.moment ≤ clock.old }
-    ensures tidied { OnOk result (IsTidied D.keeps F.Key.cmp shard.old.partition shard.new.partition) }
+    ensures tidied { OnOk result (IsTidied D.Receipt.keeps F.Key.cmp shard.old.partition shard.new.partition) }
     ensures past { OnOk result (shard.new.partition.moment ≤ clock.new) }
     ensures later { OnOk result (clock.old ≤ clock.new) }
     ensures steady { OnOk result (D.Writer.failures shard.new.writer ≡ D.Writer.failures shard.old.writer) }
@@ -104,7 +104,7 @@ fn flush<F: Functions, D: Disk>(
         Err(Refused::NotDue) => return Ok(false),
         Err(refused) => return Err(refused),
     };
-    let written = match Written::<D>::write(&mut shard.writer, job) {
+    let written = match Written::<D::Receipt>::write(&mut shard.writer, job) {
         Ok(written) => written,
         Err(refused) => return Err(refused),
     };
@@ -125,7 +125,7 @@ fn flush_all<F: Functions, D: Disk>(
     clock: &mut Clock,
 ) -> Result<(), Refused>
     requires past { shard.old.partition.moment ≤ clock.old }
-    ensures tidied { OnOk result (IsTidied D.keeps F.Key.cmp shard.old.partition shard.new.partition) }
+    ensures tidied { OnOk result (IsTidied D.Receipt.keeps F.Key.cmp shard.old.partition shard.new.partition) }
     ensures past { OnOk result (shard.new.partition.moment ≤ clock.new) }
     ensures later { OnOk result (clock.old ≤ clock.new) }
     ensures steady { OnOk result (D.Writer.failures shard.new.writer ≡ D.Writer.failures shard.old.writer) }
@@ -145,7 +145,7 @@ fn flush_all<F: Functions, D: Disk>(
 }
 
 /// The page of a partition's next record.
-fn tail_page<F: Functions, D: Disk>(partition: &Partition<F, D>) -> u64 {
+fn tail_page<F: Functions, R: Receipt>(partition: &Partition<F, R>) -> u64 {
     let size = partition.page_size() as u64;
     partition.tail().checked_div(size).unwrap_or(0)
 }
@@ -161,7 +161,7 @@ pub fn tidy<F: Functions, D: Disk>(
 ) -> Result<(), Refused>
     requires entered { IsEntered shard.old.partition terms.now.slot }
     requires past { shard.old.partition.moment ≤ clock.old }
-    ensures tidied { OnOk result (IsTidied D.keeps F.Key.cmp shard.old.partition shard.new.partition) }
+    ensures tidied { OnOk result (IsTidied D.Receipt.keeps F.Key.cmp shard.old.partition shard.new.partition) }
     ensures past { OnOk result (shard.new.partition.moment ≤ clock.new) }
     ensures later { OnOk result (clock.old ≤ clock.new) }
     ensures steady { OnOk result (D.Writer.failures shard.new.writer ≡ D.Writer.failures shard.old.writer) }
@@ -198,7 +198,7 @@ pub fn tidy_at_times<F: Functions, D: Disk>(
 ) -> Result<(), Refused>
     requires entered { IsEntered shard.old.partition terms.now.slot }
     requires past { shard.old.partition.moment ≤ clock.old }
-    ensures tidied { OnOk result (IsTidied D.keeps F.Key.cmp shard.old.partition shard.new.partition) }
+    ensures tidied { OnOk result (IsTidied D.Receipt.keeps F.Key.cmp shard.old.partition shard.new.partition) }
     ensures past { OnOk result (shard.new.partition.moment ≤ clock.new) }
     ensures later { OnOk result (clock.old ≤ clock.new) }
     ensures same_reader { shard.new.reader ≡ shard.old.reader }

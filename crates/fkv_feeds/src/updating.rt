@@ -39,7 +39,7 @@ fn wait<F: Functions, D: Disk>(
     requires past { shard.old.partition.moment ≤ clock.old }
     ensures ok { IfOk result (λ turn. (op : Op F.Key F.Value F.Input)
         → IsOpen shard.old.partition terms.now.slot context op None
-        → Tries D.keeps D.Receipt.stands F.Key.cmp F.meaning shard.old.partition shard.new.partition terms.now.slot
+        → Tries D.Receipt.keeps D.Receipt.stands F.Key.cmp F.meaning shard.old.partition shard.new.partition terms.now.slot
         context op turn) }
     ensures past { OnOk result (shard.new.partition.moment ≤ clock.new) }
     ensures later { OnOk result (clock.old ≤ clock.new) }
@@ -69,7 +69,7 @@ fn install<F: Functions, D: Disk>(
     requires past { shard.old.partition.moment ≤ clock.old }
     ensures ok { IfOk result (λ turn. (op : Op F.Key F.Value F.Input)
         → IsOpen shard.old.partition terms.now.slot context op None
-        → Tries D.keeps D.Receipt.stands F.Key.cmp F.meaning shard.old.partition shard.new.partition terms.now.slot
+        → Tries D.Receipt.keeps D.Receipt.stands F.Key.cmp F.meaning shard.old.partition shard.new.partition terms.now.slot
         context op turn) }
     ensures past { OnOk result (shard.new.partition.moment ≤ clock.new) }
     ensures later { OnOk result (clock.old < clock.new) }
@@ -108,7 +108,7 @@ fn go_on<F: Functions, D: Disk>(
     requires past { shard.old.partition.moment ≤ clock.old }
     ensures ok { IfOk result (λ turn. (op : Op F.Key F.Value F.Input)
         → IsOpen shard.old.partition terms.now.slot context op None
-        → Tries D.keeps D.Receipt.stands F.Key.cmp F.meaning shard.old.partition shard.new.partition terms.now.slot
+        → Tries D.Receipt.keeps D.Receipt.stands F.Key.cmp F.meaning shard.old.partition shard.new.partition terms.now.slot
         context op turn) }
     ensures past { OnOk result (shard.new.partition.moment ≤ clock.new) }
     ensures later { OnOk result (clock.old < clock.new) }
@@ -150,7 +150,7 @@ fn load<F: Functions, D: Disk>(
     requires past { shard.old.partition.moment ≤ clock.old }
     ensures ok { IfOk result (λ turn. (op : Op F.Key F.Value F.Input)
         → IsOpen shard.old.partition terms.now.slot context op (Some (D.Receipt.stands receipt))
-        → Tries D.keeps D.Receipt.stands F.Key.cmp F.meaning shard.old.partition shard.new.partition terms.now.slot
+        → Tries D.Receipt.keeps D.Receipt.stands F.Key.cmp F.meaning shard.old.partition shard.new.partition terms.now.slot
         context op turn) }
     ensures past { OnOk result (shard.new.partition.moment ≤ clock.new) }
     ensures later { OnOk result (clock.old < clock.new) }
@@ -162,7 +162,7 @@ fn load<F: Functions, D: Disk>(
         (D.Reader.failures shard.old.reader) (D.Reader.failures shard.new.reader) e) }
 {
     let size = shard.partition.page_size();
-    let loaded = match Loaded::<D>::fetch(terms.alloc, &mut shard.reader, &receipt, size) {
+    let loaded = match Loaded::<D::Receipt>::fetch(&mut shard.reader, &receipt, size) {
         Ok(loaded) => loaded,
         Err(refused) => return Err(refused),
     };
@@ -195,7 +195,7 @@ fn attempt<F: Functions, D: Disk>(
     requires past { shard.old.partition.moment ≤ clock.old }
     ensures ok { IfOk result (λ turn. (op : Op F.Key F.Value F.Input)
         → IsOpen shard.old.partition terms.now.slot context op (option_map D.Receipt.stands page)
-        → Tries D.keeps D.Receipt.stands F.Key.cmp F.meaning shard.old.partition shard.new.partition terms.now.slot
+        → Tries D.Receipt.keeps D.Receipt.stands F.Key.cmp F.meaning shard.old.partition shard.new.partition terms.now.slot
         context op turn) }
     ensures past { OnOk result (shard.new.partition.moment ≤ clock.new) }
     ensures later { OnOk result (clock.old < clock.new) }
@@ -260,7 +260,7 @@ fn update_by_turns<F: Functions, D: Disk>(
     requires own { partition_of shard.old.partition.count (F.code key.now) ≡ shard.old.partition.number }
     requires past { shard.old.partition.moment ≤ clock.old }
     ensures idle { OnOk result (IsIdle shard.new.partition terms.now.slot) }
-    ensures done { OnOk result (IsTrue D.keeps → Same (live_of F.Key.cmp shard.new.partition)
+    ensures done { OnOk result (IsTrue D.Receipt.keeps → Same (live_of F.Key.cmp shard.new.partition)
         (after F.Key.cmp F.meaning (live_of F.Key.cmp shard.old.partition) (Rmw key.now input.now))) }
     ensures number { OnOk result (shard.new.partition.number ≡ shard.old.partition.number) }
     ensures count { OnOk result (shard.new.partition.count ≡ shard.old.partition.count) }
@@ -312,7 +312,7 @@ pub fn update<F: Functions, D: Disk>(
     requires own { partition_of shard.old.partition.count (F.code key.now) ≡ shard.old.partition.number }
     requires past { shard.old.partition.moment ≤ clock.old }
     ensures idle { OnOk result (IsIdle shard.new.partition terms.now.slot) }
-    ensures done { OnOk result (IsTrue D.keeps → Same (live_of F.Key.cmp shard.new.partition)
+    ensures done { OnOk result (IsTrue D.Receipt.keeps → Same (live_of F.Key.cmp shard.new.partition)
         (after F.Key.cmp F.meaning (live_of F.Key.cmp shard.old.partition) (Rmw key.now input.now))) }
     ensures number { OnOk result (shard.new.partition.number ≡ shard.old.partition.number) }
     ensures count { OnOk result (shard.new.partition.count ≡ shard.old.partition.count) }

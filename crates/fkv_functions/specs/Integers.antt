@@ -1,12 +1,10 @@
 -- Whole numbers as bytes: little-endian, two's complement.
-use Rattle.std.specs.Prelude.{◌≡◌, ◌==◌, ◌+◌, ◌*◌, ◌/◌, ◌%◌, ◌^◌, ◌<◌, ◌++◌, ℕ, ℤ, List, length, take, drop, true}
+use Rattle.std.specs.Prelude.{◌≡◌, ◌+◌, ◌*◌, ◌/◌, ◌%◌, ◌^◌, ◌<◌, ◌++◌, ℕ, ℤ, List, length, take, drop}
 use Rattle.std.specs.Prelude.{FitsSigned}
 use Rattle.std.specs.Int.{w64, w128, to_le_bytes, from_le_bytes, cast_unsigned, cast_signed}
-use Rattle.std.specs.Ordering.{int_eq}
-use Rattle.std.proofs.Common.{arith, refl, rules, sym, ◌∙◌, ap}
+use Rattle.std.proofs.Common.{arith, refl, sym, ◌∙◌, ap}
 use Rattle.std.proofs.lemmas.Nat.{from_le_bytes-to_le_bytes_8}
 use Rattle.std.proofs.lemmas.Int.{to_z-of_z}
-use Rattle.std.proofs.lemmas.Bool.Decides.{Decides-int_eq}
 use Rattle.std.proofs.Math.Facts.{Fits-of_z}
 
 -- the eight bytes of a signed number
@@ -20,12 +18,6 @@ halves n = to_le_bytes w64 (n % 2 ^ 64) ++ to_le_bytes w64 (n / 2 ^ 64)
 -- the sixteen bytes of a signed number
 abbrev pub long_bytes : ℤ → List ℕ
 long_bytes z = halves (cast_unsigned w128 z)
-
-pub nat_exact : (a b : ℕ) → (a == b) ≡ true → a ≡ b
-nat_exact a b e = search rules
-
-pub int_exact : (a b : ℤ) → int_eq a b ≡ true → a ≡ b
-int_exact a b e = (Decides-int_eq a b).0 e
 
 pub word_readable : (a b : ℕ) → a < 2 ^ 64 → b < 2 ^ 64 → to_le_bytes w64 a ≡ to_le_bytes w64 b → a ≡ b
 word_readable a b h k e =

@@ -22,7 +22,14 @@ impl<K: Known, V: Known, I: Known> Ask<K, V, I> {
     pub fn is(&self, other: &Self) -> bool
         ensures { IsTrue result ↔ (self.now ≡ other.now) }
     {
-        *self == *other
+        if self.number != other.number || !self.key.is(&other.key) || !self.input.is(&other.input) {
+            return false;
+        }
+        match (&self.source, &other.source) {
+            (None, None) => true,
+            (Some(held), Some(came)) => held.is(came),
+            _ => false,
+        }
     }
 }
 

@@ -3,7 +3,6 @@ ghost use Rattle.std.specs.Prelude.{refl};
 ghost use Rattle.std.proofs.Common.{arith};
 ghost use Rattle.fkv_functions.specs.Sets.{counts};
 ghost use Rattle.fkv_functions.specs.Hashes.{fnv_1a};
-ghost use Rattle.fkv_functions.specs.Integers.{nat_exact};
 ghost use Rattle.fkv_functions.specs.Names.{text_of};
 
 use crate::names::Name;
@@ -48,8 +47,6 @@ impl Functions for CountFns {
     fn hash(&self, key: &Name) -> u64 {
         key.hash()
     }
-
-    ghost exact_outputs = { nat_exact };
 }
 
 impl OrderFree for CountFns {

@@ -1,7 +1,7 @@
 //! Whole numbers as values: little-endian, two's complement.
 ghost use Rattle.std.specs.Prelude.{◌≡◌, ◌+◌, ◌*◌, ◌^◌, ◌<◌, ℕ, ℤ, List, length, true, refl, FitsSigned};
 ghost use Rattle.std.specs.Int.{w64, w128, to_le_bytes, from_le_bytes, cast_unsigned};
-ghost use Rattle.fkv_functions.specs.Integers.{signed_bytes, long_bytes, halves_sized, nat_exact, int_exact};
+ghost use Rattle.fkv_functions.specs.Integers.{signed_bytes, long_bytes, halves_sized};
 ghost use Rattle.fkv_functions.specs.Integers.{word_readable, signed_readable, long_readable};
 
 use crate::values::{Fixed, Known};
@@ -13,7 +13,9 @@ impl Known for u64 {
         let _value = *self;
     }
 
-    ghost exact = { nat_exact };
+    fn is(&self, other: &Self) -> bool {
+        *self == *other
+    }
 }
 
 impl Known for i64 {
@@ -23,7 +25,9 @@ impl Known for i64 {
         let _value = *self;
     }
 
-    ghost exact = { int_exact };
+    fn is(&self, other: &Self) -> bool {
+        *self == *other
+    }
 }
 
 impl Known for i128 {
@@ -33,7 +37,9 @@ impl Known for i128 {
         let _value = *self;
     }
 
-    ghost exact = { int_exact };
+    fn is(&self, other: &Self) -> bool {
+        *self == *other
+    }
 }
 
 impl Fixed for u64 {

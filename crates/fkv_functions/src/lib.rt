@@ -23,4 +23,4 @@ pub use names::Name;
 pub use refusals::{Refused, What};
 pub use sums::SumFns;
 pub use updates::{Functions, OrderFree};
-pub use values::{Fixed, Known};
+pub use values::{Fixed, FixedKey, Known};

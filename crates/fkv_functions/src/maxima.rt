@@ -1,7 +1,6 @@
 //! Maxima: the greatest input of each key.
 ghost use Rattle.fkv_functions.specs.Sets.{maxima, max_next_known, max_from_none, max_from_any};
 ghost use Rattle.fkv_functions.specs.Hashes.{fnv_1a};
-ghost use Rattle.fkv_functions.specs.Integers.{int_exact};
 ghost use Rattle.fkv_functions.specs.Names.{text_of};
 
 use crate::names::Name;
@@ -43,8 +42,6 @@ impl Functions for MaxFns {
     fn hash(&self, key: &Name) -> u64 {
         key.hash()
     }
-
-    ghost exact_outputs = { int_exact };
 }
 
 impl OrderFree for MaxFns {

@@ -8,7 +8,7 @@ ghost use Rattle.fkv_functions.specs.Hashes.{fnv_1a};
 
 use crate::hashes::fnv_1a_hash;
 use crate::integers::word_of;
-use crate::values::{Fixed, Known};
+use crate::values::{Fixed, FixedKey, Known};
 use std::cmp::Ordering;
 
 /// 1 to 31 bytes of any kind, ordered as byte strings.
@@ -117,14 +117,20 @@ impl PartialOrd for Name {
 }
 
 impl Known for Name {
-    ghost use Rattle.fkv_functions.specs.Names.{name_exact};
-
     // its ghost fields say all
     ghost is_known = { λ _. Unit {0} };
 
     fn known(&self) {
         let _length = self.len;
     }
+
+    fn is(&self, other: &Name) -> bool {
+        *self == *other
+    }
+}
+
+impl FixedKey for Name {
+    ghost use Rattle.fkv_functions.specs.Names.{name_exact};
 
     ghost exact = { name_exact };
 }

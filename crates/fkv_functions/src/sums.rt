@@ -1,7 +1,6 @@
 //! Sums: what the inputs of each key add up to.
 ghost use Rattle.fkv_functions.specs.Sets.{sums, sum_first_known, sum_next_known, sum_from_none, sum_from_any};
 ghost use Rattle.fkv_functions.specs.Hashes.{fnv_1a};
-ghost use Rattle.fkv_functions.specs.Integers.{int_exact};
 ghost use Rattle.fkv_functions.specs.Names.{text_of};
 
 use crate::names::Name;
@@ -43,8 +42,6 @@ impl Functions for SumFns {
     fn hash(&self, key: &Name) -> u64 {
         key.hash()
     }
-
-    ghost exact_outputs = { int_exact };
 }
 
 impl OrderFree for SumFns {

@@ -1,18 +1,18 @@
 //! The functions of a store, by what they mean.
 ghost use Rattle.std.specs.Prelude.{◌≡◌, ℕ};
-ghost use Rattle.fkv_functions.specs.Meanings.{Meanings, Exact};
+ghost use Rattle.fkv_functions.specs.Meanings.{Meanings};
 
-use crate::values::{Fixed, Known};
+use crate::values::{Fixed, FixedKey, Known};
 
 /// The functions of a store. Two values of one type of functions mean the same.
-pub trait Functions: Drop + Send + Sync {
-    type Key: Fixed + Ord;
+pub trait Functions: Drop {
+    type Key: FixedKey;
 
     type Value: Fixed;
 
     type Input: Known;
 
-    type Output: Copy + Eq + Send + Sync;
+    type Output: Known;
 
     /// What the functions mean: the value that a key starts with, the value after an input, and what a
     /// read shows.
@@ -40,9 +40,6 @@ pub trait Functions: Drop + Send + Sync {
     /// The hash of a key.
     fn hash(&self, key: &Self::Key) -> u64
         ensures { result ≡ code key.now };
-
-    /// `==` of outputs is true of identical ones alone.
-    ghost exact_outputs: { Exact Self.Output.eq };
 }
 
 /// Functions whose inputs may come in any order.

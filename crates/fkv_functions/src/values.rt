@@ -1,9 +1,9 @@
-//! Values that a store holds: known to proofs, told apart by `==`, and of a fixed number of bytes.
+//! Values that a store holds: known to proofs, and of a fixed number of bytes.
 ghost use Rattle.std.specs.Prelude.{◌≡◌, ◌↔◌, ℕ, List, length, IfSome, IsTrue, Some};
 ghost use Rattle.fkv_functions.specs.Meanings.{Exact};
 
-/// A value that proofs can tell: one in hand is one of its type, and `==` is identity.
-pub trait Known: Copy + Eq + Send + Sync {
+/// A value that proofs can tell: one in hand is one of its type.
+pub trait Known: Copy {
     /// Holds of the values of the type. A law about numbers speaks of these alone.
     ghost is_known: { Self → Type 0 };
 
@@ -11,8 +11,9 @@ pub trait Known: Copy + Eq + Send + Sync {
     fn known(&self)
         ensures { is_known self.now };
 
-    /// `==` is true of identical values alone.
-    ghost exact: { Exact Self.eq };
+    /// Whether both are one value.
+    fn is(&self, other: &Self) -> bool
+        ensures { IsTrue result ↔ (self.now ≡ other.now) };
 }
 
 /// A value that is written in a fixed number of bytes.
@@ -57,4 +58,10 @@ pub trait Fixed: Known {
 
     /// Two values of the same bytes are one.
     ghost readable: { (v w : Self) → Self.is_known v → Self.is_known w → bytes_of v ≡ bytes_of w → v ≡ w };
+}
+
+/// A key: it is written in a fixed number of bytes, and keys have an order.
+pub trait FixedKey: Fixed + Ord {
+    /// `==` is true of identical keys alone.
+    ghost exact: { Exact Self.eq };
 }

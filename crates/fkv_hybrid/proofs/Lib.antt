@@ -1,3 +1,4 @@
 pub mod TiedLemmas
 pub mod ScanLemmas
 pub mod TruncationLemmas
+mod FollowLemmas

@@ -16,7 +16,7 @@ mod reads;
 mod sessions;
 mod truncation;
 
-use fkv_device::Disk;
+use fkv_device::Receipt;
 use fkv_functions::{Fixed, Refused};
 use fkv_pages::Pages;
 use fkv_records::{Address, Shape};
@@ -26,12 +26,12 @@ use std::marker::Model;
 
 /// The log of one partition.
 #[derive(Drop)]
-pub struct Log<K: Fixed, V: Fixed, D: Disk> {
-    pages: Pages<K, V, D>,
+pub struct Log<K: Fixed, V: Fixed, R: Receipt> {
+    pages: Pages<K, V, R>,
     regions: Regions,
 }
 
-impl<K: Fixed, V: Fixed, D: Disk> Model for Log<K, V, D> {
+impl<K: Fixed, V: Fixed, R: Receipt> Model for Log<K, V, R> {
     ghost use Rattle.fkv_hybrid.specs.Views.{LogView, log_view};
     ghost use Rattle.fkv_hybrid.specs.Tied.{IsTied};
 
@@ -42,7 +42,7 @@ impl<K: Fixed, V: Fixed, D: Disk> Model for Log<K, V, D> {
     ghost invariant = { λ l. IsTied l.pages l.regions };
 }
 
-impl<K: Fixed, V: Fixed, D: Disk> Log<K, V, D> {
+impl<K: Fixed, V: Fixed, R: Receipt> Log<K, V, R> {
     /// A log of no records, in this shape and so many frames. Refused: `NoMemory`.
     pub fn new(alloc: Global, shape: Shape, frames: u64) -> Result<Self, Refused>
         requires size { shape.record_size ≡ size_of K.SIZE V.SIZE }
@@ -122,7 +122,7 @@ impl<K: Fixed, V: Fixed, D: Disk> Log<K, V, D> {
     /// What holds of every log: its text has one entry at each place from where it begins to below the tail, and the
     /// views of its sessions agree with its offsets. It does nothing when it runs.
     pub fn known(&self)
-        ensures log { IsLogOf D.keeps (size_of K.SIZE V.SIZE) self.now }
+        ensures log { IsLogOf R.keeps (size_of K.SIZE V.SIZE) self.now }
         ensures receipts { (n : ℕ) (s : Standing)
             → slice_get self.now.receipts n ≡ Some s
             → (s.page ≡ n) × (s.length ≡ 2 ^ self.now.bits) }

@@ -12,30 +12,29 @@ ghost use Rattle.fkv_pages.specs.Loads.{IsHeldBy};
 ghost use Rattle.fkv_hybrid.specs.Scans.{IsScanOf, HasPage, MayFail, IsStepRefusal};
 
 use crate::log::Log;
-use fkv_device::{Disk, Loaded, Receipt};
+use fkv_device::{Loaded, PageReader, Receipt};
 use fkv_functions::{Fixed, Refused};
 use fkv_records::Address;
 use fkv_texts::Entry;
-use std::alloc::Global;
 use std::marker::Model;
 
 /// Where a scan of a log stands, and the flushed page that it loaded last.
 #[derive(Drop)]
-pub struct Scan<D: Disk> {
+pub struct Scan<R: Receipt> {
     address: Address,
-    loaded: Option<Loaded<D>>,
+    loaded: Option<Loaded<R>>,
 }
 
-impl<D: Disk> Model for Scan<D> {
+impl<R: Receipt> Model for Scan<R> {
     ghost use Rattle.std.specs.Option.{option_map};
     ghost use Rattle.fkv_hybrid.specs.Scans.{ScanView};
 
     ghost Value = { ScanView };
 
-    ghost view = { λ s. record { address = s.address; loaded = option_map (λ l. D.Receipt.stands l.receipt) s.loaded } };
+    ghost view = { λ s. record { address = s.address; loaded = option_map (λ l. R.stands l.receipt) s.loaded } };
 }
 
-impl<D: Disk> Scan<D> {
+impl<R: Receipt> Scan<R> {
     /// The address of the entry that is read next, or where the log ended.
     pub fn address(&self) -> Address
         ensures { result ≡ self.now.address }
@@ -44,9 +43,9 @@ impl<D: Disk> Scan<D> {
     }
 }
 
-impl<K: Fixed, V: Fixed, D: Disk> Log<K, V, D> {
+impl<K: Fixed, V: Fixed, R: Receipt> Log<K, V, R> {
     /// A scan that stands at Begin, and has no page.
-    pub fn scan(&self) -> Scan<D>
+    pub fn scan(&self) -> Scan<R>
         ensures begins { result.address ≡ self.now.begin }
         ensures scan { IsScanOf (size_of K.SIZE V.SIZE) self.now result }
     {
@@ -61,16 +60,15 @@ impl<K: Fixed, V: Fixed, D: Disk> Log<K, V, D> {
     /// not flushed is not read from the device. On a device that keeps the entry is the text's. Refused, and then the scan
     /// stands where it stood: `NoMemory`, or as the device refuses the entry's page; `Damaged` where the page's bytes
     /// spell no entry there.
-    pub fn step(
+    pub fn step<P: PageReader<Receipt = R>>(
         &self,
-        alloc: Global,
-        reader: &mut D::Reader,
-        scan: &mut Scan<D>,
+        reader: &mut P,
+        scan: &mut Scan<R>,
     ) -> Result<Entry<K, V>, Refused>
         requires scan { IsScanOf (size_of K.SIZE V.SIZE) self.now scan.old }
         requires more { scan.old.address < self.now.tail }
         ensures stands { IfOk result (λ e. e.address ≡ scan.old.address) }
-        ensures kept { IsTrue D.keeps → IfOk result (λ e. entry_at self.now.text scan.old.address ≡ Some e) }
+        ensures kept { IsTrue R.keeps → IfOk result (λ e. entry_at self.now.text scan.old.address ≡ Some e) }
         // an entry of a page that is not flushed is the text's on any device
         ensures in_frame { length self.now.receipts ≤ page_at self.now.bits scan.old.address
             → IfSome (entry_at self.now.text scan.old.address) (λ e. result ≡ Ok e) }
@@ -84,11 +82,11 @@ impl<K: Fixed, V: Fixed, D: Disk> Log<K, V, D> {
         ensures goes { OnOk result (scan.new.address
             ≡ tail_after self.now.bits (size_of K.SIZE V.SIZE) scan.old.address) }
         ensures stays { OnErr result (scan.new.address ≡ scan.old.address) }
-        ensures steady { OnOk result (D.Reader.failures reader.new ≡ D.Reader.failures reader.old) }
-        ensures refused { IfErr result (IsStepRefusal D.keeps (page_at self.now.bits scan.old.address)
-            (D.Reader.failures reader.old) (D.Reader.failures reader.new)) }
-        ensures caused { IsTrue D.keeps → IfErr result (λ e. e ≢ Refused.NoMemory
-            → MayFail D.Receipt.stands D.Reader.can_fail self.now.receipts self.now.bits
+        ensures steady { OnOk result (P.failures reader.new ≡ P.failures reader.old) }
+        ensures refused { IfErr result (IsStepRefusal R.keeps (page_at self.now.bits scan.old.address)
+            (P.failures reader.old) (P.failures reader.new)) }
+        ensures caused { IsTrue R.keeps → IfErr result (λ e. e ≢ Refused.NoMemory
+            → MayFail R.stands P.can_fail self.now.receipts self.now.bits
             (page_at self.now.bits scan.old.address)) }
     {
         self.known();
@@ -99,7 +97,7 @@ impl<K: Fixed, V: Fixed, D: Disk> Log<K, V, D> {
             return Ok(self.record_at(address));
         }
         let held = scan.loaded.take();
-        let loaded = match self.turned(alloc, reader, held, page) {
+        let loaded = match self.turned(reader, held, page) {
             Ok(loaded) => loaded,
             Err(refused) => return Err(refused),
         };
@@ -114,53 +112,56 @@ impl<K: Fixed, V: Fixed, D: Disk> Log<K, V, D> {
     }
 
     /// A flushed page: the one in hand where it is that one, else the one that the device gives.
-    fn turned(
+    fn turned<P: PageReader<Receipt = R>>(
         &self,
-        alloc: Global,
-        reader: &mut D::Reader,
-        held: Option<Loaded<D>>,
+        reader: &mut P,
+        held: Option<Loaded<R>>,
         page: u64,
-    ) -> Result<Loaded<D>, Refused>
+    ) -> Result<Loaded<R>, Refused>
         requires flushed { page < length self.now.receipts }
-        requires held { IfSome held (λ l. IsHeldBy self.now.receipts (D.Receipt.stands l.receipt).page
-            (D.Receipt.stands l.receipt)) }
-        ensures own { IfOk result (λ l. IsHeldBy self.now.receipts page (D.Receipt.stands l.receipt)) }
-        ensures page { IfOk result (λ l. (D.Receipt.stands l.receipt).page ≡ page) }
-        ensures once { IsSomeAnd held (λ l. (D.Receipt.stands l.receipt).page ≡ page) → reader.new ≡ reader.old }
-        ensures steady { OnOk result (D.Reader.failures reader.new ≡ D.Reader.failures reader.old) }
-        ensures counted { IfErr result (ReadFailsBy page (D.Reader.failures reader.old)
-            (D.Reader.failures reader.new)) }
+        requires held { IfSome held (λ l. IsHeldBy self.now.receipts (R.stands l.receipt).page
+            (R.stands l.receipt)) }
+        ensures own { IfOk result (λ l. IsHeldBy self.now.receipts page (R.stands l.receipt)) }
+        ensures page { IfOk result (λ l. (R.stands l.receipt).page ≡ page) }
+        ensures once { IsSomeAnd held (λ l. (R.stands l.receipt).page ≡ page) → reader.new ≡ reader.old }
+        ensures steady { OnOk result (P.failures reader.new ≡ P.failures reader.old) }
+        ensures counted { IfErr result (ReadFailsBy page (P.failures reader.old)
+            (P.failures reader.new)) }
         ensures caused { IfErr result (λ e. e ≢ Refused.NoMemory
-            → MayFail D.Receipt.stands D.Reader.can_fail self.now.receipts self.now.bits page) }
+            → MayFail R.stands P.can_fail self.now.receipts self.now.bits page) }
     {
         match held {
-            None => self.load(alloc, reader, page),
+            None => self.load(reader, page),
             Some(loaded) => {
                 if loaded.receipt().page() == page {
                     Ok(loaded)
                 } else {
-                    self.load(alloc, reader, page)
+                    self.load(reader, page)
                 }
             }
         }
     }
 
     /// Reads a flushed page by its receipt.
-    fn load(&self, alloc: Global, reader: &mut D::Reader, page: u64) -> Result<Loaded<D>, Refused>
+    fn load<P: PageReader<Receipt = R>>(
+        &self,
+        reader: &mut P,
+        page: u64,
+    ) -> Result<Loaded<R>, Refused>
         requires flushed { page < length self.now.receipts }
-        ensures own { IfOk result (λ l. IsHeldBy self.now.receipts page (D.Receipt.stands l.receipt)) }
-        ensures page { IfOk result (λ l. (D.Receipt.stands l.receipt).page ≡ page) }
-        ensures steady { OnOk result (D.Reader.failures reader.new ≡ D.Reader.failures reader.old) }
-        ensures counted { IfErr result (ReadFailsBy page (D.Reader.failures reader.old)
-            (D.Reader.failures reader.new)) }
+        ensures own { IfOk result (λ l. IsHeldBy self.now.receipts page (R.stands l.receipt)) }
+        ensures page { IfOk result (λ l. (R.stands l.receipt).page ≡ page) }
+        ensures steady { OnOk result (P.failures reader.new ≡ P.failures reader.old) }
+        ensures counted { IfErr result (ReadFailsBy page (P.failures reader.old)
+            (P.failures reader.new)) }
         ensures caused { IfErr result (λ e. e ≢ Refused.NoMemory
-            → MayFail D.Receipt.stands D.Reader.can_fail self.now.receipts self.now.bits page) }
+            → MayFail R.stands P.can_fail self.now.receipts self.now.bits page) }
     {
         self.known();
         let receipt = match self.receipt(page) {
             Ok(receipt) => receipt,
             Err(refused) => return Err(refused),
         };
-        Loaded::fetch(alloc, reader, &receipt, self.shape().page_size())
+        Loaded::fetch(reader, &receipt, self.shape().page_size())
     }
 }

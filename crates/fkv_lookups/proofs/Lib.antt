@@ -8,3 +8,4 @@ pub mod LiveLemmas
 pub mod TruncationLemmas
 pub mod ClearedLemmas
 pub mod WrongLemmas
+pub mod FlushLemmas

@@ -1,5 +1,5 @@
 //! What an operation does for what it meets: the table of decisions.
-ghost use Rattle.std.specs.Prelude.{◌≡◌};
+ghost use Rattle.std.specs.Prelude.{◌≡◌, ⊤};
 ghost use Rattle.fkv_lookups.specs.Decisions.{low_of, met_by, met_in, decision, held_of};
 
 use fkv_functions::Functions;
@@ -8,9 +8,10 @@ use fkv_operations::{Answer, Op, OpOf};
 use fkv_records::Address;
 use fkv_regions::{Region, View};
 use fkv_texts::Reached;
+use std::alloc::AllocError;
 
 /// What the look-up of a key meets, as the session sees it that looks.
-#[derive(Clone, Copy, PartialEq, Eq, Debug)]
+#[derive(Copy, PartialEq, Eq, Debug)]
 pub enum Met<V> {
     /// The index has no entry for the key.
     NoEntry,
@@ -24,6 +25,16 @@ pub enum Met<V> {
     Mutable(V),
     /// The records of the key's class lead to this address, whose page the session does not read in memory.
     OnDisk(Address),
+}
+
+impl<V: Copy> Clone for Met<V> {
+    ghost is_clone = { λ x y. y ≡ x };
+
+    ghost is_infallible = { λ _. ⊤ };
+
+    fn clone(&self) -> Result<Self, AllocError> {
+        Ok(*self)
+    }
 }
 
 /// The lowest address that a session reads in memory: Begin, or its view of Head where that is higher.
@@ -85,7 +96,7 @@ impl<V: Copy> Met<V> {
 }
 
 /// What an operation does.
-#[derive(Clone, Copy, PartialEq, Eq, Debug)]
+#[derive(Copy, PartialEq, Eq, Debug)]
 pub enum Decision<V, I, O> {
     /// It is done and writes nothing.
     Done(Answer<O>),
@@ -101,6 +112,16 @@ pub enum Decision<V, I, O> {
     Wait,
     /// It asks for the page of this address, where the records of its class go on.
     Load(Address),
+}
+
+impl<V: Copy, I: Copy, O: Copy> Clone for Decision<V, I, O> {
+    ghost is_clone = { λ x y. y ≡ x };
+
+    ghost is_infallible = { λ _. ⊤ };
+
+    fn clone(&self) -> Result<Self, AllocError> {
+        Ok(*self)
+    }
 }
 
 /// The decisions of one type of functions.

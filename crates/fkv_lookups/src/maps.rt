@@ -3,11 +3,11 @@ ghost use Rattle.std.specs.Prelude.{◌≡◌, IfErr, OnOk, OnErr};
 ghost use Rattle.std.specs.BTreeMap.{get};
 ghost use Rattle.fkv_functions.specs.Plain.{Same, with_at};
 
-use fkv_functions::{Fixed, Refused};
+use fkv_functions::{Fixed, FixedKey, Refused};
 use std::collections::BTreeMap;
 
 /// Gives a key this value, or none. Refused, and then the map stays: `NoMemory`.
-pub(crate) fn put<K: Fixed + Ord, V: Fixed>(
+pub(crate) fn put<K: FixedKey, V: Fixed>(
     map: &mut BTreeMap<K, V>,
     key: K,
     value: Option<V>,

@@ -27,7 +27,7 @@ ghost use Rattle.fkv_lookups.specs.Traced.{IsTraced};
 ghost use Rattle.fkv_lookups.specs.Lookups.{looked_up};
 
 use crate::entries::move_entry;
-use fkv_device::Disk;
+use fkv_device::Receipt;
 use fkv_functions::{Fixed, Functions, Refused};
 use fkv_hybrid::Log;
 use fkv_index::{Index, Place};
@@ -47,14 +47,14 @@ mod truncation;
 
 /// The records of one partition, and the index of their classes.
 #[derive(Drop)]
-pub struct Records<F: Functions, D: Disk> {
-    log: Log<F::Key, F::Value, D>,
+pub struct Records<F: Functions, R: Receipt> {
+    log: Log<F::Key, F::Value, R>,
     index: Index,
     partition_bits: u64,
     bucket_bits: u64,
 }
 
-impl<F: Functions, D: Disk> Model for Records<F, D> {
+impl<F: Functions, R: Receipt> Model for Records<F, R> {
     ghost use Rattle.fkv_records.specs.Records.{size_of};
     ghost use Rattle.fkv_lookups.specs.RecordsViews.{RecordsView};
     ghost use Rattle.fkv_lookups.specs.Inside.{view_of};
@@ -64,11 +64,11 @@ impl<F: Functions, D: Disk> Model for Records<F, D> {
 
     ghost view = { λ r. view_of r.partition_bits r.bucket_bits (size_of F.Key.SIZE F.Value.SIZE) r.log r.index };
 
-    ghost invariant = { λ r. IsTraced D.keeps F.code
+    ghost invariant = { λ r. IsTraced R.keeps F.code
         (view_of r.partition_bits r.bucket_bits (size_of F.Key.SIZE F.Value.SIZE) r.log r.index) };
 }
 
-impl<F: Functions, D: Disk> Records<F, D> {
+impl<F: Functions, R: Receipt> Records<F, R> {
     ghost use Rattle.fkv_index.specs.declared.places.Place.{Place};
 
     /// No records and no entries, of one of 2^`partition_bits` partitions, with 2^`bucket_bits` buckets, and a log
@@ -277,7 +277,7 @@ impl<F: Functions, D: Disk> Records<F, D> {
 
     /// What holds of all records of a partition.
     pub fn known(&self)
-        ensures { IsTraced D.keeps F.code self.now }
+        ensures { IsTraced R.keeps F.code self.now }
     {
         let _bits = self.bucket_bits;
     }

@@ -3,11 +3,11 @@ ghost use Rattle.std.specs.Prelude.{◌≡◌, Some, IfErr, OnOk, OnErr};
 ghost use Rattle.std.specs.BTreeMap.{get};
 ghost use Rattle.fkv_functions.specs.Plain.{Same, with_at};
 
-use fkv_functions::{Fixed, Refused};
+use fkv_functions::{Fixed, FixedKey, Refused};
 use std::collections::BTreeMap;
 
 /// Gives a key this value. Refused, and then the map is as it was: `NoMemory`.
-pub(crate) fn give<K: Fixed + Ord, V: Fixed>(
+pub(crate) fn give<K: FixedKey, V: Fixed>(
     map: &mut BTreeMap<K, V>,
     key: K,
     value: V,

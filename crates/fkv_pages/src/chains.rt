@@ -5,14 +5,14 @@ ghost use Rattle.fkv_texts.specs.Text.{entry_at, has_key};
 ghost use Rattle.fkv_texts.specs.Chains.{IsChainFrom, leads_to, reached};
 
 use crate::pages::Pages;
-use fkv_device::Disk;
-use fkv_functions::Fixed;
+use fkv_device::Receipt;
+use fkv_functions::{Fixed, FixedKey};
 use fkv_records::Address;
 use fkv_records::reading::{is_of, link_of, value_of};
 use fkv_texts::entries::entry_with;
 use fkv_texts::{Entry, Reached};
 
-impl<K: Fixed + Ord, V: Fixed, D: Disk> Pages<K, V, D> {
+impl<K: FixedKey, V: Fixed, R: Receipt> Pages<K, V, R> {
     /// The first entry of a key on the chain from an address down to another, below which it does not look, or where the
     /// chain leads from there.
     pub fn first_on_chain(&self, key: &K, from: Address, head: Address) -> Reached<K, V>

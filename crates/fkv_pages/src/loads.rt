@@ -7,7 +7,7 @@ ghost use Rattle.fkv_pages.specs.Spelled.{IsEntryIn};
 ghost use Rattle.fkv_pages.specs.Loads.{IsReached};
 
 use crate::bytes::part;
-use fkv_functions::{Fixed, Refused};
+use fkv_functions::{Fixed, FixedKey, Refused};
 use fkv_records::{Address, Shape, read_record};
 use fkv_texts::entries::entry_of;
 use fkv_texts::{Entry, Reached};
@@ -42,7 +42,7 @@ pub(crate) fn entry_in<K: Fixed, V: Fixed>(
 }
 
 /// What is reached from an address along previous addresses, down to another one in the page. Refused as [`entry_in`].
-pub(crate) fn reached_in<K: Fixed + Ord, V: Fixed>(
+pub(crate) fn reached_in<K: FixedKey, V: Fixed>(
     shape: Shape,
     page: &[u8],
     key: &K,

@@ -17,7 +17,7 @@ mod offsets;
 mod reads;
 
 use crate::bytes::{part, put_record};
-use fkv_device::Disk;
+use fkv_device::Receipt;
 use fkv_frames::Frames;
 use fkv_functions::{Fixed, Refused};
 use fkv_records::reading::record_of;
@@ -29,36 +29,36 @@ use std::marker::{Model, PhantomData};
 
 /// The records of a log: a record at each place from [`FIRST`] to below the tail, in frames or on a device.
 #[derive(Drop)]
-pub struct Pages<K: Fixed, V: Fixed, D: Disk> {
+pub struct Pages<K: Fixed, V: Fixed, R: Receipt> {
     shape: Shape,
     begin: Address,
     closed: Address,
     frozen: Address,
     tail: Address,
     frames: Frames,
-    receipts: Vec<D::Receipt>,
+    receipts: Vec<R>,
     keys: PhantomData<K>,
     values: PhantomData<V>,
     ghost text: { TheOne (λ t. IsTextOf K.bytes_of V.bytes_of K.is_known V.is_known K.SIZE V.SIZE shape.page_bits
-        (page_in (page_at shape.page_bits closed) (map D.Receipt.stands receipts.items) frames)
-        (text_begin D.keeps begin closed) tail t) } by { IsContr-prop },
+        (page_in (page_at shape.page_bits closed) (map R.stands receipts.items) frames)
+        (text_begin R.keeps begin closed) tail t) } by { IsContr-prop },
 }
 
-impl<K: Fixed, V: Fixed, D: Disk> Model for Pages<K, V, D> {
+impl<K: Fixed, V: Fixed, R: Receipt> Model for Pages<K, V, R> {
     ghost use Rattle.std.specs.Prelude.{map};
     ghost use Rattle.fkv_pages.specs.Views.{PagesView};
     ghost use Rattle.fkv_pages.specs.Pages.{IsPages, view_as};
 
     ghost Value = { PagesView K V };
 
-    ghost view = { λ p. view_as D.keeps p.shape p.begin p.closed p.frozen p.tail
-        (map D.Receipt.stands p.receipts.items) p.frames p.text.0.0 };
+    ghost view = { λ p. view_as R.keeps p.shape p.begin p.closed p.frozen p.tail
+        (map R.stands p.receipts.items) p.frames p.text.0.0 };
 
-    ghost invariant = { λ p. IsPages K.bytes_of V.bytes_of K.is_known V.is_known K.SIZE V.SIZE D.keeps
-        p.shape p.begin p.closed p.frozen p.tail (map D.Receipt.stands p.receipts.items) p.frames p.text.0.0 };
+    ghost invariant = { λ p. IsPages K.bytes_of V.bytes_of K.is_known V.is_known K.SIZE V.SIZE R.keeps
+        p.shape p.begin p.closed p.frozen p.tail (map R.stands p.receipts.items) p.frames p.text.0.0 };
 }
 
-impl<K: Fixed, V: Fixed, D: Disk> Pages<K, V, D> {
+impl<K: Fixed, V: Fixed, R: Receipt> Pages<K, V, R> {
     /// Pages of no records, in this shape and so many frames. Page 0 is begun. Refused: `NoMemory`.
     pub fn new(alloc: Global, shape: Shape, count: u64) -> Result<Self, Refused>
         requires size { shape.record_size ≡ size_of K.SIZE V.SIZE }
@@ -201,7 +201,7 @@ impl<K: Fixed, V: Fixed, D: Disk> Pages<K, V, D> {
 
     /// What holds of pages at any time. It does nothing when it runs.
     pub fn known(&self)
-        ensures from { self.now.from ≡ text_begin D.keeps self.now.begin self.now.closed }
+        ensures from { self.now.from ≡ text_begin R.keeps self.now.begin self.now.closed }
         ensures shape { IsShape self.now.bits (size_of K.SIZE V.SIZE) }
         ensures some { 0 < self.now.frames }
         ensures first { (64 ≤ self.now.begin) × (64 ≤ self.now.closed) }

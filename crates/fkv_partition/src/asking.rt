@@ -5,11 +5,11 @@ ghost use Rattle.fkv_partition.specs.Views.{loading_at};
 
 use crate::contexts::loading_of;
 use crate::partitions::Partition;
-use fkv_device::Disk;
+use fkv_device::Receipt;
 use fkv_functions::{Functions, Refused};
 use fkv_operations::OpOf;
 
-impl<F: Functions, D: Disk> Partition<F, D> {
+impl<F: Functions, R: Receipt> Partition<F, R> {
     /// The operation that is open in a context, after its number, which is the moment of its issue.
     /// Refused: `Unknown` where none is open there.
     pub fn asked(&self, slot: usize, context: usize) -> Result<(u64, OpOf<F>), Refused>

@@ -32,7 +32,7 @@ ghost use Rattle.fkv_partition.specs.Writes.{IsWrite};
 ghost use Rattle.fkv_partition.specs.Grown.{IsBorne, AreBorne, NoneOpens, AllStay};
 ghost use Rattle.fkv_partition.specs.Sound.{IsSound};
 
-use fkv_device::Disk;
+use fkv_device::Receipt;
 use fkv_functions::Functions;
 use fkv_lookups::clearing::cleared_stay;
 use fkv_lookups::laws::{entries_lead, meetings_tell, records_change};
@@ -100,12 +100,12 @@ pub fn events_bear<K, V, I, O, R>()
 }
 
 /// So it is where a page comes: a load changes no record.
-pub fn loads_bear<F: Functions, D: Disk>()
+pub fn loads_bear<F: Functions, R: Receipt>()
     ensures { (keeps : Bool) (code : F.Key → ℕ) (old new : PartitionView F.Key F.Value F.Input) (slot c : ℕ)
-        (came : Result (Joined D.Receipt) Refused) (now : ℕ)
-        (result : Result (Progress F.Key F.Value F.Input F.Output D.Receipt) Refused)
+        (came : Result (Joined R) Refused) (now : ℕ)
+        (result : Result (Progress F.Key F.Value F.Input F.Output R) Refused)
         → IsSound keeps F.Key.cmp code old
-        → Loads D.Receipt.stands (IsEntryIn F.Key.bytes_of F.Value.bytes_of F.Key.is_known F.Value.is_known
+        → Loads R.stands (IsEntryIn F.Key.bytes_of F.Value.bytes_of F.Key.is_known F.Value.is_known
         F.Key.SIZE F.Value.SIZE) F.Key.cmp F.meaning old new slot c came now result
         → IsBorne keeps F.Key.cmp code old new }
 {}
@@ -169,10 +169,10 @@ pub fn seats_stay<K, V, I, O, R>()
 {}
 
 /// So it is where a page comes.
-pub fn loads_keep_seats<F: Functions, D: Disk>()
-    ensures { (old new : PartitionView F.Key F.Value F.Input) (slot c : ℕ) (came : Result (Joined D.Receipt) Refused)
-        (now : ℕ) (result : Result (Progress F.Key F.Value F.Input F.Output D.Receipt) Refused)
-        → Loads D.Receipt.stands (IsEntryIn F.Key.bytes_of F.Value.bytes_of F.Key.is_known F.Value.is_known
+pub fn loads_keep_seats<F: Functions, R: Receipt>()
+    ensures { (old new : PartitionView F.Key F.Value F.Input) (slot c : ℕ) (came : Result (Joined R) Refused)
+        (now : ℕ) (result : Result (Progress F.Key F.Value F.Input F.Output R) Refused)
+        → Loads R.stands (IsEntryIn F.Key.bytes_of F.Value.bytes_of F.Key.is_known F.Value.is_known
         F.Key.SIZE F.Value.SIZE) F.Key.cmp F.meaning old new slot c came now result
         → NoneOpens old new × AllStay old new }
 {}

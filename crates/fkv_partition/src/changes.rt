@@ -1,5 +1,5 @@
 //! What events change of a partition. Each change keeps what every partition keeps, and says what it leaves.
-ghost use Rattle.std.specs.Prelude.{◌≡◌, ◌+◌, ◌*◌, ◌^◌, ◌<◌, ◌≤◌, ◌↔◌, false, IsSome, IsTrue, Some, None, Ok, Err, IfSome, IfOk, IfErr, OnOk, OnErr};
+ghost use Rattle.std.specs.Prelude.{◌≡◌, ⊤, ◌+◌, ◌*◌, ◌^◌, ◌<◌, ◌≤◌, ◌↔◌, false, IsSome, IsTrue, Some, None, Ok, Err, IfSome, IfOk, IfErr, OnOk, OnErr};
 ghost use Rattle.std.specs.List.{list_any};
 ghost use Rattle.std.specs.Bool.{OnTrue, OnFalse};
 ghost use Rattle.fkv_index.specs.Words.{is_empty};
@@ -19,15 +19,16 @@ ghost use Rattle.fkv_partition.specs.Writes.{IsWrite};
 
 use crate::contexts::{Context, ContextOf, Phase, move_on, set_context};
 use crate::partitions::Partition;
-use fkv_device::Disk;
+use fkv_device::Receipt;
 use fkv_functions::{Functions, Refused};
 use fkv_index::Place;
 use fkv_lookups::laws::{records_change, records_grow};
 use fkv_operations::{Class, IndexEntry, OpOf};
 use fkv_records::Address;
+use std::alloc::AllocError;
 
 /// A record that is to be appended.
-#[derive(Clone, Copy)]
+#[derive(Copy)]
 pub struct Write<K, V> {
     /// The entry of the key's class, as it stands.
     pub entry: IndexEntry,
@@ -36,7 +37,17 @@ pub struct Write<K, V> {
     pub value: Option<V>,
 }
 
-impl<F: Functions, D: Disk> Partition<F, D> {
+impl<K: Copy, V: Copy> Clone for Write<K, V> {
+    ghost is_clone = { λ x y. y ≡ x };
+
+    ghost is_infallible = { λ _. ⊤ };
+
+    fn clone(&self) -> Result<Self, AllocError> {
+        Ok(*self)
+    }
+}
+
+impl<F: Functions, R: Receipt> Partition<F, R> {
     /// A moment passes, and nothing else changes.
     pub fn pass(&mut self, now: u64)
         ensures { self.new ≡ record self.old { moment = now } }
@@ -88,7 +99,7 @@ impl<F: Functions, D: Disk> Partition<F, D> {
         requires here { context_at self.old slot context ≡ Some operation.now }
         requires unclaimed { claim_by operation.now.phase ≡ None }
         requires claims_nothing { claim_by phase ≡ None }
-        requires stands { StandsFor D.keeps F.Key.cmp F.code self.old.records operation.now.op phase }
+        requires stands { StandsFor R.keeps F.Key.cmp F.code self.old.records operation.now.op phase }
         ensures { self.new ≡ with_context self.old slot context (Some (at_phase operation.now phase)) now }
     {
         self.moment = now;
@@ -99,7 +110,7 @@ impl<F: Functions, D: Disk> Partition<F, D> {
     pub(crate) fn vacate(&mut self, slot: usize, now: u64)
         requires entered { IsEntered self.old slot }
         requires idle { open_context self.old slot ≡ None }
-        ensures { MovesTo D.keeps (left self.old.records.regions slot) self.old self.new now }
+        ensures { MovesTo R.keeps (left self.old.records.regions slot) self.old self.new now }
     {
         let _left = self.records.leave(slot);
         self.records.known();

@@ -6,13 +6,13 @@ ghost use Rattle.fkv_lookups.specs.Cleared.{IsCleared};
 ghost use Rattle.fkv_partition.specs.Truncating.{Truncates, IsTruncation};
 
 use crate::partitions::Partition;
-use fkv_device::Disk;
+use fkv_device::Receipt;
 use fkv_functions::{Functions, Refused};
 use fkv_lookups::Records;
 
-impl<F: Functions, D: Disk> Partition<F, D> {
+impl<F: Functions, R: Receipt> Partition<F, R> {
     /// The records of the partition, to look at.
-    pub fn records(&self) -> &Records<F, D>
+    pub fn records(&self) -> &Records<F, R>
         ensures { result.now ≡ self.now.records }
     {
         &self.records
@@ -31,11 +31,11 @@ impl<F: Functions, D: Disk> Partition<F, D> {
     /// where Begin would not rise, or would pass Head.
     pub fn truncate(&mut self, page: u64, now: u64) -> Result<(), Refused>
         requires later { self.old.moment < now }
-        requires cleared { IsTrue D.keeps
+        requires cleared { IsTrue R.keeps
             → IsTruncationDue self.old.records page
             → IsCleared F.Key.cmp self.old.records.text (start_at self.old.records.page_bits page) }
-        ensures does { Truncates D.keeps self.old self.new page now result }
-        ensures event { OnOk result (IsTruncation D.keeps F.Key.cmp self.old self.new page now) }
+        ensures does { Truncates R.keeps self.old self.new page now result }
+        ensures event { OnOk result (IsTruncation R.keeps F.Key.cmp self.old self.new page now) }
         ensures err { OnErr result (self.new ≡ self.old) }
         ensures moment { self.new.moment ≤ now }
     {

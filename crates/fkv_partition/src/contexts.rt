@@ -1,18 +1,19 @@
 //! The open operations of a partition: how far each is, and what an event of it answers.
-ghost use Rattle.std.specs.Prelude.{◌≡◌, ◌+◌, ◌*◌, ◌<◌, ◌≤◌, ◌⊎◌, ◌↔◌, length, Option, Some, None, IfSome, IfNone, cond, nat_lt, slice_get, slice_range, slice_set, position, is_none, is_some};
+ghost use Rattle.std.specs.Prelude.{◌≡◌, ⊤, ◌+◌, ◌*◌, ◌<◌, ◌≤◌, ◌⊎◌, ◌↔◌, length, Option, Some, None, IfSome, IfNone, cond, nat_lt, slice_get, slice_range, slice_set, position, is_none, is_some};
 ghost use Rattle.fkv_partition.specs.Contexts.{joined, at_phase, question_in, claim_by, loading_by};
 
-use fkv_device::Disk;
+use fkv_device::Receipt;
 use fkv_functions::{Ask, Functions};
 use fkv_index::Place;
 use fkv_operations::{Answer, IndexEntry, Op};
 use fkv_records::Address;
+use std::alloc::AllocError;
 
 /// How many operations of a session may be open.
 pub const CONTEXTS: usize = 8;
 
 /// How far an operation is.
-#[derive(Clone, Copy)]
+#[derive(Copy)]
 pub enum Phase<V> {
     /// Nothing is known.
     Fresh,
@@ -22,6 +23,16 @@ pub enum Phase<V> {
     Prepared { kept: IndexEntry, source: Option<V> },
     /// It waits for a page on the device.
     Load(Loading),
+}
+
+impl<V: Copy> Clone for Phase<V> {
+    ghost is_clone = { λ x y. y ≡ x };
+
+    ghost is_infallible = { λ _. ⊤ };
+
+    fn clone(&self) -> Result<Self, AllocError> {
+        Ok(*self)
+    }
 }
 
 /// A look-up that goes on in a page on the device.
@@ -38,12 +49,22 @@ pub struct Loading {
 }
 
 /// An open operation.
-#[derive(Clone, Copy)]
+#[derive(Copy)]
 pub struct Context<K, V, I> {
     /// The moment of its issue, which no other operation has.
     pub number: u64,
     pub op: Op<K, V, I>,
     pub phase: Phase<V>,
+}
+
+impl<K: Copy, V: Copy, I: Copy> Clone for Context<K, V, I> {
+    ghost is_clone = { λ x y. y ≡ x };
+
+    ghost is_infallible = { λ _. ⊤ };
+
+    fn clone(&self) -> Result<Self, AllocError> {
+        Ok(*self)
+    }
 }
 
 /// The open operations of one type of functions.
@@ -80,12 +101,12 @@ pub enum Wait {
 }
 
 /// The progress of one type of functions on one kind of device.
-pub type ProgressOf<F, D> = Progress<
+pub type ProgressOf<F, R> = Progress<
     <F as Functions>::Key,
     <F as Functions>::Value,
     <F as Functions>::Input,
     <F as Functions>::Output,
-    <D as Disk>::Receipt,
+    R,
 >;
 
 /// What stands in a context of a session: the operation that is open there, for one.

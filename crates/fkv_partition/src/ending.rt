@@ -5,16 +5,16 @@ ghost use Rattle.fkv_partition.specs.Effect.{IsQuiet, IsGiveUp};
 
 use crate::contexts::claim_of;
 use crate::partitions::Partition;
-use fkv_device::Disk;
+use fkv_device::Receipt;
 use fkv_functions::{Functions, Refused};
 
-impl<F: Functions, D: Disk> Partition<F, D> {
+impl<F: Functions, R: Receipt> Partition<F, R> {
     /// Leaves a session, frees its slot, and moves the offsets that are due then. Refused, in this order, and then nothing
     /// changes: `Unknown` where the slot is that of no session, `Busy` where an operation of the session is open.
     pub fn leave(&mut self, slot: usize, now: u64) -> Result<(), Refused>
         requires later { self.old.moment < now }
-        ensures does { Leaves D.keeps self.old self.new slot now result }
-        ensures event { OnOk result (IsQuiet D.keeps self.old self.new now) }
+        ensures does { Leaves R.keeps self.old self.new slot now result }
+        ensures event { OnOk result (IsQuiet R.keeps self.old self.new now) }
         ensures err { OnErr result (self.new ≡ self.old) }
         ensures moment { self.new.moment ≤ now }
     {

@@ -7,11 +7,11 @@ ghost use Rattle.fkv_partition.specs.Flushing.{Flushes};
 ghost use Rattle.fkv_partition.specs.Effect.{IsQuiet};
 
 use crate::partitions::Partition;
-use fkv_device::{Disk, FlushJob, Written};
+use fkv_device::{FlushJob, Receipt, Written};
 use fkv_functions::{Functions, Refused};
 use std::alloc::Global;
 
-impl<F: Functions, D: Disk> Partition<F, D> {
+impl<F: Functions, R: Receipt> Partition<F, R> {
     /// The lowest page that is not flushed.
     pub fn unflushed(&self) -> u64
         ensures { result ≡ length self.now.records.receipts }
@@ -40,7 +40,7 @@ impl<F: Functions, D: Disk> Partition<F, D> {
     /// end at or below the safe read-only offset, `NoMemory`.
     pub fn flush_take(&self, alloc: Global) -> Result<FlushJob, Refused>
         ensures page { IfOk result (λ job. job.page ≡ length self.now.records.receipts) }
-        ensures bytes { IfOk result (λ job. slice_get self.now.records.waiting 0 ≡ Some job.bytes.items) }
+        ensures bytes { IfOk result (λ job. slice_get self.now.records.waiting 0 ≡ Some job.bytes) }
         ensures due { (result ≡ Err Refused.NotDue) ↔ (self.now.records.waiting ≡ []) }
         ensures only { IfErr result (λ refused. (refused ≡ Refused.NotDue) ⊎ (refused ≡ Refused.NoMemory)) }
     {
@@ -50,10 +50,10 @@ impl<F: Functions, D: Disk> Partition<F, D> {
     /// Takes in that the lowest page that is not flushed was written. Refused, in this order, and then nothing changes:
     /// `Stranger` where another page is the lowest that is not flushed, `NotDue` where that one does not end at or below
     /// the safe read-only offset, `Stranger` where the bytes that were written are others, `NoMemory`.
-    pub fn flush_done(&mut self, written: Written<D>, now: u64) -> Result<(), Refused>
+    pub fn flush_done(&mut self, written: Written<R>, now: u64) -> Result<(), Refused>
         requires later { self.old.moment < now }
-        ensures does { Flushes self.old self.new (D.Receipt.stands written.receipt) written.bytes now result }
-        ensures event { OnOk result (IsQuiet D.keeps self.old self.new now) }
+        ensures does { Flushes self.old self.new (R.stands written.receipt) written.bytes now result }
+        ensures event { OnOk result (IsQuiet R.keeps self.old self.new now) }
         ensures err { OnErr result (self.new ≡ self.old) }
         ensures moment { self.new.moment ≤ now }
     {

@@ -15,7 +15,7 @@ use crate::contexts::{
 };
 use crate::looking::address_of;
 use crate::partitions::Partition;
-use fkv_device::Disk;
+use fkv_device::Receipt;
 use fkv_functions::{Ask, Functions, Refused};
 use fkv_index::Place;
 use fkv_lookups::Decision;
@@ -24,7 +24,7 @@ use fkv_operations::{AnswerOf, IndexEntry};
 use fkv_records::Address;
 use fkv_texts::{Entry, Reached};
 
-impl<F: Functions, D: Disk> Partition<F, D> {
+impl<F: Functions, R: Receipt> Partition<F, R> {
     /// Goes on with an operation: it looks its key up, and what it meets decides. A read is finished with
     /// its answer, and a delete of a key without a value. A write of a class without an entry makes a tentative one
     /// and answers `Next`; the next call confirms it, or takes it back where another entry of its tag stands in the
@@ -43,9 +43,9 @@ impl<F: Functions, D: Disk> Partition<F, D> {
         context: usize,
         functions: &F,
         now: u64,
-    ) -> Result<ProgressOf<F, D>, Refused>
+    ) -> Result<ProgressOf<F, R>, Refused>
         requires later { self.old.moment < now }
-        ensures does { Goes D.Receipt.stands F.Key.cmp F.meaning F.code self.old self.new slot context now result }
+        ensures does { Goes R.stands F.Key.cmp F.meaning F.code self.old self.new slot context now result }
         ensures event { IfOk result
             (λ progress. IsEvent F.Key.cmp F.meaning self.old self.new slot context now progress) }
         ensures within { IfOk result (λ _. (slot < 16) × (context < 8)) }
@@ -76,12 +76,12 @@ impl<F: Functions, D: Disk> Partition<F, D> {
         operation: &ContextOf<F>,
         place: Place,
         now: u64,
-    ) -> ProgressOf<F, D>
+    ) -> ProgressOf<F, R>
         requires session { slot < 16 }
         requires context { context < 8 }
         requires here { context_at self.old slot context ≡ Some operation.now }
         requires phase { claim_by operation.now.phase ≡ Some place }
-        ensures does { Goes D.Receipt.stands F.Key.cmp F.meaning F.code self.old self.new slot context now (Ok result) }
+        ensures does { Goes R.stands F.Key.cmp F.meaning F.code self.old self.new slot context now (Ok result) }
         ensures event { IsEvent F.Key.cmp F.meaning self.old self.new slot context now result }
         ensures moment { self.new.moment ≤ now }
     {
@@ -97,7 +97,7 @@ impl<F: Functions, D: Disk> Partition<F, D> {
         operation: &ContextOf<F>,
         functions: &F,
         now: u64,
-    ) -> Result<ProgressOf<F, D>, Refused>
+    ) -> Result<ProgressOf<F, R>, Refused>
         requires later { self.old.moment < now }
         requires session { slot < 16 }
         requires context { context < 8 }
@@ -105,7 +105,7 @@ impl<F: Functions, D: Disk> Partition<F, D> {
         requires asks_nothing { question_in operation.now ≡ None }
         requires unclaimed { claim_by operation.now.phase ≡ None }
         requires unloading { loading_by operation.now.phase ≡ None }
-        ensures does { Goes D.Receipt.stands F.Key.cmp F.meaning F.code self.old self.new slot context now result }
+        ensures does { Goes R.stands F.Key.cmp F.meaning F.code self.old self.new slot context now result }
         ensures event { IfOk result
             (λ progress. IsEvent F.Key.cmp F.meaning self.old self.new slot context now progress) }
         ensures err { OnErr result (self.new ≡ self.old) }
@@ -170,7 +170,7 @@ impl<F: Functions, D: Disk> Partition<F, D> {
         write: Write<F::Key, F::Value>,
         answer: AnswerOf<F>,
         now: u64,
-    ) -> Result<ProgressOf<F, D>, Refused>
+    ) -> Result<ProgressOf<F, R>, Refused>
         requires later { self.old.moment < now }
         requires session { slot < 16 }
         requires context { context < 8 }
@@ -178,7 +178,7 @@ impl<F: Functions, D: Disk> Partition<F, D> {
         requires entry { found_for F.code self.old write.key ≡ Some write.entry }
         requires decided { IsDecided F.Key.cmp F.meaning F.code self.old slot context
             write.key (Decision.Append write.value answer) }
-        ensures does { Goes D.Receipt.stands F.Key.cmp F.meaning F.code self.old self.new slot context now result }
+        ensures does { Goes R.stands F.Key.cmp F.meaning F.code self.old self.new slot context now result }
         ensures event { IfOk result
             (λ progress. IsEvent F.Key.cmp F.meaning self.old self.new slot context now progress) }
         ensures err { OnErr result (self.new ≡ self.old) }
@@ -202,14 +202,14 @@ impl<F: Functions, D: Disk> Partition<F, D> {
         value: Option<F::Value>,
         answer: AnswerOf<F>,
         now: u64,
-    ) -> ProgressOf<F, D>
+    ) -> ProgressOf<F, R>
         requires session { slot < 16 }
         requires context { context < 8 }
         requires last { last_of F.Key.cmp self.old.records.text (key_of operation.now.op) ≡ Some last }
         requires stands { entry_at self.old.records.text last.address ≡ Some last }
         requires decided { Decides F.Key.cmp F.meaning F.code self.old slot context operation.now
             (Decision.Replace value answer) }
-        ensures does { Goes D.Receipt.stands F.Key.cmp F.meaning F.code self.old self.new slot context now (Ok result) }
+        ensures does { Goes R.stands F.Key.cmp F.meaning F.code self.old self.new slot context now (Ok result) }
         ensures event { IsEvent F.Key.cmp F.meaning self.old self.new slot context now result }
         ensures moment { self.new.moment ≤ now }
     {
@@ -230,7 +230,7 @@ impl<F: Functions, D: Disk> Partition<F, D> {
         kept: IndexEntry,
         ask: Ask<F::Key, F::Value, F::Input>,
         now: u64,
-    ) -> ProgressOf<F, D>
+    ) -> ProgressOf<F, R>
         requires session { slot < 16 }
         requires context { context < 8 }
         requires kept { found_for F.code self.old (key_of operation.now.op) ≡ Some kept }
@@ -240,7 +240,7 @@ impl<F: Functions, D: Disk> Partition<F, D> {
         requires key { ask.key ≡ key_of operation.now.op }
         requires decided { Decides F.Key.cmp F.meaning F.code self.old slot context operation.now
             (Decision.Prepare ask.source ask.input) }
-        ensures does { Goes D.Receipt.stands F.Key.cmp F.meaning F.code self.old self.new slot context now (Ok result) }
+        ensures does { Goes R.stands F.Key.cmp F.meaning F.code self.old self.new slot context now (Ok result) }
         ensures event { IsEvent F.Key.cmp F.meaning self.old self.new slot context now result }
         ensures moment { self.new.moment ≤ now }
     {
@@ -268,7 +268,7 @@ impl<F: Functions, D: Disk> Partition<F, D> {
         kept: IndexEntry,
         wanted: Address,
         now: u64,
-    ) -> Result<ProgressOf<F, D>, Refused>
+    ) -> Result<ProgressOf<F, R>, Refused>
         requires later { self.old.moment < now }
         requires session { slot < 16 }
         requires context { context < 8 }
@@ -277,7 +277,7 @@ impl<F: Functions, D: Disk> Partition<F, D> {
             (class_in F.code self.old.records (key_of operation.now.op)) kept }
         requires decided { Decides F.Key.cmp F.meaning F.code self.old slot context operation.now
             (Decision.Load wanted) }
-        ensures does { Goes D.Receipt.stands F.Key.cmp F.meaning F.code self.old self.new slot context now result }
+        ensures does { Goes R.stands F.Key.cmp F.meaning F.code self.old self.new slot context now result }
         ensures event { IfOk result
             (λ progress. IsEvent F.Key.cmp F.meaning self.old self.new slot context now progress) }
         ensures err { OnErr result (self.new ≡ self.old) }

@@ -9,12 +9,12 @@ ghost use Rattle.fkv_partition.specs.Effect.{IsEvent};
 use crate::changes::Write;
 use crate::contexts::{Phase, Progress, ProgressOf, Wait, question_of};
 use crate::partitions::Partition;
-use fkv_device::Disk;
+use fkv_device::Receipt;
 use fkv_functions::{Built, Functions, Refused, What};
 use fkv_lookups::laws::{entries_lead, records_grow};
 use fkv_operations::{Answer, IndexEntry};
 
-impl<F: Functions, D: Disk> Partition<F, D> {
+impl<F: Functions, R: Receipt> Partition<F, R> {
     /// Appends what was built for an update, where the place of its key's entry still holds the word that it held when
     /// the update asked; else the update is to look again, and the answer is `Next`. Refused, in this order, and then
     /// nothing changes: `Unknown` where no operation is open there, `NotReady` where it asks for nothing
@@ -28,10 +28,10 @@ impl<F: Functions, D: Disk> Partition<F, D> {
         built: Built<F>,
         functions: &F,
         now: u64,
-    ) -> Result<ProgressOf<F, D>, Refused>
+    ) -> Result<ProgressOf<F, R>, Refused>
         requires later { self.old.moment < now }
         ensures does { Installs F.Key.cmp F.meaning F.code self.old self.new slot context built now result }
-        ensures event { IsTrue D.keeps → IfOk result
+        ensures event { IsTrue R.keeps → IfOk result
             (λ progress. IsEvent F.Key.cmp F.meaning self.old self.new slot context now progress) }
         ensures within { IfOk result (λ _. (slot < 16) × (context < 8)) }
         ensures err { OnErr result (self.new ≡ self.old) }
@@ -70,14 +70,14 @@ impl<F: Functions, D: Disk> Partition<F, D> {
         built: Built<F>,
         functions: &F,
         now: u64,
-    ) -> Result<ProgressOf<F, D>, Refused>
+    ) -> Result<ProgressOf<F, R>, Refused>
         requires later { self.old.moment < now }
         requires session { slot < 16 }
         requires context { context < 8 }
         requires asks { Asks self.old slot context kept built }
         requires stands { word_at self.old.records.words kept.place ≡ kept.word }
         ensures does { Installs F.Key.cmp F.meaning F.code self.old self.new slot context built now result }
-        ensures event { IsTrue D.keeps → IfOk result
+        ensures event { IsTrue R.keeps → IfOk result
             (λ progress. IsEvent F.Key.cmp F.meaning self.old self.new slot context now progress) }
         ensures err { OnErr result (self.new ≡ self.old) }
         ensures moment { self.new.moment ≤ now }

@@ -24,7 +24,7 @@ ghost use Rattle.fkv_partition.specs.Pending.{OthersPend, AllPend, Finds};
 ghost use Rattle.fkv_partition.specs.Frozen.{FrozenStay};
 ghost use Rattle.fkv_partition.specs.Sound.{IsSound};
 
-use fkv_device::Disk;
+use fkv_device::Receipt;
 use fkv_functions::Functions;
 use fkv_lookups::laws::{meetings_tell, records_change, records_grow};
 
@@ -89,15 +89,15 @@ pub fn pendings_stay<K, V, I, O, R>()
 
 /// A load leaves what the others are to find; one that fails changes nothing, or ends the operation that it was for,
 /// without effect.
-pub fn loads_end<F: Functions, D: Disk>()
-    ensures loads { (old new : PartitionView F.Key F.Value F.Input) (slot c : ℕ) (came : Result (Joined D.Receipt) Refused)
-        (now : ℕ) (result : Result (Progress F.Key F.Value F.Input F.Output D.Receipt) Refused)
-        → Loads D.Receipt.stands (IsEntryIn F.Key.bytes_of F.Value.bytes_of F.Key.is_known F.Value.is_known
+pub fn loads_end<F: Functions, R: Receipt>()
+    ensures loads { (old new : PartitionView F.Key F.Value F.Input) (slot c : ℕ) (came : Result (Joined R) Refused)
+        (now : ℕ) (result : Result (Progress F.Key F.Value F.Input F.Output R) Refused)
+        → Loads R.stands (IsEntryIn F.Key.bytes_of F.Value.bytes_of F.Key.is_known F.Value.is_known
         F.Key.SIZE F.Value.SIZE) F.Key.cmp F.meaning old new slot c came now result
         → OthersPend F.Key.cmp old new slot c }
-    ensures fails { (old new : PartitionView F.Key F.Value F.Input) (slot c : ℕ) (came : Result (Joined D.Receipt) Refused)
+    ensures fails { (old new : PartitionView F.Key F.Value F.Input) (slot c : ℕ) (came : Result (Joined R) Refused)
         (now : ℕ) (why : Refused)
-        → Loads D.Receipt.stands (IsEntryIn F.Key.bytes_of F.Value.bytes_of F.Key.is_known F.Value.is_known
+        → Loads R.stands (IsEntryIn F.Key.bytes_of F.Value.bytes_of F.Key.is_known F.Value.is_known
         F.Key.SIZE F.Value.SIZE) F.Key.cmp F.meaning old new slot c came now (Err why)
         → (new ≡ old) ⊎ IsGiveUp old new slot c now }
 {}

@@ -14,7 +14,7 @@ ghost use Rattle.fkv_partition.specs.Views.{with_context};
 
 use crate::contexts::{ContextOf, Loading, Phase, Progress, ProgressOf, loading_of};
 use crate::partitions::Partition;
-use fkv_device::{Disk, Loaded};
+use fkv_device::{Loaded, Receipt};
 use fkv_functions::{Ask, Functions, Refused};
 use fkv_operations::Op;
 use fkv_operations::plainly::shown;
@@ -31,7 +31,7 @@ pub fn is_no_memory(refused: &Refused) -> bool
     }
 }
 
-impl<F: Functions, D: Disk> Partition<F, D> {
+impl<F: Functions, R: Receipt> Partition<F, R> {
     /// Goes on with an operation that waits for a page, with that page as a device gave it, or with the refusal that came
     /// in its place. Where Begin has moved since the look-up the operation is to look again, whatever came, and the answer
     /// is `Next`. Else the records of the page are followed along the key's class: where the key's newest record stands
@@ -46,15 +46,15 @@ impl<F: Functions, D: Disk> Partition<F, D> {
         &mut self,
         slot: usize,
         context: usize,
-        came: Result<Loaded<D>, Refused>,
+        came: Result<Loaded<R>, Refused>,
         functions: &F,
         now: u64,
-    ) -> Result<ProgressOf<F, D>, Refused>
+    ) -> Result<ProgressOf<F, R>, Refused>
         requires later { self.old.moment < now }
-        ensures does { Loads D.Receipt.stands (IsEntryIn F.Key.bytes_of F.Value.bytes_of F.Key.is_known F.Value.is_known
+        ensures does { Loads R.stands (IsEntryIn F.Key.bytes_of F.Value.bytes_of F.Key.is_known F.Value.is_known
             F.Key.SIZE F.Value.SIZE) F.Key.cmp F.meaning self.old self.new slot context came now result }
         // on a device that keeps, what comes of it is what the look-up was to find
-        ensures event { IsTrue D.keeps → IfOk result
+        ensures event { IsTrue R.keeps → IfOk result
             (λ progress. IsLoad F.Key.cmp F.meaning self.old self.new slot context now progress) }
         ensures within { IfOk result (λ _. (slot < 16) × (context < 8)) }
         ensures moment { self.new.moment ≤ now }
@@ -88,17 +88,17 @@ impl<F: Functions, D: Disk> Partition<F, D> {
         context: usize,
         operation: &ContextOf<F>,
         loading: Loading,
-        loaded: Loaded<D>,
+        loaded: Loaded<R>,
         functions: &F,
         now: u64,
-    ) -> Result<ProgressOf<F, D>, Refused>
+    ) -> Result<ProgressOf<F, R>, Refused>
         requires later { self.old.moment < now }
         requires session { slot < 16 }
         requires context { context < 8 }
         requires awaits { AwaitsPage self.old slot context operation.now loading }
-        ensures does { Loads D.Receipt.stands (IsEntryIn F.Key.bytes_of F.Value.bytes_of F.Key.is_known F.Value.is_known
+        ensures does { Loads R.stands (IsEntryIn F.Key.bytes_of F.Value.bytes_of F.Key.is_known F.Value.is_known
             F.Key.SIZE F.Value.SIZE) F.Key.cmp F.meaning self.old self.new slot context (Ok loaded) now result }
-        ensures event { IsTrue D.keeps → IfOk result
+        ensures event { IsTrue R.keeps → IfOk result
             (λ progress. IsLoad F.Key.cmp F.meaning self.old self.new slot context now progress) }
         ensures moment { self.new.moment ≤ now }
     {
@@ -141,13 +141,13 @@ impl<F: Functions, D: Disk> Partition<F, D> {
         value: Option<F::Value>,
         functions: &F,
         now: u64,
-    ) -> ProgressOf<F, D>
+    ) -> ProgressOf<F, R>
         requires later { self.old.moment < now }
         requires session { slot < 16 }
         requires context { context < 8 }
         requires awaits { AwaitsPage self.old slot context operation.now loading }
         requires asks { MayLoad operation.now.op }
-        requires kept { IsKept D.keeps F.Key.cmp F.code self.old.records (key_of operation.now.op) loading.kept value }
+        requires kept { IsKept R.keeps F.Key.cmp F.code self.old.records (key_of operation.now.op) loading.kept value }
         ensures read { (k : F.Key) (i : F.Input)
             → operation.now.op ≡ Read k i
             → (self.new ≡ with_context self.old slot context None now)
@@ -192,18 +192,18 @@ impl<F: Functions, D: Disk> Partition<F, D> {
         loading: Loading,
         address: Address,
         now: u64,
-    ) -> Result<ProgressOf<F, D>, Refused>
+    ) -> Result<ProgressOf<F, R>, Refused>
         requires later { self.old.moment < now }
         requires session { slot < 16 }
         requires context { context < 8 }
         requires awaits { AwaitsPage self.old slot context operation.now loading }
         requires asks { MayLoad operation.now.op }
         requires flushed { page_at self.old.records.page_bits address < length self.old.records.receipts }
-        requires stands { IsLoading D.keeps F.Key.cmp F.code self.old.records (key_of operation.now.op)
+        requires stands { IsLoading R.keeps F.Key.cmp F.code self.old.records (key_of operation.now.op)
             (record loading { wanted = address }) }
-        ensures asked { IfOk result (λ progress. (r : D.Receipt)
+        ensures asked { IfOk result (λ progress. (r : R)
             × (progress ≡ Progress.NeedsLoad r address)
-            × IsHeldBy self.old.records.receipts (page_at self.old.records.page_bits address) (D.Receipt.stands r)) }
+            × IsHeldBy self.old.records.receipts (page_at self.old.records.page_bits address) (R.stands r)) }
         ensures effect { OnOk result (self.new ≡ with_context self.old slot context
             (Some (at_phase operation.now (Load (record loading { wanted = address })))) now) }
         ensures only { IfErr result (λ refused. refused ≡ Refused.NoMemory) }

@@ -12,7 +12,7 @@ ghost use Rattle.fkv_partition.specs.Sound.{IsSound};
 
 use crate::contexts::{ContextOf, free_context, open_at, open_context};
 use crate::partitions::Partition;
-use fkv_device::Disk;
+use fkv_device::Receipt;
 use fkv_functions::Functions;
 use fkv_lookups::{DecisionOf, Met, decide, low_of, met_by};
 use fkv_operations::{Class, IndexEntry, OpOf, partition_at};
@@ -32,10 +32,10 @@ pub(crate) fn address_of(entry: &Option<IndexEntry>) -> Option<Address>
     }
 }
 
-impl<F: Functions, D: Disk> Partition<F, D> {
+impl<F: Functions, R: Receipt> Partition<F, R> {
     /// What holds of every partition. It does nothing when it runs.
     pub fn known(&self)
-        ensures { IsSound D.keeps F.Key.cmp F.code self.now }
+        ensures { IsSound R.keeps F.Key.cmp F.code self.now }
     {
         let _moment = self.moment;
     }

@@ -8,7 +8,7 @@ ghost use Rattle.fkv_partition.specs.Effect.{IsQuiet, IsIssue};
 
 use crate::contexts::Context;
 use crate::limits::Config;
-use fkv_device::Disk;
+use fkv_device::Receipt;
 use fkv_functions::{Functions, Refused, What};
 use fkv_lookups::Records;
 use fkv_operations::OpOf;
@@ -21,15 +21,15 @@ const PLACES: usize = 128;
 /// One partition of a store: its records with their entries and sessions, and the open operations of these. Each call that
 /// takes a moment is one event; the moments of a partition rise.
 #[derive(Drop)]
-pub struct Partition<F: Functions, D: Disk> {
+pub struct Partition<F: Functions, R: Receipt> {
     pub(crate) number: u64,
     pub(crate) count: u64,
-    pub(crate) records: Records<F, D>,
+    pub(crate) records: Records<F, R>,
     pub(crate) contexts: Vec<Option<Context<F::Key, F::Value, F::Input>>>,
     pub(crate) moment: u64,
 }
 
-impl<F: Functions, D: Disk> Model for Partition<F, D> {
+impl<F: Functions, R: Receipt> Model for Partition<F, R> {
     ghost use Rattle.fkv_partition.specs.Views.{PartitionView};
 
     ghost Value = { PartitionView F.Key F.Value F.Input };
@@ -39,7 +39,7 @@ impl<F: Functions, D: Disk> Model for Partition<F, D> {
 
     ghost view = { λ p. view_of p.number p.count p.records p.contexts.items p.moment };
 
-    ghost invariant = { λ p. IsSound D.keeps F.Key.cmp F.code
+    ghost invariant = { λ p. IsSound R.keeps F.Key.cmp F.code
         (view_of p.number p.count p.records p.contexts.items p.moment) };
 }
 
@@ -57,7 +57,7 @@ fn free_places<T: Drop>(alloc: Global) -> Result<Vec<Option<T>>, Refused>
     Ok(places)
 }
 
-impl<F: Functions, D: Disk> Partition<F, D> {
+impl<F: Functions, R: Receipt> Partition<F, R> {
     /// The partition of this number, with nothing in it. Refused, in this order: `BadConfig` where a
     /// number of the configuration is outside its limits, a record is too large, or there is no partition
     /// of this number, `NoMemory`.
@@ -99,7 +99,7 @@ impl<F: Functions, D: Disk> Partition<F, D> {
     pub fn enter(&mut self, now: u64) -> Result<usize, Refused>
         requires later { self.old.moment < now }
         ensures does { Enters self.old self.new now result }
-        ensures event { IfOk result (λ _. IsQuiet D.keeps self.old self.new now) }
+        ensures event { IfOk result (λ _. IsQuiet R.keeps self.old self.new now) }
         ensures within { IfOk result (λ slot. slot < 16) }
         ensures err { OnErr result (self.new ≡ self.old) }
         ensures moment { self.new.moment ≤ now }

@@ -4,18 +4,18 @@ ghost use Rattle.fkv_partition.specs.Looking.{Refreshes, Shifts, Evicts};
 ghost use Rattle.fkv_partition.specs.Effect.{IsQuiet};
 
 use crate::partitions::Partition;
-use fkv_device::Disk;
+use fkv_device::Receipt;
 use fkv_functions::{Functions, Refused};
 use fkv_records::Address;
 
-impl<F: Functions, D: Disk> Partition<F, D> {
+impl<F: Functions, R: Receipt> Partition<F, R> {
     /// Refreshes a session: it tells that the session relies on nothing that it saw before, moves the offsets that are
     /// due then, and gives the session the view of now. Refused, and then nothing changes: `Unknown` where the slot is
     /// that of no session.
     pub fn refresh(&mut self, slot: usize, now: u64) -> Result<(), Refused>
         requires later { self.old.moment < now }
-        ensures does { Refreshes D.keeps self.old self.new slot now result }
-        ensures event { OnOk result (IsQuiet D.keeps self.old self.new now) }
+        ensures does { Refreshes R.keeps self.old self.new slot now result }
+        ensures event { OnOk result (IsQuiet R.keeps self.old self.new now) }
         ensures err { OnErr result (self.new ≡ self.old) }
         ensures moment { self.new.moment ≤ now }
     {
@@ -34,8 +34,8 @@ impl<F: Functions, D: Disk> Partition<F, D> {
     /// where sixteen moves wait.
     pub fn shift_read_only(&mut self, page: u64, now: u64) -> Result<(), Refused>
         requires later { self.old.moment < now }
-        ensures does { Shifts D.keeps self.old self.new page now result }
-        ensures event { OnOk result (IsQuiet D.keeps self.old self.new now) }
+        ensures does { Shifts R.keeps self.old self.new page now result }
+        ensures event { OnOk result (IsQuiet R.keeps self.old self.new now) }
         ensures err { OnErr result (self.new ≡ self.old) }
         ensures moment { self.new.moment ≤ now }
     {
@@ -53,8 +53,8 @@ impl<F: Functions, D: Disk> Partition<F, D> {
     /// `NotDue` where Head would not rise, or a page below is not flushed; `DrainFull` where sixteen moves wait.
     pub fn shift_head(&mut self, page: u64, now: u64) -> Result<(), Refused>
         requires later { self.old.moment < now }
-        ensures does { Evicts D.keeps self.old self.new page now result }
-        ensures event { OnOk result (IsQuiet D.keeps self.old self.new now) }
+        ensures does { Evicts R.keeps self.old self.new page now result }
+        ensures event { OnOk result (IsQuiet R.keeps self.old self.new now) }
         ensures err { OnErr result (self.new ≡ self.old) }
         ensures moment { self.new.moment ≤ now }
     {

@@ -7,12 +7,12 @@ ghost use Rattle.fkv_partition.specs.AtOnce.{IsAtHand, IsDoneAtOnce};
 ghost use Rattle.fkv_partition.specs.Beginning.{IsEntered};
 
 use crate::partitions::Partition;
-use fkv_device::Disk;
+use fkv_device::Receipt;
 use fkv_functions::Functions;
 use fkv_lookups::laws::{meetings_tell, records_change};
 use fkv_texts::{Entry, Reached};
 
-impl<F: Functions, D: Disk> Partition<F, D> {
+impl<F: Functions, R: Receipt> Partition<F, R> {
     /// Issues an update at one moment and goes on with it at another, where that finishes it: where the last record of its
     /// key may be changed in place. That is what [`Partition::issue`] and [`Partition::go`] do then, but no context is
     /// written and read again. Answers what the update shows, or `None` where it can't be issued or would not be finished
@@ -28,7 +28,7 @@ impl<F: Functions, D: Disk> Partition<F, D> {
     ) -> Option<F::Output>
         requires later { self.old.moment < issued }
         requires after { issued < now }
-        ensures done { IfSome result (λ shown. IsDoneAtOnce D.Receipt.stands F.Key.cmp F.meaning F.code self.old self.new
+        ensures done { IfSome result (λ shown. IsDoneAtOnce R.stands F.Key.cmp F.meaning F.code self.old self.new
             slot key.now input.now issued now shown) }
         ensures declined { result ≡ None → (held : F.Value)
             → ¬ IsAtHand F.Key.cmp F.code self.old slot key.now held }
@@ -112,7 +112,7 @@ impl<F: Functions, D: Disk> Partition<F, D> {
         requires reached { reached_from F.Key.cmp F.code self.old slot key.now (entry_for F.code self.old key.now)
             ≡ Found last }
         requires met { met_at F.Key.cmp F.code self.old slot key.now ≡ Mutable held }
-        ensures done { IsDoneAtOnce D.Receipt.stands F.Key.cmp F.meaning F.code self.old self.new
+        ensures done { IsDoneAtOnce R.stands F.Key.cmp F.meaning F.code self.old self.new
             slot key.now input.now _issued now result }
         ensures moment { self.new.moment ≤ now }
     {

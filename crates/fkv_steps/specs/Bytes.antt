@@ -1,6 +1,5 @@
 -- What the pages of a script's store hold: records of names, on a device in memory.
 use Rattle.std.specs.Prelude.{ℕ, List, [], length}
-use Rattle.std.specs.Arc.{arc_value}
 use Rattle.fkv_functions.specs.Names.{name_bytes}
 use Rattle.fkv_functions.specs.declared.names.Name.{Name}
 use Rattle.fkv_texts.specs.declared.entries.Entry.{Entry}
@@ -13,8 +12,8 @@ abbrev pub standing_of : MemoryReceipt → Standing
 standing_of r = record {
   number = r.number;
   page = r.page;
-  length = length (arc_value r.bytes).items;
-  bytes = (arc_value r.bytes).items;
+  length = length r.bytes;
+  bytes = r.bytes;
   mark = [];
 }
 

@@ -80,7 +80,7 @@ module _ {K V I O R : Type 0} (stands : R → Standing) (entry : ℕ → List �
     acts-evict page does ev passed =
         rw e (acts.evicts p page old new refl (due (Head p page) old here refl) (subst (λ m. Evicts true old.partition new.partition page m (Ok tt)) e does) (subst (λ m. IsQuiet true old.partition new.partition m) e ev) passed refl refl)
 
-    pub acts-take : (job : FlushJob) → job.page ≡ length old.partition.records.receipts → slice_get old.partition.records.waiting 0 ≡ Some job.bytes.items
+    pub acts-take : (job : FlushJob) → job.page ≡ length old.partition.records.receipts → slice_get old.partition.records.waiting 0 ≡ Some job.bytes
         → Acts stands entry cmp f code s (record s { jobs = slice_set s.jobs p (Some job); moment = next }) (Take p) (Ok (outcome.Taken job.page))
     acts-take job page bytes = rw e (acts.takes p old job refl (due (Take p) old here refl) page bytes refl refl)
 
@@ -89,11 +89,11 @@ module _ {K V I O R : Type 0} (stands : R → Standing) (entry : ℕ → List �
     acts-spoil access job r asked has spoils = acts.spoils p access old job r refl (due (Write p access) old here asked) has (subst (λ m. Spoils old.partition m job access r) e spoils) refl refl
 
     pub acts-write : (access : Access) (job : FlushJob) → access ≡ Works → is_unasked s (Write p access) ≡ false → job_in s.jobs p ≡ Some job
-        → Flushes old.partition new.partition (receipt_of job) job.bytes.items next (Ok tt) → IsQuiet true old.partition new.partition next → IsPassedOn old new
+        → Flushes old.partition new.partition (receipt_of job) job.bytes next (Ok tt) → IsQuiet true old.partition new.partition next → IsPassedOn old new
         → Acts stands entry cmp f code s (record s { partitions = slice_set s.partitions p new; jobs = slice_set s.jobs p None; moment = next }) (Write p access) (Ok (outcome.Flushed job.page))
     acts-write access job works asked has does ev passed =
         rw (e, works) (acts.writes p old new job refl (due (Write p Works) old here (ap (λ a. is_unasked s (Write p a)) (sym works) ∙ asked)) has
-        (subst (λ m. Flushes old.partition new.partition (receipt_of job) job.bytes.items m (Ok tt)) e does) (subst (λ m. IsQuiet true old.partition new.partition m) e ev) passed refl refl)
+        (subst (λ m. Flushes old.partition new.partition (receipt_of job) job.bytes m (Ok tt)) e does) (subst (λ m. IsQuiet true old.partition new.partition m) e ev) passed refl refl)
 
     pub acts-relocate : (slot c : ℕ) → Relocates old new slot next (Ok c) → IsRelocating true cmp old new slot c next → slot < 16
         → Acts stands entry cmp f code s (record s {

@@ -49,7 +49,7 @@ desk-set desks p d job h = map-set (λ (e : Desk). e.job) desks p d ∙ ap (slic
 
 -- ---- the rules
 module _ {K V I O R : Type 0} {stands : R → Standing} {entry : ℕ → List ℕ → ℕ → Entry K V → Type 0} (cmp : K → K → Ordering) (f : Meanings K V I O) (code : K → ℕ) (s : StateView K V I O R) (state : IsState cmp f code s) (p now : ℕ) (due : IsMomentIn s p now) (old : CompactedView K V I) (is : old ≡ slice_index_or s.partitions p old) where
-  pub does-take : (job : FlushJob) → job.page ≡ length old.partition.records.receipts → slice_get old.partition.records.waiting 0 ≡ Some job.bytes.items
+  pub does-take : (job : FlushJob) → job.page ≡ length old.partition.records.receipts → slice_get old.partition.records.waiting 0 ≡ Some job.bytes
       → Acts stands entry cmp f code s (record s { jobs = slice_set s.jobs p (Some job); moment = now }) (Take p) (Ok (outcome.Taken job.page))
   does-take job page bytes = acts-take stands entry cmp f code s now due.next due.fits p old old (here cmp f code s state p now due old is) job page bytes
 
@@ -63,7 +63,7 @@ module _ {K V I O R : Type 0} {stands : R → Standing} {entry : ℕ → List �
     pub spoils-unwritten : (r : Refused) → Unwritten job access r → Acts stands entry cmp f code s (record s { jobs = slice_set s.jobs p None }) (Write p access) (Err r)
     spoils-unwritten r h = acts-spoil stands entry cmp f code s now due.next due.fits p old old (here cmp f code s state p now due old is) access job r asked has (Spoils.unwritten h)
 
-    module _ (new : CompactedView K V I) (receipt : Standing) (bytes : List ℕ) (works : access ≡ Works) (of : receipt ≡ receipt_of job) (same_bytes : bytes ≡ job.bytes.items) where
+    module _ (new : CompactedView K V I) (receipt : Standing) (bytes : List ℕ) (works : access ≡ Works) (of : receipt ≡ receipt_of job) (same_bytes : bytes ≡ job.bytes) where
       pub spoils-strange : (r : Refused) → new ≡ old → Flushes old.partition new.partition receipt bytes now (Err r) → Acts stands entry cmp f code s (record s { partitions = slice_set s.partitions p new; jobs = slice_set s.jobs p None }) (Write p access) (Err r)
       spoils-strange r same does =
           rw (set-unchanged s.partitions p old new (here cmp f code s state p now due old is) same)

@@ -174,7 +174,7 @@ unwritten-no job access e (Unwritten.wants a h) = is e NoMemory h refl
 
 pub spoils-no : {K V I : Type 0} (v : PartitionView K V I) (now : ℕ) (job : FlushJob) (access : Access) (e : Refused) → Spoils v now job access e → ends_operation e ≡ false
 spoils-no v now job access e (Spoils.unwritten h) = unwritten-no job access e h
-spoils-no v now job access e (Spoils.strange a (Flushes.refused why r b h)) = let k : e ≡ why = cc in is e why k (flush-no v.records job.page job.bytes.items why r)
+spoils-no v now job access e (Spoils.strange a (Flushes.refused why r b h)) = let k : e ≡ why = cc in is e why k (flush-no v.records job.page job.bytes why r)
 spoils-no v now job access e (Spoils.strange a (Flushes.unkept r b h)) = is e NoMemory (ok-err e _ h) refl
 spoils-no v now job access e (Spoils.strange a (Flushes.keeps r b h)) = absurd (cc)
 

@@ -291,7 +291,7 @@ pub data Acts {K V I O R : Type 0} (stands : R → Standing) (entry : ℕ → Li
       → step ≡ Take p
       → IsDue old step v
       → job.page ≡ length v.partition.records.receipts
-      → slice_get v.partition.records.waiting 0 ≡ Some job.bytes.items
+      → slice_get v.partition.records.waiting 0 ≡ Some job.bytes
       → new ≡ record (with_job old p (Some job)) { moment = suc old.moment }
       → result ≡ Ok (outcome.Taken job.page)
       → Acts stands entry cmp f code old new step result
@@ -308,7 +308,7 @@ pub data Acts {K V I O R : Type 0} (stands : R → Standing) (entry : ℕ → Li
       → step ≡ Write p Works
       → IsDue old step v
       → job_in old.jobs p ≡ Some job
-      → Flushes v.partition v'.partition (receipt_of job) job.bytes.items (suc old.moment) (Ok tt)
+      → Flushes v.partition v'.partition (receipt_of job) job.bytes (suc old.moment) (Ok tt)
       → IsQuiet true v.partition v'.partition (suc old.moment)
       → IsPassedOn v v'
       → new ≡ with_job (with_partition old p v') p None

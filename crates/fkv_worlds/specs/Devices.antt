@@ -14,8 +14,8 @@ abbrev pub receipt_of : FlushJob → Standing
 receipt_of job = record {
   number = 0;
   page = job.page;
-  length = length job.bytes.items;
-  bytes = job.bytes.items;
+  length = length job.bytes;
+  bytes = job.bytes;
   mark = [];
 }
 
@@ -50,5 +50,5 @@ pub data Spoils {K V I : Type 0} (v : PartitionView K V I) (now : ℕ) (job : Fl
     : Type 0 where
   unwritten : Unwritten job access e → Spoils v now job access e
   strange : access ≡ Works
-      → Flushes v v (receipt_of job) job.bytes.items now (Err e)
+      → Flushes v v (receipt_of job) job.bytes now (Err e)
       → Spoils v now job access e

@@ -27,13 +27,17 @@ impl Desk {
 
     /// Writes the page that was taken last, which is spent by it. Refused: `Device` with code 2 where the device is to
     /// fail, and where it works `NoMemory` alone.
-    pub fn write(&mut self, alloc: Global, access: Access) -> Result<Written<MemoryDevice>, Refused>
+    pub fn write(
+        &mut self,
+        alloc: Global,
+        access: Access,
+    ) -> Result<Written<MemoryReceipt>, Refused>
         requires { IsSome self.old.job }
         ensures spent { self.new.job ≡ None }
         ensures written { IfOk result (λ w. (job : FlushJob)
             → self.old.job ≡ Some job
             → (access ≡ Access.Works) × (⟦<MemoryReceipt as Receipt>⟧.stands w.receipt ≡ receipt_of job)
-            × (w.bytes ≡ job.bytes.items)) }
+            × (w.bytes ≡ job.bytes)) }
         ensures unwritten { IfErr result (λ e. (job : FlushJob) → self.old.job ≡ Some job → Unwritten job access e) }
     {
         let Some(job) = self.job.take() else {
@@ -44,7 +48,7 @@ impl Desk {
                 code: 2,
                 page: job.page,
             }),
-            Access::Works => Written::<MemoryDevice>::write(&mut writer(alloc), job),
+            Access::Works => Written::<MemoryReceipt>::write(&mut writer(alloc), job),
         }
     }
 }
@@ -76,7 +80,7 @@ pub fn read(
     alloc: Global,
     receipt: &MemoryReceipt,
     access: Access,
-) -> Result<Loaded<MemoryDevice>, Refused>
+) -> Result<Loaded<MemoryReceipt>, Refused>
     ensures { Comes ⟦<MemoryReceipt as Receipt>⟧.stands receipt.now access result }
 {
     match access {
@@ -85,12 +89,7 @@ pub fn read(
             page: receipt.page(),
         }),
         Access::Works => {
-            match Loaded::<MemoryDevice>::fetch(
-                alloc,
-                &mut reader(alloc),
-                receipt,
-                receipt.size(),
-            ) {
+            match Loaded::<MemoryReceipt>::fetch(&mut reader(alloc), receipt, receipt.size()) {
                 Ok(loaded) => {
                     // its bytes are those that the receipt stands for
                     let _kept = loaded.receipt();

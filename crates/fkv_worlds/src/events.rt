@@ -17,7 +17,7 @@ ghost use Rattle.fkv_compaction.specs.Beginning.{Issues, LeavesAll};
 ghost use Rattle.fkv_worlds.specs.States.{IsPassedOn};
 
 use fkv_compaction::Compacted;
-use fkv_device::{Loaded, MemoryDevice, MemoryReceipt, Receipt, Written};
+use fkv_device::{Loaded, MemoryReceipt, Receipt, Written};
 use fkv_functions::{Built, Functions, Refused};
 use fkv_operations::OpOf;
 use fkv_partition::ProgressOf;
@@ -25,7 +25,7 @@ use fkv_partition::laws::{loads_end, pendings_stay};
 
 /// A session enters.
 pub fn enter<F: Functions>(
-    partition: &mut Compacted<F, MemoryDevice>,
+    partition: &mut Compacted<F, MemoryReceipt>,
     now: u64,
 ) -> Result<usize, Refused>
     requires later { partition.old.partition.moment < now }
@@ -44,7 +44,7 @@ pub fn enter<F: Functions>(
 
 /// A session leaves.
 pub fn leave<F: Functions>(
-    partition: &mut Compacted<F, MemoryDevice>,
+    partition: &mut Compacted<F, MemoryReceipt>,
     slot: usize,
     now: u64,
 ) -> Result<(), Refused>
@@ -62,7 +62,7 @@ pub fn leave<F: Functions>(
 
 /// A session looks at the regions anew.
 pub fn refresh<F: Functions>(
-    partition: &mut Compacted<F, MemoryDevice>,
+    partition: &mut Compacted<F, MemoryReceipt>,
     slot: usize,
     now: u64,
 ) -> Result<(), Refused>
@@ -81,7 +81,7 @@ pub fn refresh<F: Functions>(
 
 /// The read-only offset moves.
 pub fn shift_read_only<F: Functions>(
-    partition: &mut Compacted<F, MemoryDevice>,
+    partition: &mut Compacted<F, MemoryReceipt>,
     page: u64,
     now: u64,
 ) -> Result<(), Refused>
@@ -100,7 +100,7 @@ pub fn shift_read_only<F: Functions>(
 
 /// Head moves.
 pub fn shift_head<F: Functions>(
-    partition: &mut Compacted<F, MemoryDevice>,
+    partition: &mut Compacted<F, MemoryReceipt>,
     page: u64,
     now: u64,
 ) -> Result<(), Refused>
@@ -119,8 +119,8 @@ pub fn shift_head<F: Functions>(
 
 /// A page that was written is flushed.
 pub fn flush_done<F: Functions>(
-    partition: &mut Compacted<F, MemoryDevice>,
-    written: Written<MemoryDevice>,
+    partition: &mut Compacted<F, MemoryReceipt>,
+    written: Written<MemoryReceipt>,
     now: u64,
 ) -> Result<(), Refused>
     requires later { partition.old.partition.moment < now }
@@ -138,7 +138,7 @@ pub fn flush_done<F: Functions>(
 
 /// An operation is issued.
 pub fn issue<F: Functions>(
-    partition: &mut Compacted<F, MemoryDevice>,
+    partition: &mut Compacted<F, MemoryReceipt>,
     slot: usize,
     op: OpOf<F>,
     functions: &F,
@@ -158,12 +158,12 @@ pub fn issue<F: Functions>(
 
 /// An operation goes on.
 pub fn go<F: Functions>(
-    partition: &mut Compacted<F, MemoryDevice>,
+    partition: &mut Compacted<F, MemoryReceipt>,
     slot: usize,
     context: usize,
     functions: &F,
     now: u64,
-) -> Result<ProgressOf<F, MemoryDevice>, Refused>
+) -> Result<ProgressOf<F, MemoryReceipt>, Refused>
     requires later { partition.old.partition.moment < now }
     ensures does { Goes ⟦<MemoryReceipt as Receipt>⟧.stands F.Key.cmp F.meaning F.code partition.old.partition partition.new.partition slot context now
         result }
@@ -182,13 +182,13 @@ pub fn go<F: Functions>(
 
 /// What an operation asked for is installed.
 pub fn install<F: Functions>(
-    partition: &mut Compacted<F, MemoryDevice>,
+    partition: &mut Compacted<F, MemoryReceipt>,
     slot: usize,
     context: usize,
     built: Built<F>,
     functions: &F,
     now: u64,
-) -> Result<ProgressOf<F, MemoryDevice>, Refused>
+) -> Result<ProgressOf<F, MemoryReceipt>, Refused>
     requires later { partition.old.partition.moment < now }
     ensures does { Installs F.Key.cmp F.meaning F.code partition.old.partition partition.new.partition slot context built now result }
     ensures passed { IsPassedOn partition.old partition.new }
@@ -206,13 +206,13 @@ pub fn install<F: Functions>(
 
 /// A page came for an operation, or a refusal in its place.
 pub fn load<F: Functions>(
-    partition: &mut Compacted<F, MemoryDevice>,
+    partition: &mut Compacted<F, MemoryReceipt>,
     slot: usize,
     context: usize,
-    came: Result<Loaded<MemoryDevice>, Refused>,
+    came: Result<Loaded<MemoryReceipt>, Refused>,
     functions: &F,
     now: u64,
-) -> Result<ProgressOf<F, MemoryDevice>, Refused>
+) -> Result<ProgressOf<F, MemoryReceipt>, Refused>
     requires later { partition.old.partition.moment < now }
     ensures does { Loads ⟦<MemoryReceipt as Receipt>⟧.stands (IsEntryIn F.Key.bytes_of F.Value.bytes_of F.Key.is_known F.Value.is_known
         F.Key.SIZE F.Value.SIZE) F.Key.cmp F.meaning partition.old.partition partition.new.partition slot context came now result }
@@ -224,13 +224,13 @@ pub fn load<F: Functions>(
     ensures within { IfOk result (λ _. (slot < 16) × (context < 8)) }
     ensures moment { partition.new.partition.moment ≤ now }
 {
-    loads_end::<F, MemoryDevice>();
+    loads_end::<F, MemoryReceipt>();
     partition.load(slot, context, came, functions, now)
 }
 
 /// An operation is given up.
 pub fn give_up<F: Functions>(
-    partition: &mut Compacted<F, MemoryDevice>,
+    partition: &mut Compacted<F, MemoryReceipt>,
     slot: usize,
     context: usize,
     now: u64,

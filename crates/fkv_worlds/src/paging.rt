@@ -12,7 +12,7 @@ use crate::desks::read;
 use crate::events::{flush_done, load};
 use crate::states::State;
 use crate::tables::{end_life, has_receipt, life_at, note_progress, row_of};
-use fkv_device::{Loaded, MemoryDevice, MemoryReceipt, Receipt};
+use fkv_device::{Loaded, MemoryReceipt, Receipt};
 use fkv_functions::{Functions, Refused};
 use fkv_lives::lives::End;
 use fkv_lives::outcomes::{Outcome, OutcomeOf};
@@ -36,7 +36,7 @@ pub(crate) fn read_asked(
     receipts: &[Option<MemoryReceipt>],
     place: Place,
     access: Access,
-) -> Result<Loaded<MemoryDevice>, Refused>
+) -> Result<Loaded<MemoryReceipt>, Refused>
     requires partition { place.partition < 64 }
     requires rows { place.partition * 128 + 128 ≤ length receipts.now }
     requires asked { IsSome (receipt_in receipts.now place) }

@@ -99,7 +99,7 @@ impl<F: Functions> State<F> {
     {
         for partition in &self.partitions {
             // a device in memory refuses no page of the partition's size: what is refused is memory
-            match partition.put_live(alloc, &mut reader(alloc), map) {
+            match partition.put_live(&mut reader(alloc), map) {
                 Ok(()) => (),
                 Err(refused) => return Err(refused),
             }

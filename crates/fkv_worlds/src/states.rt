@@ -21,7 +21,7 @@ use crate::tables::{
     Tables, begin_life, end_life, life_at, note_progress, question_at, seat_session,
 };
 use fkv_compaction::Compacted;
-use fkv_device::{MemoryDevice, MemoryReceipt, Receipt};
+use fkv_device::{MemoryReceipt, Receipt};
 use fkv_functions::{Ask, Built, Functions, Refused};
 use fkv_lives::lives::{End, LifeOf};
 use fkv_lives::outcomes::{Outcome, OutcomeOf};
@@ -35,7 +35,7 @@ use std::marker::Model;
 #[derive(Drop)]
 pub struct State<F: Functions> {
     pub(crate) alloc: Global,
-    pub(crate) partitions: Vec<Compacted<F, MemoryDevice>>,
+    pub(crate) partitions: Vec<Compacted<F, MemoryReceipt>>,
     pub(crate) desks: Vec<Desk>,
     pub(crate) tables: Tables<F::Key, F::Value, F::Input>,
     pub(crate) lives: Vec<LifeOf<F>>,
@@ -82,7 +82,7 @@ fn keep<T: Drop>(items: &mut Vec<T>, item: T) -> Result<(), Refused>
 
 /// Adds the partition of this number, with nothing in it. Refused: `NoMemory`.
 fn add_empty<F: Functions>(
-    partitions: &mut Vec<Compacted<F, MemoryDevice>>,
+    partitions: &mut Vec<Compacted<F, MemoryReceipt>>,
     alloc: Global,
     config: &Config,
     number: u64,
@@ -102,7 +102,7 @@ fn empty_partitions<F: Functions>(
     alloc: Global,
     config: &Config,
     count: u64,
-) -> Result<Vec<Compacted<F, MemoryDevice>>, Refused>
+) -> Result<Vec<Compacted<F, MemoryReceipt>>, Refused>
     ensures ok { IfOk result (λ partitions. partitions.items
         ≡ empty_partitions config.now (size_of F.Key.SIZE F.Value.SIZE) count) }
     ensures only { IfErr result (λ refused. refused ≡ Refused.NoMemory) }

@@ -321,6 +321,17 @@ pub fn begin_life<K: Copy, V: Copy, I: Copy, O: Copy>(
     let _pushed = lives.push(begun_life(place.partition, &seat, op, now));
 }
 
+/// Keeps what a context asked for last.
+fn keep_asked<T: Drop>(rows: &mut Vec<Option<T>>, place: Place, asked: T)
+    requires partition { place.partition < 64 }
+    requires slot { place.slot < 16 }
+    requires context { place.context < 8 }
+    requires rows { place.partition * 128 + 128 ≤ length rows.old.items }
+    ensures { rows.new.items ≡ slice_set rows.old.items (context_row place) (Some asked) }
+{
+    rows[row_of(place)] = Some(asked);
+}
+
 /// Ends the life of an operation that is done, or keeps what it asks for, and tells its progress.
 pub fn note_progress<K: Copy, V: Copy, I: Copy, O: Copy>(
     lives: &mut Vec<Life<K, V, I, O>>,
@@ -358,11 +369,11 @@ pub fn note_progress<K: Copy, V: Copy, I: Copy, O: Copy>(
         Progress::Next => Outcome::Next,
         Progress::Waits(why) => Outcome::Waits(why),
         Progress::NeedsBuild(ask) => {
-            tables.questions[row_of(place)] = Some(ask);
+            keep_asked(&mut tables.questions, place, ask);
             Outcome::Build(ask.source)
         }
         Progress::NeedsLoad(receipt, address) => {
-            tables.receipts[row_of(place)] = Some(receipt);
+            keep_asked(&mut tables.receipts, place, receipt);
             Outcome::Load(address)
         }
     }
@@ -391,7 +402,7 @@ pub fn note_moved<K: Copy, V: Copy, I: Copy, O: Copy>(
         Moved::Next => Outcome::Next,
         Moved::Waits => Outcome::Waits(Wait::Full),
         Moved::NeedsLoad(receipt, address) => {
-            tables.receipts[row_of(place)] = Some(receipt);
+            keep_asked(&mut tables.receipts, place, receipt);
             Outcome::Load(address)
         }
     }

@@ -4,11 +4,11 @@ ghost use Rattle.fkv_texts.specs.Text.{entry_at, value_at};
 ghost use Rattle.fkv_hybrid.specs.Views.{with_value};
 
 use crate::log::Log;
-use fkv_device::Disk;
+use fkv_device::Receipt;
 use fkv_functions::Fixed;
 use fkv_records::Address;
 
-impl<K: Fixed, V: Fixed, D: Disk> Log<K, V, D> {
+impl<K: Fixed, V: Fixed, R: Receipt> Log<K, V, R> {
     /// Writes another value into the entry at an address that is not frozen, which has one. Nothing else changes.
     pub fn write_value(&mut self, address: Address, value: V)
         requires value { IsSome (value_at self.old.text address) }

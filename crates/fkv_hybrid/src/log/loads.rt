@@ -9,33 +9,33 @@ ghost use Rattle.fkv_pages.specs.Spelled.{IsEntryIn};
 ghost use Rattle.fkv_pages.specs.Loads.{IsHeldBy, IsReached, first_place};
 
 use crate::log::Log;
-use fkv_device::{Disk, Loaded};
-use fkv_functions::{Fixed, Refused, What};
+use fkv_device::{Loaded, Receipt};
+use fkv_functions::{Fixed, FixedKey, Refused, What};
 use fkv_records::Address;
 use fkv_texts::{Entry, Reached};
 
-impl<K: Fixed, V: Fixed, D: Disk> Log<K, V, D> {
+impl<K: Fixed, V: Fixed, R: Receipt> Log<K, V, R> {
     /// The entry at an address of a flushed page, from the page as a device gave it. On a device that keeps it is the
     /// text's. Refused: `Stranger` where the page was read by another receipt than the one that is kept of it,
     /// `Damaged` where its bytes spell no entry there.
-    pub fn record_in(&self, loaded: &Loaded<D>, address: Address) -> Result<Entry<K, V>, Refused>
+    pub fn record_in(&self, loaded: &Loaded<R>, address: Address) -> Result<Entry<K, V>, Refused>
         requires flushed { page_at self.now.bits address < length self.now.receipts }
         ensures stranger { IfSome (slice_get self.now.receipts (page_at self.now.bits address)) (λ s.
-            s ≢ D.Receipt.stands loaded.now.receipt
-            → result ≡ Err (Refused.Stranger What.Receipt s.number (D.Receipt.stands loaded.now.receipt).number)) }
-        ensures only { IsHeldBy self.now.receipts (page_at self.now.bits address) (D.Receipt.stands loaded.now.receipt)
+            s ≢ R.stands loaded.now.receipt
+            → result ≡ Err (Refused.Stranger What.Receipt s.number (R.stands loaded.now.receipt).number)) }
+        ensures only { IsHeldBy self.now.receipts (page_at self.now.bits address) (R.stands loaded.now.receipt)
             → IfOk result (IsEntryIn K.bytes_of V.bytes_of K.is_known V.is_known K.SIZE V.SIZE self.now.bits
             loaded.now.bytes address) }
-        ensures found { IsHeldBy self.now.receipts (page_at self.now.bits address) (D.Receipt.stands loaded.now.receipt)
+        ensures found { IsHeldBy self.now.receipts (page_at self.now.bits address) (R.stands loaded.now.receipt)
             → (e : Entry K V)
             → IsEntryIn K.bytes_of V.bytes_of K.is_known V.is_known K.SIZE V.SIZE self.now.bits
             loaded.now.bytes address e
             → result ≡ Ok e }
         ensures damaged { IsHeldBy self.now.receipts (page_at self.now.bits address)
-            (D.Receipt.stands loaded.now.receipt)
+            (R.stands loaded.now.receipt)
             → IfErr result (λ refused. refused ≡ Refused.Damaged (page_at self.now.bits address)) }
-        ensures kept { IsTrue D.keeps
-            → IsHeldBy self.now.receipts (page_at self.now.bits address) (D.Receipt.stands loaded.now.receipt)
+        ensures kept { IsTrue R.keeps
+            → IsHeldBy self.now.receipts (page_at self.now.bits address) (R.stands loaded.now.receipt)
             → IfSome (entry_at self.now.text address) (λ e. result ≡ Ok e) }
     {
         self.pages.record_in(loaded, address)
@@ -46,10 +46,10 @@ impl<K: Fixed, V: Fixed, D: Disk> Log<K, V, D> {
     /// entry there.
     pub fn own_record_in(
         &self,
-        loaded: &Loaded<D>,
+        loaded: &Loaded<R>,
         address: Address,
     ) -> Result<Entry<K, V>, Refused>
-        requires own { IsHeldBy self.now.receipts (page_at self.now.bits address) (D.Receipt.stands loaded.now.receipt) }
+        requires own { IsHeldBy self.now.receipts (page_at self.now.bits address) (R.stands loaded.now.receipt) }
         ensures only { IfOk result (IsEntryIn K.bytes_of V.bytes_of K.is_known V.is_known K.SIZE V.SIZE self.now.bits
             loaded.now.bytes address) }
         ensures found { (e : Entry K V)
@@ -57,52 +57,52 @@ impl<K: Fixed, V: Fixed, D: Disk> Log<K, V, D> {
             loaded.now.bytes address e
             → result ≡ Ok e }
         ensures damaged { IfErr result (λ refused. refused ≡ Refused.Damaged (page_at self.now.bits address)) }
-        ensures kept { IsTrue D.keeps → IfSome (entry_at self.now.text address) (λ e. result ≡ Ok e) }
+        ensures kept { IsTrue R.keeps → IfSome (entry_at self.now.text address) (λ e. result ≡ Ok e) }
     {
         self.pages.own_record_in(loaded, address)
     }
 
     /// Whether a page was read by the receipt that is kept of it. Refused: `Stranger` where it was read by another.
-    pub fn is_own(&self, loaded: &Loaded<D>, page: u64) -> Result<(), Refused>
+    pub fn is_own(&self, loaded: &Loaded<R>, page: u64) -> Result<(), Refused>
         requires { page < length self.now.receipts }
-        ensures own { IsOk result ↔ IsHeldBy self.now.receipts page (D.Receipt.stands loaded.now.receipt) }
+        ensures own { IsOk result ↔ IsHeldBy self.now.receipts page (R.stands loaded.now.receipt) }
         ensures stranger { IfErr result (λ refused. IfSome (slice_get self.now.receipts page) (λ s.
-            (s ≢ D.Receipt.stands loaded.now.receipt)
-            × (refused ≡ Refused.Stranger What.Receipt s.number (D.Receipt.stands loaded.now.receipt).number))) }
+            (s ≢ R.stands loaded.now.receipt)
+            × (refused ≡ Refused.Stranger What.Receipt s.number (R.stands loaded.now.receipt).number))) }
     {
         self.pages.is_own(loaded, page)
     }
 }
 
-impl<K: Fixed + Ord, V: Fixed, D: Disk> Log<K, V, D> {
+impl<K: FixedKey, V: Fixed, R: Receipt> Log<K, V, R> {
     /// Goes from an address of a flushed page along previous addresses, in the page as a device gave it, to the first
     /// entry of a key, or out of the page. On a device that keeps it is the text's chain. Refused as
     /// [`Log::record_in`].
     pub fn first_in_page(
         &self,
-        loaded: &Loaded<D>,
+        loaded: &Loaded<R>,
         key: &K,
         from: Address,
     ) -> Result<Reached<K, V>, Refused>
         requires flushed { page_at self.now.bits from < length self.now.receipts }
         ensures stranger { IfSome (slice_get self.now.receipts (page_at self.now.bits from)) (λ s.
-            s ≢ D.Receipt.stands loaded.now.receipt
-            → result ≡ Err (Refused.Stranger What.Receipt s.number (D.Receipt.stands loaded.now.receipt).number)) }
+            s ≢ R.stands loaded.now.receipt
+            → result ≡ Err (Refused.Stranger What.Receipt s.number (R.stands loaded.now.receipt).number)) }
         // who is answered, or told of damage, knows that the page is the one that is kept
         ensures own { OnOk result (IsHeldBy self.now.receipts (page_at self.now.bits from)
-            (D.Receipt.stands loaded.now.receipt)) }
+            (R.stands loaded.now.receipt)) }
         ensures refused { IfErr result (λ refused.
-            ((IsHeldBy self.now.receipts (page_at self.now.bits from) (D.Receipt.stands loaded.now.receipt) → ⊥)
+            ((IsHeldBy self.now.receipts (page_at self.now.bits from) (R.stands loaded.now.receipt) → ⊥)
             × IfSome (slice_get self.now.receipts (page_at self.now.bits from)) (λ s.
-            refused ≡ Refused.Stranger What.Receipt s.number (D.Receipt.stands loaded.now.receipt).number))
-            ⊎ (IsHeldBy self.now.receipts (page_at self.now.bits from) (D.Receipt.stands loaded.now.receipt)
+            refused ≡ Refused.Stranger What.Receipt s.number (R.stands loaded.now.receipt).number))
+            ⊎ (IsHeldBy self.now.receipts (page_at self.now.bits from) (R.stands loaded.now.receipt)
             × (refused ≡ Refused.Damaged (page_at self.now.bits from)))) }
-        ensures read { IsHeldBy self.now.receipts (page_at self.now.bits from) (D.Receipt.stands loaded.now.receipt)
+        ensures read { IsHeldBy self.now.receipts (page_at self.now.bits from) (R.stands loaded.now.receipt)
             → IsReached (IsEntryIn K.bytes_of V.bytes_of K.is_known V.is_known K.SIZE V.SIZE self.now.bits
             loaded.now.bytes) K.cmp key.now self.now.bits (first_place self.now.bits (page_at self.now.bits from))
             from result }
-        ensures kept { IsTrue D.keeps
-            → IsHeldBy self.now.receipts (page_at self.now.bits from) (D.Receipt.stands loaded.now.receipt)
+        ensures kept { IsTrue R.keeps
+            → IsHeldBy self.now.receipts (page_at self.now.bits from) (R.stands loaded.now.receipt)
             → (es : List (Entry K V))
             → IsChainFrom (first_place self.now.bits (page_at self.now.bits from)) self.now.text from es
             → result ≡ Ok (reached (find (has_key K.cmp key.now) es) (leads_to from es)) }

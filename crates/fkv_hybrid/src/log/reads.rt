@@ -6,12 +6,12 @@ ghost use Rattle.fkv_texts.specs.Text.{entry_at, has_key};
 ghost use Rattle.fkv_texts.specs.Chains.{IsChainFrom, leads_to, reached};
 
 use crate::log::Log;
-use fkv_device::Disk;
-use fkv_functions::Fixed;
+use fkv_device::Receipt;
+use fkv_functions::{Fixed, FixedKey};
 use fkv_records::Address;
 use fkv_texts::{Entry, Reached};
 
-impl<K: Fixed, V: Fixed, D: Disk> Log<K, V, D> {
+impl<K: Fixed, V: Fixed, R: Receipt> Log<K, V, R> {
     /// Whether an entry stands at an address whose frame is not closed.
     pub fn has_entry(&self, address: Address) -> bool
         ensures { IsTrue result
@@ -33,7 +33,7 @@ impl<K: Fixed, V: Fixed, D: Disk> Log<K, V, D> {
     }
 }
 
-impl<K: Fixed + Ord, V: Fixed, D: Disk> Log<K, V, D> {
+impl<K: FixedKey, V: Fixed, R: Receipt> Log<K, V, R> {
     /// The first entry of a key on the chain from an address down to another, below which it does not look, or where
     /// the chain leads from there.
     pub fn first_on_chain(&self, key: &K, from: Address, low: Address) -> Reached<K, V>

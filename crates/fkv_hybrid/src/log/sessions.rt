@@ -11,12 +11,12 @@ ghost use Rattle.fkv_hybrid.specs.Tied.{IsFollowed};
 ghost use Rattle.fkv_hybrid.specs.Views.{with_regions, IsMoved};
 
 use crate::log::Log;
-use fkv_device::Disk;
+use fkv_device::Receipt;
 use fkv_functions::{Fixed, Refused};
 use fkv_pages::Pages;
 use fkv_regions::{Offsets, Regions};
 
-impl<K: Fixed, V: Fixed, D: Disk> Log<K, V, D> {
+impl<K: Fixed, V: Fixed, R: Receipt> Log<K, V, R> {
     /// The offsets, the epochs, and what each session has seen: there a session asks for the region of an address.
     pub fn regions(&self) -> &Regions
         ensures { result.now ≡ self.now.regions }
@@ -41,7 +41,7 @@ impl<K: Fixed, V: Fixed, D: Disk> Log<K, V, D> {
     /// `Unknown` where no session is entered at the slot.
     pub fn refresh(&mut self, slot: usize) -> Result<(), Refused>
         ensures unknown { IsOk result ↔ IsTrue (is_entered self.old.regions.epochs slot) }
-        ensures effect { OnOk result (IsMoved D.keeps (refreshed self.old.regions slot) self.old self.new) }
+        ensures effect { OnOk result (IsMoved R.keeps (refreshed self.old.regions slot) self.old self.new) }
         ensures raised { IsRaised self.old.regions.offsets self.new.regions.offsets }
         ensures refused { IfErr result (λ why. (why ≡ Refused.Unknown) × (self.new ≡ self.old)) }
     {
@@ -61,7 +61,7 @@ impl<K: Fixed, V: Fixed, D: Disk> Log<K, V, D> {
     /// `Unknown` where no session is entered at the slot.
     pub fn leave(&mut self, slot: usize) -> Result<(), Refused>
         ensures unknown { IsOk result ↔ IsTrue (is_entered self.old.regions.epochs slot) }
-        ensures effect { OnOk result (IsMoved D.keeps (left self.old.regions slot) self.old self.new) }
+        ensures effect { OnOk result (IsMoved R.keeps (left self.old.regions slot) self.old self.new) }
         ensures raised { IsRaised self.old.regions.offsets self.new.regions.offsets }
         ensures refused { IfErr result (λ why. (why ≡ Refused.Unknown) × (self.new ≡ self.old)) }
     {
@@ -82,7 +82,7 @@ impl<K: Fixed, V: Fixed, D: Disk> Log<K, V, D> {
     pub fn shift_read_only(&mut self, page: u64) -> Result<(), Refused>
         ensures ok { IsOk result
             ↔ (IsReadOnlyDue self.old.regions page self.old.tail × IsRoomy self.old.regions) }
-        ensures effect { OnOk result (IsMoved D.keeps
+        ensures effect { OnOk result (IsMoved R.keeps
             (with_read_only self.old.regions (start_at self.old.regions.bits page)) self.old self.new) }
         ensures raised { IsRaised self.old.regions.offsets self.new.regions.offsets }
         ensures not_due { (result ≡ Err Refused.NotDue) ↔ ¬ IsReadOnlyDue self.old.regions page self.old.tail }
@@ -109,7 +109,7 @@ impl<K: Fixed, V: Fixed, D: Disk> Log<K, V, D> {
     /// `NotDue` where Head would not rise, or a page below is not flushed; `DrainFull` where sixteen moves wait.
     pub fn shift_head(&mut self, page: u64) -> Result<(), Refused>
         ensures ok { IsOk result ↔ (IsHeadDue self.old.regions page × IsRoomy self.old.regions) }
-        ensures effect { OnOk result (IsMoved D.keeps
+        ensures effect { OnOk result (IsMoved R.keeps
             (with_head self.old.regions (start_at self.old.regions.bits page)) self.old self.new) }
         ensures raised { IsRaised self.old.regions.offsets self.new.regions.offsets }
         ensures not_due { (result ≡ Err Refused.NotDue) ↔ ¬ IsHeadDue self.old.regions page }
@@ -131,13 +131,13 @@ impl<K: Fixed, V: Fixed, D: Disk> Log<K, V, D> {
 }
 
 /// Freezes entries below SafeReadOnly, and closes frames below `closed`.
-fn follow<K: Fixed, V: Fixed, D: Disk>(pages: &mut Pages<K, V, D>, regions: &Regions)
+fn follow<K: Fixed, V: Fixed, R: Receipt>(pages: &mut Pages<K, V, R>, regions: &Regions)
     requires bits { regions.now.bits ≡ pages.old.bits }
     requires flushed { regions.now.flushed ≡ length pages.old.receipts }
     requires frozen { pages.old.frozen ≤ regions.now.offsets.safe_read_only }
     requires closed { pages.old.closed ≤ regions.now.offsets.closed }
     requires begun { regions.now.offsets.read_only ≤ pages.old.tail }
-    ensures { IsFollowed D.keeps regions.now.offsets pages.old pages.new }
+    ensures { IsFollowed R.keeps regions.now.offsets pages.old pages.new }
 {
     pages.known();
     regions.known();

@@ -4,15 +4,15 @@ ghost use Rattle.fkv_records.specs.Places.{start_at};
 ghost use Rattle.fkv_hybrid.specs.Views.{IsTruncationDue, truncated};
 
 use crate::log::Log;
-use fkv_device::Disk;
+use fkv_device::Receipt;
 use fkv_functions::{Fixed, Refused};
 
-impl<K: Fixed, V: Fixed, D: Disk> Log<K, V, D> {
+impl<K: Fixed, V: Fixed, R: Receipt> Log<K, V, R> {
     /// Moves Begin to the start of a page: entries below are dropped. Refused, and then nothing changes: `NotDue` where
     /// Begin would not rise, or would pass Head.
     pub fn truncate(&mut self, page: u64) -> Result<(), Refused>
         ensures ok { IsOk result ↔ IsTruncationDue self.old page }
-        ensures effect { OnOk result (self.new ≡ truncated D.keeps self.old (start_at self.old.bits page)) }
+        ensures effect { OnOk result (self.new ≡ truncated R.keeps self.old (start_at self.old.bits page)) }
         ensures only { IfErr result (λ refused. refused ≡ Refused.NotDue) }
         ensures refused { OnErr result (self.new ≡ self.old) }
     {

@@ -9,11 +9,11 @@ ghost use Rattle.fkv_lookups.specs.Flushes.{flush_refusal};
 ghost use Rattle.fkv_lookups.specs.RecordsViews.{with_receipt};
 
 use crate::records::Records;
-use fkv_device::{Disk, FlushJob, Written};
+use fkv_device::{FlushJob, Receipt, Written};
 use fkv_functions::{Functions, Refused};
 use std::alloc::Global;
 
-impl<F: Functions, D: Disk> Records<F, D> {
+impl<F: Functions, R: Receipt> Records<F, R> {
     /// The lowest page that is not flushed.
     pub fn unflushed(&self) -> u64
         ensures { result ≡ length self.now.receipts }
@@ -41,7 +41,7 @@ impl<F: Functions, D: Disk> Records<F, D> {
     /// `NoMemory`.
     pub fn flush_take(&self, alloc: Global) -> Result<FlushJob, Refused>
         ensures page { IfOk result (λ job. job.page ≡ length self.now.receipts) }
-        ensures bytes { IfOk result (λ job. slice_get self.now.waiting 0 ≡ Some job.bytes.items) }
+        ensures bytes { IfOk result (λ job. slice_get self.now.waiting 0 ≡ Some job.bytes) }
         ensures due { (result ≡ Err Refused.NotDue) ↔ (self.now.waiting ≡ []) }
         ensures only { IfErr result (λ refused. (refused ≡ Refused.NotDue) ⊎ (refused ≡ Refused.NoMemory)) }
     {
@@ -50,20 +50,20 @@ impl<F: Functions, D: Disk> Records<F, D> {
 
     /// Why a written page would not be taken in, but for want of memory: `Stranger` where another page is the lowest
     /// that is not flushed, `NotDue` where that one does not wait, `Stranger` where its bytes are others.
-    pub fn flush_refusal(&self, written: &Written<D>) -> Option<Refused>
-        ensures { result ≡ flush_refusal self.now (D.Receipt.stands written.now.receipt).page written.now.bytes }
+    pub fn flush_refusal(&self, written: &Written<R>) -> Option<Refused>
+        ensures { result ≡ flush_refusal self.now (R.stands written.now.receipt).page written.now.bytes }
     {
         self.log.flush_refusal(written)
     }
 
     /// Takes in that the lowest page that is not flushed was written, and keeps its receipt. Refused, and then nothing
     /// changes: as [`Records::flush_refusal`] says, and then `NoMemory`.
-    pub fn flush_done(&mut self, written: Written<D>) -> Result<(), Refused>
-        ensures refused { IfSome (flush_refusal self.old (D.Receipt.stands written.receipt).page written.bytes)
+    pub fn flush_done(&mut self, written: Written<R>) -> Result<(), Refused>
+        ensures refused { IfSome (flush_refusal self.old (R.stands written.receipt).page written.bytes)
             (λ why. result ≡ Err why) }
-        ensures only { flush_refusal self.old (D.Receipt.stands written.receipt).page written.bytes ≡ None
+        ensures only { flush_refusal self.old (R.stands written.receipt).page written.bytes ≡ None
             → IfErr result (λ why. why ≡ Refused.NoMemory) }
-        ensures done { OnOk result (self.new ≡ with_receipt self.old (D.Receipt.stands written.receipt)) }
+        ensures done { OnOk result (self.new ≡ with_receipt self.old (R.stands written.receipt)) }
         ensures err { OnErr result (self.new ≡ self.old) }
     {
         let done = self.log.flush_done(written);
@@ -72,9 +72,9 @@ impl<F: Functions, D: Disk> Records<F, D> {
     }
 
     /// A receipt of a flushed page, by which it can be read. Refused: `NoMemory`.
-    pub fn receipt(&self, page: u64) -> Result<D::Receipt, Refused>
+    pub fn receipt(&self, page: u64) -> Result<R, Refused>
         requires { page < length self.now.receipts }
-        ensures stands { IfOk result (λ r. IsHeldBy self.now.receipts page (D.Receipt.stands r)) }
+        ensures stands { IfOk result (λ r. IsHeldBy self.now.receipts page (R.stands r)) }
         ensures memory { IfErr result (λ refused. refused ≡ Refused.NoMemory) }
     {
         self.log.receipt(page)

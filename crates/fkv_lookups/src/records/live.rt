@@ -8,37 +8,35 @@ ghost use Rattle.fkv_lookups.specs.Overlays.{with_text, HasFront};
 
 use crate::maps::put;
 use crate::records::Records;
-use fkv_device::Disk;
+use fkv_device::{PageReader, Receipt};
 use fkv_functions::{Functions, Refused};
-use std::alloc::Global;
 use std::collections::BTreeMap;
 
-impl<F: Functions, D: Disk> Records<F, D> {
+impl<F: Functions, R: Receipt> Records<F, R> {
     /// Puts what all records from Begin on say in turn into a map: those of flushed pages are read from the device, each
     /// page once, the others from their frames. On a device that keeps, a key of a record gets the value of its last one,
     /// none where that is a tombstone, and the others stay. Refused: `NoMemory`, or as the device refuses a flushed page;
     /// `Damaged` where a page's bytes spell no record at a place; on a device that keeps, the map then has what the first
     /// of the records say.
-    pub fn put_live(
+    pub fn put_live<P: PageReader<Receipt = R>>(
         &self,
-        alloc: Global,
-        reader: &mut D::Reader,
+        reader: &mut P,
         map: &mut BTreeMap<F::Key, F::Value>,
     ) -> Result<(), Refused>
-        ensures ok { IsTrue D.keeps → OnOk result (Same (get F.Key.cmp map.new)
+        ensures ok { IsTrue R.keeps → OnOk result (Same (get F.Key.cmp map.new)
             (with_text F.Key.cmp (get F.Key.cmp map.old) self.now.text)) }
-        ensures err { IsTrue D.keeps
+        ensures err { IsTrue R.keeps
             → OnErr result (HasFront F.Key.cmp (get F.Key.cmp map.old) (get F.Key.cmp map.new) self.now.text) }
-        ensures steady { OnOk result (D.Reader.failures reader.new ≡ D.Reader.failures reader.old) }
-        ensures refused { IfErr result (IsScanRefusal D.keeps (page_at self.now.page_bits self.now.begin)
-            (length self.now.receipts) (D.Reader.failures reader.old) (D.Reader.failures reader.new)) }
-        ensures caused { IsTrue D.keeps → IfErr result (λ e. e ≢ Refused.NoMemory → (page : ℕ)
-            × MayFail D.Receipt.stands D.Reader.can_fail self.now.receipts self.now.page_bits page) }
+        ensures steady { OnOk result (P.failures reader.new ≡ P.failures reader.old) }
+        ensures refused { IfErr result (IsScanRefusal R.keeps (page_at self.now.page_bits self.now.begin)
+            (length self.now.receipts) (P.failures reader.old) (P.failures reader.new)) }
+        ensures caused { IsTrue R.keeps → IfErr result (λ e. e ≢ Refused.NoMemory → (page : ℕ)
+            × MayFail R.stands P.can_fail self.now.receipts self.now.page_bits page) }
     {
         self.log.known();
         let mut scan = self.log.scan();
         while scan.address() < self.log.tail() {
-            let entry = match self.log.step(alloc, reader, &mut scan) {
+            let entry = match self.log.step(reader, &mut scan) {
                 Ok(entry) => entry,
                 Err(refused) => return Err(refused),
             };

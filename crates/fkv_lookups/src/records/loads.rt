@@ -11,12 +11,12 @@ ghost use Rattle.fkv_pages.specs.Loads.{IsHeldBy, IsReached, first_place};
 ghost use Rattle.fkv_lookups.specs.Lookups.{IsOfClass, GoesOn};
 
 use crate::records::Records;
-use fkv_device::{Disk, Loaded};
+use fkv_device::{Loaded, Receipt};
 use fkv_functions::{Functions, Refused};
 use fkv_records::Address;
 use fkv_texts::{Entry, Reached};
 
-impl<F: Functions, D: Disk> Records<F, D> {
+impl<F: Functions, R: Receipt> Records<F, R> {
     /// The page of an address.
     pub fn page_of(&self, address: Address) -> u64
         ensures { result ≡ page_at self.now.page_bits address }
@@ -32,13 +32,13 @@ impl<F: Functions, D: Disk> Records<F, D> {
     }
 
     /// Whether a page was read by the receipt that is kept of it. Refused: `Stranger` where it was read by another.
-    pub fn is_own(&self, loaded: &Loaded<D>, page: u64) -> Result<(), Refused>
+    pub fn is_own(&self, loaded: &Loaded<R>, page: u64) -> Result<(), Refused>
         requires { page < length self.now.receipts }
-        ensures own { IsOk result ↔ IsHeldBy self.now.receipts page (D.Receipt.stands loaded.now.receipt) }
+        ensures own { IsOk result ↔ IsHeldBy self.now.receipts page (R.stands loaded.now.receipt) }
         ensures stranger { IfErr result (λ refused. IfSome (slice_get self.now.receipts page) (λ s.
-            (s ≢ D.Receipt.stands loaded.now.receipt)
+            (s ≢ R.stands loaded.now.receipt)
             × (refused
-            ≡ Refused.Stranger what.Receipt s.number (D.Receipt.stands loaded.now.receipt).number))) }
+            ≡ Refused.Stranger what.Receipt s.number (R.stands loaded.now.receipt).number))) }
     {
         self.log.is_own(loaded, page)
     }
@@ -48,11 +48,11 @@ impl<F: Functions, D: Disk> Records<F, D> {
     /// record there.
     pub fn own_record_in(
         &self,
-        loaded: &Loaded<D>,
+        loaded: &Loaded<R>,
         address: Address,
     ) -> Result<Entry<F::Key, F::Value>, Refused>
         requires own { IsHeldBy self.now.receipts (page_at self.now.page_bits address)
-            (D.Receipt.stands loaded.now.receipt) }
+            (R.stands loaded.now.receipt) }
         ensures only { IfOk result (IsEntryIn F.Key.bytes_of F.Value.bytes_of F.Key.is_known F.Value.is_known
             F.Key.SIZE F.Value.SIZE self.now.page_bits loaded.now.bytes address) }
         ensures found { (e : Entry F.Key F.Value)
@@ -60,7 +60,7 @@ impl<F: Functions, D: Disk> Records<F, D> {
             F.Key.SIZE F.Value.SIZE self.now.page_bits loaded.now.bytes address e
             → result ≡ Ok e }
         ensures damaged { IfErr result (λ refused. refused ≡ Refused.Damaged (page_at self.now.page_bits address)) }
-        ensures kept { IsTrue D.keeps → IfSome (entry_at self.now.text address) (λ e. result ≡ Ok e) }
+        ensures kept { IsTrue R.keeps → IfSome (entry_at self.now.text address) (λ e. result ≡ Ok e) }
     {
         self.log.own_record_in(loaded, address)
     }
@@ -71,26 +71,26 @@ impl<F: Functions, D: Disk> Records<F, D> {
     /// read by another receipt than the one that is kept of it, `Damaged` where its bytes spell no record on the way.
     pub fn trace_in(
         &self,
-        loaded: &Loaded<D>,
+        loaded: &Loaded<R>,
         key: &F::Key,
         from: Address,
     ) -> Result<Reached<F::Key, F::Value>, Refused>
         requires flushed { page_at self.now.page_bits from < length self.now.receipts }
         // who is answered, or told of damage, knows that the page is the one that is kept
         ensures own { OnOk result (IsHeldBy self.now.receipts (page_at self.now.page_bits from)
-            (D.Receipt.stands loaded.now.receipt)) }
+            (R.stands loaded.now.receipt)) }
         ensures refused { IfErr result (λ refused.
-            ((IsHeldBy self.now.receipts (page_at self.now.page_bits from) (D.Receipt.stands loaded.now.receipt) → ⊥)
+            ((IsHeldBy self.now.receipts (page_at self.now.page_bits from) (R.stands loaded.now.receipt) → ⊥)
             × IfSome (slice_get self.now.receipts (page_at self.now.page_bits from)) (λ s.
-            refused ≡ Refused.Stranger what.Receipt s.number (D.Receipt.stands loaded.now.receipt).number))
-            ⊎ (IsHeldBy self.now.receipts (page_at self.now.page_bits from) (D.Receipt.stands loaded.now.receipt)
+            refused ≡ Refused.Stranger what.Receipt s.number (R.stands loaded.now.receipt).number))
+            ⊎ (IsHeldBy self.now.receipts (page_at self.now.page_bits from) (R.stands loaded.now.receipt)
             × (refused ≡ Refused.Damaged (page_at self.now.page_bits from)))) }
-        ensures read { IsHeldBy self.now.receipts (page_at self.now.page_bits from) (D.Receipt.stands loaded.now.receipt)
+        ensures read { IsHeldBy self.now.receipts (page_at self.now.page_bits from) (R.stands loaded.now.receipt)
             → IsReached (IsEntryIn F.Key.bytes_of F.Value.bytes_of F.Key.is_known F.Value.is_known
             F.Key.SIZE F.Value.SIZE self.now.page_bits loaded.now.bytes) F.Key.cmp key.now self.now.page_bits
             (first_place self.now.page_bits (page_at self.now.page_bits from)) from result }
-        ensures kept { IsTrue D.keeps
-            → IsHeldBy self.now.receipts (page_at self.now.page_bits from) (D.Receipt.stands loaded.now.receipt)
+        ensures kept { IsTrue R.keeps
+            → IsHeldBy self.now.receipts (page_at self.now.page_bits from) (R.stands loaded.now.receipt)
             → self.now.begin ≤ from
             → IsOfClass F.code self.now key.now from
             → (r : Reached F.Key F.Value)

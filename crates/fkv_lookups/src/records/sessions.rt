@@ -11,12 +11,12 @@ ghost use Rattle.fkv_texts.specs.Text.{value_at};
 ghost use Rattle.fkv_lookups.specs.RecordsViews.{with_regions, with_value, IsMoved};
 
 use crate::records::Records;
-use fkv_device::Disk;
+use fkv_device::Receipt;
 use fkv_functions::{Functions, Refused};
 use fkv_records::Address;
 use fkv_regions::View;
 
-impl<F: Functions, D: Disk> Records<F, D> {
+impl<F: Functions, R: Receipt> Records<F, R> {
     /// Whether a session is entered at a slot.
     pub fn is_entered(&self, slot: usize) -> bool
         ensures value { result ≡ is_entered self.now.regions.epochs slot }
@@ -52,7 +52,7 @@ impl<F: Functions, D: Disk> Records<F, D> {
     /// of now. Refused, and then nothing changes: `Unknown` where no session is entered at the slot.
     pub fn refresh(&mut self, slot: usize) -> Result<(), Refused>
         ensures unknown { IsOk result ↔ IsTrue (is_entered self.old.regions.epochs slot) }
-        ensures effect { OnOk result (IsMoved D.keeps (refreshed self.old.regions slot) self.old self.new) }
+        ensures effect { OnOk result (IsMoved R.keeps (refreshed self.old.regions slot) self.old self.new) }
         ensures raised { IsRaised self.old.regions.offsets self.new.regions.offsets }
         ensures refused { IfErr result (λ why. (why ≡ Refused.Unknown) × (self.new ≡ self.old)) }
     {
@@ -65,7 +65,7 @@ impl<F: Functions, D: Disk> Records<F, D> {
     /// where no session is entered at the slot.
     pub fn leave(&mut self, slot: usize) -> Result<(), Refused>
         ensures unknown { IsOk result ↔ IsTrue (is_entered self.old.regions.epochs slot) }
-        ensures effect { OnOk result (IsMoved D.keeps (left self.old.regions slot) self.old self.new) }
+        ensures effect { OnOk result (IsMoved R.keeps (left self.old.regions slot) self.old self.new) }
         ensures raised { IsRaised self.old.regions.offsets self.new.regions.offsets }
         ensures refused { IfErr result (λ why. (why ≡ Refused.Unknown) × (self.new ≡ self.old)) }
     {
@@ -80,7 +80,7 @@ impl<F: Functions, D: Disk> Records<F, D> {
     pub fn shift_read_only(&mut self, page: u64) -> Result<(), Refused>
         ensures ok { IsOk result
             ↔ (IsReadOnlyDue self.old.regions page self.old.tail × IsRoomy self.old.regions) }
-        ensures effect { OnOk result (IsMoved D.keeps
+        ensures effect { OnOk result (IsMoved R.keeps
             (with_read_only self.old.regions (start_at self.old.regions.bits page)) self.old self.new) }
         ensures raised { IsRaised self.old.regions.offsets self.new.regions.offsets }
         ensures not_due { (result ≡ Err Refused.NotDue) ↔ ¬ IsReadOnlyDue self.old.regions page self.old.tail }
@@ -100,7 +100,7 @@ impl<F: Functions, D: Disk> Records<F, D> {
     pub fn shift_head(&mut self, page: u64) -> Result<(), Refused>
         ensures ok { IsOk result
             ↔ (IsHeadDue self.old.regions page × IsRoomy self.old.regions) }
-        ensures effect { OnOk result (IsMoved D.keeps
+        ensures effect { OnOk result (IsMoved R.keeps
             (with_head self.old.regions (start_at self.old.regions.bits page)) self.old self.new) }
         ensures raised { IsRaised self.old.regions.offsets self.new.regions.offsets }
         ensures not_due { (result ≡ Err Refused.NotDue) ↔ ¬ IsHeadDue self.old.regions page }

@@ -5,15 +5,15 @@ ghost use Rattle.fkv_index.specs.Changes.{Sweeps, SameTentative};
 ghost use Rattle.fkv_lookups.specs.RecordsViews.{IsTruncationDue, truncated};
 
 use crate::records::Records;
-use fkv_device::Disk;
+use fkv_device::Receipt;
 use fkv_functions::{Functions, Refused};
 
-impl<F: Functions, D: Disk> Records<F, D> {
+impl<F: Functions, R: Receipt> Records<F, R> {
     /// Moves Begin to the start of a page: records below are dropped, and the entries that lead there are emptied.
     /// Refused, and then nothing changes: `NotDue` where Begin would not rise, or would pass Head.
     pub fn truncate(&mut self, page: u64) -> Result<(), Refused>
         ensures ok { IsOk result ↔ IsTruncationDue self.old page }
-        ensures effect { OnOk result (self.new ≡ truncated D.keeps self.old (start_at self.old.page_bits page)) }
+        ensures effect { OnOk result (self.new ≡ truncated R.keeps self.old (start_at self.old.page_bits page)) }
         ensures sweeps { OnOk result (Sweeps (start_at self.old.page_bits page) self.old.words self.new.words) }
         ensures tentative { OnOk result (SameTentative self.old.words self.new.words) }
         ensures only { IfErr result (λ refused. refused ≡ Refused.NotDue) }

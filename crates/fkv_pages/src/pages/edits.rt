@@ -5,11 +5,11 @@ ghost use Rattle.fkv_pages.specs.Views.{with_value};
 
 use crate::bytes::{put_tombstone, put_value};
 use crate::pages::Pages;
-use fkv_device::Disk;
+use fkv_device::Receipt;
 use fkv_functions::Fixed;
 use fkv_records::Address;
 
-impl<K: Fixed, V: Fixed, D: Disk> Pages<K, V, D> {
+impl<K: Fixed, V: Fixed, R: Receipt> Pages<K, V, R> {
     /// Writes another value into the entry at an address that is not frozen, which has one. Nothing else changes.
     pub fn write_value(&mut self, address: Address, value: V)
         requires value { IsSome (value_at self.old.text address) }

@@ -8,11 +8,11 @@ ghost use Rattle.fkv_pages.specs.Flushes.{flush_refusal};
 
 use crate::differences::refusal_of_bytes;
 use crate::pages::Pages;
-use fkv_device::{Disk, FlushJob, Receipt, Written};
+use fkv_device::{FlushJob, Page, Receipt, Written};
 use fkv_functions::{Fixed, Refused, What};
 use std::alloc::Global;
 
-impl<K: Fixed, V: Fixed, D: Disk> Pages<K, V, D> {
+impl<K: Fixed, V: Fixed, R: Receipt> Pages<K, V, R> {
     /// The lowest page that is not flushed.
     pub fn unflushed(&self) -> u64
         ensures { result ≡ length self.now.receipts }
@@ -32,7 +32,7 @@ impl<K: Fixed, V: Fixed, D: Disk> Pages<K, V, D> {
     /// frozen, `NoMemory`.
     pub fn flush_take(&self, alloc: Global) -> Result<FlushJob, Refused>
         ensures page { IfOk result (λ job. job.page ≡ length self.now.receipts) }
-        ensures bytes { IfOk result (λ job. slice_get self.now.waiting 0 ≡ Some job.bytes.items) }
+        ensures bytes { IfOk result (λ job. slice_get self.now.waiting 0 ≡ Some job.bytes) }
         ensures due { (result ≡ Err Refused.NotDue) ↔ (self.now.waiting ≡ []) }
         ensures only { IfErr result (λ refused. (refused ≡ Refused.NotDue) ⊎ (refused ≡ Refused.NoMemory)) }
     {
@@ -41,7 +41,7 @@ impl<K: Fixed, V: Fixed, D: Disk> Pages<K, V, D> {
         }
         let page = self.unflushed();
         let held = self.frames.bytes(page);
-        let Ok(bytes) = held.to_vec(alloc) else {
+        let Ok(bytes) = Page::copy_of(alloc, held) else {
             return Err(Refused::NoMemory);
         };
         Ok(FlushJob { page, bytes })
@@ -49,8 +49,8 @@ impl<K: Fixed, V: Fixed, D: Disk> Pages<K, V, D> {
 
     /// Why a written page would not be taken in, but for want of memory: `Stranger` where another page is the lowest
     /// that is not flushed, `NotDue` where that one does not wait, `Stranger` where its bytes are others.
-    pub fn flush_refusal(&self, written: &Written<D>) -> Option<Refused>
-        ensures { result ≡ flush_refusal self.now (D.Receipt.stands written.now.receipt).page written.now.bytes }
+    pub fn flush_refusal(&self, written: &Written<R>) -> Option<Refused>
+        ensures { result ≡ flush_refusal self.now (R.stands written.now.receipt).page written.now.bytes }
     {
         let page = self.unflushed();
         if written.page() != page {
@@ -68,12 +68,12 @@ impl<K: Fixed, V: Fixed, D: Disk> Pages<K, V, D> {
 
     /// Takes in that the lowest page that is not flushed was written, and keeps its receipt. Refused, and then nothing
     /// changes: as [`Pages::flush_refusal`] says, and then `NoMemory`.
-    pub fn flush_done(&mut self, written: Written<D>) -> Result<(), Refused>
-        ensures refused { IfSome (flush_refusal self.old (D.Receipt.stands written.receipt).page written.bytes)
+    pub fn flush_done(&mut self, written: Written<R>) -> Result<(), Refused>
+        ensures refused { IfSome (flush_refusal self.old (R.stands written.receipt).page written.bytes)
             (λ why. result ≡ Err why) }
-        ensures only { flush_refusal self.old (D.Receipt.stands written.receipt).page written.bytes ≡ None
+        ensures only { flush_refusal self.old (R.stands written.receipt).page written.bytes ≡ None
             → IfErr result (λ why. why ≡ Refused.NoMemory) }
-        ensures done { OnOk result (self.new ≡ with_receipt self.old (D.Receipt.stands written.receipt)) }
+        ensures done { OnOk result (self.new ≡ with_receipt self.old (R.stands written.receipt)) }
         ensures err { OnErr result (self.new ≡ self.old) }
     {
         if let Some(refused) = self.flush_refusal(&written) {
@@ -83,18 +83,18 @@ impl<K: Fixed, V: Fixed, D: Disk> Pages<K, V, D> {
     }
 
     /// A receipt of a flushed page, by which it can be read. Refused: `NoMemory`.
-    pub fn receipt(&self, page: u64) -> Result<D::Receipt, Refused>
+    pub fn receipt(&self, page: u64) -> Result<R, Refused>
         requires { page < length self.now.receipts }
-        ensures stands { IfOk result (λ r. IsHeldBy self.now.receipts page (D.Receipt.stands r)) }
+        ensures stands { IfOk result (λ r. IsHeldBy self.now.receipts page (R.stands r)) }
         ensures memory { IfErr result (λ refused. refused ≡ Refused.NoMemory) }
     {
         self.kept(page).again()
     }
 
     /// The receipt that is kept of a flushed page.
-    pub(crate) fn kept(&self, page: u64) -> &D::Receipt
+    pub(crate) fn kept(&self, page: u64) -> &R
         requires { page < length self.now.receipts }
-        ensures { IsHeldBy self.now.receipts page (D.Receipt.stands result.now) }
+        ensures { IsHeldBy self.now.receipts page (R.stands result.now) }
     {
         &self.receipts[page as usize]
     }

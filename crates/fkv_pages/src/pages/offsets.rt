@@ -5,11 +5,11 @@ ghost use Rattle.fkv_records.specs.Records.{size_of};
 ghost use Rattle.fkv_pages.specs.Views.{with_frozen, seen_from};
 
 use crate::pages::Pages;
-use fkv_device::Disk;
+use fkv_device::Receipt;
 use fkv_functions::Fixed;
 use fkv_records::Address;
 
-impl<K: Fixed, V: Fixed, D: Disk> Pages<K, V, D> {
+impl<K: Fixed, V: Fixed, R: Receipt> Pages<K, V, R> {
     /// Where the entries begin that are not dropped.
     pub fn begin(&self) -> Address
         ensures { result ≡ self.now.begin }
@@ -49,8 +49,8 @@ impl<K: Fixed, V: Fixed, D: Disk> Pages<K, V, D> {
         requires place { address < 2 ^ 48 → IsPlace self.old.bits (size_of K.SIZE V.SIZE) address }
         requires flushed { page_at self.old.bits address ≤ length self.old.receipts }
         requires frozen { address ≤ self.old.frozen }
-        ensures closed { self.new ≡ seen_from D.keeps self.old self.old.begin address }
-        ensures kept { IsTrue D.keeps → self.new.text ≡ self.old.text }
+        ensures closed { self.new ≡ seen_from R.keeps self.old self.old.begin address }
+        ensures kept { IsTrue R.keeps → self.new.text ≡ self.old.text }
     {
         self.closed = address;
     }
@@ -62,7 +62,7 @@ impl<K: Fixed, V: Fixed, D: Disk> Pages<K, V, D> {
         requires place { address < 2 ^ 48 → IsPlace self.old.bits (size_of K.SIZE V.SIZE) address }
         requires flushed { page_at self.old.bits address ≤ length self.old.receipts }
         requires frozen { address ≤ self.old.frozen }
-        ensures { self.new ≡ seen_from D.keeps self.old address self.old.closed }
+        ensures { self.new ≡ seen_from R.keeps self.old address self.old.closed }
     {
         self.begin = address;
     }

@@ -17,15 +17,15 @@ returns-in-Err-issue-clause-ends g c =
     c.in-Err-issue.ensures.err
     (first.1 ∙ first.0) refl refl
 
-pub abandon-requires-clause-later : goal.abandon-requires-clause-later
-abandon-requires-clause-later g c κs within = λ still.
+pub abandon-requires : goal.abandon-requires
+abandon-requires g c =
     let first = c.in-Ok.ensures.ok in
     let issued = c.in-Ok-issue.ensures in
     let ready = issue-ready g.F.Functions.code c.args.partition.now c.issue.new.self c.args.slot c.in-Ok-issue.context c.in-Ok.now c.args.op issued.does issued.event in
     let drives = c.in-Err-drive.ensures.drives c.args.op c.args.partition.now c.in-Ok.now ready in
     let opens = issue-opens g.F.Functions.code c.args.partition.now c.issue.new.self c.args.slot c.in-Ok-issue.context c.in-Ok.now c.args.op issued.does issued.event in
-    let halted = driven-halted g.D.Disk.keeps g.D.Receipt.Receipt.stands g.F.Key.Ord.cmp g.F.Functions.meaning g.F.Functions.code c.args.op c.args.partition.now c.drive.new.partition c.args.slot c.in-Ok-issue.context c.args.limit c.args.clock.now c.in-Ok.now c.drive.new.clock (g.D.Reader.PageReader.failures c.args.reader.now) (g.D.Reader.PageReader.failures c.drive.new.reader) opens first.0 first.3 c.in-Err-drive.refused (rw first.1 at drives) in
-    rw c.last.ensures (halted-later g.D.Disk.keeps g.D.Receipt.Receipt.stands g.F.Key.Ord.cmp g.F.Functions.meaning g.F.Functions.code c.args.op c.args.partition.now c.args.slot c.in-Ok-issue.context c.in-Ok.now c.drive.new.partition c.drive.new.clock halted still)
+    let halted = driven-halted g.R.Receipt.keeps g.R.Receipt.stands g.F.Key.Ord.cmp g.F.Functions.meaning g.F.Functions.code c.args.op c.args.partition.now c.drive.new.partition c.args.slot c.in-Ok-issue.context c.args.limit c.args.clock.now c.in-Ok.now c.drive.new.clock (g.P.PageReader.failures c.args.reader.now) (g.P.PageReader.failures c.drive.new.reader) opens first.0 first.3 c.in-Err-drive.refused (rw first.1 at drives) in
+    record { later = λ still. rw c.last.ensures (halted-later g.R.Receipt.keeps g.R.Receipt.stands g.F.Key.Ord.cmp g.F.Functions.meaning g.F.Functions.code c.args.op c.args.partition.now c.args.slot c.in-Ok-issue.context c.in-Ok.now c.drive.new.partition c.drive.new.clock halted still) }
 
 pub returns-in-Ok-drive-clause-ends : goal.returns-in-Ok-drive-clause-ends
 returns-in-Ok-drive-clause-ends g c =
@@ -33,7 +33,7 @@ returns-in-Ok-drive-clause-ends g c =
     let issued = c.in-Ok-issue.ensures in
     let ready = issue-ready g.F.Functions.code c.args.partition.now c.issue.new.self c.args.slot c.in-Ok-issue.context c.in-Ok.now c.args.op issued.does issued.event in
     let drives = c.in-Ok-drive.ensures.drives c.args.op c.args.partition.now c.in-Ok.now ready in
-    driven-ends g.D.Disk.keeps g.D.Receipt.Receipt.stands g.F.Key.Ord.cmp g.F.Functions.meaning g.F.Functions.code c.args.op c.args.partition.now c.drive.new.partition c.args.slot c.in-Ok-issue.context c.args.limit c.args.clock.now c.in-Ok.now c.drive.new.clock (g.D.Reader.PageReader.failures c.args.reader.now) (g.D.Reader.PageReader.failures c.drive.new.reader)
+    driven-ends g.R.Receipt.keeps g.R.Receipt.stands g.F.Key.Ord.cmp g.F.Functions.meaning g.F.Functions.code c.args.op c.args.partition.now c.drive.new.partition c.args.slot c.in-Ok-issue.context c.args.limit c.args.clock.now c.in-Ok.now c.drive.new.clock (g.P.PageReader.failures c.args.reader.now) (g.P.PageReader.failures c.drive.new.reader)
     (issue-opens g.F.Functions.code c.args.partition.now c.issue.new.self c.args.slot c.in-Ok-issue.context c.in-Ok.now c.args.op issued.does issued.event)
     first.0 first.3 c.in-Ok-drive.progress (rw first.1 at drives)
 
@@ -43,7 +43,7 @@ returns-in-Err-drive-clause-ends g c =
     let issued = c.in-Ok-issue.ensures in
     let ready = issue-ready g.F.Functions.code c.args.partition.now c.issue.new.self c.args.slot c.in-Ok-issue.context c.in-Ok.now c.args.op issued.does issued.event in
     let drives = c.in-Err-drive.ensures.drives c.args.op c.args.partition.now c.in-Ok.now ready in
-    driven-over g.D.Disk.keeps g.D.Receipt.Receipt.stands g.F.Key.Ord.cmp g.F.Functions.meaning g.F.Functions.code c.args.op c.args.partition.now c.drive.new.partition c.args.slot c.in-Ok-issue.context c.args.limit c.args.clock.now c.in-Ok.now c.drive.new.clock (g.D.Reader.PageReader.failures c.args.reader.now) (g.D.Reader.PageReader.failures c.drive.new.reader)
+    driven-over g.R.Receipt.keeps g.R.Receipt.stands g.F.Key.Ord.cmp g.F.Functions.meaning g.F.Functions.code c.args.op c.args.partition.now c.drive.new.partition c.args.slot c.in-Ok-issue.context c.args.limit c.args.clock.now c.in-Ok.now c.drive.new.clock (g.P.PageReader.failures c.args.reader.now) (g.P.PageReader.failures c.drive.new.reader)
     (issue-opens g.F.Functions.code c.args.partition.now c.issue.new.self c.args.slot c.in-Ok-issue.context c.in-Ok.now c.args.op issued.does issued.event)
     first.0 first.3 c.abandon.new.partition c.in-Err-drive.refused (rw first.1 at drives) c.abandon.ensures.over
 

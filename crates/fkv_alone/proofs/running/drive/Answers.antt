@@ -11,7 +11,7 @@ returns-in-Err-clause-drives g c = λ op old started h.
     let last = c.in-Err.ensures.err in
     let below = c.loop-turn-test.true in
     Drives.spent
-    (come-halted g.D.Disk.keeps g.D.Receipt.Receipt.stands g.F.Key.Ord.cmp g.F.Functions.meaning g.F.Functions.code op old c.args.slot c.args.context started c.loop-turn.partition c.loop-turn.told c.next_moment.new.clock (i.comes op old started h).0 i.on (let p = i.past in omega arith))
+    (come-halted g.R.Receipt.keeps g.R.Receipt.stands g.F.Key.Ord.cmp g.F.Functions.meaning g.F.Functions.code op old c.args.slot c.args.context started c.loop-turn.partition c.loop-turn.told c.next_moment.new.clock (i.comes op old started h).0 i.on (let p = i.past in omega arith))
     last.1 (let k = i.taken in omega arith) (i.comes op old started h).1 (ap Err last.0)
 
 pub returns-in-Err-step-clause-drives : goal.returns-in-Err-step-clause-drives
@@ -22,9 +22,9 @@ returns-in-Err-step-clause-drives g c = λ op old started h.
     let come = (i.comes op old started h).0 in
     let e = c.in-Err-step.ensures.advances op old started come in
     Drives.refused c.in-Err-step.refused
-    (stop-halted g.D.Disk.keeps g.D.Receipt.Receipt.stands g.F.Key.Ord.cmp g.F.Functions.meaning g.F.Functions.code op old c.args.slot c.args.context started c.loop-turn.partition c.step.new.partition c.loop-turn.told c.next_moment.new.clock come i.on (let p = i.past in omega arith) e.1)
+    (stop-halted g.R.Receipt.keeps g.R.Receipt.stands g.F.Key.Ord.cmp g.F.Functions.meaning g.F.Functions.code op old c.args.slot c.args.context started c.loop-turn.partition c.step.new.partition c.loop-turn.told c.next_moment.new.clock come i.on (let p = i.past in omega arith) e.1)
     (let k = i.taken in omega arith)
-    (subst (λ n. IsStop old.records.tail n (g.D.Reader.PageReader.failures c.step.new.reader) c.in-Err-step.refused) (i.comes op old started h).1 e.0)
+    (subst (λ n. IsStop old.records.tail n (g.P.PageReader.failures c.step.new.reader) c.in-Err-step.refused) (i.comes op old started h).1 e.0)
     refl
 
 pub returns-then-not-is_on-clause-drives : goal.returns-then-not-is_on-clause-drives
@@ -66,7 +66,7 @@ returns-clause-drives g c = λ op old started h.
     let i = c.loop-turn.invariant in
     let t = ticked c.loop-turn.clock c.tick-last.new.self c.tick-last.result c.tick-last.ensures.ok c.tick-last.ensures.given c.tick-last.ensures.worn c.tick-last.ensures.only i.spare in
     Drives.stalled
-    (come-halted g.D.Disk.keeps g.D.Receipt.Receipt.stands g.F.Key.Ord.cmp g.F.Functions.meaning g.F.Functions.code op old c.args.slot c.args.context started c.loop-turn.partition c.loop-turn.told c.tick-last.new.self (i.comes op old started h).0 i.on (let p = i.past in omega arith))
+    (come-halted g.R.Receipt.keeps g.R.Receipt.stands g.F.Key.Ord.cmp g.F.Functions.meaning g.F.Functions.code op old c.args.slot c.args.context started c.loop-turn.partition c.loop-turn.told c.tick-last.new.self (i.comes op old started h).0 i.on (let p = i.past in omega arith))
     (let k = i.taken in let d = c.loop-turn-test.false in let u = c.loop-turn.auto in omega arith) (i.comes op old started h).1 refl
 
 pub returns-in-Err-clause-bound : goal.returns-in-Err-clause-bound

@@ -12,11 +12,11 @@ abbrev pub invariant-loop-turn : goal.invariant-loop-turn
 invariant-loop-turn g l = record {
   comes : (op : Op g.row.F-Key.Denot g.row.F-Value.Denot g.row.F-Input.Denot) (old : PartitionView g.row.F-Key.Denot g.row.F-Value.Denot g.row.F-Input.Denot) (started : ℕ)
       → IsReady op old l.fn.partition l.slot l.context started
-      → HasCome g.D.Disk.keeps g.D.Receipt.Receipt.stands g.F.Key.Ord.cmp g.F.Functions.meaning g.F.Functions.code op old l.partition l.slot l.context started l.told
-      × (g.D.Reader.PageReader.failures l.reader ≡ g.D.Reader.PageReader.failures l.fn.reader);
-  near : (n : ℕ) → IsTrue g.D.Disk.keeps → IsNear {O = g.row.F-Output.Denot} {R = g.row.D-Receipt.Denot} g.F.Functions.code l.fn.partition l.slot l.context Next n
+      → HasCome g.R.Receipt.keeps g.R.Receipt.stands g.F.Key.Ord.cmp g.F.Functions.meaning g.F.Functions.code op old l.partition l.slot l.context started l.told
+      × (g.P.PageReader.failures l.reader ≡ g.P.PageReader.failures l.fn.reader);
+  near : (n : ℕ) → IsTrue g.R.Receipt.keeps → IsNear {O = g.row.F-Output.Denot} {R = g.row.R.Denot} g.F.Functions.code l.fn.partition l.slot l.context Next n
       → (m : ℕ) × (l._turn + m ≤ n) × IsNear g.F.Functions.code l.partition l.slot l.context l.told m;
-  others : IsTrue g.D.Disk.keeps → OthersPend g.F.Key.Ord.cmp l.fn.partition l.partition l.slot l.context;
+  others : IsTrue g.R.Receipt.keeps → OthersPend g.F.Key.Ord.cmp l.fn.partition l.partition l.slot l.context;
   on : IsOn l.told;
   taken : l.clock ≡ l.fn.clock + l._turn;
   past : l.partition.moment ≤ l.clock;

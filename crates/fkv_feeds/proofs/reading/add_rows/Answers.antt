@@ -87,12 +87,12 @@ returns-in-Ok-false-read_byte_record-clause-ok g c =
       old.so_far.5 before h,
     )
 
-pub add_row-requires-clause-stands : goal.add_row-requires-clause-stands
-add_row-requires-clause-stands g c κs within =
+pub add_row-requires : goal.add_row-requires
+add_row-requires g c =
     let old = c.loop-count.invariant in
-    (c.requires.stands.0 ++ old.so_far.1, old.so_far.5 c.requires.stands.0 c.requires.stands.1)
+    record { stands = (c.requires.stands.0 ++ old.so_far.1, old.so_far.5 c.requires.stands.0 c.requires.stands.1) }
 
 pub returns-in-Err-add_row-clause-told : goal.returns-in-Err-add_row-clause-told
 returns-in-Err-add_row-clause-told g c =
-    row-told (IsRunFault g.D.Disk.keeps g.D.Disk.failures g.D.Writer.PageWriter.failures g.D.Reader.PageReader.failures g.F.Value.Fixed.bytes_of g.F.Value.Known.is_known g.F.Value.Fixed.SIZE) c.args.feed c.args.limit (source_of g.R.Read.remaining c.args.reader.now) c.in-Err-add_row.refused
-    (devices-by g.D.Disk.keeps g.D.Disk.failures g.D.Writer.PageWriter.failures g.D.Reader.PageReader.failures _ _ c.in-Err-add_row.refused) c.in-Err-add_row.ensures.told
+    row-told (IsRunFault g.D.Receipt.Receipt.keeps g.D.Disk.failures g.D.Writer.PageWriter.failures g.D.Reader.PageReader.failures g.F.Value.Fixed.bytes_of g.F.Value.Known.is_known g.F.Value.Fixed.SIZE) c.args.feed c.args.limit (source_of g.R.Read.remaining c.args.reader.now) c.in-Err-add_row.refused
+    (devices-by g.D.Receipt.Receipt.keeps g.D.Disk.failures g.D.Writer.PageWriter.failures g.D.Reader.PageReader.failures _ _ c.in-Err-add_row.refused) c.in-Err-add_row.ensures.told

@@ -18,5 +18,5 @@ invariant-loop-count g l = record {
       × HasRead g.R.Read.remaining (source_of g.R.Read.remaining l.initial.reader) l.reader records
       × AreRows records rows
       × (l.count ≡ length records)
-      × ((before : List (Name × ℤ)) → StandFor g.D.Disk.keeps name_cmp g.F.Functions.meaning g.F.Functions.code (map (λ shard. shard.partition) l.initial.shards.shards.items) l.initial.shards.terms.slot l.initial.shards.clock before → StandFor g.D.Disk.keeps name_cmp g.F.Functions.meaning g.F.Functions.code (map (λ shard. shard.partition) l.shards.shards.items) l.shards.terms.slot l.shards.clock (before ++ rows));
+      × ((before : List (Name × ℤ)) → StandFor g.D.Receipt.Receipt.keeps name_cmp g.F.Functions.meaning g.F.Functions.code (map (λ shard. shard.partition) l.initial.shards.shards.items) l.initial.shards.terms.slot l.initial.shards.clock before → StandFor g.D.Receipt.Receipt.keeps name_cmp g.F.Functions.meaning g.F.Functions.code (map (λ shard. shard.partition) l.shards.shards.items) l.shards.terms.slot l.shards.clock (before ++ rows));
 }

@@ -11,5 +11,5 @@ invariant-loop-index g l = record {
   unread : drop l.index l.feeds ≡ drop l.index l.initial.feeds;
   so_far : (rows : List (Name × ℤ))
       × AreFeeds most_rows (map g.S.Source.remaining (take l.index l.initial.feeds)) rows
-      × StandFor g.D.Disk.keeps name_cmp g.F.Functions.meaning g.F.Functions.code (map (λ shard. shard.partition) l.shards.shards.items) l.shards.terms.slot l.shards.clock rows;
+      × StandFor g.D.Receipt.Receipt.keeps name_cmp g.F.Functions.meaning g.F.Functions.code (map (λ shard. shard.partition) l.shards.shards.items) l.shards.terms.slot l.shards.clock rows;
 }

@@ -5,8 +5,8 @@ use Rattle.fkv_feeds.specs.Tables.{IsTableOf}
 use Rattle.fkv_feeds.proofs.FeedsLemmas.{stopped, devices-by, stopped-by, why_none, both_ok, err_weaker}
 use Rattle.fkv_feeds.proofs.running.run_alone.Goals as goal
 
-pub table_in-requires-clause-stands : goal.table_in-requires-clause-stands
-table_in-requires-clause-stands g c κs within = let found = c.in-Ok-read_feed.ensures.ok [] c.in-Ok.ensures.ok in (found.0, found.2)
+pub table_in-requires : goal.table_in-requires
+table_in-requires g c = record { stands = let found = c.in-Ok-read_feed.ensures.ok [] c.in-Ok.ensures.ok in (found.0, found.2) }
 
 pub returns-in-Ok-read_feed-clause-ok : goal.returns-in-Ok-read_feed-clause-ok
 returns-in-Ok-read_feed-clause-ok g c =
@@ -21,16 +21,16 @@ returns-in-Ok-read_feed-clause-ok g c =
 
 pub returns-clause-told : goal.returns-clause-told
 returns-clause-told g c =
-    why_none (IsRunFault g.D.Disk.keeps g.D.Disk.failures g.D.Writer.PageWriter.failures g.D.Reader.PageReader.failures g.F.Value.Fixed.bytes_of g.F.Value.Known.is_known g.F.Value.Fixed.SIZE) c.args.config.now _ (g.S.Source.remaining c.args.feed.now ∷ []) (g.S.Source.failures c.args.feed.now ∷ []) (g.S.Source.failures c.read_feed.new.source ∷ []) c.in-Err-read_feed.refused
-    (stopped g.S.Source.remaining g.S.Source.failures (c.args.feed.now ∷ []) 0 c.args.feed.now refl [] refl (IsRunFault g.D.Disk.keeps g.D.Disk.failures g.D.Writer.PageWriter.failures g.D.Reader.PageReader.failures g.F.Value.Fixed.bytes_of g.F.Value.Known.is_known g.F.Value.Fixed.SIZE) (c.args.feed.now ∷ []) c.read_feed.new.source c.in-Err-read_feed.refused refl refl c.in-Err-read_feed.ensures.told)
+    why_none (IsRunFault g.D.Receipt.Receipt.keeps g.D.Disk.failures g.D.Writer.PageWriter.failures g.D.Reader.PageReader.failures g.F.Value.Fixed.bytes_of g.F.Value.Known.is_known g.F.Value.Fixed.SIZE) c.args.config.now _ (g.S.Source.remaining c.args.feed.now ∷ []) (g.S.Source.failures c.args.feed.now ∷ []) (g.S.Source.failures c.read_feed.new.source ∷ []) c.in-Err-read_feed.refused
+    (stopped g.S.Source.remaining g.S.Source.failures (c.args.feed.now ∷ []) 0 c.args.feed.now refl [] refl (IsRunFault g.D.Receipt.Receipt.keeps g.D.Disk.failures g.D.Writer.PageWriter.failures g.D.Reader.PageReader.failures g.F.Value.Fixed.bytes_of g.F.Value.Known.is_known g.F.Value.Fixed.SIZE) (c.args.feed.now ∷ []) c.read_feed.new.source c.in-Err-read_feed.refused refl refl c.in-Err-read_feed.ensures.told)
 
 pub returns-in-Err-clause-told : goal.returns-in-Err-clause-told
 returns-in-Err-clause-told g c =
     let fault = IsDeviceFault.unopened c.args.device c.open.new.device c.in-Err.ensures.told in
     let counts = g.S.Source.failures c.args.feed.now ∷ [] in
-    why_none (IsRunFault g.D.Disk.keeps g.D.Disk.failures g.D.Writer.PageWriter.failures g.D.Reader.PageReader.failures g.F.Value.Fixed.bytes_of g.F.Value.Known.is_known g.F.Value.Fixed.SIZE) c.args.config.now _ (g.S.Source.remaining c.args.feed.now ∷ []) counts counts c.in-Err.refused
-    (stopped-by (IsRunFault g.D.Disk.keeps g.D.Disk.failures g.D.Writer.PageWriter.failures g.D.Reader.PageReader.failures g.F.Value.Fixed.bytes_of g.F.Value.Known.is_known g.F.Value.Fixed.SIZE) (g.S.Source.remaining c.args.feed.now ∷ []) counts counts c.in-Err.refused refl fault
-    (devices-by g.D.Disk.keeps g.D.Disk.failures g.D.Writer.PageWriter.failures g.D.Reader.PageReader.failures _ _ c.in-Err.refused fault))
+    why_none (IsRunFault g.D.Receipt.Receipt.keeps g.D.Disk.failures g.D.Writer.PageWriter.failures g.D.Reader.PageReader.failures g.F.Value.Fixed.bytes_of g.F.Value.Known.is_known g.F.Value.Fixed.SIZE) c.args.config.now _ (g.S.Source.remaining c.args.feed.now ∷ []) counts counts c.in-Err.refused
+    (stopped-by (IsRunFault g.D.Receipt.Receipt.keeps g.D.Disk.failures g.D.Writer.PageWriter.failures g.D.Reader.PageReader.failures g.F.Value.Fixed.bytes_of g.F.Value.Known.is_known g.F.Value.Fixed.SIZE) (g.S.Source.remaining c.args.feed.now ∷ []) counts counts c.in-Err.refused refl fault
+    (devices-by g.D.Receipt.Receipt.keeps g.D.Disk.failures g.D.Writer.PageWriter.failures g.D.Reader.PageReader.failures _ _ c.in-Err.refused fault))
 
 pub returns-in-Ok-read_feed-clause-told : goal.returns-in-Ok-read_feed-clause-told
 returns-in-Ok-read_feed-clause-told g c =
@@ -39,11 +39,11 @@ returns-in-Ok-read_feed-clause-told g c =
     let new = g.S.Source.failures c.read_feed.new.source ∷ [] in
     let same : new ≡ old = ap (λ n. n ∷ []) c.in-Ok-read_feed.ensures.steady in
     err_weaker _ c.table_in.result
-    (λ e h. why_none (IsRunFault g.D.Disk.keeps g.D.Disk.failures g.D.Writer.PageWriter.failures g.D.Reader.PageReader.failures g.F.Value.Fixed.bytes_of g.F.Value.Known.is_known g.F.Value.Fixed.SIZE) c.args.config.now _ feeds old new e
+    (λ e h. why_none (IsRunFault g.D.Receipt.Receipt.keeps g.D.Disk.failures g.D.Writer.PageWriter.failures g.D.Reader.PageReader.failures g.F.Value.Fixed.bytes_of g.F.Value.Known.is_known g.F.Value.Fixed.SIZE) c.args.config.now _ feeds old new e
     (elim h [
       | inl a ↦ rw a same
       | inr s ↦ (let fault = IsDeviceFault.unlisted s.0 s.1 s.2 s.3 s.4 in
-          stopped-by (IsRunFault g.D.Disk.keeps g.D.Disk.failures g.D.Writer.PageWriter.failures g.D.Reader.PageReader.failures g.F.Value.Fixed.bytes_of g.F.Value.Known.is_known g.F.Value.Fixed.SIZE) feeds old new e same fault
-          (devices-by g.D.Disk.keeps g.D.Disk.failures g.D.Writer.PageWriter.failures g.D.Reader.PageReader.failures _ _ e fault))
+          stopped-by (IsRunFault g.D.Receipt.Receipt.keeps g.D.Disk.failures g.D.Writer.PageWriter.failures g.D.Reader.PageReader.failures g.F.Value.Fixed.bytes_of g.F.Value.Known.is_known g.F.Value.Fixed.SIZE) feeds old new e same fault
+          (devices-by g.D.Receipt.Receipt.keeps g.D.Disk.failures g.D.Writer.PageWriter.failures g.D.Reader.PageReader.failures _ _ e fault))
     ]))
     c.table_in.ensures.told

@@ -13,7 +13,7 @@ use Rattle.fkv_feeds.proofs.SeatLemmas.{idle-tidied}
 use Rattle.fkv_feeds.proofs.shards.add_row.Goals as goal
 
 pub home-home-requires-clause-doubled : goal.home-home-requires-clause-doubled
-home-home-requires-clause-doubled g c κs within =
+home-home-requires-clause-doubled g c =
     let items = c.args.shards.now.shards.items in
     let first = c.index.result.now in
     let here = slice_get_read items (length items) 0 first refl (subst (λ (n : ℕ). 0 < n) (view-length (λ shard. shard.partition) items) c.requires.stands.1.some) c.index.ensures in (
@@ -22,13 +22,13 @@ home-home-requires-clause-doubled g c κs within =
     )
 
 pub update-requires-clause-idle : goal.update-requires-clause-idle
-update-requires-clause-idle g c κs within =
+update-requires-clause-idle g c =
     let items = c.args.shards.now.shards.items in
     let here = slice_get_read items (length items) c.home-home.result c.index_mut-shard.result.now refl c.home-home.ensures.within c.index_mut-shard.ensures.value in
     c.requires.stands.1.idle.idle c.home-home.result c.index_mut-shard.result.now.partition (view-get (λ shard. shard.partition) items c.home-home.result c.index_mut-shard.result.now here)
 
 pub update-requires-clause-own : goal.update-requires-clause-own
-update-requires-clause-own g c κs within =
+update-requires-clause-own g c =
     let items = c.args.shards.now.shards.items in
     let here = slice_get_read items (length items) c.home-home.result c.index_mut-shard.result.now refl c.home-home.ensures.within c.index_mut-shard.ensures.value in
     let there = view-get (λ shard. shard.partition) items c.home-home.result c.index_mut-shard.result.now here in
@@ -36,7 +36,7 @@ update-requires-clause-own g c κs within =
     ∙ sym c.home-home.ensures.value ∙ sym (c.requires.stands.1.idle.numbered c.home-home.result c.index_mut-shard.result.now.partition there)
 
 pub update-requires-clause-past : goal.update-requires-clause-past
-update-requires-clause-past g c κs within =
+update-requires-clause-past g c =
     let items = c.args.shards.now.shards.items in
     let here = slice_get_read items (length items) c.home-home.result c.index_mut-shard.result.now refl c.home-home.ensures.within c.index_mut-shard.ensures.value in
     c.requires.stands.1.idle.past c.home-home.result c.index_mut-shard.result.now.partition (view-get (λ shard. shard.partition) items c.home-home.result c.index_mut-shard.result.now here)
@@ -54,10 +54,10 @@ returns-in-Ok-clause-ok g c =
     let slot = c.args.shards.now.terms.slot in
     three_ok c.tidy_at_times.result c.tidy_at_times.ensures.tidied c.tidy_at_times.ensures.past c.tidy_at_times.ensures.later
     (λ tidied past later rows stand. (let after : c.args.shards.now.clock < c.tidy_at_times.new.clock = (let a = c.in-Ok.ensures.later in omega arith) in
-    subst (λ views. StandFor g.D.Disk.keeps name_cmp g.F.Functions.meaning g.F.Functions.code views slot c.tidy_at_times.new.clock (rows ++ (c.args.key.now, c.args.amount) ∷ [])) (sym (view-set (λ shard. shard.partition) items home new))
-    (stand-more g.D.Disk.keeps name_cmp order g.F.Functions.meaning g.F.Functions.code (map (λ shard. shard.partition) items) slot c.args.shards.now.clock c.tidy_at_times.new.clock rows
+    subst (λ views. StandFor g.D.Receipt.Receipt.keeps name_cmp g.F.Functions.meaning g.F.Functions.code views slot c.tidy_at_times.new.clock (rows ++ (c.args.key.now, c.args.amount) ∷ [])) (sym (view-set (λ shard. shard.partition) items home new))
+    (stand-more g.D.Receipt.Receipt.keeps name_cmp order g.F.Functions.meaning g.F.Functions.code (map (λ shard. shard.partition) items) slot c.args.shards.now.clock c.tidy_at_times.new.clock rows
     home old.partition new.partition c.args.key.now c.args.amount stand there (ap (λ n. partition_of n (g.F.Functions.code c.args.key.now)) (view-length (λ shard. shard.partition) items) ∙ sym c.home-home.ensures.value)
-    (tidied.number ∙ c.in-Ok.ensures.number) (tidied.count ∙ c.in-Ok.ensures.count) past after (idle-tidied g.D.Disk.keeps name_cmp c.update.new.shard.partition new.partition slot c.in-Ok.ensures.idle tidied)
+    (tidied.number ∙ c.in-Ok.ensures.number) (tidied.count ∙ c.in-Ok.ensures.count) past after (idle-tidied g.D.Receipt.Receipt.keeps name_cmp c.update.new.shard.partition new.partition slot c.in-Ok.ensures.idle tidied)
     (λ keeps q. tidied.live keeps q ∙ done keeps q))))
 
 pub returns-in-Ok-clause-told : goal.returns-in-Ok-clause-told

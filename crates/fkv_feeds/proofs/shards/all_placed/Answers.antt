@@ -6,7 +6,7 @@ use Rattle.fkv_feeds.proofs.RunLemmas.{new-more}
 use Rattle.fkv_feeds.proofs.shards.all_placed.Goals as goal
 
 pub placed-requires-clause-small : goal.placed-requires-clause-small
-placed-requires-clause-small g c κs within =
+placed-requires-clause-small g c =
     let bits = c.requires.limits.partition_bits in
     let most : 2 ^ c.args.config.now.partition_bits ≤ 2 ^ 6 = pow_mono bits in
     let below = c.loop-number-test.true in

@@ -10,7 +10,7 @@ pub returns-in-Err-clause-told : goal.returns-in-Err-clause-told
 returns-in-Err-clause-told g c = inr (inr (IsFault.unread (g.D.Receipt.Receipt.stands c.args.receipt).page c.in-Err.ensures.counted refl))
 
 pub install-requires-clause-open : goal.install-requires-clause-open
-install-requires-clause-open g c κs within =
+install-requires-clause-open g c =
     let op = c.requires.open.0 in (
       op,
       (loads-leads g.D.Receipt.Receipt.stands c.args.shard.now.partition c.load.new.self c.args.terms.now.slot c.args.context op _ g.F.Key.Ord.cmp g.F.Functions.meaning c.in-Ok-tick.now c.in-Ok.loaded (g.D.Receipt.Receipt.stands c.args.receipt) (Ok (NeedsBuild _)) c.requires.open.1 c.in-Ok.ensures.receipt
@@ -18,7 +18,7 @@ install-requires-clause-open g c κs within =
     )
 
 pub install-requires-clause-asking : goal.install-requires-clause-asking
-install-requires-clause-asking g c κs within =
+install-requires-clause-asking g c =
     let op = c.requires.open.0 in
     (loads-leads g.D.Receipt.Receipt.stands c.args.shard.now.partition c.load.new.self c.args.terms.now.slot c.args.context op _ g.F.Key.Ord.cmp g.F.Functions.meaning c.in-Ok-tick.now c.in-Ok.loaded (g.D.Receipt.Receipt.stands c.args.receipt) (Ok (NeedsBuild _)) c.requires.open.1 c.in-Ok.ensures.receipt
     (rw c.in-Ok-NeedsBuild.field-0-is at c.in-Ok-NeedsBuild.ensures.does)).1.1
@@ -31,7 +31,7 @@ returns-in-Ok-NeedsBuild-clause-ok g c =
     IfOk-weaker c.install.result _ _
     (λ t h op o. (let l = loads-leads g.D.Receipt.Receipt.stands v w slot c.args.context op _ g.F.Key.Ord.cmp g.F.Functions.meaning c.in-Ok-tick.now c.in-Ok.loaded (g.D.Receipt.Receipt.stands c.args.receipt) (Ok (NeedsBuild _)) o c.in-Ok.ensures.receipt
     (rw c.in-Ok-NeedsBuild.field-0-is at c.in-Ok-NeedsBuild.ensures.does) in
-    tries-then g.D.Receipt.Receipt.stands v w slot c.args.context op g.D.Disk.keeps g.F.Key.Ord.cmp g.F.Functions.meaning c.install.new.shard.partition t l.0
+    tries-then g.D.Receipt.Receipt.stands v w slot c.args.context op g.D.Receipt.Receipt.keeps g.F.Key.Ord.cmp g.F.Functions.meaning c.install.new.shard.partition t l.0
     (λ keeps. (c.in-Ok-NeedsBuild.ensures.event keeps).live)
     (h op l.1.0)))
     c.install.ensures.ok
@@ -43,7 +43,7 @@ returns-in-Ok-NeedsLoad-clause-ok g c =
     let slot = c.args.terms.now.slot in
     λ op o. (let l = loads-leads g.D.Receipt.Receipt.stands v w slot c.args.context op _ g.F.Key.Ord.cmp g.F.Functions.meaning c.in-Ok-tick.now c.in-Ok.loaded (g.D.Receipt.Receipt.stands c.args.receipt) (Ok (NeedsLoad _ _)) o c.in-Ok.ensures.receipt
     (rw c.in-Ok-NeedsLoad.field-0-is at c.in-Ok-NeedsLoad.ensures.does) in
-    tried g.D.Receipt.Receipt.stands v w slot c.args.context op g.D.Disk.keeps g.F.Key.Ord.cmp g.F.Functions.meaning (turn.On (Some c.in-Ok-NeedsLoad.further)) l.0 l.1
+    tried g.D.Receipt.Receipt.stands v w slot c.args.context op g.D.Receipt.Receipt.keeps g.F.Key.Ord.cmp g.F.Functions.meaning (turn.On (Some c.in-Ok-NeedsLoad.further)) l.0 l.1
     (λ keeps. (c.in-Ok-NeedsLoad.ensures.event keeps).live))
 
 pub returns-in-Ok-Next-clause-ok : goal.returns-in-Ok-Next-clause-ok
@@ -53,7 +53,7 @@ returns-in-Ok-Next-clause-ok g c =
     let slot = c.args.terms.now.slot in
     λ op o. (let l = loads-leads g.D.Receipt.Receipt.stands v w slot c.args.context op _ g.F.Key.Ord.cmp g.F.Functions.meaning c.in-Ok-tick.now c.in-Ok.loaded (g.D.Receipt.Receipt.stands c.args.receipt) (Ok Next) o c.in-Ok.ensures.receipt
     (rw c.in-Ok-Next.field-0-is at c.in-Ok-Next.ensures.does) in
-    tried g.D.Receipt.Receipt.stands v w slot c.args.context op g.D.Disk.keeps g.F.Key.Ord.cmp g.F.Functions.meaning (turn.On None) l.0 l.1
+    tried g.D.Receipt.Receipt.stands v w slot c.args.context op g.D.Receipt.Receipt.keeps g.F.Key.Ord.cmp g.F.Functions.meaning (turn.On None) l.0 l.1
     (λ keeps. (c.in-Ok-Next.ensures.event keeps).live))
 
 pub returns-clause-told : goal.returns-clause-told

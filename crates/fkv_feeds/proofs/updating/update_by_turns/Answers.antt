@@ -27,10 +27,10 @@ loop-turn-init g c =
     }
 
 pub attempt-requires-clause-open : goal.attempt-requires-clause-open
-attempt-requires-clause-open g c κs within = (Rmw c.args.key.now c.args.input.now, c.loop-turn.invariant.seat)
+attempt-requires-clause-open g c = (Rmw c.args.key.now c.args.input.now, c.loop-turn.invariant.seat)
 
 pub attempt-requires-clause-past : goal.attempt-requires-clause-past
-attempt-requires-clause-past g c κs within = c.loop-turn.invariant.past
+attempt-requires-clause-past g c = c.loop-turn.invariant.past
 
 pub returns-in-Ok-Done-clause-idle : goal.returns-in-Ok-Done-clause-idle
 returns-in-Ok-Done-clause-idle g c =

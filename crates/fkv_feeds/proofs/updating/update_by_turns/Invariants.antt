@@ -8,7 +8,7 @@ use Rattle.fkv_feeds.proofs.updating.update_by_turns.Given as goal
 abbrev pub invariant-loop-turn : goal.invariant-loop-turn
 invariant-loop-turn g l = record {
   seat : IsOpen l.shard.partition l.terms.slot l.context (Rmw l.fn.key l.fn.input) (option_map g.D.Receipt.Receipt.stands l.page);
-  live : IsTrue g.D.Disk.keeps → Same (live_of g.F.Key.Ord.cmp l.shard.partition) (live_of g.F.Key.Ord.cmp l.fn.shard.partition);
+  live : IsTrue g.D.Receipt.Receipt.keeps → Same (live_of g.F.Key.Ord.cmp l.shard.partition) (live_of g.F.Key.Ord.cmp l.fn.shard.partition);
   number : l.shard.partition.number ≡ l.fn.shard.partition.number;
   count : l.shard.partition.count ≡ l.fn.shard.partition.count;
   past : l.shard.partition.moment ≤ l.clock;

@@ -11,7 +11,7 @@ returns-in-Err g c =
 
 pub returns-then-eq : goal.returns-then-eq
 returns-then-eq g c =
-    let ord = g.met.K.Ord g.world.𝓛 g.world.𝓜 g.world.𝓡 ((λ s x. x), (λ x. x), (λ x. x), λ x. x) in
+    let ord = g.met.K.Ord in
     let own : has_key g.K.Ord.cmp c.args.key.now c.in-Ok.entry ≡ true = sym (ord.matches_eq c.in-Ok.entry.key c.args.key.now) ∙ sym c.eq.ensures ∙ c.if-eq.true in
     c.loop-address.invariant _ (found c.loop-address-test.true c.in-Ok.ensures.only own)
 
@@ -20,7 +20,7 @@ loop-address-smaller g c = entry_falls g.K.Fixed.bytes_of g.V.Fixed.bytes_of g.K
 
 pub loop-address-preserved : goal.loop-address-preserved
 loop-address-preserved g c =
-    let ord = g.met.K.Ord g.world.𝓛 g.world.𝓜 g.world.𝓡 ((λ s x. x), (λ x. x), (λ x. x), λ x. x) in
+    let ord = g.met.K.Ord in
     let other : has_key g.K.Ord.cmp c.args.key.now c.in-Ok.entry ≡ false = sym (ord.matches_eq c.in-Ok.entry.key c.args.key.now) ∙ sym c.eq.ensures ∙ c.if-eq.false in
     λ r h. c.loop-address.invariant r (on c.loop-address-test.true c.in-Ok.ensures.only other h)
 

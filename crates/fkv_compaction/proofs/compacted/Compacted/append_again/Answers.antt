@@ -24,15 +24,15 @@ returns-then-not-holds-clause-does g c =
     (λ e. let yes = told.1 (ap (λ u. word_at u.partition.records.words c.args.kept.place) c.self.view_is ∙ e) in let no : false ≡ true = sym c.if-not-holds.true ∙ yes in cc) refl refl)
 
 pub returns-then-not-holds-clause-event : goal.returns-then-not-holds-clause-event
-returns-then-not-holds-clause-event g c = rw c.set_stage.ensures (event-set g.D.Disk.keeps g.F.Key.Ord.cmp c.args.self.now c.args.slot c.args.context c.args.now c.requires.context _)
+returns-then-not-holds-clause-event g c = rw c.set_stage.ensures (event-set g.R.Receipt.keeps g.F.Key.Ord.cmp c.args.self.now c.args.slot c.args.context c.args.now c.requires.context _)
 
 pub append-requires-clause-unclaimed : goal.append-requires-clause-unclaimed
-append-requires-clause-unclaimed g c κs within =
+append-requires-clause-unclaimed g c =
     subst (λ u. claim_at u.partition.contexts (c.args.slot * 8 + c.args.context) ≡ None) (sym c.self.view_is)
     (unclaimed g.F.Key.Ord.cmp g.F.Functions.code c.args.self.now c.known.ensures.compacting c.args.slot c.args.context c.args.now c.args.relocation.now c.requires.here)
 
 pub append-requires-clause-write : goal.append-requires-clause-write
-append-requires-clause-write g c κs within =
+append-requires-clause-write g c =
     let told = rw c.records.ensures at c.holds.ensures in
     let v = c.args.self.now in
     let holds = ap (λ u. word_at u.partition.records.words c.args.kept.place) (sym c.self.view_is) ∙ told.0 c.if-not-holds.false in
@@ -45,14 +45,14 @@ invariant_of-self-in-Ok-None g c =
     rw same (keep-moment (view_of c.self.inside.partition c.self.inside.cleared c.self.inside.relocations.items) c.self.invariant c.args.now)
 
 pub set_stage-requires-in-Ok-None-clause-here : goal.set_stage-requires-in-Ok-None-clause-here
-set_stage-requires-in-Ok-None-clause-here g c κs within =
+set_stage-requires-in-Ok-None-clause-here g c =
     let same = c.in-Ok-None.ensures.full (ap Ok c.in-Ok-None.field-0-is) in
     rw same (rw (← c.self.view_is) at c.requires.here)
 
 pub set_stage-requires-in-Ok-None-clause-stands : goal.set_stage-requires-in-Ok-None-clause-stands
-set_stage-requires-in-Ok-None-clause-stands g c κs within =
+set_stage-requires-in-Ok-None-clause-stands g c =
     let same = c.in-Ok-None.ensures.full (ap Ok c.in-Ok-None.field-0-is) in
-    subst (λ q. StageStands g.D.Disk.keeps g.F.Key.Ord.cmp g.F.Functions.code q c.args.relocation.now.place (Ready c.args.entry c.args.kept)) (sym same) (rw (← c.self.view_is) at c.requires.stands)
+    subst (λ q. StageStands g.R.Receipt.keeps g.F.Key.Ord.cmp g.F.Functions.code q c.args.relocation.now.place (Ready c.args.entry c.args.kept)) (sym same) (rw (← c.self.view_is) at c.requires.stands)
 
 pub invariant_of-self-in-Ok-Some : goal.invariant_of-self-in-Ok-Some
 invariant_of-self-in-Ok-Some g c =
@@ -67,11 +67,11 @@ invariant_of-self-in-Ok-Some g c =
     let holds = told.0 c.if-not-holds.false in
     let made = rw c.in-Ok-Some.field-0-is at c.in-Ok-Some.ensures.ok in
     let args = writes-again g.F.Key.Ord.cmp g.F.Functions.code ins c.self.invariant c.args.slot c.args.context c.args.now x here sound e kept stands holds in
-    let borne = c.events_bear.ensures.appends g.D.Disk.keeps g.F.Key.Ord.cmp g.F.Functions.code ins.partition c.args.slot c.args.context c.args.now (record { entry = kept; key = e.key; value = e.value }) sound args in
+    let borne = c.events_bear.ensures.appends g.R.Receipt.keeps g.F.Key.Ord.cmp g.F.Functions.code ins.partition c.args.slot c.args.context c.args.now (record { entry = kept; key = e.key; value = e.value }) sound args in
     rw made (keep-again g.F.Key.Ord.cmp g.F.Functions.code ins c.self.invariant c.args.slot c.args.context c.args.now x here sound e kept stands holds (rw made at c.known-in-Ok-Some.ensures.traced) borne)
 
 pub finish-requires-clause-issued : goal.finish-requires-clause-issued
-finish-requires-clause-issued g c κs within =
+finish-requires-clause-issued g c =
     let x = c.args.relocation.now in
     let e = c.args.entry in
     let kept = c.args.kept in
@@ -80,7 +80,7 @@ finish-requires-clause-issued g c κs within =
     (stands-here ins c.args.slot c.args.context x here c.self.invariant).issued
 
 pub finish-requires-clause-place : goal.finish-requires-clause-place
-finish-requires-clause-place g c κs within =
+finish-requires-clause-place g c =
     let x = c.args.relocation.now in
     let e = c.args.entry in
     let kept = c.args.kept in
@@ -90,9 +90,9 @@ finish-requires-clause-place g c κs within =
     subst (λ q. IsPlace q.records.page_bits q.records.record_size x.place) (sym made) (stands-here ins c.args.slot c.args.context x here c.self.invariant).place
 
 pub finish-requires-clause-spent : goal.finish-requires-clause-spent
-finish-requires-clause-spent g c κs within =
-    let ord = g.met.F.Key.Ord g.world.𝓛 g.world.𝓜 g.world.𝓡 ((λ s x. x), (λ x. x), (λ x. x), λ x. x) in
-    let known = g.met.F.Key.Known g.world.𝓛 g.world.𝓜 g.world.𝓡 ((λ s x. x), (λ x. x), (λ x. x), λ x. x) in
+finish-requires-clause-spent g c =
+    let ord = g.met.F.Key.Ord in
+    let known = g.met.F.Key.FixedKey in
     let order = key_order g.F.Key.PartialEq.eq g.F.Key.Ord.cmp ord.matches_eq known.exact ord.total in
     let x = c.args.relocation.now in
     let e = c.args.entry in
@@ -104,7 +104,7 @@ finish-requires-clause-spent g c κs within =
     let told = rw c.records.ensures at c.holds.ensures in
     let holds = told.0 c.if-not-holds.false in
     let made = rw c.in-Ok-Some.field-0-is at c.in-Ok-Some.ensures.ok in
-    subst (λ q. IsTrue g.D.Disk.keeps → (d : Entry _ _) → entry_at q.records.text x.place ≡ Some d → IsSpent g.F.Key.Ord.cmp q.records.text d) (sym made)
+    subst (λ q. IsTrue g.R.Receipt.keeps → (d : Entry _ _) → entry_at q.records.text x.place ≡ Some d → IsSpent g.F.Key.Ord.cmp q.records.text d) (sym made)
     (spent-again g.F.Key.Ord.cmp g.F.Functions.code ins c.self.invariant c.args.slot c.args.context c.args.now x here sound e kept stands holds order)
 
 pub returns-in-Err-clause-does : goal.returns-in-Err-clause-does
@@ -148,7 +148,7 @@ returns-in-Ok-None-clause-event g c =
     let new = c.set_stage-in-Ok-None.ensures
     ∙ ap (λ q. with_relocation (view_of q c.self.inside.cleared c.self.inside.relocations.items) c.args.slot c.args.context y c.args.now) same
     ∙ ap (λ u. with_relocation u c.args.slot c.args.context y c.args.now) c.self.view_is in
-    rw new (event-set g.D.Disk.keeps g.F.Key.Ord.cmp v c.args.slot c.args.context c.args.now c.requires.context y)
+    rw new (event-set g.R.Receipt.keeps g.F.Key.Ord.cmp v c.args.slot c.args.context c.args.now c.requires.context y)
 
 pub returns-in-Ok-Some-clause-does : goal.returns-in-Ok-Some-clause-does
 returns-in-Ok-Some-clause-does g c =
@@ -169,8 +169,8 @@ returns-in-Ok-Some-clause-does g c =
 
 pub returns-in-Ok-Some-clause-event : goal.returns-in-Ok-Some-clause-event
 returns-in-Ok-Some-clause-event g c =
-    let ord = g.met.F.Key.Ord g.world.𝓛 g.world.𝓜 g.world.𝓡 ((λ s x. x), (λ x. x), (λ x. x), λ x. x) in
-    let known = g.met.F.Key.Known g.world.𝓛 g.world.𝓜 g.world.𝓡 ((λ s x. x), (λ x. x), (λ x. x), λ x. x) in
+    let ord = g.met.F.Key.Ord in
+    let known = g.met.F.Key.FixedKey in
     let order = key_order g.F.Key.PartialEq.eq g.F.Key.Ord.cmp ord.matches_eq known.exact ord.total in
     let x = c.args.relocation.now in
     let e = c.args.entry in

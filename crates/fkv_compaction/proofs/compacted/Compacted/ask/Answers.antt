@@ -8,7 +8,7 @@ use Rattle.fkv_compaction.proofs.compacted.Compacted.ask.Goals as goal
 pub returns-clause-does : goal.returns-clause-does
 returns-clause-does g c =
     let held = rw (c.page_of-page.ensures, c.records.ensures, c.records-2.ensures) at c.in-Ok.ensures.stands in
-    rw c.set_stage.ensures (asks c.in-Ok.receipt (subst (λ u. IsHeldBy u.partition.records.receipts (page_at u.partition.records.page_bits c.args.wanted) (g.D.Receipt.Receipt.stands c.in-Ok.receipt)) c.self.view_is held) refl refl)
+    rw c.set_stage.ensures (asks c.in-Ok.receipt (subst (λ u. IsHeldBy u.partition.records.receipts (page_at u.partition.records.page_bits c.args.wanted) (g.R.Receipt.stands c.in-Ok.receipt)) c.self.view_is held) refl refl)
 
 pub returns-clause-event : goal.returns-clause-event
-returns-clause-event g c = rw c.set_stage.ensures (event-set g.D.Disk.keeps g.F.Key.Ord.cmp c.args.self.now c.args.slot c.args.context c.args.now c.requires.context _)
+returns-clause-event g c = rw c.set_stage.ensures (event-set g.R.Receipt.keeps g.F.Key.Ord.cmp c.args.self.now c.args.slot c.args.context c.args.now c.requires.context _)

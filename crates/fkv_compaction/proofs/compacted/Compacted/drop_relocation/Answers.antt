@@ -10,4 +10,4 @@ pub returns-clause-does : goal.returns-clause-does
 returns-clause-does g c = rw c.end.ensures (Drops.drops c.in-Some._relocation (sym c.in-Some.ensures.value) refl refl)
 
 pub returns-clause-event : goal.returns-clause-event
-returns-clause-event g c = rw c.end.ensures (relocating-set g.D.Disk.keeps g.F.Key.Ord.cmp c.args.self.now c.args.slot c.args.context c.args.now None c.in-Some.ensures.context)
+returns-clause-event g c = rw c.end.ensures (relocating-set g.R.Receipt.keeps g.F.Key.Ord.cmp c.args.self.now c.args.slot c.args.context c.args.now None c.in-Some.ensures.context)

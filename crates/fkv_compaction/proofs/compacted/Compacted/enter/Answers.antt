@@ -8,8 +8,8 @@ pub invariant_of-self : goal.invariant_of-self
 invariant_of-self g c =
     let v = view_of c.self.inside.partition c.self.inside.cleared c.self.inside.relocations.items in
     let does = c.enter-entered.ensures.does in
-    keep-seated g.D.Disk.keeps g.F.Key.Ord.cmp g.F.Functions.code v c.enter-entered.new.self c.self.invariant c.known-2.ensures.traced
-    (c.events_bear.ensures.enters g.D.Disk.keeps g.F.Key.Ord.cmp g.F.Functions.code v.partition c.enter-entered.new.self c.args.now c.enter-entered.result c.known.ensures does)
+    keep-seated g.R.Receipt.keeps g.F.Key.Ord.cmp g.F.Functions.code v c.enter-entered.new.self c.self.invariant c.known-2.ensures.traced
+    (c.events_bear.ensures.enters g.R.Receipt.keeps g.F.Key.Ord.cmp g.F.Functions.code v.partition c.enter-entered.new.self c.args.now c.enter-entered.result c.known.ensures does)
     (enters-steady v.partition c.enter-entered.new.self c.args.now c.enter-entered.result does)
     (c.seats_stay.ensures.enters v.partition c.enter-entered.new.self c.args.now c.enter-entered.result does)
 

@@ -8,8 +8,8 @@ pub invariant_of-self : goal.invariant_of-self
 invariant_of-self g c =
     let v = view_of c.self.inside.partition c.self.inside.cleared c.self.inside.relocations.items in
     let does = c.flush_done-done.ensures.does in
-    keep-seated g.D.Disk.keeps g.F.Key.Ord.cmp g.F.Functions.code v c.flush_done-done.new.self c.self.invariant c.known-2.ensures.traced
-    (c.events_bear.ensures.flushes g.D.Disk.keeps g.F.Key.Ord.cmp g.F.Functions.code v.partition c.flush_done-done.new.self _ _ c.args.now c.flush_done-done.result c.known.ensures does)
+    keep-seated g.R.Receipt.keeps g.F.Key.Ord.cmp g.F.Functions.code v c.flush_done-done.new.self c.self.invariant c.known-2.ensures.traced
+    (c.events_bear.ensures.flushes g.R.Receipt.keeps g.F.Key.Ord.cmp g.F.Functions.code v.partition c.flush_done-done.new.self _ _ c.args.now c.flush_done-done.result c.known.ensures does)
     (flushes-steady v.partition c.flush_done-done.new.self _ _ c.args.now c.flush_done-done.result does)
     (c.seats_stay.ensures.flushes v.partition c.flush_done-done.new.self _ _ c.args.now c.flush_done-done.result does)
 

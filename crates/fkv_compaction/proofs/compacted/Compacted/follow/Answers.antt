@@ -10,37 +10,37 @@ use Rattle.fkv_compaction.proofs.WeighLemmas.{spent-one, spent-newer, ready, fur
 use Rattle.fkv_compaction.proofs.compacted.Compacted.follow.Goals as goal
 
 pub reach-reached-requires-clause-entered : goal.reach-reached-requires-clause-entered
-reach-reached-requires-clause-entered g c κs within =
+reach-reached-requires-clause-entered g c =
     let v = c.args.self.now in
     let x = c.args.relocation.now in
     let e = c.args.entry in
     subst (λ u. IsEntered u.partition c.args.slot) (sym c.self.view_is) (open-here v c.args.slot c.args.context x c.requires.here).inside
 
 pub finish-requires-clause-issued : goal.finish-requires-clause-issued
-finish-requires-clause-issued g c κs within =
+finish-requires-clause-issued g c =
     let v = c.args.self.now in
     let x = c.args.relocation.now in
     let e = c.args.entry in
     (stands-here v c.args.slot c.args.context x c.requires.here c.known.ensures.compacting).issued
 
 pub finish-requires-clause-place : goal.finish-requires-clause-place
-finish-requires-clause-place g c κs within =
+finish-requires-clause-place g c =
     let v = c.args.self.now in
     let x = c.args.relocation.now in
     let e = c.args.entry in
     (stands-here v c.args.slot c.args.context x c.requires.here c.known.ensures.compacting).place
 
 pub finish-requires-clause-low : goal.finish-requires-clause-low
-finish-requires-clause-low g c κs within =
+finish-requires-clause-low g c =
     let v = c.args.self.now in
     let x = c.args.relocation.now in
     let e = c.args.entry in
     low-here v c.args.slot c.args.context x c.requires.here c.known.ensures.compacting c.known.ensures.partition.traced
 
 pub finish-requires-clause-spent : goal.finish-requires-clause-spent
-finish-requires-clause-spent g c κs within =
-    let ord = g.met.F.Key.Ord g.world.𝓛 g.world.𝓜 g.world.𝓡 ((λ s x. x), (λ x. x), (λ x. x), λ x. x) in
-    let known = g.met.F.Key.Known g.world.𝓛 g.world.𝓜 g.world.𝓡 ((λ s x. x), (λ x. x), (λ x. x), λ x. x) in
+finish-requires-clause-spent g c =
+    let ord = g.met.F.Key.Ord in
+    let known = g.met.F.Key.FixedKey in
     let order = key_order g.F.Key.PartialEq.eq g.F.Key.Ord.cmp ord.matches_eq known.exact ord.total in
     let v = c.args.self.now in
     let x = c.args.relocation.now in
@@ -50,9 +50,9 @@ finish-requires-clause-spent g c κs within =
     spent-one g.F.Key.Ord.cmp v.partition.records.text x.place e c.requires.is (spent-newer g.F.Key.Ord.cmp g.F.Functions.code order v.partition c.known.ensures.partition c.args.slot (open-here v c.args.slot c.args.context x c.requires.here).inside x.place e c.requires.stands c.requires.is c.args.kept c.requires.entry_stands c.requires.leads so)
 
 pub append_again-requires-clause-stands : goal.append_again-requires-clause-stands
-append_again-requires-clause-stands g c κs within =
-    let ord = g.met.F.Key.Ord g.world.𝓛 g.world.𝓜 g.world.𝓡 ((λ s x. x), (λ x. x), (λ x. x), λ x. x) in
-    let known = g.met.F.Key.Known g.world.𝓛 g.world.𝓜 g.world.𝓡 ((λ s x. x), (λ x. x), (λ x. x), λ x. x) in
+append_again-requires-clause-stands g c =
+    let ord = g.met.F.Key.Ord in
+    let known = g.met.F.Key.FixedKey in
     let order = key_order g.F.Key.PartialEq.eq g.F.Key.Ord.cmp ord.matches_eq known.exact ord.total in
     let v = c.args.self.now in
     let x = c.args.relocation.now in
@@ -62,9 +62,9 @@ append_again-requires-clause-stands g c κs within =
     (c.requires.own, ready g.F.Key.Ord.cmp g.F.Functions.code order v.partition c.known.ensures.partition c.args.slot (open-here v c.args.slot c.args.context x c.requires.here).inside x.place e c.requires.stands c.requires.is c.args.kept c.requires.entry_stands c.requires.leads c.requires.begun (stands-here v c.args.slot c.args.context x c.requires.here c.known.ensures.compacting).frozen c.requires.some so)
 
 pub ask-requires-clause-flushed : goal.ask-requires-clause-flushed
-ask-requires-clause-flushed g c κs within =
-    let ord = g.met.F.Key.Ord g.world.𝓛 g.world.𝓜 g.world.𝓡 ((λ s x. x), (λ x. x), (λ x. x), λ x. x) in
-    let known = g.met.F.Key.Known g.world.𝓛 g.world.𝓜 g.world.𝓡 ((λ s x. x), (λ x. x), (λ x. x), λ x. x) in
+ask-requires-clause-flushed g c =
+    let ord = g.met.F.Key.Ord in
+    let known = g.met.F.Key.FixedKey in
     let order = key_order g.F.Key.PartialEq.eq g.F.Key.Ord.cmp ord.matches_eq known.exact ord.total in
     let v = c.args.self.now in
     let x = c.args.relocation.now in
@@ -75,9 +75,9 @@ ask-requires-clause-flushed g c κs within =
     page_flushed v.partition.records c.in-Further.wanted c.known.ensures.partition.traced disk.0 disk.1
 
 pub ask-requires-clause-stands : goal.ask-requires-clause-stands
-ask-requires-clause-stands g c κs within =
-    let ord = g.met.F.Key.Ord g.world.𝓛 g.world.𝓜 g.world.𝓡 ((λ s x. x), (λ x. x), (λ x. x), λ x. x) in
-    let known = g.met.F.Key.Known g.world.𝓛 g.world.𝓜 g.world.𝓡 ((λ s x. x), (λ x. x), (λ x. x), λ x. x) in
+ask-requires-clause-stands g c =
+    let ord = g.met.F.Key.Ord in
+    let known = g.met.F.Key.FixedKey in
     let order = key_order g.F.Key.PartialEq.eq g.F.Key.Ord.cmp ord.matches_eq known.exact ord.total in
     let v = c.args.self.now in
     let x = c.args.relocation.now in
@@ -92,7 +92,7 @@ returns-in-Dead-clause-event g c =
     let v = c.args.self.now in
     let x = c.args.relocation.now in
     let e = c.args.entry in
-    rw c.finish.ensures (event-done g.D.Disk.keeps g.F.Key.Ord.cmp v c.args.slot c.args.context c.args.now c.requires.context x.place (past-place v x.place c.known.ensures.partition.traced (stands-here v c.args.slot c.args.context x c.requires.here c.known.ensures.compacting).place).0)
+    rw c.finish.ensures (event-done g.R.Receipt.keeps g.F.Key.Ord.cmp v c.args.slot c.args.context c.args.now c.requires.context x.place (past-place v x.place c.known.ensures.partition.traced (stands-here v c.args.slot c.args.context x c.requires.here c.known.ensures.compacting).place).0)
 
 pub returns-in-Dead-clause-cleared : goal.returns-in-Dead-clause-cleared
 returns-in-Dead-clause-cleared g c =

@@ -8,8 +8,8 @@ pub invariant_of-self : goal.invariant_of-self
 invariant_of-self g c =
     let v = view_of c.self.inside.partition c.self.inside.cleared c.self.inside.relocations.items in
     let does = c.give_up-given.ensures.does in
-    keep-seated g.D.Disk.keeps g.F.Key.Ord.cmp g.F.Functions.code v c.give_up-given.new.self c.self.invariant c.known-2.ensures.traced
-    (c.events_bear.ensures.gives_up g.D.Disk.keeps g.F.Key.Ord.cmp g.F.Functions.code v.partition c.give_up-given.new.self c.args.slot c.args.context c.args.now c.give_up-given.result c.known.ensures does)
+    keep-seated g.R.Receipt.keeps g.F.Key.Ord.cmp g.F.Functions.code v c.give_up-given.new.self c.self.invariant c.known-2.ensures.traced
+    (c.events_bear.ensures.gives_up g.R.Receipt.keeps g.F.Key.Ord.cmp g.F.Functions.code v.partition c.give_up-given.new.self c.args.slot c.args.context c.args.now c.give_up-given.result c.known.ensures does)
     (gives-up-steady v.partition c.give_up-given.new.self c.args.slot c.args.context c.args.now c.give_up-given.result does)
     (c.seats_stay.ensures.gives_up v.partition c.give_up-given.new.self c.args.slot c.args.context c.args.now c.give_up-given.result does)
 

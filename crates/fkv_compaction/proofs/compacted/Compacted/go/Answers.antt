@@ -7,15 +7,15 @@ use Rattle.fkv_compaction.proofs.compacted.Compacted.go.Goals as goal
 
 pub invariant_of-self : goal.invariant_of-self
 invariant_of-self g c =
-    let ord = g.met.F.Key.Ord g.world.𝓛 g.world.𝓜 g.world.𝓡 ((λ s x. x), (λ x. x), (λ x. x), λ x. x) in
-    let known = g.met.F.Key.Known g.world.𝓛 g.world.𝓜 g.world.𝓡 ((λ s x. x), (λ x. x), (λ x. x), λ x. x) in
+    let ord = g.met.F.Key.Ord in
+    let known = g.met.F.Key.FixedKey in
     let order = key_order g.F.Key.PartialEq.eq g.F.Key.Ord.cmp ord.matches_eq known.exact ord.total in
     let v = view_of c.self.inside.partition c.self.inside.cleared c.self.inside.relocations.items in
     let does = c.go-gone.ensures.does in
-    keep-seated g.D.Disk.keeps g.F.Key.Ord.cmp g.F.Functions.code v c.go-gone.new.self c.self.invariant c.known-2.ensures.traced
-    (c.events_bear.ensures.goes g.D.Disk.keeps g.D.Receipt.Receipt.stands g.F.Key.Ord.cmp g.F.Functions.meaning g.F.Functions.code v.partition c.go-gone.new.self c.args.slot c.args.context c.args.now c.go-gone.result order c.known.ensures does)
-    (goes-steady v.partition c.go-gone.new.self c.args.slot c.args.context c.args.now g.D.Receipt.Receipt.stands g.F.Key.Ord.cmp g.F.Functions.meaning g.F.Functions.code c.go-gone.result does)
-    (c.seats_stay.ensures.goes g.D.Receipt.Receipt.stands g.F.Key.Ord.cmp g.F.Functions.meaning g.F.Functions.code v.partition c.go-gone.new.self c.args.slot c.args.context c.args.now c.go-gone.result does)
+    keep-seated g.R.Receipt.keeps g.F.Key.Ord.cmp g.F.Functions.code v c.go-gone.new.self c.self.invariant c.known-2.ensures.traced
+    (c.events_bear.ensures.goes g.R.Receipt.keeps g.R.Receipt.stands g.F.Key.Ord.cmp g.F.Functions.meaning g.F.Functions.code v.partition c.go-gone.new.self c.args.slot c.args.context c.args.now c.go-gone.result order c.known.ensures does)
+    (goes-steady v.partition c.go-gone.new.self c.args.slot c.args.context c.args.now g.R.Receipt.stands g.F.Key.Ord.cmp g.F.Functions.meaning g.F.Functions.code c.go-gone.result does)
+    (c.seats_stay.ensures.goes g.R.Receipt.stands g.F.Key.Ord.cmp g.F.Functions.meaning g.F.Functions.code v.partition c.go-gone.new.self c.args.slot c.args.context c.args.now c.go-gone.result does)
 
 pub returns-clause-does : goal.returns-clause-does
 returns-clause-does g c = rw (← c.self.view_is) c.go-gone.ensures.does

@@ -6,12 +6,12 @@ use Rattle.fkv_compaction.proofs.MoveLemmas.{event-set, open-here, stands-here}
 use Rattle.fkv_compaction.proofs.compacted.Compacted.go_on.Goals as goal
 
 pub append_again-requires-clause-stands : goal.append_again-requires-clause-stands
-append_again-requires-clause-stands g c κs within =
+append_again-requires-clause-stands g c =
     let v = c.args.self.now in
     let x = c.in-Some.relocation in
     let here = sym c.in-Some.ensures.value in
-    let sound = subst (λ u. IsCompacting g.D.Disk.keeps g.F.Key.Ord.cmp g.F.Functions.code u) c.self.view_is c.self.invariant in
-    subst (λ s. StageStands g.D.Disk.keeps g.F.Key.Ord.cmp g.F.Functions.code v.partition x.place s) c.in-Ready.is (stands-here v c.args.slot c.args.context x here sound).stage
+    let sound = subst (λ u. IsCompacting g.R.Receipt.keeps g.F.Key.Ord.cmp g.F.Functions.code u) c.self.view_is c.self.invariant in
+    subst (λ s. StageStands g.R.Receipt.keeps g.F.Key.Ord.cmp g.F.Functions.code v.partition x.place s) c.in-Ready.is (stands-here v c.args.slot c.args.context x here sound).stage
 
 pub returns-then-relocation-self-clause-does : goal.returns-then-relocation-self-clause-does
 returns-then-relocation-self-clause-does g c =
@@ -26,14 +26,14 @@ returns-then-relocation-self-clause-event g c =
     let v = c.args.self.now in
     let x = c.in-Some.relocation in
     let here = sym c.in-Some.ensures.value in
-    rw c.end.ensures (event-set g.D.Disk.keeps g.F.Key.Ord.cmp v c.args.slot c.args.context c.args.now (open-here v c.args.slot c.args.context x here).low None)
+    rw c.end.ensures (event-set g.R.Receipt.keeps g.F.Key.Ord.cmp v c.args.slot c.args.context c.args.now (open-here v c.args.slot c.args.context x here).low None)
 
 pub look-requires-clause-uncleared : goal.look-requires-clause-uncleared
-look-requires-clause-uncleared g c κs within =
+look-requires-clause-uncleared g c =
     let v = c.args.self.now in
     let x = c.in-Some.relocation in
     let here = sym c.in-Some.ensures.value in
-    let sound = subst (λ u. IsCompacting g.D.Disk.keeps g.F.Key.Ord.cmp g.F.Functions.code u) c.self.view_is c.self.invariant in
+    let sound = subst (λ u. IsCompacting g.R.Receipt.keeps g.F.Key.Ord.cmp g.F.Functions.code u) c.self.view_is c.self.invariant in
     let high = subst (λ u. u.cleared ≤ x.place) c.self.view_is c.if-relocation-self.false in
     let issued = (stands-here v c.args.slot c.args.context x here sound).issued in
     omega arith

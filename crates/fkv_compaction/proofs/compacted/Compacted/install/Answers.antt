@@ -8,8 +8,8 @@ pub invariant_of-self : goal.invariant_of-self
 invariant_of-self g c =
     let v = view_of c.self.inside.partition c.self.inside.cleared c.self.inside.relocations.items in
     let does = c.install-installed.ensures.does in
-    keep-seated g.D.Disk.keeps g.F.Key.Ord.cmp g.F.Functions.code v c.install-installed.new.self c.self.invariant c.known-2.ensures.traced
-    (c.events_bear.ensures.installs g.D.Disk.keeps g.F.Key.Ord.cmp g.F.Functions.meaning g.F.Functions.code v.partition c.install-installed.new.self c.args.slot c.args.context c.args.built c.args.now c.install-installed.result c.known.ensures does)
+    keep-seated g.R.Receipt.keeps g.F.Key.Ord.cmp g.F.Functions.code v c.install-installed.new.self c.self.invariant c.known-2.ensures.traced
+    (c.events_bear.ensures.installs g.R.Receipt.keeps g.F.Key.Ord.cmp g.F.Functions.meaning g.F.Functions.code v.partition c.install-installed.new.self c.args.slot c.args.context c.args.built c.args.now c.install-installed.result c.known.ensures does)
     (installs-steady v.partition c.install-installed.new.self c.args.slot c.args.context c.args.now g.F.Key.Ord.cmp g.F.Functions.meaning g.F.Functions.code c.args.built c.install-installed.result does)
     (c.seats_stay.ensures.installs g.F.Key.Ord.cmp g.F.Functions.meaning g.F.Functions.code v.partition c.install-installed.new.self c.args.slot c.args.context c.args.built c.args.now c.install-installed.result does)
 

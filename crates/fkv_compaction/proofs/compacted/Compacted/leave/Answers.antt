@@ -17,10 +17,10 @@ invariant_of-self g c =
     let new = c.leave-left.new.self in
     let does = c.leave-left.ensures.does in
     let has = rw (← c.self.view_is) at c.has_relocation.ensures in
-    keep-left g.D.Disk.keeps g.F.Key.Ord.cmp g.F.Functions.code v new c.args.slot c.self.invariant c.known-2.ensures.traced
-    (c.events_bear.ensures.leaves g.D.Disk.keeps g.F.Key.Ord.cmp g.F.Functions.code v.partition new c.args.slot c.args.now c.leave-left.result c.known.ensures does)
-    (leaves-steady v.partition new g.D.Disk.keeps c.args.slot c.args.now c.leave-left.result does)
-    (c.seats_stay.ensures.leaves g.D.Disk.keeps v.partition new c.args.slot c.args.now c.leave-left.result does)
+    keep-left g.R.Receipt.keeps g.F.Key.Ord.cmp g.F.Functions.code v new c.args.slot c.self.invariant c.known-2.ensures.traced
+    (c.events_bear.ensures.leaves g.R.Receipt.keeps g.F.Key.Ord.cmp g.F.Functions.code v.partition new c.args.slot c.args.now c.leave-left.result c.known.ensures does)
+    (leaves-steady v.partition new g.R.Receipt.keeps c.args.slot c.args.now c.leave-left.result does)
+    (c.seats_stay.ensures.leaves g.R.Receipt.keeps v.partition new c.args.slot c.args.now c.leave-left.result does)
     (λ d x e. (let told = has.1 (d, x, e) in let bad : false ≡ true = sym c.if-has_relocation.false ∙ told in cc))
 
 pub returns-clause-does : goal.returns-clause-does

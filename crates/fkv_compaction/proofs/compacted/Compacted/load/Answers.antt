@@ -7,8 +7,8 @@ pub invariant_of-self : goal.invariant_of-self
 invariant_of-self g c =
     let v = view_of c.self.inside.partition c.self.inside.cleared c.self.inside.relocations.items in
     let does = c.load-loaded.ensures.does in
-    keep-seated g.D.Disk.keeps g.F.Key.Ord.cmp g.F.Functions.code v c.load-loaded.new.self c.self.invariant c.known-2.ensures.traced
-    (c.loads_bear.ensures g.D.Disk.keeps g.F.Functions.code v.partition c.load-loaded.new.self c.args.slot c.args.context c.args.came c.args.now c.load-loaded.result c.known.ensures does)
+    keep-seated g.R.Receipt.keeps g.F.Key.Ord.cmp g.F.Functions.code v c.load-loaded.new.self c.self.invariant c.known-2.ensures.traced
+    (c.loads_bear.ensures g.R.Receipt.keeps g.F.Functions.code v.partition c.load-loaded.new.self c.args.slot c.args.context c.args.came c.args.now c.load-loaded.result c.known.ensures does)
     (loads-steady v.partition c.load-loaded.new.self c.args.slot c.args.context c.args.now _ _ g.F.Key.Ord.cmp g.F.Functions.meaning c.args.came c.load-loaded.result does)
     (c.loads_keep_seats.ensures v.partition c.load-loaded.new.self c.args.slot c.args.context c.args.came c.args.now c.load-loaded.result does)
 

@@ -23,7 +23,7 @@ returns-then-begin-clause-does g c =
 
 pub returns-then-begin-clause-event : goal.returns-then-begin-clause-event
 returns-then-begin-clause-event g c =
-    rw c.set_stage.ensures (event-set g.D.Disk.keeps g.F.Key.Ord.cmp c.args.self.now c.args.slot c.args.context c.args.now c.in-Some.ensures.context _)
+    rw c.set_stage.ensures (event-set g.R.Receipt.keeps g.F.Key.Ord.cmp c.args.self.now c.args.slot c.args.context c.args.now c.in-Some.ensures.context _)
 
 pub returns-then-is_no_memory-clause-does : goal.returns-then-is_no_memory-clause-does
 returns-then-is_no_memory-clause-does g c =
@@ -38,7 +38,7 @@ returns-then-is_no_memory-clause-does g c =
     LoadsOn.unread x wanted a (c.in-Err.is ∙ ap Err is) refl (ap Err is)
 
 pub read_on-requires-clause-awaits : goal.read_on-requires-clause-awaits
-read_on-requires-clause-awaits g c κs within =
+read_on-requires-clause-awaits g c =
     let v = c.args.self.now in
     let x = c.in-Some.relocation in
     let here = sym c.in-Some.ensures.value in

@@ -8,14 +8,14 @@ use Rattle.fkv_compaction.proofs.MoveLemmas.{open-here}
 use Rattle.fkv_compaction.proofs.LookLemmas.{address-at, place-flushed, place-reading, place-there, place-open}
 use Rattle.fkv_compaction.proofs.compacted.Compacted.look.Goals as goal
 
-pub view-view-requires-after_bounds : goal.view-view-requires-after_bounds
-view-view-requires-after_bounds g c κs within =
+pub view-view-requires : goal.view-view-requires
+view-view-requires g c =
     let v = c.args.self.now in
     let x = c.args.relocation.now in
     rw c.records.ensures (subst (λ u. IsEntered u.partition c.args.slot) (sym c.self.view_is) (open-here v c.args.slot c.args.context x c.requires.here).inside)
 
 pub ask-requires-clause-flushed : goal.ask-requires-clause-flushed
-ask-requires-clause-flushed g c κs within =
+ask-requires-clause-flushed g c =
     let v = c.args.self.now in
     let x = c.args.relocation.now in
     let low = c.low_of.ensures
@@ -26,7 +26,7 @@ ask-requires-clause-flushed g c κs within =
     place-flushed g.F.Key.Ord.cmp g.F.Functions.code v c.known.ensures.compacting c.known.ensures.partition c.args.slot c.args.context x c.requires.here c.requires.uncleared under
 
 pub ask-requires-clause-stands : goal.ask-requires-clause-stands
-ask-requires-clause-stands g c κs within =
+ask-requires-clause-stands g c =
     let v = c.args.self.now in
     let x = c.args.relocation.now in
     let low = c.low_of.ensures
@@ -50,7 +50,7 @@ returns-then-place-low_of-clause-does g c =
     GoesOn.reads x c.requires.here c.requires.fresh c.requires.uncleared under (rw begins at c.ask.ensures.does)
 
 pub record_at-entry-requires-clause-there : goal.record_at-entry-requires-clause-there
-record_at-entry-requires-clause-there g c κs within =
+record_at-entry-requires-clause-there g c =
     let v = c.args.self.now in
     let x = c.args.relocation.now in
     let low = c.low_of.ensures
@@ -61,7 +61,7 @@ record_at-entry-requires-clause-there g c κs within =
     rw c.records-3.ensures (subst (λ u. IsSome (entry_at u.partition.records.text x.place)) (sym c.self.view_is) (place-there g.F.Key.Ord.cmp g.F.Functions.code v c.known.ensures.compacting c.known.ensures.partition c.args.slot c.args.context x c.requires.here c.requires.uncleared over))
 
 pub record_at-entry-requires-clause-in_frame : goal.record_at-entry-requires-clause-in_frame
-record_at-entry-requires-clause-in_frame g c κs within =
+record_at-entry-requires-clause-in_frame g c =
     let v = c.args.self.now in
     let x = c.args.relocation.now in
     let low = c.low_of.ensures
@@ -72,7 +72,7 @@ record_at-entry-requires-clause-in_frame g c κs within =
     rw c.records-3.ensures (subst (λ u. u.partition.records.regions.offsets.closed ≤ x.place) (sym c.self.view_is) (place-open g.F.Key.Ord.cmp g.F.Functions.code v c.known.ensures.compacting c.known.ensures.partition c.args.slot c.args.context x c.requires.here c.requires.uncleared over))
 
 pub weigh-requires-clause-stands : goal.weigh-requires-clause-stands
-weigh-requires-clause-stands g c κs within =
+weigh-requires-clause-stands g c =
     address-at c.records-3.result.now.text c.args.relocation.now.place c.record_at-entry.result c.record_at-entry.ensures.entry
 
 pub returns-clause-does : goal.returns-clause-does

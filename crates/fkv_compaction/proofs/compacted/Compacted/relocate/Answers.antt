@@ -20,15 +20,15 @@ returns-in_default-clause-does g c =
     rw (← c.self.view_is) (Relocates.full inside (rw (c.view-view.ensures.value, c.records.ensures) at c.if-place-view.false) none refl refl)
 
 pub begin_relocation-requires-clause-free : goal.begin_relocation-requires-clause-free
-begin_relocation-requires-clause-free g c κs within = c.in-Some.ensures.value.1
+begin_relocation-requires-clause-free g c = c.in-Some.ensures.value.1
 
 pub begin_relocation-requires-clause-stands : goal.begin_relocation-requires-clause-stands
-begin_relocation-requires-clause-stands g c κs within =
+begin_relocation-requires-clause-stands g c =
     let v = view_of c.self.inside.partition c.self.inside.cleared c.self.inside.relocations.items in
     let agrees = rw c.records.ensures at c.view-view.ensures.agrees in
     let safe = agrees.safe in
     let low = c.if-place-view.false in
-    rw (← c.self.view_is) (may-relocate g.D.Disk.keeps g.F.Key.Ord.cmp g.F.Functions.code v c.self.invariant c.known.ensures.traced (omega (arith, safe, low)) c.args.now)
+    rw (← c.self.view_is) (may-relocate g.R.Receipt.keeps g.F.Key.Ord.cmp g.F.Functions.code v c.self.invariant c.known.ensures.traced (omega (arith, safe, low)) c.args.now)
 
 pub returns-clause-does : goal.returns-clause-does
 returns-clause-does g c =
@@ -37,4 +37,4 @@ returns-clause-does g c =
     rw (c.begin_relocation.ensures, ← c.self.view_is) (Relocates.relocates c.in-Some.context inside (rw (c.view-view.ensures.value, c.records.ensures) at c.if-place-view.false) first refl refl)
 
 pub returns-clause-event : goal.returns-clause-event
-returns-clause-event g c = rw c.begin_relocation.ensures (relocating-set g.D.Disk.keeps g.F.Key.Ord.cmp c.args.self.now c.args.slot c.in-Some.context c.args.now (Some _) c.in-Some.ensures.within)
+returns-clause-event g c = rw c.begin_relocation.ensures (relocating-set g.R.Receipt.keeps g.F.Key.Ord.cmp c.args.self.now c.args.slot c.in-Some.context c.args.now (Some _) c.in-Some.ensures.within)

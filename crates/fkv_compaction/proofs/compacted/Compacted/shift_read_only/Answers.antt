@@ -8,10 +8,10 @@ pub invariant_of-self : goal.invariant_of-self
 invariant_of-self g c =
     let v = view_of c.self.inside.partition c.self.inside.cleared c.self.inside.relocations.items in
     let does = c.shift_read_only-shifted.ensures.does in
-    keep-seated g.D.Disk.keeps g.F.Key.Ord.cmp g.F.Functions.code v c.shift_read_only-shifted.new.self c.self.invariant c.known-2.ensures.traced
-    (c.events_bear.ensures.shifts g.D.Disk.keeps g.F.Key.Ord.cmp g.F.Functions.code v.partition c.shift_read_only-shifted.new.self c.args.page c.args.now c.shift_read_only-shifted.result c.known.ensures does)
-    (shifts-steady v.partition c.shift_read_only-shifted.new.self g.D.Disk.keeps c.args.page c.args.now c.shift_read_only-shifted.result does)
-    (c.seats_stay.ensures.shifts g.D.Disk.keeps v.partition c.shift_read_only-shifted.new.self c.args.page c.args.now c.shift_read_only-shifted.result does)
+    keep-seated g.R.Receipt.keeps g.F.Key.Ord.cmp g.F.Functions.code v c.shift_read_only-shifted.new.self c.self.invariant c.known-2.ensures.traced
+    (c.events_bear.ensures.shifts g.R.Receipt.keeps g.F.Key.Ord.cmp g.F.Functions.code v.partition c.shift_read_only-shifted.new.self c.args.page c.args.now c.shift_read_only-shifted.result c.known.ensures does)
+    (shifts-steady v.partition c.shift_read_only-shifted.new.self g.R.Receipt.keeps c.args.page c.args.now c.shift_read_only-shifted.result does)
+    (c.seats_stay.ensures.shifts g.R.Receipt.keeps v.partition c.shift_read_only-shifted.new.self c.args.page c.args.now c.shift_read_only-shifted.result does)
 
 pub returns-clause-does : goal.returns-clause-does
 returns-clause-does g c = rw (← c.self.view_is) c.shift_read_only-shifted.ensures.does

@@ -8,10 +8,10 @@ use Rattle.fkv_compaction.proofs.ReadLemmas.{stranger-held}
 use Rattle.fkv_compaction.proofs.TraceLemmas.{page-came, way-flushed, has-page, traces-to, way-dead, way-last, above-place, way-below, lower-flushed, way-further}
 use Rattle.fkv_compaction.proofs.compacted.Compacted.trace_on.Goals as goal
 
-pub is_own-requires-after_bounds : goal.is_own-requires-after_bounds
-is_own-requires-after_bounds g c κs within =
-    let ord = g.met.F.Key.Ord g.world.𝓛 g.world.𝓜 g.world.𝓡 ((λ s x. x), (λ x. x), (λ x. x), λ x. x) in
-    let known = g.met.F.Key.Known g.world.𝓛 g.world.𝓜 g.world.𝓡 ((λ s x. x), (λ x. x), (λ x. x), λ x. x) in
+pub is_own-requires : goal.is_own-requires
+is_own-requires g c =
+    let ord = g.met.F.Key.Ord in
+    let known = g.met.F.Key.FixedKey in
     let order = key_order g.F.Key.PartialEq.eq g.F.Key.Ord.cmp ord.matches_eq known.exact ord.total in
     let v = c.args.self.now in
     let x = c.args.relocation.now in
@@ -28,8 +28,8 @@ is_own-requires-after_bounds g c κs within =
 
 pub returns-in-Err-clause-does : goal.returns-in-Err-clause-does
 returns-in-Err-clause-does g c =
-    let ord = g.met.F.Key.Ord g.world.𝓛 g.world.𝓜 g.world.𝓡 ((λ s x. x), (λ x. x), (λ x. x), λ x. x) in
-    let known = g.met.F.Key.Known g.world.𝓛 g.world.𝓜 g.world.𝓡 ((λ s x. x), (λ x. x), (λ x. x), λ x. x) in
+    let ord = g.met.F.Key.Ord in
+    let known = g.met.F.Key.FixedKey in
     let order = key_order g.F.Key.PartialEq.eq g.F.Key.Ord.cmp ord.matches_eq known.exact ord.total in
     let v = c.args.self.now in
     let x = c.args.relocation.now in
@@ -42,13 +42,13 @@ returns-in-Err-clause-does g c =
     let at = c.requires.traces in
     let there = way-flushed g.F.Key.Ord.cmp g.F.Functions.code order v sound s c.args.slot c.args.context x e l a at in
     let held = subst (λ u. page_at u.partition.records.page_bits l.wanted < length u.partition.records.receipts) (sym c.self.view_is) there in
-    let z = stranger-held c.self.inside.partition.records v.partition.records c.page_of-page.result l.wanted (g.D.Receipt.Receipt.stands p.receipt) c.in-Err.refused (ap (λ u. u.partition.records) c.self.view_is) (rw c.records.ensures at c.page_of-page.ensures) there (rw c.records-2.ensures at c.in-Err.ensures.stranger) in
+    let z = stranger-held c.self.inside.partition.records v.partition.records c.page_of-page.result l.wanted (g.R.Receipt.stands p.receipt) c.in-Err.refused (ap (λ u. u.partition.records) c.self.view_is) (rw c.records.ensures at c.page_of-page.ensures) there (rw c.records-2.ensures at c.in-Err.ensures.stranger) in
     LoadsOn.stranger x l.wanted p z.0 a refl z.1 z.2 refl (ap Err z.3)
 
-pub trace_in-requires-clause-flushed : goal.trace_in-requires-clause-flushed
-trace_in-requires-clause-flushed g c κs within =
-    let ord = g.met.F.Key.Ord g.world.𝓛 g.world.𝓜 g.world.𝓡 ((λ s x. x), (λ x. x), (λ x. x), λ x. x) in
-    let known = g.met.F.Key.Known g.world.𝓛 g.world.𝓜 g.world.𝓡 ((λ s x. x), (λ x. x), (λ x. x), λ x. x) in
+pub trace_in-requires : goal.trace_in-requires
+trace_in-requires g c =
+    let ord = g.met.F.Key.Ord in
+    let known = g.met.F.Key.FixedKey in
     let order = key_order g.F.Key.PartialEq.eq g.F.Key.Ord.cmp ord.matches_eq known.exact ord.total in
     let v = c.args.self.now in
     let x = c.args.relocation.now in
@@ -61,12 +61,12 @@ trace_in-requires-clause-flushed g c κs within =
     let at = c.requires.traces in
     let there = way-flushed g.F.Key.Ord.cmp g.F.Functions.code order v sound s c.args.slot c.args.context x e l a at in
     let held = subst (λ u. page_at u.partition.records.page_bits l.wanted < length u.partition.records.receipts) (sym c.self.view_is) there in
-    rw c.records-3.ensures held
+    record { flushed = rw c.records-3.ensures held }
 
 pub returns-in-Err-trace_in-clause-does : goal.returns-in-Err-trace_in-clause-does
 returns-in-Err-trace_in-clause-does g c =
-    let ord = g.met.F.Key.Ord g.world.𝓛 g.world.𝓜 g.world.𝓡 ((λ s x. x), (λ x. x), (λ x. x), λ x. x) in
-    let known = g.met.F.Key.Known g.world.𝓛 g.world.𝓜 g.world.𝓡 ((λ s x. x), (λ x. x), (λ x. x), λ x. x) in
+    let ord = g.met.F.Key.Ord in
+    let known = g.met.F.Key.FixedKey in
     let order = key_order g.F.Key.PartialEq.eq g.F.Key.Ord.cmp ord.matches_eq known.exact ord.total in
     let v = c.args.self.now in
     let x = c.args.relocation.now in
@@ -78,13 +78,13 @@ returns-in-Err-trace_in-clause-does g c =
     let l = c.args.loading in
     let at = c.requires.traces in
     let held = rw c.records-2.ensures at (c.in_default.ensures.own.0 refl) in
-    let came = page-came g.D.Disk.keeps (IsEntryIn g.F.Key.Fixed.bytes_of g.F.Value.Fixed.bytes_of g.F.Key.Known.is_known g.F.Value.Known.is_known g.F.Key.Fixed.SIZE g.F.Value.Fixed.SIZE) g.F.Key.Ord.cmp g.F.Functions.code c.self.inside.partition.records v.partition.records e.key c.page_of-page.result l.wanted (g.D.Receipt.Receipt.stands p.receipt) p.bytes c.trace_in.result (ap (λ u. u.partition.records) c.self.view_is) (rw c.records.ensures at c.page_of-page.ensures) held (rw c.records-3.ensures at c.trace_in.ensures.read) (rw c.records-3.ensures at c.trace_in.ensures.kept) in
+    let came = page-came g.R.Receipt.keeps (IsEntryIn g.F.Key.Fixed.bytes_of g.F.Value.Fixed.bytes_of g.F.Key.Known.is_known g.F.Value.Known.is_known g.F.Key.Fixed.SIZE g.F.Value.Fixed.SIZE) g.F.Key.Ord.cmp g.F.Functions.code c.self.inside.partition.records v.partition.records e.key c.page_of-page.result l.wanted (g.R.Receipt.stands p.receipt) p.bytes c.trace_in.result (ap (λ u. u.partition.records) c.self.view_is) (rw c.records.ensures at c.page_of-page.ensures) held (rw c.records-3.ensures at c.trace_in.ensures.read) (rw c.records-3.ensures at c.trace_in.ensures.kept) in
     let page : c.page_of-page.result ≡ page_at v.partition.records.page_bits l.wanted = rw c.records.ensures at c.page_of-page.ensures ∙ ap (λ u. page_at u.partition.records.page_bits l.wanted) c.self.view_is in
     let is = c.in-Err-trace_in.is in
-    rw (c.end.ensures, page) (LoadsOn.lost x e l p c.in-Err-trace_in._damaged at (has-page g.F.Key.Ord.cmp g.F.Functions.code order v sound s c.args.slot c.args.context x e l a at (IsEntryIn g.F.Key.Fixed.bytes_of g.F.Value.Fixed.bytes_of g.F.Key.Known.is_known g.F.Value.Known.is_known g.F.Key.Fixed.SIZE g.F.Value.Fixed.SIZE) (g.D.Receipt.Receipt.stands p.receipt) p.bytes c.trace_in.result came) refl (traces-to g.F.Key.Ord.cmp g.F.Functions.code order v sound s c.args.slot c.args.context x e l a at (IsEntryIn g.F.Key.Fixed.bytes_of g.F.Value.Fixed.bytes_of g.F.Key.Known.is_known g.F.Value.Known.is_known g.F.Key.Fixed.SIZE g.F.Value.Fixed.SIZE) (g.D.Receipt.Receipt.stands p.receipt) p.bytes c.trace_in.result came (Err c.in-Err-trace_in._damaged) is) refl refl)
+    rw (c.end.ensures, page) (LoadsOn.lost x e l p c.in-Err-trace_in._damaged at (has-page g.F.Key.Ord.cmp g.F.Functions.code order v sound s c.args.slot c.args.context x e l a at (IsEntryIn g.F.Key.Fixed.bytes_of g.F.Value.Fixed.bytes_of g.F.Key.Known.is_known g.F.Value.Known.is_known g.F.Key.Fixed.SIZE g.F.Value.Fixed.SIZE) (g.R.Receipt.stands p.receipt) p.bytes c.trace_in.result came) refl (traces-to g.F.Key.Ord.cmp g.F.Functions.code order v sound s c.args.slot c.args.context x e l a at (IsEntryIn g.F.Key.Fixed.bytes_of g.F.Value.Fixed.bytes_of g.F.Key.Known.is_known g.F.Value.Known.is_known g.F.Key.Fixed.SIZE g.F.Value.Fixed.SIZE) (g.R.Receipt.stands p.receipt) p.bytes c.trace_in.result came (Err c.in-Err-trace_in._damaged) is) refl refl)
 
 pub finish-requires-clause-issued : goal.finish-requires-clause-issued
-finish-requires-clause-issued g c κs within =
+finish-requires-clause-issued g c =
     let v = c.args.self.now in
     let x = c.args.relocation.now in
     let a = c.requires.awaits in
@@ -97,7 +97,7 @@ finish-requires-clause-issued g c κs within =
     (stands-here v c.args.slot c.args.context x a.here s).issued
 
 pub finish-requires-clause-place : goal.finish-requires-clause-place
-finish-requires-clause-place g c κs within =
+finish-requires-clause-place g c =
     let v = c.args.self.now in
     let x = c.args.relocation.now in
     let a = c.requires.awaits in
@@ -110,7 +110,7 @@ finish-requires-clause-place g c κs within =
     (stands-here v c.args.slot c.args.context x a.here s).place
 
 pub finish-requires-clause-low : goal.finish-requires-clause-low
-finish-requires-clause-low g c κs within =
+finish-requires-clause-low g c =
     let v = c.args.self.now in
     let x = c.args.relocation.now in
     let a = c.requires.awaits in
@@ -124,9 +124,9 @@ finish-requires-clause-low g c κs within =
     low
 
 pub finish-requires-clause-spent : goal.finish-requires-clause-spent
-finish-requires-clause-spent g c κs within =
-    let ord = g.met.F.Key.Ord g.world.𝓛 g.world.𝓜 g.world.𝓡 ((λ s x. x), (λ x. x), (λ x. x), λ x. x) in
-    let known = g.met.F.Key.Known g.world.𝓛 g.world.𝓜 g.world.𝓡 ((λ s x. x), (λ x. x), (λ x. x), λ x. x) in
+finish-requires-clause-spent g c =
+    let ord = g.met.F.Key.Ord in
+    let known = g.met.F.Key.FixedKey in
     let order = key_order g.F.Key.PartialEq.eq g.F.Key.Ord.cmp ord.matches_eq known.exact ord.total in
     let v = c.args.self.now in
     let x = c.args.relocation.now in
@@ -138,16 +138,16 @@ finish-requires-clause-spent g c κs within =
     let l = c.args.loading in
     let at = c.requires.traces in
     let held = rw c.records-2.ensures at (c.in_default.ensures.own.0 refl) in
-    let came = page-came g.D.Disk.keeps (IsEntryIn g.F.Key.Fixed.bytes_of g.F.Value.Fixed.bytes_of g.F.Key.Known.is_known g.F.Value.Known.is_known g.F.Key.Fixed.SIZE g.F.Value.Fixed.SIZE) g.F.Key.Ord.cmp g.F.Functions.code c.self.inside.partition.records v.partition.records e.key c.page_of-page.result l.wanted (g.D.Receipt.Receipt.stands p.receipt) p.bytes c.trace_in.result (ap (λ u. u.partition.records) c.self.view_is) (rw c.records.ensures at c.page_of-page.ensures) held (rw c.records-3.ensures at c.trace_in.ensures.read) (rw c.records-3.ensures at c.trace_in.ensures.kept) in
+    let came = page-came g.R.Receipt.keeps (IsEntryIn g.F.Key.Fixed.bytes_of g.F.Value.Fixed.bytes_of g.F.Key.Known.is_known g.F.Value.Known.is_known g.F.Key.Fixed.SIZE g.F.Value.Fixed.SIZE) g.F.Key.Ord.cmp g.F.Functions.code c.self.inside.partition.records v.partition.records e.key c.page_of-page.result l.wanted (g.R.Receipt.stands p.receipt) p.bytes c.trace_in.result (ap (λ u. u.partition.records) c.self.view_is) (rw c.records.ensures at c.page_of-page.ensures) held (rw c.records-3.ensures at c.trace_in.ensures.read) (rw c.records-3.ensures at c.trace_in.ensures.kept) in
     let r = c.in-Ok.reached in
     let is = c.in-Ok.is in
     let j = sym c.judge.ensures ∙ c.in-Dead.is in
-    way-dead g.F.Key.Ord.cmp g.F.Functions.code order v sound s c.args.slot c.args.context x e l a at (IsEntryIn g.F.Key.Fixed.bytes_of g.F.Value.Fixed.bytes_of g.F.Key.Known.is_known g.F.Value.Known.is_known g.F.Key.Fixed.SIZE g.F.Value.Fixed.SIZE) (g.D.Receipt.Receipt.stands p.receipt) p.bytes c.trace_in.result came r is j
+    way-dead g.F.Key.Ord.cmp g.F.Functions.code order v sound s c.args.slot c.args.context x e l a at (IsEntryIn g.F.Key.Fixed.bytes_of g.F.Value.Fixed.bytes_of g.F.Key.Known.is_known g.F.Value.Known.is_known g.F.Key.Fixed.SIZE g.F.Value.Fixed.SIZE) (g.R.Receipt.stands p.receipt) p.bytes c.trace_in.result came r is j
 
 pub append_again-requires-clause-stands : goal.append_again-requires-clause-stands
-append_again-requires-clause-stands g c κs within =
-    let ord = g.met.F.Key.Ord g.world.𝓛 g.world.𝓜 g.world.𝓡 ((λ s x. x), (λ x. x), (λ x. x), λ x. x) in
-    let known = g.met.F.Key.Known g.world.𝓛 g.world.𝓜 g.world.𝓡 ((λ s x. x), (λ x. x), (λ x. x), λ x. x) in
+append_again-requires-clause-stands g c =
+    let ord = g.met.F.Key.Ord in
+    let known = g.met.F.Key.FixedKey in
     let order = key_order g.F.Key.PartialEq.eq g.F.Key.Ord.cmp ord.matches_eq known.exact ord.total in
     let v = c.args.self.now in
     let x = c.args.relocation.now in
@@ -159,16 +159,16 @@ append_again-requires-clause-stands g c κs within =
     let l = c.args.loading in
     let at = c.requires.traces in
     let held = rw c.records-2.ensures at (c.in_default.ensures.own.0 refl) in
-    let came = page-came g.D.Disk.keeps (IsEntryIn g.F.Key.Fixed.bytes_of g.F.Value.Fixed.bytes_of g.F.Key.Known.is_known g.F.Value.Known.is_known g.F.Key.Fixed.SIZE g.F.Value.Fixed.SIZE) g.F.Key.Ord.cmp g.F.Functions.code c.self.inside.partition.records v.partition.records e.key c.page_of-page.result l.wanted (g.D.Receipt.Receipt.stands p.receipt) p.bytes c.trace_in.result (ap (λ u. u.partition.records) c.self.view_is) (rw c.records.ensures at c.page_of-page.ensures) held (rw c.records-3.ensures at c.trace_in.ensures.read) (rw c.records-3.ensures at c.trace_in.ensures.kept) in
+    let came = page-came g.R.Receipt.keeps (IsEntryIn g.F.Key.Fixed.bytes_of g.F.Value.Fixed.bytes_of g.F.Key.Known.is_known g.F.Value.Known.is_known g.F.Key.Fixed.SIZE g.F.Value.Fixed.SIZE) g.F.Key.Ord.cmp g.F.Functions.code c.self.inside.partition.records v.partition.records e.key c.page_of-page.result l.wanted (g.R.Receipt.stands p.receipt) p.bytes c.trace_in.result (ap (λ u. u.partition.records) c.self.view_is) (rw c.records.ensures at c.page_of-page.ensures) held (rw c.records-3.ensures at c.trace_in.ensures.read) (rw c.records-3.ensures at c.trace_in.ensures.kept) in
     let r = c.in-Ok.reached in
     let is = c.in-Ok.is in
     let j = sym c.judge.ensures ∙ c.in-Last.is in
-    way-last g.F.Key.Ord.cmp g.F.Functions.code order v sound s c.args.slot c.args.context x e l a at (IsEntryIn g.F.Key.Fixed.bytes_of g.F.Value.Fixed.bytes_of g.F.Key.Known.is_known g.F.Value.Known.is_known g.F.Key.Fixed.SIZE g.F.Value.Fixed.SIZE) (g.D.Receipt.Receipt.stands p.receipt) p.bytes c.trace_in.result came r is j
+    way-last g.F.Key.Ord.cmp g.F.Functions.code order v sound s c.args.slot c.args.context x e l a at (IsEntryIn g.F.Key.Fixed.bytes_of g.F.Value.Fixed.bytes_of g.F.Key.Known.is_known g.F.Value.Known.is_known g.F.Key.Fixed.SIZE g.F.Value.Fixed.SIZE) (g.R.Receipt.stands p.receipt) p.bytes c.trace_in.result came r is j
 
 pub returns-then-not-is_place-clause-does : goal.returns-then-not-is_place-clause-does
 returns-then-not-is_place-clause-does g c =
-    let ord = g.met.F.Key.Ord g.world.𝓛 g.world.𝓜 g.world.𝓡 ((λ s x. x), (λ x. x), (λ x. x), λ x. x) in
-    let known = g.met.F.Key.Known g.world.𝓛 g.world.𝓜 g.world.𝓡 ((λ s x. x), (λ x. x), (λ x. x), λ x. x) in
+    let ord = g.met.F.Key.Ord in
+    let known = g.met.F.Key.FixedKey in
     let order = key_order g.F.Key.PartialEq.eq g.F.Key.Ord.cmp ord.matches_eq known.exact ord.total in
     let v = c.args.self.now in
     let x = c.args.relocation.now in
@@ -180,20 +180,20 @@ returns-then-not-is_place-clause-does g c =
     let l = c.args.loading in
     let at = c.requires.traces in
     let held = rw c.records-2.ensures at (c.in_default.ensures.own.0 refl) in
-    let came = page-came g.D.Disk.keeps (IsEntryIn g.F.Key.Fixed.bytes_of g.F.Value.Fixed.bytes_of g.F.Key.Known.is_known g.F.Value.Known.is_known g.F.Key.Fixed.SIZE g.F.Value.Fixed.SIZE) g.F.Key.Ord.cmp g.F.Functions.code c.self.inside.partition.records v.partition.records e.key c.page_of-page.result l.wanted (g.D.Receipt.Receipt.stands p.receipt) p.bytes c.trace_in.result (ap (λ u. u.partition.records) c.self.view_is) (rw c.records.ensures at c.page_of-page.ensures) held (rw c.records-3.ensures at c.trace_in.ensures.read) (rw c.records-3.ensures at c.trace_in.ensures.kept) in
+    let came = page-came g.R.Receipt.keeps (IsEntryIn g.F.Key.Fixed.bytes_of g.F.Value.Fixed.bytes_of g.F.Key.Known.is_known g.F.Value.Known.is_known g.F.Key.Fixed.SIZE g.F.Value.Fixed.SIZE) g.F.Key.Ord.cmp g.F.Functions.code c.self.inside.partition.records v.partition.records e.key c.page_of-page.result l.wanted (g.R.Receipt.stands p.receipt) p.bytes c.trace_in.result (ap (λ u. u.partition.records) c.self.view_is) (rw c.records.ensures at c.page_of-page.ensures) held (rw c.records-3.ensures at c.trace_in.ensures.read) (rw c.records-3.ensures at c.trace_in.ensures.kept) in
     let page : c.page_of-page.result ≡ page_at v.partition.records.page_bits l.wanted = rw c.records.ensures at c.page_of-page.ensures ∙ ap (λ u. page_at u.partition.records.page_bits l.wanted) c.self.view_is in
     let r = c.in-Ok.reached in
     let is = c.in-Ok.is in
     let b = c.in-Further.address in
     let j = sym c.judge.ensures ∙ c.in-Further.is in
     let no = rw c.records-in-Further.ensures at c.is_place.ensures in
-    rw (c.end-then-not-is_place.ensures, page) (LoadsOn.astray x e l p b at (has-page g.F.Key.Ord.cmp g.F.Functions.code order v sound s c.args.slot c.args.context x e l a at (IsEntryIn g.F.Key.Fixed.bytes_of g.F.Value.Fixed.bytes_of g.F.Key.Known.is_known g.F.Value.Known.is_known g.F.Key.Fixed.SIZE g.F.Value.Fixed.SIZE) (g.D.Receipt.Receipt.stands p.receipt) p.bytes c.trace_in.result came) refl (way-below g.F.Key.Ord.cmp g.F.Functions.code order v sound s c.args.slot c.args.context x e l a at (IsEntryIn g.F.Key.Fixed.bytes_of g.F.Value.Fixed.bytes_of g.F.Key.Known.is_known g.F.Value.Known.is_known g.F.Key.Fixed.SIZE g.F.Value.Fixed.SIZE) (g.D.Receipt.Receipt.stands p.receipt) p.bytes c.trace_in.result came r b is j) (above-place g.F.Key.Ord.cmp g.F.Functions.code order v sound s c.args.slot c.args.context x e l a at (IsEntryIn g.F.Key.Fixed.bytes_of g.F.Value.Fixed.bytes_of g.F.Key.Known.is_known g.F.Value.Known.is_known g.F.Key.Fixed.SIZE g.F.Value.Fixed.SIZE) (g.D.Receipt.Receipt.stands p.receipt) p.bytes c.trace_in.result came r b is j)
+    rw (c.end-then-not-is_place.ensures, page) (LoadsOn.astray x e l p b at (has-page g.F.Key.Ord.cmp g.F.Functions.code order v sound s c.args.slot c.args.context x e l a at (IsEntryIn g.F.Key.Fixed.bytes_of g.F.Value.Fixed.bytes_of g.F.Key.Known.is_known g.F.Value.Known.is_known g.F.Key.Fixed.SIZE g.F.Value.Fixed.SIZE) (g.R.Receipt.stands p.receipt) p.bytes c.trace_in.result came) refl (way-below g.F.Key.Ord.cmp g.F.Functions.code order v sound s c.args.slot c.args.context x e l a at (IsEntryIn g.F.Key.Fixed.bytes_of g.F.Value.Fixed.bytes_of g.F.Key.Known.is_known g.F.Value.Known.is_known g.F.Key.Fixed.SIZE g.F.Value.Fixed.SIZE) (g.R.Receipt.stands p.receipt) p.bytes c.trace_in.result came r b is j) (above-place g.F.Key.Ord.cmp g.F.Functions.code order v sound s c.args.slot c.args.context x e l a at (IsEntryIn g.F.Key.Fixed.bytes_of g.F.Value.Fixed.bytes_of g.F.Key.Known.is_known g.F.Value.Known.is_known g.F.Key.Fixed.SIZE g.F.Value.Fixed.SIZE) (g.R.Receipt.stands p.receipt) p.bytes c.trace_in.result came r b is j)
     (λ place. let yes = no.1 (subst (λ u. IsPlace u.partition.records.page_bits u.partition.records.record_size b) (sym c.self.view_is) place) in let bad : false ≡ true = sym c.if-not-is_place.true ∙ yes in cc) refl refl)
 
 pub ask-requires-clause-flushed : goal.ask-requires-clause-flushed
-ask-requires-clause-flushed g c κs within =
-    let ord = g.met.F.Key.Ord g.world.𝓛 g.world.𝓜 g.world.𝓡 ((λ s x. x), (λ x. x), (λ x. x), λ x. x) in
-    let known = g.met.F.Key.Known g.world.𝓛 g.world.𝓜 g.world.𝓡 ((λ s x. x), (λ x. x), (λ x. x), λ x. x) in
+ask-requires-clause-flushed g c =
+    let ord = g.met.F.Key.Ord in
+    let known = g.met.F.Key.FixedKey in
     let order = key_order g.F.Key.PartialEq.eq g.F.Key.Ord.cmp ord.matches_eq known.exact ord.total in
     let v = c.args.self.now in
     let x = c.args.relocation.now in
@@ -205,17 +205,17 @@ ask-requires-clause-flushed g c κs within =
     let l = c.args.loading in
     let at = c.requires.traces in
     let held = rw c.records-2.ensures at (c.in_default.ensures.own.0 refl) in
-    let came = page-came g.D.Disk.keeps (IsEntryIn g.F.Key.Fixed.bytes_of g.F.Value.Fixed.bytes_of g.F.Key.Known.is_known g.F.Value.Known.is_known g.F.Key.Fixed.SIZE g.F.Value.Fixed.SIZE) g.F.Key.Ord.cmp g.F.Functions.code c.self.inside.partition.records v.partition.records e.key c.page_of-page.result l.wanted (g.D.Receipt.Receipt.stands p.receipt) p.bytes c.trace_in.result (ap (λ u. u.partition.records) c.self.view_is) (rw c.records.ensures at c.page_of-page.ensures) held (rw c.records-3.ensures at c.trace_in.ensures.read) (rw c.records-3.ensures at c.trace_in.ensures.kept) in
+    let came = page-came g.R.Receipt.keeps (IsEntryIn g.F.Key.Fixed.bytes_of g.F.Value.Fixed.bytes_of g.F.Key.Known.is_known g.F.Value.Known.is_known g.F.Key.Fixed.SIZE g.F.Value.Fixed.SIZE) g.F.Key.Ord.cmp g.F.Functions.code c.self.inside.partition.records v.partition.records e.key c.page_of-page.result l.wanted (g.R.Receipt.stands p.receipt) p.bytes c.trace_in.result (ap (λ u. u.partition.records) c.self.view_is) (rw c.records.ensures at c.page_of-page.ensures) held (rw c.records-3.ensures at c.trace_in.ensures.read) (rw c.records-3.ensures at c.trace_in.ensures.kept) in
     let r = c.in-Ok.reached in
     let is = c.in-Ok.is in
     let b = c.in-Further.address in
     let j = sym c.judge.ensures ∙ c.in-Further.is in
-    lower-flushed g.F.Key.Ord.cmp g.F.Functions.code order v sound s c.args.slot c.args.context x e l a at (IsEntryIn g.F.Key.Fixed.bytes_of g.F.Value.Fixed.bytes_of g.F.Key.Known.is_known g.F.Value.Known.is_known g.F.Key.Fixed.SIZE g.F.Value.Fixed.SIZE) (g.D.Receipt.Receipt.stands p.receipt) p.bytes c.trace_in.result came r b is j
+    lower-flushed g.F.Key.Ord.cmp g.F.Functions.code order v sound s c.args.slot c.args.context x e l a at (IsEntryIn g.F.Key.Fixed.bytes_of g.F.Value.Fixed.bytes_of g.F.Key.Known.is_known g.F.Value.Known.is_known g.F.Key.Fixed.SIZE g.F.Value.Fixed.SIZE) (g.R.Receipt.stands p.receipt) p.bytes c.trace_in.result came r b is j
 
 pub ask-requires-clause-stands : goal.ask-requires-clause-stands
-ask-requires-clause-stands g c κs within =
-    let ord = g.met.F.Key.Ord g.world.𝓛 g.world.𝓜 g.world.𝓡 ((λ s x. x), (λ x. x), (λ x. x), λ x. x) in
-    let known = g.met.F.Key.Known g.world.𝓛 g.world.𝓜 g.world.𝓡 ((λ s x. x), (λ x. x), (λ x. x), λ x. x) in
+ask-requires-clause-stands g c =
+    let ord = g.met.F.Key.Ord in
+    let known = g.met.F.Key.FixedKey in
     let order = key_order g.F.Key.PartialEq.eq g.F.Key.Ord.cmp ord.matches_eq known.exact ord.total in
     let v = c.args.self.now in
     let x = c.args.relocation.now in
@@ -227,17 +227,17 @@ ask-requires-clause-stands g c κs within =
     let l = c.args.loading in
     let at = c.requires.traces in
     let held = rw c.records-2.ensures at (c.in_default.ensures.own.0 refl) in
-    let came = page-came g.D.Disk.keeps (IsEntryIn g.F.Key.Fixed.bytes_of g.F.Value.Fixed.bytes_of g.F.Key.Known.is_known g.F.Value.Known.is_known g.F.Key.Fixed.SIZE g.F.Value.Fixed.SIZE) g.F.Key.Ord.cmp g.F.Functions.code c.self.inside.partition.records v.partition.records e.key c.page_of-page.result l.wanted (g.D.Receipt.Receipt.stands p.receipt) p.bytes c.trace_in.result (ap (λ u. u.partition.records) c.self.view_is) (rw c.records.ensures at c.page_of-page.ensures) held (rw c.records-3.ensures at c.trace_in.ensures.read) (rw c.records-3.ensures at c.trace_in.ensures.kept) in
+    let came = page-came g.R.Receipt.keeps (IsEntryIn g.F.Key.Fixed.bytes_of g.F.Value.Fixed.bytes_of g.F.Key.Known.is_known g.F.Value.Known.is_known g.F.Key.Fixed.SIZE g.F.Value.Fixed.SIZE) g.F.Key.Ord.cmp g.F.Functions.code c.self.inside.partition.records v.partition.records e.key c.page_of-page.result l.wanted (g.R.Receipt.stands p.receipt) p.bytes c.trace_in.result (ap (λ u. u.partition.records) c.self.view_is) (rw c.records.ensures at c.page_of-page.ensures) held (rw c.records-3.ensures at c.trace_in.ensures.read) (rw c.records-3.ensures at c.trace_in.ensures.kept) in
     let r = c.in-Ok.reached in
     let is = c.in-Ok.is in
     let b = c.in-Further.address in
     let j = sym c.judge.ensures ∙ c.in-Further.is in
-    way-further g.F.Key.Ord.cmp g.F.Functions.code order v sound s c.args.slot c.args.context x e l a at (IsEntryIn g.F.Key.Fixed.bytes_of g.F.Value.Fixed.bytes_of g.F.Key.Known.is_known g.F.Value.Known.is_known g.F.Key.Fixed.SIZE g.F.Value.Fixed.SIZE) (g.D.Receipt.Receipt.stands p.receipt) p.bytes c.trace_in.result came r b is j
+    way-further g.F.Key.Ord.cmp g.F.Functions.code order v sound s c.args.slot c.args.context x e l a at (IsEntryIn g.F.Key.Fixed.bytes_of g.F.Value.Fixed.bytes_of g.F.Key.Known.is_known g.F.Value.Known.is_known g.F.Key.Fixed.SIZE g.F.Value.Fixed.SIZE) (g.R.Receipt.stands p.receipt) p.bytes c.trace_in.result came r b is j
 
 pub returns-in-Dead-clause-does : goal.returns-in-Dead-clause-does
 returns-in-Dead-clause-does g c =
-    let ord = g.met.F.Key.Ord g.world.𝓛 g.world.𝓜 g.world.𝓡 ((λ s x. x), (λ x. x), (λ x. x), λ x. x) in
-    let known = g.met.F.Key.Known g.world.𝓛 g.world.𝓜 g.world.𝓡 ((λ s x. x), (λ x. x), (λ x. x), λ x. x) in
+    let ord = g.met.F.Key.Ord in
+    let known = g.met.F.Key.FixedKey in
     let order = key_order g.F.Key.PartialEq.eq g.F.Key.Ord.cmp ord.matches_eq known.exact ord.total in
     let v = c.args.self.now in
     let x = c.args.relocation.now in
@@ -249,11 +249,11 @@ returns-in-Dead-clause-does g c =
     let l = c.args.loading in
     let at = c.requires.traces in
     let held = rw c.records-2.ensures at (c.in_default.ensures.own.0 refl) in
-    let came = page-came g.D.Disk.keeps (IsEntryIn g.F.Key.Fixed.bytes_of g.F.Value.Fixed.bytes_of g.F.Key.Known.is_known g.F.Value.Known.is_known g.F.Key.Fixed.SIZE g.F.Value.Fixed.SIZE) g.F.Key.Ord.cmp g.F.Functions.code c.self.inside.partition.records v.partition.records e.key c.page_of-page.result l.wanted (g.D.Receipt.Receipt.stands p.receipt) p.bytes c.trace_in.result (ap (λ u. u.partition.records) c.self.view_is) (rw c.records.ensures at c.page_of-page.ensures) held (rw c.records-3.ensures at c.trace_in.ensures.read) (rw c.records-3.ensures at c.trace_in.ensures.kept) in
+    let came = page-came g.R.Receipt.keeps (IsEntryIn g.F.Key.Fixed.bytes_of g.F.Value.Fixed.bytes_of g.F.Key.Known.is_known g.F.Value.Known.is_known g.F.Key.Fixed.SIZE g.F.Value.Fixed.SIZE) g.F.Key.Ord.cmp g.F.Functions.code c.self.inside.partition.records v.partition.records e.key c.page_of-page.result l.wanted (g.R.Receipt.stands p.receipt) p.bytes c.trace_in.result (ap (λ u. u.partition.records) c.self.view_is) (rw c.records.ensures at c.page_of-page.ensures) held (rw c.records-3.ensures at c.trace_in.ensures.read) (rw c.records-3.ensures at c.trace_in.ensures.kept) in
     let r = c.in-Ok.reached in
     let is = c.in-Ok.is in
     let j = sym c.judge.ensures ∙ c.in-Dead.is in
-    rw c.finish.ensures (LoadsOn.newer x e l p r at (has-page g.F.Key.Ord.cmp g.F.Functions.code order v sound s c.args.slot c.args.context x e l a at (IsEntryIn g.F.Key.Fixed.bytes_of g.F.Value.Fixed.bytes_of g.F.Key.Known.is_known g.F.Value.Known.is_known g.F.Key.Fixed.SIZE g.F.Value.Fixed.SIZE) (g.D.Receipt.Receipt.stands p.receipt) p.bytes c.trace_in.result came) refl (traces-to g.F.Key.Ord.cmp g.F.Functions.code order v sound s c.args.slot c.args.context x e l a at (IsEntryIn g.F.Key.Fixed.bytes_of g.F.Value.Fixed.bytes_of g.F.Key.Known.is_known g.F.Value.Known.is_known g.F.Key.Fixed.SIZE g.F.Value.Fixed.SIZE) (g.D.Receipt.Receipt.stands p.receipt) p.bytes c.trace_in.result came (Ok r) is) j refl refl)
+    rw c.finish.ensures (LoadsOn.newer x e l p r at (has-page g.F.Key.Ord.cmp g.F.Functions.code order v sound s c.args.slot c.args.context x e l a at (IsEntryIn g.F.Key.Fixed.bytes_of g.F.Value.Fixed.bytes_of g.F.Key.Known.is_known g.F.Value.Known.is_known g.F.Key.Fixed.SIZE g.F.Value.Fixed.SIZE) (g.R.Receipt.stands p.receipt) p.bytes c.trace_in.result came) refl (traces-to g.F.Key.Ord.cmp g.F.Functions.code order v sound s c.args.slot c.args.context x e l a at (IsEntryIn g.F.Key.Fixed.bytes_of g.F.Value.Fixed.bytes_of g.F.Key.Known.is_known g.F.Value.Known.is_known g.F.Key.Fixed.SIZE g.F.Value.Fixed.SIZE) (g.R.Receipt.stands p.receipt) p.bytes c.trace_in.result came (Ok r) is) j refl refl)
 
 pub returns-in-Dead-clause-event : goal.returns-in-Dead-clause-event
 returns-in-Dead-clause-event g c =
@@ -267,7 +267,7 @@ returns-in-Dead-clause-event g c =
     let l = c.args.loading in
     let at = c.requires.traces in
     let up = past-place v x.place sound.traced (stands-here v c.args.slot c.args.context x a.here s).place in
-    rw c.finish.ensures (event-done g.D.Disk.keeps g.F.Key.Ord.cmp v c.args.slot c.args.context c.args.now c.requires.context x.place up.0)
+    rw c.finish.ensures (event-done g.R.Receipt.keeps g.F.Key.Ord.cmp v c.args.slot c.args.context c.args.now c.requires.context x.place up.0)
 
 pub returns-in-Dead-clause-cleared : goal.returns-in-Dead-clause-cleared
 returns-in-Dead-clause-cleared g c =
@@ -285,8 +285,8 @@ returns-in-Dead-clause-cleared g c =
 
 pub returns-in-Last-clause-does : goal.returns-in-Last-clause-does
 returns-in-Last-clause-does g c =
-    let ord = g.met.F.Key.Ord g.world.𝓛 g.world.𝓜 g.world.𝓡 ((λ s x. x), (λ x. x), (λ x. x), λ x. x) in
-    let known = g.met.F.Key.Known g.world.𝓛 g.world.𝓜 g.world.𝓡 ((λ s x. x), (λ x. x), (λ x. x), λ x. x) in
+    let ord = g.met.F.Key.Ord in
+    let known = g.met.F.Key.FixedKey in
     let order = key_order g.F.Key.PartialEq.eq g.F.Key.Ord.cmp ord.matches_eq known.exact ord.total in
     let v = c.args.self.now in
     let x = c.args.relocation.now in
@@ -298,16 +298,16 @@ returns-in-Last-clause-does g c =
     let l = c.args.loading in
     let at = c.requires.traces in
     let held = rw c.records-2.ensures at (c.in_default.ensures.own.0 refl) in
-    let came = page-came g.D.Disk.keeps (IsEntryIn g.F.Key.Fixed.bytes_of g.F.Value.Fixed.bytes_of g.F.Key.Known.is_known g.F.Value.Known.is_known g.F.Key.Fixed.SIZE g.F.Value.Fixed.SIZE) g.F.Key.Ord.cmp g.F.Functions.code c.self.inside.partition.records v.partition.records e.key c.page_of-page.result l.wanted (g.D.Receipt.Receipt.stands p.receipt) p.bytes c.trace_in.result (ap (λ u. u.partition.records) c.self.view_is) (rw c.records.ensures at c.page_of-page.ensures) held (rw c.records-3.ensures at c.trace_in.ensures.read) (rw c.records-3.ensures at c.trace_in.ensures.kept) in
+    let came = page-came g.R.Receipt.keeps (IsEntryIn g.F.Key.Fixed.bytes_of g.F.Value.Fixed.bytes_of g.F.Key.Known.is_known g.F.Value.Known.is_known g.F.Key.Fixed.SIZE g.F.Value.Fixed.SIZE) g.F.Key.Ord.cmp g.F.Functions.code c.self.inside.partition.records v.partition.records e.key c.page_of-page.result l.wanted (g.R.Receipt.stands p.receipt) p.bytes c.trace_in.result (ap (λ u. u.partition.records) c.self.view_is) (rw c.records.ensures at c.page_of-page.ensures) held (rw c.records-3.ensures at c.trace_in.ensures.read) (rw c.records-3.ensures at c.trace_in.ensures.kept) in
     let r = c.in-Ok.reached in
     let is = c.in-Ok.is in
     let j = sym c.judge.ensures ∙ c.in-Last.is in
-    LoadsOn.ends x e l p r at (has-page g.F.Key.Ord.cmp g.F.Functions.code order v sound s c.args.slot c.args.context x e l a at (IsEntryIn g.F.Key.Fixed.bytes_of g.F.Value.Fixed.bytes_of g.F.Key.Known.is_known g.F.Value.Known.is_known g.F.Key.Fixed.SIZE g.F.Value.Fixed.SIZE) (g.D.Receipt.Receipt.stands p.receipt) p.bytes c.trace_in.result came) refl (traces-to g.F.Key.Ord.cmp g.F.Functions.code order v sound s c.args.slot c.args.context x e l a at (IsEntryIn g.F.Key.Fixed.bytes_of g.F.Value.Fixed.bytes_of g.F.Key.Known.is_known g.F.Value.Known.is_known g.F.Key.Fixed.SIZE g.F.Value.Fixed.SIZE) (g.D.Receipt.Receipt.stands p.receipt) p.bytes c.trace_in.result came (Ok r) is) j c.append_again.ensures.does
+    LoadsOn.ends x e l p r at (has-page g.F.Key.Ord.cmp g.F.Functions.code order v sound s c.args.slot c.args.context x e l a at (IsEntryIn g.F.Key.Fixed.bytes_of g.F.Value.Fixed.bytes_of g.F.Key.Known.is_known g.F.Value.Known.is_known g.F.Key.Fixed.SIZE g.F.Value.Fixed.SIZE) (g.R.Receipt.stands p.receipt) p.bytes c.trace_in.result came) refl (traces-to g.F.Key.Ord.cmp g.F.Functions.code order v sound s c.args.slot c.args.context x e l a at (IsEntryIn g.F.Key.Fixed.bytes_of g.F.Value.Fixed.bytes_of g.F.Key.Known.is_known g.F.Value.Known.is_known g.F.Key.Fixed.SIZE g.F.Value.Fixed.SIZE) (g.R.Receipt.stands p.receipt) p.bytes c.trace_in.result came (Ok r) is) j c.append_again.ensures.does
 
 pub returns-else-not-is_place-clause-does : goal.returns-else-not-is_place-clause-does
 returns-else-not-is_place-clause-does g c =
-    let ord = g.met.F.Key.Ord g.world.𝓛 g.world.𝓜 g.world.𝓡 ((λ s x. x), (λ x. x), (λ x. x), λ x. x) in
-    let known = g.met.F.Key.Known g.world.𝓛 g.world.𝓜 g.world.𝓡 ((λ s x. x), (λ x. x), (λ x. x), λ x. x) in
+    let ord = g.met.F.Key.Ord in
+    let known = g.met.F.Key.FixedKey in
     let order = key_order g.F.Key.PartialEq.eq g.F.Key.Ord.cmp ord.matches_eq known.exact ord.total in
     let v = c.args.self.now in
     let x = c.args.relocation.now in
@@ -319,10 +319,10 @@ returns-else-not-is_place-clause-does g c =
     let l = c.args.loading in
     let at = c.requires.traces in
     let held = rw c.records-2.ensures at (c.in_default.ensures.own.0 refl) in
-    let came = page-came g.D.Disk.keeps (IsEntryIn g.F.Key.Fixed.bytes_of g.F.Value.Fixed.bytes_of g.F.Key.Known.is_known g.F.Value.Known.is_known g.F.Key.Fixed.SIZE g.F.Value.Fixed.SIZE) g.F.Key.Ord.cmp g.F.Functions.code c.self.inside.partition.records v.partition.records e.key c.page_of-page.result l.wanted (g.D.Receipt.Receipt.stands p.receipt) p.bytes c.trace_in.result (ap (λ u. u.partition.records) c.self.view_is) (rw c.records.ensures at c.page_of-page.ensures) held (rw c.records-3.ensures at c.trace_in.ensures.read) (rw c.records-3.ensures at c.trace_in.ensures.kept) in
+    let came = page-came g.R.Receipt.keeps (IsEntryIn g.F.Key.Fixed.bytes_of g.F.Value.Fixed.bytes_of g.F.Key.Known.is_known g.F.Value.Known.is_known g.F.Key.Fixed.SIZE g.F.Value.Fixed.SIZE) g.F.Key.Ord.cmp g.F.Functions.code c.self.inside.partition.records v.partition.records e.key c.page_of-page.result l.wanted (g.R.Receipt.stands p.receipt) p.bytes c.trace_in.result (ap (λ u. u.partition.records) c.self.view_is) (rw c.records.ensures at c.page_of-page.ensures) held (rw c.records-3.ensures at c.trace_in.ensures.read) (rw c.records-3.ensures at c.trace_in.ensures.kept) in
     let r = c.in-Ok.reached in
     let is = c.in-Ok.is in
     let b = c.in-Further.address in
     let j = sym c.judge.ensures ∙ c.in-Further.is in
     let place = subst (λ u. IsPlace u.partition.records.page_bits u.partition.records.record_size b) c.self.view_is ((rw c.records-in-Further.ensures at c.is_place.ensures).0 c.if-not-is_place.false) in
-    LoadsOn.further x e l p b at (has-page g.F.Key.Ord.cmp g.F.Functions.code order v sound s c.args.slot c.args.context x e l a at (IsEntryIn g.F.Key.Fixed.bytes_of g.F.Value.Fixed.bytes_of g.F.Key.Known.is_known g.F.Value.Known.is_known g.F.Key.Fixed.SIZE g.F.Value.Fixed.SIZE) (g.D.Receipt.Receipt.stands p.receipt) p.bytes c.trace_in.result came) refl (way-below g.F.Key.Ord.cmp g.F.Functions.code order v sound s c.args.slot c.args.context x e l a at (IsEntryIn g.F.Key.Fixed.bytes_of g.F.Value.Fixed.bytes_of g.F.Key.Known.is_known g.F.Value.Known.is_known g.F.Key.Fixed.SIZE g.F.Value.Fixed.SIZE) (g.D.Receipt.Receipt.stands p.receipt) p.bytes c.trace_in.result came r b is j) (above-place g.F.Key.Ord.cmp g.F.Functions.code order v sound s c.args.slot c.args.context x e l a at (IsEntryIn g.F.Key.Fixed.bytes_of g.F.Value.Fixed.bytes_of g.F.Key.Known.is_known g.F.Value.Known.is_known g.F.Key.Fixed.SIZE g.F.Value.Fixed.SIZE) (g.D.Receipt.Receipt.stands p.receipt) p.bytes c.trace_in.result came r b is j) place c.ask.ensures.does
+    LoadsOn.further x e l p b at (has-page g.F.Key.Ord.cmp g.F.Functions.code order v sound s c.args.slot c.args.context x e l a at (IsEntryIn g.F.Key.Fixed.bytes_of g.F.Value.Fixed.bytes_of g.F.Key.Known.is_known g.F.Value.Known.is_known g.F.Key.Fixed.SIZE g.F.Value.Fixed.SIZE) (g.R.Receipt.stands p.receipt) p.bytes c.trace_in.result came) refl (way-below g.F.Key.Ord.cmp g.F.Functions.code order v sound s c.args.slot c.args.context x e l a at (IsEntryIn g.F.Key.Fixed.bytes_of g.F.Value.Fixed.bytes_of g.F.Key.Known.is_known g.F.Value.Known.is_known g.F.Key.Fixed.SIZE g.F.Value.Fixed.SIZE) (g.R.Receipt.stands p.receipt) p.bytes c.trace_in.result came r b is j) (above-place g.F.Key.Ord.cmp g.F.Functions.code order v sound s c.args.slot c.args.context x e l a at (IsEntryIn g.F.Key.Fixed.bytes_of g.F.Value.Fixed.bytes_of g.F.Key.Known.is_known g.F.Value.Known.is_known g.F.Key.Fixed.SIZE g.F.Value.Fixed.SIZE) (g.R.Receipt.stands p.receipt) p.bytes c.trace_in.result came r b is j) place c.ask.ensures.does

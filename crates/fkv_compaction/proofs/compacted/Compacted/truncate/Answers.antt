@@ -13,25 +13,25 @@ returns-then-page-page_of-clause-does g c =
     rw (← c.self.view_is) (Truncates.not_due (λ d. page-high c.self.inside.partition.records.page_bits c.args.page c.self.inside.cleared high d.cleared) refl refl)
 
 pub truncate-truncated-requires-clause-cleared : goal.truncate-truncated-requires-clause-cleared
-truncate-truncated-requires-clause-cleared g c κs within =
+truncate-truncated-requires-clause-cleared g c =
     let r = c.self.inside.partition.records in
     let low = page-low r.page_bits c.args.page c.self.inside.cleared (rw (c.page_of.ensures, c.records.ensures) at c.if-page-page_of.false) in
     λ yes_keeps due. cleared-below g.F.Key.Ord.cmp r.text (start_at r.page_bits c.args.page) c.self.inside.cleared low (c.self.invariant.cleared yes_keeps)
 
 pub invariant_of-self : goal.invariant_of-self
 invariant_of-self g c =
-    let ord = g.met.F.Key.Ord g.world.𝓛 g.world.𝓜 g.world.𝓡 ((λ s x. x), (λ x. x), (λ x. x), λ x. x) in
-    let known = g.met.F.Key.Known g.world.𝓛 g.world.𝓜 g.world.𝓡 ((λ s x. x), (λ x. x), (λ x. x), λ x. x) in
+    let ord = g.met.F.Key.Ord in
+    let known = g.met.F.Key.FixedKey in
     let order = key_order g.F.Key.PartialEq.eq g.F.Key.Ord.cmp ord.matches_eq known.exact ord.total in
     let r = c.self.inside.partition.records in
     let low = page-low r.page_bits c.args.page c.self.inside.cleared (rw (c.page_of.ensures, c.records.ensures) at c.if-page-page_of.false) in
     let v = view_of c.self.inside.partition c.self.inside.cleared c.self.inside.relocations.items in
     let new = c.truncate-truncated.new.self in
     let does = c.truncate-truncated.ensures.does in
-    let cut = truncates-cut g.D.Disk.keeps v.partition new c.args.page c.args.now c.self.inside.cleared c.truncate-truncated.result c.self.invariant.begun low does in
-    let seats = c.seats_stay.ensures.truncates g.D.Disk.keeps v.partition new c.args.page c.args.now c.truncate-truncated.result does in
-    keep-event g.D.Disk.keeps g.F.Key.Ord.cmp g.F.Functions.code v new c.self.invariant c.known-2.ensures.traced
-    (c.events_bear.ensures.truncates g.D.Disk.keeps g.F.Key.Ord.cmp g.F.Functions.code v.partition new c.args.page c.args.now c.truncate-truncated.result order c.known.ensures
+    let cut = truncates-cut g.R.Receipt.keeps v.partition new c.args.page c.args.now c.self.inside.cleared c.truncate-truncated.result c.self.invariant.begun low does in
+    let seats = c.seats_stay.ensures.truncates g.R.Receipt.keeps v.partition new c.args.page c.args.now c.truncate-truncated.result does in
+    keep-event g.R.Receipt.keeps g.F.Key.Ord.cmp g.F.Functions.code v new c.self.invariant c.known-2.ensures.traced
+    (c.events_bear.ensures.truncates g.R.Receipt.keeps g.F.Key.Ord.cmp g.F.Functions.code v.partition new c.args.page c.args.now c.truncate-truncated.result order c.known.ensures
     (λ yes_keeps due. cleared-below g.F.Key.Ord.cmp r.text (start_at r.page_bits c.args.page) c.self.inside.cleared low (c.self.invariant.cleared yes_keeps)) does)
     cut.number cut.count cut.begun (λ p x h none. seats.0 p none) (λ s d x under h inside. seats.1 s inside)
 
@@ -40,7 +40,7 @@ returns-clause-does g c =
     let r = c.self.inside.partition.records in
     let low = page-low r.page_bits c.args.page c.self.inside.cleared (rw (c.page_of.ensures, c.records.ensures) at c.if-page-page_of.false) in
     let v = view_of c.self.inside.partition c.self.inside.cleared c.self.inside.relocations.items in
-    rw (← c.self.view_is) (truncates-told g.D.Disk.keeps v c.truncate-truncated.new.self c.args.page c.args.now c.truncate-truncated.result low c.truncate-truncated.ensures.does)
+    rw (← c.self.view_is) (truncates-told g.R.Receipt.keeps v c.truncate-truncated.new.self c.args.page c.args.now c.truncate-truncated.result low c.truncate-truncated.ensures.does)
 
 pub returns-clause-err : goal.returns-clause-err
 returns-clause-err g c = rw (← c.self.view_is) (on-err c.truncate-truncated.result (λ same. ap (λ p. view_of p c.self.inside.cleared c.self.inside.relocations.items) same) c.truncate-truncated.ensures.err)

@@ -8,19 +8,19 @@ use Rattle.fkv_compaction.proofs.WeighLemmas.{spent-one, spent-foreign, spent-no
 use Rattle.fkv_compaction.proofs.compacted.Compacted.weigh.Goals as goal
 
 pub finish-requires-clause-issued : goal.finish-requires-clause-issued
-finish-requires-clause-issued g c κs within =
+finish-requires-clause-issued g c =
     let v = c.args.self.now in
     let x = c.args.relocation.now in
     (stands-here v c.args.slot c.args.context x c.requires.here c.known.ensures.compacting).issued
 
 pub finish-requires-clause-place : goal.finish-requires-clause-place
-finish-requires-clause-place g c κs within =
+finish-requires-clause-place g c =
     let v = c.args.self.now in
     let x = c.args.relocation.now in
     (stands-here v c.args.slot c.args.context x c.requires.here c.known.ensures.compacting).place
 
 pub finish-requires-clause-low : goal.finish-requires-clause-low
-finish-requires-clause-low g c κs within =
+finish-requires-clause-low g c =
     let v = c.args.self.now in
     let x = c.args.relocation.now in
     low-here v c.args.slot c.args.context x c.requires.here c.known.ensures.compacting c.known.ensures.partition.traced
@@ -29,7 +29,7 @@ pub returns-then-is_none-clause-event : goal.returns-then-is_none-clause-event
 returns-then-is_none-clause-event g c =
     let v = c.args.self.now in
     let x = c.args.relocation.now in
-    rw c.finish.ensures (event-done g.D.Disk.keeps g.F.Key.Ord.cmp v c.args.slot c.args.context c.args.now c.requires.context x.place (past-place v x.place c.known.ensures.partition.traced (stands-here v c.args.slot c.args.context x c.requires.here c.known.ensures.compacting).place).0)
+    rw c.finish.ensures (event-done g.R.Receipt.keeps g.F.Key.Ord.cmp v c.args.slot c.args.context c.args.now c.requires.context x.place (past-place v x.place c.known.ensures.partition.traced (stands-here v c.args.slot c.args.context x c.requires.here c.known.ensures.compacting).place).0)
 
 pub returns-then-is_none-clause-cleared : goal.returns-then-is_none-clause-cleared
 returns-then-is_none-clause-cleared g c =
@@ -38,27 +38,27 @@ returns-then-is_none-clause-cleared g c =
     λ is. rw c.finish.ensures (past-place v x.place c.known.ensures.partition.traced (stands-here v c.args.slot c.args.context x c.requires.here c.known.ensures.compacting).place).1
 
 pub finish-requires-then-home-number-clause-issued : goal.finish-requires-then-home-number-clause-issued
-finish-requires-then-home-number-clause-issued g c κs within =
+finish-requires-then-home-number-clause-issued g c =
     let v = c.args.self.now in
     let x = c.args.relocation.now in
     (stands-here v c.args.slot c.args.context x c.requires.here c.known.ensures.compacting).issued
 
 pub finish-requires-then-home-number-clause-place : goal.finish-requires-then-home-number-clause-place
-finish-requires-then-home-number-clause-place g c κs within =
+finish-requires-then-home-number-clause-place g c =
     let v = c.args.self.now in
     let x = c.args.relocation.now in
     (stands-here v c.args.slot c.args.context x c.requires.here c.known.ensures.compacting).place
 
 pub finish-requires-then-home-number-clause-low : goal.finish-requires-then-home-number-clause-low
-finish-requires-then-home-number-clause-low g c κs within =
+finish-requires-then-home-number-clause-low g c =
     let v = c.args.self.now in
     let x = c.args.relocation.now in
     low-here v c.args.slot c.args.context x c.requires.here c.known.ensures.compacting c.known.ensures.partition.traced
 
 pub finish-requires-then-home-number-clause-spent : goal.finish-requires-then-home-number-clause-spent
-finish-requires-then-home-number-clause-spent g c κs within =
-    let ord = g.met.F.Key.Ord g.world.𝓛 g.world.𝓜 g.world.𝓡 ((λ s x. x), (λ x. x), (λ x. x), λ x. x) in
-    let known = g.met.F.Key.Known g.world.𝓛 g.world.𝓜 g.world.𝓡 ((λ s x. x), (λ x. x), (λ x. x), λ x. x) in
+finish-requires-then-home-number-clause-spent g c =
+    let ord = g.met.F.Key.Ord in
+    let known = g.met.F.Key.FixedKey in
     let order = key_order g.F.Key.PartialEq.eq g.F.Key.Ord.cmp ord.matches_eq known.exact ord.total in
     let v = c.args.self.now in
     let x = c.args.relocation.now in
@@ -70,7 +70,7 @@ pub returns-then-home-number-clause-event : goal.returns-then-home-number-clause
 returns-then-home-number-clause-event g c =
     let v = c.args.self.now in
     let x = c.args.relocation.now in
-    rw c.finish-then-home-number.ensures (event-done g.D.Disk.keeps g.F.Key.Ord.cmp v c.args.slot c.args.context c.args.now c.requires.context x.place (past-place v x.place c.known.ensures.partition.traced (stands-here v c.args.slot c.args.context x c.requires.here c.known.ensures.compacting).place).0)
+    rw c.finish-then-home-number.ensures (event-done g.R.Receipt.keeps g.F.Key.Ord.cmp v c.args.slot c.args.context c.args.now c.requires.context x.place (past-place v x.place c.known.ensures.partition.traced (stands-here v c.args.slot c.args.context x c.requires.here c.known.ensures.compacting).place).0)
 
 pub returns-then-home-number-clause-cleared : goal.returns-then-home-number-clause-cleared
 returns-then-home-number-clause-cleared g c =
@@ -79,27 +79,27 @@ returns-then-home-number-clause-cleared g c =
     λ is. rw c.finish-then-home-number.ensures (past-place v x.place c.known.ensures.partition.traced (stands-here v c.args.slot c.args.context x c.requires.here c.known.ensures.compacting).place).1
 
 pub finish-requires-in-None-clause-issued : goal.finish-requires-in-None-clause-issued
-finish-requires-in-None-clause-issued g c κs within =
+finish-requires-in-None-clause-issued g c =
     let v = c.args.self.now in
     let x = c.args.relocation.now in
     (stands-here v c.args.slot c.args.context x c.requires.here c.known.ensures.compacting).issued
 
 pub finish-requires-in-None-clause-place : goal.finish-requires-in-None-clause-place
-finish-requires-in-None-clause-place g c κs within =
+finish-requires-in-None-clause-place g c =
     let v = c.args.self.now in
     let x = c.args.relocation.now in
     (stands-here v c.args.slot c.args.context x c.requires.here c.known.ensures.compacting).place
 
 pub finish-requires-in-None-clause-low : goal.finish-requires-in-None-clause-low
-finish-requires-in-None-clause-low g c κs within =
+finish-requires-in-None-clause-low g c =
     let v = c.args.self.now in
     let x = c.args.relocation.now in
     low-here v c.args.slot c.args.context x c.requires.here c.known.ensures.compacting c.known.ensures.partition.traced
 
 pub finish-requires-in-None-clause-spent : goal.finish-requires-in-None-clause-spent
-finish-requires-in-None-clause-spent g c κs within =
-    let ord = g.met.F.Key.Ord g.world.𝓛 g.world.𝓜 g.world.𝓡 ((λ s x. x), (λ x. x), (λ x. x), λ x. x) in
-    let known = g.met.F.Key.Known g.world.𝓛 g.world.𝓜 g.world.𝓡 ((λ s x. x), (λ x. x), (λ x. x), λ x. x) in
+finish-requires-in-None-clause-spent g c =
+    let ord = g.met.F.Key.Ord in
+    let known = g.met.F.Key.FixedKey in
     let order = key_order g.F.Key.PartialEq.eq g.F.Key.Ord.cmp ord.matches_eq known.exact ord.total in
     let v = c.args.self.now in
     let x = c.args.relocation.now in
@@ -111,7 +111,7 @@ pub returns-in-None-clause-event : goal.returns-in-None-clause-event
 returns-in-None-clause-event g c =
     let v = c.args.self.now in
     let x = c.args.relocation.now in
-    rw c.finish-in-None.ensures (event-done g.D.Disk.keeps g.F.Key.Ord.cmp v c.args.slot c.args.context c.args.now c.requires.context x.place (past-place v x.place c.known.ensures.partition.traced (stands-here v c.args.slot c.args.context x c.requires.here c.known.ensures.compacting).place).0)
+    rw c.finish-in-None.ensures (event-done g.R.Receipt.keeps g.F.Key.Ord.cmp v c.args.slot c.args.context c.args.now c.requires.context x.place (past-place v x.place c.known.ensures.partition.traced (stands-here v c.args.slot c.args.context x c.requires.here c.known.ensures.compacting).place).0)
 
 pub returns-in-None-clause-cleared : goal.returns-in-None-clause-cleared
 returns-in-None-clause-cleared g c =

@@ -3,14 +3,14 @@ use Rattle.fkv_hybrid.proofs.ScanLemmas.{in_frame, not_closed, goes_on, own_page
 use Rattle.fkv_hybrid.proofs.log.Log.step.Goals as goal
 
 pub record_at-requires-clause-there : goal.record_at-requires-clause-there
-record_at-requires-clause-there g c κs within =
+record_at-requires-clause-there g c =
     let s = rw (← c.scan.view_is) at c.requires.scan in
     let more = rw (← c.scan.view_is) at c.requires.more in
     let high = rw (c.unflushed.ensures, c.page_of-page.ensures, c.shape.ensures.bits) at c.if-page-unflushed.true in
     in_frame _ _ c.args.self.now c.known.ensures.log _ s more high
 
 pub record_at-requires-clause-in_frame : goal.record_at-requires-clause-in_frame
-record_at-requires-clause-in_frame g c κs within =
+record_at-requires-clause-in_frame g c =
     let s = rw (← c.scan.view_is) at c.requires.scan in
     let more = rw (← c.scan.view_is) at c.requires.more in
     let high = rw (c.unflushed.ensures, c.page_of-page.ensures, c.shape.ensures.bits) at c.if-page-unflushed.true in
@@ -30,5 +30,5 @@ pub returns-in-Ok-own_record_in-clause-scan : goal.returns-in-Ok-own_record_in-c
 returns-in-Ok-own_record_in-clause-scan g c =
     let s = rw (← c.scan.view_is) at c.requires.scan in
     let more = rw (← c.scan.view_is) at c.requires.more in
-    let held = own_page c.args.self.now.receipts c.page_of-page.result (g.D.Receipt.Receipt.stands c.in-Ok.loaded.receipt) c.in-Ok.ensures.own c.in-Ok.ensures.page in
+    let held = own_page c.args.self.now.receipts c.page_of-page.result (g.R.Receipt.stands c.in-Ok.loaded.receipt) c.in-Ok.ensures.own c.in-Ok.ensures.page in
     goes_on _ _ c.args.self.now c.known.ensures.log _ s more c.next-scan-inside-in-Ok-own_record_in.result _ c.next-scan-inside-in-Ok-own_record_in.ensures.next held

@@ -6,13 +6,13 @@ use Rattle.fkv_lookups.specs.RecordsViews.{leads_to}
 use Rattle.fkv_lookups.proofs.TracedLemmas.{leads_of, entry-stands, traced-record, moved-there, tail_from, text_then}
 use Rattle.fkv_lookups.proofs.records.Records.append.Goals as goal
 
-pub append-requires-clause-previous : goal.append-requires-clause-previous
-append-requires-clause-previous g c κs within =
+pub append-requires : goal.append-requires
+append-requires g c =
     let i = c.self.inside in
     let t = c.self.invariant in
     let own = class_at i.partition_bits i.bucket_bits (g.F.Functions.code c.args.key) in
     let stands = rw (← c.self.view_is) at c.requires in
-    rw c.address.ensures (subst (λ o. IsPrevious i.log.tail (leads_to o)) (entry-stands i.index own.bucket own.tag c.args.entry.place c.args.entry.word t.map stands) (t.placed own))
+    record { previous = rw c.address.ensures (subst (λ o. IsPrevious i.log.tail (leads_to o)) (entry-stands i.index own.bucket own.tag c.args.entry.place c.args.entry.word t.map stands) (t.placed own)) }
 
 pub move_entry-requires-clause-some : goal.move_entry-requires-clause-some
 move_entry-requires-clause-some g c =

@@ -12,4 +12,4 @@ invariant_of-self g c =
 pub returns-clause-effect : goal.returns-clause-effect
 returns-clause-effect g c =
     let i = c.self.inside in
-    rw (← c.self.view_is) (records-moved c.leave-moved.result g.D.Disk.keeps i.partition_bits i.bucket_bits (size_of g.F.Key.Fixed.SIZE g.F.Value.Fixed.SIZE) i.index _ i.log c.leave-moved.new.self c.leave-moved.ensures.effect)
+    rw (← c.self.view_is) (records-moved c.leave-moved.result g.R.Receipt.keeps i.partition_bits i.bucket_bits (size_of g.F.Key.Fixed.SIZE g.F.Value.Fixed.SIZE) i.index _ i.log c.leave-moved.new.self c.leave-moved.ensures.effect)

@@ -8,7 +8,7 @@ use Rattle.fkv_lookups.proofs.records.Records.put_live.Goals as goal
 pub loop-self-init : goal.loop-self-init
 loop-self-init g c = record {
   scan = c.scan-scan.ensures.scan;
-  scanned = λ keeps. scan_begins g.D.Disk.keeps _ c.self.inside.log c.known.ensures.log g.F.Key.Ord.cmp _ _ keeps c.scan-scan.ensures.begins;
+  scanned = λ keeps. scan_begins g.R.Receipt.keeps _ c.self.inside.log c.known.ensures.log g.F.Key.Ord.cmp _ _ keeps c.scan-scan.ensures.begins;
   steady = refl;
 }
 
@@ -27,7 +27,7 @@ loop-self-preserved g c =
 pub loop-self-smaller : goal.loop-self-smaller
 loop-self-smaller g c =
     let low : c.loop-self.scan.address < c.self.inside.log.tail = omega (arith, c.tail.ensures.tail, c.address.ensures, c.loop-self-test.true) in
-    let rises = scan_rises g.D.Disk.keeps _ c.self.inside.log c.known.ensures.log c.loop-self.scan c.loop-self.invariant.scan low in
+    let rises = scan_rises g.R.Receipt.keeps _ c.self.inside.log c.known.ensures.log c.loop-self.scan c.loop-self.invariant.scan low in
     let goes = c.in-Ok.ensures.goes in
     omega arith
 
@@ -39,7 +39,7 @@ returns-clause-ok g c = λ keeps.
 pub returns-in-Err-clause-refused : goal.returns-in-Err-clause-refused
 returns-in-Err-clause-refused g c =
     let low : c.loop-self.scan.address < c.self.inside.log.tail = omega (arith, c.tail.ensures.tail, c.address.ensures, c.loop-self-test.true) in
-    rw (← c.self.view_is) (scan_refused g.D.Disk.keeps _ c.self.inside.log c.known.ensures.log c.loop-self.scan c.loop-self.invariant.scan low
+    rw (← c.self.view_is) (scan_refused g.R.Receipt.keeps _ c.self.inside.log c.known.ensures.log c.loop-self.scan c.loop-self.invariant.scan low
     c.step.result _ _ _ _ c.in-Err.is c.loop-self.invariant.steady (λ high. (c.step.ensures.unread high).0) c.in-Err.ensures.refused)
 
 pub returns-in-Err-put-clause-refused : goal.returns-in-Err-put-clause-refused

@@ -13,8 +13,8 @@ invariant-loop-self g l =
     let size = size_of g.F.Key.Fixed.SIZE g.F.Value.Fixed.SIZE in
     record {
       scan : IsScanOf size log l.scan;
-      scanned : IsTrue g.D.Disk.keeps → IsScanned g.F.Key.Ord.cmp (get g.F.Key.Ord.cmp l.initial.map) log.bits size log.tail log.text l.scan.address (get g.F.Key.Ord.cmp l.map);
-      steady : g.D.Reader.PageReader.failures l.reader ≡ g.D.Reader.PageReader.failures l.fn.reader;
+      scanned : IsTrue g.R.Receipt.keeps → IsScanned g.F.Key.Ord.cmp (get g.F.Key.Ord.cmp l.initial.map) log.bits size log.tail log.text l.scan.address (get g.F.Key.Ord.cmp l.map);
+      steady : g.P.PageReader.failures l.reader ≡ g.P.PageReader.failures l.fn.reader;
     }
 
 abbrev pub decreases-loop-self : goal.decreases-loop-self

@@ -12,4 +12,4 @@ invariant_of-self g c =
 pub returns-clause-effect : goal.returns-clause-effect
 returns-clause-effect g c =
     let i = c.self.inside in
-    rw (← c.self.view_is) (records-moved c.refresh-moved.result g.D.Disk.keeps i.partition_bits i.bucket_bits (size_of g.F.Key.Fixed.SIZE g.F.Value.Fixed.SIZE) i.index _ i.log c.refresh-moved.new.self c.refresh-moved.ensures.effect)
+    rw (← c.self.view_is) (records-moved c.refresh-moved.result g.R.Receipt.keeps i.partition_bits i.bucket_bits (size_of g.F.Key.Fixed.SIZE g.F.Value.Fixed.SIZE) i.index _ i.log c.refresh-moved.new.self c.refresh-moved.ensures.effect)

@@ -12,7 +12,7 @@ invariant_of-self g c =
 pub returns-clause-effect : goal.returns-clause-effect
 returns-clause-effect g c =
     let i = c.self.inside in
-    rw (← c.self.view_is) (records-moved c.shift_read_only-moved.result g.D.Disk.keeps i.partition_bits i.bucket_bits (size_of g.F.Key.Fixed.SIZE g.F.Value.Fixed.SIZE) i.index _ i.log c.shift_read_only-moved.new.self c.shift_read_only-moved.ensures.effect)
+    rw (← c.self.view_is) (records-moved c.shift_read_only-moved.result g.R.Receipt.keeps i.partition_bits i.bucket_bits (size_of g.F.Key.Fixed.SIZE g.F.Value.Fixed.SIZE) i.index _ i.log c.shift_read_only-moved.new.self c.shift_read_only-moved.ensures.effect)
 
 pub returns-clause-refused : goal.returns-clause-refused
 returns-clause-refused g c =

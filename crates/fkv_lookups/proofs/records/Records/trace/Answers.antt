@@ -10,7 +10,7 @@ use Rattle.fkv_lookups.proofs.LookupLemmas.{chain_of_all, begun}
 use Rattle.fkv_lookups.proofs.records.Records.trace.Goals as goal
 
 pub first_on_chain-requires-clause-chain : goal.first_on_chain-requires-clause-chain
-first_on_chain-requires-clause-chain g c κs within =
+first_on_chain-requires-clause-chain g c =
     let i = c.self.inside in
     let t = c.self.invariant in
     let low = c.args.low in
@@ -26,8 +26,8 @@ first_on_chain-requires-clause-chain g c κs within =
 
 pub returns : goal.returns
 returns g c =
-    let ord = g.met.F.Key.Ord g.world.𝓛 g.world.𝓜 g.world.𝓡 ((λ s x. x), (λ x. x), (λ x. x), λ x. x) in
-    let known = g.met.F.Key.Known g.world.𝓛 g.world.𝓜 g.world.𝓡 ((λ s x. x), (λ x. x), (λ x. x), λ x. x) in
+    let ord = g.met.F.Key.Ord in
+    let known = g.met.F.Key.FixedKey in
     let order = key_order g.F.Key.PartialEq.eq g.F.Key.Ord.cmp ord.matches_eq known.exact ord.total in
     let i = c.self.inside in
     let t = c.self.invariant in

@@ -4,8 +4,8 @@ use Rattle.fkv_lookups.proofs.records.Records.trace_in.Goals as goal
 
 pub returns-clause-kept : goal.returns-clause-kept
 returns-clause-kept g c = λ keeps held begun own.
-    let ord = g.met.F.Key.Ord g.world.𝓛 g.world.𝓜 g.world.𝓡 ((λ s x. x), (λ x. x), (λ x. x), λ x. x) in
-    let known = g.met.F.Key.Known g.world.𝓛 g.world.𝓜 g.world.𝓡 ((λ s x. x), (λ x. x), (λ x. x), λ x. x) in
+    let ord = g.met.F.Key.Ord in
+    let known = g.met.F.Key.FixedKey in
     let order = key_order g.F.Key.PartialEq.eq g.F.Key.Ord.cmp ord.matches_eq known.exact ord.total in
     rw (← c.self.view_is) (page_tells g.F.Key.Ord.cmp g.F.Functions.code _ c.args.key.now order c.self.invariant c.args.from c.first_in_page.result keeps (rw (← c.self.view_is) at begun) (rw (← c.self.view_is) at own)
     (c.first_in_page.ensures.kept keeps (rw (← c.self.view_is) at held)))

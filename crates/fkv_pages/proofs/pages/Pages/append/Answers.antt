@@ -7,7 +7,7 @@ use Rattle.fkv_pages.proofs.PutLemmas.{append_puts, grown, put_waiting, log_at, 
 use Rattle.fkv_pages.proofs.pages.Pages.append.Goals as goal
 
 pub put_record-requires-clause-held : goal.put_record-requires-clause-held
-put_record-requires-clause-held g c κs within = λ some.
+put_record-requires-clause-held g c = λ some.
     let i = c.self.inside in
     let l = c.self.invariant in
     held_tail i.shape.page_bits i.closed i.frozen i.tail i.frames c.page_of-page.result c.offset_of-is_new.result l.ringed l.ordered.closed_frozen l.ordered.frozen_tail
@@ -15,8 +15,8 @@ put_record-requires-clause-held g c κs within = λ some.
 
 pub invariant_of-self-inside : goal.invariant_of-self-inside
 invariant_of-self-inside g c =
-    let k = g.met.K.Fixed g.world.𝓛 g.world.𝓜 g.world.𝓡 ((λ s x. x), (λ x. x), (λ x. x), λ x. x) in
-    let v = g.met.V.Fixed g.world.𝓛 g.world.𝓜 g.world.𝓡 ((λ s x. x), (λ x. x), (λ x. x), λ x. x) in
+    let k = g.met.K.Fixed in
+    let v = g.met.V.Fixed in
     let i = c.self.inside in
     let below : i.tail < 2 ^ 48 = omega arith in
     let offset = c.offset_of-is_new.ensures.value in
@@ -26,8 +26,8 @@ invariant_of-self-inside g c =
     let bad : true ≡ false = sym yes ∙ c.if-is_full.false in cc) in
     let sound = sound_record g.K.Known.is_known g.V.Known.is_known i.tail c.args.previous c.args.key c.args.value below (rw (← c.self.view_is) at c.requires.previous) c.put_record.ensures.key c.put_record.ensures.value in
     let e : Entry g.row.K.Denot g.row.V.Denot = record { address = i.tail; previous = c.args.previous; key = c.args.key; value = c.args.value } in
-    let p = append_puts g.K.Fixed.bytes_of g.V.Fixed.bytes_of g.K.Known.is_known g.V.Known.is_known g.K.Fixed.SIZE g.V.Fixed.SIZE g.D.Disk.keeps i.shape i.begin i.closed i.frozen i.tail _ i.frames c.put_record.new.frames _ i.text.0.0 _ _ c.self.invariant page offset free c.put_record.ensures.written in
-    let l = grown g.K.Fixed.bytes_of g.V.Fixed.bytes_of g.K.Known.is_known g.V.Known.is_known g.K.Fixed.SIZE g.V.Fixed.SIZE g.D.Disk.keeps i.shape i.begin i.closed i.frozen i.tail _ i.frames c.put_record.new.frames _ i.text.0.0 e c.self.invariant below refl p c.put_record.ensures.sized sound c.put_record.ensures.spells in
+    let p = append_puts g.K.Fixed.bytes_of g.V.Fixed.bytes_of g.K.Known.is_known g.V.Known.is_known g.K.Fixed.SIZE g.V.Fixed.SIZE g.R.Receipt.keeps i.shape i.begin i.closed i.frozen i.tail _ i.frames c.put_record.new.frames _ i.text.0.0 _ _ c.self.invariant page offset free c.put_record.ensures.written in
+    let l = grown g.K.Fixed.bytes_of g.V.Fixed.bytes_of g.K.Known.is_known g.V.Known.is_known g.K.Fixed.SIZE g.V.Fixed.SIZE g.R.Receipt.keeps i.shape i.begin i.closed i.frozen i.tail _ i.frames c.put_record.new.frames _ i.text.0.0 e c.self.invariant below refl p c.put_record.ensures.sized sound c.put_record.ensures.spells in
     let tail = tail_is i.shape.page_bits i.shape.record_size i.tail _ _ c.unwrap_or-self-inside.ensures c.next_place.ensures.value in
     rw tail (the_text g.K.Fixed.bytes_of g.V.Fixed.bytes_of g.K.Known.is_known g.V.Known.is_known g.K.Fixed.SIZE g.V.Fixed.SIZE k.readable v.readable _ _ g.row.K.coded g.row.V.coded _ _ _ l.spelled, tt)
 
@@ -42,10 +42,10 @@ invariant_of-self g c =
     let bad : true ≡ false = sym yes ∙ c.if-is_full.false in cc) in
     let sound = sound_record g.K.Known.is_known g.V.Known.is_known i.tail c.args.previous c.args.key c.args.value below (rw (← c.self.view_is) at c.requires.previous) c.put_record.ensures.key c.put_record.ensures.value in
     let e : Entry g.row.K.Denot g.row.V.Denot = record { address = i.tail; previous = c.args.previous; key = c.args.key; value = c.args.value } in
-    let p = append_puts g.K.Fixed.bytes_of g.V.Fixed.bytes_of g.K.Known.is_known g.V.Known.is_known g.K.Fixed.SIZE g.V.Fixed.SIZE g.D.Disk.keeps i.shape i.begin i.closed i.frozen i.tail _ i.frames c.put_record.new.frames _ i.text.0.0 _ _ c.self.invariant page offset free c.put_record.ensures.written in
-    let l = grown g.K.Fixed.bytes_of g.V.Fixed.bytes_of g.K.Known.is_known g.V.Known.is_known g.K.Fixed.SIZE g.V.Fixed.SIZE g.D.Disk.keeps i.shape i.begin i.closed i.frozen i.tail _ i.frames c.put_record.new.frames _ i.text.0.0 e c.self.invariant below refl p c.put_record.ensures.sized sound c.put_record.ensures.spells in
+    let p = append_puts g.K.Fixed.bytes_of g.V.Fixed.bytes_of g.K.Known.is_known g.V.Known.is_known g.K.Fixed.SIZE g.V.Fixed.SIZE g.R.Receipt.keeps i.shape i.begin i.closed i.frozen i.tail _ i.frames c.put_record.new.frames _ i.text.0.0 _ _ c.self.invariant page offset free c.put_record.ensures.written in
+    let l = grown g.K.Fixed.bytes_of g.V.Fixed.bytes_of g.K.Known.is_known g.V.Known.is_known g.K.Fixed.SIZE g.V.Fixed.SIZE g.R.Receipt.keeps i.shape i.begin i.closed i.frozen i.tail _ i.frames c.put_record.new.frames _ i.text.0.0 e c.self.invariant below refl p c.put_record.ensures.sized sound c.put_record.ensures.spells in
     let tail = tail_is i.shape.page_bits i.shape.record_size i.tail _ _ c.unwrap_or-self-inside.ensures c.next_place.ensures.value in
-    log_at g.K.Fixed.bytes_of g.V.Fixed.bytes_of g.K.Known.is_known g.V.Known.is_known g.K.Fixed.SIZE g.V.Fixed.SIZE g.D.Disk.keeps i.shape i.begin i.closed i.frozen _ _ _ c.put_record.new.frames c.self-1.given.0 (i.text.0.0 ++ e ∷ []) tail l
+    log_at g.K.Fixed.bytes_of g.V.Fixed.bytes_of g.K.Known.is_known g.V.Known.is_known g.K.Fixed.SIZE g.V.Fixed.SIZE g.R.Receipt.keeps i.shape i.begin i.closed i.frozen _ _ _ c.put_record.new.frames c.self-1.given.0 (i.text.0.0 ++ e ∷ []) tail l
 
 pub returns-clause-appended : goal.returns-clause-appended
 returns-clause-appended g c =
@@ -58,9 +58,9 @@ returns-clause-appended g c =
     let bad : true ≡ false = sym yes ∙ c.if-is_full.false in cc) in
     let sound = sound_record g.K.Known.is_known g.V.Known.is_known i.tail c.args.previous c.args.key c.args.value below (rw (← c.self.view_is) at c.requires.previous) c.put_record.ensures.key c.put_record.ensures.value in
     let e : Entry g.row.K.Denot g.row.V.Denot = record { address = i.tail; previous = c.args.previous; key = c.args.key; value = c.args.value } in
-    let p = append_puts g.K.Fixed.bytes_of g.V.Fixed.bytes_of g.K.Known.is_known g.V.Known.is_known g.K.Fixed.SIZE g.V.Fixed.SIZE g.D.Disk.keeps i.shape i.begin i.closed i.frozen i.tail _ i.frames c.put_record.new.frames _ i.text.0.0 _ _ c.self.invariant page offset free c.put_record.ensures.written in
-    let l = grown g.K.Fixed.bytes_of g.V.Fixed.bytes_of g.K.Known.is_known g.V.Known.is_known g.K.Fixed.SIZE g.V.Fixed.SIZE g.D.Disk.keeps i.shape i.begin i.closed i.frozen i.tail _ i.frames c.put_record.new.frames _ i.text.0.0 e c.self.invariant below refl p c.put_record.ensures.sized sound c.put_record.ensures.spells in
+    let p = append_puts g.K.Fixed.bytes_of g.V.Fixed.bytes_of g.K.Known.is_known g.V.Known.is_known g.K.Fixed.SIZE g.V.Fixed.SIZE g.R.Receipt.keeps i.shape i.begin i.closed i.frozen i.tail _ i.frames c.put_record.new.frames _ i.text.0.0 _ _ c.self.invariant page offset free c.put_record.ensures.written in
+    let l = grown g.K.Fixed.bytes_of g.V.Fixed.bytes_of g.K.Known.is_known g.V.Known.is_known g.K.Fixed.SIZE g.V.Fixed.SIZE g.R.Receipt.keeps i.shape i.begin i.closed i.frozen i.tail _ i.frames c.put_record.new.frames _ i.text.0.0 e c.self.invariant below refl p c.put_record.ensures.sized sound c.put_record.ensures.spells in
     let tail = tail_is i.shape.page_bits i.shape.record_size i.tail _ _ c.unwrap_or-self-inside.ensures c.next_place.ensures.value in
-    let waits = put_waiting g.K.Fixed.bytes_of g.V.Fixed.bytes_of g.K.Known.is_known g.V.Known.is_known g.K.Fixed.SIZE g.V.Fixed.SIZE g.D.Disk.keeps i.shape i.begin i.closed i.frozen i.tail _ i.frames c.put_record.new.frames _ i.text.0.0 i.tail c.self.invariant c.self.invariant.ordered.frozen_tail p in
-    rw (← c.self.view_is) (view_at g.K.Fixed.bytes_of g.V.Fixed.bytes_of g.K.Known.is_known g.V.Known.is_known g.K.Fixed.SIZE g.V.Fixed.SIZE g.D.Disk.keeps i.shape i.begin i.closed i.frozen i.tail _ _ _ i.frames c.put_record.new.frames c.self-1.given.0 i.text.0.0 e refl
+    let waits = put_waiting g.K.Fixed.bytes_of g.V.Fixed.bytes_of g.K.Known.is_known g.V.Known.is_known g.K.Fixed.SIZE g.V.Fixed.SIZE g.R.Receipt.keeps i.shape i.begin i.closed i.frozen i.tail _ i.frames c.put_record.new.frames _ i.text.0.0 i.tail c.self.invariant c.self.invariant.ordered.frozen_tail p in
+    rw (← c.self.view_is) (view_at g.K.Fixed.bytes_of g.V.Fixed.bytes_of g.K.Known.is_known g.V.Known.is_known g.K.Fixed.SIZE g.V.Fixed.SIZE g.R.Receipt.keeps i.shape i.begin i.closed i.frozen i.tail _ _ _ i.frames c.put_record.new.frames c.self-1.given.0 i.text.0.0 e refl
     c.self.invariant.size tail p.count_same waits l)

@@ -21,7 +21,7 @@ loop-address-init g c =
     )
 
 pub look_at-requires-clause-there : goal.look_at-requires-clause-there
-look_at-requires-clause-there g c κs within =
+look_at-requires-clause-there g c =
     let i = c.loop-address.invariant in
     let s = stands_at c.args.head c.args.self.now.text c.loop-address.address i.0 c.known.ensures.rising i.1.0 c.loop-address-test.true in
     rw s.here refl
@@ -30,8 +30,8 @@ pub returns-in-Ok : goal.returns-in-Ok
 returns-in-Ok g c = λ es h.
     let i = c.loop-address.invariant in
     let s = stands_at c.args.head c.args.self.now.text c.loop-address.address i.0 c.known.ensures.rising i.1.0 c.loop-address-test.true in
-    let ord = g.met.K.Ord g.world.𝓛 g.world.𝓜 g.world.𝓡 ((λ s x. x), (λ x. x), (λ x. x), λ x. x) in
-    let known = g.met.K.Known g.world.𝓛 g.world.𝓜 g.world.𝓡 ((λ s x. x), (λ x. x), (λ x. x), λ x. x) in
+    let ord = g.met.K.Ord in
+    let known = g.met.K.FixedKey in
     let order = key_order g.K.PartialEq.eq g.K.Ord.cmp ord.matches_eq known.exact ord.total in
     let met = c.in-Ok.ensures.met in
     let own : has_key g.K.Ord.cmp c.args.key.now c.in-Ok.entry ≡ true = ap (λ q. is_at (g.K.Ord.cmp q) c.args.key.now) met.1 ∙ order.self c.args.key.now in
@@ -43,8 +43,8 @@ loop-address-preserved g c =
     let at = c.loop-address.address in
     let i = c.loop-address.invariant in
     let s = stands_at c.args.head text at i.0 c.known.ensures.rising i.1.0 c.loop-address-test.true in
-    let ord = g.met.K.Ord g.world.𝓛 g.world.𝓜 g.world.𝓡 ((λ s x. x), (λ x. x), (λ x. x), λ x. x) in
-    let known = g.met.K.Known g.world.𝓛 g.world.𝓜 g.world.𝓡 ((λ s x. x), (λ x. x), (λ x. x), λ x. x) in
+    let ord = g.met.K.Ord in
+    let known = g.met.K.FixedKey in
     let order = key_order g.K.PartialEq.eq g.K.Ord.cmp ord.matches_eq known.exact ord.total in
     let passed = if_is (entry_at text at) (λ e. (e.key ≡ c.args.key.now → ⊥) × (e.previous ≡ c.in-Err.previous)) s.entry c.in-Err.ensures.passed s.here in
     let other : has_key g.K.Ord.cmp c.args.key.now s.entry ≡ false = not_true (has_key g.K.Ord.cmp c.args.key.now s.entry) (λ t. passed.0 (order.same s.entry.key c.args.key.now t)) in (

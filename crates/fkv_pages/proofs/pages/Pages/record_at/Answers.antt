@@ -8,7 +8,7 @@ pub record_of-requires-clause-stands : goal.record_of-requires-clause-stands
 record_of-requires-clause-stands g c =
     let f = some_is (entry_at c.args.self.now.text c.args.address) c.requires.there in
     let h = if_is (entry_at c.args.self.now.text c.args.address) (IsIn g.K.Fixed.bytes_of g.V.Fixed.bytes_of g.K.Known.is_known g.V.Known.is_known g.K.Fixed.SIZE g.V.Fixed.SIZE c.args.address c.bytes_at.result.now) f.0 c.bytes_at.ensures.spelled f.1 in
-    λ κs lives. (c.args.address, record_of f.0, h.sound, h.spells)
+    (c.args.address, record_of f.0, h.sound, h.spells)
 
 pub returns-clause-entry : goal.returns-clause-entry
 returns-clause-entry g c =

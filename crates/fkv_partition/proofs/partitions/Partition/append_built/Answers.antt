@@ -10,12 +10,12 @@ use Rattle.fkv_partition.proofs.EventLemmas.{question-of, question-quiet, kept-e
 use Rattle.fkv_partition.proofs.partitions.Partition.append_built.Goals as goal
 
 pub append-requires-clause-unclaimed : goal.append-requires-clause-unclaimed
-append-requires-clause-unclaimed g c κs within =
+append-requires-clause-unclaimed g c =
     let a = c.requires.asks in
     claims-none c.args.self.now c.args.slot c.args.context a.operation a.here (question-quiet a.operation c.args.kept c.args.built a.question)
 
 pub append-requires-clause-write : goal.append-requires-clause-write
-append-requires-clause-write g c κs within =
+append-requires-clause-write g c =
     let a = c.requires.asks in
     let x = a.operation in
     let asked = question-of x.number x.op x.phase c.args.kept c.args.built a.question in
@@ -53,8 +53,8 @@ returns-in-Ok-Some-clause-does g c =
 
 pub returns-in-Ok-Some-clause-event : goal.returns-in-Ok-Some-clause-event
 returns-in-Ok-Some-clause-event g c = λ keeps.
-    let ord = g.met.F.Key.Ord g.world.𝓛 g.world.𝓜 g.world.𝓡 ((λ s x. x), (λ x. x), (λ x. x), λ x. x) in
-    let known = g.met.F.Key.Known g.world.𝓛 g.world.𝓜 g.world.𝓡 ((λ s x. x), (λ x. x), (λ x. x), λ x. x) in
+    let ord = g.met.F.Key.Ord in
+    let known = g.met.F.Key.FixedKey in
     let order = key_order g.F.Key.PartialEq.eq g.F.Key.Ord.cmp ord.matches_eq known.exact ord.total in
     let a = c.requires.asks in
     let v = c.args.self.now in
@@ -62,8 +62,8 @@ returns-in-Ok-Some-clause-event g c = λ keeps.
     let kept = c.args.kept in
     let made = rw c.in-Ok-Some.field-0-is at c.in-Ok-Some.ensures.ok in
     let entry = kept-entry g.F.Key.Ord.cmp g.F.Functions.code v c.known.ensures c.args.slot c.args.context a.operation kept ask a.here a.question c.requires.stands in
-    let leads = c.entries_lead.ensures.found g.D.Disk.keeps g.F.Functions.code v.records (class_in g.F.Functions.code v.records ask.key) kept c.known.ensures.traced entry in
-    let newest = c.entries_lead.ensures.held g.F.Key.Ord.cmp g.D.Disk.keeps g.F.Functions.code v.records ask.key (address_of kept.word) order c.known.ensures.traced leads in
+    let leads = c.entries_lead.ensures.found g.R.Receipt.keeps g.F.Functions.code v.records (class_in g.F.Functions.code v.records ask.key) kept c.known.ensures.traced entry in
+    let newest = c.entries_lead.ensures.held g.F.Key.Ord.cmp g.R.Receipt.keeps g.F.Functions.code v.records ask.key (address_of kept.word) order c.known.ensures.traced leads in
     rw (made, c.read-shown.ensures, c.value-value.ensures, c.ask-ask.ensures)
     (event-done g.F.Key.Ord.cmp g.F.Functions.meaning g.F.Functions.code v c.args.slot c.args.context c.args.now a.operation a.here keeps c.known.ensures kept ask a.question c.requires.stands newest
     (c.records_grow.ensures.lives g.F.Key.Ord.cmp v.records kept ask.key))

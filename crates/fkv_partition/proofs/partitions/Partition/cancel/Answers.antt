@@ -4,8 +4,8 @@ use Rattle.fkv_partition.specs.Inside.{view_of}
 use Rattle.fkv_partition.proofs.ChangeLemmas.{is-tentative, released-made, sound-cancels, reworded-released}
 use Rattle.fkv_partition.proofs.partitions.Partition.cancel.Goals as goal
 
-pub cancel-requires-after_bounds : goal.cancel-requires-after_bounds
-cancel-requires-after_bounds g c κs within =
+pub cancel-requires : goal.cancel-requires
+cancel-requires g c =
     let x = c.args.operation.now in
     let at : context_in c.self.inside.records.regions.epochs.slots c.self.inside.contexts.items c.args.slot c.args.context ≡ Some x = rw (← c.self.view_is) at c.requires.here in
     is-tentative g.F.Key.Ord.cmp g.F.Functions.code (view_of c.self.inside.number c.self.inside.count c.self.inside.records c.self.inside.contexts.items c.self.inside.moment) c.self.invariant c.args.slot c.args.context c.args.now x at c.args.place c.requires.phase

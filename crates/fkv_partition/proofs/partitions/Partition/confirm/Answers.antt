@@ -6,8 +6,8 @@ use Rattle.fkv_partition.proofs.ChangeLemmas.{is-tentative, settled-made, sound-
 use Rattle.fkv_partition.proofs.AskedLemmas.{open_at}
 use Rattle.fkv_partition.proofs.partitions.Partition.confirm.Goals as goal
 
-pub confirm-is_final-requires-after_bounds : goal.confirm-is_final-requires-after_bounds
-confirm-is_final-requires-after_bounds g c κs within =
+pub confirm-is_final-requires : goal.confirm-is_final-requires
+confirm-is_final-requires g c =
     let x = c.args.operation.now in
     let at : context_in c.self.inside.records.regions.epochs.slots c.self.inside.contexts.items c.args.slot c.args.context ≡ Some x = rw (← c.self.view_is) at c.requires.here in
     is-tentative g.F.Key.Ord.cmp g.F.Functions.code (view_of c.self.inside.number c.self.inside.count c.self.inside.records c.self.inside.contexts.items c.self.inside.moment) c.self.invariant c.args.slot c.args.context c.args.now x at c.args.place c.requires.phase

@@ -21,4 +21,4 @@ returns-clause-does g c =
 pub returns-clause-event : goal.returns-clause-event
 returns-clause-event g c =
     let made = c.in-Ok.ensures in
-    rw (made.done, ← c.self.view_is) (event-flushed g.D.Disk.keeps _ _ c.args.now)
+    rw (made.done, ← c.self.view_is) (event-flushed g.R.Receipt.keeps _ _ c.args.now)

@@ -5,7 +5,7 @@ use Rattle.fkv_partition.proofs.EventLemmas.{event-give_up, claims-none, confirm
 use Rattle.fkv_partition.proofs.partitions.Partition.give_up.Goals as goal
 
 pub cancel-requires-clause-phase : goal.cancel-requires-clause-phase
-cancel-requires-clause-phase g c κs within = confirm-by c.in-Some.open.phase c.in-Some-claim_of.place (sym c.in-Some-claim_of.ensures)
+cancel-requires-clause-phase g c = confirm-by c.in-Some.open.phase c.in-Some-claim_of.place (sym c.in-Some-claim_of.ensures)
 
 pub returns-in-Some-claim_of-clause-does : goal.returns-in-Some-claim_of-clause-does
 returns-in-Some-claim_of-clause-does g c =
@@ -18,7 +18,7 @@ returns-in-Some-claim_of-clause-event g c =
     rw c.cancel.ensures (event-give_up v c.args.slot c.args.context c.args.now c.in-Some.open (released v.records c.in-Some-claim_of.place) (sym c.in-Some.ensures.value) refl refl refl)
 
 pub free-requires-clause-unclaimed : goal.free-requires-clause-unclaimed
-free-requires-clause-unclaimed g c κs within =
+free-requires-clause-unclaimed g c =
     claims-none c.args.self.now c.args.slot c.args.context c.in-Some.open (sym c.in-Some.ensures.value) (sym c.in_default-claim_of.ensures)
 
 pub returns-clause-does : goal.returns-clause-does

@@ -16,14 +16,14 @@ returns-then-not-is-clause-does g c =
     rw c.ask-ask.ensures (stranger c.in-Some.open q.0 q.1 (sym c.in-Some.ensures.value) (sym c.in-Some-question_of.ensures)
     (λ e. let yes = c.is.ensures.1 (c.ask-ask.ensures ∙ e) in let no : false ≡ true = sym c.if-not-is.true ∙ yes in cc) refl refl)
 
-pub holds-requires-after_bounds : goal.holds-requires-after_bounds
-holds-requires-after_bounds g c κs within =
+pub holds-requires : goal.holds-requires
+holds-requires g c =
     let q = c.in-Some-question_of.question in
     let at : context_in c.self.inside.records.regions.epochs.slots c.self.inside.contexts.items c.args.slot c.args.context ≡ Some c.in-Some.open = rw (← c.self.view_is) at (sym c.in-Some.ensures.value) in
     (kept-at g.F.Key.Ord.cmp g.F.Functions.code (view_of c.self.inside.number c.self.inside.count c.self.inside.records c.self.inside.contexts.items c.self.inside.moment) c.self.invariant c.args.slot c.args.context c.in-Some.open q.0 q.1 at (sym c.in-Some-question_of.ensures)).entry.place
 
 pub set_phase-requires-clause-unclaimed : goal.set_phase-requires-clause-unclaimed
-set_phase-requires-clause-unclaimed g c κs within =
+set_phase-requires-clause-unclaimed g c =
     let q = c.in-Some-question_of.question in
     question-quiet c.in-Some.open q.0 q.1 (sym c.in-Some-question_of.ensures)
 
@@ -41,7 +41,7 @@ returns-then-not-holds-clause-event g c = λ keeps.
     (event-next g.F.Key.Ord.cmp g.F.Functions.meaning g.F.Functions.code v c.args.slot c.args.context c.args.now c.in-Some.open (sym c.in-Some.ensures.value) Fresh v.records refl refl refl)
 
 pub append_built-requires-clause-asks : goal.append_built-requires-clause-asks
-append_built-requires-clause-asks g c κs within =
+append_built-requires-clause-asks g c =
     let q = c.in-Some-question_of.question in
     record {
       operation = c.in-Some.open;
@@ -50,7 +50,7 @@ append_built-requires-clause-asks g c κs within =
     }
 
 pub append_built-requires-clause-stands : goal.append_built-requires-clause-stands
-append_built-requires-clause-stands g c κs within =
+append_built-requires-clause-stands g c =
     let q = c.in-Some-question_of.question in
     ap (λ v. word_at v.records.words q.0.place) (sym c.self.view_is) ∙ c.holds.ensures.0 c.if-not-holds.false
 

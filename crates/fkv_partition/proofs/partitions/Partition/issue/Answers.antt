@@ -24,13 +24,13 @@ returns-in_default-clause-does g c =
     full inside own (sym c.in_default.ensures.value) refl refl
 
 pub start-requires-clause-entered : goal.start-requires-clause-entered
-start-requires-clause-entered g c κs within = sym c.is_session.ensures.value ∙ c.if-not-is_session.false
+start-requires-clause-entered g c = sym c.is_session.ensures.value ∙ c.if-not-is_session.false
 
 pub start-requires-clause-unclaimed : goal.start-requires-clause-unclaimed
-start-requires-clause-unclaimed g c κs within = free-claims c.args.self.now c.args.slot c.in-Some.context (sym c.in-Some.ensures.value)
+start-requires-clause-unclaimed g c = free-claims c.args.self.now c.args.slot c.in-Some.context (sym c.in-Some.ensures.value)
 
 pub start-requires-clause-own : goal.start-requires-clause-own
-start-requires-clause-own g c κs within =
+start-requires-clause-own g c =
     let number : c.self.inside.number ≡ c.args.self.now.number = ap (λ v. v.number) c.self.view_is in
     let came : c.home-came.result ≡ partition_of c.args.self.now.count (g.F.Functions.code (key_of c.args.op)) = c.home-came.ensures ∙ ap (λ k. partition_of c.args.self.now.count (g.F.Functions.code k)) c.key.ensures in
     sym came ∙ c.if-came-self.false ∙ number

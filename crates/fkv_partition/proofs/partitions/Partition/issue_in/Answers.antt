@@ -14,13 +14,13 @@ returns-then-home-self-clause-does g c =
     rw (number, home) (IssuesIn.stranger (λ e. c.if-home-self.true (home ∙ e ∙ sym number)) refl refl)
 
 pub start-requires-clause-unclaimed : goal.start-requires-clause-unclaimed
-start-requires-clause-unclaimed g c κs within =
+start-requires-clause-unclaimed g c =
     let v = c.args.self.now in
     let low = c.is_session-entered.ensures.within (c.is_session-entered.ensures.value ∙ c.requires.entered) in
     ap (λ o. claim_of (joined o)) (free-here (slots_of v) v.contexts c.args.slot c.args.context c.known.ensures.places low c.requires.context c.requires.entered c.requires.free)
 
 pub start-requires-clause-own : goal.start-requires-clause-own
-start-requires-clause-own g c κs within =
+start-requires-clause-own g c =
     let number : c.self.inside.number ≡ c.args.self.now.number = ap (λ v. v.number) c.self.view_is in
     let home : c.home-home.result ≡ partition_of c.args.self.now.count (g.F.Functions.code (key_of c.args.op)) = c.home-home.ensures ∙ ap (λ k. partition_of c.args.self.now.count (g.F.Functions.code k)) c.key.ensures in
     sym home ∙ c.if-home-self.false ∙ number

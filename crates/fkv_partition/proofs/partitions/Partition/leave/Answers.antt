@@ -10,11 +10,11 @@ pub returns-in-Some-clause-does : goal.returns-in-Some-clause-does
 returns-in-Some-clause-does g c = busy c.in-Some._open (sym c.is_session.ensures.value ∙ c.if-not-is_session.false) (sym c.in-Some.ensures) refl refl
 
 pub vacate-requires-clause-entered : goal.vacate-requires-clause-entered
-vacate-requires-clause-entered g c κs within = sym c.is_session.ensures.value ∙ c.if-not-is_session.false
+vacate-requires-clause-entered g c = sym c.is_session.ensures.value ∙ c.if-not-is_session.false
 
 pub returns-clause-does : goal.returns-clause-does
 returns-clause-does g c = leaves (sym c.is_session.ensures.value ∙ c.if-not-is_session.false) (sym c.in_default.ensures) c.vacate.ensures refl
 
 pub returns-clause-event : goal.returns-clause-event
 returns-clause-event g c =
-    rw c.vacate.ensures.is (event-moved g.D.Disk.keeps c.args.self.now _ _ c.args.now c.vacate.ensures.moves (left-same c.args.self.now c.args.slot (sym c.in_default.ensures)))
+    rw c.vacate.ensures.is (event-moved g.R.Receipt.keeps c.args.self.now _ _ c.args.now c.vacate.ensures.moves (left-same c.args.self.now c.args.slot (sym c.in_default.ensures)))

@@ -20,8 +20,8 @@ returns-clause-rising g c =
 
 pub returns-clause-own : goal.returns-clause-own
 returns-clause-own g c = λ keeps.
-    let ord = g.met.F.Key.Ord g.world.𝓛 g.world.𝓜 g.world.𝓡 ((λ s x. x), (λ x. x), (λ x. x), λ x. x) in
-    let known = g.met.F.Key.Known g.world.𝓛 g.world.𝓜 g.world.𝓡 ((λ s x. x), (λ x. x), (λ x. x), λ x. x) in
+    let ord = g.met.F.Key.Ord in
+    let known = g.met.F.Key.FixedKey in
     let order = key_order g.F.Key.PartialEq.eq g.F.Key.Ord.cmp ord.matches_eq known.exact ord.total in
     rw (← c.self.view_is) (IfOk-weaker c.pairs_of.result (λ v. v.items ≡ c.put_live.new.map.entries) _
     (λ v h. rw h (listed-keys g.F.Key.Ord.cmp order (λ k. partition_of c.self.inside.count (g.F.Functions.code k) ≡ c.self.inside.number) ord.total c.self.inside.records.text c.put_live.new.map.entries c.self.invariant.routed

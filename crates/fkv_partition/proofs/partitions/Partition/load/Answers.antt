@@ -15,7 +15,7 @@ returns-then-loading-begin-clause-does g c =
     rw c.set_phase.ensures (Loads.moved c.in-Some.open l (sym c.in-Some.ensures.value) (loading-is c.in-Some.open.phase l (sym c.in-Some-loading_of.ensures)) (λ e. c.if-loading-begin.true (e ∙ sym begins)) refl refl)
 
 pub look_on-requires-clause-awaits : goal.look_on-requires-clause-awaits
-look_on-requires-clause-awaits g c κs within = record {
+look_on-requires-clause-awaits g c = record {
   here = sym c.in-Some.ensures.value;
   loading = loading-is c.in-Some.open.phase c.in-Some-loading_of.loading (sym c.in-Some-loading_of.ensures);
   begin = c.if-loading-begin.false ∙ c.begin.ensures ∙ ap (λ u. u.records.begin) c.self.view_is;
@@ -32,7 +32,7 @@ returns-then-is_no_memory-clause-does g c =
     Loads.unread c.in-Some.open c.in-Some-loading_of.loading a (c.in-Err.is ∙ ap Err is) refl (ap Err is)
 
 pub free-requires-clause-unclaimed : goal.free-requires-clause-unclaimed
-free-requires-clause-unclaimed g c κs within =
+free-requires-clause-unclaimed g c =
     claims-none c.args.self.now c.args.slot c.args.context c.in-Some.open (sym c.in-Some.ensures.value) (ap claim_by (loading-is c.in-Some.open.phase c.in-Some-loading_of.loading (sym c.in-Some-loading_of.ensures)))
 
 pub returns-else-is_no_memory-clause-does : goal.returns-else-is_no_memory-clause-does

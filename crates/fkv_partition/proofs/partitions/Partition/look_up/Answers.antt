@@ -11,7 +11,7 @@ use Rattle.fkv_partition.proofs.EventLemmas.{decides-at, event-quiet, event-clai
 use Rattle.fkv_partition.proofs.partitions.Partition.look_up.Goals as goal
 
 pub free-requires-clause-unclaimed : goal.free-requires-clause-unclaimed
-free-requires-clause-unclaimed g c κs within = claims-none c.args.self.now c.args.slot c.args.context c.args.operation.now c.requires.here c.requires.unclaimed
+free-requires-clause-unclaimed g c = claims-none c.args.self.now c.args.slot c.args.context c.args.operation.now c.requires.here c.requires.unclaimed
 
 pub returns-in-Done-clause-does : goal.returns-in-Done-clause-does
 returns-in-Done-clause-does g c =
@@ -21,17 +21,17 @@ returns-in-Done-clause-does g c =
 
 pub returns-in-Done-clause-event : goal.returns-in-Done-clause-event
 returns-in-Done-clause-event g c =
-    let ord = g.met.F.Key.Ord g.world.𝓛 g.world.𝓜 g.world.𝓡 ((λ s x. x), (λ x. x), (λ x. x), λ x. x) in
-    let known = g.met.F.Key.Known g.world.𝓛 g.world.𝓜 g.world.𝓡 ((λ s x. x), (λ x. x), (λ x. x), λ x. x) in
+    let ord = g.met.F.Key.Ord in
+    let known = g.met.F.Key.FixedKey in
     let order = key_order g.F.Key.PartialEq.eq g.F.Key.Ord.cmp ord.matches_eq known.exact ord.total in
     let v = c.args.self.now in
     let x = c.args.operation.now in
     rw c.free.ensures
     (event-quiet g.F.Key.Ord.cmp g.F.Functions.meaning g.F.Functions.code v c.args.slot c.args.context c.args.now x c.requires.here order
-    (c.meetings_tell.ensures.held g.D.Disk.keeps g.F.Key.Ord.cmp g.F.Functions.code v.records (key_of x.op) c.args.slot order c.known.ensures.traced (open_at (slots_of v) v.contexts c.args.slot c.args.context x c.requires.here).inside) c.in-Done.answer (sym c.decided.ensures ∙ c.in-Done.is))
+    (c.meetings_tell.ensures.held g.R.Receipt.keeps g.F.Key.Ord.cmp g.F.Functions.code v.records (key_of x.op) c.args.slot order c.known.ensures.traced (open_at (slots_of v) v.contexts c.args.slot c.args.context x c.requires.here).inside) c.in-Done.answer (sym c.decided.ensures ∙ c.in-Done.is))
 
 pub claim-requires-clause-class : goal.claim-requires-clause-class
-claim-requires-clause-class g c κs within = c.find-entry.ensures.class ∙ ap (class_in g.F.Functions.code c.args.self.now.records) c.key-key.ensures
+claim-requires-clause-class g c = c.find-entry.ensures.class ∙ ap (class_in g.F.Functions.code c.args.self.now.records) c.key-key.ensures
 
 pub returns-in_default-clause-does : goal.returns-in_default-clause-does
 returns-in_default-clause-does g c =
@@ -50,7 +50,7 @@ returns-in-Ok-clause-event g c =
     event-claims g.F.Key.Ord.cmp g.F.Functions.meaning g.F.Functions.code c.args.self.now c.args.slot c.args.context c.args.now c.args.operation.now c.requires.here _ c.in-Ok.ensures.ok
 
 pub write-requires-clause-decided : goal.write-requires-clause-decided
-write-requires-clause-decided g c κs within =
+write-requires-clause-decided g c =
     let x = c.args.operation.now in
     record {
       operation = x;
@@ -59,7 +59,7 @@ write-requires-clause-decided g c κs within =
     }
 
 pub rewrite-requires-clause-decided : goal.rewrite-requires-clause-decided
-rewrite-requires-clause-decided g c κs within =
+rewrite-requires-clause-decided g c =
     let x = c.args.operation.now in
     decides-at g.F.Key.Ord.cmp g.F.Functions.meaning g.F.Functions.code _ c.args.slot c.args.context c.args.now x c.requires.here c.known.ensures c.requires.asks_nothing c.requires.unclaimed c.requires.unloading _ _ c.decided.ensures c.in-Replace.is
 
@@ -74,30 +74,30 @@ returns-in-Wait-clause-event g c =
     rw c.pass.ensures (event-waits g.F.Key.Ord.cmp g.F.Functions.meaning g.F.Functions.code c.args.self.now c.args.slot c.args.context c.args.now c.args.operation.now c.requires.here Fuzzy)
 
 pub ask_page-requires-clause-decided : goal.ask_page-requires-clause-decided
-ask_page-requires-clause-decided g c κs within =
+ask_page-requires-clause-decided g c =
     let x = c.args.operation.now in
     decides-at g.F.Key.Ord.cmp g.F.Functions.meaning g.F.Functions.code _ c.args.slot c.args.context c.args.now x c.requires.here c.known.ensures c.requires.asks_nothing c.requires.unclaimed c.requires.unloading _ _ c.decided.ensures c.in-Load.is
 
 pub rewrite-requires-clause-last : goal.rewrite-requires-clause-last
-rewrite-requires-clause-last g c κs within =
-    let ord = g.met.F.Key.Ord g.world.𝓛 g.world.𝓜 g.world.𝓡 ((λ s x. x), (λ x. x), (λ x. x), λ x. x) in
-    let known = g.met.F.Key.Known g.world.𝓛 g.world.𝓜 g.world.𝓡 ((λ s x. x), (λ x. x), (λ x. x), λ x. x) in
+rewrite-requires-clause-last g c =
+    let ord = g.met.F.Key.Ord in
+    let known = g.met.F.Key.FixedKey in
     let order = key_order g.F.Key.PartialEq.eq g.F.Key.Ord.cmp ord.matches_eq known.exact ord.total in
     let v = c.args.self.now in
     let x = c.args.operation.now in
-    let m = replaced-at g.F.Key.Ord.cmp g.F.Functions.meaning g.F.Functions.code v c.args.slot x.op c.in-Replace.value c.in-Replace.answer (λ w. c.meetings_tell.ensures.mutable g.D.Disk.keeps g.F.Key.Ord.cmp g.F.Functions.code v.records (key_of x.op) c.args.slot w order c.known.ensures.traced (open_at (slots_of v) v.contexts c.args.slot c.args.context x c.requires.here).inside) (sym c.decided.ensures ∙ c.in-Replace.is) in
+    let m = replaced-at g.F.Key.Ord.cmp g.F.Functions.meaning g.F.Functions.code v c.args.slot x.op c.in-Replace.value c.in-Replace.answer (λ w. c.meetings_tell.ensures.mutable g.R.Receipt.keeps g.F.Key.Ord.cmp g.F.Functions.code v.records (key_of x.op) c.args.slot w order c.known.ensures.traced (open_at (slots_of v) v.contexts c.args.slot c.args.context x c.requires.here).inside) (sym c.decided.ensures ∙ c.in-Replace.is) in
     let came = rw c.key-key.ensures at c.reach-reached.ensures in
     let same = found-same c.in-Found.last m.1.entry (sym c.in-Found.is ∙ came ∙ reached-is g.F.Key.Ord.cmp g.F.Functions.meaning g.F.Functions.code v c.args.slot (key_of x.op) m.0 m.1) in
     rw same m.1.last
 
 pub rewrite-requires-clause-stands : goal.rewrite-requires-clause-stands
-rewrite-requires-clause-stands g c κs within =
-    let ord = g.met.F.Key.Ord g.world.𝓛 g.world.𝓜 g.world.𝓡 ((λ s x. x), (λ x. x), (λ x. x), λ x. x) in
-    let known = g.met.F.Key.Known g.world.𝓛 g.world.𝓜 g.world.𝓡 ((λ s x. x), (λ x. x), (λ x. x), λ x. x) in
+rewrite-requires-clause-stands g c =
+    let ord = g.met.F.Key.Ord in
+    let known = g.met.F.Key.FixedKey in
     let order = key_order g.F.Key.PartialEq.eq g.F.Key.Ord.cmp ord.matches_eq known.exact ord.total in
     let v = c.args.self.now in
     let x = c.args.operation.now in
-    let m = replaced-at g.F.Key.Ord.cmp g.F.Functions.meaning g.F.Functions.code v c.args.slot x.op c.in-Replace.value c.in-Replace.answer (λ w. c.meetings_tell.ensures.mutable g.D.Disk.keeps g.F.Key.Ord.cmp g.F.Functions.code v.records (key_of x.op) c.args.slot w order c.known.ensures.traced (open_at (slots_of v) v.contexts c.args.slot c.args.context x c.requires.here).inside) (sym c.decided.ensures ∙ c.in-Replace.is) in
+    let m = replaced-at g.F.Key.Ord.cmp g.F.Functions.meaning g.F.Functions.code v c.args.slot x.op c.in-Replace.value c.in-Replace.answer (λ w. c.meetings_tell.ensures.mutable g.R.Receipt.keeps g.F.Key.Ord.cmp g.F.Functions.code v.records (key_of x.op) c.args.slot w order c.known.ensures.traced (open_at (slots_of v) v.contexts c.args.slot c.args.context x c.requires.here).inside) (sym c.decided.ensures ∙ c.in-Replace.is) in
     let came = rw c.key-key.ensures at c.reach-reached.ensures in
     let same = found-same c.in-Found.last m.1.entry (sym c.in-Found.is ∙ came ∙ reached-is g.F.Key.Ord.cmp g.F.Functions.meaning g.F.Functions.code v c.args.slot (key_of x.op) m.0 m.1) in
     rw same m.1.stands

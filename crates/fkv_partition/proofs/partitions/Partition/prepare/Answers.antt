@@ -13,12 +13,12 @@ use Rattle.fkv_partition.proofs.EventLemmas.{asks-rmw, prepared-stands, event-pr
 use Rattle.fkv_partition.proofs.partitions.Partition.prepare.Goals as goal
 
 pub set_phase-requires-clause-unclaimed : goal.set_phase-requires-clause-unclaimed
-set_phase-requires-clause-unclaimed g c κs within = ap claim_by c.requires.decided.fresh
+set_phase-requires-clause-unclaimed g c = ap claim_by c.requires.decided.fresh
 
 pub set_phase-requires-clause-stands : goal.set_phase-requires-clause-stands
-set_phase-requires-clause-stands g c κs within =
-    let ord = g.met.F.Key.Ord g.world.𝓛 g.world.𝓜 g.world.𝓡 ((λ s x. x), (λ x. x), (λ x. x), λ x. x) in
-    let known = g.met.F.Key.Known g.world.𝓛 g.world.𝓜 g.world.𝓡 ((λ s x. x), (λ x. x), (λ x. x), λ x. x) in
+set_phase-requires-clause-stands g c =
+    let ord = g.met.F.Key.Ord in
+    let known = g.met.F.Key.FixedKey in
     let order = key_order g.F.Key.PartialEq.eq g.F.Key.Ord.cmp ord.matches_eq known.exact ord.total in
     let v = c.args.self.now in
     let x = c.args.operation.now in
@@ -26,13 +26,13 @@ set_phase-requires-clause-stands g c κs within =
     let class = class_in g.F.Functions.code v.records (key_of x.op) in
     let a = address_of c.args.kept.word in
     let inside = (open_at (slots_of v) v.contexts c.args.slot c.args.context x d.here).inside in
-    let leads = c.entries_lead.ensures.found g.D.Disk.keeps g.F.Functions.code v.records class c.args.kept c.known.ensures.traced c.requires.stands in
-    let held = c.meetings_tell.ensures.held g.D.Disk.keeps g.F.Key.Ord.cmp g.F.Functions.code v.records (key_of x.op) c.args.slot order c.known.ensures.traced inside in
-    prepared-stands g.F.Key.Ord.cmp g.F.Functions.meaning g.F.Functions.code v c.args.slot c.args.context c.args.now x d.here g.D.Disk.keeps c.args.kept c.args.ask.source c.args.ask.input
+    let leads = c.entries_lead.ensures.found g.R.Receipt.keeps g.F.Functions.code v.records class c.args.kept c.known.ensures.traced c.requires.stands in
+    let held = c.meetings_tell.ensures.held g.R.Receipt.keeps g.F.Key.Ord.cmp g.F.Functions.code v.records (key_of x.op) c.args.slot order c.known.ensures.traced inside in
+    prepared-stands g.F.Key.Ord.cmp g.F.Functions.meaning g.F.Functions.code v c.args.slot c.args.context c.args.now x d.here g.R.Receipt.keeps c.args.kept c.args.ask.source c.args.ask.input
     c.requires.stands
-    (c.entries_lead.ensures.low g.D.Disk.keeps g.F.Functions.code v.records class a c.known.ensures.traced leads)
-    (c.entries_lead.ensures.held g.F.Key.Ord.cmp g.D.Disk.keeps g.F.Functions.code v.records (key_of x.op) a order c.known.ensures.traced leads)
-    (c.meetings_tell.ensures.still g.D.Disk.keeps g.F.Key.Ord.cmp g.F.Functions.code v.records (key_of x.op) c.args.slot order c.known.ensures.traced inside
+    (c.entries_lead.ensures.low g.R.Receipt.keeps g.F.Functions.code v.records class a c.known.ensures.traced leads)
+    (c.entries_lead.ensures.held g.F.Key.Ord.cmp g.R.Receipt.keeps g.F.Functions.code v.records (key_of x.op) a order c.known.ensures.traced leads)
+    (c.meetings_tell.ensures.still g.R.Receipt.keeps g.F.Key.Ord.cmp g.F.Functions.code v.records (key_of x.op) c.args.slot order c.known.ensures.traced inside
     (prepare-met g.F.Functions.meaning x.op (met_at g.F.Key.Ord.cmp g.F.Functions.code v c.args.slot (key_of x.op)) c.args.ask.source c.args.ask.input d.decided))
     held
     d.decided

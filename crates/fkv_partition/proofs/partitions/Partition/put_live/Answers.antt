@@ -14,8 +14,8 @@ returns-clause-live g c = λ keeps.
 
 pub returns-clause-others : goal.returns-clause-others
 returns-clause-others g c = λ keeps.
-    let ord = g.met.F.Key.Ord g.world.𝓛 g.world.𝓜 g.world.𝓡 ((λ s x. x), (λ x. x), (λ x. x), λ x. x) in
-    let known = g.met.F.Key.Known g.world.𝓛 g.world.𝓜 g.world.𝓡 ((λ s x. x), (λ x. x), (λ x. x), λ x. x) in
+    let ord = g.met.F.Key.Ord in
+    let known = g.met.F.Key.FixedKey in
     let order = key_order g.F.Key.PartialEq.eq g.F.Key.Ord.cmp ord.matches_eq known.exact ord.total in
     rw (← c.self.view_is) (on_ok_weaker c.put_live.result
     (λ said k off. said k ∙ said-elsewhere g.F.Key.Ord.cmp (get g.F.Key.Ord.cmp c.args.map.now) c.self.inside.records.text k order

@@ -11,4 +11,4 @@ invariant_of-self g c =
     (rw (← c.self.view_is) at c.requires.unclaimed)
     high
     (rw c.replace.ensures at c.known-2.ensures)
-    (λ q b still. c.records_change.ensures.kept g.F.Key.Ord.cmp g.D.Disk.keeps g.F.Functions.code was c.args.address c.args.value q b c.known.ensures some high still))
+    (λ q b still. c.records_change.ensures.kept g.F.Key.Ord.cmp g.R.Receipt.keeps g.F.Functions.code was c.args.address c.args.value q b c.known.ensures some high still))

@@ -10,4 +10,4 @@ invariant_of-self g c =
     rw c.replace.ensures
     (sound-revalued c.self.invariant c.args.now c.args.address (Some c.args.value) high
     (rw c.replace.ensures at c.known-2.ensures)
-    (λ q b still. c.records_change.ensures.kept g.F.Key.Ord.cmp g.D.Disk.keeps g.F.Functions.code was c.args.address (Some c.args.value) q b c.known.ensures some high still))
+    (λ q b still. c.records_change.ensures.kept g.F.Key.Ord.cmp g.R.Receipt.keeps g.F.Functions.code was c.args.address (Some c.args.value) q b c.known.ensures some high still))

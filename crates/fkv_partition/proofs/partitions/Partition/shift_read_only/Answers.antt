@@ -8,7 +8,7 @@ use Rattle.fkv_partition.proofs.partitions.Partition.shift_read_only.Goals as go
 pub returns-in-Err-clause-does : goal.returns-in-Err-clause-does
 returns-in-Err-clause-does g c =
     let made = c.in-Err.ensures in
-    rw (made.refused, ← c.self.view_is) (shift-refused g.D.Disk.keeps _ c.args.page c.args.now (Err c.in-Err.refused) c.in-Err.refused refl made.not_due made.full made.only)
+    rw (made.refused, ← c.self.view_is) (shift-refused g.R.Receipt.keeps _ c.args.page c.args.now (Err c.in-Err.refused) c.in-Err.refused refl made.not_due made.full made.only)
 
 pub invariant_of-self-2 : goal.invariant_of-self-2
 invariant_of-self-2 g c =
@@ -23,4 +23,4 @@ returns-clause-does g c =
 
 pub returns-clause-event : goal.returns-clause-event
 returns-clause-event g c =
-    rw (← c.self.view_is) (event-moved g.D.Disk.keeps (view_of c.self.inside.number c.self.inside.count c.self.inside.records c.self.inside.contexts.items c.self.inside.moment) c.shift_read_only.new.self _ c.args.now c.in-Ok.ensures.effect (λ t d. refl))
+    rw (← c.self.view_is) (event-moved g.R.Receipt.keeps (view_of c.self.inside.number c.self.inside.count c.self.inside.records c.self.inside.contexts.items c.self.inside.moment) c.shift_read_only.new.self _ c.args.now c.in-Ok.ensures.effect (λ t d. refl))

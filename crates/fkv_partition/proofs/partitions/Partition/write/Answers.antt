@@ -7,7 +7,7 @@ use Rattle.fkv_partition.proofs.EventLemmas.{event-appends, event-waits, claims-
 use Rattle.fkv_partition.proofs.partitions.Partition.write.Goals as goal
 
 pub append-requires-clause-unclaimed : goal.append-requires-clause-unclaimed
-append-requires-clause-unclaimed g c κs within =
+append-requires-clause-unclaimed g c =
     let d = c.requires.decided in
     claims-none c.args.self.now c.args.slot c.args.context d.operation d.decides.here (ap claim_by d.decides.fresh)
 

@@ -4,8 +4,8 @@ use Rattle.fkv_worlds.proofs.states.State.act.Goals as goal
 pub returns-in-Err : goal.returns-in-Err
 returns-in-Err g c = record { does = acts-untimely _ _ g.F.Key.Ord.cmp g.F.Functions.meaning g.F.Functions.code c.args.self.now c.args.step c.in-Err.refused (unasked-none c.args.self.now c.args.step c.in_default.not-Install c.in_default.not-Load c.in_default.not-Write) (rw c.partition.ensures at c.in-Err.ensures.err) }
 
-pub act_at-requires-clause-due : goal.act_at-requires-clause-due
-act_at-requires-clause-due g c κs within = rw c.partition.ensures at c.in-Ok.ensures.ok
+pub act_at-requires : goal.act_at-requires
+act_at-requires g c = record { due = rw c.partition.ensures at c.in-Ok.ensures.ok }
 
 pub returns-in-Install : goal.returns-in-Install
 returns-in-Install g c = rw c.in-Install.is (record { does = c.install.ensures.does })

@@ -1,31 +1,31 @@
 use Rattle.fkv_worlds.proofs.states.State.act_at.Goals as goal
 
-pub enter_at-requires-clause-due : goal.enter_at-requires-clause-due
-enter_at-requires-clause-due g c κs within = rw c.in-Enter.is at c.requires.due
+pub enter_at-requires : goal.enter_at-requires
+enter_at-requires g c = record { due = rw c.in-Enter.is at c.requires.due }
 
 pub returns-in-Enter : goal.returns-in-Enter
 returns-in-Enter g c = rw c.in-Enter.is (record { does = c.enter_at.ensures.does })
 
-pub leave_at-requires-clause-due : goal.leave_at-requires-clause-due
-leave_at-requires-clause-due g c κs within = rw c.in-Leave.is at c.requires.due
+pub leave_at-requires : goal.leave_at-requires
+leave_at-requires g c = record { due = rw c.in-Leave.is at c.requires.due }
 
 pub returns-in-Leave : goal.returns-in-Leave
 returns-in-Leave g c = rw c.in-Leave.is (record { does = c.leave_at.ensures.does })
 
-pub refresh_at-requires-clause-due : goal.refresh_at-requires-clause-due
-refresh_at-requires-clause-due g c κs within = rw c.in-Refresh.is at c.requires.due
+pub refresh_at-requires : goal.refresh_at-requires
+refresh_at-requires g c = record { due = rw c.in-Refresh.is at c.requires.due }
 
 pub returns-in-Refresh : goal.returns-in-Refresh
 returns-in-Refresh g c = rw c.in-Refresh.is (record { does = c.refresh_at.ensures.does })
 
-pub shift_at-requires-clause-due : goal.shift_at-requires-clause-due
-shift_at-requires-clause-due g c κs within = rw c.in-ReadOnly.is at c.requires.due
+pub shift_at-requires : goal.shift_at-requires
+shift_at-requires g c = record { due = rw c.in-ReadOnly.is at c.requires.due }
 
 pub returns-in-ReadOnly : goal.returns-in-ReadOnly
 returns-in-ReadOnly g c = rw c.in-ReadOnly.is (record { does = c.shift_at.ensures.does })
 
-pub take_at-requires-clause-due : goal.take_at-requires-clause-due
-take_at-requires-clause-due g c κs within = rw c.in-Take.is at c.requires.due
+pub take_at-requires : goal.take_at-requires
+take_at-requires g c = record { due = rw c.in-Take.is at c.requires.due }
 
 pub returns-in-Take : goal.returns-in-Take
 returns-in-Take g c = rw c.in-Take.is (record { does = c.take_at.ensures.does })
@@ -33,20 +33,20 @@ returns-in-Take g c = rw c.in-Take.is (record { does = c.take_at.ensures.does })
 pub returns-in-Write : goal.returns-in-Write
 returns-in-Write g c = rw c.in-Write.is (record { does = c.write.ensures.does })
 
-pub evict_at-requires-clause-due : goal.evict_at-requires-clause-due
-evict_at-requires-clause-due g c κs within = rw c.in-Head.is at c.requires.due
+pub evict_at-requires : goal.evict_at-requires
+evict_at-requires g c = record { due = rw c.in-Head.is at c.requires.due }
 
 pub returns-in-Head : goal.returns-in-Head
 returns-in-Head g c = rw c.in-Head.is (record { does = c.evict_at.ensures.does })
 
-pub issue_at-requires-clause-due : goal.issue_at-requires-clause-due
-issue_at-requires-clause-due g c κs within = rw c.in-Issue.is at c.requires.due
+pub issue_at-requires : goal.issue_at-requires
+issue_at-requires g c = record { due = rw c.in-Issue.is at c.requires.due }
 
 pub returns-in-Issue : goal.returns-in-Issue
 returns-in-Issue g c = rw c.in-Issue.is (record { does = c.issue_at.ensures.does })
 
-pub go_in-requires-clause-due : goal.go_in-requires-clause-due
-go_in-requires-clause-due g c κs within = rw c.in-Go.is at c.requires.due
+pub go_in-requires : goal.go_in-requires
+go_in-requires g c = record { due = rw c.in-Go.is at c.requires.due }
 
 pub returns-in-Go : goal.returns-in-Go
 returns-in-Go g c = rw c.in-Go.is (record { does = c.go_in.ensures.does })
@@ -57,20 +57,20 @@ returns-in-Install g c = rw c.in-Install.is (record { does = c.install.ensures.d
 pub returns-in-Load : goal.returns-in-Load
 returns-in-Load g c = rw c.in-Load.is (record { does = c.load.ensures.does })
 
-pub give_up_in-requires-clause-due : goal.give_up_in-requires-clause-due
-give_up_in-requires-clause-due g c κs within = rw c.in-GiveUp.is at c.requires.due
+pub give_up_in-requires : goal.give_up_in-requires
+give_up_in-requires g c = record { due = rw c.in-GiveUp.is at c.requires.due }
 
 pub returns-in-GiveUp : goal.returns-in-GiveUp
 returns-in-GiveUp g c = rw c.in-GiveUp.is (record { does = c.give_up_in.ensures.does })
 
-pub relocate_at-requires-clause-due : goal.relocate_at-requires-clause-due
-relocate_at-requires-clause-due g c κs within = rw c.in-Relocate.is at c.requires.due
+pub relocate_at-requires : goal.relocate_at-requires
+relocate_at-requires g c = record { due = rw c.in-Relocate.is at c.requires.due }
 
 pub returns-in-Relocate : goal.returns-in-Relocate
 returns-in-Relocate g c = rw c.in-Relocate.is (record { does = c.relocate_at.ensures.does })
 
-pub truncate_at-requires-clause-due : goal.truncate_at-requires-clause-due
-truncate_at-requires-clause-due g c κs within = rw c.in-Truncate.is at c.requires.due
+pub truncate_at-requires : goal.truncate_at-requires
+truncate_at-requires g c = record { due = rw c.in-Truncate.is at c.requires.due }
 
 pub returns-in-Truncate : goal.returns-in-Truncate
 returns-in-Truncate g c = rw c.in-Truncate.is (record { does = c.truncate_at.ensures.does })

@@ -3,10 +3,10 @@ use Rattle.fkv_worlds.proofs.ResultLemmas.{some_is}
 use Rattle.fkv_worlds.proofs.EventLemmas.{event-later, refused-state, refused-drop, does-drop, relocating-state}
 use Rattle.fkv_worlds.proofs.states.State.drop_at.Goals as goal
 
-pub drop_relocation-requires-clause-later : goal.drop_relocation-requires-clause-later
-drop_relocation-requires-clause-later g c κs within =
+pub drop_relocation-requires : goal.drop_relocation-requires
+drop_relocation-requires g c =
     let due = rw (← c.self.view_is) at c.requires.due in
-    event-later g.F.Key.Ord.cmp g.F.Functions.meaning g.F.Functions.code _ c.self.invariant c.args.place.partition c.args.now due c.index_mut-partition.result.now c.index_mut-partition.ensures.value
+    record { later = event-later g.F.Key.Ord.cmp g.F.Functions.meaning g.F.Functions.code _ c.self.invariant c.args.place.partition c.args.now due c.index_mut-partition.result.now c.index_mut-partition.ensures.value }
 
 pub invariant_of-self-in-Err : goal.invariant_of-self-in-Err
 invariant_of-self-in-Err g c =
@@ -21,8 +21,8 @@ returns-in-Err g c =
 
 pub invariant_of-self : goal.invariant_of-self
 invariant_of-self g c =
-    let ord = g.met.F.Key.Ord g.world.𝓛 g.world.𝓜 g.world.𝓡 ((λ s x. x), (λ x. x), (λ x. x), λ x. x) in
-    let known = g.met.F.Key.Known g.world.𝓛 g.world.𝓜 g.world.𝓡 ((λ s x. x), (λ x. x), (λ x. x), λ x. x) in
+    let ord = g.met.F.Key.Ord in
+    let known = g.met.F.Key.FixedKey in
     let order = key_order g.F.Key.PartialEq.eq g.F.Key.Ord.cmp ord.matches_eq known.exact ord.total in
     let due = rw (← c.self.view_is) at c.requires.due in
     relocating-state g.F.Key.Ord.cmp g.F.Functions.meaning g.F.Functions.code _ c.self.invariant c.args.place.partition c.args.now due c.index_mut-partition.result.now c.index_mut-partition.ensures.value c.drop_relocation.new.self order c.args.place.slot c.args.place.context c.in-Ok.ensures.event

@@ -4,10 +4,10 @@ use Rattle.fkv_worlds.specs.States.{life_in}
 use Rattle.fkv_worlds.proofs.EventLemmas.{rows, event-later, refused-state, refused-give_up, does-give_up, life-there, ended-state}
 use Rattle.fkv_worlds.proofs.states.State.give_up_at.Goals as goal
 
-pub give_up-requires-clause-later : goal.give_up-requires-clause-later
-give_up-requires-clause-later g c κs within =
+pub give_up-requires : goal.give_up-requires
+give_up-requires g c =
     let due = rw (← c.self.view_is) at c.requires.due in
-    event-later g.F.Key.Ord.cmp g.F.Functions.meaning g.F.Functions.code _ c.self.invariant c.args.place.partition c.args.now due c.index_mut-partition.result.now c.index_mut-partition.ensures.value
+    record { later = event-later g.F.Key.Ord.cmp g.F.Functions.meaning g.F.Functions.code _ c.self.invariant c.args.place.partition c.args.now due c.index_mut-partition.result.now c.index_mut-partition.ensures.value }
 
 pub invariant_of-self-in-Err : goal.invariant_of-self-in-Err
 invariant_of-self-in-Err g c =
@@ -46,8 +46,8 @@ end_life-requires g c =
 
 pub invariant_of-self : goal.invariant_of-self
 invariant_of-self g c =
-    let ord = g.met.F.Key.Ord g.world.𝓛 g.world.𝓜 g.world.𝓡 ((λ s x. x), (λ x. x), (λ x. x), λ x. x) in
-    let known = g.met.F.Key.Known g.world.𝓛 g.world.𝓜 g.world.𝓡 ((λ s x. x), (λ x. x), (λ x. x), λ x. x) in
+    let ord = g.met.F.Key.Ord in
+    let known = g.met.F.Key.FixedKey in
     let order = key_order g.F.Key.PartialEq.eq g.F.Key.Ord.cmp ord.matches_eq known.exact ord.total in
     let due = rw (← c.self.view_is) at c.requires.due in
     let life = c.life_at-life.ensures ∙ ap (λ xs. life_in xs c.args.place) c.deref.ensures.value in

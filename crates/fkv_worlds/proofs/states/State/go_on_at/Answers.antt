@@ -4,10 +4,10 @@ use Rattle.fkv_worlds.proofs.ResultLemmas.{some_is}
 use Rattle.fkv_worlds.proofs.EventLemmas.{rows, event-later, refused-state, refused-go_on, does-go_on, moved-state}
 use Rattle.fkv_worlds.proofs.states.State.go_on_at.Goals as goal
 
-pub go_on-requires-clause-later : goal.go_on-requires-clause-later
-go_on-requires-clause-later g c κs within =
+pub go_on-requires : goal.go_on-requires
+go_on-requires g c =
     let due = rw (← c.self.view_is) at c.requires.due in
-    event-later g.F.Key.Ord.cmp g.F.Functions.meaning g.F.Functions.code _ c.self.invariant c.args.place.partition c.args.now due c.index_mut-partition.result.now c.index_mut-partition.ensures.value
+    record { later = event-later g.F.Key.Ord.cmp g.F.Functions.meaning g.F.Functions.code _ c.self.invariant c.args.place.partition c.args.now due c.index_mut-partition.result.now c.index_mut-partition.ensures.value }
 
 pub invariant_of-self-in-Err : goal.invariant_of-self-in-Err
 invariant_of-self-in-Err g c =
@@ -40,8 +40,8 @@ note_moved-requires-clause-receipts g c =
 
 pub invariant_of-self : goal.invariant_of-self
 invariant_of-self g c =
-    let ord = g.met.F.Key.Ord g.world.𝓛 g.world.𝓜 g.world.𝓡 ((λ s x. x), (λ x. x), (λ x. x), λ x. x) in
-    let known = g.met.F.Key.Known g.world.𝓛 g.world.𝓜 g.world.𝓡 ((λ s x. x), (λ x. x), (λ x. x), λ x. x) in
+    let ord = g.met.F.Key.Ord in
+    let known = g.met.F.Key.FixedKey in
     let order = key_order g.F.Key.PartialEq.eq g.F.Key.Ord.cmp ord.matches_eq known.exact ord.total in
     let due = rw (← c.self.view_is) at c.requires.due in
     rw (c.note_moved.ensures.receipts, c.note_moved.ensures.questions, c.note_moved.ensures.begun, c.note_moved.ensures.seats, c.note_moved.ensures.enters)

@@ -3,10 +3,10 @@ use Rattle.fkv_functions.proofs.KeyOrder.{key_order}
 use Rattle.fkv_worlds.proofs.EventLemmas.{rows, event-later, refused-state, refused-install, does-install, life-there, progressed-state}
 use Rattle.fkv_worlds.proofs.states.State.install_at.Goals as goal
 
-pub install-requires-clause-later : goal.install-requires-clause-later
-install-requires-clause-later g c κs within =
+pub install-requires : goal.install-requires
+install-requires g c =
     let due = rw (← c.self.view_is) at c.requires.moment in
-    event-later g.F.Key.Ord.cmp g.F.Functions.meaning g.F.Functions.code _ c.self.invariant c.args.place.partition c.args.now due c.index_mut-partition.result.now c.index_mut-partition.ensures.value
+    record { later = event-later g.F.Key.Ord.cmp g.F.Functions.meaning g.F.Functions.code _ c.self.invariant c.args.place.partition c.args.now due c.index_mut-partition.result.now c.index_mut-partition.ensures.value }
 
 pub invariant_of-self-in-Err : goal.invariant_of-self-in-Err
 invariant_of-self-in-Err g c =
@@ -55,8 +55,8 @@ note_progress-requires-clause-life g c =
 
 pub invariant_of-self : goal.invariant_of-self
 invariant_of-self g c =
-    let ord = g.met.F.Key.Ord g.world.𝓛 g.world.𝓜 g.world.𝓡 ((λ s x. x), (λ x. x), (λ x. x), λ x. x) in
-    let known = g.met.F.Key.Known g.world.𝓛 g.world.𝓜 g.world.𝓡 ((λ s x. x), (λ x. x), (λ x. x), λ x. x) in
+    let ord = g.met.F.Key.Ord in
+    let known = g.met.F.Key.FixedKey in
     let order = key_order g.F.Key.PartialEq.eq g.F.Key.Ord.cmp ord.matches_eq known.exact ord.total in
     let due = rw (← c.self.view_is) at c.requires.moment in
     rw (c.note_progress.ensures.lives, c.note_progress.ensures.questions, c.note_progress.ensures.receipts, c.note_progress.ensures.begun, c.note_progress.ensures.seats, c.note_progress.ensures.enters)

@@ -2,10 +2,10 @@ use Rattle.fkv_functions.proofs.KeyOrder.{key_order}
 use Rattle.fkv_worlds.proofs.EventLemmas.{rows, issues-fit, lifeless-issue, event-later, refused-state, refused-issue, does-issue, issued-state}
 use Rattle.fkv_worlds.proofs.states.State.issue_at.Goals as goal
 
-pub issue-requires-clause-later : goal.issue-requires-clause-later
-issue-requires-clause-later g c κs within =
+pub issue-requires : goal.issue-requires
+issue-requires g c =
     let due = rw (← c.self.view_is) at c.requires.due in
-    event-later g.F.Key.Ord.cmp g.F.Functions.meaning g.F.Functions.code _ c.self.invariant c.args.partition c.args.now due c.index_mut.result.now c.index_mut.ensures.value
+    record { later = event-later g.F.Key.Ord.cmp g.F.Functions.meaning g.F.Functions.code _ c.self.invariant c.args.partition c.args.now due c.index_mut.result.now c.index_mut.ensures.value }
 
 pub returns-in_default : goal.returns-in_default
 returns-in_default g c =
@@ -62,8 +62,8 @@ returns-in-Err g c =
 
 pub invariant_of-self-in-Ok-issue : goal.invariant_of-self-in-Ok-issue
 invariant_of-self-in-Ok-issue g c =
-    let ord = g.met.F.Key.Ord g.world.𝓛 g.world.𝓜 g.world.𝓡 ((λ s x. x), (λ x. x), (λ x. x), λ x. x) in
-    let known = g.met.F.Key.Known g.world.𝓛 g.world.𝓜 g.world.𝓡 ((λ s x. x), (λ x. x), (λ x. x), λ x. x) in
+    let ord = g.met.F.Key.Ord in
+    let known = g.met.F.Key.FixedKey in
     let order = key_order g.F.Key.PartialEq.eq g.F.Key.Ord.cmp ord.matches_eq known.exact ord.total in
     let due = rw (← c.self.view_is) at c.requires.due in
     let within = c.in-Ok-issue.ensures.within in

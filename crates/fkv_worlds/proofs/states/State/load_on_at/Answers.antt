@@ -10,10 +10,10 @@ pub read_asked-came-requires-clause-asked : goal.read_asked-came-requires-clause
 read_asked-came-requires-clause-asked g c =
     let asked = rw (← c.self.view_is) at c.requires.asked in rw c.deref.ensures.value (some_there _ asked)
 
-pub load_on-requires-clause-later : goal.load_on-requires-clause-later
-load_on-requires-clause-later g c κs within =
+pub load_on-requires : goal.load_on-requires
+load_on-requires g c =
     let due = rw (← c.self.view_is) at c.requires.due in
-    event-later g.F.Key.Ord.cmp g.F.Functions.meaning g.F.Functions.code _ c.self.invariant c.args.place.partition c.args.now due c.index_mut-partition.result.now c.index_mut-partition.ensures.value
+    record { later = event-later g.F.Key.Ord.cmp g.F.Functions.meaning g.F.Functions.code _ c.self.invariant c.args.place.partition c.args.now due c.index_mut-partition.result.now c.index_mut-partition.ensures.value }
 
 pub note_moved-requires-clause-slot : goal.note_moved-requires-clause-slot
 note_moved-requires-clause-slot g c =
@@ -25,8 +25,8 @@ note_moved-requires-clause-context g c =
 
 pub invariant_of-self : goal.invariant_of-self
 invariant_of-self g c =
-    let ord = g.met.F.Key.Ord g.world.𝓛 g.world.𝓜 g.world.𝓡 ((λ s x. x), (λ x. x), (λ x. x), λ x. x) in
-    let known = g.met.F.Key.Known g.world.𝓛 g.world.𝓜 g.world.𝓡 ((λ s x. x), (λ x. x), (λ x. x), λ x. x) in
+    let ord = g.met.F.Key.Ord in
+    let known = g.met.F.Key.FixedKey in
     let order = key_order g.F.Key.PartialEq.eq g.F.Key.Ord.cmp ord.matches_eq known.exact ord.total in
     let due = rw (← c.self.view_is) at c.requires.due in
     rw (c.note_moved.ensures.receipts, c.note_moved.ensures.questions, c.note_moved.ensures.begun, c.note_moved.ensures.seats, c.note_moved.ensures.enters)
@@ -43,8 +43,8 @@ returns-in-Ok g c =
 
 pub invariant_of-self-in-Err : goal.invariant_of-self-in-Err
 invariant_of-self-in-Err g c =
-    let ord = g.met.F.Key.Ord g.world.𝓛 g.world.𝓜 g.world.𝓡 ((λ s x. x), (λ x. x), (λ x. x), λ x. x) in
-    let known = g.met.F.Key.Known g.world.𝓛 g.world.𝓜 g.world.𝓡 ((λ s x. x), (λ x. x), (λ x. x), λ x. x) in
+    let ord = g.met.F.Key.Ord in
+    let known = g.met.F.Key.FixedKey in
     let order = key_order g.F.Key.PartialEq.eq g.F.Key.Ord.cmp ord.matches_eq known.exact ord.total in
     let due = rw (← c.self.view_is) at c.requires.due in
     let asked = rw (← c.self.view_is) at c.requires.asked in

@@ -2,10 +2,10 @@ use Rattle.fkv_functions.proofs.KeyOrder.{key_order}
 use Rattle.fkv_worlds.proofs.EventLemmas.{rows, event-later, refused-state, refused-relocate, does-relocate, relocated-state}
 use Rattle.fkv_worlds.proofs.states.State.relocate_at.Goals as goal
 
-pub relocate-requires-clause-later : goal.relocate-requires-clause-later
-relocate-requires-clause-later g c κs within =
+pub relocate-requires : goal.relocate-requires
+relocate-requires g c =
     let due = rw (← c.self.view_is) at c.requires.due in
-    event-later g.F.Key.Ord.cmp g.F.Functions.meaning g.F.Functions.code _ c.self.invariant c.args.partition c.args.now due c.index_mut.result.now c.index_mut.ensures.value
+    record { later = event-later g.F.Key.Ord.cmp g.F.Functions.meaning g.F.Functions.code _ c.self.invariant c.args.partition c.args.now due c.index_mut.result.now c.index_mut.ensures.value }
 
 pub invariant_of-self-in-Err : goal.invariant_of-self-in-Err
 invariant_of-self-in-Err g c =
@@ -42,8 +42,8 @@ forget-requires-clause-receipts g c =
 
 pub invariant_of-self : goal.invariant_of-self
 invariant_of-self g c =
-    let ord = g.met.F.Key.Ord g.world.𝓛 g.world.𝓜 g.world.𝓡 ((λ s x. x), (λ x. x), (λ x. x), λ x. x) in
-    let known = g.met.F.Key.Known g.world.𝓛 g.world.𝓜 g.world.𝓡 ((λ s x. x), (λ x. x), (λ x. x), λ x. x) in
+    let ord = g.met.F.Key.Ord in
+    let known = g.met.F.Key.FixedKey in
     let order = key_order g.F.Key.PartialEq.eq g.F.Key.Ord.cmp ord.matches_eq known.exact ord.total in
     let due = rw (← c.self.view_is) at c.requires.due in
     rw (c.forget.ensures.questions, c.forget.ensures.receipts, c.forget.ensures.begun, c.forget.ensures.seats, c.forget.ensures.enters)

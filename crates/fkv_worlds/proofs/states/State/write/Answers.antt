@@ -12,7 +12,7 @@ returns-then-is_none g c =
     rw (← c.self.view_is) (record { does = jobless c.args.partition c.args.access refl there (desk-idle c.self.inside.desks.items c.args.partition c.index.result.now low c.index.ensures c.if-is_none.ensures) refl refl })
 
 pub write_at-requires-clause-asked : goal.write_at-requires-clause-asked
-write_at-requires-clause-asked g c κs within =
+write_at-requires-clause-asked g c =
     let there : c.args.partition < length c.self.inside.partitions.items = (let t = c.if-partition-len.false in let l = c.len.ensures in omega arith) in
     let low : c.args.partition < length (map (λ (e : Desk). e.job) c.self.inside.desks.items) = (let l = c.self.invariant.tables.jobs in omega arith) in
     rw (← c.self.view_is) (desk-busy c.self.inside.desks.items c.args.partition c.index.result.now low c.index.ensures c.if-is_none.ensures)

@@ -13,15 +13,15 @@ write-requires g c =
     let asked = rw (← c.self.view_is) at c.requires.asked in
     rw (← has) (some_there _ asked)
 
-pub flush_done-requires-clause-later : goal.flush_done-requires-clause-later
-flush_done-requires-clause-later g c κs within =
+pub flush_done-requires : goal.flush_done-requires
+flush_done-requires g c =
     let due = rw (← c.self.view_is) at c.requires.due in
-    event-later g.F.Key.Ord.cmp g.F.Functions.meaning g.F.Functions.code _ c.self.invariant c.args.partition c.args.now due c.index_mut-in-Ok.result.now c.index_mut-in-Ok.ensures.value
+    record { later = event-later g.F.Key.Ord.cmp g.F.Functions.meaning g.F.Functions.code _ c.self.invariant c.args.partition c.args.now due c.index_mut-in-Ok.result.now c.index_mut-in-Ok.ensures.value }
 
 pub invariant_of-self : goal.invariant_of-self
 invariant_of-self g c =
-    let ord = g.met.F.Key.Ord g.world.𝓛 g.world.𝓜 g.world.𝓡 ((λ s x. x), (λ x. x), (λ x. x), λ x. x) in
-    let known = g.met.F.Key.Known g.world.𝓛 g.world.𝓜 g.world.𝓡 ((λ s x. x), (λ x. x), (λ x. x), λ x. x) in
+    let ord = g.met.F.Key.Ord in
+    let known = g.met.F.Key.FixedKey in
     let order = key_order g.F.Key.PartialEq.eq g.F.Key.Ord.cmp ord.matches_eq known.exact ord.total in
     let due = rw (← c.self.view_is) at c.requires.due in
     rw (desk-set c.self.inside.desks.items c.args.partition c.write.new.self None c.write.ensures.spent)
