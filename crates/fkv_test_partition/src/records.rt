@@ -7,8 +7,9 @@ use fkv_functions::Refused;
 use fkv_operations::{Answer, Op};
 use fkv_partition::Config;
 
-/// Two rounds of eight keys of one class.
-const ONE_CLASS: [Row; 65] = [
+/// Two rounds of eight keys, the second behind what is read-only by then; then all is frozen, and all but the last page is
+/// read from the device.
+const TWO_ROUNDS: [Row; 47] = [
     (Call::Enter, Told::At(0)),
     (Call::Enter, Told::At(1)),
     // each record of the first round
@@ -94,6 +95,10 @@ const ONE_CLASS: [Row; 65] = [
     ),
     (Call::Freeze(4), Told::Ok),
     (Call::Evict(4), Told::Ok),
+];
+
+/// The eight keys are of one class.
+const ONE_CLASS: [Row; 18] = [
     // h stands in memory; the records before it lead from page to page
     (Call::Issue(0, Op::Read(b'a', 0)), Told::At(0)),
     (Call::Ready(0, 0), Told::Loads(936)),
@@ -134,93 +139,8 @@ const ONE_CLASS: [Row; 65] = [
     ),
 ];
 
-/// The same keys with classes of their own.
-const CLASSES: [Row; 70] = [
-    (Call::Enter, Told::At(0)),
-    (Call::Enter, Told::At(1)),
-    // each record of the first round
-    (Call::Tail, Told::At(64)),
-    (Call::Do(0, Op::Upsert(b'a', 0)), Told::Done(Answer::Stored)),
-    (Call::Tail, Told::At(120)),
-    (Call::Do(0, Op::Upsert(b'b', 1)), Told::Done(Answer::Stored)),
-    (Call::Tail, Told::At(176)),
-    (Call::Do(0, Op::Upsert(b'c', 2)), Told::Done(Answer::Stored)),
-    (Call::Tail, Told::At(256)),
-    (Call::Do(0, Op::Upsert(b'd', 3)), Told::Done(Answer::Stored)),
-    (Call::Tail, Told::At(312)),
-    (Call::Do(0, Op::Upsert(b'e', 4)), Told::Done(Answer::Stored)),
-    (Call::Tail, Told::At(368)),
-    (Call::Do(0, Op::Upsert(b'f', 5)), Told::Done(Answer::Stored)),
-    (Call::Tail, Told::At(424)),
-    (Call::Do(0, Op::Upsert(b'g', 6)), Told::Done(Answer::Stored)),
-    (Call::Tail, Told::At(512)),
-    (Call::Do(0, Op::Upsert(b'h', 7)), Told::Done(Answer::Stored)),
-    (Call::Freeze(2), Told::Ok),
-    // and of the second one, behind what is read-only by then
-    (Call::Tail, Told::At(568)),
-    (Call::Do(0, Op::Upsert(b'a', 8)), Told::Done(Answer::Stored)),
-    (Call::Tail, Told::At(624)),
-    (Call::Do(0, Op::Upsert(b'b', 9)), Told::Done(Answer::Stored)),
-    (Call::Tail, Told::At(680)),
-    (
-        Call::Do(0, Op::Upsert(b'c', 10)),
-        Told::Done(Answer::Stored),
-    ),
-    (Call::Tail, Told::At(768)),
-    (
-        Call::Do(0, Op::Upsert(b'd', 11)),
-        Told::Done(Answer::Stored),
-    ),
-    (Call::Tail, Told::At(824)),
-    (
-        Call::Do(0, Op::Upsert(b'e', 12)),
-        Told::Done(Answer::Stored),
-    ),
-    (Call::Tail, Told::At(880)),
-    (
-        Call::Do(0, Op::Upsert(b'f', 13)),
-        Told::Done(Answer::Stored),
-    ),
-    (Call::Tail, Told::At(936)),
-    (
-        Call::Do(0, Op::Upsert(b'g', 14)),
-        Told::Done(Answer::Stored),
-    ),
-    (Call::Freeze(3), Told::Ok),
-    (Call::Tail, Told::At(1024)),
-    (
-        Call::Do(0, Op::Upsert(b'h', 15)),
-        Told::Done(Answer::Stored),
-    ),
-    (Call::Tail, Told::At(1080)),
-    (Call::Do(1, Op::Read(b'a', 0)), Told::Done(Answer::Value(8))),
-    (Call::Do(1, Op::Read(b'b', 0)), Told::Done(Answer::Value(9))),
-    (
-        Call::Do(1, Op::Read(b'c', 0)),
-        Told::Done(Answer::Value(10)),
-    ),
-    (
-        Call::Do(1, Op::Read(b'd', 0)),
-        Told::Done(Answer::Value(11)),
-    ),
-    (
-        Call::Do(1, Op::Read(b'e', 0)),
-        Told::Done(Answer::Value(12)),
-    ),
-    (
-        Call::Do(1, Op::Read(b'f', 0)),
-        Told::Done(Answer::Value(13)),
-    ),
-    (
-        Call::Do(1, Op::Read(b'g', 0)),
-        Told::Done(Answer::Value(14)),
-    ),
-    (
-        Call::Do(1, Op::Read(b'h', 0)),
-        Told::Done(Answer::Value(15)),
-    ),
-    (Call::Freeze(4), Told::Ok),
-    (Call::Evict(4), Told::Ok),
+/// The eight keys have classes of their own.
+const CLASSES: [Row; 23] = [
     // each key is read where its last record stands
     (Call::Issue(0, Op::Read(b'a', 0)), Told::At(0)),
     (Call::Ready(0, 0), Told::Loads(568)),
@@ -423,7 +343,7 @@ const ONE_BUCKET: Config = Config { frames: 8, ..STEEP };
 pub const A_CLASS_EACH: Run = Run {
     name: "a class each",
     config: Config { frames: 8, ..SMALL },
-    opening: &[],
+    opening: &TWO_ROUNDS,
     rows: &CLASSES,
     map: &[
         (b'a', 8),
@@ -458,7 +378,7 @@ const RUNS: [Run; 4] = [
     Run {
         name: "one class",
         config: ONE_BUCKET,
-        opening: &[],
+        opening: &TWO_ROUNDS,
         rows: &ONE_CLASS,
         map: &[
             (b'a', 8),
