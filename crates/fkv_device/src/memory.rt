@@ -3,6 +3,7 @@ ghost use Rattle.std.specs.Prelude.{◌≡◌, ◌≢◌, ◌+◌, ◌^◌, ℕ,
 ghost use Rattle.fkv_functions.specs.declared.refusals.Refused.TheVariants as refused;
 ghost use Rattle.fkv_device.specs.Failing.{FailsOnlyBy};
 
+use crate::comparing::is_same;
 use crate::disks::Disk;
 use crate::failures::Failures;
 use crate::pages::{PageReader, PageWriter};
@@ -45,7 +46,7 @@ impl Receipt for MemoryReceipt {
     fn same(&self, other: &MemoryReceipt) -> bool {
         self.number == other.number
             && self.page == other.page
-            && self.bytes.bytes() == other.bytes.bytes()
+            && is_same(self.bytes.bytes(), other.bytes.bytes())
     }
 
     fn again(&self) -> Result<MemoryReceipt, Refused> {
