@@ -17,8 +17,8 @@ use Rattle.fkv_index.specs.Words.{tag_of, address_of, is_tentative}
 use Rattle.fkv_index.specs.Places.{word_at}
 use Rattle.fkv_index.specs.Entries.{entry_at, place_of, IsAlone}
 use Rattle.fkv_texts.specs.declared.entries.Entry.{Entry}
-use Rattle.fkv_texts.specs.declared.entries.Reached.{Reached}
-use Rattle.fkv_texts.specs.declared.entries.Reached.TheVariants.{Found, Below}
+use Rattle.fkv_texts.specs.declared.entries.ChainPosition.{ChainPosition}
+use Rattle.fkv_texts.specs.declared.entries.ChainPosition.TheVariants.{Found, Below}
 use Rattle.fkv_regions.specs.declared.offsets.View.{View}
 use Rattle.fkv_regions.specs.declared.offsets.Region.{Region}
 use Rattle.fkv_regions.specs.declared.offsets.Region.TheVariants as region
@@ -30,30 +30,29 @@ use Rattle.fkv_operations.specs.Classes.{same_class}
 use Rattle.fkv_operations.specs.declared.classes.Class.{Class}
 use Rattle.fkv_operations.specs.declared.entries.IndexEntry.{IndexEntry}
 use Rattle.fkv_operations.specs.declared.operations.Answer.TheVariants as answered
-use Rattle.fkv_operations.specs.declared.operations.Op.{Op}
-use Rattle.fkv_operations.specs.declared.operations.Op.TheVariants.{Read, Upsert, Rmw, Delete}
+use Rattle.fkv_operations.specs.declared.operations.KeyedOp.{KeyedOp}
+use Rattle.fkv_operations.specs.declared.operations.KeyedOp.TheVariants.{Read, Upsert, Rmw, Delete}
 use Rattle.fkv_lookups.specs.RecordsViews.{RecordsView, class_in, entry_of, found_in, confirmed}
 use Rattle.fkv_lookups.specs.Meeting.{met_from}
 use Rattle.fkv_lookups.specs.Decisions.{met_in, met_last, met_by}
 use Rattle.fkv_lookups.specs.DecisionLaws.{claim-met, prepare-op}
-use Rattle.fkv_lookups.specs.declared.decisions.Met.{Met}
-use Rattle.fkv_lookups.specs.declared.decisions.Met.TheVariants.{NoEntry, NoValue, OnDisk}
+use Rattle.fkv_lookups.specs.declared.decisions.LookupResult.{LookupResult}
+use Rattle.fkv_lookups.specs.declared.decisions.LookupResult.TheVariants.{NoEntry, NoValue, OnDisk}
 use Rattle.fkv_lookups.specs.declared.decisions.Decision.TheVariants.{Claim}
-use Rattle.fkv_partition.specs.declared.contexts.Context.{Context}
-use Rattle.fkv_partition.specs.declared.contexts.Loading.{Loading}
-use Rattle.fkv_partition.specs.declared.contexts.Phase.{Phase}
-use Rattle.fkv_partition.specs.declared.contexts.Phase.TheVariants.{Fresh, Confirm, Prepared, Load}
-use Rattle.fkv_partition.specs.declared.contexts.Progress.{Progress}
-use Rattle.fkv_partition.specs.declared.contexts.Progress.TheVariants.{Done, Next, NeedsBuild, NeedsLoad, Waits}
-use Rattle.fkv_partition.specs.declared.contexts.Wait.TheVariants as wait
-use Rattle.fkv_partition.specs.Beginning.{Issues}
-use Rattle.fkv_partition.specs.Claiming.{IsClaimed}
-use Rattle.fkv_partition.specs.Contexts.{joined, question_in, question_by, at_phase, claim_at, claim_by, claim_of}
-use Rattle.fkv_partition.specs.Going.{Goes, Decides}
-use Rattle.fkv_partition.specs.Installing.{Installs}
-use Rattle.fkv_partition.specs.Loading.{AwaitsPage, Loads}
-use Rattle.fkv_partition.specs.Sound.{IsSound, StandsFor, IsLoading}
-use Rattle.fkv_partition.specs.Views.{PartitionView, slots_of, seen_at, context_at, with_context}
+use Rattle.fkv_partition.specs.Context.{Context}
+use Rattle.fkv_partition.specs.Loading.{Loading}
+use Rattle.fkv_partition.specs.Phase.{Phase}
+use Rattle.fkv_partition.specs.Phase.TheVariants.{Fresh, Confirm, Prepared, Load}
+use Rattle.fkv_partition.specs.Progress.{Progress}
+use Rattle.fkv_partition.specs.Progress.TheVariants.{Done, Next, NeedsBuild, NeedsLoad, Waits}
+use Rattle.fkv_partition.specs.Wait.TheVariants as wait
+use Rattle.fkv_partition.specs.CoreClaiming.{IsClaimed}
+use Rattle.fkv_partition.specs.CoreContexts.{joined, question_in, question_by, at_phase, claim_at, claim_by, claim_of}
+use Rattle.fkv_partition.specs.CoreGoing.{Goes, Decides}
+use Rattle.fkv_partition.specs.CoreInstalling.{Installs}
+use Rattle.fkv_partition.specs.CoreLoading.{AwaitsPage, Loads}
+use Rattle.fkv_partition.specs.CoreSound.{IsSound, StandsFor, IsLoading}
+use Rattle.fkv_partition.specs.CoreViews.{CoreView, slots_of, seen_at, context_at, with_context}
 use Rattle.fkv_alone.specs.Stages.{IsReady}
 use Rattle.fkv_alone.specs.Ending.{IsOn}
 use Rattle.fkv_alone.specs.Bound.{is_evicted, evicted, evicted_to, NoneClaims, IsMade, IsNear, IsNearer}
@@ -63,7 +62,7 @@ use Rattle.fkv_alone.proofs.IndexLemmas.{tentative-tag, tentative-is, tentative-
 use Rattle.fkv_alone.proofs.CountLemmas.{count-fewer, count-less, last-passes}
 
 -- ---- what is met where the class has an entry
-met_by-some : {K V : Type 0} (a begin : ℕ) (view : View) (r : Reached K V) → met_by (Some a) begin view r ≡ NoEntry → ⊥
+met_by-some : {K V : Type 0} (a begin : ℕ) (view : View) (r : ChainPosition K V) → met_by (Some a) begin view r ≡ NoEntry → ⊥
 met_by-some {K} {V} a begin view (Found e) h = last e.value h
   where
     in_region : (g : Region) (w : V) → met_in g w ≡ NoEntry → ⊥
@@ -77,7 +76,7 @@ met_by-some {K} {V} a begin view (Found e) h = last e.value h
     last (Some w) k = in_region (region_of view e.address) w k
 met_by-some {K} {V} a begin view (Below b) h = by (nat_lt b begin) _ refl h
   where
-    by : (t : Bool) (m : Met V) → cond t NoValue (OnDisk b) ≡ m → m ≡ NoEntry → ⊥
+    by : (t : Bool) (m : LookupResult V) → cond t NoValue (OnDisk b) ≡ m → m ≡ NoEntry → ⊥
     by true m k e = let bad : NoValue ≡ m = k in absurd (cc)
     by false m k e = let bad : OnDisk b ≡ m = k in absurd (cc)
 
@@ -97,7 +96,7 @@ found-word r c e h = by (place_of r.words c.bucket c.tag) h
         subst (λ (z : IndexEntry). word_at r.words z.place ≡ z.word) same refl
 
 -- a loaded page leads below its first record
-reached-low : {K V : Type 0} (entry : ℕ → Entry K V → Type 0) (cmp : K → K → Ordering) (k : K) (bits low a b : ℕ) (r : Result (Reached K V) Refused) → IsReached entry cmp k bits low a r → r ≡ Ok (Below b) → b < low
+reached-low : {K V : Type 0} (entry : ℕ → Entry K V → Type 0) (cmp : K → K → Ordering) (k : K) (bits low a b : ℕ) (r : Result (ChainPosition K V) Refused) → IsReached entry cmp k bits low a r → r ≡ Ok (Below b) → b < low
 reached-low entry cmp k bits low a b r (IsReached.below {a = d} h) e = let same : d ≡ b = cc in omega arith
 reached-low entry cmp k bits low a b r (IsReached.none h n) e = absurd (cc)
 reached-low entry cmp k bits low a b r (IsReached.found h n t) e = absurd (cc)
@@ -120,11 +119,11 @@ class-self c = and_from (c.bucket == c.bucket) (c.tag == c.tag) (eq-eqb c.bucket
 class-small : {K V : Type 0} (code : K → ℕ) (r : RecordsView K V) (k : K) → code k < 2 ^ 64 → (class_in code r k).tag < 2 ^ 15
 class-small code r k h = omega arith
 
-module _ {K V I : Type 0} (keeps : Bool) (cmp : K → K → Ordering) (code : K → ℕ) (v : PartitionView K V I) (slot c n : ℕ) (s : IsSound keeps cmp code v) where
+module _ {K V I : Type 0} (keeps : Bool) (cmp : K → K → Ordering) (code : K → ℕ) (v : CoreView K V I) (slot c n : ℕ) (s : IsSound keeps cmp code v) where
   stands-at : (x : Context K V I) (phase : Phase V) → context_at v slot c ≡ Some x → x.phase ≡ phase → StandsFor keeps cmp code v.records x.op phase
   stands-at x phase h e = subst (λ (p : Phase V). StandsFor keeps cmp code v.records x.op p) e (s.stands (slot * 8 + c) x (open_at (slots_of v) v.contexts slot c x h).here)
 
-  loading-stands : (op : Op K V I) (l : Loading) → StandsFor keeps cmp code v.records op (Load l) → IsLoading keeps cmp code v.records (key_of op) l
+  loading-stands : (op : KeyedOp K V I) (l : Loading) → StandsFor keeps cmp code v.records op (Load l) → IsLoading keeps cmp code v.records (key_of op) l
   loading-stands (Read k i) l h = h
   loading-stands (Upsert k u) l h = absurd h
   loading-stands (Rmw k i) l h = h
@@ -155,7 +154,7 @@ module _ {K V I : Type 0} (keeps : Bool) (cmp : K → K → Ordering) (code : K 
       let ld = loading-stands x.op l (stands-at x (Load l) a.here a.loading) in
       let low = ld.begun in let begin = a.begin in let first = s.traced.first in omega arith
 
-  module _ {O R : Type 0} (stands : R → Standing) (f : Meanings K V I O) (w : PartitionView K V I) (now : ℕ) where
+  module _ {O R : Type 0} (stands : R → Standing) (f : Meanings K V I O) (w : CoreView K V I) (now : ℕ) where
     near-as : (p q : Progress K V I O R) → p ≡ q → IsNearer code w slot c q n → IsNearer code w slot c p n
     near-as p q e h = subst (λ (z : Progress K V I O R). IsNearer code w slot c z n) (sym e) h
 
@@ -381,7 +380,7 @@ module _ {K V I : Type 0} (keeps : Bool) (cmp : K → K → Ordering) (code : K 
         by p (Loads.unread y m aw e is r) on = absurd (cc)
         by p (Loads.stranger y m j t aw e held other is r) on = absurd (cc)
         by p (Loads.damaged y m j why reads e is r) on = absurd (cc)
-        by p (Loads.astray y m j b reads e low place is r) on = absurd (cc)
+        by p (Loads.bad_link y m j b reads e low place is r) on = absurd (cc)
         by p (Loads.done y m j k i value told e read is r) on = let a = shown_of f k i value in let t : p ≡ Done a m.looked = cc in off p (Done a m.looked) t on (λ z. z)
         by p (Loads.prepares y m j k i value told e rmw is r) on =
             let ask : Ask K V I = record { number = y.number; key = k; source = value; input = i } in
@@ -418,7 +417,7 @@ module _ {K V I : Type 0} (keeps : Bool) (cmp : K → K → Ordering) (code : K 
     loads-nearer kept entry receipt a came near (Err why) loads = tt
 
 -- an operation that is to go on takes one more event at least
-pub near-some : {K V I O R : Type 0} (code : K → ℕ) (v : PartitionView K V I) (slot c : ℕ) (told : Progress K V I O R) (n : ℕ) → IsNear code v slot c told n → 1 ≤ n
+pub near-some : {K V I O R : Type 0} (code : K → ℕ) (v : CoreView K V I) (slot c : ℕ) (told : Progress K V I O R) (n : ℕ) → IsNear code v slot c told n → 1 ≤ n
 near-some code v slot c told n (IsNear.begins x h fresh clear range t le) = omega arith
 near-some code v slot c told n (IsNear.confirms x p h phase alone range t le) = omega arith
 near-some code v slot c told n (IsNear.looks x p h fresh made t le) = omega arith
@@ -437,17 +436,11 @@ fresh-slot {K} {V} {I} cs x i p fresh none = at (slice_get (slice_set cs i (Some
     ]
 
 -- an operation that was issued, where no other holds a tentative entry
-pub issue-near : {K V I O R : Type 0} (code : K → ℕ) (old new : PartitionView K V I) (slot c now : ℕ) (op : Op K V I) → Issues code old new slot op now (Ok c) → IsReady op old new slot c now → ((y : Context K V I) → context_at new slot c ≡ Some y → y.phase ≡ Fresh) → NoneClaims old → code (key_of op) < 2 ^ 64
+pub issue-near : {K V I O R : Type 0} (code : K → ℕ) (old new : CoreView K V I) (slot c now : ℕ) (op : KeyedOp K V I) → new ≡ with_context old slot c (Some (record { number = now; op = op; phase = Fresh })) now → (ready : IsReady op old new slot c now) → ready.operation.phase ≡ Fresh → NoneClaims old → code (key_of op) < 2 ^ 64
     → IsNear {O = O} {R = R} code new slot c Next (4 + evicted code old.records (key_of op))
-issue-near {K} {V} {I} {O} {R} code old new slot c now op issued ready fresh clear range = by issued
-  where
-    by : Issues code old new slot op now (Ok c) → IsNear {O = O} {R = R} code new slot c Next (4 + evicted code old.records (key_of op))
-    by (Issues.unknown a is r) = absurd (cc)
-    by (Issues.stranger a b is r) = absurd (cc)
-    by (Issues.full a b d is r) = absurd (cc)
-    by (Issues.issues d a b free is r) =
-        let clear_now : NoneClaims new = rw is (λ p. fresh-slot old.contexts (record { number = now; op = op; phase = Fresh }) (slot * 8 + d) p refl clear) in
-        let x = ready.operation in
-        let key : key_of x.op ≡ key_of op = ap key_of ready.open_is.op_is in
-        let count : evicted code new.records (key_of x.op) ≡ evicted code old.records (key_of op) = ap (evicted code new.records) key ∙ ap (λ (u : PartitionView K V I). evicted code u.records (key_of op)) is in
-        IsNear.begins x ready.open_is.here (fresh x ready.open_is.here) clear_now (subst (λ k. code k < 2 ^ 64) (sym key) range) refl (omega arith)
+issue-near {K} {V} {I} {O} {R} code old new slot c now op is ready fresh clear range =
+    let clear_now : NoneClaims new = rw is (λ p. fresh-slot old.contexts (record { number = now; op = op; phase = Fresh }) (slot * 8 + c) p refl clear) in
+    let x = ready.operation in
+    let key : key_of x.op ≡ key_of op = ap key_of ready.open_is.op_is in
+    let count : evicted code new.records (key_of x.op) ≡ evicted code old.records (key_of op) = ap (evicted code new.records) key ∙ ap (λ (u : CoreView K V I). evicted code u.records (key_of op)) is in
+    IsNear.begins x ready.open_is.here fresh clear_now (subst (λ k. code k < 2 ^ 64) (sym key) range) refl (omega arith)

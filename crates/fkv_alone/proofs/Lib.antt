@@ -1,5 +1,6 @@
 pub mod OpenLemmas
 pub mod StageLemmas
+pub mod KeyLemmas
 pub mod DriveLemmas
 pub mod EndLemmas
 pub mod IndexLemmas

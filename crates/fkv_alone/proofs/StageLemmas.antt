@@ -1,5 +1,5 @@
 -- What each event makes of an operation that is driven alone.
-use Rattle.std.proofs.Common.{◌≡◌, ◌<◌, ◌^◌, ◌⊎◌, inl, inr, ℕ, List, Bool, IsTrue, Option, Some, None, option_map, Result, Ok, Err, IfOk, IfErr, OnOk, OnErr, slice_get, refl, sym, ◌∙◌, ap, subst, arith}
+use Rattle.std.proofs.Common.{◌≡◌, ◌≢◌, ◌<◌, ◌^◌, ◌⊎◌, ◌==◌, inl, inr, ℕ, List, Bool, true, false, cond, IsTrue, Option, Some, None, option_map, Result, Ok, Err, IfOk, IfErr, OnOk, OnErr, slice_get, refl, sym, ◌∙◌, ap, subst, arith}
 use Rattle.std.specs.declared.cmp.Ordering.{Ordering}
 use Rattle.fkv_functions.specs.Meanings.{Meanings, updated}
 use Rattle.fkv_functions.specs.Plain.{Same, PlainMap}
@@ -10,32 +10,31 @@ use Rattle.fkv_records.specs.Places.{page_at}
 use Rattle.fkv_device.specs.Standing.{Standing, Joined}
 use Rattle.fkv_device.specs.Failing.{ReadFailsBy}
 use Rattle.fkv_texts.specs.declared.entries.Entry.{Entry}
-use Rattle.fkv_texts.specs.Text.{live}
+use Rattle.fkv_texts.specs.Text.{live, newest, value_of}
 use Rattle.fkv_pages.specs.Loads.{IsHeldBy}
 use Rattle.fkv_operations.specs.After.{key_of, after, answer, shown_of}
 use Rattle.fkv_operations.specs.declared.entries.IndexEntry.{IndexEntry}
-use Rattle.fkv_operations.specs.declared.operations.Op.{Op}
-use Rattle.fkv_operations.specs.declared.operations.Op.TheVariants.{Read, Rmw}
+use Rattle.fkv_operations.specs.declared.operations.KeyedOp.{KeyedOp}
+use Rattle.fkv_operations.specs.declared.operations.KeyedOp.TheVariants.{Read, Rmw}
 use Rattle.fkv_operations.specs.declared.operations.Answer.{Answer}
 use Rattle.fkv_operations.specs.declared.operations.Answer.TheVariants as answered
 use Rattle.fkv_lookups.specs.RecordsViews.{RecordsView, confirmed, released, with_record}
 use Rattle.fkv_lookups.specs.DecisionLaws.{wait-met}
-use Rattle.fkv_lookups.specs.declared.decisions.Met.TheVariants as meets
+use Rattle.fkv_lookups.specs.declared.decisions.LookupResult.TheVariants as meets
 use Rattle.fkv_index.specs.declared.words.Word.{Word}
-use Rattle.fkv_partition.specs.declared.contexts.Context.{Context}
-use Rattle.fkv_partition.specs.declared.contexts.Loading.{Loading}
-use Rattle.fkv_partition.specs.declared.contexts.Phase.TheVariants.{Fresh, Confirm, Prepared, Load}
-use Rattle.fkv_partition.specs.declared.contexts.Progress.{Progress}
-use Rattle.fkv_partition.specs.declared.contexts.Progress.TheVariants.{Done, Next, NeedsBuild, NeedsLoad, Waits}
-use Rattle.fkv_partition.specs.declared.contexts.Wait.TheVariants.{Fuzzy, Full}
-use Rattle.fkv_partition.specs.Contexts.{question_in, loading_by, at_phase}
-use Rattle.fkv_partition.specs.Effect.{Asked, asked, asked_by, LeavesOthers, IsEvent}
-use Rattle.fkv_partition.specs.Going.{Goes}
-use Rattle.fkv_partition.specs.Installing.{Installs}
-use Rattle.fkv_partition.specs.Loading.{AwaitsPage, Loads}
-use Rattle.fkv_partition.specs.Pending.{Pending, pending, Finds, IsLoad}
-use Rattle.fkv_partition.specs.Pending as pend
-use Rattle.fkv_partition.specs.Views.{PartitionView, context_at, with_context, live_of, met_at}
+use Rattle.fkv_partition.specs.Context.{Context}
+use Rattle.fkv_partition.specs.Loading.{Loading}
+use Rattle.fkv_partition.specs.Phase.TheVariants.{Fresh, Confirm, Prepared, Load}
+use Rattle.fkv_partition.specs.Progress.{Progress}
+use Rattle.fkv_partition.specs.Progress.TheVariants.{Done, Next, NeedsBuild, NeedsLoad, Waits}
+use Rattle.fkv_partition.specs.Wait.TheVariants.{Fuzzy, Full}
+use Rattle.fkv_partition.specs.CoreContexts.{question_in, loading_by, at_phase}
+use Rattle.fkv_partition.specs.CoreEffect.{Asked, asked, asked_by, LeavesOthers, IsEvent}
+use Rattle.fkv_partition.specs.CoreGoing.{Goes}
+use Rattle.fkv_partition.specs.CoreInstalling.{Installs}
+use Rattle.fkv_partition.specs.CoreLoading.{AwaitsPage, Loads}
+use Rattle.fkv_partition.specs.Pending.{Pending, pending, pending_of}
+use Rattle.fkv_partition.specs.CoreViews.{CoreView, context_at, with_context, live_of, met_at}
 use Rattle.fkv_alone.specs.Stages.{IsOpen, IsReady, IsAsking, IsFetching, IsDone, HasCome}
 use Rattle.fkv_alone.specs.Ending.{IsOver, IsStop, Advances}
 use Rattle.fkv_alone.proofs.OpenLemmas.{set-here, set-frame, frames, open-pass, open-set, open-over}
@@ -50,35 +49,63 @@ mapped-none : {A B : Type 0} (g : A → B) (o : Option A) → option_map g o ≡
 mapped-none g None h = refl
 mapped-none g (Some x) h = absurd (cc)
 
-pub question-rmw : {K V I : Type 0} (n : ℕ) (op : Op K V I) (e : IndexEntry) (s : Option V) (k : K) (i : I) → op ≡ Rmw k i → question_in (record { number = n; op = op; phase = Prepared e s }) ≡ Some (e, record { number = n; key = k; source = s; input = i })
+pub question-rmw : {K V I : Type 0} (n : ℕ) (op : KeyedOp K V I) (e : IndexEntry) (s : Option V) (k : K) (i : I) → op ≡ Rmw k i → question_in (record { number = n; op = op; phase = Prepared e s }) ≡ Some (e, record { number = n; key = k; source = s; input = i })
 question-rmw n op e s k i h = rw h refl
 
-module _ {K V I : Type 0} (op : Op K V I) (old v : PartitionView K V I) (slot c started : ℕ) where
+-- what an event that asks for a page leaves to find
+abbrev pub Asks : {K V I O R : Type 0} → (K → K → Ordering) → CoreView K V I → CoreView K V I → ℕ → ℕ → ℕ → Progress K V I O R → Type 0
+Asks {K} {V} {I} cmp v w slot c now (NeedsLoad r a) = (x : Context K V I) → context_at v slot c ≡ Some x → pending cmp w slot c ≡ Some (record { moment = now; value = live_of cmp v (key_of x.op) })
+Asks cmp v w slot c now other = Unit {0}
+
+-- what one that finishes an operation tells of the live map, and its answer
+abbrev pub Finishes : {K V I O R : Type 0} → (K → K → Ordering) → Meanings K V I O → CoreView K V I → CoreView K V I → ℕ → ℕ → ℕ → Progress K V I O R → Type 0
+Finishes {K} {V} {I} cmp f v w slot c now (Done a at) = (x : Context K V I) → context_at v slot c ≡ Some x → Same (live_of cmp w) (after cmp f (live_of cmp v) x.op) × (a ≡ answer f (live_of cmp v) x.op)
+Finishes cmp f v w slot c now other = Unit {0}
+
+-- a read is answered with what its look-up was to find
+pub record HasRead {K V I O : Type 0} (cmp : K → K → Ordering) (f : Meanings K V I O) (v w : CoreView K V I) (slot c : ℕ) (x : Context K V I) (a : Answer O) : Type 0 where
+  pub live : Same (live_of cmp w) (live_of cmp v)
+  pub found : Pending V
+  pub was : pending cmp v slot c ≡ Some found
+  pub key : K
+  pub input : I
+  pub is : x.op ≡ Read key input
+  pub answers : a ≡ shown_of f key input found.value
+
+-- what a page that came tells where it finishes a read, whose effect is not now, or leads to another page
+abbrev pub Tells : {K V I O R : Type 0} → (K → K → Ordering) → Meanings K V I O → CoreView K V I → CoreView K V I → ℕ → ℕ → ℕ → Progress K V I O R → Type 0
+Tells {K} {V} {I} cmp f v w slot c now (Done a at) = (x : Context K V I) → context_at v slot c ≡ Some x → at ≢ now → HasRead cmp f v w slot c x a
+Tells {K} {V} {I} cmp f v w slot c now (NeedsLoad r b) = (x : Context K V I)
+    → context_at v slot c ≡ Some x
+    → ((u : Option V) → pending cmp w slot c ≡ Some (record { moment = now; value = u }) → ⊥)
+    → pending cmp w slot c ≡ pending cmp v slot c
+Tells cmp f v w slot c now other = Unit {0}
+
+module _ {K V I : Type 0} (op : KeyedOp K V I) (old v : CoreView K V I) (slot c started : ℕ) where
   -- what is open in a context is one operation
   open-same : (x y : Context K V I) → IsOpen op old v slot c started x → context_at v slot c ≡ Some y → IsOpen op old v slot c started y
   open-same x y o h = subst (IsOpen op old v slot c started) (some-same x y (context_at v slot c) o.here h) o
 
   module _ (x : Context K V I) (o : IsOpen op old v slot c started x) where
     -- what it asks
-    open-asks : (q : Asked K V I) → asked v slot c ≡ Some q → q.op ≡ op
+    open-asks : (q : Asked K V I) → asked v slot c ≡ Some q → q.op ≡ x.op
     open-asks q h =
         let same : asked_by x ≡ q = some-same (asked_by x) q (asked v slot c) (ap (option_map asked_by) o.here) h in
-        sym (ap (λ (a : Asked K V I). a.op) same) ∙ o.op_is
+        sym (ap (λ (a : Asked K V I). a.op) same)
 
     open-maps : (cmp : K → K → Ordering) → live_of cmp v ≡ live_of cmp old
     open-maps cmp = ap (λ (r : RecordsView K V). live cmp r.text) o.records
 
     -- an event finishes it
-    done-told : {O R : Type 0} (keeps : Bool) (cmp : K → K → Ordering) (f : Meanings K V I O) (w : PartitionView K V I) (now : ℕ) (a : Answer O) → v.moment < now → context_at w slot c ≡ None → LeavesOthers v w slot c now
-        → (IsTrue keeps → IsEvent {R = R} cmp f v w slot c now (Done a now))
+    done-told : {O : Type 0} (keeps : Bool) (cmp : K → K → Ordering) (f : Meanings K V I O) (w : CoreView K V I) (now : ℕ) (a : Answer O) → v.moment < now → context_at w slot c ≡ None → LeavesOthers v w slot c now
+        → (IsTrue keeps → Same (live_of cmp w) (after cmp f (live_of cmp v) x.op) × (a ≡ answer f (live_of cmp v) x.op))
         → IsDone keeps cmp f op old w slot c started a now
-    done-told keeps cmp f w now a later closed f0 event = record {
+    done-told keeps cmp f w now a later closed f0 told = record {
       closed = closed;
-      live = λ kept. let e = event kept in
+      live = λ kept.
           subst (λ (m : PlainMap K V). Same (live_of cmp w) (after cmp f m op)) (open-maps cmp)
-          (subst (λ (o : Op K V I). Same (live_of cmp w) (after cmp f (live_of cmp v) o)) (open-asks e.question e.was) e.effect.2);
-      answers = λ kept. let e = event kept in
-          e.effect.3 ∙ ap (answer f (live_of cmp v)) (open-asks e.question e.was) ∙ ap (λ (m : PlainMap K V). answer f m op) (open-maps cmp);
+          (subst (λ (z : KeyedOp K V I). Same (live_of cmp w) (after cmp f (live_of cmp v) z)) o.op_is (told kept).0);
+      answers = λ kept. (told kept).1 ∙ ap (answer f (live_of cmp v)) o.op_is ∙ ap (λ (m : PlainMap K V). answer f m op) (open-maps cmp);
       begun = let b = o.begun in omega arith;
       past = let m = f0.moment in omega arith;
       frame = frames old v w slot c now o.frame f0;
@@ -94,7 +121,7 @@ stop-of tail page before after why h = elim h [
   | inr d ↦ IsStop.damaged page d.0 d.1
 ]
 
-module _ {K V I O R : Type 0} (keeps : Bool) (stands : R → Standing) (cmp : K → K → Ordering) (f : Meanings K V I O) (code : K → ℕ) (op : Op K V I) (old v w : PartitionView K V I) (slot c started now : ℕ) (later : v.moment < now) where
+module _ {K V I O R : Type 0} (keeps : Bool) (stands : R → Standing) (cmp : K → K → Ordering) (f : Meanings K V I O) (code : K → ℕ) (op : KeyedOp K V I) (old v w : CoreView K V I) (slot c started now : ℕ) (later : v.moment < now) where
   told-as : (p q : Progress K V I O R) → p ≡ q → HasCome keeps stands cmp f code op old w slot c started q → HasCome keeps stands cmp f code op old w slot c started p
   told-as p q e h = subst (HasCome keeps stands cmp f code op old w slot c started) (sym e) h
 
@@ -106,21 +133,21 @@ module _ {K V I O R : Type 0} (keeps : Bool) (stands : R → Standing) (cmp : K 
   event-done : (x : Context K V I) → IsOpen op old v slot c started x → (p : Progress K V I O R) (a : Answer O) → p ≡ Done a now → IsEvent cmp f v w slot c now p → HasCome keeps stands cmp f code op old w slot c started p
   event-done x o p a e event =
       let ev : IsEvent cmp f v w slot c now (Done a now) = subst (IsEvent cmp f v w slot c now) e event in
-      told-as p (Done a now) e (done-told op old v slot c started x o keeps cmp f w now a later (mapped-none asked_by (context_at w slot c) ev.effect.0) ev.frame (λ kept. ev))
+      told-as p (Done a now) e (done-told op old v slot c started x o keeps cmp f w now a later (mapped-none asked_by (context_at w slot c) ev.effect.0) ev.frame
+      (λ kept. let q = open-asks op old v slot c started x o ev.question ev.was in
+      (subst (λ (z : KeyedOp K V I). Same (live_of cmp w) (after cmp f (live_of cmp v) z)) q ev.effect.2, ev.effect.3 ∙ ap (answer f (live_of cmp v)) q)))
 
   asked-page : (x : Context K V I) (b : ℕ) (e : IndexEntry) (receipt : R) → IsOpen op old v slot c started x → IsHeldBy v.records.receipts (page_at v.records.page_bits b) (stands receipt)
       → w ≡ with_context v slot c (Some (at_phase x (Load (record { begin = v.records.begin; kept = e; wanted = b; looked = now })))) now
-      → pend.IsAsking cmp v w slot c now
+      → (IsTrue keeps → pending cmp w slot c ≡ Some (record { moment = now; value = live_of cmp v (key_of x.op) }))
       → IsFetching keeps cmp op old w slot c started (stands receipt) b
   asked-page x b e receipt o held is finds =
       let l : Loading = record { begin = v.records.begin; kept = e; wanted = b; looked = now } in
       let y = at_phase x (Load l) in
       let here = set-here v slot c now x o.here (Some y) v.records refl in
-      let same : x ≡ finds.operation = some-same x finds.operation (context_at v slot c) o.here finds.was in
-      let key : key_of finds.operation.op ≡ key_of op = ap (λ (z : Context K V I). key_of z.op) (sym same) ∙ ap key_of o.op_is in
-      let value : live_of cmp v (key_of finds.operation.op) ≡ live_of cmp old (key_of op) = ap (live_of cmp v) key ∙ ap (λ (r : RecordsView K V). live cmp r.text (key_of op)) o.records in
-      let asks : pending cmp w slot c ≡ Some (record { moment = now; value = live_of cmp old (key_of op) }) = finds.asks ∙ ap (λ (u : Option V). Some (record { moment = now; value = u })) value in
-      let there : pending cmp (with_context v slot c (Some y) now) slot c ≡ Some (record { moment = now; value = live_of cmp old (key_of op) }) = rw is at asks in
+      let value : live_of cmp v (key_of x.op) ≡ live_of cmp old (key_of op) = ap (λ (z : KeyedOp K V I). live_of cmp v (key_of z)) o.op_is ∙ ap (λ (r : RecordsView K V). live cmp r.text (key_of op)) o.records in
+      let asks : IsTrue keeps → pending cmp w slot c ≡ Some (record { moment = now; value = live_of cmp old (key_of op) }) = λ kept. finds kept ∙ ap (λ (u : Option V). Some (record { moment = now; value = u })) value in
+      let there : IsTrue keeps → pending cmp (with_context v slot c (Some y) now) slot c ≡ Some (record { moment = now; value = live_of cmp old (key_of op) }) = rw is at asks in
       rw is (record {
         operation = y;
         open_is = open-set op old v slot c started x o now y v.records later refl refl refl;
@@ -130,10 +157,10 @@ module _ {K V I O R : Type 0} (keeps : Bool) (stands : R → Standing) (cmp : K 
         held = held;
         looked = (let b = o.begun in omega arith);
         past = omega arith;
-        finds = λ kept. there;
+        finds = there;
       })
 
-  pub goes-told : IsReady op old v slot c started → (p : Progress K V I O R) → Goes stands cmp f code v w slot c now (Ok p) → IsEvent cmp f v w slot c now p → Finds cmp v w slot c now p
+  pub goes-told : IsReady op old v slot c started → (p : Progress K V I O R) → Goes stands cmp f code v w slot c now (Ok p) → IsEvent cmp f v w slot c now p → (IsTrue keeps → Asks cmp v w slot c now p)
       → HasCome keeps stands cmp f code op old w slot c started p
   goes-told h p (Goes.unknown here is r) event finds = absurd (cc)
   goes-told h p (Goes.asks x e ask here q is r) event finds =
@@ -188,7 +215,7 @@ module _ {K V I O R : Type 0} (keeps : Bool) (stands : R → Standing) (cmp : K 
   goes-told h p (Goes.asks_page x b e receipt d found held is r) event finds =
       let t : p ≡ NeedsLoad receipt b = cc in
       let o = open-same op old v slot c started h.operation x h.open_is d.here in
-      told-as p (NeedsLoad receipt b) t (asked-page x b e receipt o held is (subst (Finds cmp v w slot c now) t finds))
+      told-as p (NeedsLoad receipt b) t (asked-page x b e receipt o held is (λ kept. subst (Asks cmp v w slot c now) t (finds kept) x d.here))
   goes-told h p (Goes.unshared x b d is r) event finds = absurd (cc)
 
   pub goes-stops : IsReady op old v slot c started → (why : Refused) → Goes {O = O} {R = R} stands cmp f code v w slot c now (Err why) → (why ≡ NoMemory) ⊎ ((why ≡ Worn) × (old.records.tail ≡ 2 ^ 48))
@@ -213,13 +240,13 @@ module _ {K V I O R : Type 0} (keeps : Bool) (stands : R → Standing) (cmp : K 
   goes-stops h why (Goes.unshared x b d is r) = let e : why ≡ NoMemory = cc in inl e
 
   pub goes-advances : IsReady op old v slot c started → (n : ℕ) (result : Result (Progress K V I O R) Refused) → Goes stands cmp f code v w slot c now result → IfOk result (λ p. IsEvent cmp f v w slot c now p)
-      → ((p : Progress K V I O R) → Goes stands cmp f code v w slot c now (Ok p) → Finds cmp v w slot c now p) → OnErr result (w ≡ v)
+      → (IsTrue keeps → IfOk result (λ p. Asks cmp v w slot c now p)) → OnErr result (w ≡ v)
       → Advances keeps stands cmp f code op old v w slot c started n n result
-  goes-advances h n (Ok p) goes event finds err = (goes-told h p goes event (finds p goes), refl)
+  goes-advances h n (Ok p) goes event finds err = (goes-told h p goes event finds, refl)
   goes-advances h n (Err why) goes event finds err = (elim (goes-stops h why goes) [ inl e ↦ IsStop.memory e refl | inr e ↦ IsStop.worn e.0 e.1 refl ], inl err)
 
   -- ---- what was built is installed
-  pub installs-told : (ask : Ask K V I) → IsAsking op old v slot c started ask → (p : Progress K V I O R) → Installs cmp f code v w slot c ask now (Ok p) → (IsTrue keeps → IsEvent cmp f v w slot c now p)
+  pub installs-told : (ask : Ask K V I) → IsAsking op old v slot c started ask → (p : Progress K V I O R) → Installs cmp f code v w slot c ask now (Ok p) → (IsTrue keeps → Finishes cmp f v w slot c now p)
       → HasCome keeps stands cmp f code op old w slot c started p
   installs-told ask h p (Installs.unknown here is r) event = absurd (cc)
   installs-told ask h p (Installs.not_ready x here q is r) event = absurd (cc)
@@ -239,10 +266,10 @@ module _ {K V I O R : Type 0} (keeps : Bool) (stands : R → Standing) (cmp : K 
       let grown = with_record v.records e ask.key value in
       let a = answered.Value (f.shown ask.key ask.input (updated f ask.key ask.input ask.source)) in
       let t : p ≡ Done a now = cc in
-      let closed : context_at w slot c ≡ None = ap (λ (u : PartitionView K V I). context_at u slot c) is ∙ set-here v slot c now x here None grown refl in
+      let closed : context_at w slot c ≡ None = ap (λ (u : CoreView K V I). context_at u slot c) is ∙ set-here v slot c now x here None grown refl in
       told-as p (Done a now) t (done-told op old v slot c started x o keeps cmp f w now a later closed
-      (subst (λ (u : PartitionView K V I). LeavesOthers v u slot c now) (sym is) (set-frame v slot c now x here None grown refl refl))
-      (λ kept. subst (IsEvent cmp f v w slot c now) t (event kept)))
+      (subst (λ (u : CoreView K V I). LeavesOthers v u slot c now) (sym is) (set-frame v slot c now x here None grown refl refl))
+      (λ kept. subst (Finishes cmp f v w slot c now) t (event kept) x here))
 
   pub installs-stops : (ask : Ask K V I) → IsAsking op old v slot c started ask → (why : Refused) → Installs {O = O} {R = R} cmp f code v w slot c ask now (Err why) → (why ≡ Worn) × (old.records.tail ≡ 2 ^ 48)
   installs-stops ask h why (Installs.unknown here is r) = absurd (some-none h.operation (context_at v slot c) h.open_is.here here)
@@ -259,7 +286,7 @@ module _ {K V I O R : Type 0} (keeps : Bool) (stands : R → Standing) (cmp : K 
   installs-stops ask h why (Installs.done x e here q word more room is r) = absurd (cc)
 
   pub installs-advances : (ask : Ask K V I) → IsAsking op old v slot c started ask → (n : ℕ) (result : Result (Progress K V I O R) Refused) → Installs cmp f code v w slot c ask now result
-      → (IsTrue keeps → IfOk result (λ p. IsEvent cmp f v w slot c now p)) → OnErr result (w ≡ v)
+      → (IsTrue keeps → IfOk result (λ p. Finishes cmp f v w slot c now p)) → OnErr result (w ≡ v)
       → Advances keeps stands cmp f code op old v w slot c started n n result
   installs-advances ask h n (Ok p) installs event err = (installs-told ask h p installs event, refl)
   installs-advances ask h n (Err why) installs event err = (let e = installs-stops ask h why installs in IsStop.worn e.0 e.1 refl, inl err)
@@ -275,48 +302,44 @@ module _ {K V I O R : Type 0} (keeps : Bool) (stands : R → Standing) (cmp : K 
 
     -- a read is done
     read-told : (x : Context K V I) (l : Loading) (b : Answer O) → IsOpen op old v slot c started x → h.loading ≡ l → w ≡ with_context v slot c None now
-        → (IsTrue keeps → IsLoad {R = R} cmp f v w slot c now (Done b l.looked))
+        → (IsTrue keeps → HasRead cmp f v w slot c x b)
         → IsDone keeps cmp f op old w slot c started b l.looked
     read-told x l b o same is load =
         let looked : h.loading.looked ≡ l.looked = ap (λ (z : Loading). z.looked) same in
-        let moment : w.moment ≡ now = ap (λ (u : PartitionView K V I). u.moment) is in
-        let frame = subst (λ (u : PartitionView K V I). LeavesOthers v u slot c now) (sym is) (set-frame v slot c now x o.here None v.records refl refl) in
+        let moment : w.moment ≡ now = ap (λ (u : CoreView K V I). u.moment) is in
+        let frame = subst (λ (u : CoreView K V I). LeavesOthers v u slot c now) (sym is) (set-frame v slot c now x o.here None v.records refl refl) in
         record {
-          closed = ap (λ (u : PartitionView K V I). context_at u slot c) is ∙ set-here v slot c now x o.here None v.records refl;
-          live = λ kept. read-live b l (load kept) x o;
-          answers = λ kept. read-answer kept l b (load kept) x o;
+          closed = ap (λ (u : CoreView K V I). context_at u slot c) is ∙ set-here v slot c now x o.here None v.records refl;
+          live = λ kept. read-live b (load kept);
+          answers = λ kept. read-answer kept b (load kept);
           begun = (let n = h.looked in omega arith);
           past = (let n = h.past in omega arith);
           frame = frames old v w slot c now o.frame frame;
         }
       where
-        read-live : (b : Answer O) (l : Loading) → IsLoad {R = R} cmp f v w slot c now (Done b l.looked) → (x : Context K V I) → IsOpen op old v slot c started x → Same (live_of cmp w) (after cmp f (live_of cmp old) op)
-        read-live b l ld x o =
-            let q = open-asks op old v slot c started x o ld.question ld.was in
-            let found = ld.effect.1 in
-            let is_read : op ≡ Read (key_of ld.question.op) found.3.0 = sym q ∙ found.3.1 in
-            λ k. ld.live k ∙ ap (λ (m : PlainMap K V). m k) (open-maps op old v slot c started x o cmp) ∙ ap (λ (z : Op K V I). after cmp f (live_of cmp old) z k) (sym is_read)
+        read-live : (b : Answer O) → HasRead cmp f v w slot c x b → Same (live_of cmp w) (after cmp f (live_of cmp old) op)
+        read-live b r =
+            let is_read : op ≡ Read r.key r.input = sym o.op_is ∙ r.is in
+            λ k. r.live k ∙ ap (λ (m : PlainMap K V). m k) (open-maps op old v slot c started x o cmp) ∙ ap (λ (z : KeyedOp K V I). after cmp f (live_of cmp old) z k) (sym is_read)
 
-        read-answer : IsTrue keeps → (l : Loading) (b : Answer O) → IsLoad {R = R} cmp f v w slot c now (Done b l.looked) → (x : Context K V I) → IsOpen op old v slot c started x → b ≡ answer f (live_of cmp old) op
-        read-answer kept l b ld x o =
-            let q = open-asks op old v slot c started x o ld.question ld.was in
-            let found = ld.effect.1 in
-            let is_read : op ≡ Read (key_of ld.question.op) found.3.0 = sym q ∙ found.3.1 in
-            let mine : found.0 ≡ record { moment = h.loading.looked; value = live_of cmp old (key_of op) } = some-same _ _ (pending cmp v slot c) found.1 (h.finds kept) in
-            let value : found.0.value ≡ live_of cmp old (key_of ld.question.op) = ap (λ (z : Pending V). z.value) mine ∙ ap (λ (z : Op K V I). live_of cmp old (key_of z)) (sym q) in
-            found.3.2 ∙ ap (shown_of f (key_of ld.question.op) found.3.0) value ∙ ap (answer f (live_of cmp old)) (sym is_read)
+        read-answer : IsTrue keeps → (b : Answer O) → HasRead cmp f v w slot c x b → b ≡ answer f (live_of cmp old) op
+        read-answer kept b r =
+            let is_read : op ≡ Read r.key r.input = sym o.op_is ∙ r.is in
+            let mine : r.found ≡ record { moment = h.loading.looked; value = live_of cmp old (key_of op) } = some-same _ _ (pending cmp v slot c) r.was (h.finds kept) in
+            let value : r.found.value ≡ live_of cmp old r.key = ap (λ (z : Pending V). z.value) mine ∙ ap (λ (z : KeyedOp K V I). live_of cmp old (key_of z)) is_read in
+            r.answers ∙ ap (shown_of f r.key r.input) value ∙ ap (answer f (live_of cmp old)) (sym is_read)
 
     -- the way goes on in another page
     further-told : (x : Context K V I) (l : Loading) (b : ℕ) (receipt : R) → IsOpen op old v slot c started x → AwaitsPage v slot c x l → h.loading ≡ l → IsHeldBy v.records.receipts (page_at v.records.page_bits b) (stands receipt)
         → w ≡ with_context v slot c (Some (at_phase x (Load (record l { wanted = b })))) now
-        → (IsTrue keeps → IsLoad {O = O} cmp f v w slot c now (NeedsLoad receipt b))
+        → (IsTrue keeps → pending cmp w slot c ≡ pending cmp v slot c)
         → IsFetching keeps cmp op old w slot c started (stands receipt) b
     further-told x l b receipt o aw same held is load =
         let next : Loading = record l { wanted = b } in
         let y = at_phase x (Load next) in
         let looked : h.loading.looked ≡ l.looked = ap (λ (z : Loading). z.looked) same in
         let finds : IsTrue keeps → pending cmp w slot c ≡ Some (record { moment = l.looked; value = live_of cmp old (key_of op) }) =
-        λ kept. (load kept).effect.1 ∙ h.finds kept ∙ ap (λ n. Some (record { moment = n; value = live_of cmp old (key_of op) })) looked in
+        λ kept. load kept ∙ h.finds kept ∙ ap (λ n. Some (record { moment = n; value = live_of cmp old (key_of op) })) looked in
         let there : IsTrue keeps → pending cmp (with_context v slot c (Some y) now) slot c ≡ Some (record { moment = l.looked; value = live_of cmp old (key_of op) }) = rw is at finds in
         rw is (record {
           operation = y;
@@ -330,8 +353,28 @@ module _ {K V I O R : Type 0} (keeps : Bool) (stands : R → Standing) (cmp : K 
           finds = there;
         })
 
+    -- it looked before this moment, and is to find what it was to find then
+    looked-before : (l : Loading) → h.loading ≡ l → l.looked ≢ now
+    looked-before l same e =
+        let looked : h.loading.looked ≡ l.looked = ap (λ (z : Loading). z.looked) same in
+        let past = h.past in
+        omega arith
+
+    further-looks : (x : Context K V I) (l : Loading) (b : ℕ) → IsOpen op old v slot c started x → h.loading ≡ l
+        → w ≡ with_context v slot c (Some (at_phase x (Load (record l { wanted = b })))) now
+        → (u : Option V) → pending cmp w slot c ≡ Some (record { moment = now; value = u }) → ⊥
+    further-looks x l b o same is u e =
+        let y = at_phase x (Load (record l { wanted = b })) in
+        let there : context_at w slot c ≡ Some y = ap (λ (t : CoreView K V I). context_at t slot c) is ∙ set-here v slot c now x o.here (Some y) v.records refl in
+        let shown : pending_of cmp w.records (Some y) ≡ Some (record { moment = now; value = u }) = sym (ap (pending_of cmp w.records) there) ∙ e in
+        by (l.begin == w.records.begin) (value_of (newest cmp w.records.text (key_of x.op) b)) shown
+      where
+        by : (t : Bool) (a : Option V) → cond {A = Option (Pending V)} t (Some (record { moment = l.looked; value = a })) None ≡ Some (record { moment = now; value = u }) → ⊥
+        by true a k = looked-before l same (ap (λ (z : Pending V). z.moment) (some-same (record { moment = l.looked; value = a }) (record { moment = now; value = u }) (Some (record { moment = l.looked; value = a })) refl k))
+        by false a k = absurd (cc)
+
     over-is : (x : Context K V I) → IsOpen op old v slot c started x → w ≡ with_context v slot c None now → IsOver old w slot c
-    over-is x o is = subst (λ (u : PartitionView K V I). IsOver old u slot c) (sym is) (open-over op old v slot c started x o now)
+    over-is x o is = subst (λ (u : CoreView K V I). IsOver old u slot c) (sym is) (open-over op old v slot c started x o now)
 
     -- what came answers nothing where it is a refusal, since Begin stands
     came-in : (y : Refused) (p : Progress K V I O R) → Loads stands entry cmp f v w slot c (Err y) now (Ok p) → ⊥
@@ -342,13 +385,13 @@ module _ {K V I O R : Type 0} (keeps : Bool) (stands : R → Standing) (cmp : K 
     came-in y p (Loads.unread x l await e is r) = absurd (cc)
     came-in y p (Loads.stranger x l j t await e held other is r) = absurd (cc)
     came-in y p (Loads.damaged x l j why reads e is r) = absurd (cc)
-    came-in y p (Loads.astray x l j b reads e low place is r) = absurd (cc)
+    came-in y p (Loads.bad_link x l j b reads e low place is r) = absurd (cc)
     came-in y p (Loads.done x l j k i value told e read is r) = absurd (cc)
     came-in y p (Loads.prepares x l j k i value told e rmw is r) = absurd (cc)
     came-in y p (Loads.goes_on x l j b receipt reads e low place held is r) = absurd (cc)
     came-in y p (Loads.unshared x l j b reads e low place is r) = absurd (cc)
 
-    pub loads-told : (came : Result (Joined R) Refused) (p : Progress K V I O R) → Loads stands entry cmp f v w slot c came now (Ok p) → (IsTrue keeps → IsLoad cmp f v w slot c now p)
+    pub loads-told : (came : Result (Joined R) Refused) (p : Progress K V I O R) → Loads stands entry cmp f v w slot c came now (Ok p) → (IsTrue keeps → Tells cmp f v w slot c now p)
         → HasCome keeps stands cmp f code op old w slot c started p
     loads-told came p (Loads.unknown here is r) load = absurd (cc)
     loads-told came p (Loads.not_ready x here q is r) load = absurd (cc)
@@ -357,12 +400,12 @@ module _ {K V I O R : Type 0} (keeps : Bool) (stands : R → Standing) (cmp : K 
     loads-told came p (Loads.unread x l await e is r) load = absurd (cc)
     loads-told came p (Loads.stranger x l j t await e held other is r) load = absurd (cc)
     loads-told came p (Loads.damaged x l j why reads e is r) load = absurd (cc)
-    loads-told came p (Loads.astray x l j b reads e low place is r) load = absurd (cc)
+    loads-told came p (Loads.bad_link x l j b reads e low place is r) load = absurd (cc)
     loads-told came p (Loads.done x l j k i value told e read is r) load =
         let t : p ≡ Done (shown_of f k i value) l.looked = cc in
         let aw = told.reads.awaits in
         let o = open-same op old v slot c started h.operation x h.open_is aw.here in
-        told-as p (Done (shown_of f k i value) l.looked) t (read-told x l (shown_of f k i value) o (await-same x l aw.here aw.loading) is (λ kept. subst (IsLoad cmp f v w slot c now) t (load kept)))
+        told-as p (Done (shown_of f k i value) l.looked) t (read-told x l (shown_of f k i value) o (await-same x l aw.here aw.loading) is (λ kept. subst (Tells cmp f v w slot c now) t (load kept) x aw.here (looked-before l (await-same x l aw.here aw.loading))))
     loads-told came p (Loads.prepares x l j k i value told e rmw is r) load =
         let ask : Ask K V I = record { number = x.number; key = k; source = value; input = i } in
         let t : p ≡ NeedsBuild ask = cc in
@@ -377,7 +420,7 @@ module _ {K V I O R : Type 0} (keeps : Bool) (stands : R → Standing) (cmp : K 
         let t : p ≡ NeedsLoad receipt b = cc in
         let aw = reads.awaits in
         let o = open-same op old v slot c started h.operation x h.open_is aw.here in
-        told-as p (NeedsLoad receipt b) t (further-told x l b receipt o aw (await-same x l aw.here aw.loading) held is (λ kept. subst (IsLoad cmp f v w slot c now) t (load kept)))
+        told-as p (NeedsLoad receipt b) t (further-told x l b receipt o aw (await-same x l aw.here aw.loading) held is (λ kept. subst (Tells cmp f v w slot c now) t (load kept) x aw.here (further-looks x l b o (await-same x l aw.here aw.loading) is)))
     loads-told came p (Loads.unshared x l j b reads e low place is r) load = absurd (cc)
 
     -- why it is refused
@@ -405,7 +448,7 @@ module _ {K V I O R : Type 0} (keeps : Bool) (stands : R → Standing) (cmp : K 
         let t : why ≡ Damaged (page_at v.records.page_bits l.wanted) = cc in
         let o = open-same op old v slot c started h.operation x h.open_is reads.awaits.here in
         (IsStop.misspelled _ t (subst (λ (q : Result (Joined R) Refused). OnOk q (after ≡ before)) e steady), inr (over-is x o is))
-    loads-stops page before after came own steady counted why (Loads.astray x l j b reads e low place is r) =
+    loads-stops page before after came own steady counted why (Loads.bad_link x l j b reads e low place is r) =
         let t : why ≡ Damaged (page_at v.records.page_bits l.wanted) = cc in
         let o = open-same op old v slot c started h.operation x h.open_is reads.awaits.here in
         (IsStop.misspelled _ t (subst (λ (q : Result (Joined R) Refused). OnOk q (after ≡ before)) e steady), inr (over-is x o is))
@@ -422,7 +465,7 @@ module _ {K V I O R : Type 0} (keeps : Bool) (stands : R → Standing) (cmp : K 
     loads-steady page before after (Err why) steady p loads = absurd (came-in why p loads)
 
     pub loads-advances : (page before after : ℕ) (came : Result (Joined R) Refused) → IfOk came (λ j. stands j.receipt ≡ s) → OnOk came (after ≡ before) → IfErr came (ReadFailsBy page before after)
-        → (result : Result (Progress K V I O R) Refused) → Loads stands entry cmp f v w slot c came now result → (IsTrue keeps → IfOk result (λ p. IsLoad cmp f v w slot c now p))
+        → (result : Result (Progress K V I O R) Refused) → Loads stands entry cmp f v w slot c came now result → (IsTrue keeps → IfOk result (λ p. Tells cmp f v w slot c now p))
         → Advances keeps stands cmp f code op old v w slot c started before after result
     loads-advances page before after came own steady counted (Ok p) loads load = (loads-told came p loads load, loads-steady page before after came steady p loads)
     loads-advances page before after came own steady counted (Err why) loads load = loads-stops page before after came own steady counted why loads

@@ -1,24 +1,25 @@
 -- How an operation ends that is driven alone: done, left waiting, or refused and then over without effect.
-use Rattle.std.specs.Prelude.{◌≡◌, ◌≢◌, ◌+◌, ◌-◌, ◌^◌, ◌<◌, ◌≤◌, ◌⊎◌, ℕ, Bool, Some, None, Result, Ok, Err}
+use Rattle.std.specs.Prelude.{◌≡◌, ◌≢◌, ◌+◌, ◌-◌, ◌^◌, ◌≤◌, ◌⊎◌, ℕ, Bool, Some, None, Result, Ok, Err}
 use Rattle.std.specs.declared.cmp.Ordering.{Ordering}
 use Rattle.fkv_functions.specs.Meanings.{Meanings}
 use Rattle.fkv_functions.specs.declared.refusals.Refused.{Refused}
 use Rattle.fkv_functions.specs.declared.refusals.Refused.TheVariants.{NoMemory, Worn, Device, Damaged, Stalled}
 use Rattle.fkv_device.specs.Standing.{Standing}
 use Rattle.fkv_operations.specs.After.{key_of}
-use Rattle.fkv_operations.specs.declared.operations.Op.{Op}
+use Rattle.fkv_operations.specs.declared.operations.KeyedOp.{KeyedOp}
 use Rattle.fkv_operations.specs.declared.operations.Answer.{Answer}
-use Rattle.fkv_partition.specs.declared.contexts.Progress.{Progress}
-use Rattle.fkv_partition.specs.declared.contexts.Progress.TheVariants.{Done, Next, NeedsBuild, NeedsLoad, Waits}
-use Rattle.fkv_partition.specs.declared.contexts.Wait.{Wait}
-use Rattle.fkv_partition.specs.Beginning.{IsEntered, Issues}
-use Rattle.fkv_partition.specs.Effect.{LeavesOthers}
-use Rattle.fkv_partition.specs.Views.{PartitionView, context_at, free_context, partition_of}
-use Rattle.fkv_partition.specs.declared.contexts.Context.{Context}
-use Rattle.fkv_alone.specs.Stages.{HasCome, IsOpen, IsDone, IsWaiting}
+use Rattle.fkv_partition.specs.Progress.{Progress}
+use Rattle.fkv_partition.specs.Progress.TheVariants.{Done, Next, NeedsBuild, NeedsLoad, Waits}
+use Rattle.fkv_partition.specs.Wait.{Wait}
+use Rattle.fkv_partition.specs.CoreBeginning.{IsEntered}
+use Rattle.fkv_partition.specs.CoreEffect.{LeavesOthers}
+use Rattle.fkv_partition.specs.CoreViews.{CoreView, context_at, partition_of}
+use Rattle.fkv_partition.specs.Beginning.{IsFirstFree, IssuesOnKey}
+use Rattle.fkv_partition.specs.Views.{PartitionView}
+use Rattle.fkv_alone.specs.Stages.{HasCome, IsDone, IsWaiting}
 
 -- it is over without effect: its context is free, and of the records the words of the index alone may be others
-pub record IsOver {K V I : Type 0} (old new : PartitionView K V I) (slot c : ℕ) : Type 0 where
+pub record IsOver {K V I : Type 0} (old new : CoreView K V I) (slot c : ℕ) : Type 0 where
   pub closed : context_at new slot c ≡ None
   pub records : new.records ≡ record old.records { words = new.records.words }
   pub frame : LeavesOthers old new slot c new.moment
@@ -36,7 +37,7 @@ pub data IsStop (tail before after : ℕ) (why : Refused) : Type 0 where
 -- one event of the operation, from `v`: it comes to what it tells, or it is refused, and then nothing has changed or
 -- the operation is over
 abbrev pub Advances : {K V I O R : Type 0} → Bool → (R → Standing) → (K → K → Ordering) → Meanings K V I O → (K → ℕ)
-    → Op K V I → PartitionView K V I → PartitionView K V I → PartitionView K V I → ℕ → ℕ → ℕ → ℕ → ℕ
+    → KeyedOp K V I → CoreView K V I → CoreView K V I → CoreView K V I → ℕ → ℕ → ℕ → ℕ → ℕ
     → Result (Progress K V I O R) Refused → Type 0
 Advances keeps stands cmp f code op old v new slot c started before after (Ok progress) =
     HasCome keeps stands cmp f code op old new slot c started progress × (after ≡ before)
@@ -52,26 +53,26 @@ IsOn (NeedsLoad r a) = Unit {0}
 IsOn (Waits why) = ⊥
 
 -- where an operation may be issued: in the lowest free context of an entered session, its key belonging here
-pub record Opens {K V I : Type 0} (code : K → ℕ) (v : PartitionView K V I) (slot c : ℕ) (op : Op K V I) : Type 0 where
-  pub entered : IsEntered v slot
-  pub own : partition_of v.count (code (key_of op)) ≡ v.number
-  pub free : free_context v slot ≡ Some c
+pub record Opens {K V I : Type 0} (code : K → ℕ) (v : PartitionView K V I) (slot c : ℕ) (op : KeyedOp K V I) : Type 0 where
+  pub entered : IsEntered v.core slot
+  pub own : partition_of v.core.count (code (key_of op)) ≡ v.core.number
+  pub free : IsFirstFree v slot (Some c)
 
 -- what became of an operation that was driven by at most `limit` events after the clock gave `start`: a rule for each
 -- case, in the order of the tests
 pub data Ends {K V I O R : Type 0} (keeps : Bool) (cmp : K → K → Ordering) (f : Meanings K V I O) (code : K → ℕ)
-    (op : Op K V I) (old new : PartitionView K V I) (slot limit start end before after : ℕ)
+    (op : KeyedOp K V I) (old new : PartitionView K V I) (slot limit start end before after : ℕ)
     (result : Result (Progress K V I O R) Refused) : Type 0 where
   -- no event is allowed
   barred : limit ≡ 0 → new ≡ old → end ≡ start → after ≡ before → result ≡ Err Stalled
       → Ends keeps cmp f code op old new slot limit start end before after result
-  -- the clock has no moment left for the issue, or none after it to give the operation up
-  late : limit ≢ 0 → 2 ^ 64 ≤ start + 2 → new ≡ old → end ≡ start → after ≡ before → result ≡ Err Worn
+  -- the clock has no moment left for the issue
+  late : limit ≢ 0 → start ≡ 2 ^ 64 - 1 → new ≡ old → end ≡ start → after ≡ before → result ≡ Err Worn
       → Ends keeps cmp f code op old new slot limit start end before after result
   -- the issue is refused
   unissued : (why : Refused)
       → limit ≢ 0
-      → Issues code old new slot op (start + 1) (Err why)
+      → IssuesOnKey code old new slot op (start + 1) (Err why)
       → new ≡ old
       → end ≡ start + 1
       → after ≡ before
@@ -79,7 +80,7 @@ pub data Ends {K V I O R : Type 0} (keeps : Bool) (cmp : K → K → Ordering) (
       → Ends keeps cmp f code op old new slot limit start end before after result
   done : (c : ℕ) (a : Answer O) (effect : ℕ)
       → Opens code old slot c op
-      → IsDone keeps cmp f op old new slot c (start + 1) a effect
+      → IsDone keeps cmp f op old.core new.core slot c (start + 1) a effect
       → end ≤ start + limit
       → after ≡ before
       → result ≡ Ok (Done a effect)
@@ -87,7 +88,7 @@ pub data Ends {K V I O R : Type 0} (keeps : Bool) (cmp : K → K → Ordering) (
   -- it stays open
   waits : (c : ℕ) (why : Wait)
       → Opens code old slot c op
-      → IsWaiting cmp code op old new slot c (start + 1) why
+      → IsWaiting cmp code op old.core new.core slot c (start + 1) why
       → end ≤ start + limit
       → after ≡ before
       → result ≡ Ok (Waits why)
@@ -95,38 +96,37 @@ pub data Ends {K V I O R : Type 0} (keeps : Bool) (cmp : K → K → Ordering) (
   -- an event is refused, and the operation is over
   refused : (c : ℕ) (why : Refused)
       → Opens code old slot c op
-      → IsOver old new slot c
+      → IsOver old.core new.core slot c
       → end ≤ start + limit
-      → IsStop old.records.tail before after why
+      → IsStop old.core.records.tail before after why
       → result ≡ Err why
       → Ends keeps cmp f code op old new slot limit start end before after result
-  -- all its events are made, and it is given up at the moment after them
+  -- all its events are made, and the operation is over
   stalled : (c : ℕ)
       → Opens code old slot c op
-      → IsOver old new slot c
-      → end ≡ start + limit + 1
+      → IsOver old.core new.core slot c
+      → end ≡ start + limit
       → after ≡ before
       → result ≡ Err Stalled
       → Ends keeps cmp f code op old new slot limit start end before after result
-  -- the clock has but one moment left, at which it is given up
+  -- the clock has no moment left for the next event, and the operation is over
   spent : (c : ℕ)
       → Opens code old slot c op
-      → IsOver old new slot c
+      → IsOver old.core new.core slot c
       → end ≡ 2 ^ 64 - 1
       → end ≤ start + limit
       → after ≡ before
       → result ≡ Err Worn
       → Ends keeps cmp f code op old new slot limit start end before after result
 
--- an operation that is refused is over, or it is open still and may be given up at this moment
-pub data IsHalted {K V I : Type 0} (op : Op K V I) (old new : PartitionView K V I) (slot c started now : ℕ) : Type 0 where
-  over : IsOver old new slot c → IsHalted op old new slot c started now
-  still : (x : Context K V I) → IsOpen op old new slot c started x → new.moment < now
-      → IsHalted op old new slot c started now
+-- an operation that is refused is over, or open still: of the records the words of the index alone may be others
+pub record IsHalted {K V I : Type 0} (old new : CoreView K V I) (slot c : ℕ) : Type 0 where
+  pub records : new.records ≡ record old.records { words = new.records.words }
+  pub frame : LeavesOthers old new slot c new.moment
 
 -- what at most `left` events make of an open operation, after the clock gave `start`
 pub data Drives {K V I O R : Type 0} (keeps : Bool) (stands : R → Standing) (cmp : K → K → Ordering)
-    (f : Meanings K V I O) (code : K → ℕ) (op : Op K V I) (old new : PartitionView K V I)
+    (f : Meanings K V I O) (code : K → ℕ) (op : KeyedOp K V I) (old new : CoreView K V I)
     (slot c started left start end before after : ℕ)
     (result : Result (Progress K V I O R) Refused) : Type 0 where
   ends : (progress : Progress K V I O R)
@@ -137,17 +137,17 @@ pub data Drives {K V I O R : Type 0} (keeps : Bool) (stands : R → Standing) (c
       → result ≡ Ok progress
       → Drives keeps stands cmp f code op old new slot c started left start end before after result
   refused : (why : Refused)
-      → IsHalted op old new slot c started end
+      → IsHalted old new slot c
       → end ≤ start + left
       → IsStop old.records.tail before after why
       → result ≡ Err why
       → Drives keeps stands cmp f code op old new slot c started left start end before after result
-  stalled : IsHalted op old new slot c started end
-      → end ≡ start + left + 1
+  stalled : IsHalted old new slot c
+      → end ≡ start + left
       → after ≡ before
       → result ≡ Err Stalled
       → Drives keeps stands cmp f code op old new slot c started left start end before after result
-  spent : IsHalted op old new slot c started end
+  spent : IsHalted old new slot c
       → end ≡ 2 ^ 64 - 1
       → end ≤ start + left
       → after ≡ before

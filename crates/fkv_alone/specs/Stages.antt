@@ -11,25 +11,25 @@ use Rattle.fkv_index.specs.declared.places.Place.{Place}
 use Rattle.fkv_pages.specs.Loads.{IsHeldBy}
 use Rattle.fkv_operations.specs.After.{key_of, after, answer}
 use Rattle.fkv_operations.specs.declared.entries.IndexEntry.{IndexEntry}
-use Rattle.fkv_operations.specs.declared.operations.Op.{Op}
+use Rattle.fkv_operations.specs.declared.operations.KeyedOp.{KeyedOp}
 use Rattle.fkv_operations.specs.declared.operations.Answer.{Answer}
-use Rattle.fkv_partition.specs.declared.contexts.Context.{Context}
-use Rattle.fkv_partition.specs.declared.contexts.Loading.{Loading}
-use Rattle.fkv_partition.specs.declared.contexts.Phase.TheVariants.{Fresh, Confirm}
-use Rattle.fkv_partition.specs.declared.contexts.Progress.{Progress}
-use Rattle.fkv_partition.specs.declared.contexts.Progress.TheVariants.{Done, Next, NeedsBuild, NeedsLoad, Waits}
+use Rattle.fkv_partition.specs.Context.{Context}
+use Rattle.fkv_partition.specs.Loading.{Loading}
+use Rattle.fkv_partition.specs.Phase.TheVariants.{Fresh, Confirm}
+use Rattle.fkv_partition.specs.Progress.{Progress}
+use Rattle.fkv_partition.specs.Progress.TheVariants.{Done, Next, NeedsBuild, NeedsLoad, Waits}
 use Rattle.fkv_lookups.specs.RecordsViews.{IsFull}
-use Rattle.fkv_lookups.specs.declared.decisions.Met.TheVariants as met
-use Rattle.fkv_partition.specs.declared.contexts.Wait.{Wait}
-use Rattle.fkv_partition.specs.declared.contexts.Wait.TheVariants as wait
-use Rattle.fkv_partition.specs.Contexts.{question_in}
-use Rattle.fkv_partition.specs.Effect.{LeavesOthers}
-use Rattle.fkv_partition.specs.Loading.{AwaitsPage}
+use Rattle.fkv_lookups.specs.declared.decisions.LookupResult.TheVariants as met
+use Rattle.fkv_partition.specs.Wait.{Wait}
+use Rattle.fkv_partition.specs.Wait.TheVariants as wait
+use Rattle.fkv_partition.specs.CoreContexts.{question_in}
+use Rattle.fkv_partition.specs.CoreEffect.{LeavesOthers}
+use Rattle.fkv_partition.specs.CoreLoading.{AwaitsPage}
 use Rattle.fkv_partition.specs.Pending.{pending}
-use Rattle.fkv_partition.specs.Views.{PartitionView, context_at, live_of, met_at}
+use Rattle.fkv_partition.specs.CoreViews.{CoreView, context_at, live_of, met_at}
 
 -- the operation is open in its context, and of the records the words of the index alone may be others than before
-pub record IsOpen {K V I : Type 0} (op : Op K V I) (old v : PartitionView K V I) (slot c started : ℕ) (x : Context K V I)
+pub record IsOpen {K V I : Type 0} (op : KeyedOp K V I) (old v : CoreView K V I) (slot c started : ℕ) (x : Context K V I)
     : Type 0 where
   pub here : context_at v slot c ≡ Some x
   pub number : x.number ≡ started
@@ -39,13 +39,13 @@ pub record IsOpen {K V I : Type 0} (op : Op K V I) (old v : PartitionView K V I)
   pub frame : LeavesOthers old v slot c v.moment
 
 -- it waits for nothing from outside
-pub record IsReady {K V I : Type 0} (op : Op K V I) (old v : PartitionView K V I) (slot c started : ℕ) : Type 0 where
+pub record IsReady {K V I : Type 0} (op : KeyedOp K V I) (old v : CoreView K V I) (slot c started : ℕ) : Type 0 where
   pub operation : Context K V I
   pub open_is : IsOpen op old v slot c started operation
   pub ready : (operation.phase ≡ Fresh) ⊎ ((p : Place) × (operation.phase ≡ Confirm p))
 
 -- it asks this to be built
-pub record IsAsking {K V I : Type 0} (op : Op K V I) (old v : PartitionView K V I) (slot c started : ℕ) (ask : Ask K V I)
+pub record IsAsking {K V I : Type 0} (op : KeyedOp K V I) (old v : CoreView K V I) (slot c started : ℕ) (ask : Ask K V I)
     : Type 0 where
   pub operation : Context K V I
   pub open_is : IsOpen op old v slot c started operation
@@ -54,8 +54,8 @@ pub record IsAsking {K V I : Type 0} (op : Op K V I) (old v : PartitionView K V 
 
 -- it asks for the page of an address, by the receipt that is kept of it; on a device that keeps it is to find what the
 -- live map said of its key before
-pub record IsFetching {K V I : Type 0} (keeps : Bool) (cmp : K → K → Ordering) (op : Op K V I)
-    (old v : PartitionView K V I) (slot c started : ℕ) (s : Standing) (a : ℕ) : Type 0 where
+pub record IsFetching {K V I : Type 0} (keeps : Bool) (cmp : K → K → Ordering) (op : KeyedOp K V I)
+    (old v : CoreView K V I) (slot c started : ℕ) (s : Standing) (a : ℕ) : Type 0 where
   pub operation : Context K V I
   pub open_is : IsOpen op old v slot c started operation
   pub loading : Loading
@@ -68,21 +68,21 @@ pub record IsFetching {K V I : Type 0} (keeps : Bool) (cmp : K → K → Orderin
       → pending cmp v slot c ≡ Some (record { moment = loading.looked; value = live_of cmp old (key_of op) })
 
 -- why an operation on a key has to wait
-abbrev pub IsHeldUp : {K V I : Type 0} → (K → K → Ordering) → (K → ℕ) → PartitionView K V I → ℕ → K → Wait → Type 0
+abbrev pub IsHeldUp : {K V I : Type 0} → (K → K → Ordering) → (K → ℕ) → CoreView K V I → ℕ → K → Wait → Type 0
 IsHeldUp {K} {V} {I} cmp code v slot k wait.Fuzzy = (w : V) × (met_at cmp code v slot k ≡ met.Fuzzy w)
 IsHeldUp cmp code v slot k wait.Full = IsFull v.records
 
 -- it cannot go on yet
-pub record IsWaiting {K V I : Type 0} (cmp : K → K → Ordering) (code : K → ℕ) (op : Op K V I)
-    (old v : PartitionView K V I) (slot c started : ℕ) (why : Wait) : Type 0 where
+pub record IsWaiting {K V I : Type 0} (cmp : K → K → Ordering) (code : K → ℕ) (op : KeyedOp K V I)
+    (old v : CoreView K V I) (slot c started : ℕ) (why : Wait) : Type 0 where
   pub operation : Context K V I
   pub open_is : IsOpen op old v slot c started operation
   pub reason : IsHeldUp cmp code v slot (key_of op) why
 
 -- it is done, and its context is free: on a device that keeps, the live map is what the operation makes of it, once,
 -- and the answer is the plain map's; its effect is after its issue
-pub record IsDone {K V I O : Type 0} (keeps : Bool) (cmp : K → K → Ordering) (f : Meanings K V I O) (op : Op K V I)
-    (old new : PartitionView K V I) (slot c started : ℕ) (a : Answer O) (effect : ℕ) : Type 0 where
+pub record IsDone {K V I O : Type 0} (keeps : Bool) (cmp : K → K → Ordering) (f : Meanings K V I O) (op : KeyedOp K V I)
+    (old new : CoreView K V I) (slot c started : ℕ) (a : Answer O) (effect : ℕ) : Type 0 where
   pub closed : context_at new slot c ≡ None
   pub live : IsTrue keeps → Same (live_of cmp new) (after cmp f (live_of cmp old) op)
   pub answers : IsTrue keeps → a ≡ answer f (live_of cmp old) op
@@ -92,7 +92,7 @@ pub record IsDone {K V I O : Type 0} (keeps : Bool) (cmp : K → K → Ordering)
 
 -- what it told last
 abbrev pub HasCome : {K V I O R : Type 0} → Bool → (R → Standing) → (K → K → Ordering) → Meanings K V I O → (K → ℕ)
-    → Op K V I → PartitionView K V I → PartitionView K V I → ℕ → ℕ → ℕ → Progress K V I O R → Type 0
+    → KeyedOp K V I → CoreView K V I → CoreView K V I → ℕ → ℕ → ℕ → Progress K V I O R → Type 0
 HasCome keeps stands cmp f code op old v slot c started (Done a effect) = IsDone keeps cmp f op old v slot c started a effect
 HasCome keeps stands cmp f code op old v slot c started Next = IsReady op old v slot c started
 HasCome keeps stands cmp f code op old v slot c started (NeedsBuild ask) = IsAsking op old v slot c started ask

@@ -1,15 +1,16 @@
 //! One event of an operation that is driven alone: what it asked for is built or read, and handed in.
-ghost use Rattle.std.specs.Prelude.{◌≡◌, ◌<◌, ◌≤◌, ℕ, IsTrue, IfOk};
-ghost use Rattle.fkv_operations.specs.declared.operations.Op.{Op};
-ghost use Rattle.fkv_partition.specs.Views.{PartitionView};
+ghost use Rattle.std.specs.Prelude.{◌≡◌, ◌+◌, ◌*◌, ◌<◌, ◌≤◌, ℕ, None, IsTrue, IfOk, slice_get};
+ghost use Rattle.fkv_operations.specs.declared.operations.KeyedOp.{KeyedOp};
+ghost use Rattle.fkv_partition.specs.CoreViews.{CoreView};
 ghost use Rattle.fkv_partition.specs.Pending.{OthersPend};
+ghost use Rattle.fkv_partition.specs.CoreContexts.{joined};
+ghost use Rattle.fkv_partition.specs.Views.{with_core};
 ghost use Rattle.fkv_alone.specs.Stages.{HasCome, IsFetching};
 ghost use Rattle.fkv_alone.specs.Ending.{Advances, IsOn};
 ghost use Rattle.fkv_alone.specs.Bound.{IsNear, IsNearer};
 
 use fkv_device::{Loaded, PageReader, Receipt};
 use fkv_functions::{Built, Functions, Refused};
-use fkv_partition::laws::{loads_end, pendings_stay};
 use fkv_partition::{Partition, Progress, ProgressOf};
 
 /// Reads the page that an operation asked for, and hands it in, or what came in its place.
@@ -22,19 +23,20 @@ fn load<F: Functions, R: Receipt, P: PageReader<Receipt = R>>(
     reader: &mut P,
     now: u64,
 ) -> Result<ProgressOf<F, R>, Refused>
-    requires later { partition.old.moment < now }
-    ensures advances { (op : Op F.Key F.Value F.Input) (old : PartitionView F.Key F.Value F.Input) (started a : ℕ)
-        → IsFetching R.keeps F.Key.cmp op old partition.old slot context started (R.stands receipt) a
-        → Advances R.keeps R.stands F.Key.cmp F.meaning F.code op old partition.old partition.new slot context
+    requires later { partition.old.core.moment < now }
+    requires none { joined (slice_get partition.old.relocations (slot * 8 + context)) ≡ None }
+    ensures advances { (op : KeyedOp F.Key F.Value F.Input) (old : CoreView F.Key F.Value F.Input) (started a : ℕ)
+        → IsFetching R.keeps F.Key.cmp op old partition.old.core slot context started (R.stands receipt) a
+        → Advances R.keeps R.stands F.Key.cmp F.meaning F.code op old partition.old.core partition.new.core slot context
         started (P.failures reader.old) (P.failures reader.new) result }
-    ensures others { OthersPend F.Key.cmp partition.old partition.new slot context }
+    ensures others { IsTrue R.keeps → OthersPend F.Key.cmp partition.old.core partition.new.core slot context }
     ensures nearer { (n a : ℕ) → IsTrue R.keeps
-        → IsNear {O = F.Output} F.code partition.old slot context (Progress.NeedsLoad receipt a) n
-        → IfOk result (λ progress. IsOn progress → IsNearer F.code partition.new slot context progress n) }
-    ensures past { partition.new.moment ≤ now }
+        → IsNear {O = F.Output} F.code partition.old.core slot context (Progress.NeedsLoad receipt a) n
+        → IfOk result (λ progress. IsOn progress → IsNearer F.code partition.new.core slot context progress n) }
+    ensures rest { partition.new ≡ with_core partition.old partition.new.core }
+    ensures past { partition.new.core.moment ≤ now }
 {
     partition.known();
-    loads_end::<F, R>();
     let size = partition.page_size();
     let came = Loaded::<R>::fetch(reader, &receipt, size);
     partition.load(slot, context, came, functions, now)
@@ -51,21 +53,22 @@ pub(crate) fn step<F: Functions, R: Receipt, P: PageReader<Receipt = R>>(
     reader: &mut P,
     now: u64,
 ) -> Result<ProgressOf<F, R>, Refused>
-    requires later { partition.old.moment < now }
+    requires later { partition.old.core.moment < now }
+    requires none { joined (slice_get partition.old.relocations (slot * 8 + context)) ≡ None }
     requires on { IsOn told }
-    ensures advances { (op : Op F.Key F.Value F.Input) (old : PartitionView F.Key F.Value F.Input) (started : ℕ)
-        → HasCome R.keeps R.stands F.Key.cmp F.meaning F.code op old partition.old slot context started told
-        → Advances R.keeps R.stands F.Key.cmp F.meaning F.code op old partition.old partition.new slot context
+    ensures advances { (op : KeyedOp F.Key F.Value F.Input) (old : CoreView F.Key F.Value F.Input) (started : ℕ)
+        → HasCome R.keeps R.stands F.Key.cmp F.meaning F.code op old partition.old.core slot context started told
+        → Advances R.keeps R.stands F.Key.cmp F.meaning F.code op old partition.old.core partition.new.core slot context
         started (P.failures reader.old) (P.failures reader.new) result }
-    ensures others { IsTrue R.keeps → OthersPend F.Key.cmp partition.old partition.new slot context }
+    ensures others { IsTrue R.keeps → OthersPend F.Key.cmp partition.old.core partition.new.core slot context }
     // on a device that keeps, where nobody is in its way, the operation comes nearer to its end
     ensures nearer { (n : ℕ) → IsTrue R.keeps
-        → IsNear F.code partition.old slot context told n
-        → IfOk result (λ progress. IsOn progress → IsNearer F.code partition.new slot context progress n) }
-    ensures past { partition.new.moment ≤ now }
+        → IsNear F.code partition.old.core slot context told n
+        → IfOk result (λ progress. IsOn progress → IsNearer F.code partition.new.core slot context progress n) }
+    ensures rest { partition.new ≡ with_core partition.old partition.new.core }
+    ensures past { partition.new.core.moment ≤ now }
 {
     partition.known();
-    pendings_stay::<F::Key, F::Value, F::Input, F::Output, R>();
     match told {
         Progress::Next => partition.go(slot, context, functions, now),
         Progress::NeedsBuild(ask) => {

@@ -1,6 +1,6 @@
 //! Calls on pages of 256 bytes in a ring of frames, with a writer and a reader of a device: records take 48 bytes.
 ghost use Rattle.std.specs.Prelude.{◌≡◌, ◌≤◌, ◌↔◌, IsTrue, length};
-ghost use Rattle.fkv_records.specs.Places.{page_at, IsPlace};
+ghost use Rattle.fkv_records.specs.Places.{page_at, IsRecordStart};
 ghost use Rattle.fkv_records.specs.Records.{size_of, IsPrevious};
 
 use crate::lines::{Line, Subject};
@@ -8,7 +8,7 @@ use fkv_device::{Disk, FileDevice, FlushJob, Loaded, MemoryDevice, Page, Receipt
 use fkv_functions::{Fixed, Name, Refused};
 use fkv_pages::Pages;
 use fkv_records::{Address, Shape, record_size};
-use fkv_texts::{Entry, Reached};
+use fkv_texts::{ChainPosition, Entry};
 use std::alloc::{AllocError, Global};
 
 /// Pages, a writer and a reader.
@@ -61,7 +61,7 @@ fn is_previous(address: Address, previous: Address) -> bool
 
 /// Whether an address is a place whose page is at most the first that is not flushed.
 fn is_low<K: Fixed, V: Fixed, R: Receipt>(pages: &Pages<K, V, R>, address: Address) -> bool
-    ensures place { IsTrue result → IsPlace pages.now.bits (size_of K.SIZE V.SIZE) address }
+    ensures place { IsTrue result → IsRecordStart pages.now.bits (size_of K.SIZE V.SIZE) address }
     ensures flushed { IsTrue result → page_at pages.now.bits address ≤ length pages.now.receipts }
     ensures frozen { IsTrue result → address ≤ pages.now.frozen }
 {
@@ -205,8 +205,8 @@ impl<D: Disk> Driven<D> {
             return record_told(self.pages.record_in(&loaded, address));
         };
         match self.pages.first_in_page(&loaded, &key, address) {
-            Ok(Reached::Found(entry)) => record_told(Ok(entry)),
-            Ok(Reached::Below(address)) => Told::Below(address),
+            Ok(ChainPosition::Found(entry)) => record_told(Ok(entry)),
+            Ok(ChainPosition::Below(address)) => Told::Below(address),
             Err(refused) => Told::Refused(refused),
         }
     }

@@ -1,12 +1,1 @@
-pub mod SteadyLemmas
-pub mod KeepLemmas
-pub mod FreeLemmas
-pub mod TruncateLemmas
-pub mod MoveLemmas
-pub mod WeighLemmas
-pub mod AgainLemmas
-pub mod HeldLemmas
-pub mod LookLemmas
-pub mod ReadLemmas
-pub mod TraceLemmas
 pub mod CompactorLemmas

@@ -1,11 +1,1 @@
-pub mod Views
-pub mod Inside
-pub mod Stages
-pub mod Sound
-pub mod Effect
-pub mod Weighing
-pub mod Beginning
-pub mod Going
-pub mod Reading
-pub mod Truncating
 pub mod Compactor

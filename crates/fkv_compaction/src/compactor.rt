@@ -1,22 +1,30 @@
-//! Compactors: sessions that relocate, one place at a time.
-ghost use Rattle.std.specs.Prelude.{◌≡◌, ◌+◌, ◌^◌, ◌<◌, ◌≤◌, ℕ, IfOk, IfSome, OnOk, OnErr, Ok, Some, None};
+//! A session that relocates, one target at a time.
+ghost use Rattle.std.specs.Prelude.{◌≡◌, ◌≢◌, ◌+◌, ◌^◌, ◌<◌, ◌≤◌, ◌⊎◌, ℕ, IsTrue, IfOk, IfErr, IfSome, OnOk, OnErr, Ok, Some, None};
+ghost use Rattle.fkv_functions.specs.Plain.{Same};
 ghost use Rattle.fkv_records.specs.Places.{page_at, start_at};
 ghost use Rattle.fkv_pages.specs.Spelled.{IsEntryIn};
-ghost use Rattle.fkv_partition.specs.Beginning.{Enters};
-ghost use Rattle.fkv_partition.specs.Effect.{IsQuiet};
-ghost use Rattle.fkv_partition.specs.Truncating.{IsTruncation};
-ghost use Rattle.fkv_compaction.specs.Views.{relocation_at, with_partition};
-ghost use Rattle.fkv_compaction.specs.Truncating.{Truncates, told_of};
-ghost use Rattle.fkv_compaction.specs.Compactor.{IsFirstOpen, IsTurn, CompactsNext, CompactsLoad, GivesUpAll, Parts};
+ghost use Rattle.fkv_operations.specs.declared.operations.KeyedOp.{KeyedOp};
+ghost use Rattle.fkv_operations.specs.declared.operations.Answer.TheVariants.{Cleared};
+ghost use Rattle.fkv_operations.specs.Operations.{keyed};
+ghost use Rattle.fkv_partition.specs.Pending.{AllPend};
+ghost use Rattle.fkv_partition.specs.CoreViews.{live_of};
+ghost use Rattle.fkv_partition.specs.Progress.TheVariants.{Done};
+ghost use Rattle.fkv_partition.specs.Views.{relocation_at};
+ghost use Rattle.fkv_partition.specs.Beginning.{IsFirstOpen};
+ghost use Rattle.fkv_partition.specs.Effect.{Asked, asked, IsQuiet, IsGiveUp, IsTruncation};
+ghost use Rattle.fkv_partition.specs.Events.{Enters};
+ghost use Rattle.fkv_partition.specs.Truncating.{Truncates, told_of};
+ghost use Rattle.fkv_compaction.specs.Compactor.{IsTurn, IsParted, CompactsNext, CompactsLoad, GivesUpAll, Parts};
 
-use crate::compacted::Compacted;
-use crate::relocations::Moved;
 use fkv_device::{Loaded, Receipt};
 use fkv_functions::{Functions, Refused};
-use fkv_operations::Clock;
-use fkv_partition::contexts::CONTEXTS;
+use fkv_operations::{Clock, Op};
+use fkv_partition::{Partition, Progress, ProgressOf};
 use fkv_records::Address;
 use std::marker::Model;
+
+/// The contexts of a session.
+const CONTEXTS: usize = 8;
 
 /// A session of a partition that relocates: it finishes one relocation before it issues the next. Which partition it
 /// has joined is not kept, so each call is to be given that one. A contract sees it as its slot.
@@ -38,18 +46,18 @@ impl Model for Compactor {
 impl Compactor {
     /// Enters a session of a partition. Refused, and then nothing changes: `NoSlot` where sixteen sessions are entered.
     pub fn join<F: Functions, R: Receipt>(
-        compacted: &mut Compacted<F, R>,
+        partition: &mut Partition<F, R>,
         now: u64,
     ) -> Result<Self, Refused>
-        requires later { compacted.old.partition.moment < now }
-        ensures does { Enters compacted.old.partition compacted.new.partition now result }
-        ensures rest { compacted.new ≡ with_partition compacted.old compacted.new.partition }
-        ensures event { IfOk result (λ _. IsQuiet R.keeps compacted.old.partition compacted.new.partition now) }
+        requires later { partition.old.core.moment < now }
+        ensures does { Enters partition.old partition.new now result }
+        ensures event { IfOk result (λ _. IsQuiet R.keeps partition.old partition.new now) }
+        ensures pends { AllPend F.Key.cmp partition.old.core partition.new.core }
         ensures within { IfOk result (λ slot. slot < 16) }
-        ensures err { OnErr result (compacted.new ≡ compacted.old) }
-        ensures moment { compacted.new.partition.moment ≤ now }
+        ensures err { OnErr result (partition.new ≡ partition.old) }
+        ensures moment { partition.new.core.moment ≤ now }
     {
-        match compacted.enter(now) {
+        match partition.enter(now) {
             Err(refused) => Err(refused),
             Ok(slot) => Ok(Compactor { slot }),
         }
@@ -62,78 +70,119 @@ impl Compactor {
         self.slot
     }
 
-    /// Takes the next step. Where no relocation of its session is open it issues one, as [`Compacted::relocate`] does,
-    /// and answers `Next`; else it goes on with the one of the lowest context in which one is open, as
-    /// [`Compacted::go_on`] does. Refused, and then nothing changes: as those are.
+    /// Takes the next step. Where no relocation of its session is open it issues one, as [`Partition::issue`] does, and
+    /// answers `Next`; else it goes on with the one of the lowest context in which one is open, as [`Partition::go`] does.
+    /// Refused, and then nothing changes: as those are.
     pub fn next<F: Functions, R: Receipt>(
         &self,
-        compacted: &mut Compacted<F, R>,
+        partition: &mut Partition<F, R>,
         functions: &F,
         now: u64,
-    ) -> Result<Moved<R>, Refused>
-        requires later { compacted.old.partition.moment < now }
-        ensures does { CompactsNext R.stands F.Key.cmp F.code compacted.old compacted.new self.now now result }
-        ensures event { IfOk result (λ _. IsTurn R.keeps F.Key.cmp compacted.old compacted.new self.now now) }
-        ensures cleared { result ≡ Ok Moved.Cleared → (c : ℕ)
-            → IsFirstOpen compacted.old self.now (Some c)
-            → IfSome (relocation_at compacted.old self.now c) (λ x. x.place < compacted.new.cleared) }
-        ensures err { OnErr result (compacted.new ≡ compacted.old) }
-        ensures moment { compacted.new.partition.moment ≤ now }
+    ) -> Result<ProgressOf<F, R>, Refused>
+        requires later { partition.old.core.moment < now }
+        ensures does { CompactsNext R.stands F.Key.cmp F.meaning F.code partition.old partition.new self.now now result }
+        ensures event { IfOk result (λ _. IsTurn R.keeps F.Key.cmp partition.old partition.new self.now now) }
+        ensures cleared { result ≡ Ok (Done Cleared now) → (c : ℕ)
+            → IsFirstOpen partition.old self.now (Some c)
+            → IfSome (relocation_at partition.old self.now c) (λ x. x.target < partition.new.cleared) }
+        ensures err { OnErr result (partition.new ≡ partition.old) }
+        ensures moment { partition.new.core.moment ≤ now }
     {
-        if let Some(context) = compacted.open_relocation(self.slot) {
-            return compacted.go_on(self.slot, context, functions, now);
+        match partition.open_relocation(self.slot) {
+            Some(context) => self.go(partition, context, functions, now),
+            None => self.begin(partition, functions, now),
         }
-        match compacted.relocate(self.slot, now) {
+    }
+
+    /// Goes on with its relocation in the lowest context in which one is open.
+    fn go<F: Functions, R: Receipt>(
+        &self,
+        partition: &mut Partition<F, R>,
+        context: usize,
+        functions: &F,
+        now: u64,
+    ) -> Result<ProgressOf<F, R>, Refused>
+        requires later { partition.old.core.moment < now }
+        requires open { IsFirstOpen partition.old self.now (Some context) }
+        ensures does { CompactsNext R.stands F.Key.cmp F.meaning F.code partition.old partition.new self.now now result }
+        ensures event { IfOk result (λ _. IsTurn R.keeps F.Key.cmp partition.old partition.new self.now now) }
+        ensures cleared { result ≡ Ok (Done Cleared now)
+            → IfSome (relocation_at partition.old self.now context) (λ x. x.target < partition.new.cleared) }
+        ensures err { OnErr result (partition.new ≡ partition.old) }
+        ensures moment { partition.new.core.moment ≤ now }
+    {
+        partition.go(self.slot, context, functions, now)
+    }
+
+    /// Issues a relocation where none of its session is open.
+    fn begin<F: Functions, R: Receipt>(
+        &self,
+        partition: &mut Partition<F, R>,
+        functions: &F,
+        now: u64,
+    ) -> Result<ProgressOf<F, R>, Refused>
+        requires later { partition.old.core.moment < now }
+        requires none { IsFirstOpen partition.old self.now None }
+        ensures does { CompactsNext R.stands F.Key.cmp F.meaning F.code partition.old partition.new self.now now result }
+        ensures event { IfOk result (λ _. IsTurn R.keeps F.Key.cmp partition.old partition.new self.now now) }
+        ensures uncleared { result ≡ Ok (Done Cleared now) → ⊥ }
+        ensures err { OnErr result (partition.new ≡ partition.old) }
+        ensures moment { partition.new.core.moment ≤ now }
+    {
+        match partition.issue(self.slot, Op::Relocate, functions, now) {
             Err(refused) => Err(refused),
-            Ok(_context) => Ok(Moved::Next),
+            Ok(_context) => Ok(Progress::Next),
         }
     }
 
     /// Goes on with the relocation of the lowest context in which one of its session is open, with the page that it
-    /// waits for, or with the refusal that came in its place, as [`Compacted::load_on`] does, whose refusals it has,
-    /// and `Unknown` where none is open.
+    /// waits for, or with the refusal that came in its place, as [`Partition::load`] does, whose refusals it has, and
+    /// `Unknown` where none is open. A refusal gives the relocation up, or changes nothing.
     pub fn load<F: Functions, R: Receipt>(
         &self,
-        compacted: &mut Compacted<F, R>,
+        partition: &mut Partition<F, R>,
         came: Result<Loaded<R>, Refused>,
         functions: &F,
         now: u64,
-    ) -> Result<Moved<R>, Refused>
-        requires later { compacted.old.partition.moment < now }
+    ) -> Result<ProgressOf<F, R>, Refused>
+        requires later { partition.old.core.moment < now }
         ensures does { CompactsLoad R.stands (IsEntryIn F.Key.bytes_of F.Value.bytes_of F.Key.is_known
-            F.Value.is_known F.Key.SIZE F.Value.SIZE) F.Key.cmp F.code compacted.old compacted.new self.now came now
-            result }
-        ensures event { IfOk result (λ _. IsTurn R.keeps F.Key.cmp compacted.old compacted.new self.now now) }
-        ensures cleared { result ≡ Ok Moved.Cleared → (c : ℕ)
-            → IsFirstOpen compacted.old self.now (Some c)
-            → IfSome (relocation_at compacted.old self.now c) (λ x. x.place < compacted.new.cleared) }
-        ensures moment { compacted.new.partition.moment ≤ now }
+            F.Value.is_known F.Key.SIZE F.Value.SIZE) F.Key.cmp F.meaning F.code partition.old partition.new self.now
+            came now result }
+        ensures event { IfOk result (λ _. IsTurn R.keeps F.Key.cmp partition.old partition.new self.now now) }
+        ensures fails { IfErr result (λ _. (partition.new ≡ partition.old)
+            ⊎ ((c : ℕ) × IsFirstOpen partition.old self.now (Some c)
+            × IsGiveUp partition.old partition.new self.now c now)) }
+        ensures cleared { result ≡ Ok (Done Cleared now) → (c : ℕ)
+            → IsFirstOpen partition.old self.now (Some c)
+            → IfSome (relocation_at partition.old self.now c) (λ x. x.target < partition.new.cleared) }
+        ensures moment { partition.new.core.moment ≤ now }
     {
-        match compacted.open_relocation(self.slot) {
+        match partition.open_relocation(self.slot) {
             None => Err(Refused::Unknown),
-            Some(context) => compacted.load_on(self.slot, context, came, functions, now),
+            Some(context) => partition.load(self.slot, context, came, functions, now),
         }
     }
 
-    /// Moves Begin to the start of the page up to which all is cleared, as [`Compacted::truncate_cleared`] does, whose
+    /// Moves Begin to the start of the page up to which all is cleared, as [`Partition::truncate_cleared`] does, whose
     /// refusals it has.
     pub fn truncate_cleared<F: Functions, R: Receipt>(
         &self,
-        compacted: &mut Compacted<F, R>,
+        partition: &mut Partition<F, R>,
         now: u64,
     ) -> Result<Address, Refused>
-        requires later { compacted.old.partition.moment < now }
-        ensures does { Truncates R.keeps compacted.old compacted.new
-            (page_at compacted.old.partition.records.page_bits compacted.old.cleared) now (told_of result) }
-        ensures begin { IfOk result (λ begin. (begin ≡ compacted.new.partition.records.begin)
-            × (begin ≡ start_at compacted.old.partition.records.page_bits
-            (page_at compacted.old.partition.records.page_bits compacted.old.cleared))) }
-        ensures event { OnOk result (IsTruncation R.keeps F.Key.cmp compacted.old.partition compacted.new.partition
-            (page_at compacted.old.partition.records.page_bits compacted.old.cleared) now) }
-        ensures err { OnErr result (compacted.new ≡ compacted.old) }
-        ensures moment { compacted.new.partition.moment ≤ now }
+        requires later { partition.old.core.moment < now }
+        ensures does { Truncates R.keeps partition.old partition.new
+            (page_at partition.old.core.records.page_bits partition.old.cleared) now (told_of result) }
+        ensures begin { IfOk result (λ begin. (begin ≡ partition.new.core.records.begin)
+            × (begin ≡ start_at partition.old.core.records.page_bits
+            (page_at partition.old.core.records.page_bits partition.old.cleared))) }
+        ensures event { OnOk result (IsTruncation R.keeps F.Key.cmp partition.old partition.new
+            (page_at partition.old.core.records.page_bits partition.old.cleared) now) }
+        ensures err { OnErr result (partition.new ≡ partition.old) }
+        ensures moment { partition.new.core.moment ≤ now }
     {
-        compacted.truncate_cleared(now)
+        partition.truncate_cleared(now)
     }
 
     /// Gives up the relocations of its session that are open, the lowest context first, each at a moment of the clock,
@@ -142,47 +191,55 @@ impl Compactor {
     /// operation of the session is open, and then the session stays, and its relocations are given up nonetheless.
     pub fn part<F: Functions, R: Receipt>(
         self,
-        compacted: &mut Compacted<F, R>,
+        partition: &mut Partition<F, R>,
         clock: &mut Clock,
     ) -> Result<(), Refused>
-        requires past { compacted.old.partition.moment ≤ clock.old }
-        ensures does { Parts R.keeps compacted.old compacted.new self clock.old clock.new result }
-        ensures event { OnOk result (IsQuiet R.keeps compacted.old.partition compacted.new.partition clock.new) }
-        ensures cleared { compacted.new.cleared ≡ compacted.old.cleared }
-        ensures past { compacted.new.partition.moment ≤ clock.new }
+        requires past { partition.old.core.moment ≤ clock.old }
+        ensures does { Parts R.keeps partition.old partition.new self clock.old clock.new result }
+        ensures event { OnOk result (IsParted R.keeps partition.old partition.new clock.new) }
+        // whatever it answers: other sessions and operations on keys ask what they asked, look-ups are to find what they
+        // were to find, and the live map stays
+        ensures others { (s d : ℕ) → s ≢ self → asked partition.new s d ≡ asked partition.old s d }
+        ensures operations { (s d : ℕ) (x : Asked F.Key F.Value F.Input) (o : KeyedOp F.Key F.Value F.Input)
+            → asked partition.old s d ≡ Some x → keyed x.op ≡ Some o → asked partition.new s d ≡ Some x }
+        ensures pends { IsTrue R.keeps → AllPend F.Key.cmp partition.old.core partition.new.core }
+        ensures live { IsTrue R.keeps → Same (live_of F.Key.cmp partition.new.core) (live_of F.Key.cmp partition.old.core) }
+        ensures cleared { partition.new.cleared ≡ partition.old.cleared }
+        ensures past { partition.new.core.moment ≤ clock.new }
     {
         if clock.last() > u64::MAX - 9 {
             return Err(Refused::Worn);
         }
-        self.give_up_all(compacted, clock);
+        self.give_up_all(partition, clock);
         let Ok(now) = clock.tick() else {
             unreachable!()
         };
-        compacted.leave(self.slot, now)
+        partition.leave(self.slot, now)
     }
 
     /// Gives up the relocations of its session that are open.
     fn give_up_all<F: Functions, R: Receipt>(
         &self,
-        compacted: &mut Compacted<F, R>,
+        partition: &mut Partition<F, R>,
         clock: &mut Clock,
     )
-        requires past { compacted.old.partition.moment ≤ clock.old }
+        requires past { partition.old.core.moment ≤ clock.old }
         requires spare { clock.old + 9 < 2 ^ 64 }
-        ensures does { GivesUpAll self.now compacted.old compacted.new clock.old clock.new }
-        ensures partition { compacted.new.partition
-            ≡ record compacted.old.partition { moment = compacted.new.partition.moment } }
-        ensures cleared { compacted.new.cleared ≡ compacted.old.cleared }
-        ensures none { (c : ℕ) → relocation_at compacted.new self.now c ≡ None }
-        ensures past { compacted.new.partition.moment ≤ clock.new }
+        ensures does { GivesUpAll self.now partition.old partition.new clock.old clock.new }
+        ensures core { partition.new.core
+            ≡ record partition.old.core { moment = partition.new.core.moment } }
+        ensures cleared { partition.new.cleared ≡ partition.old.cleared }
+        ensures none { (c : ℕ) → relocation_at partition.new self.now c ≡ None }
+        ensures others { (s d : ℕ) → s ≢ self.now → asked partition.new s d ≡ asked partition.old s d }
+        ensures past { partition.new.core.moment ≤ clock.new }
         ensures spare { clock.new ≤ clock.old + 8 }
     {
         for context in 0..CONTEXTS {
-            if compacted.relocation(self.slot, context).is_some() {
+            if partition.relocation(self.slot, context).is_some() {
                 let Ok(now) = clock.tick() else {
                     unreachable!()
                 };
-                let _given_up = compacted.drop_relocation(self.slot, context, now);
+                let _given_up = partition.give_up(self.slot, context, now);
             }
         }
     }

@@ -1,35 +1,36 @@
 -- What an update in one call leaves of a session that had nothing open.
-use Rattle.std.proofs.Common.{◌≡◌, ℕ, Ok, length, None, refl, ◌∙◌, subst}
+use Rattle.std.proofs.Common.{◌≡◌, ℕ, Ok, length, None, ◌∙◌, subst}
 use Rattle.std.specs.declared.cmp.Ordering.{Ordering}
 use Rattle.fkv_functions.specs.Meanings.{Meanings}
 use Rattle.fkv_functions.specs.Plain.{Same}
 use Rattle.fkv_device.specs.Standing.{Standing}
 use Rattle.fkv_texts.specs.Text.{live}
 use Rattle.fkv_operations.specs.After.{after}
-use Rattle.fkv_operations.specs.declared.operations.Op.TheVariants.{Rmw}
+use Rattle.fkv_operations.specs.declared.operations.KeyedOp.TheVariants.{Rmw}
 use Rattle.fkv_operations.specs.declared.operations.Answer.TheVariants.{Value}
-use Rattle.fkv_partition.specs.declared.contexts.Progress.TheVariants.{Done}
-use Rattle.fkv_partition.specs.Views.{PartitionView, live_of}
+use Rattle.fkv_partition.specs.Progress.TheVariants.{Done}
+use Rattle.fkv_partition.specs.CoreViews.{live_of}
 use Rattle.fkv_partition.specs.AtOnce.{IsDoneAtOnce}
-use Rattle.fkv_feeds.specs.Seats.{IsIdle}
-use Rattle.fkv_feeds.proofs.SeatLemmas.{issue-opens, goes-leads, effect-of}
+use Rattle.fkv_partition.specs.Views.{PartitionView}
+use Rattle.fkv_feeds.specs.Sessions.{IsIdle}
+use Rattle.fkv_feeds.proofs.SessionLemmas.{issue-opens, goes-leads, effect-of}
 
 pub record IsUpdated {K V I O : Type 0} (cmp : K → K → Ordering) (f : Meanings K V I O) (v w : PartitionView K V I) (slot : ℕ) (key : K) (input : I) : Type 0 where
   pub idle : IsIdle w slot
-  pub number : w.number ≡ v.number
-  pub count : w.count ≡ v.count
-  pub effect : Same (live_of cmp w) (after cmp f (live_of cmp v) (Rmw key input))
+  pub number : w.core.number ≡ v.core.number
+  pub count : w.core.count ≡ v.core.count
+  pub effect : Same (live_of cmp w.core) (after cmp f (live_of cmp v.core) (Rmw key input))
 
 pub updated-at_once : {K V I O R : Type 0} (stands : R → Standing) (cmp : K → K → Ordering) (f : Meanings K V I O) (code : K → ℕ) (v w : PartitionView K V I) (slot : ℕ) (key : K) (input : I) (issued now : ℕ) (shown : O)
-    → IsIdle v slot → length v.contexts ≡ 128 → IsDoneAtOnce stands cmp f code v w slot key input issued now shown → IsUpdated cmp f v w slot key input
+    → IsIdle v slot → length v.core.contexts ≡ 128 → IsDoneAtOnce stands cmp f code v w slot key input issued now shown → IsUpdated cmp f v w slot key input
 updated-at_once stands cmp f code v w slot key input issued now shown idle places d =
     let op = Rmw key input in
-    let opened = issue-opens code v d.between slot d.context issued op idle places d.low (input, refl) d.issues in
+    let opened = issue-opens code v d.between slot d.context issued key input idle places d.issues in
     let leads = goes-leads stands d.between w slot d.context op cmp f code now (Ok (Done (Value shown) now)) opened.seat d.goes in
     let effect = effect-of stands d.between w slot d.context op cmp f now None (Done (Value shown) now) opened.seat d.event in
     record {
       idle = leads.1;
       number = leads.0.number ∙ opened.number;
       count = leads.0.count ∙ opened.count;
-      effect = subst (λ t. Same (live_of cmp w) (after cmp f (live cmp t) op)) opened.text effect;
+      effect = subst (λ t. Same (live_of cmp w.core) (after cmp f (live cmp t) op)) opened.text effect;
     }

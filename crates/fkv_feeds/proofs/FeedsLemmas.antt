@@ -10,7 +10,7 @@ use Rattle.fkv_feed_rows.specs.Feeds.{IsFeed, IsBadRow, IsTooLong, TellsWhy, wit
 use Rattle.fkv_feed_rows.specs.Watching.{TellsOf}
 use Rattle.fkv_feeds.specs.Tables.{AreFeeds, most_rows}
 use Rattle.std.specs.Prelude.{Result, Ok, Err, IfOk, IfErr, IfSome, OnOk, option_map}
-use Rattle.fkv_partition.specs.declared.limits.Config.{Config}
+use Rattle.fkv_partition.specs.Config.{Config}
 use Rattle.std.specs.declared.cmp.Ordering.{Ordering}
 use Rattle.fkv_device.specs.Failing.{FailsOnlyBy, ReadFailsBy}
 use Rattle.fkv_hybrid.specs.Scans.{IsScanRefusal}

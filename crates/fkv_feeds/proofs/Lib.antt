@@ -1,5 +1,6 @@
 pub mod FlushLemmas
 pub mod SeatLemmas
+pub mod SessionLemmas
 pub mod RunLemmas
 pub mod FeedsLemmas
 mod AtOnceLemmas

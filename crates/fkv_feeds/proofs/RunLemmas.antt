@@ -13,14 +13,15 @@ use Rattle.fkv_functions.specs.Plain.{PlainMap, Same, with_at, IsKeyOrder}
 use Rattle.fkv_functions.specs.declared.refusals.Refused.{Refused}
 use Rattle.fkv_functions.proofs.ListLemmas.{get-append_cases, get-set_cases}
 use Rattle.fkv_operations.specs.AfterLaws.{same_map}
-use Rattle.fkv_operations.specs.declared.operations.Op.TheVariants.{Rmw}
-use Rattle.fkv_partition.specs.declared.limits.Config.{Config}
-use Rattle.fkv_partition.specs.declared.contexts.Context.{Context}
-use Rattle.fkv_partition.specs.Beginning.{Enters}
-use Rattle.fkv_partition.specs.Contexts.{joined, is_session, context_in}
-use Rattle.fkv_partition.specs.Views.{PartitionView, slots_of, context_at, live_of, partition_of, empty_partition}
+use Rattle.fkv_operations.specs.declared.operations.KeyedOp.TheVariants.{Rmw}
+use Rattle.fkv_partition.specs.Config.{Config}
+use Rattle.fkv_partition.specs.CoreBeginning as beginning
+use Rattle.fkv_partition.specs.CoreContexts.{joined, is_session, context_in}
+use Rattle.fkv_partition.specs.CoreViews.{CoreView, slots_of, context_at, live_of, partition_of, empty_core}
+use Rattle.fkv_partition.specs.Events.{Enters}
+use Rattle.fkv_partition.specs.Views.{PartitionView, empty_partition}
 use Rattle.fkv_feeds.specs.Tables.{amounts_of, folded}
-use Rattle.fkv_feeds.specs.Seats.{IsIdle}
+use Rattle.fkv_feeds.specs.Sessions.{IsIdle}
 use Rattle.fkv_partition.specs.Unions.{live_at, union_of}
 use Rattle.fkv_feeds.specs.Runs.{IsSeatedIn, AreNew, StandFor}
 use Rattle.fkv_partition.proofs.UnionLemmas.{live-after, is_at-turned}
@@ -39,33 +40,42 @@ nothing-open zero i = refl
 nothing-open (suc n) zero = refl
 nothing-open (suc n) (suc i) = nothing-open n i
 
+unopened : {A : Type 0} (slots : List (Option ℕ)) (slot c : ℕ) → context_in slots (replicate 128 (nothing A)) slot c ≡ None
+unopened {A = A} slots slot c = ap (λ o. cond (is_session slots slot && nat_lt c 8) o None) (nothing-open {A = A} 128 (slot * 8 + c)) ∙ either (is_session slots slot && nat_lt c 8)
+  where
+    either : (b : Bool) → cond b (nothing A) None ≡ None
+    either true = refl
+    either false = refl
+
 module _ {K V I : Type 0} (cmp : K → K → Ordering) (config : Config) (size number now : ℕ) where
-  unopened : (slots : List (Option ℕ)) (slot c : ℕ) → context_in slots (replicate 128 (nothing (Context K V I))) slot c ≡ None
-  unopened slots slot c = ap (λ o. cond (is_session slots slot && nat_lt c 8) o None) (nothing-open 128 (slot * 8 + c)) ∙ either (is_session slots slot && nat_lt c 8)
-    where
-      either : (b : Bool) → cond b (nothing (Context K V I)) None ≡ None
-      either true = refl
-      either false = refl
+  core-enters : (w : CoreView K V I) (e : Refused) → beginning.Enters (empty_core config size number) w now (Err e) → ⊥
+  core-enters w e (beginning.Enters.full f n r) = absurd (cc)
+  core-enters w e (beginning.Enters.enters slot f n r) = absurd (cc)
 
   pub enters-always : (w : PartitionView K V I) (e : Refused) → Enters (empty_partition config size number) w now (Err e) → ⊥
-  enters-always w e (Enters.full f n r) = absurd (cc)
-  enters-always w e (Enters.enters slot f n r) = absurd (cc)
+  enters-always w e h = core-enters w.core e h.does
 
-  pub seated-new : (w : PartitionView K V I) (slot : ℕ) → now ≡ number + 1 → w.moment ≤ now → Enters (empty_partition config size number) w now (Ok slot) → IsSeatedIn cmp config number w
-  seated-new w slot e past (Enters.full f n r) = absurd (cc)
-  seated-new w slot e past (Enters.enters s f n r) =
+  seated-in : (w : PartitionView K V I) (slot : ℕ) → now ≡ number + 1 → w.core.moment ≤ now → w.relocations ≡ replicate 128 None → beginning.Enters (empty_core config size number) w.core now (Ok slot) → IsSeatedIn cmp config number w
+  seated-in w slot e past none (beginning.Enters.full f n r) = absurd (cc)
+  seated-in w slot e past none (beginning.Enters.enters s f n r) =
       let zero_slot : 0 ≡ s = cc in
       record {
-        numbered = ap (λ (u : PartitionView K V I). u.number) n;
-        counted = ap (λ (u : PartitionView K V I). u.count) n;
+        numbered = ap (λ (u : CoreView K V I). u.number) n;
+        counted = ap (λ (u : CoreView K V I). u.count) n;
         past = omega arith;
         idle = record {
-          entered = ap (λ (u : PartitionView K V I). is_session (slots_of u) 0) n ∙ ap (λ t. is_session (slice_set (replicate 16 None) t (Some 1)) 0) (sym zero_slot);
-          free = λ c. ap (λ (u : PartitionView K V I). context_at u 0 c) n ∙ unopened (slice_set (replicate 16 None) s (Some 1)) 0 c;
-          small = omega arith;
+          seat = record {
+            entered = ap (λ (u : CoreView K V I). is_session (slots_of u) 0) n ∙ ap (λ t. is_session (slice_set (replicate 16 None) t (Some 1)) 0) (sym zero_slot);
+            free = λ c. ap (λ (u : CoreView K V I). context_at u 0 c) n ∙ unopened (slice_set (replicate 16 None) s (Some 1)) 0 c;
+            small = omega arith;
+          };
+          relocations = λ d. ap (λ rs. context_in (slots_of w.core) rs 0 d) none ∙ unopened (slots_of w.core) 0 d;
         };
-        empty = λ k. ap (λ (u : PartitionView K V I). live_of cmp u k) n;
+        empty = λ k. ap (λ (u : CoreView K V I). live_of cmp u k) n;
       }
+
+  pub seated-new : (w : PartitionView K V I) (slot : ℕ) → now ≡ number + 1 → w.core.moment ≤ now → Enters (empty_partition config size number) w now (Ok slot) → IsSeatedIn cmp config number w
+  seated-new w slot e past h = seated-in w slot e past (ap (λ (u : PartitionView K V I). u.relocations) h.rest) h.does
 
   pub new-none : AreNew {K = K} {V = V} {I = I} cmp config [] 0
   new-none = record { sized = refl; each = λ p v h. absurd (cc) }
@@ -109,7 +119,7 @@ module _ {K V I O : Type 0} (cmp : K → K → Ordering) (order : IsKeyOrder cmp
 
 -- ---- before the first row, and after one more
 module _ {K V I O : Type 0} (keeps : Bool) (cmp : K → K → Ordering) (f : Meanings K V I O) (code : K → ℕ) where
-  none-live : (o : Option (PartitionView K V I)) (k : K) → ((v : PartitionView K V I) → o ≡ Some v → live_of cmp v k ≡ None) → live_at cmp o k ≡ None
+  none-live : (o : Option (PartitionView K V I)) (k : K) → ((v : PartitionView K V I) → o ≡ Some v → live_of cmp v.core k ≡ None) → live_at cmp o k ≡ None
   none-live None k h = refl
   none-live (Some v) k h = h v refl
 
@@ -128,23 +138,23 @@ module _ {K V I O : Type 0} (keeps : Bool) (cmp : K → K → Ordering) (f : Mea
 module _ {K V I O : Type 0} (keeps : Bool) (cmp : K → K → Ordering) (order : IsKeyOrder cmp) (f : Meanings K V I O) (code : K → ℕ) where
   pub stand-more : (views : List (PartitionView K V I)) (slot now then : ℕ) (rows : List (K × I)) (p : ℕ) (old new : PartitionView K V I) (k : K) (i : I)
       → StandFor keeps cmp f code views slot now rows → slice_get views p ≡ Some old → partition_of (length views) (code k) ≡ p
-      → new.number ≡ old.number → new.count ≡ old.count → new.moment ≤ then → now < then → IsIdle new slot
-      → (IsTrue keeps → Same (live_of cmp new) (with_at cmp (live_of cmp old) k (Some (updated f k i (live_of cmp old k)))))
+      → new.core.number ≡ old.core.number → new.core.count ≡ old.core.count → new.core.moment ≤ then → now < then → IsIdle new slot
+      → (IsTrue keeps → Same (live_of cmp new.core) (with_at cmp (live_of cmp old.core) k (Some (updated f k i (live_of cmp old.core k)))))
       → StandFor keeps cmp f code (slice_set views p new) slot then (rows ++ (k, i) ∷ [])
   stand-more views slot now then rows p old new k i stand here own number count past later idle done = record {
     some = rw (length-set views p new) stand.some;
     idle = record {
       numbered = λ q v h. elim (get-set_cases views p q new v h) [
-        | inl c ↦ ap (λ (u : PartitionView K V I). u.number) (sym c.1) ∙ number ∙ stand.idle.numbered p old here ∙ sym c.0
+        | inl c ↦ ap (λ (u : PartitionView K V I). u.core.number) (sym c.1) ∙ number ∙ stand.idle.numbered p old here ∙ sym c.0
         | inr c ↦ stand.idle.numbered q v c
       ];
       counted = λ q v h. elim (get-set_cases views p q new v h) [
-        | inl c ↦ ap (λ (u : PartitionView K V I). u.count) (sym c.1) ∙ count ∙ stand.idle.counted p old here ∙ sym (length-set views p new)
+        | inl c ↦ ap (λ (u : PartitionView K V I). u.core.count) (sym c.1) ∙ count ∙ stand.idle.counted p old here ∙ sym (length-set views p new)
         | inr c ↦ stand.idle.counted q v c ∙ sym (length-set views p new)
       ];
       past = λ q v h. elim (get-set_cases views p q new v h) [
-        | inl c ↦ (let m : v.moment ≡ new.moment = ap (λ (u : PartitionView K V I). u.moment) (sym c.1) in omega arith)
-        | inr c ↦ (let m : v.moment ≤ now = stand.idle.past q v c in omega arith)
+        | inl c ↦ (let m : v.core.moment ≡ new.core.moment = ap (λ (u : PartitionView K V I). u.core.moment) (sym c.1) in omega arith)
+        | inr c ↦ (let m : v.core.moment ≤ now = stand.idle.past q v c in omega arith)
       ];
       idle = λ q v h. elim (get-set_cases views p q new v h) [
         | inl c ↦ subst (λ (u : PartitionView K V I). IsIdle u slot) c.1 idle

@@ -1,6 +1,6 @@
--- What the events of a partition leave of a session's update, and when they are refused.
-use Rattle.std.proofs.Common.{◌≡◌, ◌≢◌, Bool, true, false, cond, IsTrue, ◌&&◌, ℕ, ◌+◌, ◌-◌, ◌*◌, ◌<◌, ◌≤◌, ◌⊎◌, inl, inr, List, ◌∷◌, length, take, drop, get_or, Option, Some, None, Result, Ok, Err, option_map, slice_get, slice_set, slice_range, position, is_none, nat_lt, suc, refl, sym, ◌∙◌, ap, subst, arith, drop-cons}
-use Rattle.std.proofs.lemmas.Option.{slice_get-get_or, same_Some}
+-- What the events of operations on keys leave of a session's update, and when they are refused.
+use Rattle.std.proofs.Common.{◌≡◌, ◌≢◌, Bool, true, false, cond, IsTrue, ◌&&◌, ℕ, ◌+◌, ◌*◌, ◌<◌, ◌⊎◌, inl, inr, List, Option, Some, None, Result, Ok, Err, slice_get, slice_set, nat_lt, refl, sym, ◌∙◌, ap, subst, arith}
+use Rattle.std.proofs.lemmas.Option.{same_Some}
 use Rattle.std.proofs.lemmas.Bool.Decides.{nat_tests}
 use Rattle.std.specs.declared.cmp.Ordering.{Ordering}
 use Rattle.fkv_functions.specs.Meanings.{Meanings}
@@ -15,28 +15,26 @@ use Rattle.fkv_pages.specs.Loads.{IsHeldBy}
 use Rattle.fkv_operations.specs.After.{after, key_of}
 use Rattle.fkv_operations.specs.AfterLaws.{same_map}
 use Rattle.fkv_operations.specs.declared.entries.IndexEntry.{IndexEntry}
-use Rattle.fkv_operations.specs.declared.operations.Op.{Op}
-use Rattle.fkv_operations.specs.declared.operations.Op.TheVariants.{Read, Rmw}
+use Rattle.fkv_operations.specs.declared.operations.KeyedOp.{KeyedOp}
+use Rattle.fkv_operations.specs.declared.operations.KeyedOp.TheVariants.{Read, Rmw}
 use Rattle.fkv_lookups.specs.RecordsViews.{RecordsView}
 use Rattle.fkv_lookups.specs.Decisions.{decision}
 use Rattle.fkv_lookups.specs.declared.decisions.Decision.TheVariants.{Prepare}
-use Rattle.fkv_lookups.specs.declared.decisions.Met.{Met}
-use Rattle.fkv_lookups.specs.declared.decisions.Met.TheVariants.{NoEntry, NoValue, ReadOnly, Fuzzy, Mutable, OnDisk}
+use Rattle.fkv_lookups.specs.declared.decisions.LookupResult.{LookupResult}
+use Rattle.fkv_lookups.specs.declared.decisions.LookupResult.TheVariants.{NoEntry, NoValue, ReadOnly, Fuzzy, Mutable, OnDisk}
 use Rattle.fkv_operations.specs.declared.operations.Answer.{Answer}
-use Rattle.fkv_partition.specs.declared.contexts.Context.{Context}
-use Rattle.fkv_partition.specs.declared.contexts.Loading.{Loading}
-use Rattle.fkv_partition.specs.declared.contexts.Phase.{Phase}
-use Rattle.fkv_partition.specs.declared.contexts.Phase.TheVariants.{Fresh, Confirm, Prepared, Load}
-use Rattle.fkv_partition.specs.declared.contexts.Progress.{Progress}
-use Rattle.fkv_partition.specs.declared.contexts.Progress.TheVariants.{Done, Next, NeedsBuild, NeedsLoad, Waits}
-use Rattle.fkv_partition.specs.declared.contexts.Wait.{Wait}
-use Rattle.fkv_partition.specs.Beginning.{Issues}
-use Rattle.fkv_partition.specs.Contexts.{joined, is_session, context_in, question_in, loading_by, at_phase}
-use Rattle.fkv_partition.specs.Effect.{Asked, asked_by, IsEvent}
-use Rattle.fkv_partition.specs.Going.{Goes}
-use Rattle.fkv_partition.specs.Installing.{Installs}
-use Rattle.fkv_partition.specs.Loading.{Loads}
-use Rattle.fkv_partition.specs.Views.{PartitionView, slots_of, context_at, live_of, with_context, free_context, partition_of, met_at}
+use Rattle.fkv_partition.specs.Context.{Context}
+use Rattle.fkv_partition.specs.Loading.{Loading}
+use Rattle.fkv_partition.specs.Phase.{Phase}
+use Rattle.fkv_partition.specs.Phase.TheVariants.{Fresh, Confirm, Prepared, Load}
+use Rattle.fkv_partition.specs.Progress.{Progress}
+use Rattle.fkv_partition.specs.Progress.TheVariants.{Done, Next, NeedsBuild, NeedsLoad, Waits}
+use Rattle.fkv_partition.specs.Wait.{Wait}
+use Rattle.fkv_partition.specs.CoreContexts.{joined, is_session, context_in, question_in, loading_by, at_phase}
+use Rattle.fkv_partition.specs.CoreGoing.{Goes}
+use Rattle.fkv_partition.specs.CoreInstalling.{Installs}
+use Rattle.fkv_partition.specs.CoreLoading.{Loads}
+use Rattle.fkv_partition.specs.CoreViews.{CoreView, slots_of, context_at, live_of, met_at}
 use Rattle.fkv_feeds.specs.Faults.{Spelling, IsSpoilt}
 use Rattle.fkv_feeds.specs.Seats.{IsIdle, IsOpen, IsAsking, IsTidied, WaitsFor, Leaves, HasDone, Tries}
 use Rattle.fkv_feeds.specs.declared.updating.Turn.{Turn}
@@ -48,17 +46,17 @@ joined-some : {A : Type 0} (o : Option (Option A)) (x : A) → joined o ≡ Some
 joined-some None x h = absurd (cc)
 joined-some (Some y) x h = ap Some h
 
-apart : {A : Type 0} (x : A) (o : Option A) → o ≡ Some x → o ≡ None → ⊥
-apart x o h k = let bad : Some x ≡ None = sym h ∙ k in absurd (cc)
+pub inside : {A : Type 0} (slots : List (Option ℕ)) (contexts : List (Option A)) (slot c : ℕ) → is_session slots slot ≡ true → c < 8 → context_in slots contexts slot c ≡ joined (slice_get contexts (slot * 8 + c))
+inside slots contexts slot c h low = let t : nat_lt c 8 ≡ true = grind (arith, nat_tests) in rw (h, t) refl
 
 module _ {K V I : Type 0} where
   -- where an open operation stands
-  record IsWithin (v : PartitionView K V I) (slot c : ℕ) (x : Context K V I) : Type 0 where
+  record IsWithin (v : CoreView K V I) (slot c : ℕ) (x : Context K V I) : Type 0 where
     entered : is_session (slots_of v) slot ≡ true
     low : c < 8
     there : slice_get v.contexts (slot * 8 + c) ≡ Some (Some x)
 
-  within : (v : PartitionView K V I) (slot c : ℕ) (x : Context K V I) → context_at v slot c ≡ Some x → IsWithin v slot c x
+  within : (v : CoreView K V I) (slot c : ℕ) (x : Context K V I) → context_at v slot c ≡ Some x → IsWithin v slot c x
   within v slot c x h = by_cases (is_session (slots_of v) slot) (nat_lt c 8) refl refl h
     where
       by_cases : (a b : Bool) → is_session (slots_of v) slot ≡ a → nat_lt c 8 ≡ b → cond (a && b) (joined (slice_get v.contexts (slot * 8 + c))) None ≡ Some x → IsWithin v slot c x
@@ -66,31 +64,28 @@ module _ {K V I : Type 0} where
       by_cases true false p q e = absurd (cc)
       by_cases false b p q e = absurd (cc)
 
-  inside : (slots : List (Option ℕ)) (contexts : List (Option (Context K V I))) (slot c : ℕ) → is_session slots slot ≡ true → c < 8 → context_in slots contexts slot c ≡ joined (slice_get contexts (slot * 8 + c))
-  inside slots contexts slot c h low = let t : nat_lt c 8 ≡ true = grind (arith, nat_tests) in rw (h, t) refl
-
   -- one context is set, and each session stays
-  record IsSet (v w : PartitionView K V I) (slot c : ℕ) (y : Option (Context K V I)) : Type 0 where
-    number : w.number ≡ v.number
-    count : w.count ≡ v.count
-    slots : slots_of w ≡ slots_of v
-    contexts : w.contexts ≡ slice_set v.contexts (slot * 8 + c) y
+  pub record IsSet (v w : CoreView K V I) (slot c : ℕ) (y : Option (Context K V I)) : Type 0 where
+    pub number : w.number ≡ v.number
+    pub count : w.count ≡ v.count
+    pub slots : slots_of w ≡ slots_of v
+    pub contexts : w.contexts ≡ slice_set v.contexts (slot * 8 + c) y
 
-  at-set : (v w : PartitionView K V I) (slot c d : ℕ) (y : Option (Context K V I)) → IsSet v w slot c y → context_at w slot d ≡ context_in (slots_of v) (slice_set v.contexts (slot * 8 + c) y) slot d
+  pub at-set : (v w : CoreView K V I) (slot c d : ℕ) (y : Option (Context K V I)) → IsSet v w slot c y → context_at w slot d ≡ context_in (slots_of v) (slice_set v.contexts (slot * 8 + c) y) slot d
   at-set v w slot c d y s = ap (λ t. context_in t w.contexts slot d) s.slots ∙ ap (λ t. context_in (slots_of v) t slot d) s.contexts
 
-  set-here : (v w : PartitionView K V I) (slot c : ℕ) (x : Context K V I) (y : Option (Context K V I)) → context_at v slot c ≡ Some x → IsSet v w slot c y → context_at w slot c ≡ y
+  set-here : (v w : CoreView K V I) (slot c : ℕ) (x : Context K V I) (y : Option (Context K V I)) → context_at v slot c ≡ Some x → IsSet v w slot c y → context_at w slot c ≡ y
   set-here v w slot c x y h s =
       let o = within v slot c x h in
       at-set v w slot c c y s ∙ inside (slots_of v) (slice_set v.contexts (slot * 8 + c) y) slot c o.entered o.low ∙ ap joined (get-set_same v.contexts (slot * 8 + c) (Some x) y o.there)
 
-  set-other : (v w : PartitionView K V I) (slot c d : ℕ) (y : Option (Context K V I)) → d ≢ c → IsSet v w slot c y → context_at w slot d ≡ context_at v slot d
+  pub set-other : (v w : CoreView K V I) (slot c d : ℕ) (y : Option (Context K V I)) → d ≢ c → IsSet v w slot c y → context_at w slot d ≡ context_at v slot d
   set-other v w slot c d y n s =
       at-set v w slot c d y s
       ∙ ap (λ o. cond (is_session (slots_of v) slot && nat_lt d 8) (joined o) None) (get-set_other v.contexts (slot * 8 + c) (slot * 8 + d) y (λ e. n (omega arith)))
 
   -- ---- an update is over, or goes on
-  idle-set : (v w : PartitionView K V I) (slot c : ℕ) (op : Op K V I) (page : Option Standing) → IsOpen v slot c op page → IsSet v w slot c None → IsIdle w slot
+  idle-set : (v w : CoreView K V I) (slot c : ℕ) (op : KeyedOp K V I) (page : Option Standing) → IsOpen v slot c op page → IsSet v w slot c None → IsIdle w slot
   idle-set v w slot c op page o s = record {
     entered = ap (λ t. is_session t slot) s.slots ∙ (within v slot c o.operation o.here).entered;
     free = λ d. free d (nat_lt d c) (nat_lt c d) refl refl;
@@ -102,7 +97,7 @@ module _ {K V I : Type 0} where
       free d false true p q = set-other v w slot c d None (λ e. absurd (let l : c < d = grind (arith, nat_tests) in omega arith)) s ∙ o.others d (λ e. absurd (let l : c < d = grind (arith, nat_tests) in omega arith))
       free d false false p q = let same : d ≡ c = grind (arith, nat_tests) in rw same (set-here v w slot c o.operation None o.here s)
 
-  open-set : (v w : PartitionView K V I) (slot c : ℕ) (op : Op K V I) (page then : Option Standing) (y : Context K V I) → IsOpen v slot c op page → IsSet v w slot c (Some y) → y.op ≡ op → WaitsFor w y.phase then → IsOpen w slot c op then
+  open-set : (v w : CoreView K V I) (slot c : ℕ) (op : KeyedOp K V I) (page then : Option Standing) (y : Context K V I) → IsOpen v slot c op page → IsSet v w slot c (Some y) → y.op ≡ op → WaitsFor w y.phase then → IsOpen w slot c op then
   open-set v w slot c op page then y o s is waits = record {
     operation = y;
     here = set-here v w slot c o.operation (Some y) o.here s;
@@ -114,7 +109,7 @@ module _ {K V I : Type 0} where
   }
 
   -- each session and each operation stays
-  open-still : (v w : PartitionView K V I) (slot c : ℕ) (op : Op K V I) → ((d : ℕ) → context_at w slot d ≡ context_at v slot d) → IsOpen v slot c op None → IsOpen w slot c op None
+  open-still : (v w : CoreView K V I) (slot c : ℕ) (op : KeyedOp K V I) → ((d : ℕ) → context_at w slot d ≡ context_at v slot d) → IsOpen v slot c op None → IsOpen w slot c op None
   open-still v w slot c op same o = record {
     operation = o.operation;
     here = same c ∙ o.here;
@@ -125,111 +120,32 @@ module _ {K V I : Type 0} where
     waits = o.waits;
   }
 
-  tidied-at : (keeps : Bool) (cmp : K → K → Ordering) (v w : PartitionView K V I) (slot c : ℕ) → IsTidied keeps cmp v w → context_at w slot c ≡ context_at v slot c
+  tidied-at : (keeps : Bool) (cmp : K → K → Ordering) (v w : CoreView K V I) (slot c : ℕ) → IsTidied keeps cmp v w → context_at w slot c ≡ context_at v slot c
   tidied-at keeps cmp v w slot c t =
       ap (λ b. cond (b && nat_lt c 8) (joined (slice_get w.contexts (slot * 8 + c))) None) (t.sessions slot)
       ∙ ap (λ cs. cond (is_session (slots_of v) slot && nat_lt c 8) (joined (slice_get cs (slot * 8 + c))) None) t.operations
 
-  pub open-tidied : (keeps : Bool) (cmp : K → K → Ordering) (v w : PartitionView K V I) (slot c : ℕ) (op : Op K V I) → IsOpen v slot c op None → IsTidied keeps cmp v w → IsOpen w slot c op None
+  pub open-tidied : (keeps : Bool) (cmp : K → K → Ordering) (v w : CoreView K V I) (slot c : ℕ) (op : KeyedOp K V I) → IsOpen v slot c op None → IsTidied keeps cmp v w → IsOpen w slot c op None
   open-tidied keeps cmp v w slot c op o t = open-still v w slot c op (λ d. tidied-at keeps cmp v w slot d t) o
 
-  pub idle-tidied : (keeps : Bool) (cmp : K → K → Ordering) (v w : PartitionView K V I) (slot : ℕ) → IsIdle v slot → IsTidied keeps cmp v w → IsIdle w slot
+  pub idle-tidied : (keeps : Bool) (cmp : K → K → Ordering) (v w : CoreView K V I) (slot : ℕ) → IsIdle v slot → IsTidied keeps cmp v w → IsIdle w slot
   idle-tidied keeps cmp v w slot i t = record { entered = t.sessions slot ∙ i.entered; free = λ d. tidied-at keeps cmp v w slot d t ∙ i.free d; small = i.small }
 
-  pub open-entered : (v : PartitionView K V I) (slot c : ℕ) (op : Op K V I) (page : Option Standing) → IsOpen v slot c op page → is_session (slots_of v) slot ≡ true
+  pub open-entered : (v : CoreView K V I) (slot c : ℕ) (op : KeyedOp K V I) (page : Option Standing) → IsOpen v slot c op page → is_session (slots_of v) slot ≡ true
   open-entered v slot c op page o = (within v slot c o.operation o.here).entered
 
   -- what is known of the operation that an event finds
-  found : (v : PartitionView K V I) (slot c : ℕ) (op : Op K V I) (page : Option Standing) (x : Context K V I) (o : IsOpen v slot c op page) → context_at v slot c ≡ Some x → o.operation ≡ x
+  found : (v : CoreView K V I) (slot c : ℕ) (op : KeyedOp K V I) (page : Option Standing) (x : Context K V I) (o : IsOpen v slot c op page) → context_at v slot c ≡ Some x → o.operation ≡ x
   found v slot c op page x o h = same_Some o.operation x (sym o.here ∙ h)
 
-  none-open : (v : PartitionView K V I) (slot c : ℕ) (op : Op K V I) (page : Option Standing) → IsOpen v slot c op page → context_at v slot c ≡ None → ⊥
+  none-open : (v : CoreView K V I) (slot c : ℕ) (op : KeyedOp K V I) (page : Option Standing) → IsOpen v slot c op page → context_at v slot c ≡ None → ⊥
   none-open v slot c op page o h = let bad : Some o.operation ≡ None = sym o.here ∙ h in absurd (cc)
 
-  -- ---- an update is issued
-  front-found : (cs : List (Option (Context K V I))) → position is_none (None ∷ cs) ≡ Some 0
-  front-found cs = let t : nat_lt 0 (length (None ∷ cs)) ≡ true = grind (arith, nat_tests) in rw t refl
-
-  first-free : (cs : List (Option (Context K V I))) (a : ℕ) → a + 8 ≤ length cs → joined (slice_get cs a) ≡ None → position is_none (slice_range cs a (a + 8)) ≡ None → ⊥
-  first-free cs a h none full = by (get_or cs a None) refl
-    where
-      low : a < length cs
-      low = omega arith
-
-      eight : a + 8 - a ≡ 8
-      eight = omega arith
-
-      front : drop a cs ≡ get_or cs a None ∷ drop (suc a) cs
-      front = drop-cons cs a None low
-
-      by : (y : Option (Context K V I)) → get_or cs a None ≡ y → ⊥
-      by None e =
-          let here : drop a cs ≡ None ∷ drop (suc a) cs = rw e at front in
-          let range : slice_range cs a (a + 8) ≡ take 8 (None ∷ drop (suc a) cs) = rw (eight, here) refl in
-          apart 0 (position is_none (take 8 (None ∷ drop (suc a) cs))) (front-found (take 7 (drop (suc a) cs))) (rw range at full)
-      by (Some y) e =
-          let there : slice_get cs a ≡ Some (get_or cs a None) = slice_get-get_or cs a None low in
-          let bad : joined (Some (get_or cs a None)) ≡ None = rw there at none in
-          let worse : Some y ≡ None = rw e at bad in
-          absurd (cc)
-
-  idle-free : (v : PartitionView K V I) (slot : ℕ) → IsIdle v slot → length v.contexts ≡ 128 → free_context v slot ≡ None → ⊥
-  idle-free v slot i places full =
-      let zero_add : slot * 8 + 0 ≡ slot * 8 = omega arith in
-      let none : joined (slice_get v.contexts (slot * 8 + 0)) ≡ None = sym (inside (slots_of v) v.contexts slot 0 i.entered (omega arith)) ∙ i.free 0 in
-      let small = i.small in
-      first-free v.contexts (slot * 8) (omega arith) (rw zero_add at none) full
-
-  pub issued-always : (code : K → ℕ) (v w : PartitionView K V I) (slot now : ℕ) (op : Op K V I) (e : Refused) → IsIdle v slot → length v.contexts ≡ 128 → partition_of v.count (code (key_of op)) ≡ v.number → Issues code v w slot op now (Err e) → ⊥
-  issued-always code v w slot now op e i places own (Issues.unknown a b r) = let bad : false ≡ true = sym a ∙ i.entered in absurd (cc)
-  issued-always code v w slot now op e i places own (Issues.stranger a b d r) = b own
-  issued-always code v w slot now op e i places own (Issues.full a b d g r) = idle-free v slot i places d
-  issued-always code v w slot now op e i places own (Issues.issues c a b d g r) = absurd (cc)
-
-  -- a session whose update was issued, and what else is as it was
-  pub record IsIssued (v w : PartitionView K V I) (slot c : ℕ) (op : Op K V I) : Type 0 where
-    pub number : w.number ≡ v.number
-    pub count : w.count ≡ v.count
-    pub seat : IsOpen w slot c op None
-    pub text : w.records.text ≡ v.records.text
-
-  pub issue-opens : (code : K → ℕ) (v w : PartitionView K V I) (slot c now : ℕ) (op : Op K V I) → IsIdle v slot → length v.contexts ≡ 128 → c < 8 → (i : I) × (op ≡ Rmw (key_of op) i) → Issues code v w slot op now (Ok c) → IsIssued v w slot c op
-  issue-opens code v w slot c now op i places low rmw (Issues.unknown a b r) = absurd (cc)
-  issue-opens code v w slot c now op i places low rmw (Issues.stranger a b d r) = absurd (cc)
-  issue-opens code v w slot c now op i places low rmw (Issues.full a b d g r) = absurd (cc)
-  issue-opens code v w slot c now op i places low rmw (Issues.issues q a b d e r) =
-      let same : c ≡ q = cc in
-      let x : Context K V I = record { number = now; op = op; phase = Fresh } in
-      let is : w ≡ with_context v slot c (Some x) now = e ∙ ap (λ t. with_context v slot t (Some x) now) (sym same) in
-      let s : IsSet v w slot c (Some x) = record {
-        number = ap (λ (u : PartitionView K V I). u.number) is;
-        count = ap (λ (u : PartitionView K V I). u.count) is;
-        slots = ap (λ (u : PartitionView K V I). slots_of u) is;
-        contexts = ap (λ (u : PartitionView K V I). u.contexts) is;
-      } in
-      let small = i.small in
-      let within : slot * 8 + c < length v.contexts = omega arith in
-      record {
-        number = s.number;
-        count = s.count;
-        seat = record {
-          operation = x;
-          here = at-set v w slot c c (Some x) s ∙ inside (slots_of v) (slice_set v.contexts (slot * 8 + c) (Some x)) slot c i.entered low
-              ∙ ap joined (get-set_same v.contexts (slot * 8 + c) (get_or v.contexts (slot * 8 + c) None) (Some x) (slice_get-get_or v.contexts (slot * 8 + c) None within));
-          is = refl;
-          update = rmw;
-          others = λ t n. set-other v w slot c t (Some x) n s ∙ i.free t;
-          small = i.small;
-          waits = refl;
-        };
-        text = ap (λ (u : PartitionView K V I). u.records.text) is;
-      }
-
 -- ---- what the events of an open update leave
-prepared-input : {K V I O : Type 0} (f : Meanings K V I O) (op : Op K V I) (m : Met V) (k : K) (j : I) (source : Option V) (i : I) → op ≡ Rmw k j → decision f op m ≡ Prepare source i → i ≡ j
+prepared-input : {K V I O : Type 0} (f : Meanings K V I O) (op : KeyedOp K V I) (m : LookupResult V) (k : K) (j : I) (source : Option V) (i : I) → op ≡ Rmw k j → decision f op m ≡ Prepare source i → i ≡ j
 prepared-input f op m k j source i is d = by m (rw is at d)
   where
-    by : (m : Met _) → decision f (Rmw k j) m ≡ Prepare source i → i ≡ j
+    by : (m : LookupResult _) → decision f (Rmw k j) m ≡ Prepare source i → i ≡ j
     by NoEntry e = absurd (cc)
     by NoValue e = cc
     by (ReadOnly w) e = cc
@@ -238,18 +154,18 @@ prepared-input f op m k j source i is d = by m (rw is at d)
     by (OnDisk b) e = absurd (cc)
 
 module _ {K V I : Type 0} where
-  pub record IsMoved (v w : PartitionView K V I) : Type 0 where
+  pub record IsMoved (v w : CoreView K V I) : Type 0 where
     pub number : w.number ≡ v.number
     pub count : w.count ≡ v.count
 
-module _ {K V I : Type 0} (v w : PartitionView K V I) (slot c : ℕ) (op : Op K V I) where
+module _ {K V I : Type 0} (v w : CoreView K V I) (slot c : ℕ) (op : KeyedOp K V I) where
   -- one context is set
-  set-by : (u : PartitionView K V I) (now : ℕ) (y : Option (Context K V I)) → w ≡ u → u.number ≡ v.number → u.count ≡ v.count → slots_of u ≡ slots_of v → u.contexts ≡ slice_set v.contexts (slot * 8 + c) y → IsSet v w slot c y
+  set-by : (u : CoreView K V I) (now : ℕ) (y : Option (Context K V I)) → w ≡ u → u.number ≡ v.number → u.count ≡ v.count → slots_of u ≡ slots_of v → u.contexts ≡ slice_set v.contexts (slot * 8 + c) y → IsSet v w slot c y
   set-by u now y e number count slots contexts = record {
-    number = ap (λ (t : PartitionView K V I). t.number) e ∙ number;
-    count = ap (λ (t : PartitionView K V I). t.count) e ∙ count;
-    slots = ap (λ (t : PartitionView K V I). slots_of t) e ∙ slots;
-    contexts = ap (λ (t : PartitionView K V I). t.contexts) e ∙ contexts;
+    number = ap (λ (t : CoreView K V I). t.number) e ∙ number;
+    count = ap (λ (t : CoreView K V I). t.count) e ∙ count;
+    slots = ap (λ (t : CoreView K V I). slots_of t) e ∙ slots;
+    contexts = ap (λ (t : CoreView K V I). t.contexts) e ∙ contexts;
   }
 
   moved-set : (y : Option (Context K V I)) → IsSet v w slot c y → IsMoved v w
@@ -258,8 +174,8 @@ module _ {K V I : Type 0} (v w : PartitionView K V I) (slot c : ℕ) (op : Op K 
   -- only the moment moves
   passes : (now : ℕ) → w ≡ record v { moment = now } → IsOpen v slot c op None → IsMoved v w × IsOpen w slot c op None
   passes now e o = (
-    record { number = ap (λ (t : PartitionView K V I). t.number) e; count = ap (λ (t : PartitionView K V I). t.count) e },
-    open-still v w slot c op (λ d. ap (λ (t : PartitionView K V I). context_at t slot d) e) o,
+    record { number = ap (λ (t : CoreView K V I). t.number) e; count = ap (λ (t : CoreView K V I). t.count) e },
+    open-still v w slot c op (λ d. ap (λ (t : CoreView K V I). context_at t slot d) e) o,
   )
 
   op-of : (page : Option Standing) (x : Context K V I) → IsOpen v slot c op page → context_at v slot c ≡ Some x → x.op ≡ op
@@ -288,23 +204,23 @@ IsLoadRefusal entry cmp e = (e ≡ NoMemory) ⊎ ((page : ℕ) × IsSpoilt entry
 
 module _ {K V I O R : Type 0} (stands : R → Standing) where
   -- by what it answers
-  abbrev pub Follows : PartitionView K V I → ℕ → ℕ → Op K V I → Progress K V I O R → Type 0
+  abbrev pub Follows : CoreView K V I → ℕ → ℕ → KeyedOp K V I → Progress K V I O R → Type 0
   Follows w slot c op (Done a effect) = IsIdle w slot
   Follows w slot c op Next = IsOpen w slot c op None
   Follows w slot c op (Waits why) = IsOpen w slot c op None
   Follows w slot c op (NeedsBuild ask) = IsOpen w slot c op None × IsAsking w slot c ask
   Follows w slot c op (NeedsLoad r a) = IsOpen w slot c op (Some (stands r))
 
-  abbrev pub Leads : (Refused → Type 0) → PartitionView K V I → PartitionView K V I → ℕ → ℕ → Op K V I → Result (Progress K V I O R) Refused → Type 0
+  abbrev pub Leads : (Refused → Type 0) → CoreView K V I → CoreView K V I → ℕ → ℕ → KeyedOp K V I → Result (Progress K V I O R) Refused → Type 0
   Leads why v w slot c op (Ok p) = IsMoved v w × Follows w slot c op p
   Leads why v w slot c op (Err e) = why e
 
-  module _ (v w : PartitionView K V I) (slot c : ℕ) (op : Op K V I) where
+  module _ (v w : CoreView K V I) (slot c : ℕ) (op : KeyedOp K V I) where
     pub goes-leads : (cmp : K → K → Ordering) (f : Meanings K V I O) (code : K → ℕ) (now : ℕ) (r : Result (Progress K V I O R) Refused) → IsOpen v slot c op None → Goes stands cmp f code v w slot c now r → Leads (λ e. (e ≡ Worn) ⊎ (e ≡ NoMemory)) v w slot c op r
     goes-leads cmp f code now r o (Goes.unknown a e b) = absurd (none-open v slot c op None o a)
     goes-leads cmp f code now r o (Goes.asks x k ask h q e b) =
         let p = passes v w slot c op now e o in
-        rw b (p.0, (p.1, record { operation = x; kept = k; here = ap (λ (t : PartitionView K V I). context_at t slot c) e ∙ h; question = q }))
+        rw b (p.0, (p.1, record { operation = x; kept = k; here = ap (λ (t : CoreView K V I). context_at t slot c) e ∙ h; question = q }))
     goes-leads cmp f code now r o (Goes.not_ready x l h p e b) = absurd (let none : loading_by x.phase ≡ None = rw (found v slot c op None x o h) at o.waits in let bad : Some l ≡ None = rw p at none in cc)
     goes-leads cmp f code now r o (Goes.confirms x p h q a e b) = rw b (turns v w slot c op None x Fresh o h refl (set-by v w slot c op _ now _ e refl refl refl refl))
     goes-leads cmp f code now r o (Goes.backs_off x p h q a e b) = rw b (turns v w slot c op None x Fresh o h refl (set-by v w slot c op _ now _ e refl refl refl refl))
@@ -329,7 +245,7 @@ module _ {K V I O R : Type 0} (stands : R → Standing) where
         rw b (
           moved-set v w slot c op (Some (at_phase x (Load l))) set,
           open-set v w slot c op None (Some (stands m)) (at_phase x (Load l)) o set (op-of v w slot c op None x o d.here)
-              (l, refl, subst (λ (u : PartitionView K V I). IsHeldBy u.records.receipts (page_at u.records.page_bits p) (stands m)) (sym e) held),
+              (l, refl, subst (λ (u : CoreView K V I). IsHeldBy u.records.receipts (page_at u.records.page_bits p) (stands m)) (sym e) held),
         )
     goes-leads cmp f code now r o (Goes.unshared x p d e b) = rw b (inr refl)
 
@@ -359,8 +275,8 @@ module _ {K V I O R : Type 0} (stands : R → Standing) where
         )
     loads-leads entry cmp f now p s r o own (Loads.damaged x l q why d g e b) =
         rw b (inr (page_at v.records.page_bits l.wanted, IsSpoilt.unspelled v.records.page_bits l.wanted q.bytes (key_of x.op) why refl d.reads, refl))
-    loads-leads entry cmp f now p s r o own (Loads.astray x l q t d g high n e b) =
-        rw b (inr (page_at v.records.page_bits l.wanted, IsSpoilt.astray v.records.page_bits v.records.record_size l.wanted t q.bytes (key_of x.op) refl d.reads n, refl))
+    loads-leads entry cmp f now p s r o own (Loads.bad_link x l q t d g high n e b) =
+        rw b (inr (page_at v.records.page_bits l.wanted, IsSpoilt.bad_link v.records.page_bits v.records.record_size l.wanted t q.bytes (key_of x.op) refl d.reads n, refl))
     loads-leads entry cmp f now p s r o own (Loads.done x l q k i value t g is e b) = absurd (let h = t.reads.awaits.here in let bad : Read k i ≡ Rmw (key_of op) o.update.0 = sym is ∙ op-of v w slot c op (Some s) x o h ∙ o.update.1 in cc)
     loads-leads entry cmp f now p s r o own (Loads.prepares x l q k i value t g is e b) =
         let h = t.reads.awaits.here in
@@ -374,7 +290,7 @@ module _ {K V I O R : Type 0} (stands : R → Standing) where
         rw b (
           moved-set v w slot c op (Some (at_phase x (Load on))) set,
           open-set v w slot c op (Some s) (Some (stands m)) (at_phase x (Load on)) o set (op-of v w slot c op (Some s) x o h)
-              (on, refl, subst (λ (u : PartitionView K V I). IsHeldBy u.records.receipts (page_at u.records.page_bits t) (stands m)) (sym e) held),
+              (on, refl, subst (λ (u : CoreView K V I). IsHeldBy u.records.receipts (page_at u.records.page_bits t) (stands m)) (sym e) held),
         )
     loads-leads entry cmp f now p s r o own (Loads.unshared x l q t d g high place e b) = rw b (inl refl)
 
@@ -387,7 +303,7 @@ module _ {K V I O R : Type 0} (stands : R → Standing) where
     no-load entry cmp f now p s o why (Loads.unread x l a g e b) = absurd (cc)
     no-load entry cmp f now p s o why (Loads.stranger x l q t a g h n e b) = absurd (cc)
     no-load entry cmp f now p s o why (Loads.damaged x l q t d g e b) = absurd (cc)
-    no-load entry cmp f now p s o why (Loads.astray x l q t d g high n e b) = absurd (cc)
+    no-load entry cmp f now p s o why (Loads.bad_link x l q t d g high n e b) = absurd (cc)
     no-load entry cmp f now p s o why (Loads.done x l q k i value t g is e b) = absurd (cc)
     no-load entry cmp f now p s o why (Loads.prepares x l q k i value t g is e b) = absurd (cc)
     no-load entry cmp f now p s o why (Loads.goes_on x l q t m d g high place held e b) = absurd (cc)
@@ -401,30 +317,13 @@ module _ {K V I O R : Type 0} (stands : R → Standing) where
     no-done entry cmp f now at a p s o (Loads.unread x l h g e b) = absurd (cc)
     no-done entry cmp f now at a p s o (Loads.stranger x l q t h g m n e b) = absurd (cc)
     no-done entry cmp f now at a p s o (Loads.damaged x l q t d g e b) = absurd (cc)
-    no-done entry cmp f now at a p s o (Loads.astray x l q t d g high n e b) = absurd (cc)
+    no-done entry cmp f now at a p s o (Loads.bad_link x l q t d g high n e b) = absurd (cc)
     no-done entry cmp f now at a p s o (Loads.done x l q k i value t g is e b) = absurd (let bad : Read k i ≡ Rmw (key_of op) o.update.0 = sym is ∙ op-of v w slot c op (Some s) x o t.reads.awaits.here ∙ o.update.1 in cc)
     no-done entry cmp f now at a p s o (Loads.prepares x l q k i value t g is e b) = absurd (cc)
     no-done entry cmp f now at a p s o (Loads.goes_on x l q t m d g high place held e b) = absurd (cc)
     no-done entry cmp f now at a p s o (Loads.unshared x l q t d g high place e b) = absurd (cc)
 
-    -- ---- what they make of the live map, and turns
-    abbrev pub Effects : (K → K → Ordering) → Meanings K V I O → Progress K V I O R → Type 0
-    Effects cmp f (Done a effect) = Same (live_of cmp w) (after cmp f (live_of cmp v) op)
-    Effects cmp f Next = Same (live_of cmp w) (live_of cmp v)
-    Effects cmp f (Waits why) = Same (live_of cmp w) (live_of cmp v)
-    Effects cmp f (NeedsBuild ask) = Same (live_of cmp w) (live_of cmp v)
-    Effects cmp f (NeedsLoad r a) = Same (live_of cmp w) (live_of cmp v)
-
-    pub effect-of : (cmp : K → K → Ordering) (f : Meanings K V I O) (now : ℕ) (page : Option Standing) (p : Progress K V I O R) → IsOpen v slot c op page → IsEvent cmp f v w slot c now p → Effects cmp f p
-    effect-of cmp f now page (Done a effect) o ev =
-        let same : Some (asked_by o.operation) ≡ Some ev.question = sym (ap (option_map asked_by) o.here) ∙ ev.was in
-        let question : ev.question.op ≡ op = ap (λ (q : Asked K V I). q.op) (sym (same_Some (asked_by o.operation) ev.question same)) ∙ o.is in
-        subst (λ (q : Op K V I). Same (live_of cmp w) (after cmp f (live_of cmp v) q)) question ev.effect.2
-    effect-of cmp f now page Next o ev = ev.effect.1
-    effect-of cmp f now page (Waits why) o ev = ev.effect.1
-    effect-of cmp f now page (NeedsBuild ask) o ev = ev.effect.1
-    effect-of cmp f now page (NeedsLoad r a) o ev = ev.effect.1
-
+    -- ---- turns
     pub tried : (keeps : Bool) (cmp : K → K → Ordering) (f : Meanings K V I O) (t : Turn R) → IsMoved v w → Leaves stands w slot c op t → (IsTrue keeps → HasDone cmp f v w op t) → Tries keeps stands cmp f v w slot c op t
     tried keeps cmp f t m leaves effect = record { number = m.number; count = m.count; leaves = leaves; effect = effect }
 
@@ -432,11 +331,11 @@ module _ {K V I O R : Type 0} (stands : R → Standing) where
     waited keeps cmp f o t = record { number = t.number; count = t.count; leaves = open-tidied keeps cmp v w slot c op o t; effect = t.live }
 
     -- a turn that follows an event
-    done-then : (keeps : Bool) (cmp : K → K → Ordering) (f : Meanings K V I O) (u : PartitionView K V I) (t : Turn R) → Same (live_of cmp w) (live_of cmp v) → HasDone cmp f w u op t → HasDone cmp f v u op t
+    done-then : (keeps : Bool) (cmp : K → K → Ordering) (f : Meanings K V I O) (u : CoreView K V I) (t : Turn R) → Same (live_of cmp w) (live_of cmp v) → HasDone cmp f w u op t → HasDone cmp f v u op t
     done-then keeps cmp f u turn.Done same h = subst (λ m. Same (live_of cmp u) (after cmp f m op)) (same_map (live_of cmp w) (live_of cmp v) same) h
     done-then keeps cmp f u (On page) same h = λ k. h k ∙ same k
 
-    pub tries-then : (keeps : Bool) (cmp : K → K → Ordering) (f : Meanings K V I O) (u : PartitionView K V I) (t : Turn R) → IsMoved v w → (IsTrue keeps → Same (live_of cmp w) (live_of cmp v)) → Tries keeps stands cmp f w u slot c op t → Tries keeps stands cmp f v u slot c op t
+    pub tries-then : (keeps : Bool) (cmp : K → K → Ordering) (f : Meanings K V I O) (u : CoreView K V I) (t : Turn R) → IsMoved v w → (IsTrue keeps → Same (live_of cmp w) (live_of cmp v)) → Tries keeps stands cmp f w u slot c op t → Tries keeps stands cmp f v u slot c op t
     tries-then keeps cmp f u t m same g = record {
       number = g.number ∙ m.number;
       count = g.count ∙ m.count;

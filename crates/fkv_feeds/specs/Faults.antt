@@ -4,10 +4,10 @@ use Rattle.std.specs.declared.cmp.Ordering.{Ordering}
 use Rattle.fkv_functions.specs.Names.{name_bytes, name_cmp}
 use Rattle.fkv_functions.specs.declared.refusals.Refused.{Refused}
 use Rattle.fkv_functions.specs.declared.refusals.Refused.TheVariants.{Damaged}
-use Rattle.fkv_records.specs.Places.{page_at, IsPlace}
+use Rattle.fkv_records.specs.Places.{page_at, IsRecordStart}
 use Rattle.fkv_device.specs.Failing.{FailsOnlyBy, ReadFailsBy}
 use Rattle.fkv_texts.specs.declared.entries.Entry.{Entry}
-use Rattle.fkv_texts.specs.declared.entries.Reached.TheVariants.{Below}
+use Rattle.fkv_texts.specs.declared.entries.ChainPosition.TheVariants.{Below}
 use Rattle.fkv_pages.specs.Spelled.{IsEntryIn}
 use Rattle.fkv_pages.specs.Loads.{IsReached, first_place}
 use Rattle.fkv_hybrid.specs.Scans.{IsScanRefusal}
@@ -23,10 +23,10 @@ pub data IsSpoilt {K V : Type 0} (entry : Spelling K V) (cmp : K → K → Order
       → page_at bits a ≡ page
       → IsReached (entry bits bytes) cmp k bits (first_place bits page) a (Err why)
       → IsSpoilt entry cmp page
-  astray : (bits size a b : ℕ) (bytes : List ℕ) (k : K)
+  bad_link : (bits size a b : ℕ) (bytes : List ℕ) (k : K)
       → page_at bits a ≡ page
       → IsReached (entry bits bytes) cmp k bits (first_place bits page) a (Ok (Below b))
-      → ¬ IsPlace bits size b
+      → ¬ IsRecordStart bits size b
       → IsSpoilt entry cmp page
 
 -- Why the work at one partition was refused, of whose writer and reader these are the counts of failures before and

@@ -3,4 +3,5 @@ pub mod Writing
 pub mod Refusing
 pub mod Faults
 pub mod Seats
+pub mod Sessions
 pub mod Runs

@@ -4,8 +4,8 @@
 //! is written, and Head follows so that the page after the tail's finds its frame free.
 ghost use Rattle.std.specs.Prelude.{◌≡◌, ◌≤◌, ◌⊎◌, ℕ, true, false, IfOk, IfErr, OnOk};
 ghost use Rattle.fkv_device.specs.Failing.{FailsOnlyBy};
-ghost use Rattle.fkv_partition.specs.Beginning.{IsEntered};
-ghost use Rattle.fkv_feeds.specs.Seats.{IsTidied};
+ghost use Rattle.fkv_partition.specs.CoreBeginning.{IsEntered};
+ghost use Rattle.fkv_feeds.specs.Sessions.{IsTidied};
 
 use crate::shards::{Shard, Terms};
 use fkv_device::{Disk, Receipt, Written};
@@ -19,10 +19,10 @@ fn refresh<F: Functions, R: Receipt>(
     slot: usize,
     clock: &mut Clock,
 ) -> Result<(), Refused>
-    requires entered { IsEntered partition.old slot }
-    requires past { partition.old.moment ≤ clock.old }
+    requires entered { IsEntered partition.old.core slot }
+    requires past { partition.old.core.moment ≤ clock.old }
     ensures tidied { OnOk result (IsTidied R.keeps F.Key.cmp partition.old partition.new) }
-    ensures past { OnOk result (partition.new.moment ≤ clock.new) }
+    ensures past { OnOk result (partition.new.core.moment ≤ clock.new) }
     ensures later { OnOk result (clock.old ≤ clock.new) }
     ensures only { IfErr result (λ refused. refused ≡ Refused.Worn) }
 {
@@ -44,10 +44,10 @@ fn freeze<F: Functions, R: Receipt>(
     page: u64,
     clock: &mut Clock,
 ) -> Result<(), Refused>
-    requires entered { IsEntered partition.old slot }
-    requires past { partition.old.moment ≤ clock.old }
+    requires entered { IsEntered partition.old.core slot }
+    requires past { partition.old.core.moment ≤ clock.old }
     ensures tidied { OnOk result (IsTidied R.keeps F.Key.cmp partition.old partition.new) }
-    ensures past { OnOk result (partition.new.moment ≤ clock.new) }
+    ensures past { OnOk result (partition.new.core.moment ≤ clock.new) }
     ensures later { OnOk result (clock.old ≤ clock.new) }
     ensures only { IfErr result (λ refused. refused ≡ Refused.Worn) }
 {
@@ -67,10 +67,10 @@ fn evict<F: Functions, R: Receipt>(
     page: u64,
     clock: &mut Clock,
 ) -> Result<(), Refused>
-    requires entered { IsEntered partition.old slot }
-    requires past { partition.old.moment ≤ clock.old }
+    requires entered { IsEntered partition.old.core slot }
+    requires past { partition.old.core.moment ≤ clock.old }
     ensures tidied { OnOk result (IsTidied R.keeps F.Key.cmp partition.old partition.new) }
-    ensures past { OnOk result (partition.new.moment ≤ clock.new) }
+    ensures past { OnOk result (partition.new.core.moment ≤ clock.new) }
     ensures later { OnOk result (clock.old ≤ clock.new) }
     ensures only { IfErr result (λ refused. refused ≡ Refused.Worn) }
 {
@@ -89,9 +89,9 @@ fn flush<F: Functions, D: Disk>(
     shard: &mut Shard<F, D>,
     clock: &mut Clock,
 ) -> Result<bool, Refused>
-    requires past { shard.old.partition.moment ≤ clock.old }
+    requires past { shard.old.partition.core.moment ≤ clock.old }
     ensures tidied { OnOk result (IsTidied D.Receipt.keeps F.Key.cmp shard.old.partition shard.new.partition) }
-    ensures past { OnOk result (shard.new.partition.moment ≤ clock.new) }
+    ensures past { OnOk result (shard.new.partition.core.moment ≤ clock.new) }
     ensures later { OnOk result (clock.old ≤ clock.new) }
     ensures steady { OnOk result (D.Writer.failures shard.new.writer ≡ D.Writer.failures shard.old.writer) }
     ensures same_reader { shard.new.reader ≡ shard.old.reader }
@@ -99,7 +99,11 @@ fn flush<F: Functions, D: Disk>(
         ⊎ ((page : ℕ) × FailsOnlyBy 2 page (D.Writer.failures shard.old.writer)
         (D.Writer.failures shard.new.writer) e)) }
 {
-    let job = match shard.partition.flush_take(terms.alloc) {
+    let taken = match clock.tick() {
+        Ok(taken) => taken,
+        Err(refused) => return Err(refused),
+    };
+    let job = match shard.partition.flush_take(terms.alloc, taken) {
         Ok(job) => job,
         Err(Refused::NotDue) => return Ok(false),
         Err(refused) => return Err(refused),
@@ -124,9 +128,9 @@ fn flush_all<F: Functions, D: Disk>(
     shard: &mut Shard<F, D>,
     clock: &mut Clock,
 ) -> Result<(), Refused>
-    requires past { shard.old.partition.moment ≤ clock.old }
+    requires past { shard.old.partition.core.moment ≤ clock.old }
     ensures tidied { OnOk result (IsTidied D.Receipt.keeps F.Key.cmp shard.old.partition shard.new.partition) }
-    ensures past { OnOk result (shard.new.partition.moment ≤ clock.new) }
+    ensures past { OnOk result (shard.new.partition.core.moment ≤ clock.new) }
     ensures later { OnOk result (clock.old ≤ clock.new) }
     ensures steady { OnOk result (D.Writer.failures shard.new.writer ≡ D.Writer.failures shard.old.writer) }
     ensures same_reader { shard.new.reader ≡ shard.old.reader }
@@ -159,10 +163,10 @@ pub fn tidy<F: Functions, D: Disk>(
     shard: &mut Shard<F, D>,
     clock: &mut Clock,
 ) -> Result<(), Refused>
-    requires entered { IsEntered shard.old.partition terms.now.slot }
-    requires past { shard.old.partition.moment ≤ clock.old }
+    requires entered { IsEntered shard.old.partition.core terms.now.slot }
+    requires past { shard.old.partition.core.moment ≤ clock.old }
     ensures tidied { OnOk result (IsTidied D.Receipt.keeps F.Key.cmp shard.old.partition shard.new.partition) }
-    ensures past { OnOk result (shard.new.partition.moment ≤ clock.new) }
+    ensures past { OnOk result (shard.new.partition.core.moment ≤ clock.new) }
     ensures later { OnOk result (clock.old ≤ clock.new) }
     ensures steady { OnOk result (D.Writer.failures shard.new.writer ≡ D.Writer.failures shard.old.writer) }
     ensures same_reader { shard.new.reader ≡ shard.old.reader }
@@ -196,10 +200,10 @@ pub fn tidy_at_times<F: Functions, D: Disk>(
     shard: &mut Shard<F, D>,
     clock: &mut Clock,
 ) -> Result<(), Refused>
-    requires entered { IsEntered shard.old.partition terms.now.slot }
-    requires past { shard.old.partition.moment ≤ clock.old }
+    requires entered { IsEntered shard.old.partition.core terms.now.slot }
+    requires past { shard.old.partition.core.moment ≤ clock.old }
     ensures tidied { OnOk result (IsTidied D.Receipt.keeps F.Key.cmp shard.old.partition shard.new.partition) }
-    ensures past { OnOk result (shard.new.partition.moment ≤ clock.new) }
+    ensures past { OnOk result (shard.new.partition.core.moment ≤ clock.new) }
     ensures later { OnOk result (clock.old ≤ clock.new) }
     ensures same_reader { shard.new.reader ≡ shard.old.reader }
     ensures told { IfErr result (λ e. (e ≡ Refused.Worn) ⊎ (e ≡ Refused.NoMemory)

@@ -2,12 +2,13 @@
 ghost use Rattle.std.specs.Prelude.{◌≡◌, ◌+◌, ◌<◌, ◌≤◌, ◌⊎◌, ◌↔◌, ℕ, IsTrue, Some, None, Ok, Err, OnOk, IfOk, IfErr, option_map, true, false};
 ghost use Rattle.fkv_functions.specs.Plain.{Same};
 ghost use Rattle.fkv_operations.specs.After.{after};
-ghost use Rattle.fkv_operations.specs.declared.operations.Op.{Op};
-ghost use Rattle.fkv_operations.specs.declared.operations.Op.TheVariants.{Rmw};
+ghost use Rattle.fkv_operations.specs.declared.operations.KeyedOp.{KeyedOp};
+ghost use Rattle.fkv_operations.specs.declared.operations.KeyedOp.TheVariants.{Rmw};
 ghost use Rattle.fkv_pages.specs.Spelled.{IsEntryIn};
-ghost use Rattle.fkv_partition.specs.Views.{live_of, partition_of};
+ghost use Rattle.fkv_partition.specs.CoreViews.{live_of, partition_of};
 ghost use Rattle.fkv_feeds.specs.Faults.{IsFault};
-ghost use Rattle.fkv_feeds.specs.Seats.{IsIdle, IsOpen, IsAsking, Tries};
+ghost use Rattle.fkv_feeds.specs.Seats.{IsAsking};
+ghost use Rattle.fkv_feeds.specs.Sessions.{IsIdle, IsOpen, Tries};
 
 use crate::shards::{Shard, Terms};
 use crate::tidying::tidy;
@@ -35,13 +36,13 @@ fn wait<F: Functions, D: Disk>(
     context: usize,
     clock: &mut Clock,
 ) -> Result<Turn<D::Receipt>, Refused>
-    requires open { (op : Op F.Key F.Value F.Input) × IsOpen shard.old.partition terms.now.slot context op None }
-    requires past { shard.old.partition.moment ≤ clock.old }
-    ensures ok { IfOk result (λ turn. (op : Op F.Key F.Value F.Input)
+    requires open { (op : KeyedOp F.Key F.Value F.Input) × IsOpen shard.old.partition terms.now.slot context op None }
+    requires past { shard.old.partition.core.moment ≤ clock.old }
+    ensures ok { IfOk result (λ turn. (op : KeyedOp F.Key F.Value F.Input)
         → IsOpen shard.old.partition terms.now.slot context op None
         → Tries D.Receipt.keeps D.Receipt.stands F.Key.cmp F.meaning shard.old.partition shard.new.partition terms.now.slot
         context op turn) }
-    ensures past { OnOk result (shard.new.partition.moment ≤ clock.new) }
+    ensures past { OnOk result (shard.new.partition.core.moment ≤ clock.new) }
     ensures later { OnOk result (clock.old ≤ clock.new) }
     ensures steady { OnOk result ((D.Writer.failures shard.new.writer ≡ D.Writer.failures shard.old.writer)
         × (D.Reader.failures shard.new.reader ≡ D.Reader.failures shard.old.reader)) }
@@ -64,14 +65,14 @@ fn install<F: Functions, D: Disk>(
     ask: AskOf<F>,
     clock: &mut Clock,
 ) -> Result<Turn<D::Receipt>, Refused>
-    requires open { (op : Op F.Key F.Value F.Input) × IsOpen shard.old.partition terms.now.slot context op None }
-    requires asking { IsAsking shard.old.partition terms.now.slot context ask }
-    requires past { shard.old.partition.moment ≤ clock.old }
-    ensures ok { IfOk result (λ turn. (op : Op F.Key F.Value F.Input)
+    requires open { (op : KeyedOp F.Key F.Value F.Input) × IsOpen shard.old.partition terms.now.slot context op None }
+    requires asking { IsAsking shard.old.partition.core terms.now.slot context ask }
+    requires past { shard.old.partition.core.moment ≤ clock.old }
+    ensures ok { IfOk result (λ turn. (op : KeyedOp F.Key F.Value F.Input)
         → IsOpen shard.old.partition terms.now.slot context op None
         → Tries D.Receipt.keeps D.Receipt.stands F.Key.cmp F.meaning shard.old.partition shard.new.partition terms.now.slot
         context op turn) }
-    ensures past { OnOk result (shard.new.partition.moment ≤ clock.new) }
+    ensures past { OnOk result (shard.new.partition.core.moment ≤ clock.new) }
     ensures later { OnOk result (clock.old < clock.new) }
     ensures steady { OnOk result ((D.Writer.failures shard.new.writer ≡ D.Writer.failures shard.old.writer)
         × (D.Reader.failures shard.new.reader ≡ D.Reader.failures shard.old.reader)) }
@@ -104,13 +105,13 @@ fn go_on<F: Functions, D: Disk>(
     context: usize,
     clock: &mut Clock,
 ) -> Result<Turn<D::Receipt>, Refused>
-    requires open { (op : Op F.Key F.Value F.Input) × IsOpen shard.old.partition terms.now.slot context op None }
-    requires past { shard.old.partition.moment ≤ clock.old }
-    ensures ok { IfOk result (λ turn. (op : Op F.Key F.Value F.Input)
+    requires open { (op : KeyedOp F.Key F.Value F.Input) × IsOpen shard.old.partition terms.now.slot context op None }
+    requires past { shard.old.partition.core.moment ≤ clock.old }
+    ensures ok { IfOk result (λ turn. (op : KeyedOp F.Key F.Value F.Input)
         → IsOpen shard.old.partition terms.now.slot context op None
         → Tries D.Receipt.keeps D.Receipt.stands F.Key.cmp F.meaning shard.old.partition shard.new.partition terms.now.slot
         context op turn) }
-    ensures past { OnOk result (shard.new.partition.moment ≤ clock.new) }
+    ensures past { OnOk result (shard.new.partition.core.moment ≤ clock.new) }
     ensures later { OnOk result (clock.old < clock.new) }
     ensures steady { OnOk result ((D.Writer.failures shard.new.writer ≡ D.Writer.failures shard.old.writer)
         × (D.Reader.failures shard.new.reader ≡ D.Reader.failures shard.old.reader)) }
@@ -145,14 +146,14 @@ fn load<F: Functions, D: Disk>(
     receipt: D::Receipt,
     clock: &mut Clock,
 ) -> Result<Turn<D::Receipt>, Refused>
-    requires open { (op : Op F.Key F.Value F.Input)
+    requires open { (op : KeyedOp F.Key F.Value F.Input)
         × IsOpen shard.old.partition terms.now.slot context op (Some (D.Receipt.stands receipt)) }
-    requires past { shard.old.partition.moment ≤ clock.old }
-    ensures ok { IfOk result (λ turn. (op : Op F.Key F.Value F.Input)
+    requires past { shard.old.partition.core.moment ≤ clock.old }
+    ensures ok { IfOk result (λ turn. (op : KeyedOp F.Key F.Value F.Input)
         → IsOpen shard.old.partition terms.now.slot context op (Some (D.Receipt.stands receipt))
         → Tries D.Receipt.keeps D.Receipt.stands F.Key.cmp F.meaning shard.old.partition shard.new.partition terms.now.slot
         context op turn) }
-    ensures past { OnOk result (shard.new.partition.moment ≤ clock.new) }
+    ensures past { OnOk result (shard.new.partition.core.moment ≤ clock.new) }
     ensures later { OnOk result (clock.old < clock.new) }
     ensures steady { OnOk result ((D.Writer.failures shard.new.writer ≡ D.Writer.failures shard.old.writer)
         × (D.Reader.failures shard.new.reader ≡ D.Reader.failures shard.old.reader)) }
@@ -190,14 +191,14 @@ fn attempt<F: Functions, D: Disk>(
     page: Option<D::Receipt>,
     clock: &mut Clock,
 ) -> Result<Turn<D::Receipt>, Refused>
-    requires open { (op : Op F.Key F.Value F.Input)
+    requires open { (op : KeyedOp F.Key F.Value F.Input)
         × IsOpen shard.old.partition terms.now.slot context op (option_map D.Receipt.stands page) }
-    requires past { shard.old.partition.moment ≤ clock.old }
-    ensures ok { IfOk result (λ turn. (op : Op F.Key F.Value F.Input)
+    requires past { shard.old.partition.core.moment ≤ clock.old }
+    ensures ok { IfOk result (λ turn. (op : KeyedOp F.Key F.Value F.Input)
         → IsOpen shard.old.partition terms.now.slot context op (option_map D.Receipt.stands page)
         → Tries D.Receipt.keeps D.Receipt.stands F.Key.cmp F.meaning shard.old.partition shard.new.partition terms.now.slot
         context op turn) }
-    ensures past { OnOk result (shard.new.partition.moment ≤ clock.new) }
+    ensures past { OnOk result (shard.new.partition.core.moment ≤ clock.new) }
     ensures later { OnOk result (clock.old < clock.new) }
     ensures steady { OnOk result ((D.Writer.failures shard.new.writer ≡ D.Writer.failures shard.old.writer)
         × (D.Reader.failures shard.new.reader ≡ D.Reader.failures shard.old.reader)) }
@@ -222,14 +223,14 @@ fn done_at_once<F: Functions, D: Disk>(
     clock: &mut Clock,
 ) -> Result<bool, Refused>
     requires idle { IsIdle shard.old.partition terms.now.slot }
-    requires past { shard.old.partition.moment ≤ clock.old }
+    requires past { shard.old.partition.core.moment ≤ clock.old }
     ensures idle { result ≡ Ok true → IsIdle shard.new.partition terms.now.slot }
-    ensures done { result ≡ Ok true → Same (live_of F.Key.cmp shard.new.partition)
-        (after F.Key.cmp F.meaning (live_of F.Key.cmp shard.old.partition) (Rmw key.now input.now)) }
-    ensures number { result ≡ Ok true → shard.new.partition.number ≡ shard.old.partition.number }
-    ensures count { result ≡ Ok true → shard.new.partition.count ≡ shard.old.partition.count }
+    ensures done { result ≡ Ok true → Same (live_of F.Key.cmp shard.new.partition.core)
+        (after F.Key.cmp F.meaning (live_of F.Key.cmp shard.old.partition.core) (Rmw key.now input.now)) }
+    ensures number { result ≡ Ok true → shard.new.partition.core.number ≡ shard.old.partition.core.number }
+    ensures count { result ≡ Ok true → shard.new.partition.core.count ≡ shard.old.partition.core.count }
     ensures same { result ≡ Ok false → shard.new.partition ≡ shard.old.partition }
-    ensures past { OnOk result (shard.new.partition.moment ≤ clock.new) }
+    ensures past { OnOk result (shard.new.partition.core.moment ≤ clock.new) }
     ensures later { OnOk result (clock.old < clock.new) }
     ensures steady { (shard.new.writer ≡ shard.old.writer) × (shard.new.reader ≡ shard.old.reader) }
     ensures told { IfErr result (λ e. e ≡ Refused.Worn) }
@@ -257,14 +258,14 @@ fn update_by_turns<F: Functions, D: Disk>(
     clock: &mut Clock,
 ) -> Result<(), Refused>
     requires idle { IsIdle shard.old.partition terms.now.slot }
-    requires own { partition_of shard.old.partition.count (F.code key.now) ≡ shard.old.partition.number }
-    requires past { shard.old.partition.moment ≤ clock.old }
+    requires own { partition_of shard.old.partition.core.count (F.code key.now) ≡ shard.old.partition.core.number }
+    requires past { shard.old.partition.core.moment ≤ clock.old }
     ensures idle { OnOk result (IsIdle shard.new.partition terms.now.slot) }
-    ensures done { OnOk result (IsTrue D.Receipt.keeps → Same (live_of F.Key.cmp shard.new.partition)
-        (after F.Key.cmp F.meaning (live_of F.Key.cmp shard.old.partition) (Rmw key.now input.now))) }
-    ensures number { OnOk result (shard.new.partition.number ≡ shard.old.partition.number) }
-    ensures count { OnOk result (shard.new.partition.count ≡ shard.old.partition.count) }
-    ensures past { OnOk result (shard.new.partition.moment ≤ clock.new) }
+    ensures done { OnOk result (IsTrue D.Receipt.keeps → Same (live_of F.Key.cmp shard.new.partition.core)
+        (after F.Key.cmp F.meaning (live_of F.Key.cmp shard.old.partition.core) (Rmw key.now input.now))) }
+    ensures number { OnOk result (shard.new.partition.core.number ≡ shard.old.partition.core.number) }
+    ensures count { OnOk result (shard.new.partition.core.count ≡ shard.old.partition.core.count) }
+    ensures past { OnOk result (shard.new.partition.core.moment ≤ clock.new) }
     ensures later { OnOk result (clock.old < clock.new) }
     ensures steady { OnOk result ((D.Writer.failures shard.new.writer ≡ D.Writer.failures shard.old.writer)
         × (D.Reader.failures shard.new.reader ≡ D.Reader.failures shard.old.reader)) }
@@ -309,14 +310,14 @@ pub fn update<F: Functions, D: Disk>(
     clock: &mut Clock,
 ) -> Result<(), Refused>
     requires idle { IsIdle shard.old.partition terms.now.slot }
-    requires own { partition_of shard.old.partition.count (F.code key.now) ≡ shard.old.partition.number }
-    requires past { shard.old.partition.moment ≤ clock.old }
+    requires own { partition_of shard.old.partition.core.count (F.code key.now) ≡ shard.old.partition.core.number }
+    requires past { shard.old.partition.core.moment ≤ clock.old }
     ensures idle { OnOk result (IsIdle shard.new.partition terms.now.slot) }
-    ensures done { OnOk result (IsTrue D.Receipt.keeps → Same (live_of F.Key.cmp shard.new.partition)
-        (after F.Key.cmp F.meaning (live_of F.Key.cmp shard.old.partition) (Rmw key.now input.now))) }
-    ensures number { OnOk result (shard.new.partition.number ≡ shard.old.partition.number) }
-    ensures count { OnOk result (shard.new.partition.count ≡ shard.old.partition.count) }
-    ensures past { OnOk result (shard.new.partition.moment ≤ clock.new) }
+    ensures done { OnOk result (IsTrue D.Receipt.keeps → Same (live_of F.Key.cmp shard.new.partition.core)
+        (after F.Key.cmp F.meaning (live_of F.Key.cmp shard.old.partition.core) (Rmw key.now input.now))) }
+    ensures number { OnOk result (shard.new.partition.core.number ≡ shard.old.partition.core.number) }
+    ensures count { OnOk result (shard.new.partition.core.count ≡ shard.old.partition.core.count) }
+    ensures past { OnOk result (shard.new.partition.core.moment ≤ clock.new) }
     ensures later { OnOk result (clock.old < clock.new) }
     ensures steady { OnOk result ((D.Writer.failures shard.new.writer ≡ D.Writer.failures shard.old.writer)
         × (D.Reader.failures shard.new.reader ≡ D.Reader.failures shard.old.reader)) }

@@ -4,7 +4,7 @@ use Rattle.std.specs.Prelude.{IsTrue, IfSome, IfOk, Result, Ok, Err}
 use Rattle.std.proofs.lemmas.Nat.{div-add-mod'}
 use Rattle.fkv_device.specs.Standing.{Standing}
 use Rattle.fkv_pages.specs.Loads.{IsHeldBy}
-use Rattle.fkv_records.specs.Places.{IsPlace, page_at, start_at}
+use Rattle.fkv_records.specs.Places.{IsRecordStart, page_at, start_at}
 use Rattle.fkv_texts.specs.Text.{entry_at}
 use Rattle.fkv_texts.specs.Places.{tail_after}
 use Rattle.fkv_texts.proofs.PlaceLemmas.{after}
@@ -33,7 +33,7 @@ begins_kept true begin closed k = refl
 begins_kept false begin closed k = absurd (cc)
 
 module _ {K V : Type 0} (keeps : Bool) (size : ℕ) (log : LogView K V) (h : IsLogOf keeps size log) (scan : ScanView) (s : IsScanOf size log scan) (more : scan.address < log.tail) where
-  pub is_place : IsPlace log.bits size scan.address
+  pub is_place : IsRecordStart log.bits size scan.address
   is_place = s.place (omega (arith, more, h.most))
 
   -- it goes on to the next place, with a page of the log's own if any

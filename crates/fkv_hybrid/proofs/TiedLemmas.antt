@@ -1,7 +1,7 @@
 -- Pages and regions stay tied.
 use Rattle.std.proofs.Common.{◌≡◌, ◌≢◌, ◌^◌, ◌<◌, ◌≤◌, ℕ, Option, Some, None, List, refl, arith, length}
 use Rattle.std.specs.Prelude.{OnErr, IfOk, IfSome, Result, Ok, Err, ◌↔◌}
-use Rattle.fkv_records.specs.Places.{page_at, IsShape, IsPlace}
+use Rattle.fkv_records.specs.Places.{page_at, IsShape, IsRecordStart}
 use Rattle.fkv_texts.proofs.PlaceLemmas.{tail_rises}
 use Rattle.fkv_functions.specs.declared.refusals.Refused.{Refused}
 use Rattle.fkv_functions.specs.declared.refusals.Refused.TheVariants.{Worn}
@@ -17,7 +17,7 @@ module _ {K V : Type 0} where
       → IsTied old regions
       → IsShape old.bits size
       → old.tail ≤ 2 ^ 48
-      → (old.tail < 2 ^ 48 → IsPlace old.bits size old.tail)
+      → (old.tail < 2 ^ 48 → IsRecordStart old.bits size old.tail)
       → IfOk r (λ o. IfSome o (λ _. new ≡ with_entry size old previous key value))
       → (r ≡ Ok None → new ≡ old)
       → OnErr r (new ≡ old)
@@ -40,7 +40,7 @@ module _ {K V : Type 0} where
       → IsShape old.bits size
       → IsRegions regions
       → regions.offsets.closed < 2 ^ 48
-      → IsPlace mid.bits size regions.offsets.closed
+      → IsRecordStart mid.bits size regions.offsets.closed
   closed_place old mid regions size at waiting is bits shape h below =
       rw (is, ← bits) (mark-place regions.bits size regions.offsets.closed (rw bits shape) h.in_order.closed_mark h.in_order.first below)
 

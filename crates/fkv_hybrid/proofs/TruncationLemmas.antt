@@ -1,6 +1,6 @@
 -- Pages and regions stay tied where Begin moves up to a page's start.
 use Rattle.std.proofs.Common.{◌≡◌, ◌^◌, ◌<◌, ◌≤◌, ℕ, zero, suc, Bool, length, arith, subst}
-use Rattle.fkv_records.specs.Places.{page_at, start_at, IsPlace}
+use Rattle.fkv_records.specs.Places.{page_at, start_at, IsRecordStart}
 use Rattle.fkv_regions.specs.RegionsView.{RegionsView}
 use Rattle.fkv_regions.specs.Agree.{IsRegions}
 use Rattle.fkv_regions.proofs.OffsetLemmas.{start-mark}
@@ -16,8 +16,8 @@ page_some bits a (suc page) h = omega arith
 
 module _ {K V : Type 0} (pages : PagesView K V) (regions : RegionsView) (page : ℕ) (due : IsTruncationDue (log_view pages regions) page) where
   -- its start is a place, since it is not page 0
-  pub start_place : (bits size made start : ℕ) → bits ≡ pages.bits → size ≡ made → (1 ≤ page → start < 2 ^ 48 → IsPlace bits size start) → start < 2 ^ 48 → IsPlace pages.bits made start
-  start_place bits size made start same sized place below = subst (λ s. IsPlace pages.bits s start) sized (subst (λ b. IsPlace b size start) same (place (page_some pages.bits pages.begin page due.higher) below))
+  pub start_place : (bits size made start : ℕ) → bits ≡ pages.bits → size ≡ made → (1 ≤ page → start < 2 ^ 48 → IsRecordStart bits size start) → start < 2 ^ 48 → IsRecordStart pages.bits made start
+  start_place bits size made start same sized place below = subst (λ s. IsRecordStart pages.bits s start) sized (subst (λ b. IsRecordStart b size start) same (place (page_some pages.bits pages.begin page due.higher) below))
 
   -- the page is no higher than Head's, and all below that are flushed
   pub page_flushed : IsTied pages regions → IsRegions regions → page ≤ length pages.receipts

@@ -1,6 +1,6 @@
 -- What holds of every log.
 use Rattle.std.specs.Prelude.{◌≡◌, ◌^◌, ◌<◌, ◌≤◌, ◌↔◌, ℕ, Bool, IsSome, length}
-use Rattle.fkv_records.specs.Places.{IsShape, IsPlace}
+use Rattle.fkv_records.specs.Places.{IsShape, IsRecordStart}
 use Rattle.fkv_texts.specs.Places.{IsLaidOut}
 use Rattle.fkv_texts.specs.Text.{entry_at, IsRising, IsFrom, IsBelow}
 use Rattle.fkv_epoch.specs.Timely.{IsTimely}
@@ -20,12 +20,12 @@ pub record IsLogOf {K V : Type 0} (keeps : Bool) (size : ℕ) (log : LogView K V
   -- an entry stands at each place from there to below the tail, and nowhere else
   pub laid_out : IsLaidOut log.bits size log.from log.tail log.text
   pub places : (a : ℕ)
-      → IsSome (entry_at log.text a) ↔ ((log.from ≤ a) × (a < log.tail) × IsPlace log.bits size a)
+      → IsSome (entry_at log.text a) ↔ ((log.from ≤ a) × (a < log.tail) × IsRecordStart log.bits size a)
   pub rising : IsRising log.text
   pub from : IsFrom log.from log.text
   pub below : IsBelow log.tail log.text
   pub most : log.tail ≤ 2 ^ 48
-  pub end : log.tail < 2 ^ 48 → IsPlace log.bits size log.tail
+  pub end : log.tail < 2 ^ 48 → IsRecordStart log.bits size log.tail
   -- the views of the sessions agree with the offsets, which are those of this log
   pub regions : IsRegions log.regions
   pub timely : IsTimely log.regions.epochs

@@ -2,7 +2,7 @@
 use Rattle.std.specs.Prelude.{◌≡◌, ◌^◌, ◌<◌, ◌≤◌, ◌⊎◌, ℕ, Bool, IsTrue, List, Option, IfSome, IsSomeAnd}
 use Rattle.fkv_functions.specs.declared.refusals.Refused.{Refused}
 use Rattle.fkv_functions.specs.declared.refusals.Refused.TheVariants.{Damaged, NoMemory}
-use Rattle.fkv_records.specs.Places.{IsPlace}
+use Rattle.fkv_records.specs.Places.{IsRecordStart}
 use Rattle.fkv_device.specs.Failing.{ReadFailsBy}
 use Rattle.fkv_device.specs.Standing.{Standing}
 use Rattle.fkv_pages.specs.Loads.{IsHeldBy}
@@ -16,7 +16,7 @@ pub record ScanView : Type 0 where
 -- a scan of this log: it stands at a place from Begin on, or where no record can, and has a page of the log's own if any
 pub record IsScanOf {K V : Type 0} (size : ℕ) (log : LogView K V) (scan : ScanView) : Type 0 where
   pub begun : log.begin ≤ scan.address
-  pub place : scan.address < 2 ^ 48 → IsPlace log.bits size scan.address
+  pub place : scan.address < 2 ^ 48 → IsRecordStart log.bits size scan.address
   pub own : IfSome scan.loaded (λ s. IsHeldBy log.receipts s.page s)
 
 -- a scan has this page

@@ -9,7 +9,7 @@ itself : (k : ℕ) → is_at (nat_cmp k) k ≡ true
 itself k = (eq_by_cmp_equiv nat_cmp_total).refl k
 
 pub refuses_invented : RefusesInvented
-refuses_invented f k i v now a = (λ p. p.answers 0 _ _ refl refl, λ p. p.answers 0 _ _ refl refl, λ p. p.answers 0 _ _ refl refl, λ p. p.answers 0 _ _ refl refl)
+refuses_invented f k i v now a = (λ p. p.answers 0 _ _ refl refl, λ p. p.answers 0 _ _ refl refl, λ p. p.answers 0 _ _ refl refl, λ p. p.answers 0 _ _ refl refl, λ p. p.answers 0 _ _ refl refl)
 
 pub counts_once : CountsOnce
 counts_once f k i v a b = (

@@ -5,7 +5,7 @@ use Rattle.fkv_operations.specs.declared.operations.Answer.{Answer}
 use Rattle.fkv_operations.specs.declared.operations.Op.{Op}
 use Rattle.fkv_lives.specs.declared.lives.Life.{Life}
 use Rattle.fkv_lives.specs.declared.outcomes.Outcome.{Outcome}
-use Rattle.fkv_lives.specs.declared.outcomes.Outcome.TheVariants.{Entered, Left, Refreshed, Shifted, Taken, Flushed, Issued, Relocating, Next, Build, Load, Waits, Done, Cleared, GivenUp, Truncated}
+use Rattle.fkv_lives.specs.declared.outcomes.Outcome.TheVariants.{Entered, Left, Refreshed, Shifted, Taken, Flushed, Issued, Next, Build, Load, Waits, Done, GivenUp, Truncated}
 use Rattle.fkv_lives.specs.Told.{took_moment}
 use Rattle.fkv_lives.specs.declared.steps.Step.{Step}
 use Rattle.fkv_lives.specs.declared.steps.Step.TheVariants as step
@@ -91,13 +91,11 @@ answer_by (Ok Shifted) rest = rest
 answer_by (Ok (Taken page)) rest = rest
 answer_by (Ok (Flushed page)) rest = rest
 answer_by (Ok (Issued c)) rest = rest
-answer_by (Ok (Relocating c)) rest = rest
 answer_by (Ok Next) rest = rest
 answer_by (Ok (Build source)) rest = rest
 answer_by (Ok (Load address)) rest = rest
 answer_by (Ok (Waits why)) rest = rest
 answer_by (Ok (Done a)) rest = a ∷ rest
-answer_by (Ok Cleared) rest = rest
 answer_by (Ok GivenUp) rest = rest
 answer_by (Ok (Truncated begin)) rest = rest
 answer_by (Err e) rest = rest

@@ -3,7 +3,7 @@ use Rattle.std.specs.Prelude.{Bool, false, ◌&&◌, ℕ, zero, suc, ◌==◌, L
 use Rattle.std.specs.declared.cmp.Ordering.{Ordering}
 use Rattle.fkv_functions.specs.Meanings.{Meanings}
 use Rattle.fkv_functions.specs.Plain.{PlainMap}
-use Rattle.fkv_operations.specs.After.{after, is_update}
+use Rattle.fkv_operations.specs.Operations.{map_after, may_update}
 use Rattle.fkv_operations.specs.declared.operations.Op.{Op}
 use Rattle.fkv_lives.specs.declared.lives.Finish.{Finish}
 use Rattle.fkv_lives.specs.declared.lives.Life.{Life}
@@ -27,7 +27,7 @@ has_effect_at s (Some t) = t.effect == s
 
 -- whether this life is an update with its effect at this step
 abbrev pub updates_at : {K V I O : Type 0} → ℕ → Life K V I O → Bool
-updates_at s x = is_update x.op && has_effect_at s (finish_of x)
+updates_at s x = may_update x.op && has_effect_at s (finish_of x)
 
 -- what is read of the first that passes a test
 abbrev pub first_by : {A B : Type 0} → (A → Bool) → (A → Option B) → List A → Option B
@@ -42,7 +42,7 @@ update_at lives s = first_by (updates_at s) (λ x. Some x.op) lives
 abbrev pub after_some : {K V I O : Type 0} → (K → K → Ordering) → Meanings K V I O → PlainMap K V → Option (Op K V I)
     → PlainMap K V
 after_some cmp f m None = m
-after_some cmp f m (Some op) = after cmp f m op
+after_some cmp f m (Some op) = map_after cmp f m op
 
 -- the map before a step: the updates with their effect below it, in the order of the steps
 abbrev pub map_before : {K V I O : Type 0} → (K → K → Ordering) → Meanings K V I O → List (Life K V I O) → ℕ

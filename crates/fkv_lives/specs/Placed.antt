@@ -2,7 +2,7 @@
 use Rattle.std.specs.Prelude.{◌≡◌, true, ℕ, ◌<◌, ◌≤◌, List, Some, slice_get}
 use Rattle.std.specs.declared.cmp.Ordering.{Ordering}
 use Rattle.fkv_functions.specs.Meanings.{Meanings}
-use Rattle.fkv_operations.specs.After.{is_update, answer}
+use Rattle.fkv_operations.specs.Operations.{may_update, answer_to}
 use Rattle.fkv_lives.specs.declared.lives.Finish.{Finish}
 use Rattle.fkv_lives.specs.declared.lives.Life.{Life}
 use Rattle.fkv_lives.specs.Lives.{finish_of, map_before}
@@ -12,7 +12,7 @@ pub record IsTimely {K V I O : Type 0} (x : Life K V I O) (t : Finish O) (now : 
   pub later : x.issue < t.effect
   pub within : t.effect ≤ t.done
   pub past : t.done ≤ now
-  pub update : is_update x.op ≡ true → t.effect ≡ t.done
+  pub update : may_update x.op ≡ true → t.effect ≡ t.done
 
 -- each finished life has a step of its own for its effect, between its issue and its completion, and answers what the
 -- plain map answers there
@@ -33,4 +33,4 @@ pub record IsPlaced {K V I O : Type 0} (cmp : K → K → Ordering) (f : Meaning
   pub answers : (j : ℕ) (x : Life K V I O) (t : Finish O)
       → slice_get lives j ≡ Some x
       → finish_of x ≡ Some t
-      → t.answer ≡ answer f (map_before cmp f lives t.effect) x.op
+      → t.answer ≡ answer_to f (map_before cmp f lives t.effect) x.op

@@ -7,10 +7,10 @@ use Rattle.fkv_operations.specs.declared.operations.Answer.{Answer}
 use Rattle.fkv_lives.specs.declared.lives.Life.{Life}
 use Rattle.fkv_lives.specs.declared.lives.Finish.{Finish}
 use Rattle.fkv_lives.specs.declared.outcomes.Outcome.{Outcome}
-use Rattle.fkv_lives.specs.declared.outcomes.Outcome.TheVariants.{Entered, Left, Refreshed, Shifted, Taken, Flushed, Issued, Relocating, Next, Build, Load, Waits, Done, Cleared, GivenUp, Truncated}
+use Rattle.fkv_lives.specs.declared.outcomes.Outcome.TheVariants.{Entered, Left, Refreshed, Shifted, Taken, Flushed, Issued, Next, Build, Load, Waits, Done, GivenUp, Truncated}
 use Rattle.fkv_lives.specs.Lives.{finish_of}
 
--- whether a refusal ends the operation or the relocation that it is told to: that of a page which could not be read, or is damaged
+-- whether a refusal ends the operation that it is told to: that of a page which could not be read, or is damaged
 abbrev pub ends_operation : Refused → Bool
 ends_operation NoMemory = false
 ends_operation BadConfig = false
@@ -32,7 +32,7 @@ ends_operation NotReady = false
 ends_operation (Unreadable number) = false
 ends_operation Unwritable = false
 
--- whether a step took a moment: it was not refused, or was a load that ended its operation or relocation
+-- whether a step took a moment: it was not refused, or was a load that ended its operation
 abbrev pub took_moment : {V O : Type 0} → Result (Outcome V O) Refused → Bool
 took_moment (Ok x) = true
 took_moment (Err e) = ends_operation e
@@ -50,13 +50,11 @@ answer_in Shifted = None
 answer_in (Taken page) = None
 answer_in (Flushed page) = None
 answer_in (Issued context) = None
-answer_in (Relocating context) = None
 answer_in Next = None
 answer_in (Build source) = None
 answer_in (Load address) = None
 answer_in (Waits why) = None
 answer_in (Done a) = Some a
-answer_in Cleared = None
 answer_in GivenUp = None
 answer_in (Truncated begin) = None
 
@@ -73,7 +71,7 @@ abbrev pub told_at : {V O : Type 0} → List (Result (Outcome V O) Refused) → 
 told_at told zero = None
 told_at told (suc s) = answer_some (slice_get told s)
 
--- whether a step was an accepted issue of an operation; a relocation has no life
+-- whether a step was an accepted issue
 abbrev pub is_issue : {V O : Type 0} → Result (Outcome V O) Refused → Bool
 is_issue (Ok (Entered slot)) = false
 is_issue (Ok Left) = false
@@ -82,13 +80,11 @@ is_issue (Ok Shifted) = false
 is_issue (Ok (Taken page)) = false
 is_issue (Ok (Flushed page)) = false
 is_issue (Ok (Issued context)) = true
-is_issue (Ok (Relocating context)) = false
 is_issue (Ok Next) = false
 is_issue (Ok (Build source)) = false
 is_issue (Ok (Load address)) = false
 is_issue (Ok (Waits why)) = false
 is_issue (Ok (Done a)) = false
-is_issue (Ok Cleared) = false
 is_issue (Ok GivenUp) = false
 is_issue (Ok (Truncated begin)) = false
 is_issue (Err e) = false

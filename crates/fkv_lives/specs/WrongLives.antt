@@ -4,13 +4,13 @@ use Rattle.std.specs.Prelude.{◌≡◌, ◌≤◌, ◌<◌, true, ℕ, [], ◌�
 use Rattle.std.specs.Ordering.{nat_cmp}
 use Rattle.fkv_functions.specs.Meanings.{Meanings}
 use Rattle.fkv_operations.specs.declared.operations.Op.{Op}
-use Rattle.fkv_operations.specs.declared.operations.Op.TheVariants.{Read, Upsert, Rmw, Delete}
+use Rattle.fkv_operations.specs.declared.operations.Op.TheVariants.{Read, Upsert, Rmw, Delete, Relocate}
 use Rattle.fkv_operations.specs.declared.operations.Answer.{Answer}
-use Rattle.fkv_operations.specs.declared.operations.Answer.TheVariants.{Value, Absent, Stored, Deleted}
+use Rattle.fkv_operations.specs.declared.operations.Answer.TheVariants.{Value, Absent, Stored, Deleted, Cleared}
 use Rattle.fkv_lives.specs.declared.lives.Life.{Life}
 use Rattle.fkv_lives.specs.declared.lives.End.TheVariants.{Open, Finished}
 use Rattle.fkv_functions.specs.declared.refusals.Refused.TheVariants.{Unknown}
-use Rattle.fkv_operations.specs.After.{is_update}
+use Rattle.fkv_operations.specs.Operations.{may_update}
 use Rattle.fkv_lives.specs.declared.outcomes.Outcome.TheVariants.{Entered, Left, Issued, Done}
 use Rattle.fkv_lives.specs.declared.steps.Step.TheVariants.{Enter, Leave, Issue}
 use Rattle.fkv_lives.specs.Histories.{backwards, issues_in}
@@ -37,13 +37,14 @@ abbrev pub opened : Op ℕ ℕ ℕ → ℕ → Life ℕ ℕ ℕ ℕ
 opened op issue = record { partition = 0; session = 1; number = 1; op = op; issue = issue; end = Open }
 
 -- an answer that nobody gave: a read of no value is Absent, a first update shows the first value, a blind write is
--- Stored and a delete is Deleted
+-- Stored, a delete is Deleted and a relocation is Cleared
 abbrev pub RefusesInvented : Type 0
 RefusesInvented = (f : Numbers) (k i v now : ℕ) (a : Answer ℕ)
     → (IsPlaced nat_cmp f (finished (Read k i) 1 2 2 a ∷ []) now → a ≡ Absent)
     × (IsPlaced nat_cmp f (finished (Rmw k i) 1 2 2 a ∷ []) now → a ≡ Value (f.shown k i (f.first k i)))
     × (IsPlaced nat_cmp f (finished (Upsert k v) 1 2 2 a ∷ []) now → a ≡ Stored)
     × (IsPlaced nat_cmp f (finished (Delete k) 1 2 2 a ∷ []) now → a ≡ Deleted)
+    × (IsPlaced nat_cmp f (finished Relocate 1 2 2 a ∷ []) now → a ≡ Cleared)
 
 -- an update that is left out, or counted twice; one that is open counts nothing; a delete after a blind write leaves
 -- nothing
@@ -69,7 +70,7 @@ RefusesOtherTimes = (f : Numbers) (op : Op ℕ ℕ ℕ) (issue effect done now :
 -- an update, blind write or delete that takes effect before it is answered
 abbrev pub RefusesEarlyUpdates : Type 0
 RefusesEarlyUpdates = (f : Numbers) (op : Op ℕ ℕ ℕ) (issue effect done now : ℕ) (a : Answer ℕ)
-    → is_update op ≡ true
+    → may_update op ≡ true
     → IsPlaced nat_cmp f (finished op issue effect done a ∷ []) now
     → effect ≡ done
 

@@ -23,21 +23,17 @@ pub enum Outcome<V, O> {
     Flushed(u64),
     /// The operation has this context.
     Issued(usize),
-    /// The relocation has this context.
-    Relocating(usize),
-    /// The operation or the relocation is to go on.
+    /// The operation is to go on.
     Next,
     /// The operation asks for a value to be built from this one, if there is one.
     Build(Option<V>),
-    /// The operation or the relocation asks for the page of this address to be read.
+    /// The operation asks for the page of this address to be read.
     Load(u64),
-    /// The operation or the relocation can't go on yet, for this reason.
+    /// The operation can't go on yet, for this reason.
     Waits(Wait),
     /// The operation is finished with this answer.
     Done(Answer<O>),
-    /// The relocation is finished: the record of its place is cleared.
-    Cleared,
-    /// The operation or the relocation is given up.
+    /// The operation is given up.
     GivenUp,
     /// Begin is here now.
     Truncated(u64),

@@ -68,12 +68,13 @@ fn write_done<V: Printed, O: Printed, W: fmt::Write>(
         Answer::Absent => write!(f, "done absent"),
         Answer::Stored => write!(f, "done stored"),
         Answer::Deleted => write!(f, "done deleted"),
+        Answer::Cleared => write!(f, "done cleared"),
     }
 }
 
 /// An outcome prints as a script's line does: `entered S`, `left`, `refreshed`, `shifted`, `taken N`, `flushed N`,
 /// `issued C`, `next`, `build none`, `build V`, `load ADDRESS`, `wait fuzzy`, `wait full`, `done value V`, `done absent`,
-/// `done stored`, `done deleted`, `done cleared`, `given up` or `begin ADDRESS`. A relocation is `issued C` as an operation is.
+/// `done stored`, `done deleted`, `done cleared`, `given up` or `begin ADDRESS`.
 impl<V: Printed, O: Printed> Display for Outcome<V, O> {
     ghost output = { λ o. Some (outcome_text V.text O.text o) };
 
@@ -86,14 +87,12 @@ impl<V: Printed, O: Printed> Display for Outcome<V, O> {
             Outcome::Taken(page) => write!(f, "taken {page}"),
             Outcome::Flushed(page) => write!(f, "flushed {page}"),
             Outcome::Issued(context) => write!(f, "issued {context}"),
-            Outcome::Relocating(context) => write!(f, "issued {context}"),
             Outcome::Next => write!(f, "next"),
             Outcome::Build(source) => write_build::<V, O, W>(source, f),
             Outcome::Load(address) => write!(f, "load {address}"),
             Outcome::Waits(Wait::Fuzzy) => write!(f, "wait fuzzy"),
             Outcome::Waits(Wait::Full) => write!(f, "wait full"),
             Outcome::Done(answer) => write_done::<V, O, W>(answer, f),
-            Outcome::Cleared => write!(f, "done cleared"),
             Outcome::GivenUp => write!(f, "given up"),
             Outcome::Truncated(begin) => write!(f, "begin {begin}"),
         }

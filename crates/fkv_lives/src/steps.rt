@@ -7,7 +7,7 @@ use std::alloc::AllocError;
 
 /// A context of a world: the number of its partition, the slot of its session, and its own number there.
 #[derive(Clone, Copy, PartialEq, Eq, Debug)]
-pub struct Place {
+pub struct ContextId {
     pub partition: usize,
     pub slot: usize,
     pub context: usize,
@@ -41,16 +41,14 @@ pub enum Step<K, V, I> {
     Head(usize, u64),
     /// Issues an operation in the session of this slot, after its partition.
     Issue(usize, usize, Op<K, V, I>),
-    /// Issues a relocation in the session of this slot, after its partition.
-    Relocate(usize, usize),
-    /// Goes on with the operation or the relocation that is open there.
-    Go(Place),
+    /// Goes on with the operation that is open there.
+    Go(ContextId),
     /// Installs what the operation that is open there asked for last.
-    Install(Place),
-    /// Reads the page that the operation or the relocation that is open there asked for last, and goes on with it.
-    Load(Place, Access),
-    /// Gives up the operation or the relocation that is open there.
-    GiveUp(Place),
+    Install(ContextId),
+    /// Reads the page that the operation that is open there asked for last, and goes on with it.
+    Load(ContextId, Access),
+    /// Gives up the operation that is open there.
+    GiveUp(ContextId),
     /// Moves Begin of this partition to the start of the page up to which all is cleared.
     Truncate(usize),
 }
@@ -81,7 +79,6 @@ impl<K: Copy, V: Copy, I: Copy> Step<K, V, I> {
             Step::Write(partition, _) => *partition,
             Step::Head(partition, _) => *partition,
             Step::Issue(partition, _, _) => *partition,
-            Step::Relocate(partition, _) => *partition,
             Step::Go(place) => place.partition,
             Step::Install(place) => place.partition,
             Step::Load(place, _) => place.partition,

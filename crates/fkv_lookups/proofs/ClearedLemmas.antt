@@ -5,7 +5,7 @@ use Rattle.std.proofs.lemmas.Bool.Decides.{nat_tests}
 use Rattle.std.specs.declared.cmp.Ordering.{Ordering}
 use Rattle.std.specs.BTreeMap.{is_at}
 use Rattle.fkv_functions.specs.Plain.{Same, IsKeyOrder}
-use Rattle.fkv_records.specs.Places.{IsPlace, behind}
+use Rattle.fkv_records.specs.Places.{IsRecordStart, behind}
 use Rattle.fkv_regions.specs.Agree.{IsMark}
 use Rattle.fkv_regions.proofs.MoveLemmas.{mark-place}
 use Rattle.fkv_texts.specs.declared.entries.Entry.{Entry}
@@ -20,7 +20,7 @@ use Rattle.fkv_texts.proofs.PlaceLemmas.{stands, after-nearest}
 use Rattle.fkv_pages.proofs.PageLemmas.{begin_place, begins_low}
 use Rattle.fkv_lookups.specs.RecordsViews.{RecordsView}
 use Rattle.fkv_lookups.specs.Traced.{IsTraced}
-use Rattle.fkv_lookups.specs.Cleared.{IsSpent, IsCleared}
+use Rattle.fkv_lookups.specs.Cleared.{IsSuperseded, IsCleared}
 use Rattle.fkv_lookups.proofs.TracedLemmas.{highest}
 
 -- ---- the last that passes a test, where the text begins higher
@@ -58,7 +58,7 @@ module _ {K V : Type 0} (cmp : K → K → Ordering) (text : List (Entry K V)) w
       let at = ap (λ (x : Entry K V). x.address) same in omega arith)
   append-test false l n e low h = h
 
-  spent-appended : (n e : Entry K V) → e.address < n.address → IsSpent cmp text e → IsSpent cmp (text ++ n ∷ []) e
+  spent-appended : (n e : Entry K V) → e.address < n.address → IsSuperseded cmp text e → IsSuperseded cmp (text ++ n ∷ []) e
   spent-appended n e low (inl none) = inl none
   spent-appended n e low (inr other) = inr (λ is. other (append-test (has_key cmp e.key n) (last_of cmp text e.key) n e low (sym (last_of-append cmp text n e.key) ∙ is)))
 
@@ -75,7 +75,7 @@ module _ {K V : Type 0} (cmp : K → K → Ordering) (text : List (Entry K V)) w
       let at : y.address ≡ e.address = sym (set_at-address a v y) ∙ ap (λ (x : Entry K V). x.address) is in
       ap Some (sym (set_at-other a v y (λ q. omega arith)) ∙ is)
 
-  spent-changed : (a : ℕ) (v : Option V) (e : Entry K V) → e.address < a → IsSpent cmp text e → IsSpent cmp (changed text a v) e
+  spent-changed : (a : ℕ) (v : Option V) (e : Entry K V) → e.address < a → IsSuperseded cmp text e → IsSuperseded cmp (changed text a v) e
   spent-changed a v e low (inl none) = inl none
   spent-changed a v e low (inr other) = inr (λ is. other (changed-back a v (last_of cmp text e.key) e low (sym (last_of-changed a v cmp text e.key) ∙ is)))
 
@@ -85,7 +85,7 @@ module _ {K V : Type 0} (cmp : K → K → Ordering) (text : List (Entry K V)) w
       spent-changed a v e (omega arith) (h e was low)
 
   -- ---- records are dropped
-  spent-dropped : (low : ℕ) → IsRising text → (e : Entry K V) → IsSpent cmp text e → IsSpent cmp (text_from low text) e
+  spent-dropped : (low : ℕ) → IsRising text → (e : Entry K V) → IsSuperseded cmp text e → IsSuperseded cmp (text_from low text) e
   spent-dropped low r e (inl none) = inl none
   spent-dropped low r e (inr other) = inr (λ is. other (cut-found (has_key cmp e.key) text low r e is))
 
@@ -95,7 +95,7 @@ module _ {K V : Type 0} (cmp : K → K → Ordering) (text : List (Entry K V)) w
       spent-dropped low r e (h e (sym (cut-entry low e.address text high) ∙ here) under)
 
   -- ---- a record is appended again
-  pub spent-renewed : IsKeyOrder cmp → (n e : Entry K V) → n.key ≡ e.key → e.address < n.address → IsSpent cmp (text ++ n ∷ []) e
+  pub spent-renewed : IsKeyOrder cmp → (n e : Entry K V) → n.key ≡ e.key → e.address < n.address → IsSuperseded cmp (text ++ n ∷ []) e
   spent-renewed order n e key low = inr (λ is.
       let yes : has_key cmp e.key n ≡ true = ap (λ (q : K). is_at (cmp q) e.key) key ∙ order.self e.key in
       let last : last_of cmp (text ++ n ∷ []) e.key ≡ Some n = last_of-append cmp text n e.key ∙ rw yes refl in
@@ -130,7 +130,7 @@ module _ {K V : Type 0} (cmp : K → K → Ordering) (text : List (Entry K V)) w
             let high = cut-high (has_key cmp k) text low z n in
             omega arith)
 
-    dead : (y : Entry K V) → last_of cmp text k ≡ Some y → IsSpent cmp text y → y.value ≡ None
+    dead : (y : Entry K V) → last_of cmp text k ≡ Some y → IsSuperseded cmp text y → y.value ≡ None
     dead y h (inl none) = none
     dead y h (inr other) = absurd (other (ap (last_of cmp text) (order.same y.key k (last_where-found (has_key cmp k) text y h)) ∙ h))
 
@@ -166,7 +166,7 @@ module _ {K V : Type 0} {keeps : Bool} {code : K → ℕ} (v : RecordsView K V) 
       let o = t.regions.agree.in_order in
       rw t.begins (begins_low keeps v.begin v.regions.offsets.closed (2 ^ 48) (omega (arith, t.regions.headed, o.head, o.safe, o.most)) (omega (arith, o.closed, o.head, o.safe, o.most)))
 
-  first-place : v.from < 2 ^ 48 → IsPlace v.page_bits v.record_size v.from
+  first-place : v.from < 2 ^ 48 → IsRecordStart v.page_bits v.record_size v.from
   first-place =
       let o = t.regions.agree.in_order in
       let marked = subst (λ bits. IsMark bits v.regions.offsets.closed) t.regions.bits o.closed_mark in
@@ -174,16 +174,16 @@ module _ {K V : Type 0} {keeps : Bool} {code : K → ℕ} (v : RecordsView K V) 
       (mark-place v.page_bits v.record_size v.begin t.shape t.marked t.first)
       (mark-place v.page_bits v.record_size v.regions.offsets.closed t.shape marked o.first) keeps)
 
-  record-place : (e : Entry K V) → IsIn v.text e → IsPlace v.page_bits v.record_size e.address
+  record-place : (e : Entry K V) → IsIn v.text e → IsRecordStart v.page_bits v.record_size e.address
   record-place e m =
       let most = tail-most v.page_bits v.record_size v.from v.tail v.text first-low t.laid_out in
       let s = stands v.page_bits v.record_size t.shape v.from v.tail v.text first-place most t.laid_out m.place e m.here in
       s.place
 
   pub cleared-raised : (cmp : K → K → Ordering) (limit : ℕ)
-      → IsPlace v.page_bits v.record_size limit
+      → IsRecordStart v.page_bits v.record_size limit
       → IsCleared cmp v.text limit
-      → ((e : Entry K V) → entry_at v.text limit ≡ Some e → IsSpent cmp v.text e)
+      → ((e : Entry K V) → entry_at v.text limit ≡ Some e → IsSuperseded cmp v.text e)
       → IsCleared cmp v.text (tail_after v.page_bits v.record_size limit)
   cleared-raised cmp limit place h spent e here under = elim (cases_lt e.address limit) [
     | inl low ↦ h e here low

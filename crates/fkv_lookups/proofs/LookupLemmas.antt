@@ -22,7 +22,7 @@ use Rattle.fkv_texts.proofs.CutLemmas.{filter-in}
 use Rattle.fkv_pages.specs.Views.{text_begin}
 use Rattle.fkv_texts.proofs.LastWhere.{last_where-in, last_where-found, last_where-none}
 use Rattle.fkv_texts.proofs.ChainLemmas.{ended, met_from}
-use Rattle.fkv_texts.specs.declared.entries.Reached.{Reached}
+use Rattle.fkv_texts.specs.declared.entries.ChainPosition.{ChainPosition}
 use Rattle.fkv_lookups.specs.Lookups.GoesOn.{found, below}
 use Rattle.fkv_texts.proofs.TextLemmas.{entry_at-in}
 use Rattle.fkv_operations.specs.Classes.{same_class}
@@ -185,7 +185,7 @@ module _ {K V : Type 0} {keeps : Bool} (cmp : K → K → Ordering) (code : K �
           rw h (found (newest_here a own begun true h) (let m = in_text a own.entry own.here in entry_at-in v.text t.rising own.entry m.0 own.entry.address refl) high)
       goes_by low a e ds begun own high false h rest = rw h (further (newest_here a own begun false h) rest)
         where
-          further : {r : Reached K V} → newest cmp v.text k a ≡ newest cmp v.text k own.entry.previous → GoesOn cmp code v k low own.entry.previous r → GoesOn cmp code v k low a r
+          further : {r : ChainPosition K V} → newest cmp v.text k a ≡ newest cmp v.text k own.entry.previous → GoesOn cmp code v k low own.entry.previous r → GoesOn cmp code v k low a r
           further same (found is stands high) = found (same ∙ is) stands high
           further same (below under is class) = below under (same ∙ is) class
 
@@ -205,12 +205,12 @@ page_begun bits size begin a shape (inr start) le =
     omega (arith, up, whole, start)
 
 -- ---- one page tells how the way goes on
-pub page_tells : {K V : Type 0} {keeps : Bool} (cmp : K → K → Ordering) (code : K → ℕ) (v : RecordsView K V) (k : K) (order : IsKeyOrder cmp) (t : IsTraced keeps code v) (a : ℕ) {E : Type 0} (result : Result (Reached K V) E)
+pub page_tells : {K V : Type 0} {keeps : Bool} (cmp : K → K → Ordering) (code : K → ℕ) (v : RecordsView K V) (k : K) (order : IsKeyOrder cmp) (t : IsTraced keeps code v) (a : ℕ) {E : Type 0} (result : Result (ChainPosition K V) E)
     → IsTrue keeps
     → v.begin ≤ a
     → IsOfClass code v k a
     → ((es : List (Entry K V)) → IsChainFrom (first_place v.page_bits (page_at v.page_bits a)) v.text a es → result ≡ Ok (reached (find (has_key cmp k) es) (leads_to a es)))
-    → (r : Reached K V) × (result ≡ Ok r) × GoesOn cmp code v k (first_place v.page_bits (page_at v.page_bits a)) a r
+    → (r : ChainPosition K V) × (result ≡ Ok r) × GoesOn cmp code v k (first_place v.page_bits (page_at v.page_bits a)) a r
 page_tells {keeps = keeps} cmp code v k order t a result kept le own reads =
     let low = first_place v.page_bits (page_at v.page_bits a) in
     let begun : v.begin ≤ low = page_begun v.page_bits v.record_size v.begin a t.shape t.marked le in

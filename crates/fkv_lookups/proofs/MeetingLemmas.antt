@@ -11,8 +11,8 @@ use Rattle.fkv_regions.specs.declared.offsets.Region.TheVariants as region
 use Rattle.fkv_regions.specs.Offsets.{region_of, view_at}
 use Rattle.fkv_regions.specs.Agree.{IsByRegion, ViewAgrees}
 use Rattle.fkv_texts.specs.declared.entries.Entry.{Entry}
-use Rattle.fkv_texts.specs.declared.entries.Reached.{Reached}
-use Rattle.fkv_texts.specs.declared.entries.Reached.TheVariants.{Found, Below}
+use Rattle.fkv_texts.specs.declared.entries.ChainPosition.{ChainPosition}
+use Rattle.fkv_texts.specs.declared.entries.ChainPosition.TheVariants.{Found, Below}
 use Rattle.fkv_texts.specs.Text.{entry_at, value_of, last_of, newest, text_from}
 use Rattle.fkv_texts.specs.Chains.{falling, leads_to, reached}
 use Rattle.fkv_texts.proofs.CutLemmas.{cut-rising, cut-from, cut-leads, cut-chained}
@@ -20,8 +20,8 @@ use Rattle.fkv_texts.proofs.ChainLemmas.{meets, finds}
 use Rattle.fkv_operations.specs.Classes.{same_class}
 use Rattle.fkv_operations.specs.Still.{IsStill}
 use Rattle.fkv_operations.proofs.ClassLemmas.{class_test}
-use Rattle.fkv_lookups.specs.declared.decisions.Met.{Met}
-use Rattle.fkv_lookups.specs.declared.decisions.Met.TheVariants.{NoEntry, NoValue, ReadOnly, Fuzzy, Mutable, OnDisk}
+use Rattle.fkv_lookups.specs.declared.decisions.LookupResult.{LookupResult}
+use Rattle.fkv_lookups.specs.declared.decisions.LookupResult.TheVariants.{NoEntry, NoValue, ReadOnly, Fuzzy, Mutable, OnDisk}
 use Rattle.fkv_lookups.specs.Decisions.{low_of, met_by, IsHeld}
 use Rattle.fkv_lookups.specs.DecisionLaws.{held-met, mutable-met, fuzzy-met, frozen-met, absent-met, disk-met, IsMetIn}
 use Rattle.fkv_lookups.specs.Lookups.{looked_up, IsOfClass, GoesOn}
@@ -79,7 +79,7 @@ module _ {K V : Type 0} {keeps : Bool} (cmp : K → K → Ordering) (code : K �
     pub stands : entry_at v.text e.address ≡ Some e
     pub high : low ≤ e.address
 
-  found_at : (low a : ℕ) (r : Reached K V) → GoesOn cmp code v k low a r → entry_of v (class_in code v k) ≡ Some a → (e : Entry K V) → r ≡ Found e → IsFoundAt low a e
+  found_at : (low a : ℕ) (r : ChainPosition K V) → GoesOn cmp code v k low a r → entry_of v (class_in code v k) ≡ Some a → (e : Entry K V) → r ≡ Found e → IsFoundAt low a e
   found_at low a r (found {e = d} is stands high) entry e same =
       let one : d ≡ e = cc in
       subst (IsFoundAt low a) one (record { last = sym (traced-held cmp code v k order t a entry) ∙ is; stands = stands; high = high })
@@ -90,7 +90,7 @@ module _ {K V : Type 0} {keeps : Bool} (cmp : K → K → Ordering) (code : K �
     pub newest : last_of cmp v.text k ≡ newest cmp v.text k b
     pub class : v.from ≤ b → IsOfClass code v k b
 
-  below_at : (low a : ℕ) (r : Reached K V) → GoesOn cmp code v k low a r → entry_of v (class_in code v k) ≡ Some a → (b : ℕ) → r ≡ Below b → IsBelowAt low b
+  below_at : (low a : ℕ) (r : ChainPosition K V) → GoesOn cmp code v k low a r → entry_of v (class_in code v k) ≡ Some a → (b : ℕ) → r ≡ Below b → IsBelowAt low b
   below_at low a r (found is stands high) entry b same = absurd (cc)
   below_at low a r (below {b = d} under is class) entry b same =
       let one : d ≡ b = cc in
@@ -127,8 +127,8 @@ module _ {K V : Type 0} {keeps : Bool} (cmp : K → K → Ordering) (code : K �
             ap value_of (w.newest ∙ newest_below cmp code v k order t b (omega arith)))
 
     -- a value is met in the region of the key's last record
-    met-in : (o : Option ℕ) → entry_of v (class_in code v k) ≡ o → (m : Met V) → met_from cmp code v (view_at v.regions.views slot) k o ≡ m → (w : V) (g : Region)
-        → ((a : ℕ) (r : Reached K V) → met_by (Some a) v.begin (view_at v.regions.views slot) r ≡ m → IsMetIn v.begin (view_at v.regions.views slot) r w g)
+    met-in : (o : Option ℕ) → entry_of v (class_in code v k) ≡ o → (m : LookupResult V) → met_from cmp code v (view_at v.regions.views slot) k o ≡ m → (w : V) (g : Region)
+        → ((a : ℕ) (r : ChainPosition K V) → met_by (Some a) v.begin (view_at v.regions.views slot) r ≡ m → IsMetIn v.begin (view_at v.regions.views slot) r w g)
         → (NoEntry ≡ m → ⊥)
         → IsMetAt cmp code v (view_at v.regions.views slot) k w g
     met-in None entry m is w g there none = absurd (none is)

@@ -4,17 +4,17 @@ use Rattle.std.specs.Ordering.{nat_cmp}
 use Rattle.fkv_texts.specs.declared.entries.Entry.{Entry}
 use Rattle.fkv_texts.specs.WrongTexts.{entry}
 use Rattle.fkv_texts.proofs.LastWhere.{last_where-in}
-use Rattle.fkv_lookups.specs.Cleared.{IsSpent, IsCleared}
+use Rattle.fkv_lookups.specs.Cleared.{IsSuperseded, IsCleared}
 use Rattle.fkv_lookups.specs.WrongCleared.{written_twice, written_once}
 
-pub first-spent : (v : Option ℕ) (w : ℕ) → IsSpent nat_cmp (written_twice v w) (entry 64 1 3 v)
+pub first-spent : (v : Option ℕ) (w : ℕ) → IsSuperseded nat_cmp (written_twice v w) (entry 64 1 3 v)
 first-spent v w = inr (λ h.
     let both : Some (entry 96 64 3 (Some w)) ≡ Some (entry 64 1 3 v) = h in
     let same : entry 96 64 3 (Some w) ≡ entry 64 1 3 v = cc in
     let at = ap (λ (x : Entry ℕ ℕ). x.address) same in
     omega arith)
 
-pub last-holds : (v : Option ℕ) (w : ℕ) → IsSpent nat_cmp (written_twice v w) (entry 96 64 3 (Some w)) → ⊥
+pub last-holds : (v : Option ℕ) (w : ℕ) → IsSuperseded nat_cmp (written_twice v w) (entry 96 64 3 (Some w)) → ⊥
 last-holds v w (inl none) = absurd (let bad : Some w ≡ None = none in cc)
 last-holds v w (inr other) = other refl
 
@@ -35,7 +35,7 @@ none-below v w e here low =
     let high = stands-high v w e m.place m.here in
     absurd (omega arith)
 
-spent-once : (v : ℕ) (w : Option ℕ) → IsSpent nat_cmp (written_once v w) (entry 64 1 3 (Some v)) → ⊥
+spent-once : (v : ℕ) (w : Option ℕ) → IsSuperseded nat_cmp (written_once v w) (entry 64 1 3 (Some v)) → ⊥
 spent-once v w (inl none) = absurd (let bad : Some v ≡ None = none in cc)
 spent-once v w (inr other) = other refl
 

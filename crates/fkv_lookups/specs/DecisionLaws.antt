@@ -7,20 +7,20 @@ use Rattle.std.proofs.Common.{refl, sym, ap, ◌∙◌, inl, inr, subst, arith}
 use Rattle.fkv_functions.specs.Meanings.{Meanings}
 use Rattle.fkv_functions.specs.Plain.{PlainMap, Same, IsKeyOrder, with_at}
 use Rattle.fkv_texts.specs.declared.entries.Entry.{Entry}
-use Rattle.fkv_texts.specs.declared.entries.Reached.{Reached}
-use Rattle.fkv_texts.specs.declared.entries.Reached.TheVariants.{Found, Below}
+use Rattle.fkv_texts.specs.declared.entries.ChainPosition.{ChainPosition}
+use Rattle.fkv_texts.specs.declared.entries.ChainPosition.TheVariants.{Found, Below}
 use Rattle.fkv_regions.specs.declared.offsets.View.{View}
 use Rattle.fkv_regions.specs.declared.offsets.Region.{Region}
 use Rattle.fkv_regions.specs.declared.offsets.Region.TheVariants as region
 use Rattle.fkv_regions.specs.Offsets.{region_of}
 use Rattle.fkv_operations.specs.After.{key_of, after, answer, shown_of}
 use Rattle.fkv_lookups.specs.Decisions.{met_in, met_last, met_by, held_of, IsHeld, decision}
-use Rattle.fkv_operations.specs.declared.operations.Op.{Op}
-use Rattle.fkv_operations.specs.declared.operations.Op.TheVariants.{Read, Upsert, Rmw, Delete}
+use Rattle.fkv_operations.specs.declared.operations.KeyedOp.{KeyedOp}
+use Rattle.fkv_operations.specs.declared.operations.KeyedOp.TheVariants.{Read, Upsert, Rmw, Delete}
 use Rattle.fkv_operations.specs.declared.operations.Answer.{Answer}
 use Rattle.fkv_operations.specs.declared.operations.Answer.TheVariants as told
-use Rattle.fkv_lookups.specs.declared.decisions.Met.{Met}
-use Rattle.fkv_lookups.specs.declared.decisions.Met.TheVariants.{NoEntry, NoValue, ReadOnly, Fuzzy, Mutable, OnDisk}
+use Rattle.fkv_lookups.specs.declared.decisions.LookupResult.{LookupResult}
+use Rattle.fkv_lookups.specs.declared.decisions.LookupResult.TheVariants.{NoEntry, NoValue, ReadOnly, Fuzzy, Mutable, OnDisk}
 use Rattle.fkv_lookups.specs.declared.decisions.Decision.TheVariants.{Done, Claim, Append, Replace, Prepare, Wait, Load}
 
 -- a key that has no value is removed without a change
@@ -31,7 +31,7 @@ removed false l h = refl
 module _ {K V I O : Type 0} (cmp : K → K → Ordering) (f : Meanings K V I O) (m : PlainMap K V) where
   -- an operation that is done without a write leaves the map as it is, and answers as the map does
   pub quiet-after : IsKeyOrder cmp
-      → (op : Op K V I) (met : Met V) (a : Answer O)
+      → (op : KeyedOp K V I) (met : LookupResult V) (a : Answer O)
       → IsHeld met (m (key_of op))
       → decision f op met ≡ Done a
       → Same (after cmp f m op) m
@@ -60,7 +60,7 @@ module _ {K V I O : Type 0} (cmp : K → K → Ordering) (f : Meanings K V I O) 
   quiet-after order (Delete k) (Mutable w) a h d q = absurd (cc)
   quiet-after order (Delete k) (OnDisk b) a h d q = absurd (cc)
 
-  pub quiet-answer : (op : Op K V I) (met : Met V) (a : Answer O)
+  pub quiet-answer : (op : KeyedOp K V I) (met : LookupResult V) (a : Answer O)
       → IsHeld met (m (key_of op))
       → decision f op met ≡ Done a
       → a ≡ answer f m op
@@ -90,7 +90,7 @@ module _ {K V I O : Type 0} (cmp : K → K → Ordering) (f : Meanings K V I O) 
   quiet-answer (Delete k) (OnDisk b) a h d = absurd (cc)
 
   -- one that appends does to the map what its record does, and answers as the map does
-  pub append-after : (op : Op K V I) (met : Met V) (v : Option V) (a : Answer O)
+  pub append-after : (op : KeyedOp K V I) (met : LookupResult V) (v : Option V) (a : Answer O)
       → decision f op met ≡ Append v a
       → after cmp f m op ≡ with_at cmp m (key_of op) v
   append-after (Read k i) NoEntry v a d = absurd (cc)
@@ -118,7 +118,7 @@ module _ {K V I O : Type 0} (cmp : K → K → Ordering) (f : Meanings K V I O) 
   append-after (Delete k) (Mutable w) v a d = absurd (cc)
   append-after (Delete k) (OnDisk b) v a d = let same : None ≡ v = cc in ap (with_at cmp m k) same
 
-  pub append-answer : (op : Op K V I) (met : Met V) (v : Option V) (a : Answer O)
+  pub append-answer : (op : KeyedOp K V I) (met : LookupResult V) (v : Option V) (a : Answer O)
       → decision f op met ≡ Append v a
       → a ≡ answer f m op
   append-answer (Read k i) NoEntry v a d = absurd (cc)
@@ -147,7 +147,7 @@ module _ {K V I O : Type 0} (cmp : K → K → Ordering) (f : Meanings K V I O) 
   append-answer (Delete k) (OnDisk b) v a d = cc
 
   -- and so does one that changes the last record of its key in place
-  pub replace-after : (op : Op K V I) (met : Met V) (v : Option V) (a : Answer O)
+  pub replace-after : (op : KeyedOp K V I) (met : LookupResult V) (v : Option V) (a : Answer O)
       → IsHeld met (m (key_of op))
       → decision f op met ≡ Replace v a
       → after cmp f m op ≡ with_at cmp m (key_of op) v
@@ -176,7 +176,7 @@ module _ {K V I O : Type 0} (cmp : K → K → Ordering) (f : Meanings K V I O) 
   replace-after (Delete k) (Mutable w) v a h d = let same : None ≡ v = cc in ap (with_at cmp m k) same
   replace-after (Delete k) (OnDisk b) v a h d = absurd (cc)
 
-  pub replace-answer : (op : Op K V I) (met : Met V) (v : Option V) (a : Answer O)
+  pub replace-answer : (op : KeyedOp K V I) (met : LookupResult V) (v : Option V) (a : Answer O)
       → IsHeld met (m (key_of op))
       → decision f op met ≡ Replace v a
       → a ≡ answer f m op
@@ -208,7 +208,7 @@ module _ {K V I O : Type 0} (cmp : K → K → Ordering) (f : Meanings K V I O) 
 module _ {K V I O : Type 0} (f : Meanings K V I O) where
   -- one that asks for a value is an update by an input, and its source is what was met: none, or a value that changes no
   -- more
-  pub prepare-op : (op : Op K V I) (met : Met V) (s : Option V) (i : I)
+  pub prepare-op : (op : KeyedOp K V I) (met : LookupResult V) (s : Option V) (i : I)
       → decision f op met ≡ Prepare s i
       → op ≡ Rmw (key_of op) i
   prepare-op (Read k j) NoEntry s i d = absurd (cc)
@@ -236,7 +236,7 @@ module _ {K V I O : Type 0} (f : Meanings K V I O) where
   prepare-op (Delete k) (Mutable w) s i d = absurd (cc)
   prepare-op (Delete k) (OnDisk b) s i d = absurd (cc)
 
-  pub prepare-source : (op : Op K V I) (met : Met V) (s : Option V) (i : I)
+  pub prepare-source : (op : KeyedOp K V I) (met : LookupResult V) (s : Option V) (i : I)
       → decision f op met ≡ Prepare s i
       → s ≡ held_of met
   prepare-source (Read k j) NoEntry s i d = absurd (cc)
@@ -264,7 +264,7 @@ module _ {K V I O : Type 0} (f : Meanings K V I O) where
   prepare-source (Delete k) (Mutable w) s i d = absurd (cc)
   prepare-source (Delete k) (OnDisk b) s i d = absurd (cc)
 
-  pub prepare-met : (op : Op K V I) (met : Met V) (s : Option V) (i : I)
+  pub prepare-met : (op : KeyedOp K V I) (met : LookupResult V) (s : Option V) (i : I)
       → decision f op met ≡ Prepare s i
       → (met ≡ NoValue) ⊎ ((w : V) × (met ≡ ReadOnly w))
   prepare-met (Read k j) NoEntry s i d = absurd (cc)
@@ -293,7 +293,7 @@ module _ {K V I O : Type 0} (f : Meanings K V I O) where
   prepare-met (Delete k) (OnDisk b) s i d = absurd (cc)
 
   -- one that changes a record in place met a value that may be changed so
-  pub replace-met : (op : Op K V I) (met : Met V) (v : Option V) (a : Answer O)
+  pub replace-met : (op : KeyedOp K V I) (met : LookupResult V) (v : Option V) (a : Answer O)
       → decision f op met ≡ Replace v a
       → (w : V) × (met ≡ Mutable w)
   replace-met (Read k i) NoEntry v a d = absurd (cc)
@@ -322,7 +322,7 @@ module _ {K V I O : Type 0} (f : Meanings K V I O) where
   replace-met (Delete k) (OnDisk b) v a d = absurd (cc)
 
   -- only an update waits, and it met a value that others may still change
-  pub wait-op : (op : Op K V I) (met : Met V)
+  pub wait-op : (op : KeyedOp K V I) (met : LookupResult V)
       → decision f op met ≡ Wait
       → (i : I) × (op ≡ Rmw (key_of op) i)
   wait-op (Read k i) NoEntry d = absurd (cc)
@@ -350,7 +350,7 @@ module _ {K V I O : Type 0} (f : Meanings K V I O) where
   wait-op (Delete k) (Mutable w) d = absurd (cc)
   wait-op (Delete k) (OnDisk b) d = absurd (cc)
 
-  pub wait-met : (op : Op K V I) (met : Met V)
+  pub wait-met : (op : KeyedOp K V I) (met : LookupResult V)
       → decision f op met ≡ Wait
       → (w : V) × (met ≡ Fuzzy w)
   wait-met (Read k i) NoEntry d = absurd (cc)
@@ -379,31 +379,31 @@ module _ {K V I O : Type 0} (f : Meanings K V I O) where
   wait-met (Delete k) (OnDisk b) d = absurd (cc)
 
   -- without an entry nothing is written but an entry
-  append-none : (op : Op K V I) (v : Option V) (a : Answer O) → decision f op NoEntry ≡ Append v a → ⊥
+  append-none : (op : KeyedOp K V I) (v : Option V) (a : Answer O) → decision f op NoEntry ≡ Append v a → ⊥
   append-none (Read k i) v a d = cc
   append-none (Upsert k u) v a d = cc
   append-none (Rmw k i) v a d = cc
   append-none (Delete k) v a d = cc
 
-  pub append-entry : (op : Op K V I) (entry : Option ℕ) (begin : ℕ) (view : View) (r : Reached K V) (v : Option V) (a : Answer O)
+  pub append-entry : (op : KeyedOp K V I) (entry : Option ℕ) (begin : ℕ) (view : View) (r : ChainPosition K V) (v : Option V) (a : Answer O)
       → decision f op (met_by entry begin view r) ≡ Append v a
       → IsSome entry
   append-entry op None begin view r v a d = absurd (append-none op v a d)
   append-entry op (Some e) begin view r v a d = refl
 
-  prepare-none : (op : Op K V I) (s : Option V) (i : I) → decision f op NoEntry ≡ Prepare s i → ⊥
+  prepare-none : (op : KeyedOp K V I) (s : Option V) (i : I) → decision f op NoEntry ≡ Prepare s i → ⊥
   prepare-none (Read k j) s i d = cc
   prepare-none (Upsert k u) s i d = cc
   prepare-none (Rmw k j) s i d = cc
   prepare-none (Delete k) s i d = cc
 
-  pub prepare-entry : (op : Op K V I) (entry : Option ℕ) (begin : ℕ) (view : View) (r : Reached K V) (s : Option V) (i : I)
+  pub prepare-entry : (op : KeyedOp K V I) (entry : Option ℕ) (begin : ℕ) (view : View) (r : ChainPosition K V) (s : Option V) (i : I)
       → decision f op (met_by entry begin view r) ≡ Prepare s i
       → IsSome entry
   prepare-entry op None begin view r s i d = absurd (prepare-none op s i d)
   prepare-entry op (Some e) begin view r s i d = refl
 
-  pub claim-met : (op : Op K V I) (met : Met V)
+  pub claim-met : (op : KeyedOp K V I) (met : LookupResult V)
       → decision f op met ≡ Claim
       → met ≡ NoEntry
   claim-met (Read k i) NoEntry d = absurd (cc)
@@ -434,7 +434,7 @@ module _ {K V I O : Type 0} (f : Meanings K V I O) where
 -- ---- a page is asked for
 module _ {K V I O : Type 0} (f : Meanings K V I O) where
   -- only a read or an update asks, and what it met lies there
-  pub load-met : (op : Op K V I) (met : Met V) (b : ℕ)
+  pub load-met : (op : KeyedOp K V I) (met : LookupResult V) (b : ℕ)
       → decision f op met ≡ Load b
       → met ≡ OnDisk b
   load-met (Read k i) NoEntry b d = absurd (cc)
@@ -462,7 +462,7 @@ module _ {K V I O : Type 0} (f : Meanings K V I O) where
   load-met (Delete k) (Mutable w) b d = absurd (cc)
   load-met (Delete k) (OnDisk a) b d = absurd (cc)
 
-  pub load-op : (op : Op K V I) (met : Met V) (b : ℕ)
+  pub load-op : (op : KeyedOp K V I) (met : LookupResult V) (b : ℕ)
       → decision f op met ≡ Load b
       → (i : I) × ((op ≡ Read (key_of op) i) ⊎ (op ≡ Rmw (key_of op) i))
   load-op (Read k i) NoEntry b d = absurd (cc)
@@ -540,7 +540,7 @@ absent-none region.Mutable v h = cc
 module _ {K V : Type 0} (begin : ℕ) (view : View) where
   -- what is met says what the key holds, where the look-up tells: the record that it comes to is the last of the key, and
   -- below Begin there is none
-  pub held-met : (entry : Option ℕ) (r : Reached K V) (o : Option V)
+  pub held-met : (entry : Option ℕ) (r : ChainPosition K V) (o : Option V)
       → (entry ≡ None → o ≡ None)
       → ((e : Entry K V) → r ≡ Found e → o ≡ e.value)
       → ((b : ℕ) → r ≡ Below b → b < begin → o ≡ None)
@@ -554,7 +554,7 @@ module _ {K V : Type 0} (begin : ℕ) (view : View) where
       by_begin false h = tt
 
   -- where there is no entry, and only there, none is met
-  pub none-met : (entry : Option ℕ) (r : Reached K V) → met_by entry begin view r ≡ NoEntry → entry ≡ None
+  pub none-met : (entry : Option ℕ) (r : ChainPosition K V) → met_by entry begin view r ≡ NoEntry → entry ≡ None
   none-met None r h = refl
   none-met (Some a) (Found e) h = absurd (by_value e.value h)
     where
@@ -563,17 +563,17 @@ module _ {K V : Type 0} (begin : ℕ) (view : View) where
       by_value (Some v) h = none-none (region_of view e.address) v h
   none-met (Some a) (Below b) h = absurd (by_begin (nat_lt b begin) h)
     where
-      by_begin : (c : Bool) → cond {A = Met V} c NoValue (OnDisk b) ≡ NoEntry → ⊥
+      by_begin : (c : Bool) → cond {A = LookupResult V} c NoValue (OnDisk b) ≡ NoEntry → ⊥
       by_begin true h = cc
       by_begin false h = cc
 
   -- what lies on disk is where the look-up led, at or above Begin
-  pub record IsMetOnDisk (entry : Option ℕ) (r : Reached K V) (b : ℕ) : Type 0 where
+  pub record IsMetOnDisk (entry : Option ℕ) (r : ChainPosition K V) (b : ℕ) : Type 0 where
     pub is : r ≡ Below b
     pub high : begin ≤ b
     pub some : IsSome entry
 
-  pub disk-met : (entry : Option ℕ) (r : Reached K V) (b : ℕ) → met_by entry begin view r ≡ OnDisk b → IsMetOnDisk entry r b
+  pub disk-met : (entry : Option ℕ) (r : ChainPosition K V) (b : ℕ) → met_by entry begin view r ≡ OnDisk b → IsMetOnDisk entry r b
   disk-met None r b h = absurd (cc)
   disk-met (Some a) (Found e) b h = absurd (by_value e.value h)
     where
@@ -582,7 +582,7 @@ module _ {K V : Type 0} (begin : ℕ) (view : View) where
       by_value (Some v) h = disk-none (region_of view e.address) v b h
   disk-met (Some a) (Below c) b h = by_begin (nat_lt c begin) refl h
     where
-      by_begin : (t : Bool) → nat_lt c begin ≡ t → cond {A = Met V} t NoValue (OnDisk c) ≡ OnDisk b → IsMetOnDisk (Some a) (Below c) b
+      by_begin : (t : Bool) → nat_lt c begin ≡ t → cond {A = LookupResult V} t NoValue (OnDisk c) ≡ OnDisk b → IsMetOnDisk (Some a) (Below c) b
       by_begin true is h = absurd (cc)
       by_begin false is h =
           let same : c ≡ b = cc in
@@ -590,18 +590,18 @@ module _ {K V : Type 0} (begin : ℕ) (view : View) where
           record { is = ap Below same; high = subst (λ (n : ℕ). begin ≤ n) same high; some = refl }
 
   -- a value is met in the region of the record that the look-up comes to
-  pub record IsMetIn (r : Reached K V) (w : V) (g : Region) : Type 0 where
+  pub record IsMetIn (r : ChainPosition K V) (w : V) (g : Region) : Type 0 where
     pub entry : Entry K V
     pub is : r ≡ Found entry
     pub value : entry.value ≡ Some w
     pub region : region_of view entry.address ≡ g
 
-  in-region : {P : Region → Type 0} (met : V → Met V)
+  in-region : {P : Region → Type 0} (met : V → LookupResult V)
       → ((r : Region) (v w : V) → met_in r v ≡ met w → (v ≡ w) × P r)
       → ((w : V) → NoEntry ≡ met w → ⊥)
       → ((w : V) → NoValue ≡ met w → ⊥)
       → ((b : ℕ) (w : V) → OnDisk b ≡ met w → ⊥)
-      → (entry : Option ℕ) (r : Reached K V) (w : V)
+      → (entry : Option ℕ) (r : ChainPosition K V) (w : V)
       → met_by entry begin view r ≡ met w
       → (g : Region) × P g × IsMetIn r w g
   in-region met is no_entry no_value no_disk None r w h = absurd (no_entry w h)
@@ -618,24 +618,24 @@ module _ {K V : Type 0} (begin : ℕ) (view : View) where
           let i = is (region_of view e.address) v w h in
           (region_of view e.address, i.1, record { entry = e; is = refl; value = q ∙ ap Some i.0; region = refl })
 
-  pub mutable-met : (entry : Option ℕ) (r : Reached K V) (w : V) → met_by entry begin view r ≡ Mutable w → IsMetIn r w region.Mutable
+  pub mutable-met : (entry : Option ℕ) (r : ChainPosition K V) (w : V) → met_by entry begin view r ≡ Mutable w → IsMetIn r w region.Mutable
   mutable-met entry r w h =
       let m = in-region {P = λ g. g ≡ region.Mutable} Mutable mutable-only (λ w e. cc) (λ w e. cc) (λ b w e. cc) entry r w h in
       let i = m.2 in
       record { entry = i.entry; is = i.is; value = i.value; region = i.region ∙ m.1 }
 
-  pub fuzzy-met : (entry : Option ℕ) (r : Reached K V) (w : V) → met_by entry begin view r ≡ Fuzzy w → IsMetIn r w region.Fuzzy
+  pub fuzzy-met : (entry : Option ℕ) (r : ChainPosition K V) (w : V) → met_by entry begin view r ≡ Fuzzy w → IsMetIn r w region.Fuzzy
   fuzzy-met entry r w h =
       let m = in-region {P = λ g. g ≡ region.Fuzzy} Fuzzy fuzzy-only (λ w e. cc) (λ w e. cc) (λ b w e. cc) entry r w h in
       let i = m.2 in
       record { entry = i.entry; is = i.is; value = i.value; region = i.region ∙ m.1 }
 
-  pub frozen-met : (entry : Option ℕ) (r : Reached K V) (w : V) → met_by entry begin view r ≡ ReadOnly w
+  pub frozen-met : (entry : Option ℕ) (r : ChainPosition K V) (w : V) → met_by entry begin view r ≡ ReadOnly w
       → (g : Region) × ((g ≡ region.ReadOnly) ⊎ (g ≡ region.OnDisk)) × IsMetIn r w g
   frozen-met entry r w h = in-region {P = λ g. (g ≡ region.ReadOnly) ⊎ (g ≡ region.OnDisk)} ReadOnly frozen-only (λ w e. cc) (λ w e. cc) (λ b w e. cc) entry r w h
 
   -- where there is no value, the look-up came to a tombstone, or below Begin
-  pub absent-met : (entry : Option ℕ) (r : Reached K V) → met_by entry begin view r ≡ NoValue
+  pub absent-met : (entry : Option ℕ) (r : ChainPosition K V) → met_by entry begin view r ≡ NoValue
       → ((e : Entry K V) × (r ≡ Found e) × (e.value ≡ None)) ⊎ ((b : ℕ) × (r ≡ Below b) × (b < begin))
   absent-met None r h = absurd (cc)
   absent-met (Some a) (Found e) h = inl (e, refl, by_value e.value refl h)
@@ -645,6 +645,6 @@ module _ {K V : Type 0} (begin : ℕ) (view : View) where
       by_value (Some v) q h = absurd (absent-none (region_of view e.address) v h)
   absent-met (Some a) (Below b) h = inr (b, refl, by_begin (nat_lt b begin) refl h)
     where
-      by_begin : (c : Bool) → nat_lt b begin ≡ c → cond {A = Met V} c NoValue (OnDisk b) ≡ NoValue → b < begin
+      by_begin : (c : Bool) → nat_lt b begin ≡ c → cond {A = LookupResult V} c NoValue (OnDisk b) ≡ NoValue → b < begin
       by_begin true is h = grind (arith, nat_tests)
       by_begin false is h = absurd (cc)

@@ -1,32 +1,32 @@
 -- What the look-up of a key meets, and what an operation then does.
 use Rattle.std.specs.Prelude.{◌≡◌, ℕ, cond, Option, Some, None, nat_le, nat_lt}
 use Rattle.fkv_functions.specs.Meanings.{Meanings}
-use Rattle.fkv_texts.specs.declared.entries.Reached.{Reached}
-use Rattle.fkv_texts.specs.declared.entries.Reached.TheVariants.{Found, Below}
+use Rattle.fkv_texts.specs.declared.entries.ChainPosition.{ChainPosition}
+use Rattle.fkv_texts.specs.declared.entries.ChainPosition.TheVariants.{Found, Below}
 use Rattle.fkv_regions.specs.declared.offsets.View.{View}
 use Rattle.fkv_regions.specs.declared.offsets.Region.{Region}
 use Rattle.fkv_regions.specs.declared.offsets.Region.TheVariants as region
 use Rattle.fkv_regions.specs.Offsets.{region_of}
 use Rattle.fkv_operations.specs.After.{shown_of}
-use Rattle.fkv_operations.specs.declared.operations.Op.{Op}
-use Rattle.fkv_operations.specs.declared.operations.Op.TheVariants.{Read, Upsert, Rmw, Delete}
+use Rattle.fkv_operations.specs.declared.operations.KeyedOp.{KeyedOp}
+use Rattle.fkv_operations.specs.declared.operations.KeyedOp.TheVariants.{Read, Upsert, Rmw, Delete}
 use Rattle.fkv_operations.specs.declared.operations.Answer.TheVariants as answer
 use Rattle.fkv_operations.specs.declared.operations.Answer.TheVariants.{Stored, Deleted}
-use Rattle.fkv_lookups.specs.declared.decisions.Met.{Met}
-use Rattle.fkv_lookups.specs.declared.decisions.Met.TheVariants.{NoEntry, NoValue, ReadOnly, Fuzzy, Mutable, OnDisk}
+use Rattle.fkv_lookups.specs.declared.decisions.LookupResult.{LookupResult}
+use Rattle.fkv_lookups.specs.declared.decisions.LookupResult.TheVariants.{NoEntry, NoValue, ReadOnly, Fuzzy, Mutable, OnDisk}
 use Rattle.fkv_lookups.specs.declared.decisions.Decision.{Decision}
 use Rattle.fkv_lookups.specs.declared.decisions.Decision.TheVariants.{Done, Claim, Append, Replace, Prepare, Wait, Load}
 
 -- a value in the region where its record stands; no session finds one on disk, since it looks no lower than its view of
 -- Head
-abbrev pub met_in : {V : Type 0} → Region → V → Met V
+abbrev pub met_in : {V : Type 0} → Region → V → LookupResult V
 met_in region.OnDisk v = ReadOnly v
 met_in region.ReadOnly v = ReadOnly v
 met_in region.Fuzzy v = Fuzzy v
 met_in region.Mutable v = Mutable v
 
 -- the last record of a key, by a view: its value in its region, or none for a tombstone
-abbrev pub met_last : {V : Type 0} → View → ℕ → Option V → Met V
+abbrev pub met_last : {V : Type 0} → View → ℕ → Option V → LookupResult V
 met_last view a None = NoValue
 met_last view a (Some v) = met_in (region_of view a) v
 
@@ -37,13 +37,13 @@ low_of begin view = cond (nat_le begin view.head) view.head begin
 -- what is met, by the address to which the entry of the key's class leads, by Begin and the session's view, and by what
 -- the look-up comes to: the last record of the key, or where the records of its class lead below what was read, which is
 -- nowhere below Begin
-abbrev pub met_by : {K V : Type 0} → Option ℕ → ℕ → View → Reached K V → Met V
+abbrev pub met_by : {K V : Type 0} → Option ℕ → ℕ → View → ChainPosition K V → LookupResult V
 met_by None begin view reached = NoEntry
 met_by (Some a) begin view (Found e) = met_last view e.address e.value
 met_by (Some a) begin view (Below b) = cond (nat_lt b begin) NoValue (OnDisk b)
 
 -- the value that was met; what lies on disk is not known yet
-abbrev pub held_of : {V : Type 0} → Met V → Option V
+abbrev pub held_of : {V : Type 0} → LookupResult V → Option V
 held_of NoEntry = None
 held_of NoValue = None
 held_of (ReadOnly v) = Some v
@@ -52,7 +52,7 @@ held_of (Mutable v) = Some v
 held_of (OnDisk b) = None
 
 -- what a key's value is said to be by what was met: nothing is said where a page has to be loaded
-abbrev pub IsHeld : {V : Type 0} → Met V → Option V → Type 0
+abbrev pub IsHeld : {V : Type 0} → LookupResult V → Option V → Type 0
 IsHeld NoEntry o = o ≡ None
 IsHeld NoValue o = o ≡ None
 IsHeld (ReadOnly v) o = o ≡ Some v
@@ -61,7 +61,7 @@ IsHeld (Mutable v) o = o ≡ Some v
 IsHeld (OnDisk b) o = Unit {0}
 
 -- the table: what an operation does for what it met
-abbrev pub decision : {K V I O : Type 0} → Meanings K V I O → Op K V I → Met V → Decision V I O
+abbrev pub decision : {K V I O : Type 0} → Meanings K V I O → KeyedOp K V I → LookupResult V → Decision V I O
 decision f (Read k i) NoEntry = Done (shown_of f k i None)
 decision f (Read k i) NoValue = Done (shown_of f k i None)
 decision f (Read k i) (ReadOnly w) = Done (shown_of f k i (Some w))

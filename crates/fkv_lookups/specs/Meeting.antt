@@ -5,20 +5,20 @@ use Rattle.fkv_regions.specs.declared.offsets.View.{View}
 use Rattle.fkv_regions.specs.declared.offsets.Region.{Region}
 use Rattle.fkv_regions.specs.Offsets.{region_of}
 use Rattle.fkv_texts.specs.declared.entries.Entry.{Entry}
-use Rattle.fkv_texts.specs.declared.entries.Reached.TheVariants.{Found}
+use Rattle.fkv_texts.specs.declared.entries.ChainPosition.TheVariants.{Found}
 use Rattle.fkv_texts.specs.Text.{entry_at, last_of, newest}
-use Rattle.fkv_lookups.specs.declared.decisions.Met.{Met}
-use Rattle.fkv_lookups.specs.declared.decisions.Met.TheVariants.{NoEntry}
+use Rattle.fkv_lookups.specs.declared.decisions.LookupResult.{LookupResult}
+use Rattle.fkv_lookups.specs.declared.decisions.LookupResult.TheVariants.{NoEntry}
 use Rattle.fkv_lookups.specs.Decisions.{low_of, met_by}
 use Rattle.fkv_lookups.specs.Lookups.{looked_up, IsOfClass}
 use Rattle.fkv_lookups.specs.RecordsViews.{RecordsView, class_in, entry_of}
 
 -- with the address to which the entry of the key's class leads, by a session's view: it looks in memory alone
-abbrev pub met_from : {K V : Type 0} → (K → K → Ordering) → (K → ℕ) → RecordsView K V → View → K → Option ℕ → Met V
+abbrev pub met_from : {K V : Type 0} → (K → K → Ordering) → (K → ℕ) → RecordsView K V → View → K → Option ℕ → LookupResult V
 met_from cmp code v view k None = NoEntry
 met_from cmp code v view k (Some a) = met_by (Some a) v.begin view (looked_up cmp code v (low_of v.begin view) k a)
 
-abbrev pub met_at : {K V : Type 0} → (K → K → Ordering) → (K → ℕ) → RecordsView K V → View → K → Met V
+abbrev pub met_at : {K V : Type 0} → (K → K → Ordering) → (K → ℕ) → RecordsView K V → View → K → LookupResult V
 met_at cmp code v view k = met_from cmp code v view k (entry_of v (class_in code v k))
 
 -- a value was met: it is that of the key's last record, to which the look-up came, in this region of the view

@@ -3,7 +3,7 @@ use Rattle.std.specs.Prelude.{ℕ, List, [], ◌∷◌, Option, Some, None}
 use Rattle.std.specs.Ordering.{nat_cmp}
 use Rattle.fkv_texts.specs.declared.entries.Entry.{Entry}
 use Rattle.fkv_texts.specs.WrongTexts.{entry}
-use Rattle.fkv_lookups.specs.Cleared.{IsSpent, IsCleared}
+use Rattle.fkv_lookups.specs.Cleared.{IsSuperseded, IsCleared}
 
 -- a text of two records of one key, and one of two records of two keys
 abbrev pub written_twice : Option ℕ → ℕ → List (Entry ℕ ℕ)
@@ -15,12 +15,12 @@ written_once v w = entry 64 1 3 (Some v) ∷ entry 96 1 4 w ∷ []
 -- of two records of a key the first is spent, and the last is not where it has a value
 abbrev pub LastIsNotSpent : Type 0
 LastIsNotSpent = (v : Option ℕ) (w : ℕ)
-    → IsSpent nat_cmp (written_twice v w) (entry 64 1 3 v)
-    × (IsSpent nat_cmp (written_twice v w) (entry 96 64 3 (Some w)) → ⊥)
+    → IsSuperseded nat_cmp (written_twice v w) (entry 64 1 3 v)
+    × (IsSuperseded nat_cmp (written_twice v w) (entry 96 64 3 (Some w)) → ⊥)
 
 -- a tombstone is spent, the last of its key too
 abbrev pub TombstoneIsSpent : Type 0
-TombstoneIsSpent = (v : ℕ) → IsSpent nat_cmp (written_once v None) (entry 96 1 4 None)
+TombstoneIsSpent = (v : ℕ) → IsSuperseded nat_cmp (written_once v None) (entry 96 1 4 None)
 
 -- a text is cleared up to its first record that is not spent, and no further
 abbrev pub ClearsNoLast : Type 0

@@ -7,12 +7,12 @@
 ghost use Rattle.std.specs.Prelude.{◌≡◌, ◌<◌, ◌≤◌, ℕ, Bool, Option, Some};
 ghost use Rattle.std.specs.declared.cmp.Ordering.{Ordering};
 ghost use Rattle.fkv_functions.specs.Plain.{Same, IsKeyOrder};
-ghost use Rattle.fkv_records.specs.Places.{IsPlace};
+ghost use Rattle.fkv_records.specs.Places.{IsRecordStart};
 ghost use Rattle.fkv_texts.specs.declared.entries.Entry.{Entry};
 ghost use Rattle.fkv_texts.specs.Places.{tail_after};
 ghost use Rattle.fkv_texts.specs.Text.{entry_at, value_of, last_of, live, text_from};
 ghost use Rattle.fkv_operations.specs.declared.entries.IndexEntry.{IndexEntry};
-ghost use Rattle.fkv_lookups.specs.Cleared.{IsSpent, IsCleared};
+ghost use Rattle.fkv_lookups.specs.Cleared.{IsSuperseded, IsCleared};
 ghost use Rattle.fkv_lookups.specs.RecordsViews.{RecordsView, with_record, with_value};
 ghost use Rattle.fkv_lookups.specs.Traced.{IsTraced};
 ghost use Rattle.fkv_lookups.specs.WrongCleared.{LastIsNotSpent, TombstoneIsSpent, ClearsNoLast};
@@ -38,10 +38,10 @@ pub fn cleared_stay<K, V>()
     // where the record at the limit is spent too, the limit goes on to the next place
     ensures raised { (keeps : Bool) (cmp : K → K → Ordering) (code : K → ℕ) (v : RecordsView K V) (limit : ℕ)
         → IsTraced keeps code v
-        → IsPlace v.page_bits v.record_size limit
+        → IsRecordStart v.page_bits v.record_size limit
         → limit < v.tail
         → IsCleared cmp v.text limit
-        → ((e : Entry K V) → entry_at v.text limit ≡ Some e → IsSpent cmp v.text e)
+        → ((e : Entry K V) → entry_at v.text limit ≡ Some e → IsSuperseded cmp v.text e)
         → IsCleared cmp v.text (tail_after v.page_bits v.record_size limit) }
     // a record is spent once its key and its value are appended again
     ensures renewed { (keeps : Bool) (cmp : K → K → Ordering) (code : K → ℕ) (v : RecordsView K V) (entry : IndexEntry)
@@ -49,7 +49,7 @@ pub fn cleared_stay<K, V>()
         → IsKeyOrder cmp
         → IsTraced keeps code v
         → entry_at v.text limit ≡ Some e
-        → IsSpent cmp (with_record v entry e.key e.value).text e }
+        → IsSuperseded cmp (with_record v entry e.key e.value).text e }
     // and where it was the last of its key, no key's value changes by that
     ensures kept { (cmp : K → K → Ordering) (v : RecordsView K V) (entry : IndexEntry) (e : Entry K V)
         → IsKeyOrder cmp

@@ -4,15 +4,15 @@ ghost use Rattle.fkv_lookups.specs.Decisions.{low_of, met_by, met_in, decision, 
 
 use fkv_functions::Functions;
 use fkv_operations::plainly::shown;
-use fkv_operations::{Answer, Op, OpOf};
+use fkv_operations::{Answer, KeyedOp, KeyedOpOf};
 use fkv_records::Address;
 use fkv_regions::{Region, View};
-use fkv_texts::Reached;
+use fkv_texts::ChainPosition;
 use std::alloc::AllocError;
 
 /// What the look-up of a key meets, as the session sees it that looks.
 #[derive(Copy, PartialEq, Eq, Debug)]
-pub enum Met<V> {
+pub enum LookupResult<V> {
     /// The index has no entry for the key.
     NoEntry,
     /// There is an entry, and the key has no value: it has no record, or its last one is a tombstone.
@@ -27,7 +27,7 @@ pub enum Met<V> {
     OnDisk(Address),
 }
 
-impl<V: Copy> Clone for Met<V> {
+impl<V: Copy> Clone for LookupResult<V> {
     ghost is_clone = { λ x y. y ≡ x };
 
     ghost is_infallible = { λ _. ⊤ };
@@ -50,47 +50,49 @@ pub fn met_by<K, V: Copy>(
     entry: Option<Address>,
     begin: Address,
     view: &View,
-    reached: &Reached<K, V>,
-) -> Met<V>
+    reached: &ChainPosition<K, V>,
+) -> LookupResult<V>
     ensures { result ≡ met_by entry begin view.now reached.now }
 {
     let Some(_address) = entry else {
-        return Met::NoEntry;
+        return LookupResult::NoEntry;
     };
     match reached {
-        Reached::Found(last) => match last.value {
-            None => Met::NoValue,
+        ChainPosition::Found(last) => match last.value {
+            None => LookupResult::NoValue,
             Some(value) => met_in(view.region(last.address), value),
         },
-        Reached::Below(address) => {
+        ChainPosition::Below(address) => {
             if *address < begin {
-                Met::NoValue
+                LookupResult::NoValue
             } else {
-                Met::OnDisk(*address)
+                LookupResult::OnDisk(*address)
             }
         }
     }
 }
 
 /// A value in the region where its record stands.
-fn met_in<V>(region: Region, value: V) -> Met<V>
+fn met_in<V>(region: Region, value: V) -> LookupResult<V>
     ensures { result ≡ met_in region value }
 {
     match region {
-        Region::OnDisk | Region::ReadOnly => Met::ReadOnly(value),
-        Region::Fuzzy => Met::Fuzzy(value),
-        Region::Mutable => Met::Mutable(value),
+        Region::OnDisk | Region::ReadOnly => LookupResult::ReadOnly(value),
+        Region::Fuzzy => LookupResult::Fuzzy(value),
+        Region::Mutable => LookupResult::Mutable(value),
     }
 }
 
-impl<V: Copy> Met<V> {
+impl<V: Copy> LookupResult<V> {
     /// The value that was met, if any.
     pub fn held(&self) -> Option<V>
         ensures { result ≡ held_of self.now }
     {
         match self {
-            Met::NoEntry | Met::NoValue | Met::OnDisk(_) => None,
-            Met::ReadOnly(value) | Met::Fuzzy(value) | Met::Mutable(value) => Some(*value),
+            LookupResult::NoEntry | LookupResult::NoValue | LookupResult::OnDisk(_) => None,
+            LookupResult::ReadOnly(value)
+            | LookupResult::Fuzzy(value)
+            | LookupResult::Mutable(value) => Some(*value),
         }
     }
 }
@@ -132,30 +134,34 @@ pub type DecisionOf<F> = Decision<
 >;
 
 /// What an operation does for what it met.
-pub fn decide<F: Functions>(functions: &F, op: &OpOf<F>, met: &Met<F::Value>) -> DecisionOf<F>
+pub fn decide<F: Functions>(
+    functions: &F,
+    op: &KeyedOpOf<F>,
+    met: &LookupResult<F::Value>,
+) -> DecisionOf<F>
     ensures { result ≡ decision F.meaning op.now met.now }
 {
     match op {
-        Op::Read(key, input) => match met {
-            Met::OnDisk(address) => Decision::Load(*address),
+        KeyedOp::Read(key, input) => match met {
+            LookupResult::OnDisk(address) => Decision::Load(*address),
             _ => Decision::Done(shown(functions, key, input, met.held())),
         },
-        Op::Upsert(_, value) => match met {
-            Met::NoEntry => Decision::Claim,
-            Met::Mutable(_) => Decision::Replace(Some(*value), Answer::Stored),
+        KeyedOp::Upsert(_, value) => match met {
+            LookupResult::NoEntry => Decision::Claim,
+            LookupResult::Mutable(_) => Decision::Replace(Some(*value), Answer::Stored),
             _ => Decision::Append(Some(*value), Answer::Stored),
         },
-        Op::Rmw(key, input) => match met {
-            Met::NoEntry => Decision::Claim,
-            Met::NoValue => Decision::Prepare(None, *input),
-            Met::ReadOnly(value) => Decision::Prepare(Some(*value), *input),
-            Met::Fuzzy(_) => Decision::Wait,
-            Met::Mutable(value) => update(functions, key, input, *value),
-            Met::OnDisk(address) => Decision::Load(*address),
+        KeyedOp::Rmw(key, input) => match met {
+            LookupResult::NoEntry => Decision::Claim,
+            LookupResult::NoValue => Decision::Prepare(None, *input),
+            LookupResult::ReadOnly(value) => Decision::Prepare(Some(*value), *input),
+            LookupResult::Fuzzy(_) => Decision::Wait,
+            LookupResult::Mutable(value) => update(functions, key, input, *value),
+            LookupResult::OnDisk(address) => Decision::Load(*address),
         },
-        Op::Delete(_) => match met {
-            Met::NoEntry | Met::NoValue => Decision::Done(Answer::Deleted),
-            Met::Mutable(_) => Decision::Replace(None, Answer::Deleted),
+        KeyedOp::Delete(_) => match met {
+            LookupResult::NoEntry | LookupResult::NoValue => Decision::Done(Answer::Deleted),
+            LookupResult::Mutable(_) => Decision::Replace(None, Answer::Deleted),
             _ => Decision::Append(None, Answer::Deleted),
         },
     }
@@ -168,7 +174,7 @@ fn update<F: Functions>(
     input: &F::Input,
     held: F::Value,
 ) -> DecisionOf<F>
-    ensures { result ≡ decision F.meaning (Op.Rmw key.now input.now) (Met.Mutable held) }
+    ensures { result ≡ decision F.meaning (KeyedOp.Rmw key.now input.now) (LookupResult.Mutable held) }
 {
     let mut value = held;
     functions.in_place(key, input, &mut value);

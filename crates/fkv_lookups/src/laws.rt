@@ -12,7 +12,7 @@ ghost use Rattle.fkv_index.specs.Words.{address_of};
 ghost use Rattle.fkv_operations.specs.declared.classes.Class.{Class};
 ghost use Rattle.fkv_operations.specs.declared.entries.IndexEntry.{IndexEntry};
 ghost use Rattle.fkv_operations.specs.KeptWords.{IsLed};
-ghost use Rattle.fkv_lookups.specs.declared.decisions.Met.TheVariants.{NoValue, ReadOnly, Fuzzy, Mutable, OnDisk};
+ghost use Rattle.fkv_lookups.specs.declared.decisions.LookupResult.TheVariants.{NoValue, ReadOnly, Fuzzy, Mutable, OnDisk};
 ghost use Rattle.fkv_lookups.specs.Decisions.{IsHeld};
 ghost use Rattle.fkv_lookups.specs.Lookups.{looked_up, GoesOn};
 ghost use Rattle.fkv_lookups.specs.Meeting.{met_at, IsMetAt, IsWanted};

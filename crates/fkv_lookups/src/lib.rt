@@ -9,5 +9,5 @@ pub mod laws;
 mod maps;
 pub mod records;
 
-pub use decisions::{Decision, DecisionOf, Met, decide, low_of, met_by};
+pub use decisions::{Decision, DecisionOf, LookupResult, decide, low_of, met_by};
 pub use records::Records;

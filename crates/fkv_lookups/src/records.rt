@@ -33,7 +33,7 @@ use fkv_hybrid::Log;
 use fkv_index::{Index, Place};
 use fkv_operations::{Class, IndexEntry, class_of};
 use fkv_records::{Address, Shape};
-use fkv_texts::Reached;
+use fkv_texts::ChainPosition;
 use fkv_texts::laws::chains;
 use std::alloc::Global;
 use std::marker::Model;
@@ -143,7 +143,12 @@ impl<F: Functions, R: Receipt> Records<F, R> {
     /// The last record of a key at or above an address, by the address to which the entry of its class leads and previous
     /// addresses from there on; or where those lead below, the key having no record above. Pages below that address are
     /// not looked at.
-    pub fn trace(&self, entry: Address, key: &F::Key, low: Address) -> Reached<F::Key, F::Value>
+    pub fn trace(
+        &self,
+        entry: Address,
+        key: &F::Key,
+        low: Address,
+    ) -> ChainPosition<F::Key, F::Value>
         requires entry { entry_of self.now (class_in F.code self.now key.now) ≡ Some entry }
         requires in_frames { self.now.regions.offsets.closed ≤ low }
         requires begin { self.now.begin ≤ low }

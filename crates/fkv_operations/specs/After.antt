@@ -3,27 +3,27 @@ use Rattle.std.specs.Prelude.{Bool, true, false, List, [], ◌∷◌, Option, So
 use Rattle.std.specs.declared.cmp.Ordering.{Ordering}
 use Rattle.fkv_functions.specs.Meanings.{Meanings, updated}
 use Rattle.fkv_functions.specs.Plain.{PlainMap, with_at}
-use Rattle.fkv_operations.specs.declared.operations.Op.{Op}
-use Rattle.fkv_operations.specs.declared.operations.Op.TheVariants.{Read, Upsert, Rmw, Delete}
+use Rattle.fkv_operations.specs.declared.operations.KeyedOp.{KeyedOp}
+use Rattle.fkv_operations.specs.declared.operations.KeyedOp.TheVariants.{Read, Upsert, Rmw, Delete}
 use Rattle.fkv_operations.specs.declared.operations.Answer.{Answer}
 use Rattle.fkv_operations.specs.declared.operations.Answer.TheVariants.{Value, Absent, Stored, Deleted}
 
 -- the key of an operation
-abbrev pub key_of : {K V I : Type 0} → Op K V I → K
+abbrev pub key_of : {K V I : Type 0} → KeyedOp K V I → K
 key_of (Read k i) = k
 key_of (Upsert k v) = k
 key_of (Rmw k i) = k
 key_of (Delete k) = k
 
 -- whether an operation may change the map
-abbrev pub is_update : {K V I : Type 0} → Op K V I → Bool
+abbrev pub is_update : {K V I : Type 0} → KeyedOp K V I → Bool
 is_update (Read k i) = false
 is_update (Upsert k v) = true
 is_update (Rmw k i) = true
 is_update (Delete k) = true
 
 -- the map after an operation
-abbrev pub after : {K V I O : Type 0} → (K → K → Ordering) → Meanings K V I O → PlainMap K V → Op K V I → PlainMap K V
+abbrev pub after : {K V I O : Type 0} → (K → K → Ordering) → Meanings K V I O → PlainMap K V → KeyedOp K V I → PlainMap K V
 after cmp f m (Read k i) = m
 after cmp f m (Upsert k v) = with_at cmp m k (Some v)
 after cmp f m (Rmw k i) = with_at cmp m k (Some (updated f k i (m k)))
@@ -35,20 +35,20 @@ shown_of f k i None = Absent
 shown_of f k i (Some v) = Value (f.shown k i v)
 
 -- the answer to an operation
-abbrev pub answer : {K V I O : Type 0} → Meanings K V I O → PlainMap K V → Op K V I → Answer O
+abbrev pub answer : {K V I O : Type 0} → Meanings K V I O → PlainMap K V → KeyedOp K V I → Answer O
 answer f m (Read k i) = shown_of f k i (m k)
 answer f m (Upsert k v) = Stored
 answer f m (Rmw k i) = Value (f.shown k i (updated f k i (m k)))
 answer f m (Delete k) = Deleted
 
 -- the map after a list of operations
-abbrev pub after_all : {K V I O : Type 0} → (K → K → Ordering) → Meanings K V I O → PlainMap K V → List (Op K V I)
+abbrev pub after_all : {K V I O : Type 0} → (K → K → Ordering) → Meanings K V I O → PlainMap K V → List (KeyedOp K V I)
     → PlainMap K V
 after_all cmp f m [] = m
 after_all cmp f m (op ∷ ops) = after_all cmp f (after cmp f m op) ops
 
 -- the answers to a list of operations, each from the map that the ones before it leave
-abbrev pub answers : {K V I O : Type 0} → (K → K → Ordering) → Meanings K V I O → PlainMap K V → List (Op K V I)
+abbrev pub answers : {K V I O : Type 0} → (K → K → Ordering) → Meanings K V I O → PlainMap K V → List (KeyedOp K V I)
     → List (Answer O)
 answers cmp f m [] = []
 answers cmp f m (op ∷ ops) = answer f m op ∷ answers cmp f (after cmp f m op) ops

@@ -6,7 +6,7 @@ ghost use Rattle.fkv_functions.specs.Plain.{Same};
 ghost use Rattle.fkv_operations.specs.After.{after, answer, after_all, answers, shown_of};
 
 use crate::maps::give;
-use crate::operations::{Answer, AnswerOf, Op, OpOf};
+use crate::operations::{Answer, AnswerOf, KeyedOp, KeyedOpOf};
 use fkv_functions::{Functions, Refused};
 use std::alloc::Global;
 use std::collections::BTreeMap;
@@ -39,7 +39,7 @@ pub fn shown<F: Functions>(
 pub fn apply_plainly<F: Functions>(
     functions: &F,
     map: &mut BTreeMap<F::Key, F::Value>,
-    op: OpOf<F>,
+    op: KeyedOpOf<F>,
 ) -> Result<AnswerOf<F>, Refused>
     ensures map { IfOk result
         (λ _. Same (get F.Key.cmp map.new) (after F.Key.cmp F.meaning (get F.Key.cmp map.old) op)) }
@@ -48,16 +48,16 @@ pub fn apply_plainly<F: Functions>(
     ensures only { IfErr result (λ refused. refused ≡ Refused.NoMemory) }
 {
     match op {
-        Op::Read(key, input) => {
+        KeyedOp::Read(key, input) => {
             let held = map.get(&key).copied();
             Ok(shown(functions, &key, &input, held))
         }
-        Op::Rmw(key, input) => update_plainly(functions, map, key, input),
-        Op::Upsert(key, written) => match give(map, key, written) {
+        KeyedOp::Rmw(key, input) => update_plainly(functions, map, key, input),
+        KeyedOp::Upsert(key, written) => match give(map, key, written) {
             Err(refused) => Err(refused),
             Ok(()) => Ok(Answer::Stored),
         },
-        Op::Delete(key) => {
+        KeyedOp::Delete(key) => {
             map.remove(&key);
             Ok(Answer::Deleted)
         }
@@ -73,8 +73,8 @@ fn update_plainly<F: Functions>(
     input: F::Input,
 ) -> Result<AnswerOf<F>, Refused>
     ensures map { IfOk result
-        (λ _. Same (get F.Key.cmp map.new) (after F.Key.cmp F.meaning (get F.Key.cmp map.old) (Op.Rmw key input))) }
-    ensures answer { IfOk result (λ told. told ≡ answer F.meaning (get F.Key.cmp map.old) (Op.Rmw key input)) }
+        (λ _. Same (get F.Key.cmp map.new) (after F.Key.cmp F.meaning (get F.Key.cmp map.old) (KeyedOp.Rmw key input))) }
+    ensures answer { IfOk result (λ told. told ≡ answer F.meaning (get F.Key.cmp map.old) (KeyedOp.Rmw key input)) }
     ensures err { OnErr result (Same (get F.Key.cmp map.new) (get F.Key.cmp map.old)) }
     ensures only { IfErr result (λ refused. refused ≡ Refused.NoMemory) }
 {
@@ -106,7 +106,7 @@ fn tell<F: Functions>(
     functions: &F,
     map: &mut BTreeMap<F::Key, F::Value>,
     told: &mut Vec<AnswerOf<F>>,
-    op: OpOf<F>,
+    op: KeyedOpOf<F>,
 ) -> Result<(), Refused>
     ensures map { OnOk result (Same (get F.Key.cmp map.new) (after F.Key.cmp F.meaning (get F.Key.cmp map.old) op)) }
     ensures told { OnOk result
@@ -130,7 +130,7 @@ fn tell<F: Functions>(
 pub fn run_plainly<F: Functions>(
     alloc: Global,
     functions: &F,
-    ops: &[OpOf<F>],
+    ops: &[KeyedOpOf<F>],
 ) -> Result<PlainRun<F>, Refused>
     ensures map { IfOk result
         (λ run. Same (get F.Key.cmp run.map) (after_all F.Key.cmp F.meaning (λ key. None) ops.now)) }

@@ -7,7 +7,7 @@ use Rattle.std.proofs.lemmas.Nat.{div-add-mod', pow_pos, pow-add, mul-le, le-div
 use Rattle.std.proofs.lemmas.List.{length-replicate}
 use Rattle.std.proofs.lemmas.Option.{slice_get-get_or}
 use Rattle.std.proofs.Math.Nat.{div-mul-le_self}
-use Rattle.fkv_records.specs.Places.{IsShape, page_at, offset_at, start_at, end_at, place_after, IsPlace}
+use Rattle.fkv_records.specs.Places.{IsShape, page_at, offset_at, start_at, end_at, place_after, IsRecordStart}
 use Rattle.fkv_records.proofs.PlaceLemmas.{page_sized, next_start, place_room}
 use Rattle.fkv_device.specs.Standing.{Standing}
 use Rattle.fkv_frames.specs.Ring.{Ring}
@@ -70,7 +70,7 @@ no_next : (a e size : ℕ)
 no_next a e size h k = grind (arith, nat_tests, h)
 
 -- the page that a record's successor begins at the latest
-pub tail_in : (bits size a : ℕ) → IsShape bits size → IsPlace bits size a → a < 2 ^ 48 → tail_after bits size a ≤ start_at bits (page_at bits a + 1)
+pub tail_in : (bits size a : ℕ) → IsShape bits size → IsRecordStart bits size a → a < 2 ^ 48 → tail_after bits size a ≤ start_at bits (page_at bits a + 1)
 tail_in bits size a s place below = by_next (place_after bits size a) refl
   where
     by_next : (o : Option ℕ) → place_after bits size a ≡ o → tail_after bits size a ≤ start_at bits (page_at bits a + 1)

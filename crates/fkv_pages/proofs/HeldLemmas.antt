@@ -1,6 +1,6 @@
 -- Entries of pages that are not closed.
 use Rattle.std.proofs.Common.{◌≡◌, ◌+◌, ◌^◌, ◌≤◌, ℕ, Bool, List, length, Some, refl, sym, ◌∙◌, ap, subst, arith}
-use Rattle.fkv_records.specs.Places.{page_at, offset_at, IsPlace}
+use Rattle.fkv_records.specs.Places.{page_at, offset_at, IsRecordStart}
 use Rattle.fkv_records.specs.Records.{size_of, IsRecord, Spells}
 use Rattle.fkv_records.specs.declared.shapes.Shape.{Shape}
 use Rattle.fkv_records.proofs.PlaceLemmas.{place_room}
@@ -24,7 +24,7 @@ module _ {K V : Type 0} (key : K → List ℕ) (value : V → List ℕ) (is_key 
     pub sized : length page ≡ 2 ^ shape.page_bits
     pub room : offset_at shape.page_bits a + shape.record_size ≤ length page
     pub stands : e.address ≡ a
-    pub place : IsPlace shape.page_bits shape.record_size a
+    pub place : IsRecordStart shape.page_bits shape.record_size a
     pub below : a + shape.record_size ≤ 2 ^ 48
     pub sound : IsRecord is_key is_value a (record_of e)
     pub spells : Spells key value ksize vsize (part_of page (offset_at shape.page_bits a) shape.record_size) (record_of e)

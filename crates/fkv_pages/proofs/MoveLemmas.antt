@@ -2,7 +2,7 @@
 use Rattle.std.proofs.Common.{◌≡◌, ◌+◌, ◌-◌, ◌^◌, ◌<◌, ◌≤◌, ℕ, Bool, true, false, List, ◌++◌, length, Some, nat_le, slice_get, refl, sym, ◌∙◌, ap, subst, arith}
 use Rattle.std.specs.Prelude.{IsTrue}
 use Rattle.std.proofs.lemmas.Bool.Decides.{nat_tests}
-use Rattle.fkv_records.specs.Places.{page_at, IsPlace}
+use Rattle.fkv_records.specs.Places.{page_at, IsRecordStart}
 use Rattle.fkv_records.specs.Records.{size_of}
 use Rattle.fkv_records.specs.declared.shapes.Shape.{Shape}
 use Rattle.fkv_device.specs.Standing.{Standing}
@@ -24,7 +24,7 @@ module _ {K V : Type 0} (key : K → List ℕ) (value : V → List ℕ) (is_key 
   pub moved_log : (keeps : Bool) (shape : Shape) (begin closed b c frozen tail : ℕ) (receipts : List Standing) (ring : Ring) (text : List (Entry K V))
       → IsPages key value is_key is_value ksize vsize keeps shape begin closed frozen tail receipts ring text
       → begin ≤ b → b ≤ frozen → closed ≤ c → c ≤ frozen → page_at shape.page_bits b ≤ length receipts → page_at shape.page_bits c ≤ length receipts
-      → (b < 2 ^ 48 → IsPlace shape.page_bits shape.record_size b) → (c < 2 ^ 48 → IsPlace shape.page_bits shape.record_size c)
+      → (b < 2 ^ 48 → IsRecordStart shape.page_bits shape.record_size b) → (c < 2 ^ 48 → IsRecordStart shape.page_bits shape.record_size c)
       → IsPages key value is_key is_value ksize vsize keeps shape b c frozen tail receipts ring (text_from (text_begin keeps b c) text)
   moved_log keeps shape begin closed b c frozen tail receipts ring text log more b_frozen further c_frozen begun flushed b_place c_place =
       let bits = shape.page_bits in
@@ -86,7 +86,7 @@ module _ {K V : Type 0} (key : K → List ℕ) (value : V → List ℕ) (is_key 
   -- the same by what a contract asks: frames are closed
   pub closed_log : (keeps : Bool) (shape : Shape) (begin closed c frozen tail : ℕ) (receipts : List Standing) (ring : Ring) (text : List (Entry K V)) (seen : PagesView K V)
       → view_as keeps shape begin closed frozen tail receipts ring text ≡ seen → IsPages key value is_key is_value ksize vsize keeps shape begin closed frozen tail receipts ring text
-      → seen.closed ≤ c → (c < 2 ^ 48 → IsPlace seen.bits (size_of ksize vsize) c) → page_at seen.bits c ≤ length seen.receipts → c ≤ seen.frozen
+      → seen.closed ≤ c → (c < 2 ^ 48 → IsRecordStart seen.bits (size_of ksize vsize) c) → page_at seen.bits c ≤ length seen.receipts → c ≤ seen.frozen
       → IsPages key value is_key is_value ksize vsize keeps shape begin c frozen tail receipts ring (text_from (text_begin keeps begin c) text)
   closed_log keeps shape begin closed c frozen tail receipts ring text seen is log rises place flushed most =
       let o = log.ordered in
@@ -96,7 +96,7 @@ module _ {K V : Type 0} (key : K → List ℕ) (value : V → List ℕ) (is_key 
   -- and Begin moves
   pub begun_log : (keeps : Bool) (shape : Shape) (begin closed b frozen tail : ℕ) (receipts : List Standing) (ring : Ring) (text : List (Entry K V)) (seen : PagesView K V)
       → view_as keeps shape begin closed frozen tail receipts ring text ≡ seen → IsPages key value is_key is_value ksize vsize keeps shape begin closed frozen tail receipts ring text
-      → seen.begin ≤ b → (b < 2 ^ 48 → IsPlace seen.bits (size_of ksize vsize) b) → page_at seen.bits b ≤ length seen.receipts → b ≤ seen.frozen
+      → seen.begin ≤ b → (b < 2 ^ 48 → IsRecordStart seen.bits (size_of ksize vsize) b) → page_at seen.bits b ≤ length seen.receipts → b ≤ seen.frozen
       → IsPages key value is_key is_value ksize vsize keeps shape b closed frozen tail receipts ring (text_from (text_begin keeps b closed) text)
   begun_log keeps shape begin closed b frozen tail receipts ring text seen is log rises place flushed most =
       let o = log.ordered in

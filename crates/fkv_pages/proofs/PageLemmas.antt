@@ -4,7 +4,7 @@ use Rattle.std.specs.Prelude.{IfSome, IfErr, Result, Ok, Err, OnOk, OnErr}
 use Rattle.std.proofs.lemmas.Bool.Decides.{nat_tests}
 use Rattle.std.proofs.lemmas.Bool.{cases_lt}
 use Rattle.std.specs.Coded.{Coded}
-use Rattle.fkv_records.specs.Places.{page_at, offset_at, start_at, IsPlace, first}
+use Rattle.fkv_records.specs.Places.{page_at, offset_at, start_at, IsRecordStart, first}
 use Rattle.fkv_records.specs.Records.{size_of, IsRecord, Spells}
 use Rattle.fkv_records.specs.declared.shapes.Shape.{Shape}
 use Rattle.fkv_records.proofs.PlaceLemmas.{place_low, page_sized}
@@ -32,10 +32,10 @@ higher P begin closed b c = by_test (nat_le begin closed)
     by_test true = c
     by_test false = b
 
-pub begin_place : (bits size begin closed : ℕ) → (begin < 2 ^ 48 → IsPlace bits size begin) → (closed < 2 ^ 48 → IsPlace bits size closed) → (keeps : Bool)
-    → text_begin keeps begin closed < 2 ^ 48 → IsPlace bits size (text_begin keeps begin closed)
+pub begin_place : (bits size begin closed : ℕ) → (begin < 2 ^ 48 → IsRecordStart bits size begin) → (closed < 2 ^ 48 → IsRecordStart bits size closed) → (keeps : Bool)
+    → text_begin keeps begin closed < 2 ^ 48 → IsRecordStart bits size (text_begin keeps begin closed)
 begin_place bits size begin closed b c true = b
-begin_place bits size begin closed b c false = higher (λ n. n < 2 ^ 48 → IsPlace bits size n) begin closed b c
+begin_place bits size begin closed b c false = higher (λ n. n < 2 ^ 48 → IsRecordStart bits size n) begin closed b c
 
 pub same_begin : (b : Bool) → text_begin b 64 64 ≡ 64
 same_begin true = refl
@@ -129,7 +129,7 @@ module _ {K V : Type 0} (key : K → List ℕ) (value : V → List ℕ) (is_key 
 
   -- each place from where the text begins has an entry
   pub place_entry : (keeps : Bool) (shape : Shape) (begin closed frozen tail : ℕ) (receipts : List Standing) (ring : Ring) (text : List (Entry K V)) (a : ℕ)
-      → IsPages key value is_key is_value ksize vsize keeps shape begin closed frozen tail receipts ring text → begin ≤ a → closed ≤ a → a < tail → IsPlace shape.page_bits shape.record_size a → IsSome (entry_at text a)
+      → IsPages key value is_key is_value ksize vsize keeps shape begin closed frozen tail receipts ring text → begin ≤ a → closed ≤ a → a < tail → IsRecordStart shape.page_bits shape.record_size a → IsSome (entry_at text a)
   place_entry keeps shape begin closed frozen tail receipts ring text a log begun low high place =
       let o = log.ordered in
       entry_there shape.page_bits shape.record_size shape.limits (text_begin keeps begin closed) tail a text (begin_place shape.page_bits shape.record_size begin closed o.begin_place o.closed_place keeps) o.most
@@ -147,7 +147,7 @@ module _ {K V : Type 0} (key : K → List ℕ) (value : V → List ℕ) (is_key 
   -- so there is one at each of these places, and nowhere else
   pub text_places : (keeps : Bool) (shape : Shape) (begin closed frozen tail : ℕ) (receipts : List Standing) (ring : Ring) (text : List (Entry K V))
       → IsPages key value is_key is_value ksize vsize keeps shape begin closed frozen tail receipts ring text → (a : ℕ)
-      → IsSome (entry_at text a) ↔ ((text_begin keeps begin closed ≤ a) × (a < tail) × IsPlace shape.page_bits (size_of ksize vsize) a)
+      → IsSome (entry_at text a) ↔ ((text_begin keeps begin closed ≤ a) × (a < tail) × IsRecordStart shape.page_bits (size_of ksize vsize) a)
   text_places keeps shape begin closed frozen tail receipts ring text log a =
       let bits = shape.page_bits in
       let o = log.ordered in
@@ -155,9 +155,9 @@ module _ {K V : Type 0} (key : K → List ℕ) (value : V → List ℕ) (is_key 
         (λ there.
             let s = entry_place keeps shape begin closed frozen tail receipts ring text a log there in
             let high = s.high in
-            (s.low, omega arith, subst (λ (n : ℕ). IsPlace bits n a) log.size s.place)),
+            (s.low, omega arith, subst (λ (n : ℕ). IsRecordStart bits n a) log.size s.place)),
         (λ h. entry_there bits shape.record_size shape.limits (text_begin keeps begin closed) tail a text (begin_place bits shape.record_size begin closed o.begin_place o.closed_place keeps) o.most
-            (rw (← log.size) at log.spelled.laid_out) (subst (λ (n : ℕ). IsPlace bits n a) (sym log.size) h.2) h.0 h.1),
+            (rw (← log.size) at log.spelled.laid_out) (subst (λ (n : ℕ). IsRecordStart bits n a) (sym log.size) h.2) h.0 h.1),
       )
 
   -- what holds of every text
@@ -244,7 +244,7 @@ none_frozen shape ring =
     none_waits ring 0 (page_at shape.page_bits 64) (omega (arith, at))
 
 -- a place is at least the first, and so is the end of all
-pub place_first : (shape : Shape) (a : ℕ) → (a < 2 ^ 48 → IsPlace shape.page_bits shape.record_size a) → 64 ≤ a
+pub place_first : (shape : Shape) (a : ℕ) → (a < 2 ^ 48 → IsRecordStart shape.page_bits shape.record_size a) → 64 ≤ a
 place_first shape a h = elim (cases_lt a (2 ^ 48)) [
   | inl below ↦ place_low shape.page_bits shape.record_size shape.limits a (h below)
   | inr end ↦ omega arith

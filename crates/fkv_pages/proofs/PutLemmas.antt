@@ -3,7 +3,7 @@ use Rattle.std.proofs.Common.{◌≡◌, ◌≢◌, ◌+◌, ◌-◌, ◌*◌, �
 use Rattle.std.proofs.lemmas.Bool.{cases_eq, cases_lt, eqb-true, eq-eqb}
 use Rattle.std.proofs.lemmas.Nat.{div-add-mod', pow_pos}
 use Rattle.std.proofs.lemmas.Option.{slice_get_within}
-use Rattle.fkv_records.specs.Places.{page_at, offset_at, start_at, IsPlace}
+use Rattle.fkv_records.specs.Places.{page_at, offset_at, start_at, IsRecordStart}
 use Rattle.fkv_records.specs.Records.{size_of, IsRecord, Spells}
 use Rattle.fkv_records.specs.declared.shapes.Shape.{Shape}
 use Rattle.fkv_records.proofs.PlaceLemmas.{place_room, next_start}
@@ -24,7 +24,7 @@ use Rattle.fkv_pages.proofs.PageLemmas.{begin_place, text_is, log_of}
 module _ {K V : Type 0} (key : K → List ℕ) (value : V → List ℕ) (is_key : K → Type 0) (is_value : V → Type 0) (ksize vsize : ℕ) where
   -- ---- bytes are put into the page of an address
   module _ (keeps : Bool) (shape : Shape) (begin closed frozen tail : ℕ) (receipts : List Standing) (old new : Ring) (bytes : List ℕ) (text : List (Entry K V)) (a : ℕ)
-      (log : IsPages key value is_key is_value ksize vsize keeps shape begin closed frozen tail receipts old text) (place : IsPlace shape.page_bits shape.record_size a)
+      (log : IsPages key value is_key is_value ksize vsize keeps shape begin closed frozen tail receipts old text) (place : IsRecordStart shape.page_bits shape.record_size a)
       (frozen_below : frozen ≤ a)
       (puts : Puts shape.page_bits (page_at shape.page_bits closed) tail (page_at shape.page_bits a) (offset_at shape.page_bits a) bytes old new)
       (sized : length bytes ≡ shape.record_size) where
@@ -109,7 +109,7 @@ module _ {K V : Type 0} (key : K → List ℕ) (value : V → List ℕ) (is_key 
 
   -- and so does one that stands behind it
   pub put_above : (keeps : Bool) (shape : Shape) (begin closed frozen tail : ℕ) (receipts : List Standing) (old new : Ring) (bytes : List ℕ) (text : List (Entry K V)) (a : ℕ)
-      (log : IsPages key value is_key is_value ksize vsize keeps shape begin closed frozen tail receipts old text) (place : IsPlace shape.page_bits shape.record_size a)
+      (log : IsPages key value is_key is_value ksize vsize keeps shape begin closed frozen tail receipts old text) (place : IsRecordStart shape.page_bits shape.record_size a)
       (frozen_below : frozen ≤ a)
       (puts : Puts shape.page_bits (page_at shape.page_bits closed) tail (page_at shape.page_bits a) (offset_at shape.page_bits a) bytes old new)
       (sized : length bytes ≡ shape.record_size)

@@ -2,7 +2,7 @@
 use Rattle.std.proofs.Common.{◌≡◌, ◌<◌, ◌≤◌, ◌==◌, inl, inr, ℕ, Bool, true, false, List, Option, Some, None, is_none, slice_get, refl, sym, ◌∙◌, ap, subst, arith}
 use Rattle.std.specs.Prelude.{IsTrue, Result, Ok, Err}
 use Rattle.std.proofs.lemmas.Bool.{cases_lt, ne_eqb}
-use Rattle.fkv_records.specs.Places.{IsShape, page_at, offset_at, start_at, IsPlace}
+use Rattle.fkv_records.specs.Places.{IsShape, page_at, offset_at, start_at, IsRecordStart}
 use Rattle.fkv_records.specs.Records.{size_of, IsRecord, Spells}
 use Rattle.fkv_records.specs.declared.shapes.Shape.{Shape}
 use Rattle.fkv_records.proofs.PlaceLemmas.{place_low}
@@ -21,8 +21,8 @@ use Rattle.std.specs.List.{find}
 use Rattle.std.specs.declared.cmp.Ordering.{Ordering}
 use Rattle.fkv_functions.specs.declared.refusals.Refused.{Refused}
 use Rattle.fkv_functions.specs.declared.refusals.Refused.TheVariants.{Damaged}
-use Rattle.fkv_texts.specs.declared.entries.Reached.{Reached}
-use Rattle.fkv_texts.specs.declared.entries.Reached.TheVariants.{Found}
+use Rattle.fkv_texts.specs.declared.entries.ChainPosition.{ChainPosition}
+use Rattle.fkv_texts.specs.declared.entries.ChainPosition.TheVariants.{Found}
 use Rattle.fkv_records.proofs.RecordLemmas.{same_record}
 use Rattle.fkv_pages.specs.Loads.{IsReached, below, none, found, on, first_place}
 use Rattle.fkv_pages.proofs.PageLemmas.{begin_place}
@@ -48,7 +48,7 @@ module _ {K V : Type 0} (key : K → List ℕ) (value : V → List ℕ) (is_key 
       ∙ ap (λ (p : List ℕ). part_of p (offset_at bits a) (size_of ksize vsize)) same in
       record {
         stands = found.1;
-        place = subst (λ (n : ℕ). IsPlace bits n a) log.size stands.place;
+        place = subst (λ (n : ℕ). IsRecordStart bits n a) log.size stands.place;
         sound = subst (λ (b : ℕ). IsRecord is_key is_value b (record_of e)) found.1 t.sound;
         spells = subst (λ (b : List ℕ). Spells key value ksize vsize b (record_of e)) part t.spells;
       }
@@ -57,7 +57,7 @@ module _ {K V : Type 0} (key : K → List ℕ) (value : V → List ℕ) (is_key 
   module _ (entry : ℕ → Entry K V → Type 0) (cmp : K → K → Ordering) (k : K) (bits low top : ℕ) (text : List (Entry K V)) (rise : IsRising text)
       (one : (b : ℕ) (d e : Entry K V) → entry b d → entry b e → d ≡ e) (falls : (b : ℕ) (e : Entry K V) → entry b e → e.previous < b)
       (is : (b : ℕ) (e : Entry K V) → low ≤ b → b ≤ top → entry_at text b ≡ Some e → entry b e) where
-    pub reached_is : (a : ℕ) (es : List (Entry K V)) (r : Result (Reached K V) Refused) → a ≤ top → IsChainFrom low text a es → IsReached entry cmp k bits low a r
+    pub reached_is : (a : ℕ) (es : List (Entry K V)) (r : Result (ChainPosition K V) Refused) → a ≤ top → IsChainFrom low text a es → IsReached entry cmp k bits low a r
         → r ≡ Ok (reached (find (has_key cmp k) es) (leads_to a es))
     reached_is a es r high (ends under) (below less) = refl
     reached_is a es r high (ends under) (none above nothing) = absurd (omega arith)
@@ -134,7 +134,7 @@ low_later bits page low ne e = let no : (page == 0) ≡ false = ne_eqb page 0 ne
 
 -- what is refused on the way down a page is damage of that page
 pub reached_refused : {K V : Type 0} (entry : ℕ → Entry K V → Type 0) (cmp : K → K → Ordering) (k : K) (bits page : ℕ) (why : Refused) (falls : (b : ℕ) (e : Entry K V) → entry b e → e.previous < b)
-    → (a : ℕ) (r : Result (Reached K V) Refused) → page_at bits a ≤ page → IsReached entry cmp k bits (first_place bits page) a r → r ≡ Err why → why ≡ Damaged page
+    → (a : ℕ) (r : Result (ChainPosition K V) Refused) → page_at bits a ≤ page → IsReached entry cmp k bits (first_place bits page) a r → r ≡ Err why → why ≡ Damaged page
 reached_refused entry cmp k bits page why falls a r under (below less) is = absurd (cc)
 reached_refused entry cmp k bits page why falls a r under (none above nothing) is =
     let up = page_high bits page a (omega arith) in

@@ -6,8 +6,8 @@ use Rattle.fkv_functions.specs.declared.refusals.Refused.TheVariants.{Damaged}
 use Rattle.fkv_records.specs.Places.{page_at, start_at, first_offset}
 use Rattle.fkv_device.specs.Standing.{Standing}
 use Rattle.fkv_texts.specs.declared.entries.Entry.{Entry}
-use Rattle.fkv_texts.specs.declared.entries.Reached.{Reached}
-use Rattle.fkv_texts.specs.declared.entries.Reached.TheVariants.{Found, Below}
+use Rattle.fkv_texts.specs.declared.entries.ChainPosition.{ChainPosition}
+use Rattle.fkv_texts.specs.declared.entries.ChainPosition.TheVariants.{Found, Below}
 use Rattle.fkv_texts.specs.Text.{has_key}
 
 -- the receipt of a page stands for this
@@ -21,7 +21,7 @@ first_place bits page = start_at bits page + first_offset page
 -- from an address along the previous addresses that a page's bytes spell, down to an address: to the first entry of the
 -- key, to below, or to where the bytes spell no entry
 pub data IsReached {K V : Type 0} (entry : ℕ → Entry K V → Type 0) (cmp : K → K → Ordering) (k : K) (bits low : ℕ)
-    : ℕ → Result (Reached K V) Refused → Type 0 where
+    : ℕ → Result (ChainPosition K V) Refused → Type 0 where
   below : {a : ℕ} → a < low → IsReached entry cmp k bits low a (Ok (Below a))
   none : {a : ℕ}
       → low ≤ a
@@ -32,7 +32,7 @@ pub data IsReached {K V : Type 0} (entry : ℕ → Entry K V → Type 0) (cmp : 
       → entry a e
       → has_key cmp k e ≡ true
       → IsReached entry cmp k bits low a (Ok (Found e))
-  on : {a : ℕ} {e : Entry K V} {r : Result (Reached K V) Refused}
+  on : {a : ℕ} {e : Entry K V} {r : Result (ChainPosition K V) Refused}
       → low ≤ a
       → entry a e
       → has_key cmp k e ≡ false

@@ -1,7 +1,7 @@
 -- What pages in frames and on a device keep.
 use Rattle.std.specs.Prelude.{◌≡◌, ◌+◌, ◌-◌, ◌^◌, ◌<◌, ◌≤◌, ℕ, zero, suc, Bool, true, false, IsTrue, cond, List, [], ◌∷◌}
 use Rattle.std.specs.Prelude.{length, Option, Some, nat_lt, slice_get, option_map, unwrap_or}
-use Rattle.fkv_records.specs.Places.{page_at, offset_at, start_at, IsPlace}
+use Rattle.fkv_records.specs.Places.{page_at, offset_at, start_at, IsRecordStart}
 use Rattle.fkv_records.specs.Records.{size_of, Spells}
 use Rattle.fkv_records.specs.declared.records.Record.{Record}
 use Rattle.fkv_records.specs.declared.shapes.Shape.{Shape}
@@ -70,9 +70,9 @@ pub record IsOrdered (bits size begin closed frozen tail flushed : ℕ) : Type 0
   pub closed_frozen : closed ≤ frozen
   pub frozen_tail : frozen ≤ tail
   pub most : tail ≤ 2 ^ 48
-  pub begin_place : begin < 2 ^ 48 → IsPlace bits size begin
-  pub closed_place : closed < 2 ^ 48 → IsPlace bits size closed
-  pub tail_place : tail < 2 ^ 48 → IsPlace bits size tail
+  pub begin_place : begin < 2 ^ 48 → IsRecordStart bits size begin
+  pub closed_place : closed < 2 ^ 48 → IsRecordStart bits size closed
+  pub tail_place : tail < 2 ^ 48 → IsRecordStart bits size tail
   -- what is below Begin, or closed, is flushed, and what is flushed is frozen
   pub begin_flushed : page_at bits begin ≤ flushed
   pub flushed_low : page_at bits closed ≤ flushed

@@ -1,7 +1,7 @@
 -- The text that pages spell, whatever holds their bytes.
 use Rattle.std.specs.Prelude.{◌≡◌, ◌+◌, ◌^◌, ◌≤◌, ℕ, List, Option, Some, length, slice_get, slice_range}
 use mathlib.Core.Equiv.{IsContr}
-use Rattle.fkv_records.specs.Places.{page_at, offset_at, IsPlace}
+use Rattle.fkv_records.specs.Places.{page_at, offset_at, IsRecordStart}
 use Rattle.fkv_records.specs.Records.{size_of, IsRecord, Spells}
 use Rattle.fkv_records.specs.declared.records.Record.{Record}
 use Rattle.fkv_texts.specs.declared.entries.Entry.{Entry}
@@ -52,7 +52,7 @@ pub record IsEntryIn {K V : Type 0} (key : K → List ℕ) (value : V → List �
     (is_key : K → Type 0) (is_value : V → Type 0) (ksize vsize bits : ℕ)
     (bytes : List ℕ) (address : ℕ) (e : Entry K V) : Type 0 where
   pub stands : e.address ≡ address
-  pub place : IsPlace bits (size_of ksize vsize) address
+  pub place : IsRecordStart bits (size_of ksize vsize) address
   pub sound : IsRecord is_key is_value address (record_of e)
   pub spells :
       Spells key value ksize vsize (part_of bytes (offset_at bits address) (size_of ksize vsize)) (record_of e)

@@ -1,6 +1,6 @@
 //! Records in the bytes of pages.
 ghost use Rattle.std.specs.Prelude.{◌≡◌, ◌+◌, ◌^◌, ◌<◌, ◌≤◌, false, Some, None, IfSome, IsSome, length};
-ghost use Rattle.fkv_records.specs.Places.{page_at, offset_at, IsPlace};
+ghost use Rattle.fkv_records.specs.Places.{page_at, offset_at, IsRecordStart};
 ghost use Rattle.fkv_records.specs.Records.{size_of, record_bytes, Spells};
 ghost use Rattle.fkv_frames.specs.Held.{held};
 ghost use Rattle.fkv_pages.specs.Spelled.{part_of};
@@ -60,7 +60,7 @@ pub(crate) fn put_value<K: Fixed, V: Fixed>(
     requires bits { shape.page_bits ≡ frames.old.bits }
     requires size { shape.record_size ≡ size_of K.SIZE V.SIZE }
     requires held { IsSome (held frames.old (page_at frames.old.bits address)) }
-    requires place { IsPlace shape.page_bits shape.record_size address }
+    requires place { IsRecordStart shape.page_bits shape.record_size address }
     ensures edited { IfSome (held frames.old (page_at frames.old.bits address))
         (IsEdited K.bytes_of V.bytes_of K.SIZE V.SIZE (λ r. IsSome r.value) (Some value.now)
         frames.old.bits address frames.old frames.new) }
@@ -80,7 +80,7 @@ pub(crate) fn put_tombstone<K: Fixed, V: Fixed>(frames: &mut Frames, shape: Shap
     requires bits { shape.page_bits ≡ frames.old.bits }
     requires size { shape.record_size ≡ size_of K.SIZE V.SIZE }
     requires held { IsSome (held frames.old (page_at frames.old.bits address)) }
-    requires place { IsPlace shape.page_bits shape.record_size address }
+    requires place { IsRecordStart shape.page_bits shape.record_size address }
     ensures { IfSome (held frames.old (page_at frames.old.bits address))
         (IsEdited K.bytes_of V.bytes_of K.SIZE V.SIZE (λ r. r.previous < 2 ^ 48) None
         frames.old.bits address frames.old frames.new) }

@@ -10,12 +10,12 @@ use fkv_functions::{Fixed, FixedKey};
 use fkv_records::Address;
 use fkv_records::reading::{is_of, link_of, value_of};
 use fkv_texts::entries::entry_with;
-use fkv_texts::{Entry, Reached};
+use fkv_texts::{ChainPosition, Entry};
 
 impl<K: FixedKey, V: Fixed, R: Receipt> Pages<K, V, R> {
     /// The first entry of a key on the chain from an address down to another, below which it does not look, or where the
     /// chain leads from there.
-    pub fn first_on_chain(&self, key: &K, from: Address, head: Address) -> Reached<K, V>
+    pub fn first_on_chain(&self, key: &K, from: Address, head: Address) -> ChainPosition<K, V>
         requires in_frames { self.now.closed ≤ head }
         requires chain { (es : List (Entry K V)) × IsChainFrom head self.now.text from es }
         ensures { (es : List (Entry K V))
@@ -26,11 +26,11 @@ impl<K: FixedKey, V: Fixed, R: Receipt> Pages<K, V, R> {
         let mut address = from;
         while address >= head {
             match self.look_at(address, key) {
-                Ok(entry) => return Reached::Found(entry),
+                Ok(entry) => return ChainPosition::Found(entry),
                 Err(previous) => address = previous,
             }
         }
-        Reached::Below(address)
+        ChainPosition::Below(address)
     }
 
     /// The entry at an address that is not closed, where it is one of this key, else its previous address. Of an entry

@@ -10,7 +10,7 @@ use crate::bytes::part;
 use fkv_functions::{Fixed, FixedKey, Refused};
 use fkv_records::{Address, Shape, read_record};
 use fkv_texts::entries::entry_of;
-use fkv_texts::{Entry, Reached};
+use fkv_texts::{ChainPosition, Entry};
 
 /// The entry at an address, from the bytes of its page. Refused: `Damaged` where they spell none there.
 pub(crate) fn entry_in<K: Fixed, V: Fixed>(
@@ -48,7 +48,7 @@ pub(crate) fn reached_in<K: FixedKey, V: Fixed>(
     key: &K,
     from: Address,
     low: Address,
-) -> Result<Reached<K, V>, Refused>
+) -> Result<ChainPosition<K, V>, Refused>
     requires size { shape.record_size ≡ size_of K.SIZE V.SIZE }
     requires sized { length page.now ≡ 2 ^ shape.page_bits }
     ensures { IsReached (IsEntryIn K.bytes_of V.bytes_of K.is_known V.is_known K.SIZE V.SIZE shape.page_bits page.now)
@@ -61,9 +61,9 @@ pub(crate) fn reached_in<K: FixedKey, V: Fixed>(
             Err(refused) => return Err(refused),
         };
         if entry.key == *key {
-            return Ok(Reached::Found(entry));
+            return Ok(ChainPosition::Found(entry));
         }
         address = entry.previous;
     }
-    Ok(Reached::Below(address))
+    Ok(ChainPosition::Below(address))
 }

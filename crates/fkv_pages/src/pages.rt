@@ -2,7 +2,7 @@
 ghost use Rattle.std.specs.Prelude.{◌≡◌, ◌+◌, ◌-◌, ◌^◌, ◌<◌, ◌≤◌, ◌↔◌, ℕ, Some, None, Ok, Err, IfOk, IfErr, IfSome, OnErr};
 ghost use Rattle.std.specs.Prelude.{List, IsSome, IsTrue, length, map, slice_get};
 ghost use mathlib.Core.Equiv.{IsContr-prop};
-ghost use Rattle.fkv_records.specs.Places.{page_at, IsShape, IsPlace};
+ghost use Rattle.fkv_records.specs.Places.{page_at, IsShape, IsRecordStart};
 ghost use Rattle.fkv_records.specs.Records.{size_of, IsPrevious};
 ghost use Rattle.fkv_device.specs.Standing.{Standing};
 ghost use Rattle.fkv_texts.specs.Places.{IsLaidOut, tail_after};
@@ -209,11 +209,11 @@ impl<K: Fixed, V: Fixed, R: Receipt> Pages<K, V, R> {
         ensures closed { self.now.closed ≤ self.now.frozen }
         ensures frozen { self.now.frozen ≤ self.now.tail }
         ensures most { self.now.tail ≤ 2 ^ 48 }
-        ensures end { self.now.tail < 2 ^ 48 → IsPlace self.now.bits (size_of K.SIZE V.SIZE) self.now.tail }
+        ensures end { self.now.tail < 2 ^ 48 → IsRecordStart self.now.bits (size_of K.SIZE V.SIZE) self.now.tail }
         ensures laid_out { IsLaidOut self.now.bits (size_of K.SIZE V.SIZE) self.now.from self.now.tail self.now.text }
         // an entry stands at each place from where the text begins to below the tail, and nowhere else
         ensures places { (a : ℕ) → IsSome (entry_at self.now.text a)
-            ↔ ((self.now.from ≤ a) × (a < self.now.tail) × IsPlace self.now.bits (size_of K.SIZE V.SIZE) a) }
+            ↔ ((self.now.from ≤ a) × (a < self.now.tail) × IsRecordStart self.now.bits (size_of K.SIZE V.SIZE) a) }
         ensures rising { IsRising self.now.text }
         ensures low { IsFrom self.now.from self.now.text }
         ensures below { IsBelow self.now.tail self.now.text }

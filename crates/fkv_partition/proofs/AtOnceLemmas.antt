@@ -1,80 +1,81 @@
--- An update that is issued and done in one call.
-use Rattle.std.proofs.Common.{◌≡◌, ◌+◌, ◌*◌, ◌<◌, ◌≤◌, true, ℕ, Some, None, IsSome, refl, sym, ◌∙◌, ap, subst}
+-- An update that is issued and done in one call: what it keeps, and that it is an issue and an event of its partition.
+use Rattle.std.proofs.Common.{◌≡◌, ◌+◌, ◌*◌, ◌<◌, ℕ, Bool, Option, Some, None, IfSome, Ok, slice_get, refl, sym, ◌∙◌, ap}
 use Rattle.std.specs.declared.cmp.Ordering.{Ordering}
 use Rattle.fkv_functions.specs.Meanings.{Meanings}
-use Rattle.fkv_functions.specs.Plain.{Same, with_at}
+use Rattle.fkv_functions.specs.Plain.{IsKeyOrder}
 use Rattle.fkv_device.specs.Standing.{Standing}
-use Rattle.fkv_regions.specs.declared.offsets.Region.TheVariants as region
-use Rattle.fkv_texts.specs.declared.entries.Entry.{Entry}
-use Rattle.fkv_texts.specs.declared.entries.Reached.TheVariants.{Found}
-use Rattle.fkv_texts.specs.Text.{last_of, live, value_at}
+use Rattle.fkv_operations.specs.After.{key_of}
 use Rattle.fkv_operations.specs.declared.operations.Op.TheVariants.{Rmw}
+use Rattle.fkv_operations.specs.declared.operations.KeyedOp.{KeyedOp}
+use Rattle.fkv_operations.specs.declared.operations.KeyedOp.TheVariants as on_key
 use Rattle.fkv_operations.specs.declared.operations.Answer.TheVariants.{Value}
-use Rattle.fkv_lookups.specs.RecordsViews.{with_value}
-use Rattle.fkv_lookups.specs.declared.decisions.Met.TheVariants.{Mutable}
-use Rattle.fkv_lookups.specs.declared.decisions.Decision.TheVariants.{Replace}
-use Rattle.fkv_lookups.specs.Decisions.{IsHeld, decision}
-use Rattle.fkv_lookups.specs.Meeting.{IsMetAt}
-use Rattle.fkv_partition.specs.declared.contexts.Context.{Context}
-use Rattle.fkv_partition.specs.declared.contexts.Phase.TheVariants.{Fresh}
-use Rattle.fkv_partition.specs.declared.contexts.Progress.TheVariants.{Done}
-use Rattle.fkv_partition.specs.Contexts.{joined, is_session}
-use Rattle.fkv_partition.specs.Views.{PartitionView, slots_of, seen_at, entry_for, met_at, reached_from, context_at, partition_of, free_context, live_of, with_context, with_replaced}
-use Rattle.fkv_partition.specs.Beginning.{issues}
-use Rattle.fkv_partition.specs.Going.{replaces}
-use Rattle.fkv_partition.specs.Effect.{IsEvent}
-use Rattle.fkv_partition.specs.AtOnce.{IsDoneAtOnce}
-use Rattle.fkv_functions.proofs.ListLemmas.{get-set_same}
-use Rattle.fkv_partition.proofs.AskedLemmas.{context-inside, free-context, set-back}
-use Rattle.fkv_partition.proofs.DecidedLemmas.{reached-is, found-same}
-use Rattle.fkv_partition.proofs.EventLemmas.{event-issue, event-replaces}
+use Rattle.fkv_core.specs.declared.contexts.Phase.TheVariants.{Fresh}
+use Rattle.fkv_core.specs.declared.contexts.Progress.TheVariants.{Done}
+use Rattle.fkv_core.specs.AtOnce as key_update
+use Rattle.fkv_core.specs.Beginning.{Issues, IsEntered}
+use Rattle.fkv_core.specs.Contexts.{claim_of, joined}
+use Rattle.fkv_core.specs.Sound.{IsSound}
+use Rattle.fkv_core.specs.Views.{CoreView, slots_of, context_at}
+use Rattle.fkv_core.proofs.AskedLemmas.{context-inside, free-here}
+use Rattle.fkv_core.proofs.SoundLemmas.{sound-context}
+use Rattle.fkv_partition.specs.AtOnce.{IsAtHand, IsDoneAtOnce}
+use Rattle.fkv_partition.specs.Beginning.{IsFree, IsFirstFree}
+use Rattle.fkv_partition.specs.Events as events
+use Rattle.fkv_partition.specs.Sound.{IsCompacting}
+use Rattle.fkv_partition.specs.Views.{PartitionView, with_core, relocation_at}
+use Rattle.fkv_partition.proofs.EffectLemmas.{key-issue, key-event, relocations-same}
+use Rattle.fkv_partition.proofs.KeepLemmas.{issues-told}
 
-module _ {K V I O : Type 0} (cmp : K → K → Ordering) (f : Meanings K V I O) (code : K → ℕ) (v : PartitionView K V I) (slot : ℕ) (key : K) (held : V) (last : Entry K V)
-    (m : IsMetAt cmp code v.records (seen_at v slot) key held region.Mutable) (reached : reached_from cmp code v slot key (entry_for code v key) ≡ Found last) where
-  -- what was reached is what was met
-  same-entry : m.entry ≡ last
-  same-entry = found-same m.entry last (sym (reached-is cmp f code v slot key held m) ∙ reached)
+-- a partition of which an operation was issued keeps what every one keeps
+pub sound-issued : {K V I : Type 0} (keeps : Bool) (cmp : K → K → Ordering) (code : K → ℕ) (v between : CoreView K V I) (slot c now : ℕ) (op : KeyedOp K V I)
+    → IsSound keeps cmp code v → slot < 16 → Issues code v between slot c op now (Ok tt) → IsSound keeps cmp code between
+sound-issued keeps cmp code v between slot c now op s few (Issues.stranger n is r) = absurd (cc)
+sound-issued keeps cmp code v between slot c now op s few (Issues.issues inside low free own is r) =
+    rw is
+    (sound-context s slot c now (record { number = now; op = op; phase = Fresh })
+    (ap (λ o. claim_of (joined o)) (free-here (slots_of v) v.contexts slot c s.places few low inside free)) refl
+    (record { stands = tt; own = own; inside = inside; low = low }))
 
-  pub at_once-some : IsSome (value_at v.records.text last.address)
-  at_once-some = subst (λ (y : Entry K V). IsSome (value_at v.records.text y.address)) same-entry (rw (m.stands, m.value) refl)
+-- nothing of an operation stands in a free context
+pub free-context : {K V I : Type 0} (v : PartitionView K V I) (slot c : ℕ) → IsEntered v.core slot → c < 8 → IsFree v slot c → context_at v.core slot c ≡ None
+free-context v slot c inside low free = context-inside (slots_of v.core) v.core.contexts slot c inside low ∙ free.operation
 
-  pub at_once-high : v.records.regions.offsets.safe_read_only ≤ m.entry.address → v.records.regions.offsets.safe_read_only ≤ last.address
-  at_once-high h = subst (λ (y : Entry K V). v.records.regions.offsets.safe_read_only ≤ y.address) same-entry h
+pub free-relocation : {K V I : Type 0} (v : PartitionView K V I) (slot c : ℕ) → IsEntered v.core slot → c < 8 → IsFree v slot c → relocation_at v slot c ≡ None
+free-relocation v slot c inside low free = context-inside (slots_of v.core) v.relocations slot c inside low ∙ free.relocation
 
-  pub at_once-last : last_of cmp v.records.text key ≡ Some last
-  at_once-last = m.last ∙ ap Some same-entry
+module _ {K V I O R : Type 0} (stands : R → Standing) (cmp : K → K → Ordering) (f : Meanings K V I O) (code : K → ℕ) (v : PartitionView K V I) (new : CoreView K V I) (slot c : ℕ) (key : K) (input : I) (issued now : ℕ) where
+  -- what the core does at once, its partition does
+  pub done-at-once : IsEntered v.core slot → IsFirstFree v slot (Some c) → (shown : Option O)
+      → IfSome shown (λ s. key_update.IsDoneAtOnce stands cmp f code v.core new slot c key input issued now s)
+      → IfSome shown (λ s. IsDoneAtOnce stands cmp f code v (with_core v new) slot key input issued now s)
+  done-at-once inside first None h = tt
+  done-at-once inside first (Some shown) h =
+      let none = free-relocation v slot c inside first.0 first.1 in
+      let b = with_core v h.between in
+      let still : relocation_at b slot c ≡ None = relocations-same v h.between h.issue.frame.regions slot c ∙ none in
+      record {
+        context = c;
+        between = b;
+        issues = events.Issues.on_key (on_key.Rmw key input) refl (issues-told code v h.between slot c (on_key.Rmw key input) issued first h.issues);
+        issue = key-issue v h.between slot c issued none code (on_key.Rmw key input) h.issue;
+        goes = events.Goes.on_key still h.goes refl;
+        event = key-event b new slot c now still cmp f (Done (Value shown) now) h.event;
+      }
 
-  module _ (input : I) (c issued now : ℕ) (inside : is_session (slots_of v) slot ≡ true) (own : partition_of v.count (code key) ≡ v.number) (free : free_context v slot ≡ Some c) (low : c < 8)
-      (met : met_at cmp code v slot key ≡ Mutable held) (holds : IsHeld (met_at cmp code v slot key) (live_of cmp v key))
-      (lives : Same (live cmp (with_value v.records last.address (Some (f.next key held input))).text) (with_at cmp (live_of cmp v) key (Some (f.next key held input)))) where
-    abbrev operation : Context K V I
-    operation = record { number = issued; op = Rmw key input; phase = Fresh }
+  -- and it keeps what every partition keeps
+  pub kept-at-once : (keeps : Bool) → IsCompacting keeps cmp code v → (shown : Option O) → (shown ≡ None → new ≡ v.core)
+      → IfSome shown (λ s. key_update.IsDoneAtOnce stands cmp f code v.core new slot c key input issued now s)
+      → ((s : O) → key_update.IsDoneAtOnce stands cmp f code v.core new slot c key input issued now s → IsCompacting keeps cmp code (with_core v new))
+      → IsCompacting keeps cmp code (with_core v new)
+  kept-at-once keeps i None same h kept = rw (same refl) i
+  kept-at-once keeps i (Some s) same h kept = kept s h
 
-    abbrev between : PartitionView K V I
-    between = with_context v slot c (Some operation) issued
+-- where the core declines, the partition may
+pub declined-at-once : {K V I : Type 0} (cmp : K → K → Ordering) (code : K → ℕ) (v : PartitionView K V I) (slot : ℕ) (key : K)
+    → ((held : V) → ¬ key_update.IsAtHand cmp code v.core slot key held) → (held : V) → ¬ IsAtHand cmp code v slot key held
+declined-at-once cmp code v slot key out held h = out held h.hand
 
-    here : context_at between slot c ≡ Some operation
-    here = context-inside (slots_of v) between.contexts slot c inside low ∙ ap joined (get-set_same v.contexts (slot * 8 + c) None (Some operation) (free-context v slot c free))
-
-    decided : decision f (Rmw key input) (met_at cmp code between slot key) ≡ Replace (Some (f.next key held input)) (Value (f.shown key input (f.next key held input)))
-    decided = ap (decision f (Rmw key input)) met
-
-    abbrev after : PartitionView K V I
-    after = record v { records = with_value v.records last.address (Some (f.next key held input)); moment = now }
-
-    is-after : with_replaced between slot c last.address (Some (f.next key held input)) now ≡ after
-    is-after = ap (λ cs. record v { contexts = cs; records = with_value v.records last.address (Some (f.next key held input)); moment = now })
-        (set-back v.contexts (slot * 8 + c) (Some operation) None (free-context v slot c free))
-
-    pub done-at_once : {R : Type 0} (stands : R → Standing) → IsDoneAtOnce stands cmp f code v after slot key input issued now (f.shown key input (f.next key held input))
-    done-at_once {R} stands = record {
-      context = c;
-      low = low;
-      between = between;
-      issues = issues c inside own free refl refl;
-      issue = event-issue code v slot c issued (Rmw key input) inside free low own;
-      goes = replaces operation (Some (f.next key held input)) (Value (f.shown key input (f.next key held input))) last
-          (record { here = here; fresh = refl; decided = decided }) at_once-last (sym is-after) refl;
-      event = subst (λ w. IsEvent {R = R} cmp f between w slot c now (Done (Value (f.shown key input (f.next key held input))) now)) is-after
-          (event-replaces cmp f code between slot c now operation here last.address (Some (f.next key held input)) (Value (f.shown key input (f.next key held input))) holds lives decided);
-    }
+-- what holds anyhow holds of what is told
+pub told-some : {A P : Type 0} (o : Option A) → P → IfSome o (λ x. P)
+told-some None h = tt
+told-some (Some x) h = h

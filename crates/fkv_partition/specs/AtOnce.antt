@@ -1,25 +1,25 @@
 -- An update that is issued and done in one call.
-use Rattle.std.specs.Prelude.{◌≡◌, ◌<◌, ℕ, Some, Ok}
+use Rattle.std.specs.Prelude.{◌≡◌, ℕ, Some, Ok}
 use Rattle.std.specs.declared.cmp.Ordering.{Ordering}
 use Rattle.fkv_functions.specs.Meanings.{Meanings}
 use Rattle.fkv_device.specs.Standing.{Standing}
 use Rattle.fkv_operations.specs.declared.operations.Op.TheVariants.{Rmw}
 use Rattle.fkv_operations.specs.declared.operations.Answer.TheVariants.{Value}
-use Rattle.fkv_lookups.specs.declared.decisions.Met.TheVariants.{Mutable}
-use Rattle.fkv_partition.specs.declared.contexts.Progress.TheVariants.{Done}
-use Rattle.fkv_partition.specs.Views.{PartitionView, partition_of, free_context, met_at}
-use Rattle.fkv_partition.specs.Beginning.{IsEntered, Issues}
-use Rattle.fkv_partition.specs.Going.{Goes}
+use Rattle.fkv_core.specs.declared.contexts.Progress.TheVariants.{Done}
+use Rattle.fkv_core.specs.AtOnce as key_update
+use Rattle.fkv_core.specs.Beginning.{IsEntered}
+use Rattle.fkv_partition.specs.Views.{PartitionView}
+use Rattle.fkv_partition.specs.Beginning.{IsFirstFree}
+use Rattle.fkv_partition.specs.Events.{Issues, Goes}
 use Rattle.fkv_partition.specs.Effect.{IsIssue, IsEvent}
 
 -- an operation of this key would be issued here, and would meet this value where it may be changed in place
 pub record IsAtHand {K V I : Type 0} (cmp : K → K → Ordering) (code : K → ℕ) (v : PartitionView K V I) (slot : ℕ)
     (key : K) (held : V) : Type 0 where
-  pub entered : IsEntered v slot
-  pub own : partition_of v.count (code key) ≡ v.number
+  pub entered : IsEntered v.core slot
   pub context : ℕ
-  pub free : free_context v slot ≡ Some context
-  pub met : met_at cmp code v slot key ≡ Mutable held
+  pub free : IsFirstFree v slot (Some context)
+  pub hand : key_update.IsAtHand cmp code v.core slot key held
 
 -- the update is issued at one moment, and done with this answer when it goes on at another: what stands between them is
 -- what the issue makes
@@ -27,7 +27,6 @@ pub record IsDoneAtOnce {K V I O R : Type 0} (stands : R → Standing) (cmp : K 
     (code : K → ℕ) (old new : PartitionView K V I) (slot : ℕ) (key : K) (input : I) (issued now : ℕ) (shown : O)
     : Type 0 where
   pub context : ℕ
-  pub low : context < 8
   pub between : PartitionView K V I
   pub issues : Issues code old between slot (Rmw key input) issued (Ok context)
   pub issue : IsIssue code old between slot context (Rmw key input) issued

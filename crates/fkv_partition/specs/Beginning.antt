@@ -1,64 +1,106 @@
--- What `enter`, `issue` and `issue_in` do: a rule for each case, in the order of the tests.
-use Rattle.std.specs.Prelude.{◌≡◌, ◌≢◌, ◌<◌, true, false, ℕ, Some, None, Result, Ok, Err}
+-- What the issue of an operation on a key and that of a relocation do, what leaving a session does, and giving up a
+-- relocation: a rule for each case, in the order of the tests.
+use Rattle.std.specs.Prelude.{◌≡◌, ◌≢◌, ◌+◌, ◌*◌, ◌<◌, ◌≤◌, ℕ, Bool, false, IsSome, Option, Some, None, Result, Ok, Err, slice_get}
 use Rattle.fkv_functions.specs.declared.refusals.Refused.{Refused}
-use Rattle.fkv_functions.specs.declared.refusals.Refused.TheVariants.{NoSlot, Unknown, Stranger, NoContext}
+use Rattle.fkv_functions.specs.declared.refusals.Refused.TheVariants.{Unknown, Busy, Stranger, NotDue, NoContext}
 use Rattle.fkv_functions.specs.declared.refusals.What.TheVariants.{Partition}
-use Rattle.fkv_regions.specs.RegionsView.{entered}
 use Rattle.fkv_operations.specs.After.{key_of}
-use Rattle.fkv_operations.specs.declared.operations.Op.{Op}
-use Rattle.fkv_partition.specs.declared.contexts.Phase.TheVariants.{Fresh}
-use Rattle.fkv_partition.specs.Contexts.{is_session}
-use Rattle.fkv_partition.specs.Views.{PartitionView, partition_of, slots_of, context_at, with_context, in_regions, free_slot, free_context}
+use Rattle.fkv_operations.specs.declared.operations.KeyedOp.{KeyedOp}
+use Rattle.fkv_core.specs.declared.contexts.Phase.TheVariants as phase
+use Rattle.fkv_core.specs.Contexts.{is_session, joined}
+use Rattle.fkv_core.specs.Beginning.{IsEntered}
+use Rattle.fkv_core.specs.Ending.{Leaves}
+use Rattle.fkv_core.specs.Views.{slots_of, partition_of, seen_at, with_context}
+use Rattle.fkv_partition.specs.declared.relocations.Relocation.{Relocation}
+use Rattle.fkv_partition.specs.declared.relocations.Stage.TheVariants.{Fresh}
+use Rattle.fkv_partition.specs.Views.{PartitionView, relocation_at, with_relocation, with_core}
 
--- a session gets the lowest free slot, with the current epoch and the view of now
-pub data Enters {K V I : Type 0} (old new : PartitionView K V I) (now : ℕ) (result : Result ℕ Refused) : Type 0 where
-  full : free_slot old ≡ None → new ≡ old → result ≡ Err NoSlot → Enters old new now result
-  enters : (slot : ℕ)
-      → free_slot old ≡ Some slot
-      → new ≡ in_regions old (entered old.records.regions slot) now
-      → result ≡ Ok slot
-      → Enters old new now result
+-- neither an operation nor a relocation stands in a context of a slot
+pub record IsFree {K V I : Type 0} (v : PartitionView K V I) (slot c : ℕ) : Type 0 where
+  pub operation : joined (slice_get v.core.contexts (slot * 8 + c)) ≡ None
+  pub relocation : joined (slice_get v.relocations (slot * 8 + c)) ≡ None
 
--- whether a slot is that of a session
-abbrev pub IsEntered : {K V I : Type 0} → PartitionView K V I → ℕ → Type 0
-IsEntered v slot = is_session (slots_of v) slot ≡ true
+-- the lowest free context of a slot, or that there is none
+abbrev pub IsFirstFree : {K V I : Type 0} → PartitionView K V I → ℕ → Option ℕ → Type 0
+IsFirstFree v slot None = (d : ℕ) → d < 8 → ¬ IsFree v slot d
+IsFirstFree v slot (Some c) = (c < 8) × IsFree v slot c × ((d : ℕ) → d < c → ¬ IsFree v slot d)
 
-pub data Issues {K V I : Type 0} (code : K → ℕ) (old new : PartitionView K V I) (slot : ℕ) (op : Op K V I) (now : ℕ)
+-- the lowest context of a slot in which a relocation is open, or that there is none
+abbrev pub IsFirstOpen : {K V I : Type 0} → PartitionView K V I → ℕ → Option ℕ → Type 0
+IsFirstOpen v slot None = (d : ℕ) → relocation_at v slot d ≡ None
+IsFirstOpen v slot (Some c) =
+    IsSome (relocation_at v slot c) × ((d : ℕ) → d < c → relocation_at v slot d ≡ None)
+
+pub data IssuesOnKey {K V I : Type 0} (code : K → ℕ) (old new : PartitionView K V I) (slot : ℕ) (op : KeyedOp K V I) (now : ℕ)
     (result : Result ℕ Refused) : Type 0 where
-  unknown : is_session (slots_of old) slot ≡ false
+  unknown : is_session (slots_of old.core) slot ≡ false
       → new ≡ old
       → result ≡ Err Unknown
-      → Issues code old new slot op now result
-  stranger : IsEntered old slot
-      → partition_of old.count (code (key_of op)) ≢ old.number
+      → IssuesOnKey code old new slot op now result
+  stranger : IsEntered old.core slot
+      → partition_of old.core.count (code (key_of op)) ≢ old.core.number
       → new ≡ old
-      → result ≡ Err (Stranger Partition old.number (partition_of old.count (code (key_of op))))
-      → Issues code old new slot op now result
-  full : IsEntered old slot
-      → partition_of old.count (code (key_of op)) ≡ old.number
-      → free_context old slot ≡ None
+      → result ≡ Err (Stranger Partition old.core.number (partition_of old.core.count (code (key_of op))))
+      → IssuesOnKey code old new slot op now result
+  full : IsEntered old.core slot
+      → partition_of old.core.count (code (key_of op)) ≡ old.core.number
+      → IsFirstFree old slot None
       → new ≡ old
       → result ≡ Err NoContext
-      → Issues code old new slot op now result
+      → IssuesOnKey code old new slot op now result
   issues : (c : ℕ)
-      → IsEntered old slot
-      → partition_of old.count (code (key_of op)) ≡ old.number
-      → free_context old slot ≡ Some c
-      → new ≡ with_context old slot c (Some (record { number = now; op = op; phase = Fresh })) now
+      → IsEntered old.core slot
+      → partition_of old.core.count (code (key_of op)) ≡ old.core.number
+      → IsFirstFree old slot (Some c)
+      → new ≡ with_core old (with_context old.core slot c
+      (Some (record { number = now; op = op; phase = phase.Fresh })) now)
       → result ≡ Ok c
-      → Issues code old new slot op now result
+      → IssuesOnKey code old new slot op now result
 
--- an operation is opened in a context of a session that the caller has chosen, in which nothing is open
-pub data IssuesIn {K V I : Type 0} (code : K → ℕ) (old new : PartitionView K V I) (slot c : ℕ) (op : Op K V I)
-    (now : ℕ) (result : Result (Unit {0}) Refused) : Type 0 where
-  stranger : partition_of old.count (code (key_of op)) ≢ old.number
+-- a relocation has the place that is cleared next, which is to lie below what its session sees as safely read-only
+pub data Relocates {K V I : Type 0} (old new : PartitionView K V I) (slot now : ℕ) (result : Result ℕ Refused)
+    : Type 0 where
+  unknown : is_session (slots_of old.core) slot ≡ false
       → new ≡ old
-      → result ≡ Err (Stranger Partition old.number (partition_of old.count (code (key_of op))))
-      → IssuesIn code old new slot c op now result
-  issues : IsEntered old slot
-      → c < 8
-      → context_at old slot c ≡ None
-      → partition_of old.count (code (key_of op)) ≡ old.number
-      → new ≡ with_context old slot c (Some (record { number = now; op = op; phase = Fresh })) now
+      → result ≡ Err Unknown
+      → Relocates old new slot now result
+  not_due : IsEntered old.core slot
+      → (seen_at old.core slot).safe_read_only ≤ old.cleared
+      → new ≡ old
+      → result ≡ Err NotDue
+      → Relocates old new slot now result
+  full : IsEntered old.core slot
+      → old.cleared < (seen_at old.core slot).safe_read_only
+      → IsFirstFree old slot None
+      → new ≡ old
+      → result ≡ Err NoContext
+      → Relocates old new slot now result
+  relocates : (c : ℕ)
+      → IsEntered old.core slot
+      → old.cleared < (seen_at old.core slot).safe_read_only
+      → IsFirstFree old slot (Some c)
+      → new ≡ with_relocation old slot c (Some (record { number = now; target = old.cleared; stage = Fresh })) now
+      → result ≡ Ok c
+      → Relocates old new slot now result
+
+-- a session is left as that of a partition is, unless a relocation of it is open
+pub data LeavesAll {K V I : Type 0} (keeps : Bool) (old new : PartitionView K V I) (slot now : ℕ)
+    (result : Result (Unit {0}) Refused) : Type 0 where
+  busy : (c : ℕ) (x : Relocation K V)
+      → relocation_at old slot c ≡ Some x
+      → new ≡ old
+      → result ≡ Err Busy
+      → LeavesAll keeps old new slot now result
+  leaves : ((c : ℕ) → relocation_at old slot c ≡ None)
+      → Leaves keeps old.core new.core slot now result
+      → new ≡ with_core old new.core
+      → LeavesAll keeps old new slot now result
+
+pub data Drops {K V I : Type 0} (old new : PartitionView K V I) (slot c now : ℕ)
+    (result : Result (Unit {0}) Refused) : Type 0 where
+  unknown : relocation_at old slot c ≡ None → new ≡ old → result ≡ Err Unknown → Drops old new slot c now result
+  drops : (x : Relocation K V)
+      → relocation_at old slot c ≡ Some x
+      → new ≡ with_relocation old slot c None now
       → result ≡ Ok tt
-      → IssuesIn code old new slot c op now result
+      → Drops old new slot c now result

@@ -1,14 +1,12 @@
 -- The fields behind a `PartitionView`.
 use Rattle.std.specs.Prelude.{ℕ, List, Option}
-use Rattle.fkv_lookups.specs.RecordsViews.{RecordsView}
-use Rattle.fkv_partition.specs.declared.contexts.Context.{Context}
+use Rattle.fkv_core.specs.Views.{CoreView}
+use Rattle.fkv_partition.specs.declared.relocations.Relocation.{Relocation}
 use Rattle.fkv_partition.specs.Views.{PartitionView}
 
-abbrev pub view_of : {K V I : Type 0} → ℕ → ℕ → RecordsView K V → List (Option (Context K V I)) → ℕ → PartitionView K V I
-view_of number count records contexts moment = record {
-  number = number;
-  count = count;
-  records = records;
-  contexts = contexts;
-  moment = moment;
+abbrev pub view_of : {K V I : Type 0} → CoreView K V I → ℕ → List (Option (Relocation K V)) → PartitionView K V I
+view_of partition cleared relocations = record {
+  core = partition;
+  cleared = cleared;
+  relocations = relocations;
 }

@@ -1,121 +1,74 @@
 -- What a contract sees of a partition.
-use Rattle.std.specs.Prelude.{◌≡◌, Bool, ◌+◌, ◌*◌, ◌%◌, ◌^◌, ℕ, List, Option, Some, None, replicate, slice_set, slice_range, position, is_none, is_some}
-use Rattle.std.specs.declared.cmp.Ordering.{Ordering}
-use Rattle.fkv_functions.specs.Plain.{PlainMap}
-use Rattle.fkv_epoch.specs.Moves as epochs
-use Rattle.fkv_regions.specs.declared.offsets.View.{View}
-use Rattle.fkv_regions.specs.Offsets.{view_at}
-use Rattle.fkv_regions.specs.RegionsView.{RegionsView}
-use Rattle.fkv_texts.specs.Text.{live}
+use Rattle.std.specs.Prelude.{◌+◌, ◌*◌, ℕ, cond, nat_le, List, Option, None, replicate, slice_set}
+use Rattle.fkv_texts.specs.declared.entries.Entry.{Entry}
+use Rattle.fkv_texts.specs.Places.{tail_after}
 use Rattle.fkv_operations.specs.declared.entries.IndexEntry.{IndexEntry}
-use Rattle.fkv_lookups.specs.RecordsViews.{RecordsView, empty_records, class_in, entry_of, found_in}
-use Rattle.fkv_lookups.specs.RecordsViews.{with_record, with_value, with_regions, IsMoved}
-use Rattle.fkv_lookups.specs.Meeting as meeting
-use Rattle.fkv_lookups.specs.Lookups.{looked_up}
-use Rattle.fkv_lookups.specs.Decisions.{low_of}
-use Rattle.fkv_texts.specs.declared.entries.Reached.{Reached}
-use Rattle.fkv_texts.specs.declared.entries.Reached.TheVariants.{Below}
-use Rattle.fkv_lookups.specs.declared.decisions.Met.{Met}
-use Rattle.fkv_partition.specs.declared.contexts.Context.{Context}
-use Rattle.fkv_partition.specs.declared.contexts.Loading.{Loading}
-use Rattle.fkv_partition.specs.declared.limits.Config.{Config}
-use Rattle.fkv_partition.specs.Contexts.{context_in, loading_of}
+use Rattle.fkv_core.specs.declared.limits.Config.{Config}
+use Rattle.fkv_core.specs.Contexts.{context_in}
+use Rattle.fkv_core.specs.Views.{CoreView, empty_core, slots_of, with_appended}
+use Rattle.fkv_partition.specs.declared.relocations.Relocation.{Relocation}
+use Rattle.fkv_partition.specs.declared.relocations.Stage.{Stage}
 
--- a partition: its number among how many; its records with the entries of their classes, the regions of their log and
--- its sessions; the open operations of these; and its last moment
+-- the records, the sessions and the operations on keys that are open; the address below which each record is superseded;
+-- and the relocations that are open, which stand in contexts as operations on keys do
 pub record PartitionView (K V I : Type 0) : Type 0 where
-  pub number : ℕ
-  pub count : ℕ
-  pub records : RecordsView K V
-  pub contexts : List (Option (Context K V I))
-  pub moment : ℕ
+  pub core : CoreView K V I
+  pub cleared : ℕ
+  pub relocations : List (Option (Relocation K V))
 
--- a partition with nothing in it, before the first moment, for records of this size
 abbrev pub empty_partition : {K V I : Type 0} → Config → ℕ → ℕ → PartitionView K V I
 empty_partition config record_size number = record {
-  number = number;
-  count = 2 ^ config.partition_bits;
-  records = empty_records config.partition_bits config.bucket_bits config.page_bits record_size config.frames;
-  contexts = replicate 128 None;
-  moment = 0;
+  core = empty_core config record_size number;
+  cleared = 64;
+  relocations = replicate 128 None;
 }
 
--- the partition of a key with this hash
-abbrev pub partition_of : ℕ → ℕ → ℕ
-partition_of count code = code % count
+-- the relocations stay, and so does what is cleared
+abbrev pub with_core : {K V I : Type 0} → PartitionView K V I → CoreView K V I → PartitionView K V I
+with_core v c = record v { core = c }
 
--- the live map of a partition
-abbrev pub live_of : {K V I : Type 0} → (K → K → Ordering) → PartitionView K V I → PlainMap K V
-live_of cmp v = live cmp v.records.text
+-- the relocation that is open in a context of an entered session
+abbrev pub relocation_at : {K V I : Type 0} → PartitionView K V I → ℕ → ℕ → Option (Relocation K V)
+relocation_at v slot c = context_in (slots_of v.core) v.relocations slot c
 
--- the final entry of a key's class, and the address to which it leads
-abbrev pub found_for : {K V I : Type 0} → (K → ℕ) → PartitionView K V I → K → Option IndexEntry
-found_for code v k = found_in v.records (class_in code v.records k)
+-- a relocation at another stage
+abbrev pub at_stage : {K V : Type 0} → Relocation K V → Stage K V → Relocation K V
+at_stage x stage = record { number = x.number; target = x.target; stage = stage }
 
-abbrev pub entry_for : {K V I : Type 0} → (K → ℕ) → PartitionView K V I → K → Option ℕ
-entry_for code v k = entry_of v.records (class_in code v.records k)
+-- a moment passes, and nothing else changes
+abbrev pub at_moment : {K V I : Type 0} → PartitionView K V I → ℕ → PartitionView K V I
+at_moment v now = with_core v (record v.core { moment = now })
 
--- each slot with its epoch, where a session is entered there
-abbrev pub slots_of : {K V I : Type 0} → PartitionView K V I → List (Option ℕ)
-slots_of v = v.records.regions.epochs.slots
-
--- what the session at a slot saw when it last looked
-abbrev pub seen_at : {K V I : Type 0} → PartitionView K V I → ℕ → View
-seen_at v slot = view_at v.records.regions.views slot
-
--- what the session at a slot meets when it looks a key up
-abbrev pub met_at : {K V I : Type 0} → (K → K → Ordering) → (K → ℕ) → PartitionView K V I → ℕ → K → Met V
-met_at cmp code v slot k = meeting.met_at cmp code v.records (seen_at v slot) k
-
--- what its look-up comes to in memory, with the address to which the entry of the key's class leads
-abbrev pub reached_from : {K V I : Type 0} → (K → K → Ordering) → (K → ℕ) → PartitionView K V I → ℕ → K → Option ℕ
-    → Reached K V
-reached_from cmp code v slot k None = Below 1
-reached_from cmp code v slot k (Some a) =
-    looked_up cmp code v.records (low_of v.records.begin (seen_at v slot)) k a
-
--- the operation that is open in a context of an entered session
-abbrev pub context_at : {K V I : Type 0} → PartitionView K V I → ℕ → ℕ → Option (Context K V I)
-context_at v slot c = context_in (slots_of v) v.contexts slot c
-
--- the look-up in which it waits for a page
-abbrev pub loading_at : {K V I : Type 0} → PartitionView K V I → ℕ → ℕ → Option Loading
-loading_at v slot c = loading_of (context_at v slot c)
-
--- the view with this operation, or none, in a context, at another moment
-abbrev pub with_context : {K V I : Type 0} → PartitionView K V I → ℕ → ℕ → Option (Context K V I) → ℕ
+-- with this relocation, or none, in a context, at another moment
+abbrev pub with_relocation : {K V I : Type 0} → PartitionView K V I → ℕ → ℕ → Option (Relocation K V) → ℕ
     → PartitionView K V I
-with_context v slot c x now = record v { contexts = slice_set v.contexts (slot * 8 + c) x; moment = now }
-
--- the view after a record of this key was appended, behind the one to which its class's entry led, and the entry was
--- moved to it, and the context was freed
-abbrev pub with_appended : {K V I : Type 0} → PartitionView K V I → ℕ → ℕ → IndexEntry → K → Option V → ℕ
-    → PartitionView K V I
-with_appended v slot c e k value now = record (with_context v slot c None now) {
-  records = with_record v.records e k value;
+with_relocation v slot c x now = record {
+  core = record v.core { moment = now };
+  cleared = v.cleared;
+  relocations = slice_set v.relocations (slot * 8 + c) x;
 }
 
--- the view after the record at an address got another value, or became a tombstone, and the context was freed
-abbrev pub with_replaced : {K V I : Type 0} → PartitionView K V I → ℕ → ℕ → ℕ → Option V → ℕ → PartitionView K V I
-with_replaced v slot c a value now = record (with_context v slot c None now) { records = with_value v.records a value }
+-- the place after one, or 2^48 where there is none
+abbrev pub place_behind : {K V I : Type 0} → PartitionView K V I → ℕ → ℕ
+place_behind v a = tail_after v.core.records.page_bits v.core.records.record_size a
 
--- the view with these regions
-abbrev pub in_regions : {K V I : Type 0} → PartitionView K V I → RegionsView → ℕ → PartitionView K V I
-in_regions v regions now = record v { records = with_regions v.records regions; moment = now }
+-- what is cleared once the record at an address is: up to the next place, or more where it was more
+abbrev pub cleared_past : {K V I : Type 0} → PartitionView K V I → ℕ → ℕ
+cleared_past v a = cond (nat_le v.cleared a) (place_behind v a) v.cleared
 
--- the lowest free slot, and the lowest free context of a slot
-abbrev pub free_slot : {K V I : Type 0} → PartitionView K V I → Option ℕ
-free_slot v = epochs.free_slot v.records.regions.epochs
+-- a relocation is done: its target is cleared, and its context is free
+abbrev pub done_at : {K V I : Type 0} → PartitionView K V I → ℕ → ℕ → ℕ → ℕ → PartitionView K V I
+done_at v slot c target now = record {
+  core = record v.core { moment = now };
+  cleared = cleared_past v target;
+  relocations = slice_set v.relocations (slot * 8 + c) None;
+}
 
-abbrev pub free_context : {K V I : Type 0} → PartitionView K V I → ℕ → Option ℕ
-free_context v slot = position is_none (slice_range v.contexts (slot * 8) (slot * 8 + 8))
-
--- the lowest open context of a slot
-abbrev pub open_context : {K V I : Type 0} → PartitionView K V I → ℕ → Option ℕ
-open_context v slot = position is_some (slice_range v.contexts (slot * 8) (slot * 8 + 8))
-
--- the regions have become these, and the records followed
-pub record MovesTo {K V I : Type 0} (keeps : Bool) (regions : RegionsView) (old new : PartitionView K V I) (now : ℕ)
-    : Type 0 where
-  pub moves : IsMoved keeps regions old.records new.records
-  pub is : new ≡ record old { records = new.records; moment = now }
+-- and so it is, with its record appended again, behind the one to which the entry leads that it kept
+abbrev pub again_at : {K V I : Type 0} → PartitionView K V I → ℕ → ℕ → ℕ → IndexEntry → Entry K V → ℕ
+    → PartitionView K V I
+again_at v slot c target kept entry now = record {
+  core = with_appended v.core slot c kept entry.key entry.value now;
+  cleared = cleared_past v target;
+  relocations = slice_set v.relocations (slot * 8 + c) None;
+}

@@ -1,123 +1,20 @@
-//! What every event leaves of the look-ups that wait for a page, and of the records that are frozen. Each law is what a
-//! function without a body ensures.
-ghost use Rattle.std.specs.Prelude.{◌≡◌, ◌⊎◌, ℕ, Bool, IsTrue, List, Result, Ok, Err};
+//! What holds of the contexts of every partition. Each law is what a function without a body ensures.
+ghost use Rattle.std.specs.Prelude.{◌≡◌, ◌<◌, ℕ, Bool, Some, None};
 ghost use Rattle.std.specs.declared.cmp.Ordering.{Ordering};
-ghost use Rattle.fkv_functions.specs.Meanings.{Meanings};
-ghost use Rattle.fkv_functions.specs.Plain.{IsKeyOrder};
-ghost use Rattle.fkv_functions.specs.declared.asks.Ask.{Ask};
-ghost use Rattle.fkv_functions.specs.declared.refusals.Refused.{Refused};
-ghost use Rattle.fkv_device.specs.Standing.{Standing, Joined};
-ghost use Rattle.fkv_pages.specs.Spelled.{IsEntryIn};
-ghost use Rattle.fkv_operations.specs.After.{key_of};
-ghost use Rattle.fkv_partition.specs.declared.contexts.Progress.{Progress};
-ghost use Rattle.fkv_partition.specs.Views.{PartitionView};
-ghost use Rattle.fkv_operations.specs.declared.operations.Op.{Op};
-ghost use Rattle.fkv_partition.specs.Beginning.{Enters, Issues, IssuesIn};
-ghost use Rattle.fkv_partition.specs.Ending.{Leaves, GivesUp};
-ghost use Rattle.fkv_partition.specs.Going.{Goes};
-ghost use Rattle.fkv_partition.specs.Installing.{Installs};
-ghost use Rattle.fkv_partition.specs.Looking.{Refreshes, Shifts, Evicts};
-ghost use Rattle.fkv_partition.specs.Flushing.{Flushes};
-ghost use Rattle.fkv_partition.specs.Loading.{Loads};
-ghost use Rattle.fkv_partition.specs.Effect.{IsGiveUp};
-ghost use Rattle.fkv_partition.specs.Pending.{OthersPend, AllPend, Finds};
-ghost use Rattle.fkv_partition.specs.Frozen.{FrozenStay};
-ghost use Rattle.fkv_partition.specs.Sound.{IsSound};
+ghost use Rattle.fkv_operations.specs.declared.operations.Op.TheVariants.{Relocate};
+ghost use Rattle.fkv_core.specs.Pending.{pending};
+ghost use Rattle.fkv_partition.specs.declared.relocations.Relocation.{Relocation};
+ghost use Rattle.fkv_partition.specs.Effect.{Asked, asked};
+ghost use Rattle.fkv_partition.specs.Sound.{IsCompacting};
+ghost use Rattle.fkv_partition.specs.Views.{PartitionView, relocation_at};
 
-use fkv_device::Receipt;
-use fkv_functions::Functions;
-use fkv_lookups::laws::{meetings_tell, records_change, records_grow};
-
-/// On a device that keeps, what a look-up that waits for a page is to find stays, whatever other operations do and
-/// however pages move.
-pub fn pendings_stay<K, V, I, O, R>()
-    ensures goes { (keeps : Bool) (stands : R → Standing) (cmp : K → K → Ordering) (f : Meanings K V I O) (code : K → ℕ)
-        (old new : PartitionView K V I) (slot c now : ℕ) (result : Result (Progress K V I O R) Refused)
-        → IsTrue keeps → IsKeyOrder cmp → IsSound keeps cmp code old
-        → Goes stands cmp f code old new slot c now result
-        → OthersPend cmp old new slot c }
-    // where a page is asked for, it is to find what the live map says of the key at that moment, and nothing else is to be
-    // found
-    ensures finds { (keeps : Bool) (stands : R → Standing) (cmp : K → K → Ordering) (f : Meanings K V I O) (code : K → ℕ)
-        (old new : PartitionView K V I) (slot c now : ℕ) (progress : Progress K V I O R)
-        → IsKeyOrder cmp → IsSound keeps cmp code old
-        → Goes stands cmp f code old new slot c now (Ok progress)
-        → Finds cmp old new slot c now progress }
-    ensures installs { (keeps : Bool) (cmp : K → K → Ordering) (f : Meanings K V I O) (code : K → ℕ)
-        (old new : PartitionView K V I) (slot c : ℕ) (ask : Ask K V I) (now : ℕ)
-        (result : Result (Progress K V I O R) Refused)
-        → IsTrue keeps → IsSound keeps cmp code old
-        → Installs cmp f code old new slot c ask now result
-        → OthersPend cmp old new slot c }
-    ensures built { (cmp : K → K → Ordering) (f : Meanings K V I O) (code : K → ℕ)
-        (old new : PartitionView K V I) (slot c : ℕ) (ask : Ask K V I) (now : ℕ) (progress : Progress K V I O R)
-        → Installs cmp f code old new slot c ask now (Ok progress)
-        → Finds cmp old new slot c now progress }
-    ensures refreshes { (keeps : Bool) (cmp : K → K → Ordering) (old new : PartitionView K V I) (slot now : ℕ)
-        (result : Result (Unit {0}) Refused)
-        → IsTrue keeps → Refreshes keeps old new slot now result → AllPend cmp old new }
-    ensures shifts { (keeps : Bool) (cmp : K → K → Ordering) (old new : PartitionView K V I) (page now : ℕ)
-        (result : Result (Unit {0}) Refused)
-        → IsTrue keeps → Shifts keeps old new page now result → AllPend cmp old new }
-    ensures evicts { (keeps : Bool) (cmp : K → K → Ordering) (old new : PartitionView K V I) (page now : ℕ)
-        (result : Result (Unit {0}) Refused)
-        → IsTrue keeps → Evicts keeps old new page now result → AllPend cmp old new }
-    ensures flushes { (cmp : K → K → Ordering) (old new : PartitionView K V I) (s : Standing) (bytes : List ℕ) (now : ℕ)
-        (result : Result (Unit {0}) Refused)
-        → Flushes old new s bytes now result → AllPend cmp old new }
-    ensures enters { (keeps : Bool) (cmp : K → K → Ordering) (code : K → ℕ) (old new : PartitionView K V I) (now : ℕ)
-        (result : Result ℕ Refused)
-        → IsSound keeps cmp code old → Enters old new now result → AllPend cmp old new }
-    ensures leaves { (keeps : Bool) (cmp : K → K → Ordering) (old new : PartitionView K V I) (slot now : ℕ)
-        (result : Result (Unit {0}) Refused)
-        → IsTrue keeps → Leaves keeps old new slot now result → AllPend cmp old new }
-    // an operation that was just issued has not looked yet
-    ensures issues { (cmp : K → K → Ordering) (code : K → ℕ) (old new : PartitionView K V I) (slot : ℕ) (op : Op K V I)
-        (now : ℕ) (result : Result ℕ Refused)
-        → Issues code old new slot op now result → AllPend cmp old new }
-    ensures issues_in { (cmp : K → K → Ordering) (code : K → ℕ) (old new : PartitionView K V I) (slot c : ℕ)
-        (op : Op K V I) (now : ℕ) (result : Result (Unit {0}) Refused)
-        → IssuesIn code old new slot c op now result → AllPend cmp old new }
-    ensures gives_up { (cmp : K → K → Ordering) (old new : PartitionView K V I) (slot c now : ℕ)
-        (result : Result (Unit {0}) Refused)
-        → GivesUp old new slot c now result → OthersPend cmp old new slot c }
-{
-    records_grow::<K, V>();
-    records_change::<K, V>();
-    meetings_tell::<K, V>();
-}
-
-/// A load leaves what the others are to find; one that fails changes nothing, or ends the operation that it was for,
-/// without effect.
-pub fn loads_end<F: Functions, R: Receipt>()
-    ensures loads { (old new : PartitionView F.Key F.Value F.Input) (slot c : ℕ) (came : Result (Joined R) Refused)
-        (now : ℕ) (result : Result (Progress F.Key F.Value F.Input F.Output R) Refused)
-        → Loads R.stands (IsEntryIn F.Key.bytes_of F.Value.bytes_of F.Key.is_known F.Value.is_known
-        F.Key.SIZE F.Value.SIZE) F.Key.cmp F.meaning old new slot c came now result
-        → OthersPend F.Key.cmp old new slot c }
-    ensures fails { (old new : PartitionView F.Key F.Value F.Input) (slot c : ℕ) (came : Result (Joined R) Refused)
-        (now : ℕ) (why : Refused)
-        → Loads R.stands (IsEntryIn F.Key.bytes_of F.Value.bytes_of F.Key.is_known F.Value.is_known
-        F.Key.SIZE F.Value.SIZE) F.Key.cmp F.meaning old new slot c came now (Err why)
-        → (new ≡ old) ⊎ IsGiveUp old new slot c now }
+/// A context in which nothing is open waits for no page, and a session has eight contexts.
+pub fn contexts_tell<K, V, I>()
+    ensures closed { (cmp : K → K → Ordering) (v : PartitionView K V I) (slot c : ℕ)
+        → asked v slot c ≡ None → pending cmp v.core slot c ≡ None }
+    ensures low { (v : PartitionView K V I) (slot c : ℕ) (x : Asked K V I) → asked v slot c ≡ Some x → c < 8 }
+    // an operation on a key and a relocation are never open in one context, and a relocation waits for no look-up
+    ensures relocating { (keeps : Bool) (cmp : K → K → Ordering) (code : K → ℕ) (v : PartitionView K V I) (slot c : ℕ)
+        (x : Relocation K V) → IsCompacting keeps cmp code v → relocation_at v slot c ≡ Some x
+        → (asked v slot c ≡ Some (record { number = x.number; op = Relocate })) × (pending cmp v.core slot c ≡ None) }
 {}
-
-/// No event of an operation changes a frozen record: one below the safe read-only offset. The other events leave the
-/// text, or, on a device that need not keep, drop what it begins with.
-pub fn frozen_stay<K, V, I, O, R>()
-    ensures goes { (keeps : Bool) (stands : R → Standing) (cmp : K → K → Ordering) (f : Meanings K V I O) (code : K → ℕ)
-        (old new : PartitionView K V I) (slot c now : ℕ) (result : Result (Progress K V I O R) Refused)
-        → IsKeyOrder cmp → IsSound keeps cmp code old
-        → Goes stands cmp f code old new slot c now result
-        → FrozenStay old new }
-    ensures installs { (keeps : Bool) (cmp : K → K → Ordering) (f : Meanings K V I O) (code : K → ℕ)
-        (old new : PartitionView K V I) (slot c : ℕ) (ask : Ask K V I) (now : ℕ)
-        (result : Result (Progress K V I O R) Refused)
-        → IsSound keeps cmp code old
-        → Installs cmp f code old new slot c ask now result
-        → FrozenStay old new }
-{
-    records_grow::<K, V>();
-    records_change::<K, V>();
-    meetings_tell::<K, V>();
-}

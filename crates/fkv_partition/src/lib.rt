@@ -1,32 +1,30 @@
-//! One partition of a store: sessions, their open operations, and what each event does.
+//! Partitions: every event of a store on one thread, relocations among the operations.
 //!
-//! A contract sees a partition by its text, its regions and sessions, its index, its contexts, and its last moment
-//! (`specs/Views.antt`). The live map is the last record of each key in the text; nothing in that
-//! definition follows an index. Each event changes it by nothing, or by the one operation that it
-//! finishes (`specs/Effect.antt`); what an event does, row by row, stands in `specs/Going.antt` and
-//! `specs/Installing.antt`.
+//! A [`Partition`] has the sessions and operations of one part of a store's keys. A contract sees it (`specs/Views.antt`) as
+//! its core, which has the records and the operations on keys, what is cleared, and the relocations that are open. What an
+//! event does is one relation an event (`specs/Events.antt`); its effect on the live map, on what the contexts ask and on
+//! look-ups that wait for a page stands in `specs/Effect.antt`.
+//!
+//! A relocation is an operation without a key. It takes the lowest address that is not cleared; the record there is read, in
+//! memory or from the device, and the chain of its key's class is followed from the entry of the class down to it. Where a
+//! newer record of the key is met, or the record is a tombstone, the address is cleared as it is; else the record is
+//! appended again, while the entry stands as it was found, and its address is cleared in the same event. So each record
+//! below what is cleared is superseded, and a truncation up to there leaves the live map.
 #![tactic(auto)]
 
-pub mod asking;
-pub mod bearing;
-mod changes;
-pub mod clearing;
-pub mod contexts;
-pub mod ending;
-pub mod flushing;
-pub mod going;
-pub mod installing;
+mod checking;
+mod keyed;
 pub mod laws;
-pub mod limits;
-pub mod listing;
-pub mod loading;
-mod looking;
+pub mod operations;
+pub mod pages;
 pub mod partitions;
-pub mod regions;
+mod places;
+mod reading;
+mod relocating;
+pub mod relocations;
+pub mod sessions;
 pub mod updating;
 
-pub use changes::Write;
-pub use contexts::{Context, Loading, Phase, Progress, ProgressOf, Wait};
-pub use limits::Config;
-pub use listing::pairs_of;
+pub use fkv_core::{Config, Progress, ProgressOf, Wait, pairs_of};
 pub use partitions::Partition;
+pub use relocations::{Liveness, Relocation, Stage};

@@ -1,46 +1,49 @@
-//! A partition: its parts, and what its sessions and operations begin with.
-ghost use Rattle.std.specs.Prelude.{◌≡◌, ◌≢◌, ◌<◌, ◌≤◌, ◌⊎◌, Option, Some, None, Ok, Err, IfOk, IfErr, OnOk, OnErr, replicate};
+//! A partition: the core of its operations on keys, its relocations, and how much of its log is cleared.
+ghost use Rattle.std.specs.Prelude.{◌≡◌, ◌≢◌, ◌<◌, ◌≤◌, ◌⊎◌, ◌+◌, ◌*◌, ◌^◌, ◌||◌, Option, Some, None, Err, IsTrue, IfOk, IfErr, IfSome, is_some, length, replicate, slice_get};
 ghost use Rattle.fkv_records.specs.Records.{size_of};
-ghost use Rattle.fkv_partition.specs.Limits.{IsPartitionOf};
-ghost use Rattle.fkv_partition.specs.Views.{context_at, empty_partition};
-ghost use Rattle.fkv_partition.specs.Beginning.{Enters, IsEntered, Issues, IssuesIn};
-ghost use Rattle.fkv_partition.specs.Effect.{IsQuiet, IsIssue};
+ghost use Rattle.fkv_core.specs.Contexts.{joined};
+ghost use Rattle.fkv_core.specs.Limits.{IsPartitionOf};
+ghost use Rattle.fkv_partition.specs.Effect.{asked};
+ghost use Rattle.fkv_core.specs.Beginning.{IsEntered};
+ghost use Rattle.fkv_core.specs.Views.{loading_at};
+ghost use Rattle.fkv_core.specs.Sound.{IsSound};
+ghost use Rattle.fkv_partition.specs.Views.{empty_partition, relocation_at};
+ghost use Rattle.fkv_partition.specs.Going.{is_awaiting};
+ghost use Rattle.fkv_partition.specs.Sound.{IsCompacting};
+ghost use Rattle.fkv_partition.specs.Beginning.{IsFirstFree};
 
-use crate::contexts::Context;
-use crate::limits::Config;
+use crate::relocations::{Relocation, RelocationOf, awaited};
+use fkv_core::contexts::{CONTEXTS, open_at};
+use fkv_core::{Config, Core};
 use fkv_device::Receipt;
-use fkv_functions::{Functions, Refused, What};
-use fkv_lookups::Records;
-use fkv_operations::OpOf;
+use fkv_functions::{Functions, Refused};
+use fkv_operations::{Op, OpOf};
+use fkv_records::{Address, FIRST};
 use std::alloc::Global;
 use std::marker::Model;
 
-/// The open operations that one partition may have.
-const PLACES: usize = 128;
+/// The relocations of one partition that may be open.
+const MAX_CONTEXTS: usize = 128;
 
-/// One partition of a store: its records with their entries and sessions, and the open operations of these. Each call that
-/// takes a moment is one event; the moments of a partition rise.
+/// One partition of a store. Each call that takes a moment is one event; the moments of a partition rise.
 #[derive(Drop)]
 pub struct Partition<F: Functions, R: Receipt> {
-    pub(crate) number: u64,
-    pub(crate) count: u64,
-    pub(crate) records: Records<F, R>,
-    pub(crate) contexts: Vec<Option<Context<F::Key, F::Value, F::Input>>>,
-    pub(crate) moment: u64,
+    pub(crate) core: Core<F, R>,
+    pub(crate) cleared: Address,
+    pub(crate) relocations: Vec<Option<Relocation<F::Key, F::Value>>>,
 }
 
 impl<F: Functions, R: Receipt> Model for Partition<F, R> {
     ghost use Rattle.fkv_partition.specs.Views.{PartitionView};
+    ghost use Rattle.fkv_partition.specs.Inside.{view_of};
+    ghost use Rattle.fkv_partition.specs.Sound.{IsCompacting};
 
     ghost Value = { PartitionView F.Key F.Value F.Input };
 
-    ghost use Rattle.fkv_partition.specs.Inside.{view_of};
-    ghost use Rattle.fkv_partition.specs.Sound.{IsSound};
+    ghost view = { λ c. view_of c.core c.cleared c.relocations.items };
 
-    ghost view = { λ p. view_of p.number p.count p.records p.contexts.items p.moment };
-
-    ghost invariant = { λ p. IsSound R.keeps F.Key.cmp F.code
-        (view_of p.number p.count p.records p.contexts.items p.moment) };
+    ghost invariant = { λ c. IsCompacting R.keeps F.Key.cmp F.code
+        (view_of c.core c.cleared c.relocations.items) };
 }
 
 /// Places that hold nothing. Refused: `NoMemory`.
@@ -49,7 +52,7 @@ fn free_places<T: Drop>(alloc: Global) -> Result<Vec<Option<T>>, Refused>
     ensures only { IfErr result (λ refused. refused ≡ Refused.NoMemory) }
 {
     let mut places = Vec::new(alloc);
-    for _ in 0..PLACES {
+    for _ in 0..MAX_CONTEXTS {
         let Ok(()) = places.push(None) else {
             return Err(Refused::NoMemory);
         };
@@ -58,127 +61,153 @@ fn free_places<T: Drop>(alloc: Global) -> Result<Vec<Option<T>>, Refused>
 }
 
 impl<F: Functions, R: Receipt> Partition<F, R> {
-    /// The partition of this number, with nothing in it. Refused, in this order: `BadConfig` where a
-    /// number of the configuration is outside its limits, a record is too large, or there is no partition
-    /// of this number, `NoMemory`.
+    /// The partition of this number, with nothing in it. Refused, in this order: `BadConfig` where a number of the
+    /// configuration is outside its limits, a record is too large, or there is no partition of this number, `NoMemory`.
     pub fn new(alloc: Global, config: &Config, number: u64) -> Result<Self, Refused>
-        ensures ok { IfOk result (λ p. p ≡ empty_partition config.now (size_of F.Key.SIZE F.Value.SIZE) number) }
+        ensures ok { IfOk result (λ c. c ≡ empty_partition config.now (size_of F.Key.SIZE F.Value.SIZE) number) }
         ensures good { result ≢ Err Refused.BadConfig
             → IsPartitionOf config.now (size_of F.Key.SIZE F.Value.SIZE) number }
         ensures bad { result ≡ Err Refused.BadConfig
             → ¬ IsPartitionOf config.now (size_of F.Key.SIZE F.Value.SIZE) number }
         ensures only { IfErr result (λ refused. (refused ≡ Refused.BadConfig) ⊎ (refused ≡ Refused.NoMemory)) }
     {
-        let Some(shape) = config.shape::<F::Key, F::Value>() else {
-            return Err(Refused::BadConfig);
+        let core = match Core::new(alloc, config, number) {
+            Err(refused) => return Err(refused),
+            Ok(core) => core,
         };
-        let count = config.partitions();
-        if number >= count {
-            return Err(Refused::BadConfig);
-        }
-        let records = Records::new(
-            alloc,
-            config.partition_bits,
-            config.bucket_bits,
-            shape,
-            config.frames,
-        )?;
-        let contexts = free_places(alloc)?;
-        records.known();
+        let relocations = match free_places(alloc) {
+            Err(refused) => return Err(refused),
+            Ok(relocations) => relocations,
+        };
+        core.known();
         Ok(Partition {
-            number,
-            count,
-            records,
-            contexts,
-            moment: 0,
+            core,
+            cleared: FIRST,
+            relocations,
         })
     }
 
-    /// Enters a session, which has the view of now, and answers its slot, the lowest free one. Refused, and then
-    /// nothing changes: `NoSlot` where sixteen sessions are entered.
-    pub fn enter(&mut self, now: u64) -> Result<usize, Refused>
-        requires later { self.old.moment < now }
-        ensures does { Enters self.old self.new now result }
-        ensures event { IfOk result (λ _. IsQuiet R.keeps self.old self.new now) }
-        ensures within { IfOk result (λ slot. slot < 16) }
-        ensures err { OnErr result (self.new ≡ self.old) }
-        ensures moment { self.new.moment ≤ now }
+    /// What holds of every partition. It does nothing when it runs.
+    pub fn known(&self)
+        ensures core { IsSound R.keeps F.Key.cmp F.code self.now.core }
+        ensures compacting { IsCompacting R.keeps F.Key.cmp F.code self.now }
     {
-        let slot = match self.records.enter() {
-            Err(refused) => return Err(refused),
-            Ok(slot) => slot,
-        };
-        self.records.known();
-        self.moment = now;
-        Ok(slot)
+        self.core.known();
+        let _cleared = self.cleared;
     }
 
-    /// Issues an operation in a session and answers its context, the lowest free one. Refused, in this
-    /// order, and then nothing changes: `Unknown` where the slot is that of no session, `Stranger` where
-    /// the operation's key belongs to another partition, `NoContext`.
-    pub fn issue(
-        &mut self,
-        slot: usize,
-        op: OpOf<F>,
-        functions: &F,
-        now: u64,
-    ) -> Result<usize, Refused>
-        requires later { self.old.moment < now }
-        ensures does { Issues F.code self.old self.new slot op now result }
-        ensures event { IfOk result (λ context. IsIssue F.code self.old self.new slot context op now) }
-        ensures within { IfOk result (λ context. (slot < 16) × (context < 8)) }
-        ensures err { OnErr result (self.new ≡ self.old) }
-        ensures moment { self.new.moment ≤ now }
+    /// Where the records begin that are not cleared: on a device that keeps, each record below is a tombstone, or not the
+    /// last of its key.
+    pub fn cleared(&self) -> Address
+        ensures { result ≡ self.now.cleared }
     {
-        if !self.is_session(slot) {
+        self.cleared
+    }
+
+    /// Begin: where the records begin that are not dropped.
+    pub fn begin(&self) -> Address
+        ensures { result ≡ self.now.core.records.begin }
+    {
+        self.core.records().begin()
+    }
+
+    /// The address of the next record, or 2^48 where there can't be one.
+    pub fn tail(&self) -> Address
+        ensures { result ≡ self.now.core.records.tail }
+    {
+        self.core.tail()
+    }
+
+    /// Head: records below it are read from the device by sessions that are refreshed from now on.
+    pub fn head(&self) -> Address
+        ensures { result ≡ self.now.core.records.regions.offsets.head }
+    {
+        self.core.head()
+    }
+
+    /// The bytes of a page.
+    pub fn page_size(&self) -> usize
+        ensures { result ≡ 2 ^ self.now.core.records.page_bits }
+    {
+        self.core.page_size()
+    }
+
+    /// The number of the partition.
+    pub fn number(&self) -> u64
+        ensures { result ≡ self.now.core.number }
+    {
+        self.core.number()
+    }
+
+    /// How many partitions the store has.
+    pub fn count(&self) -> u64
+        ensures { result ≡ self.now.core.count }
+    {
+        self.core.count()
+    }
+
+    /// What is open in a context, an operation on a key or a relocation, after its number, which is the moment of its
+    /// issue. Refused: `Unknown` where nothing is open there.
+    pub fn asked(&self, slot: usize, context: usize) -> Result<(u64, OpOf<F>), Refused>
+        ensures ok { IfOk result (λ x. asked self.now slot context ≡ Some (record { number = x.0; op = x.1 })) }
+        ensures within { IfOk result (λ _. (slot < 16) × (context < 8)) }
+        ensures none { IfErr result (λ _. asked self.now slot context ≡ None) }
+        ensures only { IfErr result (λ refused. refused ≡ Refused.Unknown) }
+    {
+        if !self.core.is_session(slot) {
             return Err(Refused::Unknown);
         }
-        let came = self.home(functions, &op.key());
-        if came != self.number {
-            return Err(Refused::Stranger {
-                what: What::Partition,
-                held: self.number,
-                came,
-            });
+        match self.core.asked(slot, context) {
+            Ok((number, op)) => Ok((number, op.op())),
+            Err(_unknown) => match self.relocation(slot, context) {
+                Some(relocation) => Ok((relocation.number, Op::Relocate)),
+                None => Err(Refused::Unknown),
+            },
         }
-        let Some(context) = self.first_free(slot) else {
-            return Err(Refused::NoContext);
-        };
-        self.start(slot, context, op, now);
-        Ok(context)
     }
 
-    /// Issues an operation in a context of a session, one that the caller has chosen and in which nothing is open.
-    /// Refused, and then nothing changes: `Stranger` where the operation's key belongs to another partition.
-    pub fn issue_in(
-        &mut self,
-        slot: usize,
-        context: usize,
-        op: OpOf<F>,
-        functions: &F,
-        now: u64,
-    ) -> Result<(), Refused>
-        requires later { self.old.moment < now }
-        requires entered { IsEntered self.old slot }
-        requires context { context < 8 }
-        requires free { context_at self.old slot context ≡ None }
-        ensures does { IssuesIn F.code self.old self.new slot context op now result }
-        ensures event { OnOk result (IsIssue F.code self.old self.new slot context op now) }
-        ensures within { OnOk result (slot < 16) }
-        ensures err { OnErr result (self.new ≡ self.old) }
-        ensures moment { self.new.moment ≤ now }
+    /// Whether what is open in a context waits for a page.
+    pub fn awaits_page(&self, slot: usize, context: usize) -> bool
+        ensures { result ≡ (is_some (loading_at self.now.core slot context)
+            || is_awaiting (relocation_at self.now slot context)) }
     {
-        self.known();
-        let _entered = self.is_session(slot);
-        let home = self.home(functions, &op.key());
-        if home != self.number {
-            return Err(Refused::Stranger {
-                what: What::Partition,
-                held: self.number,
-                came: home,
-            });
+        self.core.awaits_page(slot, context) || self.relocation_awaits(slot, context)
+    }
+
+    /// Whether the relocation in a context waits for a page.
+    fn relocation_awaits(&self, slot: usize, context: usize) -> bool
+        ensures { result ≡ is_awaiting (relocation_at self.now slot context) }
+    {
+        match self.relocation(slot, context) {
+            None => false,
+            Some(relocation) => awaited(relocation.target, &relocation.stage).is_some(),
         }
-        self.start(slot, context, op, now);
-        Ok(())
+    }
+
+    /// The relocation that is open in a context.
+    pub fn relocation(&self, slot: usize, context: usize) -> Option<RelocationOf<F>>
+        ensures value { result ≡ relocation_at self.now slot context }
+        ensures session { IfSome result (λ _. slot < 16) }
+        ensures context { IfSome result (λ _. context < 8) }
+    {
+        if !self.core.is_session(slot) {
+            return None;
+        }
+        open_at(&self.relocations, slot, context)
+    }
+
+    /// The lowest context of a session in which neither an operation nor a relocation is open.
+    pub(crate) fn first_free(&self, slot: usize) -> Option<usize>
+        requires session { slot < 16 }
+        requires entered { IsEntered self.now.core slot }
+        ensures value { IsFirstFree self.now slot result }
+        ensures within { IfSome result (λ context. context < 8) }
+    {
+        for context in 0..CONTEXTS {
+            if self.is_free(slot, context) {
+                return Some(context);
+            }
+        }
+        None
     }
 }

@@ -1,16 +1,11 @@
 //! Updates of values where they stand, each in one call: most updates of a feed are such.
-ghost use Rattle.std.specs.Prelude.{◌≡◌, ◌<◌, ◌≤◌, None, Some, IfSome};
-ghost use Rattle.fkv_lookups.specs.declared.decisions.Met.TheVariants.{Mutable};
-ghost use Rattle.fkv_texts.specs.declared.entries.Reached.TheVariants.{Found};
-ghost use Rattle.fkv_partition.specs.Views.{entry_for, free_context, met_at, partition_of, reached_from};
+ghost use Rattle.std.specs.Prelude.{◌≡◌, ◌<◌, ◌≤◌, None, IfSome};
 ghost use Rattle.fkv_partition.specs.AtOnce.{IsAtHand, IsDoneAtOnce};
-ghost use Rattle.fkv_partition.specs.Beginning.{IsEntered};
 
 use crate::partitions::Partition;
+use fkv_core::preserving::{events_preserve, sessions_preserved};
 use fkv_device::Receipt;
 use fkv_functions::Functions;
-use fkv_lookups::laws::{meetings_tell, records_change};
-use fkv_texts::{Entry, Reached};
 
 impl<F: Functions, R: Receipt> Partition<F, R> {
     /// Issues an update at one moment and goes on with it at another, where that finishes it: where the last record of its
@@ -26,7 +21,7 @@ impl<F: Functions, R: Receipt> Partition<F, R> {
         issued: u64,
         now: u64,
     ) -> Option<F::Output>
-        requires later { self.old.moment < issued }
+        requires later { self.old.core.moment < issued }
         requires after { issued < now }
         ensures done { IfSome result (λ shown. IsDoneAtOnce R.stands F.Key.cmp F.meaning F.code self.old self.new
             slot key.now input.now issued now shown) }
@@ -34,95 +29,21 @@ impl<F: Functions, R: Receipt> Partition<F, R> {
             → ¬ IsAtHand F.Key.cmp F.code self.old slot key.now held }
         ensures none { result ≡ None → self.new ≡ self.old }
         ensures within { IfSome result (λ _. slot < 16) }
-        ensures moment { self.new.moment ≤ now }
+        ensures moment { self.new.core.moment ≤ now }
     {
-        let Some(context) = self.place_for(slot, key, functions) else {
-            return None;
-        };
-        let Some((last, held)) = self.at_hand(slot, key, functions) else {
-            return None;
-        };
-        Some(self.update_at(
-            slot, context, key, input, last, held, functions, issued, now,
-        ))
-    }
-
-    /// The context in which an operation of a key would be issued.
-    fn place_for(&self, slot: usize, key: &F::Key, functions: &F) -> Option<usize>
-        ensures entered { IfSome result (λ _. IsEntered self.now slot) }
-        ensures own { IfSome result (λ _. partition_of self.now.count (F.code key.now) ≡ self.now.number) }
-        ensures free { IfSome result (λ c. free_context self.now slot ≡ Some c) }
-        ensures within { IfSome result (λ c. (slot < 16) × (c < 8)) }
-        ensures none { result ≡ None → (held : F.Value) → ¬ IsAtHand F.Key.cmp F.code self.now slot key.now held }
-    {
-        if !self.is_session(slot) {
+        events_preserve::<F::Key, F::Value, F::Input, F::Output, R>();
+        sessions_preserved::<F::Key, F::Value, F::Input, F::Output, R>();
+        self.core.known();
+        if !self.core.is_session(slot) {
             return None;
         }
-        if self.home(functions, key) != self.number {
-            return None;
-        }
-        self.first_free(slot)
-    }
-
-    /// The last record of a key and its value, where it may be changed in place.
-    fn at_hand(
-        &self,
-        slot: usize,
-        key: &F::Key,
-        functions: &F,
-    ) -> Option<(Entry<F::Key, F::Value>, F::Value)>
-        requires { IsEntered self.now slot }
-        ensures reached { IfSome result (λ r. reached_from F.Key.cmp F.code self.now slot key.now
-            (entry_for F.code self.now key.now) ≡ Found r.0) }
-        ensures met { IfSome result (λ r. met_at F.Key.cmp F.code self.now slot key.now ≡ Mutable r.1) }
-        ensures none { result ≡ None → (held : F.Value) → ¬ (met_at F.Key.cmp F.code self.now slot key.now ≡ Mutable held) }
-    {
-        self.known();
-        let entry = self.leads(functions, key);
-        let Reached::Found(last) = self.reach(slot, key, entry) else {
+        let Some(context) = self.first_free(slot) else {
             return None;
         };
-        let Some(held) = last.value else {
-            return None;
-        };
-        if !self.records.view(slot).is_mutable(last.address) {
-            return None;
-        }
-        Some((last, held))
-    }
-
-    /// Gives the last record of a key, which may be changed in place, its new value, by an update that is issued and done at
-    /// once.
-    fn update_at(
-        &mut self,
-        slot: usize,
-        _context: usize,
-        key: &F::Key,
-        input: &F::Input,
-        last: Entry<F::Key, F::Value>,
-        held: F::Value,
-        functions: &F,
-        _issued: u64,
-        now: u64,
-    ) -> F::Output
-        requires entered { IsEntered self.old slot }
-        requires own { partition_of self.old.count (F.code key.now) ≡ self.old.number }
-        requires free { free_context self.old slot ≡ Some _context }
-        requires low { _context < 8 }
-        requires reached { reached_from F.Key.cmp F.code self.old slot key.now (entry_for F.code self.old key.now)
-            ≡ Found last }
-        requires met { met_at F.Key.cmp F.code self.old slot key.now ≡ Mutable held }
-        ensures done { IsDoneAtOnce R.stands F.Key.cmp F.meaning F.code self.old self.new
-            slot key.now input.now _issued now result }
-        ensures moment { self.new.moment ≤ now }
-    {
-        self.known();
-        records_change::<F::Key, F::Value>();
-        meetings_tell::<F::Key, F::Value>();
-        let mut value = held;
-        functions.in_place(key, input, &mut value);
-        let shown = functions.read(key, input, &value);
-        self.revalue(last.address, value, now);
+        let shown = self
+            .core
+            .update_at_once(slot, context, key, input, functions, issued, now);
+        self.core.known();
         shown
     }
 }

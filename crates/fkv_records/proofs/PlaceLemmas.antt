@@ -5,7 +5,7 @@ use Rattle.std.proofs.Math.Nat.{add-mod_right, zero-mod, add-mul, suc-mul}
 use Rattle.std.proofs.lemmas.Nat.{and_mask, pow_pos, pow-add, div-add-mod', div-mul-add, mod-mul-add, shr_below, mod_below, mul-le}
 use Rattle.std.proofs.lemmas.Bool.{cases_lt, cases_order}
 use Rattle.std.proofs.lemmas.Bool.Decides.{nat_tests}
-use Rattle.fkv_records.specs.Places.{IsShape, end_at, behind, place_after, first_offset, StandsInPage, IsPlace, first, next}
+use Rattle.fkv_records.specs.Places.{IsShape, end_at, behind, place_after, first_offset, StandsInPage, IsRecordStart, first, next}
 
 -- an offset by a mask
 pub offset_masked : (address bits : ℕ) → bit_and address (2 ^ bits - 1) ≡ address % 2 ^ bits
@@ -130,13 +130,13 @@ module _ (bits size : ℕ) (s : IsShape bits size) where
             rw (← b_parts) (stands_by_parts (a / 2 ^ bits + 1) 0 (omega (arith, at_start)) (omega (arith, p.low, s.most)) (rw at_start (zero-mod size)) (omega (arith, b_parts, t.fits, s.some)))
       ]
 
-  stands_of_place : (a : ℕ) → IsPlace bits size a → StandsInPage bits size a
+  stands_of_place : (a : ℕ) → IsRecordStart bits size a → StandsInPage bits size a
   stands_of_place a first = stands_first
   stands_of_place b (next {a} p e) = stands_next a b (stands_of_place a p) e
 
   -- from the first place of a page, so many records on
-  later_place : (page i : ℕ) → IsPlace bits size (page * 2 ^ bits + first_offset page) → first_offset page + i * size + size ≤ 2 ^ bits
-      → page * 2 ^ bits + 2 ^ bits ≤ 2 ^ 48 → IsPlace bits size (page * 2 ^ bits + (first_offset page + i * size))
+  later_place : (page i : ℕ) → IsRecordStart bits size (page * 2 ^ bits + first_offset page) → first_offset page + i * size + size ≤ 2 ^ bits
+      → page * 2 ^ bits + 2 ^ bits ≤ 2 ^ 48 → IsRecordStart bits size (page * 2 ^ bits + (first_offset page + i * size))
   later_place page zero p room below = let e : first_offset page + 0 * size ≡ first_offset page = omega arith in rw e p
   later_place page (suc i) p room below =
       let more : suc i * size ≡ i * size + size = suc-mul i size in
@@ -149,7 +149,7 @@ module _ (bits size : ℕ) (s : IsShape bits size) where
       rw (← there) (next before (after_here (page * 2 ^ bits + here) (end_at bits (page * 2 ^ bits + here)) size (omega (arith, end, room, more)) (omega (arith, room, more, below))))
 
   -- the first place of a page is a place
-  first_place : (page : ℕ) → page * 2 ^ bits + 2 ^ bits ≤ 2 ^ 48 → IsPlace bits size (page * 2 ^ bits + first_offset page)
+  first_place : (page : ℕ) → page * 2 ^ bits + 2 ^ bits ≤ 2 ^ 48 → IsRecordStart bits size (page * 2 ^ bits + first_offset page)
   first_place zero h = let e : 0 * 2 ^ bits + 64 ≡ 64 = omega arith in rw e first
   first_place (suc page) h =
       let p = page_sized bits size s in
@@ -168,7 +168,7 @@ module _ (bits size : ℕ) (s : IsShape bits size) where
       let there : end_at bits (page * 2 ^ bits + last) ≡ suc page * 2 ^ bits + first_offset (suc page) = omega (arith, end, more, at_start) in
       rw (← there) (next before (after_end (page * 2 ^ bits + last) (end_at bits (page * 2 ^ bits + last)) size (omega (arith, end, split, little)) (omega (arith, end, h, more, p.low, s.most))))
 
-  place_of_stands : (a : ℕ) → StandsInPage bits size a → IsPlace bits size a
+  place_of_stands : (a : ℕ) → StandsInPage bits size a → IsRecordStart bits size a
   place_of_stands a h =
       let rest : ℕ = a % 2 ^ bits - first_offset (a / 2 ^ bits) in
       let split : rest / size * size + rest % size ≡ rest = div-add-mod' rest size in
@@ -177,26 +177,26 @@ module _ (bits size : ℕ) (s : IsShape bits size) where
       rw (← e) (later_place (a / 2 ^ bits) (rest / size) (first_place (a / 2 ^ bits) below) (omega (arith, split, h.whole, h.first, h.room)) below)
 
   -- a place is what stands in its page
-  pub places : (a : ℕ) → StandsInPage bits size a ↔ IsPlace bits size a
+  pub places : (a : ℕ) → StandsInPage bits size a ↔ IsRecordStart bits size a
   places a = (place_of_stands a, stands_of_place a)
 
-  pub place_room : (a : ℕ) → IsPlace bits size a → a % 2 ^ bits + size ≤ 2 ^ bits
+  pub place_room : (a : ℕ) → IsRecordStart bits size a → a % 2 ^ bits + size ≤ 2 ^ bits
   place_room a p = (stands_of_place a p).room
 
   -- a place stands at or above 64, and its record ends in its page and at or below 2^48
-  pub place_low : (a : ℕ) → IsPlace bits size a → 64 ≤ a
+  pub place_low : (a : ℕ) → IsRecordStart bits size a → 64 ≤ a
   place_low a p =
       let h = stands_of_place a p in
       let w = page_sized bits size s in
       omega (arith, low_by_parts (a / 2 ^ bits) (a % 2 ^ bits) (2 ^ bits) w.low h.first, parts_of a)
 
-  pub place_fits : (a : ℕ) → IsPlace bits size a → a + size ≤ end_at bits a
+  pub place_fits : (a : ℕ) → IsRecordStart bits size a → a + size ≤ end_at bits a
   place_fits a p =
       let h = stands_of_place a p in
       let more : end_at bits a ≡ a / 2 ^ bits * 2 ^ bits + 2 ^ bits = next_start (a / 2 ^ bits) (2 ^ bits) in
       omega (arith, more, parts_of a, h.room)
 
-  pub place_ends : (a : ℕ) → IsPlace bits size a → a + size ≤ 2 ^ 48
+  pub place_ends : (a : ℕ) → IsRecordStart bits size a → a + size ≤ 2 ^ 48
   place_ends a p =
       let h = stands_of_place a p in
       omega (arith, page_below a h.below, parts_of a, h.room)
@@ -210,14 +210,14 @@ module _ (bits size : ℕ) (s : IsShape bits size) where
       elim t.way [ inl way ↦ omega (arith, way.1, s.some) | inr way ↦ omega (arith, way.1, more, little, parts_of a) ]
 
   -- places rise: the next one stands behind the record
-  pub place_rises : (a b : ℕ) → IsPlace bits size a → place_after bits size a ≡ Some b → a + size ≤ b
+  pub place_rises : (a b : ℕ) → IsRecordStart bits size a → place_after bits size a ≡ Some b → a + size ≤ b
   place_rises a b p e =
       let t = after_way a (end_at bits a) size b e in
       let fits = place_fits a p in
       elim t.way [ inl way ↦ omega (arith, way.1) | inr way ↦ omega (arith, way.1, fits) ]
 
   -- no place stands between a place and what is behind its record
-  behind_least : (a b : ℕ) → IsPlace bits size a → IsPlace bits size b → a < b → behind bits size a ≤ b
+  behind_least : (a b : ℕ) → IsRecordStart bits size a → IsRecordStart bits size b → a < b → behind bits size a ≤ b
   behind_least a b p q less =
       let way = behind_way a (end_at bits a) size in
       let h = stands_of_place a p in
@@ -245,14 +245,14 @@ module _ (bits size : ℕ) (s : IsShape bits size) where
       ]
 
   -- the next place is the nearest above, and there is one where a place stands above
-  pub place_nearest : (a b : ℕ) → IsPlace bits size a → IsPlace bits size b → a < b → IsSomeAnd (place_after bits size a) (λ c. c ≤ b)
+  pub place_nearest : (a b : ℕ) → IsRecordStart bits size a → IsRecordStart bits size b → a < b → IsSomeAnd (place_after bits size a) (λ c. c ≤ b)
   place_nearest a b p q less =
       let least = behind_least a b p q less in
       let e : place_after bits size a ≡ Some (behind bits size a) = after_fits (behind bits size a) size (omega (arith, least, place_ends b q)) in
       rw e least
 
   -- each page but page 0 starts with a place
-  pub start_place : (page : ℕ) → 1 ≤ page → page * 2 ^ bits < 2 ^ 48 → IsPlace bits size (page * 2 ^ bits)
+  pub start_place : (page : ℕ) → 1 ≤ page → page * 2 ^ bits < 2 ^ 48 → IsRecordStart bits size (page * 2 ^ bits)
   start_place zero h below = absurd (omega arith)
   start_place (suc page) h below =
       let at : suc page * 2 ^ bits / 2 ^ bits ≡ suc page = rw add-zero at (div-mul-add (suc page) (2 ^ bits) 0 (pow_pos bits)) in

@@ -48,6 +48,6 @@ pub record StandsInPage (bits size address : ℕ) : Type 0 where
   pub below : address < 2 ^ 48
 
 -- the places of a log: 64, and the next place of each
-pub data IsPlace (bits size : ℕ) : ℕ → Type 0 where
-  first : IsPlace bits size 64
-  next : {a b : ℕ} → IsPlace bits size a → place_after bits size a ≡ Some b → IsPlace bits size b
+pub data IsRecordStart (bits size : ℕ) : ℕ → Type 0 where
+  first : IsRecordStart bits size 64
+  next : {a b : ℕ} → IsRecordStart bits size a → place_after bits size a ≡ Some b → IsRecordStart bits size b

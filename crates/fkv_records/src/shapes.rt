@@ -1,7 +1,7 @@
 //! The shape of a log: its pages, and the places of its records.
 ghost use Rattle.std.specs.Prelude.{◌≡◌, ◌+◌, ◌*◌, ◌^◌, ◌<◌, ◌≤◌, ◌↔◌, ◌%◌, ℕ, IfSome, IsSome, IsSomeAnd, IsTrue};
 ghost use Rattle.fkv_records.specs.Places.{IsShape, page_at, offset_at, start_at, place_after, first_offset};
-ghost use Rattle.fkv_records.specs.Places.{StandsInPage, IsPlace};
+ghost use Rattle.fkv_records.specs.Places.{StandsInPage, IsRecordStart};
 
 use crate::addresses::{Address, END, FIRST};
 
@@ -51,7 +51,7 @@ impl Shape {
     pub fn offset_of(&self, address: Address) -> usize
         ensures value { result ≡ offset_at self.now.page_bits address }
         // a record at a place ends in its page
-        ensures room { IsPlace self.now.page_bits self.now.record_size address
+        ensures room { IsRecordStart self.now.page_bits self.now.record_size address
             → result + self.now.record_size ≤ 2 ^ self.now.page_bits }
     {
         address as usize & (self.page_size() - 1)
@@ -62,7 +62,7 @@ impl Shape {
         requires { start_at self.now.page_bits page < 2 ^ 64 }
         ensures value { result ≡ start_at self.now.page_bits page }
         // each page but page 0 starts with a place
-        ensures place { 1 ≤ page → result < END → IsPlace self.now.page_bits self.now.record_size result }
+        ensures place { 1 ≤ page → result < END → IsRecordStart self.now.page_bits self.now.record_size result }
     {
         page << self.page_bits
     }
@@ -73,12 +73,12 @@ impl Shape {
         ensures value { result ≡ place_after self.now.page_bits self.now.record_size address }
         ensures rises { IfSome result (λ next. address < next) }
         // from a place on, records lie apart, and no place is passed over
-        ensures place { IsPlace self.now.page_bits self.now.record_size address
-            → IfSome result (IsPlace self.now.page_bits self.now.record_size) }
-        ensures apart { IsPlace self.now.page_bits self.now.record_size address
+        ensures place { IsRecordStart self.now.page_bits self.now.record_size address
+            → IfSome result (IsRecordStart self.now.page_bits self.now.record_size) }
+        ensures apart { IsRecordStart self.now.page_bits self.now.record_size address
             → IfSome result (λ next. address + self.now.record_size ≤ next) }
-        ensures nearest { (place : ℕ) → IsPlace self.now.page_bits self.now.record_size address
-            → IsPlace self.now.page_bits self.now.record_size place → address < place
+        ensures nearest { (place : ℕ) → IsRecordStart self.now.page_bits self.now.record_size address
+            → IsRecordStart self.now.page_bits self.now.record_size place → address < place
             → IsSomeAnd result (λ next. next ≤ place) }
     {
         if address >= END {
@@ -100,7 +100,7 @@ impl Shape {
 
     /// Whether a record may stand at an address: whether a run of [`Shape::next_place`] from 64 comes there.
     pub fn is_place(&self, address: Address) -> bool
-        ensures value { IsTrue result ↔ IsPlace self.now.page_bits self.now.record_size address }
+        ensures value { IsTrue result ↔ IsRecordStart self.now.page_bits self.now.record_size address }
         ensures low { IsTrue result → FIRST ≤ address }
         ensures high { IsTrue result → address + self.now.record_size ≤ END }
     {

@@ -5,7 +5,7 @@ use Rattle.std.proofs.lemmas.Nat.{pow_pos, div-add-mod'}
 use Rattle.std.proofs.lemmas.Option.{slice_get_within}
 use Rattle.std.specs.Option.{ok_or, option_flatten}
 use Rattle.std.proofs.Math.Nat.{le-div_iff_mul-le, div-mul-le_self}
-use Rattle.fkv_records.specs.Places.{page_at, start_at, IsShape, IsPlace, first}
+use Rattle.fkv_records.specs.Places.{page_at, start_at, IsShape, IsRecordStart, first}
 use Rattle.fkv_records.proofs.PlaceLemmas.{start_place}
 use Rattle.fkv_epoch.specs.declared.actions.Action.TheVariants.{Safe, Closed}
 use Rattle.fkv_epoch.specs.EpochState.{EpochState}
@@ -92,12 +92,12 @@ moved-head s page o room d h =
     }
 
 -- an offset of a log is a place, and what is closed is flushed
-pub mark-place : (bits size a : ℕ) → IsShape bits size → IsMark bits a → 64 ≤ a → a < 2 ^ 48 → IsPlace bits size a
+pub mark-place : (bits size a : ℕ) → IsShape bits size → IsMark bits a → 64 ≤ a → a < 2 ^ 48 → IsRecordStart bits size a
 mark-place bits size a s (inl e) low below = rw e first
 mark-place bits size a s (inr e) low below =
     let parts : a / 2 ^ bits * 2 ^ bits + a % 2 ^ bits ≡ a = div-add-mod' a (2 ^ bits) in
     let whole : a / 2 ^ bits * 2 ^ bits ≡ a = omega (arith, parts, e) in
-    subst (λ (x : ℕ). IsPlace bits size x) whole (start_place bits size s (a / 2 ^ bits) (some (a / 2 ^ bits) whole) (rw whole below))
+    subst (λ (x : ℕ). IsRecordStart bits size x) whole (start_place bits size s (a / 2 ^ bits) (some (a / 2 ^ bits) whole) (rw whole below))
   where
     some : (n : ℕ) → n * 2 ^ bits ≡ a → 1 ≤ n
     some zero e = absurd (omega arith)

@@ -1,6 +1,6 @@
 //! What holds of any regions. Each law is what a function without a body ensures.
 ghost use Rattle.std.specs.Prelude.{◌≡◌, ◌^◌, ◌<◌, ◌≤◌, ℕ};
-ghost use Rattle.fkv_records.specs.Places.{IsShape, IsPlace, page_at};
+ghost use Rattle.fkv_records.specs.Places.{IsShape, IsRecordStart, page_at};
 ghost use Rattle.fkv_regions.specs.RegionsView.{RegionsView};
 ghost use Rattle.fkv_regions.specs.Agree.{IsRegions, IsByRegion};
 
@@ -14,6 +14,6 @@ pub fn by_region()
 pub fn closed_place()
     ensures place { (s : RegionsView) (size : ℕ) → IsShape s.bits size → IsRegions s
         → s.offsets.closed < 2 ^ 48
-        → IsPlace s.bits size s.offsets.closed }
+        → IsRecordStart s.bits size s.offsets.closed }
     ensures flushed { (s : RegionsView) → IsRegions s → page_at s.bits s.offsets.closed ≤ s.flushed }
 {}

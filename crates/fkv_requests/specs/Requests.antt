@@ -8,7 +8,7 @@ pub use Rattle.clap.specs.Words.{Text}
 use Rattle.clap.specs.declared.builder.value_parser.ValueParser.TheVariants as parser
 use Rattle.clap.specs.declared.error.kind.ErrorKind.{ErrorKind}
 use Rattle.clap.specs.declared.error.kind.ErrorKind.TheVariants.{DisplayHelp, DisplayVersion, OutOfMemory}
-use Rattle.fkv_partition.specs.declared.limits.Config.{Config}
+use Rattle.fkv_partition.specs.Config.{Config}
 use Rattle.fkv_feed_rows.specs.Amounts.{is_numeral}
 use Rattle.fkv_requests.specs.Memory.{size_of, share_of, bucket_bits_in, page_bits_in, frames_in}
 use Rattle.fkv_requests.specs.declared.requests.Shown.{Shown}

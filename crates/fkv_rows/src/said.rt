@@ -1,16 +1,16 @@
 //! What the lines of a script say, as text.
 use fkv_functions::Name;
-use fkv_operations::Op;
+use fkv_operations::KeyedOp;
 use fkv_steps::scripts::{Line, Script};
 use std::io::{self, Write};
 
 /// Writes an operation: its kind, its key and its amount.
-fn write_operation<W: Write>(op: &Op<Name, i64, i64>, writer: &mut W) -> io::Result<()> {
+fn write_operation<W: Write>(op: &KeyedOp<Name, i64, i64>, writer: &mut W) -> io::Result<()> {
     match op {
-        Op::Read(_, input) => write!(writer, " Read {input} ")?,
-        Op::Upsert(_, value) => write!(writer, " Upsert {value} ")?,
-        Op::Rmw(_, input) => write!(writer, " Rmw {input} ")?,
-        Op::Delete(_) => write!(writer, " Delete ")?,
+        KeyedOp::Read(_, input) => write!(writer, " Read {input} ")?,
+        KeyedOp::Upsert(_, value) => write!(writer, " Upsert {value} ")?,
+        KeyedOp::Rmw(_, input) => write!(writer, " Rmw {input} ")?,
+        KeyedOp::Delete(_) => write!(writer, " Delete ")?,
     }
     writer.write_all(op.key().bytes())?;
     writeln!(writer)

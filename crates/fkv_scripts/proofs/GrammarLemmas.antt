@@ -5,8 +5,8 @@ use Rattle.std.specs.Str.{bytes_eq}
 use Rattle.std.proofs.lemmas.Slice.Eq.{bytes_eq-Decides}
 use Rattle.std.proofs.lemmas.Option.{same_Some}
 use Rattle.fkv_functions.specs.declared.names.Name.{Name}
-use Rattle.fkv_operations.specs.declared.operations.Op.{Op}
-use Rattle.fkv_operations.specs.declared.operations.Op.TheVariants.{Read, Upsert, Rmw, Delete}
+use Rattle.fkv_operations.specs.declared.operations.KeyedOp.{KeyedOp}
+use Rattle.fkv_operations.specs.declared.operations.KeyedOp.TheVariants.{Read, Upsert, Rmw, Delete}
 use Rattle.fkv_scripts.specs.Words.{number_of, amount_of}
 use Rattle.fkv_scripts.specs.Grammar.{Token, word, number, key, amount, Spells, SpellAll, Spelled, HasText, ReadsWithZero, place, access_word, verb, operands, tokens, opening, functions_name}
 use Rattle.fkv_scripts.specs.Reading.{◌>>=◌, first_as, end_of, key_of, key_alone, key_and_amount, place_of, alone_of, pair_of, access_of, flush_of, load_of, operation_of, issue_of, do_of, served_of, line_of, functions_of, store_of, opening_of}
@@ -15,7 +15,7 @@ use Rattle.fkv_scripts.specs.declared.lines.FunctionsName.TheVariants.{Count, Su
 use Rattle.fkv_scripts.specs.declared.lines.Opening.{Opening}
 use Rattle.fkv_lives.specs.declared.steps.Access.{Access}
 use Rattle.fkv_lives.specs.declared.steps.Access.TheVariants.{Works, Fails}
-use Rattle.fkv_lives.specs.declared.steps.Place.{Place}
+use Rattle.fkv_lives.specs.declared.steps.ContextId.{ContextId}
 use Rattle.fkv_scripts.specs.declared.lines.Line.{Line}
 use Rattle.fkv_scripts.specs.declared.lines.Line.TheVariants.{Enter, Leave, Refresh, ReadOnly, Head, Flush, Truncate, Issue, Do, Compact, Go, Install, Load, GiveUp, Ready, Finish}
 use Rattle.fkv_scripts.proofs.KeyLemmas.{key_only, key_found}
@@ -33,7 +33,7 @@ ends (w ∷ ws) x s = absurd s
 takes_number : (n : ℕ) (ts : List Token) (ws : List (List ℕ)) → SpellAll ws (number n ∷ ts) → (rest : List (List ℕ)) × (first_as number_of ws ≡ Some (n, rest)) × SpellAll rest ts
 takes_number n ts ws s = takes number_of n (number n) ts ws (λ w e. e) s
 
-place_only : (p : Place) (ws : List (List ℕ)) → SpellAll ws (place p) → place_of ws ≡ Some p
+place_only : (p : ContextId) (ws : List (List ℕ)) → SpellAll ws (place p) → place_of ws ≡ Some p
 unfolding place_of
 place_only p ws s =
     let a = takes_number p.partition (number p.slot ∷ number p.context ∷ []) ws s in
@@ -64,7 +64,7 @@ flush_only p x ws h =
     let b = takes access_of x (access_word x) [] a.0 (access_only x) a.2 in
     rw (a.1, b.1) (ends b.0 (Flush p x) b.2)
 
-load_only : (p : Place) (x : Access) (ws : List (List ℕ)) → SpellAll ws (number p.partition ∷ number p.slot ∷ number p.context ∷ access_word x ∷ []) → load_of ws ≡ Some (Load p x)
+load_only : (p : ContextId) (x : Access) (ws : List (List ℕ)) → SpellAll ws (number p.partition ∷ number p.slot ∷ number p.context ∷ access_word x ∷ []) → load_of ws ≡ Some (Load p x)
 unfolding load_of
 load_only p x ws h =
     let a = takes_number p.partition (number p.slot ∷ number p.context ∷ access_word x ∷ []) ws h in
@@ -84,21 +84,21 @@ key_and_amount_only k n ws s =
     let b = takes amount_of n (amount n) [] a.0 (λ w f. f) a.2 in
     rw (a.1, b.1) (ends b.0 (k, n) b.2)
 
-operation_only : (o : Op Name ℤ ℤ) (v : List ℕ) (ws : List (List ℕ)) → ReadsWithZero o → Spells v (verb o) → SpellAll ws (operands o) → operation_of v ws ≡ Some o
+operation_only : (o : KeyedOp Name ℤ ℤ) (v : List ℕ) (ws : List (List ℕ)) → ReadsWithZero o → Spells v (verb o) → SpellAll ws (operands o) → operation_of v ws ≡ Some o
 unfolding operation_of
 operation_only (Read k i) v ws z e s = rw (e, key_alone_only k ws s, z) refl
 operation_only (Upsert k n) v ws z e s = rw (e, key_and_amount_only k n ws s) refl
 operation_only (Rmw k n) v ws z e s = rw (e, key_and_amount_only k n ws s) refl
 operation_only (Delete k) v ws z e s = rw (e, key_alone_only k ws s) refl
 
-issue_only : (p s : ℕ) (o : Op Name ℤ ℤ) (v : List ℕ) (ws : List (List ℕ)) → ReadsWithZero o → Spells v (verb o) → SpellAll ws (number p ∷ number s ∷ operands o) → issue_of v ws ≡ Some (Issue p s o)
+issue_only : (p s : ℕ) (o : KeyedOp Name ℤ ℤ) (v : List ℕ) (ws : List (List ℕ)) → ReadsWithZero o → Spells v (verb o) → SpellAll ws (number p ∷ number s ∷ operands o) → issue_of v ws ≡ Some (Issue p s o)
 unfolding issue_of
 issue_only p s o v ws z e h =
     let a = takes_number p (number s ∷ operands o) ws h in
     let b = takes_number s (operands o) a.0 a.2 in
     rw (a.1, b.1, operation_only o v b.0 z e b.2) refl
 
-do_only : (p s : ℕ) (o : Op Name ℤ ℤ) (ws : List (List ℕ)) → ReadsWithZero o → SpellAll ws (number p ∷ number s ∷ verb o ∷ operands o) → do_of ws ≡ Some (Do p s o)
+do_only : (p s : ℕ) (o : KeyedOp Name ℤ ℤ) (ws : List (List ℕ)) → ReadsWithZero o → SpellAll ws (number p ∷ number s ∷ verb o ∷ operands o) → do_of ws ≡ Some (Do p s o)
 unfolding do_of
 do_only p s o ws z h =
     let a = takes_number p (number s ∷ verb o ∷ operands o) ws h in
@@ -129,7 +129,7 @@ only (Ready p) (v ∷ ws) h = rw (h.0.0, place_only p ws h.0.1) refl
 only (Finish p) (v ∷ ws) h = rw (h.0.0, place_only p ws h.0.1) refl
 only (Issue p s o) (v ∷ ws) h = issued o h.1 h.0.0 h.0.1
   where
-    issued : (o : Op Name ℤ ℤ) → ReadsWithZero o → Spells v (verb o) → SpellAll ws (number p ∷ number s ∷ operands o) → line_of (v ∷ ws) ≡ Some (Issue p s o)
+    issued : (o : KeyedOp Name ℤ ℤ) → ReadsWithZero o → Spells v (verb o) → SpellAll ws (number p ∷ number s ∷ operands o) → line_of (v ∷ ws) ≡ Some (Issue p s o)
     issued (Read k i) z e f = rw e (issue_only p s (Read k i) (codes "read") ws z refl f)
     issued (Upsert k n) z e f = rw e (issue_only p s (Upsert k n) (codes "upsert") ws z refl f)
     issued (Rmw k n) z e f = rw e (issue_only p s (Rmw k n) (codes "rmw") ws z refl f)
@@ -230,7 +230,7 @@ paired_found make text h k ws l e v t = by (pair_of ws) refl e
     by None f g = absurd (let bad : None ≡ Some l = g in cc)
     by (Some p) f g = rw (← same_Some (make p) l g, h p) ((t, pair_found ws p f), k p)
 
-place_found : (ws : List (List ℕ)) (p : Place) → place_of ws ≡ Some p → SpellAll ws (place p)
+place_found : (ws : List (List ℕ)) (p : ContextId) → place_of ws ≡ Some p → SpellAll ws (place p)
 unfolding place_of
 place_found ws p e =
     let a = bind_ok _ _ p e in
@@ -240,11 +240,11 @@ place_found ws p e =
     rw (← d.1) (taken_number ws a.0 a.1 _ (taken_number a.0.1 b.0 b.1 _ (taken_number b.0.1 c.0 c.1 [] d.0)))
 
 -- a line of a verb and a place
-placed_found : (make : Place → Line) (text : List ℕ) → ((p : Place) → tokens (make p) ≡ word text ∷ place p) → ((p : Place) → HasText (make p)) → (ws : List (List ℕ)) (l : Line) → option_map make (place_of ws) ≡ Some l
+placed_found : (make : ContextId → Line) (text : List ℕ) → ((p : ContextId) → tokens (make p) ≡ word text ∷ place p) → ((p : ContextId) → HasText (make p)) → (ws : List (List ℕ)) (l : Line) → option_map make (place_of ws) ≡ Some l
     → (v : List ℕ) → v ≡ text → Spelled (v ∷ ws) l
 placed_found make text h k ws l e v t = by (place_of ws) refl e
   where
-    by : (o : Option Place) → place_of ws ≡ o → option_map make o ≡ Some l → Spelled (v ∷ ws) l
+    by : (o : Option ContextId) → place_of ws ≡ o → option_map make o ≡ Some l → Spelled (v ∷ ws) l
     by None f g = absurd (let bad : None ≡ Some l = g in cc)
     by (Some p) f g = rw (← same_Some (make p) l g, h p) ((t, place_found ws p f), k p)
 
@@ -301,7 +301,7 @@ mapped : {A B : Type 0} (o : Option A) (f : A → B) (y : B) → option_map f o 
 mapped None f y e = absurd (let bad : None ≡ Some y = e in cc)
 mapped (Some x) f y e = (x, refl, same_Some (f x) y e)
 
-operation_found : (v : List ℕ) (ws : List (List ℕ)) (o : Op Name ℤ ℤ) → operation_of v ws ≡ Some o → Spells v (verb o) × SpellAll ws (operands o) × ReadsWithZero o
+operation_found : (v : List ℕ) (ws : List (List ℕ)) (o : KeyedOp Name ℤ ℤ) → operation_of v ws ≡ Some o → Spells v (verb o) × SpellAll ws (operands o) × ReadsWithZero o
 unfolding operation_of
 operation_found v ws o e =
     chosen (bytes_eq v (codes "read")) _ _ (Some o) e
@@ -319,7 +319,7 @@ unfolding issue_of
 issue_found v ws l e =
     let a = bind_ok {A = ℕ × List (List ℕ)} (first_as number_of ws) _ l e in
     let b = bind_ok {A = ℕ × List (List ℕ)} (first_as number_of a.0.1) _ l a.2 in
-    let c = bind_ok {A = Op Name ℤ ℤ} (operation_of v b.0.1) _ l b.2 in
+    let c = bind_ok {A = KeyedOp Name ℤ ℤ} (operation_of v b.0.1) _ l b.2 in
     let o = operation_found v b.0.1 c.0 c.1 in
     let same : Issue a.0.0 b.0.0 c.0 ≡ l = same_Some (Issue a.0.0 b.0.0 c.0) l c.2 in
     rw (← same) ((o.0, taken_number ws a.0 a.1 _ (taken_number a.0.1 b.0 b.1 _ o.1)), o.2)
@@ -330,7 +330,7 @@ do_found ws l e v t =
     let a = bind_ok {A = ℕ × List (List ℕ)} (first_as number_of ws) _ l e in
     let b = bind_ok {A = ℕ × List (List ℕ)} (first_as number_of a.0.1) _ l a.2 in
     let c = bind_ok {A = List ℕ × List (List ℕ)} (first_as Some b.0.1) _ l b.2 in
-    let d = bind_ok {A = Op Name ℤ ℤ} (operation_of c.0.0 c.0.1) _ l c.2 in
+    let d = bind_ok {A = KeyedOp Name ℤ ℤ} (operation_of c.0.0 c.0.1) _ l c.2 in
     let o = operation_found c.0.0 c.0.1 d.0 d.1 in
     let same : Do a.0.0 b.0.0 d.0 ≡ l = same_Some (Do a.0.0 b.0.0 d.0) l d.2 in
     rw (← same) ((t, taken_number ws a.0 a.1 (number b.0.0 ∷ verb d.0 ∷ operands d.0) (taken_number a.0.1 b.0 b.1 (verb d.0 ∷ operands d.0) (first_word b.0.1 c.0 c.1 (verb d.0) (operands d.0) o.0 o.1))), o.2)

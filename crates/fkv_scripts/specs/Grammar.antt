@@ -2,15 +2,15 @@
 use Rattle.std.specs.Prelude.{◌≡◌, true, ℕ, ℤ, pos, List, [], ◌∷◌, Some, codes}
 use Rattle.fkv_functions.specs.Names.{text_of}
 use Rattle.fkv_functions.specs.declared.names.Name.{Name}
-use Rattle.fkv_operations.specs.declared.operations.Op.{Op}
-use Rattle.fkv_operations.specs.declared.operations.Op.TheVariants.{Read, Upsert, Rmw, Delete}
+use Rattle.fkv_operations.specs.declared.operations.KeyedOp.{KeyedOp}
+use Rattle.fkv_operations.specs.declared.operations.KeyedOp.TheVariants.{Read, Upsert, Rmw, Delete}
 use Rattle.fkv_scripts.specs.Words.{words_of, number_of, amount_of, is_key}
 use Rattle.fkv_scripts.specs.declared.lines.FunctionsName.{FunctionsName}
 use Rattle.fkv_scripts.specs.declared.lines.FunctionsName.TheVariants.{Count, Sum, Max}
 use Rattle.fkv_scripts.specs.declared.lines.Opening.{Opening}
 use Rattle.fkv_lives.specs.declared.steps.Access.{Access}
 use Rattle.fkv_lives.specs.declared.steps.Access.TheVariants.{Works, Fails}
-use Rattle.fkv_lives.specs.declared.steps.Place.{Place}
+use Rattle.fkv_lives.specs.declared.steps.ContextId.{ContextId}
 use Rattle.fkv_scripts.specs.declared.lines.Line.{Line}
 use Rattle.fkv_scripts.specs.declared.lines.Line.TheVariants.{Enter, Leave, Refresh, ReadOnly, Head, Flush, Truncate, Issue, Do, Compact, Go, Install, Load, GiveUp, Ready, Finish}
 
@@ -35,7 +35,7 @@ SpellAll [] (t ∷ ts) = ⊥
 SpellAll (w ∷ ws) [] = ⊥
 SpellAll (w ∷ ws) (t ∷ ts) = Spells w t × SpellAll ws ts
 
-abbrev pub place : Place → List Token
+abbrev pub place : ContextId → List Token
 place p = number p.partition ∷ number p.slot ∷ number p.context ∷ []
 
 -- what the device does with a page: `ok`, or `fault`
@@ -44,13 +44,13 @@ access_word Works = word (codes "ok")
 access_word Fails = word (codes "fault")
 
 -- an operation of a line: what it writes is an amount
-abbrev pub verb : Op Name ℤ ℤ → Token
+abbrev pub verb : KeyedOp Name ℤ ℤ → Token
 verb (Read k i) = word (codes "read")
 verb (Upsert k n) = word (codes "upsert")
 verb (Rmw k n) = word (codes "rmw")
 verb (Delete k) = word (codes "delete")
 
-abbrev pub operands : Op Name ℤ ℤ → List Token
+abbrev pub operands : KeyedOp Name ℤ ℤ → List Token
 operands (Read k i) = key k ∷ []
 operands (Upsert k n) = key k ∷ amount n ∷ []
 operands (Rmw k n) = key k ∷ amount n ∷ []
@@ -77,7 +77,7 @@ tokens (Ready p) = word (codes "ready") ∷ place p
 tokens (Finish p) = word (codes "finish") ∷ place p
 
 -- a read's input is 0, for which there is no word
-abbrev pub ReadsWithZero : Op Name ℤ ℤ → Type 0
+abbrev pub ReadsWithZero : KeyedOp Name ℤ ℤ → Type 0
 ReadsWithZero (Read k i) = i ≡ pos 0
 ReadsWithZero other = Unit {0}
 

@@ -7,15 +7,15 @@ use Rattle.std.proofs.lemmas.Bool.{leb-true}
 use Rattle.fkv_functions.specs.Hashes.{fnv_1a}
 use Rattle.fkv_functions.specs.Names.{room_by, padded_by, hashed_by}
 use Rattle.fkv_functions.specs.declared.names.Name.{Name}
-use Rattle.fkv_operations.specs.declared.operations.Op.{Op}
-use Rattle.fkv_operations.specs.declared.operations.Op.TheVariants.{Read, Upsert, Rmw, Delete}
+use Rattle.fkv_operations.specs.declared.operations.KeyedOp.{KeyedOp}
+use Rattle.fkv_operations.specs.declared.operations.KeyedOp.TheVariants.{Read, Upsert, Rmw, Delete}
 use Rattle.fkv_scripts.specs.Words.{number_of, amount_of, is_key, is_key_byte}
 use Rattle.fkv_scripts.specs.declared.lines.FunctionsName.{FunctionsName}
 use Rattle.fkv_scripts.specs.declared.lines.FunctionsName.TheVariants.{Count, Sum, Max}
 use Rattle.fkv_scripts.specs.declared.lines.Opening.{Opening}
 use Rattle.fkv_lives.specs.declared.steps.Access.{Access}
 use Rattle.fkv_lives.specs.declared.steps.Access.TheVariants.{Works, Fails}
-use Rattle.fkv_lives.specs.declared.steps.Place.{Place}
+use Rattle.fkv_lives.specs.declared.steps.ContextId.{ContextId}
 use Rattle.fkv_scripts.specs.declared.lines.Line.{Line}
 use Rattle.fkv_scripts.specs.declared.lines.Line.TheVariants.{Enter, Leave, Refresh, ReadOnly, Head, Flush, Truncate, Issue, Do, Compact, Go, Install, Load, GiveUp, Ready, Finish}
 
@@ -72,7 +72,7 @@ abbrev pub end_of : {A : Type 0} → List (List ℕ) → A → Option A
 end_of [] x = Some x
 end_of (w ∷ ws) x = None
 
-unfoldable pub place_of : List (List ℕ) → Option Place
+unfoldable pub place_of : List (List ℕ) → Option ContextId
 place_of ws = do
   p ← first_as number_of ws
   s ← first_as number_of p.1
@@ -126,7 +126,7 @@ key_and_amount ws = do
   n ← first_as amount_of k.1
   end_of n.1 (k.0, n.0)
 
-unfoldable pub operation_of : List ℕ → List (List ℕ) → Option (Op Name ℤ ℤ)
+unfoldable pub operation_of : List ℕ → List (List ℕ) → Option (KeyedOp Name ℤ ℤ)
 operation_of verb ws =
     if bytes_eq verb (codes "read") then option_map (λ k. Read k (pos 0)) (key_alone ws)
     else (if bytes_eq verb (codes "upsert") then option_map (λ p. Upsert p.0 p.1) (key_and_amount ws)

@@ -2,8 +2,8 @@
 use Rattle.std.specs.Prelude.{◌≡◌, ◌==◌, ◌⊎◌, ◌+◌, ◌≤◌, ℕ, ℤ, pos, Bool, true, List, [], ◌∷◌, ◌++◌, length, int_le, IsTrue, if◌then◌else◌}
 use Rattle.std.specs.List.{onto_first}
 use Rattle.fkv_functions.specs.declared.names.Name.{Name}
-use Rattle.fkv_operations.specs.declared.operations.Op.{Op}
-use Rattle.fkv_operations.specs.declared.operations.Op.TheVariants.{Upsert}
+use Rattle.fkv_operations.specs.declared.operations.KeyedOp.{KeyedOp}
+use Rattle.fkv_operations.specs.declared.operations.KeyedOp.TheVariants.{Upsert}
 use Rattle.fkv_scripts.specs.Grammar.{Says, Opens}
 use Rattle.fkv_scripts.specs.declared.lines.FunctionsName.{FunctionsName}
 use Rattle.fkv_scripts.specs.declared.lines.FunctionsName.TheVariants.{Count}
@@ -20,7 +20,7 @@ lines_of [] = []
 lines_of (b ∷ bs) = if is_line_end b then [] ∷ lines_of bs else onto_first b (lines_of bs)
 
 -- a store of these functions takes this operation: an amount below 0 is no count
-abbrev pub takes_operation : FunctionsName → Op Name ℤ ℤ → Bool
+abbrev pub takes_operation : FunctionsName → KeyedOp Name ℤ ℤ → Bool
 takes_operation Count (Upsert k n) = int_le (pos 0) n
 takes_operation other o = true
 

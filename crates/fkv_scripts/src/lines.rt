@@ -4,8 +4,8 @@ ghost use Rattle.fkv_scripts.specs.Configs.{config_of};
 ghost use Rattle.fkv_scripts.specs.Script.{takes_operation, takes};
 
 use fkv_functions::Name;
-use fkv_lives::{Access, Place};
-use fkv_operations::Op;
+use fkv_lives::{Access, ContextId};
+use fkv_operations::KeyedOp;
 use fkv_partition::Config;
 
 /// The sets of functions that a script can name.
@@ -71,13 +71,13 @@ pub enum Line {
     Issue {
         partition: u64,
         session: u64,
-        op: Op<Name, i64, i64>,
+        op: KeyedOp<Name, i64, i64>,
     },
     /// A session issues an operation and finishes it. The input of a read is 0.
     Do {
         partition: u64,
         session: u64,
-        op: Op<Name, i64, i64>,
+        op: KeyedOp<Name, i64, i64>,
     },
     /// A session issues a relocation and finishes it.
     Compact {
@@ -85,26 +85,26 @@ pub enum Line {
         session: u64,
     },
     /// An operation or a relocation goes on by one step.
-    Go(Place),
+    Go(ContextId),
     /// What an operation last asked for is answered.
-    Install(Place),
+    Install(ContextId),
     /// The page that an operation or a relocation asked for is read from the device, and it goes on with that page.
-    Load(Place, Access),
+    Load(ContextId, Access),
     /// An operation or a relocation is given up.
-    GiveUp(Place),
+    GiveUp(ContextId),
     /// An operation or a relocation goes on until it asks for something or ends.
-    Ready(Place),
+    Ready(ContextId),
     /// An operation or a relocation goes on, and is answered, until it ends.
-    Finish(Place),
+    Finish(ContextId),
 }
 
 impl FunctionsName {
     /// Whether a store of these functions takes an operation: an amount below 0 is no count.
-    fn takes_operation(self, op: &Op<Name, i64, i64>) -> bool
+    fn takes_operation(self, op: &KeyedOp<Name, i64, i64>) -> bool
         ensures { result ≡ takes_operation self op.now }
     {
         match (self, op) {
-            (FunctionsName::Count, Op::Upsert(_, amount)) => *amount >= 0,
+            (FunctionsName::Count, KeyedOp::Upsert(_, amount)) => *amount >= 0,
             _ => true,
         }
     }

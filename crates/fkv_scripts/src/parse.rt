@@ -11,8 +11,8 @@ ghost use Rattle.fkv_scripts.specs.Reading.{Gives, first_as, line_of, served_of,
 use crate::lines::{FunctionsName, Line, Opening};
 use crate::words::Words;
 use fkv_functions::Name;
-use fkv_lives::{Access, Place};
-use fkv_operations::Op;
+use fkv_lives::{Access, ContextId};
+use fkv_operations::KeyedOp;
 
 /// What a line after the first says to a store of these functions, where it says anything.
 pub fn parse_line(functions: FunctionsName, bytes: &[u8]) -> Option<Line>
@@ -187,7 +187,7 @@ fn pair(words: &mut Words<'_>) -> Option<(u64, u64)>
 }
 
 #[tactic(auto, unfolding(crate::specs::Reading::place_of))]
-fn place(words: &mut Words<'_>) -> Option<Place>
+fn place(words: &mut Words<'_>) -> Option<ContextId>
     ensures { result ≡ place_of words.old }
 {
     let partition = words.number()?;
@@ -196,7 +196,7 @@ fn place(words: &mut Words<'_>) -> Option<Place>
     if !words.is_empty() {
         return None;
     }
-    Some(Place {
+    Some(ContextId {
         partition: partition as usize,
         slot: slot as usize,
         context: context as usize,
@@ -241,7 +241,7 @@ fn load(words: &mut Words<'_>) -> Option<Line>
     if !words.is_empty() {
         return None;
     }
-    let place = Place {
+    let place = ContextId {
         partition: partition as usize,
         slot: slot as usize,
         context: context as usize,
@@ -273,22 +273,22 @@ fn key_and_amount(words: &mut Words<'_>) -> Option<(Name, i64)>
 }
 
 #[tactic(auto, unfolding(crate::specs::Reading::operation_of))]
-fn operation(verb: &[u8], words: &mut Words<'_>) -> Option<Op<Name, i64, i64>>
+fn operation(verb: &[u8], words: &mut Words<'_>) -> Option<KeyedOp<Name, i64, i64>>
     ensures { result ≡ operation_of verb.now words.old }
 {
     if is(verb, "read") {
-        return Some(Op::Read(key_alone(words)?, 0));
+        return Some(KeyedOp::Read(key_alone(words)?, 0));
     }
     if is(verb, "upsert") {
         let (key, amount) = key_and_amount(words)?;
-        return Some(Op::Upsert(key, amount));
+        return Some(KeyedOp::Upsert(key, amount));
     }
     if is(verb, "rmw") {
         let (key, amount) = key_and_amount(words)?;
-        return Some(Op::Rmw(key, amount));
+        return Some(KeyedOp::Rmw(key, amount));
     }
     if is(verb, "delete") {
-        return Some(Op::Delete(key_alone(words)?));
+        return Some(KeyedOp::Delete(key_alone(words)?));
     }
     None
 }

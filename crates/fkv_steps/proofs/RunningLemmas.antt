@@ -8,12 +8,13 @@ use Rattle.fkv_functions.specs.declared.names.Name.{Name}
 use Rattle.fkv_functions.specs.declared.refusals.Refused.{Refused}
 use Rattle.fkv_functions.specs.declared.refusals.Refused.TheVariants.{Stalled}
 use Rattle.fkv_operations.specs.declared.operations.Answer.{Answer}
-use Rattle.fkv_operations.specs.declared.operations.Op.{Op}
+use Rattle.fkv_operations.specs.declared.operations.KeyedOp.{KeyedOp}
+use Rattle.fkv_operations.specs.declared.operations.Op.TheVariants.{Relocate}
 use Rattle.fkv_lives.specs.declared.outcomes.Outcome.{Outcome}
 use Rattle.fkv_lives.specs.declared.outcomes.Outcome.TheVariants as outcome
 use Rattle.fkv_worlds.specs.declared.pursuits.Pursuit.{Pursuit}
 use Rattle.fkv_worlds.specs.declared.pursuits.Pursuit.TheVariants as pursuit
-use Rattle.fkv_lives.specs.declared.steps.Place.{Place}
+use Rattle.fkv_lives.specs.declared.steps.ContextId.{ContextId}
 use Rattle.fkv_lives.specs.declared.steps.Access.{Access}
 use Rattle.fkv_lives.specs.declared.steps.Step.{Step}
 use Rattle.fkv_lives.specs.declared.steps.Step.TheVariants as step
@@ -26,8 +27,8 @@ use Rattle.std.specs.BTreeMap.{is_at}
 use Rattle.std.specs.Map.{lookup, keys_of}
 use Rattle.std.specs.List.Sorted.{IsStrictlySortedBy}
 use Rattle.fkv_functions.specs.Names.{name_cmp}
-use Rattle.fkv_partition.specs.declared.limits.Config.{Config}
-use Rattle.fkv_worlds.specs.States.{WorldView, bare, empty_world}
+use Rattle.fkv_partition.specs.Config.{Config}
+use Rattle.fkv_worlds.specs.States.{WorldView, empty_world}
 use Rattle.fkv_worlds.specs.Headline.{IsHeadline}
 use Rattle.fkv_partition.specs.Unions.{union_of}
 use Rattle.fkv_worlds.proofs.HistoryLemmas.{issued-runs}
@@ -60,11 +61,9 @@ answer-joined (Ok (outcome.Flushed page)) xs ys = refl
 answer-joined (Ok (outcome.Load address)) xs ys = refl
 answer-joined (Ok (outcome.Waits why)) xs ys = refl
 answer-joined (Ok (outcome.Issued c)) xs ys = refl
-answer-joined (Ok (outcome.Relocating c)) xs ys = refl
 answer-joined (Ok outcome.Next) xs ys = refl
 answer-joined (Ok (outcome.Build source)) xs ys = refl
 answer-joined (Ok (outcome.Done a)) xs ys = refl
-answer-joined (Ok outcome.Cleared) xs ys = refl
 answer-joined (Ok outcome.GivenUp) xs ys = refl
 answer-joined (Ok (outcome.Truncated begin)) xs ys = refl
 answer-joined (Err e) xs ys = refl
@@ -74,11 +73,10 @@ answers-joined [] us = refl
 answers-joined (t ∷ ts) us = ap (answer_by t) (answers-joined ts us) ∙ answer-joined t (answers_in ts) (answers_in us)
 
 -- a step that another follows told no answer
-silent : {K V I O : Type 0} (pursuit : Pursuit) (place : Place) (x : Result (Outcome V O) Refused) (t : Step K V I) → follows pursuit place x ≡ Some t → answers_in (x ∷ []) ≡ []
+silent : {K V I O : Type 0} (pursuit : Pursuit) (place : ContextId) (x : Result (Outcome V O) Refused) (t : Step K V I) → follows pursuit place x ≡ Some t → answers_in (x ∷ []) ≡ []
 silent pursuit place (Ok (outcome.Entered slot)) t h = refl
 silent pursuit place (Ok outcome.Left) t h = refl
 silent pursuit place (Ok (outcome.Issued c)) t h = refl
-silent pursuit place (Ok (outcome.Relocating c)) t h = refl
 silent pursuit place (Ok outcome.Next) t h = refl
 silent pursuit place (Ok (outcome.Build source)) t h = refl
 silent pursuit place (Ok outcome.Refreshed) t h = refl
@@ -88,7 +86,6 @@ silent pursuit place (Ok (outcome.Flushed page)) t h = refl
 silent pursuit place (Ok (outcome.Load address)) t h = refl
 silent pursuit place (Ok (outcome.Waits why)) t h = absurd (cc)
 silent pursuit place (Ok (outcome.Done a)) t h = absurd (cc)
-silent pursuit place (Ok outcome.Cleared) t h = refl
 silent pursuit place (Ok outcome.GivenUp) t h = refl
 silent pursuit place (Ok (outcome.Truncated begin)) t h = refl
 silent pursuit place (Err e) t h = refl
@@ -102,13 +99,11 @@ silent-issue c (Ok outcome.Shifted) h = refl
 silent-issue c (Ok (outcome.Taken x)) h = refl
 silent-issue c (Ok (outcome.Flushed x)) h = refl
 silent-issue c (Ok (outcome.Issued x)) h = refl
-silent-issue c (Ok (outcome.Relocating x)) h = refl
 silent-issue c (Ok outcome.Next) h = refl
 silent-issue c (Ok (outcome.Build x)) h = refl
 silent-issue c (Ok (outcome.Load x)) h = refl
 silent-issue c (Ok (outcome.Waits x)) h = refl
 silent-issue c (Ok (outcome.Done x)) h = absurd (cc)
-silent-issue c (Ok outcome.Cleared) h = refl
 silent-issue c (Ok outcome.GivenUp) h = refl
 silent-issue c (Ok (outcome.Truncated x)) h = refl
 silent-issue c (Err e) h = refl
@@ -121,13 +116,11 @@ silent-take (Ok outcome.Shifted) h = refl
 silent-take (Ok (outcome.Taken x)) h = refl
 silent-take (Ok (outcome.Flushed x)) h = refl
 silent-take (Ok (outcome.Issued x)) h = refl
-silent-take (Ok (outcome.Relocating x)) h = refl
 silent-take (Ok outcome.Next) h = refl
 silent-take (Ok (outcome.Build x)) h = refl
 silent-take (Ok (outcome.Load x)) h = refl
 silent-take (Ok (outcome.Waits x)) h = refl
 silent-take (Ok (outcome.Done x)) h = absurd (cc)
-silent-take (Ok outcome.Cleared) h = refl
 silent-take (Ok outcome.GivenUp) h = refl
 silent-take (Ok (outcome.Truncated x)) h = refl
 silent-take (Err e) h = refl
@@ -160,7 +153,7 @@ module _ {K V I O R : Type 0} (stands : R → Standing) (entry : ℕ → List �
   run-told : (v w : WorldView K V I O R) (ts us : List (Result (Outcome V O) Refused)) → answers_in ts ≡ answers_in us → IsRun stands entry cmp f code v w ts → IsRun stands entry cmp f code v w us
   run-told v w ts us same run = record { steps = run.steps; ran = run.ran; answers = run.answers ∙ ap (λ xs. answers_in v.outcomes ++ xs) same }
 
-  run-pursued : (pursuit : Pursuit) (place : Place) (w : WorldView K V I O R) (result : Option (Result (Outcome V O) Refused)) (n : ℕ) (s : Step K V I) (v : WorldView K V I O R) (t : Result (Outcome V O) Refused)
+  run-pursued : (pursuit : Pursuit) (place : ContextId) (w : WorldView K V I O R) (result : Option (Result (Outcome V O) Refused)) (n : ℕ) (s : Step K V I) (v : WorldView K V I O R) (t : Result (Outcome V O) Refused)
       → Pursues stands entry cmp f code pursuit place w result n s v → result ≡ Some t → IsRun stands entry cmp f code v w (t ∷ [])
   run-pursued pursuit place w result n s v t (unkept m s' v' same is) h = absurd (cc)
   run-pursued pursuit place w result n s v t (stalls s' v' same is) h =
@@ -196,7 +189,7 @@ module _ {V O R : Type 0} (stands : R → Standing) (entry : ℕ → List ℕ �
       (run-joined stands entry cmp f code v mid w (taken ∷ []) (told ∷ []) (run-one stands entry cmp f code v mid s taken kept) (run-one stands entry cmp f code mid w (step.Write p access) told h))
   run-taken p access mid w told taken v s kept (FollowsTake.tells is same e) = rw (same, e) (run-one stands entry cmp f code v mid s taken kept)
 
-  pub did-issue : (p slot : ℕ) (op : Op Name ℤ ℤ) (v mid w : WorldView Name V ℤ O R) (issued : Result (Outcome V O) Refused) (r : Option (Result (Outcome V O) Refused))
+  pub did-issue : (p slot : ℕ) (op : KeyedOp Name ℤ ℤ) (v mid w : WorldView Name V ℤ O R) (issued : Result (Outcome V O) Refused) (r : Option (Result (Outcome V O) Refused))
       → IsKept stands entry cmp f code v mid (step.Issue p slot (op_of written op)) issued
       → IfSome r (λ told. FollowsIssue stands entry cmp f code p slot mid w told issued)
       → IfSome r (λ told. RunsLine stands entry cmp f code written v w told (line.Do p slot op))
@@ -204,7 +197,7 @@ module _ {V O R : Type 0} (stands : R → Standing) (entry : ℕ → List ℕ �
   did-issue p slot op v mid w issued (Some told) kept h = (mid, issued, kept, h)
 
   pub did-relocate : (p slot : ℕ) (v mid w : WorldView Name V ℤ O R) (issued : Result (Outcome V O) Refused) (r : Option (Result (Outcome V O) Refused))
-      → IsKept stands entry cmp f code v mid (step.Relocate p slot) issued
+      → IsKept stands entry cmp f code v mid (step.Issue p slot Relocate) issued
       → IfSome r (λ told. FollowsIssue stands entry cmp f code p slot mid w told issued)
       → IfSome r (λ told. RunsLine stands entry cmp f code written v w told (line.Compact p slot))
   did-relocate p slot v mid w issued None kept h = tt
@@ -253,7 +246,7 @@ module _ {V O R : Type 0} (stands : R → Standing) (entry : ℕ → List ℕ �
       → v ≡ empty_world config size
       → RunLines stands entry name_cmp f code written v lines told w
       → IsHeadline name_cmp f code w
-      → ((k : Name) → lookup (is_at (name_cmp k)) pairs ≡ union_of name_cmp code (bare w.state.partitions) k)
+      → ((k : Name) → lookup (is_at (name_cmp k)) pairs ≡ union_of name_cmp code w.state.partitions k)
       → IsStrictlySortedBy name_cmp (keys_of pairs)
       → text ≡ steps_text value shown told ++ map_text value pairs
       → IsPrintedBy stands entry name_cmp f code written value shown config size lines text

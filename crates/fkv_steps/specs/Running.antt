@@ -15,12 +15,14 @@ use Rattle.fkv_functions.specs.declared.names.Name.{Name}
 use Rattle.fkv_functions.specs.declared.refusals.Refused.{Refused}
 use Rattle.fkv_device.specs.Standing.{Standing}
 use Rattle.fkv_texts.specs.declared.entries.Entry.{Entry}
+use Rattle.fkv_operations.specs.declared.operations.KeyedOp.{KeyedOp}
+use Rattle.fkv_operations.specs.declared.operations.KeyedOp.TheVariants as on_key
 use Rattle.fkv_operations.specs.declared.operations.Op.{Op}
-use Rattle.fkv_operations.specs.declared.operations.Op.TheVariants.{Read, Upsert, Rmw, Delete}
-use Rattle.fkv_partition.specs.declared.limits.Config.{Config}
+use Rattle.fkv_operations.specs.declared.operations.Op.TheVariants.{Read, Upsert, Rmw, Delete, Relocate}
+use Rattle.fkv_partition.specs.Config.{Config}
 use Rattle.fkv_partition.specs.Limits.{IsWithinLimits}
 use Rattle.fkv_lives.specs.declared.outcomes.Outcome.{Outcome}
-use Rattle.fkv_lives.specs.declared.outcomes.Outcome.TheVariants.{Taken, Issued, Relocating}
+use Rattle.fkv_lives.specs.declared.outcomes.Outcome.TheVariants.{Taken, Issued}
 use Rattle.fkv_lives.specs.declared.steps.Access.{Access}
 use Rattle.fkv_lives.specs.declared.steps.Step.{Step}
 use Rattle.fkv_lives.specs.declared.steps.Step.TheVariants as step
@@ -32,7 +34,7 @@ use Rattle.fkv_scripts.specs.declared.lines.FunctionsName.{FunctionsName}
 use Rattle.fkv_scripts.specs.declared.lines.FunctionsName.TheVariants.{Count, Sum, Max}
 use Rattle.fkv_scripts.specs.Configs.{config_of}
 use Rattle.fkv_scripts.specs.Script.{lines_of, SaysScript}
-use Rattle.fkv_worlds.specs.States.{WorldView, bare, empty_world}
+use Rattle.fkv_worlds.specs.States.{WorldView, empty_world}
 use Rattle.fkv_lives.specs.Histories.{backwards, issues_in, issue_of, answers_in}
 use Rattle.fkv_worlds.specs.Headline.{IsHeadline}
 use Rattle.fkv_partition.specs.Unions.{union_of}
@@ -40,10 +42,9 @@ use Rattle.fkv_worlds.specs.Reports.{IsKept, RunsTo, Pursues, first_step}
 use Rattle.fkv_steps.specs.Bytes.{standing_of, IsNamedEntry}
 use Rattle.fkv_steps.specs.Printing.{steps_text, map_text}
 
--- the context of an accepted issue, of an operation or of a relocation
+-- the context of an accepted issue
 abbrev pub context_in : {V O : Type 0} → Result (Outcome V O) Refused → Option ℕ
 context_in (Ok (Issued c)) = Some c
-context_in (Ok (Relocating c)) = Some c
 context_in other = None
 
 -- whether a page was taken
@@ -83,11 +84,11 @@ pub data FollowsTake {V O R : Type 0} (stands : R → Standing) (entry : ℕ →
       → FollowsTake stands entry cmp f code p access mid new told taken
 
 -- the operation of a line, on values: an upsert writes the value of its amount
-abbrev pub op_of : {V : Type 0} → (ℤ → V) → Op Name ℤ ℤ → Op Name V ℤ
-op_of written (Read k i) = Read k i
-op_of written (Upsert k n) = Upsert k (written n)
-op_of written (Rmw k n) = Rmw k n
-op_of written (Delete k) = Delete k
+abbrev pub op_of : {V : Type 0} → (ℤ → V) → KeyedOp Name ℤ ℤ → Op Name V ℤ
+op_of written (on_key.Read k i) = Read k i
+op_of written (on_key.Upsert k n) = Upsert k (written n)
+op_of written (on_key.Rmw k n) = Rmw k n
+op_of written (on_key.Delete k) = Delete k
 
 -- what a line does, and tells: a step, or several, each of them kept; an amount is written as this value
 abbrev pub RunsLine : {V O R : Type 0} → (R → Standing) → (ℕ → List ℕ → ℕ → Entry Name V → Type 0)
@@ -120,7 +121,7 @@ RunsLine {V} {O} {R} stands entry cmp f code written old new told (line.Do p slo
 RunsLine {V} {O} {R} stands entry cmp f code written old new told (line.Compact p slot) =
     (mid : WorldView Name V ℤ O R)
     × (issued : Result (Outcome V O) Refused)
-    × IsKept stands entry cmp f code old mid (step.Relocate p slot) issued
+    × IsKept stands entry cmp f code old mid (step.Issue p slot Relocate) issued
     × FollowsIssue stands entry cmp f code p slot mid new told issued
 RunsLine stands entry cmp f code written old new told (line.Go w) =
     IsKept stands entry cmp f code old new (step.Go w) told
@@ -166,7 +167,7 @@ pub record IsPrintedBy {V O R : Type 0} (stands : R → Standing) (entry : ℕ �
   pub stepped : RunsTo stands entry cmp f code (empty_world config record_size) steps world
   pub issued : map issue_of world.state.lives ≡ issues_in (backwards steps world.outcomes [])
   pub answers : answers_in told ≡ answers_in world.outcomes
-  pub map : (k : Name) → lookup (is_at (cmp k)) pairs ≡ union_of cmp code (bare world.state.partitions) k
+  pub map : (k : Name) → lookup (is_at (cmp k)) pairs ≡ union_of cmp code world.state.partitions k
   pub rising : IsStrictlySortedBy cmp (keys_of pairs)
   pub printed : text ≡ steps_text value shown told ++ map_text value pairs
 

@@ -6,6 +6,6 @@ pub mod scripts;
 
 pub use fkv_lives::laws::wrong_lives;
 pub use fkv_lives::{
-    Access, End, Finish, Life, LifeOf, Outcome, OutcomeOf, Place, Step, StepOf, Wait,
+    Access, ContextId, End, Finish, Life, LifeOf, Outcome, OutcomeOf, Step, StepOf, Wait,
 };
 pub use fkv_worlds::{Report, ReportOf, World, replay};

@@ -57,6 +57,8 @@ pub enum Turn {
     Clears,
     /// Gives the byte at this place plus 1.
     Raises(usize),
+    /// Gives the page that it gave before, where that has as many bytes.
+    Repeats,
 }
 
 /// A reader that does so after so many pages.
@@ -65,6 +67,8 @@ pub struct UnsureReader {
     alloc: Global,
     pub left: u64,
     pub turn: Turn,
+    /// The page that it gave before.
+    last: Option<Page>,
     failures: Failures,
 }
 
@@ -87,6 +91,29 @@ impl UnsureReader {
         }
         Page::new(self.alloc, copy)
     }
+
+    /// The page that it gave before, where that has as many bytes as these, else theirs.
+    fn repeat(&self, page: &Page) -> Result<Page, Refused>
+        ensures size { IfOk result (λ given. length given ≡ length page.now) }
+        ensures memory { IfErr result (λ e. e ≡ refused.NoMemory) }
+    {
+        match &self.last {
+            Some(last) if last.bytes().len() == page.bytes().len() => last.again(),
+            _ => page.again(),
+        }
+    }
+
+    /// The page that is given for this one, from which it strays or not.
+    fn given(&self, page: &Page, strays: bool) -> Result<Page, Refused>
+        ensures size { IfOk result (λ given. length given ≡ length page.now) }
+        ensures memory { IfErr result (λ e. e ≡ refused.NoMemory) }
+    {
+        match (strays, self.turn) {
+            (false, _) => page.again(),
+            (true, Turn::Repeats) => self.repeat(page),
+            (true, _) => self.lie(page.bytes()),
+        }
+    }
 }
 
 impl PageReader for UnsureReader {
@@ -104,11 +131,9 @@ impl PageReader for UnsureReader {
             let page = receipt.page;
             return Err(self.failures.count(Refused::Device { code: 3, page }));
         }
-        if strays {
-            self.lie(bytes)
-        } else {
-            receipt.bytes.again()
-        }
+        let given = self.given(&receipt.bytes, strays)?;
+        self.last = Some(given.again()?);
+        Ok(given)
     }
 }
 
@@ -157,6 +182,7 @@ impl Disk for UnsureDevice {
             alloc: self.alloc,
             left: self.reads,
             turn: self.turn,
+            last: None,
             failures: Failures::new(self.alloc),
         })
     }

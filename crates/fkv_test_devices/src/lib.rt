@@ -1,5 +1,5 @@
-//! Devices in memory for tests: a writer that fails once, and a reader that fails, gives zeros or gives another byte
-//! once, each after so many pages. Else they do what a device in memory does.
+//! Devices in memory for tests: a writer that fails once, and a reader that fails, gives zeros, another byte or the page
+//! before once, each after so many pages. Else they do what a device in memory does.
 //!
 //! Nothing is promised of what is read, so no contract that asks for a device that keeps holds of these.
 #![tactic(auto)]

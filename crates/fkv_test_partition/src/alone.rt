@@ -152,17 +152,17 @@ const STALLED: [Row; 6] = [
         Told::Refused(Refused::Stalled),
         0,
     ),
-    // three events, and one moment more at which it is given up
+    // it is given up after three events, which takes no moment
     (
         Step::Alone(0, Op::Rmw(b'a', 1), 3),
         Told::Refused(Refused::Stalled),
-        4,
+        3,
     ),
     // an entry that it waited to confirm is taken back
     (
         Step::Alone(0, Op::Upsert(b'd', 1), 2),
         Told::Refused(Refused::Stalled),
-        3,
+        2,
     ),
     (
         Step::Alone(1, Op::Delete(b'd'), 9),

@@ -1,15 +1,15 @@
-//! Calls on a compacted partition of sums, and what each tells. A key is one letter; a capital stands for the name that
+//! Calls on a partition of sums, and what each tells. A key is one letter; a capital stands for the name that
 //! has it twice, whose class is another.
 ghost use Rattle.std.specs.Prelude.{◌≡◌, ⊤};
 
 use fkv_functions::{Name, Refused, SumFns};
-use fkv_operations::{Answer, Op, OpOf};
+use fkv_operations::{Answer, KeyedOp, Op, OpOf};
 use fkv_partition::{Progress, ProgressOf, Wait};
 use fkv_records::Address;
 use fkv_test_devices::{Turn, UnsureReceipt};
 use std::alloc::AllocError;
 
-/// An operation on a key of one letter.
+/// An operation whose key, if it has one, is one letter.
 pub type LetterOp = Op<u8, i128, i64>;
 
 /// One step of a compactor.
@@ -64,15 +64,6 @@ pub enum Call {
     /// Hands an operation this refusal in place of its page.
     Fault(usize, usize, Refused),
     GiveUp(usize, usize),
-    Relocate(usize),
-    GoOn(usize, usize),
-    /// Hands a relocation the page that it last asked for.
-    LoadOn(usize, usize),
-    /// Hands a relocation the page that the one of the last context, in the same session, last asked for.
-    LoadOnOther(usize, usize, usize),
-    /// Hands a relocation this refusal in place of its page.
-    FaultOn(usize, usize, Refused),
-    Drop(usize, usize),
     /// A compactor joins; the first is number 0.
     Join,
     /// A step of the compactor of this number.
@@ -94,8 +85,6 @@ pub enum Call {
     Finish(usize, usize),
     /// Issues an operation in the lowest free context, and finishes it.
     Do(usize, LetterOp),
-    /// Goes on and loads until the relocation is done or waits.
-    End(usize, usize),
     /// So many relocations, one after the other, each to its end.
     Move(usize, u64),
     /// Moves the read-only offset to this page, and refreshes sessions 0 and 1 until both see it as safe.
@@ -121,7 +110,6 @@ pub enum Told {
     /// A slot, a context, a page, an address or a moment.
     At(u64),
     Done(Answer<i128>),
-    Cleared,
     Next,
     Builds(Option<i128>),
     /// The page of this address is asked for.
@@ -147,6 +135,9 @@ pub type Row = (Call, Told);
 
 /// The operation on a name.
 pub fn on_name(op: LetterOp) -> Option<OpOf<SumFns>> {
+    let Some(op) = op.keyed() else {
+        return Some(Op::Relocate);
+    };
     let letter = op.key();
     let key = if letter.is_ascii_uppercase() {
         Name::new(&[letter, letter])?
@@ -154,10 +145,10 @@ pub fn on_name(op: LetterOp) -> Option<OpOf<SumFns>> {
         Name::new(&[letter])?
     };
     Some(match op {
-        Op::Read(_, input) => Op::Read(key, input),
-        Op::Upsert(_, value) => Op::Upsert(key, value),
-        Op::Rmw(_, input) => Op::Rmw(key, input),
-        Op::Delete(_) => Op::Delete(key),
+        KeyedOp::Read(_, input) => Op::Read(key, input),
+        KeyedOp::Upsert(_, value) => Op::Upsert(key, value),
+        KeyedOp::Rmw(_, input) => Op::Rmw(key, input),
+        KeyedOp::Delete(_) => Op::Delete(key),
     })
 }
 

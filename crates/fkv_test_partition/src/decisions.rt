@@ -1,92 +1,123 @@
 //! The table of decisions, row by row, for a sum, and what a session's view makes of what a look-up comes to.
 use crate::calls::on_name;
 use fkv_functions::SumFns;
-use fkv_lookups::{Decision, Met, decide, low_of, met_by};
-use fkv_operations::{Answer, Op};
+use fkv_lookups::{Decision, LookupResult, decide, low_of, met_by};
+use fkv_operations::{Answer, KeyedOp};
 use fkv_records::Address;
 use fkv_regions::View;
-use fkv_texts::{Entry, Reached};
+use fkv_texts::{ChainPosition, Entry};
 
-type Row = (Op<u8, i128, i64>, Met<i128>, Decision<i128, i64, i128>);
+type Row = (
+    KeyedOp<u8, i128, i64>,
+    LookupResult<i128>,
+    Decision<i128, i64, i128>,
+);
 
-const READ: Op<u8, i128, i64> = Op::Read(b'a', 0);
+const READ: KeyedOp<u8, i128, i64> = KeyedOp::Read(b'a', 0);
 
-const UPSERT: Op<u8, i128, i64> = Op::Upsert(b'a', 4);
+const UPSERT: KeyedOp<u8, i128, i64> = KeyedOp::Upsert(b'a', 4);
 
-const UPDATE: Op<u8, i128, i64> = Op::Rmw(b'a', 5);
+const UPDATE: KeyedOp<u8, i128, i64> = KeyedOp::Rmw(b'a', 5);
 
-const DELETE: Op<u8, i128, i64> = Op::Delete(b'a');
+const DELETE: KeyedOp<u8, i128, i64> = KeyedOp::Delete(b'a');
 
 const ROWS: [Row; 24] = [
-    (READ, Met::NoEntry, Decision::Done(Answer::Absent)),
-    (READ, Met::NoValue, Decision::Done(Answer::Absent)),
-    (READ, Met::ReadOnly(3), Decision::Done(Answer::Value(3))),
-    (READ, Met::Fuzzy(3), Decision::Done(Answer::Value(3))),
-    (READ, Met::Mutable(3), Decision::Done(Answer::Value(3))),
-    (READ, Met::OnDisk(64), Decision::Load(64)),
-    (UPSERT, Met::NoEntry, Decision::Claim),
+    (READ, LookupResult::NoEntry, Decision::Done(Answer::Absent)),
+    (READ, LookupResult::NoValue, Decision::Done(Answer::Absent)),
+    (
+        READ,
+        LookupResult::ReadOnly(3),
+        Decision::Done(Answer::Value(3)),
+    ),
+    (
+        READ,
+        LookupResult::Fuzzy(3),
+        Decision::Done(Answer::Value(3)),
+    ),
+    (
+        READ,
+        LookupResult::Mutable(3),
+        Decision::Done(Answer::Value(3)),
+    ),
+    (READ, LookupResult::OnDisk(64), Decision::Load(64)),
+    (UPSERT, LookupResult::NoEntry, Decision::Claim),
     (
         UPSERT,
-        Met::NoValue,
+        LookupResult::NoValue,
         Decision::Append(Some(4), Answer::Stored),
     ),
     (
         UPSERT,
-        Met::ReadOnly(3),
+        LookupResult::ReadOnly(3),
         Decision::Append(Some(4), Answer::Stored),
     ),
     (
         UPSERT,
-        Met::Fuzzy(3),
+        LookupResult::Fuzzy(3),
         Decision::Append(Some(4), Answer::Stored),
     ),
     (
         UPSERT,
-        Met::Mutable(3),
+        LookupResult::Mutable(3),
         Decision::Replace(Some(4), Answer::Stored),
     ),
     // what is on disk is neither needed by an upsert nor by a delete
     (
         UPSERT,
-        Met::OnDisk(64),
+        LookupResult::OnDisk(64),
         Decision::Append(Some(4), Answer::Stored),
     ),
-    (UPDATE, Met::NoEntry, Decision::Claim),
-    (UPDATE, Met::NoValue, Decision::Prepare(None, 5)),
-    (UPDATE, Met::ReadOnly(3), Decision::Prepare(Some(3), 5)),
-    (UPDATE, Met::Fuzzy(3), Decision::Wait),
+    (UPDATE, LookupResult::NoEntry, Decision::Claim),
+    (UPDATE, LookupResult::NoValue, Decision::Prepare(None, 5)),
     (
         UPDATE,
-        Met::Mutable(3),
+        LookupResult::ReadOnly(3),
+        Decision::Prepare(Some(3), 5),
+    ),
+    (UPDATE, LookupResult::Fuzzy(3), Decision::Wait),
+    (
+        UPDATE,
+        LookupResult::Mutable(3),
         Decision::Replace(Some(8), Answer::Value(8)),
     ),
-    (UPDATE, Met::OnDisk(64), Decision::Load(64)),
-    (DELETE, Met::NoEntry, Decision::Done(Answer::Deleted)),
-    (DELETE, Met::NoValue, Decision::Done(Answer::Deleted)),
+    (UPDATE, LookupResult::OnDisk(64), Decision::Load(64)),
     (
         DELETE,
-        Met::ReadOnly(3),
+        LookupResult::NoEntry,
+        Decision::Done(Answer::Deleted),
+    ),
+    (
+        DELETE,
+        LookupResult::NoValue,
+        Decision::Done(Answer::Deleted),
+    ),
+    (
+        DELETE,
+        LookupResult::ReadOnly(3),
         Decision::Append(None, Answer::Deleted),
     ),
     (
         DELETE,
-        Met::Fuzzy(3),
+        LookupResult::Fuzzy(3),
         Decision::Append(None, Answer::Deleted),
     ),
     (
         DELETE,
-        Met::Mutable(3),
+        LookupResult::Mutable(3),
         Decision::Replace(None, Answer::Deleted),
     ),
     (
         DELETE,
-        Met::OnDisk(64),
+        LookupResult::OnDisk(64),
         Decision::Append(None, Answer::Deleted),
     ),
 ];
 
 fn is_decided(row: &Row) -> bool {
-    match on_name(row.0) {
+    let Some(op) = on_name(row.0.op()) else {
+        return false;
+    };
+    match op.keyed() {
         Some(op) => decide(&SumFns, &op, &row.1) == row.2,
         None => false,
     }
@@ -116,32 +147,62 @@ enum Came {
 }
 
 /// An entry's address, Begin, what the look-up comes to, and what is met.
-type Meeting = (Option<Address>, Address, Came, Met<i128>);
+type Meeting = (Option<Address>, Address, Came, LookupResult<i128>);
 
 const MEETINGS: [Meeting; 15] = [
-    (None, 64, Came::Below(1), Met::NoEntry),
-    (None, 64, Came::Below(200), Met::NoEntry),
-    (None, 64, Came::Found(512, Some(3)), Met::NoEntry),
-    (Some(1), 64, Came::Below(1), Met::NoValue),
-    (Some(64), 64, Came::Found(64, None), Met::NoValue),
-    (Some(600), 64, Came::Found(64, Some(3)), Met::ReadOnly(3)),
-    (Some(600), 64, Came::Found(200, Some(3)), Met::ReadOnly(3)),
-    (Some(600), 64, Came::Found(256, Some(3)), Met::Fuzzy(3)),
-    (Some(600), 64, Came::Found(480, Some(3)), Met::Fuzzy(3)),
-    (Some(600), 64, Came::Found(512, Some(3)), Met::Mutable(3)),
+    (None, 64, Came::Below(1), LookupResult::NoEntry),
+    (None, 64, Came::Below(200), LookupResult::NoEntry),
+    (None, 64, Came::Found(512, Some(3)), LookupResult::NoEntry),
+    (Some(1), 64, Came::Below(1), LookupResult::NoValue),
+    (Some(64), 64, Came::Found(64, None), LookupResult::NoValue),
+    (
+        Some(600),
+        64,
+        Came::Found(64, Some(3)),
+        LookupResult::ReadOnly(3),
+    ),
+    (
+        Some(600),
+        64,
+        Came::Found(200, Some(3)),
+        LookupResult::ReadOnly(3),
+    ),
+    (
+        Some(600),
+        64,
+        Came::Found(256, Some(3)),
+        LookupResult::Fuzzy(3),
+    ),
+    (
+        Some(600),
+        64,
+        Came::Found(480, Some(3)),
+        LookupResult::Fuzzy(3),
+    ),
+    (
+        Some(600),
+        64,
+        Came::Found(512, Some(3)),
+        LookupResult::Mutable(3),
+    ),
     // a record that was found below the view's Head changes no more
-    (Some(600), 8, Came::Found(32, Some(3)), Met::ReadOnly(3)),
+    (
+        Some(600),
+        8,
+        Came::Found(32, Some(3)),
+        LookupResult::ReadOnly(3),
+    ),
     // what lies at or above Begin is on disk, what lies below it is gone
-    (Some(600), 64, Came::Below(64), Met::OnDisk(64)),
-    (Some(600), 64, Came::Below(200), Met::OnDisk(200)),
-    (Some(600), 256, Came::Below(256), Met::OnDisk(256)),
-    (Some(600), 256, Came::Below(255), Met::NoValue),
+    (Some(600), 64, Came::Below(64), LookupResult::OnDisk(64)),
+    (Some(600), 64, Came::Below(200), LookupResult::OnDisk(200)),
+    (Some(600), 256, Came::Below(256), LookupResult::OnDisk(256)),
+    (Some(600), 256, Came::Below(255), LookupResult::NoValue),
 ];
 
-fn reached(came: Came) -> Reached<u8, i128> {
+fn reached(came: Came) -> ChainPosition<u8, i128> {
     match came {
-        Came::Below(address) => Reached::Below(address),
-        Came::Found(address, value) => Reached::Found(Entry {
+        Came::Below(address) => ChainPosition::Below(address),
+        Came::Found(address, value) => ChainPosition::Found(Entry {
             address,
             previous: 1,
             key: 7,

@@ -1,15 +1,15 @@
-//! A compacted partition of sums over a device that may go astray, with a clock of its own: each event is made at the next
+//! A partition of sums over a device that may go astray, with a clock of its own: each event is made at the next
 //! moment, and once more where memory is refused to it.
 ghost use Rattle.std.specs.Prelude.{◌≤◌};
 
 use crate::calls::{
     Call, Told, Work, done_told, is_map, number_told, on_name, place_told, progress_told,
 };
-use fkv_compaction::{Compacted, Compactor, Moved};
+use fkv_compaction::Compactor;
 use fkv_device::{Disk, FlushJob, Loaded, Page, Written};
 use fkv_functions::{Ask, Built, Name, Refused, SumFns};
 use fkv_operations::Clock;
-use fkv_partition::{Config, Progress, ProgressOf};
+use fkv_partition::{Config, Partition, Progress, ProgressOf};
 use fkv_test_devices::{UnsureDevice, UnsureReader, UnsureReceipt, UnsureWriter};
 use std::alloc::Global;
 
@@ -29,7 +29,7 @@ struct Asked {
 /// A partition with its compactors, the last moment that it was given, what each context last asked for, and its device.
 #[derive(Drop)]
 pub struct Driven {
-    pub compacted: Compacted<SumFns, UnsureReceipt>,
+    pub compacted: Partition<SumFns, UnsureReceipt>,
     compactors: Vec<Compactor>,
     reader: UnsureReader,
     writer: UnsureWriter,
@@ -37,7 +37,7 @@ pub struct Driven {
     pub now: u64,
     /// The moment of the effect of the operation that was done last.
     pub effect: u64,
-    ghost timely: { compacted.partition.moment ≤ now },
+    ghost timely: { compacted.core.moment ≤ now },
 }
 
 /// The place of a context among those of all sessions.
@@ -67,7 +67,7 @@ impl Driven {
         let reader = device.reader(0)?;
         let asked = unasked(alloc)?;
         Ok(Driven {
-            compacted: Compacted::new(alloc, config, 0)?,
+            compacted: Partition::new(alloc, config, 0)?,
             compactors: Vec::new(alloc),
             reader,
             writer,
@@ -130,22 +130,6 @@ impl Driven {
         told
     }
 
-    /// Notes what a relocation asked for, and tells what its event answered.
-    fn note_moved(&mut self, place: usize, moved: Result<Moved<UnsureReceipt>, Refused>) -> Told {
-        match moved {
-            Err(refused) => Told::Refused(refused),
-            Ok(Moved::Cleared) => Told::Cleared,
-            Ok(Moved::Next) => Told::Next,
-            Ok(Moved::Waits) => Told::Full,
-            Ok(Moved::NeedsLoad(receipt, address)) => {
-                if let Some(asked) = self.asked.get_mut(place) {
-                    asked.receipt = Some(receipt);
-                }
-                Told::Loads(address)
-            }
-        }
-    }
-
     /// A call of sessions or offsets.
     fn offsets_told(&mut self, call: Call) -> Told {
         let Some(now) = self.now.checked_add(1) else {
@@ -181,10 +165,19 @@ impl Driven {
         }
     }
 
+    /// Takes the lowest page, at a moment of its own.
+    fn taken(&mut self, alloc: Global) -> Result<FlushJob, Refused> {
+        let Some(now) = self.now.checked_add(1) else {
+            return Err(Refused::Worn);
+        };
+        self.now = now;
+        self.compacted.flush_take(alloc, now)
+    }
+
     /// Hands in the lowest page, or zeros as the page of a number.
     fn flushed(&mut self, alloc: Global, number: Option<u64>) -> Told {
         let taken = match number {
-            None => self.compacted.flush_take(alloc),
+            None => self.taken(alloc),
             Some(page) => match Page::copy_of(alloc, &[0u8; 256]) {
                 Ok(bytes) => Ok(FlushJob { page, bytes }),
                 Err(refused) => Err(refused),
@@ -211,21 +204,6 @@ impl Driven {
         self.note(place_of(slot, context), progress)
     }
 
-    /// Hands a relocation a page, or the refusal that came in its place.
-    fn loaded_on(
-        &mut self,
-        slot: usize,
-        context: usize,
-        came: Result<Loaded<UnsureReceipt>, Refused>,
-    ) -> Told {
-        let Some(now) = self.now.checked_add(1) else {
-            return Told::Refused(Refused::Worn);
-        };
-        let moved = self.compacted.load_on(slot, context, came, &SumFns, now);
-        self.now = now;
-        self.note_moved(place_of(slot, context), moved)
-    }
-
     /// Installs what is built for the question that was last asked in a context.
     fn installed(&mut self, slot: usize, context: usize) -> Told {
         let Some(now) = self.now.checked_add(1) else {
@@ -245,7 +223,7 @@ impl Driven {
         self.note(place, progress)
     }
 
-    /// A call of an operation or a relocation that begins, goes on or is given up.
+    /// A call of an operation that begins, goes on or is given up.
     fn opened_told(&mut self, call: Call) -> Told {
         let Some(now) = self.now.checked_add(1) else {
             return Told::Refused(Refused::Worn);
@@ -261,14 +239,6 @@ impl Driven {
                 self.note(place_of(slot, context), progress)
             }
             Call::GiveUp(slot, context) => done_told(self.compacted.give_up(slot, context, now)),
-            Call::Relocate(slot) => place_told(self.compacted.relocate(slot, now)),
-            Call::GoOn(slot, context) => {
-                let moved = self.compacted.go_on(slot, context, &SumFns, now);
-                self.note_moved(place_of(slot, context), moved)
-            }
-            Call::Drop(slot, context) => {
-                done_told(self.compacted.drop_relocation(slot, context, now))
-            }
             _ => Told::Refused(Refused::Stalled),
         }
     }
@@ -285,15 +255,6 @@ impl Driven {
                 self.loaded(slot, context, came)
             }
             Call::Fault(slot, context, refused) => self.loaded(slot, context, Err(refused)),
-            Call::LoadOn(slot, context) => {
-                let came = self.came(place_of(slot, context));
-                self.loaded_on(slot, context, came)
-            }
-            Call::LoadOnOther(slot, context, from) => {
-                let came = self.came(place_of(slot, from));
-                self.loaded_on(slot, context, came)
-            }
-            Call::FaultOn(slot, context, refused) => self.loaded_on(slot, context, Err(refused)),
             _ => Told::Refused(Refused::Stalled),
         }
     }
@@ -327,7 +288,7 @@ impl Driven {
             None => compactor.next(&mut self.compacted, &SumFns, now),
             Some(came) => compactor.load(&mut self.compacted, came, &SumFns, now),
         };
-        self.note_moved(place, moved)
+        self.note(place, moved)
     }
 
     fn truncated(&mut self, compactor: Compactor) -> Told {
@@ -403,18 +364,10 @@ impl Driven {
             | Call::Head(_)
             | Call::Truncate(_)
             | Call::TruncateCleared => self.offsets_told(call),
-            Call::Issue(_, _)
-            | Call::Go(_, _)
-            | Call::GiveUp(_, _)
-            | Call::Relocate(_)
-            | Call::GoOn(_, _)
-            | Call::Drop(_, _) => self.opened_told(call),
-            Call::Load(_, _)
-            | Call::LoadOther(_, _, _)
-            | Call::Fault(_, _, _)
-            | Call::LoadOn(_, _)
-            | Call::LoadOnOther(_, _, _)
-            | Call::FaultOn(_, _, _) => self.loads_told(call),
+            Call::Issue(_, _) | Call::Go(_, _) | Call::GiveUp(_, _) => self.opened_told(call),
+            Call::Load(_, _) | Call::LoadOther(_, _, _) | Call::Fault(_, _, _) => {
+                self.loads_told(call)
+            }
             Call::Install(slot, context) => self.installed(slot, context),
             Call::Flush => self.flushed(alloc, None),
             Call::HandIn(page) => self.flushed(alloc, Some(page)),

@@ -17,6 +17,8 @@ mod decisions;
 #[cfg(test)]
 mod driven;
 #[cfg(test)]
+mod faults;
+#[cfg(test)]
 mod growths;
 #[cfg(test)]
 mod lies;

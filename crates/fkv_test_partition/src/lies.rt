@@ -1,8 +1,8 @@
-//! A reader that gives one byte otherwise, once, to a relocation or to an update whose way goes over three pages: each place of
-//! each page in turn. It is done, or tells damage, and no other key changes.
+//! A reader that gives one byte otherwise, once, to a relocation or to an update whose way goes over three pages, or to a read:
+//! each place of each page in turn. It is done, or tells damage, and no other key changes.
 use crate::calls::{Call, Row, Told, is_map, letter};
 use crate::driven::Driven;
-use crate::openings::{AGAIN, AGAIN_MAP, STEEP, TWELVE, TWELVE_MAP};
+use crate::openings::{AGAIN, AGAIN_MAP, EVICTED, EVICTED_MAP, SMALL, STEEP, TWELVE, TWELVE_MAP};
 use fkv_functions::{Name, Refused};
 use fkv_operations::{Answer, Op};
 use fkv_test_devices::Turn;
@@ -74,7 +74,7 @@ fn relocated(mut driven: Driven, alloc: Global, map: &[(u8, i128)]) -> Fate {
     let before = driven.fate(alloc, map);
     let rest = if cleared == 64 { 3 } else { 2 };
     let ending = [
-        (Call::Move(1, rest), Told::Cleared),
+        (Call::Move(1, rest), Told::Done(Answer::Cleared)),
         (Call::Cleared, Told::At(256)),
         (Call::TruncateCleared, Told::At(256)),
     ];
@@ -83,7 +83,7 @@ fn relocated(mut driven: Driven, alloc: Global, map: &[(u8, i128)]) -> Fate {
     }
     let after = driven.fate(alloc, map);
     match told {
-        Told::Cleared if cleared == 120 && before != Fate::Spread => after,
+        Told::Done(Answer::Cleared) if cleared == 120 && before != Fate::Spread => after,
         Told::Refused(Refused::Damaged { .. })
             if cleared == 64 && before == Fate::Kept && after == Fate::Kept => { Fate::Damaged }
         _ => Fate::Spread,
@@ -163,6 +163,58 @@ fn fates(alloc: Global, lie: &Lie) -> [u64; 4] {
 /// The number of the first of these where the fates are others.
 fn first_other_fates(alloc: Global, lies: &[Lie]) -> Option<usize> {
     lies.iter().position(|lie| fates(alloc, lie) != lie.4)
+}
+
+/// What a read of `a`, whose record stands at 64 with 10 as its value, is to tell where the byte at this place comes plus 1.
+fn read_otherwise(place: usize) -> Told {
+    match place {
+        // the bit of a tombstone; the length and the letter of the name, which is another key's then
+        70 | 72 | 73 => Told::Done(Answer::Absent),
+        // the previous address, the bits and the bytes that are always 0
+        64..=103 => Told::Refused(Refused::Damaged { page: 0 }),
+        104..=119 => {
+            let place_value = (0..place - 104).fold(1i128, |value, _| value.wrapping_mul(256));
+            Told::Done(Answer::Value(place_value.wrapping_add(10)))
+        }
+        _ => Told::Done(Answer::Value(10)),
+    }
+}
+
+/// The first place of page 0 where a read tells something else, or where another read, which is not lied to, does.
+fn first_other_read(alloc: Global) -> Option<usize> {
+    (0..256usize).find(|place| {
+        let rows = [
+            (Call::Stray(0, Turn::Raises(*place)), Told::Ok),
+            (Call::Do(0, Op::Read(b'a', 0)), read_otherwise(*place)),
+            (Call::Live(&EVICTED_MAP), Told::Is(true)),
+        ];
+        match Driven::new(alloc, &SMALL) {
+            Ok(mut driven) => {
+                driven.first_other(alloc, &EVICTED) != None
+                    || driven.first_other(alloc, &rows) != None
+            }
+            Err(_) => true,
+        }
+    })
+}
+
+/// The lowest byte of the value of `a`, as the live map reads it.
+const BYTE_104: [Row; 2] = [
+    (Call::Stray(0, Turn::Raises(104)), Told::Ok),
+    (
+        Call::Live(&[(b'a', 11), (b'b', 1), (b'c', 1)]),
+        Told::Is(true),
+    ),
+];
+
+#[test]
+fn lies_to_reads(rt: HostRuntime) {
+    let wrong = first_other_read(rt.alloc());
+    assert!(rt; wrong == None, "place {wrong:?}");
+    if let Ok(mut driven) = Driven::new(rt.alloc(), &SMALL) {
+        assert!(rt; driven.first_other(rt.alloc(), &EVICTED) == None);
+        assert!(rt; driven.first_other(rt.alloc(), &BYTE_104) == None);
+    }
 }
 
 #[test]

@@ -50,7 +50,7 @@ struct Lone {
     writer: UnsureWriter,
     receipt: Option<UnsureReceipt>,
     now: u64,
-    ghost timely: { partition.moment ≤ now },
+    ghost timely: { partition.core.moment ≤ now },
 }
 
 impl Lone {
@@ -69,10 +69,12 @@ impl Lone {
 
     /// Takes the lowest page, writes it, and hands it in.
     fn flush(&mut self, alloc: Global) -> Told {
-        let Some(now) = self.now.checked_add(1) else {
+        let Some(taken) = self.now.checked_add(1) else {
             return Told::Refused(Refused::Worn);
         };
-        let job = match self.partition.flush_take(alloc) {
+        let job = self.partition.flush_take(alloc, taken);
+        self.now = taken;
+        let job = match job {
             Ok(job) => job,
             Err(refused) => return Told::Refused(refused),
         };
@@ -81,8 +83,12 @@ impl Lone {
             Ok(written) => written,
             Err(refused) => return Told::Refused(refused),
         };
+        let Some(now) = self.now.checked_add(1) else {
+            return Told::Refused(Refused::Worn);
+        };
+        let done = self.partition.flush_done(written, now);
         self.now = now;
-        match self.partition.flush_done(written, now) {
+        match done {
             Ok(()) => Told::At(page),
             Err(refused) => Told::Refused(refused),
         }
@@ -90,6 +96,9 @@ impl Lone {
 
     fn alone(&mut self, slot: usize, op: LetterOp, limit: u64) -> (Told, u64) {
         let Some(op) = on_name(op) else {
+            return (Told::Refused(Refused::Stalled), 0);
+        };
+        let Some(op) = op.keyed() else {
             return (Told::Refused(Refused::Stalled), 0);
         };
         let mut clock = Clock::starting(self.now);

@@ -1,11 +1,10 @@
-//! Random calls of sessions, operations, relocations and pages, beside the plain map: each operation is answered as the plain
+//! Random calls of sessions, operations, relocations among them, and pages, beside the plain map: each operation is answered as the plain
 //! map answers it at its effect, and the live map is the plain one while the log's start is cut.
 use crate::calls::{Call, LetterOp, Told, on_name};
 use crate::driven::Driven;
 use crate::openings::SMALL;
-use fkv_compaction::Stage;
 use fkv_functions::{Name, Refused, SumFns};
-use fkv_operations::{Answer, Op, OpOf, apply_plainly};
+use fkv_operations::{Answer, KeyedOp, KeyedOpOf, Op, apply_plainly};
 use fkv_partition::Config;
 use rand_core::{Rng, SeedableRng};
 use rand_xoshiro::Xoshiro256PlusPlus;
@@ -101,7 +100,7 @@ impl Beside {
                 1 => Call::Truncate((compacted.cleared() >> 8).saturating_add(1)),
                 _ => Call::TruncateCleared,
             },
-            7 | 8 => Call::Relocate(slot),
+            7 | 8 => Call::Issue(slot, Op::Relocate),
             _ => Call::Issue(slot, random_op(word)),
         }
     }
@@ -109,19 +108,9 @@ impl Beside {
     /// A call of what is open in a context, if anything is.
     fn open_call(&self, slot: usize, context: usize, word: u64) -> Option<Call> {
         let given_up = word >> 16 & 63 == 0;
-        if let Some(relocation) = self.driven.compacted.relocation(slot, context) {
-            return Some(match relocation.stage {
-                _ if given_up => Call::Drop(slot, context),
-                Stage::Fresh | Stage::Ready(_, _) => Call::GoOn(slot, context),
-                Stage::Reading(_) | Stage::Tracing(_, _) => match random_fault(word) {
-                    Some(refused) => Call::FaultOn(slot, context, refused),
-                    None => Call::LoadOn(slot, context),
-                },
-            });
-        }
-        if self.driven.compacted.asked(slot, context).is_err() {
+        let Ok((_, op)) = self.driven.compacted.asked(slot, context) else {
             return None;
-        }
+        };
         Some(if given_up {
             Call::GiveUp(slot, context)
         } else if self.driven.compacted.awaits_page(slot, context) {
@@ -129,7 +118,7 @@ impl Beside {
                 Some(refused) => Call::Fault(slot, context, refused),
                 None => Call::Load(slot, context),
             }
-        } else if word >> 23 & 1 == 0 {
+        } else if word >> 23 & 1 == 0 && op.keyed().is_some() {
             Call::Install(slot, context)
         } else {
             Call::Go(slot, context)
@@ -157,16 +146,16 @@ impl Beside {
         None
     }
 
-    /// Whether the plain map answers an operation so that was issued at one moment and took effect at another. A write is done
+    /// Whether the plain map answers an operation on a key so that was issued at one moment and took effect at another. A write is done
     /// to the map; it takes effect now.
-    fn is_answered(&mut self, asked: (u64, OpOf<SumFns>), answer: Answer<i128>) -> bool {
+    fn is_answered(&mut self, asked: (u64, KeyedOpOf<SumFns>), answer: Answer<i128>) -> bool {
         let (issued, op) = asked;
         let (now, effect) = (self.driven.now, self.driven.effect);
         let key = op.key();
         if effect <= issued || now < effect {
             return false;
         }
-        if let Op::Read(_, _) = op {
+        if let KeyedOp::Read(_, _) = op {
             self.counts.reads = self.counts.reads.saturating_add(1);
             let late = if effect < now { 1 } else { 0 };
             self.counts.late_reads = self.counts.late_reads.saturating_add(late);
@@ -195,19 +184,19 @@ impl Beside {
         let told = self.driven.call(alloc, call);
         let after = self.driven.compacted.cleared();
         match told {
-            Told::Done(answer) => match asked {
-                Ok(asked) => self.is_answered(asked, answer),
-                Err(_) => false,
-            },
-            Told::Cleared => match relocation {
-                Some(relocation) => {
+            Told::Done(answer) => match (asked, relocation) {
+                (Ok(_), Some(relocation)) => {
                     self.counts.cleared = self.counts.cleared.saturating_add(1);
-                    before <= after && relocation.place < after
+                    answer == Answer::Cleared && before <= after && relocation.target < after
                 }
-                None => false,
+                (Ok((issued, op)), None) => match op.keyed() {
+                    Some(op) => self.is_answered((issued, op), answer),
+                    None => false,
+                },
+                _ => false,
             },
             // what is given up is never refused
-            Told::Refused(_) => !matches!(call, Call::Drop(_, _) | Call::GiveUp(_, _)),
+            Told::Refused(_) => !matches!(call, Call::GiveUp(_, _)),
             _ => before <= after,
         }
     }
@@ -260,7 +249,10 @@ impl Beside {
             let op = Op::Upsert(*key, 1);
             let issued = self.driven.now;
             let told = self.driven.call(alloc, Call::Do(0, op));
-            match (on_name(op), told) {
+            let Some(op) = on_name(op) else {
+                return false;
+            };
+            match (op.keyed(), told) {
                 (Some(op), Told::Done(answer)) if self.is_answered((issued, op), answer) => (),
                 _ => return false,
             }

@@ -2,6 +2,7 @@
 use crate::calls::{Call, LetterOp, Row, Told};
 use crate::driven::Driven;
 use fkv_functions::Refused;
+use fkv_operations::{Answer, Op};
 use fkv_partition::Config;
 use std::alloc::Global;
 
@@ -50,30 +51,14 @@ impl Driven {
         }
     }
 
-    /// Goes on with a relocation until it is done, waits or is refused.
-    fn end(&mut self, alloc: Global, slot: usize, context: usize) -> Told {
-        let mut next = Call::GoOn(slot, context);
-        for _ in 0..EVENTS {
-            next = match self.step(alloc, next) {
-                Told::Next => Call::GoOn(slot, context),
-                Told::Loads(_) => Call::LoadOn(slot, context),
-                told => return told,
-            };
-        }
-        Told::Refused(Refused::Stalled)
-    }
-
     fn relocate_many(&mut self, alloc: Global, slot: usize, count: u64) -> Told {
         for _ in 0..count {
-            let told = match self.step(alloc, Call::Relocate(slot)) {
-                Told::At(context) => self.end(alloc, slot, context as usize),
-                told => told,
-            };
-            if told != Told::Cleared {
+            let told = self.act(alloc, slot, Op::Relocate);
+            if told != Told::Done(Answer::Cleared) {
                 return told;
             }
         }
-        Told::Cleared
+        Told::Done(Answer::Cleared)
     }
 
     /// Makes each of these calls, which is to tell `Ok`.
@@ -113,7 +98,6 @@ impl Driven {
             Call::Ready(slot, context) => self.ready(alloc, slot, context),
             Call::Finish(slot, context) => self.finish(alloc, slot, context),
             Call::Do(slot, op) => self.act(alloc, slot, op),
-            Call::End(slot, context) => self.end(alloc, slot, context),
             Call::Move(slot, count) => self.relocate_many(alloc, slot, count),
             Call::Freeze(page) => self.freeze(alloc, page),
             Call::Evict(page) => self.evict(alloc, page),

@@ -5,7 +5,7 @@ ghost use Rattle.std.specs.Prelude.{◌<◌, ◌≤◌};
 use crate::letters::{is_map, letter, name, on_name};
 use fkv_device::{Disk, MemoryDevice, MemoryReceipt};
 use fkv_functions::{Ask, Built, Name, Refused, SumFns, What};
-use fkv_operations::{Answer, Op};
+use fkv_operations::{Answer, KeyedOp};
 use fkv_partition::{Config, Partition, Progress, ProgressOf};
 use std::alloc::Global;
 
@@ -16,7 +16,7 @@ type Question = Ask<u8, i128, i64>;
 #[derive(Clone, Copy)]
 enum Call {
     Enter,
-    Issue(usize, Op<u8, i128, i64>),
+    Issue(usize, KeyedOp<u8, i128, i64>),
     Go(usize, usize),
     /// Installs the value that is built for this question.
     Install(usize, usize, Question),
@@ -47,7 +47,7 @@ type Row = (Call, Result<Told, Refused>);
 struct Driven {
     partition: Partition<SumFns, MemoryReceipt>,
     now: u64,
-    ghost timely: { partition.moment ≤ now },
+    ghost timely: { partition.core.moment ≤ now },
 }
 
 /// The question on a name.
@@ -101,13 +101,13 @@ fn told_at(
     call: Call,
     now: u64,
 ) -> Result<Told, Refused>
-    requires { partition.old.moment < now }
-    ensures { partition.new.moment ≤ now }
+    requires { partition.old.core.moment < now }
+    ensures { partition.new.core.moment ≤ now }
 {
     match call {
         Call::Enter => numbered(partition.enter(now)),
         Call::Issue(slot, op) => match on_name(op) {
-            Some(op) => numbered(partition.issue(slot, op, &SumFns, now)),
+            Some(op) => numbered(partition.issue(slot, op.op(), &SumFns, now)),
             None => Ok(Told::Other),
         },
         Call::Go(slot, context) => by_letters(partition.go(slot, context, &SumFns, now)),
@@ -217,7 +217,7 @@ const CHANGED: Refused = Refused::Stranger {
 /// A value that was built for another number, key, source or input is a stranger's.
 const ONE_QUESTION: [Row; 10] = [
     (Call::Enter, Ok(Told::Number(0))),
-    (Call::Issue(0, Op::Rmw(b'b', 1)), Ok(Told::Number(0))),
+    (Call::Issue(0, KeyedOp::Rmw(b'b', 1)), Ok(Told::Number(0))),
     (Call::Go(0, 0), Ok(Told::Next)),
     (Call::Go(0, 0), Ok(Told::Next)),
     (Call::Go(0, 0), Ok(Told::Asks(OF_NOTHING))),
@@ -265,23 +265,32 @@ const SOURCE_LOST: Refused = Refused::Stranger {
 /// mutable.
 const TWO_UPDATES_OF_A_FROZEN_VALUE: [Row; 25] = [
     (Call::Enter, Ok(Told::Number(0))),
-    (Call::Issue(0, Op::Upsert(b'a', 1)), Ok(Told::Number(0))),
+    (
+        Call::Issue(0, KeyedOp::Upsert(b'a', 1)),
+        Ok(Told::Number(0)),
+    ),
     (Call::Go(0, 0), Ok(Told::Next)),
     (Call::Go(0, 0), Ok(Told::Next)),
     (Call::Go(0, 0), Ok(Told::Done(Answer::Stored, 5))),
-    (Call::Issue(0, Op::Upsert(b'b', 1)), Ok(Told::Number(0))),
+    (
+        Call::Issue(0, KeyedOp::Upsert(b'b', 1)),
+        Ok(Told::Number(0)),
+    ),
     (Call::Go(0, 0), Ok(Told::Next)),
     (Call::Go(0, 0), Ok(Told::Next)),
     (Call::Go(0, 0), Ok(Told::Done(Answer::Stored, 9))),
-    (Call::Issue(0, Op::Upsert(b'c', 1)), Ok(Told::Number(0))),
+    (
+        Call::Issue(0, KeyedOp::Upsert(b'c', 1)),
+        Ok(Told::Number(0)),
+    ),
     (Call::Go(0, 0), Ok(Told::Next)),
     (Call::Go(0, 0), Ok(Told::Next)),
     (Call::Go(0, 0), Ok(Told::Done(Answer::Stored, 13))),
     (Call::Shift(1), Ok(Told::Moved)),
     (Call::Refresh(0), Ok(Told::Moved)),
     (Call::Enter, Ok(Told::Number(1))),
-    (Call::Issue(0, Op::Rmw(b'a', 2)), Ok(Told::Number(0))),
-    (Call::Issue(1, Op::Rmw(b'a', 3)), Ok(Told::Number(0))),
+    (Call::Issue(0, KeyedOp::Rmw(b'a', 2)), Ok(Told::Number(0))),
+    (Call::Issue(1, KeyedOp::Rmw(b'a', 3)), Ok(Told::Number(0))),
     (Call::Go(0, 0), Ok(Told::Asks(ASKED_FIRST))),
     (Call::Go(1, 0), Ok(Told::Asks(ASKED_SECOND))),
     (Call::Install(0, 0, SOURCELESS), Err(SOURCE_LOST)),

@@ -213,7 +213,7 @@ next
 done value 10
 left
 ",
-    lives: 4,
+    lives: 7,
     map: &[(b'a', 10), (b'b', 1), (b'c', 1)],
 };
 

@@ -1,6 +1,6 @@
 //! Names of one letter, so that keys of constant rows are bytes.
 use fkv_functions::Name;
-use fkv_operations::Op;
+use fkv_operations::KeyedOp;
 
 /// The name of one letter.
 pub fn name(letter: u8) -> Option<Name> {
@@ -16,17 +16,17 @@ pub fn letter(name: &Name) -> u8 {
 }
 
 /// The operation on a name.
-pub fn on_name<V, I>(op: Op<u8, V, I>) -> Option<Op<Name, V, I>>
+pub fn on_name<V, I>(op: KeyedOp<u8, V, I>) -> Option<KeyedOp<Name, V, I>>
 where
     V: Copy,
     I: Copy,
 {
     let key = name(op.key())?;
     Some(match op {
-        Op::Read(_, input) => Op::Read(key, input),
-        Op::Upsert(_, value) => Op::Upsert(key, value),
-        Op::Rmw(_, input) => Op::Rmw(key, input),
-        Op::Delete(_) => Op::Delete(key),
+        KeyedOp::Read(_, input) => KeyedOp::Read(key, input),
+        KeyedOp::Upsert(_, value) => KeyedOp::Upsert(key, value),
+        KeyedOp::Rmw(_, input) => KeyedOp::Rmw(key, input),
+        KeyedOp::Delete(_) => KeyedOp::Delete(key),
     })
 }
 

@@ -1,18 +1,18 @@
 //! The plain program on worked runs, and the clock at its end.
 use crate::letters::{name, on_name};
 use fkv_functions::{CountFns, Functions, MaxFns, Name, Refused, SumFns};
-use fkv_operations::{Answer, Clock, Op, PlainRun, apply_plainly, run_plainly};
+use fkv_operations::{Answer, Clock, KeyedOp, PlainRun, apply_plainly, run_plainly};
 use std::alloc::{AllocError, Global};
 use std::collections::BTreeMap;
 
 /// An operation, and what it answers.
-type Row<V, O> = (Op<u8, V, i64>, Answer<O>);
+type Row<V, O> = (KeyedOp<u8, V, i64>, Answer<O>);
 
 /// The operations of the rows, on names.
 fn ops_of<V: Copy + Drop, O>(
     alloc: Global,
     rows: &[Row<V, O>],
-) -> Result<Vec<Op<Name, V, i64>>, AllocError> {
+) -> Result<Vec<KeyedOp<Name, V, i64>>, AllocError> {
     let mut ops = Vec::new(alloc);
     for (op, _) in rows {
         if let Some(op) = on_name(*op) {
@@ -59,35 +59,38 @@ where
 }
 
 const THIN_PATH: [Row<i128, i128>; 4] = [
-    (Op::Rmw(b'a', 5), Answer::Value(5)),
-    (Op::Rmw(b'a', -2), Answer::Value(3)),
-    (Op::Read(b'a', 0), Answer::Value(3)),
-    (Op::Read(b'b', 0), Answer::Absent),
+    (KeyedOp::Rmw(b'a', 5), Answer::Value(5)),
+    (KeyedOp::Rmw(b'a', -2), Answer::Value(3)),
+    (KeyedOp::Read(b'a', 0), Answer::Value(3)),
+    (KeyedOp::Read(b'b', 0), Answer::Absent),
 ];
 
 const TWO_UPDATES: [Row<i128, i128>; 2] = [
-    (Op::Rmw(b'a', 1), Answer::Value(1)),
-    (Op::Rmw(b'a', 2), Answer::Value(3)),
+    (KeyedOp::Rmw(b'a', 1), Answer::Value(1)),
+    (KeyedOp::Rmw(b'a', 2), Answer::Value(3)),
 ];
 
 const BLIND_WRITES_AND_DELETES: [Row<i128, i128>; 9] = [
-    (Op::Upsert(b'a', 4), Answer::Stored),
-    (Op::Rmw(b'a', 5), Answer::Value(9)),
-    (Op::Upsert(b'a', 1), Answer::Stored),
-    (Op::Read(b'a', 0), Answer::Value(1)),
-    (Op::Delete(b'a'), Answer::Deleted),
-    (Op::Read(b'a', 0), Answer::Absent),
-    (Op::Delete(b'b'), Answer::Deleted),
-    (Op::Rmw(b'a', 2), Answer::Value(2)),
-    (Op::Upsert(b'b', 7), Answer::Stored),
+    (KeyedOp::Upsert(b'a', 4), Answer::Stored),
+    (KeyedOp::Rmw(b'a', 5), Answer::Value(9)),
+    (KeyedOp::Upsert(b'a', 1), Answer::Stored),
+    (KeyedOp::Read(b'a', 0), Answer::Value(1)),
+    (KeyedOp::Delete(b'a'), Answer::Deleted),
+    (KeyedOp::Read(b'a', 0), Answer::Absent),
+    (KeyedOp::Delete(b'b'), Answer::Deleted),
+    (KeyedOp::Rmw(b'a', 2), Answer::Value(2)),
+    (KeyedOp::Upsert(b'b', 7), Answer::Stored),
 ];
 
 /// Sums go round at the ends of their range.
 const ROUND: [Row<i128, i128>; 4] = [
-    (Op::Upsert(b'a', i128::MAX), Answer::Stored),
-    (Op::Rmw(b'a', 1), Answer::Value(i128::MIN)),
-    (Op::Rmw(b'a', -1), Answer::Value(i128::MAX)),
-    (Op::Rmw(b'b', i64::MIN), Answer::Value(-9223372036854775808)),
+    (KeyedOp::Upsert(b'a', i128::MAX), Answer::Stored),
+    (KeyedOp::Rmw(b'a', 1), Answer::Value(i128::MIN)),
+    (KeyedOp::Rmw(b'a', -1), Answer::Value(i128::MAX)),
+    (
+        KeyedOp::Rmw(b'b', i64::MIN),
+        Answer::Value(-9223372036854775808),
+    ),
 ];
 
 #[test]
@@ -108,25 +111,25 @@ fn sums(rt: HostRuntime) {
 }
 
 const COUNTS: [Row<u64, u64>; 8] = [
-    (Op::Rmw(b'a', 5), Answer::Value(1)),
-    (Op::Rmw(b'b', 7), Answer::Value(1)),
-    (Op::Rmw(b'a', -2), Answer::Value(2)),
-    (Op::Read(b'a', 0), Answer::Value(2)),
-    (Op::Upsert(b'c', u64::MAX), Answer::Stored),
-    (Op::Rmw(b'c', 1), Answer::Value(0)),
-    (Op::Delete(b'b'), Answer::Deleted),
-    (Op::Read(b'b', 9), Answer::Absent),
+    (KeyedOp::Rmw(b'a', 5), Answer::Value(1)),
+    (KeyedOp::Rmw(b'b', 7), Answer::Value(1)),
+    (KeyedOp::Rmw(b'a', -2), Answer::Value(2)),
+    (KeyedOp::Read(b'a', 0), Answer::Value(2)),
+    (KeyedOp::Upsert(b'c', u64::MAX), Answer::Stored),
+    (KeyedOp::Rmw(b'c', 1), Answer::Value(0)),
+    (KeyedOp::Delete(b'b'), Answer::Deleted),
+    (KeyedOp::Read(b'b', 9), Answer::Absent),
 ];
 
 const MAXIMA: [Row<i64, i64>; 8] = [
-    (Op::Rmw(b'a', 5), Answer::Value(5)),
-    (Op::Rmw(b'b', 7), Answer::Value(7)),
-    (Op::Rmw(b'a', -2), Answer::Value(5)),
-    (Op::Read(b'a', 0), Answer::Value(5)),
-    (Op::Upsert(b'a', -9), Answer::Stored),
-    (Op::Rmw(b'a', -7), Answer::Value(-7)),
-    (Op::Delete(b'b'), Answer::Deleted),
-    (Op::Rmw(b'b', -1), Answer::Value(-1)),
+    (KeyedOp::Rmw(b'a', 5), Answer::Value(5)),
+    (KeyedOp::Rmw(b'b', 7), Answer::Value(7)),
+    (KeyedOp::Rmw(b'a', -2), Answer::Value(5)),
+    (KeyedOp::Read(b'a', 0), Answer::Value(5)),
+    (KeyedOp::Upsert(b'a', -9), Answer::Stored),
+    (KeyedOp::Rmw(b'a', -7), Answer::Value(-7)),
+    (KeyedOp::Delete(b'b'), Answer::Deleted),
+    (KeyedOp::Rmw(b'b', -1), Answer::Value(-1)),
 ];
 
 #[test]
@@ -140,7 +143,7 @@ fn counts_and_maxima(rt: HostRuntime) {
 /// Applies one operation to the map, again where memory is refused once.
 fn apply(
     map: &mut BTreeMap<Name, i128>,
-    op: Op<u8, i128, i64>,
+    op: KeyedOp<u8, i128, i64>,
 ) -> Option<Result<Answer<i128>, Refused>> {
     let op = on_name(op)?;
     match apply_plainly(&SumFns, map, op) {

@@ -3,7 +3,7 @@ use Rattle.std.proofs.Common.{◌≡◌, ◌^◌, ◌<◌, ◌≤◌, ◌==◌, 
 use Rattle.std.specs.Option.{option_or}
 use Rattle.std.proofs.lemmas.Bool.{cases_lt, eqb-true}
 use Rattle.std.proofs.lemmas.Bool.Decides.{nat_tests}
-use Rattle.fkv_records.specs.Places.{IsShape, IsPlace}
+use Rattle.fkv_records.specs.Places.{IsShape, IsRecordStart}
 use Rattle.fkv_texts.specs.declared.entries.Entry.{Entry}
 use Rattle.fkv_texts.specs.Text.{last_where, entry_at, AllAbove, IsRising, IsFrom, IsBelow, text_from}
 use Rattle.fkv_texts.specs.Places.{tail_after, IsLaidOut}
@@ -39,7 +39,7 @@ filter-all p (x ∷ xs) h = filter-one p x xs true (h zero x refl) ∙ ap (λ l.
 
 module _ (bits size : ℕ) (s : IsShape bits size) {K V : Type 0} where
   -- a text from a place on is laid out from there
-  pub laid_out-from : (begin tail a : ℕ) (text : List (Entry K V)) → (begin < 2 ^ 48 → IsPlace bits size begin) → tail ≤ 2 ^ 48 → (a < 2 ^ 48 → IsPlace bits size a)
+  pub laid_out-from : (begin tail a : ℕ) (text : List (Entry K V)) → (begin < 2 ^ 48 → IsRecordStart bits size begin) → tail ≤ 2 ^ 48 → (a < 2 ^ 48 → IsRecordStart bits size a)
       → begin ≤ a → a ≤ tail → IsLaidOut bits size begin tail text → IsLaidOut bits size a tail (text_from a text)
   laid_out-from begin tail a [] p most q low high h = let e : begin ≡ tail = h in omega arith
   laid_out-from begin tail a (x ∷ xs) p most q low high h = elim (cases_lt begin a) [

@@ -2,7 +2,7 @@
 use Rattle.std.proofs.Common.{◌≡◌, ◌≢◌, ◌+◌, ◌*◌, ◌^◌, ◌<◌, ◌≤◌, ◌⊎◌, inl, inr, ℕ, zero, suc, true, false, cond, List, [], ◌∷◌, ◌++◌, Option, Some, None, IsSome, slice_get, refl, sym, ◌∙◌, ap, subst, arith, nat_le, IsSomeAnd, ◌==◌}
 use Rattle.std.proofs.lemmas.Bool.Decides.{nat_tests}
 use Rattle.std.proofs.lemmas.Bool.{cases_lt, eqb-true, eq-eqb}
-use Rattle.fkv_records.specs.Places.{IsShape, place_after, IsPlace, next}
+use Rattle.fkv_records.specs.Places.{IsShape, place_after, IsRecordStart, next}
 use Rattle.fkv_records.proofs.PlaceLemmas.{place_rises, place_ends, place_nearest}
 use Rattle.fkv_texts.specs.declared.entries.Entry.{Entry}
 use Rattle.fkv_texts.specs.Text.{entry_at, AllAbove, IsRising}
@@ -29,9 +29,9 @@ module _ (bits size : ℕ) (s : IsShape bits size) where
     pub above : a < b
     pub behind : a + size ≤ b
     pub most : b ≤ 2 ^ 48
-    pub place : b < 2 ^ 48 → IsPlace bits size b
+    pub place : b < 2 ^ 48 → IsRecordStart bits size b
 
-  pub after : (a : ℕ) → IsPlace bits size a → After a (tail_after bits size a)
+  pub after : (a : ℕ) → IsRecordStart bits size a → After a (tail_after bits size a)
   after a p = by_next (place_after bits size a) refl
     where
       by_next : (o : Option ℕ) → place_after bits size a ≡ o → After a (tail_after bits size a)
@@ -44,11 +44,11 @@ module _ (bits size : ℕ) (s : IsShape bits size) where
           let ends = place_ends bits size s b there in
           rw (after_some bits size a b e) (record { above = omega (arith, rises, s.some); behind = rises; most = omega (arith, ends); place = λ h. there })
 
-  pub tail_rises : (a : ℕ) → IsPlace bits size a → a ≤ tail_after bits size a
+  pub tail_rises : (a : ℕ) → IsRecordStart bits size a → a ≤ tail_after bits size a
   tail_rises a p = let t = after a p in omega (arith, t.above)
 
   -- and no place is passed over
-  pub after-nearest : (a b : ℕ) → IsPlace bits size a → IsPlace bits size b → a < b → tail_after bits size a ≤ b
+  pub after-nearest : (a b : ℕ) → IsRecordStart bits size a → IsRecordStart bits size b → a < b → tail_after bits size a ≤ b
   after-nearest a b p q less = by_next (place_after bits size a) refl (place_nearest bits size s a b p q less)
     where
       by_next : (o : Option ℕ) → place_after bits size a ≡ o → IsSomeAnd (place_after bits size a) (λ c. c ≤ b) → tail_after bits size a ≤ b
@@ -56,7 +56,7 @@ module _ (bits size : ℕ) (s : IsShape bits size) where
       by_next (Some c) e n = let le : c ≤ b = rw e at n in rw (after_some bits size a c e) le
 
   -- two records lie apart
-  pub apart : (a b : ℕ) → IsPlace bits size a → IsPlace bits size b → a ≢ b → (a + size ≤ b) ⊎ (b + size ≤ a)
+  pub apart : (a b : ℕ) → IsRecordStart bits size a → IsRecordStart bits size b → a ≢ b → (a + size ≤ b) ⊎ (b + size ≤ a)
   apart a b p q ne = elim (cases_lt a b) [
     | inl less ↦ (let t = after a p in let n = after-nearest a b p q less in inl (omega (arith, t.behind)))
     | inr more ↦
@@ -68,7 +68,7 @@ module _ (bits size : ℕ) (s : IsShape bits size) where
 
   -- where an entry of a text stands
   pub record Stands (begin tail a : ℕ) : Type 0 where
-    pub place : IsPlace bits size a
+    pub place : IsRecordStart bits size a
     pub low : begin ≤ a
     pub high : a + size ≤ tail
 
@@ -78,7 +78,7 @@ module _ (bits size : ℕ) (s : IsShape bits size) where
     laid_out-le begin tail (e ∷ es) h = let l : begin < tail = h.1 in omega arith
 
     -- premise of what follows: the first address is a place, unless it is the end of all
-    pub stands : (begin tail : ℕ) (text : List (Entry K V)) → (begin < 2 ^ 48 → IsPlace bits size begin) → tail ≤ 2 ^ 48 → IsLaidOut bits size begin tail text
+    pub stands : (begin tail : ℕ) (text : List (Entry K V)) → (begin < 2 ^ 48 → IsRecordStart bits size begin) → tail ≤ 2 ^ 48 → IsLaidOut bits size begin tail text
         → (i : ℕ) (e : Entry K V) → slice_get text i ≡ Some e → Stands begin tail e.address
     stands begin tail [] p most h i e g = absurd (cc)
     stands begin tail (x ∷ xs) p most h zero e g =
@@ -96,7 +96,7 @@ module _ (bits size : ℕ) (s : IsShape bits size) where
         record { place = r.place; low = omega (arith, r.low, t.above); high = r.high }
 
     -- addresses rise
-    above-all : (a begin tail : ℕ) (text : List (Entry K V)) → (begin < 2 ^ 48 → IsPlace bits size begin) → tail ≤ 2 ^ 48 → IsLaidOut bits size begin tail text → a < begin → AllAbove a text
+    above-all : (a begin tail : ℕ) (text : List (Entry K V)) → (begin < 2 ^ 48 → IsRecordStart bits size begin) → tail ≤ 2 ^ 48 → IsLaidOut bits size begin tail text → a < begin → AllAbove a text
     above-all a begin tail [] p most h l = tt
     above-all a begin tail (e ∷ es) p most h l =
         let on : begin < tail = h.1 in
@@ -104,7 +104,7 @@ module _ (bits size : ℕ) (s : IsShape bits size) where
         let at : e.address ≡ begin = h.0 in
         (omega arith, above-all a (tail_after bits size begin) tail es t.place most h.2 (omega (arith, t.above)))
 
-    pub rising : (begin tail : ℕ) (text : List (Entry K V)) → (begin < 2 ^ 48 → IsPlace bits size begin) → tail ≤ 2 ^ 48 → IsLaidOut bits size begin tail text → IsRising text
+    pub rising : (begin tail : ℕ) (text : List (Entry K V)) → (begin < 2 ^ 48 → IsRecordStart bits size begin) → tail ≤ 2 ^ 48 → IsLaidOut bits size begin tail text → IsRising text
     rising begin tail [] p most h = tt
     rising begin tail (e ∷ es) p most h =
         let on : begin < tail = h.1 in
@@ -121,8 +121,8 @@ module _ (bits size : ℕ) (s : IsShape bits size) where
         (h.0, omega arith, laid_out-append (tail_after bits size begin) tail xs e h.2 at on)
 
     -- each place below the tail has an entry
-    pub place_has_entry : (begin tail a : ℕ) (text : List (Entry K V)) → (begin < 2 ^ 48 → IsPlace bits size begin) → tail ≤ 2 ^ 48 → IsLaidOut bits size begin tail text
-        → IsPlace bits size a → begin ≤ a → a < tail → (e : Entry K V) × (IsIn text e × (e.address ≡ a))
+    pub place_has_entry : (begin tail a : ℕ) (text : List (Entry K V)) → (begin < 2 ^ 48 → IsRecordStart bits size begin) → tail ≤ 2 ^ 48 → IsLaidOut bits size begin tail text
+        → IsRecordStart bits size a → begin ≤ a → a < tail → (e : Entry K V) × (IsIn text e × (e.address ≡ a))
     place_has_entry begin tail a [] p most h q low high = let same : begin ≡ tail = h in absurd (omega arith)
     place_has_entry begin tail a (x ∷ xs) p most h q low high =
         let on : begin < tail = h.1 in
@@ -135,8 +135,8 @@ module _ (bits size : ℕ) (s : IsShape bits size) where
               (r.0, (record { place = suc r.1.0.place; here = r.1.0.here }, r.1.1)))
         ]
 
-    pub entry_there : (begin tail a : ℕ) (text : List (Entry K V)) → (begin < 2 ^ 48 → IsPlace bits size begin) → tail ≤ 2 ^ 48 → IsLaidOut bits size begin tail text
-        → IsPlace bits size a → begin ≤ a → a < tail → IsSome (entry_at text a)
+    pub entry_there : (begin tail a : ℕ) (text : List (Entry K V)) → (begin < 2 ^ 48 → IsRecordStart bits size begin) → tail ≤ 2 ^ 48 → IsLaidOut bits size begin tail text
+        → IsRecordStart bits size a → begin ≤ a → a < tail → IsSome (entry_at text a)
     entry_there begin tail a text p most h q low high =
         let r = place_has_entry begin tail a text p most h q low high in
         by_last (entry_at text a) refl r.0 r.1.0 r.1.1
@@ -151,7 +151,7 @@ module _ (bits size : ℕ) (s : IsShape bits size) where
     pub entry_found : (text : List (Entry K V)) (a : ℕ) (e : Entry K V) → entry_at text a ≡ Some e → IsIn text e × (e.address ≡ a)
     entry_found text a e l = (last_where-in (λ x. x.address == a) text e l, eqb-true e.address a (last_where-found (λ x. x.address == a) text e l))
 
-    pub entry_stands : (begin tail a : ℕ) (text : List (Entry K V)) → (begin < 2 ^ 48 → IsPlace bits size begin) → tail ≤ 2 ^ 48 → IsLaidOut bits size begin tail text
+    pub entry_stands : (begin tail a : ℕ) (text : List (Entry K V)) → (begin < 2 ^ 48 → IsRecordStart bits size begin) → tail ≤ 2 ^ 48 → IsLaidOut bits size begin tail text
         → IsSome (entry_at text a) → Stands begin tail a
     entry_stands begin tail a text p most h some = by_last (entry_at text a) refl some
       where

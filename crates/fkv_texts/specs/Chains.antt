@@ -2,8 +2,8 @@
 use Rattle.std.specs.Prelude.{◌≡◌, ℕ, ◌<◌, ◌≤◌, Bool, true, ◌&&◌, List, [], ◌∷◌, filter, reverse, Option, Some, None}
 use Rattle.std.specs.Prelude.{nat_lt, slice_get}
 use Rattle.fkv_texts.specs.declared.entries.Entry.{Entry}
-use Rattle.fkv_texts.specs.declared.entries.Reached.{Reached}
-use Rattle.fkv_texts.specs.declared.entries.Reached.TheVariants.{Found, Below}
+use Rattle.fkv_texts.specs.declared.entries.ChainPosition.{ChainPosition}
+use Rattle.fkv_texts.specs.declared.entries.ChainPosition.TheVariants.{Found, Below}
 use Rattle.fkv_texts.specs.Text.{last_where, entry_at}
 
 -- a test for the same class, exact
@@ -67,6 +67,6 @@ leads_to a [] = a
 leads_to a (e ∷ es) = leads_to e.previous es
 
 -- what a reader of a chain comes to: the entry that it looks for, or where the chain leads where that is not on it
-abbrev pub reached : {K V : Type 0} → Option (Entry K V) → ℕ → Reached K V
+abbrev pub reached : {K V : Type 0} → Option (Entry K V) → ℕ → ChainPosition K V
 reached None a = Below a
 reached (Some e) a = Found e

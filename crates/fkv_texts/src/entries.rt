@@ -16,7 +16,7 @@ pub struct Entry<K, V> {
 
 /// What a reader of a chain comes to.
 #[derive(Clone, Copy, Debug, PartialEq, Eq)]
-pub enum Reached<K, V> {
+pub enum ChainPosition<K, V> {
     /// The entry that it looks for.
     Found(Entry<K, V>),
     /// Where the chain goes on, below the entries that were read: the entry is not among those.

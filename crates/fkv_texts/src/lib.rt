@@ -8,4 +8,4 @@
 pub mod entries;
 pub mod laws;
 
-pub use entries::{Entry, Reached};
+pub use entries::{ChainPosition, Entry};

@@ -1,7 +1,7 @@
 //! What the lines of a part say. They are read as lines of a script, by the reader of scripts.
 use fkv_functions::{Name, Refused, SumFns};
-use fkv_lives::{Place, Step, StepOf};
-use fkv_operations::{Op, OpOf};
+use fkv_lives::{ContextId, Step, StepOf};
+use fkv_operations::{KeyedOp, Op, OpOf};
 use fkv_partition::Config;
 use fkv_scripts::{FunctionsName, LIMIT, Line, Script, read_script};
 use fkv_streams::CountedReader;
@@ -12,8 +12,8 @@ use std::io::Write;
 #[derive(Clone, Copy)]
 pub enum Call {
     Step(StepOf<SumFns>),
-    Ready(Place),
-    Finish(Place),
+    Ready(ContextId),
+    Finish(ContextId),
 }
 
 /// The store that a part opens, and its calls in order.
@@ -54,12 +54,12 @@ fn script_of(alloc: Global, text: &str) -> Result<Script, Refused> {
 }
 
 /// The operation of a line, on sums.
-fn on_sums(op: Op<Name, i64, i64>) -> OpOf<SumFns> {
+fn on_sums(op: KeyedOp<Name, i64, i64>) -> OpOf<SumFns> {
     match op {
-        Op::Read(key, input) => Op::Read(key, input),
-        Op::Upsert(key, amount) => Op::Upsert(key, amount as i128),
-        Op::Rmw(key, amount) => Op::Rmw(key, amount),
-        Op::Delete(key) => Op::Delete(key),
+        KeyedOp::Read(key, input) => Op::Read(key, input),
+        KeyedOp::Upsert(key, amount) => Op::Upsert(key, amount as i128),
+        KeyedOp::Rmw(key, amount) => Op::Rmw(key, amount),
+        KeyedOp::Delete(key) => Op::Delete(key),
     }
 }
 
@@ -83,7 +83,7 @@ fn step_of(verb: &str, line: Line) -> Option<StepOf<SumFns>> {
             op,
         } => Step::Issue(partition as usize, session as usize, on_sums(op)),
         Line::Compact { partition, session } if verb == "relocate" => {
-            Step::Relocate(partition as usize, session as usize)
+            Step::Issue(partition as usize, session as usize, Op::Relocate)
         }
         Line::Go(place) => Step::Go(place),
         Line::Install(place) => Step::Install(place),

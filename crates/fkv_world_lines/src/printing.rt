@@ -20,13 +20,12 @@ pub fn add_told(text: &mut Vec<u8>, told: &Result<OutcomeOf<SumFns>, Refused>) -
 }
 
 fn add_operation(text: &mut Vec<u8>, op: &OpOf<SumFns>) -> io::Result<()> {
-    let key = op.key();
-    let key = text_of(&key);
     match op {
-        Op::Read(_, input) => write!(text, "read {key} {input}"),
-        Op::Upsert(_, value) => write!(text, "upsert {key} {value}"),
-        Op::Rmw(_, input) => write!(text, "rmw {key} {input}"),
-        Op::Delete(_) => write!(text, "delete {key}"),
+        Op::Read(key, input) => write!(text, "read {} {input}", text_of(key)),
+        Op::Upsert(key, value) => write!(text, "upsert {} {value}", text_of(key)),
+        Op::Rmw(key, input) => write!(text, "rmw {} {input}", text_of(key)),
+        Op::Delete(key) => write!(text, "delete {}", text_of(key)),
+        Op::Relocate => write!(text, "relocate"),
     }
 }
 

@@ -6,13 +6,11 @@ use Rattle.std.specs.declared.cmp.Ordering.{Ordering}
 use Rattle.fkv_functions.specs.Meanings.{Meanings}
 use Rattle.fkv_functions.specs.declared.refusals.Refused.{Refused}
 use Rattle.fkv_operations.specs.declared.operations.Answer.{Answer}
-use Rattle.fkv_partition.specs.declared.contexts.Progress.{Progress}
-use Rattle.fkv_partition.specs.declared.contexts.Progress.TheVariants.{Done, Next, NeedsBuild, NeedsLoad, Waits}
-use Rattle.fkv_compaction.specs.declared.relocations.Moved.{Moved}
-use Rattle.fkv_compaction.specs.declared.relocations.Moved.TheVariants as moved
-use Rattle.fkv_compaction.specs.Views.{CompactedView}
+use Rattle.fkv_partition.specs.Progress.{Progress}
+use Rattle.fkv_partition.specs.Progress.TheVariants.{Done, Next, NeedsBuild, NeedsLoad, Waits}
+use Rattle.fkv_partition.specs.Wait.TheVariants.{Full}
+use Rattle.fkv_partition.specs.Views.{PartitionView}
 use Rattle.fkv_partition.specs.Effect.{Asked, asked}
-use Rattle.fkv_partition.specs.declared.contexts.Wait.TheVariants.{Full}
 use Rattle.fkv_device.specs.Standing.{Standing}
 use Rattle.fkv_texts.specs.declared.entries.Entry.{Entry}
 use Rattle.fkv_functions.specs.declared.refusals.Refused.TheVariants.{NoMemory, Unknown, NotReady, Worn}
@@ -23,19 +21,19 @@ use Rattle.fkv_lives.specs.declared.lives.End.{End}
 use Rattle.fkv_lives.specs.declared.lives.End.TheVariants.{Finished, Failed, GivenUp}
 use Rattle.fkv_lives.specs.declared.outcomes.Outcome.{Outcome}
 use Rattle.fkv_lives.specs.declared.outcomes.Outcome.TheVariants as outcome
-use Rattle.fkv_lives.specs.declared.steps.Place.{Place}
+use Rattle.fkv_lives.specs.declared.steps.ContextId.{ContextId}
 use Rattle.fkv_lives.specs.declared.steps.Step.{Step}
 use Rattle.fkv_lives.specs.declared.steps.Step.TheVariants.{Go, Install, Load, GiveUp}
 use Rattle.fkv_lives.specs.Lives.{finish_of, finish_in}
 use Rattle.fkv_lives.specs.Changes.{ended_at}
-use Rattle.fkv_worlds.specs.States.{StateView, bare, life_in}
+use Rattle.fkv_worlds.specs.States.{StateView, life_in}
 use Rattle.fkv_worlds.specs.Acts as acts
-use Rattle.fkv_worlds.specs.Acts.{Acts, lives_by, told, told_moved}
+use Rattle.fkv_worlds.specs.Acts.{Acts, lives_by, told}
 use Rattle.fkv_lives.specs.Steps.{partition_in}
 use Rattle.fkv_lives.specs.Told.{IsAccount, ends_operation, took_moment, taken, answer_in, answer_told, answer_some, told_at, is_issue, issues_from}
 use Rattle.fkv_worlds.specs.Sound.{IsState}
+use Rattle.fkv_worlds.proofs.StateLemmas.{load-question}
 use Rattle.fkv_worlds.proofs.LivesLemmas.{append_cases, append_old, ended_cases, ended_here, ended_other}
-use Rattle.fkv_worlds.proofs.BareLemmas.{bare-get}
 use Rattle.fkv_worlds.proofs.ManyLemmas.{asked-was}
 use Rattle.fkv_worlds.proofs.RefusedLemmas.{refuses-no, spoils-no}
 
@@ -214,12 +212,12 @@ module _ {K V I O R : Type 0} (stands : R → Standing) (entry : ℕ → List �
   past_done j x t h k = (state.world.placed.timely j x t h k).past
 
   -- the open life of what a context asks
-  open_life : (w : Place) (v : CompactedView K V I) (x : Asked K V I) → slice_get s.partitions w.partition ≡ Some v → asked v.partition w.slot w.context ≡ Some x → (y : Life K V I O) × (slice_get s.lives (life_in s.begun w) ≡ Some y) × (finish_of y ≡ None)
+  open_life : (w : ContextId) (v : PartitionView K V I) (x : Asked K V I) → slice_get s.partitions w.partition ≡ Some v → asked v w.slot w.context ≡ Some x → (y : Life K V I O) × (slice_get s.lives (life_in s.begun w) ≡ Some y) × (finish_of y ≡ None)
   open_life w v x here was =
-      let l = state.world.linked.linked w x (asked-was (bare s.partitions) w.partition v.partition v.partition (bare-get s.partitions w.partition v here) w.slot w.context ∙ was) in
+      let l = state.world.linked.linked w x (asked-was s.partitions w.partition v v here w.slot w.context ∙ was) in
       (l.life, l.here, ap (λ n. finish_of (record (l.life) { end = n })) l.unended)
 
-  account-progress : (w : Place) (v : CompactedView K V I) (x : Asked K V I) (p : Progress K V I O R) → slice_get s.partitions w.partition ≡ Some v → asked v.partition w.slot w.context ≡ Some x
+  account-progress : (w : ContextId) (v : PartitionView K V I) (x : Asked K V I) (p : Progress K V I O R) → slice_get s.partitions w.partition ≡ Some v → asked v w.slot w.context ≡ Some x
       → IsAccount (lives_by s.lives (life_in s.begun w) (suc s.moment) p) (taken rs ++ Ok (told p) ∷ []) (suc s.moment)
   account-progress w v x (Done a effect) here was =
       let l = open_life w v x here was in account-done s.lives (taken rs) s.moment account past_done (life_in s.begun w) l.0 l.1 l.2 effect a
@@ -237,50 +235,38 @@ module _ {K V I O R : Type 0} (stands : R → Standing) (entry : ℕ → List �
   silent : (new : StateView K V I O R) (r : Result (Outcome V O) Refused) (o : Outcome V O) → answer_in o ≡ None → issues_from (suc s.moment) (Ok o ∷ []) ≡ [] → new.lives ≡ s.lives → new.moment ≡ suc s.moment → r ≡ Ok o → IsAccount new.lives (taken (rs ++ r ∷ [])) new.moment
   silent new r o quiet none lives moment is = rw (is, lives, moment, taken-took rs (Ok o) refl) (account-quiet s.lives (taken rs) s.moment account (Ok o) quiet none)
 
-  here-of : (w : Place) (v : CompactedView K V I) (step t : Step K V I) → step ≡ t → partition_in t ≡ w.partition → slice_get s.partitions (partition_in step) ≡ Some v → slice_get s.partitions w.partition ≡ Some v
+  here-of : (w : ContextId) (v : PartitionView K V I) (step t : Step K V I) → step ≡ t → partition_in t ≡ w.partition → slice_get s.partitions (partition_in step) ≡ Some v → slice_get s.partitions w.partition ≡ Some v
   here-of w v step t a at h = ap (slice_get s.partitions) (sym at ∙ ap partition_in (sym a)) ∙ h
 
-  -- a relocation goes on
-  moving : (new : StateView K V I O R) (r : Result (Outcome V O) Refused) (p : Moved R) → new.lives ≡ s.lives → new.moment ≡ suc s.moment → r ≡ Ok (told_moved p) → IsAccount new.lives (taken (rs ++ r ∷ [])) new.moment
-  moving new r moved.Cleared lives moment is = silent new r outcome.Cleared refl refl lives moment is
-  moving new r moved.Next lives moment is = silent new r outcome.Next refl refl lives moment is
-  moving new r (moved.NeedsLoad receipt address) lives moment is = silent new r (outcome.Load address) refl refl lives moment is
-  moving new r moved.Waits lives moment is = silent new r (outcome.Waits Full) refl refl lives moment is
-
   pub account-acts : (new : StateView K V I O R) (step : Step K V I) (r : Result (Outcome V O) Refused) → Acts stands entry cmp f code s new step r → IsAccount new.lives (taken (rs ++ r ∷ [])) new.moment
-  account-acts new step r (acts.nowhere a same is) = kept-state new r Unknown refl same is
+  account-acts new step r (acts.no_partition a same is) = kept-state new r Unknown refl same is
   account-acts new step r (acts.unasked w v a b c d same is) = kept-state new r NotReady refl same is
-  account-acts new step r (acts.unknown w v a b c d o same is) = kept-state new r Unknown refl same is
-  account-acts new step r (acts.jobless p access a b c same is) = kept-state new r NotReady refl same is
+  account-acts new step r (acts.unknown w v a b c d same is) = kept-state new r Unknown refl same is
+  account-acts new step r (acts.no_flush_job p access a b c same is) = kept-state new r NotReady refl same is
   account-acts new step r (acts.worn a b c same is) = kept-state new r Worn refl same is
-  account-acts new step r (acts.lifeless p slot op v a b same is) = kept-state new r NoMemory refl same is
+  account-acts new step r (acts.no_memory_for_life p slot op v a b same is) = kept-state new r NoMemory refl same is
   account-acts new step r (acts.refuses v e due h same is) = kept-state new r e (refuses-no stands entry cmp f code s v (suc s.moment) e step h) same is
-  account-acts new step r (acts.enters p slot n v v' a b c d on low g to is) = silent new r (outcome.Entered slot) refl refl (ap (λ (z : StateView K V I O R). z.lives) to) (ap (λ (z : StateView K V I O R). z.moment) to) is
+  account-acts new step r (acts.enters p slot n v v' a b c d low g to is) = silent new r (outcome.Entered slot) refl refl (ap (λ (z : StateView K V I O R). z.lives) to) (ap (λ (z : StateView K V I O R). z.moment) to) is
   account-acts new step r (acts.leaves p slot v v' a b c ev to is) = silent new r outcome.Left refl refl (ap (λ (z : StateView K V I O R). z.lives) to) (ap (λ (z : StateView K V I O R). z.moment) to) is
-  account-acts new step r (acts.refreshes p slot v v' a b c ev on to is) = silent new r outcome.Refreshed refl refl (ap (λ (z : StateView K V I O R). z.lives) to) (ap (λ (z : StateView K V I O R). z.moment) to) is
-  account-acts new step r (acts.shifts p page v v' a b c ev on to is) = silent new r outcome.Shifted refl refl (ap (λ (z : StateView K V I O R). z.lives) to) (ap (λ (z : StateView K V I O R). z.moment) to) is
-  account-acts new step r (acts.evicts p page v v' a b c ev on to is) = silent new r outcome.Shifted refl refl (ap (λ (z : StateView K V I O R). z.lives) to) (ap (λ (z : StateView K V I O R). z.moment) to) is
+  account-acts new step r (acts.refreshes p slot v v' a b c ev to is) = silent new r outcome.Refreshed refl refl (ap (λ (z : StateView K V I O R). z.lives) to) (ap (λ (z : StateView K V I O R). z.moment) to) is
+  account-acts new step r (acts.shifts p page v v' a b c ev to is) = silent new r outcome.Shifted refl refl (ap (λ (z : StateView K V I O R). z.lives) to) (ap (λ (z : StateView K V I O R). z.moment) to) is
+  account-acts new step r (acts.evicts p page v v' a b c ev to is) = silent new r outcome.Shifted refl refl (ap (λ (z : StateView K V I O R). z.lives) to) (ap (λ (z : StateView K V I O R). z.moment) to) is
   account-acts new step r (acts.takes p v job a due page bytes to is) = silent new r (outcome.Taken job.page) refl refl (ap (λ (z : StateView K V I O R). z.lives) to) (ap (λ (z : StateView K V I O R). z.moment) to) is
   account-acts new step r (acts.spoils p access v job e a due has h to is) =
-      rw (is, ap (λ (z : StateView K V I O R). z.lives) to, ap (λ (z : StateView K V I O R). z.moment) to) (account-refused e (spoils-no v.partition (suc s.moment) job access e h))
-  account-acts new step r (acts.writes p v v' job a due has does ev on to is) = silent new r (outcome.Flushed job.page) refl refl (ap (λ (z : StateView K V I O R). z.lives) to) (ap (λ (z : StateView K V I O R). z.moment) to) is
-  account-acts new step r (acts.gives_up w v v' a due c ev on to is) =
+      rw (is, ap (λ (z : StateView K V I O R). z.lives) to, ap (λ (z : StateView K V I O R). z.moment) to) (account-refused e (spoils-no v (suc s.moment) job access e h))
+  account-acts new step r (acts.writes p v v' job a due has does ev to is) = silent new r (outcome.Flushed job.page) refl refl (ap (λ (z : StateView K V I O R). z.lives) to) (ap (λ (z : StateView K V I O R). z.moment) to) is
+  account-acts new step r (acts.gives_up w v v' a due c ev to is) =
       let l = open_life w v ev.question (here-of w v step (GiveUp w) a refl due.here) ev.was in
       rw (is, to, taken-took rs (Ok outcome.GivenUp) refl) (account-ended s.lives (taken rs) s.moment account GivenUp refl (Ok outcome.GivenUp) refl refl (life_in s.begun w) l.0 l.1 l.2)
-  account-acts new step r (acts.fails w access v v' receipt came e a due has comes does ends ev on to is) =
+  account-acts new step r (acts.fails w access v v' receipt came e a due has comes does ends ev to is) =
       let l = open_life w v ev.question (here-of w v step (Load w access) a refl due.here) ev.was in
       rw (is, to, taken-took rs (Err e) ends) (account-ended s.lives (taken rs) s.moment account Failed refl (Err e) refl refl (life_in s.begun w) l.0 l.1 l.2)
   account-acts new step r (acts.issues p slot c op v v' seat a b d ev low at to is) = rw (is, to, taken-took rs (Ok (outcome.Issued c)) refl) (account-issue s.lives (taken rs) s.moment account c _ refl refl)
-  account-acts new step r (acts.goes w v v' p a due c ev on to is) =
+  account-acts new step r (acts.goes w v v' p a due c ev to is) =
       rw (is, to, taken-took rs (Ok (told p)) refl) (account-progress w v ev.question p (here-of w v step (Go w) a refl due.here) ev.was)
-  account-acts new step r (acts.installs w v v' ask p a due c d ev on to is) =
+  account-acts new step r (acts.installs w v v' ask p a due c d ev to is) =
       rw (is, to, taken-took rs (Ok (told p)) refl) (account-progress w v ev.question p (here-of w v step (Install w) a refl due.here) ev.was)
-  account-acts new step r (acts.loads w access v v' receipt came p a due has comes does ev on to is) =
-      rw (is, to, taken-took rs (Ok (told p)) refl) (account-progress w v ev.question p (here-of w v step (Load w access) a refl due.here) ev.was)
-  account-acts new step r (acts.relocates p slot c v v' a due does ev low to is) = silent new r (outcome.Relocating c) refl refl (ap (λ (z : StateView K V I O R). z.lives) to) (ap (λ (z : StateView K V I O R). z.moment) to) is
-  account-acts new step r (acts.goes_on w v v' p a due does ev to is) = moving new r p (ap (λ (z : StateView K V I O R). z.lives) to) (ap (λ (z : StateView K V I O R). z.moment) to) is
-  account-acts new step r (acts.loads_on w access v v' receipt came p a due has comes does ev to is) = moving new r p (ap (λ (z : StateView K V I O R). z.lives) to) (ap (λ (z : StateView K V I O R). z.moment) to) is
-  account-acts new step r (acts.fails_on w access v v' receipt came e a due has comes does ends ev to is) =
-      rw (is, ap (λ (z : StateView K V I O R). z.lives) to, ap (λ (z : StateView K V I O R). z.moment) to, taken-took rs (Err e) ends) (account-quiet s.lives (taken rs) s.moment account (Err e) refl refl)
-  account-acts new step r (acts.drops w v v' a due does ev to is) = silent new r outcome.GivenUp refl refl (ap (λ (z : StateView K V I O R). z.lives) to) (ap (λ (z : StateView K V I O R). z.moment) to) is
-  account-acts new step r (acts.truncates p v v' a due does ev to is) = silent new r (outcome.Truncated v'.partition.records.begin) refl refl (ap (λ (z : StateView K V I O R). z.lives) to) (ap (λ (z : StateView K V I O R). z.moment) to) is
+  account-acts new step r (acts.loads w access v v' receipt came p a due has comes does ev to is) =
+      let q = load-question cmp f v v' w.slot w.context (suc s.moment) p ev in
+      rw (is, to, taken-took rs (Ok (told p)) refl) (account-progress w v q.0 p (here-of w v step (Load w access) a refl due.here) q.1)
+  account-acts new step r (acts.truncates p v v' a due does ev to is) = silent new r (outcome.Truncated v'.core.records.begin) refl refl (ap (λ (z : StateView K V I O R). z.lives) to) (ap (λ (z : StateView K V I O R). z.moment) to) is

@@ -8,110 +8,88 @@ use Rattle.fkv_device.specs.Standing.{Standing, Joined}
 use Rattle.fkv_device.specs.declared.messages.FlushJob.{FlushJob}
 use Rattle.fkv_texts.specs.declared.entries.Entry.{Entry}
 use Rattle.fkv_operations.specs.declared.operations.Op.{Op}
-use Rattle.fkv_partition.specs.declared.contexts.Progress.{Progress}
+use Rattle.fkv_partition.specs.Progress.{Progress}
+use Rattle.fkv_partition.specs.Views.{PartitionView, at_moment}
+use Rattle.fkv_partition.specs.Effect.{IsQuiet, IsIssue, IsEvent, IsGiveUp, IsLoad, IsTruncation}
+use Rattle.fkv_partition.specs.Events.{Enters, Flushes, Goes, Installs, Loads, GivesUp, Refreshes, Shifts, Evicts, Issues}
+use Rattle.fkv_partition.specs.Beginning.{LeavesAll}
+use Rattle.fkv_partition.specs.Truncating.{Truncates}
 use Rattle.fkv_records.specs.Places.{page_at}
-use Rattle.fkv_partition.specs.Beginning.{Enters}
-use Rattle.fkv_partition.specs.Effect.{IsQuiet, IsIssue, IsEvent, IsGiveUp}
-use Rattle.fkv_partition.specs.Pending.{IsLoad}
-use Rattle.fkv_partition.specs.Flushing.{Flushes}
-use Rattle.fkv_partition.specs.Going.{Goes}
-use Rattle.fkv_partition.specs.Installing.{Installs}
-use Rattle.fkv_partition.specs.Loading.{Loads}
-use Rattle.fkv_partition.specs.Ending.{GivesUp}
-use Rattle.fkv_partition.specs.Looking.{Refreshes, Shifts, Evicts}
-use Rattle.fkv_partition.specs.Truncating.{IsTruncation}
-use Rattle.fkv_compaction.specs.declared.relocations.Moved.{Moved}
-use Rattle.fkv_compaction.specs.Views.{CompactedView}
-use Rattle.fkv_compaction.specs.Effect.{IsRelocating}
-use Rattle.fkv_compaction.specs.Beginning.{Issues, Relocates, LeavesAll, Drops}
-use Rattle.fkv_compaction.specs.Going.{GoesOn}
-use Rattle.fkv_compaction.specs.Reading.{LoadsOn}
-use Rattle.fkv_compaction.specs.Truncating.{Truncates}
 use Rattle.fkv_lives.specs.declared.lives.End.TheVariants.{Failed, GivenUp}
 use Rattle.fkv_lives.specs.Changes.{ended_at}
 use Rattle.fkv_lives.specs.declared.outcomes.Outcome.TheVariants as outcome
 use Rattle.fkv_lives.specs.declared.steps.Access.{Access}
 use Rattle.fkv_lives.specs.declared.steps.Access.TheVariants.{Works}
-use Rattle.fkv_lives.specs.declared.steps.Place.{Place}
+use Rattle.fkv_lives.specs.declared.steps.ContextId.{ContextId}
 use Rattle.fkv_lives.specs.declared.steps.Step.{Step}
-use Rattle.fkv_lives.specs.declared.steps.Step.TheVariants.{Enter, Leave, Refresh, ReadOnly, Take, Write, Head, Issue, Relocate, Go, Install, Load, GiveUp, Truncate}
+use Rattle.fkv_lives.specs.declared.steps.Step.TheVariants.{Enter, Leave, Refresh, ReadOnly, Take, Write, Head, Issue, Go, Install, Load, GiveUp, Truncate}
 use Rattle.fkv_worlds.specs.declared.tables.Seat.{Seat}
 use Rattle.fkv_worlds.specs.Devices.{receipt_of, Comes, Spoils}
 use Rattle.fkv_worlds.specs.Refusing.{Refuses}
 use Rattle.fkv_lives.specs.Told.{ends_operation}
-use Rattle.fkv_worlds.specs.States.{StateView, IsPassedOn, seat_row, context_row, question_in, receipt_in, job_in, is_unasked, life_in}
-use Rattle.fkv_worlds.specs.Moments.{IsUntimely, nowhere, worn}
+use Rattle.fkv_worlds.specs.States.{StateView, seat_row, context_row, question_in, receipt_in, job_in, is_unasked, life_in}
+use Rattle.fkv_worlds.specs.Moments.{IsUntimely, no_partition, worn}
 use Rattle.fkv_worlds.specs.Acts as acts
-use Rattle.fkv_worlds.specs.Acts.{Acts, IsDue, begun_life, after_issue, lives_by, questions_by, receipts_by, receipts_moved, told, told_moved}
+use Rattle.fkv_worlds.specs.Acts.{Acts, IsDue, begun_life, after_issue, lives_by, questions_by, receipts_by, told}
 use Rattle.fkv_lives.specs.Steps.{partition_in}
 
 module _ {K V I O R : Type 0} (stands : R → Standing) (entry : ℕ → List ℕ → ℕ → Entry K V → Type 0) (cmp : K → K → Ordering) (f : Meanings K V I O) (code : K → ℕ) (s : StateView K V I O R) (next : ℕ) (then : next ≡ s.moment + 1) (fits : next < 2 ^ 64) where
   e : next ≡ suc s.moment
   e = omega arith
 
-  due : (step : Step K V I) (old : CompactedView K V I) → slice_get s.partitions (partition_in step) ≡ Some old → is_unasked s step ≡ false → IsDue s step old
+  due : (step : Step K V I) (old : PartitionView K V I) → slice_get s.partitions (partition_in step) ≡ Some old → is_unasked s step ≡ false → IsDue s step old
   due step old here asked = record { here = here; asked = asked; moment = omega arith }
 
   -- what the partition refuses
-  pub acts-refused : (step : Step K V I) (old : CompactedView K V I) (r : Refused) → slice_get s.partitions (partition_in step) ≡ Some old → is_unasked s step ≡ false
+  pub acts-refused : (step : Step K V I) (old : PartitionView K V I) (r : Refused) → slice_get s.partitions (partition_in step) ≡ Some old → is_unasked s step ≡ false
       → Refuses stands entry cmp f code s old next r step → Acts stands entry cmp f code s s step (Err r)
   acts-refused step old r here asked refuses = acts.refuses old r (due step old here asked) (subst (λ m. Refuses stands entry cmp f code s old m r step) e refuses) refl refl
 
-  module _ (p : ℕ) (old new : CompactedView K V I) (here : slice_get s.partitions p ≡ Some old) where
-    pub acts-enter : (slot n : ℕ) → Enters old.partition new.partition next (Ok slot) → IsQuiet true old.partition new.partition next → IsPassedOn old new → slot < 16 → slice_get s.enters p ≡ Some n
+  module _ (p : ℕ) (old new : PartitionView K V I) (here : slice_get s.partitions p ≡ Some old) where
+    pub acts-enter : (slot n : ℕ) → Enters old new next (Ok slot) → IsQuiet true old new next → slot < 16 → slice_get s.enters p ≡ Some n
         → Acts stands entry cmp f code s (record s { partitions = slice_set s.partitions p new; enters = slice_set s.enters p (n + 1); seats = slice_set s.seats (seat_row p slot) (record { session = n + 1; issues = 0 }); moment = next }) (Enter p) (Ok (outcome.Entered slot))
-    acts-enter slot n does ev passed low count =
+    acts-enter slot n does ev low count =
         let up : n + 1 ≡ suc n = omega arith in
-        rw (e, up) (acts.enters p slot n old new refl (due (Enter p) old here refl) (subst (λ m. Enters old.partition new.partition m (Ok slot)) e does) (subst (λ m. IsQuiet true old.partition new.partition m) e ev) passed low count refl refl)
+        rw (e, up) (acts.enters p slot n old new refl (due (Enter p) old here refl) (subst (λ m. Enters old new m (Ok slot)) e does) (subst (λ m. IsQuiet true old new m) e ev) low count refl refl)
 
-    pub acts-leave : (slot : ℕ) → LeavesAll true old new slot next (Ok tt) → IsQuiet true old.partition new.partition next → Acts stands entry cmp f code s (record s { partitions = slice_set s.partitions p new; moment = next }) (Leave p slot) (Ok outcome.Left)
+    pub acts-leave : (slot : ℕ) → LeavesAll true old new slot next (Ok tt) → IsQuiet true old new next → Acts stands entry cmp f code s (record s { partitions = slice_set s.partitions p new; moment = next }) (Leave p slot) (Ok outcome.Left)
     acts-leave slot does ev =
-        rw e (acts.leaves p slot old new refl (due (Leave p slot) old here refl) (subst (λ m. LeavesAll true old new slot m (Ok tt)) e does) (subst (λ m. IsQuiet true old.partition new.partition m) e ev) refl refl)
+        rw e (acts.leaves p slot old new refl (due (Leave p slot) old here refl) (subst (λ m. LeavesAll true old new slot m (Ok tt)) e does) (subst (λ m. IsQuiet true old new m) e ev) refl refl)
 
-    pub acts-refresh : (slot : ℕ) → Refreshes true old.partition new.partition slot next (Ok tt) → IsQuiet true old.partition new.partition next → IsPassedOn old new → Acts stands entry cmp f code s (record s { partitions = slice_set s.partitions p new; moment = next }) (Refresh p slot) (Ok outcome.Refreshed)
-    acts-refresh slot does ev passed =
-        rw e (acts.refreshes p slot old new refl (due (Refresh p slot) old here refl) (subst (λ m. Refreshes true old.partition new.partition slot m (Ok tt)) e does) (subst (λ m. IsQuiet true old.partition new.partition m) e ev) passed refl refl)
+    pub acts-refresh : (slot : ℕ) → Refreshes true old new slot next (Ok tt) → IsQuiet true old new next → Acts stands entry cmp f code s (record s { partitions = slice_set s.partitions p new; moment = next }) (Refresh p slot) (Ok outcome.Refreshed)
+    acts-refresh slot does ev =
+        rw e (acts.refreshes p slot old new refl (due (Refresh p slot) old here refl) (subst (λ m. Refreshes true old new slot m (Ok tt)) e does) (subst (λ m. IsQuiet true old new m) e ev) refl refl)
 
-    pub acts-shift : (page : ℕ) → Shifts true old.partition new.partition page next (Ok tt) → IsQuiet true old.partition new.partition next → IsPassedOn old new → Acts stands entry cmp f code s (record s { partitions = slice_set s.partitions p new; moment = next }) (ReadOnly p page) (Ok outcome.Shifted)
-    acts-shift page does ev passed =
-        rw e (acts.shifts p page old new refl (due (ReadOnly p page) old here refl) (subst (λ m. Shifts true old.partition new.partition page m (Ok tt)) e does) (subst (λ m. IsQuiet true old.partition new.partition m) e ev) passed refl refl)
+    pub acts-shift : (page : ℕ) → Shifts true old new page next (Ok tt) → IsQuiet true old new next → Acts stands entry cmp f code s (record s { partitions = slice_set s.partitions p new; moment = next }) (ReadOnly p page) (Ok outcome.Shifted)
+    acts-shift page does ev =
+        rw e (acts.shifts p page old new refl (due (ReadOnly p page) old here refl) (subst (λ m. Shifts true old new page m (Ok tt)) e does) (subst (λ m. IsQuiet true old new m) e ev) refl refl)
 
-    pub acts-evict : (page : ℕ) → Evicts true old.partition new.partition page next (Ok tt) → IsQuiet true old.partition new.partition next → IsPassedOn old new → Acts stands entry cmp f code s (record s { partitions = slice_set s.partitions p new; moment = next }) (Head p page) (Ok outcome.Shifted)
-    acts-evict page does ev passed =
-        rw e (acts.evicts p page old new refl (due (Head p page) old here refl) (subst (λ m. Evicts true old.partition new.partition page m (Ok tt)) e does) (subst (λ m. IsQuiet true old.partition new.partition m) e ev) passed refl refl)
+    pub acts-evict : (page : ℕ) → Evicts true old new page next (Ok tt) → IsQuiet true old new next → Acts stands entry cmp f code s (record s { partitions = slice_set s.partitions p new; moment = next }) (Head p page) (Ok outcome.Shifted)
+    acts-evict page does ev =
+        rw e (acts.evicts p page old new refl (due (Head p page) old here refl) (subst (λ m. Evicts true old new page m (Ok tt)) e does) (subst (λ m. IsQuiet true old new m) e ev) refl refl)
 
-    pub acts-take : (job : FlushJob) → job.page ≡ length old.partition.records.receipts → slice_get old.partition.records.waiting 0 ≡ Some job.bytes
-        → Acts stands entry cmp f code s (record s { jobs = slice_set s.jobs p (Some job); moment = next }) (Take p) (Ok (outcome.Taken job.page))
-    acts-take job page bytes = rw e (acts.takes p old job refl (due (Take p) old here refl) page bytes refl refl)
+    pub acts-take : (job : FlushJob) → job.page ≡ length old.core.records.receipts → slice_get old.core.records.waiting 0 ≡ Some job.bytes → new ≡ at_moment old next
+        → Acts stands entry cmp f code s (record s { partitions = slice_set s.partitions p new; jobs = slice_set s.jobs p (Some job); moment = next }) (Take p) (Ok (outcome.Taken job.page))
+    acts-take job page bytes is = rw (is, e) (acts.takes p old job refl (due (Take p) old here refl) page bytes refl refl)
 
-    pub acts-spoil : (access : Access) (job : FlushJob) (r : Refused) → is_unasked s (Write p access) ≡ false → job_in s.jobs p ≡ Some job → Spoils old.partition next job access r
+    pub acts-spoil : (access : Access) (job : FlushJob) (r : Refused) → is_unasked s (Write p access) ≡ false → job_in s.jobs p ≡ Some job → Spoils old next job access r
         → Acts stands entry cmp f code s (record s { jobs = slice_set s.jobs p None }) (Write p access) (Err r)
-    acts-spoil access job r asked has spoils = acts.spoils p access old job r refl (due (Write p access) old here asked) has (subst (λ m. Spoils old.partition m job access r) e spoils) refl refl
+    acts-spoil access job r asked has spoils = acts.spoils p access old job r refl (due (Write p access) old here asked) has (subst (λ m. Spoils old m job access r) e spoils) refl refl
 
     pub acts-write : (access : Access) (job : FlushJob) → access ≡ Works → is_unasked s (Write p access) ≡ false → job_in s.jobs p ≡ Some job
-        → Flushes old.partition new.partition (receipt_of job) job.bytes next (Ok tt) → IsQuiet true old.partition new.partition next → IsPassedOn old new
+        → Flushes old new (receipt_of job) job.bytes next (Ok tt) → IsQuiet true old new next
         → Acts stands entry cmp f code s (record s { partitions = slice_set s.partitions p new; jobs = slice_set s.jobs p None; moment = next }) (Write p access) (Ok (outcome.Flushed job.page))
-    acts-write access job works asked has does ev passed =
+    acts-write access job works asked has does ev =
         rw (e, works) (acts.writes p old new job refl (due (Write p Works) old here (ap (λ a. is_unasked s (Write p a)) (sym works) ∙ asked)) has
-        (subst (λ m. Flushes old.partition new.partition (receipt_of job) job.bytes m (Ok tt)) e does) (subst (λ m. IsQuiet true old.partition new.partition m) e ev) passed refl refl)
+        (subst (λ m. Flushes old new (receipt_of job) job.bytes m (Ok tt)) e does) (subst (λ m. IsQuiet true old new m) e ev) refl refl)
 
-    pub acts-relocate : (slot c : ℕ) → Relocates old new slot next (Ok c) → IsRelocating true cmp old new slot c next → slot < 16
-        → Acts stands entry cmp f code s (record s {
-          partitions = slice_set s.partitions p new;
-          questions = slice_set s.questions (context_row (record { partition = p; slot = slot; context = c })) None;
-          receipts = slice_set s.receipts (context_row (record { partition = p; slot = slot; context = c })) None;
-          moment = next;
-        }) (Relocate p slot) (Ok (outcome.Relocating c))
-    acts-relocate slot c does ev low =
-        rw e (acts.relocates p slot c old new refl (due (Relocate p slot) old here refl) (subst (λ m. Relocates old new slot m (Ok c)) e does) (subst (λ m. IsRelocating true cmp old new slot c m) e ev) low refl refl)
-
-    pub acts-truncate : Truncates true old new (page_at old.partition.records.page_bits old.cleared) next (Ok tt) → IsTruncation true cmp old.partition new.partition (page_at old.partition.records.page_bits old.cleared) next
-        → Acts stands entry cmp f code s (record s { partitions = slice_set s.partitions p new; moment = next }) (Truncate p) (Ok (outcome.Truncated new.partition.records.begin))
+    pub acts-truncate : Truncates true old new (page_at old.core.records.page_bits old.cleared) next (Ok tt) → IsTruncation true cmp old new (page_at old.core.records.page_bits old.cleared) next
+        → Acts stands entry cmp f code s (record s { partitions = slice_set s.partitions p new; moment = next }) (Truncate p) (Ok (outcome.Truncated new.core.records.begin))
     acts-truncate does ev =
-        rw e (acts.truncates p old new refl (due (Truncate p) old here refl) (subst (λ m. Truncates true old new (page_at old.partition.records.page_bits old.cleared) m (Ok tt)) e does)
-        (subst (λ m. IsTruncation true cmp old.partition new.partition (page_at old.partition.records.page_bits old.cleared) m) e ev) refl refl)
+        rw e (acts.truncates p old new refl (due (Truncate p) old here refl) (subst (λ m. Truncates true old new (page_at old.core.records.page_bits old.cleared) m (Ok tt)) e does)
+        (subst (λ m. IsTruncation true cmp old new (page_at old.core.records.page_bits old.cleared) m) e ev) refl refl)
 
-    pub acts-issue : (slot c : ℕ) (op : Op K V I) (seat : Seat) → Issues code old new slot op next (Ok c) → IsIssue code old.partition new.partition slot c op next → slot < 16 → slice_get s.seats (seat_row p slot) ≡ Some seat
+    pub acts-issue : (slot c : ℕ) (op : Op K V I) (seat : Seat) → Issues code old new slot op next (Ok c) → IsIssue code old new slot c op next → slot < 16 → slice_get s.seats (seat_row p slot) ≡ Some seat
         → Acts stands entry cmp f code s (record s {
           partitions = slice_set s.partitions p new;
           seats = slice_set s.seats (seat_row p slot) (after_issue seat);
@@ -122,60 +100,40 @@ module _ {K V I O R : Type 0} (stands : R → Standing) (entry : ℕ → List �
           moment = next;
         }) (Issue p slot op) (Ok (outcome.Issued c))
     acts-issue slot c op seat does ev low at =
-        rw e (acts.issues p slot c op old new seat refl (due (Issue p slot op) old here refl) (subst (λ m. Issues code old new slot op m (Ok c)) e does) (subst (λ m. IsIssue code old.partition new.partition slot c op m) e ev) low at refl refl)
+        rw e (acts.issues p slot c op old new seat refl (due (Issue p slot op) old here refl) (subst (λ m. Issues code old new slot op m (Ok c)) e does) (subst (λ m. IsIssue code old new slot c op m) e ev) low at refl refl)
 
-  module _ (w : Place) (old new : CompactedView K V I) (here : slice_get s.partitions w.partition ≡ Some old) where
-    pub acts-give_up : GivesUp old.partition new.partition w.slot w.context next (Ok tt) → IsGiveUp old.partition new.partition w.slot w.context next → IsPassedOn old new
+  module _ (w : ContextId) (old new : PartitionView K V I) (here : slice_get s.partitions w.partition ≡ Some old) where
+    pub acts-give_up : GivesUp old new w.slot w.context next (Ok tt) → IsGiveUp old new w.slot w.context next
         → Acts stands entry cmp f code s (record s { partitions = slice_set s.partitions w.partition new; lives = ended_at s.lives (life_in s.begun w) GivenUp; moment = next }) (GiveUp w) (Ok outcome.GivenUp)
-    acts-give_up does ev passed =
-        rw e (acts.gives_up w old new refl (due (GiveUp w) old here refl) (subst (λ m. GivesUp old.partition new.partition w.slot w.context m (Ok tt)) e does) (subst (λ m. IsGiveUp old.partition new.partition w.slot w.context m) e ev) passed refl refl)
+    acts-give_up does ev =
+        rw e (acts.gives_up w old new refl (due (GiveUp w) old here refl) (subst (λ m. GivesUp old new w.slot w.context m (Ok tt)) e does) (subst (λ m. IsGiveUp old new w.slot w.context m) e ev) refl refl)
 
-    pub acts-drop : Drops old new w.slot w.context next (Ok tt) → IsRelocating true cmp old new w.slot w.context next
-        → Acts stands entry cmp f code s (record s { partitions = slice_set s.partitions w.partition new; moment = next }) (GiveUp w) (Ok outcome.GivenUp)
-    acts-drop does ev =
-        rw e (acts.drops w old new refl (due (GiveUp w) old here refl) (subst (λ m. Drops old new w.slot w.context m (Ok tt)) e does) (subst (λ m. IsRelocating true cmp old new w.slot w.context m) e ev) refl refl)
-
-    pub acts-go_on : (progress : Moved R) → GoesOn stands cmp code old new w.slot w.context next (Ok progress) → IsRelocating true cmp old new w.slot w.context next
-        → Acts stands entry cmp f code s (record s { partitions = slice_set s.partitions w.partition new; receipts = receipts_moved s.receipts (context_row w) progress; moment = next }) (Go w) (Ok (told_moved progress))
-    acts-go_on progress does ev =
-        rw e (acts.goes_on w old new progress refl (due (Go w) old here refl) (subst (λ m. GoesOn stands cmp code old new w.slot w.context m (Ok progress)) e does) (subst (λ m. IsRelocating true cmp old new w.slot w.context m) e ev) refl refl)
-
-    pub acts-go : (progress : Progress K V I O R) → Goes stands cmp f code old.partition new.partition w.slot w.context next (Ok progress) → IsEvent cmp f old.partition new.partition w.slot w.context next progress → IsPassedOn old new
+    pub acts-go : (progress : Progress K V I O R) → Goes stands cmp f code old new w.slot w.context next (Ok progress) → IsEvent cmp f old new w.slot w.context next progress
         → Acts stands entry cmp f code s (record s { partitions = slice_set s.partitions w.partition new; questions = questions_by s.questions (context_row w) progress; receipts = receipts_by s.receipts (context_row w) progress; lives = lives_by s.lives (life_in s.begun w) next progress; moment = next })
         (Go w) (Ok (told progress))
-    acts-go progress does ev passed =
-        rw e (acts.goes w old new progress refl (due (Go w) old here refl) (subst (λ m. Goes stands cmp f code old.partition new.partition w.slot w.context m (Ok progress)) e does) (subst (λ m. IsEvent cmp f old.partition new.partition w.slot w.context m progress) e ev) passed refl refl)
+    acts-go progress does ev =
+        rw e (acts.goes w old new progress refl (due (Go w) old here refl) (subst (λ m. Goes stands cmp f code old new w.slot w.context m (Ok progress)) e does) (subst (λ m. IsEvent cmp f old new w.slot w.context m progress) e ev) refl refl)
 
-    pub acts-install : (ask : Ask K V I) → question_in s.questions w ≡ Some ask → (progress : Progress K V I O R) → Installs cmp f code old.partition new.partition w.slot w.context ask next (Ok progress) → IsEvent cmp f old.partition new.partition w.slot w.context next progress → IsPassedOn old new
+    pub acts-install : (ask : Ask K V I) → question_in s.questions w ≡ Some ask → (progress : Progress K V I O R) → Installs cmp f code old new w.slot w.context ask next (Ok progress) → IsEvent cmp f old new w.slot w.context next progress
         → Acts stands entry cmp f code s (record s { partitions = slice_set s.partitions w.partition new; questions = questions_by s.questions (context_row w) progress; receipts = receipts_by s.receipts (context_row w) progress; lives = lives_by s.lives (life_in s.begun w) next progress; moment = next })
         (Install w) (Ok (told progress))
-    acts-install ask asks progress does ev passed =
-        rw e (acts.installs w old new ask progress refl (due (Install w) old here (rw asks refl)) asks (subst (λ m. Installs cmp f code old.partition new.partition w.slot w.context ask m (Ok progress)) e does) (subst (λ m. IsEvent cmp f old.partition new.partition w.slot w.context m progress) e ev) passed refl refl)
+    acts-install ask asks progress does ev =
+        rw e (acts.installs w old new ask progress refl (due (Install w) old here (rw asks refl)) asks (subst (λ m. Installs cmp f code old new w.slot w.context ask m (Ok progress)) e does) (subst (λ m. IsEvent cmp f old new w.slot w.context m progress) e ev) refl refl)
 
     module _ (access : Access) (receipt : R) (came : Result (Joined R) Refused) (asks : receipt_in s.receipts w ≡ Some receipt) (comes : Comes stands receipt access came) where
-      pub acts-load : (progress : Progress K V I O R) → Loads stands entry cmp f old.partition new.partition w.slot w.context came next (Ok progress) → IsLoad cmp f old.partition new.partition w.slot w.context next progress → IsPassedOn old new
+      pub acts-load : (progress : Progress K V I O R) → Loads stands entry cmp f code old new w.slot w.context came next (Ok progress) → IsLoad cmp f old new w.slot w.context next progress
           → Acts stands entry cmp f code s (record s { partitions = slice_set s.partitions w.partition new; questions = questions_by s.questions (context_row w) progress; receipts = receipts_by s.receipts (context_row w) progress; lives = lives_by s.lives (life_in s.begun w) next progress; moment = next })
           (Load w access) (Ok (told progress))
-      acts-load progress does ev passed =
-          rw e (acts.loads w access old new receipt came progress refl (due (Load w access) old here (rw asks refl)) asks comes (subst (λ m. Loads stands entry cmp f old.partition new.partition w.slot w.context came m (Ok progress)) e does) (subst (λ m. IsLoad cmp f old.partition new.partition w.slot w.context m progress) e ev) passed refl refl)
+      acts-load progress does ev =
+          rw e (acts.loads w access old new receipt came progress refl (due (Load w access) old here (rw asks refl)) asks comes (subst (λ m. Loads stands entry cmp f code old new w.slot w.context came m (Ok progress)) e does) (subst (λ m. IsLoad cmp f old new w.slot w.context m progress) e ev) refl refl)
 
-      pub acts-load_on : (progress : Moved R) → LoadsOn stands entry cmp code old new w.slot w.context came next (Ok progress) → IsRelocating true cmp old new w.slot w.context next
-          → Acts stands entry cmp f code s (record s { partitions = slice_set s.partitions w.partition new; receipts = receipts_moved s.receipts (context_row w) progress; moment = next }) (Load w access) (Ok (told_moved progress))
-      acts-load_on progress does ev =
-          rw e (acts.loads_on w access old new receipt came progress refl (due (Load w access) old here (rw asks refl)) asks comes (subst (λ m. LoadsOn stands entry cmp code old new w.slot w.context came m (Ok progress)) e does) (subst (λ m. IsRelocating true cmp old new w.slot w.context m) e ev) refl refl)
-
-      pub acts-fail_on : (r : Refused) → LoadsOn stands entry cmp code old new w.slot w.context came next (Err r) → ends_operation r ≡ true → IsRelocating true cmp old new w.slot w.context next
-          → Acts stands entry cmp f code s (record s { partitions = slice_set s.partitions w.partition new; moment = next }) (Load w access) (Err r)
-      acts-fail_on r does ends ev =
-          rw e (acts.fails_on w access old new receipt came r refl (due (Load w access) old here (rw asks refl)) asks comes (subst (λ m. LoadsOn stands entry cmp code old new w.slot w.context came m (Err r)) e does) ends (subst (λ m. IsRelocating true cmp old new w.slot w.context m) e ev) refl refl)
-
-      pub acts-fail : (r : Refused) → Loads stands entry cmp f old.partition new.partition w.slot w.context came next (Err r) → ends_operation r ≡ true → IsGiveUp old.partition new.partition w.slot w.context next → IsPassedOn old new
+      pub acts-fail : (r : Refused) → Loads stands entry cmp f code old new w.slot w.context came next (Err r) → ends_operation r ≡ true → IsGiveUp old new w.slot w.context next
           → Acts stands entry cmp f code s (record s { partitions = slice_set s.partitions w.partition new; lives = ended_at s.lives (life_in s.begun w) Failed; moment = next }) (Load w access) (Err r)
-      acts-fail r does ends ev passed =
-          rw e (acts.fails w access old new receipt came r refl (due (Load w access) old here (rw asks refl)) asks comes (subst (λ m. Loads stands entry cmp f old.partition new.partition w.slot w.context came m (Err r)) e does) ends (subst (λ m. IsGiveUp old.partition new.partition w.slot w.context m) e ev) passed refl refl)
+      acts-fail r does ends ev =
+          rw e (acts.fails w access old new receipt came r refl (due (Load w access) old here (rw asks refl)) asks comes (subst (λ m. Loads stands entry cmp f code old new w.slot w.context came m (Err r)) e does) ends (subst (λ m. IsGiveUp old new w.slot w.context m) e ev) refl refl)
 
 -- the other steps answer nothing
-pub unasked-none : {K V I O R : Type 0} (s : StateView K V I O R) (step : Step K V I) → ((w : Place) → step ≡ Install w → ⊥) → ((w : Place) (access : Access) → step ≡ Load w access → ⊥) → ((p : ℕ) (access : Access) → step ≡ Write p access → ⊥) → is_unasked s step ≡ false
+pub unasked-none : {K V I O R : Type 0} (s : StateView K V I O R) (step : Step K V I) → ((w : ContextId) → step ≡ Install w → ⊥) → ((w : ContextId) (access : Access) → step ≡ Load w access → ⊥) → ((p : ℕ) (access : Access) → step ≡ Write p access → ⊥) → is_unasked s step ≡ false
 unasked-none s (Enter p) i l w = refl
 unasked-none s (Leave p slot) i l w = refl
 unasked-none s (Refresh p slot) i l w = refl
@@ -184,7 +142,6 @@ unasked-none s (Take p) i l w = refl
 unasked-none s (Write p access) i l w = absurd (w p access refl)
 unasked-none s (Head p page) i l w = refl
 unasked-none s (Issue p slot op) i l w = refl
-unasked-none s (Relocate p slot) i l w = refl
 unasked-none s (Go u) i l w = refl
 unasked-none s (Install u) i l w = absurd (i u refl)
 unasked-none s (Load u access) i l w = absurd (l u access refl)
@@ -194,5 +151,5 @@ unasked-none s (Truncate p) i l w = refl
 -- a step that has no moment
 pub acts-untimely : {K V I O R : Type 0} (stands : R → Standing) (entry : ℕ → List ℕ → ℕ → Entry K V → Type 0) (cmp : K → K → Ordering) (f : Meanings K V I O) (code : K → ℕ) (s : StateView K V I O R) (step : Step K V I) (r : Refused)
     → is_unasked s step ≡ false → IsUntimely s (partition_in step) r → Acts stands entry cmp f code s s step (Err r)
-acts-untimely stands entry cmp f code s step r asked (nowhere h e) = acts.nowhere h refl (ap Err e)
+acts-untimely stands entry cmp f code s step r asked (no_partition h e) = acts.no_partition h refl (ap Err e)
 acts-untimely stands entry cmp f code s step r asked (worn h m e) = acts.worn h asked m refl (ap Err e)

@@ -8,17 +8,17 @@ use Rattle.std.proofs.Math.Pow.{pow_mono}
 use Rattle.std.proofs.lemmas.Option.{slice_get-map}
 use Rattle.std.specs.declared.cmp.Ordering.{Ordering}
 use Rattle.fkv_functions.specs.Meanings.{Meanings}
-use Rattle.fkv_partition.specs.declared.limits.Config.{Config}
+use Rattle.fkv_partition.specs.Config.{Config}
 use Rattle.fkv_partition.specs.Limits.{IsWithinLimits}
-use Rattle.fkv_partition.specs.Contexts.{joined, is_session}
-use Rattle.fkv_partition.specs.Views.{PartitionView, empty_partition, partition_of}
-use Rattle.fkv_partition.specs.Effect.{Asked, asked, asked_by}
-use Rattle.fkv_worlds.specs.declared.tables.Seat.{Seat}
-use Rattle.fkv_compaction.specs.Views.{CompactedView, empty_compacted}
-use Rattle.fkv_worlds.specs.States.{bare, empty_partitions, empty_state}
+use Rattle.fkv_partition.specs.CoreViews.{partition_of}
+use Rattle.fkv_partition.specs.Views.{PartitionView, empty_partition}
 use Rattle.fkv_partition.specs.Pending.{Pending}
-use Rattle.fkv_lives.specs.declared.steps.Place.{Place}
+use Rattle.fkv_partition.specs.Effect.{Asked, asked}
 use Rattle.fkv_partition.specs.Unions.{live_at}
+use Rattle.fkv_partition.specs.CoreContexts.{joined, is_session}
+use Rattle.fkv_worlds.specs.declared.tables.Seat.{Seat}
+use Rattle.fkv_worlds.specs.States.{empty_partitions, empty_state}
+use Rattle.fkv_lives.specs.declared.steps.ContextId.{ContextId}
 use Rattle.fkv_worlds.specs.Worlds.{asked_at, pending_in}
 use Rattle.fkv_worlds.proofs.HeldLemmas.{waiting-at}
 use Rattle.fkv_worlds.specs.Sound.{IsState}
@@ -43,13 +43,9 @@ made-some : {A : Type 0} (f : ℕ → A) (o : Option ℕ) (v : A) → option_map
 made-some f None v h = absurd (cc)
 made-some f (Some i) v h = let same : f i ≡ v = cc in (i, refl, sym same)
 
--- what is bare of empty partitions
+-- empty partitions
 abbrev plains : {K V I : Type 0} → Config → ℕ → ℕ → List (PartitionView K V I)
 plains config size n = map (empty_partition config size) (range_with_len 0 n)
-
-bare-made : {K V I : Type 0} (config : Config) (size : ℕ) (ns : List ℕ) → bare {K = K} {V = V} {I = I} (map (empty_compacted config size) ns) ≡ map (empty_partition config size) ns
-bare-made config size [] = refl
-bare-made config size (n ∷ ns) = ap (λ vs. empty_partition config size n ∷ vs) (bare-made config size ns)
 
 pub empty-at : {K V I : Type 0} (config : Config) (size n p : ℕ) (v : PartitionView K V I) → slice_get (plains config size n) p ≡ Some v → v ≡ empty_partition config size p
 empty-at config size n p v h =
@@ -59,9 +55,9 @@ empty-at config size n p v h =
     m.2 ∙ ap (empty_partition config size) same
 
 -- one partition more
-pub partitions-more : {K V I : Type 0} (config : Config) (size n : ℕ) (xs ys : List (CompactedView K V I)) → xs ≡ empty_partitions config size n → ys ≡ xs ++ empty_compacted config size n ∷ [] → ys ≡ empty_partitions config size (n + 1)
+pub partitions-more : {K V I : Type 0} (config : Config) (size n : ℕ) (xs ys : List (PartitionView K V I)) → xs ≡ empty_partitions config size n → ys ≡ xs ++ empty_partition config size n ∷ [] → ys ≡ empty_partitions config size (n + 1)
 partitions-more config size n xs ys before one =
-    one ∙ ap (λ zs. zs ++ empty_compacted config size n ∷ []) before ∙ sym (map-range_with_len_more (empty_compacted config size) 0 n n (omega arith))
+    one ∙ ap (λ zs. zs ++ empty_partition config size n ∷ []) before ∙ sym (map-range_with_len_more (empty_partition config size) 0 n n (omega arith))
 
 pub small : (n : ℕ) → n ≤ 6 → (1 ≤ 2 ^ n) × (2 ^ n ≤ 64)
 small n h = let most : 2 ^ n ≤ 2 ^ 6 = pow_mono h in let least : 0 < 2 ^ n = pow_pos n in (omega arith, omega arith)
@@ -71,15 +67,15 @@ module _ {K V I O : Type 0} (R : Type 0) (cmp : K → K → Ordering) (f : Meani
   sized = length-map-range_with_len (empty_partition config size) 0 (2 ^ config.partition_bits)
 
   made : length (empty_partitions {K = K} {V = V} {I = I} config size (2 ^ config.partition_bits)) ≡ 2 ^ config.partition_bits
-  made = length-map-range_with_len (empty_compacted config size) 0 (2 ^ config.partition_bits)
+  made = length-map-range_with_len (empty_partition config size) 0 (2 ^ config.partition_bits)
 
   -- nothing is open in one
   unasked : (p slot c : ℕ) (x : Asked K V I) → asked (empty_partition {K = K} {V = V} {I = I} config size p) slot c ≡ Some x → ⊥
-  unasked p slot c x h = off (is_session (replicate 16 None) slot) (replicate-none 16 slot) h
-    where
-      off : (b : Bool) → b ≡ false → option_map (asked_by {K = K} {V = V} {I = I}) (cond (b && nat_lt c 8) (joined (slice_get (replicate 128 None) (slot * 8 + c))) None) ≡ Some x → ⊥
-      off true t k = absurd (cc)
-      off false t k = absurd (cc)
+  unasked p slot c x h =
+      let out : is_session (replicate 16 None) slot ≡ false = replicate-none 16 slot in
+      let none : asked (empty_partition {K = K} {V = V} {I = I} config size p) slot c ≡ None = rw out refl in
+      let bad : None ≡ Some x = sym none ∙ h in
+      absurd (cc)
 
   none-live : (o : Option (PartitionView K V I)) (k : K) → ((v : PartitionView K V I) → o ≡ Some v → (p : ℕ) × (v ≡ empty_partition config size p)) → live_at cmp o k ≡ None
   none-live None k h = refl
@@ -89,7 +85,7 @@ module _ {K V I O : Type 0} (R : Type 0) (cmp : K → K → Ordering) (f : Meani
   none-asked None slot c x h k = absurd (cc)
   none-asked (Some v) slot c x h k = let e = h v refl in unasked e.0 slot c x (ap (λ w. asked w slot c) (sym e.1) ∙ k)
 
-  none-pending : (w : Place) (q : Pending V) → pending_in cmp (plains {K = K} {V = V} {I = I} config size (2 ^ config.partition_bits)) w ≡ Some q → ⊥
+  none-pending : (w : ContextId) (q : Pending V) → pending_in cmp (plains {K = K} {V = V} {I = I} config size (2 ^ config.partition_bits)) w ≡ Some q → ⊥
   none-pending w q h =
       let a = waiting-at cmp (plains config size (2 ^ config.partition_bits)) w q h in
       none-asked (slice_get (plains config size (2 ^ config.partition_bits)) w.partition) w.slot w.context a.0 (λ v k. (w.partition, empty-at config size (2 ^ config.partition_bits) w.partition v k)) a.1
@@ -107,7 +103,7 @@ module _ {K V I O : Type 0} (R : Type 0) (cmp : K → K → Ordering) (f : Meani
       counted = λ p n h. (let e = replicate-at (2 ^ config.partition_bits) 0 n p h in omega arith);
       issued = λ i x h. (let e = ap (λ (z : Seat). z.issues) (replicate-at (2 ^ config.partition_bits * 16) _ x i h) in omega arith);
     };
-    world = rw (bare-made {K = K} {V = V} {I = I} config size (range_with_len 0 (2 ^ config.partition_bits))) (record {
+    world = record {
       placed = record {
         issued = λ j x h. absurd (cc);
         timely = λ j x t h k. absurd (cc);
@@ -121,14 +117,14 @@ module _ {K V I O : Type 0} (R : Type 0) (cmp : K → K → Ordering) (f : Meani
       };
       housed = record {
         some = rw sized b.0;
-        numbered = λ p v h. ap (λ (z : PartitionView K V I). z.number) (empty-at config size (2 ^ config.partition_bits) p v h);
-        counted = λ p v h. ap (λ (z : PartitionView K V I). z.count) (empty-at config size (2 ^ config.partition_bits) p v h) ∙ sym sized;
-        past = λ p v h. (let e = ap (λ (z : PartitionView K V I). z.moment) (empty-at config size (2 ^ config.partition_bits) p v h) in omega arith);
-        routed = λ w x h. absurd (none-asked (slice_get (plains config size (2 ^ config.partition_bits)) w.partition) w.slot w.context x (λ v k. (w.partition, empty-at config size (2 ^ config.partition_bits) w.partition v k)) h);
+        numbered = λ p v h. ap (λ (z : PartitionView K V I). z.core.number) (empty-at config size (2 ^ config.partition_bits) p v h);
+        counted = λ p v h. ap (λ (z : PartitionView K V I). z.core.count) (empty-at config size (2 ^ config.partition_bits) p v h) ∙ sym sized;
+        past = λ p v h. (let e = ap (λ (z : PartitionView K V I). z.core.moment) (empty-at config size (2 ^ config.partition_bits) p v h) in omega arith);
+        routed = λ w x q h k. absurd (none-asked (slice_get (plains config size (2 ^ config.partition_bits)) w.partition) w.slot w.context x (λ v r. (w.partition, empty-at config size (2 ^ config.partition_bits) w.partition v r)) h);
       };
       held = record {
         held = λ w q h. absurd (none-pending w q h);
         apart = λ w u q r h k e. absurd (none-pending w q h);
       };
-    });
+    };
   }

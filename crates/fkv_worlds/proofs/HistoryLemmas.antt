@@ -9,29 +9,27 @@ use Rattle.fkv_functions.specs.declared.refusals.Refused.TheVariants.{NoMemory, 
 use Rattle.fkv_device.specs.Standing.{Standing}
 use Rattle.fkv_texts.specs.declared.entries.Entry.{Entry}
 use Rattle.fkv_operations.specs.declared.operations.Op.{Op}
-use Rattle.fkv_partition.specs.declared.contexts.Progress.{Progress}
-use Rattle.fkv_partition.specs.declared.contexts.Progress.TheVariants.{Done, Next, NeedsBuild, NeedsLoad, Waits}
+use Rattle.fkv_partition.specs.Config.{Config}
+use Rattle.fkv_partition.specs.Progress.{Progress}
+use Rattle.fkv_partition.specs.Progress.TheVariants.{Done, Next, NeedsBuild, NeedsLoad, Waits}
 use Rattle.fkv_functions.proofs.ListLemmas.{get-set_other}
-use Rattle.fkv_compaction.specs.declared.relocations.Moved.{Moved}
-use Rattle.fkv_compaction.specs.declared.relocations.Moved.TheVariants as moved
 use Rattle.fkv_lives.specs.declared.lives.Life.{Life}
 use Rattle.fkv_lives.specs.declared.lives.End.{End}
 use Rattle.fkv_lives.specs.declared.outcomes.Outcome.{Outcome}
 use Rattle.fkv_lives.specs.declared.outcomes.Outcome.TheVariants as outcome
 use Rattle.fkv_lives.specs.declared.steps.Access.{Access}
 use Rattle.fkv_lives.specs.declared.steps.Access.TheVariants.{Works}
-use Rattle.fkv_lives.specs.declared.steps.Place.{Place}
+use Rattle.fkv_lives.specs.declared.steps.ContextId.{ContextId}
 use Rattle.fkv_lives.specs.declared.steps.Step.{Step}
 use Rattle.fkv_lives.specs.declared.steps.Step.TheVariants as step
 use Rattle.fkv_worlds.specs.declared.tables.Seat.{Seat}
 use Rattle.fkv_lives.specs.Changes.{ended_at}
-use Rattle.fkv_partition.specs.declared.limits.Config.{Config}
 use Rattle.fkv_worlds.specs.States.{StateView, WorldView, seat_row, empty_state, empty_world}
 use Rattle.fkv_lives.specs.Told.{ends_operation}
 use Rattle.fkv_worlds.proofs.EmptyLemmas.{replicate-at}
 use Rattle.fkv_worlds.proofs.RefusedLemmas.{refuses-no, spoils-no}
 use Rattle.fkv_worlds.specs.Acts as acts
-use Rattle.fkv_worlds.specs.Acts.{Acts, begun_life, lives_by, told, told_moved}
+use Rattle.fkv_worlds.specs.Acts.{Acts, begun_life, lives_by, told}
 use Rattle.fkv_lives.specs.Histories.{Event, backwards, entered_at, issued_at, moments, enters_in, session_in, issues_in, issue_of}
 use Rattle.fkv_worlds.specs.Reports.{RunsTo}
 
@@ -188,40 +186,21 @@ module _ {K V I O R : Type 0} (stands : R → Standing) (entry : ℕ → List �
   progressing new t r j p nobody nothing now tables seated lived is =
       rw is (quiet s h history new t (told p) nobody nothing now tables seated (ap (map issue_of) lived ∙ progress-issue_of s.lives j (suc s.moment) p))
 
-  -- a relocation goes on
-  moving : (new : StateView K V I O R) (t : Step K V I) (r : Result (Outcome V O) Refused) (p : Moved R)
-      → entered_at {O = O} (Ok (told_moved p)) t ≡ None → issued_at {O = O} (Ok (told_moved p)) t ≡ None
-      → new.moment ≡ suc s.moment → new.enters ≡ s.enters → new.seats ≡ s.seats → new.lives ≡ s.lives → r ≡ Ok (told_moved p)
-      → HasHistory new (record { step = t; told = r } ∷ h)
-  moving new t r p nobody nothing now tables seated lived is = rw is (quiet s h history new t (told_moved p) nobody nothing now tables seated (ap (map issue_of) lived))
-
-  nobody_goes_on : (p : Moved R) (w : Place) → entered_at {K = K} {V = V} {I = I} {O = O} (Ok (told_moved p)) (step.Go w) ≡ None
-  nobody_goes_on moved.Cleared w = refl
-  nobody_goes_on moved.Next w = refl
-  nobody_goes_on (moved.NeedsLoad receipt address) w = refl
-  nobody_goes_on moved.Waits w = refl
-
-  nobody_loads_on : (p : Moved R) (w : Place) (access : Access) → entered_at {K = K} {V = V} {I = I} {O = O} (Ok (told_moved p)) (step.Load w access) ≡ None
-  nobody_loads_on moved.Cleared w access = refl
-  nobody_loads_on moved.Next w access = refl
-  nobody_loads_on (moved.NeedsLoad receipt address) w access = refl
-  nobody_loads_on moved.Waits w access = refl
-
-  nobody_goes : (p : Progress K V I O R) (w : Place) → entered_at {K = K} {I = I} (Ok (told p)) (step.Go w) ≡ None
+  nobody_goes : (p : Progress K V I O R) (w : ContextId) → entered_at {K = K} {I = I} (Ok (told p)) (step.Go w) ≡ None
   nobody_goes (Done x effect) w = refl
   nobody_goes Next w = refl
   nobody_goes (NeedsBuild ask) w = refl
   nobody_goes (NeedsLoad receipt address) w = refl
   nobody_goes (Waits why) w = refl
 
-  nobody_installs : (p : Progress K V I O R) (w : Place) → entered_at {K = K} {I = I} (Ok (told p)) (step.Install w) ≡ None
+  nobody_installs : (p : Progress K V I O R) (w : ContextId) → entered_at {K = K} {I = I} (Ok (told p)) (step.Install w) ≡ None
   nobody_installs (Done x effect) w = refl
   nobody_installs Next w = refl
   nobody_installs (NeedsBuild ask) w = refl
   nobody_installs (NeedsLoad receipt address) w = refl
   nobody_installs (Waits why) w = refl
 
-  nobody_loads : (p : Progress K V I O R) (w : Place) (access : Access) → entered_at {K = K} {I = I} (Ok (told p)) (step.Load w access) ≡ None
+  nobody_loads : (p : Progress K V I O R) (w : ContextId) (access : Access) → entered_at {K = K} {I = I} (Ok (told p)) (step.Load w access) ≡ None
   nobody_loads (Done x effect) w access = refl
   nobody_loads Next w access = refl
   nobody_loads (NeedsBuild ask) w access = refl
@@ -229,53 +208,43 @@ module _ {K V I O R : Type 0} (stands : R → Standing) (entry : ℕ → List �
   nobody_loads (Waits why) w access = refl
 
   pub history-acts : (new : StateView K V I O R) (t : Step K V I) (r : Result (Outcome V O) Refused) → Acts stands entry cmp f code s new t r → HasHistory new (record { step = t; told = r } ∷ h)
-  history-acts new t r (acts.nowhere a same is) = kept-state s h history new t r Unknown refl same is
+  history-acts new t r (acts.no_partition a same is) = kept-state s h history new t r Unknown refl same is
   history-acts new t r (acts.unasked w v a b c d same is) = kept-state s h history new t r NotReady refl same is
-  history-acts new t r (acts.unknown w v a b c d o same is) = kept-state s h history new t r Unknown refl same is
-  history-acts new t r (acts.jobless p access a b c same is) = kept-state s h history new t r NotReady refl same is
+  history-acts new t r (acts.unknown w v a b c d same is) = kept-state s h history new t r Unknown refl same is
+  history-acts new t r (acts.no_flush_job p access a b c same is) = kept-state s h history new t r NotReady refl same is
   history-acts new t r (acts.worn a b c same is) = kept-state s h history new t r Worn refl same is
-  history-acts new t r (acts.lifeless p slot op v a b same is) = kept-state s h history new t r NoMemory refl same is
+  history-acts new t r (acts.no_memory_for_life p slot op v a b same is) = kept-state s h history new t r NoMemory refl same is
   history-acts new t r (acts.refuses v e due refused_by same is) = kept-state s h history new t r e (refuses-no stands entry cmp f code s v (suc s.moment) e t refused_by) same is
-  history-acts new t r (acts.enters p slot n v v' a b c d on low count to is) =
+  history-acts new t r (acts.enters p slot n v v' a b c d low count to is) =
       rw (a, is) (entering s h history new p slot n low count (ap (λ (z : StateView K V I O R). z.moment) to) (ap (λ (z : StateView K V I O R). z.enters) to) (ap (λ (z : StateView K V I O R). z.seats) to) (ap (λ (z : StateView K V I O R). z.lives) to))
   history-acts new t r (acts.leaves p slot v v' a b c ev to is) =
       rw (a, is) (quiet s h history new (step.Leave p slot) (outcome.Left) refl refl (ap (λ (z : StateView K V I O R). z.moment) to) (ap (λ (z : StateView K V I O R). z.enters) to) (ap (λ (z : StateView K V I O R). z.seats) to) (ap (λ (z : StateView K V I O R). map issue_of z.lives) to))
-  history-acts new t r (acts.refreshes p slot v v' a b c ev on to is) =
+  history-acts new t r (acts.refreshes p slot v v' a b c ev to is) =
       rw (a, is) (quiet s h history new (step.Refresh p slot) (outcome.Refreshed) refl refl (ap (λ (z : StateView K V I O R). z.moment) to) (ap (λ (z : StateView K V I O R). z.enters) to) (ap (λ (z : StateView K V I O R). z.seats) to) (ap (λ (z : StateView K V I O R). map issue_of z.lives) to))
-  history-acts new t r (acts.shifts p page v v' a b c ev on to is) =
+  history-acts new t r (acts.shifts p page v v' a b c ev to is) =
       rw (a, is) (quiet s h history new (step.ReadOnly p page) (outcome.Shifted) refl refl (ap (λ (z : StateView K V I O R). z.moment) to) (ap (λ (z : StateView K V I O R). z.enters) to) (ap (λ (z : StateView K V I O R). z.seats) to) (ap (λ (z : StateView K V I O R). map issue_of z.lives) to))
-  history-acts new t r (acts.evicts p page v v' a b c ev on to is) =
+  history-acts new t r (acts.evicts p page v v' a b c ev to is) =
       rw (a, is) (quiet s h history new (step.Head p page) (outcome.Shifted) refl refl (ap (λ (z : StateView K V I O R). z.moment) to) (ap (λ (z : StateView K V I O R). z.enters) to) (ap (λ (z : StateView K V I O R). z.seats) to) (ap (λ (z : StateView K V I O R). map issue_of z.lives) to))
   history-acts new t r (acts.takes p v job a due page bytes to is) =
       rw (a, is) (quiet s h history new (step.Take p) (outcome.Taken job.page) refl refl (ap (λ (z : StateView K V I O R). z.moment) to) (ap (λ (z : StateView K V I O R). z.enters) to) (ap (λ (z : StateView K V I O R). z.seats) to) (ap (λ (z : StateView K V I O R). map issue_of z.lives) to))
   history-acts new t r (acts.spoils p access v job e a due has spoiled to is) =
-      rw is (spoiling s h history new t e (spoils-no v.partition (suc s.moment) job access e spoiled) (ap (λ (z : StateView K V I O R). z.moment) to) (ap (λ (z : StateView K V I O R). z.enters) to) (ap (λ (z : StateView K V I O R). z.seats) to) (ap (λ (z : StateView K V I O R). z.lives) to))
-  history-acts new t r (acts.writes p v v' job a due has does ev on to is) =
+      rw is (spoiling s h history new t e (spoils-no v (suc s.moment) job access e spoiled) (ap (λ (z : StateView K V I O R). z.moment) to) (ap (λ (z : StateView K V I O R). z.enters) to) (ap (λ (z : StateView K V I O R). z.seats) to) (ap (λ (z : StateView K V I O R). z.lives) to))
+  history-acts new t r (acts.writes p v v' job a due has does ev to is) =
       rw (a, is) (quiet s h history new (step.Write p Works) (outcome.Flushed job.page) refl refl (ap (λ (z : StateView K V I O R). z.moment) to) (ap (λ (z : StateView K V I O R). z.enters) to) (ap (λ (z : StateView K V I O R). z.seats) to) (ap (λ (z : StateView K V I O R). map issue_of z.lives) to))
-  history-acts new t r (acts.gives_up w v v' a due c ev on to is) =
+  history-acts new t r (acts.gives_up w v v' a due c ev to is) =
       rw (a, is) (quiet s h history new (step.GiveUp w) (outcome.GivenUp) refl refl (ap (λ (z : StateView K V I O R). z.moment) to) (ap (λ (z : StateView K V I O R). z.enters) to) (ap (λ (z : StateView K V I O R). z.seats) to) (ap (λ (z : StateView K V I O R). map issue_of z.lives) to ∙ ended-issue_of s.lives _ _))
-  history-acts new t r (acts.fails w access v v' receipt came e a due has comes does ends ev on to is) =
+  history-acts new t r (acts.fails w access v v' receipt came e a due has comes does ends ev to is) =
       rw is (failing s h history new t e ends (ap (λ (z : StateView K V I O R). z.moment) to) (ap (λ (z : StateView K V I O R). z.enters) to) (ap (λ (z : StateView K V I O R). z.seats) to) (ap (λ (z : StateView K V I O R). map issue_of z.lives) to ∙ ended-issue_of s.lives _ _))
   history-acts new t r (acts.issues p slot c op v v' seat a b d ev low at to is) =
       rw (a, is) (issuing s h history new p slot c op seat _ low at refl (ap (λ (z : StateView K V I O R). z.moment) to) (ap (λ (z : StateView K V I O R). z.enters) to) (ap (λ (z : StateView K V I O R). z.seats) to) (ap (λ (z : StateView K V I O R). z.lives) to))
-  history-acts new t r (acts.goes w v v' p a due c ev on to is) =
+  history-acts new t r (acts.goes w v v' p a due c ev to is) =
       rw a (progressing new (step.Go w) r _ p (nobody_goes p w) refl (ap (λ (z : StateView K V I O R). z.moment) to) (ap (λ (z : StateView K V I O R). z.enters) to) (ap (λ (z : StateView K V I O R). z.seats) to) (ap (λ (z : StateView K V I O R). z.lives) to) is)
-  history-acts new t r (acts.installs w v v' ask p a due c d ev on to is) =
+  history-acts new t r (acts.installs w v v' ask p a due c d ev to is) =
       rw a (progressing new (step.Install w) r _ p (nobody_installs p w) refl (ap (λ (z : StateView K V I O R). z.moment) to) (ap (λ (z : StateView K V I O R). z.enters) to) (ap (λ (z : StateView K V I O R). z.seats) to) (ap (λ (z : StateView K V I O R). z.lives) to) is)
-  history-acts new t r (acts.loads w access v v' receipt came p a due has comes does ev on to is) =
+  history-acts new t r (acts.loads w access v v' receipt came p a due has comes does ev to is) =
       rw a (progressing new (step.Load w access) r _ p (nobody_loads p w access) refl (ap (λ (z : StateView K V I O R). z.moment) to) (ap (λ (z : StateView K V I O R). z.enters) to) (ap (λ (z : StateView K V I O R). z.seats) to) (ap (λ (z : StateView K V I O R). z.lives) to) is)
-  history-acts new t r (acts.relocates p slot c v v' a due does ev low to is) =
-      rw (a, is) (quiet s h history new (step.Relocate p slot) (outcome.Relocating c) refl refl (ap (λ (z : StateView K V I O R). z.moment) to) (ap (λ (z : StateView K V I O R). z.enters) to) (ap (λ (z : StateView K V I O R). z.seats) to) (ap (λ (z : StateView K V I O R). map issue_of z.lives) to))
-  history-acts new t r (acts.goes_on w v v' p a due does ev to is) =
-      rw a (moving new (step.Go w) r p (nobody_goes_on p w) refl (ap (λ (z : StateView K V I O R). z.moment) to) (ap (λ (z : StateView K V I O R). z.enters) to) (ap (λ (z : StateView K V I O R). z.seats) to) (ap (λ (z : StateView K V I O R). z.lives) to) is)
-  history-acts new t r (acts.loads_on w access v v' receipt came p a due has comes does ev to is) =
-      rw a (moving new (step.Load w access) r p (nobody_loads_on p w access) refl (ap (λ (z : StateView K V I O R). z.moment) to) (ap (λ (z : StateView K V I O R). z.enters) to) (ap (λ (z : StateView K V I O R). z.seats) to) (ap (λ (z : StateView K V I O R). z.lives) to) is)
-  history-acts new t r (acts.fails_on w access v v' receipt came e a due has comes does ends ev to is) =
-      rw is (failing s h history new t e ends (ap (λ (z : StateView K V I O R). z.moment) to) (ap (λ (z : StateView K V I O R). z.enters) to) (ap (λ (z : StateView K V I O R). z.seats) to) (ap (λ (z : StateView K V I O R). map issue_of z.lives) to))
-  history-acts new t r (acts.drops w v v' a due does ev to is) =
-      rw (a, is) (quiet s h history new (step.GiveUp w) (outcome.GivenUp) refl refl (ap (λ (z : StateView K V I O R). z.moment) to) (ap (λ (z : StateView K V I O R). z.enters) to) (ap (λ (z : StateView K V I O R). z.seats) to) (ap (λ (z : StateView K V I O R). map issue_of z.lives) to))
   history-acts new t r (acts.truncates p v v' a due does ev to is) =
-      rw (a, is) (quiet s h history new (step.Truncate p) (outcome.Truncated v'.partition.records.begin) refl refl (ap (λ (z : StateView K V I O R). z.moment) to) (ap (λ (z : StateView K V I O R). z.enters) to) (ap (λ (z : StateView K V I O R). z.seats) to) (ap (λ (z : StateView K V I O R). map issue_of z.lives) to))
+      rw (a, is) (quiet s h history new (step.Truncate p) (outcome.Truncated v'.core.records.begin) refl refl (ap (λ (z : StateView K V I O R). z.moment) to) (ap (λ (z : StateView K V I O R). z.enters) to) (ap (λ (z : StateView K V I O R). z.seats) to) (ap (λ (z : StateView K V I O R). map issue_of z.lives) to))
 
 -- ---- steps in turn
 -- what the steps were told, after what was told before, and the history that they make

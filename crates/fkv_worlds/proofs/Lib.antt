@@ -1,7 +1,5 @@
 pub mod Naming
-pub mod BareLemmas
 pub mod RefusedLemmas
-pub mod RelocationLemmas
 pub mod ResultLemmas
 pub mod LivesLemmas
 pub mod PlacedLemmas

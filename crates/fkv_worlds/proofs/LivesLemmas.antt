@@ -3,7 +3,7 @@ use Rattle.std.proofs.Common.{◌≡◌, ◌≢◌, Bool, true, false, cond, ◌
 use Rattle.std.proofs.lemmas.Bool.Decides.{nat_tests}
 use Rattle.std.specs.declared.cmp.Ordering.{Ordering}
 use Rattle.fkv_functions.specs.Meanings.{Meanings}
-use Rattle.fkv_operations.specs.After.{is_update}
+use Rattle.fkv_operations.specs.Operations.{may_update}
 use Rattle.fkv_lives.specs.declared.lives.Life.{Life}
 use Rattle.fkv_lives.specs.declared.lives.End.{End}
 use Rattle.fkv_lives.specs.declared.lives.Finish.{Finish}
@@ -79,14 +79,14 @@ and-false true = refl
 and-false false = refl
 
 pub updates_at-untold : {K V I O : Type 0} (s : ℕ) (x : Life K V I O) → finish_of x ≡ None → updates_at s x ≡ false
-updates_at-untold s x h = rw h (and-false (is_update x.op))
+updates_at-untold s x h = rw h (and-false (may_update x.op))
 
 effect-no : {O : Type 0} (s : ℕ) (o : Option (Finish O)) → ((t : Finish O) → o ≡ Some t → t.effect ≢ s) → has_effect_at s o ≡ false
 effect-no s None h = refl
 effect-no s (Some t) h = let ne : t.effect ≢ s = h t refl in grind (arith, nat_tests)
 
 pub updates_at-other : {K V I O : Type 0} (s : ℕ) (x : Life K V I O) → ((t : Finish O) → finish_of x ≡ Some t → t.effect ≢ s) → updates_at s x ≡ false
-updates_at-other s x h = ap (λ b. is_update x.op && b) (effect-no s (finish_of x) h) ∙ and-false (is_update x.op)
+updates_at-other s x h = ap (λ b. may_update x.op && b) (effect-no s (finish_of x) h) ∙ and-false (may_update x.op)
 
 -- ---- the map before a step
 pub map_before-same : {K V I O : Type 0} (cmp : K → K → Ordering) (f : Meanings K V I O) (l k : List (Life K V I O)) (n : ℕ) → ((s : ℕ) → s < n → update_at l s ≡ update_at k s) → map_before cmp f l n ≡ map_before cmp f k n

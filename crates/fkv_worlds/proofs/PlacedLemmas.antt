@@ -4,10 +4,10 @@ use Rattle.std.proofs.lemmas.Bool.Decides.{nat_tests}
 use Rattle.std.specs.declared.cmp.Ordering.{Ordering}
 use Rattle.fkv_functions.specs.Meanings.{Meanings}
 use Rattle.fkv_functions.specs.Plain.{PlainMap}
-use Rattle.fkv_operations.specs.After.{after, answer, is_update, shown_of}
-use Rattle.fkv_operations.specs.AfterLaws.{after-quiet}
+use Rattle.fkv_operations.specs.After.{shown_of}
+use Rattle.fkv_operations.specs.Operations.{may_update, map_after, answer_to}
 use Rattle.fkv_operations.specs.declared.operations.Op.{Op}
-use Rattle.fkv_operations.specs.declared.operations.Op.TheVariants.{Read}
+use Rattle.fkv_operations.specs.declared.operations.Op.TheVariants.{Read, Upsert, Rmw, Delete, Relocate}
 use Rattle.fkv_operations.specs.declared.operations.Answer.{Answer}
 use Rattle.fkv_lives.specs.declared.lives.Finish.{Finish}
 use Rattle.fkv_lives.specs.declared.lives.Life.{Life}
@@ -17,6 +17,14 @@ use Rattle.fkv_lives.specs.Lives.{finish_of, finish_in, updates_at, update_at, a
 use Rattle.fkv_lives.specs.Placed.{IsTimely, IsPlaced}
 use Rattle.fkv_lives.specs.Changes.{ended_at}
 use Rattle.fkv_worlds.proofs.LivesLemmas.{append_cases, first_by-none, first_by-append, ended_cases, first_by-ended_quiet, first_by-ended_now, updates_at-untold, updates_at-other, map_before-same}
+
+-- an operation that is no update leaves the map
+after-quiet : {K V I O : Type 0} (cmp : K → K → Ordering) (f : Meanings K V I O) (m : PlainMap K V) (op : Op K V I) → may_update op ≡ false → map_after cmp f m op ≡ m
+after-quiet cmp f m (Read k i) h = refl
+after-quiet cmp f m (Upsert k v) h = absurd (cc)
+after-quiet cmp f m (Rmw k i) h = absurd (cc)
+after-quiet cmp f m (Delete k) h = absurd (cc)
+after-quiet cmp f m Relocate h = refl
 
 module _ {K V I O : Type 0} (cmp : K → K → Ordering) (f : Meanings K V I O) (lives : List (Life K V I O)) (now next : ℕ) (e : next ≡ suc now) (p : IsPlaced cmp f lives now) where
   -- no effect lies at the step to come
@@ -61,7 +69,7 @@ module _ {K V I O : Type 0} (cmp : K → K → Ordering) (f : Meanings K V I O) 
       ];
       timely = λ j x t hj k. timely_on x t (p.timely j x t (was_there j x t hj k) k);
       alone = λ i j x z t u hi hj ti tj. p.alone i j x z t u (was_there i x t hi ti) (was_there j z u hj tj) ti tj;
-      answers = λ j x t hj k. p.answers j x t (was_there j x t hj k) k ∙ ap (λ (m : PlainMap K V). answer f m x.op) (sym (same_append t.effect));
+      answers = λ j x t hj k. p.answers j x t (was_there j x t hj k) k ∙ ap (λ (m : PlainMap K V). answer_to f m x.op) (sym (same_append t.effect));
     }
 
   -- a step that ends the life at `j`
@@ -85,7 +93,7 @@ module _ {K V I O : Type 0} (cmp : K → K → Ordering) (f : Meanings K V I O) 
         ];
         timely = λ i y t hi k. timely_on y t (p.timely i y t (was_finished i y t hi k) k);
         alone = λ i l y z t u hi hl ti tl. p.alone i l y z t u (was_finished i y t hi ti) (was_finished l z u hl tl) ti tl;
-        answers = λ i y t hi k. p.answers i y t (was_finished i y t hi k) k ∙ ap (λ (m : PlainMap K V). answer f m y.op) (sym (same_ended t.effect));
+        answers = λ i y t hi k. p.answers i y t (was_finished i y t hi k) k ∙ ap (λ (m : PlainMap K V). answer_to f m y.op) (sym (same_ended t.effect));
       }
 
     -- with this answer, its effect at a step that is free
@@ -99,8 +107,8 @@ module _ {K V I O : Type 0} (cmp : K → K → Ordering) (f : Meanings K V I O) 
 
       pub placed-finish : (let new = ended_at lives j (Finished (record { effect = effect; done = next; answer = a })) in
           ((s : ℕ) → s < next → update_at new s ≡ update_at lives s) →
-          (is_update x.op ≡ true → effect ≡ next) →
-          a ≡ answer f (map_before cmp f lives effect) x.op →
+          (may_update x.op ≡ true → effect ≡ next) →
+          a ≡ answer_to f (map_before cmp f lives effect) x.op →
           IsPlaced cmp f new next)
       placed-finish old update answers =
           let new : List (Life K V I O) = ended_at lives j (Finished (record { effect = effect; done = next; answer = a })) in
@@ -119,7 +127,7 @@ module _ {K V I O : Type 0} (cmp : K → K → Ordering) (f : Meanings K V I O) 
                     later = omega arith;
                     within = omega arith;
                     past = omega arith;
-                    update = λ q. (let v : effect ≡ next = update (sym (ap (λ (w : Life K V I O). is_update w.op) c.1) ∙ q) in omega arith);
+                    update = λ q. (let v : effect ≡ next = update (sym (ap (λ (w : Life K V I O). may_update w.op) c.1) ∙ q) in omega arith);
                   })
               | inr c ↦ timely_on y t (p.timely i y t c.1 k)
             ];
@@ -137,19 +145,19 @@ module _ {K V I O : Type 0} (cmp : K → K → Ordering) (f : Meanings K V I O) 
             answers = λ i y t hi k. elim (ended_cases lives j (Finished (record { effect = effect; done = next; answer = a })) x here i y hi) [
               | inl c ↦ (let t_is = at_new i y t c.1 k in
                   ap (λ (w : Finish O). w.answer) t_is ∙ answers
-                  ∙ ap (λ (m : PlainMap K V). answer f m x.op) (sym (same effect within))
-                  ∙ ap (λ (w : Finish O). answer f (map_before cmp f new w.effect) x.op) (sym t_is)
-                  ∙ ap (λ (w : Life K V I O). answer f (map_before cmp f new t.effect) w.op) (sym c.1))
+                  ∙ ap (λ (m : PlainMap K V). answer_to f m x.op) (sym (same effect within))
+                  ∙ ap (λ (w : Finish O). answer_to f (map_before cmp f new w.effect) x.op) (sym t_is)
+                  ∙ ap (λ (w : Life K V I O). answer_to f (map_before cmp f new t.effect) w.op) (sym c.1))
               | inr c ↦ (let u = p.timely i y t c.1 k in let b : t.effect ≤ t.done = u.within in let d : t.done ≤ now = u.past in
-                  p.answers i y t c.1 k ∙ ap (λ (m : PlainMap K V). answer f m y.op) (sym (same t.effect (omega arith))))
+                  p.answers i y t c.1 k ∙ ap (λ (m : PlainMap K V). answer_to f m y.op) (sym (same t.effect (omega arith))))
             ];
           }
 
-    no_update : (op : Op K V I) (b : Bool) → is_update op ≡ false → (is_update op && b) ≡ false
+    no_update : (op : Op K V I) (b : Bool) → may_update op ≡ false → (may_update op && b) ≡ false
     no_update op b h = rw h refl
 
     -- the map after this step, where the operation took effect at it
-    after_now : (new : List (Life K V I O)) (b : Bool) → is_update x.op ≡ b → (b ≡ true → update_at new next ≡ Some x.op) → (b ≡ false → update_at new next ≡ None) → after_some cmp f (map_before cmp f new next) (update_at new next) ≡ after cmp f (map_before cmp f new next) x.op
+    after_now : (new : List (Life K V I O)) (b : Bool) → may_update x.op ≡ b → (b ≡ true → update_at new next ≡ Some x.op) → (b ≡ false → update_at new next ≡ None) → after_some cmp f (map_before cmp f new next) (update_at new next) ≡ map_after cmp f (map_before cmp f new next) x.op
     after_now new true t found gone = ap (after_some cmp f (map_before cmp f new next)) (found refl)
     after_now new false t found gone = ap (after_some cmp f (map_before cmp f new next)) (gone refl) ∙ sym (after-quiet cmp f (map_before cmp f new next) x.op t)
 
@@ -162,32 +170,32 @@ module _ {K V I O : Type 0} (cmp : K → K → Ordering) (f : Meanings K V I O) 
       old_now s b = first_by-ended_quiet (updates_at s) (λ w. Some w.op) lives j (Finished (record { effect = next; done = next; answer = a })) x here (updates_at-untold s x unended)
           (updates_at-other s (record x { end = Finished (record { effect = next; done = next; answer = a }) }) (λ t k n. (let u : record { effect = next; done = next; answer = a } ≡ t = cc in let v : next ≡ t.effect = ap (λ (w : Finish O). w.effect) u in omega arith)))
 
-      pub map-now : map_before cmp f (ended_at lives j (Finished (record { effect = next; done = next; answer = a }))) (suc next) ≡ after cmp f (map_before cmp f lives (suc now)) x.op
+      pub map-now : map_before cmp f (ended_at lives j (Finished (record { effect = next; done = next; answer = a }))) (suc next) ≡ map_after cmp f (map_before cmp f lives (suc now)) x.op
       map-now =
           let new : List (Life K V I O) = ended_at lives j (Finished (record { effect = next; done = next; answer = a })) in
           let now_is : (next == next) ≡ true = grind (arith, nat_tests) in
           let same : map_before cmp f new next ≡ map_before cmp f lives (suc now) = map_before-same cmp f new lives next (λ s b. old_now s b) ∙ map_next in
-          let found : is_update x.op ≡ true → update_at new next ≡ Some x.op = λ t. first_by-ended_now (updates_at next) (λ w. Some w.op) lives j (Finished (record { effect = next; done = next; answer = a })) x here none_next (rw (t, now_is) refl) in
-          let gone : is_update x.op ≡ false → update_at new next ≡ None = λ t. first_by-ended_quiet (updates_at next) (λ w. Some w.op) lives j (Finished (record { effect = next; done = next; answer = a })) x here (updates_at-untold next x unended) (no_update x.op (next == next) t) ∙ first_by-none (updates_at next) (λ w. Some w.op) lives none_next in
-          after_now new (is_update x.op) refl found gone ∙ ap (λ (m : PlainMap K V). after cmp f m x.op) same
+          let found : may_update x.op ≡ true → update_at new next ≡ Some x.op = λ t. first_by-ended_now (updates_at next) (λ w. Some w.op) lives j (Finished (record { effect = next; done = next; answer = a })) x here none_next (rw (t, now_is) refl) in
+          let gone : may_update x.op ≡ false → update_at new next ≡ None = λ t. first_by-ended_quiet (updates_at next) (λ w. Some w.op) lives j (Finished (record { effect = next; done = next; answer = a })) x here (updates_at-untold next x unended) (no_update x.op (next == next) t) ∙ first_by-none (updates_at next) (λ w. Some w.op) lives none_next in
+          after_now new (may_update x.op) refl found gone ∙ ap (λ (m : PlainMap K V). map_after cmp f m x.op) same
 
       -- the map before this step or an earlier one stays
       pub same_now : (n : ℕ) → n ≤ next → map_before cmp f (ended_at lives j (Finished (record { effect = next; done = next; answer = a }))) n ≡ map_before cmp f lives n
       same_now n le = map_before-same cmp f (ended_at lives j (Finished (record { effect = next; done = next; answer = a }))) lives n (λ s b. old_now s (omega arith))
 
-      pub placed-now : a ≡ answer f (map_before cmp f lives (suc now)) x.op → IsPlaced cmp f (ended_at lives j (Finished (record { effect = next; done = next; answer = a }))) next
+      pub placed-now : a ≡ answer_to f (map_before cmp f lives (suc now)) x.op → IsPlaced cmp f (ended_at lives j (Finished (record { effect = next; done = next; answer = a }))) next
       placed-now ha =
           placed-finish next a
           (λ i w t hi k n. (let u = p.timely i w t hi k in let b : t.effect ≤ t.done = u.within in let d : t.done ≤ now = u.past in omega arith))
           (let b : x.issue ≤ now = p.issued j x here in omega arith)
           (omega arith)
           old_now (λ t. refl)
-          (ha ∙ ap (λ (m : PlainMap K V). answer f m x.op) (sym map_next))
+          (ha ∙ ap (λ (m : PlainMap K V). answer_to f m x.op) (sym map_next))
 
     -- a read that takes effect at an earlier step, which is free, from the value of its key before that step
     module _ (effect : ℕ) (a : Answer O) (k : K) (i : I) (is : x.op ≡ Read k i) where
       old_before : (s : ℕ) → update_at (ended_at lives j (Finished (record { effect = effect; done = next; answer = a }))) s ≡ update_at lives s
-      old_before s = first_by-ended_quiet (updates_at s) (λ w. Some w.op) lives j (Finished (record { effect = effect; done = next; answer = a })) x here (updates_at-untold s x unended) (no_update x.op (effect == s) (ap is_update is))
+      old_before s = first_by-ended_quiet (updates_at s) (λ w. Some w.op) lives j (Finished (record { effect = effect; done = next; answer = a })) x here (updates_at-untold s x unended) (no_update x.op (effect == s) (ap may_update is))
 
       pub map-before : map_before cmp f (ended_at lives j (Finished (record { effect = effect; done = next; answer = a }))) (suc next) ≡ map_before cmp f lives (suc now)
       map-before = map_before-same cmp f (ended_at lives j (Finished (record { effect = effect; done = next; answer = a }))) lives (suc next) (λ s b. old_before s) ∙ map-quiet
@@ -199,7 +207,7 @@ module _ {K V I O : Type 0} (cmp : K → K → Ordering) (f : Meanings K V I O) 
           → x.issue < effect → effect ≤ now → held ≡ map_before cmp f lives effect k → a ≡ shown_of f k i held
           → IsPlaced cmp f (ended_at lives j (Finished (record { effect = effect; done = next; answer = a }))) next
       placed-before held free later past h ha =
-          let quiet : is_update x.op ≡ false = ap is_update is in
+          let quiet : may_update x.op ≡ false = ap may_update is in
           placed-finish effect a free later (omega arith) (λ s b. old_before s)
           (λ t. absurd (let u : true ≡ false = sym t ∙ quiet in cc))
-          (ha ∙ ap (shown_of f k i) h ∙ ap (λ o. answer f (map_before cmp f lives effect) o) (sym is))
+          (ha ∙ ap (shown_of f k i) h ∙ ap (λ o. answer_to f (map_before cmp f lives effect) o) (sym is))

@@ -8,28 +8,25 @@ use Rattle.fkv_functions.specs.Meanings.{Meanings}
 use Rattle.fkv_functions.specs.Plain.{IsKeyOrder}
 use Rattle.fkv_functions.specs.declared.asks.Ask.{Ask}
 use Rattle.fkv_operations.specs.declared.operations.Op.{Op}
-use Rattle.fkv_partition.specs.declared.contexts.Progress.{Progress}
-use Rattle.fkv_partition.specs.declared.contexts.Progress.TheVariants.{Done, Next, NeedsBuild, NeedsLoad, Waits}
-use Rattle.fkv_partition.specs.Truncating.{IsTruncation}
-use Rattle.fkv_compaction.specs.Views.{CompactedView}
-use Rattle.fkv_compaction.specs.Effect.{IsRelocating}
-use Rattle.fkv_partition.specs.Effect.{IsQuiet, IsIssue, IsEvent, IsGiveUp}
-use Rattle.fkv_partition.specs.Pending.{AllPend, OthersPend, Finds, IsLoad}
+use Rattle.fkv_partition.specs.Progress.{Progress}
+use Rattle.fkv_partition.specs.Progress.TheVariants.{Done, Next, NeedsBuild, NeedsLoad, Waits}
+use Rattle.fkv_partition.specs.Views.{PartitionView}
+use Rattle.fkv_partition.specs.Pending.{AllPend, OthersPend}
+use Rattle.fkv_partition.specs.Effect.{Asked, asked, IsTruncation, IsQuiet, IsIssue, IsEvent, IsGiveUp, Finds, IsLoad, IsLoaded}
 use Rattle.fkv_functions.proofs.ListLemmas.{get-set_cases, get-set_other, get-set_within}
 use Rattle.fkv_lives.specs.declared.lives.Life.{Life}
 use Rattle.fkv_lives.specs.declared.lives.End.{End}
 use Rattle.fkv_device.specs.declared.messages.FlushJob.{FlushJob}
 use Rattle.fkv_texts.specs.Text.{live}
 use Rattle.fkv_lives.specs.Lives.{finish_in}
-use Rattle.fkv_lives.specs.declared.steps.Place.{Place}
+use Rattle.fkv_lives.specs.declared.steps.ContextId.{ContextId}
 use Rattle.fkv_worlds.specs.declared.tables.Seat.{Seat}
 use Rattle.fkv_lives.specs.Changes.{ended_at}
-use Rattle.fkv_worlds.specs.States.{StateView, bare, is_context, context_row, seat_row, seat_at, life_in, question_in, receipt_in}
+use Rattle.fkv_worlds.specs.States.{StateView, is_context, context_row, seat_row, seat_at, life_in, question_in, receipt_in}
 use Rattle.fkv_worlds.specs.Acts.{lives_by, questions_by, receipts_by, begun_life, after_issue}
 use Rattle.fkv_worlds.specs.Worlds.{IsWorld}
 use Rattle.fkv_worlds.specs.Sound.{HasTables, IsState}
-use Rattle.fkv_worlds.proofs.BareLemmas.{bare-set, bare-get}
-use Rattle.fkv_worlds.proofs.WorldLemmas.{world-pass, world-silent, world-kept, world-issue, world-done, world-loaded, world-ended, world-next, world-further, world-asks}
+use Rattle.fkv_worlds.proofs.WorldLemmas.{world-silent, world-kept, world-issue, world-done, world-loaded, world-ended, world-next, world-further, world-asks}
 
 -- ---- lists by their places
 pub at-index : {A : Type 0} (xs : List A) (i : ℕ) (x : A) → i < length xs → x ≡ slice_index_or xs i x → slice_get xs i ≡ Some x
@@ -57,11 +54,16 @@ ended-set [] j x e h = refl
 ended-set (y ∷ ys) zero x e h = let same : x ≡ y = cc in ap (λ (z : Life _ _ _ _). record z { end = e } ∷ ys) same
 ended-set (y ∷ ys) (suc j) x e h = ap (λ qs. y ∷ qs) (ended-set ys j x e h)
 
+-- what a context asked for which a page came
+pub load-question : {K V I O R : Type 0} (cmp : K → K → Ordering) (f : Meanings K V I O) (old new : PartitionView K V I) (slot c now : ℕ) (progress : Progress K V I O R) → IsLoad cmp f old new slot c now progress → (x : Asked K V I) × (asked old slot c ≡ Some x)
+load-question cmp f old new slot c now progress (IsLoad.on_key ev) = (ev.question, ev.was)
+load-question cmp f old new slot c now progress (IsLoad.relocation ev finds) = (ev.question, ev.was)
+
 -- ---- rows of contexts
-pub is_context-within : (w : Place) → w.slot < 16 → w.context < 8 → is_context w ≡ true
+pub is_context-within : (w : ContextId) → w.slot < 16 → w.context < 8 → is_context w ≡ true
 is_context-within w h k = let a : nat_lt w.slot 16 ≡ true = grind (arith, nat_tests) in let b : nat_lt w.context 8 ≡ true = grind (arith, nat_tests) in rw (a, b) refl
 
-pub is_context-bounds : (w : Place) → is_context w ≡ true → (w.slot < 16) × (w.context < 8)
+pub is_context-bounds : (w : ContextId) → is_context w ≡ true → (w.slot < 16) × (w.context < 8)
 is_context-bounds w h = by_cases (nat_lt w.slot 16) (nat_lt w.context 8) refl refl h
   where
     by_cases : (a b : Bool) → nat_lt w.slot 16 ≡ a → nat_lt w.context 8 ≡ b → (a && b) ≡ true → (w.slot < 16) × (w.context < 8)
@@ -69,17 +71,17 @@ is_context-bounds w h = by_cases (nat_lt w.slot 16) (nat_lt w.context 8) refl re
     by_cases true false p q e = absurd (cc)
     by_cases false b p q e = absurd (cc)
 
-row-apart : (w u : Place) → w.slot < 16 → w.context < 8 → u.slot < 16 → u.context < 8 → u ≢ w → context_row u ≢ context_row w
+row-apart : (w u : ContextId) → w.slot < 16 → w.context < 8 → u.slot < 16 → u.context < 8 → u ≢ w → context_row u ≢ context_row w
 row-apart w u a b c d n e =
     let p : u.partition ≡ w.partition = omega arith in
     let s : u.slot ≡ w.slot = omega arith in
     let x : u.context ≡ w.context = omega arith in
     n (λ i. record { partition = p i; slot = s i; context = x i })
 
-pub life_in-same : (begun : List ℕ) (w : Place) (x : ℕ) → w.slot < 16 → w.context < 8 → context_row w < length begun → life_in (slice_set begun (context_row w) x) w ≡ x
+pub life_in-same : (begun : List ℕ) (w : ContextId) (x : ℕ) → w.slot < 16 → w.context < 8 → context_row w < length begun → life_in (slice_set begun (context_row w) x) w ≡ x
 life_in-same begun w x a b h = rw (is_context-within w a b, get-set_within begun (context_row w) x h) refl
 
-pub life_in-other : (begun : List ℕ) (w u : Place) (x : ℕ) → w.slot < 16 → w.context < 8 → u ≢ w → life_in (slice_set begun (context_row w) x) u ≡ life_in begun u
+pub life_in-other : (begun : List ℕ) (w u : ContextId) (x : ℕ) → w.slot < 16 → w.context < 8 → u ≢ w → life_in (slice_set begun (context_row w) x) u ≡ life_in begun u
 life_in-other begun w u x a b n = by_cases (is_context u) refl
   where
     by_cases : (t : Bool) → is_context u ≡ t → life_in (slice_set begun (context_row w) x) u ≡ life_in begun u
@@ -87,13 +89,13 @@ life_in-other begun w u x a b n = by_cases (is_context u) refl
     by_cases false t = rw t refl
 
 -- what a context asked for last
-pub question-is : {K V I : Type 0} (questions : List (Option (Ask K V I))) (w : Place) (x : Option (Ask K V I)) → is_context w ≡ true → slice_get questions (context_row w) ≡ Some x → question_in questions w ≡ x
+pub question-is : {K V I : Type 0} (questions : List (Option (Ask K V I))) (w : ContextId) (x : Option (Ask K V I)) → is_context w ≡ true → slice_get questions (context_row w) ≡ Some x → question_in questions w ≡ x
 question-is questions w x on h = rw (on, h) refl
 
-pub receipt-is : {R : Type 0} (receipts : List (Option R)) (w : Place) (x : Option R) → is_context w ≡ true → slice_get receipts (context_row w) ≡ Some x → receipt_in receipts w ≡ x
+pub receipt-is : {R : Type 0} (receipts : List (Option R)) (w : ContextId) (x : Option R) → is_context w ≡ true → slice_get receipts (context_row w) ≡ Some x → receipt_in receipts w ≡ x
 receipt-is receipts w x on h = rw (on, h) refl
 
-pub receipt-context : {R : Type 0} (receipts : List (Option R)) (w : Place) (x : R) → receipt_in receipts w ≡ Some x → is_context w ≡ true
+pub receipt-context : {R : Type 0} (receipts : List (Option R)) (w : ContextId) (x : R) → receipt_in receipts w ≡ Some x → is_context w ≡ true
 receipt-context receipts w x h = by_test (is_context w) refl
   where
     by_test : (b : Bool) → is_context w ≡ b → is_context w ≡ true
@@ -136,16 +138,17 @@ module _ {K V I O R : Type 0} (cmp : K → K → Ordering) (o : IsKeyOrder cmp) 
   e = omega arith
 
   -- a page is taken
-  pub state-take : (p : ℕ) (job : Option FlushJob) → IsState cmp f code (record s { jobs = slice_set s.jobs p job; moment = next })
-  state-take p job = record {
-    world = world-pass cmp o f code (bare s.partitions) (life_in s.begun) s.lives s.moment next e state.world;
-    tables = tables-kept s (record s { jobs = slice_set s.jobs p job; moment = next }) state.tables refl refl refl refl (length-set s.jobs p job) refl refl (omega arith);
+  pub state-take : (p : ℕ) (job : Option FlushJob) (old new : PartitionView K V I) → slice_get s.partitions p ≡ Some old → IsQuiet true old new next → AllPend cmp old.core new.core
+      → IsState cmp f code (record s { partitions = slice_set s.partitions p new; jobs = slice_set s.jobs p job; moment = next })
+  state-take p job old new here ev pends = record {
+    world = world-silent cmp o f code s.partitions (life_in s.begun) s.lives s.moment next e state.world p old new here ev pends;
+    tables = tables-kept s (record s { partitions = slice_set s.partitions p new; jobs = slice_set s.jobs p job; moment = next }) state.tables (length-set s.partitions p new) refl refl refl (length-set s.jobs p job) refl refl (omega arith);
   }
 
-  pub state-enter : (p slot n : ℕ) (old new : CompactedView K V I) → slice_get s.partitions p ≡ Some old → IsQuiet true old.partition new.partition next → AllPend cmp old.partition new.partition → slice_get s.enters p ≡ Some n
+  pub state-enter : (p slot n : ℕ) (old new : PartitionView K V I) → slice_get s.partitions p ≡ Some old → IsQuiet true old new next → AllPend cmp old.core new.core → slice_get s.enters p ≡ Some n
       → IsState cmp f code (record s { partitions = slice_set s.partitions p new; enters = slice_set s.enters p (n + 1); seats = slice_set s.seats (seat_row p slot) (record { session = n + 1; issues = 0 }); moment = next })
   state-enter p slot n old new here ev pends at = record {
-    world = rw (bare-set s.partitions p new) (world-silent cmp o f code (bare s.partitions) (life_in s.begun) s.lives s.moment next e state.world p old.partition new.partition (bare-get s.partitions p old here) ev pends);
+    world = (world-silent cmp o f code s.partitions (life_in s.begun) s.lives s.moment next e state.world p old new here ev pends);
     tables = record {
       most = rw (length-set s.partitions p new) state.tables.most;
       begun = rw (length-set s.partitions p new) state.tables.begun;
@@ -165,37 +168,33 @@ module _ {K V I O R : Type 0} (cmp : K → K → Ordering) (o : IsKeyOrder cmp) 
     };
   }
 
-  pub state-quiet : (p : ℕ) (old new : CompactedView K V I) → slice_get s.partitions p ≡ Some old → IsQuiet true old.partition new.partition next → AllPend cmp old.partition new.partition → IsState cmp f code (record s { partitions = slice_set s.partitions p new; moment = next })
+  pub state-quiet : (p : ℕ) (old new : PartitionView K V I) → slice_get s.partitions p ≡ Some old → IsQuiet true old new next → AllPend cmp old.core new.core → IsState cmp f code (record s { partitions = slice_set s.partitions p new; moment = next })
   state-quiet p old new here ev pends = record {
-    world = rw (bare-set s.partitions p new) (world-silent cmp o f code (bare s.partitions) (life_in s.begun) s.lives s.moment next e state.world p old.partition new.partition (bare-get s.partitions p old here) ev pends);
+    world = (world-silent cmp o f code s.partitions (life_in s.begun) s.lives s.moment next e state.world p old new here ev pends);
     tables = tables-kept s (record s { partitions = slice_set s.partitions p new; moment = next }) state.tables (length-set s.partitions p new) refl refl refl refl refl refl (omega arith);
   }
 
   -- a relocation begins, goes on or ends, or the log's start is cut; the tables of questions and receipts may change
-  module _ (p : ℕ) (old new : CompactedView K V I) (here : slice_get s.partitions p ≡ Some old) (questions : List (Option (Ask K V I))) (receipts : List (Option R)) (asks : length questions ≡ length s.questions) (pages : length receipts ≡ length s.receipts) where
-    state-kept : IsWorld cmp f code (slice_set (bare s.partitions) p new.partition) (life_in s.begun) s.lives next → IsState cmp f code (record s { partitions = slice_set s.partitions p new; questions = questions; receipts = receipts; moment = next })
+  module _ (p : ℕ) (old new : PartitionView K V I) (here : slice_get s.partitions p ≡ Some old) (questions : List (Option (Ask K V I))) (receipts : List (Option R)) (asks : length questions ≡ length s.questions) (pages : length receipts ≡ length s.receipts) where
+    state-kept : IsWorld cmp f code (slice_set s.partitions p new) (life_in s.begun) s.lives next → IsState cmp f code (record s { partitions = slice_set s.partitions p new; questions = questions; receipts = receipts; moment = next })
     state-kept world = record {
-      world = rw (bare-set s.partitions p new) world;
+      world = world;
       tables = tables-kept s (record s { partitions = slice_set s.partitions p new; questions = questions; receipts = receipts; moment = next }) state.tables (length-set s.partitions p new) refl asks pages refl refl refl (omega arith);
     }
 
-    pub state-relocating : (slot c : ℕ) → IsRelocating true cmp old new slot c next → IsState cmp f code (record s { partitions = slice_set s.partitions p new; questions = questions; receipts = receipts; moment = next })
-    state-relocating slot c ev = state-kept (world-kept cmp o f code (bare s.partitions) (life_in s.begun) s.lives s.moment next e state.world p old.partition new.partition (bare-get s.partitions p old here)
-        ev.number ev.count ev.moment ev.same (ev.live refl) (λ a d q h. sym (ev.pend refl a d) ∙ h))
-
-    pub state-truncated : (page : ℕ) → IsTruncation true cmp old.partition new.partition page next → IsState cmp f code (record s { partitions = slice_set s.partitions p new; questions = questions; receipts = receipts; moment = next })
-    state-truncated page ev = state-kept (world-kept cmp o f code (bare s.partitions) (life_in s.begun) s.lives s.moment next e state.world p old.partition new.partition (bare-get s.partitions p old here)
+    pub state-truncated : (page : ℕ) → IsTruncation true cmp old new page next → IsState cmp f code (record s { partitions = slice_set s.partitions p new; questions = questions; receipts = receipts; moment = next })
+    state-truncated page ev = state-kept (world-kept cmp o f code s.partitions (life_in s.begun) s.lives s.moment next e state.world p old new here
         ev.number ev.count ev.moment ev.same (ev.live refl) (λ a d q h. (let n : None ≡ Some q = sym (ev.pend a d) ∙ h in absurd (cc))))
 
   -- an operation ends without effect
-  pub state-ended : (w : Place) (old new : CompactedView K V I) (end : End O) → finish_in end ≡ None → slice_get s.partitions w.partition ≡ Some old → IsGiveUp old.partition new.partition w.slot w.context next → OthersPend cmp old.partition new.partition w.slot w.context
+  pub state-ended : (w : ContextId) (old new : PartitionView K V I) (end : End O) → finish_in end ≡ None → slice_get s.partitions w.partition ≡ Some old → IsGiveUp old new w.slot w.context next → OthersPend cmp old.core new.core w.slot w.context
       → IsState cmp f code (record s { partitions = slice_set s.partitions w.partition new; lives = ended_at s.lives (life_in s.begun w) end; moment = next })
   state-ended w old new end untold here ev others = record {
-    world = rw (bare-set s.partitions w.partition new) (world-ended cmp o f code (bare s.partitions) (life_in s.begun) s.lives s.moment next e state.world w.partition old.partition new.partition w.slot w.context ev.question (bare-get s.partitions w.partition old here) ev.was ev.closed ev.frame others end untold (λ q. ap (λ t. live cmp t q) ev.text));
+    world = (world-ended cmp o f code s.partitions (life_in s.begun) s.lives s.moment next e state.world w.partition old new w.slot w.context ev.question here ev.was ev.closed ev.frame others end untold (λ q. ap (λ t. live cmp t q) ev.text));
     tables = tables-kept s (record s { partitions = slice_set s.partitions w.partition new; lives = ended_at s.lives (life_in s.begun w) end; moment = next }) state.tables (length-set s.partitions w.partition new) refl refl refl refl refl refl (omega arith);
   }
 
-  pub state-issue : (p slot c : ℕ) (op : Op K V I) (seat : Seat) (old new : CompactedView K V I) → slice_get s.partitions p ≡ Some old → IsIssue code old.partition new.partition slot c op next → AllPend cmp old.partition new.partition
+  pub state-issue : (p slot c : ℕ) (op : Op K V I) (seat : Seat) (old new : PartitionView K V I) → slice_get s.partitions p ≡ Some old → IsIssue code old new slot c op next → AllPend cmp old.core new.core
       → slot < 16 → c < 8 → slice_get s.seats (seat_row p slot) ≡ Some seat
       → IsState cmp f code (record s {
         partitions = slice_set s.partitions p new;
@@ -207,12 +206,12 @@ module _ {K V I O R : Type 0} (cmp : K → K → Ordering) (o : IsKeyOrder cmp) 
         moment = next;
       })
   state-issue p slot c op seat old new here ev pends low within at =
-      let w : Place = record { partition = p; slot = slot; context = c } in
+      let w : ContextId = record { partition = p; slot = slot; context = c } in
       let there : p < length s.partitions = slice_get_within s.partitions p old here in
       let rows = state.tables.begun in
       let row : context_row w < length s.begun = omega arith in
       record {
-        world = rw (bare-set s.partitions p new) (world-issue cmp o f code (bare s.partitions) (life_in s.begun) s.lives s.moment next e state.world p old.partition new.partition slot c op (bare-get s.partitions p old here) ev pends (begun_life p seat op next) refl refl refl
+        world = (world-issue cmp o f code s.partitions (life_in s.begun) s.lives s.moment next e state.world p old new slot c op here ev pends (begun_life p seat op next) refl refl refl
             (life_in (slice_set s.begun (context_row w) (length s.lives))) (life_in-same s.begun w (length s.lives) low within row)
             (λ u n. life_in-other s.begun w u (length s.lives) low within n));
         tables = record {
@@ -245,45 +244,50 @@ module _ {K V I O R : Type 0} (cmp : K → K → Ordering) (o : IsKeyOrder cmp) 
   receipt-rows row (NeedsBuild ask) = refl
   receipt-rows row (NeedsLoad receipt address) = length-set s.receipts row (Some receipt)
 
-  module _ (w : Place) (old new : CompactedView K V I) (here : slice_get s.partitions w.partition ≡ Some old) (others : OthersPend cmp old.partition new.partition w.slot w.context) where
-    state-by : (progress : Progress K V I O R) → IsWorld cmp f code (slice_set (bare s.partitions) w.partition new.partition) (life_in s.begun) (lives_by s.lives (life_in s.begun w) next progress) next
+  module _ (w : ContextId) (old new : PartitionView K V I) (here : slice_get s.partitions w.partition ≡ Some old) (others : OthersPend cmp old.core new.core w.slot w.context) where
+    state-by : (progress : Progress K V I O R) → IsWorld cmp f code (slice_set s.partitions w.partition new) (life_in s.begun) (lives_by s.lives (life_in s.begun w) next progress) next
         → IsState cmp f code (record s { partitions = slice_set s.partitions w.partition new; questions = questions_by s.questions (context_row w) progress; receipts = receipts_by s.receipts (context_row w) progress; lives = lives_by s.lives (life_in s.begun w) next progress; moment = next })
     state-by progress world = record {
-      world = rw (bare-set s.partitions w.partition new) world;
+      world = world;
       tables = tables-kept s (record s { partitions = slice_set s.partitions w.partition new; questions = questions_by s.questions (context_row w) progress; receipts = receipts_by s.receipts (context_row w) progress; lives = lives_by s.lives (life_in s.begun w) next progress; moment = next }) state.tables
           (length-set s.partitions w.partition new) refl (asked-rows (context_row w) progress) (receipt-rows (context_row w) progress) refl refl refl (omega arith);
     }
 
-    world-progress : (progress : Progress K V I O R) → IsEvent cmp f old.partition new.partition w.slot w.context next progress → Finds cmp old.partition new.partition w.slot w.context next progress
-        → IsWorld cmp f code (slice_set (bare s.partitions) w.partition new.partition) (life_in s.begun) (lives_by s.lives (life_in s.begun w) next progress) next
+    world-progress : (progress : Progress K V I O R) → IsEvent cmp f old new w.slot w.context next progress → Finds cmp old new w.slot w.context next progress
+        → IsWorld cmp f code (slice_set s.partitions w.partition new) (life_in s.begun) (lives_by s.lives (life_in s.begun w) next progress) next
     world-progress (Done a effect) ev finds =
-        rw ev.effect.1 (world-done cmp o f code (bare s.partitions) (life_in s.begun) s.lives s.moment next e state.world w.partition old.partition new.partition w.slot w.context ev.question (bare-get s.partitions w.partition old here) ev.was ev.effect.0 ev.frame others a ev.effect.2 ev.effect.3)
+        rw ev.effect.1 (world-done cmp o f code s.partitions (life_in s.begun) s.lives s.moment next e state.world w.partition old new w.slot w.context ev.question here ev.was ev.effect.0 ev.frame others a ev.effect.2 ev.effect.3)
     world-progress Next ev finds =
-        world-next cmp o f code (bare s.partitions) (life_in s.begun) s.lives s.moment next e state.world w.partition old.partition new.partition w.slot w.context ev.question (bare-get s.partitions w.partition old here) ev.was ev.effect.0 ev.frame ev.effect.1 others finds
+        world-next cmp o f code s.partitions (life_in s.begun) s.lives s.moment next e state.world w.partition old new w.slot w.context ev.question here ev.was ev.effect.0 ev.frame ev.effect.1 others finds
     world-progress (Waits why) ev finds =
-        world-next cmp o f code (bare s.partitions) (life_in s.begun) s.lives s.moment next e state.world w.partition old.partition new.partition w.slot w.context ev.question (bare-get s.partitions w.partition old here) ev.was ev.effect.0 ev.frame ev.effect.1 others finds
+        world-next cmp o f code s.partitions (life_in s.begun) s.lives s.moment next e state.world w.partition old new w.slot w.context ev.question here ev.was ev.effect.0 ev.frame ev.effect.1 others finds
     world-progress (NeedsBuild ask) ev finds =
-        world-next cmp o f code (bare s.partitions) (life_in s.begun) s.lives s.moment next e state.world w.partition old.partition new.partition w.slot w.context ev.question (bare-get s.partitions w.partition old here) ev.was ev.effect.0 ev.frame ev.effect.1 others finds
+        world-next cmp o f code s.partitions (life_in s.begun) s.lives s.moment next e state.world w.partition old new w.slot w.context ev.question here ev.was ev.effect.0 ev.frame ev.effect.1 others finds
     world-progress (NeedsLoad receipt address) ev finds =
-        world-asks cmp o f code (bare s.partitions) (life_in s.begun) s.lives s.moment next e state.world w.partition old.partition new.partition w.slot w.context ev.question (bare-get s.partitions w.partition old here) ev.was ev.effect.0 ev.frame ev.effect.1 others finds
+        world-asks cmp o f code s.partitions (life_in s.begun) s.lives s.moment next e state.world w.partition old new w.slot w.context ev.question here ev.was ev.effect.0 ev.frame ev.effect.1 others finds
 
-    pub state-progress : (progress : Progress K V I O R) → IsEvent cmp f old.partition new.partition w.slot w.context next progress → Finds cmp old.partition new.partition w.slot w.context next progress
+    pub state-progress : (progress : Progress K V I O R) → IsEvent cmp f old new w.slot w.context next progress → Finds cmp old new w.slot w.context next progress
         → IsState cmp f code (record s { partitions = slice_set s.partitions w.partition new; questions = questions_by s.questions (context_row w) progress; receipts = receipts_by s.receipts (context_row w) progress; lives = lives_by s.lives (life_in s.begun w) next progress; moment = next })
     state-progress progress ev finds = state-by progress (world-progress progress ev finds)
 
-    world-load : (progress : Progress K V I O R) → IsLoad cmp f old.partition new.partition w.slot w.context next progress
-        → IsWorld cmp f code (slice_set (bare s.partitions) w.partition new.partition) (life_in s.begun) (lives_by s.lives (life_in s.begun w) next progress) next
-    world-load (Done a effect) ev =
+    world-loads : (progress : Progress K V I O R) → IsLoaded cmp f old new w.slot w.context next progress
+        → IsWorld cmp f code (slice_set s.partitions w.partition new) (life_in s.begun) (lives_by s.lives (life_in s.begun w) next progress) next
+    world-loads (Done a effect) ev =
         let q = ev.effect.1 in
-        rw q.2 (world-loaded cmp o f code (bare s.partitions) (life_in s.begun) s.lives s.moment next e state.world w.partition old.partition new.partition w.slot w.context ev.question (bare-get s.partitions w.partition old here) ev.was ev.effect.0 ev.frame others q.0 q.1 a q.3.0 q.3.1 q.3.2 ev.live)
-    world-load Next ev =
-        world-next cmp o f code (bare s.partitions) (life_in s.begun) s.lives s.moment next e state.world w.partition old.partition new.partition w.slot w.context ev.question (bare-get s.partitions w.partition old here) ev.was ev.effect.0 ev.frame ev.live others ev.effect.2
-    world-load (Waits why) ev = absurd ev.effect
-    world-load (NeedsBuild ask) ev =
-        world-next cmp o f code (bare s.partitions) (life_in s.begun) s.lives s.moment next e state.world w.partition old.partition new.partition w.slot w.context ev.question (bare-get s.partitions w.partition old here) ev.was ev.effect.0 ev.frame ev.live others ev.effect.1
-    world-load (NeedsLoad receipt address) ev =
-        world-further cmp o f code (bare s.partitions) (life_in s.begun) s.lives s.moment next e state.world w.partition old.partition new.partition w.slot w.context ev.question (bare-get s.partitions w.partition old here) ev.was ev.effect.0 ev.frame ev.live others ev.effect.1
+        rw q.2 (world-loaded cmp o f code s.partitions (life_in s.begun) s.lives s.moment next e state.world w.partition old new w.slot w.context ev.question here ev.was ev.effect.0 ev.frame others q.0 q.1 a q.3.0 q.3.1 q.3.2 q.3.3 ev.live)
+    world-loads Next ev =
+        world-next cmp o f code s.partitions (life_in s.begun) s.lives s.moment next e state.world w.partition old new w.slot w.context ev.question here ev.was ev.effect.0 ev.frame ev.live others ev.effect.2
+    world-loads (Waits why) ev = absurd ev.effect
+    world-loads (NeedsBuild ask) ev =
+        world-next cmp o f code s.partitions (life_in s.begun) s.lives s.moment next e state.world w.partition old new w.slot w.context ev.question here ev.was ev.effect.0 ev.frame ev.live others ev.effect.1
+    world-loads (NeedsLoad receipt address) ev =
+        world-further cmp o f code s.partitions (life_in s.begun) s.lives s.moment next e state.world w.partition old new w.slot w.context ev.question here ev.was ev.effect.0 ev.frame ev.live others ev.effect.1
 
-    pub state-load : (progress : Progress K V I O R) → IsLoad cmp f old.partition new.partition w.slot w.context next progress
+    world-load : (progress : Progress K V I O R) → IsLoad cmp f old new w.slot w.context next progress
+        → IsWorld cmp f code (slice_set s.partitions w.partition new) (life_in s.begun) (lives_by s.lives (life_in s.begun w) next progress) next
+    world-load progress (IsLoad.on_key ev) = world-loads progress ev
+    world-load progress (IsLoad.relocation ev finds) = world-progress progress ev finds
+
+    pub state-load : (progress : Progress K V I O R) → IsLoad cmp f old new w.slot w.context next progress
         → IsState cmp f code (record s { partitions = slice_set s.partitions w.partition new; questions = questions_by s.questions (context_row w) progress; receipts = receipts_by s.receipts (context_row w) progress; lives = lives_by s.lives (life_in s.begun w) next progress; moment = next })
     state-load progress ev = state-by progress (world-load progress ev)

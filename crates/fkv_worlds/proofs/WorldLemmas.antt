@@ -1,20 +1,25 @@
 -- What each event of a partition keeps of a world.
-use Rattle.std.proofs.Common.{◌≡◌, ◌≢◌, ℕ, suc, ◌<◌, ◌≤◌, inl, inr, true, List, [], ◌∷◌, ◌++◌, length, Some, None, option_map, slice_get, slice_set, refl, sym, ◌∙◌, ap, subst, arith}
+use Rattle.std.proofs.Common.{◌≡◌, ◌≢◌, Option, ℕ, suc, ◌<◌, ◌≤◌, inl, inr, true, List, [], ◌∷◌, ◌++◌, length, Some, None, slice_get, slice_set, refl, sym, ◌∙◌, ap, subst, arith}
 use Rattle.std.proofs.lemmas.List.{length-set}
 use Rattle.std.proofs.lemmas.Option.{slice_get_within}
 use Rattle.std.specs.declared.cmp.Ordering.{Ordering}
 use Rattle.fkv_functions.specs.Meanings.{Meanings}
 use Rattle.fkv_functions.specs.Plain.{PlainMap, Same, IsKeyOrder}
-use Rattle.fkv_operations.specs.After.{key_of, after, answer}
+use Rattle.fkv_operations.specs.After.{key_of}
+use Rattle.fkv_operations.specs.Operations.{keyed, map_after, answer_to}
+use Rattle.fkv_operations.specs.declared.operations.KeyedOp.{KeyedOp}
+use Rattle.fkv_operations.specs.declared.operations.KeyedOp.TheVariants as on_key
 use Rattle.fkv_operations.specs.AfterLaws.{same_map}
 use Rattle.fkv_operations.specs.declared.operations.Op.{Op}
 use Rattle.fkv_operations.specs.declared.operations.Answer.{Answer}
-use Rattle.fkv_partition.specs.Views.{PartitionView, live_of, partition_of}
+use Rattle.fkv_partition.specs.CoreViews.{live_of, partition_of}
+use Rattle.fkv_partition.specs.Views.{PartitionView}
+use Rattle.fkv_partition.specs.Pending.{Pending, pending, OthersPend, AllPend}
+use Rattle.fkv_partition.specs.Effect.{Asked, asked, LeavesOthers, IsQuiet, IsIssue, IsAsking, to_find}
+use Rattle.fkv_partition.specs.Unions.{union_of}
 use Rattle.fkv_texts.specs.Text.{live}
 use Rattle.fkv_operations.specs.After.{shown_of}
 use Rattle.fkv_operations.specs.declared.operations.Op.TheVariants.{Read}
-use Rattle.fkv_partition.specs.Effect.{Asked, asked, asked_by, LeavesOthers, IsQuiet, IsIssue}
-use Rattle.fkv_partition.specs.Pending.{Pending, pending, OthersPend, AllPend, IsAsking}
 use Rattle.fkv_functions.proofs.ListLemmas.{get-set_cases, get-append_last}
 use Rattle.fkv_lives.specs.declared.lives.Life.{Life}
 use Rattle.fkv_lives.specs.declared.lives.End.{End}
@@ -22,9 +27,8 @@ use Rattle.fkv_lives.specs.declared.lives.End.TheVariants.{Open, Finished}
 use Rattle.fkv_lives.specs.declared.lives.Finish.{Finish}
 use Rattle.fkv_lives.specs.Lives.{finish_of, finish_in, map_before}
 use Rattle.fkv_lives.specs.Changes.{ended_at}
-use Rattle.fkv_lives.specs.declared.steps.Place.{Place}
-use Rattle.fkv_partition.specs.Unions.{union_of}
-use Rattle.fkv_partition.proofs.UnionLemmas.{live-here, live-quiet, live-after, answer-here}
+use Rattle.fkv_lives.specs.declared.steps.ContextId.{ContextId}
+use Rattle.fkv_partition.proofs.UnionLemmas.{live-here, live-quiet, live-after_op, answer-to_op}
 use Rattle.fkv_worlds.specs.Worlds.{asked_in, pending_in, IsOpenLife, IsLinked, IsHoused, IsHeld, IsWorld}
 use Rattle.fkv_worlds.proofs.LivesLemmas.{append_cases, append_old, ended_cases, ended_other}
 use Rattle.fkv_worlds.proofs.PlacedLemmas.{placed-quiet, map-quiet, same_append, placed-append, map-append, same_ended, placed-ended, map-ended, same_now, placed-now, map-now, same_before, placed-before, map-before}
@@ -35,32 +39,32 @@ use Rattle.fkv_worlds.proofs.HeldLemmas.{same_where, closed-none, waiting-at, pe
 open-append : {K V I O : Type 0} (lives : List (Life K V I O)) (y : Life K V I O) (j : ℕ) (x : Asked K V I) → IsOpenLife lives j x → IsOpenLife (lives ++ y ∷ []) j x
 open-append lives y j x l = record { life = l.life; here = append_old lives y j l.life l.here; op = l.op; issue = l.issue; unended = l.unended }
 
-module _ {K V I O : Type 0} (cmp : K → K → Ordering) (o : IsKeyOrder cmp) (f : Meanings K V I O) (code : K → ℕ) (views : List (PartitionView K V I)) (life_at : Place → ℕ) (lives : List (Life K V I O)) (now next : ℕ) (e : next ≡ suc now) (world : IsWorld cmp f code views life_at lives now) where
+module _ {K V I O : Type 0} (cmp : K → K → Ordering) (o : IsKeyOrder cmp) (f : Meanings K V I O) (code : K → ℕ) (views : List (PartitionView K V I)) (life_at : ContextId → ℕ) (lives : List (Life K V I O)) (now next : ℕ) (e : next ≡ suc now) (world : IsWorld cmp f code views life_at lives now) where
   live-then : union_of cmp code views ≡ map_before cmp f lives (suc now)
   live-then = same_map (union_of cmp code views) (map_before cmp f lives (suc now)) world.denotes
 
-  module _ (p : ℕ) (old new : PartitionView K V I) (here : slice_get views p ≡ Some old) (number : new.number ≡ old.number) (count : new.count ≡ old.count) (moment : new.moment ≡ next) where
+  module _ (p : ℕ) (old new : PartitionView K V I) (here : slice_get views p ≡ Some old) (number : new.core.number ≡ old.core.number) (count : new.core.count ≡ old.core.count) (moment : new.core.moment ≡ next) where
     -- the partitions stay where they are
-    housed-set : ((w : Place) (x : Asked K V I) → asked_in (slice_set views p new) w ≡ Some x → partition_of (length views) (code (key_of x.op)) ≡ w.partition) → IsHoused code (slice_set views p new) next
+    housed-set : ((w : ContextId) (x : Asked K V I) (q : KeyedOp K V I) → asked_in (slice_set views p new) w ≡ Some x → keyed x.op ≡ Some q → partition_of (length views) (code (key_of q)) ≡ w.partition) → IsHoused code (slice_set views p new) next
     housed-set routed = record {
       some = rw (length-set views p new) world.housed.some;
       numbered = λ q v h. elim (get-set_cases views p q new v h) [
-        | inl c ↦ ap (λ (u : PartitionView K V I). u.number) (sym c.1) ∙ number ∙ world.housed.numbered p old here ∙ sym c.0
+        | inl c ↦ ap (λ (u : PartitionView K V I). u.core.number) (sym c.1) ∙ number ∙ world.housed.numbered p old here ∙ sym c.0
         | inr c ↦ world.housed.numbered q v c
       ];
       counted = λ q v h. elim (get-set_cases views p q new v h) [
-        | inl c ↦ ap (λ (u : PartitionView K V I). u.count) (sym c.1) ∙ count ∙ world.housed.counted p old here ∙ sym (length-set views p new)
+        | inl c ↦ ap (λ (u : PartitionView K V I). u.core.count) (sym c.1) ∙ count ∙ world.housed.counted p old here ∙ sym (length-set views p new)
         | inr c ↦ world.housed.counted q v c ∙ sym (length-set views p new)
       ];
       past = λ q v h. elim (get-set_cases views p q new v h) [
-        | inl c ↦ (let m : v.moment ≡ next = ap (λ (u : PartitionView K V I). u.moment) (sym c.1) ∙ moment in omega arith)
-        | inr c ↦ (let m : v.moment ≤ now = world.housed.past q v c in omega arith)
+        | inl c ↦ (let m : v.core.moment ≡ next = ap (λ (u : PartitionView K V I). u.core.moment) (sym c.1) ∙ moment in omega arith)
+        | inr c ↦ (let m : v.core.moment ≤ now = world.housed.past q v c in omega arith)
       ];
-      routed = λ w x h. ap (λ n. partition_of n (code (key_of x.op))) (length-set views p new) ∙ routed w x h;
+      routed = λ w x q h k. ap (λ n. partition_of n (code (key_of q))) (length-set views p new) ∙ routed w x q h k;
     }
 
     -- a step that changes no live value, no question and no life
-    world-quiet : Same (live_of cmp new) (live_of cmp old) → ((w : Place) → asked_in (slice_set views p new) w ≡ asked_in views w) → IsHeld cmp f (slice_set views p new) life_at lives next → IsWorld cmp f code (slice_set views p new) life_at lives next
+    world-quiet : Same (live_of cmp new.core) (live_of cmp old.core) → ((w : ContextId) → asked_in (slice_set views p new) w ≡ asked_in views w) → IsHeld cmp f (slice_set views p new) life_at lives next → IsWorld cmp f code (slice_set views p new) life_at lives next
     world-quiet same questions held = record {
       placed = placed-quiet cmp f lives now next e world.placed;
       denotes = λ k. live-quiet cmp o f code views p old new here same k ∙ world.denotes k ∙ ap (λ (m : PlainMap K V). m k) (sym (map-quiet cmp f lives now next e world.placed));
@@ -68,43 +72,27 @@ module _ {K V I O : Type 0} (cmp : K → K → Ordering) (o : IsKeyOrder cmp) (f
         linked = λ w x h. world.linked.linked w x (sym (questions w) ∙ h);
         apart = λ w u x y h k. world.linked.apart w u x y (sym (questions w) ∙ h) (sym (questions u) ∙ k);
       };
-      housed = housed-set (λ w x h. world.housed.routed w x (sym (questions w) ∙ h));
+      housed = housed-set (λ w x q h k. world.housed.routed w x q (sym (questions w) ∙ h) k);
       held = held;
     }
 
-  -- a step that changes nothing but the moment
-  pub world-pass : IsWorld cmp f code views life_at lives next
-  world-pass = record {
-    placed = placed-quiet cmp f lives now next e world.placed;
-    denotes = λ k. world.denotes k ∙ ap (λ (m : PlainMap K V). m k) (sym (map-quiet cmp f lives now next e world.placed));
-    linked = world.linked;
-    housed = record {
-      some = world.housed.some;
-      numbered = world.housed.numbered;
-      counted = world.housed.counted;
-      past = λ q v h. (let m : v.moment ≤ now = world.housed.past q v h in omega arith);
-      routed = world.housed.routed;
-    };
-    held = held-same cmp f views life_at lives now world.held views next (omega arith) (λ w. refl);
-  }
-
   -- a session comes, goes or looks, an offset moves, or a page is flushed
-  pub world-silent : (p : ℕ) (old new : PartitionView K V I) → slice_get views p ≡ Some old → IsQuiet true old new next → AllPend cmp old new → IsWorld cmp f code (slice_set views p new) life_at lives next
+  pub world-silent : (p : ℕ) (old new : PartitionView K V I) → slice_get views p ≡ Some old → IsQuiet true old new next → AllPend cmp old.core new.core → IsWorld cmp f code (slice_set views p new) life_at lives next
   world-silent p old new here ev pends =
       world-quiet p old new here ev.number ev.count ev.moment (λ k. ap (λ t. live cmp t k) (ev.text refl)) (asked-all views p old new here ev.same)
       (held-same cmp f views life_at lives now world.held (slice_set views p new) next (omega arith) (pend-all cmp views p old new here pends))
 
   -- a relocation goes on, or the log's start is cut: each look-up that still waits waited before
-  pub world-kept : (p : ℕ) (old new : PartitionView K V I) → slice_get views p ≡ Some old → new.number ≡ old.number → new.count ≡ old.count → new.moment ≡ next → ((s d : ℕ) → asked new s d ≡ asked old s d) → Same (live_of cmp new) (live_of cmp old)
-      → ((s d : ℕ) (q : Pending V) → pending cmp new s d ≡ Some q → pending cmp old s d ≡ Some q) → IsWorld cmp f code (slice_set views p new) life_at lives next
+  pub world-kept : (p : ℕ) (old new : PartitionView K V I) → slice_get views p ≡ Some old → new.core.number ≡ old.core.number → new.core.count ≡ old.core.count → new.core.moment ≡ next → ((s d : ℕ) → asked new s d ≡ asked old s d) → Same (live_of cmp new.core) (live_of cmp old.core)
+      → ((s d : ℕ) (q : Pending V) → pending cmp new.core s d ≡ Some q → pending cmp old.core s d ≡ Some q) → IsWorld cmp f code (slice_set views p new) life_at lives next
   world-kept p old new here number count moment same map sub =
       world-quiet p old new here number count moment map (asked-all views p old new here same)
       (held-sub cmp f views life_at lives now world.held (slice_set views p new) next (omega arith) (pend-sub cmp views p old new here sub))
 
   -- an operation is issued: one more life, at the end
-  module _ (p : ℕ) (old new : PartitionView K V I) (slot c : ℕ) (op : Op K V I) (here : slice_get views p ≡ Some old) (ev : IsIssue code old new slot c op next) (pends : AllPend cmp old new) (begun : Life K V I O) (is : begun.op ≡ op) (at : begun.issue ≡ next) (unended : begun.end ≡ Open)
-      (life_at' : Place → ℕ) (place : life_at' (record { partition = p; slot = slot; context = c }) ≡ length lives) (places : (u : Place) → u ≢ record { partition = p; slot = slot; context = c } → life_at' u ≡ life_at u) where
-    there : Place
+  module _ (p : ℕ) (old new : PartitionView K V I) (slot c : ℕ) (op : Op K V I) (here : slice_get views p ≡ Some old) (ev : IsIssue code old new slot c op next) (pends : AllPend cmp old.core new.core) (begun : Life K V I O) (is : begun.op ≡ op) (at : begun.issue ≡ next) (unended : begun.end ≡ Open)
+      (life_at' : ContextId → ℕ) (place : life_at' (record { partition = p; slot = slot; context = c }) ≡ length lives) (places : (u : ContextId) → u ≢ record { partition = p; slot = slot; context = c } → life_at' u ≡ life_at u) where
+    there : ContextId
     there = record { partition = p; slot = slot; context = c }
 
     untold : finish_of begun ≡ None
@@ -113,7 +101,7 @@ module _ {K V I O : Type 0} (cmp : K → K → Ordering) (o : IsKeyOrder cmp) (f
     opened : asked_in (slice_set views p new) (record { partition = p; slot = slot; context = c }) ≡ Some (record { number = next; op = op })
     opened = asked-here views p old new here slot c ∙ ev.opened
 
-    elsewhere : (u : Place) → u ≢ record { partition = p; slot = slot; context = c } → asked_in (slice_set views p new) u ≡ asked_in views u
+    elsewhere : (u : ContextId) → u ≢ record { partition = p; slot = slot; context = c } → asked_in (slice_set views p new) u ≡ asked_in views u
     elsewhere = asked-others views p old new here slot c ev.frame.others
 
     is_new : (x : Asked K V I) → asked_in (slice_set views p new) (record { partition = p; slot = slot; context = c }) ≡ Some x → record { number = next; op = op } ≡ x
@@ -122,7 +110,7 @@ module _ {K V I O : Type 0} (cmp : K → K → Ordering) (o : IsKeyOrder cmp) (f
     fresh : IsOpenLife (lives ++ begun ∷ []) (length lives) (record { number = next; op = op })
     fresh = record { life = begun; here = get-append_last lives begun; op = is; issue = at; unended = unended }
 
-    old_place : (u : Place) (x : Asked K V I) → asked_in views u ≡ Some x → life_at u < length lives
+    old_place : (u : ContextId) (x : Asked K V I) → asked_in views u ≡ Some x → life_at u < length lives
     old_place u x h = let l = world.linked.linked u x h in slice_get_within lives (life_at u) l.life l.here
 
     linked-issue : IsLinked (asked_in (slice_set views p new)) life_at' (lives ++ begun ∷ [])
@@ -146,7 +134,7 @@ module _ {K V I O : Type 0} (cmp : K → K → Ordering) (o : IsKeyOrder cmp) (f
     }
 
     -- a look-up that waits is that of another context
-    waits-else : (w : Place) (q : Pending V) → pending_in cmp (slice_set views p new) w ≡ Some q → (w ≢ record { partition = p; slot = slot; context = c }) × (pending_in cmp views w ≡ Some q)
+    waits-else : (w : ContextId) (q : Pending V) → pending_in cmp (slice_set views p new) w ≡ Some q → (w ≢ record { partition = p; slot = slot; context = c }) × (pending_in cmp views w ≡ Some q)
     waits-else w q h =
         let before = sym (pend-all cmp views p old new here pends w) ∙ h in
         ((λ s. (let n : None ≡ Some q = sym (closed-none cmp old slot c ev.closed) ∙ sym (pend-was cmp views p old new here slot c) ∙ ap (pending_in cmp views) (sym s) ∙ before in absurd (cc))), before)
@@ -167,38 +155,37 @@ module _ {K V I O : Type 0} (cmp : K → K → Ordering) (o : IsKeyOrder cmp) (f
       denotes = λ k. live-quiet cmp o f code views p old new here (λ q. ap (λ t. live cmp t q) ev.text) k ∙ world.denotes k
           ∙ ap (λ (m : PlainMap K V). m k) (sym (map-append cmp f lives now next e world.placed begun at untold));
       linked = linked-issue;
-      housed = housed-set p old new here ev.frame.number ev.frame.count ev.frame.moment (λ u x h. elim (same_where u (record { partition = p; slot = slot; context = c })) [
+      housed = housed-set p old new here ev.frame.number ev.frame.count ev.frame.moment (λ u x q h k. elim (same_where u (record { partition = p; slot = slot; context = c })) [
         | inl s ↦ (let same = is_new x (ap (asked_in (slice_set views p new)) (sym s) ∙ h) in
-            ap (λ (y : Asked K V I). partition_of (length views) (code (key_of y.op))) (sym same)
-            ∙ ap (λ n. partition_of n (code (key_of op))) (sym (world.housed.counted p old here))
-            ∙ ev.own ∙ world.housed.numbered p old here ∙ ap (λ (w : Place). w.partition) (sym s))
-        | inr n ↦ world.housed.routed u x (sym (elsewhere u n) ∙ h)
+            ap (λ n. partition_of n (code (key_of q))) (sym (world.housed.counted p old here))
+            ∙ ev.own q (ap (λ (y : Asked K V I). keyed y.op) same ∙ k) ∙ world.housed.numbered p old here ∙ ap (λ (w : ContextId). w.partition) (sym s))
+        | inr n ↦ world.housed.routed u x q (sym (elsewhere u n) ∙ h) k
       ]);
       held = held-issue;
     }
 
   -- an operation ends: its context asks nothing any more, and the other contexts and look-ups stay
-  module _ (p : ℕ) (old new : PartitionView K V I) (slot c : ℕ) (x : Asked K V I) (here : slice_get views p ≡ Some old) (was : asked old slot c ≡ Some x) (closed : asked new slot c ≡ None) (frame : LeavesOthers old new slot c next) (others : OthersPend cmp old new slot c) where
+  module _ (p : ℕ) (old new : PartitionView K V I) (slot c : ℕ) (x : Asked K V I) (here : slice_get views p ≡ Some old) (was : asked old slot c ≡ Some x) (closed : asked new slot c ≡ None) (frame : LeavesOthers old new slot c next) (others : OthersPend cmp old.core new.core slot c) where
     asks : asked_in views (record { partition = p; slot = slot; context = c }) ≡ Some x
     asks = asked-was views p old new here slot c ∙ was
 
-    own : partition_of (length views) (code (key_of x.op)) ≡ p
-    own = world.housed.routed (record { partition = p; slot = slot; context = c }) x asks
+    own : (q : KeyedOp K V I) → keyed x.op ≡ Some q → partition_of (length views) (code (key_of q)) ≡ p
+    own q k = world.housed.routed (record { partition = p; slot = slot; context = c }) x q asks k
 
     open_life : IsOpenLife lives (life_at (record { partition = p; slot = slot; context = c })) x
     open_life = world.linked.linked (record { partition = p; slot = slot; context = c }) x asks
 
-    away : (u : Place) (y : Asked K V I) → asked_in (slice_set views p new) u ≡ Some y → u ≢ record { partition = p; slot = slot; context = c }
+    away : (u : ContextId) (y : Asked K V I) → asked_in (slice_set views p new) u ≡ Some y → u ≢ record { partition = p; slot = slot; context = c }
     away u y h s = let k : None ≡ Some y = sym (asked-here views p old new here slot c ∙ closed) ∙ ap (asked_in (slice_set views p new)) (sym s) ∙ h in absurd (cc)
 
-    then : (u : Place) (y : Asked K V I) → asked_in (slice_set views p new) u ≡ Some y → asked_in views u ≡ Some y
+    then : (u : ContextId) (y : Asked K V I) → asked_in (slice_set views p new) u ≡ Some y → asked_in views u ≡ Some y
     then u y h = sym (asked-others views p old new here slot c frame.others u (away u y h)) ∙ h
 
-    rest : (w : Place) (q : Pending V) → pending_in cmp (slice_set views p new) w ≡ Some q → (w ≢ record { partition = p; slot = slot; context = c }) × (pending_in cmp views w ≡ Some q)
+    rest : (w : ContextId) (q : Pending V) → pending_in cmp (slice_set views p new) w ≡ Some q → (w ≢ record { partition = p; slot = slot; context = c }) × (pending_in cmp views w ≡ Some q)
     rest = pend-rest cmp views p old new here slot c others (closed-none cmp new slot c closed)
 
     -- a look-up that waits is that of another life
-    apart_life : (w : Place) (q : Pending V) → pending_in cmp (slice_set views p new) w ≡ Some q → life_at w ≢ life_at (record { partition = p; slot = slot; context = c })
+    apart_life : (w : ContextId) (q : Pending V) → pending_in cmp (slice_set views p new) w ≡ Some q → life_at w ≢ life_at (record { partition = p; slot = slot; context = c })
     apart_life w q h s =
         let r = rest w q h in
         let a = waiting-at cmp views w q r.1 in
@@ -213,11 +200,11 @@ module _ {K V I O : Type 0} (cmp : K → K → Ordering) (o : IsKeyOrder cmp) (f
     }
 
     housed-ended : IsHoused code (slice_set views p new) next
-    housed-ended = housed-set p old new here frame.number frame.count frame.moment (λ u y h. world.housed.routed u y (then u y h))
+    housed-ended = housed-set p old new here frame.number frame.count frame.moment (λ u y q h k. world.housed.routed u y q (then u y h) k)
 
     -- where the map before past steps stays, and no life is finished at a step that is held
     held-ended : (end : End O) → ((n : ℕ) → n ≤ now → map_before cmp f (ended_at lives (life_at (record { partition = p; slot = slot; context = c })) end) n ≡ map_before cmp f lives n)
-        → ((t : Finish O) → finish_in end ≡ Some t → (w : Place) (q : Pending V) → w ≢ record { partition = p; slot = slot; context = c } → pending_in cmp views w ≡ Some q → t.effect ≢ q.moment)
+        → ((t : Finish O) → finish_in end ≡ Some t → (w : ContextId) (q : Pending V) → w ≢ record { partition = p; slot = slot; context = c } → pending_in cmp views w ≡ Some q → t.effect ≢ q.moment)
         → IsHeld cmp f (slice_set views p new) life_at (ended_at lives (life_at (record { partition = p; slot = slot; context = c })) end) next
     held-ended end same free = held-on cmp f views life_at lives now world.held (slice_set views p new) life_at (ended_at lives (life_at (record { partition = p; slot = slot; context = c })) end) next (omega arith) same
         (λ w q h. (rest w q h).1)
@@ -228,7 +215,7 @@ module _ {K V I O : Type 0} (cmp : K → K → Ordering) (o : IsKeyOrder cmp) (f
         ]))
 
     -- it is finished: its life ends with the answer, and its effect is now
-    pub world-done : (a : Answer O) → Same (live_of cmp new) (after cmp f (live_of cmp old) x.op) → a ≡ answer f (live_of cmp old) x.op
+    pub world-done : (a : Answer O) → Same (live_of cmp new.core) (map_after cmp f (live_of cmp old.core) x.op) → a ≡ answer_to f (live_of cmp old.core) x.op
         → IsWorld cmp f code (slice_set views p new) life_at (ended_at lives (life_at (record { partition = p; slot = slot; context = c })) (Finished (record { effect = next; done = next; answer = a }))) next
     world-done a map told =
         let l = open_life in
@@ -236,9 +223,9 @@ module _ {K V I O : Type 0} (cmp : K → K → Ordering) (o : IsKeyOrder cmp) (f
         let j = life_at (record { partition = p; slot = slot; context = c }) in
         record {
           placed = placed-now cmp f lives now next e world.placed j l.life l.here unended a
-              (told ∙ answer-here cmp o f code views p old new here x.op own ∙ ap (λ m. answer f m x.op) live-then ∙ ap (answer f (map_before cmp f lives (suc now))) (sym l.op));
-          denotes = λ k. live-after cmp o f code views p old new here x.op own map k
-              ∙ ap (λ m. after cmp f m x.op k) live-then ∙ ap (λ q. after cmp f (map_before cmp f lives (suc now)) q k) (sym l.op)
+              (told ∙ answer-to_op cmp o f code views p old new here x.op own ∙ ap (λ m. answer_to f m x.op) live-then ∙ ap (answer_to f (map_before cmp f lives (suc now))) (sym l.op));
+          denotes = λ k. live-after_op cmp o f code views p old new here x.op own map k
+              ∙ ap (λ m. map_after cmp f m x.op k) live-then ∙ ap (λ q. map_after cmp f (map_before cmp f lives (suc now)) q k) (sym l.op)
               ∙ ap (λ (m : PlainMap K V). m k) (sym (map-now cmp f lives now next e world.placed j l.life l.here unended a));
           linked = linked-ended (Finished (record { effect = next; done = next; answer = a }));
           housed = housed-ended;
@@ -250,34 +237,35 @@ module _ {K V I O : Type 0} (cmp : K → K → Ordering) (o : IsKeyOrder cmp) (f
         }
 
     -- a read is finished by the page that it waited for: its effect is at its look-up
-    pub world-loaded : (q : Pending V) → pending cmp old slot c ≡ Some q → (a : Answer O) (i : I) → x.op ≡ Read (key_of x.op) i → a ≡ shown_of f (key_of x.op) i q.value → Same (live_of cmp new) (live_of cmp old)
+    pub world-loaded : (q : Pending V) → pending cmp old.core slot c ≡ Some q → (a : Answer O) (k : K) (i : I) → x.op ≡ Read k i → a ≡ shown_of f k i q.value → Same (live_of cmp new.core) (live_of cmp old.core)
         → IsWorld cmp f code (slice_set views p new) life_at (ended_at lives (life_at (record { partition = p; slot = slot; context = c })) (Finished (record { effect = q.moment; done = next; answer = a }))) next
-    world-loaded q waits a i reads told same =
+    world-loaded q waits a k i reads told same =
         let l = open_life in
         let unended : finish_of l.life ≡ None = ap (λ n. finish_of (record (l.life) { end = n })) l.unended in
         let j = life_at (record { partition = p; slot = slot; context = c }) in
         let look = world.held.held (record { partition = p; slot = slot; context = c }) q (pend-was cmp views p old new here slot c ∙ waits) in
-        let k = key_of x.op in
-        let op : l.life.op ≡ Read (key_of x.op) i = l.op ∙ reads in
+        let op : l.life.op ≡ Read k i = l.op ∙ reads in
         let mine : look.life ≡ l.life = (let s : Some look.life ≡ Some l.life = sym look.here ∙ l.here in cc) in
-        let key : key_of look.life.op ≡ key_of x.op = ap (λ (z : Life K V I O). key_of z.op) mine ∙ ap key_of l.op in
+        let both : Some look.op ≡ Some (on_key.Read k i) = sym look.is ∙ ap (λ (z : Life K V I O). keyed z.op) mine ∙ ap keyed op in
+        let same_op : look.op ≡ on_key.Read k i = cc in
+        let key : key_of look.op ≡ k = ap key_of same_op in
         record {
-          placed = placed-before cmp f lives now next e world.placed j l.life l.here unended q.moment a (key_of x.op) i op q.value
+          placed = placed-before cmp f lives now next e world.placed j l.life l.here unended q.moment a k i op q.value
               look.free (let b : look.life.issue < q.moment = look.later in let s : look.life.issue ≡ l.life.issue = ap (λ (z : Life K V I O). z.issue) mine in omega arith)
               look.past (look.value ∙ ap (map_before cmp f lives q.moment) key) told;
-          denotes = λ k. live-quiet cmp o f code views p old new here same k ∙ world.denotes k
-              ∙ ap (λ (m : PlainMap K V). m k) (sym (map-before cmp f lives now next e world.placed j l.life l.here unended q.moment a (key_of x.op) i op));
+          denotes = λ r. live-quiet cmp o f code views p old new here same r ∙ world.denotes r
+              ∙ ap (λ (m : PlainMap K V). m r) (sym (map-before cmp f lives now next e world.placed j l.life l.here unended q.moment a k i op));
           linked = linked-ended (Finished (record { effect = q.moment; done = next; answer = a }));
           housed = housed-ended;
           held = held-ended (Finished (record { effect = q.moment; done = next; answer = a }))
-              (λ n b. same_before cmp f lives now next e world.placed j l.life l.here unended q.moment a (key_of x.op) i op n)
-              (λ t h w r n k m. (let s : record { effect = q.moment; done = next; answer = a } ≡ t = cc in
+              (λ n b. same_before cmp f lives now next e world.placed j l.life l.here unended q.moment a k i op n)
+              (λ t h w r n u m. (let s : record { effect = q.moment; done = next; answer = a } ≡ t = cc in
               let at : q.moment ≡ t.effect = ap (λ (z : Finish O). z.effect) s in
-              n (world.held.apart w (record { partition = p; slot = slot; context = c }) r q k (pend-was cmp views p old new here slot c ∙ waits) (sym m ∙ sym at))));
+              n (world.held.apart w (record { partition = p; slot = slot; context = c }) r q u (pend-was cmp views p old new here slot c ∙ waits) (sym m ∙ sym at))));
         }
 
     -- it is given up, or a fault ends it: its life ends without effect
-    pub world-ended : (end : End O) → finish_in end ≡ None → Same (live_of cmp new) (live_of cmp old)
+    pub world-ended : (end : End O) → finish_in end ≡ None → Same (live_of cmp new.core) (live_of cmp old.core)
         → IsWorld cmp f code (slice_set views p new) life_at (ended_at lives (life_at (record { partition = p; slot = slot; context = c })) end) next
     world-ended end untold same =
         let l = open_life in
@@ -294,7 +282,7 @@ module _ {K V I O : Type 0} (cmp : K → K → Ordering) (o : IsKeyOrder cmp) (f
         }
 
   -- an event that finishes nothing
-  module _ (p : ℕ) (old new : PartitionView K V I) (slot c : ℕ) (x : Asked K V I) (here : slice_get views p ≡ Some old) (was : asked old slot c ≡ Some x) (is : asked new slot c ≡ Some x) (frame : LeavesOthers old new slot c next) (same : Same (live_of cmp new) (live_of cmp old)) (others : OthersPend cmp old new slot c) where
+  module _ (p : ℕ) (old new : PartitionView K V I) (slot c : ℕ) (x : Asked K V I) (here : slice_get views p ≡ Some old) (was : asked old slot c ≡ Some x) (is : asked new slot c ≡ Some x) (frame : LeavesOthers old new slot c next) (same : Same (live_of cmp new.core) (live_of cmp old.core)) (others : OthersPend cmp old.core new.core slot c) where
     goes-on : IsHeld cmp f (slice_set views p new) life_at lives next → IsWorld cmp f code (slice_set views p new) life_at lives next
     goes-on held = world-quiet p old new here frame.number frame.count frame.moment same (λ w. elim (same_where w (record { partition = p; slot = slot; context = c })) [
       | inl s ↦ ap (asked_in (slice_set views p new)) s ∙ asked-here views p old new here slot c ∙ is ∙ sym was ∙ sym (asked-was views p old new here slot c) ∙ ap (asked_in views) (sym s)
@@ -302,36 +290,49 @@ module _ {K V I O : Type 0} (cmp : K → K → Ordering) (o : IsKeyOrder cmp) (f
     ]) held
 
     -- after which it waits for no page
-    pub world-next : pending cmp new slot c ≡ None → IsWorld cmp f code (slice_set views p new) life_at lives next
+    pub world-next : pending cmp new.core slot c ≡ None → IsWorld cmp f code (slice_set views p new) life_at lives next
     world-next none = goes-on (held-sub cmp f views life_at lives now world.held (slice_set views p new) next (omega arith)
         (λ w q h. (pend-rest cmp views p old new here slot c others none w q h).1))
 
     -- after which it waits for another page, to find the same
-    pub world-further : pending cmp new slot c ≡ pending cmp old slot c → IsWorld cmp f code (slice_set views p new) life_at lives next
+    pub world-further : pending cmp new.core slot c ≡ pending cmp old.core slot c → IsWorld cmp f code (slice_set views p new) life_at lives next
     world-further still = goes-on (held-same cmp f views life_at lives now world.held (slice_set views p new) next (omega arith) (pend-same cmp views p old new here slot c others still))
 
     -- by which a page is asked for: this step is held for its look-up
     pub world-asks : IsAsking cmp old new slot c next → IsWorld cmp f code (slice_set views p new) life_at lives next
-    world-asks ask =
-        let w : Place = record { partition = p; slot = slot; context = c } in
-        let asks : asked_in views w ≡ Some x = asked-was views p old new here slot c ∙ was in
-        let l = world.linked.linked w x asks in
-        let mine : asked_by ask.operation ≡ x = (let s : Some (asked_by ask.operation) ≡ Some x = sym (ap (option_map asked_by) ask.was) ∙ was in cc) in
-        let op : ask.operation.op ≡ l.life.op = ap (λ (z : Asked K V I). z.op) mine ∙ sym l.op in
-        let own : partition_of (length views) (code (key_of l.life.op)) ≡ p = ap (λ q. partition_of (length views) (code (key_of q))) l.op ∙ world.housed.routed w x asks in
-        let issued : l.life.issue ≤ now = world.placed.issued (life_at w) l.life l.here in
-        goes-on (held-more cmp f views life_at lives now world.held (slice_set views p new) next (omega arith) w (record { moment = next; value = live_of cmp old (key_of ask.operation.op) })
-        (pend-here cmp views p old new here slot c ∙ ask.asks)
-        (record {
-          life = l.life;
-          here = l.here;
-          later = omega arith;
-          past = omega arith;
-          free = λ i y t hy ty m. (let u = world.placed.timely i y t hy ty in let a : t.effect ≤ t.done = u.within in let b : t.done ≤ now = u.past in absurd (omega arith));
-          value = ap (λ q. live_of cmp old (key_of q)) op
-              ∙ sym (live-here cmp o f code views p old new here (key_of l.life.op) own)
-              ∙ ap (λ (m : PlainMap K V). m (key_of l.life.op)) live-then
-              ∙ ap (λ n. map_before cmp f lives n (key_of l.life.op)) (sym e);
-        })
-        (omega arith)
-        (pend-others cmp views p old new here slot c others))
+    world-asks ask = by_key (keyed x.op) refl
+      where
+        w : ContextId
+        w = record { partition = p; slot = slot; context = c }
+
+        mine : ask.question ≡ x
+        mine = let s : Some ask.question ≡ Some x = sym ask.was ∙ was in cc
+
+        asks : asked_in views (record { partition = p; slot = slot; context = c }) ≡ Some x
+        asks = asked-was views p old new here slot c ∙ was
+
+        finds : (q : Option (KeyedOp K V I)) → keyed x.op ≡ q → pending cmp new.core slot c ≡ to_find cmp old next q
+        finds q k = ask.asks ∙ ap (λ (z : Asked K V I). to_find cmp old next (keyed z.op)) mine ∙ ap (to_find cmp old next) k
+
+        by_key : (q : Option (KeyedOp K V I)) → keyed x.op ≡ q → IsWorld cmp f code (slice_set views p new) life_at lives next
+        by_key None k = world-next (finds None k)
+        by_key (Some q) k =
+            let l = world.linked.linked (record { partition = p; slot = slot; context = c }) x asks in
+            let own : partition_of (length views) (code (key_of q)) ≡ p = world.housed.routed (record { partition = p; slot = slot; context = c }) x q asks k in
+            let issued : l.life.issue ≤ now = world.placed.issued (life_at (record { partition = p; slot = slot; context = c })) l.life l.here in
+            goes-on (held-more cmp f views life_at lives now world.held (slice_set views p new) next (omega arith) (record { partition = p; slot = slot; context = c }) (record { moment = next; value = live_of cmp old.core (key_of q) })
+            (pend-here cmp views p old new here slot c ∙ finds (Some q) k)
+            (record {
+              life = l.life;
+              here = l.here;
+              op = q;
+              is = ap keyed l.op ∙ k;
+              later = omega arith;
+              past = omega arith;
+              free = λ i y t hy ty m. (let u = world.placed.timely i y t hy ty in let a : t.effect ≤ t.done = u.within in let b : t.done ≤ now = u.past in absurd (omega arith));
+              value = sym (live-here cmp o f code views p old new here (key_of q) own)
+                  ∙ ap (λ (m : PlainMap K V). m (key_of q)) live-then
+                  ∙ ap (λ n. map_before cmp f lives n (key_of q)) (sym e);
+            })
+            (omega arith)
+            (pend-others cmp views p old new here slot c others))

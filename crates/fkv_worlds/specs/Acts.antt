@@ -1,5 +1,5 @@
 -- What a step does: a rule for each case, in the order of the tests.
-use Rattle.std.specs.Prelude.{length, ◌≡◌, ◌<◌, ◌≤◌, ◌-◌, ◌^◌, ℕ, suc, true, false, List, [], ◌∷◌, ◌++◌, Option, Some, None, Result, Ok, Err, slice_get, slice_set}
+use Rattle.std.specs.Prelude.{length, IsSome, ◌≡◌, ◌<◌, ◌≤◌, ◌-◌, ◌^◌, ℕ, suc, true, false, List, [], ◌∷◌, ◌++◌, Option, Some, None, Result, Ok, Err, slice_get, slice_set}
 use Rattle.std.specs.declared.cmp.Ordering.{Ordering}
 use Rattle.fkv_functions.specs.Meanings.{Meanings}
 use Rattle.fkv_functions.specs.declared.asks.Ask.{Ask}
@@ -9,28 +9,14 @@ use Rattle.fkv_texts.specs.declared.entries.Entry.{Entry}
 use Rattle.fkv_device.specs.Standing.{Standing, Joined}
 use Rattle.fkv_device.specs.declared.messages.FlushJob.{FlushJob}
 use Rattle.fkv_operations.specs.declared.operations.Op.{Op}
-use Rattle.fkv_partition.specs.declared.contexts.Progress.{Progress}
-use Rattle.fkv_partition.specs.declared.contexts.Progress.TheVariants.{Done, Next, NeedsBuild, NeedsLoad, Waits}
+use Rattle.fkv_partition.specs.Progress.{Progress}
+use Rattle.fkv_partition.specs.Progress.TheVariants.{Done, Next, NeedsBuild, NeedsLoad, Waits}
+use Rattle.fkv_partition.specs.Views.{PartitionView, at_moment}
+use Rattle.fkv_partition.specs.Effect.{asked, IsQuiet, IsIssue, IsEvent, IsGiveUp, IsLoad, IsTruncation}
+use Rattle.fkv_partition.specs.Events.{Enters, Goes, Installs, Loads, Flushes, GivesUp, Refreshes, Shifts, Evicts, Issues}
+use Rattle.fkv_partition.specs.Beginning.{LeavesAll}
+use Rattle.fkv_partition.specs.Truncating.{Truncates}
 use Rattle.fkv_records.specs.Places.{page_at}
-use Rattle.fkv_partition.specs.Effect.{asked, IsQuiet, IsIssue, IsEvent, IsGiveUp}
-use Rattle.fkv_partition.specs.Pending.{IsLoad}
-use Rattle.fkv_partition.specs.Beginning.{Enters}
-use Rattle.fkv_partition.specs.Going.{Goes}
-use Rattle.fkv_partition.specs.Installing.{Installs}
-use Rattle.fkv_partition.specs.Loading.{Loads}
-use Rattle.fkv_partition.specs.Flushing.{Flushes}
-use Rattle.fkv_partition.specs.Ending.{GivesUp}
-use Rattle.fkv_partition.specs.Looking.{Refreshes, Shifts, Evicts}
-use Rattle.fkv_partition.specs.Truncating.{IsTruncation}
-use Rattle.fkv_partition.specs.declared.contexts.Wait.TheVariants.{Full}
-use Rattle.fkv_compaction.specs.declared.relocations.Moved.{Moved}
-use Rattle.fkv_compaction.specs.declared.relocations.Moved.TheVariants as moved
-use Rattle.fkv_compaction.specs.Views.{CompactedView, relocation_at}
-use Rattle.fkv_compaction.specs.Effect.{IsRelocating}
-use Rattle.fkv_compaction.specs.Beginning.{Issues, Relocates, LeavesAll, Drops}
-use Rattle.fkv_compaction.specs.Going.{GoesOn}
-use Rattle.fkv_compaction.specs.Reading.{LoadsOn}
-use Rattle.fkv_compaction.specs.Truncating.{Truncates}
 use Rattle.fkv_lives.specs.declared.lives.End.{End}
 use Rattle.fkv_lives.specs.declared.lives.Life.{Life}
 use Rattle.fkv_lives.specs.declared.lives.End.TheVariants.{Open, Finished, Failed, GivenUp}
@@ -39,22 +25,22 @@ use Rattle.fkv_lives.specs.declared.outcomes.Outcome.TheVariants as outcome
 use Rattle.fkv_worlds.specs.declared.tables.Seat.{Seat}
 use Rattle.fkv_lives.specs.declared.steps.Access.{Access}
 use Rattle.fkv_lives.specs.declared.steps.Access.TheVariants.{Works}
-use Rattle.fkv_lives.specs.declared.steps.Place.{Place}
+use Rattle.fkv_lives.specs.declared.steps.ContextId.{ContextId}
 use Rattle.fkv_lives.specs.declared.steps.Step.{Step}
-use Rattle.fkv_lives.specs.declared.steps.Step.TheVariants.{Enter, Leave, Refresh, ReadOnly, Take, Write, Head, Issue, Relocate, Go, Install, Load, GiveUp, Truncate}
+use Rattle.fkv_lives.specs.declared.steps.Step.TheVariants.{Enter, Leave, Refresh, ReadOnly, Take, Write, Head, Issue, Go, Install, Load, GiveUp, Truncate}
 use Rattle.fkv_lives.specs.Steps.{partition_in}
 use Rattle.fkv_lives.specs.Changes.{ended_at}
 use Rattle.fkv_worlds.specs.Devices.{receipt_of, Comes, Spoils}
 use Rattle.fkv_worlds.specs.Refusing.{Refuses}
 use Rattle.fkv_lives.specs.Told.{ends_operation}
-use Rattle.fkv_worlds.specs.States.{StateView, WorldView, IsPassedOn, IsOpenAt, seat_row, context_row, life_in, question_in, receipt_in, job_in, is_unasked}
+use Rattle.fkv_worlds.specs.States.{StateView, WorldView, seat_row, context_row, life_in, question_in, receipt_in, job_in, is_unasked}
 
 -- the state where the partition at a place has become this one, at its moment
-abbrev pub with_partition : {K V I O R : Type 0} → StateView K V I O R → ℕ → CompactedView K V I → StateView K V I O R
+abbrev pub with_partition : {K V I O R : Type 0} → StateView K V I O R → ℕ → PartitionView K V I → StateView K V I O R
 with_partition s p v = record s { partitions = slice_set s.partitions p v; moment = suc s.moment }
 
 -- the session that entered a slot is the next of its partition, and has issued nothing
-abbrev pub with_session : {K V I O R : Type 0} → StateView K V I O R → ℕ → ℕ → ℕ → CompactedView K V I
+abbrev pub with_session : {K V I O R : Type 0} → StateView K V I O R → ℕ → ℕ → ℕ → PartitionView K V I
     → StateView K V I O R
 with_session s p slot n v = record (with_partition s p v) {
   enters = slice_set s.enters p (suc n);
@@ -71,7 +57,7 @@ begun_life p seat op now =
     record { partition = p; session = seat.session; number = suc seat.issues; op = op; issue = now; end = Open }
 
 -- one more life, which is that of its context
-abbrev pub with_life : {K V I O R : Type 0} → StateView K V I O R → Place → Seat → Op K V I → CompactedView K V I
+abbrev pub with_life : {K V I O R : Type 0} → StateView K V I O R → ContextId → Seat → Op K V I → PartitionView K V I
     → StateView K V I O R
 with_life s w seat op v = record (with_partition s w.partition v) {
   seats = slice_set s.seats (seat_row w.partition w.slot) (after_issue seat);
@@ -108,7 +94,7 @@ receipts_by receipts row (NeedsBuild ask) = receipts
 receipts_by receipts row (NeedsLoad receipt address) = slice_set receipts row (Some receipt)
 
 -- an operation's progress: its life ends where it is done, and its context's question is kept
-abbrev pub with_progress : {K V I O R : Type 0} → StateView K V I O R → Place → Progress K V I O R → CompactedView K V I
+abbrev pub with_progress : {K V I O R : Type 0} → StateView K V I O R → ContextId → Progress K V I O R → PartitionView K V I
     → StateView K V I O R
 with_progress s w progress v = record (with_partition s w.partition v) {
   lives = lives_by s.lives (life_in s.begun w) (suc s.moment) progress;
@@ -116,36 +102,8 @@ with_progress s w progress v = record (with_partition s w.partition v) {
   receipts = receipts_by s.receipts (context_row w) progress;
 }
 
--- a relocation is begun: its context has asked for nothing yet
-abbrev pub with_relocation : {K V I O R : Type 0} → StateView K V I O R → Place → CompactedView K V I → StateView K V I O R
-with_relocation s w v = record (with_partition s w.partition v) {
-  questions = slice_set s.questions (context_row w) None;
-  receipts = slice_set s.receipts (context_row w) None;
-}
-
--- the receipts of the pages that were asked for last, after an event of a relocation
-abbrev pub receipts_moved : {R : Type 0} → List (Option R) → ℕ → Moved R → List (Option R)
-receipts_moved receipts row moved.Cleared = receipts
-receipts_moved receipts row moved.Next = receipts
-receipts_moved receipts row (moved.NeedsLoad receipt address) = slice_set receipts row (Some receipt)
-receipts_moved receipts row moved.Waits = receipts
-
--- a relocation goes on
-abbrev pub with_moved : {K V I O R : Type 0} → StateView K V I O R → Place → Moved R → CompactedView K V I
-    → StateView K V I O R
-with_moved s w progress v = record (with_partition s w.partition v) {
-  receipts = receipts_moved s.receipts (context_row w) progress;
-}
-
--- what a step tells of it
-abbrev pub told_moved : {V O R : Type 0} → Moved R → Outcome V O
-told_moved moved.Cleared = outcome.Cleared
-told_moved moved.Next = outcome.Next
-told_moved (moved.NeedsLoad receipt address) = outcome.Load address
-told_moved moved.Waits = outcome.Waits Full
-
 -- an operation ends without effect: it is given up, or a fault ends it
-abbrev pub with_end : {K V I O R : Type 0} → StateView K V I O R → Place → End O → CompactedView K V I
+abbrev pub with_end : {K V I O R : Type 0} → StateView K V I O R → ContextId → End O → PartitionView K V I
     → StateView K V I O R
 with_end s w end v = record (with_partition s w.partition v) { lives = ended_at s.lives (life_in s.begun w) end }
 
@@ -162,7 +120,7 @@ told (NeedsBuild ask) = outcome.Build ask.source
 told (NeedsLoad receipt address) = outcome.Load address
 
 -- the context whose question a step answers
-abbrev pub answers_in : {K V I : Type 0} → Step K V I → Option Place
+abbrev pub answers_in : {K V I : Type 0} → Step K V I → Option ContextId
 answers_in (Enter p) = None
 answers_in (Leave p slot) = None
 answers_in (Refresh p slot) = None
@@ -171,7 +129,6 @@ answers_in (Take p) = None
 answers_in (Write p access) = None
 answers_in (Head p page) = None
 answers_in (Issue p slot op) = None
-answers_in (Relocate p slot) = None
 answers_in (Go w) = None
 answers_in (Install w) = Some w
 answers_in (Load w access) = Some w
@@ -179,7 +136,7 @@ answers_in (GiveUp w) = None
 answers_in (Truncate p) = None
 
 -- the step is in this partition, what it answers was asked, and a moment is left
-pub record IsDue {K V I O R : Type 0} (s : StateView K V I O R) (step : Step K V I) (v : CompactedView K V I) : Type 0 where
+pub record IsDue {K V I O R : Type 0} (s : StateView K V I O R) (step : Step K V I) (v : PartitionView K V I) : Type 0 where
   pub here : slice_get s.partitions (partition_in step) ≡ Some v
   pub asked : is_unasked s step ≡ false
   pub moment : s.moment < 2 ^ 64 - 1
@@ -188,30 +145,29 @@ pub data Acts {K V I O R : Type 0} (stands : R → Standing) (entry : ℕ → Li
     (cmp : K → K → Ordering) (f : Meanings K V I O) (code : K → ℕ) (old new : StateView K V I O R) (step : Step K V I)
     (result : Result (Outcome V O) Refused) : Type 0 where
   -- there is no such partition
-  nowhere : length old.partitions ≤ partition_in step
+  no_partition : length old.partitions ≤ partition_in step
       → new ≡ old
       → result ≡ Err Unknown
       → Acts stands entry cmp f code old new step result
-  -- an answer to what was not asked: in an operation, or in none
-  unasked : (w : Place) (v : CompactedView K V I)
+  -- an answer to what was not asked: of an operation, or of none
+  unasked : (w : ContextId) (v : PartitionView K V I)
       → answers_in step ≡ Some w
       → slice_get old.partitions w.partition ≡ Some v
       → is_unasked old step ≡ true
-      → IsOpenAt v w.slot w.context
+      → IsSome (asked v w.slot w.context)
       → new ≡ old
       → result ≡ Err NotReady
       → Acts stands entry cmp f code old new step result
-  unknown : (w : Place) (v : CompactedView K V I)
+  unknown : (w : ContextId) (v : PartitionView K V I)
       → answers_in step ≡ Some w
       → slice_get old.partitions w.partition ≡ Some v
       → is_unasked old step ≡ true
-      → asked v.partition w.slot w.context ≡ None
-      → relocation_at v w.slot w.context ≡ None
+      → asked v w.slot w.context ≡ None
       → new ≡ old
       → result ≡ Err Unknown
       → Acts stands entry cmp f code old new step result
   -- a write of no page
-  jobless : (p : ℕ) (access : Access)
+  no_flush_job : (p : ℕ) (access : Access)
       → step ≡ Write p access
       → p < length old.partitions
       → is_unasked old step ≡ true
@@ -226,7 +182,7 @@ pub data Acts {K V I O R : Type 0} (stands : R → Standing) (entry : ℕ → Li
       → result ≡ Err Worn
       → Acts stands entry cmp f code old new step result
   -- no memory is left for the life of an issue
-  lifeless : (p slot : ℕ) (op : Op K V I) (v : CompactedView K V I)
+  no_memory_for_life : (p slot : ℕ) (op : Op K V I) (v : PartitionView K V I)
       → step ≡ Issue p slot op
       → IsDue old step v
       → new ≡ old
@@ -234,209 +190,149 @@ pub data Acts {K V I O R : Type 0} (stands : R → Standing) (entry : ℕ → Li
       → Acts stands entry cmp f code old new step result
   -- what the partition refuses is refused; what it does is done, at the next moment: its rule, and what its event
   -- changes
-  refuses : (v : CompactedView K V I) (e : Refused)
+  refuses : (v : PartitionView K V I) (e : Refused)
       → IsDue old step v
       → Refuses stands entry cmp f code old v (suc old.moment) e step
       → new ≡ old
       → result ≡ Err e
       → Acts stands entry cmp f code old new step result
-  enters : (p slot n : ℕ) (v v' : CompactedView K V I)
+  enters : (p slot n : ℕ) (v v' : PartitionView K V I)
       → step ≡ Enter p
       → IsDue old step v
-      → Enters v.partition v'.partition (suc old.moment) (Ok slot)
-      → IsQuiet true v.partition v'.partition (suc old.moment)
-      → IsPassedOn v v'
+      → Enters v v' (suc old.moment) (Ok slot)
+      → IsQuiet true v v' (suc old.moment)
       → slot < 16
       → slice_get old.enters p ≡ Some n
       → new ≡ with_session old p slot n v'
       → result ≡ Ok (outcome.Entered slot)
       → Acts stands entry cmp f code old new step result
-  leaves : (p slot : ℕ) (v v' : CompactedView K V I)
+  leaves : (p slot : ℕ) (v v' : PartitionView K V I)
       → step ≡ Leave p slot
       → IsDue old step v
       → LeavesAll true v v' slot (suc old.moment) (Ok tt)
-      → IsQuiet true v.partition v'.partition (suc old.moment)
+      → IsQuiet true v v' (suc old.moment)
       → new ≡ with_partition old p v'
       → result ≡ Ok outcome.Left
       → Acts stands entry cmp f code old new step result
-  refreshes : (p slot : ℕ) (v v' : CompactedView K V I)
+  refreshes : (p slot : ℕ) (v v' : PartitionView K V I)
       → step ≡ Refresh p slot
       → IsDue old step v
-      → Refreshes true v.partition v'.partition slot (suc old.moment) (Ok tt)
-      → IsQuiet true v.partition v'.partition (suc old.moment)
-      → IsPassedOn v v'
+      → Refreshes true v v' slot (suc old.moment) (Ok tt)
+      → IsQuiet true v v' (suc old.moment)
       → new ≡ with_partition old p v'
       → result ≡ Ok outcome.Refreshed
       → Acts stands entry cmp f code old new step result
-  shifts : (p page : ℕ) (v v' : CompactedView K V I)
+  shifts : (p page : ℕ) (v v' : PartitionView K V I)
       → step ≡ ReadOnly p page
       → IsDue old step v
-      → Shifts true v.partition v'.partition page (suc old.moment) (Ok tt)
-      → IsQuiet true v.partition v'.partition (suc old.moment)
-      → IsPassedOn v v'
+      → Shifts true v v' page (suc old.moment) (Ok tt)
+      → IsQuiet true v v' (suc old.moment)
       → new ≡ with_partition old p v'
       → result ≡ Ok outcome.Shifted
       → Acts stands entry cmp f code old new step result
-  evicts : (p page : ℕ) (v v' : CompactedView K V I)
+  evicts : (p page : ℕ) (v v' : PartitionView K V I)
       → step ≡ Head p page
       → IsDue old step v
-      → Evicts true v.partition v'.partition page (suc old.moment) (Ok tt)
-      → IsQuiet true v.partition v'.partition (suc old.moment)
-      → IsPassedOn v v'
+      → Evicts true v v' page (suc old.moment) (Ok tt)
+      → IsQuiet true v v' (suc old.moment)
       → new ≡ with_partition old p v'
       → result ≡ Ok outcome.Shifted
       → Acts stands entry cmp f code old new step result
-  -- the lowest page that is not flushed is taken, which changes nothing in the partition
-  takes : (p : ℕ) (v : CompactedView K V I) (job : FlushJob)
+  -- the lowest page that is not flushed is taken, which changes nothing in the partition but its moment
+  takes : (p : ℕ) (v : PartitionView K V I) (job : FlushJob)
       → step ≡ Take p
       → IsDue old step v
-      → job.page ≡ length v.partition.records.receipts
-      → slice_get v.partition.records.waiting 0 ≡ Some job.bytes
-      → new ≡ record (with_job old p (Some job)) { moment = suc old.moment }
+      → job.page ≡ length v.core.records.receipts
+      → slice_get v.core.records.waiting 0 ≡ Some job.bytes
+      → new ≡ with_job (with_partition old p (at_moment v (suc old.moment))) p (Some job)
       → result ≡ Ok (outcome.Taken job.page)
       → Acts stands entry cmp f code old new step result
   -- a write spends the page that was taken, whether it is flushed or not
-  spoils : (p : ℕ) (access : Access) (v : CompactedView K V I) (job : FlushJob) (e : Refused)
+  spoils : (p : ℕ) (access : Access) (v : PartitionView K V I) (job : FlushJob) (e : Refused)
       → step ≡ Write p access
       → IsDue old step v
       → job_in old.jobs p ≡ Some job
-      → Spoils v.partition (suc old.moment) job access e
+      → Spoils v (suc old.moment) job access e
       → new ≡ with_job old p None
       → result ≡ Err e
       → Acts stands entry cmp f code old new step result
-  writes : (p : ℕ) (v v' : CompactedView K V I) (job : FlushJob)
+  writes : (p : ℕ) (v v' : PartitionView K V I) (job : FlushJob)
       → step ≡ Write p Works
       → IsDue old step v
       → job_in old.jobs p ≡ Some job
-      → Flushes v.partition v'.partition (receipt_of job) job.bytes (suc old.moment) (Ok tt)
-      → IsQuiet true v.partition v'.partition (suc old.moment)
-      → IsPassedOn v v'
+      → Flushes v v' (receipt_of job) job.bytes (suc old.moment) (Ok tt)
+      → IsQuiet true v v' (suc old.moment)
       → new ≡ with_job (with_partition old p v') p None
       → result ≡ Ok (outcome.Flushed job.page)
       → Acts stands entry cmp f code old new step result
-  issues : (p slot c : ℕ) (op : Op K V I) (v v' : CompactedView K V I) (seat : Seat)
+  issues : (p slot c : ℕ) (op : Op K V I) (v v' : PartitionView K V I) (seat : Seat)
       → step ≡ Issue p slot op
       → IsDue old step v
       → Issues code v v' slot op (suc old.moment) (Ok c)
-      → IsIssue code v.partition v'.partition slot c op (suc old.moment)
+      → IsIssue code v v' slot c op (suc old.moment)
       → slot < 16
       → slice_get old.seats (seat_row p slot) ≡ Some seat
       → new ≡ with_life old (record { partition = p; slot = slot; context = c }) seat op v'
       → result ≡ Ok (outcome.Issued c)
       → Acts stands entry cmp f code old new step result
-  -- a relocation is begun: its context has asked for nothing yet
-  relocates : (p slot c : ℕ) (v v' : CompactedView K V I)
-      → step ≡ Relocate p slot
-      → IsDue old step v
-      → Relocates v v' slot (suc old.moment) (Ok c)
-      → IsRelocating true cmp v v' slot c (suc old.moment)
-      → slot < 16
-      → new ≡ with_relocation old (record { partition = p; slot = slot; context = c }) v'
-      → result ≡ Ok (outcome.Relocating c)
-      → Acts stands entry cmp f code old new step result
-  goes : (w : Place) (v v' : CompactedView K V I) (progress : Progress K V I O R)
+  goes : (w : ContextId) (v v' : PartitionView K V I) (progress : Progress K V I O R)
       → step ≡ Go w
       → IsDue old step v
-      → Goes stands cmp f code v.partition v'.partition w.slot w.context (suc old.moment) (Ok progress)
-      → IsEvent cmp f v.partition v'.partition w.slot w.context (suc old.moment) progress
-      → IsPassedOn v v'
+      → Goes stands cmp f code v v' w.slot w.context (suc old.moment) (Ok progress)
+      → IsEvent cmp f v v' w.slot w.context (suc old.moment) progress
       → new ≡ with_progress old w progress v'
       → result ≡ Ok (told progress)
       → Acts stands entry cmp f code old new step result
-  goes_on : (w : Place) (v v' : CompactedView K V I) (progress : Moved R)
-      → step ≡ Go w
-      → IsDue old step v
-      → GoesOn stands cmp code v v' w.slot w.context (suc old.moment) (Ok progress)
-      → IsRelocating true cmp v v' w.slot w.context (suc old.moment)
-      → new ≡ with_moved old w progress v'
-      → result ≡ Ok (told_moved progress)
-      → Acts stands entry cmp f code old new step result
-  installs : (w : Place) (v v' : CompactedView K V I) (ask : Ask K V I) (progress : Progress K V I O R)
+  installs : (w : ContextId) (v v' : PartitionView K V I) (ask : Ask K V I) (progress : Progress K V I O R)
       → step ≡ Install w
       → IsDue old step v
       → question_in old.questions w ≡ Some ask
-      → Installs cmp f code v.partition v'.partition w.slot w.context ask (suc old.moment) (Ok progress)
-      → IsEvent cmp f v.partition v'.partition w.slot w.context (suc old.moment) progress
-      → IsPassedOn v v'
+      → Installs cmp f code v v' w.slot w.context ask (suc old.moment) (Ok progress)
+      → IsEvent cmp f v v' w.slot w.context (suc old.moment) progress
       → new ≡ with_progress old w progress v'
       → result ≡ Ok (told progress)
       → Acts stands entry cmp f code old new step result
-  loads : (w : Place) (access : Access) (v v' : CompactedView K V I) (receipt : R) (came : Result (Joined R) Refused)
+  loads : (w : ContextId) (access : Access) (v v' : PartitionView K V I) (receipt : R) (came : Result (Joined R) Refused)
       (progress : Progress K V I O R)
       → step ≡ Load w access
       → IsDue old step v
       → receipt_in old.receipts w ≡ Some receipt
       → Comes stands receipt access came
-      → Loads stands entry cmp f v.partition v'.partition w.slot w.context came (suc old.moment) (Ok progress)
-      → IsLoad cmp f v.partition v'.partition w.slot w.context (suc old.moment) progress
-      → IsPassedOn v v'
+      → Loads stands entry cmp f code v v' w.slot w.context came (suc old.moment) (Ok progress)
+      → IsLoad cmp f v v' w.slot w.context (suc old.moment) progress
       → new ≡ with_progress old w progress v'
       → result ≡ Ok (told progress)
       → Acts stands entry cmp f code old new step result
-  loads_on : (w : Place) (access : Access) (v v' : CompactedView K V I) (receipt : R) (came : Result (Joined R) Refused)
-      (progress : Moved R)
-      → step ≡ Load w access
-      → IsDue old step v
-      → receipt_in old.receipts w ≡ Some receipt
-      → Comes stands receipt access came
-      → LoadsOn stands entry cmp code v v' w.slot w.context came (suc old.moment) (Ok progress)
-      → IsRelocating true cmp v v' w.slot w.context (suc old.moment)
-      → new ≡ with_moved old w progress v'
-      → result ≡ Ok (told_moved progress)
-      → Acts stands entry cmp f code old new step result
   -- a page that could not be read, or is damaged, ends the operation that asked for it: that step is refused, and takes
   -- its moment
-  fails : (w : Place) (access : Access) (v v' : CompactedView K V I) (receipt : R) (came : Result (Joined R) Refused)
+  fails : (w : ContextId) (access : Access) (v v' : PartitionView K V I) (receipt : R) (came : Result (Joined R) Refused)
       (e : Refused)
       → step ≡ Load w access
       → IsDue old step v
       → receipt_in old.receipts w ≡ Some receipt
       → Comes stands receipt access came
-      → Loads stands entry cmp f v.partition v'.partition w.slot w.context came (suc old.moment) (Err e)
+      → Loads stands entry cmp f code v v' w.slot w.context came (suc old.moment) (Err e)
       → ends_operation e ≡ true
-      → IsGiveUp v.partition v'.partition w.slot w.context (suc old.moment)
-      → IsPassedOn v v'
+      → IsGiveUp v v' w.slot w.context (suc old.moment)
       → new ≡ with_end old w Failed v'
       → result ≡ Err e
       → Acts stands entry cmp f code old new step result
-  -- or the relocation
-  fails_on : (w : Place) (access : Access) (v v' : CompactedView K V I) (receipt : R) (came : Result (Joined R) Refused)
-      (e : Refused)
-      → step ≡ Load w access
-      → IsDue old step v
-      → receipt_in old.receipts w ≡ Some receipt
-      → Comes stands receipt access came
-      → LoadsOn stands entry cmp code v v' w.slot w.context came (suc old.moment) (Err e)
-      → ends_operation e ≡ true
-      → IsRelocating true cmp v v' w.slot w.context (suc old.moment)
-      → new ≡ with_partition old w.partition v'
-      → result ≡ Err e
-      → Acts stands entry cmp f code old new step result
-  gives_up : (w : Place) (v v' : CompactedView K V I)
+  gives_up : (w : ContextId) (v v' : PartitionView K V I)
       → step ≡ GiveUp w
       → IsDue old step v
-      → GivesUp v.partition v'.partition w.slot w.context (suc old.moment) (Ok tt)
-      → IsGiveUp v.partition v'.partition w.slot w.context (suc old.moment)
-      → IsPassedOn v v'
+      → GivesUp v v' w.slot w.context (suc old.moment) (Ok tt)
+      → IsGiveUp v v' w.slot w.context (suc old.moment)
       → new ≡ with_end old w GivenUp v'
       → result ≡ Ok outcome.GivenUp
       → Acts stands entry cmp f code old new step result
-  drops : (w : Place) (v v' : CompactedView K V I)
-      → step ≡ GiveUp w
-      → IsDue old step v
-      → Drops v v' w.slot w.context (suc old.moment) (Ok tt)
-      → IsRelocating true cmp v v' w.slot w.context (suc old.moment)
-      → new ≡ with_partition old w.partition v'
-      → result ≡ Ok outcome.GivenUp
-      → Acts stands entry cmp f code old new step result
   -- Begin moves to the start of the page up to which all is cleared
-  truncates : (p : ℕ) (v v' : CompactedView K V I)
+  truncates : (p : ℕ) (v v' : PartitionView K V I)
       → step ≡ Truncate p
       → IsDue old step v
-      → Truncates true v v' (page_at v.partition.records.page_bits v.cleared) (suc old.moment) (Ok tt)
-      → IsTruncation true cmp v.partition v'.partition (page_at v.partition.records.page_bits v.cleared) (suc old.moment)
+      → Truncates true v v' (page_at v.core.records.page_bits v.cleared) (suc old.moment) (Ok tt)
+      → IsTruncation true cmp v v' (page_at v.core.records.page_bits v.cleared) (suc old.moment)
       → new ≡ with_partition old p v'
-      → result ≡ Ok (outcome.Truncated v'.partition.records.begin)
+      → result ≡ Ok (outcome.Truncated v'.core.records.begin)
       → Acts stands entry cmp f code old new step result
 
 -- a step of a world: its outcome is kept, after those of the steps before it; where there is no memory to keep it,

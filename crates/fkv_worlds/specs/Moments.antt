@@ -12,5 +12,5 @@ pub record IsMomentIn {K V I O R : Type 0} (s : StateView K V I O R) (p now : �
 
 -- there is no such partition, or no moment is left
 pub data IsUntimely {K V I O R : Type 0} (s : StateView K V I O R) (p : ℕ) (refused : Refused) : Type 0 where
-  nowhere : length s.partitions ≤ p → refused ≡ Unknown → IsUntimely s p refused
+  no_partition : length s.partitions ≤ p → refused ≡ Unknown → IsUntimely s p refused
   worn : p < length s.partitions → s.moment ≡ 2 ^ 64 - 1 → refused ≡ Worn → IsUntimely s p refused

@@ -9,21 +9,21 @@ use Rattle.fkv_functions.specs.declared.refusals.Refused.{Refused}
 use Rattle.fkv_functions.specs.declared.refusals.Refused.TheVariants.{Stalled, NoMemory}
 use Rattle.fkv_texts.specs.declared.entries.Entry.{Entry}
 use Rattle.fkv_device.specs.Standing.{Standing}
-use Rattle.fkv_partition.specs.Views.{loading_at}
-use Rattle.fkv_partition.specs.declared.limits.Config.{Config}
-use Rattle.fkv_compaction.specs.Views.{CompactedView, relocation_at}
-use Rattle.fkv_compaction.specs.Going.{is_awaiting}
+use Rattle.fkv_partition.specs.Config.{Config}
+use Rattle.fkv_partition.specs.CoreViews.{loading_at}
+use Rattle.fkv_partition.specs.Views.{PartitionView, relocation_at}
+use Rattle.fkv_partition.specs.Going.{is_awaiting}
+use Rattle.fkv_partition.specs.Unions.{union_of}
 use Rattle.fkv_lives.specs.declared.lives.Life.{Life}
 use Rattle.fkv_lives.specs.declared.outcomes.Outcome.{Outcome}
-use Rattle.fkv_lives.specs.declared.outcomes.Outcome.TheVariants.{Entered, Left, Refreshed, Shifted, Taken, Flushed, Issued, Relocating, Next, Build, Load, Waits, Done, Cleared, GivenUp, Truncated}
-use Rattle.fkv_lives.specs.declared.steps.Place.{Place}
+use Rattle.fkv_lives.specs.declared.outcomes.Outcome.TheVariants.{Entered, Left, Refreshed, Shifted, Taken, Flushed, Issued, Next, Build, Load, Waits, Done, GivenUp, Truncated}
+use Rattle.fkv_lives.specs.declared.steps.ContextId.{ContextId}
 use Rattle.fkv_lives.specs.declared.steps.Step.{Step}
 use Rattle.fkv_lives.specs.declared.steps.Access.TheVariants.{Works}
 use Rattle.fkv_lives.specs.declared.steps.Step.TheVariants as step
 use Rattle.fkv_worlds.specs.declared.pursuits.Pursuit.{Pursuit}
 use Rattle.fkv_worlds.specs.declared.pursuits.Pursuit.TheVariants.{Ready, Finish}
-use Rattle.fkv_worlds.specs.States.{WorldView, bare, empty_world}
-use Rattle.fkv_partition.specs.Unions.{union_of}
+use Rattle.fkv_worlds.specs.States.{WorldView, empty_world}
 use Rattle.fkv_worlds.specs.Acts.{Acts}
 use Rattle.fkv_lives.specs.Histories.{backwards, issues_in, issue_of}
 use Rattle.fkv_worlds.specs.Headline.{IsHeadline}
@@ -33,7 +33,7 @@ pub record IsReport {K V I O R : Type 0} (cmp : K → K → Ordering) (code : K 
     (told : List (Result (Outcome V O) Refused)) (lived : List (Life K V I O)) (pairs : List (K × V)) : Type 0 where
   pub outcomes : told ≡ w.outcomes
   pub lives : lived ≡ w.state.lives
-  pub map : (k : K) → lookup (is_at (cmp k)) pairs ≡ union_of cmp code (bare w.state.partitions) k
+  pub map : (k : K) → lookup (is_at (cmp k)) pairs ≡ union_of cmp code w.state.partitions k
   pub rising : IsStrictlySortedBy cmp (keys_of pairs)
 
 -- a step that was done, or refused, and kept
@@ -66,7 +66,7 @@ pub record IsReplay {K V I O R : Type 0} (stands : R → Standing) (entry : ℕ 
 
 -- the step that follows an outcome, if one does: `ready` goes on after Next, and `finish` installs after Build and loads
 -- after Load too
-abbrev pub step_after : {K V I O : Type 0} → Pursuit → Place → Outcome V O → Option (Step K V I)
+abbrev pub step_after : {K V I O : Type 0} → Pursuit → ContextId → Outcome V O → Option (Step K V I)
 step_after pursuit place (Entered slot) = None
 step_after pursuit place Left = None
 step_after pursuit place Refreshed = None
@@ -74,7 +74,6 @@ step_after pursuit place Shifted = None
 step_after pursuit place (Taken page) = None
 step_after pursuit place (Flushed page) = None
 step_after pursuit place (Issued context) = None
-step_after pursuit place (Relocating context) = None
 step_after pursuit place Next = Some (step.Go place)
 step_after Ready place (Build source) = None
 step_after Finish place (Build source) = Some (step.Install place)
@@ -82,21 +81,19 @@ step_after Ready place (Load address) = None
 step_after Finish place (Load address) = Some (step.Load place Works)
 step_after pursuit place (Waits why) = None
 step_after pursuit place (Done a) = None
-step_after pursuit place Cleared = None
 step_after pursuit place GivenUp = None
 step_after pursuit place (Truncated begin) = None
 
-abbrev pub follows : {K V I O : Type 0} → Pursuit → Place → Result (Outcome V O) Refused → Option (Step K V I)
+abbrev pub follows : {K V I O : Type 0} → Pursuit → ContextId → Result (Outcome V O) Refused → Option (Step K V I)
 follows pursuit place (Ok x) = step_after pursuit place x
 follows pursuit place (Err e) = None
 
--- the step that a pursuit begins with: `finish` begins with the load, where the operation or the relocation waits for a
--- page
-abbrev pub awaits_at : {K V I : Type 0} → Option (CompactedView K V I) → ℕ → ℕ → Bool
+-- the step that a pursuit begins with: `finish` begins with the load, where the operation waits for a page
+abbrev pub awaits_at : {K V I : Type 0} → Option (PartitionView K V I) → ℕ → ℕ → Bool
 awaits_at None slot c = false
-awaits_at (Some v) slot c = is_some (loading_at v.partition slot c) || is_awaiting (relocation_at v slot c)
+awaits_at (Some v) slot c = is_some (loading_at v.core slot c) || is_awaiting (relocation_at v slot c)
 
-abbrev pub first_step : {K V I : Type 0} → List (CompactedView K V I) → Pursuit → Place → Step K V I
+abbrev pub first_step : {K V I : Type 0} → List (PartitionView K V I) → Pursuit → ContextId → Step K V I
 first_step views Ready place = step.Go place
 first_step views Finish place =
     cond (awaits_at (slice_get views place.partition) place.slot place.context) (step.Load place Works) (step.Go place)
@@ -105,7 +102,7 @@ first_step views Finish place =
 -- leads to; where another would follow the last of them, the pursuit is Stalled. It answers what its last step told,
 -- and nothing where there was no memory to keep a step's outcome: that step was not done.
 pub data Pursues {K V I O R : Type 0} (stands : R → Standing) (entry : ℕ → List ℕ → ℕ → Entry K V → Type 0)
-    (cmp : K → K → Ordering) (f : Meanings K V I O) (code : K → ℕ) (pursuit : Pursuit) (place : Place)
+    (cmp : K → K → Ordering) (f : Meanings K V I O) (code : K → ℕ) (pursuit : Pursuit) (place : ContextId)
     (new : WorldView K V I O R) (result : Option (Result (Outcome V O) Refused))
     : ℕ → Step K V I → WorldView K V I O R → Type 0 where
   unkept : (n : ℕ) (s : Step K V I) (v : WorldView K V I O R)
@@ -129,7 +126,7 @@ pub data Pursues {K V I O R : Type 0} (stands : R → Standing) (entry : ℕ →
 
 -- a pursuit of at most 10,000 steps, and what it answers: NoMemory where an outcome could not be kept
 pub record IsPursued {K V I O R : Type 0} (stands : R → Standing) (entry : ℕ → List ℕ → ℕ → Entry K V → Type 0)
-    (cmp : K → K → Ordering) (f : Meanings K V I O) (code : K → ℕ) (pursuit : Pursuit) (place : Place)
+    (cmp : K → K → Ordering) (f : Meanings K V I O) (code : K → ℕ) (pursuit : Pursuit) (place : ContextId)
     (old new : WorldView K V I O R) (result : Result (Outcome V O) Refused) : Type 0 where
   pub kept : Option (Result (Outcome V O) Refused)
   pub pursues : Pursues stands entry cmp f code pursuit place new kept 10000

@@ -3,7 +3,7 @@ use Rattle.std.specs.Prelude.{◌≡◌, ◌*◌, ◌≤◌, ℕ, length, Some, 
 use Rattle.std.specs.declared.cmp.Ordering.{Ordering}
 use Rattle.fkv_functions.specs.Meanings.{Meanings}
 use Rattle.fkv_worlds.specs.declared.tables.Seat.{Seat}
-use Rattle.fkv_worlds.specs.States.{StateView, bare, life_in}
+use Rattle.fkv_worlds.specs.States.{StateView, life_in}
 use Rattle.fkv_worlds.specs.Worlds.{IsWorld}
 
 -- the tables have a row for each partition, slot and context, and their counts are of past steps
@@ -21,4 +21,4 @@ pub record HasTables {K V I O R : Type 0} (s : StateView K V I O R) : Type 0 whe
 pub record IsState {K V I O R : Type 0} (cmp : K → K → Ordering) (f : Meanings K V I O) (code : K → ℕ)
     (s : StateView K V I O R) : Type 0 where
   pub tables : HasTables s
-  pub world : IsWorld cmp f code (bare s.partitions) (life_in s.begun) s.lives s.moment
+  pub world : IsWorld cmp f code s.partitions (life_in s.begun) s.lives s.moment

@@ -4,25 +4,22 @@ use Rattle.std.specs.List.{range_with_len}
 use Rattle.fkv_functions.specs.declared.asks.Ask.{Ask}
 use Rattle.fkv_functions.specs.declared.refusals.Refused.{Refused}
 use Rattle.fkv_device.specs.declared.messages.FlushJob.{FlushJob}
-use Rattle.fkv_partition.specs.declared.limits.Config.{Config}
-use Rattle.fkv_partition.specs.Views.{PartitionView}
+use Rattle.fkv_partition.specs.Config.{Config}
+use Rattle.fkv_partition.specs.Views.{PartitionView, empty_partition}
 use Rattle.fkv_partition.specs.Effect.{asked}
-use Rattle.fkv_compaction.specs.declared.relocations.Relocation.{Relocation}
-use Rattle.fkv_compaction.specs.Views as compaction
-use Rattle.fkv_compaction.specs.Views.{CompactedView, empty_compacted, relocation_at}
 use Rattle.fkv_lives.specs.declared.lives.Life.{Life}
 use Rattle.fkv_lives.specs.declared.outcomes.Outcome.{Outcome}
 use Rattle.fkv_worlds.specs.declared.tables.Seat.{Seat}
-use Rattle.fkv_lives.specs.declared.steps.Place.{Place}
+use Rattle.fkv_lives.specs.declared.steps.ContextId.{ContextId}
 use Rattle.fkv_lives.specs.declared.steps.Step.{Step}
-use Rattle.fkv_lives.specs.declared.steps.Step.TheVariants.{Enter, Leave, Refresh, ReadOnly, Take, Write, Head, Issue, Relocate, Go, Install, Load, GiveUp, Truncate}
+use Rattle.fkv_lives.specs.declared.steps.Step.TheVariants.{Enter, Leave, Refresh, ReadOnly, Take, Write, Head, Issue, Go, Install, Load, GiveUp, Truncate}
 
 -- the partitions; for each context the place of the life that began there last, what it asked to be built last, and the
 -- receipt of the page that it asked for last; for each partition the page that was taken, to be written; for each slot
 -- its session and how many operations that has issued; for each partition how many sessions entered it; the lives; and
 -- the last moment
 pub record StateView (K V I O R : Type 0) : Type 0 where
-  pub partitions : List (CompactedView K V I)
+  pub partitions : List (PartitionView K V I)
   pub begun : List ℕ
   pub questions : List (Option (Ask K V I))
   pub receipts : List (Option R)
@@ -32,28 +29,8 @@ pub record StateView (K V I O R : Type 0) : Type 0 where
   pub lives : List (Life K V I O)
   pub moment : ℕ
 
--- the partitions, without their relocations and without what is cleared: operations know of nothing else
-abbrev pub bare : {K V I : Type 0} → List (CompactedView K V I) → List (PartitionView K V I)
-bare views = map (λ v. v.partition) views
-
--- a partition alone has changed: its relocations stay, and so does what is cleared
-abbrev pub IsPassedOn : {K V I : Type 0} → CompactedView K V I → CompactedView K V I → Type 0
-IsPassedOn v v' = v' ≡ compaction.with_partition v v'.partition
-
--- the relocation that is open in a context of a world
-abbrev pub relocation_of : {K V I : Type 0} → Option (CompactedView K V I) → ℕ → ℕ → Option (Relocation K V)
-relocation_of None slot c = None
-relocation_of (Some v) slot c = relocation_at v slot c
-
-abbrev pub relocation_in : {K V I : Type 0} → List (CompactedView K V I) → Place → Option (Relocation K V)
-relocation_in views w = relocation_of (slice_get views w.partition) w.slot w.context
-
--- an operation or a relocation is open in a context
-abbrev pub IsOpenAt : {K V I : Type 0} → CompactedView K V I → ℕ → ℕ → Type 0
-IsOpenAt v slot c = IsSome (asked v.partition slot c) ⊎ IsSome (relocation_at v slot c)
-
 -- a state of these parts, in that order
-abbrev pub state_of : {K V I O R : Type 0} → List (CompactedView K V I) → List ℕ → List (Option (Ask K V I))
+abbrev pub state_of : {K V I O R : Type 0} → List (PartitionView K V I) → List ℕ → List (Option (Ask K V I))
     → List (Option R) → List (Option FlushJob) → List Seat → List ℕ → List (Life K V I O) → ℕ → StateView K V I O R
 state_of partitions begun questions receipts jobs seats enters lives moment = record {
   partitions = partitions;
@@ -76,10 +53,10 @@ pub record WorldView (K V I O R : Type 0) : Type 0 where
 abbrev pub seat_row : ℕ → ℕ → ℕ
 seat_row p slot = p * 16 + slot
 
-abbrev pub context_row : Place → ℕ
+abbrev pub context_row : ContextId → ℕ
 context_row w = w.partition * 128 + w.slot * 8 + w.context
 
-abbrev pub is_context : Place → Bool
+abbrev pub is_context : ContextId → Bool
 is_context w = nat_lt w.slot 16 && nat_lt w.context 8
 
 -- the seat of a slot; one of no session where there is no such slot
@@ -89,15 +66,15 @@ seat_at seats p slot =
     (record { session = 0; issues = 0 })
 
 -- the place of the life that began in a context
-abbrev pub life_in : List ℕ → Place → ℕ
+abbrev pub life_in : List ℕ → ContextId → ℕ
 life_in begun w = cond (is_context w) (unwrap_or (slice_get begun (context_row w)) 0) 0
 
 -- what a context asked for last
-abbrev pub question_in : {K V I : Type 0} → List (Option (Ask K V I)) → Place → Option (Ask K V I)
+abbrev pub question_in : {K V I : Type 0} → List (Option (Ask K V I)) → ContextId → Option (Ask K V I)
 question_in questions w = cond (is_context w) (unwrap_or (slice_get questions (context_row w)) None) None
 
 -- the receipt of the page that it asked for last
-abbrev pub receipt_in : {R : Type 0} → List (Option R) → Place → Option R
+abbrev pub receipt_in : {R : Type 0} → List (Option R) → ContextId → Option R
 receipt_in receipts w = cond (is_context w) (unwrap_or (slice_get receipts (context_row w)) None) None
 
 -- the page of a partition that was taken, to be written
@@ -115,7 +92,6 @@ is_unasked s (Take p) = false
 is_unasked s (Write p access) = is_none (job_in s.jobs p)
 is_unasked s (Head p page) = false
 is_unasked s (Issue p slot op) = false
-is_unasked s (Relocate p slot) = false
 is_unasked s (Go w) = false
 is_unasked s (Install w) = is_none (question_in s.questions w)
 is_unasked s (Load w access) = is_none (receipt_in s.receipts w)
@@ -132,8 +108,8 @@ pub record IsBlank {K V I R : Type 0} (partitions : ℕ) (places : List ℕ) (as
   pub enters : counts ≡ replicate partitions 0
 
 -- partitions with nothing in them, for records of this size
-abbrev pub empty_partitions : {K V I : Type 0} → Config → ℕ → ℕ → List (CompactedView K V I)
-empty_partitions config record_size n = map (empty_compacted config record_size) (range_with_len 0 n)
+abbrev pub empty_partitions : {K V I : Type 0} → Config → ℕ → ℕ → List (PartitionView K V I)
+empty_partitions config record_size n = map (empty_partition config record_size) (range_with_len 0 n)
 
 -- the world before its first step
 abbrev pub empty_state : {K V I O R : Type 0} → Config → ℕ → StateView K V I O R

@@ -6,9 +6,7 @@
 //! flusher, of the evictor or of the compactor.
 #![tactic(auto)]
 
-mod compacting;
-pub mod desks;
-pub mod events;
+pub mod flush_slots;
 mod paging;
 pub mod pursuits;
 pub mod replays;
@@ -18,7 +16,7 @@ pub mod tables;
 pub mod worlds;
 
 pub use fkv_lives::{
-    Access, End, Finish, Life, LifeOf, Outcome, OutcomeOf, Place, Printed, Step, StepOf, Wait,
+    Access, ContextId, End, Finish, Life, LifeOf, Outcome, OutcomeOf, Printed, Step, StepOf, Wait,
 };
 pub use replays::replay;
 pub use reports::{Report, ReportOf};

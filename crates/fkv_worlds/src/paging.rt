@@ -1,25 +1,24 @@
 //! The steps that reach the device: a page is taken, written and read.
-ghost use Rattle.std.specs.Prelude.{◌≡◌, ◌+◌, ◌*◌, ◌<◌, ◌≤◌, false, length, Some, None, IsSome};
+ghost use Rattle.std.specs.Prelude.{◌≡◌, ◌+◌, ◌*◌, ◌<◌, ◌≤◌, false, length, Some, IsSome};
 ghost use Rattle.fkv_pages.specs.Spelled.{IsEntryIn};
-ghost use Rattle.fkv_worlds.specs.States.{relocation_in, receipt_in, is_unasked};
+ghost use Rattle.fkv_worlds.specs.States.{receipt_in, is_unasked};
 ghost use Rattle.fkv_lives.specs.Told.{ends_operation};
 ghost use Rattle.fkv_worlds.specs.Acts.{Acts};
 ghost use Rattle.fkv_worlds.specs.Devices.{Comes};
 ghost use Rattle.fkv_worlds.specs.Moments.{IsMomentIn};
 ghost use Rattle.fkv_lives.specs.declared.steps.Step.TheVariants.{Take, Write, Load};
 
-use crate::desks::read;
-use crate::events::{flush_done, load};
+use crate::flush_slots::read;
 use crate::states::State;
 use crate::tables::{end_life, has_receipt, life_at, note_progress, row_of};
 use fkv_device::{Loaded, MemoryReceipt, Receipt};
 use fkv_functions::{Functions, Refused};
 use fkv_lives::lives::End;
 use fkv_lives::outcomes::{Outcome, OutcomeOf};
-use fkv_lives::steps::{Access, Place, Step};
+use fkv_lives::steps::{Access, ContextId, Step};
 use std::alloc::Global;
 
-/// Whether a refusal ends the operation or the relocation that it is told to.
+/// Whether a refusal ends the operation that it is told to.
 pub(crate) fn ends_operation(refused: &Refused) -> bool
     ensures { result ≡ ends_operation refused.now }
 {
@@ -34,7 +33,7 @@ pub(crate) fn ends_operation(refused: &Refused) -> bool
 pub(crate) fn read_asked(
     alloc: Global,
     receipts: &[Option<MemoryReceipt>],
-    place: Place,
+    place: ContextId,
     access: Access,
 ) -> Result<Loaded<MemoryReceipt>, Refused>
     requires partition { place.partition < 64 }
@@ -57,11 +56,11 @@ impl<F: Functions> State<F> {
         ensures does { Acts ⟦<MemoryReceipt as Receipt>⟧.stands (IsEntryIn F.Key.bytes_of F.Value.bytes_of F.Key.is_known F.Value.is_known
             F.Key.SIZE F.Value.SIZE) F.Key.cmp F.meaning F.code self.old self.new (Take partition) result }
     {
-        match self.partitions[partition].flush_take(self.alloc) {
+        match self.partitions[partition].flush_take(self.alloc, now) {
             Ok(job) => {
                 let page = job.page;
                 self.moment = now;
-                self.desks[partition].job = Some(job);
+                self.flush_slots[partition].job = Some(job);
                 Ok(Outcome::Taken(page))
             }
             Err(refused) => Err(refused),
@@ -80,7 +79,7 @@ impl<F: Functions> State<F> {
         if partition >= self.partitions.len() {
             return Err(Refused::Unknown);
         }
-        if self.desks[partition].job.is_none() {
+        if self.flush_slots[partition].job.is_none() {
             return Err(Refused::NotReady);
         }
         match self.moment_in(partition) {
@@ -100,10 +99,10 @@ impl<F: Functions> State<F> {
         ensures does { Acts ⟦<MemoryReceipt as Receipt>⟧.stands (IsEntryIn F.Key.bytes_of F.Value.bytes_of F.Key.is_known F.Value.is_known
             F.Key.SIZE F.Value.SIZE) F.Key.cmp F.meaning F.code self.old self.new (Write partition access) result }
     {
-        match self.desks[partition].write(self.alloc, access) {
+        match self.flush_slots[partition].write(self.alloc, access) {
             Ok(written) => {
                 let page = written.page();
-                match flush_done(&mut self.partitions[partition], written, now) {
+                match self.partitions[partition].flush_done(written, now) {
                     Ok(()) => {
                         self.moment = now;
                         Ok(Outcome::Flushed(page))
@@ -115,11 +114,11 @@ impl<F: Functions> State<F> {
         }
     }
 
-    /// Reads the page that an operation or a relocation asked for last, and goes on with it.
+    /// Reads the page that an operation asked for last, and goes on with it.
     pub(crate) fn load(
         &mut self,
         functions: &F,
-        place: Place,
+        place: ContextId,
         access: Access,
     ) -> Result<OutcomeOf<F>, Refused>
         ensures does { Acts ⟦<MemoryReceipt as Receipt>⟧.stands (IsEntryIn F.Key.bytes_of F.Value.bytes_of F.Key.is_known F.Value.is_known
@@ -132,47 +131,26 @@ impl<F: Functions> State<F> {
             return Err(self.why_unasked(Step::Load(place, access), place));
         }
         match self.moment_in(place.partition) {
-            Ok(now) => self.load_in(functions, place, access, now),
+            Ok(now) => self.load_at(functions, place, access, now),
             Err(refused) => Err(refused),
-        }
-    }
-
-    /// Goes on with what is open in a context, by the page that it asked for: an operation, or a relocation.
-    fn load_in(
-        &mut self,
-        functions: &F,
-        place: Place,
-        access: Access,
-        now: u64,
-    ) -> Result<OutcomeOf<F>, Refused>
-        requires due { IsMomentIn self.old place.partition now }
-        requires asked { is_unasked self.old (Load place access) ≡ false }
-        ensures does { Acts ⟦<MemoryReceipt as Receipt>⟧.stands (IsEntryIn F.Key.bytes_of F.Value.bytes_of F.Key.is_known F.Value.is_known
-            F.Key.SIZE F.Value.SIZE) F.Key.cmp F.meaning F.code self.old self.new (Load place access) result }
-    {
-        if self.is_relocating(place) {
-            self.load_on_at(functions, place, access, now)
-        } else {
-            self.load_at(functions, place, access, now)
         }
     }
 
     fn load_at(
         &mut self,
         functions: &F,
-        place: Place,
+        place: ContextId,
         access: Access,
         now: u64,
     ) -> Result<OutcomeOf<F>, Refused>
         requires due { IsMomentIn self.old place.partition now }
         requires asked { is_unasked self.old (Load place access) ≡ false }
-        requires operation { relocation_in self.old.partitions place ≡ None }
         ensures does { Acts ⟦<MemoryReceipt as Receipt>⟧.stands (IsEntryIn F.Key.bytes_of F.Value.bytes_of F.Key.is_known F.Value.is_known
             F.Key.SIZE F.Value.SIZE) F.Key.cmp F.meaning F.code self.old self.new (Load place access) result }
     {
         let came = read_asked(self.alloc, &self.tables.receipts, place, access);
         let partition = &mut self.partitions[place.partition];
-        match load(partition, place.slot, place.context, came, functions, now) {
+        match partition.load(place.slot, place.context, came, functions, now) {
             Ok(progress) => {
                 self.moment = now;
                 Ok(note_progress(&mut self.lives, &mut self.tables, place, progress, now))

@@ -9,7 +9,7 @@ use crate::worlds::World;
 use fkv_device::{MemoryReceipt, Receipt};
 use fkv_functions::{Functions, Refused};
 use fkv_lives::outcomes::{Outcome, OutcomeOf};
-use fkv_lives::steps::{Access, Place, Step, StepOf};
+use fkv_lives::steps::{Access, ContextId, Step, StepOf};
 
 /// The steps after which a pursuit is stalled.
 pub const LIMIT: u64 = 10_000;
@@ -26,7 +26,7 @@ pub enum Pursuit {
 /// The step that follows a step with this result, if one does.
 fn following<F: Functions>(
     pursuit: Pursuit,
-    place: Place,
+    place: ContextId,
     told: &Result<OutcomeOf<F>, Refused>,
 ) -> Option<StepOf<F>>
     ensures { result ≡ follows pursuit place told.now }
@@ -50,7 +50,7 @@ impl<F: Functions> World<F> {
     /// after 10,000 steps, and then it stays open as it is; no step tells that, so it is not
     /// among the outcomes. Refused with `NoMemory` where an outcome could not be kept, and else as
     /// [`World::step`] is.
-    pub fn ready(&mut self, functions: &F, place: Place) -> Result<OutcomeOf<F>, Refused>
+    pub fn ready(&mut self, functions: &F, place: ContextId) -> Result<OutcomeOf<F>, Refused>
         ensures pursues { IsPursued ⟦<MemoryReceipt as Receipt>⟧.stands (IsEntryIn F.Key.bytes_of F.Value.bytes_of F.Key.is_known F.Value.is_known
             F.Key.SIZE F.Value.SIZE) F.Key.cmp F.meaning F.code Ready place self.old self.new result }
         ensures headline { IsHeadline F.Key.cmp F.meaning F.code self.new }
@@ -61,7 +61,7 @@ impl<F: Functions> World<F> {
 
     /// Goes on with an operation or a relocation, installs what it asks for and loads the pages that it asks for, until it is
     /// done, waits, or is refused, and answers that. Where it waits for a page it begins with the load. `Stalled` and `NoMemory` as in [`World::ready`].
-    pub fn finish(&mut self, functions: &F, place: Place) -> Result<OutcomeOf<F>, Refused>
+    pub fn finish(&mut self, functions: &F, place: ContextId) -> Result<OutcomeOf<F>, Refused>
         ensures pursues { IsPursued ⟦<MemoryReceipt as Receipt>⟧.stands (IsEntryIn F.Key.bytes_of F.Value.bytes_of F.Key.is_known F.Value.is_known
             F.Key.SIZE F.Value.SIZE) F.Key.cmp F.meaning F.code Finish place self.old self.new result }
         ensures headline { IsHeadline F.Key.cmp F.meaning F.code self.new }
@@ -77,7 +77,7 @@ impl<F: Functions> World<F> {
         &mut self,
         functions: &F,
         pursuit: Pursuit,
-        place: Place,
+        place: ContextId,
     ) -> Option<Result<OutcomeOf<F>, Refused>>
         ensures pursues { Pursues ⟦<MemoryReceipt as Receipt>⟧.stands (IsEntryIn F.Key.bytes_of F.Value.bytes_of F.Key.is_known F.Value.is_known
             F.Key.SIZE F.Value.SIZE) F.Key.cmp F.meaning F.code pursuit place self.new result 10000
@@ -90,7 +90,7 @@ impl<F: Functions> World<F> {
     }
 
     /// The step that a pursuit begins with.
-    fn first(&self, pursuit: Pursuit, place: Place) -> StepOf<F>
+    fn first(&self, pursuit: Pursuit, place: ContextId) -> StepOf<F>
         ensures { result ≡ first_step self.now.state.partitions pursuit place }
     {
         match pursuit {
@@ -110,7 +110,7 @@ impl<F: Functions> World<F> {
         &mut self,
         functions: &F,
         pursuit: Pursuit,
-        place: Place,
+        place: ContextId,
     ) -> Option<Result<OutcomeOf<F>, Refused>>
         ensures { Pursues ⟦<MemoryReceipt as Receipt>⟧.stands (IsEntryIn F.Key.bytes_of F.Value.bytes_of F.Key.is_known F.Value.is_known
             F.Key.SIZE F.Value.SIZE) F.Key.cmp F.meaning F.code pursuit place self.new result 10000

@@ -4,11 +4,10 @@ ghost use Rattle.std.specs.BTreeMap.{get, is_at};
 ghost use Rattle.std.specs.Map.{lookup, keys_of};
 ghost use Rattle.std.specs.List.Sorted.{IsStrictlySortedBy};
 ghost use Rattle.fkv_functions.specs.Plain.{Same};
-ghost use Rattle.fkv_worlds.specs.States.{bare};
 ghost use Rattle.fkv_partition.specs.Unions.{union_of};
 ghost use Rattle.fkv_worlds.specs.Reports.{IsReport};
 
-use crate::desks::reader;
+use crate::flush_slots::reader;
 use crate::states::State;
 use crate::worlds::World;
 use fkv_functions::{Functions, Refused};
@@ -76,7 +75,7 @@ impl<F: Functions> State<F> {
     /// Each live key of all partitions with its value, keys rising. Refused: `NoMemory`.
     pub fn live(&self, alloc: Global) -> Result<Vec<(F::Key, F::Value)>, Refused>
         ensures map { IfOk result (λ pairs. (k : F.Key)
-            → lookup (is_at (F.Key.cmp k)) pairs.items ≡ union_of F.Key.cmp F.code (bare self.now.partitions) k) }
+            → lookup (is_at (F.Key.cmp k)) pairs.items ≡ union_of F.Key.cmp F.code self.now.partitions k) }
         ensures rising { IfOk result (λ pairs. IsStrictlySortedBy F.Key.cmp (keys_of pairs.items)) }
         ensures only { IfErr result (λ refused. refused ≡ Refused.NoMemory) }
     {
@@ -94,7 +93,7 @@ impl<F: Functions> State<F> {
     fn gather(&self, map: &mut BTreeMap<F::Key, F::Value>, alloc: Global) -> Result<(), Refused>
         requires { map.old.entries ≡ [] }
         ensures ok { OnOk result
-            (Same (get F.Key.cmp map.new) (union_of F.Key.cmp F.code (bare self.now.partitions))) }
+            (Same (get F.Key.cmp map.new) (union_of F.Key.cmp F.code self.now.partitions)) }
         ensures only { IfErr result (λ refused. refused ≡ Refused.NoMemory) }
     {
         for partition in &self.partitions {
@@ -112,7 +111,7 @@ impl<F: Functions> World<F> {
     /// Each live key of all partitions with its value, keys rising. Refused: `NoMemory`.
     pub fn live(&self, alloc: Global) -> Result<Vec<(F::Key, F::Value)>, Refused>
         ensures map { IfOk result (λ pairs. (k : F.Key)
-            → lookup (is_at (F.Key.cmp k)) pairs.items ≡ union_of F.Key.cmp F.code (bare self.now.state.partitions) k) }
+            → lookup (is_at (F.Key.cmp k)) pairs.items ≡ union_of F.Key.cmp F.code self.now.state.partitions k) }
         ensures rising { IfOk result (λ pairs. IsStrictlySortedBy F.Key.cmp (keys_of pairs.items)) }
         ensures only { IfErr result (λ refused. refused ≡ Refused.NoMemory) }
     {

@@ -2,41 +2,37 @@
 ghost use Rattle.std.specs.Prelude.{◌≢◌, ◌⊎◌, ◌≡◌, ◌+◌, ◌-◌, ◌^◌, ◌<◌, ◌↔◌, ◌∷◌, [], ◌++◌, true, Some, None, Err, IfOk, IfErr, OnOk, length, map, replicate, slice_get, is_some};
 ghost use Rattle.fkv_records.specs.Records.{size_of};
 ghost use Rattle.fkv_partition.specs.Limits.{IsWithinLimits};
-ghost use Rattle.fkv_compaction.specs.Views.{empty_compacted};
-ghost use Rattle.fkv_worlds.specs.States.{empty_partitions, empty_state, relocation_in, question_in, is_unasked};
+ghost use Rattle.fkv_partition.specs.Views.{empty_partition};
+ghost use Rattle.fkv_worlds.specs.States.{empty_partitions, empty_state, question_in, is_unasked};
 ghost use Rattle.fkv_worlds.specs.Sound.{IsState};
 ghost use Rattle.fkv_worlds.specs.Reports.{awaits_at};
 ghost use Rattle.fkv_pages.specs.Spelled.{IsEntryIn};
-ghost use Rattle.fkv_worlds.specs.declared.desks.Desk.{Desk};
+ghost use Rattle.fkv_worlds.specs.declared.flush_slots.FlushSlot.{FlushSlot};
 ghost use Rattle.fkv_worlds.specs.Acts.{Acts, answers_in};
 ghost use Rattle.fkv_lives.specs.Steps.{partition_in};
 ghost use Rattle.fkv_worlds.specs.Moments.{IsMomentIn, IsUntimely};
-ghost use Rattle.fkv_lives.specs.declared.steps.Step.TheVariants.{Enter, Leave, Refresh, ReadOnly, Head, Issue, Go, Install, GiveUp};
+ghost use Rattle.fkv_lives.specs.declared.steps.Step.TheVariants.{Enter, Leave, Refresh, ReadOnly, Head, Issue, Go, Install, GiveUp, Truncate};
 
-use crate::desks::Desk;
-use crate::events::{
-    enter, give_up, go, install, issue, leave, refresh, shift_head, shift_read_only,
-};
+use crate::flush_slots::FlushSlot;
 use crate::tables::{
     Tables, begin_life, end_life, life_at, note_progress, question_at, seat_session,
 };
-use fkv_compaction::Compacted;
 use fkv_device::{MemoryReceipt, Receipt};
 use fkv_functions::{Ask, Built, Functions, Refused};
 use fkv_lives::lives::{End, LifeOf};
 use fkv_lives::outcomes::{Outcome, OutcomeOf};
-use fkv_lives::steps::{Place, Step, StepOf};
+use fkv_lives::steps::{ContextId, Step, StepOf};
 use fkv_operations::{Clock, OpOf};
-use fkv_partition::Config;
+use fkv_partition::{Config, Partition};
 use std::alloc::Global;
 use std::marker::Model;
 
-/// The partitions with their desks at the device, the tables, lives and last moment of a world.
+/// The partitions with the page that each has to write, the tables, lives and last moment of a world.
 #[derive(Drop)]
 pub struct State<F: Functions> {
     pub(crate) alloc: Global,
-    pub(crate) partitions: Vec<Compacted<F, MemoryReceipt>>,
-    pub(crate) desks: Vec<Desk>,
+    pub(crate) partitions: Vec<Partition<F, MemoryReceipt>>,
+    pub(crate) flush_slots: Vec<FlushSlot>,
     pub(crate) tables: Tables<F::Key, F::Value, F::Input>,
     pub(crate) lives: Vec<LifeOf<F>>,
     pub(crate) moment: u64,
@@ -44,7 +40,7 @@ pub struct State<F: Functions> {
 
 impl<F: Functions> Model for State<F> {
     ghost use Rattle.std.specs.Prelude.{map};
-    ghost use Rattle.fkv_worlds.specs.declared.desks.Desk.{Desk};
+    ghost use Rattle.fkv_worlds.specs.declared.flush_slots.FlushSlot.{FlushSlot};
     ghost use Rattle.fkv_device.specs.declared.memory.MemoryReceipt.{MemoryReceipt};
     ghost use Rattle.fkv_worlds.specs.States.{StateView, state_of};
     ghost use Rattle.fkv_worlds.specs.Sound.{IsState};
@@ -52,11 +48,11 @@ impl<F: Functions> Model for State<F> {
     ghost Value = { StateView F.Key F.Value F.Input F.Output MemoryReceipt };
 
     ghost view = { λ s. state_of s.partitions.items s.tables.begun.items s.tables.questions.items
-        s.tables.receipts.items (map (λ (d : Desk). d.job) s.desks.items) s.tables.seats.items s.tables.enters.items
+        s.tables.receipts.items (map (λ (d : FlushSlot). d.job) s.flush_slots.items) s.tables.seats.items s.tables.enters.items
         s.lives.items s.moment };
 
     ghost invariant = { λ s. IsState F.Key.cmp F.meaning F.code (state_of s.partitions.items s.tables.begun.items
-        s.tables.questions.items s.tables.receipts.items (map (λ (d : Desk). d.job) s.desks.items)
+        s.tables.questions.items s.tables.receipts.items (map (λ (d : FlushSlot). d.job) s.flush_slots.items)
         s.tables.seats.items s.tables.enters.items s.lives.items s.moment) };
 }
 
@@ -82,16 +78,16 @@ fn keep<T: Drop>(items: &mut Vec<T>, item: T) -> Result<(), Refused>
 
 /// Adds the partition of this number, with nothing in it. Refused: `NoMemory`.
 fn add_empty<F: Functions>(
-    partitions: &mut Vec<Compacted<F, MemoryReceipt>>,
+    partitions: &mut Vec<Partition<F, MemoryReceipt>>,
     alloc: Global,
     config: &Config,
     number: u64,
 ) -> Result<(), Refused>
     ensures ok { OnOk result (partitions.new.items ≡ partitions.old.items
-        ++ empty_compacted config.now (size_of F.Key.SIZE F.Value.SIZE) number ∷ []) }
+        ++ empty_partition config.now (size_of F.Key.SIZE F.Value.SIZE) number ∷ []) }
     ensures only { IfErr result (λ refused. refused ≡ Refused.NoMemory) }
 {
-    match Compacted::new(alloc, config, number) {
+    match Partition::new(alloc, config, number) {
         Ok(partition) => keep(partitions, partition),
         Err(_) => Err(Refused::NoMemory),
     }
@@ -102,7 +98,7 @@ fn empty_partitions<F: Functions>(
     alloc: Global,
     config: &Config,
     count: u64,
-) -> Result<Vec<Compacted<F, MemoryReceipt>>, Refused>
+) -> Result<Vec<Partition<F, MemoryReceipt>>, Refused>
     ensures ok { IfOk result (λ partitions. partitions.items
         ≡ empty_partitions config.now (size_of F.Key.SIZE F.Value.SIZE) count) }
     ensures only { IfErr result (λ refused. refused ≡ Refused.NoMemory) }
@@ -116,18 +112,18 @@ fn empty_partitions<F: Functions>(
     Ok(partitions)
 }
 
-/// Desks of so many partitions, at which no page is to be written. Refused: `NoMemory`.
-fn empty_desks(alloc: Global, count: u64) -> Result<Vec<Desk>, Refused>
-    ensures ok { IfOk result (λ desks. map (λ (d : Desk). d.job) desks.items ≡ replicate count None) }
+/// Flush slots of so many partitions, at which no page is to be written. Refused: `NoMemory`.
+fn empty_flush_slots(alloc: Global, count: u64) -> Result<Vec<FlushSlot>, Refused>
+    ensures ok { IfOk result (λ flush_slots. map (λ (d : FlushSlot). d.job) flush_slots.items ≡ replicate count None) }
     ensures only { IfErr result (λ refused. refused ≡ Refused.NoMemory) }
 {
-    let mut desks = Vec::new(alloc);
+    let mut flush_slots = Vec::new(alloc);
     for _number in 0..count {
-        let Ok(()) = keep(&mut desks, Desk::new()) else {
+        let Ok(()) = keep(&mut flush_slots, FlushSlot::new()) else {
             return Err(Refused::NoMemory);
         };
     }
-    Ok(desks)
+    Ok(flush_slots)
 }
 
 impl<F: Functions> State<F> {
@@ -155,7 +151,7 @@ impl<F: Functions> State<F> {
         let Ok(tables) = Tables::new(alloc, count as usize) else {
             return Err(Refused::NoMemory);
         };
-        let Ok(desks) = empty_desks(alloc, count) else {
+        let Ok(flush_slots) = empty_flush_slots(alloc, count) else {
             return Err(Refused::NoMemory);
         };
         // last, since only what is made before it is dropped where something is refused
@@ -165,7 +161,7 @@ impl<F: Functions> State<F> {
         Ok(State {
             alloc,
             partitions,
-            desks,
+            flush_slots,
             tables,
             lives: Vec::new(alloc),
             moment: 0,
@@ -189,7 +185,7 @@ impl<F: Functions> State<F> {
         ensures does { Acts ⟦<MemoryReceipt as Receipt>⟧.stands (IsEntryIn F.Key.bytes_of F.Value.bytes_of F.Key.is_known F.Value.is_known
             F.Key.SIZE F.Value.SIZE) F.Key.cmp F.meaning F.code self.old self.new (Enter partition) result }
     {
-        match enter(&mut self.partitions[partition], now) {
+        match self.partitions[partition].enter(now) {
             Ok(slot) => {
                 self.moment = now;
                 seat_session(
@@ -209,7 +205,7 @@ impl<F: Functions> State<F> {
         ensures does { Acts ⟦<MemoryReceipt as Receipt>⟧.stands (IsEntryIn F.Key.bytes_of F.Value.bytes_of F.Key.is_known F.Value.is_known
             F.Key.SIZE F.Value.SIZE) F.Key.cmp F.meaning F.code self.old self.new (Leave partition slot) result }
     {
-        match leave(&mut self.partitions[partition], slot, now) {
+        match self.partitions[partition].leave(slot, now) {
             Ok(()) => {
                 self.moment = now;
                 Ok(Outcome::Left)
@@ -228,7 +224,7 @@ impl<F: Functions> State<F> {
         ensures does { Acts ⟦<MemoryReceipt as Receipt>⟧.stands (IsEntryIn F.Key.bytes_of F.Value.bytes_of F.Key.is_known F.Value.is_known
             F.Key.SIZE F.Value.SIZE) F.Key.cmp F.meaning F.code self.old self.new (Refresh partition slot) result }
     {
-        match refresh(&mut self.partitions[partition], slot, now) {
+        match self.partitions[partition].refresh(slot, now) {
             Ok(()) => {
                 self.moment = now;
                 Ok(Outcome::Refreshed)
@@ -242,7 +238,7 @@ impl<F: Functions> State<F> {
         ensures does { Acts ⟦<MemoryReceipt as Receipt>⟧.stands (IsEntryIn F.Key.bytes_of F.Value.bytes_of F.Key.is_known F.Value.is_known
             F.Key.SIZE F.Value.SIZE) F.Key.cmp F.meaning F.code self.old self.new (ReadOnly partition page) result }
     {
-        match shift_read_only(&mut self.partitions[partition], page, now) {
+        match self.partitions[partition].shift_read_only(page, now) {
             Ok(()) => {
                 self.moment = now;
                 Ok(Outcome::Shifted)
@@ -256,7 +252,7 @@ impl<F: Functions> State<F> {
         ensures does { Acts ⟦<MemoryReceipt as Receipt>⟧.stands (IsEntryIn F.Key.bytes_of F.Value.bytes_of F.Key.is_known F.Value.is_known
             F.Key.SIZE F.Value.SIZE) F.Key.cmp F.meaning F.code self.old self.new (Head partition page) result }
     {
-        match shift_head(&mut self.partitions[partition], page, now) {
+        match self.partitions[partition].shift_head(page, now) {
             Ok(()) => {
                 self.moment = now;
                 Ok(Outcome::Shifted)
@@ -280,10 +276,10 @@ impl<F: Functions> State<F> {
         let Ok(()) = self.lives.try_reserve(1) else {
             return Err(Refused::NoMemory);
         };
-        match issue(&mut self.partitions[partition], slot, op, functions, now) {
+        match self.partitions[partition].issue(slot, op, functions, now) {
             Ok(context) => {
                 self.moment = now;
-                let place = Place {
+                let place = ContextId {
                     partition,
                     slot,
                     context,
@@ -295,15 +291,13 @@ impl<F: Functions> State<F> {
         }
     }
 
-    fn go_at(&mut self, functions: &F, place: Place, now: u64) -> Result<OutcomeOf<F>, Refused>
+    fn go_at(&mut self, functions: &F, place: ContextId, now: u64) -> Result<OutcomeOf<F>, Refused>
         requires due { IsMomentIn self.old place.partition now }
-        requires operation { relocation_in self.old.partitions place ≡ None }
         ensures does { Acts ⟦<MemoryReceipt as Receipt>⟧.stands (IsEntryIn F.Key.bytes_of F.Value.bytes_of F.Key.is_known F.Value.is_known
             F.Key.SIZE F.Value.SIZE) F.Key.cmp F.meaning F.code self.old self.new (Go place) result }
     {
-        let partition = place.partition;
-        let partition = &mut self.partitions[partition];
-        match go(partition, place.slot, place.context, functions, now) {
+        let partition = &mut self.partitions[place.partition];
+        match partition.go(place.slot, place.context, functions, now) {
             Ok(progress) => {
                 self.moment = now;
                 Ok(note_progress(&mut self.lives, &mut self.tables, place, progress, now))
@@ -313,7 +307,7 @@ impl<F: Functions> State<F> {
     }
 
     /// Installs what an operation asked for last.
-    fn install(&mut self, functions: &F, place: Place) -> Result<OutcomeOf<F>, Refused>
+    fn install(&mut self, functions: &F, place: ContextId) -> Result<OutcomeOf<F>, Refused>
         ensures does { Acts ⟦<MemoryReceipt as Receipt>⟧.stands (IsEntryIn F.Key.bytes_of F.Value.bytes_of F.Key.is_known F.Value.is_known
             F.Key.SIZE F.Value.SIZE) F.Key.cmp F.meaning F.code self.old self.new (Install place) result }
     {
@@ -324,7 +318,7 @@ impl<F: Functions> State<F> {
     }
 
     /// What an operation asked for last, and the moment at which it is installed; else why nothing is.
-    fn asked(&self, place: Place) -> Result<(Ask<F::Key, F::Value, F::Input>, u64), Refused>
+    fn asked(&self, place: ContextId) -> Result<(Ask<F::Key, F::Value, F::Input>, u64), Refused>
         ensures ok { IfOk result (λ due. (question_in self.now.questions place ≡ Some due.0)
             × IsMomentIn self.now place.partition due.1) }
         ensures err { IfErr result
@@ -343,28 +337,14 @@ impl<F: Functions> State<F> {
         }
     }
 
-    /// Whether a relocation is open in a context.
-    pub(crate) fn is_relocating(&self, place: Place) -> bool
-        requires there { place.partition < length self.now.partitions }
-        ensures { result ≡ is_some (relocation_in self.now.partitions place) }
-    {
-        self.partitions[place.partition]
-            .relocation(place.slot, place.context)
-            .is_some()
-    }
-
-    /// Why what nobody asked for is not answered: `NotReady` where an operation or a relocation is open there, and `Unknown`
-    /// else.
-    pub(crate) fn why_unasked(&self, step: StepOf<F>, place: Place) -> Refused
+    /// Why what nobody asked for is not answered: `NotReady` where an operation is open there, and `Unknown` else.
+    pub(crate) fn why_unasked(&self, step: StepOf<F>, place: ContextId) -> Refused
         requires answers { answers_in step ≡ Some place }
         requires there { place.partition < length self.now.partitions }
         requires unasked { is_unasked self.now step ≡ true }
         ensures { Acts ⟦<MemoryReceipt as Receipt>⟧.stands (IsEntryIn F.Key.bytes_of F.Value.bytes_of F.Key.is_known F.Value.is_known
             F.Key.SIZE F.Value.SIZE) F.Key.cmp F.meaning F.code self.now self.now step (Err result) }
     {
-        if self.is_relocating(place) {
-            return Refused::NotReady;
-        }
         match self.partitions[place.partition].asked(place.slot, place.context) {
             Ok(_) => Refused::NotReady,
             Err(_) => Refused::Unknown,
@@ -374,7 +354,7 @@ impl<F: Functions> State<F> {
     fn install_at(
         &mut self,
         functions: &F,
-        place: Place,
+        place: ContextId,
         ask: Ask<F::Key, F::Value, F::Input>,
         now: u64,
     ) -> Result<OutcomeOf<F>, Refused>
@@ -383,10 +363,9 @@ impl<F: Functions> State<F> {
         ensures does { Acts ⟦<MemoryReceipt as Receipt>⟧.stands (IsEntryIn F.Key.bytes_of F.Value.bytes_of F.Key.is_known F.Value.is_known
             F.Key.SIZE F.Value.SIZE) F.Key.cmp F.meaning F.code self.old self.new (Install place) result }
     {
-        let partition = place.partition;
         let built = Built::make(functions, ask);
-        let partition = &mut self.partitions[partition];
-        match install(partition, place.slot, place.context, built, functions, now) {
+        let partition = &mut self.partitions[place.partition];
+        match partition.install(place.slot, place.context, built, functions, now) {
             Ok(installed) => {
                 self.moment = now;
                 Ok(note_progress(&mut self.lives, &mut self.tables, place, installed, now))
@@ -395,14 +374,13 @@ impl<F: Functions> State<F> {
         }
     }
 
-    fn give_up_at(&mut self, place: Place, now: u64) -> Result<OutcomeOf<F>, Refused>
+    fn give_up_at(&mut self, place: ContextId, now: u64) -> Result<OutcomeOf<F>, Refused>
         requires due { IsMomentIn self.old place.partition now }
-        requires operation { relocation_in self.old.partitions place ≡ None }
         ensures does { Acts ⟦<MemoryReceipt as Receipt>⟧.stands (IsEntryIn F.Key.bytes_of F.Value.bytes_of F.Key.is_known F.Value.is_known
             F.Key.SIZE F.Value.SIZE) F.Key.cmp F.meaning F.code self.old self.new (GiveUp place) result }
     {
         let partition = &mut self.partitions[place.partition];
-        match give_up(partition, place.slot, place.context, now) {
+        match partition.give_up(place.slot, place.context, now) {
             Ok(()) => {
                 self.moment = now;
                 let life = life_at(&self.tables.begun, place);
@@ -413,29 +391,22 @@ impl<F: Functions> State<F> {
         }
     }
 
-    /// Goes on with what is open in a context: an operation, or a relocation.
-    fn go_in(&mut self, functions: &F, place: Place, now: u64) -> Result<OutcomeOf<F>, Refused>
-        requires due { IsMomentIn self.old place.partition now }
+    /// Moves Begin to the start of the page up to which all is cleared.
+    pub(crate) fn truncate_at(
+        &mut self,
+        partition: usize,
+        now: u64,
+    ) -> Result<OutcomeOf<F>, Refused>
+        requires due { IsMomentIn self.old partition now }
         ensures does { Acts ⟦<MemoryReceipt as Receipt>⟧.stands (IsEntryIn F.Key.bytes_of F.Value.bytes_of F.Key.is_known F.Value.is_known
-            F.Key.SIZE F.Value.SIZE) F.Key.cmp F.meaning F.code self.old self.new (Go place) result }
+            F.Key.SIZE F.Value.SIZE) F.Key.cmp F.meaning F.code self.old self.new (Truncate partition) result }
     {
-        if self.is_relocating(place) {
-            self.go_on_at(functions, place, now)
-        } else {
-            self.go_at(functions, place, now)
-        }
-    }
-
-    /// Gives up what is open in a context.
-    fn give_up_in(&mut self, place: Place, now: u64) -> Result<OutcomeOf<F>, Refused>
-        requires due { IsMomentIn self.old place.partition now }
-        ensures does { Acts ⟦<MemoryReceipt as Receipt>⟧.stands (IsEntryIn F.Key.bytes_of F.Value.bytes_of F.Key.is_known F.Value.is_known
-            F.Key.SIZE F.Value.SIZE) F.Key.cmp F.meaning F.code self.old self.new (GiveUp place) result }
-    {
-        if self.is_relocating(place) {
-            self.drop_at(place, now)
-        } else {
-            self.give_up_at(place, now)
+        match self.partitions[partition].truncate_cleared(now) {
+            Ok(begin) => {
+                self.moment = now;
+                Ok(Outcome::Truncated(begin))
+            }
+            Err(refused) => Err(refused),
         }
     }
 
@@ -471,17 +442,16 @@ impl<F: Functions> State<F> {
             Step::Write(partition, access) => self.write(partition, access),
             Step::Head(partition, page) => self.evict_at(partition, page, now),
             Step::Issue(partition, slot, op) => self.issue_at(functions, partition, slot, op, now),
-            Step::Relocate(partition, slot) => self.relocate_at(partition, slot, now),
-            Step::Go(place) => self.go_in(functions, place, now),
+            Step::Go(place) => self.go_at(functions, place, now),
             Step::Install(place) => self.install(functions, place),
             Step::Load(place, access) => self.load(functions, place, access),
-            Step::GiveUp(place) => self.give_up_in(place, now),
+            Step::GiveUp(place) => self.give_up_at(place, now),
             Step::Truncate(partition) => self.truncate_at(partition, now),
         }
     }
 
-    /// Whether the operation or the relocation that is open in a context waits for a page.
-    pub fn awaits_page(&self, place: Place) -> bool
+    /// Whether the operation that is open in a context waits for a page.
+    pub fn awaits_page(&self, place: ContextId) -> bool
         ensures { result ≡ awaits_at (slice_get self.now.partitions place.partition) place.slot place.context }
     {
         match self.partitions.get(place.partition) {

@@ -2,16 +2,15 @@
 ghost use Rattle.std.specs.Prelude.{◌≡◌, ◌+◌, ◌-◌, ◌*◌, ◌^◌, ◌<◌, ◌≤◌, ◌∷◌, [], ◌++◌, length, replicate, vec_capacity, Some, None, slice_get, slice_set, unwrap_or, IfOk, IfErr, OnOk, is_some};
 ghost use Rattle.fkv_worlds.specs.States.{IsBlank, is_context, seat_row, seat_at, context_row, life_in, question_in, receipt_in};
 ghost use Rattle.fkv_lives.specs.Changes.{ended_at};
-ghost use Rattle.fkv_worlds.specs.Acts.{after_issue, begun_life, lives_by, questions_by, receipts_by, receipts_moved, told, told_moved};
+ghost use Rattle.fkv_worlds.specs.Acts.{after_issue, begun_life, lives_by, questions_by, receipts_by, told};
 
-use fkv_compaction::Moved;
 use fkv_device::MemoryReceipt;
 use fkv_functions::{Ask, Refused};
 use fkv_lives::lives::{End, Finish, Life};
 use fkv_lives::outcomes::Outcome;
-use fkv_lives::steps::Place;
+use fkv_lives::steps::ContextId;
 use fkv_operations::Op;
-use fkv_partition::{Progress, Wait};
+use fkv_partition::Progress;
 use std::alloc::Global;
 
 /// The slots of a partition.
@@ -202,7 +201,7 @@ pub fn row_of_slot(partition: usize, slot: usize) -> usize
 }
 
 /// The row of a context in a table of contexts.
-pub fn row_of(place: Place) -> usize
+pub fn row_of(place: ContextId) -> usize
     requires partition { place.partition < 64 }
     requires slot { place.slot < 16 }
     requires context { place.context < 8 }
@@ -212,7 +211,7 @@ pub fn row_of(place: Place) -> usize
 }
 
 /// Whether there is such a context in a partition.
-fn is_context(place: Place) -> bool
+fn is_context(place: ContextId) -> bool
     ensures { result ≡ is_context place }
 {
     place.slot < SLOTS && place.context < CONTEXTS
@@ -221,7 +220,7 @@ fn is_context(place: Place) -> bool
 /// What a context asked for last; nothing where there is no such context.
 pub fn question_at<K: Copy, V: Copy, I: Copy>(
     questions: &[Option<Ask<K, V, I>>],
-    place: Place,
+    place: ContextId,
 ) -> Option<Ask<K, V, I>>
     requires partition { place.partition < 64 }
     requires rows { place.partition * 128 + 128 ≤ length questions.now }
@@ -234,7 +233,7 @@ pub fn question_at<K: Copy, V: Copy, I: Copy>(
 }
 
 /// Whether a context asked for a page.
-pub fn has_receipt(receipts: &[Option<MemoryReceipt>], place: Place) -> bool
+pub fn has_receipt(receipts: &[Option<MemoryReceipt>], place: ContextId) -> bool
     requires partition { place.partition < 64 }
     requires rows { place.partition * 128 + 128 ≤ length receipts.now }
     ensures { result ≡ is_some (receipt_in receipts.now place) }
@@ -246,7 +245,7 @@ pub fn has_receipt(receipts: &[Option<MemoryReceipt>], place: Place) -> bool
 }
 
 /// The place of the life that began in a context.
-pub fn life_at(begun: &[usize], place: Place) -> usize
+pub fn life_at(begun: &[usize], place: ContextId) -> usize
     requires partition { place.partition < 64 }
     requires slot { place.slot < 16 }
     requires context { place.context < 8 }
@@ -269,7 +268,7 @@ pub fn end_life<K: Copy, V: Copy, I: Copy, O: Copy>(
 }
 
 /// Drops what a context asked for last, since its number is given anew.
-pub fn forget<K: Copy, V: Copy, I: Copy>(tables: &mut Tables<K, V, I>, place: Place)
+fn forget<K: Copy, V: Copy, I: Copy>(tables: &mut Tables<K, V, I>, place: ContextId)
     requires partition { place.partition < 64 }
     requires slot { place.slot < 16 }
     requires context { place.context < 8 }
@@ -291,7 +290,7 @@ pub fn forget<K: Copy, V: Copy, I: Copy>(tables: &mut Tables<K, V, I>, place: Pl
 pub fn begin_life<K: Copy, V: Copy, I: Copy, O: Copy>(
     lives: &mut Vec<Life<K, V, I, O>>,
     tables: &mut Tables<K, V, I>,
-    place: Place,
+    place: ContextId,
     op: Op<K, V, I>,
     now: u64,
 )
@@ -322,7 +321,7 @@ pub fn begin_life<K: Copy, V: Copy, I: Copy, O: Copy>(
 }
 
 /// Keeps what a context asked for last.
-fn keep_asked<T: Drop>(rows: &mut Vec<Option<T>>, place: Place, asked: T)
+fn keep_asked<T: Drop>(rows: &mut Vec<Option<T>>, place: ContextId, asked: T)
     requires partition { place.partition < 64 }
     requires slot { place.slot < 16 }
     requires context { place.context < 8 }
@@ -336,7 +335,7 @@ fn keep_asked<T: Drop>(rows: &mut Vec<Option<T>>, place: Place, asked: T)
 pub fn note_progress<K: Copy, V: Copy, I: Copy, O: Copy>(
     lives: &mut Vec<Life<K, V, I, O>>,
     tables: &mut Tables<K, V, I>,
-    place: Place,
+    place: ContextId,
     progress: Progress<K, V, I, O, MemoryReceipt>,
     now: u64,
 ) -> Outcome<V, O>
@@ -373,35 +372,6 @@ pub fn note_progress<K: Copy, V: Copy, I: Copy, O: Copy>(
             Outcome::Build(ask.source)
         }
         Progress::NeedsLoad(receipt, address) => {
-            keep_asked(&mut tables.receipts, place, receipt);
-            Outcome::Load(address)
-        }
-    }
-}
-
-/// Keeps what a relocation asks for, and tells its progress.
-pub fn note_moved<K: Copy, V: Copy, I: Copy, O: Copy>(
-    tables: &mut Tables<K, V, I>,
-    place: Place,
-    progress: Moved<MemoryReceipt>,
-) -> Outcome<V, O>
-    requires partition { place.partition < 64 }
-    requires slot { place.slot < 16 }
-    requires context { place.context < 8 }
-    requires receipts { place.partition * 128 + 128 ≤ length tables.old.receipts.items }
-    ensures receipts { tables.new.receipts.items
-        ≡ receipts_moved tables.old.receipts.items (context_row place) progress }
-    ensures questions { tables.new.questions.items ≡ tables.old.questions.items }
-    ensures begun { tables.new.begun.items ≡ tables.old.begun.items }
-    ensures seats { tables.new.seats.items ≡ tables.old.seats.items }
-    ensures enters { tables.new.enters.items ≡ tables.old.enters.items }
-    ensures told { result ≡ told_moved progress }
-{
-    match progress {
-        Moved::Cleared => Outcome::Cleared,
-        Moved::Next => Outcome::Next,
-        Moved::Waits => Outcome::Waits(Wait::Full),
-        Moved::NeedsLoad(receipt, address) => {
             keep_asked(&mut tables.receipts, place, receipt);
             Outcome::Load(address)
         }

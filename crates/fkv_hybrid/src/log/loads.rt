@@ -12,7 +12,7 @@ use crate::log::Log;
 use fkv_device::{Loaded, Receipt};
 use fkv_functions::{Fixed, FixedKey, Refused, What};
 use fkv_records::Address;
-use fkv_texts::{Entry, Reached};
+use fkv_texts::{ChainPosition, Entry};
 
 impl<K: Fixed, V: Fixed, R: Receipt> Log<K, V, R> {
     /// The entry at an address of a flushed page, from the page as a device gave it. On a device that keeps it is the
@@ -83,7 +83,7 @@ impl<K: FixedKey, V: Fixed, R: Receipt> Log<K, V, R> {
         loaded: &Loaded<R>,
         key: &K,
         from: Address,
-    ) -> Result<Reached<K, V>, Refused>
+    ) -> Result<ChainPosition<K, V>, Refused>
         requires flushed { page_at self.now.bits from < length self.now.receipts }
         ensures stranger { IfSome (slice_get self.now.receipts (page_at self.now.bits from)) (λ s.
             s ≢ R.stands loaded.now.receipt

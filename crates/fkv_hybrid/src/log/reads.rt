@@ -9,7 +9,7 @@ use crate::log::Log;
 use fkv_device::Receipt;
 use fkv_functions::{Fixed, FixedKey};
 use fkv_records::Address;
-use fkv_texts::{Entry, Reached};
+use fkv_texts::{ChainPosition, Entry};
 
 impl<K: Fixed, V: Fixed, R: Receipt> Log<K, V, R> {
     /// Whether an entry stands at an address whose frame is not closed.
@@ -36,7 +36,7 @@ impl<K: Fixed, V: Fixed, R: Receipt> Log<K, V, R> {
 impl<K: FixedKey, V: Fixed, R: Receipt> Log<K, V, R> {
     /// The first entry of a key on the chain from an address down to another, below which it does not look, or where
     /// the chain leads from there.
-    pub fn first_on_chain(&self, key: &K, from: Address, low: Address) -> Reached<K, V>
+    pub fn first_on_chain(&self, key: &K, from: Address, low: Address) -> ChainPosition<K, V>
         requires in_frames { self.now.regions.offsets.closed ≤ low }
         requires chain { (es : List (Entry K V)) × IsChainFrom low self.now.text from es }
         ensures { (es : List (Entry K V))

@@ -1,7 +1,7 @@
 //! What sessions see of a log, and how its regions move.
 ghost use Rattle.std.specs.Prelude.{◌≡◌, ◌^◌, ◌<◌, ◌≤◌, ◌↔◌, ◌⊎◌, length, IsTrue, IsOk, IfOk, IfErr, OnOk, OnErr, Err};
 ghost use Rattle.std.specs.Option.{ok_or};
-ghost use Rattle.fkv_records.specs.Places.{page_at, start_at, IsPlace};
+ghost use Rattle.fkv_records.specs.Places.{page_at, start_at, IsRecordStart};
 ghost use Rattle.fkv_records.specs.Records.{size_of};
 ghost use Rattle.fkv_epoch.specs.Moves.{free_slot, is_entered};
 ghost use Rattle.fkv_regions.specs.RegionsView.{IsReadOnlyDue, IsHeadDue, IsRoomy, entered, refreshed, left};

@@ -2,9 +2,9 @@
 ghost use Rattle.std.specs.Prelude.{◌≡◌, ◌≢◌, ◌<◌, ◌≤◌, ◌↔◌, ◌⊎◌, Ok, IsOk, IfOk, IfErr, IfSome, OnOk, IsTrue, length};
 ghost use Rattle.std.specs.Prelude.{slice_get};
 ghost use Rattle.fkv_functions.specs.declared.refusals.What.TheVariants as what;
-ghost use Rattle.fkv_records.specs.Places.{page_at, IsPlace};
+ghost use Rattle.fkv_records.specs.Places.{page_at, IsRecordStart};
 ghost use Rattle.fkv_texts.specs.declared.entries.Entry.{Entry};
-ghost use Rattle.fkv_texts.specs.declared.entries.Reached.{Reached};
+ghost use Rattle.fkv_texts.specs.declared.entries.ChainPosition.{ChainPosition};
 ghost use Rattle.fkv_texts.specs.Text.{entry_at};
 ghost use Rattle.fkv_pages.specs.Spelled.{IsEntryIn};
 ghost use Rattle.fkv_pages.specs.Loads.{IsHeldBy, IsReached, first_place};
@@ -14,7 +14,7 @@ use crate::records::Records;
 use fkv_device::{Loaded, Receipt};
 use fkv_functions::{Functions, Refused};
 use fkv_records::Address;
-use fkv_texts::{Entry, Reached};
+use fkv_texts::{ChainPosition, Entry};
 
 impl<F: Functions, R: Receipt> Records<F, R> {
     /// The page of an address.
@@ -26,7 +26,7 @@ impl<F: Functions, R: Receipt> Records<F, R> {
 
     /// Whether a record may stand at an address.
     pub fn is_place(&self, address: Address) -> bool
-        ensures { IsTrue result ↔ IsPlace self.now.page_bits self.now.record_size address }
+        ensures { IsTrue result ↔ IsRecordStart self.now.page_bits self.now.record_size address }
     {
         self.log.shape().is_place(address)
     }
@@ -74,7 +74,7 @@ impl<F: Functions, R: Receipt> Records<F, R> {
         loaded: &Loaded<R>,
         key: &F::Key,
         from: Address,
-    ) -> Result<Reached<F::Key, F::Value>, Refused>
+    ) -> Result<ChainPosition<F::Key, F::Value>, Refused>
         requires flushed { page_at self.now.page_bits from < length self.now.receipts }
         // who is answered, or told of damage, knows that the page is the one that is kept
         ensures own { OnOk result (IsHeldBy self.now.receipts (page_at self.now.page_bits from)
@@ -93,7 +93,7 @@ impl<F: Functions, R: Receipt> Records<F, R> {
             → IsHeldBy self.now.receipts (page_at self.now.page_bits from) (R.stands loaded.now.receipt)
             → self.now.begin ≤ from
             → IsOfClass F.code self.now key.now from
-            → (r : Reached F.Key F.Value)
+            → (r : ChainPosition F.Key F.Value)
             × (result ≡ Ok r)
             × GoesOn F.Key.cmp F.code self.now key.now
             (first_place self.now.page_bits (page_at self.now.page_bits from)) from r }

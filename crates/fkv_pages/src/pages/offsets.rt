@@ -1,6 +1,6 @@
 //! Where entries are frozen, frames are closed, and the text begins. Each only rises.
 ghost use Rattle.std.specs.Prelude.{◌≡◌, ◌++◌, ◌^◌, ◌<◌, ◌≤◌, ℕ, List, IsTrue, length};
-ghost use Rattle.fkv_records.specs.Places.{page_at, IsPlace};
+ghost use Rattle.fkv_records.specs.Places.{page_at, IsRecordStart};
 ghost use Rattle.fkv_records.specs.Records.{size_of};
 ghost use Rattle.fkv_pages.specs.Views.{with_frozen, seen_from};
 
@@ -46,7 +46,7 @@ impl<K: Fixed, V: Fixed, R: Receipt> Pages<K, V, R> {
     /// device that keeps, the text stays.
     pub fn close(&mut self, address: Address)
         requires rises { self.old.closed ≤ address }
-        requires place { address < 2 ^ 48 → IsPlace self.old.bits (size_of K.SIZE V.SIZE) address }
+        requires place { address < 2 ^ 48 → IsRecordStart self.old.bits (size_of K.SIZE V.SIZE) address }
         requires flushed { page_at self.old.bits address ≤ length self.old.receipts }
         requires frozen { address ≤ self.old.frozen }
         ensures closed { self.new ≡ seen_from R.keeps self.old self.old.begin address }
@@ -59,7 +59,7 @@ impl<K: Fixed, V: Fixed, R: Receipt> Pages<K, V, R> {
     /// dropped.
     pub fn truncate(&mut self, address: Address)
         requires rises { self.old.begin ≤ address }
-        requires place { address < 2 ^ 48 → IsPlace self.old.bits (size_of K.SIZE V.SIZE) address }
+        requires place { address < 2 ^ 48 → IsRecordStart self.old.bits (size_of K.SIZE V.SIZE) address }
         requires flushed { page_at self.old.bits address ≤ length self.old.receipts }
         requires frozen { address ≤ self.old.frozen }
         ensures { self.new ≡ seen_from R.keeps self.old address self.old.closed }

@@ -2,7 +2,7 @@
 ghost use Rattle.std.specs.Prelude.{◌≡◌, ◌≢◌, ◌⊎◌, ℕ, List, Err, true, IfOk, IfErr, IfSome, OnOk};
 ghost use Rattle.fkv_records.specs.Records.{size_of};
 ghost use Rattle.fkv_partition.specs.Limits.{IsWithinLimits};
-ghost use Rattle.fkv_partition.specs.declared.limits.Config.{Config};
+ghost use Rattle.fkv_partition.specs.Config.{Config};
 ghost use Rattle.fkv_worlds.specs.States.{empty_world};
 ghost use Rattle.fkv_scripts.specs.declared.lines.Line.{Line};
 ghost use Rattle.fkv_functions.specs.Names.{name_cmp};
@@ -17,8 +17,8 @@ ghost use Rattle.fkv_steps.specs.Running.{context_in, is_page, op_of, record_siz
 use crate::scripts::printing::text_of;
 use crate::scripts::written::Written;
 use fkv_functions::{CountFns, Functions, MaxFns, Name, Refused, SumFns};
-use fkv_lives::{Access, Outcome, OutcomeOf, Place, Printed, Step};
-use fkv_operations::Op;
+use fkv_lives::{Access, ContextId, Outcome, OutcomeOf, Printed, Step};
+use fkv_operations::{KeyedOp, Op};
 use fkv_partition::Config;
 use fkv_scripts::{FunctionsName, LIMIT, Line, Script, read_script};
 use fkv_streams::{Sink, Source, write_out};
@@ -27,14 +27,14 @@ use fkv_worlds::worlds::World;
 use std::alloc::Global;
 
 /// The operation of a line, on values.
-fn on_values<V: Written>(op: Op<Name, i64, i64>) -> Op<Name, V, i64>
+fn on_values<V: Written>(op: KeyedOp<Name, i64, i64>) -> Op<Name, V, i64>
     ensures { result ≡ op_of V.written op }
 {
     match op {
-        Op::Read(key, input) => Op::Read(key, input),
-        Op::Upsert(key, amount) => Op::Upsert(key, V::from_amount(amount)),
-        Op::Rmw(key, amount) => Op::Rmw(key, amount),
-        Op::Delete(key) => Op::Delete(key),
+        KeyedOp::Read(key, input) => Op::Read(key, input),
+        KeyedOp::Upsert(key, amount) => Op::Upsert(key, V::from_amount(amount)),
+        KeyedOp::Rmw(key, amount) => Op::Rmw(key, amount),
+        KeyedOp::Delete(key) => Op::Delete(key),
     }
 }
 
@@ -83,13 +83,12 @@ where
     world.try_step(functions, step)
 }
 
-/// The context of an accepted issue, of an operation or of a relocation.
+/// The context of an accepted issue.
 fn context_in<V: Copy, O: Copy>(told: &Result<Outcome<V, O>, Refused>) -> Option<usize>
     ensures { result ≡ context_in told.now }
 {
     match told {
         Ok(Outcome::Issued(context)) => Some(*context),
-        Ok(Outcome::Relocating(context)) => Some(*context),
         _ => None,
     }
 }
@@ -110,7 +109,7 @@ fn do_operation<F: Functions<Key = Name, Input = i64>>(
     functions: &F,
     partition: usize,
     slot: usize,
-    op: Op<Name, i64, i64>,
+    op: KeyedOp<Name, i64, i64>,
 ) -> Option<Result<OutcomeOf<F>, Refused>>
 where
     F::Value: Written,
@@ -135,7 +134,7 @@ where
     ensures { IfSome result (λ told. RunsLine standing_of (IsNamedEntry F.Value.bytes_of F.Value.is_known F.Value.SIZE)
         name_cmp F.meaning F.code F.Value.written world.old world.new told (Line.Compact partition slot)) }
 {
-    let Some(issued) = world.try_step(functions, Step::Relocate(partition, slot)) else {
+    let Some(issued) = world.try_step(functions, Step::Issue(partition, slot, Op::Relocate)) else {
         return None;
     };
     finish_issued(world, functions, partition, slot, issued)
@@ -156,7 +155,7 @@ fn finish_issued<F: Functions<Key = Name, Input = i64>>(
     let Some(context) = context_in(&issued) else {
         return Some(issued);
     };
-    let place = Place {
+    let place = ContextId {
         partition,
         slot,
         context,

@@ -1,65 +1,72 @@
-use Rattle.std.proofs.Common.{◌≡◌, ◌+◌, ◌<◌, ◌^◌, Ok, Err, refl, ◌∙◌, ap, subst, arith}
-use Rattle.fkv_partition.specs.Beginning.{Issues}
-use Rattle.fkv_alone.specs.Ending.{Ends}
+use Rattle.std.proofs.Common.{◌≡◌, ◌+◌, ◌<◌, ◌^◌, inl, inr, Ok, Err, refl, ◌∙◌, ap, subst, arith}
 use Rattle.fkv_operations.specs.After.{key_of}
+use Rattle.fkv_partition.specs.Beginning.{IssuesOnKey}
+use Rattle.fkv_partition.specs.Views.{PartitionView}
 use Rattle.fkv_alone.specs.Bound.{evicted}
+use Rattle.fkv_alone.specs.Ending.{Ends}
 use Rattle.fkv_alone.proofs.BoundLemmas.{issue-near}
-use Rattle.fkv_alone.proofs.DriveLemmas.{halted-later, pend-then, pend-free}
-use Rattle.fkv_alone.proofs.EndLemmas.{issue-opens, issue-ready, issue-phase, driven-ends, driven-halted, driven-over}
+use Rattle.fkv_alone.proofs.DriveLemmas.{pend-then, pend-free, given-over, given-others}
+use Rattle.fkv_alone.proofs.EndLemmas.{issue-told, issue-stalled, issue-begun, issue-rest, issue-none, driven-ends, driven-over}
+use Rattle.fkv_alone.proofs.KeyLemmas.{issued-on-key, rest-then, rest-same}
 use Rattle.fkv_alone.proofs.running.attempt.Goals as goal
 
 pub returns-in-Err-issue-clause-ends : goal.returns-in-Err-issue-clause-ends
 returns-in-Err-issue-clause-ends g c =
     let first = c.in-Ok.ensures.ok in
-    let some = first.3 in
+    let some = first.2 in
+    let v = c.args.partition.now in
+    let does = issued-on-key g.F.Functions.code v c.issue.new.self c.args.slot c.in-Ok.now c.args.op c.op.result (Err c.in-Err-issue.refused) c.op.ensures c.in-Err-issue.ensures.does in
     Ends.unissued c.in-Err-issue.refused (λ none. omega arith)
-    (subst (λ n. Issues g.F.Functions.code c.args.partition.now c.issue.new.self c.args.slot c.args.op n (Err c.in-Err-issue.refused)) first.0 c.in-Err-issue.ensures.does)
+    (subst (λ n. IssuesOnKey g.F.Functions.code v c.issue.new.self c.args.slot c.args.op n (Err c.in-Err-issue.refused)) first.0 does)
     c.in-Err-issue.ensures.err
     (first.1 ∙ first.0) refl refl
 
-pub abandon-requires : goal.abandon-requires
-abandon-requires g c =
+pub drive-requires-clause-none : goal.drive-requires-clause-none
+drive-requires-clause-none g c =
     let first = c.in-Ok.ensures.ok in
-    let issued = c.in-Ok-issue.ensures in
-    let ready = issue-ready g.F.Functions.code c.args.partition.now c.issue.new.self c.args.slot c.in-Ok-issue.context c.in-Ok.now c.args.op issued.does issued.event in
-    let drives = c.in-Err-drive.ensures.drives c.args.op c.args.partition.now c.in-Ok.now ready in
-    let opens = issue-opens g.F.Functions.code c.args.partition.now c.issue.new.self c.args.slot c.in-Ok-issue.context c.in-Ok.now c.args.op issued.does issued.event in
-    let halted = driven-halted g.R.Receipt.keeps g.R.Receipt.stands g.F.Key.Ord.cmp g.F.Functions.meaning g.F.Functions.code c.args.op c.args.partition.now c.drive.new.partition c.args.slot c.in-Ok-issue.context c.args.limit c.args.clock.now c.in-Ok.now c.drive.new.clock (g.P.PageReader.failures c.args.reader.now) (g.P.PageReader.failures c.drive.new.reader) opens first.0 first.3 c.in-Err-drive.refused (rw first.1 at drives) in
-    record { later = λ still. rw c.last.ensures (halted-later g.R.Receipt.keeps g.R.Receipt.stands g.F.Key.Ord.cmp g.F.Functions.meaning g.F.Functions.code c.args.op c.args.partition.now c.args.slot c.in-Ok-issue.context c.in-Ok.now c.drive.new.partition c.drive.new.clock halted still) }
+    let v = c.args.partition.now in
+    let w = c.issue.new.self in
+    let k = c.in-Ok-issue.context in
+    let issued = issue-told g.F.Functions.code v w c.args.slot k c.in-Ok.now c.args.op (issued-on-key g.F.Functions.code v w c.args.slot c.in-Ok.now c.args.op c.op.result (Ok k) c.op.ensures c.in-Ok-issue.ensures.does) in
+    issue-none g.F.Functions.code v w c.args.slot k c.in-Ok.now c.args.op issued
 
 pub returns-in-Ok-drive-clause-ends : goal.returns-in-Ok-drive-clause-ends
 returns-in-Ok-drive-clause-ends g c =
     let first = c.in-Ok.ensures.ok in
-    let issued = c.in-Ok-issue.ensures in
-    let ready = issue-ready g.F.Functions.code c.args.partition.now c.issue.new.self c.args.slot c.in-Ok-issue.context c.in-Ok.now c.args.op issued.does issued.event in
-    let drives = c.in-Ok-drive.ensures.drives c.args.op c.args.partition.now c.in-Ok.now ready in
-    driven-ends g.R.Receipt.keeps g.R.Receipt.stands g.F.Key.Ord.cmp g.F.Functions.meaning g.F.Functions.code c.args.op c.args.partition.now c.drive.new.partition c.args.slot c.in-Ok-issue.context c.args.limit c.args.clock.now c.in-Ok.now c.drive.new.clock (g.P.PageReader.failures c.args.reader.now) (g.P.PageReader.failures c.drive.new.reader)
-    (issue-opens g.F.Functions.code c.args.partition.now c.issue.new.self c.args.slot c.in-Ok-issue.context c.in-Ok.now c.args.op issued.does issued.event)
-    first.0 first.3 c.in-Ok-drive.progress (rw first.1 at drives)
+    let v = c.args.partition.now in
+    let w = c.issue.new.self in
+    let k = c.in-Ok-issue.context in
+    let issued = issue-told g.F.Functions.code v w c.args.slot k c.in-Ok.now c.args.op (issued-on-key g.F.Functions.code v w c.args.slot c.in-Ok.now c.args.op c.op.result (Ok k) c.op.ensures c.in-Ok-issue.ensures.does) in
+    let begun = issue-begun g.F.Functions.code v w c.args.slot k c.in-Ok.now c.args.op issued c.known.ensures.core.places c.in-Ok-issue.ensures.within.0 in
+    let drives = c.in-Ok-drive.ensures.drives c.args.op v.core c.in-Ok.now begun.ready in
+    driven-ends g.R.Receipt.keeps g.R.Receipt.stands g.F.Key.Ord.cmp g.F.Functions.meaning g.F.Functions.code c.args.op v c.drive.new.partition c.args.slot k c.args.limit c.args.clock.now c.in-Ok.now c.drive.new.clock (g.P.PageReader.failures c.args.reader.now) (g.P.PageReader.failures c.drive.new.reader) issued.opens first.0 first.2 c.in-Ok-drive.progress (rw first.1 at drives)
 
 pub returns-in-Err-drive-clause-ends : goal.returns-in-Err-drive-clause-ends
 returns-in-Err-drive-clause-ends g c =
     let first = c.in-Ok.ensures.ok in
-    let issued = c.in-Ok-issue.ensures in
-    let ready = issue-ready g.F.Functions.code c.args.partition.now c.issue.new.self c.args.slot c.in-Ok-issue.context c.in-Ok.now c.args.op issued.does issued.event in
-    let drives = c.in-Err-drive.ensures.drives c.args.op c.args.partition.now c.in-Ok.now ready in
-    driven-over g.R.Receipt.keeps g.R.Receipt.stands g.F.Key.Ord.cmp g.F.Functions.meaning g.F.Functions.code c.args.op c.args.partition.now c.drive.new.partition c.args.slot c.in-Ok-issue.context c.args.limit c.args.clock.now c.in-Ok.now c.drive.new.clock (g.P.PageReader.failures c.args.reader.now) (g.P.PageReader.failures c.drive.new.reader)
-    (issue-opens g.F.Functions.code c.args.partition.now c.issue.new.self c.args.slot c.in-Ok-issue.context c.in-Ok.now c.args.op issued.does issued.event)
-    first.0 first.3 c.abandon.new.partition c.in-Err-drive.refused (rw first.1 at drives) c.abandon.ensures.over
+    let v = c.args.partition.now in
+    let w = c.issue.new.self in
+    let k = c.in-Ok-issue.context in
+    let issued = issue-told g.F.Functions.code v w c.args.slot k c.in-Ok.now c.args.op (issued-on-key g.F.Functions.code v w c.args.slot c.in-Ok.now c.args.op c.op.result (Ok k) c.op.ensures c.in-Ok-issue.ensures.does) in
+    let begun = issue-begun g.F.Functions.code v w c.args.slot k c.in-Ok.now c.args.op issued c.known.ensures.core.places c.in-Ok-issue.ensures.within.0 in
+    let drives = c.in-Err-drive.ensures.drives c.args.op v.core c.in-Ok.now begun.ready in
+    let given = c.abandon-given_up.new.self in
+    driven-over g.R.Receipt.keeps g.R.Receipt.stands g.F.Key.Ord.cmp g.F.Functions.meaning g.F.Functions.code c.args.op v c.drive.new.partition c.args.slot k c.args.limit c.args.clock.now c.in-Ok.now c.drive.new.clock (g.P.PageReader.failures c.args.reader.now) (g.P.PageReader.failures c.drive.new.reader) issued.opens first.0 first.2 given c.in-Err-drive.refused (rw first.1 at drives)
+    (given-over c.drive.new.partition.core given.core c.args.slot k c.drive.new.partition.core.moment c.abandon-given_up.result c.abandon-given_up.ensures.does)
 
 pub returns-in-Ok-drive-clause-bound : goal.returns-in-Ok-drive-clause-bound
 returns-in-Ok-drive-clause-bound g c = λ kept clear.
     let first = c.in-Ok.ensures.ok in
-    let issued = c.in-Ok-issue.ensures in
-    let op = c.args.op in
     let v = c.args.partition.now in
-    let ready = issue-ready g.F.Functions.code v c.issue.new.self c.args.slot c.in-Ok-issue.context c.in-Ok.now op issued.does issued.event in
-    let phase = issue-phase g.F.Functions.code v c.issue.new.self c.args.slot c.in-Ok-issue.context c.in-Ok.now op issued.does issued.event in
-    let hashed : c.hash-hash.result ≡ g.F.Functions.code (key_of op) = c.hash-hash.ensures ∙ ap g.F.Functions.code c.key.ensures in
+    let w = c.issue.new.self in
+    let k = c.in-Ok-issue.context in
+    let issued = issue-told g.F.Functions.code v w c.args.slot k c.in-Ok.now c.args.op (issued-on-key g.F.Functions.code v w c.args.slot c.in-Ok.now c.args.op c.op.result (Ok k) c.op.ensures c.in-Ok-issue.ensures.does) in
+    let begun = issue-begun g.F.Functions.code v w c.args.slot k c.in-Ok.now c.args.op issued c.known.ensures.core.places c.in-Ok-issue.ensures.within.0 in
+    let hashed : c.hash-hash.result ≡ g.F.Functions.code (key_of c.args.op) = c.hash-hash.ensures ∙ ap g.F.Functions.code c.key.ensures in
     let fits = c.hash-hash.type_inv in
-    let range : g.F.Functions.code (key_of op) < 2 ^ 64 = subst (λ h. h < 2 ^ 64) hashed fits in
-    let near = issue-near g.F.Functions.code v c.issue.new.self c.args.slot c.in-Ok-issue.context c.in-Ok.now op issued.does ready phase clear range in
-    let bound = c.in-Ok-drive.ensures.bound (4 + evicted g.F.Functions.code v.records (key_of op)) kept near in
+    let range : g.F.Functions.code (key_of c.args.op) < 2 ^ 64 = subst (λ h. h < 2 ^ 64) hashed fits in
+    let near = issue-near g.F.Functions.code v.core w.core c.args.slot k c.in-Ok.now c.args.op (ap (λ (u : PartitionView _ _ _). u.core) issued.is) begun.ready begun.fresh clear range in
+    let bound = c.in-Ok-drive.ensures.bound (4 + evicted g.F.Functions.code v.core.records (key_of c.args.op)) kept near in
     let start = first.1 in
     let now = first.0 in
     omega arith
@@ -67,32 +74,115 @@ returns-in-Ok-drive-clause-bound g c = λ kept clear.
 pub returns-in-Err-drive-clause-bound : goal.returns-in-Err-drive-clause-bound
 returns-in-Err-drive-clause-bound g c = λ kept clear.
     let first = c.in-Ok.ensures.ok in
-    let issued = c.in-Ok-issue.ensures in
-    let op = c.args.op in
     let v = c.args.partition.now in
-    let ready = issue-ready g.F.Functions.code v c.issue.new.self c.args.slot c.in-Ok-issue.context c.in-Ok.now op issued.does issued.event in
-    let phase = issue-phase g.F.Functions.code v c.issue.new.self c.args.slot c.in-Ok-issue.context c.in-Ok.now op issued.does issued.event in
-    let hashed : c.hash-hash.result ≡ g.F.Functions.code (key_of op) = c.hash-hash.ensures ∙ ap g.F.Functions.code c.key.ensures in
+    let w = c.issue.new.self in
+    let k = c.in-Ok-issue.context in
+    let issued = issue-told g.F.Functions.code v w c.args.slot k c.in-Ok.now c.args.op (issued-on-key g.F.Functions.code v w c.args.slot c.in-Ok.now c.args.op c.op.result (Ok k) c.op.ensures c.in-Ok-issue.ensures.does) in
+    let begun = issue-begun g.F.Functions.code v w c.args.slot k c.in-Ok.now c.args.op issued c.known.ensures.core.places c.in-Ok-issue.ensures.within.0 in
+    let hashed : c.hash-hash.result ≡ g.F.Functions.code (key_of c.args.op) = c.hash-hash.ensures ∙ ap g.F.Functions.code c.key.ensures in
     let fits = c.hash-hash.type_inv in
-    let range : g.F.Functions.code (key_of op) < 2 ^ 64 = subst (λ h. h < 2 ^ 64) hashed fits in
-    let near = issue-near g.F.Functions.code v c.issue.new.self c.args.slot c.in-Ok-issue.context c.in-Ok.now op issued.does ready phase clear range in
-    let bound = c.in-Err-drive.ensures.bound (4 + evicted g.F.Functions.code v.records (key_of op)) kept near in
+    let range : g.F.Functions.code (key_of c.args.op) < 2 ^ 64 = subst (λ h. h < 2 ^ 64) hashed fits in
+    let near = issue-near g.F.Functions.code v.core w.core c.args.slot k c.in-Ok.now c.args.op (ap (λ (u : PartitionView _ _ _). u.core) issued.is) begun.ready begun.fresh clear range in
+    let bound = c.in-Err-drive.ensures.bound (4 + evicted g.F.Functions.code v.core.records (key_of c.args.op)) kept near in
     let start = first.1 in
     let now = first.0 in
     omega arith
 
+pub returns-in-Err-clause-enough : goal.returns-in-Err-clause-enough
+returns-in-Err-clause-enough g c = λ kept clear low e. elim c.in-Err.ensures.err.1 [
+  | inl a ↦ absurd (let none = a.1 in omega arith)
+  | inr b ↦ absurd (let is = b.0 in cc)
+]
+
+pub returns-in-Err-issue-clause-enough : goal.returns-in-Err-issue-clause-enough
+returns-in-Err-issue-clause-enough g c = λ kept clear low e.
+    (let v = c.args.partition.now in
+    let does = issued-on-key g.F.Functions.code v c.issue.new.self c.args.slot c.in-Ok.now c.args.op c.op.result (Err c.in-Err-issue.refused) c.op.ensures c.in-Err-issue.ensures.does in
+    issue-stalled g.F.Functions.code v c.issue.new.self c.args.slot c.in-Ok.now c.args.op c.in-Err-issue.refused does (cc))
+
+pub returns-in-Ok-drive-clause-enough : goal.returns-in-Ok-drive-clause-enough
+returns-in-Ok-drive-clause-enough g c = λ kept clear low e. absurd (cc)
+
+pub returns-in-Err-drive-clause-enough : goal.returns-in-Err-drive-clause-enough
+returns-in-Err-drive-clause-enough g c = λ kept clear low e.
+    (let first = c.in-Ok.ensures.ok in
+    let v = c.args.partition.now in
+    let w = c.issue.new.self in
+    let k = c.in-Ok-issue.context in
+    let issued = issue-told g.F.Functions.code v w c.args.slot k c.in-Ok.now c.args.op (issued-on-key g.F.Functions.code v w c.args.slot c.in-Ok.now c.args.op c.op.result (Ok k) c.op.ensures c.in-Ok-issue.ensures.does) in
+    let begun = issue-begun g.F.Functions.code v w c.args.slot k c.in-Ok.now c.args.op issued c.known.ensures.core.places c.in-Ok-issue.ensures.within.0 in
+    let hashed : c.hash-hash.result ≡ g.F.Functions.code (key_of c.args.op) = c.hash-hash.ensures ∙ ap g.F.Functions.code c.key.ensures in
+    let fits = c.hash-hash.type_inv in
+    let range : g.F.Functions.code (key_of c.args.op) < 2 ^ 64 = subst (λ h. h < 2 ^ 64) hashed fits in
+    let near = issue-near g.F.Functions.code v.core w.core c.args.slot k c.in-Ok.now c.args.op (ap (λ (u : PartitionView _ _ _). u.core) issued.is) begun.ready begun.fresh clear range in
+    c.in-Err-drive.ensures.enough c.args.op v.core c.in-Ok.now (4 + evicted g.F.Functions.code v.core.records (key_of c.args.op)) begun.ready kept near (omega arith) e)
+
 pub returns-in-Ok-drive-clause-others : goal.returns-in-Ok-drive-clause-others
 returns-in-Ok-drive-clause-others g c = λ kept s e other.
-    let issued = c.in-Ok-issue.ensures in
+    let first = c.in-Ok.ensures.ok in
     let v = c.args.partition.now in
-    let opens = issue-opens g.F.Functions.code v c.issue.new.self c.args.slot c.in-Ok-issue.context c.in-Ok.now c.args.op issued.does issued.event in
-    let all = c.pendings_stay.ensures.issues g.F.Key.Ord.cmp g.F.Functions.code v c.issue.new.self c.args.slot c.args.op c.in-Ok.now (Ok c.in-Ok-issue.context) issued.does in
-    pend-free g.F.Key.Ord.cmp v c.issue.new.self c.drive.new.partition c.args.slot c.in-Ok-issue.context s e all (c.in-Ok-drive.ensures.others kept) opens.free other
+    let w = c.issue.new.self in
+    let k = c.in-Ok-issue.context in
+    let issued = issue-told g.F.Functions.code v w c.args.slot k c.in-Ok.now c.args.op (issued-on-key g.F.Functions.code v w c.args.slot c.in-Ok.now c.args.op c.op.result (Ok k) c.op.ensures c.in-Ok-issue.ensures.does) in
+    pend-free g.F.Key.Ord.cmp v w.core c.drive.new.partition.core c.args.slot k s e (c.in-Ok-issue.ensures.pends kept) (c.in-Ok-drive.ensures.others kept) issued.opens.free other
 
 pub returns-in-Err-drive-clause-others : goal.returns-in-Err-drive-clause-others
 returns-in-Err-drive-clause-others g c = λ kept s e other.
-    let issued = c.in-Ok-issue.ensures in
+    let first = c.in-Ok.ensures.ok in
     let v = c.args.partition.now in
-    let opens = issue-opens g.F.Functions.code v c.issue.new.self c.args.slot c.in-Ok-issue.context c.in-Ok.now c.args.op issued.does issued.event in
-    let all = c.pendings_stay.ensures.issues g.F.Key.Ord.cmp g.F.Functions.code v c.issue.new.self c.args.slot c.args.op c.in-Ok.now (Ok c.in-Ok-issue.context) issued.does in
-    pend-free g.F.Key.Ord.cmp v c.issue.new.self c.abandon.new.partition c.args.slot c.in-Ok-issue.context s e all (pend-then g.F.Key.Ord.cmp c.issue.new.self c.drive.new.partition c.abandon.new.partition c.args.slot c.in-Ok-issue.context (c.in-Err-drive.ensures.others kept) c.abandon.ensures.others) opens.free other
+    let w = c.issue.new.self in
+    let k = c.in-Ok-issue.context in
+    let issued = issue-told g.F.Functions.code v w c.args.slot k c.in-Ok.now c.args.op (issued-on-key g.F.Functions.code v w c.args.slot c.in-Ok.now c.args.op c.op.result (Ok k) c.op.ensures c.in-Ok-issue.ensures.does) in
+    let given = c.abandon-given_up.new.self in
+    pend-free g.F.Key.Ord.cmp v w.core given.core c.args.slot k s e (c.in-Ok-issue.ensures.pends kept)
+    (pend-then g.F.Key.Ord.cmp w.core c.drive.new.partition.core given.core c.args.slot k (c.in-Err-drive.ensures.others kept)
+    (given-others g.F.Key.Ord.cmp c.drive.new.partition.core given.core c.args.slot k c.drive.new.partition.core.moment c.abandon-given_up.result c.abandon-given_up.ensures.does))
+    issued.opens.free other
+
+pub returns-in-Err-issue-clause-rest : goal.returns-in-Err-issue-clause-rest
+returns-in-Err-issue-clause-rest g c = rest-same c.args.partition.now c.issue.new.self c.in-Err-issue.ensures.err
+
+pub returns-in-Ok-drive-clause-rest : goal.returns-in-Ok-drive-clause-rest
+returns-in-Ok-drive-clause-rest g c =
+    let first = c.in-Ok.ensures.ok in
+    let v = c.args.partition.now in
+    let w = c.issue.new.self in
+    let k = c.in-Ok-issue.context in
+    let issued = issue-told g.F.Functions.code v w c.args.slot k c.in-Ok.now c.args.op (issued-on-key g.F.Functions.code v w c.args.slot c.in-Ok.now c.args.op c.op.result (Ok k) c.op.ensures c.in-Ok-issue.ensures.does) in
+    rest-then v w c.drive.new.partition (issue-rest g.F.Functions.code v w c.args.slot k c.in-Ok.now c.args.op issued) c.in-Ok-drive.ensures.rest
+
+pub returns-in-Err-drive-clause-rest : goal.returns-in-Err-drive-clause-rest
+returns-in-Err-drive-clause-rest g c =
+    let first = c.in-Ok.ensures.ok in
+    let v = c.args.partition.now in
+    let w = c.issue.new.self in
+    let k = c.in-Ok-issue.context in
+    let issued = issue-told g.F.Functions.code v w c.args.slot k c.in-Ok.now c.args.op (issued-on-key g.F.Functions.code v w c.args.slot c.in-Ok.now c.args.op c.op.result (Ok k) c.op.ensures c.in-Ok-issue.ensures.does) in
+    let driven = rest-then v w c.drive.new.partition (issue-rest g.F.Functions.code v w c.args.slot k c.in-Ok.now c.args.op issued) c.in-Err-drive.ensures.rest in
+    rest-then v c.drive.new.partition c.abandon-given_up.new.self driven c.abandon-given_up.ensures.rest
+
+pub returns-in-Ok-drive-clause-within : goal.returns-in-Ok-drive-clause-within
+returns-in-Ok-drive-clause-within g c =
+    let first = c.in-Ok.ensures.ok in
+    let start = first.1 in
+    let now = first.0 in
+    let some = first.2 in
+    let driven = c.in-Ok-drive.ensures.within in
+    omega arith
+
+pub returns-in-Err-drive-clause-within : goal.returns-in-Err-drive-clause-within
+returns-in-Err-drive-clause-within g c =
+    let first = c.in-Ok.ensures.ok in
+    let start = first.1 in
+    let now = first.0 in
+    let some = first.2 in
+    let driven = c.in-Err-drive.ensures.within in
+    omega arith
+
+pub returns-in-Err-issue-clause-within : goal.returns-in-Err-issue-clause-within
+returns-in-Err-issue-clause-within g c =
+    let first = c.in-Ok.ensures.ok in
+    let start = first.1 in
+    let now = first.0 in
+    let some = first.2 in
+    omega arith

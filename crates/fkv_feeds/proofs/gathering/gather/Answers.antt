@@ -2,7 +2,7 @@ use Rattle.std.proofs.Common.{◌≡◌, ◌≢◌, ◌<◌, length, map, slice_
 use Rattle.std.proofs.lemmas.List.{length-set}
 use Rattle.std.proofs.lemmas.Option.{slice_get-get_or}
 use Rattle.std.specs.BTreeMap.{get}
-use Rattle.fkv_partition.specs.Views.{partition_of}
+use Rattle.fkv_partition.specs.CoreViews.{partition_of}
 use Rattle.fkv_feeds.proofs.RunLemmas.{view-get, view-same}
 use Rattle.fkv_partition.proofs.UnionLemmas.{live-more}
 use Rattle.fkv_feeds.proofs.gathering.gather.Goals as goal
@@ -25,7 +25,7 @@ loop-index-preserved g c =
           live-more g.F.Key.Ord.cmp g.F.Functions.code views i x.partition (get g.F.Key.Ord.cmp c.loop-index.tree) _ there
           (c.in-Ok.ensures.live keeps)
           (subst (λ n. (q : g.row.F-Key.Denot) → partition_of n (g.F.Functions.code q) ≢ i → get g.F.Key.Ord.cmp c.put_live.new.map q ≡ get g.F.Key.Ord.cmp c.loop-index.tree q) (idle.counted i x.partition there)
-          (subst (λ p. (q : g.row.F-Key.Denot) → partition_of x.partition.count (g.F.Functions.code q) ≢ p → get g.F.Key.Ord.cmp c.put_live.new.map q ≡ get g.F.Key.Ord.cmp c.loop-index.tree q) (idle.numbered i x.partition there)
+          (subst (λ p. (q : g.row.F-Key.Denot) → partition_of x.partition.core.count (g.F.Functions.code q) ≢ p → get g.F.Key.Ord.cmp c.put_live.new.map q ≡ get g.F.Key.Ord.cmp c.loop-index.tree q) (idle.numbered i x.partition there)
           (c.in-Ok.ensures.others keeps)))
           (old.so_far keeps) q;
     }

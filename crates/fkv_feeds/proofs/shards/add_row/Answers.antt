@@ -4,12 +4,12 @@ use Rattle.std.proofs.lemmas.Int.{to_z-of_z}
 use Rattle.std.proofs.lemmas.Option.{slice_get_read}
 use Rattle.fkv_functions.specs.Names.{name_cmp, same_names, name_ties, name_exact, name_total}
 use Rattle.fkv_functions.proofs.KeyOrder.{key_order}
-use Rattle.fkv_partition.specs.Views.{partition_of}
+use Rattle.fkv_partition.specs.CoreViews.{partition_of}
 use Rattle.fkv_feeds.specs.Runs.{StandFor}
 use Rattle.fkv_feeds.specs.Faults.{IsDeviceFault, IsFault}
 use Rattle.fkv_feeds.proofs.FeedsLemmas.{three_ok, err_weaker}
 use Rattle.fkv_feeds.proofs.RunLemmas.{stand-more, view-get, view-set, view-length}
-use Rattle.fkv_feeds.proofs.SeatLemmas.{idle-tidied}
+use Rattle.fkv_feeds.proofs.SessionLemmas.{idle-tidied}
 use Rattle.fkv_feeds.proofs.shards.add_row.Goals as goal
 
 pub home-home-requires-clause-doubled : goal.home-home-requires-clause-doubled
@@ -17,8 +17,8 @@ home-home-requires-clause-doubled g c =
     let items = c.args.shards.now.shards.items in
     let first = c.index.result.now in
     let here = slice_get_read items (length items) 0 first refl (subst (λ (n : ℕ). 0 < n) (view-length (λ shard. shard.partition) items) c.requires.stands.1.some) c.index.ensures in (
-      first.partition.records.partition_bits,
-      sym (view-length (λ shard. shard.partition) items) ∙ sym (c.requires.stands.1.idle.counted 0 first.partition (view-get (λ shard. shard.partition) items 0 first here)) ∙ c.known.ensures.counted,
+      first.partition.core.records.partition_bits,
+      sym (view-length (λ shard. shard.partition) items) ∙ sym (c.requires.stands.1.idle.counted 0 first.partition (view-get (λ shard. shard.partition) items 0 first here)) ∙ c.known.ensures.core.counted,
     )
 
 pub update-requires-clause-idle : goal.update-requires-clause-idle
@@ -57,8 +57,8 @@ returns-in-Ok-clause-ok g c =
     subst (λ views. StandFor g.D.Receipt.Receipt.keeps name_cmp g.F.Functions.meaning g.F.Functions.code views slot c.tidy_at_times.new.clock (rows ++ (c.args.key.now, c.args.amount) ∷ [])) (sym (view-set (λ shard. shard.partition) items home new))
     (stand-more g.D.Receipt.Receipt.keeps name_cmp order g.F.Functions.meaning g.F.Functions.code (map (λ shard. shard.partition) items) slot c.args.shards.now.clock c.tidy_at_times.new.clock rows
     home old.partition new.partition c.args.key.now c.args.amount stand there (ap (λ n. partition_of n (g.F.Functions.code c.args.key.now)) (view-length (λ shard. shard.partition) items) ∙ sym c.home-home.ensures.value)
-    (tidied.number ∙ c.in-Ok.ensures.number) (tidied.count ∙ c.in-Ok.ensures.count) past after (idle-tidied g.D.Receipt.Receipt.keeps name_cmp c.update.new.shard.partition new.partition slot c.in-Ok.ensures.idle tidied)
-    (λ keeps q. tidied.live keeps q ∙ done keeps q))))
+    (tidied.seat.number ∙ c.in-Ok.ensures.number) (tidied.seat.count ∙ c.in-Ok.ensures.count) past after (idle-tidied g.D.Receipt.Receipt.keeps name_cmp c.update.new.shard.partition new.partition slot c.in-Ok.ensures.idle tidied)
+    (λ keeps q. tidied.seat.live keeps q ∙ done keeps q))))
 
 pub returns-in-Ok-clause-told : goal.returns-in-Ok-clause-told
 returns-in-Ok-clause-told g c = err_weaker _ c.tidy_at_times.result

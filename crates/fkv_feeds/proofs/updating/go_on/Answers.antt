@@ -1,8 +1,7 @@
 use Rattle.std.proofs.Common.{Ok, Some, None}
 use Rattle.std.proofs.lemmas.Result.{IfOk-weaker}
-use Rattle.fkv_partition.specs.declared.contexts.Progress.TheVariants.{Next, Waits, NeedsBuild, NeedsLoad}
-use Rattle.fkv_feeds.specs.declared.updating.Turn.TheVariants as turn
-use Rattle.fkv_feeds.proofs.SeatLemmas.{goes-leads, effect-of, tried, tries-then}
+use Rattle.fkv_partition.specs.Progress.TheVariants.{Done, Next, Waits, NeedsBuild, NeedsLoad}
+use Rattle.fkv_feeds.proofs.SessionLemmas.{goes-leads, effect-of, tried, finished, tries-then}
 use Rattle.fkv_feeds.proofs.updating.go_on.Goals as goal
 
 pub wait-requires-clause-open : goal.wait-requires-clause-open
@@ -26,8 +25,8 @@ returns-in-Ok-Next-clause-ok g c =
     let w = c.go.new.self in
     let slot = c.args.terms.now.slot in
     λ op o. (let l = goes-leads g.D.Receipt.Receipt.stands v w slot c.args.context op g.F.Key.Ord.cmp g.F.Functions.meaning g.F.Functions.code c.in-Ok.now (Ok Next) o (rw c.in-Ok-Next.field-0-is at c.in-Ok-Next.ensures.does) in
-    tried g.D.Receipt.Receipt.stands v w slot c.args.context op g.D.Receipt.Receipt.keeps g.F.Key.Ord.cmp g.F.Functions.meaning (turn.On None) l.0 l.1
-    (λ keeps. effect-of g.D.Receipt.Receipt.stands v w slot c.args.context op g.F.Key.Ord.cmp g.F.Functions.meaning c.in-Ok.now None Next o (rw c.in-Ok-Next.field-0-is at c.in-Ok-Next.ensures.event)))
+    tried g.D.Receipt.Receipt.stands v w slot c.args.context op g.D.Receipt.Receipt.keeps g.F.Key.Ord.cmp g.F.Functions.meaning None l.0 l.1
+    (λ keeps. effect-of g.D.Receipt.Receipt.stands v w slot c.args.context op g.F.Key.Ord.cmp g.F.Functions.meaning c.in-Ok.now None Next o (rw c.in-Ok-Next.field-0-is at c.in-Ok-Next.ensures.event keeps)))
 
 pub returns-in-Ok-Waits-clause-ok : goal.returns-in-Ok-Waits-clause-ok
 returns-in-Ok-Waits-clause-ok g c =
@@ -37,7 +36,7 @@ returns-in-Ok-Waits-clause-ok g c =
     IfOk-weaker c.wait.result _ _
     (λ t h op o. (let l = goes-leads g.D.Receipt.Receipt.stands v w slot c.args.context op g.F.Key.Ord.cmp g.F.Functions.meaning g.F.Functions.code c.in-Ok.now (Ok (Waits _)) o (rw c.in-Ok-Waits.field-0-is at c.in-Ok-Waits.ensures.does) in
     tries-then g.D.Receipt.Receipt.stands v w slot c.args.context op g.D.Receipt.Receipt.keeps g.F.Key.Ord.cmp g.F.Functions.meaning c.wait.new.shard.partition t l.0
-    (λ keeps. effect-of g.D.Receipt.Receipt.stands v w slot c.args.context op g.F.Key.Ord.cmp g.F.Functions.meaning c.in-Ok.now None (Waits _) o (rw c.in-Ok-Waits.field-0-is at c.in-Ok-Waits.ensures.event))
+    (λ keeps. effect-of g.D.Receipt.Receipt.stands v w slot c.args.context op g.F.Key.Ord.cmp g.F.Functions.meaning c.in-Ok.now None (Waits _) o (rw c.in-Ok-Waits.field-0-is at c.in-Ok-Waits.ensures.event keeps))
     (h op l.1)))
     c.wait.ensures.ok
 
@@ -49,7 +48,7 @@ returns-in-Ok-NeedsBuild-clause-ok g c =
     IfOk-weaker c.install.result _ _
     (λ t h op o. (let l = goes-leads g.D.Receipt.Receipt.stands v w slot c.args.context op g.F.Key.Ord.cmp g.F.Functions.meaning g.F.Functions.code c.in-Ok.now (Ok (NeedsBuild _)) o (rw c.in-Ok-NeedsBuild.field-0-is at c.in-Ok-NeedsBuild.ensures.does) in
     tries-then g.D.Receipt.Receipt.stands v w slot c.args.context op g.D.Receipt.Receipt.keeps g.F.Key.Ord.cmp g.F.Functions.meaning c.install.new.shard.partition t l.0
-    (λ keeps. effect-of g.D.Receipt.Receipt.stands v w slot c.args.context op g.F.Key.Ord.cmp g.F.Functions.meaning c.in-Ok.now None (NeedsBuild _) o (rw c.in-Ok-NeedsBuild.field-0-is at c.in-Ok-NeedsBuild.ensures.event))
+    (λ keeps. effect-of g.D.Receipt.Receipt.stands v w slot c.args.context op g.F.Key.Ord.cmp g.F.Functions.meaning c.in-Ok.now None (NeedsBuild _) o (rw c.in-Ok-NeedsBuild.field-0-is at c.in-Ok-NeedsBuild.ensures.event keeps))
     (h op l.1.0)))
     c.install.ensures.ok
 
@@ -59,5 +58,14 @@ returns-in-Ok-NeedsLoad-clause-ok g c =
     let w = c.go.new.self in
     let slot = c.args.terms.now.slot in
     λ op o. (let l = goes-leads g.D.Receipt.Receipt.stands v w slot c.args.context op g.F.Key.Ord.cmp g.F.Functions.meaning g.F.Functions.code c.in-Ok.now (Ok (NeedsLoad _ _)) o (rw c.in-Ok-NeedsLoad.field-0-is at c.in-Ok-NeedsLoad.ensures.does) in
-    tried g.D.Receipt.Receipt.stands v w slot c.args.context op g.D.Receipt.Receipt.keeps g.F.Key.Ord.cmp g.F.Functions.meaning (turn.On (Some c.in-Ok-NeedsLoad.receipt)) l.0 l.1
-    (λ keeps. effect-of g.D.Receipt.Receipt.stands v w slot c.args.context op g.F.Key.Ord.cmp g.F.Functions.meaning c.in-Ok.now None (NeedsLoad _ _) o (rw c.in-Ok-NeedsLoad.field-0-is at c.in-Ok-NeedsLoad.ensures.event)))
+    tried g.D.Receipt.Receipt.stands v w slot c.args.context op g.D.Receipt.Receipt.keeps g.F.Key.Ord.cmp g.F.Functions.meaning (Some c.in-Ok-NeedsLoad.receipt) l.0 l.1
+    (λ keeps. effect-of g.D.Receipt.Receipt.stands v w slot c.args.context op g.F.Key.Ord.cmp g.F.Functions.meaning c.in-Ok.now None (NeedsLoad _ _) o (rw c.in-Ok-NeedsLoad.field-0-is at c.in-Ok-NeedsLoad.ensures.event keeps)))
+
+pub returns-in-Ok-Done-clause-ok : goal.returns-in-Ok-Done-clause-ok
+returns-in-Ok-Done-clause-ok g c =
+    let v = c.args.shard.now.partition in
+    let w = c.go.new.self in
+    let slot = c.args.terms.now.slot in
+    λ op o. (let l = goes-leads g.D.Receipt.Receipt.stands v w slot c.args.context op g.F.Key.Ord.cmp g.F.Functions.meaning g.F.Functions.code c.in-Ok.now (Ok (Done _ _)) o (rw c.in-Ok-Done.field-0-is at c.in-Ok-Done.ensures.does) in
+    finished g.D.Receipt.Receipt.stands v w slot c.args.context op g.D.Receipt.Receipt.keeps g.F.Key.Ord.cmp g.F.Functions.meaning l.0 l.1
+    (λ keeps. effect-of g.D.Receipt.Receipt.stands v w slot c.args.context op g.F.Key.Ord.cmp g.F.Functions.meaning c.in-Ok.now None (Done _ _) o (rw c.in-Ok-Done.field-0-is at c.in-Ok-Done.ensures.event keeps)))

@@ -1,9 +1,8 @@
 use Rattle.std.proofs.Common.{Ok, None, sym, subst}
 use Rattle.std.proofs.lemmas.Result.{IfOk-weaker}
-use Rattle.fkv_partition.specs.declared.contexts.Progress.TheVariants.{Next, Waits}
+use Rattle.fkv_partition.specs.Progress.TheVariants.{Done, Next, Waits}
 use Rattle.fkv_feeds.specs.Seats.{IsAsking}
-use Rattle.fkv_feeds.specs.declared.updating.Turn.TheVariants as turn
-use Rattle.fkv_feeds.proofs.SeatLemmas.{installs-leads, effect-of, tried, tries-then}
+use Rattle.fkv_feeds.proofs.SessionLemmas.{installs-leads, effect-of, tried, finished, tries-then}
 use Rattle.fkv_feeds.proofs.updating.install.Goals as goal
 
 pub returns-in-Ok-Next-clause-ok : goal.returns-in-Ok-Next-clause-ok
@@ -11,14 +10,14 @@ returns-in-Ok-Next-clause-ok g c =
     let v = c.args.shard.now.partition in
     let w = c.install.new.self in
     let slot = c.args.terms.now.slot in
-    λ op o. (let l = installs-leads g.D.Receipt.Receipt.stands v w slot c.args.context op g.F.Key.Ord.cmp g.F.Functions.meaning g.F.Functions.code c.in-Ok.now c.make-built.result (Ok Next) o (subst (λ a. IsAsking v slot c.args.context a) (sym c.make-built.ensures) c.requires.asking) (rw c.in-Ok-Next.field-0-is at c.in-Ok-Next.ensures.does) in
-    tried g.D.Receipt.Receipt.stands v w slot c.args.context op g.D.Receipt.Receipt.keeps g.F.Key.Ord.cmp g.F.Functions.meaning (turn.On None) l.0 l.1
+    λ op o. (let l = installs-leads g.D.Receipt.Receipt.stands v w slot c.args.context op g.F.Key.Ord.cmp g.F.Functions.meaning g.F.Functions.code c.in-Ok.now c.make-built.result (Ok Next) o (subst (λ a. IsAsking v.core slot c.args.context a) (sym c.make-built.ensures) c.requires.asking) (rw c.in-Ok-Next.field-0-is at c.in-Ok-Next.ensures.does) in
+    tried g.D.Receipt.Receipt.stands v w slot c.args.context op g.D.Receipt.Receipt.keeps g.F.Key.Ord.cmp g.F.Functions.meaning None l.0 l.1
     (λ keeps. effect-of g.D.Receipt.Receipt.stands v w slot c.args.context op g.F.Key.Ord.cmp g.F.Functions.meaning c.in-Ok.now None Next o (rw c.in-Ok-Next.field-0-is at c.in-Ok-Next.ensures.event keeps)))
 
 pub wait-requires-clause-open : goal.wait-requires-clause-open
 wait-requires-clause-open g c =
     let op = c.requires.open.0 in
-    (op, (installs-leads g.D.Receipt.Receipt.stands c.args.shard.now.partition c.install.new.self c.args.terms.now.slot c.args.context op g.F.Key.Ord.cmp g.F.Functions.meaning g.F.Functions.code c.in-Ok.now c.make-built.result (Ok (Waits _)) c.requires.open.1 (subst (λ a. IsAsking c.args.shard.now.partition c.args.terms.now.slot c.args.context a) (sym c.make-built.ensures) c.requires.asking) (rw c.in-Ok-Waits.field-0-is at c.in-Ok-Waits.ensures.does)).1)
+    (op, (installs-leads g.D.Receipt.Receipt.stands c.args.shard.now.partition c.install.new.self c.args.terms.now.slot c.args.context op g.F.Key.Ord.cmp g.F.Functions.meaning g.F.Functions.code c.in-Ok.now c.make-built.result (Ok (Waits _)) c.requires.open.1 (subst (λ a. IsAsking c.args.shard.now.partition.core c.args.terms.now.slot c.args.context a) (sym c.make-built.ensures) c.requires.asking) (rw c.in-Ok-Waits.field-0-is at c.in-Ok-Waits.ensures.does)).1)
 
 pub returns-in-Ok-Waits-clause-ok : goal.returns-in-Ok-Waits-clause-ok
 returns-in-Ok-Waits-clause-ok g c =
@@ -26,8 +25,17 @@ returns-in-Ok-Waits-clause-ok g c =
     let w = c.install.new.self in
     let slot = c.args.terms.now.slot in
     IfOk-weaker c.wait.result _ _
-    (λ t h op o. (let l = installs-leads g.D.Receipt.Receipt.stands v w slot c.args.context op g.F.Key.Ord.cmp g.F.Functions.meaning g.F.Functions.code c.in-Ok.now c.make-built.result (Ok (Waits _)) o (subst (λ a. IsAsking v slot c.args.context a) (sym c.make-built.ensures) c.requires.asking) (rw c.in-Ok-Waits.field-0-is at c.in-Ok-Waits.ensures.does) in
+    (λ t h op o. (let l = installs-leads g.D.Receipt.Receipt.stands v w slot c.args.context op g.F.Key.Ord.cmp g.F.Functions.meaning g.F.Functions.code c.in-Ok.now c.make-built.result (Ok (Waits _)) o (subst (λ a. IsAsking v.core slot c.args.context a) (sym c.make-built.ensures) c.requires.asking) (rw c.in-Ok-Waits.field-0-is at c.in-Ok-Waits.ensures.does) in
     tries-then g.D.Receipt.Receipt.stands v w slot c.args.context op g.D.Receipt.Receipt.keeps g.F.Key.Ord.cmp g.F.Functions.meaning c.wait.new.shard.partition t l.0
     (λ keeps. effect-of g.D.Receipt.Receipt.stands v w slot c.args.context op g.F.Key.Ord.cmp g.F.Functions.meaning c.in-Ok.now None (Waits _) o (rw c.in-Ok-Waits.field-0-is at c.in-Ok-Waits.ensures.event keeps))
     (h op l.1)))
     c.wait.ensures.ok
+
+pub returns-in-Ok-Done-clause-ok : goal.returns-in-Ok-Done-clause-ok
+returns-in-Ok-Done-clause-ok g c =
+    let v = c.args.shard.now.partition in
+    let w = c.install.new.self in
+    let slot = c.args.terms.now.slot in
+    λ op o. (let l = installs-leads g.D.Receipt.Receipt.stands v w slot c.args.context op g.F.Key.Ord.cmp g.F.Functions.meaning g.F.Functions.code c.in-Ok.now c.make-built.result (Ok (Done _ _)) o (subst (λ a. IsAsking v.core slot c.args.context a) (sym c.make-built.ensures) c.requires.asking) (rw c.in-Ok-Done.field-0-is at c.in-Ok-Done.ensures.does) in
+    finished g.D.Receipt.Receipt.stands v w slot c.args.context op g.D.Receipt.Receipt.keeps g.F.Key.Ord.cmp g.F.Functions.meaning l.0 l.1
+    (λ keeps. effect-of g.D.Receipt.Receipt.stands v w slot c.args.context op g.F.Key.Ord.cmp g.F.Functions.meaning c.in-Ok.now None (Done _ _) o (rw c.in-Ok-Done.field-0-is at c.in-Ok-Done.ensures.event keeps)))

@@ -1,9 +1,8 @@
 use Rattle.std.proofs.Common.{Ok, Err, Some, None, inl, inr, refl}
 use Rattle.std.proofs.lemmas.Result.{IfOk-weaker}
-use Rattle.fkv_partition.specs.declared.contexts.Progress.TheVariants.{Next, NeedsBuild, NeedsLoad}
+use Rattle.fkv_partition.specs.Progress.TheVariants.{Next, NeedsBuild, NeedsLoad}
 use Rattle.fkv_feeds.specs.Faults.{IsFault}
-use Rattle.fkv_feeds.specs.declared.updating.Turn.TheVariants as turn
-use Rattle.fkv_feeds.proofs.SeatLemmas.{loads-leads, tried, tries-then}
+use Rattle.fkv_feeds.proofs.SessionLemmas.{loads-leads, load-stays, tried, tries-then}
 use Rattle.fkv_feeds.proofs.updating.load.Goals as goal
 
 pub returns-in-Err-clause-told : goal.returns-in-Err-clause-told
@@ -13,14 +12,14 @@ pub install-requires-clause-open : goal.install-requires-clause-open
 install-requires-clause-open g c =
     let op = c.requires.open.0 in (
       op,
-      (loads-leads g.D.Receipt.Receipt.stands c.args.shard.now.partition c.load.new.self c.args.terms.now.slot c.args.context op _ g.F.Key.Ord.cmp g.F.Functions.meaning c.in-Ok-tick.now c.in-Ok.loaded (g.D.Receipt.Receipt.stands c.args.receipt) (Ok (NeedsBuild _)) c.requires.open.1 c.in-Ok.ensures.receipt
+      (loads-leads g.D.Receipt.Receipt.stands c.args.shard.now.partition c.load.new.self c.args.terms.now.slot c.args.context op _ g.F.Key.Ord.cmp g.F.Functions.meaning g.F.Functions.code c.in-Ok-tick.now c.in-Ok.loaded (g.D.Receipt.Receipt.stands c.args.receipt) (Ok (NeedsBuild _)) c.requires.open.1 c.in-Ok.ensures.receipt
           (rw c.in-Ok-NeedsBuild.field-0-is at c.in-Ok-NeedsBuild.ensures.does)).1.0,
     )
 
 pub install-requires-clause-asking : goal.install-requires-clause-asking
 install-requires-clause-asking g c =
     let op = c.requires.open.0 in
-    (loads-leads g.D.Receipt.Receipt.stands c.args.shard.now.partition c.load.new.self c.args.terms.now.slot c.args.context op _ g.F.Key.Ord.cmp g.F.Functions.meaning c.in-Ok-tick.now c.in-Ok.loaded (g.D.Receipt.Receipt.stands c.args.receipt) (Ok (NeedsBuild _)) c.requires.open.1 c.in-Ok.ensures.receipt
+    (loads-leads g.D.Receipt.Receipt.stands c.args.shard.now.partition c.load.new.self c.args.terms.now.slot c.args.context op _ g.F.Key.Ord.cmp g.F.Functions.meaning g.F.Functions.code c.in-Ok-tick.now c.in-Ok.loaded (g.D.Receipt.Receipt.stands c.args.receipt) (Ok (NeedsBuild _)) c.requires.open.1 c.in-Ok.ensures.receipt
     (rw c.in-Ok-NeedsBuild.field-0-is at c.in-Ok-NeedsBuild.ensures.does)).1.1
 
 pub returns-in-Ok-NeedsBuild-clause-ok : goal.returns-in-Ok-NeedsBuild-clause-ok
@@ -29,10 +28,10 @@ returns-in-Ok-NeedsBuild-clause-ok g c =
     let w = c.load.new.self in
     let slot = c.args.terms.now.slot in
     IfOk-weaker c.install.result _ _
-    (λ t h op o. (let l = loads-leads g.D.Receipt.Receipt.stands v w slot c.args.context op _ g.F.Key.Ord.cmp g.F.Functions.meaning c.in-Ok-tick.now c.in-Ok.loaded (g.D.Receipt.Receipt.stands c.args.receipt) (Ok (NeedsBuild _)) o c.in-Ok.ensures.receipt
+    (λ t h op o. (let l = loads-leads g.D.Receipt.Receipt.stands v w slot c.args.context op _ g.F.Key.Ord.cmp g.F.Functions.meaning g.F.Functions.code c.in-Ok-tick.now c.in-Ok.loaded (g.D.Receipt.Receipt.stands c.args.receipt) (Ok (NeedsBuild _)) o c.in-Ok.ensures.receipt
     (rw c.in-Ok-NeedsBuild.field-0-is at c.in-Ok-NeedsBuild.ensures.does) in
     tries-then g.D.Receipt.Receipt.stands v w slot c.args.context op g.D.Receipt.Receipt.keeps g.F.Key.Ord.cmp g.F.Functions.meaning c.install.new.shard.partition t l.0
-    (λ keeps. (c.in-Ok-NeedsBuild.ensures.event keeps).live)
+    (λ keeps. load-stays g.D.Receipt.Receipt.stands v w slot c.args.context op g.F.Key.Ord.cmp g.F.Functions.meaning c.in-Ok-tick.now (NeedsBuild _) (rw c.in-Ok-NeedsBuild.field-0-is at c.in-Ok-NeedsBuild.ensures.event keeps))
     (h op l.1.0)))
     c.install.ensures.ok
 
@@ -41,24 +40,24 @@ returns-in-Ok-NeedsLoad-clause-ok g c =
     let v = c.args.shard.now.partition in
     let w = c.load.new.self in
     let slot = c.args.terms.now.slot in
-    λ op o. (let l = loads-leads g.D.Receipt.Receipt.stands v w slot c.args.context op _ g.F.Key.Ord.cmp g.F.Functions.meaning c.in-Ok-tick.now c.in-Ok.loaded (g.D.Receipt.Receipt.stands c.args.receipt) (Ok (NeedsLoad _ _)) o c.in-Ok.ensures.receipt
+    λ op o. (let l = loads-leads g.D.Receipt.Receipt.stands v w slot c.args.context op _ g.F.Key.Ord.cmp g.F.Functions.meaning g.F.Functions.code c.in-Ok-tick.now c.in-Ok.loaded (g.D.Receipt.Receipt.stands c.args.receipt) (Ok (NeedsLoad _ _)) o c.in-Ok.ensures.receipt
     (rw c.in-Ok-NeedsLoad.field-0-is at c.in-Ok-NeedsLoad.ensures.does) in
-    tried g.D.Receipt.Receipt.stands v w slot c.args.context op g.D.Receipt.Receipt.keeps g.F.Key.Ord.cmp g.F.Functions.meaning (turn.On (Some c.in-Ok-NeedsLoad.further)) l.0 l.1
-    (λ keeps. (c.in-Ok-NeedsLoad.ensures.event keeps).live))
+    tried g.D.Receipt.Receipt.stands v w slot c.args.context op g.D.Receipt.Receipt.keeps g.F.Key.Ord.cmp g.F.Functions.meaning (Some c.in-Ok-NeedsLoad.further) l.0 l.1
+    (λ keeps. load-stays g.D.Receipt.Receipt.stands v w slot c.args.context op g.F.Key.Ord.cmp g.F.Functions.meaning c.in-Ok-tick.now (NeedsLoad _ _) (rw c.in-Ok-NeedsLoad.field-0-is at c.in-Ok-NeedsLoad.ensures.event keeps)))
 
 pub returns-in-Ok-Next-clause-ok : goal.returns-in-Ok-Next-clause-ok
 returns-in-Ok-Next-clause-ok g c =
     let v = c.args.shard.now.partition in
     let w = c.load.new.self in
     let slot = c.args.terms.now.slot in
-    λ op o. (let l = loads-leads g.D.Receipt.Receipt.stands v w slot c.args.context op _ g.F.Key.Ord.cmp g.F.Functions.meaning c.in-Ok-tick.now c.in-Ok.loaded (g.D.Receipt.Receipt.stands c.args.receipt) (Ok Next) o c.in-Ok.ensures.receipt
+    λ op o. (let l = loads-leads g.D.Receipt.Receipt.stands v w slot c.args.context op _ g.F.Key.Ord.cmp g.F.Functions.meaning g.F.Functions.code c.in-Ok-tick.now c.in-Ok.loaded (g.D.Receipt.Receipt.stands c.args.receipt) (Ok Next) o c.in-Ok.ensures.receipt
     (rw c.in-Ok-Next.field-0-is at c.in-Ok-Next.ensures.does) in
-    tried g.D.Receipt.Receipt.stands v w slot c.args.context op g.D.Receipt.Receipt.keeps g.F.Key.Ord.cmp g.F.Functions.meaning (turn.On None) l.0 l.1
-    (λ keeps. (c.in-Ok-Next.ensures.event keeps).live))
+    tried g.D.Receipt.Receipt.stands v w slot c.args.context op g.D.Receipt.Receipt.keeps g.F.Key.Ord.cmp g.F.Functions.meaning None l.0 l.1
+    (λ keeps. load-stays g.D.Receipt.Receipt.stands v w slot c.args.context op g.F.Key.Ord.cmp g.F.Functions.meaning c.in-Ok-tick.now Next (rw c.in-Ok-Next.field-0-is at c.in-Ok-Next.ensures.event keeps)))
 
 pub returns-clause-told : goal.returns-clause-told
 returns-clause-told g c =
-    elim (loads-leads g.D.Receipt.Receipt.stands c.args.shard.now.partition c.load.new.self c.args.terms.now.slot c.args.context c.requires.open.0 _ g.F.Key.Ord.cmp g.F.Functions.meaning c.in-Ok-tick.now c.in-Ok.loaded (g.D.Receipt.Receipt.stands c.args.receipt) (Err _) c.requires.open.1 c.in-Ok.ensures.receipt c.in-Err-load.ensures.does) [
+    elim (loads-leads g.D.Receipt.Receipt.stands c.args.shard.now.partition c.load.new.self c.args.terms.now.slot c.args.context c.requires.open.0 _ g.F.Key.Ord.cmp g.F.Functions.meaning g.F.Functions.code c.in-Ok-tick.now c.in-Ok.loaded (g.D.Receipt.Receipt.stands c.args.receipt) (Err _) c.requires.open.1 c.in-Ok.ensures.receipt c.in-Err-load.ensures.does) [
       | inl a ↦ inr (inl a)
       | inr b ↦ inr (inr (IsFault.spoilt b.0 b.1 b.2 refl c.in-Ok.ensures.steady))
     ]

@@ -1,6 +1,6 @@
 use Rattle.std.proofs.Common.{inl, inr, refl}
 use Rattle.fkv_feeds.specs.Faults.{IsFault}
-use Rattle.fkv_feeds.proofs.SeatLemmas.{waited}
+use Rattle.fkv_feeds.proofs.SessionLemmas.{waited}
 use Rattle.fkv_feeds.proofs.updating.wait.Goals as goal
 
 pub returns-in-Ok-clause-ok : goal.returns-in-Ok-clause-ok

@@ -1,6 +1,6 @@
 use Rattle.std.proofs.Common.{Result}
 use Rattle.fkv_functions.specs.declared.refusals.Refused.{Refused}
-use Rattle.fkv_texts.specs.declared.entries.Reached.{Reached}
+use Rattle.fkv_texts.specs.declared.entries.ChainPosition.{ChainPosition}
 use Rattle.fkv_pages.specs.Spelled.{IsEntryIn}
 use Rattle.fkv_pages.specs.Loads.{IsReached}
 use Rattle.fkv_pages.proofs.loads.reached_in.Given as goal
@@ -8,7 +8,7 @@ use Rattle.fkv_pages.proofs.loads.reached_in.Given as goal
 -- what is reached from here is reached from the first address
 abbrev pub invariant-loop-address : goal.invariant-loop-address
 invariant-loop-address g l =
-    (r : Result (Reached g.row.K.Denot g.row.V.Denot) Refused)
+    (r : Result (ChainPosition g.row.K.Denot g.row.V.Denot) Refused)
     → IsReached (IsEntryIn g.K.Fixed.bytes_of g.V.Fixed.bytes_of g.K.Known.is_known g.V.Known.is_known g.K.Fixed.SIZE g.V.Fixed.SIZE l.shape.page_bits l.page) g.K.Ord.cmp l.key l.shape.page_bits l.low l.address r
     → IsReached (IsEntryIn g.K.Fixed.bytes_of g.V.Fixed.bytes_of g.K.Known.is_known g.V.Known.is_known g.K.Fixed.SIZE g.V.Fixed.SIZE l.shape.page_bits l.page) g.K.Ord.cmp l.key l.shape.page_bits l.low l.from r
 

@@ -1,16 +1,18 @@
-use Rattle.std.proofs.Common.{◌≡◌, ◌+◌, ◌<◌, ◌≤◌, ℕ, None}
-use Rattle.fkv_compaction.specs.Views.{CompactedView, relocation_at}
+use Rattle.std.proofs.Common.{◌≡◌, ◌≢◌, ◌+◌, ◌<◌, ◌≤◌, ℕ, None}
+use Rattle.fkv_partition.specs.Effect.{asked}
+use Rattle.fkv_partition.specs.Views.{PartitionView, relocation_at}
 use Rattle.fkv_compaction.specs.Compactor.{GivesUpAll}
 use Rattle.fkv_compaction.proofs.compactor.Compactor.give_up_all.Given as goal
 
 abbrev pub invariant-loop-context : goal.invariant-loop-context
 invariant-loop-context g l = record {
-  none : (d : ℕ) → d < l.context → relocation_at l.compacted l.self d ≡ None;
-  goes : (new : CompactedView g.row.F-Key.Denot g.row.F-Value.Denot g.row.F-Input.Denot) (end : ℕ)
-      → GivesUpAll l.self l.compacted new l.clock end
-      → GivesUpAll l.self l.fn.compacted new l.fn.clock end;
-  partition : l.compacted.partition ≡ record l.fn.compacted.partition { moment = l.compacted.partition.moment };
-  cleared : l.compacted.cleared ≡ l.fn.compacted.cleared;
-  past : l.compacted.partition.moment ≤ l.clock;
+  none : (d : ℕ) → d < l.context → relocation_at l.partition l.self d ≡ None;
+  goes : (new : PartitionView g.row.F-Key.Denot g.row.F-Value.Denot g.row.F-Input.Denot) (end : ℕ)
+      → GivesUpAll l.self l.partition new l.clock end
+      → GivesUpAll l.self l.fn.partition new l.fn.clock end;
+  others : (s d : ℕ) → s ≢ l.self → asked l.partition s d ≡ asked l.fn.partition s d;
+  core : l.partition.core ≡ record l.fn.partition.core { moment = l.partition.core.moment };
+  cleared : l.partition.cleared ≡ l.fn.partition.cleared;
+  past : l.partition.core.moment ≤ l.clock;
   spent : l.clock ≤ l.fn.clock + l.context;
 }

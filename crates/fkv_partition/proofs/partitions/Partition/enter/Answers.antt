@@ -1,28 +1,32 @@
-use Rattle.std.proofs.Common.{Err, refl, ap, arith}
-use Rattle.fkv_regions.specs.RegionsView.{entered}
-use Rattle.fkv_partition.specs.Beginning.{full, enters}
-use Rattle.fkv_partition.proofs.AskedLemmas.{renewed-stays}
-use Rattle.fkv_partition.proofs.SoundLemmas.{sound-regions}
-use Rattle.fkv_partition.proofs.EventLemmas.{event-enter, slot-none, slot-some}
+use Rattle.std.proofs.Common.{refl, ap}
+use Rattle.fkv_partition.specs.Inside.{view_of}
+use Rattle.fkv_partition.proofs.SteadyLemmas.{enters-steady}
+use Rattle.fkv_partition.proofs.KeepLemmas.{keep-seated, on-err}
+use Rattle.fkv_partition.proofs.EffectLemmas.{if-ok, quiet-event, relocations-stay, all-stay}
 use Rattle.fkv_partition.proofs.partitions.Partition.enter.Goals as goal
 
-pub returns-in-Err-clause-does : goal.returns-in-Err-clause-does
-returns-in-Err-clause-does g c =
-    let n = slot-none _ c.in-Err.refused c.in-Err.ensures.slot in
-    rw (c.in-Err.ensures.refused, ← c.self.view_is) (full n.0 refl (ap Err n.1))
-
-pub invariant_of-self-2 : goal.invariant_of-self-2
-invariant_of-self-2 g c =
-    let was = c.self.inside.records.regions in
-    rw c.in-Ok.ensures.effect
-    (sound-regions c.self.invariant (entered was c.in-Ok.slot) c.args.now (rw c.in-Ok.ensures.effect at c.known.ensures) (record { closed = omega arith; head = omega arith; safe = omega arith; read_only = omega arith })
-    (λ t d x low here. renewed-stays was.epochs.slots c.in-Ok.slot t was.epochs.epoch (c.self.invariant.housed t d x low here)))
+pub invariant_of-self : goal.invariant_of-self
+invariant_of-self g c =
+    let v = view_of c.self.inside.core c.self.inside.cleared c.self.inside.relocations.items in
+    let does = c.enter-entered.ensures.does in
+    keep-seated g.R.Receipt.keeps g.F.Key.Ord.cmp g.F.Functions.code v c.enter-entered.new.self c.self.invariant c.known-2.ensures.traced
+    (c.events_preserve.ensures.enters g.R.Receipt.keeps g.F.Key.Ord.cmp g.F.Functions.code v.core c.enter-entered.new.self c.args.now c.enter-entered.result c.known.ensures does)
+    (enters-steady v.core c.enter-entered.new.self c.args.now c.enter-entered.result does)
+    (c.sessions_preserved.ensures.enters v.core c.enter-entered.new.self c.args.now c.enter-entered.result does)
 
 pub returns-clause-does : goal.returns-clause-does
-returns-clause-does g c =
-    rw (c.in-Ok.ensures.effect, ← c.self.view_is) (enters c.in-Ok.slot (slot-some _ c.in-Ok.slot c.in-Ok.ensures.slot) refl refl)
+returns-clause-does g c = rw (← c.self.view_is) (record { does = c.enter-entered.ensures.does; rest = refl })
+
+pub returns-clause-err : goal.returns-clause-err
+returns-clause-err g c = rw (← c.self.view_is) (on-err c.enter-entered.result (λ same. ap (λ p. view_of p c.self.inside.cleared c.self.inside.relocations.items) same) c.enter-entered.ensures.err)
 
 pub returns-clause-event : goal.returns-clause-event
 returns-clause-event g c =
-    rw (c.in-Ok.ensures.effect, ← c.self.view_is)
-    (event-enter g.F.Key.Ord.cmp g.F.Functions.code _ c.self.invariant c.in-Ok.slot c.args.now (slot-some _ c.in-Ok.slot c.in-Ok.ensures.slot))
+    let v = view_of c.self.inside.core c.self.inside.cleared c.self.inside.relocations.items in
+    let new = c.enter-entered.new.self in
+    let does = c.enter-entered.ensures.does in
+    let seats = c.sessions_preserved.ensures.enters v.core new c.args.now c.enter-entered.result does in
+    rw (← c.self.view_is) (if-ok c.enter-entered.result (λ slot q. quiet-event v new c.args.now (relocations-stay v new c.self.invariant (all-stay v new seats.1)) q) c.enter-entered.ensures.event)
+
+pub returns-clause-pends : goal.returns-clause-pends
+returns-clause-pends g c = rw (← c.self.view_is) (c.pendings_stay.ensures.enters g.R.Receipt.keeps g.F.Key.Ord.cmp g.F.Functions.code c.self.inside.core c.enter-entered.new.self c.args.now c.enter-entered.result c.known.ensures c.enter-entered.ensures.does)

@@ -1,24 +1,32 @@
-use Rattle.std.proofs.Common.{refl}
-use Rattle.fkv_partition.proofs.SoundLemmas.{sound-flushed}
-use Rattle.fkv_partition.proofs.EventLemmas.{event-flushed, flush-refused, flush-taken}
+use Rattle.std.proofs.Common.{refl, ap}
+use Rattle.fkv_partition.specs.Inside.{view_of}
+use Rattle.fkv_partition.proofs.SteadyLemmas.{flushes-steady}
+use Rattle.fkv_partition.proofs.KeepLemmas.{keep-seated, on-err}
+use Rattle.fkv_partition.proofs.EffectLemmas.{on-ok, quiet-event, relocations-stay, all-stay}
 use Rattle.fkv_partition.proofs.partitions.Partition.flush_done.Goals as goal
 
-pub returns-in-Err-clause-does : goal.returns-in-Err-clause-does
-returns-in-Err-clause-does g c =
-    let made = c.in-Err.ensures in
-    rw (made.err, ← c.self.view_is) (flush-refused _ _ _ c.args.now _ c.in-Err.refused refl made.refused made.only)
-
-pub invariant_of-self-2 : goal.invariant_of-self-2
-invariant_of-self-2 g c =
-    let made = c.in-Ok.ensures in
-    rw made.done (sound-flushed c.self.invariant _ c.args.now (rw made.done at c.known.ensures))
+pub invariant_of-self : goal.invariant_of-self
+invariant_of-self g c =
+    let v = view_of c.self.inside.core c.self.inside.cleared c.self.inside.relocations.items in
+    let does = c.flush_done-done.ensures.does in
+    keep-seated g.R.Receipt.keeps g.F.Key.Ord.cmp g.F.Functions.code v c.flush_done-done.new.self c.self.invariant c.known-2.ensures.traced
+    (c.events_preserve.ensures.flushes g.R.Receipt.keeps g.F.Key.Ord.cmp g.F.Functions.code v.core c.flush_done-done.new.self _ _ c.args.now c.flush_done-done.result c.known.ensures does)
+    (flushes-steady v.core c.flush_done-done.new.self _ _ c.args.now c.flush_done-done.result does)
+    (c.sessions_preserved.ensures.flushes v.core c.flush_done-done.new.self _ _ c.args.now c.flush_done-done.result does)
 
 pub returns-clause-does : goal.returns-clause-does
-returns-clause-does g c =
-    let made = c.in-Ok.ensures in
-    rw (made.done, ← c.self.view_is) (flush-taken _ _ _ c.args.now _ refl made.refused)
+returns-clause-does g c = rw (← c.self.view_is) (record { does = c.flush_done-done.ensures.does; rest = refl })
+
+pub returns-clause-err : goal.returns-clause-err
+returns-clause-err g c = rw (← c.self.view_is) (on-err c.flush_done-done.result (λ same. ap (λ p. view_of p c.self.inside.cleared c.self.inside.relocations.items) same) c.flush_done-done.ensures.err)
 
 pub returns-clause-event : goal.returns-clause-event
 returns-clause-event g c =
-    let made = c.in-Ok.ensures in
-    rw (made.done, ← c.self.view_is) (event-flushed g.R.Receipt.keeps _ _ c.args.now)
+    let v = view_of c.self.inside.core c.self.inside.cleared c.self.inside.relocations.items in
+    let new = c.flush_done-done.new.self in
+    let does = c.flush_done-done.ensures.does in
+    let seats = c.sessions_preserved.ensures.flushes v.core new _ _ c.args.now c.flush_done-done.result does in
+    rw (← c.self.view_is) (on-ok c.flush_done-done.result (λ q. quiet-event v new c.args.now (relocations-stay v new c.self.invariant (all-stay v new seats.1)) q) c.flush_done-done.ensures.event)
+
+pub returns-clause-pends : goal.returns-clause-pends
+returns-clause-pends g c = rw (← c.self.view_is) (c.pendings_stay.ensures.flushes g.F.Key.Ord.cmp c.self.inside.core c.flush_done-done.new.self _ _ c.args.now c.flush_done-done.result c.flush_done-done.ensures.does)

@@ -1,30 +1,27 @@
-use Rattle.std.proofs.Common.{refl, sym}
-use Rattle.fkv_lookups.specs.RecordsViews.{released}
-use Rattle.fkv_partition.specs.Ending.{gives_up, cancels}
-use Rattle.fkv_partition.proofs.EventLemmas.{event-give_up, claims-none, confirm-by}
+use Rattle.std.proofs.Common.{sym, ◌∙◌, subst}
+use Rattle.fkv_partition.specs.Effect.{IsGiveUp}
+use Rattle.fkv_partition.specs.Events.{GivesUp}
+use Rattle.fkv_partition.proofs.EffectLemmas.{on-ok, key-give-up}
+use Rattle.fkv_partition.proofs.OperationLemmas.{drops-event, drops-pend}
 use Rattle.fkv_partition.proofs.partitions.Partition.give_up.Goals as goal
 
-pub cancel-requires-clause-phase : goal.cancel-requires-clause-phase
-cancel-requires-clause-phase g c = confirm-by c.in-Some.open.phase c.in-Some-claim_of.place (sym c.in-Some-claim_of.ensures)
+pub returns-in-None-clause-does : goal.returns-in-None-clause-does
+returns-in-None-clause-does g c = GivesUp.on_key (sym c.relocation.ensures.value ∙ c.in-None.is) c.give_up_on_key.ensures.does c.give_up_on_key.ensures.rest
 
-pub returns-in-Some-claim_of-clause-does : goal.returns-in-Some-claim_of-clause-does
-returns-in-Some-claim_of-clause-does g c =
-    let p = c.in-Some-claim_of.place in
-    rw c.cancel.ensures (cancels c.in-Some.open p (sym c.in-Some.ensures.value) (confirm-by c.in-Some.open.phase p (sym c.in-Some-claim_of.ensures)) refl refl)
+pub returns-in-None-clause-event : goal.returns-in-None-clause-event
+returns-in-None-clause-event g c =
+    on-ok c.give_up_on_key.result (λ e. subst (λ w. IsGiveUp c.args.self.now w c.args.slot c.args.context c.args.now) (sym c.give_up_on_key.ensures.rest)
+    (key-give-up c.args.self.now c.give_up_on_key.new.self.core c.args.slot c.args.context c.args.now (sym c.relocation.ensures.value ∙ c.in-None.is) e)) c.give_up_on_key.ensures.event
 
-pub returns-in-Some-claim_of-clause-event : goal.returns-in-Some-claim_of-clause-event
-returns-in-Some-claim_of-clause-event g c =
-    let v = c.args.self.now in
-    rw c.cancel.ensures (event-give_up v c.args.slot c.args.context c.args.now c.in-Some.open (released v.records c.in-Some-claim_of.place) (sym c.in-Some.ensures.value) refl refl refl)
+pub returns-in-None-clause-others : goal.returns-in-None-clause-others
+returns-in-None-clause-others g c =
+    c.pendings_stay.ensures.gives_up g.F.Key.Ord.cmp c.args.self.now.core c.give_up_on_key.new.self.core c.args.slot c.args.context c.args.now c.give_up_on_key.result c.give_up_on_key.ensures.does
 
-pub free-requires-clause-unclaimed : goal.free-requires-clause-unclaimed
-free-requires-clause-unclaimed g c =
-    claims-none c.args.self.now c.args.slot c.args.context c.in-Some.open (sym c.in-Some.ensures.value) (sym c.in_default-claim_of.ensures)
+pub returns-in-Some-clause-does : goal.returns-in-Some-clause-does
+returns-in-Some-clause-does g c = GivesUp.relocation c.in-Some._relocation (sym c.relocation.ensures.value ∙ c.in-Some.is) c.drop_relocation.ensures.does
 
-pub returns-clause-does : goal.returns-clause-does
-returns-clause-does g c = rw c.free.ensures (gives_up c.in-Some.open (sym c.in-Some.ensures.value) (sym c.in_default-claim_of.ensures) refl refl)
+pub returns-in-Some-clause-event : goal.returns-in-Some-clause-event
+returns-in-Some-clause-event g c = drops-event c.args.self.now c.drop_relocation.new.self c.known.ensures.compacting c.args.slot c.args.context c.args.now c.drop_relocation.result c.drop_relocation.ensures.does
 
-pub returns-clause-event : goal.returns-clause-event
-returns-clause-event g c =
-    let v = c.args.self.now in
-    rw c.free.ensures (event-give_up v c.args.slot c.args.context c.args.now c.in-Some.open v.records (sym c.in-Some.ensures.value) refl refl refl)
+pub returns-in-Some-clause-others : goal.returns-in-Some-clause-others
+returns-in-Some-clause-others g c = λ s d other. drops-pend g.F.Key.Ord.cmp c.args.self.now c.drop_relocation.new.self c.args.slot c.args.context c.args.now c.drop_relocation.result c.drop_relocation.ensures.does s d

@@ -1,58 +1,23 @@
-use Rattle.std.proofs.Common.{◌≡◌, true, false, Some, refl, sym, ap, ◌∙◌}
-use Rattle.fkv_index.specs.Places.{word_at}
-use Rattle.fkv_partition.specs.declared.contexts.Phase.TheVariants.{Fresh}
-use Rattle.fkv_partition.specs.Contexts.{context_in, question_in}
-use Rattle.fkv_partition.specs.Inside.{view_of}
-use Rattle.fkv_partition.specs.Installing.{not_ready, stranger, moved}
-use Rattle.fkv_partition.proofs.EventLemmas.{event-next, kept-at, question-quiet, if-all}
+use Rattle.std.proofs.Common.{sym, ◌∙◌, refl}
+use Rattle.fkv_partition.specs.Events.{Installs}
+use Rattle.fkv_partition.proofs.OperationLemmas.{goes-event, goes-finds}
 use Rattle.fkv_partition.proofs.partitions.Partition.install.Goals as goal
 
-pub returns-in_default-question_of-clause-does : goal.returns-in_default-question_of-clause-does
-returns-in_default-question_of-clause-does g c = not_ready c.in-Some.open (sym c.in-Some.ensures.value) (sym c.in_default-question_of.ensures) refl refl
+pub returns-in-None-clause-does : goal.returns-in-None-clause-does
+returns-in-None-clause-does g c = Installs.on_key (sym c.relocation.ensures.value ∙ c.in-None.is) c.install_on_key.ensures.does c.install_on_key.ensures.rest
 
-pub returns-then-not-is-clause-does : goal.returns-then-not-is-clause-does
-returns-then-not-is-clause-does g c =
-    let q = c.in-Some-question_of.question in
-    rw c.ask-ask.ensures (stranger c.in-Some.open q.0 q.1 (sym c.in-Some.ensures.value) (sym c.in-Some-question_of.ensures)
-    (λ e. let yes = c.is.ensures.1 (c.ask-ask.ensures ∙ e) in let no : false ≡ true = sym c.if-not-is.true ∙ yes in cc) refl refl)
+pub returns-in-None-clause-event : goal.returns-in-None-clause-event
+returns-in-None-clause-event g c = λ yes_keeps.
+    goes-event g.F.Key.Ord.cmp g.F.Functions.meaning c.args.self.now c.install_on_key.new.self c.args.slot c.args.context c.args.now (sym c.relocation.ensures.value ∙ c.in-None.is) c.install_on_key.ensures.rest c.install_on_key.result (c.install_on_key.ensures.event yes_keeps)
 
-pub holds-requires : goal.holds-requires
-holds-requires g c =
-    let q = c.in-Some-question_of.question in
-    let at : context_in c.self.inside.records.regions.epochs.slots c.self.inside.contexts.items c.args.slot c.args.context ≡ Some c.in-Some.open = rw (← c.self.view_is) at (sym c.in-Some.ensures.value) in
-    (kept-at g.F.Key.Ord.cmp g.F.Functions.code (view_of c.self.inside.number c.self.inside.count c.self.inside.records c.self.inside.contexts.items c.self.inside.moment) c.self.invariant c.args.slot c.args.context c.in-Some.open q.0 q.1 at (sym c.in-Some-question_of.ensures)).entry.place
+pub returns-in-None-clause-others : goal.returns-in-None-clause-others
+returns-in-None-clause-others g c = λ yes_keeps.
+    c.pendings_stay.ensures.installs g.R.Receipt.keeps g.F.Key.Ord.cmp g.F.Functions.meaning g.F.Functions.code c.args.self.now.core c.install_on_key.new.self.core c.args.slot c.args.context c.args.built c.args.now c.install_on_key.result yes_keeps c.known.ensures.core c.install_on_key.ensures.does
 
-pub set_phase-requires-clause-unclaimed : goal.set_phase-requires-clause-unclaimed
-set_phase-requires-clause-unclaimed g c =
-    let q = c.in-Some-question_of.question in
-    question-quiet c.in-Some.open q.0 q.1 (sym c.in-Some-question_of.ensures)
+pub returns-in-None-clause-finds : goal.returns-in-None-clause-finds
+returns-in-None-clause-finds g c = λ yes_keeps.
+    goes-finds g.F.Key.Ord.cmp g.F.Functions.meaning c.args.self.now c.install_on_key.new.self c.args.slot c.args.context c.args.now (sym c.relocation.ensures.value ∙ c.in-None.is) c.install_on_key.ensures.rest c.install_on_key.result
+    (λ p e. c.pendings_stay.ensures.built g.F.Key.Ord.cmp g.F.Functions.meaning g.F.Functions.code c.args.self.now.core c.install_on_key.new.self.core c.args.slot c.args.context c.args.built c.args.now p (rw e at c.install_on_key.ensures.does))
 
-pub returns-then-not-holds-clause-does : goal.returns-then-not-holds-clause-does
-returns-then-not-holds-clause-does g c =
-    let q = c.in-Some-question_of.question in
-    let mine : question_in c.in-Some.open ≡ Some (q.0, c.args.built) = sym c.in-Some-question_of.ensures ∙ ap (λ a. Some (q.0, a)) (sym (c.is.ensures.0 c.if-not-is.false) ∙ c.ask-ask.ensures) in
-    rw c.set_phase.ensures (moved c.in-Some.open q.0 (sym c.in-Some.ensures.value) mine
-    (λ e. let yes = c.holds.ensures.1 (ap (λ v. word_at v.records.words q.0.place) c.self.view_is ∙ e) in let no : false ≡ true = sym c.if-not-holds.true ∙ yes in cc) refl refl)
-
-pub returns-then-not-holds-clause-event : goal.returns-then-not-holds-clause-event
-returns-then-not-holds-clause-event g c = λ keeps.
-    let v = c.args.self.now in
-    rw c.set_phase.ensures
-    (event-next g.F.Key.Ord.cmp g.F.Functions.meaning g.F.Functions.code v c.args.slot c.args.context c.args.now c.in-Some.open (sym c.in-Some.ensures.value) Fresh v.records refl refl refl)
-
-pub append_built-requires-clause-asks : goal.append_built-requires-clause-asks
-append_built-requires-clause-asks g c =
-    let q = c.in-Some-question_of.question in
-    record {
-      operation = c.in-Some.open;
-      here = sym c.in-Some.ensures.value;
-      question = sym c.in-Some-question_of.ensures ∙ ap (λ a. Some (q.0, a)) (sym (c.is.ensures.0 c.if-not-is.false) ∙ c.ask-ask.ensures);
-    }
-
-pub append_built-requires-clause-stands : goal.append_built-requires-clause-stands
-append_built-requires-clause-stands g c =
-    let q = c.in-Some-question_of.question in
-    ap (λ v. word_at v.records.words q.0.place) (sym c.self.view_is) ∙ c.holds.ensures.0 c.if-not-holds.false
-
-pub returns-clause-within : goal.returns-clause-within
-returns-clause-within g c = if-all c.append_built.result (c.in-Some.ensures.session, c.in-Some.ensures.context)
+pub returns-in-Some-clause-does : goal.returns-in-Some-clause-does
+returns-in-Some-clause-does g c = Installs.relocation c.in-Some._relocation (sym c.relocation.ensures.value ∙ c.in-Some.is) refl refl

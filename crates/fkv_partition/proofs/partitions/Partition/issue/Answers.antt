@@ -1,53 +1,33 @@
-use Rattle.std.proofs.Common.{◌≡◌, refl, sym, ap, ◌∙◌}
-use Rattle.fkv_operations.specs.After.{key_of}
-use Rattle.fkv_partition.specs.Beginning.{unknown, stranger, full, issues}
-use Rattle.fkv_partition.specs.Views.{partition_of}
-use Rattle.fkv_partition.proofs.EventLemmas.{event-issue, free-claims}
+use Rattle.std.proofs.Common.{sym, ◌∙◌}
+use Rattle.fkv_partition.specs.Events.{Issues}
+use Rattle.fkv_partition.proofs.OperationLemmas.{keyed-not, keyed-some, issue-on-key, issues-pend, relocates-event, relocates-pend}
 use Rattle.fkv_partition.proofs.partitions.Partition.issue.Goals as goal
 
-pub returns-then-not-is_session-clause-does : goal.returns-then-not-is_session-clause-does
-returns-then-not-is_session-clause-does g c = unknown (sym c.is_session.ensures.value ∙ c.if-not-is_session.true) refl refl
+pub returns-in-Some-clause-does : goal.returns-in-Some-clause-does
+returns-in-Some-clause-does g c = Issues.on_key c.in-Some.keyed (sym c.keyed.ensures ∙ c.in-Some.is) c.issue_on_key.ensures.does
 
-pub returns-then-came-self-clause-does : goal.returns-then-came-self-clause-does
-returns-then-came-self-clause-does g c =
-    let number : c.self.inside.number ≡ c.args.self.now.number = ap (λ v. v.number) c.self.view_is in
-    let came : c.home-came.result ≡ partition_of c.args.self.now.count (g.F.Functions.code (key_of c.args.op)) = c.home-came.ensures ∙ ap (λ k. partition_of c.args.self.now.count (g.F.Functions.code k)) c.key.ensures in
-    let inside = sym c.is_session.ensures.value ∙ c.if-not-is_session.false in
-    rw (number, came) (stranger inside (λ e. c.if-came-self.true (came ∙ e ∙ sym number)) refl refl)
+pub returns-in-Some-clause-event : goal.returns-in-Some-clause-event
+returns-in-Some-clause-event g c =
+    issue-on-key g.F.Functions.code c.args.self.now c.issue_on_key.new.self c.args.slot c.args.now c.args.op c.in-Some.keyed c.issue_on_key.result (sym c.keyed.ensures ∙ c.in-Some.is) c.issue_on_key.ensures.rest
+    c.issue_on_key.ensures.event c.issue_on_key.ensures.closed
 
-pub returns-in_default-clause-does : goal.returns-in_default-clause-does
-returns-in_default-clause-does g c =
-    let number : c.self.inside.number ≡ c.args.self.now.number = ap (λ v. v.number) c.self.view_is in
-    let came : c.home-came.result ≡ partition_of c.args.self.now.count (g.F.Functions.code (key_of c.args.op)) = c.home-came.ensures ∙ ap (λ k. partition_of c.args.self.now.count (g.F.Functions.code k)) c.key.ensures in
-    let inside = sym c.is_session.ensures.value ∙ c.if-not-is_session.false in
-    let own = sym came ∙ c.if-came-self.false ∙ number in
-    full inside own (sym c.in_default.ensures.value) refl refl
+pub returns-in-Some-clause-pends : goal.returns-in-Some-clause-pends
+returns-in-Some-clause-pends g c = λ yes_keeps.
+    issues-pend g.F.Key.Ord.cmp g.F.Functions.code c.args.self.now c.issue_on_key.new.self c.args.slot c.in-Some.keyed c.args.now c.issue_on_key.result
+    (λ p q k r h. c.pendings_stay.ensures.issues g.F.Key.Ord.cmp g.F.Functions.code p q c.args.slot k c.in-Some.keyed c.args.now r h) c.issue_on_key.ensures.does
 
-pub start-requires-clause-entered : goal.start-requires-clause-entered
-start-requires-clause-entered g c = sym c.is_session.ensures.value ∙ c.if-not-is_session.false
+pub returns-in-None-clause-does : goal.returns-in-None-clause-does
+returns-in-None-clause-does g c = Issues.relocation (keyed-not c.args.op (sym c.keyed.ensures ∙ c.in-None.is)) c.relocate.ensures.does
 
-pub start-requires-clause-unclaimed : goal.start-requires-clause-unclaimed
-start-requires-clause-unclaimed g c = free-claims c.args.self.now c.args.slot c.in-Some.context (sym c.in-Some.ensures.value)
+pub returns-in-None-clause-event : goal.returns-in-None-clause-event
+returns-in-None-clause-event g c =
+    relocates-event g.F.Functions.code c.args.self.now c.relocate.new.self c.args.slot c.args.now c.args.op c.relocate.result (keyed-not c.args.op (sym c.keyed.ensures ∙ c.in-None.is)) c.known.ensures.compacting c.relocate.ensures.within c.relocate.ensures.does
 
-pub start-requires-clause-own : goal.start-requires-clause-own
-start-requires-clause-own g c =
-    let number : c.self.inside.number ≡ c.args.self.now.number = ap (λ v. v.number) c.self.view_is in
-    let came : c.home-came.result ≡ partition_of c.args.self.now.count (g.F.Functions.code (key_of c.args.op)) = c.home-came.ensures ∙ ap (λ k. partition_of c.args.self.now.count (g.F.Functions.code k)) c.key.ensures in
-    sym came ∙ c.if-came-self.false ∙ number
+pub returns-in-None-clause-pends : goal.returns-in-None-clause-pends
+returns-in-None-clause-pends g c = λ yes_keeps. relocates-pend g.F.Key.Ord.cmp c.args.self.now c.relocate.new.self c.args.slot c.args.now c.relocate.result c.relocate.ensures.does
 
-pub returns-clause-does : goal.returns-clause-does
-returns-clause-does g c =
-    let number : c.self.inside.number ≡ c.args.self.now.number = ap (λ v. v.number) c.self.view_is in
-    let came : c.home-came.result ≡ partition_of c.args.self.now.count (g.F.Functions.code (key_of c.args.op)) = c.home-came.ensures ∙ ap (λ k. partition_of c.args.self.now.count (g.F.Functions.code k)) c.key.ensures in
-    let inside = sym c.is_session.ensures.value ∙ c.if-not-is_session.false in
-    let own = sym came ∙ c.if-came-self.false ∙ number in
-    rw c.start.ensures (issues c.in-Some.context inside own (sym c.in-Some.ensures.value) refl refl)
+pub returns-in-Some-clause-relocating : goal.returns-in-Some-clause-relocating
+returns-in-Some-clause-relocating g c = λ is. absurd (keyed-some c.args.op c.in-Some.keyed (sym c.keyed.ensures ∙ c.in-Some.is) is)
 
-pub returns-clause-event : goal.returns-clause-event
-returns-clause-event g c =
-    let number : c.self.inside.number ≡ c.args.self.now.number = ap (λ v. v.number) c.self.view_is in
-    let came : c.home-came.result ≡ partition_of c.args.self.now.count (g.F.Functions.code (key_of c.args.op)) = c.home-came.ensures ∙ ap (λ k. partition_of c.args.self.now.count (g.F.Functions.code k)) c.key.ensures in
-    let inside = sym c.is_session.ensures.value ∙ c.if-not-is_session.false in
-    let own = sym came ∙ c.if-came-self.false ∙ number in
-    rw c.start.ensures
-    (event-issue g.F.Functions.code c.args.self.now c.args.slot c.in-Some.context c.args.now c.args.op inside (sym c.in-Some.ensures.value) c.in-Some.ensures.within own)
+pub returns-in-None-clause-relocating : goal.returns-in-None-clause-relocating
+returns-in-None-clause-relocating g c = λ is. c.relocate.ensures.event

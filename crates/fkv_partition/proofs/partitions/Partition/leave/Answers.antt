@@ -1,20 +1,48 @@
-use Rattle.std.proofs.Common.{refl, sym, ◌∙◌}
-use Rattle.fkv_partition.specs.Ending.{unknown, busy, leaves}
-use Rattle.fkv_partition.proofs.EventLemmas.{event-moved, left-same}
+use Rattle.std.proofs.Common.{◌≡◌, ◌∙◌, true, false, refl, sym, ap}
+use Rattle.fkv_partition.specs.Inside.{view_of}
+use Rattle.fkv_partition.specs.Views.{relocation_at}
+use Rattle.fkv_partition.specs.Beginning.{LeavesAll}
+use Rattle.fkv_partition.proofs.SteadyLemmas.{leaves-steady}
+use Rattle.fkv_partition.proofs.KeepLemmas.{keep-left, none-at, on-err}
+use Rattle.fkv_partition.proofs.EffectLemmas.{on-ok, quiet-event, relocations-stay, left-stay}
 use Rattle.fkv_partition.proofs.partitions.Partition.leave.Goals as goal
 
-pub returns-then-not-is_session-clause-does : goal.returns-then-not-is_session-clause-does
-returns-then-not-is_session-clause-does g c = unknown (sym c.is_session.ensures.value ∙ c.if-not-is_session.true) refl refl
+pub returns-then-has_relocation-clause-does : goal.returns-then-has_relocation-clause-does
+returns-then-has_relocation-clause-does g c =
+    let h = c.has_relocation.ensures.0 c.if-has_relocation.true in
+    LeavesAll.busy h.0 h.1 h.2 refl refl
 
-pub returns-in-Some-clause-does : goal.returns-in-Some-clause-does
-returns-in-Some-clause-does g c = busy c.in-Some._open (sym c.is_session.ensures.value ∙ c.if-not-is_session.false) (sym c.in-Some.ensures) refl refl
-
-pub vacate-requires-clause-entered : goal.vacate-requires-clause-entered
-vacate-requires-clause-entered g c = sym c.is_session.ensures.value ∙ c.if-not-is_session.false
+pub invariant_of-self : goal.invariant_of-self
+invariant_of-self g c =
+    let v = view_of c.self.inside.core c.self.inside.cleared c.self.inside.relocations.items in
+    let new = c.leave-left.new.self in
+    let does = c.leave-left.ensures.does in
+    let has = rw (← c.self.view_is) at c.has_relocation.ensures in
+    keep-left g.R.Receipt.keeps g.F.Key.Ord.cmp g.F.Functions.code v new c.args.slot c.self.invariant c.known-2.ensures.traced
+    (c.events_preserve.ensures.leaves g.R.Receipt.keeps g.F.Key.Ord.cmp g.F.Functions.code v.core new c.args.slot c.args.now c.leave-left.result c.known.ensures does)
+    (leaves-steady v.core new g.R.Receipt.keeps c.args.slot c.args.now c.leave-left.result does)
+    (c.sessions_preserved.ensures.leaves g.R.Receipt.keeps v.core new c.args.slot c.args.now c.leave-left.result does)
+    (λ d x e. (let told = has.1 (d, x, e) in let bad : false ≡ true = sym c.if-has_relocation.false ∙ told in cc))
 
 pub returns-clause-does : goal.returns-clause-does
-returns-clause-does g c = leaves (sym c.is_session.ensures.value ∙ c.if-not-is_session.false) (sym c.in_default.ensures) c.vacate.ensures refl
+returns-clause-does g c =
+    let v = view_of c.self.inside.core c.self.inside.cleared c.self.inside.relocations.items in
+    let has = rw (← c.self.view_is) at c.has_relocation.ensures in
+    rw (← c.self.view_is)
+    (LeavesAll.leaves (λ d. none-at (relocation_at v c.args.slot d) (λ x e. (let told = has.1 (d, x, e) in let bad : false ≡ true = sym c.if-has_relocation.false ∙ told in cc))) c.leave-left.ensures.does refl)
+
+pub returns-clause-err : goal.returns-clause-err
+returns-clause-err g c = rw (← c.self.view_is) (on-err c.leave-left.result (λ same. ap (λ p. view_of p c.self.inside.cleared c.self.inside.relocations.items) same) c.leave-left.ensures.err)
 
 pub returns-clause-event : goal.returns-clause-event
 returns-clause-event g c =
-    rw c.vacate.ensures.is (event-moved g.R.Receipt.keeps c.args.self.now _ _ c.args.now c.vacate.ensures.moves (left-same c.args.self.now c.args.slot (sym c.in_default.ensures)))
+    let v = view_of c.self.inside.core c.self.inside.cleared c.self.inside.relocations.items in
+    let new = c.leave-left.new.self in
+    let does = c.leave-left.ensures.does in
+    let has = rw (← c.self.view_is) at c.has_relocation.ensures in
+    let seats = c.sessions_preserved.ensures.leaves g.R.Receipt.keeps v.core new c.args.slot c.args.now c.leave-left.result does in
+    let stay = left-stay v new c.args.slot seats.1 (λ d x e. (let told = has.1 (d, x, e) in let bad : false ≡ true = sym c.if-has_relocation.false ∙ told in cc)) in
+    rw (← c.self.view_is) (on-ok c.leave-left.result (λ q. quiet-event v new c.args.now (relocations-stay v new c.self.invariant stay) q) c.leave-left.ensures.event)
+
+pub returns-clause-pends : goal.returns-clause-pends
+returns-clause-pends g c = rw (← c.self.view_is) (λ yes_keeps. c.pendings_stay.ensures.leaves g.R.Receipt.keeps g.F.Key.Ord.cmp c.self.inside.core c.leave-left.new.self c.args.slot c.args.now c.leave-left.result yes_keeps c.leave-left.ensures.does)

@@ -1,57 +1,51 @@
-use Rattle.std.proofs.Common.{◌≡◌, Err, true, false, refl, sym, ap, ◌∙◌}
-use Rattle.fkv_partition.specs.Contexts.{claim_by}
-use Rattle.fkv_partition.specs.Loading.{AwaitsPage, Loads}
-use Rattle.fkv_partition.proofs.EventLemmas.{loading-is, claims-none, if-all}
-use Rattle.fkv_partition.proofs.PendingLemmas.{load-moved}
+use Rattle.std.proofs.Common.{sym, ◌∙◌}
+use Rattle.fkv_partition.specs.Events.{Loads}
+use Rattle.fkv_partition.proofs.ProceedLemmas.{loads_on-proceeds, loads_on-ends, ended-event, ended-pends}
+use Rattle.fkv_partition.proofs.EffectLemmas.{if-err}
+use Rattle.fkv_partition.proofs.OperationLemmas.{loads-event, ends-key, relocation-load, relocation-others}
 use Rattle.fkv_partition.proofs.partitions.Partition.load.Goals as goal
 
-pub returns-in_default-loading_of-clause-does : goal.returns-in_default-loading_of-clause-does
-returns-in_default-loading_of-clause-does g c = Loads.not_ready c.in-Some.open (sym c.in-Some.ensures.value) (sym c.in_default-loading_of.ensures) refl refl
+pub returns-in-None-clause-does : goal.returns-in-None-clause-does
+returns-in-None-clause-does g c = Loads.on_key (sym c.relocation.ensures.value ∙ c.in-None.is) c.load_on_key.ensures.does c.load_on_key.ensures.rest
 
-pub returns-then-loading-begin-clause-does : goal.returns-then-loading-begin-clause-does
-returns-then-loading-begin-clause-does g c =
-    let l = c.in-Some-loading_of.loading in
-    let begins : c.begin.result ≡ c.args.self.now.records.begin = c.begin.ensures ∙ ap (λ u. u.records.begin) c.self.view_is in
-    rw c.set_phase.ensures (Loads.moved c.in-Some.open l (sym c.in-Some.ensures.value) (loading-is c.in-Some.open.phase l (sym c.in-Some-loading_of.ensures)) (λ e. c.if-loading-begin.true (e ∙ sym begins)) refl refl)
+pub returns-in-None-clause-event : goal.returns-in-None-clause-event
+returns-in-None-clause-event g c = λ yes_keeps.
+    loads-event g.F.Key.Ord.cmp g.F.Functions.meaning c.args.self.now c.load_on_key.new.self c.args.slot c.args.context c.args.now (sym c.relocation.ensures.value ∙ c.in-None.is) c.load_on_key.ensures.rest c.load_on_key.result (c.load_on_key.ensures.event yes_keeps)
 
-pub look_on-requires-clause-awaits : goal.look_on-requires-clause-awaits
-look_on-requires-clause-awaits g c = record {
-  here = sym c.in-Some.ensures.value;
-  loading = loading-is c.in-Some.open.phase c.in-Some-loading_of.loading (sym c.in-Some-loading_of.ensures);
-  begin = c.if-loading-begin.false ∙ c.begin.ensures ∙ ap (λ u. u.records.begin) c.self.view_is;
-}
+pub returns-in-None-clause-fails : goal.returns-in-None-clause-fails
+returns-in-None-clause-fails g c =
+    if-err c.load_on_key.result (λ why e. ends-key c.args.self.now c.load_on_key.new.self c.args.slot c.args.context c.args.now (sym c.relocation.ensures.value ∙ c.in-None.is) c.load_on_key.ensures.rest
+    (c.loads_end.ensures.fails c.args.self.now.core c.load_on_key.new.self.core c.args.slot c.args.context c.args.came c.args.now why (rw e at c.load_on_key.ensures.does)))
 
-pub returns-then-is_no_memory-clause-does : goal.returns-then-is_no_memory-clause-does
-returns-then-is_no_memory-clause-does g c =
-    let a : AwaitsPage c.args.self.now c.args.slot c.args.context c.in-Some.open c.in-Some-loading_of.loading = record {
-      here = sym c.in-Some.ensures.value;
-      loading = loading-is c.in-Some.open.phase c.in-Some-loading_of.loading (sym c.in-Some-loading_of.ensures);
-      begin = c.if-loading-begin.false ∙ c.begin.ensures ∙ ap (λ u. u.records.begin) c.self.view_is;
-    } in
-    let is = c.is_no_memory.ensures.0 c.if-is_no_memory.true in
-    Loads.unread c.in-Some.open c.in-Some-loading_of.loading a (c.in-Err.is ∙ ap Err is) refl (ap Err is)
+pub returns-in-None-clause-others : goal.returns-in-None-clause-others
+returns-in-None-clause-others g c = λ yes_keeps.
+    c.loads_end.ensures.loads c.args.self.now.core c.load_on_key.new.self.core c.args.slot c.args.context c.args.came c.args.now c.load_on_key.result c.load_on_key.ensures.does
 
-pub free-requires-clause-unclaimed : goal.free-requires-clause-unclaimed
-free-requires-clause-unclaimed g c =
-    claims-none c.args.self.now c.args.slot c.args.context c.in-Some.open (sym c.in-Some.ensures.value) (ap claim_by (loading-is c.in-Some.open.phase c.in-Some-loading_of.loading (sym c.in-Some-loading_of.ensures)))
+pub returns-in-None-clause-cleared : goal.returns-in-None-clause-cleared
+returns-in-None-clause-cleared g c = λ told. rw (sym c.relocation.ensures.value ∙ c.in-None.is) tt
 
-pub returns-else-is_no_memory-clause-does : goal.returns-else-is_no_memory-clause-does
-returns-else-is_no_memory-clause-does g c =
-    let a : AwaitsPage c.args.self.now c.args.slot c.args.context c.in-Some.open c.in-Some-loading_of.loading = record {
-      here = sym c.in-Some.ensures.value;
-      loading = loading-is c.in-Some.open.phase c.in-Some-loading_of.loading (sym c.in-Some-loading_of.ensures);
-      begin = c.if-loading-begin.false ∙ c.begin.ensures ∙ ap (λ u. u.records.begin) c.self.view_is;
-    } in
-    rw c.free.ensures (Loads.failed c.in-Some.open c.in-Some-loading_of.loading c.in-Err.refused a c.in-Err.is (λ e. let memory = c.is_no_memory.ensures.1 e in let bad : false ≡ true = sym c.if-is_no_memory.false ∙ memory in cc) refl refl)
+pub returns-in-Some-clause-does : goal.returns-in-Some-clause-does
+returns-in-Some-clause-does g c = Loads.relocation c.in-Some._relocation (sym c.relocation.ensures.value ∙ c.in-Some.is) c.load_on.ensures.does
 
-pub returns-in-Ok-clause-does : goal.returns-in-Ok-clause-does
-returns-in-Ok-clause-does g c = rw c.in-Ok.is c.look_on.ensures.does
+pub returns-in-Some-clause-event : goal.returns-in-Some-clause-event
+returns-in-Some-clause-event g c = λ yes_keeps.
+    let here = sym c.relocation.ensures.value ∙ c.in-Some.is in
+    relocation-load g.F.Key.Ord.cmp g.F.Functions.meaning c.args.self.now c.load_on.new.self c.args.slot c.args.context c.args.now c.known.ensures.compacting c.in-Some._relocation here yes_keeps c.load_on.result c.load_on.ensures.event
+    (λ p e. loads_on-proceeds g.R.Receipt.stands _ g.F.Key.Ord.cmp g.F.Functions.code c.args.self.now c.load_on.new.self c.args.slot c.args.context c.args.now c.args.came p c.in-Some._relocation here (rw e at c.load_on.ensures.does))
 
-pub returns-in-Ok-clause-within : goal.returns-in-Ok-clause-within
-returns-in-Ok-clause-within g c = if-all c.look_on.result (c.in-Some.ensures.session, c.in-Some.ensures.context)
+pub returns-in-Some-clause-fails : goal.returns-in-Some-clause-fails
+returns-in-Some-clause-fails g c =
+    if-err c.load_on.result (λ why e. ended-event c.args.self.now c.load_on.new.self c.args.slot c.args.context c.args.now
+    (loads_on-ends g.R.Receipt.stands _ c.args.self.now c.load_on.new.self c.args.slot c.args.context c.args.now c.args.came why (rw e at c.load_on.ensures.does)) c.known.ensures.compacting)
 
-pub returns-then-loading-begin-clause-event : goal.returns-then-loading-begin-clause-event
-returns-then-loading-begin-clause-event g c = λ keeps.
-    let l = c.in-Some-loading_of.loading in
-    let begins : c.begin.result ≡ c.args.self.now.records.begin = c.begin.ensures ∙ ap (λ u. u.records.begin) c.self.view_is in
-    rw c.set_phase.ensures (load-moved g.F.Key.Ord.cmp c.args.self.now c.args.slot c.args.context c.args.now c.in-Some.open (sym c.in-Some.ensures.value) g.F.Functions.meaning l (loading-is c.in-Some.open.phase l (sym c.in-Some-loading_of.ensures)) (λ e. c.if-loading-begin.true (e ∙ sym begins)))
+pub returns-in-Some-clause-others : goal.returns-in-Some-clause-others
+returns-in-Some-clause-others g c = λ yes_keeps.
+    relocation-others g.F.Key.Ord.cmp g.F.Functions.meaning c.args.self.now c.load_on.new.self c.args.slot c.args.context c.args.now yes_keeps c.load_on.result c.load_on.ensures.event
+    (λ why e. ended-pends c.args.self.now c.load_on.new.self c.args.slot c.args.context c.args.now
+    (loads_on-ends g.R.Receipt.stands _ c.args.self.now c.load_on.new.self c.args.slot c.args.context c.args.now c.args.came why (rw e at c.load_on.ensures.does)) g.F.Key.Ord.cmp)
+
+pub returns-in-None-clause-relocating : goal.returns-in-None-clause-relocating
+returns-in-None-clause-relocating g c = λ some. absurd (let bad = rw (sym c.relocation.ensures.value ∙ c.in-None.is) at some in cc)
+
+pub returns-in-Some-clause-relocating : goal.returns-in-Some-clause-relocating
+returns-in-Some-clause-relocating g c = λ some. c.load_on.ensures.event

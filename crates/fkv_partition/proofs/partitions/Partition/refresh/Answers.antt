@@ -1,27 +1,32 @@
+use Rattle.std.proofs.Common.{refl, ap}
 use Rattle.fkv_partition.specs.Inside.{view_of}
-use Rattle.std.proofs.Common.{Err, refl, ap}
-use Rattle.fkv_partition.specs.Looking.{unknown, refreshes}
-use Rattle.fkv_partition.proofs.AskedLemmas.{renewed-stays}
-use Rattle.fkv_partition.proofs.SoundLemmas.{sound-moved, slots-moved}
-use Rattle.fkv_partition.proofs.EventLemmas.{event-moved, refreshed-same, not-entered}
+use Rattle.fkv_partition.proofs.SteadyLemmas.{refreshes-steady}
+use Rattle.fkv_partition.proofs.KeepLemmas.{keep-seated, on-err}
+use Rattle.fkv_partition.proofs.EffectLemmas.{on-ok, quiet-event, relocations-stay, all-stay}
 use Rattle.fkv_partition.proofs.partitions.Partition.refresh.Goals as goal
 
-pub returns-in-Err-clause-does : goal.returns-in-Err-clause-does
-returns-in-Err-clause-does g c =
-    let made = c.in-Err.ensures in
-    rw (made.refused.1, ← c.self.view_is) (unknown (not-entered c.self.inside.records.regions.epochs.slots c.args.slot (λ e. let bad = made.unknown.1 e in cc)) refl (ap Err made.refused.0))
-
-pub invariant_of-self-2 : goal.invariant_of-self-2
-invariant_of-self-2 g c =
-    let was = c.self.inside.records.regions in
-    let made = c.in-Ok.ensures in
-    sound-moved c.self.invariant c.refresh.new.self _ c.args.now c.known.ensures made.effect made.raised
-    (λ t d x low here. slots-moved c.self.inside.records c.refresh.new.self _ t made.effect (renewed-stays was.epochs.slots c.args.slot t was.epochs.epoch (c.self.invariant.housed t d x low here)))
+pub invariant_of-self : goal.invariant_of-self
+invariant_of-self g c =
+    let v = view_of c.self.inside.core c.self.inside.cleared c.self.inside.relocations.items in
+    let does = c.refresh-refreshed.ensures.does in
+    keep-seated g.R.Receipt.keeps g.F.Key.Ord.cmp g.F.Functions.code v c.refresh-refreshed.new.self c.self.invariant c.known-2.ensures.traced
+    (c.events_preserve.ensures.refreshes g.R.Receipt.keeps g.F.Key.Ord.cmp g.F.Functions.code v.core c.refresh-refreshed.new.self c.args.slot c.args.now c.refresh-refreshed.result c.known.ensures does)
+    (refreshes-steady v.core c.refresh-refreshed.new.self g.R.Receipt.keeps c.args.slot c.args.now c.refresh-refreshed.result does)
+    (c.sessions_preserved.ensures.refreshes g.R.Receipt.keeps v.core c.refresh-refreshed.new.self c.args.slot c.args.now c.refresh-refreshed.result does)
 
 pub returns-clause-does : goal.returns-clause-does
-returns-clause-does g c = rw (← c.self.view_is) (refreshes (c.in-Ok.ensures.unknown.0 refl) (record { moves = c.in-Ok.ensures.effect; is = refl }) refl)
+returns-clause-does g c = rw (← c.self.view_is) (record { does = c.refresh-refreshed.ensures.does; rest = refl })
+
+pub returns-clause-err : goal.returns-clause-err
+returns-clause-err g c = rw (← c.self.view_is) (on-err c.refresh-refreshed.result (λ same. ap (λ p. view_of p c.self.inside.cleared c.self.inside.relocations.items) same) c.refresh-refreshed.ensures.err)
 
 pub returns-clause-event : goal.returns-clause-event
 returns-clause-event g c =
-    let v = (view_of c.self.inside.number c.self.inside.count c.self.inside.records c.self.inside.contexts.items c.self.inside.moment) in
-    rw (← c.self.view_is) (event-moved g.R.Receipt.keeps v c.refresh.new.self _ c.args.now c.in-Ok.ensures.effect (refreshed-same v c.args.slot (c.in-Ok.ensures.unknown.0 refl)))
+    let v = view_of c.self.inside.core c.self.inside.cleared c.self.inside.relocations.items in
+    let new = c.refresh-refreshed.new.self in
+    let does = c.refresh-refreshed.ensures.does in
+    let seats = c.sessions_preserved.ensures.refreshes g.R.Receipt.keeps v.core new c.args.slot c.args.now c.refresh-refreshed.result does in
+    rw (← c.self.view_is) (on-ok c.refresh-refreshed.result (λ q. quiet-event v new c.args.now (relocations-stay v new c.self.invariant (all-stay v new seats.1)) q) c.refresh-refreshed.ensures.event)
+
+pub returns-clause-pends : goal.returns-clause-pends
+returns-clause-pends g c = rw (← c.self.view_is) (λ yes_keeps. c.pendings_stay.ensures.refreshes g.R.Receipt.keeps g.F.Key.Ord.cmp c.self.inside.core c.refresh-refreshed.new.self c.args.slot c.args.now c.refresh-refreshed.result yes_keeps c.refresh-refreshed.ensures.does)

@@ -1,26 +1,32 @@
-use Rattle.std.proofs.Common.{Err, refl}
+use Rattle.std.proofs.Common.{refl, ap}
 use Rattle.fkv_partition.specs.Inside.{view_of}
-use Rattle.fkv_partition.specs.Looking.{shifts}
-use Rattle.fkv_partition.proofs.SoundLemmas.{sound-moved, slots-moved}
-use Rattle.fkv_partition.proofs.EventLemmas.{event-moved, shift-refused}
+use Rattle.fkv_partition.proofs.SteadyLemmas.{shifts-steady}
+use Rattle.fkv_partition.proofs.KeepLemmas.{keep-seated, on-err}
+use Rattle.fkv_partition.proofs.EffectLemmas.{on-ok, quiet-event, relocations-stay, all-stay}
 use Rattle.fkv_partition.proofs.partitions.Partition.shift_read_only.Goals as goal
 
-pub returns-in-Err-clause-does : goal.returns-in-Err-clause-does
-returns-in-Err-clause-does g c =
-    let made = c.in-Err.ensures in
-    rw (made.refused, ← c.self.view_is) (shift-refused g.R.Receipt.keeps _ c.args.page c.args.now (Err c.in-Err.refused) c.in-Err.refused refl made.not_due made.full made.only)
-
-pub invariant_of-self-2 : goal.invariant_of-self-2
-invariant_of-self-2 g c =
-    let made = c.in-Ok.ensures in
-    sound-moved c.self.invariant c.shift_read_only.new.self _ c.args.now c.known.ensures made.effect made.raised
-    (λ t d x low here. slots-moved c.self.inside.records c.shift_read_only.new.self _ t made.effect (c.self.invariant.housed t d x low here))
+pub invariant_of-self : goal.invariant_of-self
+invariant_of-self g c =
+    let v = view_of c.self.inside.core c.self.inside.cleared c.self.inside.relocations.items in
+    let does = c.shift_read_only-shifted.ensures.does in
+    keep-seated g.R.Receipt.keeps g.F.Key.Ord.cmp g.F.Functions.code v c.shift_read_only-shifted.new.self c.self.invariant c.known-2.ensures.traced
+    (c.events_preserve.ensures.shifts g.R.Receipt.keeps g.F.Key.Ord.cmp g.F.Functions.code v.core c.shift_read_only-shifted.new.self c.args.page c.args.now c.shift_read_only-shifted.result c.known.ensures does)
+    (shifts-steady v.core c.shift_read_only-shifted.new.self g.R.Receipt.keeps c.args.page c.args.now c.shift_read_only-shifted.result does)
+    (c.sessions_preserved.ensures.shifts g.R.Receipt.keeps v.core c.shift_read_only-shifted.new.self c.args.page c.args.now c.shift_read_only-shifted.result does)
 
 pub returns-clause-does : goal.returns-clause-does
-returns-clause-does g c =
-    let due = c.in-Ok.ensures.ok.0 refl in
-    rw (← c.self.view_is) (shifts due.0 due.1 (record { moves = c.in-Ok.ensures.effect; is = refl }) refl)
+returns-clause-does g c = rw (← c.self.view_is) (record { does = c.shift_read_only-shifted.ensures.does; rest = refl })
+
+pub returns-clause-err : goal.returns-clause-err
+returns-clause-err g c = rw (← c.self.view_is) (on-err c.shift_read_only-shifted.result (λ same. ap (λ p. view_of p c.self.inside.cleared c.self.inside.relocations.items) same) c.shift_read_only-shifted.ensures.err)
 
 pub returns-clause-event : goal.returns-clause-event
 returns-clause-event g c =
-    rw (← c.self.view_is) (event-moved g.R.Receipt.keeps (view_of c.self.inside.number c.self.inside.count c.self.inside.records c.self.inside.contexts.items c.self.inside.moment) c.shift_read_only.new.self _ c.args.now c.in-Ok.ensures.effect (λ t d. refl))
+    let v = view_of c.self.inside.core c.self.inside.cleared c.self.inside.relocations.items in
+    let new = c.shift_read_only-shifted.new.self in
+    let does = c.shift_read_only-shifted.ensures.does in
+    let seats = c.sessions_preserved.ensures.shifts g.R.Receipt.keeps v.core new c.args.page c.args.now c.shift_read_only-shifted.result does in
+    rw (← c.self.view_is) (on-ok c.shift_read_only-shifted.result (λ q. quiet-event v new c.args.now (relocations-stay v new c.self.invariant (all-stay v new seats.1)) q) c.shift_read_only-shifted.ensures.event)
+
+pub returns-clause-pends : goal.returns-clause-pends
+returns-clause-pends g c = rw (← c.self.view_is) (λ yes_keeps. c.pendings_stay.ensures.shifts g.R.Receipt.keeps g.F.Key.Ord.cmp c.self.inside.core c.shift_read_only-shifted.new.self c.args.page c.args.now c.shift_read_only-shifted.result yes_keeps c.shift_read_only-shifted.ensures.does)

@@ -1,43 +1,52 @@
-use Rattle.std.proofs.Common.{IsTrue, refl}
+use Rattle.std.proofs.Common.{refl, ap}
 use Rattle.fkv_functions.proofs.KeyOrder.{key_order}
 use Rattle.fkv_records.specs.Places.{start_at}
-use Rattle.fkv_lookups.specs.RecordsViews.{IsTruncationDue}
-use Rattle.fkv_lookups.specs.Cleared.{IsCleared}
 use Rattle.fkv_partition.specs.Inside.{view_of}
-use Rattle.fkv_partition.specs.Truncating.{truncates}
-use Rattle.fkv_partition.proofs.TruncateLemmas.{sound-truncated, event-truncated}
+use Rattle.fkv_partition.specs.Truncating.{Truncates}
+use Rattle.fkv_partition.proofs.KeepLemmas.{keep-event, on-err}
+use Rattle.fkv_partition.proofs.TruncateLemmas.{page-low, page-high, cleared-below, truncates-cut, truncates-told}
+use Rattle.fkv_partition.proofs.EffectLemmas.{on-ok, truncated-event}
 use Rattle.fkv_partition.proofs.partitions.Partition.truncate.Goals as goal
 
-pub invariant_of-self-2 : goal.invariant_of-self-2
-invariant_of-self-2 g c =
+pub returns-then-page-page_of-clause-does : goal.returns-then-page-page_of-clause-does
+returns-then-page-page_of-clause-does g c =
+    let high = rw (c.page_of.ensures, c.records.ensures) at c.if-page-page_of.true in
+    rw (← c.self.view_is) (Truncates.not_due (λ d. page-high c.self.inside.core.records.page_bits c.args.page c.self.inside.cleared high d.cleared) refl refl)
+
+pub truncate-truncated-requires-clause-cleared : goal.truncate-truncated-requires-clause-cleared
+truncate-truncated-requires-clause-cleared g c =
+    let r = c.self.inside.core.records in
+    let low = page-low r.page_bits c.args.page c.self.inside.cleared (rw (c.page_of.ensures, c.records.ensures) at c.if-page-page_of.false) in
+    λ yes_keeps due. cleared-below g.F.Key.Ord.cmp r.text (start_at r.page_bits c.args.page) c.self.inside.cleared low (c.self.invariant.cleared yes_keeps)
+
+pub invariant_of-self : goal.invariant_of-self
+invariant_of-self g c =
     let ord = g.met.F.Key.Ord in
     let known = g.met.F.Key.FixedKey in
     let order = key_order g.F.Key.PartialEq.eq g.F.Key.Ord.cmp ord.matches_eq known.exact ord.total in
-    let r = c.self.inside.records in
-    let low = start_at r.page_bits c.args.page in
-    let made = c.in-Ok.ensures in
-    let due : IsTruncationDue r c.args.page = made.ok.0 refl in
-    let cleared : IsTrue g.R.Receipt.keeps → IsTruncationDue r c.args.page → IsCleared g.F.Key.Ord.cmp r.text low = rw (← c.self.view_is) at c.requires.cleared in
-    rw made.effect
-    (sound-truncated g.F.Key.Ord.cmp g.F.Functions.code order (view_of c.self.inside.number c.self.inside.count r c.self.inside.contexts.items c.self.inside.moment) c.self.invariant low c.args.now due.higher
-    (λ yes_keeps. cleared yes_keeps due)
-    (rw made.effect at c.known.ensures))
+    let r = c.self.inside.core.records in
+    let low = page-low r.page_bits c.args.page c.self.inside.cleared (rw (c.page_of.ensures, c.records.ensures) at c.if-page-page_of.false) in
+    let v = view_of c.self.inside.core c.self.inside.cleared c.self.inside.relocations.items in
+    let new = c.truncate-truncated.new.self in
+    let does = c.truncate-truncated.ensures.does in
+    let cut = truncates-cut g.R.Receipt.keeps v.core new c.args.page c.args.now c.self.inside.cleared c.truncate-truncated.result c.self.invariant.begun low does in
+    let seats = c.sessions_preserved.ensures.truncates g.R.Receipt.keeps v.core new c.args.page c.args.now c.truncate-truncated.result does in
+    keep-event g.R.Receipt.keeps g.F.Key.Ord.cmp g.F.Functions.code v new c.self.invariant c.known-2.ensures.traced
+    (c.events_preserve.ensures.truncates g.R.Receipt.keeps g.F.Key.Ord.cmp g.F.Functions.code v.core new c.args.page c.args.now c.truncate-truncated.result order c.known.ensures
+    (λ yes_keeps due. cleared-below g.F.Key.Ord.cmp r.text (start_at r.page_bits c.args.page) c.self.inside.cleared low (c.self.invariant.cleared yes_keeps)) does)
+    cut.number cut.count cut.begun (λ p x h none. seats.0 p none) (λ s d x under h inside. seats.1 s inside)
 
 pub returns-clause-does : goal.returns-clause-does
 returns-clause-does g c =
-    let made = c.in-Ok.ensures in
-    rw (made.effect, ← c.self.view_is) (truncates (made.ok.0 refl) refl refl)
+    let r = c.self.inside.core.records in
+    let low = page-low r.page_bits c.args.page c.self.inside.cleared (rw (c.page_of.ensures, c.records.ensures) at c.if-page-page_of.false) in
+    let v = view_of c.self.inside.core c.self.inside.cleared c.self.inside.relocations.items in
+    rw (← c.self.view_is) (truncates-told g.R.Receipt.keeps v c.truncate-truncated.new.self c.args.page c.args.now c.truncate-truncated.result low c.truncate-truncated.ensures.does)
+
+pub returns-clause-err : goal.returns-clause-err
+returns-clause-err g c = rw (← c.self.view_is) (on-err c.truncate-truncated.result (λ same. ap (λ p. view_of p c.self.inside.cleared c.self.inside.relocations.items) same) c.truncate-truncated.ensures.err)
 
 pub returns-clause-event : goal.returns-clause-event
 returns-clause-event g c =
-    let ord = g.met.F.Key.Ord in
-    let known = g.met.F.Key.FixedKey in
-    let order = key_order g.F.Key.PartialEq.eq g.F.Key.Ord.cmp ord.matches_eq known.exact ord.total in
-    let r = c.self.inside.records in
-    let low = start_at r.page_bits c.args.page in
-    let made = c.in-Ok.ensures in
-    let due : IsTruncationDue r c.args.page = made.ok.0 refl in
-    let cleared : IsTrue g.R.Receipt.keeps → IsTruncationDue r c.args.page → IsCleared g.F.Key.Ord.cmp r.text low = rw (← c.self.view_is) at c.requires.cleared in
-    rw (made.effect, ← c.self.view_is)
-    (event-truncated g.F.Key.Ord.cmp g.F.Functions.code order (view_of c.self.inside.number c.self.inside.count r c.self.inside.contexts.items c.self.inside.moment) c.self.invariant low c.args.now due.higher
-    (λ yes_keeps. cleared yes_keeps due) c.args.page refl)
+    let v = view_of c.self.inside.core c.self.inside.cleared c.self.inside.relocations.items in
+    rw (← c.self.view_is) (on-ok c.truncate-truncated.result (truncated-event v c.truncate-truncated.new.self c.args.page c.args.now) c.truncate-truncated.ensures.event)

@@ -1,8 +1,57 @@
-use Rattle.std.proofs.Common.{refl}
+use Rattle.std.proofs.Common.{◌≡◌, ◌∙◌, ◌+◌, ◌*◌, refl, sym, ap, Ok}
+use Rattle.fkv_functions.proofs.KeyOrder.{key_order}
+use Rattle.fkv_operations.specs.declared.operations.KeyedOp.TheVariants.{Rmw}
+use Rattle.fkv_operations.specs.declared.operations.Answer.TheVariants.{Value}
+use Rattle.fkv_core.specs.declared.contexts.Progress.TheVariants.{Done}
+use Rattle.fkv_partition.specs.Inside.{view_of}
+use Rattle.fkv_partition.specs.Views.{with_core}
+use Rattle.fkv_partition.proofs.AtOnceLemmas.{done-at-once, kept-at-once, declined-at-once, sound-issued, told-some}
+use Rattle.fkv_partition.proofs.SteadyLemmas.{goes-steady, issues-steady}
+use Rattle.fkv_partition.proofs.KeepLemmas.{keep-seated, keep-issued}
 use Rattle.fkv_partition.proofs.partitions.Partition.update_at_once.Goals as goal
 
-pub returns-in_default-clause-declined : goal.returns-in_default-clause-declined
-returns-in_default-clause-declined g c = λ e held h. c.in_default.ensures.none refl held h
+pub invariant_of-self : goal.invariant_of-self
+invariant_of-self g c =
+    let ord = g.met.F.Key.Ord in
+    let known = g.met.F.Key.FixedKey in
+    let order = key_order g.F.Key.PartialEq.eq g.F.Key.Ord.cmp ord.matches_eq known.exact ord.total in
+    let v = view_of c.self.inside.core c.self.inside.cleared c.self.inside.relocations.items in
+    let new = c.update_at_once-shown.new.self in
+    let k = c.in-Some.context in
+    let keeps = g.R.Receipt.keeps in
+    let cmp = g.F.Key.Ord.cmp in
+    let code = g.F.Functions.code in
+    let few = c.is_session.ensures.within c.if-not-is_session.false in
+    let first = rw (← c.self.view_is) at c.in-Some.ensures.value in
+    kept-at-once g.R.Receipt.stands cmp g.F.Functions.meaning code v new c.args.slot k c.args.key.now c.args.input.now c.args.issued c.args.now keeps c.self.invariant
+    c.update_at_once-shown.result c.update_at_once-shown.ensures.none c.update_at_once-shown.ensures.done
+    (λ shown d.
+    let op = Rmw c.args.key.now c.args.input.now in
+    let between = d.between in
+    let mid = sound-issued keeps cmp code v.core between c.args.slot k c.args.issued op c.known.ensures few d.issues in
+    let one = keep-issued keeps cmp code v between (c.args.slot * 8 + k) c.self.invariant mid.traced
+    (c.events_preserve.ensures.issues keeps cmp code v.core between c.args.slot k op c.args.issued (Ok tt) c.known.ensures d.issues)
+    (issues-steady v.core between c.args.slot k c.args.issued code op (Ok tt) d.issues)
+    (c.sessions_preserved.ensures.issues code v.core between c.args.slot k op c.args.issued (Ok tt) d.issues)
+    first.1.relocation in
+    keep-seated keeps cmp code (with_core v between) new one c.known-2.ensures.traced
+    (c.events_preserve.ensures.goes keeps g.R.Receipt.stands cmp g.F.Functions.meaning code between new c.args.slot k c.args.now (Ok (Done (Value shown) c.args.now)) order mid d.goes)
+    (goes-steady between new c.args.slot k c.args.now g.R.Receipt.stands cmp g.F.Functions.meaning code (Ok (Done (Value shown) c.args.now)) d.goes)
+    (c.sessions_preserved.ensures.goes g.R.Receipt.stands cmp g.F.Functions.meaning code between new c.args.slot k c.args.now (Ok (Done (Value shown) c.args.now)) d.goes))
 
-pub returns-in_default-at_hand-clause-declined : goal.returns-in_default-at_hand-clause-declined
-returns-in_default-at_hand-clause-declined g c = λ e held h. c.in_default-at_hand.ensures.none refl held h.met
+pub returns-clause-done : goal.returns-clause-done
+returns-clause-done g c =
+    let v = view_of c.self.inside.core c.self.inside.cleared c.self.inside.relocations.items in
+    let inside = sym c.is_session.ensures.value ∙ c.if-not-is_session.false in
+    let first = rw (← c.self.view_is) at c.in-Some.ensures.value in
+    rw (← c.self.view_is)
+    (done-at-once g.R.Receipt.stands g.F.Key.Ord.cmp g.F.Functions.meaning g.F.Functions.code v c.update_at_once-shown.new.self c.args.slot c.in-Some.context c.args.key.now c.args.input.now c.args.issued c.args.now
+    inside first c.update_at_once-shown.result c.update_at_once-shown.ensures.done)
+
+pub returns-clause-declined : goal.returns-clause-declined
+returns-clause-declined g c =
+    let v = view_of c.self.inside.core c.self.inside.cleared c.self.inside.relocations.items in
+    rw (← c.self.view_is) (λ none. declined-at-once g.F.Key.Ord.cmp g.F.Functions.code v c.args.slot c.args.key.now (c.update_at_once-shown.ensures.declined none))
+
+pub returns-clause-within : goal.returns-clause-within
+returns-clause-within g c = told-some c.update_at_once-shown.result (c.is_session.ensures.within c.if-not-is_session.false)

@@ -45,11 +45,11 @@ issue_at-requires g c = record { due = rw c.in-Issue.is at c.requires.due }
 pub returns-in-Issue : goal.returns-in-Issue
 returns-in-Issue g c = rw c.in-Issue.is (record { does = c.issue_at.ensures.does })
 
-pub go_in-requires : goal.go_in-requires
-go_in-requires g c = record { due = rw c.in-Go.is at c.requires.due }
+pub go_at-requires : goal.go_at-requires
+go_at-requires g c = record { due = rw c.in-Go.is at c.requires.due }
 
 pub returns-in-Go : goal.returns-in-Go
-returns-in-Go g c = rw c.in-Go.is (record { does = c.go_in.ensures.does })
+returns-in-Go g c = rw c.in-Go.is (record { does = c.go_at.ensures.does })
 
 pub returns-in-Install : goal.returns-in-Install
 returns-in-Install g c = rw c.in-Install.is (record { does = c.install.ensures.does })
@@ -57,17 +57,11 @@ returns-in-Install g c = rw c.in-Install.is (record { does = c.install.ensures.d
 pub returns-in-Load : goal.returns-in-Load
 returns-in-Load g c = rw c.in-Load.is (record { does = c.load.ensures.does })
 
-pub give_up_in-requires : goal.give_up_in-requires
-give_up_in-requires g c = record { due = rw c.in-GiveUp.is at c.requires.due }
+pub give_up_at-requires : goal.give_up_at-requires
+give_up_at-requires g c = record { due = rw c.in-GiveUp.is at c.requires.due }
 
 pub returns-in-GiveUp : goal.returns-in-GiveUp
-returns-in-GiveUp g c = rw c.in-GiveUp.is (record { does = c.give_up_in.ensures.does })
-
-pub relocate_at-requires : goal.relocate_at-requires
-relocate_at-requires g c = record { due = rw c.in-Relocate.is at c.requires.due }
-
-pub returns-in-Relocate : goal.returns-in-Relocate
-returns-in-Relocate g c = rw c.in-Relocate.is (record { does = c.relocate_at.ensures.does })
+returns-in-GiveUp g c = rw c.in-GiveUp.is (record { does = c.give_up_at.ensures.does })
 
 pub truncate_at-requires : goal.truncate_at-requires
 truncate_at-requires g c = record { due = rw c.in-Truncate.is at c.requires.due }

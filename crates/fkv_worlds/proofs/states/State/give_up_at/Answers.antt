@@ -12,12 +12,12 @@ give_up-requires g c =
 pub invariant_of-self-in-Err : goal.invariant_of-self-in-Err
 invariant_of-self-in-Err g c =
     let due = rw (← c.self.view_is) at c.requires.due in
-    refused-state g.F.Key.Ord.cmp g.F.Functions.meaning g.F.Functions.code _ c.self.invariant c.args.place.partition c.args.now due c.index_mut-partition.result.now c.index_mut-partition.ensures.value c.give_up.new.partition c.in-Err.ensures.err
+    refused-state g.F.Key.Ord.cmp g.F.Functions.meaning g.F.Functions.code _ c.self.invariant c.args.place.partition c.args.now due c.index_mut-partition.result.now c.index_mut-partition.ensures.value c.give_up.new.self c.in-Err.ensures.err
 
 pub returns-in-Err : goal.returns-in-Err
 returns-in-Err g c =
     let due = rw (← c.self.view_is) at c.requires.due in
-    rw (← c.self.view_is) (record { does = refused-give_up g.F.Key.Ord.cmp g.F.Functions.meaning g.F.Functions.code _ c.self.invariant c.args.place c.args.now due c.index_mut-partition.result.now c.index_mut-partition.ensures.value c.give_up.new.partition c.in-Err.refused (rw (← c.self.view_is) at c.requires.operation) c.in-Err.ensures.err c.in-Err.ensures.does })
+    rw (← c.self.view_is) (record { does = refused-give_up g.F.Key.Ord.cmp g.F.Functions.meaning g.F.Functions.code _ c.self.invariant c.args.place c.args.now due c.index_mut-partition.result.now c.index_mut-partition.ensures.value c.give_up.new.self c.in-Err.refused c.in-Err.ensures.err c.in-Err.ensures.does })
 
 pub life_at-life-requires-clause-partition : goal.life_at-life-requires-clause-partition
 life_at-life-requires-clause-partition g c =
@@ -51,11 +51,11 @@ invariant_of-self g c =
     let order = key_order g.F.Key.PartialEq.eq g.F.Key.Ord.cmp ord.matches_eq known.exact ord.total in
     let due = rw (← c.self.view_is) at c.requires.due in
     let life = c.life_at-life.ensures ∙ ap (λ xs. life_in xs c.args.place) c.deref.ensures.value in
-    rw (c.end_life.ensures, life) (ended-state g.F.Key.Ord.cmp g.F.Functions.meaning g.F.Functions.code _ c.self.invariant c.args.place c.args.now due c.index_mut-partition.result.now c.index_mut-partition.ensures.value c.give_up.new.partition order c.give_up.ensures.others _ refl c.in-Ok.ensures.event)
+    rw (c.end_life.ensures, life) (ended-state g.F.Key.Ord.cmp g.F.Functions.meaning g.F.Functions.code _ c.self.invariant c.args.place c.args.now due c.index_mut-partition.result.now c.index_mut-partition.ensures.value c.give_up.new.self order c.give_up.ensures.others _ refl c.in-Ok.ensures.event)
 
 pub returns-in-Ok : goal.returns-in-Ok
 returns-in-Ok g c =
     let due = rw (← c.self.view_is) at c.requires.due in
     let life = c.life_at-life.ensures ∙ ap (λ xs. life_in xs c.args.place) c.deref.ensures.value in
     rw (← c.self.view_is, c.end_life.ensures, life)
-    (record { does = does-give_up g.F.Key.Ord.cmp g.F.Functions.meaning g.F.Functions.code _ c.self.invariant c.args.place c.args.now due c.index_mut-partition.result.now c.index_mut-partition.ensures.value c.give_up.new.partition c.in-Ok.ensures.does c.in-Ok.ensures.event c.give_up.ensures.passed })
+    (record { does = does-give_up g.F.Key.Ord.cmp g.F.Functions.meaning g.F.Functions.code _ c.self.invariant c.args.place c.args.now due c.index_mut-partition.result.now c.index_mut-partition.ensures.value c.give_up.new.self c.in-Ok.ensures.does c.in-Ok.ensures.event })

@@ -1,4 +1,4 @@
-use Rattle.std.proofs.Common.{Some, sym, ◌∙◌, ap}
+use Rattle.std.proofs.Common.{refl, Some, sym, ◌∙◌, ap}
 use Rattle.fkv_functions.proofs.KeyOrder.{key_order}
 use Rattle.fkv_worlds.proofs.EventLemmas.{rows, event-later, refused-state, refused-install, does-install, life-there, progressed-state}
 use Rattle.fkv_worlds.proofs.states.State.install_at.Goals as goal
@@ -11,13 +11,13 @@ install-requires g c =
 pub invariant_of-self-in-Err : goal.invariant_of-self-in-Err
 invariant_of-self-in-Err g c =
     let due = rw (← c.self.view_is) at c.requires.moment in
-    refused-state g.F.Key.Ord.cmp g.F.Functions.meaning g.F.Functions.code _ c.self.invariant c.args.place.partition c.args.now due c.index_mut-partition.result.now c.index_mut-partition.ensures.value c.install.new.partition c.in-Err.ensures.err
+    refused-state g.F.Key.Ord.cmp g.F.Functions.meaning g.F.Functions.code _ c.self.invariant c.args.place.partition c.args.now due c.index_mut-partition.result.now c.index_mut-partition.ensures.value c.install.new.self c.in-Err.ensures.err
 
 pub returns-in-Err : goal.returns-in-Err
 returns-in-Err g c =
     let due = rw (← c.self.view_is) at c.requires.moment in
     let asks = rw (← c.self.view_is) at c.requires.asked ∙ ap Some (sym c.make-built.ensures) in
-    rw (← c.self.view_is) (record { does = refused-install g.F.Key.Ord.cmp g.F.Functions.meaning g.F.Functions.code _ c.self.invariant c.args.place c.args.now due c.index_mut-partition.result.now c.index_mut-partition.ensures.value c.install.new.partition c.make-built.result asks c.in-Err.refused c.in-Err.ensures.err c.in-Err.ensures.does })
+    rw (← c.self.view_is) (record { does = refused-install g.F.Key.Ord.cmp g.F.Functions.meaning g.F.Functions.code _ c.self.invariant c.args.place c.args.now due c.index_mut-partition.result.now c.index_mut-partition.ensures.value c.install.new.self c.make-built.result asks c.in-Err.refused c.in-Err.ensures.err c.in-Err.ensures.does })
 
 pub note_progress-requires-clause-partition : goal.note_progress-requires-clause-partition
 note_progress-requires-clause-partition g c =
@@ -50,7 +50,7 @@ note_progress-requires-clause-begun g c =
 pub note_progress-requires-clause-life : goal.note_progress-requires-clause-life
 note_progress-requires-clause-life g c =
     let due = rw (← c.self.view_is) at c.requires.moment in
-    let ev = c.in-Ok.ensures.event in
+    let ev = (c.in-Ok.ensures.event refl) in
     (life-there g.F.Key.Ord.cmp g.F.Functions.meaning g.F.Functions.code _ c.self.invariant c.args.place c.args.now due c.index_mut-partition.result.now c.index_mut-partition.ensures.value ev.question ev.was)
 
 pub invariant_of-self : goal.invariant_of-self
@@ -60,11 +60,11 @@ invariant_of-self g c =
     let order = key_order g.F.Key.PartialEq.eq g.F.Key.Ord.cmp ord.matches_eq known.exact ord.total in
     let due = rw (← c.self.view_is) at c.requires.moment in
     rw (c.note_progress.ensures.lives, c.note_progress.ensures.questions, c.note_progress.ensures.receipts, c.note_progress.ensures.begun, c.note_progress.ensures.seats, c.note_progress.ensures.enters)
-    (progressed-state g.F.Key.Ord.cmp g.F.Functions.meaning g.F.Functions.code _ c.self.invariant c.args.place c.args.now due c.index_mut-partition.result.now c.index_mut-partition.ensures.value c.install.new.partition order c.install.ensures.others c.in-Ok.installed c.in-Ok.ensures.event c.in-Ok.ensures.finds)
+    (progressed-state g.F.Key.Ord.cmp g.F.Functions.meaning g.F.Functions.code _ c.self.invariant c.args.place c.args.now due c.index_mut-partition.result.now c.index_mut-partition.ensures.value c.install.new.self order (c.install.ensures.others refl) c.in-Ok.installed (c.in-Ok.ensures.event refl) (c.in-Ok.ensures.finds refl))
 
 pub returns-in-Ok : goal.returns-in-Ok
 returns-in-Ok g c =
     let due = rw (← c.self.view_is) at c.requires.moment in
     let asks = rw (← c.self.view_is) at c.requires.asked ∙ ap Some (sym c.make-built.ensures) in
     rw (← c.self.view_is, c.note_progress.ensures.lives, c.note_progress.ensures.questions, c.note_progress.ensures.receipts, c.note_progress.ensures.begun, c.note_progress.ensures.seats, c.note_progress.ensures.enters, c.note_progress.ensures.told)
-    (record { does = does-install g.F.Key.Ord.cmp g.F.Functions.meaning g.F.Functions.code _ c.self.invariant c.args.place c.args.now due c.index_mut-partition.result.now c.index_mut-partition.ensures.value c.install.new.partition c.make-built.result asks c.in-Ok.installed c.in-Ok.ensures.does c.in-Ok.ensures.event c.install.ensures.passed })
+    (record { does = does-install g.F.Key.Ord.cmp g.F.Functions.meaning g.F.Functions.code _ c.self.invariant c.args.place c.args.now due c.index_mut-partition.result.now c.index_mut-partition.ensures.value c.install.new.self c.make-built.result asks c.in-Ok.installed c.in-Ok.ensures.does (c.in-Ok.ensures.event refl) })

@@ -3,7 +3,7 @@ use Rattle.fkv_functions.proofs.KeyOrder.{key_order}
 use Rattle.fkv_worlds.specs.States.{life_in}
 use Rattle.fkv_worlds.proofs.ResultLemmas.{some_of, some_there}
 use Rattle.fkv_worlds.proofs.RefusedLemmas.{loads-cases, leaves-it, ends-it}
-use Rattle.fkv_worlds.proofs.RelocationLemmas.{passed-same}
+use Rattle.fkv_worlds.proofs.StateLemmas.{load-question}
 use Rattle.fkv_worlds.proofs.EventLemmas.{event-later, refused-state, life-there, ended-state, loaded-state, refused-load, does-load, does-fail}
 use Rattle.fkv_worlds.proofs.states.State.load_at.Goals as goal
 
@@ -19,8 +19,8 @@ load-requires g c =
 pub note_progress-requires-clause-life : goal.note_progress-requires-clause-life
 note_progress-requires-clause-life g c =
     let due = rw (← c.self.view_is) at c.requires.due in
-    let ev = c.in-Ok.ensures.event in
-    life-there g.F.Key.Ord.cmp g.F.Functions.meaning g.F.Functions.code _ c.self.invariant c.args.place c.args.now due c.index_mut-partition.result.now c.index_mut-partition.ensures.value ev.question ev.was
+    let ev = load-question g.F.Key.Ord.cmp g.F.Functions.meaning _ _ c.args.place.slot c.args.place.context c.args.now c.in-Ok.progress (c.in-Ok.ensures.event refl) in
+    life-there g.F.Key.Ord.cmp g.F.Functions.meaning g.F.Functions.code _ c.self.invariant c.args.place c.args.now due c.index_mut-partition.result.now c.index_mut-partition.ensures.value ev.0 ev.1
 
 pub invariant_of-self : goal.invariant_of-self
 invariant_of-self g c =
@@ -29,7 +29,7 @@ invariant_of-self g c =
     let order = key_order g.F.Key.PartialEq.eq g.F.Key.Ord.cmp ord.matches_eq known.exact ord.total in
     let due = rw (← c.self.view_is) at c.requires.due in
     rw (c.note_progress.ensures.lives, c.note_progress.ensures.questions, c.note_progress.ensures.receipts, c.note_progress.ensures.begun, c.note_progress.ensures.seats, c.note_progress.ensures.enters)
-    (loaded-state g.F.Key.Ord.cmp g.F.Functions.meaning g.F.Functions.code _ c.self.invariant c.args.place c.args.now due c.index_mut-partition.result.now c.index_mut-partition.ensures.value c.load.new.partition order c.load.ensures.others c.in-Ok.progress c.in-Ok.ensures.event)
+    (loaded-state g.F.Key.Ord.cmp g.F.Functions.meaning g.F.Functions.code _ c.self.invariant c.args.place c.args.now due c.index_mut-partition.result.now c.index_mut-partition.ensures.value c.load.new.self order (c.load.ensures.others refl) c.in-Ok.progress (c.in-Ok.ensures.event refl))
 
 pub returns-in-Ok : goal.returns-in-Ok
 returns-in-Ok g c =
@@ -38,7 +38,7 @@ returns-in-Ok g c =
     let receipt = some_of _ asked in
     let comes = c.read_asked-came.ensures.came receipt.0 (rw c.deref.ensures.value receipt.1) in
     rw (← c.self.view_is, c.note_progress.ensures.lives, c.note_progress.ensures.questions, c.note_progress.ensures.receipts, c.note_progress.ensures.begun, c.note_progress.ensures.seats, c.note_progress.ensures.enters, c.note_progress.ensures.told)
-    (record { does = does-load g.F.Key.Ord.cmp g.F.Functions.meaning g.F.Functions.code _ c.self.invariant c.args.place c.args.now due c.index_mut-partition.result.now c.index_mut-partition.ensures.value c.load.new.partition c.args.access receipt.0 c.read_asked-came.result receipt.1 comes c.in-Ok.progress c.in-Ok.ensures.does c.in-Ok.ensures.event c.load.ensures.passed })
+    (record { does = does-load g.F.Key.Ord.cmp g.F.Functions.meaning g.F.Functions.code _ c.self.invariant c.args.place c.args.now due c.index_mut-partition.result.now c.index_mut-partition.ensures.value c.load.new.self c.args.access receipt.0 c.read_asked-came.result receipt.1 comes c.in-Ok.progress c.in-Ok.ensures.does (c.in-Ok.ensures.event refl) })
 
 pub invariant_of-self-then-not-ends_operation : goal.invariant_of-self-then-not-ends_operation
 invariant_of-self-then-not-ends_operation g c =
@@ -46,9 +46,9 @@ invariant_of-self-then-not-ends_operation g c =
     let asked = rw (← c.self.view_is) at c.requires.asked in
     let receipt = some_of _ asked in
     let comes = c.read_asked-came.ensures.came receipt.0 (rw c.deref.ensures.value receipt.1) in
-    let cases = loads-cases _ _ g.F.Key.Ord.cmp g.F.Functions.meaning _ c.load.new.partition.partition c.args.place.slot c.args.place.context c.args.now receipt.0 c.args.access c.read_asked-came.result c.in-Err.refused (event-later g.F.Key.Ord.cmp g.F.Functions.meaning g.F.Functions.code _ c.self.invariant c.args.place.partition c.args.now due c.index_mut-partition.result.now c.index_mut-partition.ensures.value) comes c.in-Err.ensures.does c.in-Err.ensures.fails in
-    let same = passed-same _ _ c.load.ensures.passed (leaves-it c.in-Err.refused cases (sym c.ends_operation.ensures ∙ c.if-not-ends_operation.true)) in
-    refused-state g.F.Key.Ord.cmp g.F.Functions.meaning g.F.Functions.code _ c.self.invariant c.args.place.partition c.args.now due c.index_mut-partition.result.now c.index_mut-partition.ensures.value c.load.new.partition same
+    let cases = loads-cases _ _ g.F.Key.Ord.cmp g.F.Functions.meaning g.F.Functions.code _ c.load.new.self c.args.place.slot c.args.place.context c.args.now receipt.0 c.args.access c.read_asked-came.result c.in-Err.refused (event-later g.F.Key.Ord.cmp g.F.Functions.meaning g.F.Functions.code _ c.self.invariant c.args.place.partition c.args.now due c.index_mut-partition.result.now c.index_mut-partition.ensures.value) comes c.in-Err.ensures.does c.in-Err.ensures.fails in
+    let same = leaves-it c.in-Err.refused cases (sym c.ends_operation.ensures ∙ c.if-not-ends_operation.true) in
+    refused-state g.F.Key.Ord.cmp g.F.Functions.meaning g.F.Functions.code _ c.self.invariant c.args.place.partition c.args.now due c.index_mut-partition.result.now c.index_mut-partition.ensures.value c.load.new.self same
 
 pub returns-then-not-ends_operation : goal.returns-then-not-ends_operation
 returns-then-not-ends_operation g c =
@@ -56,9 +56,9 @@ returns-then-not-ends_operation g c =
     let asked = rw (← c.self.view_is) at c.requires.asked in
     let receipt = some_of _ asked in
     let comes = c.read_asked-came.ensures.came receipt.0 (rw c.deref.ensures.value receipt.1) in
-    let cases = loads-cases _ _ g.F.Key.Ord.cmp g.F.Functions.meaning _ c.load.new.partition.partition c.args.place.slot c.args.place.context c.args.now receipt.0 c.args.access c.read_asked-came.result c.in-Err.refused (event-later g.F.Key.Ord.cmp g.F.Functions.meaning g.F.Functions.code _ c.self.invariant c.args.place.partition c.args.now due c.index_mut-partition.result.now c.index_mut-partition.ensures.value) comes c.in-Err.ensures.does c.in-Err.ensures.fails in
+    let cases = loads-cases _ _ g.F.Key.Ord.cmp g.F.Functions.meaning g.F.Functions.code _ c.load.new.self c.args.place.slot c.args.place.context c.args.now receipt.0 c.args.access c.read_asked-came.result c.in-Err.refused (event-later g.F.Key.Ord.cmp g.F.Functions.meaning g.F.Functions.code _ c.self.invariant c.args.place.partition c.args.now due c.index_mut-partition.result.now c.index_mut-partition.ensures.value) comes c.in-Err.ensures.does c.in-Err.ensures.fails in
     let quiet = sym c.ends_operation.ensures ∙ c.if-not-ends_operation.true in
-    rw (← c.self.view_is) (record { does = refused-load g.F.Key.Ord.cmp g.F.Functions.meaning g.F.Functions.code _ c.self.invariant c.args.place c.args.now due c.index_mut-partition.result.now c.index_mut-partition.ensures.value c.load.new.partition c.args.access receipt.0 c.read_asked-came.result receipt.1 comes c.in-Err.refused (rw (← c.self.view_is) at c.requires.operation) (passed-same _ _ c.load.ensures.passed (leaves-it c.in-Err.refused cases quiet)) quiet c.in-Err.ensures.does })
+    rw (← c.self.view_is) (record { does = refused-load g.F.Key.Ord.cmp g.F.Functions.meaning g.F.Functions.code _ c.self.invariant c.args.place c.args.now due c.index_mut-partition.result.now c.index_mut-partition.ensures.value c.load.new.self c.args.access receipt.0 c.read_asked-came.result receipt.1 comes c.in-Err.refused (leaves-it c.in-Err.refused cases quiet) quiet c.in-Err.ensures.does })
 
 pub end_life-requires : goal.end_life-requires
 end_life-requires g c =
@@ -66,7 +66,7 @@ end_life-requires g c =
     let asked = rw (← c.self.view_is) at c.requires.asked in
     let receipt = some_of _ asked in
     let comes = c.read_asked-came.ensures.came receipt.0 (rw c.deref.ensures.value receipt.1) in
-    let cases = loads-cases _ _ g.F.Key.Ord.cmp g.F.Functions.meaning _ c.load.new.partition.partition c.args.place.slot c.args.place.context c.args.now receipt.0 c.args.access c.read_asked-came.result c.in-Err.refused (event-later g.F.Key.Ord.cmp g.F.Functions.meaning g.F.Functions.code _ c.self.invariant c.args.place.partition c.args.now due c.index_mut-partition.result.now c.index_mut-partition.ensures.value) comes c.in-Err.ensures.does c.in-Err.ensures.fails in
+    let cases = loads-cases _ _ g.F.Key.Ord.cmp g.F.Functions.meaning g.F.Functions.code _ c.load.new.self c.args.place.slot c.args.place.context c.args.now receipt.0 c.args.access c.read_asked-came.result c.in-Err.refused (event-later g.F.Key.Ord.cmp g.F.Functions.meaning g.F.Functions.code _ c.self.invariant c.args.place.partition c.args.now due c.index_mut-partition.result.now c.index_mut-partition.ensures.value) comes c.in-Err.ensures.does c.in-Err.ensures.fails in
     let ev = ends-it c.in-Err.refused cases (sym c.ends_operation.ensures ∙ c.if-not-ends_operation.false) in
     let life = c.life_at-life.ensures ∙ ap (λ xs. life_in xs c.args.place) c.deref-in-Err.ensures.value in
     rw life (life-there g.F.Key.Ord.cmp g.F.Functions.meaning g.F.Functions.code _ c.self.invariant c.args.place c.args.now due c.index_mut-partition.result.now c.index_mut-partition.ensures.value ev.question ev.was)
@@ -80,10 +80,10 @@ invariant_of-self-in-Err g c =
     let asked = rw (← c.self.view_is) at c.requires.asked in
     let receipt = some_of _ asked in
     let comes = c.read_asked-came.ensures.came receipt.0 (rw c.deref.ensures.value receipt.1) in
-    let cases = loads-cases _ _ g.F.Key.Ord.cmp g.F.Functions.meaning _ c.load.new.partition.partition c.args.place.slot c.args.place.context c.args.now receipt.0 c.args.access c.read_asked-came.result c.in-Err.refused (event-later g.F.Key.Ord.cmp g.F.Functions.meaning g.F.Functions.code _ c.self.invariant c.args.place.partition c.args.now due c.index_mut-partition.result.now c.index_mut-partition.ensures.value) comes c.in-Err.ensures.does c.in-Err.ensures.fails in
+    let cases = loads-cases _ _ g.F.Key.Ord.cmp g.F.Functions.meaning g.F.Functions.code _ c.load.new.self c.args.place.slot c.args.place.context c.args.now receipt.0 c.args.access c.read_asked-came.result c.in-Err.refused (event-later g.F.Key.Ord.cmp g.F.Functions.meaning g.F.Functions.code _ c.self.invariant c.args.place.partition c.args.now due c.index_mut-partition.result.now c.index_mut-partition.ensures.value) comes c.in-Err.ensures.does c.in-Err.ensures.fails in
     let ev = ends-it c.in-Err.refused cases (sym c.ends_operation.ensures ∙ c.if-not-ends_operation.false) in
     let life = c.life_at-life.ensures ∙ ap (λ xs. life_in xs c.args.place) c.deref-in-Err.ensures.value in
-    rw (c.end_life.ensures, life) (ended-state g.F.Key.Ord.cmp g.F.Functions.meaning g.F.Functions.code _ c.self.invariant c.args.place c.args.now due c.index_mut-partition.result.now c.index_mut-partition.ensures.value c.load.new.partition order c.load.ensures.others _ refl ev)
+    rw (c.end_life.ensures, life) (ended-state g.F.Key.Ord.cmp g.F.Functions.meaning g.F.Functions.code _ c.self.invariant c.args.place c.args.now due c.index_mut-partition.result.now c.index_mut-partition.ensures.value c.load.new.self order (c.load.ensures.others refl) _ refl ev)
 
 pub returns-else-not-ends_operation : goal.returns-else-not-ends_operation
 returns-else-not-ends_operation g c =
@@ -91,8 +91,8 @@ returns-else-not-ends_operation g c =
     let asked = rw (← c.self.view_is) at c.requires.asked in
     let receipt = some_of _ asked in
     let comes = c.read_asked-came.ensures.came receipt.0 (rw c.deref.ensures.value receipt.1) in
-    let cases = loads-cases _ _ g.F.Key.Ord.cmp g.F.Functions.meaning _ c.load.new.partition.partition c.args.place.slot c.args.place.context c.args.now receipt.0 c.args.access c.read_asked-came.result c.in-Err.refused (event-later g.F.Key.Ord.cmp g.F.Functions.meaning g.F.Functions.code _ c.self.invariant c.args.place.partition c.args.now due c.index_mut-partition.result.now c.index_mut-partition.ensures.value) comes c.in-Err.ensures.does c.in-Err.ensures.fails in
+    let cases = loads-cases _ _ g.F.Key.Ord.cmp g.F.Functions.meaning g.F.Functions.code _ c.load.new.self c.args.place.slot c.args.place.context c.args.now receipt.0 c.args.access c.read_asked-came.result c.in-Err.refused (event-later g.F.Key.Ord.cmp g.F.Functions.meaning g.F.Functions.code _ c.self.invariant c.args.place.partition c.args.now due c.index_mut-partition.result.now c.index_mut-partition.ensures.value) comes c.in-Err.ensures.does c.in-Err.ensures.fails in
     let ends = sym c.ends_operation.ensures ∙ c.if-not-ends_operation.false in
     let life = c.life_at-life.ensures ∙ ap (λ xs. life_in xs c.args.place) c.deref-in-Err.ensures.value in
     rw (← c.self.view_is, c.end_life.ensures, life)
-    (record { does = does-fail g.F.Key.Ord.cmp g.F.Functions.meaning g.F.Functions.code _ c.self.invariant c.args.place c.args.now due c.index_mut-partition.result.now c.index_mut-partition.ensures.value c.load.new.partition c.args.access receipt.0 c.read_asked-came.result receipt.1 comes c.in-Err.refused ends c.in-Err.ensures.does (ends-it c.in-Err.refused cases ends) c.load.ensures.passed })
+    (record { does = does-fail g.F.Key.Ord.cmp g.F.Functions.meaning g.F.Functions.code _ c.self.invariant c.args.place c.args.now due c.index_mut-partition.result.now c.index_mut-partition.ensures.value c.load.new.self c.args.access receipt.0 c.read_asked-came.result receipt.1 comes c.in-Err.refused ends c.in-Err.ensures.does (ends-it c.in-Err.refused cases ends) })

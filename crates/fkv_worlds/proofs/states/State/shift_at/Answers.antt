@@ -1,3 +1,4 @@
+use Rattle.std.proofs.Common.{refl}
 use Rattle.fkv_functions.proofs.KeyOrder.{key_order}
 use Rattle.fkv_worlds.proofs.EventLemmas.{event-later, refused-state, refused-shift, does-shift, quiet-state}
 use Rattle.fkv_worlds.proofs.states.State.shift_at.Goals as goal
@@ -10,12 +11,12 @@ shift_read_only-requires g c =
 pub invariant_of-self-in-Err : goal.invariant_of-self-in-Err
 invariant_of-self-in-Err g c =
     let due = rw (← c.self.view_is) at c.requires.due in
-    refused-state g.F.Key.Ord.cmp g.F.Functions.meaning g.F.Functions.code _ c.self.invariant c.args.partition c.args.now due c.index_mut.result.now c.index_mut.ensures.value c.shift_read_only.new.partition c.in-Err.ensures.err
+    refused-state g.F.Key.Ord.cmp g.F.Functions.meaning g.F.Functions.code _ c.self.invariant c.args.partition c.args.now due c.index_mut.result.now c.index_mut.ensures.value c.shift_read_only.new.self c.in-Err.ensures.err
 
 pub returns-in-Err : goal.returns-in-Err
 returns-in-Err g c =
     let due = rw (← c.self.view_is) at c.requires.due in
-    rw (← c.self.view_is) (record { does = refused-shift g.F.Key.Ord.cmp g.F.Functions.meaning g.F.Functions.code _ c.self.invariant c.args.partition c.args.now due c.index_mut.result.now c.index_mut.ensures.value c.shift_read_only.new.partition c.args.page c.in-Err.refused c.in-Err.ensures.err c.in-Err.ensures.does })
+    rw (← c.self.view_is) (record { does = refused-shift g.F.Key.Ord.cmp g.F.Functions.meaning g.F.Functions.code _ c.self.invariant c.args.partition c.args.now due c.index_mut.result.now c.index_mut.ensures.value c.shift_read_only.new.self c.args.page c.in-Err.refused c.in-Err.ensures.err c.in-Err.ensures.does })
 
 pub invariant_of-self : goal.invariant_of-self
 invariant_of-self g c =
@@ -23,9 +24,9 @@ invariant_of-self g c =
     let known = g.met.F.Key.FixedKey in
     let order = key_order g.F.Key.PartialEq.eq g.F.Key.Ord.cmp ord.matches_eq known.exact ord.total in
     let due = rw (← c.self.view_is) at c.requires.due in
-    quiet-state g.F.Key.Ord.cmp g.F.Functions.meaning g.F.Functions.code _ c.self.invariant c.args.partition c.args.now due c.index_mut.result.now c.index_mut.ensures.value c.shift_read_only.new.partition order c.in-Ok.ensures.event c.shift_read_only.ensures.pends
+    quiet-state g.F.Key.Ord.cmp g.F.Functions.meaning g.F.Functions.code _ c.self.invariant c.args.partition c.args.now due c.index_mut.result.now c.index_mut.ensures.value c.shift_read_only.new.self order c.in-Ok.ensures.event (c.shift_read_only.ensures.pends refl)
 
 pub returns-in-Ok : goal.returns-in-Ok
 returns-in-Ok g c =
     let due = rw (← c.self.view_is) at c.requires.due in
-    rw (← c.self.view_is) (record { does = does-shift g.F.Key.Ord.cmp g.F.Functions.meaning g.F.Functions.code _ c.self.invariant c.args.partition c.args.now due c.index_mut.result.now c.index_mut.ensures.value c.shift_read_only.new.partition c.args.page c.in-Ok.ensures.does c.in-Ok.ensures.event c.shift_read_only.ensures.passed })
+    rw (← c.self.view_is) (record { does = does-shift g.F.Key.Ord.cmp g.F.Functions.meaning g.F.Functions.code _ c.self.invariant c.args.partition c.args.now due c.index_mut.result.now c.index_mut.ensures.value c.shift_read_only.new.self c.args.page c.in-Ok.ensures.does c.in-Ok.ensures.event })

@@ -1,0 +1,138 @@
+-- What the events of a partition are where no relocation stands in a context: those of operations on keys.
+use Rattle.std.proofs.Common.{◌≡◌, Bool, true, false, cond, ◌&&◌, ◌+◌, ◌*◌, ℕ, List, Option, Some, None, Result, option_map, slice_get, nat_lt, refl, sym, ◌∙◌, ap, subst}
+use Rattle.std.proofs.lemmas.Option.{same_Some}
+use Rattle.std.specs.declared.cmp.Ordering.{Ordering}
+use Rattle.fkv_functions.specs.Meanings.{Meanings}
+use Rattle.fkv_functions.specs.Plain.{Same}
+use Rattle.fkv_functions.specs.declared.asks.Ask.{Ask}
+use Rattle.fkv_functions.specs.declared.refusals.Refused.{Refused}
+use Rattle.fkv_device.specs.Standing.{Standing, Joined}
+use Rattle.fkv_texts.specs.declared.entries.Entry.{Entry}
+use Rattle.fkv_operations.specs.After.{key_of}
+use Rattle.fkv_operations.specs.Operations.{keyed, op_of, after_keyed, answer_keyed}
+use Rattle.fkv_operations.specs.declared.operations.KeyedOp.{KeyedOp}
+use Rattle.fkv_operations.specs.declared.operations.KeyedOp.TheVariants as on_key
+use Rattle.fkv_operations.specs.declared.operations.Op.{Op}
+use Rattle.fkv_operations.specs.declared.operations.Op.TheVariants.{Read, Relocate}
+use Rattle.fkv_partition.specs.Context.{Context}
+use Rattle.fkv_partition.specs.Progress.{Progress}
+use Rattle.fkv_partition.specs.Progress.TheVariants.{Done, Next, NeedsBuild, NeedsLoad, Waits}
+use Rattle.fkv_partition.specs.CoreContexts.{joined, is_session}
+use Rattle.fkv_partition.specs.CoreEffect as key_effect
+use Rattle.fkv_partition.specs.CoreGoing as going
+use Rattle.fkv_partition.specs.CoreInstalling as installing
+use Rattle.fkv_partition.specs.CoreLoading as loading
+use Rattle.fkv_partition.specs.CoreViews.{slots_of, context_at, live_of}
+use Rattle.fkv_partition.specs.Beginning.{IssuesOnKey}
+use Rattle.fkv_partition.specs.Effect.{Asked, asked, asked_of, to_find, IsEvent, IsLoad, Finds}
+use Rattle.fkv_partition.specs.Events.{Issues, Goes, Installs, Loads}
+use Rattle.fkv_partition.specs.Views.{PartitionView, relocation_at, with_core}
+use Rattle.fkv_partition.proofs.EffectLemmas.{keyed-op}
+use Rattle.fkv_alone.proofs.StageLemmas.{Asks, Finishes, Tells}
+
+-- an operation on a key is no relocation, and is a read where it is one of all operations
+not-relocate : {K V I : Type 0} (o : KeyedOp K V I) → op_of o ≡ Relocate → ⊥
+not-relocate (on_key.Read k i) h = absurd (cc)
+not-relocate (on_key.Upsert k v) h = absurd (cc)
+not-relocate (on_key.Rmw k i) h = absurd (cc)
+not-relocate (on_key.Delete k) h = absurd (cc)
+
+read-op : {K V I : Type 0} (o : KeyedOp K V I) (k : K) (i : I) → op_of o ≡ Read k i → o ≡ on_key.Read k i
+read-op (on_key.Read q j) k i h = cc
+read-op (on_key.Upsert q v) k i h = absurd (cc)
+read-op (on_key.Rmw q j) k i h = absurd (cc)
+read-op (on_key.Delete q) k i h = absurd (cc)
+
+abbrev nothing : (A : Type 0) → Option A
+nothing A = None
+
+module _ {K V I : Type 0} where
+  -- the relocations stay over two events, and what is cleared
+  pub rest-then : (a b d : PartitionView K V I) → b ≡ with_core a b.core → d ≡ with_core b d.core → d ≡ with_core a d.core
+  rest-then a b d f g = g ∙ ap (λ (u : PartitionView K V I). with_core u d.core) f
+
+  pub rest-same : (a b : PartitionView K V I) → b ≡ a → b ≡ with_core a b.core
+  rest-same a b e = e ∙ ap (λ (u : PartitionView K V I). with_core a u.core) (sym e)
+
+  -- what stands at the place of a context stays too
+  pub none-then : (a b : PartitionView K V I) (p : ℕ) → b ≡ with_core a b.core → joined (slice_get a.relocations p) ≡ None → joined (slice_get b.relocations p) ≡ None
+  none-then a b p rest none = ap (λ (u : PartitionView K V I). joined (slice_get u.relocations p)) rest ∙ none
+
+  none-at : (v : PartitionView K V I) (slot c : ℕ) → joined (slice_get v.relocations (slot * 8 + c)) ≡ None → relocation_at v slot c ≡ None
+  none-at v slot c none = ap (λ o. cond (is_session (slots_of v.core) slot && nat_lt c 8) o None) none ∙ either (is_session (slots_of v.core) slot && nat_lt c 8)
+    where
+      either : {A : Type 0} (b : Bool) → cond b (nothing A) None ≡ None
+      either true = refl
+      either false = refl
+
+  -- an operation on a key is issued
+  pub issued-on-key : (code : K → ℕ) (v w : PartitionView K V I) (slot now : ℕ) (o : KeyedOp K V I) (op : Op K V I) (r : Result ℕ Refused) → op ≡ op_of o → Issues code v w slot op now r → IssuesOnKey code v w slot o now r
+  issued-on-key code v w slot now o op r e (Issues.on_key p h does) =
+      let same : o ≡ p = same_Some o p (sym (ap keyed e ∙ keyed-op o) ∙ h) in
+      subst (λ t. IssuesOnKey code v w slot t now r) (sym same) does
+  issued-on-key code v w slot now o op r e (Issues.relocation h does) = absurd (not-relocate o (sym e ∙ h))
+
+  module _ (v w : PartitionView K V I) (slot c now : ℕ) where
+    refuted : {A : Type 0} (x : A) (o : Option A) → o ≡ Some x → o ≡ None → ⊥
+    refuted x o h none = let bad : Some x ≡ None = sym h ∙ none in absurd (cc)
+
+    -- what stands in the context is asked for
+    asked-op : (x : Context K V I) (q : Asked K V I) → context_at v.core slot c ≡ Some x → asked v slot c ≡ Some q → q.op ≡ op_of x.op
+    asked-op x q here was =
+        let mine : asked v slot c ≡ Some (record { number = x.number; op = op_of x.op }) = ap (λ t. asked_of (option_map key_effect.asked_by t) (relocation_at v slot c)) here in
+        ap (λ (z : Asked K V I). z.op) (sym (same_Some (record { number = x.number; op = op_of x.op }) q (sym mine ∙ was)))
+
+    module _ (empty : joined (slice_get v.relocations (slot * 8 + c)) ≡ None) where
+      pub goes-on-key : {O R : Type 0} (stands : R → Standing) (cmp : K → K → Ordering) (f : Meanings K V I O) (code : K → ℕ) (r : Result (Progress K V I O R) Refused) → Goes stands cmp f code v w slot c now r → going.Goes stands cmp f code v.core w.core slot c now r × (w ≡ with_core v w.core)
+      goes-on-key stands cmp f code r (Goes.on_key none does rest) = (does, rest)
+      goes-on-key stands cmp f code r (Goes.relocation x h does) = absurd (refuted x (relocation_at v slot c) h (none-at v slot c empty))
+
+      pub installs-on-key : {O R : Type 0} (cmp : K → K → Ordering) (f : Meanings K V I O) (code : K → ℕ) (ask : Ask K V I) (r : Result (Progress K V I O R) Refused) → Installs cmp f code v w slot c ask now r → installing.Installs cmp f code v.core w.core slot c ask now r × (w ≡ with_core v w.core)
+      installs-on-key cmp f code ask r (Installs.on_key none does rest) = (does, rest)
+      installs-on-key cmp f code ask r (Installs.relocation x h same e) = absurd (refuted x (relocation_at v slot c) h (none-at v slot c empty))
+
+      pub loads-on-key : {O R : Type 0} (stands : R → Standing) (entry : ℕ → List ℕ → ℕ → Entry K V → Type 0) (cmp : K → K → Ordering) (f : Meanings K V I O) (code : K → ℕ) (came : Result (Joined R) Refused) (r : Result (Progress K V I O R) Refused) → Loads stands entry cmp f code v w slot c came now r → loading.Loads stands entry cmp f v.core w.core slot c came now r × (w ≡ with_core v w.core)
+      loads-on-key stands entry cmp f code came r (Loads.on_key none does rest) = (does, rest)
+      loads-on-key stands entry cmp f code came r (Loads.relocation x h does) = absurd (refuted x (relocation_at v slot c) h (none-at v slot c empty))
+
+      pub none-here : relocation_at v slot c ≡ None
+      none-here = none-at v slot c empty
+
+    -- ---- what the events tell
+    pub finds-asks : {O R : Type 0} (cmp : K → K → Ordering) (p : Progress K V I O R) → Finds cmp v w slot c now p → Asks cmp v.core w.core slot c now p
+    finds-asks cmp (Done a at) h = tt
+    finds-asks cmp Next h = tt
+    finds-asks cmp (Waits why) h = tt
+    finds-asks cmp (NeedsBuild ask) h = tt
+    finds-asks cmp (NeedsLoad r a) h = λ x here. h.asks ∙ ap (to_find cmp v now) (ap keyed (asked-op x h.question here h.was) ∙ keyed-op x.op)
+
+    pub event-finishes : {O R : Type 0} (cmp : K → K → Ordering) (f : Meanings K V I O) (p : Progress K V I O R) → IsEvent cmp f v w slot c now p → Finishes cmp f v.core w.core slot c now p
+    event-finishes cmp f (Done a at) ev = λ x here. (
+        let q = asked-op x ev.question here ev.was in (
+          subst (λ t. Same (live_of cmp w.core) (after_keyed cmp f (live_of cmp v.core) t)) (ap keyed q ∙ keyed-op x.op) ev.effect.2,
+          ev.effect.3 ∙ ap (answer_keyed f (live_of cmp v.core)) (ap keyed q ∙ keyed-op x.op),
+        ))
+    event-finishes cmp f Next ev = tt
+    event-finishes cmp f (Waits why) ev = tt
+    event-finishes cmp f (NeedsBuild ask) ev = tt
+    event-finishes cmp f (NeedsLoad r a) ev = tt
+
+    pub load-tells : {O R : Type 0} (cmp : K → K → Ordering) (f : Meanings K V I O) (p : Progress K V I O R) → IsLoad cmp f v w slot c now p → Tells cmp f v.core w.core slot c now p
+    load-tells cmp f (Done a at) (IsLoad.on_key l) = λ x here apart. (
+        let q = asked-op x l.question here l.was in
+        let e = l.effect.1 in
+        record {
+          live = l.live;
+          found = e.0;
+          was = e.1;
+          key = e.3.0;
+          input = e.3.1;
+          is = read-op x.op e.3.0 e.3.1 (sym q ∙ e.3.2);
+          answers = e.3.3;
+        })
+    load-tells cmp f (Done a at) (IsLoad.relocation ev g) = λ x here apart. absurd (apart ev.effect.1)
+    load-tells cmp f Next l = tt
+    load-tells cmp f (Waits why) l = tt
+    load-tells cmp f (NeedsBuild ask) l = tt
+    load-tells cmp f (NeedsLoad r a) (IsLoad.on_key l) = λ x here apart. l.effect.1
+    load-tells {O = O} {R = R} cmp f (NeedsLoad r a) (IsLoad.relocation ev g) = λ x here apart. absurd (apart (live_of cmp v.core (key_of x.op)) (finds-asks {O = O} {R = R} cmp (NeedsLoad r a) g x here))

@@ -1,0 +1,19 @@
+use Rattle.std.proofs.Common.{◌≡◌, ◌≤◌, OnOk, ap, subst, arith}
+use Rattle.fkv_core.specs.Effect.{IsGiveUp}
+use Rattle.fkv_core.specs.Ending.{GivesUp}
+use Rattle.fkv_core.proofs.cores.Core.abandon.Goals as goal
+
+pub returns-clause-does : goal.returns-clause-does
+returns-clause-does g c =
+    let same : c.self.inside.moment ≡ c.args.self.now.moment = ap (λ v. v.moment) c.self.view_is in
+    subst (λ n. GivesUp c.args.self.now c.end.new.self c.args.slot c.args.context n c.end.result) same c.end.ensures.does
+
+pub returns-clause-event : goal.returns-clause-event
+returns-clause-event g c =
+    let same : c.self.inside.moment ≡ c.args.self.now.moment = ap (λ v. v.moment) c.self.view_is in
+    subst (λ n. OnOk c.end.result (IsGiveUp c.args.self.now c.end.new.self c.args.slot c.args.context n)) same c.end.ensures.event
+
+pub returns-clause-moment : goal.returns-clause-moment
+returns-clause-moment g c =
+    let same : c.self.inside.moment ≡ c.args.self.now.moment = ap (λ v. v.moment) c.self.view_is in
+    subst (λ n. c.end.new.self.moment ≤ n) same c.end.ensures.moment

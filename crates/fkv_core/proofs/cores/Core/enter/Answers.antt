@@ -1,0 +1,28 @@
+use Rattle.std.proofs.Common.{Err, refl, ap, arith}
+use Rattle.fkv_regions.specs.RegionsView.{entered}
+use Rattle.fkv_core.specs.Beginning.{full, enters}
+use Rattle.fkv_core.proofs.AskedLemmas.{renewed-stays}
+use Rattle.fkv_core.proofs.SoundLemmas.{sound-regions}
+use Rattle.fkv_core.proofs.EventLemmas.{event-enter, slot-none, slot-some}
+use Rattle.fkv_core.proofs.cores.Core.enter.Goals as goal
+
+pub returns-in-Err-clause-does : goal.returns-in-Err-clause-does
+returns-in-Err-clause-does g c =
+    let n = slot-none _ c.in-Err.refused c.in-Err.ensures.slot in
+    rw (c.in-Err.ensures.refused, ← c.self.view_is) (full n.0 refl (ap Err n.1))
+
+pub invariant_of-self-2 : goal.invariant_of-self-2
+invariant_of-self-2 g c =
+    let was = c.self.inside.records.regions in
+    rw c.in-Ok.ensures.effect
+    (sound-regions c.self.invariant (entered was c.in-Ok.slot) c.args.now (rw c.in-Ok.ensures.effect at c.known.ensures) (record { closed = omega arith; head = omega arith; safe = omega arith; read_only = omega arith })
+    (λ t d x low here. renewed-stays was.epochs.slots c.in-Ok.slot t was.epochs.epoch (c.self.invariant.housed t d x low here)))
+
+pub returns-clause-does : goal.returns-clause-does
+returns-clause-does g c =
+    rw (c.in-Ok.ensures.effect, ← c.self.view_is) (enters c.in-Ok.slot (slot-some _ c.in-Ok.slot c.in-Ok.ensures.slot) refl refl)
+
+pub returns-clause-event : goal.returns-clause-event
+returns-clause-event g c =
+    rw (c.in-Ok.ensures.effect, ← c.self.view_is)
+    (event-enter g.F.Key.Ord.cmp g.F.Functions.code _ c.self.invariant c.in-Ok.slot c.args.now (slot-some _ c.in-Ok.slot c.in-Ok.ensures.slot))

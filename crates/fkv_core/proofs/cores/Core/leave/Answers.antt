@@ -1,0 +1,20 @@
+use Rattle.std.proofs.Common.{refl, sym, ◌∙◌}
+use Rattle.fkv_core.specs.Ending.{unknown, busy, leaves}
+use Rattle.fkv_core.proofs.EventLemmas.{event-moved, left-same}
+use Rattle.fkv_core.proofs.cores.Core.leave.Goals as goal
+
+pub returns-then-not-is_session-clause-does : goal.returns-then-not-is_session-clause-does
+returns-then-not-is_session-clause-does g c = unknown (sym c.is_session.ensures.value ∙ c.if-not-is_session.true) refl refl
+
+pub returns-in-Some-clause-does : goal.returns-in-Some-clause-does
+returns-in-Some-clause-does g c = busy c.in-Some._open (sym c.is_session.ensures.value ∙ c.if-not-is_session.false) (sym c.in-Some.ensures) refl refl
+
+pub vacate-requires-clause-entered : goal.vacate-requires-clause-entered
+vacate-requires-clause-entered g c = sym c.is_session.ensures.value ∙ c.if-not-is_session.false
+
+pub returns-clause-does : goal.returns-clause-does
+returns-clause-does g c = leaves (sym c.is_session.ensures.value ∙ c.if-not-is_session.false) (sym c.in_default.ensures) c.vacate.ensures refl
+
+pub returns-clause-event : goal.returns-clause-event
+returns-clause-event g c =
+    rw c.vacate.ensures.is (event-moved g.R.Receipt.keeps c.args.self.now _ _ c.args.now c.vacate.ensures.moves (left-same c.args.self.now c.args.slot (sym c.in_default.ensures)))

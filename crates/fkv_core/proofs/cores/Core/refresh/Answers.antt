@@ -1,0 +1,27 @@
+use Rattle.fkv_core.specs.Inside.{view_of}
+use Rattle.std.proofs.Common.{Err, refl, ap}
+use Rattle.fkv_core.specs.Looking.{unknown, refreshes}
+use Rattle.fkv_core.proofs.AskedLemmas.{renewed-stays}
+use Rattle.fkv_core.proofs.SoundLemmas.{sound-moved, slots-moved}
+use Rattle.fkv_core.proofs.EventLemmas.{event-moved, refreshed-same, not-entered}
+use Rattle.fkv_core.proofs.cores.Core.refresh.Goals as goal
+
+pub returns-in-Err-clause-does : goal.returns-in-Err-clause-does
+returns-in-Err-clause-does g c =
+    let made = c.in-Err.ensures in
+    rw (made.refused.1, ← c.self.view_is) (unknown (not-entered c.self.inside.records.regions.epochs.slots c.args.slot (λ e. let bad = made.unknown.1 e in cc)) refl (ap Err made.refused.0))
+
+pub invariant_of-self-2 : goal.invariant_of-self-2
+invariant_of-self-2 g c =
+    let was = c.self.inside.records.regions in
+    let made = c.in-Ok.ensures in
+    sound-moved c.self.invariant c.refresh.new.self _ c.args.now c.known.ensures made.effect made.raised
+    (λ t d x low here. slots-moved c.self.inside.records c.refresh.new.self _ t made.effect (renewed-stays was.epochs.slots c.args.slot t was.epochs.epoch (c.self.invariant.housed t d x low here)))
+
+pub returns-clause-does : goal.returns-clause-does
+returns-clause-does g c = rw (← c.self.view_is) (refreshes (c.in-Ok.ensures.unknown.0 refl) (record { moves = c.in-Ok.ensures.effect; is = refl }) refl)
+
+pub returns-clause-event : goal.returns-clause-event
+returns-clause-event g c =
+    let v = (view_of c.self.inside.number c.self.inside.count c.self.inside.records c.self.inside.contexts.items c.self.inside.moment) in
+    rw (← c.self.view_is) (event-moved g.R.Receipt.keeps v c.refresh.new.self _ c.args.now c.in-Ok.ensures.effect (refreshed-same v c.args.slot (c.in-Ok.ensures.unknown.0 refl)))

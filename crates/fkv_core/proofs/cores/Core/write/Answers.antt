@@ -1,0 +1,51 @@
+use Rattle.std.proofs.Common.{Ok, Err, refl, sym, ap, ◌∙◌}
+use Rattle.fkv_operations.specs.After.{key_of}
+use Rattle.fkv_core.specs.Contexts.{claim_by}
+use Rattle.fkv_core.specs.declared.contexts.Wait.TheVariants.{Full}
+use Rattle.fkv_core.specs.Going.{appends, worn, full}
+use Rattle.fkv_core.proofs.EventLemmas.{event-appends, event-waits, claims-none}
+use Rattle.fkv_core.proofs.cores.Core.write.Goals as goal
+
+pub append-requires-clause-unclaimed : goal.append-requires-clause-unclaimed
+append-requires-clause-unclaimed g c =
+    let d = c.requires.decided in
+    claims-none c.args.self.now c.args.slot c.args.context d.operation d.decides.here (ap claim_by d.decides.fresh)
+
+pub returns-in-Err-clause-does : goal.returns-in-Err-clause-does
+returns-in-Err-clause-does g c =
+    let w = c.args.write in
+    let d = c.requires.decided in
+    let e = c.in-Err.ensures.only in
+    rw c.in-Err.ensures.err (worn d.operation w.value c.args.answer d.decides (c.in-Err.ensures.worn.0 (ap Err e)) refl (ap Err e))
+
+pub returns-in-Ok-None-clause-does : goal.returns-in-Ok-None-clause-does
+returns-in-Ok-None-clause-does g c =
+    let w = c.args.write in
+    let d = c.requires.decided in
+    let is = ap Ok c.in-Ok-None.field-0-is in
+    rw (c.in-Ok-None.ensures.full is) (full d.operation w.value c.args.answer d.decides (c.in-Ok-None.ensures.room.0 is) refl refl)
+
+pub returns-in-Ok-None-clause-event : goal.returns-in-Ok-None-clause-event
+returns-in-Ok-None-clause-event g c =
+    let d = c.requires.decided in
+    let is = ap Ok c.in-Ok-None.field-0-is in
+    rw (c.in-Ok-None.ensures.full is) (event-waits g.F.Key.Ord.cmp g.F.Functions.meaning g.F.Functions.code c.args.self.now c.args.slot c.args.context c.args.now d.operation d.decides.here Full)
+
+pub returns-in-Ok-Some-clause-does : goal.returns-in-Ok-Some-clause-does
+returns-in-Ok-Some-clause-does g c =
+    let w = c.args.write in
+    let d = c.requires.decided in
+    let is = c.in-Ok-Some.field-0-is in
+    let made = rw is at c.in-Ok-Some.ensures.ok in
+    rw (made, ← d.key_is)
+    (appends d.operation w.value c.args.answer w.entry d.decides (rw (← d.key_is) at c.requires.entry) (λ h. let bad = c.in-Ok-Some.ensures.worn.1 h in cc) (λ f. let bad = sym (c.in-Ok-Some.ensures.room.1 f) ∙ ap Ok is in cc) refl refl)
+
+pub returns-in-Ok-Some-clause-event : goal.returns-in-Ok-Some-clause-event
+returns-in-Ok-Some-clause-event g c =
+    let w = c.args.write in
+    let d = c.requires.decided in
+    let v = c.args.self.now in
+    let made = rw c.in-Ok-Some.field-0-is at c.in-Ok-Some.ensures.ok in
+    rw (made, ← d.key_is)
+    (event-appends g.F.Key.Ord.cmp g.F.Functions.meaning g.F.Functions.code v c.args.slot c.args.context c.args.now d.operation d.decides.here w.entry w.value c.args.answer
+    (c.records_grow.ensures.lives g.F.Key.Ord.cmp v.records w.entry (key_of d.operation.op) w.value) d.decides.decided)

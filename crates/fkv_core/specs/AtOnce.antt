@@ -1,0 +1,30 @@
+-- An update that is issued and done in one call.
+use Rattle.std.specs.Prelude.{◌≡◌, ◌<◌, ℕ, Ok}
+use Rattle.std.specs.declared.cmp.Ordering.{Ordering}
+use Rattle.fkv_functions.specs.Meanings.{Meanings}
+use Rattle.fkv_device.specs.Standing.{Standing}
+use Rattle.fkv_operations.specs.declared.operations.KeyedOp.TheVariants.{Rmw}
+use Rattle.fkv_operations.specs.declared.operations.Answer.TheVariants.{Value}
+use Rattle.fkv_lookups.specs.declared.decisions.LookupResult.TheVariants.{Mutable}
+use Rattle.fkv_core.specs.declared.contexts.Progress.TheVariants.{Done}
+use Rattle.fkv_core.specs.Views.{CoreView, partition_of, met_at}
+use Rattle.fkv_core.specs.Beginning.{Issues}
+use Rattle.fkv_core.specs.Going.{Goes}
+use Rattle.fkv_core.specs.Effect.{IsIssue, IsEvent}
+
+-- a key belongs here, and a look-up of it meets this value where it may be changed in place
+pub record IsAtHand {K V I : Type 0} (cmp : K → K → Ordering) (code : K → ℕ) (v : CoreView K V I) (slot : ℕ)
+    (key : K) (held : V) : Type 0 where
+  pub own : partition_of v.count (code key) ≡ v.number
+  pub met : met_at cmp code v slot key ≡ Mutable held
+
+-- the update is issued in a context at one moment, and done with this answer when it goes on at another: what stands
+-- between them is what the issue makes
+pub record IsDoneAtOnce {K V I O R : Type 0} (stands : R → Standing) (cmp : K → K → Ordering) (f : Meanings K V I O)
+    (code : K → ℕ) (old new : CoreView K V I) (slot c : ℕ) (key : K) (input : I) (issued now : ℕ) (shown : O)
+    : Type 0 where
+  pub between : CoreView K V I
+  pub issues : Issues code old between slot c (Rmw key input) issued (Ok tt)
+  pub issue : IsIssue code old between slot c (Rmw key input) issued
+  pub goes : Goes stands cmp f code between new slot c now (Ok (Done (Value shown) now))
+  pub event : IsEvent {R = R} cmp f between new slot c now (Done (Value shown) now)

@@ -1,0 +1,90 @@
+-- What events leave for one who keeps, beside a partition, entries, look-ups, records and addresses of its own.
+use Rattle.std.specs.Prelude.{◌≡◌, ◌<◌, ◌≤◌, Bool, IsTrue, IsSome, true, ℕ, List, [], ◌∷◌, Option, Some, None, slice_get}
+use Rattle.std.specs.declared.cmp.Ordering.{Ordering}
+use Rattle.fkv_device.specs.Standing.{Standing}
+use Rattle.fkv_regions.specs.Agree.{IsRaised}
+use Rattle.fkv_texts.specs.declared.entries.Entry.{Entry}
+use Rattle.fkv_texts.specs.Text.{entry_at, newest}
+use Rattle.fkv_index.specs.declared.places.Place.{Place}
+use Rattle.fkv_index.specs.Words.{address_of}
+use Rattle.fkv_index.specs.Places.{word_at, IsPlace}
+use Rattle.fkv_operations.specs.declared.entries.IndexEntry.{IndexEntry}
+use Rattle.fkv_operations.specs.KeptWords.{IsNext}
+use Rattle.fkv_lookups.specs.RecordsViews.{RecordsView, class_in, indexed, WasEntryOf}
+use Rattle.fkv_lookups.specs.Cleared.{IsCleared}
+use Rattle.fkv_core.specs.declared.contexts.Loading.{Loading}
+use Rattle.fkv_core.specs.Contexts.{joined, is_session}
+use Rattle.fkv_core.specs.Sound.{IsKept, IsLoading, IsSound}
+use Rattle.fkv_core.specs.Views.{CoreView, slots_of}
+
+-- a record with a value, which nobody changes: on a device that keeps, it is the last of its key while the entry that
+-- was kept stands as it was
+pub record IsKeptRecord {K V : Type 0} (keeps : Bool) (cmp : K → K → Ordering) (code : K → ℕ) (r : RecordsView K V)
+    (k : K) (e : IndexEntry) (x : Entry K V) : Type 0 where
+  pub entry : WasEntryOf r (class_in code r k) e
+  pub low : address_of e.word < r.tail
+  pub led : IsTrue keeps → 64 ≤ address_of e.word
+  pub some : IsSome x.value
+  pub frozen : x.address < r.regions.offsets.safe_read_only
+  pub newest : IsTrue keeps → word_at r.words e.place ≡ e.word → newest cmp r.text k (address_of e.word) ≡ Some x
+
+-- what a prepared update of any key kept, what a look-up of any key that waits for a page is to find, and a record that
+-- is the last of its key, whether or not the partition has a context of it
+pub record Bears {K V : Type 0} (keeps : Bool) (cmp : K → K → Ordering) (code : K → ℕ) (old new : RecordsView K V)
+    : Type 0 where
+  pub kept : (k : K) (e : IndexEntry) (source : Option V)
+      → IsKept keeps cmp code old k e source
+      → IsKept keeps cmp code new k e source
+  pub loading : (k : K) (l : Loading) → IsLoading keeps cmp code old k l → IsLoading keeps cmp code new k l
+  pub last : (k : K) (e : IndexEntry) (x : Entry K V)
+      → IsKeptRecord keeps cmp code old k e x
+      → IsKeptRecord keeps cmp code new k e x
+
+-- what is set once for all
+pub record IsSameShape {K V : Type 0} (old new : RecordsView K V) : Type 0 where
+  pub partition_bits : new.partition_bits ≡ old.partition_bits
+  pub bucket_bits : new.bucket_bits ≡ old.bucket_bits
+  pub page_bits : new.page_bits ≡ old.page_bits
+  pub record_size : new.record_size ≡ old.record_size
+  pub frames : new.frames ≡ old.frames
+
+-- nothing falls, what is flushed stays so, and what is frozen stays as it is, where the text begins now or above; on a
+-- device that keeps, what was cleared is cleared
+pub record IsGrown {K V : Type 0} (keeps : Bool) (cmp : K → K → Ordering) (old new : RecordsView K V) : Type 0 where
+  pub shape : IsSameShape old new
+  pub begin : old.begin ≤ new.begin
+  pub tail : old.tail ≤ new.tail
+  pub raised : IsRaised old.regions.offsets new.regions.offsets
+  pub receipts : (page : ℕ) (s : Standing)
+      → slice_get old.receipts page ≡ Some s
+      → slice_get new.receipts page ≡ Some s
+  pub stay : (a : ℕ)
+      → new.from ≤ a
+      → a < old.regions.offsets.safe_read_only
+      → entry_at new.text a ≡ entry_at old.text a
+  pub clear : (limit : ℕ)
+      → limit ≤ old.tail
+      → IsTrue keeps
+      → IsCleared cmp old.text limit
+      → IsCleared cmp new.text limit
+  pub places : (p : Place) → IsPlace old.words p → IsPlace new.words p
+
+-- both of an event; and on a device that keeps, no address is used twice
+pub record IsPreserved {K V I : Type 0} (keeps : Bool) (cmp : K → K → Ordering) (code : K → ℕ)
+    (old new : CoreView K V I) : Type 0 where
+  pub bears : Bears keeps cmp code old.records new.records
+  pub grown : IsGrown keeps cmp old.records new.records
+  pub next : IsTrue keeps → IsNext cmp (indexed old.records) (indexed new.records)
+
+-- events one after another
+abbrev pub ArePreserved : {K V I : Type 0} → Bool → (K → K → Ordering) → (K → ℕ) → CoreView K V I
+    → List (CoreView K V I) → Type 0
+ArePreserved keeps cmp code v [] = Unit {0}
+ArePreserved keeps cmp code v (w ∷ ws) = IsPreserved keeps cmp code v w × IsSound keeps cmp code w × ArePreserved keeps cmp code w ws
+
+-- where no operation was open none is, and who was entered is
+abbrev pub NoneOpens : {K V I : Type 0} → CoreView K V I → CoreView K V I → Type 0
+NoneOpens old new = (p : ℕ) → joined (slice_get old.contexts p) ≡ None → joined (slice_get new.contexts p) ≡ None
+
+abbrev pub AllStay : {K V I : Type 0} → CoreView K V I → CoreView K V I → Type 0
+AllStay old new = (s : ℕ) → is_session (slots_of old) s ≡ true → is_session (slots_of new) s ≡ true

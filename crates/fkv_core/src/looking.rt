@@ -1,0 +1,160 @@
+//! What events look at in a partition. None of these changes it.
+ghost use Rattle.std.specs.Prelude.{◌≡◌, ◌<◌, Some, IsTrue, IfSome, option_map};
+ghost use Rattle.fkv_index.specs.Words.{address_of};
+ghost use Rattle.fkv_operations.specs.After.{key_of};
+ghost use Rattle.fkv_lookups.specs.Decisions.{decision};
+ghost use Rattle.fkv_operations.specs.Classes.{IsClass};
+ghost use Rattle.fkv_lookups.specs.RecordsViews.{class_in, IsEntryOf};
+ghost use Rattle.fkv_core.specs.Contexts.{is_session};
+ghost use Rattle.fkv_core.specs.Beginning.{IsEntered};
+ghost use Rattle.fkv_core.specs.Views.{context_at, entry_for, found_for, met_at, open_context, partition_of, reached_from, slots_of};
+ghost use Rattle.fkv_core.specs.Sound.{IsSound};
+
+use crate::contexts::{ContextOf, open_at, open_context};
+use crate::cores::Core;
+use fkv_device::Receipt;
+use fkv_functions::Functions;
+use fkv_lookups::{DecisionOf, LookupResult, decide, low_of, met_by};
+use fkv_operations::{Class, IndexEntry, KeyedOpOf, partition_at};
+use fkv_records::Address;
+use fkv_texts::ChainPosition;
+
+/// What leads nowhere.
+const NOWHERE: Address = 1;
+
+/// Where an entry leads.
+pub(crate) fn address_of(entry: &Option<IndexEntry>) -> Option<Address>
+    ensures { result ≡ option_map (λ e. address_of e.word) entry.now }
+{
+    match entry {
+        None => None,
+        Some(entry) => Some(entry.address()),
+    }
+}
+
+impl<F: Functions, R: Receipt> Core<F, R> {
+    /// What holds of every partition. It does nothing when it runs.
+    pub fn known(&self)
+        ensures { IsSound R.keeps F.Key.cmp F.code self.now }
+    {
+        let _moment = self.moment;
+    }
+
+    /// The operation that is open in a context.
+    pub fn open(&self, slot: usize, context: usize) -> Option<ContextOf<F>>
+        ensures value { result ≡ context_at self.now slot context }
+        ensures session { IfSome result (λ _. slot < 16) }
+        ensures context { IfSome result (λ _. context < 8) }
+    {
+        if !self.records.is_entered(slot) {
+            return None;
+        }
+        open_at(&self.contexts, slot, context)
+    }
+
+    /// Whether a slot is that of a session.
+    pub fn is_session(&self, slot: usize) -> bool
+        ensures value { result ≡ is_session (slots_of self.now) slot }
+        ensures within { IsTrue result → slot < 16 }
+    {
+        self.records.is_entered(slot)
+    }
+
+    /// The lowest open context of a session.
+    pub(crate) fn first_open(&self, slot: usize) -> Option<usize>
+        requires { slot < 16 }
+        ensures { result ≡ open_context self.now slot }
+    {
+        open_context(&self.contexts, slot)
+    }
+
+    /// The number of the partition to which a key belongs.
+    pub fn home(&self, functions: &F, key: &F::Key) -> u64
+        ensures { result ≡ partition_of self.now.count (F.code key.now) }
+    {
+        self.known();
+        partition_at(functions.hash(key), self.count)
+    }
+
+    /// The class of a key, and its final entry.
+    pub fn find(&self, functions: &F, key: &F::Key) -> (Class, Option<IndexEntry>)
+        ensures class { result.0 ≡ class_in F.code self.now.records key.now }
+        ensures range { IsClass self.now.records.bucket_bits result.0 }
+        ensures entry { result.1 ≡ found_for F.code self.now key.now }
+        ensures address { option_map (λ e. address_of e.word) result.1 ≡ entry_for F.code self.now key.now }
+        ensures stands { IfSome result.1
+            (λ e. IsEntryOf self.now.records (class_in F.code self.now.records key.now) e) }
+    {
+        let class = self.records.class(functions, key);
+        let entry = self.records.entry(&class);
+        (class, entry)
+    }
+
+    /// The address to which the final entry of a key's class leads.
+    pub(crate) fn leads(&self, functions: &F, key: &F::Key) -> Option<Address>
+        ensures { result ≡ entry_for F.code self.now key.now }
+    {
+        let class = self.records.class(functions, key);
+        self.records.leads(&class)
+    }
+
+    /// What a look-up of a key comes to, as the session at a slot reads in memory, by the address to which the entry of the
+    /// key's class leads.
+    #[inline(always)]
+    pub fn reach(
+        &self,
+        slot: usize,
+        key: &F::Key,
+        entry: Option<Address>,
+    ) -> ChainPosition<F::Key, F::Value>
+        requires entered { IsEntered self.now slot }
+        requires entry { entry ≡ entry_for F.code self.now key.now }
+        ensures { result ≡ reached_from F.Key.cmp F.code self.now slot key.now (entry_for F.code self.now key.now) }
+    {
+        match entry {
+            None => ChainPosition::Below(NOWHERE),
+            Some(address) => {
+                let view = self.records.view(slot);
+                let low = low_of(self.records.begin(), &view);
+                self.records.trace(address, key, low)
+            }
+        }
+    }
+
+    /// What the session at a slot meets, by the address to which the entry of a key's class leads and by what the look-up of
+    /// the key comes to.
+    pub(crate) fn met(
+        &self,
+        slot: usize,
+        entry: Option<Address>,
+        reached: &ChainPosition<F::Key, F::Value>,
+    ) -> LookupResult<F::Value>
+        requires entered { IsEntered self.now slot }
+        ensures { (key : F.Key) → entry ≡ entry_for F.code self.now key
+            → reached.now ≡ reached_from F.Key.cmp F.code self.now slot key (entry_for F.code self.now key)
+            → result ≡ met_at F.Key.cmp F.code self.now slot key }
+    {
+        let view = self.records.view(slot);
+        met_by(entry, self.records.begin(), &view, reached)
+    }
+
+    /// What an operation of the session at a slot does for what it meets: by the entry of its key's class, and by what
+    /// the look-up comes to.
+    pub(crate) fn decided(
+        &self,
+        slot: usize,
+        functions: &F,
+        op: &KeyedOpOf<F>,
+        entry: Option<Address>,
+        reached: &ChainPosition<F::Key, F::Value>,
+    ) -> DecisionOf<F>
+        requires entered { IsEntered self.now slot }
+        requires entry { entry ≡ entry_for F.code self.now (key_of op.now) }
+        requires reached { reached.now ≡ reached_from F.Key.cmp F.code self.now slot (key_of op.now)
+            (entry_for F.code self.now (key_of op.now)) }
+        ensures { result ≡ decision F.meaning op.now (met_at F.Key.cmp F.code self.now slot (key_of op.now)) }
+    {
+        let met = self.met(slot, entry, reached);
+        decide(functions, op, &met)
+    }
+}

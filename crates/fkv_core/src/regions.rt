@@ -1,0 +1,90 @@
+//! How sessions follow the regions of the log, and how these move.
+ghost use Rattle.std.specs.Prelude.{◌≡◌, ◌^◌, ◌<◌, ◌≤◌, OnOk, OnErr};
+ghost use Rattle.fkv_core.specs.Looking.{Refreshes, Shifts, Evicts};
+ghost use Rattle.fkv_core.specs.Effect.{IsQuiet};
+
+use crate::cores::Core;
+use fkv_device::Receipt;
+use fkv_functions::{Functions, Refused};
+use fkv_records::Address;
+
+impl<F: Functions, R: Receipt> Core<F, R> {
+    /// Refreshes a session: it tells that the session relies on nothing that it saw before, moves the offsets that are
+    /// due then, and gives the session the view of now. Refused, and then nothing changes: `Unknown` where the slot is
+    /// that of no session.
+    pub fn refresh(&mut self, slot: usize, now: u64) -> Result<(), Refused>
+        requires later { self.old.moment < now }
+        ensures does { Refreshes R.keeps self.old self.new slot now result }
+        ensures event { OnOk result (IsQuiet R.keeps self.old self.new now) }
+        ensures err { OnErr result (self.new ≡ self.old) }
+        ensures moment { self.new.moment ≤ now }
+    {
+        match self.records.refresh(slot) {
+            Err(refused) => return Err(refused),
+            Ok(()) => (),
+        }
+        self.records.known();
+        self.moment = now;
+        Ok(())
+    }
+
+    /// Moves the read-only offset to the start of a page: records below it are no more changed in place by sessions that
+    /// are refreshed from now on. The safe read-only offset follows once every session has been. Refused, in this order,
+    /// and then nothing changes: `NotDue` where the offset would not rise, or the page is above the tail's; `DrainFull`
+    /// where sixteen moves wait.
+    pub fn shift_read_only(&mut self, page: u64, now: u64) -> Result<(), Refused>
+        requires later { self.old.moment < now }
+        ensures does { Shifts R.keeps self.old self.new page now result }
+        ensures event { OnOk result (IsQuiet R.keeps self.old self.new now) }
+        ensures err { OnErr result (self.new ≡ self.old) }
+        ensures moment { self.new.moment ≤ now }
+    {
+        match self.records.shift_read_only(page) {
+            Err(refused) => return Err(refused),
+            Ok(()) => (),
+        }
+        self.records.known();
+        self.moment = now;
+        Ok(())
+    }
+
+    /// Moves Head to the start of a page: sessions that are refreshed from now on read records below it from the device.
+    /// Frames below it may be used anew once every session has been. Refused, in this order, and then nothing changes:
+    /// `NotDue` where Head would not rise, or a page below is not flushed; `DrainFull` where sixteen moves wait.
+    pub fn shift_head(&mut self, page: u64, now: u64) -> Result<(), Refused>
+        requires later { self.old.moment < now }
+        ensures does { Evicts R.keeps self.old self.new page now result }
+        ensures event { OnOk result (IsQuiet R.keeps self.old self.new now) }
+        ensures err { OnErr result (self.new ≡ self.old) }
+        ensures moment { self.new.moment ≤ now }
+    {
+        match self.records.shift_head(page) {
+            Err(refused) => return Err(refused),
+            Ok(()) => (),
+        }
+        self.records.known();
+        self.moment = now;
+        Ok(())
+    }
+
+    /// The address of the next record, or 2^48 where there can't be one.
+    pub fn tail(&self) -> Address
+        ensures { result ≡ self.now.records.tail }
+    {
+        self.records.tail()
+    }
+
+    /// Head: records below it are read from the device by sessions that are refreshed from now on.
+    pub fn head(&self) -> Address
+        ensures { result ≡ self.now.records.regions.offsets.head }
+    {
+        self.records.head()
+    }
+
+    /// The bytes of a page.
+    pub fn page_size(&self) -> usize
+        ensures { result ≡ 2 ^ self.now.records.page_bits }
+    {
+        self.records.page_size()
+    }
+}

@@ -1,0 +1,117 @@
+//! Updates of values where they stand, each in one call: most updates of a feed are such.
+ghost use Rattle.std.specs.Prelude.{◌≡◌, ◌<◌, ◌≤◌, None, Some, IfSome};
+ghost use Rattle.fkv_lookups.specs.declared.decisions.LookupResult.TheVariants.{Mutable};
+ghost use Rattle.fkv_texts.specs.declared.entries.ChainPosition.TheVariants.{Found};
+ghost use Rattle.fkv_core.specs.Views.{context_at, entry_for, met_at, partition_of, reached_from};
+ghost use Rattle.fkv_core.specs.AtOnce.{IsAtHand, IsDoneAtOnce};
+ghost use Rattle.fkv_core.specs.Beginning.{IsEntered};
+
+use crate::cores::Core;
+use fkv_device::Receipt;
+use fkv_functions::Functions;
+use fkv_lookups::laws::{meetings_tell, records_change};
+use fkv_texts::{ChainPosition, Entry};
+
+impl<F: Functions, R: Receipt> Core<F, R> {
+    /// Issues an update at one moment, in a context of a session that the caller has chosen and in which nothing is open,
+    /// and goes on with it at another, where that finishes it: where the last record of its key may be changed in place.
+    /// That is what [`Core::issue`] and [`Core::go`] do then, but no context is written and read again. Answers what the
+    /// update shows, or `None` where its key belongs to another partition or it would not be finished so, and then
+    /// nothing changes.
+    pub fn update_at_once(
+        &mut self,
+        slot: usize,
+        context: usize,
+        key: &F::Key,
+        input: &F::Input,
+        functions: &F,
+        issued: u64,
+        now: u64,
+    ) -> Option<F::Output>
+        requires later { self.old.moment < issued }
+        requires after { issued < now }
+        requires session { slot < 16 }
+        requires entered { IsEntered self.old slot }
+        requires context { context < 8 }
+        requires free { context_at self.old slot context ≡ None }
+        ensures done { IfSome result (λ shown. IsDoneAtOnce R.stands F.Key.cmp F.meaning F.code self.old self.new
+            slot context key.now input.now issued now shown) }
+        ensures declined { result ≡ None → (held : F.Value)
+            → ¬ IsAtHand F.Key.cmp F.code self.old slot key.now held }
+        ensures none { result ≡ None → self.new ≡ self.old }
+        ensures moment { self.new.moment ≤ now }
+    {
+        if self.home(functions, key) != self.number {
+            return None;
+        }
+        let Some((last, held)) = self.at_hand(slot, key, functions) else {
+            return None;
+        };
+        Some(self.update_at(
+            slot, context, key, input, last, held, functions, issued, now,
+        ))
+    }
+
+    /// The last record of a key and its value, where it may be changed in place.
+    fn at_hand(
+        &self,
+        slot: usize,
+        key: &F::Key,
+        functions: &F,
+    ) -> Option<(Entry<F::Key, F::Value>, F::Value)>
+        requires { IsEntered self.now slot }
+        ensures reached { IfSome result (λ r. reached_from F.Key.cmp F.code self.now slot key.now
+            (entry_for F.code self.now key.now) ≡ Found r.0) }
+        ensures met { IfSome result (λ r. met_at F.Key.cmp F.code self.now slot key.now ≡ Mutable r.1) }
+        ensures none { result ≡ None → (held : F.Value) → ¬ (met_at F.Key.cmp F.code self.now slot key.now ≡ Mutable held) }
+    {
+        self.known();
+        let entry = self.leads(functions, key);
+        let ChainPosition::Found(last) = self.reach(slot, key, entry) else {
+            return None;
+        };
+        let Some(held) = last.value else {
+            return None;
+        };
+        if !self.records.view(slot).is_mutable(last.address) {
+            return None;
+        }
+        Some((last, held))
+    }
+
+    /// Gives the last record of a key, which may be changed in place, its new value, by an update that is issued and done at
+    /// once.
+    fn update_at(
+        &mut self,
+        slot: usize,
+        _context: usize,
+        key: &F::Key,
+        input: &F::Input,
+        last: Entry<F::Key, F::Value>,
+        held: F::Value,
+        functions: &F,
+        _issued: u64,
+        now: u64,
+    ) -> F::Output
+        requires session { slot < 16 }
+        requires entered { IsEntered self.old slot }
+        requires own { partition_of self.old.count (F.code key.now) ≡ self.old.number }
+        requires free { context_at self.old slot _context ≡ None }
+        requires low { _context < 8 }
+        requires reached { reached_from F.Key.cmp F.code self.old slot key.now (entry_for F.code self.old key.now)
+            ≡ Found last }
+        requires met { met_at F.Key.cmp F.code self.old slot key.now ≡ Mutable held }
+        ensures done { IsDoneAtOnce R.stands F.Key.cmp F.meaning F.code self.old self.new
+            slot _context key.now input.now _issued now result }
+        ensures moment { self.new.moment ≤ now }
+    {
+        self.known();
+        records_change::<F::Key, F::Value>();
+        meetings_tell::<F::Key, F::Value>();
+        let mut value = held;
+        functions.in_place(key, input, &mut value);
+        let shown = functions.read(key, input, &value);
+        self.revalue(last.address, value, now);
+        shown
+    }
+}

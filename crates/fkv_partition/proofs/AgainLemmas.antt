@@ -1,0 +1,170 @@
+-- What appending the record of a place again leaves: the live map, what operations are to find, and a record that is spent.
+use Rattle.std.proofs.Common.{◌≡◌, inl, inr, ◌&&◌, ◌==◌, ◌+◌, ◌*◌, ◌<◌, ℕ, Bool, cond, nat_le, nat_lt, IsTrue, List, Option, Some, None, option_map, slice_get, slice_set, refl, sym, ap, subst, ◌∙◌, arith}
+use Rattle.std.proofs.lemmas.Bool.{cases_eq}
+use Rattle.std.specs.declared.cmp.Ordering.{Ordering}
+use Rattle.fkv_functions.specs.Plain.{IsKeyOrder}
+use Rattle.fkv_functions.proofs.ListLemmas.{get-set_cases, get-set_other}
+use Rattle.fkv_texts.specs.declared.entries.Entry.{Entry}
+use Rattle.fkv_texts.specs.Text.{entry_at, has_key, last_of, newest, value_of}
+use Rattle.fkv_texts.specs.Chains.{IsIn}
+use Rattle.fkv_texts.proofs.LastWhere.{last_where-in}
+use Rattle.fkv_texts.proofs.TextLemmas.{entry_at-in, entry_at-old, newest-below}
+use Rattle.fkv_index.specs.Words.{address_of}
+use Rattle.fkv_index.specs.Places.{word_at}
+use Rattle.fkv_operations.specs.declared.entries.IndexEntry.{IndexEntry}
+use Rattle.fkv_operations.specs.declared.operations.KeyedOp.{KeyedOp}
+use Rattle.fkv_operations.specs.declared.operations.KeyedOp.TheVariants.{Read, Upsert, Rmw, Delete}
+use Rattle.fkv_lookups.specs.Cleared.{IsSuperseded}
+use Rattle.fkv_lookups.specs.RecordsViews.{RecordsView, class_in, entry_of, IsEntryOf, with_record}
+use Rattle.fkv_lookups.specs.Traced.{IsTraced}
+use Rattle.fkv_lookups.proofs.TracedLemmas.{entry-stands, traced-held}
+use Rattle.fkv_lookups.proofs.ClearedLemmas.{spent-renewed, lives-renewed}
+use Rattle.fkv_core.specs.declared.contexts.Context.{Context}
+use Rattle.fkv_core.specs.declared.contexts.Loading.{Loading}
+use Rattle.fkv_core.specs.declared.contexts.Phase.{Phase}
+use Rattle.fkv_core.specs.declared.contexts.Phase.TheVariants as phase
+use Rattle.fkv_core.specs.Contexts.{joined, is_session, claim_of, claim_at}
+use Rattle.fkv_core.specs.Effect.{asked_by}
+use Rattle.fkv_core.specs.Grown.{IsPreserved}
+use Rattle.fkv_core.specs.Pending.{pending_by, pending_of, AllPend}
+use Rattle.fkv_core.specs.Sound.{IsLoading, StandsFor, IsSound}
+use Rattle.fkv_core.specs.Views.{CoreView, slots_of, context_at, with_appended}
+use Rattle.fkv_core.specs.Writes.{IsWrite}
+use Rattle.fkv_core.proofs.AskedLemmas.{context-other}
+use Rattle.fkv_core.proofs.EventLemmas.{stands-at}
+use Rattle.fkv_partition.specs.declared.relocations.Relocation.{Relocation}
+use Rattle.fkv_partition.specs.declared.relocations.Stage.{Stage}
+use Rattle.fkv_partition.specs.declared.relocations.Stage.TheVariants.{Fresh, Reading, Tracing, Ready}
+use Rattle.fkv_partition.specs.Views.{PartitionView, relocation_at, with_core, again_at}
+use Rattle.fkv_partition.specs.Stages.{StageStands}
+use Rattle.fkv_partition.specs.Sound.{IsCompacting}
+use Rattle.fkv_partition.specs.Relocating.{IsRelocating}
+use Rattle.fkv_partition.proofs.MoveLemmas.{past-place, open-here, stands-here}
+use Rattle.fkv_partition.proofs.KeepLemmas.{keep-event}
+
+-- ---- a context in which nothing is open is freed
+freed-here : {A : Type 0} (xs : List (Option A)) (i : ℕ) → joined (slice_get xs i) ≡ None → joined (slice_get (slice_set xs i None) i) ≡ None
+freed-here {A} xs i none = by_get (slice_get (slice_set xs i None) i) refl
+  where
+    by_get : (o : Option (Option A)) → slice_get (slice_set xs i None) i ≡ o → joined (slice_get (slice_set xs i None) i) ≡ None
+    by_get None h = ap joined h
+    by_get (Some z) h = elim (get-set_cases xs i i None z h) [
+      | inl new ↦ ap joined h ∙ sym new.1
+      | inr old ↦ ap joined (h ∙ sym old) ∙ none
+    ]
+
+freed-same : {A : Type 0} (xs : List (Option A)) (i q : ℕ) → joined (slice_get xs i) ≡ None → joined (slice_get (slice_set xs i None) q) ≡ joined (slice_get xs q)
+freed-same xs i q none = elim (cases_eq q i) [
+  | inl same ↦ ap (λ n. joined (slice_get (slice_set xs i None) n)) same ∙ freed-here xs i none ∙ sym (ap (λ n. joined (slice_get xs n)) same ∙ none)
+  | inr other ↦ ap joined (get-set_other xs i q None other)
+]
+
+-- ---- a moment passes
+moment-stage : {K V I : Type 0} (keeps : Bool) (cmp : K → K → Ordering) (code : K → ℕ) (v : CoreView K V I) (now place : ℕ) (stage : Stage K V) → StageStands keeps cmp code v place stage → StageStands keeps cmp code (record v { moment = now }) place stage
+moment-stage keeps cmp code v now place Fresh h = tt
+moment-stage keeps cmp code v now place (Reading begin) h = h
+moment-stage keeps cmp code v now place (Tracing entry l) h = h
+moment-stage keeps cmp code v now place (Ready entry kept) h = h
+
+pub keep-moment : {K V I : Type 0} {keeps : Bool} {cmp : K → K → Ordering} {code : K → ℕ} (v : PartitionView K V I) → IsCompacting keeps cmp code v → (now : ℕ) → IsCompacting keeps cmp code (with_core v (record v.core { moment = now }))
+keep-moment {keeps = keeps} {cmp = cmp} {code = code} v s now = record {
+  begun = s.begun;
+  low = s.low;
+  place = s.place;
+  cleared = s.cleared;
+  places = s.places;
+  stands = λ p x h. (let was = s.stands p x h in record { place = was.place; frozen = was.frozen; issued = was.issued; stage = moment-stage keeps cmp code v.core now x.target x.stage was.stage });
+  alone = s.alone;
+  housed = s.housed;
+}
+
+-- ---- what look-ups that wait for a page are to find
+module _ {K V : Type 0} {keeps : Bool} (cmp : K → K → Ordering) (code : K → ℕ) (r : RecordsView K V) (t : IsTraced keeps code r) (e : IndexEntry) (key : K) (value : Option V) where
+  wanted-same : (k : K) (l : Loading) → IsLoading keeps cmp code r k l → newest cmp (with_record r e key value).text k l.wanted ≡ newest cmp r.text k l.wanted
+  wanted-same k l h =
+      let o = t.regions.agree.in_order in
+      let on_disk = h.on_disk in
+      let taken : l.wanted < r.tail = omega (arith, on_disk, o.head, o.safe, t.regions.read_only) in
+      newest-below cmp r.text (record { address = r.tail; previous = address_of e.word; key = key; value = value }) k l.wanted taken
+
+  pending-same : {I : Type 0} (op : KeyedOp K V I) (p : Phase V) → StandsFor keeps cmp code r op p → pending_by cmp (with_record r e key value) op p ≡ pending_by cmp r op p
+  pending-same op phase.Fresh h = refl
+  pending-same op (phase.Confirm q) h = refl
+  pending-same op (phase.Prepared b s) h = refl
+  pending-same (Read k i) (phase.Load l) h = ap (λ o. cond (l.begin == r.begin) (Some (record { moment = l.looked; value = value_of o })) None) (wanted-same k l h)
+  pending-same (Upsert k u) (phase.Load l) h = absurd h
+  pending-same (Rmw k i) (phase.Load l) h = ap (λ o. cond (l.begin == r.begin) (Some (record { moment = l.looked; value = value_of o })) None) (wanted-same k l h)
+  pending-same (Delete k) (phase.Load l) h = absurd h
+
+module _ {K V I : Type 0} {keeps : Bool} (cmp : K → K → Ordering) (code : K → ℕ) (v : PartitionView K V I) (s : IsCompacting keeps cmp code v) (slot c now : ℕ) (x : Relocation K V) (h : relocation_at v slot c ≡ Some x) where
+  -- no operation is open in the context of a relocation
+  alone-here : joined (slice_get v.core.contexts (slot * 8 + c)) ≡ None
+  alone-here = s.alone (slot * 8 + c) x (open-here v slot c x h).here
+
+  pub unclaimed : claim_at v.core.contexts (slot * 8 + c) ≡ None
+  unclaimed = ap claim_of alone-here
+
+  contexts-same : (a d : ℕ) (e : IndexEntry) (key : K) (value : Option V) → context_at (with_appended v.core slot c e key value now) a d ≡ context_at v.core a d
+  contexts-same a d e key value = ap (λ o. cond (is_session (slots_of v.core) a && nat_lt d 8) o None) (freed-same v.core.contexts (slot * 8 + c) (a * 8 + d) alone-here)
+
+  all-pend : IsSound keeps cmp code v.core → (e : IndexEntry) (key : K) (value : Option V) → AllPend cmp v.core (with_appended v.core slot c e key value now)
+  all-pend p e key value a d = ap (pending_of cmp (with_record v.core.records e key value)) (contexts-same a d e key value) ∙ by_context (context_at v.core a d) refl
+    where
+      by_context : (o : Option (Context K V I)) → context_at v.core a d ≡ o → pending_of cmp (with_record v.core.records e key value) o ≡ pending_of cmp v.core.records o
+      by_context None g = refl
+      by_context (Some y) g = pending-same cmp code v.core.records p.traced e key value y.op y.phase (stands-at cmp code v.core p a d y g)
+
+  module _ (p : IsSound keeps cmp code v.core) (e : Entry K V) (kept : IndexEntry) (stands : StageStands keeps cmp code v.core x.target (Ready e kept)) (holds : word_at v.core.records.words kept.place ≡ kept.word) where
+    -- the entry stands as that of the record's class
+    entry-here : IsEntryOf v.core.records (class_in code v.core.records e.key) kept
+    entry-here = let was = stands.1.record_kept.entry in record { bucket = was.bucket; place = was.place; word = holds; final = was.final; tag = was.tag }
+
+    pub writes-again : IsWrite code v.core (record { entry = kept; key = e.key; value = e.value })
+    writes-again = record { own = stands.0; entry = entry-here }
+
+    leads : entry_of v.core.records (class_in code v.core.records e.key) ≡ Some (address_of kept.word)
+    leads =
+        let class = class_in code v.core.records e.key in
+        entry-stands v.core.records.words class.bucket class.tag kept.place kept.word p.traced.map entry-here
+
+    -- on a device that keeps it stands in the text, and is the last of its key
+    stands-in-text : IsTrue keeps → IsIn v.core.records.text e
+    stands-in-text yes_keeps = last_where-in (λ (d : Entry K V). nat_le d.address (address_of kept.word) && has_key cmp e.key d) v.core.records.text e (stands.1.record_kept.newest yes_keeps holds)
+
+    is-last : IsKeyOrder cmp → IsTrue keeps → last_of cmp v.core.records.text e.key ≡ Some e
+    is-last order yes_keeps = sym (traced-held cmp code v.core.records e.key order p.traced (address_of kept.word) leads) ∙ stands.1.record_kept.newest yes_keeps holds
+
+    -- every compacted partition's facts hold of what is appended
+    pub keep-again : IsTraced keeps code (with_appended v.core slot c kept e.key e.value now).records
+        → IsPreserved keeps cmp code v.core (with_appended v.core slot c kept e.key e.value now)
+        → IsCompacting keeps cmp code (with_core v (with_appended v.core slot c kept e.key e.value now))
+    keep-again t b = keep-event keeps cmp code v (with_appended v.core slot c kept e.key e.value now) s t b refl refl s.begun
+        (λ q y g none. freed-same v.core.contexts (slot * 8 + c) q alone-here ∙ none) (λ a d y low g inside. inside)
+
+    -- the record of the place is spent then
+    pub spent-again : IsKeyOrder cmp → IsTrue keeps → (d : Entry K V) → entry_at (with_record v.core.records kept e.key e.value).text x.target ≡ Some d → IsSuperseded cmp (with_record v.core.records kept e.key e.value).text d
+    spent-again order yes_keeps d there =
+        let r = v.core.records in
+        let n : Entry K V = record { address = r.tail; previous = address_of kept.word; key = e.key; value = e.value } in
+        let m = stands-in-text yes_keeps in
+        let below = p.traced.below m.place e m.here in
+        let at = stands.1.here in
+        let was : entry_at r.text x.target ≡ Some e = entry_at-in r.text p.traced.rising e m x.target at in
+        let is : entry_at (with_record r kept e.key e.value).text x.target ≡ entry_at r.text x.target = entry_at-old r.text n x.target (λ q. (let same : x.target ≡ r.tail = q in omega arith)) in
+        let both : Some e ≡ Some d = sym was ∙ sym is ∙ there in
+        let same : e ≡ d = cc in
+        subst (IsSuperseded cmp (with_record r kept e.key e.value).text) same (spent-renewed cmp r.text order n e refl below)
+
+    pub event-again : IsKeyOrder cmp → IsRelocating keeps cmp v (again_at v slot c x.target kept e now) slot c now
+    event-again order = record {
+      same = λ a d. ap (option_map asked_by) (contexts-same a d kept e.key e.value);
+      pend = λ yes_keeps. all-pend p kept e.key e.value;
+      live = λ yes_keeps. lives-renewed cmp v.core.records.text order (record { address = v.core.records.tail; previous = address_of kept.word; key = e.key; value = e.value }) e refl refl (is-last order yes_keeps);
+      others = λ a d other. context-other (slots_of v.core) v.relocations slot c a d None (open-here v slot c x h).low other;
+      rises = (past-place v x.target p.traced (stands-here v slot c x h s).place).0;
+      number = refl;
+      count = refl;
+      begin = refl;
+      regions = refl;
+      moment = refl;
+    }

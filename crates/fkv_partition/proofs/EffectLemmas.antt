@@ -1,0 +1,376 @@
+-- What events of the core, and of relocations, are to their partition.
+use Rattle.std.proofs.Common.{◌≡◌, ◌≢◌, Bool, true, false, cond, ◌&&◌, ℕ, ◌+◌, ◌*◌, ◌<◌, ◌≤◌, ◌⊎◌, inl, inr, IsTrue, List, length, Option, Some, None, Result, Ok, Err, IfOk, IfErr, OnOk, option_map, slice_get, slice_set, nat_lt, subst, refl, sym, ◌∙◌, ap, arith}
+use Rattle.std.proofs.lemmas.Bool.{cases_eq}
+use Rattle.std.proofs.lemmas.Bool.Decides.{nat_tests}
+use Rattle.std.specs.declared.cmp.Ordering.{Ordering}
+use Rattle.fkv_functions.specs.Meanings.{Meanings}
+use Rattle.fkv_functions.specs.Plain.{PlainMap, Same}
+use Rattle.fkv_functions.specs.declared.refusals.Refused.{Refused}
+use Rattle.fkv_functions.proofs.ListLemmas.{get-set_same}
+use Rattle.fkv_regions.specs.RegionsView.{RegionsView}
+use Rattle.fkv_texts.specs.Text.{live}
+use Rattle.fkv_operations.specs.After.{after, answer, key_of}
+use Rattle.fkv_operations.specs.Operations.{keyed, op_of, after_keyed, answer_keyed, map_after, answer_to}
+use Rattle.fkv_operations.specs.declared.operations.Answer.TheVariants.{Cleared}
+use Rattle.fkv_operations.specs.declared.operations.KeyedOp.{KeyedOp}
+use Rattle.fkv_operations.specs.declared.operations.KeyedOp.TheVariants.{Read, Upsert, Rmw, Delete}
+use Rattle.fkv_operations.specs.declared.operations.Op.{Op}
+use Rattle.fkv_operations.specs.declared.operations.Op.TheVariants.{Relocate}
+use Rattle.fkv_core.specs.declared.contexts.Context.{Context}
+use Rattle.fkv_core.specs.declared.contexts.Progress.{Progress}
+use Rattle.fkv_core.specs.declared.contexts.Progress.TheVariants.{Done, Next, NeedsBuild, NeedsLoad, Waits}
+use Rattle.fkv_core.specs.Contexts.{joined, is_session, context_in}
+use Rattle.fkv_core.specs.Effect as key_effect
+use Rattle.fkv_core.specs.Grown.{AllStay}
+use Rattle.fkv_core.specs.Pending as key_pending
+use Rattle.fkv_core.specs.Pending.{Pending, pending, pending_of, OthersPend, AllPend}
+use Rattle.fkv_core.specs.Truncating as key_truncating
+use Rattle.fkv_core.specs.Views.{CoreView, slots_of, context_at, live_of, partition_of}
+use Rattle.fkv_core.proofs.AskedLemmas.{open_at, IsOpenAt, context-inside, free-here}
+use Rattle.fkv_partition.specs.declared.relocations.Relocation.{Relocation}
+use Rattle.fkv_partition.specs.Effect.{Asked, asked_by, asked_of, asked, HasEffect, LeavesOthers, IsQuiet, IsOwn, IsIssue, IsEvent, IsGiveUp, to_find, IsAsking, Finds, HasLoaded, IsLoaded, IsTruncation}
+use Rattle.fkv_partition.specs.Relocating.{IsRelocating}
+use Rattle.fkv_partition.specs.Sound.{IsCompacting}
+use Rattle.fkv_partition.specs.Views.{PartitionView, with_core, relocation_at, with_relocation}
+use Rattle.fkv_partition.proofs.MoveLemmas.{open-here}
+
+-- an operation on a key is one of all operations
+pub keyed-op : {K V I : Type 0} (o : KeyedOp K V I) → keyed (op_of o) ≡ Some o
+keyed-op (Read k i) = refl
+keyed-op (Upsert k v) = refl
+keyed-op (Rmw k i) = refl
+keyed-op (Delete k) = refl
+
+-- ---- what is told of a result that is Ok
+pub if-ok : {A : Type 0} {P Q : A → Type 0} (r : Result A Refused) → ((x : A) → P x → Q x) → IfOk r P → IfOk r Q
+if-ok (Ok x) f h = f x h
+if-ok (Err e) f h = tt
+
+pub if-ok-at : {A : Type 0} {P Q : A → Type 0} (r : Result A Refused) → ((x : A) → r ≡ Ok x → P x → Q x) → IfOk r P → IfOk r Q
+if-ok-at (Ok x) f h = f x refl h
+if-ok-at (Err e) f h = tt
+
+pub if-err : {A : Type 0} {P : Refused → Type 0} (r : Result A Refused) → ((e : Refused) → r ≡ Err e → P e) → IfErr r P
+if-err (Ok x) h = tt
+if-err (Err e) h = h e refl
+
+pub on-ok : {A P Q : Type 0} (r : Result A Refused) → (P → Q) → OnOk r P → OnOk r Q
+on-ok (Ok x) f h = f h
+on-ok (Err e) f h = tt
+
+-- ---- what a context asks
+module _ {K V I : Type 0} (v : PartitionView K V I) (slot c : ℕ) where
+  pub asked-none : key_effect.asked v.core slot c ≡ None → relocation_at v slot c ≡ None → asked v slot c ≡ None
+  asked-none a b = ap (λ (o : Option (key_effect.Asked K V I)). asked_of o (relocation_at v slot c)) a ∙ ap (λ (r : Option (Relocation K V)). asked_of {I = I} None r) b
+
+  pub asked-key : (x : key_effect.Asked K V I) → key_effect.asked v.core slot c ≡ Some x → asked v slot c ≡ Some (asked_by x)
+  asked-key x h = ap (λ (o : Option (key_effect.Asked K V I)). asked_of o (relocation_at v slot c)) h
+
+  pub asked-relocation : (x : Relocation K V) → key_effect.asked v.core slot c ≡ None → relocation_at v slot c ≡ Some x → asked v slot c ≡ Some (record { number = x.number; op = Relocate })
+  asked-relocation x a b = ap (λ (o : Option (key_effect.Asked K V I)). asked_of o (relocation_at v slot c)) a ∙ ap (λ (r : Option (Relocation K V)). asked_of {I = I} None r) b
+
+  -- a context in which nothing is asked holds nothing
+  pub nothing-asked : asked v slot c ≡ None → (key_effect.asked v.core slot c ≡ None) × (relocation_at v slot c ≡ None)
+  nothing-asked h = by_parts (key_effect.asked v.core slot c) (relocation_at v slot c) refl refl h
+    where
+      by_parts : (a : Option (key_effect.Asked K V I)) (r : Option (Relocation K V)) → key_effect.asked v.core slot c ≡ a → relocation_at v slot c ≡ r → asked_of a r ≡ None → (key_effect.asked v.core slot c ≡ None) × (relocation_at v slot c ≡ None)
+      by_parts (Some x) r p q e = absurd (cc)
+      by_parts None (Some r) p q e = absurd (cc)
+      by_parts None None p q e = (p, q)
+
+  -- a context that asks nothing of keys waits for no page
+  pub not-pending : (cmp : K → K → Ordering) → key_effect.asked v.core slot c ≡ None → pending cmp v.core slot c ≡ None
+  not-pending cmp h = by_context (context_at v.core slot c) refl
+    where
+      by_context : (o : Option (Context K V I)) → context_at v.core slot c ≡ o → pending_of cmp v.core.records (context_at v.core slot c) ≡ None
+      by_context None e = ap (pending_of cmp v.core.records) e
+      by_context (Some x) e = let n : None ≡ Some (key_effect.asked_by x) = sym h ∙ ap (option_map key_effect.asked_by) e in absurd (cc)
+
+  pub closed-pending : (cmp : K → K → Ordering) → asked v slot c ≡ None → pending cmp v.core slot c ≡ None
+  closed-pending cmp h = not-pending cmp (nothing-asked h).0
+
+  pub asked-low : (x : Asked K V I) → asked v slot c ≡ Some x → c < 8
+  asked-low x h = by_parts (context_at v.core slot c) (relocation_at v slot c) refl refl
+    where
+      by_parts : (a : Option (Context K V I)) (r : Option (Relocation K V)) → context_at v.core slot c ≡ a → relocation_at v slot c ≡ r → c < 8
+      by_parts (Some y) r p q = (open_at (slots_of v.core) v.core.contexts slot c y p).low
+      by_parts None (Some y) p q = (open_at (slots_of v.core) v.relocations slot c y q).low
+      by_parts None None p q = let none = asked-none (ap (option_map key_effect.asked_by) p) q in let bad : None ≡ Some x = sym none ∙ h in absurd (cc)
+
+  -- no operation on a key is open in the context of a relocation
+  module _ {keeps : Bool} {cmp : K → K → Ordering} {code : K → ℕ} (s : IsCompacting keeps cmp code v) (x : Relocation K V) (h : relocation_at v slot c ≡ Some x) where
+    pub alone-asked : key_effect.asked v.core slot c ≡ None
+    alone-asked =
+        let o = open-here v slot c x h in
+        ap (option_map key_effect.asked_by) (context-inside (slots_of v.core) v.core.contexts slot c o.inside o.low ∙ s.alone (slot * 8 + c) x o.here)
+
+    pub relocation-asked : asked v slot c ≡ Some (record { number = x.number; op = Relocate })
+    relocation-asked = asked-relocation x alone-asked h
+
+-- ---- the core has changed: relocations stay
+module _ {K V I : Type 0} (v : PartitionView K V I) (new : CoreView K V I) where
+  pub relocations-same : new.records.regions ≡ v.core.records.regions → (s d : ℕ) → relocation_at (with_core v new) s d ≡ relocation_at v s d
+  relocations-same same s d = ap (λ (r : RegionsView). context_in r.epochs.slots v.relocations s d) same
+
+  housed-none : {keeps : Bool} {cmp : K → K → Ordering} {code : K → ℕ} → IsCompacting keeps cmp code v → (s d : ℕ) → d < 8 → is_session (slots_of v.core) s ≡ false → joined (slice_get v.relocations (s * 8 + d)) ≡ None
+  housed-none i s d low out = by_get (slice_get v.relocations (s * 8 + d)) refl
+    where
+      by_get : (o : Option (Option (Relocation K V))) → slice_get v.relocations (s * 8 + d) ≡ o → joined (slice_get v.relocations (s * 8 + d)) ≡ None
+      by_get None e = ap joined e
+      by_get (Some None) e = ap joined e
+      by_get (Some (Some x)) e = let yes = i.housed s d x low e in let bad : true ≡ false = sym yes ∙ out in absurd (cc)
+
+  -- who is entered stays, unless he has no relocation
+  pub relocations-stay : {keeps : Bool} {cmp : K → K → Ordering} {code : K → ℕ} → IsCompacting keeps cmp code v
+      → ((s : ℕ) → is_session (slots_of v.core) s ≡ true → (is_session (slots_of new) s ≡ true) ⊎ ((d : ℕ) → relocation_at v s d ≡ None))
+      → (s d : ℕ) → relocation_at (with_core v new) s d ≡ relocation_at v s d
+  relocations-stay i stay s d = by_cases (is_session (slots_of v.core) s) (is_session (slots_of new) s) (nat_lt d 8) refl refl refl
+    where
+      by_cases : (a b l : Bool) → is_session (slots_of v.core) s ≡ a → is_session (slots_of new) s ≡ b → nat_lt d 8 ≡ l → relocation_at (with_core v new) s d ≡ relocation_at v s d
+      by_cases true true l p q t = rw (p, q) refl
+      by_cases false false l p q t = rw (p, q) refl
+      by_cases false true false p q t = rw (p, q, t) refl
+      by_cases false true true p q t = rw (p, q, t) (housed-none i s d (grind (arith, nat_tests)) p)
+      by_cases true false l p q t = elim (stay s p) [
+        | inl stays ↦ (let bad : true ≡ false = sym stays ∙ q in absurd (cc))
+        | inr none ↦ (let gone : relocation_at (with_core v new) s d ≡ None = rw q refl in gone ∙ sym (none d))
+      ]
+
+  pub all-stay : AllStay v.core new → (s : ℕ) → is_session (slots_of v.core) s ≡ true → (is_session (slots_of new) s ≡ true) ⊎ ((d : ℕ) → relocation_at v s d ≡ None)
+  all-stay stay s inside = inl (stay s inside)
+
+  pub left-stay : (slot : ℕ) → ((s : ℕ) → s ≢ slot → is_session (slots_of v.core) s ≡ true → is_session (slots_of new) s ≡ true) → ((d : ℕ) (x : Relocation K V) → relocation_at v slot d ≡ Some x → ⊥)
+      → (s : ℕ) → is_session (slots_of v.core) s ≡ true → (is_session (slots_of new) s ≡ true) ⊎ ((d : ℕ) → relocation_at v s d ≡ None)
+  left-stay slot stay none s inside = elim (cases_eq s slot) [
+    | inl same ↦ inr (λ d. ap (λ n. relocation_at v n d) same ∙ by_held (relocation_at v slot d) refl d)
+    | inr other ↦ inl (stay s other inside)
+  ]
+    where
+      by_held : (o : Option (Relocation K V)) → o ≡ o → (d : ℕ) → relocation_at v slot d ≡ None
+      by_held o e d = by_one (relocation_at v slot d) refl
+        where
+          by_one : (r : Option (Relocation K V)) → relocation_at v slot d ≡ r → relocation_at v slot d ≡ None
+          by_one None h = h
+          by_one (Some x) h = absurd (none d x h)
+
+  pub quiet-event : {keeps : Bool} (now : ℕ) → ((s d : ℕ) → relocation_at (with_core v new) s d ≡ relocation_at v s d) → key_effect.IsQuiet keeps v.core new now → IsQuiet keeps v (with_core v new) now
+  quiet-event now stay q = record {
+    same = λ s d. ap (λ o. asked_of o (relocation_at (with_core v new) s d)) (q.same s d) ∙ ap (asked_of (key_effect.asked v.core s d)) (stay s d);
+    text = q.text;
+    number = q.number;
+    count = q.count;
+    begin = q.begin;
+    cleared = refl;
+    moment = q.moment;
+  }
+
+  pub truncated-event : {keeps : Bool} {cmp : K → K → Ordering} (page now : ℕ) → key_truncating.IsTruncation keeps cmp v.core new page now → IsTruncation keeps cmp v (with_core v new) page now
+  truncated-event page now t = record {
+    same = λ s d. ap (λ o. asked_of o (relocation_at (with_core v new) s d)) (t.same s d) ∙ ap (asked_of (key_effect.asked v.core s d)) (relocations-same t.regions s d);
+    pend = t.pend;
+    live = t.live;
+    begin = t.begin;
+    regions = t.regions;
+    number = t.number;
+    count = t.count;
+    cleared = refl;
+    moment = t.moment;
+  }
+
+  module _ (slot c now : ℕ) (none : relocation_at v slot c ≡ None) where
+    pub key-frame : key_effect.LeavesOthers v.core new slot c now → LeavesOthers v (with_core v new) slot c now
+    key-frame f = record {
+      others = λ s d other. ap (λ o. asked_of o (relocation_at (with_core v new) s d)) (f.others s d other) ∙ ap (asked_of (key_effect.asked v.core s d)) (relocations-same f.regions s d);
+      number = f.number;
+      count = f.count;
+      begin = f.begin;
+      regions = f.regions;
+      rises = omega arith;
+      moment = f.moment;
+    }
+
+    -- the context holds no relocation
+    gone : key_effect.LeavesOthers v.core new slot c now → relocation_at (with_core v new) slot c ≡ None
+    gone f = relocations-same f.regions slot c ∙ none
+
+    pub key-issue : (code : K → ℕ) (op : KeyedOp K V I) → key_effect.IsIssue code v.core new slot c op now → IsIssue code v (with_core v new) slot c (op_of op) now
+    key-issue code op i = record {
+      closed = asked-none v slot c i.closed none;
+      opened = asked-key (with_core v new) slot c (record { number = now; op = op }) i.opened;
+      own = λ o h. (let both : Some op ≡ Some o = sym (keyed-op op) ∙ h in let same : op ≡ o = cc in subst (λ (p : KeyedOp K V I). partition_of v.core.count (code (key_of p)) ≡ v.core.number) same i.own);
+      text = i.text;
+      cleared = refl;
+      frame = key-frame i.frame;
+    }
+
+    module _ {O : Type 0} (cmp : K → K → Ordering) (f : Meanings K V I O) where
+      key-effect : {R : Type 0} → relocation_at (with_core v new) slot c ≡ None → (m m' : PlainMap K V) (x : key_effect.Asked K V I) (progress : Progress K V I O R)
+          → key_effect.HasEffect cmp f m m' now x (key_effect.asked new slot c) progress
+          → HasEffect cmp f m m' now (asked_by x) (asked (with_core v new) slot c) progress
+      key-effect out m m' x (Done a effect) h = (
+        asked-none (with_core v new) slot c h.0 out,
+        h.1,
+        (λ q. h.2 q ∙ ap (λ (o : Option (KeyedOp K V I)). after_keyed cmp f m o q) (sym (keyed-op x.op))),
+        h.3 ∙ ap (λ (o : Option (KeyedOp K V I)). answer_keyed f m o) (sym (keyed-op x.op)),
+      )
+      key-effect out m m' x Next h = (asked-key (with_core v new) slot c x h.0, h.1)
+      key-effect out m m' x (Waits why) h = (asked-key (with_core v new) slot c x h.0, h.1)
+      key-effect out m m' x (NeedsLoad r a) h = (asked-key (with_core v new) slot c x h.0, h.1)
+      key-effect out m m' x (NeedsBuild ask) h = (asked-key (with_core v new) slot c x h.0, h.1, h.2, ap op_of h.3)
+
+      pub key-event : {R : Type 0} (progress : Progress K V I O R) → key_effect.IsEvent cmp f v.core new slot c now progress → IsEvent cmp f v (with_core v new) slot c now progress
+      key-event progress e = record {
+        question = asked_by e.question;
+        was = asked-key v slot c e.question e.was;
+        effect = key-effect (gone e.frame) (live_of cmp v.core) (live_of cmp new) e.question progress e.effect;
+        cleared = λ o h. refl;
+        frame = key-frame e.frame;
+      }
+
+      key-loaded : {R : Type 0} → relocation_at (with_core v new) slot c ≡ None → (x : key_effect.Asked K V I) (was then : Option (Pending V)) (progress : Progress K V I O R)
+          → key_pending.HasLoaded f x (key_effect.asked new slot c) was then progress
+          → HasLoaded f (asked_by x) (asked (with_core v new) slot c) was then progress
+      key-loaded out x was then (Done a effect) h = (
+        asked-none (with_core v new) slot c h.0 out,
+        (h.1.0, h.1.1, h.1.2, (key_of x.op, h.1.3.0, ap op_of h.1.3.1, h.1.3.2)),
+      )
+      key-loaded out x was then Next h = (asked-key (with_core v new) slot c x h.0, h.1, h.2)
+      key-loaded out x was then (Waits why) h = absurd h
+      key-loaded out x was then (NeedsLoad r b) h = (asked-key (with_core v new) slot c x h.0, h.1)
+      key-loaded out x was then (NeedsBuild ask) h = (asked-key (with_core v new) slot c x h.0, h.1, h.2, ap op_of h.3, h.4)
+
+      pub key-load : {R : Type 0} (progress : Progress K V I O R) → key_pending.IsLoad cmp f v.core new slot c now progress → IsLoaded cmp f v (with_core v new) slot c now progress
+      key-load progress l = record {
+        question = asked_by l.question;
+        was = asked-key v slot c l.question l.was;
+        effect = key-loaded (gone l.frame) l.question (pending cmp v.core slot c) (pending cmp new slot c) progress l.effect;
+        live = l.live;
+        cleared = refl;
+        frame = key-frame l.frame;
+      }
+
+    pub key-give-up : key_effect.IsGiveUp v.core new slot c now → IsGiveUp v (with_core v new) slot c now
+    key-give-up g = record {
+      question = asked_by g.question;
+      was = asked-key v slot c g.question g.was;
+      closed = asked-none (with_core v new) slot c g.closed (gone g.frame);
+      text = g.text;
+      cleared = refl;
+      frame = key-frame g.frame;
+    }
+
+    pub key-finds : {O R : Type 0} (cmp : K → K → Ordering) (progress : Progress K V I O R) → key_pending.Finds cmp v.core new slot c now progress → Finds cmp v (with_core v new) slot c now progress
+    key-finds cmp (Done a effect) h = h
+    key-finds cmp Next h = h
+    key-finds cmp (NeedsBuild ask) h = h
+    key-finds cmp (Waits why) h = h
+    key-finds cmp (NeedsLoad r a) h =
+        let x = key_effect.asked_by h.operation in
+        record {
+          question = asked_by x;
+          was = asked-key v slot c x (ap (option_map key_effect.asked_by) h.was);
+          asks = h.asks ∙ ap (to_find cmp v now) (sym (keyed-op h.operation.op));
+        }
+
+-- ---- a relocation goes on
+abbrev some_relocation : {K V I : Type 0} → ℕ → Option (Asked K V I)
+some_relocation k = Some (record { number = k; op = Relocate })
+
+-- what an event of it answers, by what stands in its context then
+abbrev pub Proceeds : {K V I O R : Type 0} → Relocation K V → Option (Relocation K V) → ℕ → Progress K V I O R → Type 0
+Proceeds x is now (Done a effect) = (is ≡ None) × (effect ≡ now) × (a ≡ Cleared)
+Proceeds {K} {V} x is now Next = (y : Relocation K V) × (is ≡ Some y) × (y.number ≡ x.number)
+Proceeds {K} {V} x is now (Waits why) = (y : Relocation K V) × (is ≡ Some y) × (y.number ≡ x.number)
+Proceeds {K} {V} x is now (NeedsLoad r a) = (y : Relocation K V) × (is ≡ Some y) × (y.number ≡ x.number)
+Proceeds x is now (NeedsBuild ask) = ⊥
+
+module _ {K V I : Type 0} {keeps : Bool} {cmp : K → K → Ordering} {code : K → ℕ} (v new : PartitionView K V I) (s : IsCompacting keeps cmp code v) (slot c now : ℕ) (r : IsRelocating keeps cmp v new slot c now) where
+  pub relocating-frame : LeavesOthers v new slot c now
+  relocating-frame = record {
+    others = λ a d other. ap (λ o. asked_of o (relocation_at new a d)) (r.same a d) ∙ ap (asked_of (key_effect.asked v.core a d)) (r.others a d other);
+    number = r.number;
+    count = r.count;
+    begin = r.begin;
+    regions = r.regions;
+    rises = r.rises;
+    moment = r.moment;
+  }
+
+  module _ (x : Relocation K V) (h : relocation_at v slot c ≡ Some x) where
+    closed-then : key_effect.asked new.core slot c ≡ None
+    closed-then = r.same slot c ∙ alone-asked v slot c s x h
+
+    again-asked : (y : Relocation K V) → relocation_at new slot c ≡ Some y → y.number ≡ x.number → asked new slot c ≡ Some (record { number = x.number; op = Relocate })
+    again-asked y is n = asked-relocation new slot c y closed-then is ∙ ap (some_relocation {K = K} {V = V} {I = I}) n
+
+    module _ {O R : Type 0} (f : Meanings K V I O) (yes_keeps : IsTrue keeps) where
+      proceeds-effect : (progress : Progress K V I O R) → Proceeds x (relocation_at new slot c) now progress
+          → HasEffect cmp f (live_of cmp v.core) (live_of cmp new.core) now (record { number = x.number; op = Relocate }) (asked new slot c) progress
+      proceeds-effect (Done a effect) p = (asked-none new slot c closed-then p.0, p.1, r.live yes_keeps, p.2)
+      proceeds-effect Next p = (again-asked p.0 p.1 p.2, r.live yes_keeps)
+      proceeds-effect (Waits why) p = (again-asked p.0 p.1 p.2, r.live yes_keeps)
+      proceeds-effect (NeedsLoad q a) p = (again-asked p.0 p.1 p.2, r.live yes_keeps)
+      proceeds-effect (NeedsBuild ask) p = absurd p
+
+      pub relocating-event : (progress : Progress K V I O R) → Proceeds x (relocation_at new slot c) now progress → IsEvent cmp f v new slot c now progress
+      relocating-event progress p = record {
+        question = record { number = x.number; op = Relocate };
+        was = relocation-asked v slot c s x h;
+        effect = proceeds-effect progress p;
+        cleared = λ o e. absurd (cc);
+        frame = relocating-frame;
+      }
+
+    pub relocating-finds : {O R : Type 0} (progress : Progress K V I O R) → Finds cmp v new slot c now progress
+    relocating-finds (Done a effect) = not-pending new slot c cmp closed-then
+    relocating-finds Next = not-pending new slot c cmp closed-then
+    relocating-finds (Waits why) = not-pending new slot c cmp closed-then
+    relocating-finds (NeedsBuild ask) = not-pending new slot c cmp closed-then
+    relocating-finds (NeedsLoad q a) = record {
+      question = record { number = x.number; op = Relocate };
+      was = relocation-asked v slot c s x h;
+      asks = not-pending new slot c cmp closed-then;
+    }
+
+  pub relocating-others : IsTrue keeps → OthersPend cmp v.core new.core slot c
+  relocating-others yes_keeps a d other = r.pend yes_keeps a d
+
+-- ---- the context of a relocation
+module _ {K V I : Type 0} (v : PartitionView K V I) (slot c now : ℕ) (x : Relocation K V) (h : relocation_at v slot c ≡ Some x) where
+  pub set-here : (y : Option (Relocation K V)) → context_in (slots_of v.core) (slice_set v.relocations (slot * 8 + c) y) slot c ≡ y
+  set-here y =
+      let o = open-here v slot c x h in
+      context-inside (slots_of v.core) (slice_set v.relocations (slot * 8 + c) y) slot c o.inside o.low ∙ ap joined (get-set_same v.relocations (slot * 8 + c) (Some x) y o.here)
+
+  -- it is given up
+  pub dropped-event : {keeps : Bool} {cmp : K → K → Ordering} {code : K → ℕ} → IsCompacting keeps cmp code v → IsRelocating keeps cmp v (with_relocation v slot c None now) slot c now
+      → IsGiveUp v (with_relocation v slot c None now) slot c now
+  dropped-event s r = record {
+    question = record { number = x.number; op = Relocate };
+    was = relocation-asked v slot c s x h;
+    closed = asked-none (with_relocation v slot c None now) slot c (alone-asked v slot c s x h) (set-here None);
+    text = refl;
+    cleared = refl;
+    frame = relocating-frame v (with_relocation v slot c None now) s slot c now r;
+  }
+
+-- a relocation is issued in a context that is free
+pub issued-event : {K V I : Type 0} {keeps : Bool} {cmp : K → K → Ordering} {code : K → ℕ} (v : PartitionView K V I) (slot c now : ℕ) (y : Relocation K V) → IsCompacting keeps cmp code v
+    → slot < 16 → c < 8 → is_session (slots_of v.core) slot ≡ true
+    → joined (slice_get v.core.contexts (slot * 8 + c)) ≡ None → joined (slice_get v.relocations (slot * 8 + c)) ≡ None → y.number ≡ now
+    → IsRelocating keeps cmp v (with_relocation v slot c (Some y) now) slot c now
+    → IsIssue code v (with_relocation v slot c (Some y) now) slot c Relocate now
+issued-event {K} {V} {I} v slot c now y s few low inside operation relocation number r =
+    let none : relocation_at v slot c ≡ None = context-inside (slots_of v.core) v.relocations slot c inside low ∙ relocation in
+    let closed : key_effect.asked v.core slot c ≡ None = ap (option_map key_effect.asked_by) (context-inside (slots_of v.core) v.core.contexts slot c inside low ∙ operation) in
+    let here = free-here (slots_of v.core) v.relocations slot c s.places few low inside none in
+    let then : relocation_at (with_relocation v slot c (Some y) now) slot c ≡ Some y =
+    context-inside (slots_of v.core) (slice_set v.relocations (slot * 8 + c) (Some y)) slot c inside low ∙ ap joined (get-set_same v.relocations (slot * 8 + c) None (Some y) here) in
+    record {
+      closed = asked-none v slot c closed none;
+      opened = asked-relocation (with_relocation v slot c (Some y) now) slot c y closed then ∙ ap (some_relocation {K = K} {V = V} {I = I}) number;
+      own = λ o e. absurd (cc);
+      text = refl;
+      cleared = refl;
+      frame = relocating-frame v (with_relocation v slot c (Some y) now) s slot c now r;
+    }

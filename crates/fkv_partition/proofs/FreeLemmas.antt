@@ -1,0 +1,155 @@
+-- What is told of contexts in which neither an operation nor a relocation stands.
+use Rattle.std.proofs.Common.{◌≡◌, ◌↔◌, Bool, true, false, not, cond, nat_lt, ℕ, zero, suc, ◌+◌, ◌-◌, ◌*◌, ◌<◌, IsTrue, IsSome, List, [], ◌∷◌, length, Option, Some, None, is_some, slice_get, slice_range, take, drop, position, zero-add, subst, refl, sym, ◌∙◌, ap, arith}
+use Rattle.std.specs.List.{position_or_len}
+use Rattle.std.proofs.lemmas.Bool.Decides.{nat_tests}
+use Rattle.fkv_core.specs.declared.contexts.Context.{Context}
+use Rattle.fkv_core.specs.Contexts.{joined, is_session}
+use Rattle.fkv_core.specs.Views.{slots_of, context_at}
+use Rattle.fkv_core.proofs.AskedLemmas.{open_at, context-inside, position-found, position-none}
+use Rattle.fkv_partition.specs.declared.relocations.Relocation.{Relocation}
+use Rattle.fkv_partition.specs.Views.{PartitionView, relocation_at}
+use Rattle.fkv_partition.specs.Beginning.{IsFree, IsFirstOpen}
+
+none-of : {A : Type 0} (o : Option A) → is_some o ≡ false → o ≡ None
+none-of None h = refl
+none-of (Some x) h = absurd (cc)
+
+some-of : {A : Type 0} (o : Option A) → is_some o ≡ true → (x : A) × (o ≡ Some x)
+some-of None h = absurd (cc)
+some-of (Some x) h = (x, refl)
+
+-- a context in which no operation is open is free where no relocation is
+pub free-told : {K V I : Type 0} (v : PartitionView K V I) (slot c : ℕ) → is_session (slots_of v.core) slot ≡ true → c < 8
+    → (o : Option (Context K V I)) → o ≡ context_at v.core slot c → is_some o ≡ false
+    → (x : Option (Relocation K V)) → x ≡ cond (nat_lt c 8) (joined (slice_get v.relocations (slot * 8 + c))) None
+    → (b : Bool) → is_some x ≡ not b
+    → IsTrue b ↔ IsFree v slot c
+free-told {K} {V} {I} v slot c inside low o is none x told b h = by_told b h
+  where
+    operation : joined (slice_get v.core.contexts (slot * 8 + c)) ≡ None
+    operation = sym (context-inside (slots_of v.core) v.core.contexts slot c inside low) ∙ sym is ∙ none-of o none
+
+    here : x ≡ joined (slice_get v.relocations (slot * 8 + c))
+    here = let t : nat_lt c 8 ≡ true = grind (arith, nat_tests) in told ∙ (rw t refl)
+
+    by_told : (b : Bool) → is_some x ≡ not b → IsTrue b ↔ IsFree v slot c
+    by_told true h = (λ yes. record { operation = operation; relocation = sym here ∙ none-of x h }, λ free. refl)
+    by_told false h = (λ yes. absurd (cc), λ free. absurd (let no : x ≡ None = here ∙ free.relocation in let bad : false ≡ true = ap is_some (sym no) ∙ h in cc))
+
+-- ---- the lowest of a session's contexts in which a relocation is open
+get-drop : {A : Type 0} (n i : ℕ) (xs : List A) → slice_get (drop n xs) i ≡ slice_get xs (n + i)
+get-drop zero i xs = rw zero-add refl
+get-drop (suc n) i [] = refl
+get-drop (suc n) i (x ∷ xs) = let one : suc n + i ≡ suc (n + i) = omega arith in rw one (get-drop n i xs)
+
+get-take : {A : Type 0} (n i : ℕ) (xs : List A) (x : A) → slice_get (take n xs) i ≡ Some x → slice_get xs i ≡ Some x
+get-take zero i xs x h = absurd (cc)
+get-take (suc n) i [] x h = absurd (cc)
+get-take (suc n) zero (y ∷ ys) x h = h
+get-take (suc n) (suc i) (y ∷ ys) x h = get-take n i ys x h
+
+take-low : {A : Type 0} (n i : ℕ) (xs : List A) (x : A) → slice_get (take n xs) i ≡ Some x → i < n
+take-low zero i xs x h = absurd (cc)
+take-low (suc n) i [] x h = absurd (cc)
+take-low (suc n) zero (y ∷ ys) x h = omega arith
+take-low (suc n) (suc i) (y ∷ ys) x h = let low = take-low n i ys x h in omega arith
+
+get-take_back : {A : Type 0} (n i : ℕ) (xs : List A) (x : A) → i < n → slice_get xs i ≡ Some x → slice_get (take n xs) i ≡ Some x
+get-take_back zero i xs x l h = absurd (omega arith)
+get-take_back (suc n) i [] x l h = absurd (cc)
+get-take_back (suc n) zero (y ∷ ys) x l h = h
+get-take_back (suc n) (suc i) (y ∷ ys) x l h = get-take_back n i ys x (omega arith) h
+
+-- whether one is open
+pub has-told : {K V I : Type 0} (v : PartitionView K V I) (slot : ℕ) → is_session (slots_of v.core) slot ≡ true
+    → (o : Option ℕ) → o ≡ position is_some (slice_range v.relocations (slot * 8) (slot * 8 + 8))
+    → (b : Bool) → is_some o ≡ b
+    → IsTrue b ↔ ((c : ℕ) × (x : Relocation K V) × (relocation_at v slot c ≡ Some x))
+has-told {K} {V} {I} v slot inside o is b told = subst (λ t. IsTrue t ↔ ((c : ℕ) × (x : Relocation K V) × (relocation_at v slot c ≡ Some x))) told (by_found o is)
+  where
+    none-open : None ≡ position is_some (slice_range v.relocations (slot * 8) (slot * 8 + 8)) → (c : ℕ) (x : Relocation K V) → relocation_at v slot c ≡ Some x → ⊥
+    none-open e c x at =
+        let a = open_at (slots_of v.core) v.relocations slot c x at in
+        let low = a.low in
+        let room : c < (slot * 8 + 8) - slot * 8 = omega arith in
+        let there = get-take_back ((slot * 8 + 8) - slot * 8) c (drop (slot * 8) v.relocations) (Some x) room (get-drop (slot * 8) c v.relocations ∙ a.here) in
+        let no : true ≡ false = position-none is_some (slice_range v.relocations (slot * 8) (slot * 8 + 8)) (sym e) c (Some x) there in
+        cc
+
+    one-open : (c : ℕ) → Some c ≡ position is_some (slice_range v.relocations (slot * 8) (slot * 8 + 8)) → (d : ℕ) × (x : Relocation K V) × (relocation_at v slot d ≡ Some x)
+    one-open c e =
+        let f = position-found is_some (slice_range v.relocations (slot * 8) (slot * 8 + 8)) c (sym e) in
+        let x = some-of f.item f.passes in
+        let room : (slot * 8 + 8) - slot * 8 ≡ 8 = omega arith in
+        let low = take-low 8 c (drop (slot * 8) v.relocations) f.item (subst (λ n. slice_get (take n (drop (slot * 8) v.relocations)) c ≡ Some f.item) room f.here) in
+        let here = sym (get-drop (slot * 8) c v.relocations) ∙ get-take ((slot * 8 + 8) - slot * 8) c (drop (slot * 8) v.relocations) f.item f.here in
+        (c, x.0, context-inside (slots_of v.core) v.relocations slot c inside low ∙ ap joined here ∙ x.1)
+
+    by_found : (o : Option ℕ) → o ≡ position is_some (slice_range v.relocations (slot * 8) (slot * 8 + 8)) → IsTrue (is_some o) ↔ ((c : ℕ) × (x : Relocation K V) × (relocation_at v slot c ≡ Some x))
+    by_found None e = (λ yes. absurd (cc), λ h. absurd (none-open e h.0 h.1 h.2))
+    by_found (Some c) e = (λ yes. one-open c e, λ h. refl)
+
+-- what stands before the lowest that is found
+before : {A : Type 0} (p : A → Bool) (xs : List A) (d : ℕ) (x : A) → d < position_or_len p xs → slice_get xs d ≡ Some x → p x ≡ false
+before p [] d x l h = absurd (omega arith)
+before {A} p (y ∷ ys) d x l h = by_case (before p ys) (p y) refl d l h
+  where
+    by_case : ((i : ℕ) (z : A) → i < position_or_len p ys → slice_get ys i ≡ Some z → p z ≡ false) → (b : Bool) → p y ≡ b → (i : ℕ) → i < cond (not (p y)) (1 + position_or_len p ys) 0 → slice_get (y ∷ ys) i ≡ Some x → p x ≡ false
+    by_case more true t i k e = let low : i < 0 = rw t at k in absurd (omega arith)
+    by_case more false t zero k e = let same : y ≡ x = cc in subst (λ z. p z ≡ false) same t
+    by_case more false t (suc i) k e = let low : suc i < 1 + position_or_len p ys = rw t at k in more i x (omega arith) e
+
+position-before : {A : Type 0} (p : A → Bool) (xs : List A) (i d : ℕ) (x : A) → position p xs ≡ Some i → d < i → slice_get xs d ≡ Some x → p x ≡ false
+position-before {A} p xs i d x h low at = by_test (nat_lt (position_or_len p xs) (length xs)) refl h
+  where
+    by_test : (b : Bool) → nat_lt (position_or_len p xs) (length xs) ≡ b → cond b (Some (position_or_len p xs)) None ≡ Some i → p x ≡ false
+    by_test true t k = let same : position_or_len p xs ≡ i = cc in before p xs d x (rw same low) at
+    by_test false t k = absurd (cc)
+
+-- a slot of no session has none
+pub none-outside : {K V I : Type 0} (v : PartitionView K V I) (slot : ℕ) → is_session (slots_of v.core) slot ≡ false → IsFirstOpen v slot None
+none-outside v slot out d = rw out refl
+
+-- the lowest that is open, or that none is
+pub first-told : {K V I : Type 0} (v : PartitionView K V I) (slot : ℕ) → is_session (slots_of v.core) slot ≡ true
+    → (o : Option ℕ) → o ≡ position is_some (slice_range v.relocations (slot * 8) (slot * 8 + 8))
+    → IsFirstOpen v slot o
+first-told {K} {V} {I} v slot inside o e = by_found o e
+  where
+    there : (c : ℕ) (x : Relocation K V) → relocation_at v slot c ≡ Some x → slice_get (slice_range v.relocations (slot * 8) (slot * 8 + 8)) c ≡ Some (Some x)
+    there c x at =
+        let a = open_at (slots_of v.core) v.relocations slot c x at in
+        let low = a.low in
+        let room : c < (slot * 8 + 8) - slot * 8 = omega arith in
+        get-take_back ((slot * 8 + 8) - slot * 8) c (drop (slot * 8) v.relocations) (Some x) room (get-drop (slot * 8) c v.relocations ∙ a.here)
+
+    none-open : None ≡ position is_some (slice_range v.relocations (slot * 8) (slot * 8 + 8)) → (d : ℕ) → relocation_at v slot d ≡ None
+    none-open e d = by_held (relocation_at v slot d) refl
+      where
+        by_held : (r : Option (Relocation K V)) → relocation_at v slot d ≡ r → relocation_at v slot d ≡ None
+        by_held None h = h
+        by_held (Some x) h =
+            let no : true ≡ false = position-none is_some (slice_range v.relocations (slot * 8) (slot * 8 + 8)) (sym e) d (Some x) (there d x h) in
+            absurd (cc)
+
+    none-before : (c : ℕ) → Some c ≡ position is_some (slice_range v.relocations (slot * 8) (slot * 8 + 8)) → (d : ℕ) → d < c → relocation_at v slot d ≡ None
+    none-before c e d less = by_held (relocation_at v slot d) refl
+      where
+        by_held : (r : Option (Relocation K V)) → relocation_at v slot d ≡ r → relocation_at v slot d ≡ None
+        by_held None h = h
+        by_held (Some x) h =
+            let no : true ≡ false = position-before is_some (slice_range v.relocations (slot * 8) (slot * 8 + 8)) c d (Some x) (sym e) less (there d x h) in
+            absurd (cc)
+
+    one-open : (c : ℕ) → Some c ≡ position is_some (slice_range v.relocations (slot * 8) (slot * 8 + 8)) → IsSome (relocation_at v slot c)
+    one-open c e =
+        let f = position-found is_some (slice_range v.relocations (slot * 8) (slot * 8 + 8)) c (sym e) in
+        let x = some-of f.item f.passes in
+        let room : (slot * 8 + 8) - slot * 8 ≡ 8 = omega arith in
+        let low = take-low 8 c (drop (slot * 8) v.relocations) f.item (subst (λ n. slice_get (take n (drop (slot * 8) v.relocations)) c ≡ Some f.item) room f.here) in
+        let here = sym (get-drop (slot * 8) c v.relocations) ∙ get-take ((slot * 8 + 8) - slot * 8) c (drop (slot * 8) v.relocations) f.item f.here in
+        subst IsSome (sym (context-inside (slots_of v.core) v.relocations slot c inside low ∙ ap joined here ∙ x.1)) refl
+
+    by_found : (r : Option ℕ) → r ≡ position is_some (slice_range v.relocations (slot * 8) (slot * 8 + 8)) → IsFirstOpen v slot r
+    by_found None e = none-open e
+    by_found (Some c) e = (one-open c e, none-before c e)

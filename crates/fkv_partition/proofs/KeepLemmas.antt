@@ -1,0 +1,344 @@
+-- What the changes of a compacted partition keep.
+use Rattle.std.proofs.Common.{◌≡◌, ◌≢◌, Bool, true, false, ℕ, ◌+◌, ◌*◌, ◌^◌, ◌<◌, ◌≤◌, ◌⊎◌, inl, inr, IsTrue, List, [], ◌∷◌, cond, nat_le, replicate, zero, suc, Option, Some, None, Result, Ok, Err, OnErr, slice_get, slice_set, refl, sym, ◌∙◌, ap, subst, arith}
+use Rattle.std.proofs.lemmas.List.{length-set}
+use Rattle.std.proofs.lemmas.Bool.{cases_lt, cases_eq}
+use Rattle.std.proofs.lemmas.Bool.Decides.{nat_tests}
+use Rattle.std.specs.declared.cmp.Ordering.{Ordering}
+use Rattle.fkv_records.specs.Places.{IsShape, IsRecordStart, first}
+use Rattle.fkv_regions.specs.Agree.{IsMark}
+use Rattle.fkv_regions.proofs.MoveLemmas.{mark-place}
+use Rattle.fkv_pages.specs.Views.{text_begin}
+use Rattle.fkv_texts.specs.declared.entries.Entry.{Entry}
+use Rattle.fkv_texts.specs.Places.{tail_after, IsLaidOut}
+use Rattle.fkv_texts.proofs.PlaceLemmas.{after, after-nearest}
+use Rattle.fkv_lookups.specs.Cleared.{IsCleared}
+use Rattle.fkv_lookups.specs.RecordsViews.{RecordsView}
+use Rattle.fkv_lookups.specs.Traced.{IsTraced}
+use Rattle.fkv_functions.specs.declared.refusals.Refused.{Refused}
+use Rattle.fkv_functions.proofs.ListLemmas.{get-set_cases}
+use Rattle.fkv_operations.specs.After.{key_of}
+use Rattle.fkv_operations.specs.declared.operations.KeyedOp.{KeyedOp}
+use Rattle.fkv_core.specs.Beginning.{Issues}
+use Rattle.fkv_core.proofs.AskedLemmas.{context-inside}
+use Rattle.fkv_partition.specs.Beginning.{IssuesOnKey, IsFirstFree}
+use Rattle.fkv_core.specs.Contexts.{joined, is_session}
+use Rattle.fkv_core.specs.Views.{CoreView, slots_of, partition_of}
+use Rattle.fkv_core.specs.Grown.{IsPreserved, NoneOpens, AllStay}
+use Rattle.fkv_partition.specs.declared.relocations.Relocation.{Relocation}
+use Rattle.fkv_partition.specs.declared.relocations.Stage.{Stage}
+use Rattle.fkv_partition.specs.declared.relocations.Stage.TheVariants.{Fresh, Reading, Tracing, Ready}
+use Rattle.fkv_partition.specs.Views.{PartitionView, with_core, place_behind, cleared_past, done_at, relocation_at}
+use Rattle.fkv_partition.specs.Inside.{view_of}
+use Rattle.fkv_partition.specs.Stages.{RelocationStands, StageStands}
+use Rattle.fkv_partition.specs.Sound.{IsCompacting}
+use Rattle.fkv_partition.proofs.SteadyLemmas.{IsSteady}
+
+-- ---- where the log ends
+kept-begin : (b : Bool) (begin closed : ℕ) → IsTrue b → text_begin b begin closed ≡ begin
+kept-begin true begin closed h = refl
+kept-begin false begin closed h = absurd (cc)
+
+begin-place : (bits size begin closed : ℕ) → (begin < 2 ^ 48 → IsRecordStart bits size begin) → (closed < 2 ^ 48 → IsRecordStart bits size closed) → (b : Bool) → text_begin b begin closed < 2 ^ 48 → IsRecordStart bits size (text_begin b begin closed)
+begin-place bits size begin closed p q true h = p h
+begin-place bits size begin closed p q false h = by_closed (nat_le begin closed) h
+  where
+    by_closed : (b : Bool) → cond b closed begin < 2 ^ 48 → IsRecordStart bits size (cond b closed begin)
+    by_closed true k = q k
+    by_closed false k = p k
+
+laid-end : {K V : Type 0} (bits size : ℕ) → IsShape bits size → (begin tail : ℕ) (text : List (Entry K V)) → (begin < 2 ^ 48 → IsRecordStart bits size begin) → IsLaidOut bits size begin tail text → tail < 2 ^ 48 → IsRecordStart bits size tail
+laid-end bits size s begin tail [] p h low = let same : begin ≡ tail = h in subst (IsRecordStart bits size) same (p (omega arith))
+laid-end bits size s begin tail (e ∷ es) p h low =
+    let on : begin < tail = h.1 in
+    let t = after bits size s begin (p (omega arith)) in
+    laid-end bits size s (tail_after bits size begin) tail es t.place h.2 low
+
+-- the next record stands at a place, where there can be one
+pub tail-place : {K V : Type 0} {keeps : Bool} {code : K → ℕ} (v : RecordsView K V) → IsTraced keeps code v → v.tail < 2 ^ 48 → IsRecordStart v.page_bits v.record_size v.tail
+tail-place {keeps} v t low = laid-end v.page_bits v.record_size t.shape v.from v.tail v.text from t.laid_out low
+  where
+    from : v.from < 2 ^ 48 → IsRecordStart v.page_bits v.record_size v.from
+    from =
+        let o = t.regions.agree.in_order in
+        let marked = subst (λ bits. IsMark bits v.regions.offsets.closed) t.regions.bits o.closed_mark in
+        subst (λ a. a < 2 ^ 48 → IsRecordStart v.page_bits v.record_size a) (sym t.begins) (begin-place v.page_bits v.record_size v.begin v.regions.offsets.closed
+        (mark-place v.page_bits v.record_size v.begin t.shape t.marked t.first)
+        (mark-place v.page_bits v.record_size v.regions.offsets.closed t.shape marked o.first) keeps)
+
+-- no record stands between a place and the next
+pub next-low : {K V : Type 0} {keeps : Bool} {code : K → ℕ} (v : RecordsView K V) → IsTraced keeps code v → (a : ℕ) → IsRecordStart v.page_bits v.record_size a → a < v.tail → tail_after v.page_bits v.record_size a ≤ v.tail
+next-low v t a place low =
+    let next = after v.page_bits v.record_size t.shape a place in
+    elim (cases_lt v.tail (2 ^ 48)) [
+      | inl under ↦ after-nearest v.page_bits v.record_size t.shape a v.tail place (tail-place v t under) low
+      | inr end ↦ (let most = next.most in omega arith)
+    ]
+
+none-in : {A : Type 0} (n p : ℕ) (x : A) → slice_get (replicate n None) p ≡ Some (Some x) → ⊥
+none-in zero p x e = cc
+none-in (suc n) zero x e = cc
+none-in (suc n) (suc p) x e = none-in n p x e
+
+module _ {K V I : Type 0} (keeps : Bool) (cmp : K → K → Ordering) (code : K → ℕ) where
+  -- ---- an event of the partition
+  -- a relocation stands for what it stood for
+  stage-kept : (old new : CoreView K V I) → new.number ≡ old.number → new.count ≡ old.count → IsTraced keeps code new.records → IsPreserved keeps cmp code old new
+      → (place : ℕ) → place < old.records.regions.offsets.safe_read_only → (stage : Stage K V) → StageStands keeps cmp code old place stage → StageStands keeps cmp code new place stage
+  stage-kept old new number count t b place frozen Fresh h = tt
+  stage-kept old new number count t b place frozen (Reading begin) h =
+      let up = b.grown.begin in
+      let head = b.grown.raised.head in
+      let past = h.past in
+      let on_disk = h.on_disk in
+      record { past = omega arith; begun = h.begun; on_disk = omega arith }
+  stage-kept old new number count t b place frozen (Tracing entry l) h = (
+    ap (λ n. partition_of n (code entry.key)) count ∙ h.0 ∙ sym number,
+    record {
+      here = h.1.here;
+      some = h.1.some;
+      begun = h.1.begun;
+      above = h.1.above;
+      loading = b.bears.loading entry.key l h.1.loading;
+      is = λ yes_keeps same.
+          let past = h.1.loading.past in
+          let up = b.grown.begin in
+          let stood : l.begin ≡ old.records.begin = omega (arith, past, up, same) in
+          let from : new.records.from ≡ new.records.begin = t.begins ∙ kept-begin keeps new.records.begin new.records.regions.offsets.closed yes_keeps in
+          let begun = h.1.begun in
+          b.grown.stay place (omega (arith, from, begun, same)) frozen ∙ h.1.is yes_keeps stood;
+    },
+  )
+  stage-kept old new number count t b place frozen (Ready entry kept) h =
+      (ap (λ n. partition_of n (code entry.key)) count ∙ h.0 ∙ sym number, record { here = h.1.here; record_kept = b.bears.last entry.key kept entry h.1.record_kept })
+
+  -- an event of the partition keeps what every compacted partition keeps, where no operation is opened beside a
+  -- relocation, no session with one is left, and Begin passes nothing that is not cleared
+  pub keep-event : (v : PartitionView K V I) (new : CoreView K V I)
+      → IsCompacting keeps cmp code v
+      → IsTraced keeps code new.records
+      → IsPreserved keeps cmp code v.core new
+      → new.number ≡ v.core.number
+      → new.count ≡ v.core.count
+      → new.records.begin ≤ v.cleared
+      → ((p : ℕ) (x : Relocation K V) → slice_get v.relocations p ≡ Some (Some x) → joined (slice_get v.core.contexts p) ≡ None → joined (slice_get new.contexts p) ≡ None)
+      → ((slot c : ℕ) (x : Relocation K V) → c < 8 → slice_get v.relocations (slot * 8 + c) ≡ Some (Some x) → is_session (slots_of v.core) slot ≡ true → is_session (slots_of new) slot ≡ true)
+      → IsCompacting keeps cmp code (with_core v new)
+  keep-event v new i t b number count begun opens stay =
+      let shape = b.grown.shape in
+      record {
+        begun = begun;
+        low = (let tail = b.grown.tail in let low = i.low in omega arith);
+        place = λ under. rw (shape.page_bits, shape.record_size) (i.place under);
+        cleared = λ yes_keeps. b.grown.clear v.cleared i.low yes_keeps (i.cleared yes_keeps);
+        places = i.places;
+        stands = λ p x h.
+            let was = i.stands p x h in
+            let safe = b.grown.raised.safe in
+            let frozen = was.frozen in
+            record {
+              place = rw (shape.page_bits, shape.record_size) was.place;
+              frozen = omega arith;
+              issued = was.issued;
+              stage = stage-kept v.core new number count t b x.target was.frozen x.stage was.stage;
+            };
+        alone = λ p x h. opens p x h (i.alone p x h);
+        housed = λ slot c x low h. stay slot c x low h (i.housed slot c x low h);
+      }
+
+  -- so it is where no operation is opened, and no session left, and Begin stands
+  pub keep-seated : (v : PartitionView K V I) (new : CoreView K V I)
+      → IsCompacting keeps cmp code v
+      → IsTraced keeps code new.records
+      → IsPreserved keeps cmp code v.core new
+      → IsSteady v.core new
+      → NoneOpens v.core new × AllStay v.core new
+      → IsCompacting keeps cmp code (with_core v new)
+  keep-seated v new i t b steady seats =
+      keep-event v new i t b steady.number steady.count (let begun = i.begun in let begin = steady.begin in omega arith) (λ p x h none. seats.0 p none) (λ slot c x low h inside. seats.1 slot inside)
+
+  -- ---- a relocation begins, goes on or ends
+  stage-moment : (v : CoreView K V I) (now place : ℕ) (stage : Stage K V) → StageStands keeps cmp code v place stage → StageStands keeps cmp code (record v { moment = now }) place stage
+  stage-moment v now place Fresh h = tt
+  stage-moment v now place (Reading begin) h = h
+  stage-moment v now place (Tracing entry l) h = h
+  stage-moment v now place (Ready entry kept) h = h
+
+  -- a relocation that may stand at a place
+  pub record Fits (v : PartitionView K V I) (cleared i : ℕ) (x : Relocation K V) : Type 0 where
+    pub stands : RelocationStands keeps cmp code v.core cleared x
+    pub alone : joined (slice_get v.core.contexts i) ≡ None
+    pub housed : (slot c : ℕ) → c < 8 → slot * 8 + c ≡ i → is_session (slots_of v.core) slot ≡ true
+
+  -- what is cleared may rise
+  pub record Rises (v : PartitionView K V I) (limit : ℕ) : Type 0 where
+    pub higher : v.cleared ≤ limit
+    pub low : limit ≤ v.core.records.tail
+    pub place : limit < 2 ^ 48 → IsRecordStart v.core.records.page_bits v.core.records.record_size limit
+    pub cleared : IsTrue keeps → IsCleared cmp v.core.records.text limit
+
+  pub keep-changed : (v : PartitionView K V I) (i now cleared : ℕ) (y : Option (Relocation K V))
+      → IsCompacting keeps cmp code v
+      → Rises v cleared
+      → ((x : Relocation K V) → y ≡ Some x → Fits v cleared i x)
+      → IsCompacting keeps cmp code (record { core = record v.core { moment = now }; cleared = cleared; relocations = slice_set v.relocations i y })
+  keep-changed v i now cleared y s r fits = record {
+    begun = (let up = r.higher in let begun = s.begun in omega arith);
+    low = r.low;
+    place = r.place;
+    cleared = r.cleared;
+    places = length-set v.relocations i y ∙ s.places;
+    stands = λ p x h. elim (get-set_cases v.relocations i p y (Some x) h) [
+      | inl e ↦ at-moment x (fits x e.1).stands
+      | inr o ↦ at-moment x (higher x (s.stands p x o))
+    ];
+    alone = λ p x h. elim (get-set_cases v.relocations i p y (Some x) h) [
+      | inl e ↦ ap (λ n. joined (slice_get v.core.contexts n)) e.0 ∙ (fits x e.1).alone
+      | inr o ↦ s.alone p x o
+    ];
+    housed = λ slot c x low h. elim (get-set_cases v.relocations i (slot * 8 + c) y (Some x) h) [
+      | inl e ↦ (fits x e.1).housed slot c low e.0
+      | inr o ↦ s.housed slot c x low o
+    ];
+  }
+    where
+      at-moment : (x : Relocation K V) → RelocationStands keeps cmp code v.core cleared x → RelocationStands keeps cmp code (record v.core { moment = now }) cleared x
+      at-moment x h = record { place = h.place; frozen = h.frozen; issued = h.issued; stage = stage-moment v.core now x.target x.stage h.stage }
+
+      higher : (x : Relocation K V) → RelocationStands keeps cmp code v.core v.cleared x → RelocationStands keeps cmp code v.core cleared x
+      higher x h = record { place = h.place; frozen = h.frozen; issued = (let up = r.higher in let issued = h.issued in omega arith); stage = h.stage }
+
+  -- what is cleared stays
+  pub rises-not : (v : PartitionView K V I) → IsCompacting keeps cmp code v → Rises v v.cleared
+  rises-not v s = record { higher = omega arith; low = s.low; place = s.place; cleared = s.cleared }
+
+  -- a place is cleared
+  pub rises-past : (v : PartitionView K V I) (place : ℕ) → IsCompacting keeps cmp code v
+      → IsTraced keeps code v.core.records
+      → place ≤ v.cleared
+      → IsRecordStart v.core.records.page_bits v.core.records.record_size place
+      → place < v.core.records.tail
+      → (IsTrue keeps → IsCleared cmp v.core.records.text place → IsCleared cmp v.core.records.text (tail_after v.core.records.page_bits v.core.records.record_size place))
+      → Rises v (cleared_past v place)
+  rises-past v place s t issued at low raised = by_test (nat_le v.cleared place) refl
+    where
+      r : RecordsView K V
+      r = v.core.records
+
+      by_test : (b : Bool) → nat_le v.cleared place ≡ b → Rises v (cond b (tail_after r.page_bits r.record_size place) v.cleared)
+      by_test false h = rises-not v s
+      by_test true h =
+          let under : v.cleared ≤ place = grind (arith, nat_tests, h) in
+          let same : v.cleared ≡ place = omega arith in
+          let next = after r.page_bits r.record_size t.shape place at in
+          let above = next.above in
+          record {
+            higher = omega arith;
+            low = next-low r t place at low;
+            place = next.place;
+            cleared = λ yes_keeps. raised yes_keeps (subst (IsCleared cmp r.text) same (s.cleared yes_keeps));
+          }
+
+  -- ---- the beginning
+  pub compacting-empty : (p : CoreView K V I) → p.records.begin ≡ 64 → p.records.tail ≡ 64 → p.records.text ≡ [] → IsCompacting keeps cmp code (record { core = p; cleared = 64; relocations = replicate 128 None })
+  compacting-empty p begin tail text = record {
+    begun = omega arith;
+    low = omega arith;
+    place = λ under. first;
+    cleared = λ yes_keeps. subst (λ t. IsCleared cmp t 64) (sym text) (λ e here low. absurd (cc));
+    places = refl;
+    stands = λ i x h. absurd (none-in 128 i x h);
+    alone = λ i x h. absurd (none-in 128 i x h);
+    housed = λ slot c x low h. absurd (none-in 128 (slot * 8 + c) x h);
+  }
+
+-- a place of the list of contexts is that of one session
+pub seat-of : (slots : List (Option ℕ)) (slot c : ℕ) → c < 8 → is_session slots slot ≡ true → (s d : ℕ) → d < 8 → s * 8 + d ≡ slot * 8 + c → is_session slots s ≡ true
+seat-of slots slot c low inside s d under same =
+    let one : s ≡ slot = omega arith in
+    ap (is_session slots) one ∙ inside
+
+-- what is cleared once a place is, however it is told
+pub done-is : {K V I : Type 0} (v : PartitionView K V I) (slot c place now : ℕ) (p : CoreView K V I) (cleared : ℕ) (items : List (Option (Relocation K V)))
+    → p ≡ record v.core { moment = now }
+    → items ≡ slice_set v.relocations (slot * 8 + c) None
+    → ((v.cleared ≤ place) × (cleared ≡ place_behind v place)) ⊎ ((place < v.cleared) × (cleared ≡ v.cleared))
+    → view_of p cleared items ≡ done_at v slot c place now
+done-is v slot c place now p cleared items is set (inl h) =
+    let low = h.0 in
+    let test : nat_le v.cleared place ≡ true = grind (arith, nat_tests) in
+    rw (is, set, h.1, test) refl
+done-is v slot c place now p cleared items is set (inr h) =
+    let high = h.0 in
+    let test : nat_le v.cleared place ≡ false = grind (arith, nat_tests) in
+    rw (is, set, h.1, test) refl
+
+-- where an event is refused, nothing changed
+pub on-err : {T E P Q : Type 0} (r : Result T E) → (P → Q) → OnErr r P → OnErr r Q
+on-err (Ok x) f h = tt
+on-err (Err e) f h = f h
+
+-- nothing where it is not something
+pub none-at : {A : Type 0} (o : Option A) → ((x : A) → o ≡ Some x → ⊥) → o ≡ None
+none-at None h = refl
+none-at (Some x) h = absurd (h x refl)
+
+module _ {K V I : Type 0} (keeps : Bool) (cmp : K → K → Ordering) (code : K → ℕ) where
+  -- a session without relocations is left
+  pub keep-left : (v : PartitionView K V I) (new : CoreView K V I) (slot : ℕ)
+      → IsCompacting keeps cmp code v
+      → IsTraced keeps code new.records
+      → IsPreserved keeps cmp code v.core new
+      → IsSteady v.core new
+      → NoneOpens v.core new × ((s : ℕ) → s ≢ slot → is_session (slots_of v.core) s ≡ true → is_session (slots_of new) s ≡ true)
+      → ((d : ℕ) (x : Relocation K V) → relocation_at v slot d ≡ Some x → ⊥)
+      → IsCompacting keeps cmp code (with_core v new)
+  keep-left v new slot i t b steady seats none =
+      keep-event keeps cmp code v new i t b steady.number steady.count (let begun = i.begun in let begin = steady.begin in omega arith)
+      (λ p x h free. seats.0 p free)
+      (λ s d x low h inside. elim (cases_eq s slot) [
+        | inl same ↦ absurd (here s d x low h inside same)
+        | inr other ↦ seats.1 s other inside
+      ])
+    where
+      here : (s d : ℕ) (x : Relocation K V) → d < 8 → slice_get v.relocations (s * 8 + d) ≡ Some (Some x) → is_session (slots_of v.core) s ≡ true → s ≡ slot → ⊥
+      here s d x low h inside same =
+          none d x (ap (λ n. relocation_at v n d) (sym same) ∙ context-inside (slots_of v.core) v.relocations s d inside low ∙ ap joined h)
+
+  -- an operation is issued in a context without a relocation
+  pub keep-issued : (v : PartitionView K V I) (new : CoreView K V I) (place : ℕ)
+      → IsCompacting keeps cmp code v
+      → IsTraced keeps code new.records
+      → IsPreserved keeps cmp code v.core new
+      → IsSteady v.core new
+      → ((p : ℕ) → p ≢ place → joined (slice_get v.core.contexts p) ≡ None → joined (slice_get new.contexts p) ≡ None) × AllStay v.core new
+      → joined (slice_get v.relocations place) ≡ None
+      → IsCompacting keeps cmp code (with_core v new)
+  keep-issued v new place i t b steady seats free =
+      keep-event keeps cmp code v new i t b steady.number steady.count (let begun = i.begun in let begin = steady.begin in omega arith)
+      (λ p x h none. seats.0 p (λ same. taken p x h same) none)
+      (λ s d x low h inside. seats.1 s inside)
+    where
+      taken : (p : ℕ) (x : Relocation K V) → slice_get v.relocations p ≡ Some (Some x) → p ≡ place → ⊥
+      taken p x h same =
+          let bad : Some x ≡ None = sym (ap joined h) ∙ ap (λ n. joined (slice_get v.relocations n)) same ∙ free in
+          cc
+
+  -- the lowest place that is not cleared may be taken once it is frozen
+  pub may-relocate : (v : PartitionView K V I) → IsCompacting keeps cmp code v → IsTraced keeps code v.core.records → v.cleared < v.core.records.regions.offsets.safe_read_only → (now : ℕ)
+      → RelocationStands keeps cmp code v.core v.cleared (record { number = now; target = v.cleared; stage = Fresh })
+  may-relocate v i t frozen now =
+      let o = t.regions.agree.in_order in
+      let safe = o.safe in
+      let most = o.most in
+      record { place = i.place (omega arith); frozen = frozen; issued = omega arith; stage = tt }
+
+-- what an operation that is issued is told
+module _ {K V I : Type 0} (code : K → ℕ) where
+  pub issues-told : (v : PartitionView K V I) (new : CoreView K V I) (slot c : ℕ) (op : KeyedOp K V I) (now : ℕ) → IsFirstFree v slot (Some c) → Issues code v.core new slot c op now (Ok tt)
+      → IssuesOnKey code v (with_core v new) slot op now (Ok c)
+  issues-told v new slot c op now lowest (Issues.stranger n is r) = absurd (cc)
+  issues-told v new slot c op now lowest (Issues.issues h low free n is r) = IssuesOnKey.issues c h n lowest (ap (with_core v) is) refl
+
+  pub issues-err : (old new : CoreView K V I) (slot c : ℕ) (op : KeyedOp K V I) (now : ℕ) (why : Refused) → partition_of old.count (code (key_of op)) ≡ old.number → Issues code old new slot c op now (Err why) → ⊥
+  issues-err old new slot c op now why own (Issues.stranger n is r) = n own
+  issues-err old new slot c op now why own (Issues.issues h low free n is r) = cc

@@ -1,0 +1,142 @@
+-- What the calls of operations come to: those on keys, and those of relocations.
+use Rattle.std.proofs.Common.{◌≡◌, ◌≢◌, Bool, true, ℕ, ◌+◌, ◌*◌, ◌<◌, ◌⊎◌, inl, inr, IsTrue, List, Option, Some, None, Result, Ok, Err, IfOk, IfErr, OnOk, OnErr, subst, refl, sym, ◌∙◌, ap}
+use Rattle.std.specs.declared.cmp.Ordering.{Ordering}
+use Rattle.fkv_functions.specs.Meanings.{Meanings}
+use Rattle.fkv_functions.specs.declared.refusals.Refused.{Refused}
+use Rattle.fkv_operations.specs.Operations.{keyed, op_of}
+use Rattle.fkv_operations.specs.declared.operations.KeyedOp.{KeyedOp}
+use Rattle.fkv_operations.specs.declared.operations.KeyedOp.TheVariants as on_key
+use Rattle.fkv_operations.specs.declared.operations.Op.{Op}
+use Rattle.fkv_operations.specs.declared.operations.Op.TheVariants.{Read, Upsert, Rmw, Delete, Relocate}
+use Rattle.fkv_core.specs.declared.contexts.Progress.{Progress}
+use Rattle.fkv_core.specs.Beginning as beginning
+use Rattle.fkv_core.specs.Effect as key_effect
+use Rattle.fkv_core.specs.Pending as key_pending
+use Rattle.fkv_core.specs.Pending.{pending, OthersPend, AllPend}
+use Rattle.fkv_core.specs.Views.{CoreView, slots_of}
+use Rattle.fkv_core.proofs.AskedLemmas.{context-inside}
+use Rattle.fkv_partition.specs.declared.relocations.Relocation.{Relocation}
+use Rattle.fkv_partition.specs.declared.relocations.Stage.TheVariants.{Fresh}
+use Rattle.fkv_partition.specs.Beginning.{IssuesOnKey, Relocates, Drops}
+use Rattle.fkv_partition.specs.Effect.{IsQuiet, IsIssue, IsEvent, IsLoad, IsLoaded, IsGiveUp, Finds, asked_of}
+use Rattle.fkv_partition.specs.Relocating.{IsRelocating}
+use Rattle.fkv_partition.specs.Sound.{IsCompacting}
+use Rattle.fkv_partition.specs.Views.{PartitionView, with_core, at_moment, relocation_at, with_relocation}
+use Rattle.fkv_partition.proofs.EffectLemmas.{Proceeds, key-issue, key-event, key-load, key-give-up, key-finds, issued-event, dropped-event, relocating-event, relocating-finds}
+use Rattle.fkv_partition.proofs.TruncateLemmas.{relocating-set}
+use Rattle.fkv_partition.proofs.MoveLemmas.{event-set, open-here}
+
+-- ---- a moment passes
+pub passed-event : {K V I : Type 0} (keeps : Bool) (v : PartitionView K V I) (now : ℕ) → IsQuiet keeps v (at_moment v now) now
+passed-event keeps v now = record { same = λ s d. refl; text = λ yes_keeps. refl; number = refl; count = refl; begin = refl; cleared = refl; moment = refl }
+
+pub passed-pends : {K V I : Type 0} (cmp : K → K → Ordering) (v : PartitionView K V I) (now : ℕ) → AllPend cmp v.core (at_moment v now).core
+passed-pends cmp v now s d = refl
+
+-- ---- which operation it is
+pub keyed-is : {K V I : Type 0} (op : Op K V I) (o : KeyedOp K V I) → keyed op ≡ Some o → op_of o ≡ op
+keyed-is {K} {V} {I} (Read k i) o h = let same : on_key.Read k i ≡ o = cc in ap op_of (sym same)
+keyed-is (Upsert k v) o h = let same : on_key.Upsert k v ≡ o = cc in ap op_of (sym same)
+keyed-is (Rmw k i) o h = let same : on_key.Rmw k i ≡ o = cc in ap op_of (sym same)
+keyed-is (Delete k) o h = let same : on_key.Delete k ≡ o = cc in ap op_of (sym same)
+keyed-is Relocate o h = absurd (cc)
+
+pub keyed-not : {K V I : Type 0} (op : Op K V I) → keyed op ≡ None → op ≡ Relocate
+keyed-not (Read k i) h = absurd (cc)
+keyed-not (Upsert k v) h = absurd (cc)
+keyed-not (Rmw k i) h = absurd (cc)
+keyed-not (Delete k) h = absurd (cc)
+keyed-not Relocate h = refl
+
+pub keyed-some : {K V I : Type 0} (op : Op K V I) (o : KeyedOp K V I) → keyed op ≡ Some o → op ≡ Relocate → ⊥
+keyed-some {K} {V} {I} op o h is = let none : None ≡ Some o = sym (ap keyed is) ∙ h in cc
+
+-- ---- an issue
+pub issue-on-key : {K V I : Type 0} (code : K → ℕ) (old new : PartitionView K V I) (slot now : ℕ) (op : Op K V I) (o : KeyedOp K V I) (r : Result ℕ Refused) → keyed op ≡ Some o → new ≡ with_core old new.core
+    → IfOk r (λ c. key_effect.IsIssue code old.core new.core slot c o now) → IfOk r (λ c. relocation_at old slot c ≡ None) → IfOk r (λ c. IsIssue code old new slot c op now)
+issue-on-key {K} {V} {I} code old new slot now op o (Err e) is rest event closed = tt
+issue-on-key {K} {V} {I} code old new slot now op o (Ok c) is rest event closed =
+    subst (λ (p : Op K V I). IsIssue code old new slot c p now) (keyed-is op o is)
+    (subst (λ (w : PartitionView K V I). IsIssue code old w slot c (op_of o) now) (sym rest) (key-issue old new.core slot c now closed code o event))
+
+pub issues-pend : {K V I : Type 0} (cmp : K → K → Ordering) (code : K → ℕ) (old new : PartitionView K V I) (slot : ℕ) (op : KeyedOp K V I) (now : ℕ) (result : Result ℕ Refused)
+    → ((p q : CoreView K V I) (c : ℕ) (r : Result (Unit {0}) Refused) → beginning.Issues code p q slot c op now r → AllPend cmp p q)
+    → IssuesOnKey code old new slot op now result → AllPend cmp old.core new.core
+issues-pend cmp code old new slot op now result law (IssuesOnKey.unknown a b h) = rw b (λ s d. refl)
+issues-pend cmp code old new slot op now result law (IssuesOnKey.stranger a n b h) = rw b (λ s d. refl)
+issues-pend cmp code old new slot op now result law (IssuesOnKey.full a own none b h) = rw b (λ s d. refl)
+issues-pend cmp code old new slot op now result law (IssuesOnKey.issues c inside own free is h) =
+    rw is (law old.core _ c (Ok tt) (beginning.Issues.issues inside free.0 (context-inside (slots_of old.core) old.core.contexts slot c inside free.0 ∙ free.1.operation) own refl refl))
+
+pub relocates-event : {K V I : Type 0} {keeps : Bool} {cmp : K → K → Ordering} (code : K → ℕ) (old new : PartitionView K V I) (slot now : ℕ) (op : Op K V I) (r : Result ℕ Refused) → op ≡ Relocate → IsCompacting keeps cmp code old
+    → IfOk r (λ c. (slot < 16) × (c < 8)) → Relocates old new slot now r → IfOk r (λ c. IsIssue code old new slot c op now)
+relocates-event {K} {V} {I} {keeps} {cmp} code old new slot now op r is s within does = subst (λ (p : Op K V I). IfOk r (λ c. IsIssue code old new slot c p now)) (sym is) (by_rule r within does)
+  where
+    by_rule : (q : Result ℕ Refused) → IfOk q (λ c. (slot < 16) × (c < 8)) → Relocates old new slot now q → IfOk q (λ c. IsIssue code old new slot c Relocate now)
+    by_rule (Err e) w d = tt
+    by_rule (Ok c) w (Relocates.unknown a b h) = absurd (cc)
+    by_rule (Ok c) w (Relocates.not_due a n b h) = absurd (cc)
+    by_rule (Ok c) w (Relocates.full a n none b h) = absurd (cc)
+    by_rule (Ok c) w (Relocates.relocates d inside low free b h) =
+        let same : c ≡ d = cc in
+        subst (λ (u : PartitionView K V I). IsIssue code old u slot c Relocate now) (sym b)
+        (subst (λ n. IsIssue code old (with_relocation old slot d (Some (record { number = now; target = old.cleared; stage = Fresh })) now) slot n Relocate now) (sym same)
+        (issued-event old slot d now (record { number = now; target = old.cleared; stage = Fresh }) s w.0 free.0 inside free.1.operation free.1.relocation refl (relocating-set keeps cmp old slot d now (Some (record { number = now; target = old.cleared; stage = Fresh })) free.0)))
+
+pub relocates-pend : {K V I : Type 0} (cmp : K → K → Ordering) (old new : PartitionView K V I) (slot now : ℕ) (r : Result ℕ Refused) → Relocates old new slot now r → AllPend cmp old.core new.core
+relocates-pend cmp old new slot now r (Relocates.unknown a b h) = rw b (λ s d. refl)
+relocates-pend cmp old new slot now r (Relocates.not_due a n b h) = rw b (λ s d. refl)
+relocates-pend cmp old new slot now r (Relocates.full a n none b h) = rw b (λ s d. refl)
+relocates-pend cmp old new slot now r (Relocates.relocates c inside low free b h) = rw b (λ s d. refl)
+
+-- ---- what goes on
+pub ends-key : {K V I : Type 0} (old new : PartitionView K V I) (slot c now : ℕ) → relocation_at old slot c ≡ None → new ≡ with_core old new.core
+    → (new.core ≡ old.core) ⊎ key_effect.IsGiveUp old.core new.core slot c now → (new ≡ old) ⊎ IsGiveUp old new slot c now
+ends-key old new slot c now none rest (inl same) = inl (rest ∙ ap (with_core old) same)
+ends-key {K} {V} {I} old new slot c now none rest (inr g) = inr (subst (λ (w : PartitionView K V I). IsGiveUp old w slot c now) (sym rest) (key-give-up old new.core slot c now none g))
+
+module _ {K V I O R : Type 0} (cmp : K → K → Ordering) (f : Meanings K V I O) (old new : PartitionView K V I) (slot c now : ℕ) where
+  module _ (none : relocation_at old slot c ≡ None) (rest : new ≡ with_core old new.core) where
+    pub goes-event : (r : Result (Progress K V I O R) Refused) → IfOk r (key_effect.IsEvent cmp f old.core new.core slot c now) → IfOk r (IsEvent cmp f old new slot c now)
+    goes-event (Err e) h = tt
+    goes-event (Ok p) h = subst (λ (w : PartitionView K V I). IsEvent cmp f old w slot c now p) (sym rest) (key-event old new.core slot c now none cmp f p h)
+
+    pub goes-finds : (r : Result (Progress K V I O R) Refused) → ((p : Progress K V I O R) → r ≡ Ok p → key_pending.Finds cmp old.core new.core slot c now p) → IfOk r (Finds cmp old new slot c now)
+    goes-finds (Err e) h = tt
+    goes-finds (Ok p) h = subst (λ (w : PartitionView K V I). Finds cmp old w slot c now p) (sym rest) (key-finds old new.core slot c now none cmp p (h p refl))
+
+    pub loads-event : (r : Result (Progress K V I O R) Refused) → IfOk r (key_pending.IsLoad cmp f old.core new.core slot c now) → IfOk r (IsLoad cmp f old new slot c now)
+    loads-event (Err e) h = tt
+    loads-event (Ok p) h = IsLoad.on_key (subst (λ (w : PartitionView K V I). IsLoaded cmp f old w slot c now p) (sym rest) (key-load old new.core slot c now none cmp f p h))
+
+  module _ {keeps : Bool} {code : K → ℕ} (s : IsCompacting keeps cmp code old) (x : Relocation K V) (h : relocation_at old slot c ≡ Some x) where
+    pub relocation-event : IsTrue keeps → (r : Result (Progress K V I O R) Refused) → IfOk r (λ p. IsRelocating keeps cmp old new slot c now) → ((p : Progress K V I O R) → r ≡ Ok p → Proceeds x (relocation_at new slot c) now p) → IfOk r (IsEvent cmp f old new slot c now)
+    relocation-event yes_keeps (Err e) k told = tt
+    relocation-event yes_keeps (Ok p) k told = relocating-event old new s slot c now k x h f yes_keeps p (told p refl)
+
+    pub relocation-load : IsTrue keeps → (r : Result (Progress K V I O R) Refused) → IfOk r (λ p. IsRelocating keeps cmp old new slot c now) → ((p : Progress K V I O R) → r ≡ Ok p → Proceeds x (relocation_at new slot c) now p) → IfOk r (IsLoad cmp f old new slot c now)
+    relocation-load yes_keeps (Err e) k told = tt
+    relocation-load yes_keeps (Ok p) k told = IsLoad.relocation (relocating-event old new s slot c now k x h f yes_keeps p (told p refl)) (relocating-finds old new s slot c now k x h p)
+
+    pub relocation-finds : (r : Result (Progress K V I O R) Refused) → IfOk r (λ p. IsRelocating keeps cmp old new slot c now) → IfOk r (Finds cmp old new slot c now)
+    relocation-finds (Err e) k = tt
+    relocation-finds (Ok p) k = relocating-finds old new s slot c now k x h p
+
+  pub relocation-others : {keeps : Bool} → IsTrue keeps → (r : Result (Progress K V I O R) Refused) → IfOk r (λ p. IsRelocating keeps cmp old new slot c now) → ((e : Refused) → r ≡ Err e → AllPend cmp old.core new.core) → OthersPend cmp old.core new.core slot c
+  relocation-others yes_keeps (Err e) k told a d other = told e refl a d
+  relocation-others yes_keeps (Ok p) k told a d other = k.pend yes_keeps a d
+
+-- where nothing changed, all pend
+pub same-pends : {K V I A : Type 0} (cmp : K → K → Ordering) (old new : PartitionView K V I) (r : Result A Refused) → OnErr r (new ≡ old) → (e : Refused) → r ≡ Err e → AllPend cmp old.core new.core
+same-pends {K} {V} {I} {A} cmp old new (Err e) same why is s d = ap (λ (w : PartitionView K V I). pending cmp w.core s d) same
+same-pends cmp old new (Ok x) same why is s d = absurd (cc)
+
+-- ---- a relocation is given up
+pub drops-event : {K V I : Type 0} {keeps : Bool} {cmp : K → K → Ordering} {code : K → ℕ} (old new : PartitionView K V I) (s : IsCompacting keeps cmp code old) (slot c now : ℕ) (r : Result (Unit {0}) Refused) → Drops old new slot c now r → OnOk r (IsGiveUp old new slot c now)
+drops-event old new s slot c now r (Drops.unknown none same told) = rw told tt
+drops-event {K} {V} {I} {keeps} {cmp} old new s slot c now r (Drops.drops x here is told) =
+    rw told (subst (λ (w : PartitionView K V I). IsGiveUp old w slot c now) (sym is) (dropped-event old slot c now x here s (event-set keeps cmp old slot c now (open-here old slot c x here).low None)))
+
+pub drops-pend : {K V I : Type 0} (cmp : K → K → Ordering) (old new : PartitionView K V I) (slot c now : ℕ) (r : Result (Unit {0}) Refused) → Drops old new slot c now r → AllPend cmp old.core new.core
+drops-pend cmp old new slot c now r (Drops.unknown none same told) = rw same (λ s d. refl)
+drops-pend cmp old new slot c now r (Drops.drops x here is told) = rw is (λ s d. refl)

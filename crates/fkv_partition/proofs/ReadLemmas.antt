@@ -1,0 +1,158 @@
+-- What the page that a relocation waited for says of the record of its place.
+use Rattle.std.proofs.Common.{◌≡◌, ◌≢◌, ◌+◌, ◌^◌, ◌<◌, ◌≤◌, inl, inr, ℕ, Bool, true, false, cond, length, nat_le, option_map, IsTrue, IsSome, List, [], ◌∷◌, Option, Some, None, slice_get, unwrap_or, refl, sym, ap, subst, ◌∙◌, arith}
+use Rattle.std.proofs.lemmas.Bool.Decides.{nat_tests}
+use Rattle.std.proofs.lemmas.Option.{slice_get_cases}
+use Rattle.std.specs.Prelude.{Result, Ok, IfSome}
+use Rattle.std.specs.declared.cmp.Ordering.{Ordering}
+use Rattle.fkv_functions.specs.declared.refusals.Refused.{Refused}
+use Rattle.fkv_functions.specs.declared.refusals.Refused.TheVariants.{Stranger}
+use Rattle.fkv_functions.specs.declared.refusals.What.TheVariants as what
+use Rattle.fkv_records.specs.Places.{IsRecordStart, page_at, behind}
+use Rattle.fkv_device.specs.Standing.{Standing}
+use Rattle.fkv_regions.specs.Agree.{IsMark}
+use Rattle.fkv_regions.proofs.MoveLemmas.{mark-place}
+use Rattle.fkv_texts.specs.declared.entries.Entry.{Entry}
+use Rattle.fkv_texts.specs.Places.{IsLaidOut, tail_after}
+use Rattle.fkv_texts.specs.Text.{entry_at}
+use Rattle.fkv_texts.proofs.PlaceLemmas.{entry_there}
+use Rattle.fkv_pages.specs.Views.{text_begin}
+use Rattle.fkv_pages.proofs.PageLemmas.{begin_place, begins_low}
+use Rattle.fkv_lookups.specs.RecordsViews.{RecordsView}
+use Rattle.fkv_lookups.specs.Traced.{IsTraced}
+use Rattle.fkv_core.specs.Sound.{IsSound}
+use Rattle.fkv_core.proofs.DecidedLemmas.{page_flushed}
+use Rattle.fkv_partition.specs.declared.relocations.Relocation.{Relocation}
+use Rattle.fkv_partition.specs.declared.relocations.Stage.{Stage}
+use Rattle.fkv_partition.specs.declared.relocations.Stage.TheVariants.{Reading}
+use Rattle.fkv_partition.specs.Going.{Awaited, awaited, awaited_by}
+use Rattle.fkv_partition.specs.Reading.{AwaitsPage}
+use Rattle.fkv_partition.specs.Sound.{IsCompacting}
+use Rattle.fkv_partition.specs.Stages.{IsReading, StageStands}
+use Rattle.fkv_partition.specs.Views.{PartitionView, relocation_at}
+use Rattle.fkv_partition.proofs.MoveLemmas.{stands-here}
+
+-- ---- a record stands at each place from where the text begins to below the tail
+after-most : (bits size a : ℕ) → tail_after bits size a ≤ 2 ^ 48
+after-most bits size a = by_next (behind bits size a) (nat_le (behind bits size a + size) (2 ^ 48)) refl
+  where
+    by_next : (b : ℕ) (t : Bool) → nat_le (b + size) (2 ^ 48) ≡ t → unwrap_or (cond t (Some b) None) (2 ^ 48) ≤ 2 ^ 48
+    by_next b true is = grind (arith, nat_tests)
+    by_next b false is = omega arith
+
+tail-most : {K V : Type 0} (bits size begin tail : ℕ) (text : List (Entry K V)) → begin ≤ 2 ^ 48 → IsLaidOut bits size begin tail text → tail ≤ 2 ^ 48
+tail-most bits size begin tail [] le h = let same : begin ≡ tail = h in omega arith
+tail-most bits size begin tail (e ∷ es) le h = tail-most bits size (tail_after bits size begin) tail es (after-most bits size begin) h.2
+
+module _ {K V : Type 0} {keeps : Bool} {code : K → ℕ} (v : RecordsView K V) (t : IsTraced keeps code v) where
+  first-low : v.from ≤ 2 ^ 48
+  first-low =
+      let o = t.regions.agree.in_order in
+      rw t.begins (begins_low keeps v.begin v.regions.offsets.closed (2 ^ 48) (omega (arith, t.regions.headed, o.head, o.safe, o.most)) (omega (arith, o.closed, o.head, o.safe, o.most)))
+
+  first-place : v.from < 2 ^ 48 → IsRecordStart v.page_bits v.record_size v.from
+  first-place =
+      let o = t.regions.agree.in_order in
+      let marked = subst (λ bits. IsMark bits v.regions.offsets.closed) t.regions.bits o.closed_mark in
+      rw t.begins (begin_place v.page_bits v.record_size v.begin v.regions.offsets.closed
+      (mark-place v.page_bits v.record_size v.begin t.shape t.marked t.first)
+      (mark-place v.page_bits v.record_size v.regions.offsets.closed t.shape marked o.first) keeps)
+
+  place-held : (a : ℕ) → IsRecordStart v.page_bits v.record_size a → v.from ≤ a → a < v.tail → IsSome (entry_at v.text a)
+  place-held a place low high =
+      entry_there v.page_bits v.record_size t.shape v.from v.tail a v.text first-place
+      (tail-most v.page_bits v.record_size v.from v.tail v.text first-low t.laid_out) t.laid_out place low high
+
+  -- on a device that keeps, the text begins at Begin
+  pub kept-from : IsTrue keeps → v.from ≡ v.begin
+  kept-from yes_keeps = t.begins ∙ by_keeps keeps yes_keeps
+    where
+      by_keeps : (b : Bool) → IsTrue b → text_begin b v.begin v.regions.offsets.closed ≡ v.begin
+      by_keeps true h = refl
+      by_keeps false h = absurd (let bad : false ≡ true = h in cc)
+
+  pub frozen-held : (a : ℕ) → IsRecordStart v.page_bits v.record_size a → v.begin ≤ a → a < v.regions.offsets.safe_read_only → IsTrue keeps → IsSome (entry_at v.text a)
+  frozen-held a place high frozen yes_keeps =
+      let from = kept-from yes_keeps in
+      let o = t.regions.agree.in_order in
+      place-held a place (omega arith) (omega (arith, o.safe, t.regions.read_only))
+
+-- ---- what a relocation waits for
+pub same-awaited : (a b : Awaited) → Some a ≡ Some b → (a.begin ≡ b.begin) × (a.wanted ≡ b.wanted)
+same-awaited a b h =
+    let same : a ≡ b = cc in
+    (ap (λ (w : Awaited). w.begin) same, ap (λ (w : Awaited). w.wanted) same)
+
+abbrev pub pair : ℕ → ℕ → ℕ × ℕ
+pair a b = (a, b)
+
+abbrev pub pair_of : Awaited → ℕ × ℕ
+pair_of a = (a.begin, a.wanted)
+
+told-none : (o : Option Awaited) → None ≡ option_map pair_of o → o ≡ None
+told-none None h = refl
+told-none (Some a) h = absurd (cc)
+
+told-some : (o : Option Awaited) (begin wanted : ℕ) → Some (pair begin wanted) ≡ option_map pair_of o → o ≡ Some (record { begin = begin; wanted = wanted })
+told-some None begin wanted h = absurd (cc)
+told-some (Some a) begin wanted h =
+    let same : pair begin wanted ≡ pair_of a = cc in
+    let first : begin ≡ a.begin = ap (λ (w : ℕ × ℕ). w.0) same in
+    let second : wanted ≡ a.wanted = ap (λ (w : ℕ × ℕ). w.1) same in
+    rw (first, second) refl
+
+module _ {K V I : Type 0} (v : PartitionView K V I) (slot c : ℕ) (x : Relocation K V) where
+  pub awaits-none : None ≡ option_map pair_of (awaited_by x.target x.stage) → awaited x ≡ None
+  awaits-none h = told-none (awaited_by x.target x.stage) h
+
+  pub awaits-some : (begin wanted : ℕ) → Some (pair begin wanted) ≡ option_map pair_of (awaited_by x.target x.stage) → awaited x ≡ Some (record { begin = begin; wanted = wanted })
+  awaits-some begin wanted h = told-some (awaited_by x.target x.stage) begin wanted h
+
+  pub awaits-page : (begin wanted : ℕ) → relocation_at v slot c ≡ Some x → Some (pair begin wanted) ≡ option_map pair_of (awaited_by x.target x.stage) → begin ≡ v.core.records.begin → AwaitsPage v slot c x wanted
+  awaits-page begin wanted here h same = record {
+    here = here;
+    awaits = subst (λ (n : ℕ). awaited x ≡ Some (record { begin = n; wanted = wanted })) same (awaits-some begin wanted h);
+  }
+
+module _ {K V I : Type 0} {keeps : Bool} (cmp : K → K → Ordering) (code : K → ℕ) (v : PartitionView K V I) (sound : IsSound keeps cmp code v.core) (s : IsCompacting keeps cmp code v) (slot c : ℕ) (x : Relocation K V) (begin : ℕ) (at : x.stage ≡ Reading begin) where
+  reading : relocation_at v slot c ≡ Some x → IsReading v.core.records x.target begin
+  reading here = subst (λ (q : Stage K V). StageStands keeps cmp code v.core x.target q) at (stands-here v slot c x here s).stage
+
+  module _ (same : begin ≡ v.core.records.begin) (here : relocation_at v slot c ≡ Some x) where
+    pub place-begun : v.core.records.begin ≤ x.target
+    place-begun = let h = (reading here).begun in omega arith
+
+    -- its page is flushed
+    pub place-flushed : page_at v.core.records.page_bits x.target < length v.core.records.receipts
+    place-flushed = page_flushed v.core.records x.target sound.traced place-begun (reading here).on_disk
+
+    -- what is read there is the text's
+    pub place-read : {E : Type 0} (e : Entry K V) (result : Result (Entry K V) E) → result ≡ Ok e
+        → (IsTrue keeps → IfSome (entry_at v.core.records.text x.target) (λ y. result ≡ Ok y))
+        → IsTrue keeps → entry_at v.core.records.text x.target ≡ Some e
+    place-read {E} e result is kept yes_keeps =
+        let st = stands-here v slot c x here s in
+        by_entry (entry_at v.core.records.text x.target) (frozen-held v.core.records sound.traced x.target st.place place-begun st.frozen yes_keeps) (kept yes_keeps)
+      where
+        by_entry : (o : Option (Entry K V)) → IsSome o → IfSome o (λ y. result ≡ Ok y) → o ≡ Some e
+        by_entry None some h = absurd (cc)
+        by_entry (Some y) some h = let both : Ok y ≡ Ok e = sym h ∙ is in let same : y ≡ e = cc in ap Some same
+
+-- the receipt that is kept of a page that was read by another
+pub stranger-held : {K V : Type 0} (u v : RecordsView K V) (page wanted : ℕ) (st : Standing) (why : Refused)
+    → u ≡ v
+    → page ≡ page_at u.page_bits wanted
+    → page_at v.page_bits wanted < length v.receipts
+    → IfSome (slice_get u.receipts page) (λ s. (s ≢ st) × (why ≡ Stranger what.Receipt s.number st.number))
+    → (s : Standing) × (slice_get v.receipts (page_at v.page_bits wanted) ≡ Some s) × (s ≢ st) × (why ≡ Stranger what.Receipt s.number st.number)
+stranger-held {K} {V} u v page wanted st why same page_is there told =
+    by_get (slice_get v.receipts (page_at v.page_bits wanted)) refl
+    (subst (λ (w : RecordsView K V). IfSome (slice_get w.receipts (page_at w.page_bits wanted)) (λ s. (s ≢ st) × (why ≡ Stranger what.Receipt s.number st.number))) same
+    (subst (λ (n : ℕ). IfSome (slice_get u.receipts n) (λ s. (s ≢ st) × (why ≡ Stranger what.Receipt s.number st.number))) page_is told))
+  where
+    by_get : (o : Option Standing) → slice_get v.receipts (page_at v.page_bits wanted) ≡ o → IfSome o (λ s. (s ≢ st) × (why ≡ Stranger what.Receipt s.number st.number))
+        → (s : Standing) × (slice_get v.receipts (page_at v.page_bits wanted) ≡ Some s) × (s ≢ st) × (why ≡ Stranger what.Receipt s.number st.number)
+    by_get None h t = elim (slice_get_cases v.receipts (page_at v.page_bits wanted)).1 [
+      | inl some ↦ absurd (let bad = sym h ∙ some.2 in cc)
+      | inr past ↦ absurd (let le = past.0 in omega (arith, there))
+    ]
+    by_get (Some s) h t = (s, h, t.0, t.1)

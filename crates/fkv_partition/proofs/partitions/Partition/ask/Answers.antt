@@ -1,0 +1,14 @@
+use Rattle.std.proofs.Common.{refl, subst}
+use Rattle.fkv_records.specs.Places.{page_at}
+use Rattle.fkv_pages.specs.Loads.{IsHeldBy}
+use Rattle.fkv_partition.specs.Checking.{asks}
+use Rattle.fkv_partition.proofs.MoveLemmas.{event-set}
+use Rattle.fkv_partition.proofs.partitions.Partition.ask.Goals as goal
+
+pub returns-clause-does : goal.returns-clause-does
+returns-clause-does g c =
+    let held = rw (c.page_of-page.ensures, c.records.ensures, c.records-2.ensures) at c.in-Ok.ensures.stands in
+    rw c.set_stage.ensures (asks c.in-Ok.receipt (subst (λ u. IsHeldBy u.core.records.receipts (page_at u.core.records.page_bits c.args.wanted) (g.R.Receipt.stands c.in-Ok.receipt)) c.self.view_is held) refl refl)
+
+pub returns-clause-event : goal.returns-clause-event
+returns-clause-event g c = rw c.set_stage.ensures (event-set g.R.Receipt.keeps g.F.Key.Ord.cmp c.args.self.now c.args.slot c.args.context c.args.now c.requires.context _)

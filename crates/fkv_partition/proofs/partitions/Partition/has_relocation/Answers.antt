@@ -1,0 +1,10 @@
+use Rattle.std.proofs.Common.{◌∙◌, sym}
+use Rattle.fkv_partition.specs.Inside.{view_of}
+use Rattle.fkv_partition.proofs.FreeLemmas.{has-told}
+use Rattle.fkv_partition.proofs.partitions.Partition.has_relocation.Goals as goal
+
+pub returns-then-is_session : goal.returns-then-is_session
+returns-then-is_session g c =
+    let v = view_of c.self.inside.core c.self.inside.cleared c.self.inside.relocations.items in
+    rw (← c.self.view_is)
+    (has-told v c.args.slot (sym c.is_session.ensures.value ∙ c.if-is_session.true) c.open_context.result (rw c.deref.ensures.value at c.open_context.ensures.value) c.is_some.result (sym c.is_some.ensures))

@@ -1,5 +1,0 @@
-use Rattle.fkv_partition.proofs.EventLemmas.{some-all}
-use Rattle.fkv_partition.proofs.partitions.Partition.open.Goals as goal
-
-pub returns-clause-session : goal.returns-clause-session
-returns-clause-session g c = some-all c.open_at.result (c.is_entered.ensures.within c.if-not-is_entered.false)

@@ -1,0 +1,328 @@
+use Rattle.std.proofs.Common.{◌≡◌, ◌<◌, true, false, Ok, Err, length, refl, sym, ap, subst, ◌∙◌, arith}
+use Rattle.fkv_functions.proofs.KeyOrder.{key_order}
+use Rattle.fkv_records.specs.Places.{page_at, IsRecordStart}
+use Rattle.fkv_pages.specs.Spelled.{IsEntryIn}
+use Rattle.fkv_partition.specs.Reading.{LoadsOn}
+use Rattle.fkv_partition.proofs.MoveLemmas.{event-done, past-place, stands-here}
+use Rattle.fkv_partition.proofs.ReadLemmas.{stranger-held}
+use Rattle.fkv_partition.proofs.TraceLemmas.{page-came, way-flushed, has-page, traces-to, way-dead, way-last, above-place, way-below, lower-flushed, way-further}
+use Rattle.fkv_partition.proofs.partitions.Partition.trace_on.Goals as goal
+
+pub is_own-requires : goal.is_own-requires
+is_own-requires g c =
+    let ord = g.met.F.Key.Ord in
+    let known = g.met.F.Key.FixedKey in
+    let order = key_order g.F.Key.PartialEq.eq g.F.Key.Ord.cmp ord.matches_eq known.exact ord.total in
+    let v = c.args.self.now in
+    let x = c.args.relocation.now in
+    let a = c.requires.awaits in
+    let p = c.args.loaded.now in
+    let sound = c.known.ensures.core in
+    let s = c.known.ensures.compacting in
+    let e = c.args.entry in
+    let l = c.args.loading in
+    let at = c.requires.traces in
+    let there = way-flushed g.F.Key.Ord.cmp g.F.Functions.code order v sound s c.args.slot c.args.context x e l a at in
+    let held = subst (λ u. page_at u.core.records.page_bits l.wanted < length u.core.records.receipts) (sym c.self.view_is) there in
+    rw (c.page_of-page.ensures, c.records.ensures, c.records-2.ensures) held
+
+pub returns-in-Err-clause-does : goal.returns-in-Err-clause-does
+returns-in-Err-clause-does g c =
+    let ord = g.met.F.Key.Ord in
+    let known = g.met.F.Key.FixedKey in
+    let order = key_order g.F.Key.PartialEq.eq g.F.Key.Ord.cmp ord.matches_eq known.exact ord.total in
+    let v = c.args.self.now in
+    let x = c.args.relocation.now in
+    let a = c.requires.awaits in
+    let p = c.args.loaded.now in
+    let sound = c.known.ensures.core in
+    let s = c.known.ensures.compacting in
+    let e = c.args.entry in
+    let l = c.args.loading in
+    let at = c.requires.traces in
+    let there = way-flushed g.F.Key.Ord.cmp g.F.Functions.code order v sound s c.args.slot c.args.context x e l a at in
+    let held = subst (λ u. page_at u.core.records.page_bits l.wanted < length u.core.records.receipts) (sym c.self.view_is) there in
+    let z = stranger-held c.self.inside.core.records v.core.records c.page_of-page.result l.wanted (g.R.Receipt.stands p.receipt) c.in-Err.refused (ap (λ u. u.core.records) c.self.view_is) (rw c.records.ensures at c.page_of-page.ensures) there (rw c.records-2.ensures at c.in-Err.ensures.stranger) in
+    LoadsOn.stranger x l.wanted p z.0 a refl z.1 z.2 refl (ap Err z.3)
+
+pub trace_in-requires : goal.trace_in-requires
+trace_in-requires g c =
+    let ord = g.met.F.Key.Ord in
+    let known = g.met.F.Key.FixedKey in
+    let order = key_order g.F.Key.PartialEq.eq g.F.Key.Ord.cmp ord.matches_eq known.exact ord.total in
+    let v = c.args.self.now in
+    let x = c.args.relocation.now in
+    let a = c.requires.awaits in
+    let p = c.args.loaded.now in
+    let sound = c.known.ensures.core in
+    let s = c.known.ensures.compacting in
+    let e = c.args.entry in
+    let l = c.args.loading in
+    let at = c.requires.traces in
+    let there = way-flushed g.F.Key.Ord.cmp g.F.Functions.code order v sound s c.args.slot c.args.context x e l a at in
+    let held = subst (λ u. page_at u.core.records.page_bits l.wanted < length u.core.records.receipts) (sym c.self.view_is) there in
+    record { flushed = rw c.records-3.ensures held }
+
+pub returns-in-Err-trace_in-clause-does : goal.returns-in-Err-trace_in-clause-does
+returns-in-Err-trace_in-clause-does g c =
+    let ord = g.met.F.Key.Ord in
+    let known = g.met.F.Key.FixedKey in
+    let order = key_order g.F.Key.PartialEq.eq g.F.Key.Ord.cmp ord.matches_eq known.exact ord.total in
+    let v = c.args.self.now in
+    let x = c.args.relocation.now in
+    let a = c.requires.awaits in
+    let p = c.args.loaded.now in
+    let sound = c.known.ensures.core in
+    let s = c.known.ensures.compacting in
+    let e = c.args.entry in
+    let l = c.args.loading in
+    let at = c.requires.traces in
+    let held = rw c.records-2.ensures at (c.in_default.ensures.own.0 refl) in
+    let came = page-came g.R.Receipt.keeps (IsEntryIn g.F.Key.Fixed.bytes_of g.F.Value.Fixed.bytes_of g.F.Key.Known.is_known g.F.Value.Known.is_known g.F.Key.Fixed.SIZE g.F.Value.Fixed.SIZE) g.F.Key.Ord.cmp g.F.Functions.code c.self.inside.core.records v.core.records e.key c.page_of-page.result l.wanted (g.R.Receipt.stands p.receipt) p.bytes c.trace_in.result (ap (λ u. u.core.records) c.self.view_is) (rw c.records.ensures at c.page_of-page.ensures) held (rw c.records-3.ensures at c.trace_in.ensures.read) (rw c.records-3.ensures at c.trace_in.ensures.kept) in
+    let page : c.page_of-page.result ≡ page_at v.core.records.page_bits l.wanted = rw c.records.ensures at c.page_of-page.ensures ∙ ap (λ u. page_at u.core.records.page_bits l.wanted) c.self.view_is in
+    let is = c.in-Err-trace_in.is in
+    rw (c.end.ensures, page) (LoadsOn.bad_record x e l p c.in-Err-trace_in._damaged at (has-page g.F.Key.Ord.cmp g.F.Functions.code order v sound s c.args.slot c.args.context x e l a at (IsEntryIn g.F.Key.Fixed.bytes_of g.F.Value.Fixed.bytes_of g.F.Key.Known.is_known g.F.Value.Known.is_known g.F.Key.Fixed.SIZE g.F.Value.Fixed.SIZE) (g.R.Receipt.stands p.receipt) p.bytes c.trace_in.result came) refl (traces-to g.F.Key.Ord.cmp g.F.Functions.code order v sound s c.args.slot c.args.context x e l a at (IsEntryIn g.F.Key.Fixed.bytes_of g.F.Value.Fixed.bytes_of g.F.Key.Known.is_known g.F.Value.Known.is_known g.F.Key.Fixed.SIZE g.F.Value.Fixed.SIZE) (g.R.Receipt.stands p.receipt) p.bytes c.trace_in.result came (Err c.in-Err-trace_in._damaged) is) refl refl)
+
+pub finish-requires-clause-issued : goal.finish-requires-clause-issued
+finish-requires-clause-issued g c =
+    let v = c.args.self.now in
+    let x = c.args.relocation.now in
+    let a = c.requires.awaits in
+    let p = c.args.loaded.now in
+    let sound = c.known.ensures.core in
+    let s = c.known.ensures.compacting in
+    let e = c.args.entry in
+    let l = c.args.loading in
+    let at = c.requires.traces in
+    (stands-here v c.args.slot c.args.context x a.here s).issued
+
+pub finish-requires-clause-place : goal.finish-requires-clause-place
+finish-requires-clause-place g c =
+    let v = c.args.self.now in
+    let x = c.args.relocation.now in
+    let a = c.requires.awaits in
+    let p = c.args.loaded.now in
+    let sound = c.known.ensures.core in
+    let s = c.known.ensures.compacting in
+    let e = c.args.entry in
+    let l = c.args.loading in
+    let at = c.requires.traces in
+    (stands-here v c.args.slot c.args.context x a.here s).place
+
+pub finish-requires-clause-low : goal.finish-requires-clause-low
+finish-requires-clause-low g c =
+    let v = c.args.self.now in
+    let x = c.args.relocation.now in
+    let a = c.requires.awaits in
+    let p = c.args.loaded.now in
+    let sound = c.known.ensures.core in
+    let s = c.known.ensures.compacting in
+    let e = c.args.entry in
+    let l = c.args.loading in
+    let at = c.requires.traces in
+    let low : x.target < v.core.records.tail = (let st = stands-here v c.args.slot c.args.context x a.here s in let o = sound.traced.regions.agree.in_order in omega (arith, st.frozen, o.safe, sound.traced.regions.read_only)) in
+    low
+
+pub finish-requires-clause-spent : goal.finish-requires-clause-spent
+finish-requires-clause-spent g c =
+    let ord = g.met.F.Key.Ord in
+    let known = g.met.F.Key.FixedKey in
+    let order = key_order g.F.Key.PartialEq.eq g.F.Key.Ord.cmp ord.matches_eq known.exact ord.total in
+    let v = c.args.self.now in
+    let x = c.args.relocation.now in
+    let a = c.requires.awaits in
+    let p = c.args.loaded.now in
+    let sound = c.known.ensures.core in
+    let s = c.known.ensures.compacting in
+    let e = c.args.entry in
+    let l = c.args.loading in
+    let at = c.requires.traces in
+    let held = rw c.records-2.ensures at (c.in_default.ensures.own.0 refl) in
+    let came = page-came g.R.Receipt.keeps (IsEntryIn g.F.Key.Fixed.bytes_of g.F.Value.Fixed.bytes_of g.F.Key.Known.is_known g.F.Value.Known.is_known g.F.Key.Fixed.SIZE g.F.Value.Fixed.SIZE) g.F.Key.Ord.cmp g.F.Functions.code c.self.inside.core.records v.core.records e.key c.page_of-page.result l.wanted (g.R.Receipt.stands p.receipt) p.bytes c.trace_in.result (ap (λ u. u.core.records) c.self.view_is) (rw c.records.ensures at c.page_of-page.ensures) held (rw c.records-3.ensures at c.trace_in.ensures.read) (rw c.records-3.ensures at c.trace_in.ensures.kept) in
+    let r = c.in-Ok.reached in
+    let is = c.in-Ok.is in
+    let j = sym c.liveness_of.ensures ∙ c.in-Superseded.is in
+    way-dead g.F.Key.Ord.cmp g.F.Functions.code order v sound s c.args.slot c.args.context x e l a at (IsEntryIn g.F.Key.Fixed.bytes_of g.F.Value.Fixed.bytes_of g.F.Key.Known.is_known g.F.Value.Known.is_known g.F.Key.Fixed.SIZE g.F.Value.Fixed.SIZE) (g.R.Receipt.stands p.receipt) p.bytes c.trace_in.result came r is j
+
+pub append_again-requires-clause-stands : goal.append_again-requires-clause-stands
+append_again-requires-clause-stands g c =
+    let ord = g.met.F.Key.Ord in
+    let known = g.met.F.Key.FixedKey in
+    let order = key_order g.F.Key.PartialEq.eq g.F.Key.Ord.cmp ord.matches_eq known.exact ord.total in
+    let v = c.args.self.now in
+    let x = c.args.relocation.now in
+    let a = c.requires.awaits in
+    let p = c.args.loaded.now in
+    let sound = c.known.ensures.core in
+    let s = c.known.ensures.compacting in
+    let e = c.args.entry in
+    let l = c.args.loading in
+    let at = c.requires.traces in
+    let held = rw c.records-2.ensures at (c.in_default.ensures.own.0 refl) in
+    let came = page-came g.R.Receipt.keeps (IsEntryIn g.F.Key.Fixed.bytes_of g.F.Value.Fixed.bytes_of g.F.Key.Known.is_known g.F.Value.Known.is_known g.F.Key.Fixed.SIZE g.F.Value.Fixed.SIZE) g.F.Key.Ord.cmp g.F.Functions.code c.self.inside.core.records v.core.records e.key c.page_of-page.result l.wanted (g.R.Receipt.stands p.receipt) p.bytes c.trace_in.result (ap (λ u. u.core.records) c.self.view_is) (rw c.records.ensures at c.page_of-page.ensures) held (rw c.records-3.ensures at c.trace_in.ensures.read) (rw c.records-3.ensures at c.trace_in.ensures.kept) in
+    let r = c.in-Ok.reached in
+    let is = c.in-Ok.is in
+    let j = sym c.liveness_of.ensures ∙ c.in-Last.is in
+    way-last g.F.Key.Ord.cmp g.F.Functions.code order v sound s c.args.slot c.args.context x e l a at (IsEntryIn g.F.Key.Fixed.bytes_of g.F.Value.Fixed.bytes_of g.F.Key.Known.is_known g.F.Value.Known.is_known g.F.Key.Fixed.SIZE g.F.Value.Fixed.SIZE) (g.R.Receipt.stands p.receipt) p.bytes c.trace_in.result came r is j
+
+pub returns-then-not-is_place-clause-does : goal.returns-then-not-is_place-clause-does
+returns-then-not-is_place-clause-does g c =
+    let ord = g.met.F.Key.Ord in
+    let known = g.met.F.Key.FixedKey in
+    let order = key_order g.F.Key.PartialEq.eq g.F.Key.Ord.cmp ord.matches_eq known.exact ord.total in
+    let v = c.args.self.now in
+    let x = c.args.relocation.now in
+    let a = c.requires.awaits in
+    let p = c.args.loaded.now in
+    let sound = c.known.ensures.core in
+    let s = c.known.ensures.compacting in
+    let e = c.args.entry in
+    let l = c.args.loading in
+    let at = c.requires.traces in
+    let held = rw c.records-2.ensures at (c.in_default.ensures.own.0 refl) in
+    let came = page-came g.R.Receipt.keeps (IsEntryIn g.F.Key.Fixed.bytes_of g.F.Value.Fixed.bytes_of g.F.Key.Known.is_known g.F.Value.Known.is_known g.F.Key.Fixed.SIZE g.F.Value.Fixed.SIZE) g.F.Key.Ord.cmp g.F.Functions.code c.self.inside.core.records v.core.records e.key c.page_of-page.result l.wanted (g.R.Receipt.stands p.receipt) p.bytes c.trace_in.result (ap (λ u. u.core.records) c.self.view_is) (rw c.records.ensures at c.page_of-page.ensures) held (rw c.records-3.ensures at c.trace_in.ensures.read) (rw c.records-3.ensures at c.trace_in.ensures.kept) in
+    let page : c.page_of-page.result ≡ page_at v.core.records.page_bits l.wanted = rw c.records.ensures at c.page_of-page.ensures ∙ ap (λ u. page_at u.core.records.page_bits l.wanted) c.self.view_is in
+    let r = c.in-Ok.reached in
+    let is = c.in-Ok.is in
+    let b = c.in-Further.address in
+    let j = sym c.liveness_of.ensures ∙ c.in-Further.is in
+    let no = rw c.records-in-Further.ensures at c.is_place.ensures in
+    rw (c.end-then-not-is_place.ensures, page) (LoadsOn.bad_link x e l p b at (has-page g.F.Key.Ord.cmp g.F.Functions.code order v sound s c.args.slot c.args.context x e l a at (IsEntryIn g.F.Key.Fixed.bytes_of g.F.Value.Fixed.bytes_of g.F.Key.Known.is_known g.F.Value.Known.is_known g.F.Key.Fixed.SIZE g.F.Value.Fixed.SIZE) (g.R.Receipt.stands p.receipt) p.bytes c.trace_in.result came) refl (way-below g.F.Key.Ord.cmp g.F.Functions.code order v sound s c.args.slot c.args.context x e l a at (IsEntryIn g.F.Key.Fixed.bytes_of g.F.Value.Fixed.bytes_of g.F.Key.Known.is_known g.F.Value.Known.is_known g.F.Key.Fixed.SIZE g.F.Value.Fixed.SIZE) (g.R.Receipt.stands p.receipt) p.bytes c.trace_in.result came r b is j) (above-place g.F.Key.Ord.cmp g.F.Functions.code order v sound s c.args.slot c.args.context x e l a at (IsEntryIn g.F.Key.Fixed.bytes_of g.F.Value.Fixed.bytes_of g.F.Key.Known.is_known g.F.Value.Known.is_known g.F.Key.Fixed.SIZE g.F.Value.Fixed.SIZE) (g.R.Receipt.stands p.receipt) p.bytes c.trace_in.result came r b is j)
+    (λ place. let yes = no.1 (subst (λ u. IsRecordStart u.core.records.page_bits u.core.records.record_size b) (sym c.self.view_is) place) in let bad : false ≡ true = sym c.if-not-is_place.true ∙ yes in cc) refl refl)
+
+pub ask-requires-clause-flushed : goal.ask-requires-clause-flushed
+ask-requires-clause-flushed g c =
+    let ord = g.met.F.Key.Ord in
+    let known = g.met.F.Key.FixedKey in
+    let order = key_order g.F.Key.PartialEq.eq g.F.Key.Ord.cmp ord.matches_eq known.exact ord.total in
+    let v = c.args.self.now in
+    let x = c.args.relocation.now in
+    let a = c.requires.awaits in
+    let p = c.args.loaded.now in
+    let sound = c.known.ensures.core in
+    let s = c.known.ensures.compacting in
+    let e = c.args.entry in
+    let l = c.args.loading in
+    let at = c.requires.traces in
+    let held = rw c.records-2.ensures at (c.in_default.ensures.own.0 refl) in
+    let came = page-came g.R.Receipt.keeps (IsEntryIn g.F.Key.Fixed.bytes_of g.F.Value.Fixed.bytes_of g.F.Key.Known.is_known g.F.Value.Known.is_known g.F.Key.Fixed.SIZE g.F.Value.Fixed.SIZE) g.F.Key.Ord.cmp g.F.Functions.code c.self.inside.core.records v.core.records e.key c.page_of-page.result l.wanted (g.R.Receipt.stands p.receipt) p.bytes c.trace_in.result (ap (λ u. u.core.records) c.self.view_is) (rw c.records.ensures at c.page_of-page.ensures) held (rw c.records-3.ensures at c.trace_in.ensures.read) (rw c.records-3.ensures at c.trace_in.ensures.kept) in
+    let r = c.in-Ok.reached in
+    let is = c.in-Ok.is in
+    let b = c.in-Further.address in
+    let j = sym c.liveness_of.ensures ∙ c.in-Further.is in
+    lower-flushed g.F.Key.Ord.cmp g.F.Functions.code order v sound s c.args.slot c.args.context x e l a at (IsEntryIn g.F.Key.Fixed.bytes_of g.F.Value.Fixed.bytes_of g.F.Key.Known.is_known g.F.Value.Known.is_known g.F.Key.Fixed.SIZE g.F.Value.Fixed.SIZE) (g.R.Receipt.stands p.receipt) p.bytes c.trace_in.result came r b is j
+
+pub ask-requires-clause-stands : goal.ask-requires-clause-stands
+ask-requires-clause-stands g c =
+    let ord = g.met.F.Key.Ord in
+    let known = g.met.F.Key.FixedKey in
+    let order = key_order g.F.Key.PartialEq.eq g.F.Key.Ord.cmp ord.matches_eq known.exact ord.total in
+    let v = c.args.self.now in
+    let x = c.args.relocation.now in
+    let a = c.requires.awaits in
+    let p = c.args.loaded.now in
+    let sound = c.known.ensures.core in
+    let s = c.known.ensures.compacting in
+    let e = c.args.entry in
+    let l = c.args.loading in
+    let at = c.requires.traces in
+    let held = rw c.records-2.ensures at (c.in_default.ensures.own.0 refl) in
+    let came = page-came g.R.Receipt.keeps (IsEntryIn g.F.Key.Fixed.bytes_of g.F.Value.Fixed.bytes_of g.F.Key.Known.is_known g.F.Value.Known.is_known g.F.Key.Fixed.SIZE g.F.Value.Fixed.SIZE) g.F.Key.Ord.cmp g.F.Functions.code c.self.inside.core.records v.core.records e.key c.page_of-page.result l.wanted (g.R.Receipt.stands p.receipt) p.bytes c.trace_in.result (ap (λ u. u.core.records) c.self.view_is) (rw c.records.ensures at c.page_of-page.ensures) held (rw c.records-3.ensures at c.trace_in.ensures.read) (rw c.records-3.ensures at c.trace_in.ensures.kept) in
+    let r = c.in-Ok.reached in
+    let is = c.in-Ok.is in
+    let b = c.in-Further.address in
+    let j = sym c.liveness_of.ensures ∙ c.in-Further.is in
+    way-further g.F.Key.Ord.cmp g.F.Functions.code order v sound s c.args.slot c.args.context x e l a at (IsEntryIn g.F.Key.Fixed.bytes_of g.F.Value.Fixed.bytes_of g.F.Key.Known.is_known g.F.Value.Known.is_known g.F.Key.Fixed.SIZE g.F.Value.Fixed.SIZE) (g.R.Receipt.stands p.receipt) p.bytes c.trace_in.result came r b is j
+
+pub returns-in-Superseded-clause-does : goal.returns-in-Superseded-clause-does
+returns-in-Superseded-clause-does g c =
+    let ord = g.met.F.Key.Ord in
+    let known = g.met.F.Key.FixedKey in
+    let order = key_order g.F.Key.PartialEq.eq g.F.Key.Ord.cmp ord.matches_eq known.exact ord.total in
+    let v = c.args.self.now in
+    let x = c.args.relocation.now in
+    let a = c.requires.awaits in
+    let p = c.args.loaded.now in
+    let sound = c.known.ensures.core in
+    let s = c.known.ensures.compacting in
+    let e = c.args.entry in
+    let l = c.args.loading in
+    let at = c.requires.traces in
+    let held = rw c.records-2.ensures at (c.in_default.ensures.own.0 refl) in
+    let came = page-came g.R.Receipt.keeps (IsEntryIn g.F.Key.Fixed.bytes_of g.F.Value.Fixed.bytes_of g.F.Key.Known.is_known g.F.Value.Known.is_known g.F.Key.Fixed.SIZE g.F.Value.Fixed.SIZE) g.F.Key.Ord.cmp g.F.Functions.code c.self.inside.core.records v.core.records e.key c.page_of-page.result l.wanted (g.R.Receipt.stands p.receipt) p.bytes c.trace_in.result (ap (λ u. u.core.records) c.self.view_is) (rw c.records.ensures at c.page_of-page.ensures) held (rw c.records-3.ensures at c.trace_in.ensures.read) (rw c.records-3.ensures at c.trace_in.ensures.kept) in
+    let r = c.in-Ok.reached in
+    let is = c.in-Ok.is in
+    let j = sym c.liveness_of.ensures ∙ c.in-Superseded.is in
+    rw c.finish.ensures (LoadsOn.newer x e l p r at (has-page g.F.Key.Ord.cmp g.F.Functions.code order v sound s c.args.slot c.args.context x e l a at (IsEntryIn g.F.Key.Fixed.bytes_of g.F.Value.Fixed.bytes_of g.F.Key.Known.is_known g.F.Value.Known.is_known g.F.Key.Fixed.SIZE g.F.Value.Fixed.SIZE) (g.R.Receipt.stands p.receipt) p.bytes c.trace_in.result came) refl (traces-to g.F.Key.Ord.cmp g.F.Functions.code order v sound s c.args.slot c.args.context x e l a at (IsEntryIn g.F.Key.Fixed.bytes_of g.F.Value.Fixed.bytes_of g.F.Key.Known.is_known g.F.Value.Known.is_known g.F.Key.Fixed.SIZE g.F.Value.Fixed.SIZE) (g.R.Receipt.stands p.receipt) p.bytes c.trace_in.result came (Ok r) is) j refl refl)
+
+pub returns-in-Superseded-clause-event : goal.returns-in-Superseded-clause-event
+returns-in-Superseded-clause-event g c =
+    let v = c.args.self.now in
+    let x = c.args.relocation.now in
+    let a = c.requires.awaits in
+    let p = c.args.loaded.now in
+    let sound = c.known.ensures.core in
+    let s = c.known.ensures.compacting in
+    let e = c.args.entry in
+    let l = c.args.loading in
+    let at = c.requires.traces in
+    let up = past-place v x.target sound.traced (stands-here v c.args.slot c.args.context x a.here s).place in
+    rw c.finish.ensures (event-done g.R.Receipt.keeps g.F.Key.Ord.cmp v c.args.slot c.args.context c.args.now c.requires.context x.target up.0)
+
+pub returns-in-Superseded-clause-cleared : goal.returns-in-Superseded-clause-cleared
+returns-in-Superseded-clause-cleared g c =
+    let v = c.args.self.now in
+    let x = c.args.relocation.now in
+    let a = c.requires.awaits in
+    let p = c.args.loaded.now in
+    let sound = c.known.ensures.core in
+    let s = c.known.ensures.compacting in
+    let e = c.args.entry in
+    let l = c.args.loading in
+    let at = c.requires.traces in
+    let up = past-place v x.target sound.traced (stands-here v c.args.slot c.args.context x a.here s).place in
+    λ done. rw c.finish.ensures up.1
+
+pub returns-in-Last-clause-does : goal.returns-in-Last-clause-does
+returns-in-Last-clause-does g c =
+    let ord = g.met.F.Key.Ord in
+    let known = g.met.F.Key.FixedKey in
+    let order = key_order g.F.Key.PartialEq.eq g.F.Key.Ord.cmp ord.matches_eq known.exact ord.total in
+    let v = c.args.self.now in
+    let x = c.args.relocation.now in
+    let a = c.requires.awaits in
+    let p = c.args.loaded.now in
+    let sound = c.known.ensures.core in
+    let s = c.known.ensures.compacting in
+    let e = c.args.entry in
+    let l = c.args.loading in
+    let at = c.requires.traces in
+    let held = rw c.records-2.ensures at (c.in_default.ensures.own.0 refl) in
+    let came = page-came g.R.Receipt.keeps (IsEntryIn g.F.Key.Fixed.bytes_of g.F.Value.Fixed.bytes_of g.F.Key.Known.is_known g.F.Value.Known.is_known g.F.Key.Fixed.SIZE g.F.Value.Fixed.SIZE) g.F.Key.Ord.cmp g.F.Functions.code c.self.inside.core.records v.core.records e.key c.page_of-page.result l.wanted (g.R.Receipt.stands p.receipt) p.bytes c.trace_in.result (ap (λ u. u.core.records) c.self.view_is) (rw c.records.ensures at c.page_of-page.ensures) held (rw c.records-3.ensures at c.trace_in.ensures.read) (rw c.records-3.ensures at c.trace_in.ensures.kept) in
+    let r = c.in-Ok.reached in
+    let is = c.in-Ok.is in
+    let j = sym c.liveness_of.ensures ∙ c.in-Last.is in
+    LoadsOn.ends x e l p r at (has-page g.F.Key.Ord.cmp g.F.Functions.code order v sound s c.args.slot c.args.context x e l a at (IsEntryIn g.F.Key.Fixed.bytes_of g.F.Value.Fixed.bytes_of g.F.Key.Known.is_known g.F.Value.Known.is_known g.F.Key.Fixed.SIZE g.F.Value.Fixed.SIZE) (g.R.Receipt.stands p.receipt) p.bytes c.trace_in.result came) refl (traces-to g.F.Key.Ord.cmp g.F.Functions.code order v sound s c.args.slot c.args.context x e l a at (IsEntryIn g.F.Key.Fixed.bytes_of g.F.Value.Fixed.bytes_of g.F.Key.Known.is_known g.F.Value.Known.is_known g.F.Key.Fixed.SIZE g.F.Value.Fixed.SIZE) (g.R.Receipt.stands p.receipt) p.bytes c.trace_in.result came (Ok r) is) j c.append_again.ensures.does
+
+pub returns-else-not-is_place-clause-does : goal.returns-else-not-is_place-clause-does
+returns-else-not-is_place-clause-does g c =
+    let ord = g.met.F.Key.Ord in
+    let known = g.met.F.Key.FixedKey in
+    let order = key_order g.F.Key.PartialEq.eq g.F.Key.Ord.cmp ord.matches_eq known.exact ord.total in
+    let v = c.args.self.now in
+    let x = c.args.relocation.now in
+    let a = c.requires.awaits in
+    let p = c.args.loaded.now in
+    let sound = c.known.ensures.core in
+    let s = c.known.ensures.compacting in
+    let e = c.args.entry in
+    let l = c.args.loading in
+    let at = c.requires.traces in
+    let held = rw c.records-2.ensures at (c.in_default.ensures.own.0 refl) in
+    let came = page-came g.R.Receipt.keeps (IsEntryIn g.F.Key.Fixed.bytes_of g.F.Value.Fixed.bytes_of g.F.Key.Known.is_known g.F.Value.Known.is_known g.F.Key.Fixed.SIZE g.F.Value.Fixed.SIZE) g.F.Key.Ord.cmp g.F.Functions.code c.self.inside.core.records v.core.records e.key c.page_of-page.result l.wanted (g.R.Receipt.stands p.receipt) p.bytes c.trace_in.result (ap (λ u. u.core.records) c.self.view_is) (rw c.records.ensures at c.page_of-page.ensures) held (rw c.records-3.ensures at c.trace_in.ensures.read) (rw c.records-3.ensures at c.trace_in.ensures.kept) in
+    let r = c.in-Ok.reached in
+    let is = c.in-Ok.is in
+    let b = c.in-Further.address in
+    let j = sym c.liveness_of.ensures ∙ c.in-Further.is in
+    let place = subst (λ u. IsRecordStart u.core.records.page_bits u.core.records.record_size b) c.self.view_is ((rw c.records-in-Further.ensures at c.is_place.ensures).0 c.if-not-is_place.false) in
+    LoadsOn.further x e l p b at (has-page g.F.Key.Ord.cmp g.F.Functions.code order v sound s c.args.slot c.args.context x e l a at (IsEntryIn g.F.Key.Fixed.bytes_of g.F.Value.Fixed.bytes_of g.F.Key.Known.is_known g.F.Value.Known.is_known g.F.Key.Fixed.SIZE g.F.Value.Fixed.SIZE) (g.R.Receipt.stands p.receipt) p.bytes c.trace_in.result came) refl (way-below g.F.Key.Ord.cmp g.F.Functions.code order v sound s c.args.slot c.args.context x e l a at (IsEntryIn g.F.Key.Fixed.bytes_of g.F.Value.Fixed.bytes_of g.F.Key.Known.is_known g.F.Value.Known.is_known g.F.Key.Fixed.SIZE g.F.Value.Fixed.SIZE) (g.R.Receipt.stands p.receipt) p.bytes c.trace_in.result came r b is j) (above-place g.F.Key.Ord.cmp g.F.Functions.code order v sound s c.args.slot c.args.context x e l a at (IsEntryIn g.F.Key.Fixed.bytes_of g.F.Value.Fixed.bytes_of g.F.Key.Known.is_known g.F.Value.Known.is_known g.F.Key.Fixed.SIZE g.F.Value.Fixed.SIZE) (g.R.Receipt.stands p.receipt) p.bytes c.trace_in.result came r b is j) place c.ask.ensures.does

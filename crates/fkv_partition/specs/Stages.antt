@@ -1,0 +1,56 @@
+-- What an open relocation stands for.
+use Rattle.std.specs.Prelude.{◌≡◌, ◌<◌, ◌≤◌, ℕ, Bool, IsTrue, IsSome, Some}
+use Rattle.std.specs.declared.cmp.Ordering.{Ordering}
+use Rattle.fkv_records.specs.Places.{IsRecordStart}
+use Rattle.fkv_texts.specs.declared.entries.Entry.{Entry}
+use Rattle.fkv_texts.specs.Text.{entry_at}
+use Rattle.fkv_lookups.specs.RecordsViews.{RecordsView}
+use Rattle.fkv_operations.specs.declared.entries.IndexEntry.{IndexEntry}
+use Rattle.fkv_core.specs.declared.contexts.Loading.{Loading}
+use Rattle.fkv_core.specs.Sound.{IsLoading}
+use Rattle.fkv_core.specs.Grown.{IsKeptRecord}
+use Rattle.fkv_core.specs.Views.{CoreView, partition_of}
+use Rattle.fkv_partition.specs.declared.relocations.Relocation.{Relocation}
+use Rattle.fkv_partition.specs.declared.relocations.Stage.{Stage}
+use Rattle.fkv_partition.specs.declared.relocations.Stage.TheVariants.{Fresh, Reading, Tracing, Ready}
+
+-- it waits for the page of its place, which was on disk when Begin was here
+pub record IsReading {K V : Type 0} (r : RecordsView K V) (place begin : ℕ) : Type 0 where
+  pub past : begin ≤ r.begin
+  pub begun : begin ≤ place
+  pub on_disk : place < r.regions.offsets.head
+
+-- its record was read, and the way from the entry of its class goes on at an address above its place, in a page on disk.
+-- On a device that keeps, while Begin stands, the record read is that of the place
+pub record IsTracing {K V : Type 0} (keeps : Bool) (cmp : K → K → Ordering) (code : K → ℕ) (r : RecordsView K V)
+    (place : ℕ) (entry : Entry K V) (l : Loading) : Type 0 where
+  pub here : entry.address ≡ place
+  pub some : IsSome entry.value
+  pub begun : l.begin ≤ place
+  pub above : place < l.wanted
+  pub loading : IsLoading keeps cmp code r entry.key l
+  pub is : IsTrue keeps → l.begin ≡ r.begin → entry_at r.text place ≡ Some entry
+
+-- its record is to be appended again: on a device that keeps, it is the last of its key while its entry stands as it was
+-- kept
+pub record IsReady {K V : Type 0} (keeps : Bool) (cmp : K → K → Ordering) (code : K → ℕ) (r : RecordsView K V)
+    (place : ℕ) (entry : Entry K V) (kept : IndexEntry) : Type 0 where
+  pub here : entry.address ≡ place
+  pub record_kept : IsKeptRecord keeps cmp code r entry.key kept entry
+
+abbrev pub StageStands : {K V I : Type 0} → Bool → (K → K → Ordering) → (K → ℕ) → CoreView K V I → ℕ → Stage K V
+    → Type 0
+StageStands keeps cmp code v place Fresh = Unit {0}
+StageStands keeps cmp code v place (Reading begin) = IsReading v.records place begin
+StageStands keeps cmp code v place (Tracing entry l) =
+    (partition_of v.count (code entry.key) ≡ v.number) × IsTracing keeps cmp code v.records place entry l
+StageStands keeps cmp code v place (Ready entry kept) =
+    (partition_of v.count (code entry.key) ≡ v.number) × IsReady keeps cmp code v.records place entry kept
+
+-- its place is that of a frozen record, and was not cleared when it was issued
+pub record RelocationStands {K V I : Type 0} (keeps : Bool) (cmp : K → K → Ordering) (code : K → ℕ)
+    (v : CoreView K V I) (cleared : ℕ) (x : Relocation K V) : Type 0 where
+  pub place : IsRecordStart v.records.page_bits v.records.record_size x.target
+  pub frozen : x.target < v.records.regions.offsets.safe_read_only
+  pub issued : x.target ≤ cleared
+  pub stage : StageStands keeps cmp code v x.target x.stage

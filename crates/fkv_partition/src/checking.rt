@@ -1,0 +1,118 @@
+//! What becomes of a relocation whose record was read.
+ghost use Rattle.std.specs.Prelude.{◌≡◌, ◌≢◌, ◌<◌, ◌≤◌, IsTrue, IfOk, OnErr, Ok, Some, None};
+ghost use Rattle.fkv_texts.specs.Text.{entry_at};
+ghost use Rattle.fkv_index.specs.Words.{address_of};
+ghost use Rattle.fkv_lookups.specs.RecordsViews.{class_in, IsEntryOf};
+ghost use Rattle.fkv_core.specs.Views.{partition_of, found_for, entry_for};
+ghost use Rattle.fkv_partition.specs.Views.{relocation_at};
+ghost use Rattle.fkv_partition.specs.Relocating.{IsRelocating};
+ghost use Rattle.fkv_partition.specs.Checking.{ChecksLiveness};
+
+use crate::partitions::Partition;
+use crate::relocations::{EntryOf, Liveness, RelocationOf, Stage, liveness_of};
+use fkv_core::{Loading, Progress, ProgressOf};
+use fkv_device::Receipt;
+use fkv_functions::{Functions, Refused};
+use fkv_operations::{Answer, IndexEntry};
+
+impl<F: Functions, R: Receipt> Partition<F, R> {
+    /// Checks the liveness of the record at a relocation's target: clears the target, asks for a page where the chain from the
+    /// entry of the record's class goes on above it, or appends the record again. Refused, and then nothing changes: `Worn`,
+    /// `NoMemory`.
+    pub(crate) fn check_liveness(
+        &mut self,
+        slot: usize,
+        context: usize,
+        relocation: &RelocationOf<F>,
+        entry: EntryOf<F>,
+        functions: &F,
+        now: u64,
+    ) -> Result<ProgressOf<F, R>, Refused>
+        requires later { self.old.core.moment < now }
+        requires session { slot < 16 }
+        requires context { context < 8 }
+        requires here { relocation_at self.old slot context ≡ Some relocation.now }
+        requires stands { entry.address ≡ relocation.now.target }
+        requires begun { self.old.core.records.begin ≤ relocation.now.target }
+        requires is { IsTrue R.keeps → entry_at self.old.core.records.text relocation.now.target ≡ Some entry }
+        ensures does { ChecksLiveness R.stands F.Key.cmp F.code self.old self.new slot context relocation.now entry now
+            result }
+        ensures event { IfOk result (λ _. IsRelocating R.keeps F.Key.cmp self.old self.new slot context now) }
+        ensures cleared { result ≡ Ok (Progress.Done Answer.Cleared now) → relocation.now.target < self.new.cleared }
+        ensures err { OnErr result (self.new ≡ self.old) }
+        ensures moment { self.new.core.moment ≤ now }
+    {
+        self.known();
+        let target = relocation.target;
+        let home = self.core.home(functions, &entry.key);
+        if entry.value.is_none() {
+            self.finish(slot, context, target, now);
+            return Ok(Progress::Done(Answer::Cleared, now));
+        }
+        if home != self.core.number() {
+            self.finish(slot, context, target, now);
+            return Ok(Progress::Done(Answer::Cleared, now));
+        }
+        let (_class, found) = self.core.find(functions, &entry.key);
+        match found {
+            None => {
+                self.finish(slot, context, target, now);
+                Ok(Progress::Done(Answer::Cleared, now))
+            }
+            Some(kept) => self.follow(slot, context, relocation, entry, kept, now),
+        }
+    }
+
+    /// Checks the liveness of a record that has a value, and whose key belongs here and has this entry, by what the look-up
+    /// from there comes to in memory. Refused, and then nothing changes: `Worn`, `NoMemory`.
+    fn follow(
+        &mut self,
+        slot: usize,
+        context: usize,
+        relocation: &RelocationOf<F>,
+        entry: EntryOf<F>,
+        kept: IndexEntry,
+        now: u64,
+    ) -> Result<ProgressOf<F, R>, Refused>
+        requires later { self.old.core.moment < now }
+        requires session { slot < 16 }
+        requires context { context < 8 }
+        requires here { relocation_at self.old slot context ≡ Some relocation.now }
+        requires stands { entry.address ≡ relocation.now.target }
+        requires begun { self.old.core.records.begin ≤ relocation.now.target }
+        requires is { IsTrue R.keeps → entry_at self.old.core.records.text relocation.now.target ≡ Some entry }
+        requires some { entry.value ≢ None }
+        requires own { partition_of self.old.core.count (F.code entry.key) ≡ self.old.core.number }
+        requires found { found_for F.code self.old.core entry.key ≡ Some kept }
+        requires leads { entry_for F.code self.old.core entry.key ≡ Some (address_of kept.word) }
+        requires entry_stands { IsEntryOf self.old.core.records
+            (class_in F.code self.old.core.records entry.key) kept }
+        ensures does { ChecksLiveness R.stands F.Key.cmp F.code self.old self.new slot context relocation.now entry now
+            result }
+        ensures event { IfOk result (λ _. IsRelocating R.keeps F.Key.cmp self.old self.new slot context now) }
+        ensures cleared { result ≡ Ok (Progress.Done Answer.Cleared now) → relocation.now.target < self.new.cleared }
+        ensures err { OnErr result (self.new ≡ self.old) }
+        ensures moment { self.new.core.moment ≤ now }
+    {
+        self.known();
+        let target = relocation.target;
+        let reached = self.core.reach(slot, &entry.key, Some(kept.address()));
+        match liveness_of(target, &reached) {
+            Liveness::Superseded => {
+                self.finish(slot, context, target, now);
+                Ok(Progress::Done(Answer::Cleared, now))
+            }
+            Liveness::Last => self.append_again(slot, context, relocation, entry, kept, now),
+            Liveness::Further(wanted) => {
+                let loading = Loading {
+                    begin: self.core.records().begin(),
+                    kept,
+                    wanted,
+                    looked: now,
+                };
+                let stage = Stage::Tracing(entry, loading);
+                self.ask(slot, context, relocation, stage, wanted, now)
+            }
+        }
+    }
+}

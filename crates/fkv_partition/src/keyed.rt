@@ -1,0 +1,191 @@
+//! Events of operations on keys: they are the core's, and leave relocations and what is cleared.
+ghost use Rattle.std.specs.Prelude.{◌≡◌, ◌<◌, ◌≤◌, None, IsTrue, IfOk, OnOk, OnErr};
+ghost use Rattle.fkv_pages.specs.Spelled.{IsEntryIn};
+ghost use Rattle.fkv_core.specs.Going.{Goes};
+ghost use Rattle.fkv_core.specs.Installing.{Installs};
+ghost use Rattle.fkv_core.specs.Loading.{Loads};
+ghost use Rattle.fkv_core.specs.Ending.{GivesUp};
+ghost use Rattle.fkv_core.specs.Effect.{IsEvent, IsGiveUp, IsIssue};
+ghost use Rattle.fkv_core.specs.Pending.{IsLoad};
+ghost use Rattle.fkv_partition.specs.Views.{relocation_at, with_core};
+ghost use Rattle.fkv_partition.specs.Beginning.{IssuesOnKey};
+
+use crate::partitions::Partition;
+use fkv_core::ProgressOf;
+use fkv_core::preserving::{
+    events_preserve, loads_preserve, loads_preserve_sessions, sessions_preserved,
+};
+use fkv_device::{Loaded, Receipt};
+use fkv_functions::{Built, Functions, Refused, What};
+use fkv_operations::KeyedOpOf;
+
+impl<F: Functions, R: Receipt> Partition<F, R> {
+    /// Issues an operation on a key in a session and answers its context, the lowest free one. Refused, in this order, and
+    /// then nothing changes: `Unknown` where the slot is that of no session, `Stranger` where the key belongs to another
+    /// partition, `NoContext`.
+    pub(crate) fn issue_on_key(
+        &mut self,
+        slot: usize,
+        op: KeyedOpOf<F>,
+        functions: &F,
+        now: u64,
+    ) -> Result<usize, Refused>
+        requires later { self.old.core.moment < now }
+        ensures does { IssuesOnKey F.code self.old self.new slot op now result }
+        ensures rest { self.new ≡ with_core self.old self.new.core }
+        ensures event { IfOk result
+            (λ context. IsIssue F.code self.old.core self.new.core slot context op now) }
+        ensures closed { IfOk result (λ context. relocation_at self.old slot context ≡ None) }
+        ensures within { IfOk result (λ context. (slot < 16) × (context < 8)) }
+        ensures err { OnErr result (self.new ≡ self.old) }
+        ensures moment { self.new.core.moment ≤ now }
+    {
+        events_preserve::<F::Key, F::Value, F::Input, F::Output, R>();
+        sessions_preserved::<F::Key, F::Value, F::Input, F::Output, R>();
+        self.core.known();
+        if !self.core.is_session(slot) {
+            return Err(Refused::Unknown);
+        }
+        let came = self.core.home(functions, &op.key());
+        let held = self.core.number();
+        if came != held {
+            return Err(Refused::Stranger {
+                what: What::Partition,
+                held,
+                came,
+            });
+        }
+        let Some(context) = self.first_free(slot) else {
+            return Err(Refused::NoContext);
+        };
+        match self.core.issue(slot, context, op, functions, now) {
+            Err(refused) => return Err(refused),
+            Ok(()) => (),
+        }
+        self.core.known();
+        Ok(context)
+    }
+
+    /// Goes on with an operation on a key, as [`fkv_core::Core::go`] does, whose refusals it has.
+    pub(crate) fn go_on_key(
+        &mut self,
+        slot: usize,
+        context: usize,
+        functions: &F,
+        now: u64,
+    ) -> Result<ProgressOf<F, R>, Refused>
+        requires later { self.old.core.moment < now }
+        ensures does { Goes R.stands F.Key.cmp F.meaning F.code self.old.core self.new.core
+            slot context now result }
+        ensures rest { self.new ≡ with_core self.old self.new.core }
+        ensures event { IfOk result (λ progress.
+            IsEvent F.Key.cmp F.meaning self.old.core self.new.core slot context now progress) }
+        ensures within { IfOk result (λ _. (slot < 16) × (context < 8)) }
+        ensures err { OnErr result (self.new ≡ self.old) }
+        ensures moment { self.new.core.moment ≤ now }
+    {
+        events_preserve::<F::Key, F::Value, F::Input, F::Output, R>();
+        sessions_preserved::<F::Key, F::Value, F::Input, F::Output, R>();
+        self.core.known();
+        let gone = self.core.go(slot, context, functions, now);
+        self.core.known();
+        gone
+    }
+
+    /// Installs the value that was built for an update, as [`fkv_core::Core::install`] does, whose refusals it
+    /// has.
+    pub(crate) fn install_on_key(
+        &mut self,
+        slot: usize,
+        context: usize,
+        built: Built<F>,
+        functions: &F,
+        now: u64,
+    ) -> Result<ProgressOf<F, R>, Refused>
+        requires later { self.old.core.moment < now }
+        ensures does { Installs F.Key.cmp F.meaning F.code self.old.core self.new.core
+            slot context built now result }
+        ensures rest { self.new ≡ with_core self.old self.new.core }
+        ensures event { IsTrue R.keeps → IfOk result (λ progress.
+            IsEvent F.Key.cmp F.meaning self.old.core self.new.core slot context now progress) }
+        ensures within { IfOk result (λ _. (slot < 16) × (context < 8)) }
+        ensures err { OnErr result (self.new ≡ self.old) }
+        ensures moment { self.new.core.moment ≤ now }
+    {
+        events_preserve::<F::Key, F::Value, F::Input, F::Output, R>();
+        sessions_preserved::<F::Key, F::Value, F::Input, F::Output, R>();
+        self.core.known();
+        let installed = self.core.install(slot, context, built, functions, now);
+        self.core.known();
+        installed
+    }
+
+    /// Goes on with an operation on a key that waits for a page, as [`fkv_core::Core::load`] does, whose refusals it has.
+    pub(crate) fn load_on_key(
+        &mut self,
+        slot: usize,
+        context: usize,
+        came: Result<Loaded<R>, Refused>,
+        functions: &F,
+        now: u64,
+    ) -> Result<ProgressOf<F, R>, Refused>
+        requires later { self.old.core.moment < now }
+        ensures does { Loads R.stands (IsEntryIn F.Key.bytes_of F.Value.bytes_of F.Key.is_known F.Value.is_known
+            F.Key.SIZE F.Value.SIZE) F.Key.cmp F.meaning self.old.core self.new.core
+            slot context came now result }
+        ensures rest { self.new ≡ with_core self.old self.new.core }
+        ensures event { IsTrue R.keeps → IfOk result (λ progress.
+            IsLoad F.Key.cmp F.meaning self.old.core self.new.core slot context now progress) }
+        ensures within { IfOk result (λ _. (slot < 16) × (context < 8)) }
+        ensures moment { self.new.core.moment ≤ now }
+    {
+        loads_preserve::<F, R>();
+        loads_preserve_sessions::<F, R>();
+        self.core.known();
+        let loaded = self.core.load(slot, context, came, functions, now);
+        self.core.known();
+        loaded
+    }
+
+    /// Gives up an operation on a key, as [`fkv_core::Core::give_up`] does, whose refusals it has.
+    pub(crate) fn give_up_on_key(
+        &mut self,
+        slot: usize,
+        context: usize,
+        now: u64,
+    ) -> Result<(), Refused>
+        requires later { self.old.core.moment < now }
+        ensures does { GivesUp self.old.core self.new.core slot context now result }
+        ensures rest { self.new ≡ with_core self.old self.new.core }
+        ensures event { OnOk result (IsGiveUp self.old.core self.new.core slot context now) }
+        ensures within { OnOk result ((slot < 16) × (context < 8)) }
+        ensures err { OnErr result (self.new ≡ self.old) }
+        ensures moment { self.new.core.moment ≤ now }
+    {
+        events_preserve::<F::Key, F::Value, F::Input, F::Output, R>();
+        sessions_preserved::<F::Key, F::Value, F::Input, F::Output, R>();
+        self.core.known();
+        let given = self.core.give_up(slot, context, now);
+        self.core.known();
+        given
+    }
+
+    /// Gives up an operation on a key, as [`Partition::give_up`] does, but takes no moment: for one that was refused or
+    /// stalled at the moment that stands. Refused, and then nothing changes: `Unknown` where no operation on a key is open
+    /// there.
+    pub fn abandon(&mut self, slot: usize, context: usize) -> Result<(), Refused>
+        ensures does { GivesUp self.old.core self.new.core slot context self.old.core.moment result }
+        ensures rest { self.new ≡ with_core self.old self.new.core }
+        ensures event { OnOk result (IsGiveUp self.old.core self.new.core slot context self.old.core.moment) }
+        ensures within { OnOk result ((slot < 16) × (context < 8)) }
+        ensures err { OnErr result (self.new ≡ self.old) }
+        ensures moment { self.new.core.moment ≤ self.old.core.moment }
+    {
+        events_preserve::<F::Key, F::Value, F::Input, F::Output, R>();
+        sessions_preserved::<F::Key, F::Value, F::Input, F::Output, R>();
+        self.core.known();
+        let given = self.core.abandon(slot, context);
+        self.core.known();
+        given
+    }
+}

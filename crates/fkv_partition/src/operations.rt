@@ -1,0 +1,203 @@
+//! Operations: on keys, which are the core's, and relocations. Each stands in a context of a session from its issue on, and
+//! goes on by events of its own session.
+ghost use Rattle.std.specs.Prelude.{◌≡◌, ◌<◌, ◌≤◌, ◌⊎◌, ℕ, IsTrue, None, Ok, IfOk, IfErr, IfSome, IsSome, OnOk, OnErr};
+ghost use Rattle.fkv_pages.specs.Spelled.{IsEntryIn};
+ghost use Rattle.fkv_operations.specs.declared.operations.Answer.TheVariants.{Cleared};
+ghost use Rattle.fkv_operations.specs.declared.operations.Op.TheVariants.{Relocate};
+ghost use Rattle.fkv_core.specs.declared.contexts.Progress.TheVariants.{Done};
+ghost use Rattle.fkv_core.specs.Effect as key_effect;
+ghost use Rattle.fkv_core.specs.Pending.{AllPend, OthersPend};
+ghost use Rattle.fkv_partition.specs.Views.{relocation_at};
+ghost use Rattle.fkv_partition.specs.Effect.{IsIssue, IsEvent, IsLoad, IsGiveUp, Finds};
+ghost use Rattle.fkv_partition.specs.Relocating.{IsRelocating};
+ghost use Rattle.fkv_partition.specs.Events.{Issues, Goes, Installs, Loads, GivesUp};
+
+use crate::partitions::Partition;
+use fkv_core::ProgressOf;
+use fkv_core::laws::{loads_end, pendings_stay};
+use fkv_device::{Loaded, Receipt};
+use fkv_functions::{Built, Functions, Refused};
+use fkv_operations::OpOf;
+
+impl<F: Functions, R: Receipt> Partition<F, R> {
+    /// Issues an operation in a session and answers its context, the lowest free one. A relocation takes the lowest address
+    /// that is not cleared. Refused, in this order, and then nothing changes: `Unknown` where the slot is that of no
+    /// session, `Stranger` where the operation's key belongs to another partition, `NotDue` where a relocation's address
+    /// does not lie below what the session sees as safely read-only, `NoContext`.
+    pub fn issue(
+        &mut self,
+        slot: usize,
+        op: OpOf<F>,
+        functions: &F,
+        now: u64,
+    ) -> Result<usize, Refused>
+        requires later { self.old.core.moment < now }
+        ensures does { Issues F.code self.old self.new slot op now result }
+        ensures event { IfOk result (λ context. IsIssue F.code self.old self.new slot context op now) }
+        ensures relocating { op ≡ Relocate → IfOk result (λ context.
+            IsRelocating R.keeps F.Key.cmp self.old self.new slot context now) }
+        ensures pends { IsTrue R.keeps → AllPend F.Key.cmp self.old.core self.new.core }
+        ensures within { IfOk result (λ context. (slot < 16) × (context < 8)) }
+        ensures err { OnErr result (self.new ≡ self.old) }
+        ensures moment { self.new.core.moment ≤ now }
+    {
+        pendings_stay::<F::Key, F::Value, F::Input, F::Output, R>();
+        self.known();
+        match op.keyed() {
+            Some(keyed) => self.issue_on_key(slot, keyed, functions, now),
+            None => self.relocate(slot, now),
+        }
+    }
+
+    /// Goes on with what is open in a context.
+    ///
+    /// An operation on a key looks its key up, and what it meets decides. A read is finished with its answer, and a delete
+    /// of a key without a value. A write of a class without an entry makes a tentative one and answers `Next`; the next
+    /// call confirms it, or takes it back where another entry of its tag stands in the bucket, and answers `Next` too.
+    /// Where there is an entry, the region of the key's last record by the session's view decides. A mutable value is
+    /// changed where it stands, by an upsert, an update or a delete, which is finished. Else an upsert, and a delete of a
+    /// value, append a record and are finished; and an update keeps the entry and the key's value and asks for the new one,
+    /// the same again until it is installed, but over a fuzzy value it answers `Waits`. Where the records of the key's
+    /// class go on below what the session reads in memory, a read and an update ask for the page there. Where a record is
+    /// to be appended and there is no room, the answer is `Waits` too.
+    ///
+    /// A relocation is finished where its target was cleared meanwhile. Else the record there is read in memory, or its
+    /// page is asked for. Where the record is superseded, its target is cleared as it is; where that is to be read from the
+    /// device, a page is asked for; else the record is appended again and its target is cleared. Where there is no room for
+    /// it the answer is `Waits`, and the next call tries this last part again.
+    ///
+    /// Refused, in this order, and then nothing changes: `Unknown` where nothing is open there; `NotReady` where it waits
+    /// for a page; `Worn` where a record is to be appended and no address is left; `NoMemory` where an entry is to be made
+    /// and no place of its bucket is empty, or where the receipt of a page can't be shared.
+    pub fn go(
+        &mut self,
+        slot: usize,
+        context: usize,
+        functions: &F,
+        now: u64,
+    ) -> Result<ProgressOf<F, R>, Refused>
+        requires later { self.old.core.moment < now }
+        ensures does { Goes R.stands F.Key.cmp F.meaning F.code self.old self.new slot context now result }
+        // of an operation on a key also where the device does not keep
+        ensures on_key { relocation_at self.old slot context ≡ None → IfOk result (λ progress.
+            key_effect.IsEvent F.Key.cmp F.meaning self.old.core self.new.core slot context now progress) }
+        // and of a relocation
+        ensures relocating { IsSome (relocation_at self.old slot context) → IfOk result (λ _.
+            IsRelocating R.keeps F.Key.cmp self.old self.new slot context now) }
+        ensures event { IsTrue R.keeps → IfOk result (λ progress.
+            IsEvent F.Key.cmp F.meaning self.old self.new slot context now progress) }
+        ensures others { IsTrue R.keeps → OthersPend F.Key.cmp self.old.core self.new.core slot context }
+        ensures finds { IsTrue R.keeps → IfOk result (λ progress.
+            Finds F.Key.cmp self.old self.new slot context now progress) }
+        ensures cleared { result ≡ Ok (Done Cleared now)
+            → IfSome (relocation_at self.old slot context) (λ x. x.target < self.new.cleared) }
+        ensures within { IfOk result (λ _. (slot < 16) × (context < 8)) }
+        ensures err { OnErr result (self.new ≡ self.old) }
+        ensures moment { self.new.core.moment ≤ now }
+    {
+        pendings_stay::<F::Key, F::Value, F::Input, F::Output, R>();
+        self.known();
+        match self.relocation(slot, context) {
+            None => self.go_on_key(slot, context, functions, now),
+            Some(_relocation) => self.go_on(slot, context, functions, now),
+        }
+    }
+
+    /// Installs the value that was built for an update. Where the entry is as it was kept, the value is appended and the
+    /// update is finished; where it has moved, the update is to look again, with the answer `Next`; where there is no room,
+    /// the answer is `Waits`. Refused, in this order, and then nothing changes: `Unknown` where nothing is open there;
+    /// `NotReady` where it asks for nothing to be built, as no relocation does; `Stranger` where the value was built for
+    /// another question; `Worn` where no address is left.
+    pub fn install(
+        &mut self,
+        slot: usize,
+        context: usize,
+        built: Built<F>,
+        functions: &F,
+        now: u64,
+    ) -> Result<ProgressOf<F, R>, Refused>
+        requires later { self.old.core.moment < now }
+        ensures does { Installs F.Key.cmp F.meaning F.code self.old self.new slot context built now result }
+        ensures event { IsTrue R.keeps → IfOk result (λ progress.
+            IsEvent F.Key.cmp F.meaning self.old self.new slot context now progress) }
+        ensures others { IsTrue R.keeps → OthersPend F.Key.cmp self.old.core self.new.core slot context }
+        ensures finds { IsTrue R.keeps → IfOk result (λ progress.
+            Finds F.Key.cmp self.old self.new slot context now progress) }
+        ensures within { IfOk result (λ _. (slot < 16) × (context < 8)) }
+        ensures err { OnErr result (self.new ≡ self.old) }
+        ensures moment { self.new.core.moment ≤ now }
+    {
+        pendings_stay::<F::Key, F::Value, F::Input, F::Output, R>();
+        self.known();
+        match self.relocation(slot, context) {
+            None => self.install_on_key(slot, context, built, functions, now),
+            Some(_relocation) => Err(Refused::NotReady),
+        }
+    }
+
+    /// Goes on with what waits for a page in a context, with that page as a device gave it, or with the refusal that came in
+    /// its place.
+    ///
+    /// Where Begin has moved since it asked it is to look again, whatever came, and the answer is `Next`. Else the records
+    /// of the page are followed along the class's chain. For an operation on a key: where the key's newest record stands
+    /// there, or the chain ends below Begin, a read is finished, its effect being at its look-up, and an update asks for its
+    /// new value; where the chain goes on in another page, that one is asked for. For a relocation: where a newer record of
+    /// the key is met its target is cleared as it is, where the chain goes on above the target another page is asked for,
+    /// and else the record is appended again, unless the entry has moved, and the target is cleared.
+    ///
+    /// Refused, in this order: `Unknown` where nothing is open there; `NotReady` where it waits for no page; what came in
+    /// place of the page, which ends it without effect unless it is `NoMemory`; `Stranger` where the page was read by
+    /// another receipt than the one that is kept of it; `Damaged` where its bytes spell no record on the chain, or lead to
+    /// no place, which ends it too; `Worn`; `NoMemory` where the receipt of the next page can't be shared. A refusal that
+    /// ends nothing changes nothing.
+    pub fn load(
+        &mut self,
+        slot: usize,
+        context: usize,
+        came: Result<Loaded<R>, Refused>,
+        functions: &F,
+        now: u64,
+    ) -> Result<ProgressOf<F, R>, Refused>
+        requires later { self.old.core.moment < now }
+        ensures does { Loads R.stands (IsEntryIn F.Key.bytes_of F.Value.bytes_of F.Key.is_known F.Value.is_known
+            F.Key.SIZE F.Value.SIZE) F.Key.cmp F.meaning F.code self.old self.new slot context came now result }
+        // on a device that keeps, what comes of it is what the look-up was to find
+        ensures event { IsTrue R.keeps → IfOk result (λ progress.
+            IsLoad F.Key.cmp F.meaning self.old self.new slot context now progress) }
+        // of a relocation also where the device does not keep
+        ensures relocating { IsSome (relocation_at self.old slot context) → IfOk result (λ _.
+            IsRelocating R.keeps F.Key.cmp self.old self.new slot context now) }
+        ensures fails { IfErr result (λ _. (self.new ≡ self.old) ⊎ IsGiveUp self.old self.new slot context now) }
+        ensures others { IsTrue R.keeps → OthersPend F.Key.cmp self.old.core self.new.core slot context }
+        ensures cleared { result ≡ Ok (Done Cleared now)
+            → IfSome (relocation_at self.old slot context) (λ x. x.target < self.new.cleared) }
+        ensures within { IfOk result (λ _. (slot < 16) × (context < 8)) }
+        ensures moment { self.new.core.moment ≤ now }
+    {
+        loads_end::<F, R>();
+        self.known();
+        match self.relocation(slot, context) {
+            None => self.load_on_key(slot, context, came, functions, now),
+            Some(_relocation) => self.load_on(slot, context, came, functions, now),
+        }
+    }
+
+    /// Gives up what is open in a context: it ends without effect, and its context is free; an entry that it waited to
+    /// confirm is taken back. Refused, and then nothing changes: `Unknown` where nothing is open there.
+    pub fn give_up(&mut self, slot: usize, context: usize, now: u64) -> Result<(), Refused>
+        requires later { self.old.core.moment < now }
+        ensures does { GivesUp self.old self.new slot context now result }
+        ensures event { OnOk result (IsGiveUp self.old self.new slot context now) }
+        ensures others { OthersPend F.Key.cmp self.old.core self.new.core slot context }
+        ensures within { OnOk result ((slot < 16) × (context < 8)) }
+        ensures err { OnErr result (self.new ≡ self.old) }
+        ensures moment { self.new.core.moment ≤ now }
+    {
+        pendings_stay::<F::Key, F::Value, F::Input, F::Output, R>();
+        self.known();
+        match self.relocation(slot, context) {
+            None => self.give_up_on_key(slot, context, now),
+            Some(_relocation) => self.drop_relocation(slot, context, now),
+        }
+    }
+}

@@ -1,0 +1,227 @@
+//! Pages of a partition: how the regions move, how pages get to a device, and how the log's start is cut.
+ghost use Rattle.std.specs.Prelude.{◌≡◌, ◌≢◌, ◌+◌, ◌-◌, ◌^◌, ◌<◌, ◌≤◌, ◌↔◌, ◌⊎◌, ℕ, All, List, [], Err, IsTrue, IfOk, IfErr, OnOk, OnErr, Some, length, None, slice_get};
+ghost use Rattle.std.specs.BTreeMap.{get, is_at};
+ghost use Rattle.std.specs.Map.{lookup, keys_of};
+ghost use Rattle.std.specs.List.Sorted.{IsStrictlySortedBy};
+ghost use Rattle.fkv_records.specs.Places.{page_at, start_at};
+ghost use Rattle.fkv_device.specs.Standing.{Standing};
+ghost use Rattle.fkv_pages.specs.Spelled.{IsPageOf};
+ghost use Rattle.fkv_functions.specs.Plain.{Same};
+ghost use Rattle.fkv_hybrid.specs.Scans.{IsScanRefusal, MayFail};
+ghost use Rattle.fkv_lookups.specs.Overlays.{with_text, HasFront};
+ghost use Rattle.fkv_core.specs.Pending.{AllPend};
+ghost use Rattle.fkv_core.specs.Views.{live_of, partition_of};
+ghost use Rattle.fkv_partition.specs.Views.{at_moment};
+ghost use Rattle.fkv_partition.specs.Effect.{IsQuiet, IsTruncation};
+ghost use Rattle.fkv_partition.specs.Events.{Shifts, Evicts, Flushes};
+ghost use Rattle.fkv_partition.specs.Truncating.{Truncates, told_of};
+
+use crate::partitions::Partition;
+use fkv_core::laws::pendings_stay;
+use fkv_core::preserving::{events_preserve, sessions_preserved};
+use fkv_device::{FlushJob, PageReader, Receipt, Written};
+use fkv_functions::{Functions, Refused};
+use fkv_lookups::clearing::cleared_stay;
+use fkv_records::Address;
+use std::alloc::Global;
+use std::collections::BTreeMap;
+
+impl<F: Functions, R: Receipt> Partition<F, R> {
+    /// Moves the read-only offset to the start of a page, as [`fkv_core::Core::shift_read_only`] does, whose
+    /// refusals it has.
+    pub fn shift_read_only(&mut self, page: u64, now: u64) -> Result<(), Refused>
+        requires later { self.old.core.moment < now }
+        ensures does { Shifts R.keeps self.old self.new page now result }
+        ensures event { OnOk result (IsQuiet R.keeps self.old self.new now) }
+        ensures pends { IsTrue R.keeps → AllPend F.Key.cmp self.old.core self.new.core }
+        ensures err { OnErr result (self.new ≡ self.old) }
+        ensures moment { self.new.core.moment ≤ now }
+    {
+        events_preserve::<F::Key, F::Value, F::Input, F::Output, R>();
+        sessions_preserved::<F::Key, F::Value, F::Input, F::Output, R>();
+        pendings_stay::<F::Key, F::Value, F::Input, F::Output, R>();
+        self.core.known();
+        let shifted = self.core.shift_read_only(page, now);
+        self.core.known();
+        shifted
+    }
+
+    /// Moves Head to the start of a page, as [`fkv_core::Core::shift_head`] does, whose refusals it has.
+    pub fn shift_head(&mut self, page: u64, now: u64) -> Result<(), Refused>
+        requires later { self.old.core.moment < now }
+        ensures does { Evicts R.keeps self.old self.new page now result }
+        ensures event { OnOk result (IsQuiet R.keeps self.old self.new now) }
+        ensures pends { IsTrue R.keeps → AllPend F.Key.cmp self.old.core self.new.core }
+        ensures err { OnErr result (self.new ≡ self.old) }
+        ensures moment { self.new.core.moment ≤ now }
+    {
+        events_preserve::<F::Key, F::Value, F::Input, F::Output, R>();
+        sessions_preserved::<F::Key, F::Value, F::Input, F::Output, R>();
+        pendings_stay::<F::Key, F::Value, F::Input, F::Output, R>();
+        self.core.known();
+        let shifted = self.core.shift_head(page, now);
+        self.core.known();
+        shifted
+    }
+
+    /// The lowest page that is not flushed.
+    pub fn unflushed(&self) -> u64
+        ensures { result ≡ length self.now.core.records.receipts }
+    {
+        self.core.unflushed()
+    }
+
+    /// What holds of all pages that are kept or wait. It does nothing when it runs.
+    pub fn pages_known(&self)
+        ensures receipts { (n : ℕ) (s : Standing)
+            → slice_get self.now.core.records.receipts n ≡ Some s
+            → (s.page ≡ n) × (s.length ≡ 2 ^ self.now.core.records.page_bits) }
+        // the pages from the first that is not flushed to below that of SafeReadOnly wait, each with the text's entries
+        ensures waiting { length self.now.core.records.waiting
+            ≡ page_at self.now.core.records.page_bits self.now.core.records.regions.offsets.safe_read_only
+            - length self.now.core.records.receipts }
+        ensures spelled { (i : ℕ) (page : List ℕ)
+            → slice_get self.now.core.records.waiting i ≡ Some page
+            → IsPageOf F.Key.bytes_of F.Value.bytes_of F.Key.SIZE F.Value.SIZE self.now.core.records.page_bits
+            (length self.now.core.records.receipts + i) self.now.core.records.text page }
+    {
+        self.core.pages_known();
+    }
+
+    /// A copy of the lowest page that is not flushed, to be written. Nothing changes but the moment. Refused, and then
+    /// nothing changes: `NotDue` where the page does not end at or below the safe read-only offset, `NoMemory`.
+    pub fn flush_take(&mut self, alloc: Global, now: u64) -> Result<FlushJob, Refused>
+        requires later { self.old.core.moment < now }
+        ensures page { IfOk result (λ job. job.page ≡ length self.old.core.records.receipts) }
+        ensures bytes { IfOk result
+            (λ job. slice_get self.old.core.records.waiting 0 ≡ Some job.bytes) }
+        ensures due { (result ≡ Err Refused.NotDue) ↔ (self.old.core.records.waiting ≡ []) }
+        ensures only { IfErr result (λ refused. (refused ≡ Refused.NotDue) ⊎ (refused ≡ Refused.NoMemory)) }
+        ensures passes { OnOk result (self.new ≡ at_moment self.old now) }
+        ensures event { OnOk result (IsQuiet R.keeps self.old self.new now) }
+        ensures pends { AllPend F.Key.cmp self.old.core self.new.core }
+        ensures err { OnErr result (self.new ≡ self.old) }
+        ensures moment { self.new.core.moment ≤ now }
+    {
+        let job = match self.core.flush_take(alloc) {
+            Err(refused) => return Err(refused),
+            Ok(job) => job,
+        };
+        self.pass(now);
+        Ok(job)
+    }
+
+    /// Takes in that the lowest page that is not flushed was written, as [`fkv_core::Core::flush_done`] does,
+    /// whose refusals it has.
+    pub fn flush_done(&mut self, written: Written<R>, now: u64) -> Result<(), Refused>
+        requires later { self.old.core.moment < now }
+        ensures does { Flushes self.old self.new (R.stands written.receipt) written.bytes now result }
+        ensures event { OnOk result (IsQuiet R.keeps self.old self.new now) }
+        ensures pends { AllPend F.Key.cmp self.old.core self.new.core }
+        ensures err { OnErr result (self.new ≡ self.old) }
+        ensures moment { self.new.core.moment ≤ now }
+    {
+        events_preserve::<F::Key, F::Value, F::Input, F::Output, R>();
+        sessions_preserved::<F::Key, F::Value, F::Input, F::Output, R>();
+        pendings_stay::<F::Key, F::Value, F::Input, F::Output, R>();
+        self.core.known();
+        let done = self.core.flush_done(written, now);
+        self.core.known();
+        done
+    }
+
+    /// Moves Begin to the start of a page: records below it are dropped, each of them cleared, and the live map stays.
+    /// Operations and relocations that wait for a page are to look again. Refused, and then nothing changes: `NotDue` where
+    /// Begin would not rise, or would pass Head, or what is cleared.
+    pub fn truncate(&mut self, page: u64, now: u64) -> Result<(), Refused>
+        requires later { self.old.core.moment < now }
+        ensures does { Truncates R.keeps self.old self.new page now result }
+        ensures event { OnOk result (IsTruncation R.keeps F.Key.cmp self.old self.new page now) }
+        ensures err { OnErr result (self.new ≡ self.old) }
+        ensures moment { self.new.core.moment ≤ now }
+    {
+        cleared_stay::<F::Key, F::Value>();
+        events_preserve::<F::Key, F::Value, F::Input, F::Output, R>();
+        sessions_preserved::<F::Key, F::Value, F::Input, F::Output, R>();
+        self.core.known();
+        if page > self.core.records().page_of(self.cleared) {
+            return Err(Refused::NotDue);
+        }
+        let truncated = self.core.truncate(page, now);
+        self.core.known();
+        truncated
+    }
+
+    /// Moves Begin to the start of the page up to which all is cleared, and answers Begin. Refused, and then nothing
+    /// changes: `NotDue` where Begin would not rise, or would pass Head.
+    pub fn truncate_cleared(&mut self, now: u64) -> Result<Address, Refused>
+        requires later { self.old.core.moment < now }
+        ensures does { Truncates R.keeps self.old self.new (page_at self.old.core.records.page_bits self.old.cleared)
+            now (told_of result) }
+        ensures begin { IfOk result (λ begin. (begin ≡ self.new.core.records.begin)
+            × (begin ≡ start_at self.old.core.records.page_bits
+            (page_at self.old.core.records.page_bits self.old.cleared))) }
+        ensures event { OnOk result (IsTruncation R.keeps F.Key.cmp self.old self.new
+            (page_at self.old.core.records.page_bits self.old.cleared) now) }
+        ensures err { OnErr result (self.new ≡ self.old) }
+        ensures moment { self.new.core.moment ≤ now }
+    {
+        let page = self.core.records().page_of(self.cleared);
+        match self.truncate(page, now) {
+            Err(refused) => return Err(refused),
+            Ok(()) => (),
+        }
+        Ok(self.begin())
+    }
+
+    /// The live map, as [`fkv_core::Core::live`] gives it, whose refusals it has.
+    pub fn live<P: PageReader<Receipt = R>>(
+        &self,
+        alloc: Global,
+        reader: &mut P,
+    ) -> Result<Vec<(F::Key, F::Value)>, Refused>
+        ensures map { IsTrue R.keeps → IfOk result
+            (λ pairs. (q : F.Key) → lookup (is_at (F.Key.cmp q)) pairs.items ≡ live_of F.Key.cmp self.now.core q) }
+        ensures rising { IfOk result (λ pairs. IsStrictlySortedBy F.Key.cmp (keys_of pairs.items)) }
+        ensures own { IsTrue R.keeps → IfOk result
+            (λ pairs. All (λ k. partition_of self.now.core.count (F.code k) ≡ self.now.core.number)
+            (keys_of pairs.items)) }
+        ensures steady { OnOk result (P.failures reader.new ≡ P.failures reader.old) }
+        ensures refused { IfErr result (IsScanRefusal R.keeps
+            (page_at self.now.core.records.page_bits self.now.core.records.begin)
+            (length self.now.core.records.receipts) (P.failures reader.old)
+            (P.failures reader.new)) }
+        ensures caused { IsTrue R.keeps → IfErr result (λ e. e ≢ Refused.NoMemory → (page : ℕ)
+            × MayFail R.stands P.can_fail self.now.core.records.receipts
+            self.now.core.records.page_bits page) }
+    {
+        self.core.live(alloc, reader)
+    }
+
+    /// Puts the live map into a map, as [`fkv_core::Core::put_live`] does, whose refusals it has.
+    pub fn put_live<P: PageReader<Receipt = R>>(
+        &self,
+        reader: &mut P,
+        map: &mut BTreeMap<F::Key, F::Value>,
+    ) -> Result<(), Refused>
+        ensures map { IsTrue R.keeps → OnOk result (Same (get F.Key.cmp map.new)
+            (with_text F.Key.cmp (get F.Key.cmp map.old) self.now.core.records.text)) }
+        ensures live { IsTrue R.keeps → OnOk result ((k : F.Key) → get F.Key.cmp map.old k ≡ None
+            → get F.Key.cmp map.new k ≡ live_of F.Key.cmp self.now.core k) }
+        ensures others { IsTrue R.keeps → OnOk result ((k : F.Key)
+            → partition_of self.now.core.count (F.code k) ≢ self.now.core.number
+            → get F.Key.cmp map.new k ≡ get F.Key.cmp map.old k) }
+        ensures err { IsTrue R.keeps → OnErr result
+            (HasFront F.Key.cmp (get F.Key.cmp map.old) (get F.Key.cmp map.new) self.now.core.records.text) }
+        ensures steady { OnOk result (P.failures reader.new ≡ P.failures reader.old) }
+        ensures refused { IfErr result (IsScanRefusal R.keeps
+            (page_at self.now.core.records.page_bits self.now.core.records.begin)
+            (length self.now.core.records.receipts) (P.failures reader.old)
+            (P.failures reader.new)) }
+        ensures caused { IsTrue R.keeps → IfErr result (λ e. e ≢ Refused.NoMemory → (page : ℕ)
+            × MayFail R.stands P.can_fail self.now.core.records.receipts
+            self.now.core.records.page_bits page) }
+    {
+        self.core.put_live(reader, map)
+    }
+}

@@ -1,0 +1,127 @@
+//! What events change of relocations and of what is cleared. Each change keeps what every partition keeps.
+ghost use Rattle.std.specs.Prelude.{◌≡◌, ◌+◌, ◌*◌, ◌<◌, ◌≤◌, ◌↔◌, ℕ, IsTrue, Some, None, slice_get};
+ghost use Rattle.fkv_records.specs.Places.{IsRecordStart};
+ghost use Rattle.fkv_texts.specs.declared.entries.Entry.{Entry};
+ghost use Rattle.fkv_texts.specs.Text.{entry_at};
+ghost use Rattle.fkv_lookups.specs.Cleared.{IsSuperseded};
+ghost use Rattle.fkv_core.specs.Contexts.{is_session, joined};
+ghost use Rattle.fkv_core.specs.Views.{slots_of};
+ghost use Rattle.fkv_core.specs.Beginning.{IsEntered};
+ghost use Rattle.fkv_partition.specs.Views.{at_moment, at_stage, done_at, relocation_at, with_relocation};
+ghost use Rattle.fkv_partition.specs.Stages.{RelocationStands, StageStands};
+ghost use Rattle.fkv_partition.specs.Beginning.{IsFree, IsFirstOpen};
+
+use crate::partitions::Partition;
+use crate::relocations::{RelocationOf, StageOf, in_stage};
+use fkv_core::contexts::{open_at, open_context, set_context};
+use fkv_device::Receipt;
+use fkv_functions::Functions;
+use fkv_lookups::clearing::cleared_stay;
+use fkv_records::Address;
+
+impl<F: Functions, R: Receipt> Partition<F, R> {
+    /// Whether neither an operation nor a relocation stands in a context of a session.
+    pub(crate) fn is_free(&self, slot: usize, context: usize) -> bool
+        requires session { slot < 16 }
+        requires entered { IsEntered self.now.core slot }
+        requires context { context < 8 }
+        ensures { IsTrue result ↔ IsFree self.now slot context }
+    {
+        self.core.open(slot, context).is_none()
+            && open_at(&self.relocations, slot, context).is_none()
+    }
+
+    /// Whether a relocation of a session is open.
+    pub(crate) fn has_relocation(&self, slot: usize) -> bool
+        ensures { IsTrue result ↔ ((c : ℕ) × (x : _) × (relocation_at self.now slot c ≡ Some x)) }
+    {
+        self.core.is_session(slot) && open_context(&self.relocations, slot).is_some()
+    }
+
+    /// The lowest context of a session in which a relocation is open.
+    pub fn open_relocation(&self, slot: usize) -> Option<usize>
+        ensures { IsFirstOpen self.now slot result }
+    {
+        if !self.core.is_session(slot) {
+            return None;
+        }
+        open_context(&self.relocations, slot)
+    }
+
+    /// A moment passes, and nothing else changes.
+    pub(crate) fn pass(&mut self, now: u64)
+        ensures { self.new ≡ at_moment self.old now }
+    {
+        self.core.pass(now);
+    }
+
+    /// Opens a relocation in a free context.
+    pub(crate) fn begin_relocation(
+        &mut self,
+        slot: usize,
+        context: usize,
+        relocation: RelocationOf<F>,
+        now: u64,
+    )
+        requires session { slot < 16 }
+        requires context { context < 8 }
+        requires entered { IsEntered self.old.core slot }
+        requires free { IsFree self.old slot context }
+        requires stands { RelocationStands R.keeps F.Key.cmp F.code self.old.core self.old.cleared relocation }
+        ensures { self.new ≡ with_relocation self.old slot context (Some relocation) now }
+    {
+        self.core.pass(now);
+        set_context(&mut self.relocations, slot, context, Some(relocation));
+    }
+
+    /// Moves a relocation to another stage.
+    pub(crate) fn set_stage(
+        &mut self,
+        slot: usize,
+        context: usize,
+        relocation: &RelocationOf<F>,
+        stage: StageOf<F>,
+        now: u64,
+    )
+        requires session { slot < 16 }
+        requires context { context < 8 }
+        requires here { relocation_at self.old slot context ≡ Some relocation.now }
+        requires stands { StageStands R.keeps F.Key.cmp F.code self.old.core relocation.now.target stage }
+        ensures { self.new ≡ with_relocation self.old slot context (Some (at_stage relocation.now stage)) now }
+    {
+        self.core.pass(now);
+        let moved = in_stage(relocation, stage);
+        set_context(&mut self.relocations, slot, context, Some(moved));
+    }
+
+    /// Frees the context of a relocation, which has no effect.
+    pub(crate) fn end(&mut self, slot: usize, context: usize, now: u64)
+        requires session { slot < 16 }
+        requires context { context < 8 }
+        ensures { self.new ≡ with_relocation self.old slot context None now }
+    {
+        self.core.pass(now);
+        set_context(&mut self.relocations, slot, context, None);
+    }
+
+    /// Clears a place whose record is superseded, where it was not cleared before, and frees the context of the relocation.
+    pub(crate) fn finish(&mut self, slot: usize, context: usize, place: Address, now: u64)
+        requires session { slot < 16 }
+        requires context { context < 8 }
+        requires issued { place ≤ self.old.cleared }
+        requires place { IsRecordStart self.old.core.records.page_bits self.old.core.records.record_size place }
+        requires low { place < self.old.core.records.tail }
+        requires spent { IsTrue R.keeps → (e : Entry F.Key F.Value)
+            → entry_at self.old.core.records.text place ≡ Some e
+            → IsSuperseded F.Key.cmp self.old.core.records.text e }
+        ensures { self.new ≡ done_at self.old slot context place now }
+    {
+        cleared_stay::<F::Key, F::Value>();
+        self.core.known();
+        self.core.pass(now);
+        if self.cleared <= place {
+            self.cleared = self.core.records().next(place);
+        }
+        set_context(&mut self.relocations, slot, context, None);
+    }
+}

@@ -1,0 +1,204 @@
+//! What a relocation does with the page that it waited for.
+ghost use Rattle.std.specs.Prelude.{◌≡◌, ◌<◌, ◌≤◌, IfOk, IfSome, Ok, length};
+ghost use Rattle.fkv_records.specs.Places.{page_at};
+ghost use Rattle.fkv_pages.specs.Spelled.{IsEntryIn};
+ghost use Rattle.fkv_partition.specs.declared.relocations.Stage.TheVariants.{Reading, Tracing};
+ghost use Rattle.fkv_partition.specs.Views.{relocation_at};
+ghost use Rattle.fkv_partition.specs.Relocating.{IsRelocating};
+ghost use Rattle.fkv_partition.specs.Reading.{AwaitsPage, LoadsOn};
+
+use crate::partitions::Partition;
+use crate::relocations::{EntryOf, Liveness, RelocationOf, Stage, awaited, liveness_of};
+use fkv_core::loading::is_no_memory;
+use fkv_core::{Loading, Progress, ProgressOf};
+use fkv_device::{Loaded, Receipt};
+use fkv_functions::{Functions, Refused};
+use fkv_operations::Answer;
+
+impl<F: Functions, R: Receipt> Partition<F, R> {
+    /// Goes on with a relocation that waits for a page, with that page as a device gave it, or with the refusal that came in
+    /// its place. Where Begin has moved since it asked it is to begin anew, whatever came, and the answer is `Next`. Else
+    /// the page of its target gives its record, whose liveness is checked, and a page on the chain from the entry is followed
+    /// down to the target: where a newer record of the key is met the target is cleared as it is, where the chain goes on
+    /// above the target another page is asked for, and else the record is appended again, unless the entry has moved, and
+    /// the target is cleared. Refused, in this order: `Unknown` where no relocation is open there; `NotReady` where it waits
+    /// for no page; what came in place of the page, which ends the relocation without effect unless it is `NoMemory`;
+    /// `Stranger` where the page was read by another receipt than the one that is kept of it; `Damaged` where its bytes
+    /// spell no record at the target, or on the chain, or lead to no place, which ends the relocation too; `Worn`;
+    /// `NoMemory` where the receipt of the next page can't be shared. A refusal that ends no relocation changes nothing.
+    pub(crate) fn load_on(
+        &mut self,
+        slot: usize,
+        context: usize,
+        came: Result<Loaded<R>, Refused>,
+        functions: &F,
+        now: u64,
+    ) -> Result<ProgressOf<F, R>, Refused>
+        requires later { self.old.core.moment < now }
+        ensures does { LoadsOn R.stands (IsEntryIn F.Key.bytes_of F.Value.bytes_of F.Key.is_known F.Value.is_known
+            F.Key.SIZE F.Value.SIZE) F.Key.cmp F.code self.old self.new slot context came now result }
+        ensures event { IfOk result (λ _. IsRelocating R.keeps F.Key.cmp self.old self.new slot context now) }
+        ensures cleared { result ≡ Ok (Progress.Done Answer.Cleared now)
+            → IfSome (relocation_at self.old slot context) (λ x. x.target < self.new.cleared) }
+        ensures within { IfOk result (λ _. (slot < 16) × (context < 8)) }
+        ensures moment { self.new.core.moment ≤ now }
+    {
+        let Some(relocation) = self.relocation(slot, context) else {
+            return Err(Refused::Unknown);
+        };
+        let Some((begin, _wanted)) = awaited(relocation.target, &relocation.stage) else {
+            return Err(Refused::NotReady);
+        };
+        if begin != self.core.records().begin() {
+            self.set_stage(slot, context, &relocation, Stage::Fresh, now);
+            return Ok(Progress::Next);
+        }
+        match came {
+            Err(refused) => {
+                if is_no_memory(&refused) {
+                    return Err(refused);
+                }
+                self.end(slot, context, now);
+                Err(refused)
+            }
+            Ok(loaded) => self.read_on(slot, context, &relocation, loaded, functions, now),
+        }
+    }
+
+    /// Reads a page that came for a relocation.
+    fn read_on(
+        &mut self,
+        slot: usize,
+        context: usize,
+        relocation: &RelocationOf<F>,
+        loaded: Loaded<R>,
+        functions: &F,
+        now: u64,
+    ) -> Result<ProgressOf<F, R>, Refused>
+        requires later { self.old.core.moment < now }
+        requires session { slot < 16 }
+        requires context { context < 8 }
+        requires awaits { (wanted : _) × AwaitsPage self.old slot context relocation.now wanted }
+        ensures does { LoadsOn R.stands (IsEntryIn F.Key.bytes_of F.Value.bytes_of F.Key.is_known F.Value.is_known
+            F.Key.SIZE F.Value.SIZE) F.Key.cmp F.code self.old self.new slot context (Ok loaded) now result }
+        ensures event { IfOk result (λ _. IsRelocating R.keeps F.Key.cmp self.old self.new slot context now) }
+        ensures cleared { result ≡ Ok (Progress.Done Answer.Cleared now) → relocation.now.target < self.new.cleared }
+        ensures moment { self.new.core.moment ≤ now }
+    {
+        match relocation.stage {
+            Stage::Reading(_) => {
+                self.read_place(slot, context, relocation, &loaded, functions, now)
+            }
+            Stage::Tracing(entry, loading) => {
+                self.trace_on(slot, context, relocation, entry, loading, &loaded, now)
+            }
+            Stage::Fresh | Stage::Ready(_, _) => unreachable!(),
+        }
+    }
+
+    /// Reads the record of a relocation's target from its page, and checks its liveness.
+    fn read_place(
+        &mut self,
+        slot: usize,
+        context: usize,
+        relocation: &RelocationOf<F>,
+        loaded: &Loaded<R>,
+        functions: &F,
+        now: u64,
+    ) -> Result<ProgressOf<F, R>, Refused>
+        requires later { self.old.core.moment < now }
+        requires session { slot < 16 }
+        requires context { context < 8 }
+        requires awaits { AwaitsPage self.old slot context relocation.now relocation.now.target }
+        requires reads { relocation.now.stage ≡ Reading self.old.core.records.begin }
+        ensures does { LoadsOn R.stands (IsEntryIn F.Key.bytes_of F.Value.bytes_of F.Key.is_known F.Value.is_known
+            F.Key.SIZE F.Value.SIZE) F.Key.cmp F.code self.old self.new slot context (Ok loaded.now) now result }
+        ensures event { IfOk result (λ _. IsRelocating R.keeps F.Key.cmp self.old self.new slot context now) }
+        ensures cleared { result ≡ Ok (Progress.Done Answer.Cleared now) → relocation.now.target < self.new.cleared }
+        ensures moment { self.new.core.moment ≤ now }
+    {
+        self.known();
+        let target = relocation.target;
+        let page = self.core.records().page_of(target);
+        if let Err(refused) = self.core.records().is_own(loaded, page) {
+            return Err(refused);
+        }
+        match self.core.records().own_record_in(loaded, target) {
+            Err(_damaged) => {
+                self.end(slot, context, now);
+                Err(Refused::Damaged { page })
+            }
+            Ok(entry) => self.check_liveness(slot, context, relocation, entry, functions, now),
+        }
+    }
+
+    /// Follows the chain from the entry of a record's class, in a page above the target, down to the target.
+    fn trace_on(
+        &mut self,
+        slot: usize,
+        context: usize,
+        relocation: &RelocationOf<F>,
+        entry: EntryOf<F>,
+        loading: Loading,
+        loaded: &Loaded<R>,
+        now: u64,
+    ) -> Result<ProgressOf<F, R>, Refused>
+        requires later { self.old.core.moment < now }
+        requires session { slot < 16 }
+        requires context { context < 8 }
+        requires awaits { AwaitsPage self.old slot context relocation.now loading.wanted }
+        requires traces { relocation.now.stage ≡ Tracing entry loading }
+        ensures does { LoadsOn R.stands (IsEntryIn F.Key.bytes_of F.Value.bytes_of F.Key.is_known F.Value.is_known
+            F.Key.SIZE F.Value.SIZE) F.Key.cmp F.code self.old self.new slot context (Ok loaded.now) now result }
+        ensures event { IfOk result (λ _. IsRelocating R.keeps F.Key.cmp self.old self.new slot context now) }
+        ensures cleared { result ≡ Ok (Progress.Done Answer.Cleared now) → relocation.now.target < self.new.cleared }
+        ensures moment { self.new.core.moment ≤ now }
+    {
+        self.known();
+        let target = relocation.target;
+        let page = self.core.records().page_of(loading.wanted);
+        if let Err(refused) = self.core.records().is_own(loaded, page) {
+            return Err(refused);
+        }
+        let reached = match self
+            .core
+            .records()
+            .trace_in(loaded, &entry.key, loading.wanted)
+        {
+            Err(_damaged) => {
+                self.end(slot, context, now);
+                return Err(Refused::Damaged { page });
+            }
+            Ok(reached) => reached,
+        };
+        match liveness_of(target, &reached) {
+            Liveness::Superseded => {
+                self.finish(slot, context, target, now);
+                Ok(Progress::Done(Answer::Cleared, now))
+            }
+            Liveness::Last => {
+                self.append_again(slot, context, relocation, entry, loading.kept, now)
+            }
+            Liveness::Further(address) => {
+                if !self.core.records().is_place(address) {
+                    self.end(slot, context, now);
+                    return Err(Refused::Damaged { page });
+                }
+                let further = Loading {
+                    begin: loading.begin,
+                    kept: loading.kept,
+                    wanted: address,
+                    looked: loading.looked,
+                };
+                self.ask(
+                    slot,
+                    context,
+                    relocation,
+                    Stage::Tracing(entry, further),
+                    address,
+                    now,
+                )
+            }
+        }
+    }
+}
