@@ -4,7 +4,7 @@ use crate::calls::{Call, LetterOp, Told, on_name};
 use crate::driven::Driven;
 use crate::openings::SMALL;
 use fkv_functions::{Name, Refused, SumFns};
-use fkv_operations::{Answer, KeyedOp, KeyedOpOf, Op, apply_plainly};
+use fkv_operations::{Answer, KeyedOp, KeyedOpOf, Op, OpOf, apply_plainly};
 use fkv_partition::Config;
 use rand_core::{Rng, SeedableRng};
 use rand_xoshiro::Xoshiro256PlusPlus;
@@ -108,9 +108,10 @@ impl Beside {
     /// A call of what is open in a context, if anything is.
     fn open_call(&self, slot: usize, context: usize, word: u64) -> Option<Call> {
         let given_up = word >> 16 & 63 == 0;
-        let Ok((_, op)) = self.driven.compacted.asked(slot, context) else {
+        if self.driven.compacted.asked(slot, context).is_err() {
             return None;
-        };
+        }
+        let relocates = self.driven.compacted.relocation(slot, context).is_some();
         Some(if given_up {
             Call::GiveUp(slot, context)
         } else if self.driven.compacted.awaits_page(slot, context) {
@@ -118,7 +119,7 @@ impl Beside {
                 Some(refused) => Call::Fault(slot, context, refused),
                 None => Call::Load(slot, context),
             }
-        } else if word >> 23 & 1 == 0 && op.keyed().is_some() {
+        } else if word >> 23 & 1 == 0 && !relocates {
             Call::Install(slot, context)
         } else {
             Call::Go(slot, context)
@@ -175,6 +176,15 @@ impl Beside {
         effect == now && told == Ok(answer) && self.changes.push(change).is_ok()
     }
 
+    /// Whether the plain map answers an operation so, if it is one on a key.
+    fn is_key_answered(&mut self, asked: (u64, OpOf<SumFns>), answer: Answer<i128>) -> bool {
+        let (issued, op) = asked;
+        match op.keyed() {
+            Some(op) => self.is_answered((issued, op), answer),
+            None => false,
+        }
+    }
+
     /// Makes a call of what is open in a context, and says whether it tells what the plain map has. What is cleared rises past
     /// the place of a relocation that is done.
     fn is_open_right(&mut self, alloc: Global, slot: usize, context: usize, call: Call) -> bool {
@@ -184,16 +194,16 @@ impl Beside {
         let told = self.driven.call(alloc, call);
         let after = self.driven.compacted.cleared();
         match told {
-            Told::Done(answer) => match (asked, relocation) {
-                (Ok(_), Some(relocation)) => {
+            Told::Done(Answer::Cleared) => match relocation {
+                Some(relocation) => {
                     self.counts.cleared = self.counts.cleared.saturating_add(1);
-                    answer == Answer::Cleared && before <= after && relocation.target < after
+                    before <= after && relocation.target < after
                 }
-                (Ok((issued, op)), None) => match op.keyed() {
-                    Some(op) => self.is_answered((issued, op), answer),
-                    None => false,
-                },
-                _ => false,
+                None => false,
+            },
+            Told::Done(answer) => match asked {
+                Ok(asked) => self.is_key_answered(asked, answer),
+                Err(_) => false,
             },
             // what is given up is never refused
             Told::Refused(_) => !matches!(call, Call::GiveUp(_, _)),
