@@ -329,9 +329,10 @@ module _ {K V I : Type 0} (keeps : Bool) (cmp : K → K → Ordering) (code : K 
             let pair : (e, mine) ≡ (d, ask) = some-same (e, mine) (d, ask) (question_in x) q (ap question_in same ∙ asks) in
             let entry : e ≡ d = ap (λ (z : IndexEntry × Ask K V I). z.0) pair in
             absurd (gone (subst (λ (z : IndexEntry). word_at v.records.words z.place ≡ z.word) entry word))
-        by p (Installs.worn y d here asks stays tail is r) on = absurd (cc)
-        by p (Installs.full y d here asks stays full is r) on = let t : p ≡ Waits wait.Full = cc in off p (Waits wait.Full) t on (λ z. z)
-        by p (Installs.done y d here asks stays more room is r) on = let a = answered.Value (f.shown ask.key ask.input (updated f ask.key ask.input ask.source)) in let t : p ≡ Done a now = cc in off p (Done a now) t on (λ z. z)
+        by p (Installs.declined y d here asks stays u is r) on = let t : p ≡ Done answered.Declined now = cc in off p (Done answered.Declined now) t on (λ z. z)
+        by p (Installs.worn y d value here asks stays u tail is r) on = absurd (cc)
+        by p (Installs.full y d value here asks stays u full is r) on = let t : p ≡ Waits wait.Full = cc in off p (Waits wait.Full) t on (λ z. z)
+        by p (Installs.done y d value here asks stays u more room is r) on = let a = answered.Value (f.shown ask.key ask.input value) in let t : p ≡ Done a now = cc in off p (Done a now) t on (λ z. z)
 
     -- ---- a page came
     loads-near : IsTrue keeps → (entry : ℕ → List ℕ → ℕ → Entry K V → Type 0) (receipt : R) (a : ℕ) (came : Result (Joined R) Refused) (p : Progress K V I O R) → IsNear {O = O} {R = R} code v slot c (NeedsLoad receipt a) n

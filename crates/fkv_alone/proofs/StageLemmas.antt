@@ -255,16 +255,22 @@ module _ {K V I O R : Type 0} (keeps : Bool) (stands : R → Standing) (cmp : K 
       let t : p ≡ Next = cc in
       let o = open-same op old v slot c started h.operation x h.open_is here in
       told-as p Next t (rw is (record { operation = at_phase x Fresh; open_is = open-set op old v slot c started x o now (at_phase x Fresh) v.records later refl refl refl; ready = inl refl }))
-  installs-told ask h p (Installs.worn x e here q word tail is r) event = absurd (cc)
-  installs-told ask h p (Installs.full x e here q word full is r) event =
+  installs-told ask h p (Installs.declined x e here q word u is r) event =
+      let o = open-same op old v slot c started h.operation x h.open_is here in
+      let t : p ≡ Done answered.Declined now = cc in
+      let closed : context_at w slot c ≡ None = ap (λ (u : CoreView K V I). context_at u slot c) is ∙ set-here v slot c now x here None v.records refl in
+      told-as p (Done answered.Declined now) t (done-told op old v slot c started x o keeps cmp f w now answered.Declined later closed
+      (subst (λ (u : CoreView K V I). LeavesOthers v u slot c now) (sym is) (set-frame v slot c now x here None v.records refl refl))
+      (λ kept. subst (Finishes cmp f v w slot c now) t (event kept) x here))
+  installs-told ask h p (Installs.worn x e value here q word u tail is r) event = absurd (cc)
+  installs-told ask h p (Installs.full x e value here q word u full is r) event =
       let t : p ≡ Waits Full = cc in
       let o = open-same op old v slot c started h.operation x h.open_is here in
       told-as p (Waits Full) t (rw is (record { operation = x; open_is = open-pass op old v slot c started x o now later; reason = full }))
-  installs-told ask h p (Installs.done x e here q word more room is r) event =
+  installs-told ask h p (Installs.done x e value here q word u more room is r) event =
       let o = open-same op old v slot c started h.operation x h.open_is here in
-      let value = Some (updated f ask.key ask.input ask.source) in
-      let grown = with_record v.records e ask.key value in
-      let a = answered.Value (f.shown ask.key ask.input (updated f ask.key ask.input ask.source)) in
+      let grown = with_record v.records e ask.key (Some value) in
+      let a = answered.Value (f.shown ask.key ask.input value) in
       let t : p ≡ Done a now = cc in
       let closed : context_at w slot c ≡ None = ap (λ (u : CoreView K V I). context_at u slot c) is ∙ set-here v slot c now x here None grown refl in
       told-as p (Done a now) t (done-told op old v slot c started x o keeps cmp f w now a later closed
@@ -281,9 +287,10 @@ module _ {K V I O R : Type 0} (keeps : Bool) (stands : R → Standing) (cmp : K 
       let pair : (h.kept, ask) ≡ (e, mine) = some-same (h.kept, ask) (e, mine) (question_in h.operation) h.question (ap question_in same ∙ q) in
       absurd (other (ap (λ (z : IndexEntry × Ask K V I). z.1) pair))
   installs-stops ask h why (Installs.moved x e here q word is r) = absurd (cc)
-  installs-stops ask h why (Installs.worn x e here q word tail is r) = let t : why ≡ Worn = cc in (t, tail-was h.operation h.open_is tail)
-  installs-stops ask h why (Installs.full x e here q word full is r) = absurd (cc)
-  installs-stops ask h why (Installs.done x e here q word more room is r) = absurd (cc)
+  installs-stops ask h why (Installs.declined x e here q word u is r) = absurd (cc)
+  installs-stops ask h why (Installs.worn x e value here q word u tail is r) = let t : why ≡ Worn = cc in (t, tail-was h.operation h.open_is tail)
+  installs-stops ask h why (Installs.full x e value here q word u full is r) = absurd (cc)
+  installs-stops ask h why (Installs.done x e value here q word u more room is r) = absurd (cc)
 
   pub installs-advances : (ask : Ask K V I) → IsAsking op old v slot c started ask → (n : ℕ) (result : Result (Progress K V I O R) Refused) → Installs cmp f code v w slot c ask now result
       → (IsTrue keeps → IfOk result (λ p. Finishes cmp f v w slot c now p)) → OnErr result (w ≡ v)

@@ -13,7 +13,7 @@ use Rattle.fkv_operations.specs.declared.operations.Answer.TheVariants.{Value}
 use Rattle.fkv_lookups.specs.RecordsViews.{with_value}
 use Rattle.fkv_lookups.specs.declared.decisions.LookupResult.TheVariants.{Mutable}
 use Rattle.fkv_lookups.specs.declared.decisions.Decision.TheVariants.{Replace}
-use Rattle.fkv_lookups.specs.Decisions.{IsHeld, decision}
+use Rattle.fkv_lookups.specs.Decisions.{IsHeld, replaced, decision}
 use Rattle.fkv_lookups.specs.Meeting.{IsMetAt}
 use Rattle.fkv_core.specs.declared.contexts.Context.{Context}
 use Rattle.fkv_core.specs.declared.contexts.Phase.TheVariants.{Fresh}
@@ -46,7 +46,8 @@ module _ {K V I O : Type 0} (cmp : K → K → Ordering) (f : Meanings K V I O) 
 
   module _ (input : I) (c issued now : ℕ) (inside : is_session (slots_of v) slot ≡ true) (own : partition_of v.count (code key) ≡ v.number) (closed : context_at v slot c ≡ None) (free : slice_get v.contexts (slot * 8 + c) ≡ Some None) (low : c < 8)
       (met : met_at cmp code v slot key ≡ Mutable held) (holds : IsHeld (met_at cmp code v slot key) (live_of cmp v key))
-      (lives : Same (live cmp (with_value v.records last.address (Some (f.next key held input))).text) (with_at cmp (live_of cmp v) key (Some (f.next key held input)))) where
+      (value : V) (next : f.next key held input ≡ Some value)
+      (lives : Same (live cmp (with_value v.records last.address (Some value)).text) (with_at cmp (live_of cmp v) key (Some value))) where
     abbrev operation : Context K V I
     operation = record { number = issued; op = Rmw key input; phase = Fresh }
 
@@ -56,23 +57,23 @@ module _ {K V I O : Type 0} (cmp : K → K → Ordering) (f : Meanings K V I O) 
     here : context_at between slot c ≡ Some operation
     here = context-inside (slots_of v) between.contexts slot c inside low ∙ ap joined (get-set_same v.contexts (slot * 8 + c) None (Some operation) free)
 
-    decided : decision f (Rmw key input) (met_at cmp code between slot key) ≡ Replace (Some (f.next key held input)) (Value (f.shown key input (f.next key held input)))
-    decided = ap (decision f (Rmw key input)) met
+    decided : decision f (Rmw key input) (met_at cmp code between slot key) ≡ Replace (Some value) (Value (f.shown key input value))
+    decided = ap (decision f (Rmw key input)) met ∙ ap (replaced f key input) next
 
     abbrev after : CoreView K V I
-    after = record v { records = with_value v.records last.address (Some (f.next key held input)); moment = now }
+    after = record v { records = with_value v.records last.address (Some value); moment = now }
 
-    is-after : with_replaced between slot c last.address (Some (f.next key held input)) now ≡ after
-    is-after = ap (λ cs. record v { contexts = cs; records = with_value v.records last.address (Some (f.next key held input)); moment = now })
+    is-after : with_replaced between slot c last.address (Some value) now ≡ after
+    is-after = ap (λ cs. record v { contexts = cs; records = with_value v.records last.address (Some value); moment = now })
         (set-back v.contexts (slot * 8 + c) (Some operation) None free)
 
-    pub done-at_once : {R : Type 0} (stands : R → Standing) → IsDoneAtOnce stands cmp f code v after slot c key input issued now (f.shown key input (f.next key held input))
+    pub done-at_once : {R : Type 0} (stands : R → Standing) → IsDoneAtOnce stands cmp f code v after slot c key input issued now (f.shown key input value)
     done-at_once {R} stands = record {
       between = between;
       issues = Issues.issues inside low closed own refl refl;
       issue = event-issue code v slot c issued (Rmw key input) inside free low own;
-      goes = replaces operation (Some (f.next key held input)) (Value (f.shown key input (f.next key held input))) last
+      goes = replaces operation (Some value) (Value (f.shown key input value)) last
           (record { here = here; fresh = refl; decided = decided }) at_once-last (sym is-after) refl;
-      event = subst (λ w. IsEvent {R = R} cmp f between w slot c now (Done (Value (f.shown key input (f.next key held input))) now)) is-after
-          (event-replaces cmp f code between slot c now operation here last.address (Some (f.next key held input)) (Value (f.shown key input (f.next key held input))) holds lives decided);
+      event = subst (λ w. IsEvent {R = R} cmp f between w slot c now (Done (Value (f.shown key input value)) now)) is-after
+          (event-replaces cmp f code between slot c now operation here last.address (Some value) (Value (f.shown key input value)) holds lives decided);
     }

@@ -1,27 +1,26 @@
 -- What each event is to those who see no more than the live map and what the contexts ask.
-use Rattle.std.proofs.Common.{◌≡◌, ◌≢◌, Bool, true, false, cond, nat_lt, ℕ, zero, suc, ◌+◌, ◌*◌, ◌<◌, ◌⊎◌, inl, inr, List, Option, Some, None, option_map, IsTrue, ◌↔◌, ◌≤◌, length, Result, Ok, Err, IsOk, IfOk, OnOk, slice_get, slice_set, is_some, refl, sym, ◌∙◌, ap, subst, arith}
+use Rattle.std.proofs.Common.{◌≡◌, ◌≢◌, Bool, true, false, nat_lt, ℕ, zero, suc, ◌+◌, ◌*◌, ◌<◌, ◌⊎◌, inl, inr, List, Option, Some, None, option_map, IsTrue, ◌↔◌, ◌≤◌, length, Result, Ok, Err, IsOk, IfOk, OnOk, slice_get, slice_set, is_some, refl, sym, ◌∙◌, ap, subst, arith}
 use Rattle.std.proofs.lemmas.Bool.Decides.{nat_tests}
 use Rattle.std.specs.Prelude.{IfSome}
 use Rattle.std.proofs.lemmas.Bool.{OnTrue_at, OnFalse_at, cases_eq}
 use Rattle.std.specs.Bool.{OnTrue, OnFalse}
 use Rattle.std.specs.declared.cmp.Ordering.{Ordering}
-use Rattle.std.specs.BTreeMap.{is_at}
 use Rattle.std.specs.Option.{option_flatten, ok_or}
 use Rattle.fkv_functions.specs.Meanings.{Meanings, updated}
 use Rattle.fkv_functions.specs.declared.asks.Ask.{Ask}
 use Rattle.fkv_functions.specs.Plain.{PlainMap, Same, IsKeyOrder, with_at}
-use Rattle.fkv_operations.specs.After.{key_of, after, answer}
+use Rattle.fkv_operations.specs.After.{key_of, after, after_update, answer, told_of}
 use Rattle.fkv_lookups.specs.Decisions.{held_of, IsHeld, decision}
 use Rattle.fkv_lookups.specs.Meeting.{IsWanted}
 use Rattle.fkv_device.specs.Standing.{Standing}
 use Rattle.fkv_lookups.specs.declared.decisions.Decision.TheVariants as decided
-use Rattle.fkv_lookups.specs.DecisionLaws.{quiet-after, quiet-answer, append-after, append-answer, replace-after, replace-answer, prepare-op, prepare-source, prepare-met, load-op}
+use Rattle.fkv_lookups.specs.DecisionLaws.{quiet-does, append-does, replace-does, prepare-op, prepare-source, prepare-met, load-op}
 use Rattle.fkv_lookups.specs.declared.decisions.Decision.{Decision}
 use Rattle.fkv_lookups.specs.declared.decisions.Decision.TheVariants.{Append, Replace, Prepare}
 use Rattle.fkv_operations.specs.declared.operations.KeyedOp.{KeyedOp}
 use Rattle.fkv_operations.specs.declared.operations.KeyedOp.TheVariants.{Read, Upsert, Rmw, Delete}
 use Rattle.fkv_operations.specs.declared.operations.Answer.{Answer}
-use Rattle.fkv_operations.specs.declared.operations.Answer.TheVariants.{Value}
+use Rattle.fkv_operations.specs.declared.operations.Answer.TheVariants.{Value, Declined}
 use Rattle.fkv_texts.specs.Text.{last_of, newest, value_of, live}
 use Rattle.fkv_index.specs.declared.places.Place.{Place}
 use Rattle.fkv_index.specs.Words.{address_of}
@@ -268,14 +267,14 @@ module _ {K V I O : Type 0} (cmp : K → K → Ordering) (f : Meanings K V I O) 
 
     -- an operation is done without a write
     pub event-quiet : {R : Type 0} → IsKeyOrder cmp → IsHeld (met_at cmp code v slot (key_of x.op)) (live_of cmp v (key_of x.op)) → (a : Answer O) → decision f x.op (met_at cmp code v slot (key_of x.op)) ≡ Decision.Done a → IsEvent {R = R} cmp f v (with_context v slot c None now) slot c now (Done a now)
-    event-quiet order held a d = record {
+    event-quiet order held a d = let quiet = quiet-does cmp f (live_of cmp v) order x.op (met_at cmp code v slot (key_of x.op)) a held d in record {
       question = asked_by x;
       was = was-asked;
       effect = (
         asked-same v slot c now x h None,
         refl,
-        (λ q. sym (quiet-after cmp f (live_of cmp v) order x.op (met_at cmp code v slot (key_of x.op)) a held d q)),
-        quiet-answer cmp f (live_of cmp v) x.op (met_at cmp code v slot (key_of x.op)) a held d,
+        (λ q. sym (quiet.0 q)),
+        quiet.1,
       );
       frame = leaves None;
     }
@@ -285,6 +284,7 @@ module _ {K V I O : Type 0} (cmp : K → K → Ordering) (f : Meanings K V I O) 
         → IsEvent {R = R} cmp f v (with_appended v slot c e (key_of x.op) value now) slot c now (Done a now)
     event-appends e value a lives d =
         let l = leaves None in
+        let does = append-does cmp f (live_of cmp v) x.op (met_at cmp code v slot (key_of x.op)) value a d in
         record {
           question = asked_by x;
           was = was-asked;
@@ -292,8 +292,8 @@ module _ {K V I O : Type 0} (cmp : K → K → Ordering) (f : Meanings K V I O) 
             asked-same v slot c now x h None,
             refl,
             (λ q. lives q
-                ∙ ap (λ (m : PlainMap K V). m q) (sym (append-after cmp f (live_of cmp v) x.op (met_at cmp code v slot (key_of x.op)) value a d))),
-            append-answer cmp f (live_of cmp v) x.op (met_at cmp code v slot (key_of x.op)) value a d,
+                ∙ ap (λ (m : PlainMap K V). m q) (sym does.0)),
+            does.1,
           );
           frame = record { others = l.others; number = refl; count = refl; begin = refl; regions = refl; moment = refl };
         }
@@ -302,15 +302,15 @@ module _ {K V I O : Type 0} (cmp : K → K → Ordering) (f : Meanings K V I O) 
     pub event-replaces : {R : Type 0} (at : ℕ) (value : Option V) (a : Answer O) → IsHeld (met_at cmp code v slot (key_of x.op)) (live_of cmp v (key_of x.op))
         → Same (live cmp (with_value v.records at value).text) (with_at cmp (live_of cmp v) (key_of x.op) value) → decision f x.op (met_at cmp code v slot (key_of x.op)) ≡ Replace value a
         → IsEvent {R = R} cmp f v (with_replaced v slot c at value now) slot c now (Done a now)
-    event-replaces at value a held lives d = record {
+    event-replaces at value a held lives d = let does = replace-does cmp f (live_of cmp v) x.op (met_at cmp code v slot (key_of x.op)) value a held d in record {
       question = asked_by x;
       was = was-asked;
       effect = (
         asked-same v slot c now x h None,
         refl,
         (λ q. lives q
-            ∙ ap (λ (m : PlainMap K V). m q) (sym (replace-after cmp f (live_of cmp v) x.op (met_at cmp code v slot (key_of x.op)) value a held d))),
-        replace-answer cmp f (live_of cmp v) x.op (met_at cmp code v slot (key_of x.op)) value a held d,
+            ∙ ap (λ (m : PlainMap K V). m q) (sym does.0)),
+        does.1,
       );
       frame = leaves-in None (with_value v.records at value) refl refl;
     }
@@ -369,15 +369,40 @@ module _ {K V I O : Type 0} (cmp : K → K → Ordering) (f : Meanings K V I O) 
           frame = record { others = λ t d o. refl; number = refl; count = refl; begin = refl; regions = refl; moment = refl };
         }
 
-    -- the built value is appended
-    pub event-done : {R : Type 0} → {keeps : Bool} → IsTrue keeps → IsSound keeps cmp code v → (e : IndexEntry) (ask : Ask K V I) → question_in x ≡ Some (e, ask) → word_at v.records.words e.place ≡ e.word → newest cmp v.records.text ask.key (address_of e.word) ≡ last_of cmp v.records.text ask.key
-        → ((value : Option V) → Same (live cmp (with_record v.records e ask.key value).text) (with_at cmp (live_of cmp v) ask.key value))
-        → IsEvent {R = R} cmp f v (with_appended v slot c e ask.key (Some (updated f ask.key ask.input ask.source)) now) slot c now (Done (Value (f.shown ask.key ask.input (updated f ask.key ask.input ask.source))) now)
-    event-done yes_keeps s e ask q stands newest lives =
+    -- what was built for an update whose entry stands is what its key comes to
+    built-is : {keeps : Bool} → IsTrue keeps → IsSound keeps cmp code v → (e : IndexEntry) (ask : Ask K V I) (value : Option V) → question_in x ≡ Some (e, ask) → word_at v.records.words e.place ≡ e.word
+        → newest cmp v.records.text ask.key (address_of e.word) ≡ last_of cmp v.records.text ask.key
+        → updated f ask.key ask.input ask.source ≡ value
+        → updated f ask.key ask.input (live_of cmp v ask.key) ≡ value
+    built-is yes_keeps s e ask value q stands newest u = ap (updated f ask.key ask.input) (sym (source-is cmp code v s yes_keeps slot c x e ask h q stands newest)) ∙ u
+
+    -- it is declined
+    pub event-declined : {R : Type 0} → {keeps : Bool} → IsTrue keeps → IsSound keeps cmp code v → (e : IndexEntry) (ask : Ask K V I) → question_in x ≡ Some (e, ask) → word_at v.records.words e.place ≡ e.word → newest cmp v.records.text ask.key (address_of e.word) ≡ last_of cmp v.records.text ask.key
+        → updated f ask.key ask.input ask.source ≡ None
+        → IsEvent {R = R} cmp f v (with_context v slot c None now) slot c now (Done Declined now)
+    event-declined yes_keeps s e ask q stands newest u =
         let w = question-of x.number x.op x.phase e ask q in
-        let held : ask.source ≡ live_of cmp v ask.key = source-is cmp code v s yes_keeps slot c x e ask h q stands newest in
-        let value : V = updated f ask.key ask.input ask.source in
-        let meant : updated f ask.key ask.input ask.source ≡ updated f ask.key ask.input (live_of cmp v ask.key) = ap (updated f ask.key ask.input) held in
+        let meant = built-is yes_keeps s e ask None q stands newest u in
+        record {
+          question = asked_by x;
+          was = was-asked;
+          effect = (
+            asked-same v slot c now x h None,
+            refl,
+            (λ p. ap (λ (o : Option V). after_update cmp (live_of cmp v) ask.key o p) (sym meant) ∙ ap (λ o. after cmp f (live_of cmp v) o p) (sym w.op_is)),
+            ap (told_of f ask.key ask.input) (sym meant) ∙ ap (answer f (live_of cmp v)) (sym w.op_is),
+          );
+          frame = leaves None;
+        }
+
+    -- or the built value is appended
+    pub event-done : {R : Type 0} → {keeps : Bool} → IsTrue keeps → IsSound keeps cmp code v → (e : IndexEntry) (ask : Ask K V I) (value : V) → question_in x ≡ Some (e, ask) → word_at v.records.words e.place ≡ e.word → newest cmp v.records.text ask.key (address_of e.word) ≡ last_of cmp v.records.text ask.key
+        → updated f ask.key ask.input ask.source ≡ Some value
+        → ((value : Option V) → Same (live cmp (with_record v.records e ask.key value).text) (with_at cmp (live_of cmp v) ask.key value))
+        → IsEvent {R = R} cmp f v (with_appended v slot c e ask.key (Some value) now) slot c now (Done (Value (f.shown ask.key ask.input value)) now)
+    event-done yes_keeps s e ask value q stands newest u lives =
+        let w = question-of x.number x.op x.phase e ask q in
+        let meant = built-is yes_keeps s e ask (Some value) q stands newest u in
         let l = leaves None in
         record {
           question = asked_by x;
@@ -386,9 +411,9 @@ module _ {K V I O : Type 0} (cmp : K → K → Ordering) (f : Meanings K V I O) 
             asked-same v slot c now x h None,
             refl,
             (λ p. lives (Some value) p
-                ∙ ap (λ (u : V). cond (is_at (cmp ask.key) p) (Some u) (live_of cmp v p)) meant
+                ∙ ap (λ (o : Option V). after_update cmp (live_of cmp v) ask.key o p) (sym meant)
                 ∙ ap (λ o. after cmp f (live_of cmp v) o p) (sym w.op_is)),
-            ap (λ (u : V). Value (f.shown ask.key ask.input u)) meant ∙ ap (answer f (live_of cmp v)) (sym w.op_is),
+            ap (told_of f ask.key ask.input) (sym meant) ∙ ap (answer f (live_of cmp v)) (sym w.op_is),
           );
           frame = record { others = l.others; number = refl; count = refl; begin = refl; regions = refl; moment = refl };
         }

@@ -2,14 +2,14 @@
 use Rattle.std.proofs.Common.{◌≡◌, ℕ, Bool, true, Option, Some, None, Ok, refl, sym, ◌∙◌, ap}
 use Rattle.std.proofs.lemmas.Bool.{eq-eqb}
 use Rattle.std.specs.declared.cmp.Ordering.{Ordering}
-use Rattle.fkv_functions.specs.Meanings.{Meanings, updated}
+use Rattle.fkv_functions.specs.Meanings.{Meanings}
 use Rattle.fkv_functions.specs.declared.asks.Ask.{Ask}
 use Rattle.fkv_device.specs.Standing.{Standing}
 use Rattle.fkv_epoch.specs.Moves.{is_entered}
 use Rattle.fkv_texts.specs.Text.{value_of}
 use Rattle.fkv_operations.specs.After.{key_of}
 use Rattle.fkv_operations.specs.declared.entries.IndexEntry.{IndexEntry}
-use Rattle.fkv_operations.specs.declared.operations.Answer.TheVariants.{Value}
+use Rattle.fkv_operations.specs.declared.operations.Answer.TheVariants.{Value, Declined}
 use Rattle.fkv_operations.specs.declared.operations.KeyedOp.{KeyedOp}
 use Rattle.fkv_lookups.specs.RecordsViews.{RecordsView}
 use Rattle.fkv_lookups.specs.DecisionLaws.{load-met}
@@ -87,6 +87,7 @@ module _ {K V I O R : Type 0} (cmp : K → K → Ordering) (f : Meanings K V I O
   installs-find ask progress (Installs.not_ready x h q is e) = absurd (cc)
   installs-find ask progress (Installs.stranger x k mine h q n is e) = absurd (cc)
   installs-find ask progress (Installs.moved x k h q n is e) = let p : progress ≡ Next = cc in rw p (set-none cmp old new slot c now x h (Some (at_phase x Fresh)) old.records refl refl is)
-  installs-find ask progress (Installs.worn x k h q n room is e) = absurd (cc)
-  installs-find ask progress (Installs.full x k h q n room is e) = let p : progress ≡ Waits Full = cc in rw p (stays-none cmp old new slot c now x h (asks-none cmp old.records x.number x.op x.phase (k, ask) q) is)
-  installs-find ask progress (Installs.done x k h q n room free is e) = let p : progress ≡ Done (Value (f.shown ask.key ask.input (updated f ask.key ask.input ask.source))) now = cc in rw p (set-none cmp old new slot c now x h None _ refl refl is)
+  installs-find ask progress (Installs.declined x k h q n u is e) = let p : progress ≡ Done Declined now = cc in rw p (set-none cmp old new slot c now x h None old.records refl refl is)
+  installs-find ask progress (Installs.worn x k value h q n u room is e) = absurd (cc)
+  installs-find ask progress (Installs.full x k value h q n u room is e) = let p : progress ≡ Waits Full = cc in rw p (stays-none cmp old new slot c now x h (asks-none cmp old.records x.number x.op x.phase (k, ask) q) is)
+  installs-find ask progress (Installs.done x k value h q n u room free is e) = let p : progress ≡ Done (Value (f.shown ask.key ask.input value)) now = cc in rw p (set-none cmp old new slot c now x h None _ refl refl is)

@@ -299,9 +299,10 @@ module _ {K V I : Type 0} {keeps : Bool} (cmp : K → K → Ordering) (code : K 
     installs-bear f ask result grows (Installs.not_ready x h q is r) = borne-same (ap (λ (u : CoreView K V I). u.records) is)
     installs-bear f ask result grows (Installs.stranger x e mine h q n is r) = borne-same (ap (λ (u : CoreView K V I). u.records) is)
     installs-bear f ask result grows (Installs.moved x e h q n is r) = borne-same (ap (λ (u : CoreView K V I). u.records) is)
-    installs-bear f ask result grows (Installs.worn x e h q n room is r) = borne-same (ap (λ (u : CoreView K V I). u.records) is)
-    installs-bear f ask result grows (Installs.full x e h q n room is r) = borne-same (ap (λ (u : CoreView K V I). u.records) is)
-    installs-bear f ask result grows (Installs.done x e h q n room free is r) =
+    installs-bear f ask result grows (Installs.declined x e h q n u is r) = borne-same (ap (λ (u : CoreView K V I). u.records) is)
+    installs-bear f ask result grows (Installs.worn x e value h q n u room is r) = borne-same (ap (λ (u : CoreView K V I). u.records) is)
+    installs-bear f ask result grows (Installs.full x e value h q n u room is r) = borne-same (ap (λ (u : CoreView K V I). u.records) is)
+    installs-bear f ask result grows (Installs.done x e value h q n u room free is r) =
         borne-record e ask.key _ (kept-entry cmp code v s slot c x e ask h q n).place (grows e ask.key _) (ap (λ (u : CoreView K V I). u.records) is)
 
     pub loads-bear : {O R : Type 0} (stands : R → Standing) (entry : ℕ → List ℕ → ℕ → Entry K V → Type 0) (f : Meanings K V I O) (came : Result (Joined R) Refused) (result : Result (Progress K V I O R) Refused)

@@ -1,8 +1,8 @@
 -- What events leave of look-ups that wait for a page, and of frozen records.
-use Rattle.std.proofs.Common.{◌≡◌, ◌<◌, ◌+◌, ◌*◌, ◌⊎◌, ℕ, Bool, IsTrue, List, Option, Some, None, option_map, Result, Err, inl, inr, slice_get, slice_set, refl, sym, ◌∙◌, ap, arith}
+use Rattle.std.proofs.Common.{◌≡◌, ◌<◌, ◌+◌, ◌*◌, ◌⊎◌, ℕ, Bool, IsTrue, List, Option, Some, None, option_map, Result, Err, inl, inr, slice_set, refl, sym, ◌∙◌, ap, arith}
 use Rattle.std.specs.declared.cmp.Ordering.{Ordering}
 use Rattle.fkv_functions.specs.Meanings.{Meanings}
-use Rattle.fkv_functions.proofs.ListLemmas.{get-set_same, get-set_cases}
+use Rattle.fkv_functions.proofs.ListLemmas.{get-set_cases}
 use Rattle.fkv_functions.specs.declared.asks.Ask.{Ask}
 use Rattle.fkv_functions.specs.declared.refusals.Refused.{Refused}
 use Rattle.fkv_device.specs.Standing.{Standing, Joined}
@@ -137,9 +137,10 @@ module _ {K V I : Type 0} {keeps : Bool} (cmp : K → K → Ordering) (code : K 
     installs-others f ask result grows (Installs.not_ready x h q is r) = as-others new v slot c is (λ t d o. refl)
     installs-others f ask result grows (Installs.stranger x e mine h q n is r) = as-others new v slot c is (λ t d o. refl)
     installs-others f ask result grows (Installs.moved x e h q n is r) = set x h _ is
-    installs-others f ask result grows (Installs.worn x e h q n room is r) = as-others new v slot c is (λ t d o. refl)
-    installs-others f ask result grows (Installs.full x e h q n room is r) = as-others new _ slot c is (λ t d o. refl)
-    installs-others f ask result grows (Installs.done x e h q n room free is r) = as-others new _ slot c is (changed-others slot c now x h None (with_record v.records e ask.key _) refl refl (λ k a low still. grows e ask.key _ k a low))
+    installs-others f ask result grows (Installs.declined x e h q n u is r) = set x h _ is
+    installs-others f ask result grows (Installs.worn x e value h q n u room is r) = as-others new v slot c is (λ t d o. refl)
+    installs-others f ask result grows (Installs.full x e value h q n u room is r) = as-others new _ slot c is (λ t d o. refl)
+    installs-others f ask result grows (Installs.done x e value h q n u room free is r) = as-others new _ slot c is (changed-others slot c now x h None (with_record v.records e ask.key _) refl refl (λ k a low still. grows e ask.key _ k a low))
 
 -- ---- pages move
 pub moved-all : {K V I : Type 0} (keeps : Bool) (cmp : K → K → Ordering) (regions : RegionsView) (old new : CoreView K V I) (now : ℕ) → IsTrue keeps → MovesTo keeps regions old new now
@@ -300,6 +301,7 @@ module _ {K V I : Type 0} (cmp : K → K → Ordering) (code : K → ℕ) (old n
   installs-frozen f ask result grows (Installs.not_ready x h q is r) = as-frozen old new _ is (λ a low. refl)
   installs-frozen f ask result grows (Installs.stranger x e mine h q n is r) = as-frozen old new _ is (λ a low. refl)
   installs-frozen f ask result grows (Installs.moved x e h q n is r) = as-frozen old new _ is (λ a low. refl)
-  installs-frozen f ask result grows (Installs.worn x e h q n room is r) = as-frozen old new _ is (λ a low. refl)
-  installs-frozen f ask result grows (Installs.full x e h q n room is r) = as-frozen old new _ is (λ a low. refl)
-  installs-frozen f ask result grows (Installs.done x e h q n room free is r) = as-frozen old new _ is (λ a low. grows e ask.key _ a low)
+  installs-frozen f ask result grows (Installs.declined x e h q n u is r) = as-frozen old new _ is (λ a low. refl)
+  installs-frozen f ask result grows (Installs.worn x e value h q n u room is r) = as-frozen old new _ is (λ a low. refl)
+  installs-frozen f ask result grows (Installs.full x e value h q n u room is r) = as-frozen old new _ is (λ a low. refl)
+  installs-frozen f ask result grows (Installs.done x e value h q n u room free is r) = as-frozen old new _ is (λ a low. grows e ask.key _ a low)

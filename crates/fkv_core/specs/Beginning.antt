@@ -1,7 +1,7 @@
 -- What `enter`, `issue` and `issue` do: a rule for each case, in the order of the tests.
-use Rattle.std.specs.Prelude.{◌≡◌, ◌≢◌, ◌<◌, true, false, ℕ, Some, None, Result, Ok, Err}
+use Rattle.std.specs.Prelude.{◌≡◌, ◌≢◌, ◌<◌, true, ℕ, Some, None, Result, Ok, Err}
 use Rattle.fkv_functions.specs.declared.refusals.Refused.{Refused}
-use Rattle.fkv_functions.specs.declared.refusals.Refused.TheVariants.{NoSlot, Unknown, Stranger, NoContext}
+use Rattle.fkv_functions.specs.declared.refusals.Refused.TheVariants.{NoSlot, Stranger}
 use Rattle.fkv_functions.specs.declared.refusals.What.TheVariants.{Partition}
 use Rattle.fkv_regions.specs.RegionsView.{entered}
 use Rattle.fkv_operations.specs.After.{key_of}

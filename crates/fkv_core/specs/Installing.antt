@@ -9,7 +9,7 @@ use Rattle.fkv_functions.specs.declared.refusals.What.TheVariants.{Built}
 use Rattle.fkv_lookups.specs.RecordsViews.{IsFull}
 use Rattle.fkv_index.specs.Places.{word_at}
 use Rattle.fkv_operations.specs.declared.entries.IndexEntry.{IndexEntry}
-use Rattle.fkv_operations.specs.declared.operations.Answer.TheVariants.{Value}
+use Rattle.fkv_operations.specs.declared.operations.Answer.TheVariants.{Value, Declined}
 use Rattle.fkv_core.specs.declared.contexts.Context.{Context}
 use Rattle.fkv_core.specs.declared.contexts.Phase.TheVariants.{Fresh}
 use Rattle.fkv_core.specs.declared.contexts.Progress.{Progress}
@@ -55,31 +55,43 @@ pub data Installs {K V I O R : Type 0} (cmp : K → K → Ordering) (f : Meaning
       → new ≡ with_context old slot c (Some (at_phase x Fresh)) now
       → result ≡ Ok Next
       → Installs cmp f code old new slot c ask now result
-  -- no address is left
-  worn : (x : Context K V I) (e : IndexEntry)
+  -- the functions decline the update: it is done, and nothing is appended
+  declined : (x : Context K V I) (e : IndexEntry)
       → context_at old slot c ≡ Some x
       → question_in x ≡ Some (e, ask)
       → word_at old.records.words e.place ≡ e.word
+      → updated f ask.key ask.input ask.source ≡ None
+      → new ≡ with_context old slot c None now
+      → result ≡ Ok (Done Declined now)
+      → Installs cmp f code old new slot c ask now result
+  -- no address is left
+  worn : (x : Context K V I) (e : IndexEntry) (value : V)
+      → context_at old slot c ≡ Some x
+      → question_in x ≡ Some (e, ask)
+      → word_at old.records.words e.place ≡ e.word
+      → updated f ask.key ask.input ask.source ≡ Some value
       → old.records.tail ≡ 2 ^ 48
       → new ≡ old
       → result ≡ Err Worn
       → Installs cmp f code old new slot c ask now result
   -- there is no room for a record: the update stays as it is
-  full : (x : Context K V I) (e : IndexEntry)
+  full : (x : Context K V I) (e : IndexEntry) (value : V)
       → context_at old slot c ≡ Some x
       → question_in x ≡ Some (e, ask)
       → word_at old.records.words e.place ≡ e.word
+      → updated f ask.key ask.input ask.source ≡ Some value
       → IsFull old.records
       → new ≡ record old { moment = now }
       → result ≡ Ok (Waits Full)
       → Installs cmp f code old new slot c ask now result
   -- the new value is appended, the entry moves to it, and the answer shows it
-  done : (x : Context K V I) (e : IndexEntry)
+  done : (x : Context K V I) (e : IndexEntry) (value : V)
       → context_at old slot c ≡ Some x
       → question_in x ≡ Some (e, ask)
       → word_at old.records.words e.place ≡ e.word
+      → updated f ask.key ask.input ask.source ≡ Some value
       → old.records.tail ≢ 2 ^ 48
       → (IsFull old.records → ⊥)
-      → new ≡ with_appended old slot c e ask.key (Some (updated f ask.key ask.input ask.source)) now
-      → result ≡ Ok (Done (Value (f.shown ask.key ask.input (updated f ask.key ask.input ask.source))) now)
+      → new ≡ with_appended old slot c e ask.key (Some value) now
+      → result ≡ Ok (Done (Value (f.shown ask.key ask.input value)) now)
       → Installs cmp f code old new slot c ask now result

@@ -1,5 +1,5 @@
 //! The open operations of a partition: how far each is, and what an event of it answers.
-ghost use Rattle.std.specs.Prelude.{◌≡◌, ⊤, ◌+◌, ◌*◌, ◌<◌, ◌≤◌, ◌⊎◌, ◌↔◌, length, Option, Some, None, IfSome, IfNone, cond, nat_lt, slice_get, slice_range, slice_set, position, is_none, is_some};
+ghost use Rattle.std.specs.Prelude.{◌≡◌, ⊤, ◌+◌, ◌*◌, ◌<◌, ◌≤◌, ◌⊎◌, ◌↔◌, length, Option, Some, None, IfSome, IfNone, cond, nat_lt, slice_get, slice_range, slice_set, position, is_none, is_some, IsTrue};
 ghost use Rattle.fkv_core.specs.Contexts.{joined, at_phase, question_in, claim_by, loading_by};
 
 use fkv_device::Receipt;
@@ -120,6 +120,16 @@ pub fn open_at<T: Copy>(contexts: &[Option<T>], slot: usize, context: usize) -> 
         return None;
     }
     contexts[slot * CONTEXTS + context]
+}
+
+/// Whether nothing stands in a context of a session. Unlike [`open_at`] it copies nothing.
+pub fn is_vacant<T>(contexts: &[Option<T>], slot: usize, context: usize) -> bool
+    requires session { slot < 16 }
+    requires context { context < 8 }
+    requires places { length contexts.now ≡ 128 }
+    ensures { IsTrue result ↔ (joined (slice_get contexts.now (slot * 8 + context)) ≡ None) }
+{
+    contexts[slot * CONTEXTS + context].is_none()
 }
 
 /// The lowest open context of a session.

@@ -16,7 +16,8 @@ use fkv_operations::{Answer, IndexEntry};
 
 impl<F: Functions, R: Receipt> Core<F, R> {
     /// Appends what was built for an update, where the place of its key's entry still holds the word that it held when
-    /// the update asked; else the update is to look again, and the answer is `Next`. Refused, in this order, and then
+    /// the update asked; else the update is to look again, and the answer is `Next`. Where the functions decline the
+    /// update, it is done and nothing is appended. Refused, in this order, and then
     /// nothing changes: `Unknown` where no operation is open there, `NotReady` where it asks for nothing
     /// to be built, `Stranger` where this answers another question; where it does, `Worn`
     /// where no address is left. Where there is no room for a record, the answer is `Waits`, and the update stays as it
@@ -60,8 +61,8 @@ impl<F: Functions, R: Receipt> Core<F, R> {
         self.append_built(slot, context, kept, built, functions, now)
     }
 
-    /// Appends what was built for an update, which is then done, or waits where there is no room. Refused, and then
-    /// nothing changes: `Worn`.
+    /// Appends what was built for an update, which is then done, or waits where there is no room. A declined update is
+    /// done at once. Refused, and then nothing changes: `Worn`.
     fn append_built(
         &mut self,
         slot: usize,
@@ -86,7 +87,10 @@ impl<F: Functions, R: Receipt> Core<F, R> {
         entries_lead::<F::Key, F::Value>();
         records_grow::<F::Key, F::Value>();
         let ask = built.ask();
-        let value = built.value();
+        let Some(value) = built.value() else {
+            self.free(slot, context, now);
+            return Ok(Progress::Done(Answer::Declined, now));
+        };
         let write = Write {
             entry: kept,
             key: ask.key,

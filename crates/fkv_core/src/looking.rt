@@ -1,16 +1,16 @@
 //! What events look at in a partition. None of these changes it.
-ghost use Rattle.std.specs.Prelude.{◌≡◌, ◌<◌, Some, IsTrue, IfSome, option_map};
+ghost use Rattle.std.specs.Prelude.{◌≡◌, ◌+◌, ◌*◌, ◌<◌, ◌↔◌, Some, None, IsTrue, IfSome, option_map, slice_get};
 ghost use Rattle.fkv_index.specs.Words.{address_of};
 ghost use Rattle.fkv_operations.specs.After.{key_of};
 ghost use Rattle.fkv_lookups.specs.Decisions.{decision};
 ghost use Rattle.fkv_operations.specs.Classes.{IsClass};
 ghost use Rattle.fkv_lookups.specs.RecordsViews.{class_in, IsEntryOf};
-ghost use Rattle.fkv_core.specs.Contexts.{is_session};
+ghost use Rattle.fkv_core.specs.Contexts.{is_session, joined};
 ghost use Rattle.fkv_core.specs.Beginning.{IsEntered};
 ghost use Rattle.fkv_core.specs.Views.{context_at, entry_for, found_for, met_at, open_context, partition_of, reached_from, slots_of};
 ghost use Rattle.fkv_core.specs.Sound.{IsSound};
 
-use crate::contexts::{ContextOf, open_at, open_context};
+use crate::contexts::{ContextOf, is_vacant, open_at, open_context};
 use crate::cores::Core;
 use fkv_device::Receipt;
 use fkv_functions::Functions;
@@ -50,6 +50,15 @@ impl<F: Functions, R: Receipt> Core<F, R> {
             return None;
         }
         open_at(&self.contexts, slot, context)
+    }
+
+    /// Whether no operation stands in a context of a slot.
+    pub fn is_vacant(&self, slot: usize, context: usize) -> bool
+        requires session { slot < 16 }
+        requires context { context < 8 }
+        ensures { IsTrue result ↔ (joined (slice_get self.now.contexts (slot * 8 + context)) ≡ None) }
+    {
+        is_vacant(&self.contexts, slot, context)
     }
 
     /// Whether a slot is that of a session.

@@ -14,10 +14,10 @@ use fkv_texts::{ChainPosition, Entry};
 
 impl<F: Functions, R: Receipt> Core<F, R> {
     /// Issues an update at one moment, in a context of a session that the caller has chosen and in which nothing is open,
-    /// and goes on with it at another, where that finishes it: where the last record of its key may be changed in place.
-    /// That is what [`Core::issue`] and [`Core::go`] do then, but no context is written and read again. Answers what the
-    /// update shows, or `None` where its key belongs to another partition or it would not be finished so, and then
-    /// nothing changes.
+    /// and goes on with it at another, where that gives its key a value: where the last record of its key may be changed
+    /// in place, and the functions do not decline the update. That is what [`Core::issue`] and [`Core::go`] do then, but no
+    /// context is written and read again. Answers what the update shows, or `None` where its key belongs to another
+    /// partition or it would not be finished so, and then nothing changes.
     pub fn update_at_once(
         &mut self,
         slot: usize,
@@ -36,8 +36,8 @@ impl<F: Functions, R: Receipt> Core<F, R> {
         requires free { context_at self.old slot context ≡ None }
         ensures done { IfSome result (λ shown. IsDoneAtOnce R.stands F.Key.cmp F.meaning F.code self.old self.new
             slot context key.now input.now issued now shown) }
-        ensures declined { result ≡ None → (held : F.Value)
-            → ¬ IsAtHand F.Key.cmp F.code self.old slot key.now held }
+        ensures left { result ≡ None → (held : F.Value) → IsAtHand F.Key.cmp F.code self.old slot key.now held
+            → F.meaning.next key.now held input.now ≡ None }
         ensures none { result ≡ None → self.new ≡ self.old }
         ensures moment { self.new.moment ≤ now }
     {
@@ -47,9 +47,9 @@ impl<F: Functions, R: Receipt> Core<F, R> {
         let Some((last, held)) = self.at_hand(slot, key, functions) else {
             return None;
         };
-        Some(self.update_at(
+        self.update_at(
             slot, context, key, input, last, held, functions, issued, now,
-        ))
+        )
     }
 
     /// The last record of a key and its value, where it may be changed in place.
@@ -80,7 +80,7 @@ impl<F: Functions, R: Receipt> Core<F, R> {
     }
 
     /// Gives the last record of a key, which may be changed in place, its new value, by an update that is issued and done at
-    /// once.
+    /// once. Answers what it shows, or `None` where the functions decline the update, and then nothing changes.
     fn update_at(
         &mut self,
         slot: usize,
@@ -92,7 +92,7 @@ impl<F: Functions, R: Receipt> Core<F, R> {
         functions: &F,
         _issued: u64,
         now: u64,
-    ) -> F::Output
+    ) -> Option<F::Output>
         requires session { slot < 16 }
         requires entered { IsEntered self.old slot }
         requires own { partition_of self.old.count (F.code key.now) ≡ self.old.number }
@@ -101,17 +101,21 @@ impl<F: Functions, R: Receipt> Core<F, R> {
         requires reached { reached_from F.Key.cmp F.code self.old slot key.now (entry_for F.code self.old key.now)
             ≡ Found last }
         requires met { met_at F.Key.cmp F.code self.old slot key.now ≡ Mutable held }
-        ensures done { IsDoneAtOnce R.stands F.Key.cmp F.meaning F.code self.old self.new
-            slot _context key.now input.now _issued now result }
-        ensures moment { self.new.moment ≤ now }
+        ensures done { IfSome result (λ shown. IsDoneAtOnce R.stands F.Key.cmp F.meaning F.code self.old self.new
+            slot _context key.now input.now _issued now shown) }
+        ensures declined { result ≡ None → F.meaning.next key.now held input.now ≡ None }
+        ensures none { result ≡ None → self.new ≡ self.old }
+        ensures moment { IfSome result (λ _. self.new.moment ≤ now) }
     {
         self.known();
         records_change::<F::Key, F::Value>();
         meetings_tell::<F::Key, F::Value>();
         let mut value = held;
-        functions.in_place(key, input, &mut value);
+        if !functions.in_place(key, input, &mut value) {
+            return None;
+        }
         let shown = functions.read(key, input, &value);
         self.revalue(last.address, value, now);
-        shown
+        Some(shown)
     }
 }

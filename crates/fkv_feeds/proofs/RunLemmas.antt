@@ -6,12 +6,14 @@ use Rattle.std.proofs.lemmas.List.Elements.{filter-append}
 use Rattle.std.proofs.lemmas.List.Sums.{fold-append}
 use Rattle.std.proofs.lemmas.Nat.{pow_pos}
 use Rattle.std.specs.List.{filter}
+use Rattle.std.specs.Option.{option_or}
 use Rattle.std.specs.declared.cmp.Ordering.{Ordering}
 use Rattle.std.specs.BTreeMap.{is_at}
 use Rattle.fkv_functions.specs.Meanings.{Meanings, updated}
-use Rattle.fkv_functions.specs.Plain.{PlainMap, Same, with_at, IsKeyOrder}
+use Rattle.fkv_functions.specs.Plain.{PlainMap, Same, IsKeyOrder}
 use Rattle.fkv_functions.specs.declared.refusals.Refused.{Refused}
 use Rattle.fkv_functions.proofs.ListLemmas.{get-append_cases, get-set_cases}
+use Rattle.fkv_operations.specs.After.{after, after_update}
 use Rattle.fkv_operations.specs.AfterLaws.{same_map}
 use Rattle.fkv_operations.specs.declared.operations.KeyedOp.TheVariants.{Rmw}
 use Rattle.fkv_partition.specs.Config.{Config}
@@ -20,7 +22,7 @@ use Rattle.fkv_partition.specs.CoreContexts.{joined, is_session, context_in}
 use Rattle.fkv_partition.specs.CoreViews.{CoreView, slots_of, context_at, live_of, partition_of, empty_core}
 use Rattle.fkv_partition.specs.Events.{Enters}
 use Rattle.fkv_partition.specs.Views.{PartitionView, empty_partition}
-use Rattle.fkv_feeds.specs.Tables.{amounts_of, folded}
+use Rattle.fkv_feeds.specs.Tables.{amounts_of, folded_on, folded}
 use Rattle.fkv_feeds.specs.Sessions.{IsIdle}
 use Rattle.fkv_partition.specs.Unions.{live_at, union_of}
 use Rattle.fkv_feeds.specs.Runs.{IsSeatedIn, AreNew, StandFor}
@@ -91,9 +93,8 @@ new-more cmp config views n v before one = record {
 
 -- ---- what amounts come to
 module _ {K V I O : Type 0} (cmp : K → K → Ordering) (order : IsKeyOrder cmp) (f : Meanings K V I O) where
-  folded-more : (k : K) (is : List I) (i : I) → folded f k (is ++ i ∷ []) ≡ Some (updated f k i (folded f k is))
-  folded-more k [] i = refl
-  folded-more k (j ∷ js) i = ap Some (fold-append (f.next k) (f.first k j) js (i ∷ []))
+  folded-more : (k : K) (is : List I) (i : I) → folded f k (is ++ i ∷ []) ≡ folded_on f k (folded f k is) i
+  folded-more k is i = fold-append (folded_on f k) None is (i ∷ [])
 
   amounts-more : (q : K) (rows : List (K × I)) (k : K) (i : I) (b : Bool) → is_at (cmp q) k ≡ b → amounts_of cmp q (rows ++ (k, i) ∷ []) ≡ cond b (amounts_of cmp q rows ++ i ∷ []) (amounts_of cmp q rows)
   amounts-more q rows k i b h =
@@ -106,13 +107,24 @@ module _ {K V I O : Type 0} (cmp : K → K → Ordering) (order : IsKeyOrder cmp
       last false e = rw e (append-nil (amounts_of cmp q rows))
 
   -- one row more updates the value of its key
-  pub table-more : (rows : List (K × I)) (k : K) (i : I) → Same (with_at cmp (λ q. folded f q (amounts_of cmp q rows)) k (Some (updated f k i (folded f k (amounts_of cmp k rows))))) (λ q. folded f q (amounts_of cmp q (rows ++ (k, i) ∷ [])))
-  table-more rows k i q = by (is_at (cmp k) q) refl
+  pub table-more : (rows : List (K × I)) (k : K) (i : I) → Same (after cmp f (λ q. folded f q (amounts_of cmp q rows)) (Rmw k i)) (λ q. folded f q (amounts_of cmp q (rows ++ (k, i) ∷ [])))
+  table-more rows k i q = at_key (updated f k i (now k)) ∙ by (is_at (cmp k) q) refl
     where
-      by : (b : Bool) → is_at (cmp k) q ≡ b → cond (is_at (cmp k) q) (Some (updated f k i (folded f k (amounts_of cmp k rows)))) (folded f q (amounts_of cmp q rows)) ≡ folded f q (amounts_of cmp q (rows ++ (k, i) ∷ []))
+      now : K → Option V
+      now x = folded f x (amounts_of cmp x rows)
+
+      alike : (b : Bool) (o : Option V) → o ≡ cond b o o
+      alike true o = refl
+      alike false o = refl
+
+      at_key : (o : Option V) → after_update cmp now k o q ≡ cond (is_at (cmp k) q) (option_or o (now q)) (now q)
+      at_key None = alike (is_at (cmp k) q) (now q)
+      at_key (Some v) = refl
+
+      by : (b : Bool) → is_at (cmp k) q ≡ b → cond (is_at (cmp k) q) (option_or (updated f k i (now k)) (now q)) (now q) ≡ folded f q (amounts_of cmp q (rows ++ (k, i) ∷ []))
       by true e =
           let more = amounts-more q rows k i true (is_at-turned cmp order k q true e) in
-          rw e (ap (λ x. Some (updated f x i (folded f x (amounts_of cmp x rows)))) (order.same k q e) ∙ sym (ap (folded f q) more ∙ folded-more q (amounts_of cmp q rows) i))
+          rw e (ap (λ x. option_or (updated f x i (now x)) (now q)) (order.same k q e) ∙ sym (ap (folded f q) more ∙ folded-more q (amounts_of cmp q rows) i))
       by false e =
           let more = amounts-more q rows k i false (is_at-turned cmp order k q false e) in
           rw e (sym (ap (folded f q) more))
@@ -139,7 +151,7 @@ module _ {K V I O : Type 0} (keeps : Bool) (cmp : K → K → Ordering) (order :
   pub stand-more : (views : List (PartitionView K V I)) (slot now then : ℕ) (rows : List (K × I)) (p : ℕ) (old new : PartitionView K V I) (k : K) (i : I)
       → StandFor keeps cmp f code views slot now rows → slice_get views p ≡ Some old → partition_of (length views) (code k) ≡ p
       → new.core.number ≡ old.core.number → new.core.count ≡ old.core.count → new.core.moment ≤ then → now < then → IsIdle new slot
-      → (IsTrue keeps → Same (live_of cmp new.core) (with_at cmp (live_of cmp old.core) k (Some (updated f k i (live_of cmp old.core k)))))
+      → (IsTrue keeps → Same (live_of cmp new.core) (after cmp f (live_of cmp old.core) (Rmw k i)))
       → StandFor keeps cmp f code (slice_set views p new) slot then (rows ++ (k, i) ∷ [])
   stand-more views slot now then rows p old new k i stand here own number count past later idle done = record {
     some = rw (length-set views p new) stand.some;
@@ -163,7 +175,7 @@ module _ {K V I O : Type 0} (keeps : Bool) (cmp : K → K → Ordering) (order :
     };
     denotes = λ kept. (let maps : union_of cmp code views ≡ (λ q. folded f q (amounts_of cmp q rows)) = same_map (union_of cmp code views) (λ q. folded f q (amounts_of cmp q rows)) (stand.denotes kept) in
         λ q. live-after cmp order f code views p old new here (Rmw k i) own (done kept) q
-        ∙ ap (λ (m : PlainMap K V). with_at cmp m k (Some (updated f k i (m k))) q) maps
+        ∙ ap (λ (m : PlainMap K V). after cmp f m (Rmw k i) q) maps
         ∙ table-more cmp order f rows k i q);
   }
 

@@ -18,10 +18,10 @@ use Rattle.fkv_operations.specs.declared.entries.IndexEntry.{IndexEntry}
 use Rattle.fkv_operations.specs.declared.operations.KeyedOp.{KeyedOp}
 use Rattle.fkv_operations.specs.declared.operations.KeyedOp.TheVariants.{Read, Rmw}
 use Rattle.fkv_lookups.specs.RecordsViews.{RecordsView}
+use Rattle.fkv_lookups.specs.DecisionLaws.{prepare-op}
 use Rattle.fkv_lookups.specs.Decisions.{decision}
 use Rattle.fkv_lookups.specs.declared.decisions.Decision.TheVariants.{Prepare}
 use Rattle.fkv_lookups.specs.declared.decisions.LookupResult.{LookupResult}
-use Rattle.fkv_lookups.specs.declared.decisions.LookupResult.TheVariants.{NoEntry, NoValue, ReadOnly, Fuzzy, Mutable, OnDisk}
 use Rattle.fkv_operations.specs.declared.operations.Answer.{Answer}
 use Rattle.fkv_partition.specs.Context.{Context}
 use Rattle.fkv_partition.specs.Loading.{Loading}
@@ -143,15 +143,7 @@ module _ {K V I : Type 0} where
 
 -- ---- what the events of an open update leave
 prepared-input : {K V I O : Type 0} (f : Meanings K V I O) (op : KeyedOp K V I) (m : LookupResult V) (k : K) (j : I) (source : Option V) (i : I) → op ≡ Rmw k j → decision f op m ≡ Prepare source i → i ≡ j
-prepared-input f op m k j source i is d = by m (rw is at d)
-  where
-    by : (m : LookupResult _) → decision f (Rmw k j) m ≡ Prepare source i → i ≡ j
-    by NoEntry e = absurd (cc)
-    by NoValue e = cc
-    by (ReadOnly w) e = cc
-    by (Fuzzy w) e = absurd (cc)
-    by (Mutable w) e = absurd (cc)
-    by (OnDisk b) e = absurd (cc)
+prepared-input f op m k j source i is d = let same : Rmw (key_of op) i ≡ Rmw k j = sym (prepare-op f op m source i d) ∙ is in cc
 
 module _ {K V I : Type 0} where
   pub record IsMoved (v w : CoreView K V I) : Type 0 where
@@ -254,9 +246,10 @@ module _ {K V I O R : Type 0} (stands : R → Standing) where
     installs-leads cmp f code now ask r o q (Installs.not_ready x h n e b) = absurd (let same : x ≡ q.operation = same_Some x q.operation (sym h ∙ q.here) in let bad : None ≡ Some (q.kept, ask) = sym n ∙ ap question_in same ∙ q.question in cc)
     installs-leads cmp f code now ask r o q (Installs.stranger x k m h n d e b) = absurd (let same : x ≡ q.operation = same_Some x q.operation (sym h ∙ q.here) in let both : Some (k, m) ≡ Some (q.kept, ask) = sym n ∙ ap question_in same ∙ q.question in d (sym (ap (λ (p : IndexEntry × Ask K V I). p.1) (same_Some (k, m) (q.kept, ask) both))))
     installs-leads cmp f code now ask r o q (Installs.moved x k h n d e b) = rw b (turns v w slot c op None x Fresh o h refl (set-by v w slot c op _ now _ e refl refl refl refl))
-    installs-leads cmp f code now ask r o q (Installs.worn x k h n d t e b) = rw b refl
-    installs-leads cmp f code now ask r o q (Installs.full x k h n d t e b) = rw b (passes v w slot c op now e o)
-    installs-leads cmp f code now ask r o q (Installs.done x k h n d t g e b) = rw b (over v w slot c op None o (set-by v w slot c op _ now _ e refl refl refl refl))
+    installs-leads cmp f code now ask r o q (Installs.declined x k h n d u e b) = rw b (over v w slot c op None o (set-by v w slot c op _ now _ e refl refl refl refl))
+    installs-leads cmp f code now ask r o q (Installs.worn x k value h n d u t e b) = rw b refl
+    installs-leads cmp f code now ask r o q (Installs.full x k value h n d u t e b) = rw b (passes v w slot c op now e o)
+    installs-leads cmp f code now ask r o q (Installs.done x k value h n d u t g e b) = rw b (over v w slot c op None o (set-by v w slot c op _ now _ e refl refl refl refl))
 
     pub loads-leads : (entry : Spelling K V) (cmp : K → K → Ordering) (f : Meanings K V I O) (now : ℕ) (p : Joined R) (s : Standing) (r : Result (Progress K V I O R) Refused)
         → IsOpen v slot c op (Some s) → stands p.receipt ≡ s → Loads stands entry cmp f v w slot c (Ok p) now r → Leads (IsLoadRefusal entry cmp) v w slot c op r

@@ -1,11 +1,12 @@
 -- The table of feeds: what the amounts of each key come to.
 use Rattle.std.specs.Prelude.{◌≡◌, ◌++◌, ◌∷◌, [], ◌^◌, ℕ, ℤ, List, map, fold, Option, Some, None}
+use Rattle.std.specs.Option.{option_or}
 use Rattle.std.specs.List.{filter}
 use Rattle.std.specs.BTreeMap.{is_at}
 use Rattle.std.specs.Map.{lookup, keys_of}
 use Rattle.std.specs.List.Sorted.{IsStrictlySortedBy}
 use Rattle.std.specs.declared.cmp.Ordering.{Ordering}
-use Rattle.fkv_functions.specs.Meanings.{Meanings}
+use Rattle.fkv_functions.specs.Meanings.{Meanings, updated}
 use Rattle.fkv_functions.specs.Names.{name_cmp}
 use Rattle.fkv_functions.specs.declared.names.Name.{Name}
 use Rattle.fkv_feed_rows.specs.Feeds.{IsFeed}
@@ -14,10 +15,13 @@ use Rattle.fkv_feed_rows.specs.Feeds.{IsFeed}
 abbrev pub amounts_of : {K I : Type 0} → (K → K → Ordering) → K → List (K × I) → List I
 amounts_of cmp k rows = map (λ r. r.1) (filter (λ r. is_at (cmp k) r.0) rows)
 
--- what they come to: the first amount gives the first value, and each further one the next; no amount gives none
+-- what a key has after one more amount: a declined one leaves it
+abbrev pub folded_on : {K V I O : Type 0} → Meanings K V I O → K → Option V → I → Option V
+folded_on f k held i = option_or (updated f k i held) held
+
+-- what amounts come to, from no value, one after the other
 abbrev pub folded : {K V I O : Type 0} → Meanings K V I O → K → List I → Option V
-folded f k [] = None
-folded f k (i ∷ is) = Some (fold (f.next k) (f.first k i) is)
+folded f k is = fold (folded_on f k) None is
 
 -- the rows of feeds, feed by feed
 abbrev pub AreFeeds : ℕ → List (Option (List ℕ)) → List (Name × ℤ) → Type 0

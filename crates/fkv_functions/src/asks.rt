@@ -36,14 +36,15 @@ impl<K: Known, V: Known, I: Known> Ask<K, V, I> {
 /// The questions of one type of functions.
 pub type AskOf<F> = Ask<<F as Functions>::Key, <F as Functions>::Value, <F as Functions>::Input>;
 
-/// A question with its answer: the new value is the meaning of the functions at this question.
+/// A question with its answer: the new value, or none where the update is declined, is the meaning of the functions at
+/// this question.
 ///
 /// A contract sees it as the question, which determines the value. It can be made by [`Built::make`]
 /// alone.
 #[derive(Drop)]
 pub struct Built<F: Functions> {
     ask: AskOf<F>,
-    value: F::Value,
+    value: Option<F::Value>,
 }
 
 impl<F: Functions> Model for Built<F> {
@@ -77,8 +78,8 @@ impl<F: Functions> Built<F> {
         self.ask
     }
 
-    /// The new value.
-    pub fn value(&self) -> F::Value
+    /// The new value, or `None` where the update is declined.
+    pub fn value(&self) -> Option<F::Value>
         ensures { result ≡ updated F.meaning self.now.key self.now.input self.now.source }
     {
         self.value

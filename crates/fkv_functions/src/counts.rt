@@ -1,7 +1,5 @@
 //! Counts: how often each key had an input.
-ghost use Rattle.std.specs.Prelude.{refl};
-ghost use Rattle.std.proofs.Common.{arith};
-ghost use Rattle.fkv_functions.specs.Sets.{counts};
+ghost use Rattle.fkv_functions.specs.Sets.{counts, count_accepted, count_either_order};
 ghost use Rattle.fkv_functions.specs.Hashes.{fnv_1a};
 ghost use Rattle.fkv_functions.specs.Names.{text_of};
 
@@ -28,16 +26,17 @@ impl Functions for CountFns {
 
     ghost code = { λ name. fnv_1a (text_of name) };
 
-    fn initial(&self, _key: &Name, _input: &i64) -> u64 {
-        FIRST
+    fn initial(&self, _key: &Name, _input: &i64) -> Option<u64> {
+        Some(FIRST)
     }
 
-    fn in_place(&self, _key: &Name, _input: &i64, value: &mut u64) {
+    fn in_place(&self, _key: &Name, _input: &i64, value: &mut u64) -> bool {
         *value = value.wrapping_add(1);
+        true
     }
 
-    fn copy(&self, _key: &Name, _input: &i64, held: &u64) -> u64 {
-        held.wrapping_add(1)
+    fn copy(&self, _key: &Name, _input: &i64, held: &u64) -> Option<u64> {
+        Some(held.wrapping_add(1))
     }
 
     fn read(&self, _key: &Name, _input: &i64, held: &u64) -> u64 {
@@ -50,11 +49,7 @@ impl Functions for CountFns {
 }
 
 impl OrderFree for CountFns {
-    ghost first_known = { λ k i h j. Prim.omega arith };
+    ghost accepted = { λ k i held h j l. count_accepted k i held };
 
-    ghost next_known = { λ k v i h j l. Prim.omega arith };
-
-    ghost from_none = { λ k i j a b c. refl };
-
-    ghost from_any = { λ k v i j a b c d. refl };
+    ghost either_order = { λ k i j held a b c d. count_either_order k i j held };
 }

@@ -6,6 +6,7 @@
 #![tactic(auto)]
 
 pub mod asks;
+pub mod capped;
 pub mod counts;
 pub mod hashes;
 pub mod integers;
@@ -17,6 +18,7 @@ pub mod updates;
 pub mod values;
 
 pub use asks::{Ask, AskOf, Built};
+pub use capped::CappedSumFns;
 pub use counts::CountFns;
 pub use maxima::MaxFns;
 pub use names::Name;

@@ -1,5 +1,5 @@
 //! Maxima: the greatest input of each key.
-ghost use Rattle.fkv_functions.specs.Sets.{maxima, max_next_known, max_from_none, max_from_any};
+ghost use Rattle.fkv_functions.specs.Sets.{maxima, max_accepted, max_either_order};
 ghost use Rattle.fkv_functions.specs.Hashes.{fnv_1a};
 ghost use Rattle.fkv_functions.specs.Names.{text_of};
 
@@ -23,16 +23,17 @@ impl Functions for MaxFns {
 
     ghost code = { λ name. fnv_1a (text_of name) };
 
-    fn initial(&self, _key: &Name, input: &i64) -> i64 {
-        *input
+    fn initial(&self, _key: &Name, input: &i64) -> Option<i64> {
+        Some(*input)
     }
 
-    fn in_place(&self, _key: &Name, input: &i64, value: &mut i64) {
+    fn in_place(&self, _key: &Name, input: &i64, value: &mut i64) -> bool {
         *value = (*value).max(*input);
+        true
     }
 
-    fn copy(&self, _key: &Name, input: &i64, held: &i64) -> i64 {
-        (*held).max(*input)
+    fn copy(&self, _key: &Name, input: &i64, held: &i64) -> Option<i64> {
+        Some((*held).max(*input))
     }
 
     fn read(&self, _key: &Name, _input: &i64, held: &i64) -> i64 {
@@ -45,11 +46,7 @@ impl Functions for MaxFns {
 }
 
 impl OrderFree for MaxFns {
-    ghost first_known = { λ k i h j. j };
+    ghost accepted = { λ k i held h j l. max_accepted k i held j l };
 
-    ghost next_known = { λ k v i h j l. max_next_known v i j l };
-
-    ghost from_none = { λ k i j a b c. max_from_none i j };
-
-    ghost from_any = { λ k v i j a b c d. max_from_any v i j };
+    ghost either_order = { λ k i j held a b c d. max_either_order k i j held };
 }

@@ -1,5 +1,5 @@
 //! Sums: what the inputs of each key add up to.
-ghost use Rattle.fkv_functions.specs.Sets.{sums, sum_first_known, sum_next_known, sum_from_none, sum_from_any};
+ghost use Rattle.fkv_functions.specs.Sets.{sums, sum_accepted, sum_either_order};
 ghost use Rattle.fkv_functions.specs.Hashes.{fnv_1a};
 ghost use Rattle.fkv_functions.specs.Names.{text_of};
 
@@ -23,16 +23,17 @@ impl Functions for SumFns {
 
     ghost code = { λ name. fnv_1a (text_of name) };
 
-    fn initial(&self, _key: &Name, input: &i64) -> i128 {
-        i128::from(*input)
+    fn initial(&self, _key: &Name, input: &i64) -> Option<i128> {
+        Some(i128::from(*input))
     }
 
-    fn in_place(&self, _key: &Name, input: &i64, value: &mut i128) {
+    fn in_place(&self, _key: &Name, input: &i64, value: &mut i128) -> bool {
         *value = value.wrapping_add(i128::from(*input));
+        true
     }
 
-    fn copy(&self, _key: &Name, input: &i64, held: &i128) -> i128 {
-        held.wrapping_add(i128::from(*input))
+    fn copy(&self, _key: &Name, input: &i64, held: &i128) -> Option<i128> {
+        Some(held.wrapping_add(i128::from(*input)))
     }
 
     fn read(&self, _key: &Name, _input: &i64, held: &i128) -> i128 {
@@ -45,11 +46,7 @@ impl Functions for SumFns {
 }
 
 impl OrderFree for SumFns {
-    ghost first_known = { λ k i h j. sum_first_known i j };
+    ghost accepted = { λ k i held h j l. sum_accepted k i held j };
 
-    ghost next_known = { λ k v i h j l. sum_next_known v i };
-
-    ghost from_none = { λ k i j a b c. sum_from_none i j };
-
-    ghost from_any = { λ k v i j a b c d. sum_from_any v i j };
+    ghost either_order = { λ k i j held a b c d. sum_either_order k i j held };
 }

@@ -1,6 +1,8 @@
 //! The functions of a store, by what they mean.
-ghost use Rattle.std.specs.Prelude.{◌≡◌, ℕ};
-ghost use Rattle.fkv_functions.specs.Meanings.{Meanings};
+ghost use Rattle.std.specs.Prelude.{◌≡◌, ℕ, Option, Some, None, IfSome};
+ghost use Rattle.std.specs.Bool.{OnTrue, OnFalse};
+ghost use Rattle.std.specs.Option.{IsSomeAnd};
+ghost use Rattle.fkv_functions.specs.Meanings.{Meanings, updated};
 
 use crate::values::{Fixed, FixedKey, Known};
 
@@ -15,22 +17,24 @@ pub trait Functions: Drop {
     type Output: Known;
 
     /// What the functions mean: the value that a key starts with, the value after an input, and what a
-    /// read shows.
+    /// read shows. An update that has no value is declined.
     ghost meaning: { Meanings Self.Key Self.Value Self.Input Self.Output };
 
     /// The hash of a key.
     ghost code: { Self.Key → ℕ };
 
-    /// The value of a key that has none, after its first input.
-    fn initial(&self, key: &Self::Key, input: &Self::Input) -> Self::Value
+    /// The value of a key that has none, after its first input, or `None` where the update is declined.
+    fn initial(&self, key: &Self::Key, input: &Self::Input) -> Option<Self::Value>
         ensures { result ≡ meaning.first key.now input.now };
 
-    /// Changes the value of a key by an input, where it stands.
-    fn in_place(&self, key: &Self::Key, input: &Self::Input, value: &mut Self::Value)
-        ensures { value.new ≡ meaning.next key.now value.old input.now };
+    /// Changes the value of a key by an input, where it stands, and answers whether it did: `false` means that the
+    /// update is declined, and then the value is as it was.
+    fn in_place(&self, key: &Self::Key, input: &Self::Input, value: &mut Self::Value) -> bool
+        ensures changed { OnTrue result (meaning.next key.now value.old input.now ≡ Some value.new) }
+        ensures declined { OnFalse result ((meaning.next key.now value.old input.now ≡ None) × (value.new ≡ value.old)) };
 
-    /// The value of a key after an input, apart from the one that it had.
-    fn copy(&self, key: &Self::Key, input: &Self::Input, value: &Self::Value) -> Self::Value
+    /// The value of a key after an input, apart from the one that it had, or `None` where the update is declined.
+    fn copy(&self, key: &Self::Key, input: &Self::Input, value: &Self::Value) -> Option<Self::Value>
         ensures { result ≡ meaning.next key.now value.now input.now };
 
     /// What a read of a key shows.
@@ -42,23 +46,16 @@ pub trait Functions: Drop {
         ensures { result ≡ code key.now };
 }
 
-/// Functions whose inputs may come in any order.
+/// Functions whose inputs may come in any order. They never decline an update.
 pub trait OrderFree: Functions {
-    /// A first value is one of its type.
-    ghost first_known: { (k : Self.Key) (i : Self.Input) → Self.Key.is_known k → Self.Input.is_known i
-        → Self.Value.is_known (Self.meaning.first k i) };
+    /// An update gives a value of its type, from no value and from any.
+    ghost accepted: { (k : Self.Key) (i : Self.Input) (held : Option Self.Value) → Self.Key.is_known k
+        → Self.Input.is_known i → IfSome held Self.Value.is_known
+        → IsSomeAnd (updated Self.meaning k i held) Self.Value.is_known };
 
-    /// A next value is one of its type.
-    ghost next_known: { (k : Self.Key) (v : Self.Value) (i : Self.Input) → Self.Key.is_known k
-        → Self.Value.is_known v → Self.Input.is_known i → Self.Value.is_known (Self.meaning.next k v i) };
-
-    /// Two inputs give the same value in either order, from no value.
-    ghost from_none: { (k : Self.Key) (i j : Self.Input) → Self.Key.is_known k → Self.Input.is_known i
-        → Self.Input.is_known j
-        → Self.meaning.next k (Self.meaning.first k i) j ≡ Self.meaning.next k (Self.meaning.first k j) i };
-
-    /// Two inputs give the same value in either order, from any value.
-    ghost from_any: { (k : Self.Key) (v : Self.Value) (i j : Self.Input) → Self.Key.is_known k
-        → Self.Value.is_known v → Self.Input.is_known i → Self.Input.is_known j
-        → Self.meaning.next k (Self.meaning.next k v i) j ≡ Self.meaning.next k (Self.meaning.next k v j) i };
+    /// Two inputs give the same value in either order, from no value and from any.
+    ghost either_order: { (k : Self.Key) (i j : Self.Input) (held : Option Self.Value) → Self.Key.is_known k
+        → Self.Input.is_known i → Self.Input.is_known j → IfSome held Self.Value.is_known
+        → updated Self.meaning k j (updated Self.meaning k i held)
+        ≡ updated Self.meaning k i (updated Self.meaning k j held) };
 }

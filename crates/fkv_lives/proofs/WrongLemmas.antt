@@ -1,12 +1,18 @@
 -- What the definitions refuse.
-use Rattle.std.proofs.Common.{◌≡◌, ℕ, true, cond, [], Some, None, slice_get, refl, ap, arith}
+use Rattle.std.proofs.Common.{◌≡◌, ℕ, true, cond, [], Option, Some, None, slice_get, refl, ap, arith}
 use Rattle.std.specs.Ordering.{nat_cmp}
 use Rattle.std.specs.Cmp.{nat_cmp_total, eq_by_cmp_equiv}
 use Rattle.std.specs.BTreeMap.{is_at}
+use Rattle.fkv_operations.specs.After.{after_update}
 use Rattle.fkv_lives.specs.WrongLives.{RefusesInvented, CountsOnce, RefusesSharedSteps, RefusesOtherTimes, RefusesEarlyUpdates, RefusesUnowned, RefusesUnissued, ReadsIssues}
 
 itself : (k : ℕ) → is_at (nat_cmp k) k ≡ true
 itself k = (eq_by_cmp_equiv nat_cmp_total).refl k
+
+-- one update, from no value
+once : (k : ℕ) (o : Option ℕ) → after_update nat_cmp (λ q. None) k o k ≡ o
+once k None = refl
+once k (Some v) = ap (λ t. cond t (Some v) None) (itself k)
 
 pub refuses_invented : RefusesInvented
 refuses_invented f k i v now a = (λ p. p.answers 0 _ _ refl refl, λ p. p.answers 0 _ _ refl refl, λ p. p.answers 0 _ _ refl refl, λ p. p.answers 0 _ _ refl refl, λ p. p.answers 0 _ _ refl refl)
@@ -14,8 +20,8 @@ refuses_invented f k i v now a = (λ p. p.answers 0 _ _ refl refl, λ p. p.answe
 pub counts_once : CountsOnce
 counts_once f k i v a b = (
   refl,
-  ap (λ t. cond t (Some (f.first k i)) None) (itself k),
-  ap (λ t. cond t (Some (f.first k i)) None) (itself k),
+  once k (f.first k i),
+  once k (f.first k i),
   refl,
   ap (λ t. cond t (Some v) None) (itself k),
   ap (λ t. cond t None (cond (is_at (nat_cmp k) k) (Some v) None)) (itself k),

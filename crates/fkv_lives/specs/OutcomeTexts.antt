@@ -1,6 +1,6 @@
 -- The text of an outcome.
 use Rattle.std.specs.Prelude.{◌++◌, ℕ, List, Some, None, codes, decimal}
-use Rattle.fkv_operations.specs.declared.operations.Answer.TheVariants.{Value, Absent, Stored, Deleted, Cleared}
+use Rattle.fkv_operations.specs.declared.operations.Answer.TheVariants.{Value, Absent, Stored, Deleted, Cleared, Declined}
 use Rattle.fkv_partition.specs.Wait.TheVariants.{Fuzzy, Full}
 use Rattle.fkv_lives.specs.declared.outcomes.Outcome.{Outcome}
 use Rattle.fkv_lives.specs.declared.outcomes.Outcome.TheVariants.{Entered, Left, Refreshed, Shifted, Taken, Flushed, Issued, Next, Build, Load, Waits, Done, GivenUp, Truncated}
@@ -25,5 +25,6 @@ outcome_text value shown (Done Absent) = codes "done absent"
 outcome_text value shown (Done Stored) = codes "done stored"
 outcome_text value shown (Done Deleted) = codes "done deleted"
 outcome_text value shown (Done Cleared) = codes "done cleared"
+outcome_text value shown (Done Declined) = codes "done declined"
 outcome_text value shown GivenUp = codes "given up"
 outcome_text value shown (Truncated begin) = codes "begin " ++ decimal begin

@@ -69,12 +69,13 @@ fn write_done<V: Printed, O: Printed, W: fmt::Write>(
         Answer::Stored => write!(f, "done stored"),
         Answer::Deleted => write!(f, "done deleted"),
         Answer::Cleared => write!(f, "done cleared"),
+        Answer::Declined => write!(f, "done declined"),
     }
 }
 
 /// An outcome prints as a script's line does: `entered S`, `left`, `refreshed`, `shifted`, `taken N`, `flushed N`,
 /// `issued C`, `next`, `build none`, `build V`, `load ADDRESS`, `wait fuzzy`, `wait full`, `done value V`, `done absent`,
-/// `done stored`, `done deleted`, `done cleared`, `given up` or `begin ADDRESS`.
+/// `done stored`, `done deleted`, `done cleared`, `done declined`, `given up` or `begin ADDRESS`.
 impl<V: Printed, O: Printed> Display for Outcome<V, O> {
     ghost output = { λ o. Some (outcome_text V.text O.text o) };
 

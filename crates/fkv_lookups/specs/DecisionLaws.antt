@@ -4,7 +4,7 @@ use Rattle.std.proofs.lemmas.Bool.Decides.{nat_tests}
 use Rattle.std.specs.declared.cmp.Ordering.{Ordering}
 use Rattle.std.specs.BTreeMap.{is_at}
 use Rattle.std.proofs.Common.{refl, sym, ap, ◌∙◌, inl, inr, subst, arith}
-use Rattle.fkv_functions.specs.Meanings.{Meanings}
+use Rattle.fkv_functions.specs.Meanings.{Meanings, updated}
 use Rattle.fkv_functions.specs.Plain.{PlainMap, Same, IsKeyOrder, with_at}
 use Rattle.fkv_texts.specs.declared.entries.Entry.{Entry}
 use Rattle.fkv_texts.specs.declared.entries.ChainPosition.{ChainPosition}
@@ -13,14 +13,14 @@ use Rattle.fkv_regions.specs.declared.offsets.View.{View}
 use Rattle.fkv_regions.specs.declared.offsets.Region.{Region}
 use Rattle.fkv_regions.specs.declared.offsets.Region.TheVariants as region
 use Rattle.fkv_regions.specs.Offsets.{region_of}
-use Rattle.fkv_operations.specs.After.{key_of, after, answer, shown_of}
-use Rattle.fkv_lookups.specs.Decisions.{met_in, met_last, met_by, held_of, IsHeld, decision}
+use Rattle.fkv_operations.specs.After.{key_of, after, after_update, answer, shown_of, told_of}
+use Rattle.fkv_lookups.specs.Decisions.{met_in, met_last, met_by, held_of, IsHeld, replaced, decision}
 use Rattle.fkv_operations.specs.declared.operations.KeyedOp.{KeyedOp}
 use Rattle.fkv_operations.specs.declared.operations.KeyedOp.TheVariants.{Read, Upsert, Rmw, Delete}
 use Rattle.fkv_operations.specs.declared.operations.Answer.{Answer}
-use Rattle.fkv_operations.specs.declared.operations.Answer.TheVariants as told
 use Rattle.fkv_lookups.specs.declared.decisions.LookupResult.{LookupResult}
 use Rattle.fkv_lookups.specs.declared.decisions.LookupResult.TheVariants.{NoEntry, NoValue, ReadOnly, Fuzzy, Mutable, OnDisk}
+use Rattle.fkv_lookups.specs.declared.decisions.Decision.{Decision}
 use Rattle.fkv_lookups.specs.declared.decisions.Decision.TheVariants.{Done, Claim, Append, Replace, Prepare, Wait, Load}
 
 -- a key that has no value is removed without a change
@@ -29,466 +29,179 @@ removed true l h = h refl
 removed false l h = refl
 
 module _ {K V I O : Type 0} (cmp : K → K → Ordering) (f : Meanings K V I O) (m : PlainMap K V) where
+  -- what a decision comes to on the map: one that writes nothing leaves it, one that appends or replaces does to it what its
+  -- record does, and each answers as the map does
+  abbrev Does : KeyedOp K V I → LookupResult V → Decision V I O → Type 0
+  Does op met (Done a) = IsKeyOrder cmp → IsHeld met (m (key_of op)) → Same (after cmp f m op) m × (a ≡ answer f m op)
+  Does op met Claim = Unit {0}
+  Does op met (Append v a) = (after cmp f m op ≡ with_at cmp m (key_of op) v) × (a ≡ answer f m op)
+  Does op met (Replace v a) = IsHeld met (m (key_of op)) → (after cmp f m op ≡ with_at cmp m (key_of op) v) × (a ≡ answer f m op)
+  Does op met (Prepare s i) = Unit {0}
+  Does op met Wait = Unit {0}
+  Does op met (Load b) = Unit {0}
+
+  -- the table, row by row
+  does : (op : KeyedOp K V I) (met : LookupResult V) → Does op met (decision f op met)
+  does (Read k i) NoEntry = λ order h. ((λ q. refl), ap (shown_of f k i) (sym h))
+  does (Read k i) NoValue = λ order h. ((λ q. refl), ap (shown_of f k i) (sym h))
+  does (Read k i) (ReadOnly w) = λ order h. ((λ q. refl), ap (shown_of f k i) (sym h))
+  does (Read k i) (Fuzzy w) = λ order h. ((λ q. refl), ap (shown_of f k i) (sym h))
+  does (Read k i) (Mutable w) = λ order h. ((λ q. refl), ap (shown_of f k i) (sym h))
+  does (Read k i) (OnDisk b) = tt
+  does (Upsert k u) NoEntry = tt
+  does (Upsert k u) NoValue = (refl, refl)
+  does (Upsert k u) (ReadOnly w) = (refl, refl)
+  does (Upsert k u) (Fuzzy w) = (refl, refl)
+  does (Upsert k u) (Mutable w) = λ h. (refl, refl)
+  does (Upsert k u) (OnDisk b) = (refl, refl)
+  does (Rmw k i) NoEntry = tt
+  does (Rmw k i) NoValue = tt
+  does (Rmw k i) (ReadOnly w) = tt
+  does (Rmw k i) (Fuzzy w) = tt
+  does (Rmw k i) (Mutable w) = by_next (f.next k w i) refl
+    where
+      came : (o : Option V) → f.next k w i ≡ o → m k ≡ Some w → updated f k i (m k) ≡ o
+      came o e h = ap (updated f k i) h ∙ e
+
+      by_next : (o : Option V) → f.next k w i ≡ o → Does (Rmw k i) (Mutable w) (replaced f k i o)
+      by_next None e = λ order h. ((λ q. ap (λ (o : Option V). after_update cmp m k o q) (came None e h)), sym (ap (told_of f k i) (came None e h)))
+      by_next (Some v) e = λ h. (ap (after_update cmp m k) (came (Some v) e h), sym (ap (told_of f k i) (came (Some v) e h)))
+  does (Rmw k i) (OnDisk b) = tt
+  does (Delete k) NoEntry = λ order h. ((λ q. sym (removed (is_at (cmp k) q) (m q) (λ t. ap m (sym (order.same k q t)) ∙ h))), refl)
+  does (Delete k) NoValue = λ order h. ((λ q. sym (removed (is_at (cmp k) q) (m q) (λ t. ap m (sym (order.same k q t)) ∙ h))), refl)
+  does (Delete k) (ReadOnly w) = (refl, refl)
+  does (Delete k) (Fuzzy w) = (refl, refl)
+  does (Delete k) (Mutable w) = λ h. (refl, refl)
+  does (Delete k) (OnDisk b) = (refl, refl)
+
   -- an operation that is done without a write leaves the map as it is, and answers as the map does
-  pub quiet-after : IsKeyOrder cmp
+  pub quiet-does : IsKeyOrder cmp
       → (op : KeyedOp K V I) (met : LookupResult V) (a : Answer O)
       → IsHeld met (m (key_of op))
       → decision f op met ≡ Done a
-      → Same (after cmp f m op) m
-  quiet-after order (Read k i) NoEntry a h d q = refl
-  quiet-after order (Read k i) NoValue a h d q = refl
-  quiet-after order (Read k i) (ReadOnly w) a h d q = refl
-  quiet-after order (Read k i) (Fuzzy w) a h d q = refl
-  quiet-after order (Read k i) (Mutable w) a h d q = refl
-  quiet-after order (Read k i) (OnDisk b) a h d q = absurd (cc)
-  quiet-after order (Upsert k u) NoEntry a h d q = absurd (cc)
-  quiet-after order (Upsert k u) NoValue a h d q = absurd (cc)
-  quiet-after order (Upsert k u) (ReadOnly w) a h d q = absurd (cc)
-  quiet-after order (Upsert k u) (Fuzzy w) a h d q = absurd (cc)
-  quiet-after order (Upsert k u) (Mutable w) a h d q = absurd (cc)
-  quiet-after order (Upsert k u) (OnDisk b) a h d q = absurd (cc)
-  quiet-after order (Rmw k i) NoEntry a h d q = absurd (cc)
-  quiet-after order (Rmw k i) NoValue a h d q = absurd (cc)
-  quiet-after order (Rmw k i) (ReadOnly w) a h d q = absurd (cc)
-  quiet-after order (Rmw k i) (Fuzzy w) a h d q = absurd (cc)
-  quiet-after order (Rmw k i) (Mutable w) a h d q = absurd (cc)
-  quiet-after order (Rmw k i) (OnDisk b) a h d q = absurd (cc)
-  quiet-after order (Delete k) NoEntry a h d q = sym (removed (is_at (cmp k) q) (m q) (λ t. ap m (sym (order.same k q t)) ∙ h))
-  quiet-after order (Delete k) NoValue a h d q = sym (removed (is_at (cmp k) q) (m q) (λ t. ap m (sym (order.same k q t)) ∙ h))
-  quiet-after order (Delete k) (ReadOnly w) a h d q = absurd (cc)
-  quiet-after order (Delete k) (Fuzzy w) a h d q = absurd (cc)
-  quiet-after order (Delete k) (Mutable w) a h d q = absurd (cc)
-  quiet-after order (Delete k) (OnDisk b) a h d q = absurd (cc)
-
-  pub quiet-answer : (op : KeyedOp K V I) (met : LookupResult V) (a : Answer O)
-      → IsHeld met (m (key_of op))
-      → decision f op met ≡ Done a
-      → a ≡ answer f m op
-  quiet-answer (Read k i) NoEntry a h d = let shows : shown_of f k i (held_of NoEntry) ≡ a = cc in sym shows ∙ ap (shown_of f k i) (sym h)
-  quiet-answer (Read k i) NoValue a h d = let shows : shown_of f k i (held_of NoValue) ≡ a = cc in sym shows ∙ ap (shown_of f k i) (sym h)
-  quiet-answer (Read k i) (ReadOnly w) a h d = let shows : shown_of f k i (held_of (ReadOnly w)) ≡ a = cc in sym shows ∙ ap (shown_of f k i) (sym h)
-  quiet-answer (Read k i) (Fuzzy w) a h d = let shows : shown_of f k i (held_of (Fuzzy w)) ≡ a = cc in sym shows ∙ ap (shown_of f k i) (sym h)
-  quiet-answer (Read k i) (Mutable w) a h d = let shows : shown_of f k i (held_of (Mutable w)) ≡ a = cc in sym shows ∙ ap (shown_of f k i) (sym h)
-  quiet-answer (Read k i) (OnDisk b) a h d = absurd (cc)
-  quiet-answer (Upsert k u) NoEntry a h d = absurd (cc)
-  quiet-answer (Upsert k u) NoValue a h d = absurd (cc)
-  quiet-answer (Upsert k u) (ReadOnly w) a h d = absurd (cc)
-  quiet-answer (Upsert k u) (Fuzzy w) a h d = absurd (cc)
-  quiet-answer (Upsert k u) (Mutable w) a h d = absurd (cc)
-  quiet-answer (Upsert k u) (OnDisk b) a h d = absurd (cc)
-  quiet-answer (Rmw k i) NoEntry a h d = absurd (cc)
-  quiet-answer (Rmw k i) NoValue a h d = absurd (cc)
-  quiet-answer (Rmw k i) (ReadOnly w) a h d = absurd (cc)
-  quiet-answer (Rmw k i) (Fuzzy w) a h d = absurd (cc)
-  quiet-answer (Rmw k i) (Mutable w) a h d = absurd (cc)
-  quiet-answer (Rmw k i) (OnDisk b) a h d = absurd (cc)
-  quiet-answer (Delete k) NoEntry a h d = cc
-  quiet-answer (Delete k) NoValue a h d = cc
-  quiet-answer (Delete k) (ReadOnly w) a h d = absurd (cc)
-  quiet-answer (Delete k) (Fuzzy w) a h d = absurd (cc)
-  quiet-answer (Delete k) (Mutable w) a h d = absurd (cc)
-  quiet-answer (Delete k) (OnDisk b) a h d = absurd (cc)
+      → Same (after cmp f m op) m × (a ≡ answer f m op)
+  quiet-does order op met a held d = subst (Does op met) d (does op met) order held
 
   -- one that appends does to the map what its record does, and answers as the map does
-  pub append-after : (op : KeyedOp K V I) (met : LookupResult V) (v : Option V) (a : Answer O)
+  pub append-does : (op : KeyedOp K V I) (met : LookupResult V) (v : Option V) (a : Answer O)
       → decision f op met ≡ Append v a
-      → after cmp f m op ≡ with_at cmp m (key_of op) v
-  append-after (Read k i) NoEntry v a d = absurd (cc)
-  append-after (Read k i) NoValue v a d = absurd (cc)
-  append-after (Read k i) (ReadOnly w) v a d = absurd (cc)
-  append-after (Read k i) (Fuzzy w) v a d = absurd (cc)
-  append-after (Read k i) (Mutable w) v a d = absurd (cc)
-  append-after (Read k i) (OnDisk b) v a d = absurd (cc)
-  append-after (Upsert k u) NoEntry v a d = absurd (cc)
-  append-after (Upsert k u) NoValue v a d = let same : Some u ≡ v = cc in ap (with_at cmp m k) same
-  append-after (Upsert k u) (ReadOnly w) v a d = let same : Some u ≡ v = cc in ap (with_at cmp m k) same
-  append-after (Upsert k u) (Fuzzy w) v a d = let same : Some u ≡ v = cc in ap (with_at cmp m k) same
-  append-after (Upsert k u) (Mutable w) v a d = absurd (cc)
-  append-after (Upsert k u) (OnDisk b) v a d = let same : Some u ≡ v = cc in ap (with_at cmp m k) same
-  append-after (Rmw k i) NoEntry v a d = absurd (cc)
-  append-after (Rmw k i) NoValue v a d = absurd (cc)
-  append-after (Rmw k i) (ReadOnly w) v a d = absurd (cc)
-  append-after (Rmw k i) (Fuzzy w) v a d = absurd (cc)
-  append-after (Rmw k i) (Mutable w) v a d = absurd (cc)
-  append-after (Rmw k i) (OnDisk b) v a d = absurd (cc)
-  append-after (Delete k) NoEntry v a d = absurd (cc)
-  append-after (Delete k) NoValue v a d = absurd (cc)
-  append-after (Delete k) (ReadOnly w) v a d = let same : None ≡ v = cc in ap (with_at cmp m k) same
-  append-after (Delete k) (Fuzzy w) v a d = let same : None ≡ v = cc in ap (with_at cmp m k) same
-  append-after (Delete k) (Mutable w) v a d = absurd (cc)
-  append-after (Delete k) (OnDisk b) v a d = let same : None ≡ v = cc in ap (with_at cmp m k) same
-
-  pub append-answer : (op : KeyedOp K V I) (met : LookupResult V) (v : Option V) (a : Answer O)
-      → decision f op met ≡ Append v a
-      → a ≡ answer f m op
-  append-answer (Read k i) NoEntry v a d = absurd (cc)
-  append-answer (Read k i) NoValue v a d = absurd (cc)
-  append-answer (Read k i) (ReadOnly w) v a d = absurd (cc)
-  append-answer (Read k i) (Fuzzy w) v a d = absurd (cc)
-  append-answer (Read k i) (Mutable w) v a d = absurd (cc)
-  append-answer (Read k i) (OnDisk b) v a d = absurd (cc)
-  append-answer (Upsert k u) NoEntry v a d = absurd (cc)
-  append-answer (Upsert k u) NoValue v a d = cc
-  append-answer (Upsert k u) (ReadOnly w) v a d = cc
-  append-answer (Upsert k u) (Fuzzy w) v a d = cc
-  append-answer (Upsert k u) (Mutable w) v a d = absurd (cc)
-  append-answer (Upsert k u) (OnDisk b) v a d = cc
-  append-answer (Rmw k i) NoEntry v a d = absurd (cc)
-  append-answer (Rmw k i) NoValue v a d = absurd (cc)
-  append-answer (Rmw k i) (ReadOnly w) v a d = absurd (cc)
-  append-answer (Rmw k i) (Fuzzy w) v a d = absurd (cc)
-  append-answer (Rmw k i) (Mutable w) v a d = absurd (cc)
-  append-answer (Rmw k i) (OnDisk b) v a d = absurd (cc)
-  append-answer (Delete k) NoEntry v a d = absurd (cc)
-  append-answer (Delete k) NoValue v a d = absurd (cc)
-  append-answer (Delete k) (ReadOnly w) v a d = cc
-  append-answer (Delete k) (Fuzzy w) v a d = cc
-  append-answer (Delete k) (Mutable w) v a d = absurd (cc)
-  append-answer (Delete k) (OnDisk b) v a d = cc
+      → (after cmp f m op ≡ with_at cmp m (key_of op) v) × (a ≡ answer f m op)
+  append-does op met v a d = subst (Does op met) d (does op met)
 
   -- and so does one that changes the last record of its key in place
-  pub replace-after : (op : KeyedOp K V I) (met : LookupResult V) (v : Option V) (a : Answer O)
+  pub replace-does : (op : KeyedOp K V I) (met : LookupResult V) (v : Option V) (a : Answer O)
       → IsHeld met (m (key_of op))
       → decision f op met ≡ Replace v a
-      → after cmp f m op ≡ with_at cmp m (key_of op) v
-  replace-after (Read k i) NoEntry v a h d = absurd (cc)
-  replace-after (Read k i) NoValue v a h d = absurd (cc)
-  replace-after (Read k i) (ReadOnly w) v a h d = absurd (cc)
-  replace-after (Read k i) (Fuzzy w) v a h d = absurd (cc)
-  replace-after (Read k i) (Mutable w) v a h d = absurd (cc)
-  replace-after (Read k i) (OnDisk b) v a h d = absurd (cc)
-  replace-after (Upsert k u) NoEntry v a h d = absurd (cc)
-  replace-after (Upsert k u) NoValue v a h d = absurd (cc)
-  replace-after (Upsert k u) (ReadOnly w) v a h d = absurd (cc)
-  replace-after (Upsert k u) (Fuzzy w) v a h d = absurd (cc)
-  replace-after (Upsert k u) (Mutable w) v a h d = let same : Some u ≡ v = cc in ap (with_at cmp m k) same
-  replace-after (Upsert k u) (OnDisk b) v a h d = absurd (cc)
-  replace-after (Rmw k i) NoEntry v a h d = absurd (cc)
-  replace-after (Rmw k i) NoValue v a h d = absurd (cc)
-  replace-after (Rmw k i) (ReadOnly w) v a h d = absurd (cc)
-  replace-after (Rmw k i) (Fuzzy w) v a h d = absurd (cc)
-  replace-after (Rmw k i) (Mutable w) v a h d = let same : Some (f.next k w i) ≡ v = cc in rw h (ap (with_at cmp m k) same)
-  replace-after (Rmw k i) (OnDisk b) v a h d = absurd (cc)
-  replace-after (Delete k) NoEntry v a h d = absurd (cc)
-  replace-after (Delete k) NoValue v a h d = absurd (cc)
-  replace-after (Delete k) (ReadOnly w) v a h d = absurd (cc)
-  replace-after (Delete k) (Fuzzy w) v a h d = absurd (cc)
-  replace-after (Delete k) (Mutable w) v a h d = let same : None ≡ v = cc in ap (with_at cmp m k) same
-  replace-after (Delete k) (OnDisk b) v a h d = absurd (cc)
-
-  pub replace-answer : (op : KeyedOp K V I) (met : LookupResult V) (v : Option V) (a : Answer O)
-      → IsHeld met (m (key_of op))
-      → decision f op met ≡ Replace v a
-      → a ≡ answer f m op
-  replace-answer (Read k i) NoEntry v a h d = absurd (cc)
-  replace-answer (Read k i) NoValue v a h d = absurd (cc)
-  replace-answer (Read k i) (ReadOnly w) v a h d = absurd (cc)
-  replace-answer (Read k i) (Fuzzy w) v a h d = absurd (cc)
-  replace-answer (Read k i) (Mutable w) v a h d = absurd (cc)
-  replace-answer (Read k i) (OnDisk b) v a h d = absurd (cc)
-  replace-answer (Upsert k u) NoEntry v a h d = absurd (cc)
-  replace-answer (Upsert k u) NoValue v a h d = absurd (cc)
-  replace-answer (Upsert k u) (ReadOnly w) v a h d = absurd (cc)
-  replace-answer (Upsert k u) (Fuzzy w) v a h d = absurd (cc)
-  replace-answer (Upsert k u) (Mutable w) v a h d = cc
-  replace-answer (Upsert k u) (OnDisk b) v a h d = absurd (cc)
-  replace-answer (Rmw k i) NoEntry v a h d = absurd (cc)
-  replace-answer (Rmw k i) NoValue v a h d = absurd (cc)
-  replace-answer (Rmw k i) (ReadOnly w) v a h d = absurd (cc)
-  replace-answer (Rmw k i) (Fuzzy w) v a h d = absurd (cc)
-  replace-answer (Rmw k i) (Mutable w) v a h d = let same : told.Value (f.shown k i (f.next k w i)) ≡ a = cc in rw h (sym same)
-  replace-answer (Rmw k i) (OnDisk b) v a h d = absurd (cc)
-  replace-answer (Delete k) NoEntry v a h d = absurd (cc)
-  replace-answer (Delete k) NoValue v a h d = absurd (cc)
-  replace-answer (Delete k) (ReadOnly w) v a h d = absurd (cc)
-  replace-answer (Delete k) (Fuzzy w) v a h d = absurd (cc)
-  replace-answer (Delete k) (Mutable w) v a h d = cc
-  replace-answer (Delete k) (OnDisk b) v a h d = absurd (cc)
+      → (after cmp f m op ≡ with_at cmp m (key_of op) v) × (a ≡ answer f m op)
+  replace-does op met v a held d = subst (Does op met) d (does op met) held
 
 module _ {K V I O : Type 0} (f : Meanings K V I O) where
+  -- what a decision says of its operation and of what was met
+  abbrev IsDecided : KeyedOp K V I → LookupResult V → Decision V I O → Type 0
+  IsDecided op met (Done a) = Unit {0}
+  IsDecided op met Claim = met ≡ NoEntry
+  IsDecided op met (Append v a) = met ≡ NoEntry → ⊥
+  IsDecided op met (Replace v a) = (w : V) × (met ≡ Mutable w)
+  IsDecided op met (Prepare s i) = (op ≡ Rmw (key_of op) i) × (s ≡ held_of met) × ((met ≡ NoValue) ⊎ ((w : V) × (met ≡ ReadOnly w)))
+  IsDecided op met Wait = ((i : I) × (op ≡ Rmw (key_of op) i)) × ((w : V) × (met ≡ Fuzzy w))
+  IsDecided op met (Load b) = (met ≡ OnDisk b) × ((i : I) × ((op ≡ Read (key_of op) i) ⊎ (op ≡ Rmw (key_of op) i)))
+
+  -- the table, row by row
+  is-decided : (op : KeyedOp K V I) (met : LookupResult V) → IsDecided op met (decision f op met)
+  is-decided (Read k i) NoEntry = tt
+  is-decided (Read k i) NoValue = tt
+  is-decided (Read k i) (ReadOnly w) = tt
+  is-decided (Read k i) (Fuzzy w) = tt
+  is-decided (Read k i) (Mutable w) = tt
+  is-decided (Read k i) (OnDisk b) = (refl, (i, inl refl))
+  is-decided (Upsert k u) NoEntry = refl
+  is-decided (Upsert k u) NoValue = λ e. cc
+  is-decided (Upsert k u) (ReadOnly w) = λ e. cc
+  is-decided (Upsert k u) (Fuzzy w) = λ e. cc
+  is-decided (Upsert k u) (Mutable w) = (w, refl)
+  is-decided (Upsert k u) (OnDisk b) = λ e. cc
+  is-decided (Rmw k i) NoEntry = refl
+  is-decided (Rmw k i) NoValue = (refl, refl, inl refl)
+  is-decided (Rmw k i) (ReadOnly w) = (refl, refl, inr (w, refl))
+  is-decided (Rmw k i) (Fuzzy w) = ((i, refl), (w, refl))
+  is-decided (Rmw k i) (Mutable w) = by_next (f.next k w i)
+    where
+      by_next : (o : Option V) → IsDecided (Rmw k i) (Mutable w) (replaced f k i o)
+      by_next None = tt
+      by_next (Some v) = (w, refl)
+  is-decided (Rmw k i) (OnDisk b) = (refl, (i, inr refl))
+  is-decided (Delete k) NoEntry = tt
+  is-decided (Delete k) NoValue = tt
+  is-decided (Delete k) (ReadOnly w) = λ e. cc
+  is-decided (Delete k) (Fuzzy w) = λ e. cc
+  is-decided (Delete k) (Mutable w) = (w, refl)
+  is-decided (Delete k) (OnDisk b) = λ e. cc
+
   -- one that asks for a value is an update by an input, and its source is what was met: none, or a value that changes no
   -- more
   pub prepare-op : (op : KeyedOp K V I) (met : LookupResult V) (s : Option V) (i : I)
       → decision f op met ≡ Prepare s i
       → op ≡ Rmw (key_of op) i
-  prepare-op (Read k j) NoEntry s i d = absurd (cc)
-  prepare-op (Read k j) NoValue s i d = absurd (cc)
-  prepare-op (Read k j) (ReadOnly w) s i d = absurd (cc)
-  prepare-op (Read k j) (Fuzzy w) s i d = absurd (cc)
-  prepare-op (Read k j) (Mutable w) s i d = absurd (cc)
-  prepare-op (Read k j) (OnDisk b) s i d = absurd (cc)
-  prepare-op (Upsert k u) NoEntry s i d = absurd (cc)
-  prepare-op (Upsert k u) NoValue s i d = absurd (cc)
-  prepare-op (Upsert k u) (ReadOnly w) s i d = absurd (cc)
-  prepare-op (Upsert k u) (Fuzzy w) s i d = absurd (cc)
-  prepare-op (Upsert k u) (Mutable w) s i d = absurd (cc)
-  prepare-op (Upsert k u) (OnDisk b) s i d = absurd (cc)
-  prepare-op (Rmw k j) NoEntry s i d = absurd (cc)
-  prepare-op (Rmw k j) NoValue s i d = let same : j ≡ i = cc in ap (Rmw k) same
-  prepare-op (Rmw k j) (ReadOnly w) s i d = let same : j ≡ i = cc in ap (Rmw k) same
-  prepare-op (Rmw k j) (Fuzzy w) s i d = absurd (cc)
-  prepare-op (Rmw k j) (Mutable w) s i d = absurd (cc)
-  prepare-op (Rmw k j) (OnDisk b) s i d = absurd (cc)
-  prepare-op (Delete k) NoEntry s i d = absurd (cc)
-  prepare-op (Delete k) NoValue s i d = absurd (cc)
-  prepare-op (Delete k) (ReadOnly w) s i d = absurd (cc)
-  prepare-op (Delete k) (Fuzzy w) s i d = absurd (cc)
-  prepare-op (Delete k) (Mutable w) s i d = absurd (cc)
-  prepare-op (Delete k) (OnDisk b) s i d = absurd (cc)
+  prepare-op op met s i d = (subst (IsDecided op met) d (is-decided op met)).0
 
   pub prepare-source : (op : KeyedOp K V I) (met : LookupResult V) (s : Option V) (i : I)
       → decision f op met ≡ Prepare s i
       → s ≡ held_of met
-  prepare-source (Read k j) NoEntry s i d = absurd (cc)
-  prepare-source (Read k j) NoValue s i d = absurd (cc)
-  prepare-source (Read k j) (ReadOnly w) s i d = absurd (cc)
-  prepare-source (Read k j) (Fuzzy w) s i d = absurd (cc)
-  prepare-source (Read k j) (Mutable w) s i d = absurd (cc)
-  prepare-source (Read k j) (OnDisk b) s i d = absurd (cc)
-  prepare-source (Upsert k u) NoEntry s i d = absurd (cc)
-  prepare-source (Upsert k u) NoValue s i d = absurd (cc)
-  prepare-source (Upsert k u) (ReadOnly w) s i d = absurd (cc)
-  prepare-source (Upsert k u) (Fuzzy w) s i d = absurd (cc)
-  prepare-source (Upsert k u) (Mutable w) s i d = absurd (cc)
-  prepare-source (Upsert k u) (OnDisk b) s i d = absurd (cc)
-  prepare-source (Rmw k j) NoEntry s i d = absurd (cc)
-  prepare-source (Rmw k j) NoValue s i d = cc
-  prepare-source (Rmw k j) (ReadOnly w) s i d = cc
-  prepare-source (Rmw k j) (Fuzzy w) s i d = absurd (cc)
-  prepare-source (Rmw k j) (Mutable w) s i d = absurd (cc)
-  prepare-source (Rmw k j) (OnDisk b) s i d = absurd (cc)
-  prepare-source (Delete k) NoEntry s i d = absurd (cc)
-  prepare-source (Delete k) NoValue s i d = absurd (cc)
-  prepare-source (Delete k) (ReadOnly w) s i d = absurd (cc)
-  prepare-source (Delete k) (Fuzzy w) s i d = absurd (cc)
-  prepare-source (Delete k) (Mutable w) s i d = absurd (cc)
-  prepare-source (Delete k) (OnDisk b) s i d = absurd (cc)
+  prepare-source op met s i d = (subst (IsDecided op met) d (is-decided op met)).1
 
   pub prepare-met : (op : KeyedOp K V I) (met : LookupResult V) (s : Option V) (i : I)
       → decision f op met ≡ Prepare s i
       → (met ≡ NoValue) ⊎ ((w : V) × (met ≡ ReadOnly w))
-  prepare-met (Read k j) NoEntry s i d = absurd (cc)
-  prepare-met (Read k j) NoValue s i d = absurd (cc)
-  prepare-met (Read k j) (ReadOnly w) s i d = absurd (cc)
-  prepare-met (Read k j) (Fuzzy w) s i d = absurd (cc)
-  prepare-met (Read k j) (Mutable w) s i d = absurd (cc)
-  prepare-met (Read k j) (OnDisk b) s i d = absurd (cc)
-  prepare-met (Upsert k u) NoEntry s i d = absurd (cc)
-  prepare-met (Upsert k u) NoValue s i d = absurd (cc)
-  prepare-met (Upsert k u) (ReadOnly w) s i d = absurd (cc)
-  prepare-met (Upsert k u) (Fuzzy w) s i d = absurd (cc)
-  prepare-met (Upsert k u) (Mutable w) s i d = absurd (cc)
-  prepare-met (Upsert k u) (OnDisk b) s i d = absurd (cc)
-  prepare-met (Rmw k j) NoEntry s i d = absurd (cc)
-  prepare-met (Rmw k j) NoValue s i d = inl refl
-  prepare-met (Rmw k j) (ReadOnly w) s i d = inr (w, refl)
-  prepare-met (Rmw k j) (Fuzzy w) s i d = absurd (cc)
-  prepare-met (Rmw k j) (Mutable w) s i d = absurd (cc)
-  prepare-met (Rmw k j) (OnDisk b) s i d = absurd (cc)
-  prepare-met (Delete k) NoEntry s i d = absurd (cc)
-  prepare-met (Delete k) NoValue s i d = absurd (cc)
-  prepare-met (Delete k) (ReadOnly w) s i d = absurd (cc)
-  prepare-met (Delete k) (Fuzzy w) s i d = absurd (cc)
-  prepare-met (Delete k) (Mutable w) s i d = absurd (cc)
-  prepare-met (Delete k) (OnDisk b) s i d = absurd (cc)
+  prepare-met op met s i d = (subst (IsDecided op met) d (is-decided op met)).2
 
   -- one that changes a record in place met a value that may be changed so
   pub replace-met : (op : KeyedOp K V I) (met : LookupResult V) (v : Option V) (a : Answer O)
       → decision f op met ≡ Replace v a
       → (w : V) × (met ≡ Mutable w)
-  replace-met (Read k i) NoEntry v a d = absurd (cc)
-  replace-met (Read k i) NoValue v a d = absurd (cc)
-  replace-met (Read k i) (ReadOnly w) v a d = absurd (cc)
-  replace-met (Read k i) (Fuzzy w) v a d = absurd (cc)
-  replace-met (Read k i) (Mutable w) v a d = absurd (cc)
-  replace-met (Read k i) (OnDisk b) v a d = absurd (cc)
-  replace-met (Upsert k u) NoEntry v a d = absurd (cc)
-  replace-met (Upsert k u) NoValue v a d = absurd (cc)
-  replace-met (Upsert k u) (ReadOnly w) v a d = absurd (cc)
-  replace-met (Upsert k u) (Fuzzy w) v a d = absurd (cc)
-  replace-met (Upsert k u) (Mutable w) v a d = (w, refl)
-  replace-met (Upsert k u) (OnDisk b) v a d = absurd (cc)
-  replace-met (Rmw k i) NoEntry v a d = absurd (cc)
-  replace-met (Rmw k i) NoValue v a d = absurd (cc)
-  replace-met (Rmw k i) (ReadOnly w) v a d = absurd (cc)
-  replace-met (Rmw k i) (Fuzzy w) v a d = absurd (cc)
-  replace-met (Rmw k i) (Mutable w) v a d = (w, refl)
-  replace-met (Rmw k i) (OnDisk b) v a d = absurd (cc)
-  replace-met (Delete k) NoEntry v a d = absurd (cc)
-  replace-met (Delete k) NoValue v a d = absurd (cc)
-  replace-met (Delete k) (ReadOnly w) v a d = absurd (cc)
-  replace-met (Delete k) (Fuzzy w) v a d = absurd (cc)
-  replace-met (Delete k) (Mutable w) v a d = (w, refl)
-  replace-met (Delete k) (OnDisk b) v a d = absurd (cc)
+  replace-met op met v a d = subst (IsDecided op met) d (is-decided op met)
 
   -- only an update waits, and it met a value that others may still change
   pub wait-op : (op : KeyedOp K V I) (met : LookupResult V)
       → decision f op met ≡ Wait
       → (i : I) × (op ≡ Rmw (key_of op) i)
-  wait-op (Read k i) NoEntry d = absurd (cc)
-  wait-op (Read k i) NoValue d = absurd (cc)
-  wait-op (Read k i) (ReadOnly w) d = absurd (cc)
-  wait-op (Read k i) (Fuzzy w) d = absurd (cc)
-  wait-op (Read k i) (Mutable w) d = absurd (cc)
-  wait-op (Read k i) (OnDisk b) d = absurd (cc)
-  wait-op (Upsert k u) NoEntry d = absurd (cc)
-  wait-op (Upsert k u) NoValue d = absurd (cc)
-  wait-op (Upsert k u) (ReadOnly w) d = absurd (cc)
-  wait-op (Upsert k u) (Fuzzy w) d = absurd (cc)
-  wait-op (Upsert k u) (Mutable w) d = absurd (cc)
-  wait-op (Upsert k u) (OnDisk b) d = absurd (cc)
-  wait-op (Rmw k i) NoEntry d = absurd (cc)
-  wait-op (Rmw k i) NoValue d = absurd (cc)
-  wait-op (Rmw k i) (ReadOnly w) d = absurd (cc)
-  wait-op (Rmw k i) (Fuzzy w) d = (i, refl)
-  wait-op (Rmw k i) (Mutable w) d = absurd (cc)
-  wait-op (Rmw k i) (OnDisk b) d = absurd (cc)
-  wait-op (Delete k) NoEntry d = absurd (cc)
-  wait-op (Delete k) NoValue d = absurd (cc)
-  wait-op (Delete k) (ReadOnly w) d = absurd (cc)
-  wait-op (Delete k) (Fuzzy w) d = absurd (cc)
-  wait-op (Delete k) (Mutable w) d = absurd (cc)
-  wait-op (Delete k) (OnDisk b) d = absurd (cc)
+  wait-op op met d = (subst (IsDecided op met) d (is-decided op met)).0
 
   pub wait-met : (op : KeyedOp K V I) (met : LookupResult V)
       → decision f op met ≡ Wait
       → (w : V) × (met ≡ Fuzzy w)
-  wait-met (Read k i) NoEntry d = absurd (cc)
-  wait-met (Read k i) NoValue d = absurd (cc)
-  wait-met (Read k i) (ReadOnly w) d = absurd (cc)
-  wait-met (Read k i) (Fuzzy w) d = absurd (cc)
-  wait-met (Read k i) (Mutable w) d = absurd (cc)
-  wait-met (Read k i) (OnDisk b) d = absurd (cc)
-  wait-met (Upsert k u) NoEntry d = absurd (cc)
-  wait-met (Upsert k u) NoValue d = absurd (cc)
-  wait-met (Upsert k u) (ReadOnly w) d = absurd (cc)
-  wait-met (Upsert k u) (Fuzzy w) d = absurd (cc)
-  wait-met (Upsert k u) (Mutable w) d = absurd (cc)
-  wait-met (Upsert k u) (OnDisk b) d = absurd (cc)
-  wait-met (Rmw k i) NoEntry d = absurd (cc)
-  wait-met (Rmw k i) NoValue d = absurd (cc)
-  wait-met (Rmw k i) (ReadOnly w) d = absurd (cc)
-  wait-met (Rmw k i) (Fuzzy w) d = (w, refl)
-  wait-met (Rmw k i) (Mutable w) d = absurd (cc)
-  wait-met (Rmw k i) (OnDisk b) d = absurd (cc)
-  wait-met (Delete k) NoEntry d = absurd (cc)
-  wait-met (Delete k) NoValue d = absurd (cc)
-  wait-met (Delete k) (ReadOnly w) d = absurd (cc)
-  wait-met (Delete k) (Fuzzy w) d = absurd (cc)
-  wait-met (Delete k) (Mutable w) d = absurd (cc)
-  wait-met (Delete k) (OnDisk b) d = absurd (cc)
+  wait-met op met d = (subst (IsDecided op met) d (is-decided op met)).1
 
   -- without an entry nothing is written but an entry
-  append-none : (op : KeyedOp K V I) (v : Option V) (a : Answer O) → decision f op NoEntry ≡ Append v a → ⊥
-  append-none (Read k i) v a d = cc
-  append-none (Upsert k u) v a d = cc
-  append-none (Rmw k i) v a d = cc
-  append-none (Delete k) v a d = cc
-
   pub append-entry : (op : KeyedOp K V I) (entry : Option ℕ) (begin : ℕ) (view : View) (r : ChainPosition K V) (v : Option V) (a : Answer O)
       → decision f op (met_by entry begin view r) ≡ Append v a
       → IsSome entry
-  append-entry op None begin view r v a d = absurd (append-none op v a d)
+  append-entry op None begin view r v a d = absurd (subst (IsDecided op NoEntry) d (is-decided op NoEntry) refl)
   append-entry op (Some e) begin view r v a d = refl
-
-  prepare-none : (op : KeyedOp K V I) (s : Option V) (i : I) → decision f op NoEntry ≡ Prepare s i → ⊥
-  prepare-none (Read k j) s i d = cc
-  prepare-none (Upsert k u) s i d = cc
-  prepare-none (Rmw k j) s i d = cc
-  prepare-none (Delete k) s i d = cc
 
   pub prepare-entry : (op : KeyedOp K V I) (entry : Option ℕ) (begin : ℕ) (view : View) (r : ChainPosition K V) (s : Option V) (i : I)
       → decision f op (met_by entry begin view r) ≡ Prepare s i
       → IsSome entry
-  prepare-entry op None begin view r s i d = absurd (prepare-none op s i d)
+  prepare-entry op None begin view r s i d = elim (prepare-met op NoEntry s i d) [
+    | inl e ↦ absurd (cc)
+    | inr e ↦ absurd (let no = e.1 in cc)
+  ]
   prepare-entry op (Some e) begin view r s i d = refl
 
   pub claim-met : (op : KeyedOp K V I) (met : LookupResult V)
       → decision f op met ≡ Claim
       → met ≡ NoEntry
-  claim-met (Read k i) NoEntry d = absurd (cc)
-  claim-met (Read k i) NoValue d = absurd (cc)
-  claim-met (Read k i) (ReadOnly w) d = absurd (cc)
-  claim-met (Read k i) (Fuzzy w) d = absurd (cc)
-  claim-met (Read k i) (Mutable w) d = absurd (cc)
-  claim-met (Read k i) (OnDisk b) d = absurd (cc)
-  claim-met (Upsert k u) NoEntry d = refl
-  claim-met (Upsert k u) NoValue d = absurd (cc)
-  claim-met (Upsert k u) (ReadOnly w) d = absurd (cc)
-  claim-met (Upsert k u) (Fuzzy w) d = absurd (cc)
-  claim-met (Upsert k u) (Mutable w) d = absurd (cc)
-  claim-met (Upsert k u) (OnDisk b) d = absurd (cc)
-  claim-met (Rmw k i) NoEntry d = refl
-  claim-met (Rmw k i) NoValue d = absurd (cc)
-  claim-met (Rmw k i) (ReadOnly w) d = absurd (cc)
-  claim-met (Rmw k i) (Fuzzy w) d = absurd (cc)
-  claim-met (Rmw k i) (Mutable w) d = absurd (cc)
-  claim-met (Rmw k i) (OnDisk b) d = absurd (cc)
-  claim-met (Delete k) NoEntry d = absurd (cc)
-  claim-met (Delete k) NoValue d = absurd (cc)
-  claim-met (Delete k) (ReadOnly w) d = absurd (cc)
-  claim-met (Delete k) (Fuzzy w) d = absurd (cc)
-  claim-met (Delete k) (Mutable w) d = absurd (cc)
-  claim-met (Delete k) (OnDisk b) d = absurd (cc)
+  claim-met op met d = subst (IsDecided op met) d (is-decided op met)
 
--- ---- a page is asked for
-module _ {K V I O : Type 0} (f : Meanings K V I O) where
-  -- only a read or an update asks, and what it met lies there
+  -- only a read or an update asks for a page, and what it met lies there
   pub load-met : (op : KeyedOp K V I) (met : LookupResult V) (b : ℕ)
       → decision f op met ≡ Load b
       → met ≡ OnDisk b
-  load-met (Read k i) NoEntry b d = absurd (cc)
-  load-met (Read k i) NoValue b d = absurd (cc)
-  load-met (Read k i) (ReadOnly w) b d = absurd (cc)
-  load-met (Read k i) (Fuzzy w) b d = absurd (cc)
-  load-met (Read k i) (Mutable w) b d = absurd (cc)
-  load-met (Read k i) (OnDisk a) b d = let same : a ≡ b = cc in ap OnDisk same
-  load-met (Upsert k u) NoEntry b d = absurd (cc)
-  load-met (Upsert k u) NoValue b d = absurd (cc)
-  load-met (Upsert k u) (ReadOnly w) b d = absurd (cc)
-  load-met (Upsert k u) (Fuzzy w) b d = absurd (cc)
-  load-met (Upsert k u) (Mutable w) b d = absurd (cc)
-  load-met (Upsert k u) (OnDisk a) b d = absurd (cc)
-  load-met (Rmw k i) NoEntry b d = absurd (cc)
-  load-met (Rmw k i) NoValue b d = absurd (cc)
-  load-met (Rmw k i) (ReadOnly w) b d = absurd (cc)
-  load-met (Rmw k i) (Fuzzy w) b d = absurd (cc)
-  load-met (Rmw k i) (Mutable w) b d = absurd (cc)
-  load-met (Rmw k i) (OnDisk a) b d = let same : a ≡ b = cc in ap OnDisk same
-  load-met (Delete k) NoEntry b d = absurd (cc)
-  load-met (Delete k) NoValue b d = absurd (cc)
-  load-met (Delete k) (ReadOnly w) b d = absurd (cc)
-  load-met (Delete k) (Fuzzy w) b d = absurd (cc)
-  load-met (Delete k) (Mutable w) b d = absurd (cc)
-  load-met (Delete k) (OnDisk a) b d = absurd (cc)
+  load-met op met b d = (subst (IsDecided op met) d (is-decided op met)).0
 
   pub load-op : (op : KeyedOp K V I) (met : LookupResult V) (b : ℕ)
       → decision f op met ≡ Load b
       → (i : I) × ((op ≡ Read (key_of op) i) ⊎ (op ≡ Rmw (key_of op) i))
-  load-op (Read k i) NoEntry b d = absurd (cc)
-  load-op (Read k i) NoValue b d = absurd (cc)
-  load-op (Read k i) (ReadOnly w) b d = absurd (cc)
-  load-op (Read k i) (Fuzzy w) b d = absurd (cc)
-  load-op (Read k i) (Mutable w) b d = absurd (cc)
-  load-op (Read k i) (OnDisk a) b d = (i, inl refl)
-  load-op (Upsert k u) NoEntry b d = absurd (cc)
-  load-op (Upsert k u) NoValue b d = absurd (cc)
-  load-op (Upsert k u) (ReadOnly w) b d = absurd (cc)
-  load-op (Upsert k u) (Fuzzy w) b d = absurd (cc)
-  load-op (Upsert k u) (Mutable w) b d = absurd (cc)
-  load-op (Upsert k u) (OnDisk a) b d = absurd (cc)
-  load-op (Rmw k i) NoEntry b d = absurd (cc)
-  load-op (Rmw k i) NoValue b d = absurd (cc)
-  load-op (Rmw k i) (ReadOnly w) b d = absurd (cc)
-  load-op (Rmw k i) (Fuzzy w) b d = absurd (cc)
-  load-op (Rmw k i) (Mutable w) b d = absurd (cc)
-  load-op (Rmw k i) (OnDisk a) b d = (i, inr refl)
-  load-op (Delete k) NoEntry b d = absurd (cc)
-  load-op (Delete k) NoValue b d = absurd (cc)
-  load-op (Delete k) (ReadOnly w) b d = absurd (cc)
-  load-op (Delete k) (Fuzzy w) b d = absurd (cc)
-  load-op (Delete k) (Mutable w) b d = absurd (cc)
-  load-op (Delete k) (OnDisk a) b d = absurd (cc)
+  load-op op met b d = (subst (IsDecided op met) d (is-decided op met)).1
 
 -- ---- what was met
 held-in : {V : Type 0} (r : Region) (v : V) (o : Option V) → o ≡ Some v → IsHeld (met_in r v) o

@@ -10,8 +10,7 @@ use Rattle.fkv_regions.specs.Offsets.{region_of}
 use Rattle.fkv_operations.specs.After.{shown_of}
 use Rattle.fkv_operations.specs.declared.operations.KeyedOp.{KeyedOp}
 use Rattle.fkv_operations.specs.declared.operations.KeyedOp.TheVariants.{Read, Upsert, Rmw, Delete}
-use Rattle.fkv_operations.specs.declared.operations.Answer.TheVariants as answer
-use Rattle.fkv_operations.specs.declared.operations.Answer.TheVariants.{Stored, Deleted}
+use Rattle.fkv_operations.specs.declared.operations.Answer.TheVariants.{Value, Stored, Deleted, Declined}
 use Rattle.fkv_lookups.specs.declared.decisions.LookupResult.{LookupResult}
 use Rattle.fkv_lookups.specs.declared.decisions.LookupResult.TheVariants.{NoEntry, NoValue, ReadOnly, Fuzzy, Mutable, OnDisk}
 use Rattle.fkv_lookups.specs.declared.decisions.Decision.{Decision}
@@ -60,6 +59,12 @@ IsHeld (Fuzzy v) o = o ≡ Some v
 IsHeld (Mutable v) o = o ≡ Some v
 IsHeld (OnDisk b) o = Unit {0}
 
+-- what an update does to a value that may be changed in place, by what it comes to: it replaces the value, or is declined
+-- and writes nothing
+abbrev pub replaced : {K V I O : Type 0} → Meanings K V I O → K → I → Option V → Decision V I O
+replaced f k i None = Done Declined
+replaced f k i (Some v) = Replace (Some v) (Value (f.shown k i v))
+
 -- the table: what an operation does for what it met
 abbrev pub decision : {K V I O : Type 0} → Meanings K V I O → KeyedOp K V I → LookupResult V → Decision V I O
 decision f (Read k i) NoEntry = Done (shown_of f k i None)
@@ -78,7 +83,7 @@ decision f (Rmw k i) NoEntry = Claim
 decision f (Rmw k i) NoValue = Prepare None i
 decision f (Rmw k i) (ReadOnly w) = Prepare (Some w) i
 decision f (Rmw k i) (Fuzzy w) = Wait
-decision f (Rmw k i) (Mutable w) = Replace (Some (f.next k w i)) (answer.Value (f.shown k i (f.next k w i)))
+decision f (Rmw k i) (Mutable w) = replaced f k i (f.next k w i)
 decision f (Rmw k i) (OnDisk b) = Load b
 decision f (Delete k) NoEntry = Done Deleted
 decision f (Delete k) NoValue = Done Deleted

@@ -177,7 +177,9 @@ fn update<F: Functions>(
     ensures { result ≡ decision F.meaning (KeyedOp.Rmw key.now input.now) (LookupResult.Mutable held) }
 {
     let mut value = held;
-    functions.in_place(key, input, &mut value);
+    if !functions.in_place(key, input, &mut value) {
+        return Decision::Done(Answer::Declined);
+    }
     let shown = functions.read(key, input, &value);
     Decision::Replace(Some(value), Answer::Value(shown))
 }

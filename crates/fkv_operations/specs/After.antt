@@ -6,7 +6,7 @@ use Rattle.fkv_functions.specs.Plain.{PlainMap, with_at}
 use Rattle.fkv_operations.specs.declared.operations.KeyedOp.{KeyedOp}
 use Rattle.fkv_operations.specs.declared.operations.KeyedOp.TheVariants.{Read, Upsert, Rmw, Delete}
 use Rattle.fkv_operations.specs.declared.operations.Answer.{Answer}
-use Rattle.fkv_operations.specs.declared.operations.Answer.TheVariants.{Value, Absent, Stored, Deleted}
+use Rattle.fkv_operations.specs.declared.operations.Answer.TheVariants.{Value, Absent, Stored, Deleted, Declined}
 
 -- the key of an operation
 abbrev pub key_of : {K V I : Type 0} → KeyedOp K V I → K
@@ -22,11 +22,16 @@ is_update (Upsert k v) = true
 is_update (Rmw k i) = true
 is_update (Delete k) = true
 
+-- the map after an update of a key that came to this value: a declined one leaves it
+abbrev pub after_update : {K V : Type 0} → (K → K → Ordering) → PlainMap K V → K → Option V → PlainMap K V
+after_update cmp m k None = m
+after_update cmp m k (Some v) = with_at cmp m k (Some v)
+
 -- the map after an operation
 abbrev pub after : {K V I O : Type 0} → (K → K → Ordering) → Meanings K V I O → PlainMap K V → KeyedOp K V I → PlainMap K V
 after cmp f m (Read k i) = m
 after cmp f m (Upsert k v) = with_at cmp m k (Some v)
-after cmp f m (Rmw k i) = with_at cmp m k (Some (updated f k i (m k)))
+after cmp f m (Rmw k i) = after_update cmp m k (updated f k i (m k))
 after cmp f m (Delete k) = with_at cmp m k None
 
 -- what a read shows where the key has this value, or none
@@ -34,11 +39,16 @@ abbrev pub shown_of : {K V I O : Type 0} → Meanings K V I O → K → I → Op
 shown_of f k i None = Absent
 shown_of f k i (Some v) = Value (f.shown k i v)
 
+-- what an update tells that came to this value, or was declined
+abbrev pub told_of : {K V I O : Type 0} → Meanings K V I O → K → I → Option V → Answer O
+told_of f k i None = Declined
+told_of f k i (Some v) = Value (f.shown k i v)
+
 -- the answer to an operation
 abbrev pub answer : {K V I O : Type 0} → Meanings K V I O → PlainMap K V → KeyedOp K V I → Answer O
 answer f m (Read k i) = shown_of f k i (m k)
 answer f m (Upsert k v) = Stored
-answer f m (Rmw k i) = Value (f.shown k i (updated f k i (m k)))
+answer f m (Rmw k i) = told_of f k i (updated f k i (m k))
 answer f m (Delete k) = Deleted
 
 -- the map after a list of operations

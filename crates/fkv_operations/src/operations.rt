@@ -11,7 +11,7 @@ pub enum KeyedOp<K, V, I> {
     Read(K, I),
     /// Sets the key's value, whatever it was: a blind write.
     Upsert(K, V),
-    /// Changes the key's value by this input, or gives it its first value, and shows the new one.
+    /// Changes the key's value by this input, or gives it its first value, and shows the new one; or is declined.
     Rmw(K, I),
     /// Removes the key.
     Delete(K),
@@ -60,7 +60,7 @@ pub enum Op<K, V, I> {
     Read(K, I),
     /// Sets the key's value, whatever it was: a blind write.
     Upsert(K, V),
-    /// Changes the key's value by this input, or gives it its first value, and shows the new one.
+    /// Changes the key's value by this input, or gives it its first value, and shows the new one; or is declined.
     Rmw(K, I),
     /// Removes the key.
     Delete(K),
@@ -137,6 +137,8 @@ pub enum Answer<O> {
     Deleted,
     /// The place is cleared.
     Cleared,
+    /// The functions declined the update: the key's value is as it was.
+    Declined,
 }
 
 /// The answers of one type of functions.
@@ -151,7 +153,8 @@ pub fn is_same_answer<F: Functions>(left: &AnswerOf<F>, right: &AnswerOf<F>) -> 
         (Answer::Absent, Answer::Absent)
         | (Answer::Stored, Answer::Stored)
         | (Answer::Deleted, Answer::Deleted)
-        | (Answer::Cleared, Answer::Cleared) => true,
+        | (Answer::Cleared, Answer::Cleared)
+        | (Answer::Declined, Answer::Declined) => true,
         _ => false,
     }
 }

@@ -64,8 +64,8 @@ pub fn apply_plainly<F: Functions>(
     }
 }
 
-/// Changes the value of a key by an input, or gives it its first one. Refused: `NoMemory`, and then the map is as it
-/// was.
+/// Changes the value of a key by an input, or gives it its first one. A declined update leaves the map. Refused:
+/// `NoMemory`, and then the map is as it was.
 fn update_plainly<F: Functions>(
     functions: &F,
     map: &mut BTreeMap<F::Key, F::Value>,
@@ -79,20 +79,22 @@ fn update_plainly<F: Functions>(
     ensures only { IfErr result (λ refused. refused ≡ Refused.NoMemory) }
 {
     let held = map.get(&key).copied();
-    let value = updated(functions, &key, &input, held);
+    let Some(value) = updated(functions, &key, &input, held) else {
+        return Ok(Answer::Declined);
+    };
     match give(map, key, value) {
         Err(refused) => Err(refused),
         Ok(()) => Ok(Answer::Value(functions.read(&key, &input, &value))),
     }
 }
 
-/// What an update makes of the value that its key has, or of none.
+/// What an update makes of the value that its key has, or of none; `None` where it is declined.
 fn updated<F: Functions>(
     functions: &F,
     key: &F::Key,
     input: &F::Input,
     held: Option<F::Value>,
-) -> F::Value
+) -> Option<F::Value>
     ensures { result ≡ updated F.meaning key.now input.now held }
 {
     match held {

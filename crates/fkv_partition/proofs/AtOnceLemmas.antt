@@ -70,10 +70,11 @@ module _ {K V I O R : Type 0} (stands : R → Standing) (cmp : K → K → Order
   kept-at-once keeps i None same h kept = rw (same refl) i
   kept-at-once keeps i (Some s) same h kept = kept s h
 
--- where the core declines, the partition may
-pub declined-at-once : {K V I : Type 0} (cmp : K → K → Ordering) (code : K → ℕ) (v : PartitionView K V I) (slot : ℕ) (key : K)
-    → ((held : V) → ¬ key_update.IsAtHand cmp code v.core slot key held) → (held : V) → ¬ IsAtHand cmp code v slot key held
-declined-at-once cmp code v slot key out held h = out held h.hand
+-- where the core leaves an update to its issue, so does the partition
+pub left-at-once : {K V I O : Type 0} (cmp : K → K → Ordering) (f : Meanings K V I O) (code : K → ℕ) (v : PartitionView K V I) (slot : ℕ) (key : K) (input : I)
+    → ((held : V) → key_update.IsAtHand cmp code v.core slot key held → f.next key held input ≡ None)
+    → (held : V) → IsAtHand cmp code v slot key held → f.next key held input ≡ None
+left-at-once cmp f code v slot key input out held h = out held h.hand
 
 -- what holds anyhow holds of what is told
 pub told-some : {A P : Type 0} (o : Option A) → P → IfSome o (λ x. P)

@@ -10,31 +10,9 @@ use Rattle.fkv_partition.specs.declared.relocations.Relocation.{Relocation}
 use Rattle.fkv_partition.specs.Views.{PartitionView, relocation_at}
 use Rattle.fkv_partition.specs.Beginning.{IsFree, IsFirstOpen}
 
-none-of : {A : Type 0} (o : Option A) → is_some o ≡ false → o ≡ None
-none-of None h = refl
-none-of (Some x) h = absurd (cc)
-
 some-of : {A : Type 0} (o : Option A) → is_some o ≡ true → (x : A) × (o ≡ Some x)
 some-of None h = absurd (cc)
 some-of (Some x) h = (x, refl)
-
--- a context in which no operation is open is free where no relocation is
-pub free-told : {K V I : Type 0} (v : PartitionView K V I) (slot c : ℕ) → is_session (slots_of v.core) slot ≡ true → c < 8
-    → (o : Option (Context K V I)) → o ≡ context_at v.core slot c → is_some o ≡ false
-    → (x : Option (Relocation K V)) → x ≡ cond (nat_lt c 8) (joined (slice_get v.relocations (slot * 8 + c))) None
-    → (b : Bool) → is_some x ≡ not b
-    → IsTrue b ↔ IsFree v slot c
-free-told {K} {V} {I} v slot c inside low o is none x told b h = by_told b h
-  where
-    operation : joined (slice_get v.core.contexts (slot * 8 + c)) ≡ None
-    operation = sym (context-inside (slots_of v.core) v.core.contexts slot c inside low) ∙ sym is ∙ none-of o none
-
-    here : x ≡ joined (slice_get v.relocations (slot * 8 + c))
-    here = let t : nat_lt c 8 ≡ true = grind (arith, nat_tests) in told ∙ (rw t refl)
-
-    by_told : (b : Bool) → is_some x ≡ not b → IsTrue b ↔ IsFree v slot c
-    by_told true h = (λ yes. record { operation = operation; relocation = sym here ∙ none-of x h }, λ free. refl)
-    by_told false h = (λ yes. absurd (cc), λ free. absurd (let no : x ≡ None = here ∙ free.relocation in let bad : false ≡ true = ap is_some (sym no) ∙ h in cc))
 
 -- ---- the lowest of a session's contexts in which a relocation is open
 get-drop : {A : Type 0} (n i : ℕ) (xs : List A) → slice_get (drop n xs) i ≡ slice_get xs (n + i)

@@ -74,9 +74,10 @@ module _ {K V I : Type 0} (v new : CoreView K V I) where
     installs-steady cmp f code ask result (Installs.not_ready x h q is r) = steady-by _ is (record { number = refl; count = refl; begin = refl })
     installs-steady cmp f code ask result (Installs.stranger x e mine h q n is r) = steady-by _ is (record { number = refl; count = refl; begin = refl })
     installs-steady cmp f code ask result (Installs.moved x e h q n is r) = steady-by _ is (record { number = refl; count = refl; begin = refl })
-    installs-steady cmp f code ask result (Installs.worn x e h q n room is r) = steady-by _ is (record { number = refl; count = refl; begin = refl })
-    installs-steady cmp f code ask result (Installs.full x e h q n room is r) = steady-by _ is (record { number = refl; count = refl; begin = refl })
-    installs-steady cmp f code ask result (Installs.done x e h q n room free is r) = steady-by _ is (record { number = refl; count = refl; begin = refl })
+    installs-steady cmp f code ask result (Installs.declined x e h q n u is r) = steady-by _ is (record { number = refl; count = refl; begin = refl })
+    installs-steady cmp f code ask result (Installs.worn x e value h q n u room is r) = steady-by _ is (record { number = refl; count = refl; begin = refl })
+    installs-steady cmp f code ask result (Installs.full x e value h q n u room is r) = steady-by _ is (record { number = refl; count = refl; begin = refl })
+    installs-steady cmp f code ask result (Installs.done x e value h q n u room free is r) = steady-by _ is (record { number = refl; count = refl; begin = refl })
 
     pub loads-steady : {O R : Type 0} (stands : R → Standing) (entry : ℕ → List ℕ → ℕ → Entry K V → Type 0) (cmp : K → K → Ordering) (f : Meanings K V I O) (came : Result (Joined R) Refused) (result : Result (Progress K V I O R) Refused)
         → Loads stands entry cmp f v new slot c came now result

@@ -9,7 +9,7 @@ use Rattle.std.specs.BTreeMap.{is_at}
 use Rattle.fkv_functions.specs.Meanings.{Meanings, updated}
 use Rattle.fkv_functions.specs.Plain.{PlainMap, Same, with_at, IsKeyOrder}
 use Rattle.fkv_functions.proofs.ListLemmas.{get-set_same, get-set_other}
-use Rattle.fkv_operations.specs.After.{after, answer, key_of, shown_of}
+use Rattle.fkv_operations.specs.After.{after, after_update, answer, key_of, shown_of}
 use Rattle.fkv_operations.specs.Operations.{keyed, after_keyed, answer_keyed, map_after, answer_to}
 use Rattle.fkv_operations.specs.declared.operations.Op.{Op}
 use Rattle.fkv_operations.specs.declared.operations.KeyedOp.{KeyedOp}
@@ -57,7 +57,15 @@ module _ {K V I O : Type 0} (cmp : K → K → Ordering) (o : IsKeyOrder cmp) (f
   pub live-after : (op : KeyedOp K V I) → partition_of (length views) (code (key_of op)) ≡ p → Same (live_of cmp new.core) (after cmp f (live_of cmp old.core) op) → Same (union_of cmp code (slice_set views p new)) (after cmp f (union_of cmp code views) op)
   live-after (Read k i) r h = live-quiet h
   live-after (Upsert k v) r h = live-with_at k (Some v) r h
-  live-after (Rmw k i) r h = λ q. live-with_at k (Some (updated f k i (live_of cmp old.core k))) r h q ∙ ap (λ v. cond (is_at (cmp k) q) (Some (updated f k i v)) (union_of cmp code views q)) (sym (live-here k r))
+  live-after (Rmw k i) r h = by_update (updated f k i (live_of cmp old.core k)) refl h
+    where
+      came : (o : Option V) → updated f k i (live_of cmp old.core k) ≡ o → o ≡ updated f k i (union_of cmp code views k)
+      came o e = sym e ∙ ap (updated f k i) (sym (live-here k r))
+
+      by_update : (o : Option V) → updated f k i (live_of cmp old.core k) ≡ o → Same (live_of cmp new.core) (after_update cmp (live_of cmp old.core) k o)
+          → Same (union_of cmp code (slice_set views p new)) (after_update cmp (union_of cmp code views) k (updated f k i (union_of cmp code views k)))
+      by_update None e d q = live-quiet d q ∙ ap (λ (o : Option V). after_update cmp (union_of cmp code views) k o q) (came None e)
+      by_update (Some v) e d q = live-with_at k (Some v) r d q ∙ ap (λ (o : Option V). after_update cmp (union_of cmp code views) k o q) (came (Some v) e)
   live-after (Delete k) r h = live-with_at k None r h
 
   -- and is answered the same

@@ -13,7 +13,7 @@ ghost use Rattle.fkv_partition.specs.Beginning.{IsFree, IsFirstOpen};
 
 use crate::partitions::Partition;
 use crate::relocations::{RelocationOf, StageOf, in_stage};
-use fkv_core::contexts::{open_at, open_context, set_context};
+use fkv_core::contexts::{is_vacant, open_context, set_context};
 use fkv_device::Receipt;
 use fkv_functions::Functions;
 use fkv_lookups::clearing::cleared_stay;
@@ -23,12 +23,10 @@ impl<F: Functions, R: Receipt> Partition<F, R> {
     /// Whether neither an operation nor a relocation stands in a context of a session.
     pub(crate) fn is_free(&self, slot: usize, context: usize) -> bool
         requires session { slot < 16 }
-        requires entered { IsEntered self.now.core slot }
         requires context { context < 8 }
         ensures { IsTrue result ↔ IsFree self.now slot context }
     {
-        self.core.open(slot, context).is_none()
-            && open_at(&self.relocations, slot, context).is_none()
+        self.core.is_vacant(slot, context) && is_vacant(&self.relocations, slot, context)
     }
 
     /// Whether a relocation of a session is open.

@@ -8,10 +8,10 @@ use fkv_device::Receipt;
 use fkv_functions::Functions;
 
 impl<F: Functions, R: Receipt> Partition<F, R> {
-    /// Issues an update at one moment and goes on with it at another, where that finishes it: where the last record of its
-    /// key may be changed in place. That is what [`Partition::issue`] and [`Partition::go`] do then, but no context is
-    /// written and read again. Answers what the update shows, or `None` where it can't be issued or would not be finished
-    /// so, and then nothing changes.
+    /// Issues an update at one moment and goes on with it at another, where that gives its key a value: where the last
+    /// record of its key may be changed in place, and the functions do not decline the update. That is what
+    /// [`Partition::issue`] and [`Partition::go`] do then, but no context is written and read again. Answers what the update
+    /// shows, or `None` where it can't be issued or would not be finished so, and then nothing changes.
     pub fn update_at_once(
         &mut self,
         slot: usize,
@@ -25,8 +25,8 @@ impl<F: Functions, R: Receipt> Partition<F, R> {
         requires after { issued < now }
         ensures done { IfSome result (λ shown. IsDoneAtOnce R.stands F.Key.cmp F.meaning F.code self.old self.new
             slot key.now input.now issued now shown) }
-        ensures declined { result ≡ None → (held : F.Value)
-            → ¬ IsAtHand F.Key.cmp F.code self.old slot key.now held }
+        ensures left { result ≡ None → (held : F.Value) → IsAtHand F.Key.cmp F.code self.old slot key.now held
+            → F.meaning.next key.now held input.now ≡ None }
         ensures none { result ≡ None → self.new ≡ self.old }
         ensures within { IfSome result (λ _. slot < 16) }
         ensures moment { self.new.core.moment ≤ now }

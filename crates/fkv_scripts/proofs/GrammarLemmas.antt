@@ -11,7 +11,7 @@ use Rattle.fkv_scripts.specs.Words.{number_of, amount_of}
 use Rattle.fkv_scripts.specs.Grammar.{Token, word, number, key, amount, Spells, SpellAll, Spelled, HasText, ReadsWithZero, place, access_word, verb, operands, tokens, opening, functions_name}
 use Rattle.fkv_scripts.specs.Reading.{◌>>=◌, first_as, end_of, key_of, key_alone, key_and_amount, place_of, alone_of, pair_of, access_of, flush_of, load_of, operation_of, issue_of, do_of, served_of, line_of, functions_of, store_of, opening_of}
 use Rattle.fkv_scripts.specs.declared.lines.FunctionsName.{FunctionsName}
-use Rattle.fkv_scripts.specs.declared.lines.FunctionsName.TheVariants.{Count, Sum, Max}
+use Rattle.fkv_scripts.specs.declared.lines.FunctionsName.TheVariants.{Count, Sum, Max, Capped}
 use Rattle.fkv_scripts.specs.declared.lines.Opening.{Opening}
 use Rattle.fkv_lives.specs.declared.steps.Access.{Access}
 use Rattle.fkv_lives.specs.declared.steps.Access.TheVariants.{Works, Fails}
@@ -156,6 +156,7 @@ unfolding functions_of
 functions_only Count w e = rw e refl
 functions_only Sum w e = rw e refl
 functions_only Max w e = rw e refl
+functions_only Capped w e = rw e refl
 
 store_only : (o : Opening) (ws : List (List ℕ)) → SpellAll ws (functions_name o.functions ∷ number o.partition_bits ∷ number o.bucket_bits ∷ number o.page_bits ∷ number o.frames ∷ []) → store_of ws ≡ Some o
 unfolding store_of
@@ -376,7 +377,8 @@ functions_found w f e =
     chosen (bytes_eq w (codes "count")) _ _ (Some f) e (λ t g. rw (← same_Some Count f g) (same_text w (codes "count") t))
     (λ g. chosen (bytes_eq w (codes "sum")) _ _ (Some f) g (λ t h. rw (← same_Some Sum f h) (same_text w (codes "sum") t))
     (λ g. chosen (bytes_eq w (codes "max")) _ _ (Some f) g (λ t h. rw (← same_Some Max f h) (same_text w (codes "max") t))
-    (λ g. absurd (let bad : None ≡ Some f = g in cc))))
+    (λ g. chosen (bytes_eq w (codes "capped")) _ _ (Some f) g (λ t h. rw (← same_Some Capped f h) (same_text w (codes "capped") t))
+    (λ g. absurd (let bad : None ≡ Some f = g in cc)))))
 
 store_found : (ws : List (List ℕ)) (o : Opening) → store_of ws ≡ Some o
     → SpellAll ws (functions_name o.functions ∷ number o.partition_bits ∷ number o.bucket_bits ∷ number o.page_bits ∷ number o.frames ∷ [])

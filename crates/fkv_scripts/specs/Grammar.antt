@@ -6,7 +6,7 @@ use Rattle.fkv_operations.specs.declared.operations.KeyedOp.{KeyedOp}
 use Rattle.fkv_operations.specs.declared.operations.KeyedOp.TheVariants.{Read, Upsert, Rmw, Delete}
 use Rattle.fkv_scripts.specs.Words.{words_of, number_of, amount_of, is_key}
 use Rattle.fkv_scripts.specs.declared.lines.FunctionsName.{FunctionsName}
-use Rattle.fkv_scripts.specs.declared.lines.FunctionsName.TheVariants.{Count, Sum, Max}
+use Rattle.fkv_scripts.specs.declared.lines.FunctionsName.TheVariants.{Count, Sum, Max, Capped}
 use Rattle.fkv_scripts.specs.declared.lines.Opening.{Opening}
 use Rattle.fkv_lives.specs.declared.steps.Access.{Access}
 use Rattle.fkv_lives.specs.declared.steps.Access.TheVariants.{Works, Fails}
@@ -98,6 +98,7 @@ abbrev pub functions_name : FunctionsName → Token
 functions_name Count = word (codes "count")
 functions_name Sum = word (codes "sum")
 functions_name Max = word (codes "max")
+functions_name Capped = word (codes "capped")
 
 -- how the first line is written
 abbrev pub opening : Opening → List Token

@@ -11,7 +11,7 @@ use Rattle.fkv_operations.specs.declared.operations.KeyedOp.{KeyedOp}
 use Rattle.fkv_operations.specs.declared.operations.KeyedOp.TheVariants.{Read, Upsert, Rmw, Delete}
 use Rattle.fkv_scripts.specs.Words.{number_of, amount_of, is_key, is_key_byte}
 use Rattle.fkv_scripts.specs.declared.lines.FunctionsName.{FunctionsName}
-use Rattle.fkv_scripts.specs.declared.lines.FunctionsName.TheVariants.{Count, Sum, Max}
+use Rattle.fkv_scripts.specs.declared.lines.FunctionsName.TheVariants.{Count, Sum, Max, Capped}
 use Rattle.fkv_scripts.specs.declared.lines.Opening.{Opening}
 use Rattle.fkv_lives.specs.declared.steps.Access.{Access}
 use Rattle.fkv_lives.specs.declared.steps.Access.TheVariants.{Works, Fails}
@@ -179,7 +179,8 @@ functions_of word =
     if bytes_eq word (codes "count") then Some Count
     else (if bytes_eq word (codes "sum") then Some Sum
     else (if bytes_eq word (codes "max") then Some Max
-    else None))
+    else (if bytes_eq word (codes "capped") then Some Capped
+    else None)))
 
 unfoldable pub store_of : List (List ℕ) → Option Opening
 store_of ws = do

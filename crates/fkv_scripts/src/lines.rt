@@ -17,6 +17,8 @@ pub enum FunctionsName {
     Sum,
     /// `max`: the greatest amount of each key.
     Max,
+    /// `capped`: the sum of the amounts of each key, which declines to leave 0 to 1,000,000.
+    Capped,
 }
 
 /// The first line of a script: the store that it opens. The numbers are those that are written, within

@@ -137,6 +137,9 @@ fn functions(words: &mut Words<'_>) -> Option<FunctionsName>
     if is(word, "max") {
         return Some(FunctionsName::Max);
     }
+    if is(word, "capped") {
+        return Some(FunctionsName::Capped);
+    }
     None
 }
 

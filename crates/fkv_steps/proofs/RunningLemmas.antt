@@ -12,14 +12,14 @@ use Rattle.fkv_operations.specs.declared.operations.KeyedOp.{KeyedOp}
 use Rattle.fkv_operations.specs.declared.operations.Op.TheVariants.{Relocate}
 use Rattle.fkv_lives.specs.declared.outcomes.Outcome.{Outcome}
 use Rattle.fkv_lives.specs.declared.outcomes.Outcome.TheVariants as outcome
-use Rattle.fkv_worlds.specs.declared.pursuits.Pursuit.{Pursuit}
-use Rattle.fkv_worlds.specs.declared.pursuits.Pursuit.TheVariants as pursuit
+use Rattle.fkv_worlds.specs.declared.run_until.Until.{Until}
+use Rattle.fkv_worlds.specs.declared.run_until.Until.TheVariants as until
 use Rattle.fkv_lives.specs.declared.steps.ContextId.{ContextId}
 use Rattle.fkv_lives.specs.declared.steps.Access.{Access}
 use Rattle.fkv_lives.specs.declared.steps.Step.{Step}
 use Rattle.fkv_lives.specs.declared.steps.Step.TheVariants as step
 use Rattle.fkv_lives.specs.Histories.{answer_by, answers_in}
-use Rattle.fkv_worlds.specs.Reports.{IsKept, RunsTo, Pursues, unkept, stalls, ends, goes_on, follows, first_step}
+use Rattle.fkv_worlds.specs.Reports.{IsKept, RunsTo, RunsUntil, unkept, stalls, ends, goes_on, follows, first_step}
 use Rattle.fkv_scripts.specs.declared.lines.Line.{Line}
 use Rattle.fkv_scripts.specs.declared.lines.Line.TheVariants as line
 use Rattle.std.specs.Prelude.{true, IfOk, IfSome}
@@ -73,22 +73,22 @@ answers-joined [] us = refl
 answers-joined (t ∷ ts) us = ap (answer_by t) (answers-joined ts us) ∙ answer-joined t (answers_in ts) (answers_in us)
 
 -- a step that another follows told no answer
-silent : {K V I O : Type 0} (pursuit : Pursuit) (place : ContextId) (x : Result (Outcome V O) Refused) (t : Step K V I) → follows pursuit place x ≡ Some t → answers_in (x ∷ []) ≡ []
-silent pursuit place (Ok (outcome.Entered slot)) t h = refl
-silent pursuit place (Ok outcome.Left) t h = refl
-silent pursuit place (Ok (outcome.Issued c)) t h = refl
-silent pursuit place (Ok outcome.Next) t h = refl
-silent pursuit place (Ok (outcome.Build source)) t h = refl
-silent pursuit place (Ok outcome.Refreshed) t h = refl
-silent pursuit place (Ok outcome.Shifted) t h = refl
-silent pursuit place (Ok (outcome.Taken page)) t h = refl
-silent pursuit place (Ok (outcome.Flushed page)) t h = refl
-silent pursuit place (Ok (outcome.Load address)) t h = refl
-silent pursuit place (Ok (outcome.Waits why)) t h = absurd (cc)
-silent pursuit place (Ok (outcome.Done a)) t h = absurd (cc)
-silent pursuit place (Ok outcome.GivenUp) t h = refl
-silent pursuit place (Ok (outcome.Truncated begin)) t h = refl
-silent pursuit place (Err e) t h = refl
+silent : {K V I O : Type 0} (until : Until) (place : ContextId) (x : Result (Outcome V O) Refused) (t : Step K V I) → follows until place x ≡ Some t → answers_in (x ∷ []) ≡ []
+silent until place (Ok (outcome.Entered slot)) t h = refl
+silent until place (Ok outcome.Left) t h = refl
+silent until place (Ok (outcome.Issued c)) t h = refl
+silent until place (Ok outcome.Next) t h = refl
+silent until place (Ok (outcome.Build source)) t h = refl
+silent until place (Ok outcome.Refreshed) t h = refl
+silent until place (Ok outcome.Shifted) t h = refl
+silent until place (Ok (outcome.Taken page)) t h = refl
+silent until place (Ok (outcome.Flushed page)) t h = refl
+silent until place (Ok (outcome.Load address)) t h = refl
+silent until place (Ok (outcome.Waits why)) t h = absurd (cc)
+silent until place (Ok (outcome.Done a)) t h = absurd (cc)
+silent until place (Ok outcome.GivenUp) t h = refl
+silent until place (Ok (outcome.Truncated begin)) t h = refl
+silent until place (Err e) t h = refl
 
 -- an accepted issue told no answer, and neither did a take
 silent-issue : {V O : Type 0} (c : ℕ) (x : Result (Outcome V O) Refused) → context_in x ≡ Some c → answers_in (x ∷ []) ≡ []
@@ -153,23 +153,23 @@ module _ {K V I O R : Type 0} (stands : R → Standing) (entry : ℕ → List �
   run-told : (v w : WorldView K V I O R) (ts us : List (Result (Outcome V O) Refused)) → answers_in ts ≡ answers_in us → IsRun stands entry cmp f code v w ts → IsRun stands entry cmp f code v w us
   run-told v w ts us same run = record { steps = run.steps; ran = run.ran; answers = run.answers ∙ ap (λ xs. answers_in v.outcomes ++ xs) same }
 
-  run-pursued : (pursuit : Pursuit) (place : ContextId) (w : WorldView K V I O R) (result : Option (Result (Outcome V O) Refused)) (n : ℕ) (s : Step K V I) (v : WorldView K V I O R) (t : Result (Outcome V O) Refused)
-      → Pursues stands entry cmp f code pursuit place w result n s v → result ≡ Some t → IsRun stands entry cmp f code v w (t ∷ [])
-  run-pursued pursuit place w result n s v t (unkept m s' v' same is) h = absurd (cc)
-  run-pursued pursuit place w result n s v t (stalls s' v' same is) h =
+  run-until : (until : Until) (place : ContextId) (w : WorldView K V I O R) (result : Option (Result (Outcome V O) Refused)) (n : ℕ) (s : Step K V I) (v : WorldView K V I O R) (t : Result (Outcome V O) Refused)
+      → RunsUntil stands entry cmp f code until place w result n s v → result ≡ Some t → IsRun stands entry cmp f code v w (t ∷ [])
+  run-until until place w result n s v t (unkept m s' v' same is) h = absurd (cc)
+  run-until until place w result n s v t (stalls s' v' same is) h =
       let e : t ≡ Err Stalled = cc in
       rw (same, e) (run-told v v [] (Err Stalled ∷ []) refl (run-nothing v))
-  run-pursued pursuit place w result n s v t (ends m s' v' x kept last is) h =
+  run-until until place w result n s v t (ends m s' v' x kept last is) h =
       let e : x ≡ t = cc in
       subst (λ y. IsRun stands entry cmp f code v w (y ∷ [])) e (run-one v w s x kept)
-  run-pursued pursuit place w result n s v t (goes_on m s' next v' u x kept follow rest) h =
-      run-told v w (x ∷ t ∷ []) (t ∷ []) (answers-joined (x ∷ []) (t ∷ []) ∙ ap (λ xs. xs ++ answers_in (t ∷ [])) (silent pursuit place x next follow))
-      (run-joined v u w (x ∷ []) (t ∷ []) (run-one v u s x kept) (run-pursued pursuit place w result m next u t rest h))
+  run-until until place w result n s v t (goes_on m s' next v' u x kept follow rest) h =
+      run-told v w (x ∷ t ∷ []) (t ∷ []) (answers-joined (x ∷ []) (t ∷ []) ∙ ap (λ xs. xs ++ answers_in (t ∷ [])) (silent until place x next follow))
+      (run-joined v u w (x ∷ []) (t ∷ []) (run-one v u s x kept) (run-until until place w result m next u t rest h))
 
 -- what was issued was accepted, and is finished
 pub did-finish : {V O R : Type 0} (stands : R → Standing) (entry : ℕ → List ℕ → ℕ → Entry Name V → Type 0) (cmp : Name → Name → Ordering) (f : Meanings Name V ℤ O) (code : Name → ℕ) (p slot c : ℕ) (mid w : WorldView Name V ℤ O R) (issued : Result (Outcome V O) Refused) (r : Option (Result (Outcome V O) Refused))
     → context_in issued ≡ Some c
-    → Pursues stands entry cmp f code pursuit.Finish (record { partition = p; slot = slot; context = c }) w r 10000 (first_step mid.state.partitions pursuit.Finish (record { partition = p; slot = slot; context = c })) mid
+    → RunsUntil stands entry cmp f code until.Finish (record { partition = p; slot = slot; context = c }) w r 10000 (first_step mid.state.partitions until.Finish (record { partition = p; slot = slot; context = c })) mid
     → IfSome r (λ told. FollowsIssue stands entry cmp f code p slot mid w told issued)
 did-finish stands entry cmp f code p slot c mid w issued None is h = tt
 did-finish stands entry cmp f code p slot c mid w issued (Some told) is h = finishes c is h
@@ -179,7 +179,7 @@ module _ {V O R : Type 0} (stands : R → Standing) (entry : ℕ → List ℕ �
       → IsKept stands entry cmp f code v mid s issued → FollowsIssue stands entry cmp f code p slot mid w told issued → IsRun stands entry cmp f code v w (told ∷ [])
   run-issued p slot mid w told issued v s kept (finishes c is h) =
       run-told stands entry cmp f code v w (issued ∷ told ∷ []) (told ∷ []) (answers-joined (issued ∷ []) (told ∷ []) ∙ ap (λ xs. xs ++ answers_in (told ∷ [])) (silent-issue c issued is))
-      (run-joined stands entry cmp f code v mid w (issued ∷ []) (told ∷ []) (run-one stands entry cmp f code v mid s issued kept) (run-pursued stands entry cmp f code _ _ w (Some told) 10000 _ mid told h refl))
+      (run-joined stands entry cmp f code v mid w (issued ∷ []) (told ∷ []) (run-one stands entry cmp f code v mid s issued kept) (run-until stands entry cmp f code _ _ w (Some told) 10000 _ mid told h refl))
   run-issued p slot mid w told issued v s kept (FollowsIssue.tells is same e) = rw (same, e) (run-one stands entry cmp f code v mid s issued kept)
 
   run-taken : (p : ℕ) (access : Access) (mid w : WorldView Name V ℤ O R) (told taken : Result (Outcome V O) Refused) (v : WorldView Name V ℤ O R) (s : Step Name V ℤ)
@@ -226,8 +226,8 @@ module _ {V O R : Type 0} (stands : R → Standing) (entry : ℕ → List ℕ �
   run-line v w t (line.Go place) h = run-one stands entry cmp f code v w _ t h
   run-line v w t (line.Install place) h = run-one stands entry cmp f code v w _ t h
   run-line v w t (line.GiveUp place) h = run-one stands entry cmp f code v w _ t h
-  run-line v w t (line.Ready place) h = run-pursued stands entry cmp f code _ place w (Some t) 10000 _ v t h refl
-  run-line v w t (line.Finish place) h = run-pursued stands entry cmp f code _ place w (Some t) 10000 _ v t h refl
+  run-line v w t (line.Ready place) h = run-until stands entry cmp f code _ place w (Some t) 10000 _ v t h refl
+  run-line v w t (line.Finish place) h = run-until stands entry cmp f code _ place w (Some t) 10000 _ v t h refl
 
   pub run-lines : (v w : WorldView Name V ℤ O R) (ls : List Line) (ts : List (Result (Outcome V O) Refused)) → RunLines stands entry cmp f code written v ls ts w → IsRun stands entry cmp f code v w ts
   run-lines v w [] [] h = rw h (run-nothing stands entry cmp f code v)

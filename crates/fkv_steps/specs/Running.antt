@@ -9,7 +9,7 @@ use Rattle.fkv_functions.specs.Meanings.{Meanings}
 use Rattle.std.specs.Int.{w64, w128, to_le_bytes}
 use Rattle.fkv_functions.specs.Names.{name_cmp, text_of}
 use Rattle.fkv_functions.specs.Integers.{signed_bytes, long_bytes}
-use Rattle.fkv_functions.specs.Sets.{counts, sums, maxima}
+use Rattle.fkv_functions.specs.Sets.{counts, sums, maxima, capped_sums}
 use Rattle.fkv_functions.specs.Hashes.{fnv_1a}
 use Rattle.fkv_functions.specs.declared.names.Name.{Name}
 use Rattle.fkv_functions.specs.declared.refusals.Refused.{Refused}
@@ -26,19 +26,19 @@ use Rattle.fkv_lives.specs.declared.outcomes.Outcome.TheVariants.{Taken, Issued}
 use Rattle.fkv_lives.specs.declared.steps.Access.{Access}
 use Rattle.fkv_lives.specs.declared.steps.Step.{Step}
 use Rattle.fkv_lives.specs.declared.steps.Step.TheVariants as step
-use Rattle.fkv_worlds.specs.declared.pursuits.Pursuit.TheVariants as pursuit
+use Rattle.fkv_worlds.specs.declared.run_until.Until.TheVariants as until
 use Rattle.fkv_scripts.specs.declared.lines.Line.{Line}
 use Rattle.fkv_scripts.specs.declared.lines.Line.TheVariants as line
 use Rattle.fkv_scripts.specs.declared.lines.Opening.{Opening}
 use Rattle.fkv_scripts.specs.declared.lines.FunctionsName.{FunctionsName}
-use Rattle.fkv_scripts.specs.declared.lines.FunctionsName.TheVariants.{Count, Sum, Max}
+use Rattle.fkv_scripts.specs.declared.lines.FunctionsName.TheVariants.{Count, Sum, Max, Capped}
 use Rattle.fkv_scripts.specs.Configs.{config_of}
 use Rattle.fkv_scripts.specs.Script.{lines_of, SaysScript}
 use Rattle.fkv_worlds.specs.States.{WorldView, empty_world}
 use Rattle.fkv_lives.specs.Histories.{backwards, issues_in, issue_of, answers_in}
 use Rattle.fkv_worlds.specs.Headline.{IsHeadline}
 use Rattle.fkv_partition.specs.Unions.{union_of}
-use Rattle.fkv_worlds.specs.Reports.{IsKept, RunsTo, Pursues, first_step}
+use Rattle.fkv_worlds.specs.Reports.{IsKept, RunsTo, RunsUntil, first_step}
 use Rattle.fkv_steps.specs.Bytes.{standing_of, IsNamedEntry}
 use Rattle.fkv_steps.specs.Printing.{steps_text, map_text}
 
@@ -59,9 +59,9 @@ pub data FollowsIssue {V O R : Type 0} (stands : R → Standing) (entry : ℕ �
   -- what was issued is finished
   finishes : (c : ℕ)
       → context_in issued ≡ Some c
-      → Pursues stands entry cmp f code pursuit.Finish (record { partition = p; slot = slot; context = c }) new
+      → RunsUntil stands entry cmp f code until.Finish (record { partition = p; slot = slot; context = c }) new
       (Some told) 10000
-      (first_step mid.state.partitions pursuit.Finish (record { partition = p; slot = slot; context = c })) mid
+      (first_step mid.state.partitions until.Finish (record { partition = p; slot = slot; context = c })) mid
       → FollowsIssue stands entry cmp f code p slot mid new told issued
   -- nothing was issued
   tells : context_in issued ≡ None
@@ -132,11 +132,11 @@ RunsLine stands entry cmp f code written old new told (line.Load w access) =
 RunsLine stands entry cmp f code written old new told (line.GiveUp w) =
     IsKept stands entry cmp f code old new (step.GiveUp w) told
 RunsLine stands entry cmp f code written old new told (line.Ready w) =
-    Pursues stands entry cmp f code pursuit.Ready w new (Some told) 10000
-    (first_step old.state.partitions pursuit.Ready w) old
+    RunsUntil stands entry cmp f code until.Ready w new (Some told) 10000
+    (first_step old.state.partitions until.Ready w) old
 RunsLine stands entry cmp f code written old new told (line.Finish w) =
-    Pursues stands entry cmp f code pursuit.Finish w new (Some told) 10000
-    (first_step old.state.partitions pursuit.Finish w) old
+    RunsUntil stands entry cmp f code until.Finish w new (Some told) 10000
+    (first_step old.state.partitions until.Finish w) old
 
 -- lines in turn, and what each of them tells
 abbrev pub RunLines : {V O R : Type 0} → (R → Standing) → (ℕ → List ℕ → ℕ → Entry Name V → Type 0)
@@ -181,6 +181,7 @@ abbrev pub record_size : FunctionsName → ℕ
 record_size Count = 48
 record_size Sum = 56
 record_size Max = 48
+record_size Capped = 56
 
 -- the hash of a name
 abbrev pub hash_of : Name → ℕ
@@ -197,6 +198,9 @@ Prints Sum config lines text =
 Prints Max config lines text =
     IsPrintedBy standing_of (IsNamedEntry signed_bytes (FitsSigned w64) 8) name_cmp maxima hash_of (λ n. n)
     signed_decimal signed_decimal config (record_size Max) lines text
+Prints Capped config lines text =
+    IsPrintedBy standing_of (IsNamedEntry long_bytes (FitsSigned w128) 16) name_cmp capped_sums hash_of (λ n. n)
+    signed_decimal signed_decimal config (record_size Capped) lines text
 
 -- the output of an input: it says a script of at most 1,000,000 lines, whose numbers are within the limits, and this is
 -- what the script prints

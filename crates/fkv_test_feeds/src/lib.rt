@@ -6,6 +6,8 @@ mod devices;
 #[cfg(test)]
 mod random;
 #[cfg(test)]
+mod rising;
+#[cfg(test)]
 mod streams;
 #[cfg(test)]
 mod tables;

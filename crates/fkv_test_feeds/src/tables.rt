@@ -1,7 +1,8 @@
 //! Feeds, and the tables that they come to.
+use crate::rising::RisingFns;
 use fkv_device::MemoryDevice;
 use fkv_feeds::{run_one, write_table};
-use fkv_functions::{CountFns, Functions, MaxFns, Name, Refused, SumFns};
+use fkv_functions::{CappedSumFns, CountFns, Functions, MaxFns, Name, Refused, SumFns};
 use fkv_partition::Config;
 use fkv_streams::{CountedReader, CountedWriter};
 use itoa::Integer;
@@ -33,6 +34,10 @@ enum Kind {
     Count,
     Sum,
     Max,
+    /// A sum that declines to leave 0 to 1,000,000.
+    Capped,
+    /// The last amount that rose.
+    Rising,
 }
 
 /// The text of the table of these feeds.
@@ -69,6 +74,8 @@ fn text_by(alloc: Global, kind: Kind, feeds: &[&str], config: &Config) -> Result
         Kind::Count => text_of(alloc, &CountFns, feeds, config),
         Kind::Sum => text_of(alloc, &SumFns, feeds, config),
         Kind::Max => text_of(alloc, &MaxFns, feeds, config),
+        Kind::Capped => text_of(alloc, &CappedSumFns, feeds, config),
+        Kind::Rising => text_of(alloc, &RisingFns, feeds, config),
     }
 }
 
@@ -81,7 +88,7 @@ fn comes_to(alloc: Global, kind: Kind, feeds: &[&str], table: &str) -> bool {
 }
 
 /// What is done with the amounts, the feeds, and their table.
-const TABLES: [(Kind, &[&str], &str); 17] = [
+const TABLES: [(Kind, &[&str], &str); 22] = [
     (Kind::Sum, &["a,5\nb,7\na,-2\n"], "a,3\nb,7\n"),
     (Kind::Count, &["a,5\nb,7\na,-2\n"], "a,2\nb,1\n"),
     (Kind::Max, &["a,5\nb,7\na,-2\n"], "a,5\nb,7\n"),
@@ -135,6 +142,28 @@ const TABLES: [(Kind, &[&str], &str); 17] = [
         Kind::Count,
         &["h,0\ng,0\nf,0\ne,0\nd,0\nc,0\nb,0\na,0\nh,0\n"],
         "a,1\nb,1\nc,1\nd,1\ne,1\nf,1\ng,1\nh,2\n",
+    ),
+    // a declined row leaves its key: where it stands, where it was evicted, and where it has no value
+    (Kind::Capped, &["a,5\na,-9\na,2\n"], "a,7\n"),
+    (Kind::Capped, &["a,-1\nb,1000001\n", "c,-5\nc,4\n"], "c,4\n"),
+    (
+        Kind::Capped,
+        &[
+            "a,9\nb,1\nc,1\nd,1\ne,1\nf,1\ng,1\nh,1\ni,1\nj,1\nk,1\nl,1\nm,1\nn,1\no,1\np,1\nq,1\nr,1\na,-10\nb,999999\nb,1\nc,1000000\na,-9\n",
+        ],
+        "a,0\nb,1000000\nc,1\nd,1\ne,1\nf,1\ng,1\nh,1\ni,1\nj,1\nk,1\nl,1\nm,1\nn,1\no,1\np,1\nq,1\nr,1\n",
+    ),
+    (
+        Kind::Rising,
+        &["a,-1\na,0\na,0\na,5\na,4\n", "b,-2\na,5\n"],
+        "a,5\n",
+    ),
+    (
+        Kind::Rising,
+        &[
+            "a,3\nb,1\nc,1\nd,1\ne,1\nf,1\ng,1\nh,1\ni,1\nj,1\nk,1\nl,1\nm,1\nn,1\no,1\np,1\nq,1\nr,1\na,2\nb,7\nb,7\ns,-1\n",
+        ],
+        "a,3\nb,7\nc,1\nd,1\ne,1\nf,1\ng,1\nh,1\ni,1\nj,1\nk,1\nl,1\nm,1\nn,1\no,1\np,1\nq,1\nr,1\n",
     ),
 ];
 

@@ -1,6 +1,7 @@
 //! Printed texts, and each generic item at the three sets of functions.
 use fkv_functions::{
-    Ask, Built, CountFns, Functions, Known, MaxFns, Name, OrderFree, Refused, SumFns, What,
+    Ask, Built, CappedSumFns, CountFns, Functions, Known, MaxFns, Name, OrderFree, Refused, SumFns,
+    What,
 };
 use std::alloc::Global;
 
@@ -12,10 +13,12 @@ fn first_and_next<F: Functions>(
     first: F::Input,
     next: F::Input,
 ) -> Option<F::Output> {
-    let started = functions.initial(&key, &first);
-    let copied = functions.copy(&key, &next, &started);
+    let started = functions.initial(&key, &first)?;
+    let copied = functions.copy(&key, &next, &started)?;
     let mut changed = started;
-    functions.in_place(&key, &next, &mut changed);
+    if !functions.in_place(&key, &next, &mut changed) {
+        return None;
+    }
     let ask = Ask {
         number: 3,
         key,
@@ -31,9 +34,9 @@ fn first_and_next<F: Functions>(
     };
     let begun = Built::make(functions, fresh);
     let is_one = changed.is(&copied)
-        && built.value().is(&copied)
+        && built.value().is_some_and(|value| value.is(&copied))
         && built.ask().is(&ask)
-        && begun.value().is(&started);
+        && begun.value().is_some_and(|value| value.is(&started));
     if !is_one {
         return None;
     }
@@ -95,13 +98,47 @@ fn three_sets(rt: HostRuntime) {
             assert!(rt; in_either_order(&SumFns, a, first, next) == Some(sum));
             assert!(rt; in_either_order(&MaxFns, a, first, next) == Some(most));
         }
-        assert!(rt; CountFns.copy(&a, &0, &u64::MAX) == 0);
+        assert!(rt; CountFns.copy(&a, &0, &u64::MAX) == Some(0));
         for (input, value, copy) in SUMS_AT_THE_ENDS {
-            assert!(rt; SumFns.copy(&a, &input, &value) == copy);
+            assert!(rt; SumFns.copy(&a, &input, &value) == Some(copy));
         }
         for (input, value) in MAXIMA_AT_THE_ENDS {
-            assert!(rt; MaxFns.copy(&a, &input, &value) == i64::MAX);
+            assert!(rt; MaxFns.copy(&a, &input, &value) == Some(i64::MAX));
         }
+    }
+}
+
+/// Values, inputs and what capped sums make of them: none where the total would leave 0 to 1,000,000.
+const CAPPED: [(i128, i64, Option<i128>); 8] = [
+    (0, 0, Some(0)),
+    (0, -1, None),
+    (1, -1, Some(0)),
+    (999999, 1, Some(1000000)),
+    (1000000, 1, None),
+    (1000000, -1000000, Some(0)),
+    (2000000, -999999, None),
+    (
+        170141183460469231731687303715884105727,
+        9223372036854775807,
+        None,
+    ),
+];
+
+#[test]
+fn capped_sums(rt: HostRuntime) {
+    let name = Name::new(b"a");
+    assert!(rt; name.is_some());
+    if let Some(a) = name {
+        for (value, input, total) in CAPPED {
+            assert!(rt; CappedSumFns.copy(&a, &input, &value) == total);
+            let mut changed = value;
+            let is_changed = CappedSumFns.in_place(&a, &input, &mut changed);
+            assert!(rt; is_changed == total.is_some());
+            assert!(rt; changed == total.unwrap_or(value));
+        }
+        assert!(rt; CappedSumFns.initial(&a, &-1).is_none());
+        assert!(rt; CappedSumFns.initial(&a, &1000000) == Some(1000000));
+        assert!(rt; CappedSumFns.initial(&a, &1000001).is_none());
     }
 }
 

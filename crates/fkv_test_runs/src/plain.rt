@@ -1,6 +1,6 @@
 //! The plain program on worked runs, and the clock at its end.
 use crate::letters::{name, on_name};
-use fkv_functions::{CountFns, Functions, MaxFns, Name, Refused, SumFns};
+use fkv_functions::{CappedSumFns, CountFns, Functions, MaxFns, Name, Refused, SumFns};
 use fkv_operations::{Answer, Clock, KeyedOp, PlainRun, apply_plainly, run_plainly};
 use std::alloc::{AllocError, Global};
 use std::collections::BTreeMap;
@@ -132,12 +132,28 @@ const MAXIMA: [Row<i64, i64>; 8] = [
     (KeyedOp::Rmw(b'b', -1), Answer::Value(-1)),
 ];
 
+/// A total that would leave 0 to 1,000,000 is declined, and the key is as it was.
+const CAPPED: [Row<i128, i128>; 10] = [
+    (KeyedOp::Rmw(b'a', -1), Answer::Declined),
+    (KeyedOp::Read(b'a', 0), Answer::Absent),
+    (KeyedOp::Rmw(b'a', 1000), Answer::Value(1000)),
+    (KeyedOp::Rmw(b'a', 999001), Answer::Declined),
+    (KeyedOp::Read(b'a', 0), Answer::Value(1000)),
+    (KeyedOp::Rmw(b'a', 999000), Answer::Value(1000000)),
+    (KeyedOp::Rmw(b'a', -1000000), Answer::Value(0)),
+    (KeyedOp::Upsert(b'b', -7), Answer::Stored),
+    (KeyedOp::Rmw(b'b', 6), Answer::Declined),
+    (KeyedOp::Read(b'b', 0), Answer::Value(-7)),
+];
+
 #[test]
 fn counts_and_maxima(rt: HostRuntime) {
     let counts = [(b'a', Some(2)), (b'b', None), (b'c', Some(0))];
     assert!(rt; runs_to(rt.alloc(), &CountFns, &COUNTS, &counts));
     let maxima = [(b'a', Some(-7)), (b'b', Some(-1))];
     assert!(rt; runs_to(rt.alloc(), &MaxFns, &MAXIMA, &maxima));
+    let capped = [(b'a', Some(0)), (b'b', Some(-7)), (b'c', None)];
+    assert!(rt; runs_to(rt.alloc(), &CappedSumFns, &CAPPED, &capped));
 }
 
 /// Applies one operation to the map, again where memory is refused once.

@@ -7,7 +7,7 @@ use fkv_lives::{OutcomeOf, Step, StepOf};
 use fkv_worlds::{ReportOf, World, replay};
 use std::alloc::Global;
 
-/// What a step or a pursuit tells.
+/// What a step or a run tells.
 type Told = Result<OutcomeOf<SumFns>, Refused>;
 
 /// What a step tells that was refused for want of memory, done again. A write has spent its page, so that is taken

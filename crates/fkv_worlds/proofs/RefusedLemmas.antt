@@ -101,9 +101,10 @@ module _ {K V I : Type 0} (old new : CoreView K V I) (now : ℕ) (e : Refused) w
   installs-no cmp f code slot c ask (core_installing.Installs.not_ready x a q b h) = is e NotReady (ok-err e _ h) refl
   installs-no cmp f code slot c ask (core_installing.Installs.stranger x k mine a q n b h) = is e (Stranger _ _ _) (ok-err e _ h) refl
   installs-no cmp f code slot c ask (core_installing.Installs.moved x k a q n b h) = absurd (cc)
-  installs-no cmp f code slot c ask (core_installing.Installs.worn x k a q n room b h) = is e Worn (ok-err e _ h) refl
-  installs-no cmp f code slot c ask (core_installing.Installs.full x k a q n room b h) = absurd (cc)
-  installs-no cmp f code slot c ask (core_installing.Installs.done x k a q n room free b h) = absurd (cc)
+  installs-no cmp f code slot c ask (core_installing.Installs.declined x k a q n u b h) = absurd (cc)
+  installs-no cmp f code slot c ask (core_installing.Installs.worn x k value a q n u room b h) = is e Worn (ok-err e _ h) refl
+  installs-no cmp f code slot c ask (core_installing.Installs.full x k value a q n u room b h) = absurd (cc)
+  installs-no cmp f code slot c ask (core_installing.Installs.done x k value a q n u room free b h) = absurd (cc)
 
 -- the refusals of a partition
 module _ {K V I : Type 0} (old new : PartitionView K V I) (now : ℕ) (e : Refused) where

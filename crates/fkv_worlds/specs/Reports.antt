@@ -21,8 +21,8 @@ use Rattle.fkv_lives.specs.declared.steps.ContextId.{ContextId}
 use Rattle.fkv_lives.specs.declared.steps.Step.{Step}
 use Rattle.fkv_lives.specs.declared.steps.Access.TheVariants.{Works}
 use Rattle.fkv_lives.specs.declared.steps.Step.TheVariants as step
-use Rattle.fkv_worlds.specs.declared.pursuits.Pursuit.{Pursuit}
-use Rattle.fkv_worlds.specs.declared.pursuits.Pursuit.TheVariants.{Ready, Finish}
+use Rattle.fkv_worlds.specs.declared.run_until.Until.{Until}
+use Rattle.fkv_worlds.specs.declared.run_until.Until.TheVariants.{Ready, Finish}
 use Rattle.fkv_worlds.specs.States.{WorldView, empty_world}
 use Rattle.fkv_worlds.specs.Acts.{Acts}
 use Rattle.fkv_lives.specs.Histories.{backwards, issues_in, issue_of}
@@ -66,69 +66,69 @@ pub record IsReplay {K V I O R : Type 0} (stands : R → Standing) (entry : ℕ 
 
 -- the step that follows an outcome, if one does: `ready` goes on after Next, and `finish` installs after Build and loads
 -- after Load too
-abbrev pub step_after : {K V I O : Type 0} → Pursuit → ContextId → Outcome V O → Option (Step K V I)
-step_after pursuit place (Entered slot) = None
-step_after pursuit place Left = None
-step_after pursuit place Refreshed = None
-step_after pursuit place Shifted = None
-step_after pursuit place (Taken page) = None
-step_after pursuit place (Flushed page) = None
-step_after pursuit place (Issued context) = None
-step_after pursuit place Next = Some (step.Go place)
+abbrev pub step_after : {K V I O : Type 0} → Until → ContextId → Outcome V O → Option (Step K V I)
+step_after until place (Entered slot) = None
+step_after until place Left = None
+step_after until place Refreshed = None
+step_after until place Shifted = None
+step_after until place (Taken page) = None
+step_after until place (Flushed page) = None
+step_after until place (Issued context) = None
+step_after until place Next = Some (step.Go place)
 step_after Ready place (Build source) = None
 step_after Finish place (Build source) = Some (step.Install place)
 step_after Ready place (Load address) = None
 step_after Finish place (Load address) = Some (step.Load place Works)
-step_after pursuit place (Waits why) = None
-step_after pursuit place (Done a) = None
-step_after pursuit place GivenUp = None
-step_after pursuit place (Truncated begin) = None
+step_after until place (Waits why) = None
+step_after until place (Done a) = None
+step_after until place GivenUp = None
+step_after until place (Truncated begin) = None
 
-abbrev pub follows : {K V I O : Type 0} → Pursuit → ContextId → Result (Outcome V O) Refused → Option (Step K V I)
-follows pursuit place (Ok x) = step_after pursuit place x
-follows pursuit place (Err e) = None
+abbrev pub follows : {K V I O : Type 0} → Until → ContextId → Result (Outcome V O) Refused → Option (Step K V I)
+follows until place (Ok x) = step_after until place x
+follows until place (Err e) = None
 
--- the step that a pursuit begins with: `finish` begins with the load, where the operation waits for a page
+-- the step that a run begins with: `finish` begins with the load, where the operation waits for a page
 abbrev pub awaits_at : {K V I : Type 0} → Option (PartitionView K V I) → ℕ → ℕ → Bool
 awaits_at None slot c = false
 awaits_at (Some v) slot c = is_some (loading_at v.core slot c) || is_awaiting (relocation_at v slot c)
 
-abbrev pub first_step : {K V I : Type 0} → List (PartitionView K V I) → Pursuit → ContextId → Step K V I
+abbrev pub first_step : {K V I : Type 0} → List (PartitionView K V I) → Until → ContextId → Step K V I
 first_step views Ready place = step.Go place
 first_step views Finish place =
     cond (awaits_at (slice_get views place.partition) place.slot place.context) (step.Load place Works) (step.Go place)
 
 -- at most so many steps, each of them kept, the first of them this one, and each followed by the one that its outcome
--- leads to; where another would follow the last of them, the pursuit is Stalled. It answers what its last step told,
+-- leads to; where another would follow the last of them, the run is Stalled. It answers what its last step told,
 -- and nothing where there was no memory to keep a step's outcome: that step was not done.
-pub data Pursues {K V I O R : Type 0} (stands : R → Standing) (entry : ℕ → List ℕ → ℕ → Entry K V → Type 0)
-    (cmp : K → K → Ordering) (f : Meanings K V I O) (code : K → ℕ) (pursuit : Pursuit) (place : ContextId)
+pub data RunsUntil {K V I O R : Type 0} (stands : R → Standing) (entry : ℕ → List ℕ → ℕ → Entry K V → Type 0)
+    (cmp : K → K → Ordering) (f : Meanings K V I O) (code : K → ℕ) (until : Until) (place : ContextId)
     (new : WorldView K V I O R) (result : Option (Result (Outcome V O) Refused))
     : ℕ → Step K V I → WorldView K V I O R → Type 0 where
   unkept : (n : ℕ) (s : Step K V I) (v : WorldView K V I O R)
       → new ≡ v
       → result ≡ None
-      → Pursues stands entry cmp f code pursuit place new result (suc n) s v
+      → RunsUntil stands entry cmp f code until place new result (suc n) s v
   stalls : (s : Step K V I) (v : WorldView K V I O R)
       → new ≡ v
       → result ≡ Some (Err Stalled)
-      → Pursues stands entry cmp f code pursuit place new result zero s v
+      → RunsUntil stands entry cmp f code until place new result zero s v
   ends : (n : ℕ) (s : Step K V I) (v : WorldView K V I O R) (x : Result (Outcome V O) Refused)
       → IsKept stands entry cmp f code v new s x
-      → follows {K = K} {I = I} pursuit place x ≡ None
+      → follows {K = K} {I = I} until place x ≡ None
       → result ≡ Some x
-      → Pursues stands entry cmp f code pursuit place new result (suc n) s v
+      → RunsUntil stands entry cmp f code until place new result (suc n) s v
   goes_on : (n : ℕ) (s t : Step K V I) (v u : WorldView K V I O R) (x : Result (Outcome V O) Refused)
       → IsKept stands entry cmp f code v u s x
-      → follows pursuit place x ≡ Some t
-      → Pursues stands entry cmp f code pursuit place new result n t u
-      → Pursues stands entry cmp f code pursuit place new result (suc n) s v
+      → follows until place x ≡ Some t
+      → RunsUntil stands entry cmp f code until place new result n t u
+      → RunsUntil stands entry cmp f code until place new result (suc n) s v
 
--- a pursuit of at most 10,000 steps, and what it answers: NoMemory where an outcome could not be kept
-pub record IsPursued {K V I O R : Type 0} (stands : R → Standing) (entry : ℕ → List ℕ → ℕ → Entry K V → Type 0)
-    (cmp : K → K → Ordering) (f : Meanings K V I O) (code : K → ℕ) (pursuit : Pursuit) (place : ContextId)
+-- a run of at most 10,000 steps, and what it answers: NoMemory where an outcome could not be kept
+pub record IsRunUntil {K V I O R : Type 0} (stands : R → Standing) (entry : ℕ → List ℕ → ℕ → Entry K V → Type 0)
+    (cmp : K → K → Ordering) (f : Meanings K V I O) (code : K → ℕ) (until : Until) (place : ContextId)
     (old new : WorldView K V I O R) (result : Result (Outcome V O) Refused) : Type 0 where
   pub kept : Option (Result (Outcome V O) Refused)
-  pub pursues : Pursues stands entry cmp f code pursuit place new kept 10000
-      (first_step old.state.partitions pursuit place) old
+  pub runs : RunsUntil stands entry cmp f code until place new kept 10000
+      (first_step old.state.partitions until place) old
   pub answers : result ≡ unwrap_or kept (Err NoMemory)

@@ -8,9 +8,9 @@
 
 pub mod flush_slots;
 mod paging;
-pub mod pursuits;
 pub mod replays;
 pub mod reports;
+pub mod run_until;
 pub mod states;
 pub mod tables;
 pub mod worlds;

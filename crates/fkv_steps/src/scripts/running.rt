@@ -16,13 +16,13 @@ ghost use Rattle.fkv_steps.specs.Running.{context_in, is_page, op_of, record_siz
 
 use crate::scripts::printing::text_of;
 use crate::scripts::written::Written;
-use fkv_functions::{CountFns, Functions, MaxFns, Name, Refused, SumFns};
+use fkv_functions::{CappedSumFns, CountFns, Functions, MaxFns, Name, Refused, SumFns};
 use fkv_lives::{Access, ContextId, Outcome, OutcomeOf, Printed, Step};
 use fkv_operations::{KeyedOp, Op};
 use fkv_partition::Config;
 use fkv_scripts::{FunctionsName, LIMIT, Line, Script, read_script};
 use fkv_streams::{Sink, Source, write_out};
-use fkv_worlds::pursuits::Pursuit;
+use fkv_worlds::run_until::Until;
 use fkv_worlds::worlds::World;
 use std::alloc::Global;
 
@@ -77,8 +77,8 @@ where
         Line::Install(place) => Step::Install(place),
         Line::Load(place, access) => Step::Load(place, access),
         Line::GiveUp(place) => Step::GiveUp(place),
-        Line::Ready(place) => return world.pursue(functions, Pursuit::Ready, place),
-        Line::Finish(place) => return world.pursue(functions, Pursuit::Finish, place),
+        Line::Ready(place) => return world.run_until(functions, Until::Ready, place),
+        Line::Finish(place) => return world.run_until(functions, Until::Finish, place),
     };
     world.try_step(functions, step)
 }
@@ -160,7 +160,7 @@ fn finish_issued<F: Functions<Key = Name, Input = i64>>(
         slot,
         context,
     };
-    world.pursue(functions, Pursuit::Finish, place)
+    world.run_until(functions, Until::Finish, place)
 }
 
 /// Takes the lowest page that is not flushed and writes it, and answers what the write told; where no page was taken,
@@ -317,5 +317,6 @@ fn output_of(alloc: Global, script: &Script) -> Result<Vec<u8>, Refused>
         FunctionsName::Count => printed_by(alloc, &CountFns, &config, lines),
         FunctionsName::Sum => printed_by(alloc, &SumFns, &config, lines),
         FunctionsName::Max => printed_by(alloc, &MaxFns, &config, lines),
+        FunctionsName::Capped => printed_by(alloc, &CappedSumFns, &config, lines),
     }
 }

@@ -1,4 +1,4 @@
-use Rattle.std.proofs.Common.{◌≡◌, ◌≤◌, OnOk, ap, subst, arith}
+use Rattle.std.proofs.Common.{◌≡◌, ◌≤◌, OnOk, ap, subst}
 use Rattle.fkv_core.specs.Effect.{IsGiveUp}
 use Rattle.fkv_core.specs.Ending.{GivesUp}
 use Rattle.fkv_core.proofs.cores.Core.abandon.Goals as goal

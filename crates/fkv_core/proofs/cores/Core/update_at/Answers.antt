@@ -31,13 +31,14 @@ returns-clause-done g c =
     let order = key_order g.F.Key.PartialEq.eq g.F.Key.Ord.cmp ord.matches_eq known.exact ord.total in
     let v = c.args.self.now in
     let k = c.args.key.now in
-    let i = c.args.input.now in
+    let value = c.in_place.new.value in
     let m = c.meetings_tell.ensures.mutable g.R.Receipt.keeps g.F.Key.Ord.cmp g.F.Functions.code v.records k c.args.slot c.args.held order c.known.ensures.traced c.requires.entered c.requires.met in
     let last = at_once-last g.F.Key.Ord.cmp g.F.Functions.meaning g.F.Functions.code v c.args.slot k c.args.held c.args.last m c.requires.reached in
-    rw (c.revalue.ensures, c.read-shown.ensures, c.in_place.ensures)
-    (done-at_once g.F.Key.Ord.cmp g.F.Functions.meaning g.F.Functions.code v c.args.slot k c.args.held c.args.last m c.requires.reached i c.args._context c.args._issued c.args.now
+    rw (c.revalue.ensures, c.read-shown.ensures)
+    (done-at_once g.F.Key.Ord.cmp g.F.Functions.meaning g.F.Functions.code v c.args.slot k c.args.held c.args.last m c.requires.reached c.args.input.now c.args._context c.args._issued c.args.now
     c.requires.entered c.requires.own c.requires.free
     (free-here (slots_of v) v.contexts c.args.slot c.args._context c.known.ensures.places c.requires.session c.requires.low c.requires.entered c.requires.free)
     c.requires.low c.requires.met
     (c.meetings_tell.ensures.held g.R.Receipt.keeps g.F.Key.Ord.cmp g.F.Functions.code v.records k c.args.slot order c.known.ensures.traced c.requires.entered)
-    (c.records_change.ensures.lives g.F.Key.Ord.cmp g.R.Receipt.keeps g.F.Functions.code v.records (Some _) k c.args.last order c.known.ensures.traced last) g.R.Receipt.stands)
+    value c.if-not-in_place.ensures.changed
+    (c.records_change.ensures.lives g.F.Key.Ord.cmp g.R.Receipt.keeps g.F.Functions.code v.records (Some value) k c.args.last order c.known.ensures.traced last) g.R.Receipt.stands)

@@ -5,7 +5,7 @@ use Rattle.fkv_operations.specs.declared.operations.Answer.TheVariants.{Value}
 use Rattle.fkv_core.specs.declared.contexts.Progress.TheVariants.{Done}
 use Rattle.fkv_partition.specs.Inside.{view_of}
 use Rattle.fkv_partition.specs.Views.{with_core}
-use Rattle.fkv_partition.proofs.AtOnceLemmas.{done-at-once, kept-at-once, declined-at-once, sound-issued, told-some}
+use Rattle.fkv_partition.proofs.AtOnceLemmas.{done-at-once, kept-at-once, left-at-once, sound-issued, told-some}
 use Rattle.fkv_partition.proofs.SteadyLemmas.{goes-steady, issues-steady}
 use Rattle.fkv_partition.proofs.KeepLemmas.{keep-seated, keep-issued}
 use Rattle.fkv_partition.proofs.partitions.Partition.update_at_once.Goals as goal
@@ -48,10 +48,10 @@ returns-clause-done g c =
     (done-at-once g.R.Receipt.stands g.F.Key.Ord.cmp g.F.Functions.meaning g.F.Functions.code v c.update_at_once-shown.new.self c.args.slot c.in-Some.context c.args.key.now c.args.input.now c.args.issued c.args.now
     inside first c.update_at_once-shown.result c.update_at_once-shown.ensures.done)
 
-pub returns-clause-declined : goal.returns-clause-declined
-returns-clause-declined g c =
+pub returns-clause-left : goal.returns-clause-left
+returns-clause-left g c =
     let v = view_of c.self.inside.core c.self.inside.cleared c.self.inside.relocations.items in
-    rw (← c.self.view_is) (λ none. declined-at-once g.F.Key.Ord.cmp g.F.Functions.code v c.args.slot c.args.key.now (c.update_at_once-shown.ensures.declined none))
+    rw (← c.self.view_is) (λ none. left-at-once g.F.Key.Ord.cmp g.F.Functions.meaning g.F.Functions.code v c.args.slot c.args.key.now c.args.input.now (c.update_at_once-shown.ensures.left none))
 
 pub returns-clause-within : goal.returns-clause-within
 returns-clause-within g c = told-some c.update_at_once-shown.result (c.is_session.ensures.within c.if-not-is_session.false)

@@ -1,9 +1,9 @@
 //! Steps that are repeated until an operation is where it is wanted.
 ghost use Rattle.std.specs.Prelude.{◌≡◌};
 ghost use Rattle.fkv_pages.specs.Spelled.{IsEntryIn};
-ghost use Rattle.fkv_worlds.specs.declared.pursuits.Pursuit.TheVariants.{Ready, Finish};
+ghost use Rattle.fkv_worlds.specs.declared.run_until.Until.TheVariants.{Ready, Finish};
 ghost use Rattle.fkv_worlds.specs.Headline.{IsHeadline};
-ghost use Rattle.fkv_worlds.specs.Reports.{follows, first_step, Pursues, IsPursued};
+ghost use Rattle.fkv_worlds.specs.Reports.{follows, first_step, RunsUntil, IsRunUntil};
 
 use crate::worlds::World;
 use fkv_device::{MemoryReceipt, Receipt};
@@ -11,12 +11,12 @@ use fkv_functions::{Functions, Refused};
 use fkv_lives::outcomes::{Outcome, OutcomeOf};
 use fkv_lives::steps::{Access, ContextId, Step, StepOf};
 
-/// The steps after which a pursuit is stalled.
+/// The steps after which a run is stalled.
 pub const LIMIT: u64 = 10_000;
 
-/// How far an operation or a relocation is pursued.
+/// How far an operation or a relocation is run.
 #[derive(Clone, Copy)]
-pub enum Pursuit {
+pub enum Until {
     /// Until it is not to go on: it is done, or waits, or asks for a value or a page.
     Ready,
     /// Until it is done, or waits.
@@ -25,21 +25,21 @@ pub enum Pursuit {
 
 /// The step that follows a step with this result, if one does.
 fn following<F: Functions>(
-    pursuit: Pursuit,
+    until: Until,
     place: ContextId,
     told: &Result<OutcomeOf<F>, Refused>,
 ) -> Option<StepOf<F>>
-    ensures { result ≡ follows pursuit place told.now }
+    ensures { result ≡ follows until place told.now }
 {
     match told {
         Ok(Outcome::Next) => Some(Step::Go(place)),
-        Ok(Outcome::Build(_)) => match pursuit {
-            Pursuit::Ready => None,
-            Pursuit::Finish => Some(Step::Install(place)),
+        Ok(Outcome::Build(_)) => match until {
+            Until::Ready => None,
+            Until::Finish => Some(Step::Install(place)),
         },
-        Ok(Outcome::Load(_)) => match pursuit {
-            Pursuit::Ready => None,
-            Pursuit::Finish => Some(Step::Load(place, Access::Works)),
+        Ok(Outcome::Load(_)) => match until {
+            Until::Ready => None,
+            Until::Finish => Some(Step::Load(place, Access::Works)),
         },
         _ => None,
     }
@@ -51,51 +51,51 @@ impl<F: Functions> World<F> {
     /// among the outcomes. Refused with `NoMemory` where an outcome could not be kept, and else as
     /// [`World::step`] is.
     pub fn ready(&mut self, functions: &F, place: ContextId) -> Result<OutcomeOf<F>, Refused>
-        ensures pursues { IsPursued ⟦<MemoryReceipt as Receipt>⟧.stands (IsEntryIn F.Key.bytes_of F.Value.bytes_of F.Key.is_known F.Value.is_known
+        ensures runs { IsRunUntil ⟦<MemoryReceipt as Receipt>⟧.stands (IsEntryIn F.Key.bytes_of F.Value.bytes_of F.Key.is_known F.Value.is_known
             F.Key.SIZE F.Value.SIZE) F.Key.cmp F.meaning F.code Ready place self.old self.new result }
         ensures headline { IsHeadline F.Key.cmp F.meaning F.code self.new }
     {
-        self.pursue(functions, Pursuit::Ready, place)
+        self.run_until(functions, Until::Ready, place)
             .unwrap_or(Err(Refused::NoMemory))
     }
 
     /// Goes on with an operation or a relocation, installs what it asks for and loads the pages that it asks for, until it is
     /// done, waits, or is refused, and answers that. Where it waits for a page it begins with the load. `Stalled` and `NoMemory` as in [`World::ready`].
     pub fn finish(&mut self, functions: &F, place: ContextId) -> Result<OutcomeOf<F>, Refused>
-        ensures pursues { IsPursued ⟦<MemoryReceipt as Receipt>⟧.stands (IsEntryIn F.Key.bytes_of F.Value.bytes_of F.Key.is_known F.Value.is_known
+        ensures runs { IsRunUntil ⟦<MemoryReceipt as Receipt>⟧.stands (IsEntryIn F.Key.bytes_of F.Value.bytes_of F.Key.is_known F.Value.is_known
             F.Key.SIZE F.Value.SIZE) F.Key.cmp F.meaning F.code Finish place self.old self.new result }
         ensures headline { IsHeadline F.Key.cmp F.meaning F.code self.new }
     {
-        self.pursue(functions, Pursuit::Finish, place)
+        self.run_until(functions, Until::Finish, place)
             .unwrap_or(Err(Refused::NoMemory))
     }
 
     /// Does steps, beginning with a `Go` or a `Load`, each followed by the one that its result leads to, and answers
     /// what the last of them told; `None` where there is no memory to keep the next one's outcome, which
     /// then isn't done.
-    pub fn pursue(
+    pub fn run_until(
         &mut self,
         functions: &F,
-        pursuit: Pursuit,
+        until: Until,
         place: ContextId,
     ) -> Option<Result<OutcomeOf<F>, Refused>>
-        ensures pursues { Pursues ⟦<MemoryReceipt as Receipt>⟧.stands (IsEntryIn F.Key.bytes_of F.Value.bytes_of F.Key.is_known F.Value.is_known
-            F.Key.SIZE F.Value.SIZE) F.Key.cmp F.meaning F.code pursuit place self.new result 10000
-            (first_step self.old.state.partitions pursuit place) self.old }
+        ensures runs { RunsUntil ⟦<MemoryReceipt as Receipt>⟧.stands (IsEntryIn F.Key.bytes_of F.Value.bytes_of F.Key.is_known F.Value.is_known
+            F.Key.SIZE F.Value.SIZE) F.Key.cmp F.meaning F.code until place self.new result 10000
+            (first_step self.old.state.partitions until place) self.old }
         ensures headline { IsHeadline F.Key.cmp F.meaning F.code self.new }
     {
-        let told = self.follow(functions, pursuit, place);
+        let told = self.follow(functions, until, place);
         self.headline();
         told
     }
 
-    /// The step that a pursuit begins with.
-    fn first(&self, pursuit: Pursuit, place: ContextId) -> StepOf<F>
-        ensures { result ≡ first_step self.now.state.partitions pursuit place }
+    /// The step that a run begins with.
+    fn first(&self, until: Until, place: ContextId) -> StepOf<F>
+        ensures { result ≡ first_step self.now.state.partitions until place }
     {
-        match pursuit {
-            Pursuit::Ready => Step::Go(place),
-            Pursuit::Finish => {
+        match until {
+            Until::Ready => Step::Go(place),
+            Until::Finish => {
                 if self.state.awaits_page(place) {
                     Step::Load(place, Access::Works)
                 } else {
@@ -105,23 +105,23 @@ impl<F: Functions> World<F> {
         }
     }
 
-    /// Does the steps of a pursuit.
+    /// Does the steps of a run.
     fn follow(
         &mut self,
         functions: &F,
-        pursuit: Pursuit,
+        until: Until,
         place: ContextId,
     ) -> Option<Result<OutcomeOf<F>, Refused>>
-        ensures { Pursues ⟦<MemoryReceipt as Receipt>⟧.stands (IsEntryIn F.Key.bytes_of F.Value.bytes_of F.Key.is_known F.Value.is_known
-            F.Key.SIZE F.Value.SIZE) F.Key.cmp F.meaning F.code pursuit place self.new result 10000
-            (first_step self.old.state.partitions pursuit place) self.old }
+        ensures { RunsUntil ⟦<MemoryReceipt as Receipt>⟧.stands (IsEntryIn F.Key.bytes_of F.Value.bytes_of F.Key.is_known F.Value.is_known
+            F.Key.SIZE F.Value.SIZE) F.Key.cmp F.meaning F.code until place self.new result 10000
+            (first_step self.old.state.partitions until place) self.old }
     {
-        let mut step = self.first(pursuit, place);
+        let mut step = self.first(until, place);
         for _ in 0..LIMIT {
             let Some(told) = self.try_step(functions, step) else {
                 return None;
             };
-            let Some(next) = following::<F>(pursuit, place, &told) else {
+            let Some(next) = following::<F>(until, place, &told) else {
                 return Some(told);
             };
             step = next;
