@@ -1,0 +1,89 @@
+-- The laws of summaries: their bytes are forty, and tell them apart; inputs may come in any order.
+use Rattle.std.specs.Prelude.{◌≡◌, ◌+◌, ◌%◌, ◌^◌, ◌<◌, ◌++◌, ℕ, ℤ, List, length, take, drop, FitsSigned, cond, true, false, Option, Some, None, IfSome, int_lt}
+use Rattle.std.specs.Option.{IsSomeAnd}
+use Rattle.std.specs.Int.{w64, w128, to_le_bytes, cast_unsigned, int_wrapping_add, int_min, int_max}
+use Rattle.std.proofs.Common.{arith, rules, refl, sym, ap, ◌∙◌}
+use Rattle.std.proofs.Math.Facts.{sfits_widen, sfits_to_z}
+use Rattle.std.proofs.lemmas.Int.{ints, wraps}
+use Rattle.fkv_functions.specs.Integers.{signed_bytes, long_bytes, halves, halves_sized, word_readable, signed_readable, long_readable}
+use Rattle.fkv_functions.specs.Meanings.{Meanings, updated}
+use Rattle.fkv_example.specs.declared.summaries.Summary.{Summary}
+use Rattle.fkv_example.specs.Summaries.{IsSummary, summary_bytes, summary_of, with_input, summaries}
+
+-- two summaries of the same numbers are one
+pub same_numbers : (s t : Summary) → s.count ≡ t.count → s.least ≡ t.least → s.greatest ≡ t.greatest → s.sum ≡ t.sum → s ≡ t
+same_numbers s t a b c d = λ i. record { count = a i; least = b i; greatest = c i; sum = d i }
+
+pub summary_sized : (s : Summary) → length (summary_bytes s) ≡ 40
+unfolding halves
+summary_sized s = refl
+
+pub summary_readable : (s t : Summary) → IsSummary s → IsSummary t → summary_bytes s ≡ summary_bytes t → s ≡ t
+summary_readable s t h k e =
+    same_numbers s t
+    (word_readable s.count t.count h.count k.count (ap (take 8) e))
+    (signed_readable s.least t.least h.least k.least (ap (λ b. take 8 (drop 8 b)) e))
+    (signed_readable s.greatest t.greatest h.greatest k.greatest (ap (λ b. take 8 (drop 16 b)) e))
+    (long_readable s.sum t.sum h.sum k.sum (ap (drop 24) e))
+
+-- where the bytes of a summary are these, its parts are theirs
+pub record ArePartsOf (s : Summary) (bytes : List ℕ) : Type 0 where
+  pub count : to_le_bytes w64 s.count ≡ take 8 bytes
+  pub least : signed_bytes s.least ≡ take 8 (drop 8 bytes)
+  pub greatest : signed_bytes s.greatest ≡ take 8 (drop 8 (drop 8 bytes))
+  pub sum : long_bytes s.sum ≡ drop 8 (drop 8 (drop 8 bytes))
+
+pub parts_of : (s : Summary) (bytes : List ℕ) → summary_bytes s ≡ bytes → ArePartsOf s bytes
+parts_of s bytes e = record {
+  count = ap (take 8) e;
+  least = ap (λ b. take 8 (drop 8 b)) e;
+  greatest = ap (λ b. take 8 (drop 8 (drop 8 b))) e;
+  sum = ap (λ b. drop 8 (drop 8 (drop 8 b))) e;
+}
+
+-- an update gives a summary, from none and from any
+next_known : (s : Summary) (i : ℤ) → IsSummary s → FitsSigned w64 i → IsSummary (with_input s i)
+next_known s i h k = record {
+  count = omega arith;
+  least = elim (int_lt i s.least) as (λ b. FitsSigned w64 (cond b i s.least)) [ true ↦ k | false ↦ h.least ];
+  greatest = elim (int_lt i s.greatest) as (λ b. FitsSigned w64 (cond b s.greatest i)) [ true ↦ h.greatest | false ↦ k ];
+  sum =
+      let small : (cast_unsigned w128 s.sum + cast_unsigned w128 i) % 2 ^ 128 < 2 ^ 128 = omega arith in
+      sfits_to_z {w = w128} (record { fits = small });
+}
+
+pub first_known : (i : ℤ) → FitsSigned w64 i → IsSummary (summary_of i)
+first_known i h =
+    record { count = omega arith; least = h; greatest = h; sum = sfits_widen {w = w64} {w' = w128} tt h }
+
+pub accepted : {K : Type 0} (k : K) (i : ℤ) (held : Option Summary) → FitsSigned w64 i → IfSome held IsSummary
+    → IsSomeAnd (updated (summaries {K = K}) k i held) IsSummary
+accepted k i None h known = first_known i h
+accepted k i (Some s) h known = next_known s i known h
+
+-- two inputs give the same summary in either order
+min_from_none : (i j : ℤ) → int_min i j ≡ int_min j i
+min_from_none i j = grind (arith, ints)
+
+min_from_any : (v i j : ℤ) → int_min (int_min v i) j ≡ int_min (int_min v j) i
+min_from_any v i j = grind (arith, ints)
+
+max_from_none : (i j : ℤ) → int_max i j ≡ int_max j i
+max_from_none i j = grind (arith, ints)
+
+max_from_any : (v i j : ℤ) → int_max (int_max v i) j ≡ int_max (int_max v j) i
+max_from_any v i j = grind (arith, ints)
+
+sum_from_none : (i j : ℤ) → int_wrapping_add w128 i j ≡ int_wrapping_add w128 j i
+sum_from_none i j = search (rules, wraps)
+
+sum_from_any : (v i j : ℤ)
+    → int_wrapping_add w128 (int_wrapping_add w128 v i) j ≡ int_wrapping_add w128 (int_wrapping_add w128 v j) i
+sum_from_any v i j = search (rules, wraps)
+
+pub either_order : {K : Type 0} (k : K) (i j : ℤ) (held : Option Summary)
+    → updated (summaries {K = K}) k j (updated summaries k i held) ≡ updated summaries k i (updated summaries k j held)
+either_order k i j None =
+    ap Some (same_numbers _ _ refl (min_from_none i j) (max_from_none i j) (sum_from_none i j))
+either_order k i j (Some s) =
+    ap Some (same_numbers _ _ refl (min_from_any s.least i j) (max_from_any s.greatest i j) (sum_from_any s.sum i j))

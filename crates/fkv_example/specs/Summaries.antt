@@ -1,0 +1,54 @@
+-- Summaries: how many inputs a key had, the least and the greatest of them, and their sum.
+use Rattle.std.specs.Prelude.{◌≡◌, ◌+◌, ◌%◌, ◌^◌, ◌<◌, ◌+ℤ◌, ◌≤ℤ◌, ◌++◌, ◌∷◌, ℕ, ℤ, List, length, fold, All, Contains, FitsSigned, Option, Some}
+use Rattle.std.specs.Int.{w64, w128, to_le_bytes, int_wrap, int_wrapping_add, int_min, int_max}
+use Rattle.fkv_functions.specs.Integers.{signed_bytes, long_bytes}
+use Rattle.fkv_functions.specs.Meanings.{Meanings}
+use Rattle.fkv_example.specs.declared.summaries.Summary.{Summary}
+
+-- the numbers are within the ranges of their types
+pub record IsSummary (s : Summary) : Type 0 where
+  pub count : s.count < 2 ^ 64
+  pub least : FitsSigned w64 s.least
+  pub greatest : FitsSigned w64 s.greatest
+  pub sum : FitsSigned w128 s.sum
+
+-- these are the numbers of a summary, and each is there
+pub record AreNumbersOf (s : Summary) (a : Option ℕ) (b c d : Option ℤ) : Type 0 where
+  pub count : a ≡ Some s.count
+  pub least : b ≡ Some s.least
+  pub greatest : c ≡ Some s.greatest
+  pub sum : d ≡ Some s.sum
+
+-- forty bytes: the count, the least, the greatest, the sum
+abbrev pub summary_bytes : Summary → List ℕ
+summary_bytes s = to_le_bytes w64 s.count ++ (signed_bytes s.least ++ (signed_bytes s.greatest ++ long_bytes s.sum))
+
+-- what the inputs of a key come to, of which one is the first: counts wrap at 2^64, sums at 2^128
+pub record IsSummaryOf (s : Summary) (first : ℤ) (others : List ℤ) : Type 0 where
+  pub count : s.count ≡ (1 + length others) % 2 ^ 64
+  pub least : Contains (first ∷ others) s.least
+  pub below : All (λ x. s.least ≤ℤ x) (first ∷ others)
+  pub greatest : Contains (first ∷ others) s.greatest
+  pub above : All (λ x. x ≤ℤ s.greatest) (first ∷ others)
+  pub sum : s.sum ≡ int_wrap w128 (fold ◌+ℤ◌ first others)
+
+-- the summary of one input
+abbrev pub summary_of : ℤ → Summary
+summary_of i = record { count = 1; least = i; greatest = i; sum = i }
+
+-- the summary with one more input
+abbrev pub with_input : Summary → ℤ → Summary
+with_input s i = record {
+  count = (s.count + 1) % 2 ^ 64;
+  least = int_min s.least i;
+  greatest = int_max s.greatest i;
+  sum = int_wrapping_add w128 s.sum i;
+}
+
+-- what the functions of summaries mean
+abbrev pub summaries : {K : Type 0} → Meanings K Summary ℤ Summary
+summaries = record {
+  first = λ k i. Some (summary_of i);
+  next = λ k s i. Some (with_input s i);
+  shown = λ k i s. s;
+}

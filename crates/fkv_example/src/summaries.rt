@@ -1,0 +1,190 @@
+//! Summaries: how many inputs a key had, the least and the greatest of them, and their sum.
+ghost use Rattle.std.specs.Prelude.{◌≡◌, ◌<◌, ◌∷◌, ℤ, List, length, fold, All, FitsSigned, IfSome, Some, None};
+ghost use Rattle.std.specs.Int.{w64};
+ghost use Rattle.std.specs.Option.{IsSomeAnd};
+ghost use Rattle.fkv_functions.specs.Meanings.{updated};
+ghost use Rattle.fkv_functions.specs.declared.names.Name.{Name};
+ghost use Rattle.fkv_functions.specs.Hashes.{fnv_1a};
+ghost use Rattle.fkv_functions.specs.Names.{text_of};
+ghost use Rattle.fkv_example.specs.Summaries.{AreNumbersOf, IsSummary, IsSummaryOf, summary_bytes, summary_of, summaries};
+ghost use Rattle.fkv_example.specs.declared.summaries.Summary.{Summary};
+ghost use Rattle.fkv_example.specs.Laws.{accepted, either_order, summary_readable, summary_sized};
+
+use fkv_functions::{Fixed, Functions, Known, Name, OrderFree};
+use std::fmt::{self, Display};
+
+/// What a key's inputs come to.
+#[derive(Clone, Copy, Debug)]
+pub struct Summary {
+    pub count: u64,
+    pub least: i64,
+    pub greatest: i64,
+    pub sum: i128,
+}
+
+impl Summary {
+    /// The summary of one input.
+    fn of(input: i64) -> Summary
+        ensures { result ≡ summary_of input }
+    {
+        Summary {
+            count: 1,
+            least: input,
+            greatest: input,
+            sum: i128::from(input),
+        }
+    }
+}
+
+impl Display for Summary {
+    fn fmt<W: fmt::Write>(&self, f: &mut fmt::Formatter<W>) -> fmt::Result {
+        let Summary {
+            count,
+            least,
+            greatest,
+            sum,
+        } = self;
+        write!(f, "{count} from {least} to {greatest}, sum {sum}")
+    }
+}
+
+impl Known for Summary {
+    ghost is_known = { IsSummary };
+
+    fn known(&self) {
+        self.count.known();
+        self.least.known();
+        self.greatest.known();
+        self.sum.known();
+    }
+
+    fn is(&self, other: &Summary) -> bool {
+        self.count == other.count
+            && self.least == other.least
+            && self.greatest == other.greatest
+            && self.sum == other.sum
+    }
+}
+
+impl Fixed for Summary {
+    const SIZE: usize = 40;
+
+    ghost SIZE = { 40 };
+
+    ghost bytes_of = { summary_bytes };
+
+    fn put(&self, out: &mut [u8]) {
+        let (count, rest) = out.split_at_mut(8);
+        let (least, rest) = rest.split_at_mut(8);
+        let (greatest, sum) = rest.split_at_mut(8);
+        self.count.put(count);
+        self.least.put(least);
+        self.greatest.put(greatest);
+        self.sum.put(sum);
+    }
+
+    fn take(bytes: &[u8]) -> Option<Summary> {
+        let (count, rest) = bytes.split_at(8);
+        let (least, rest) = rest.split_at(8);
+        let (greatest, sum) = rest.split_at(8);
+        joined(
+            u64::take(count),
+            i64::take(least),
+            i64::take(greatest),
+            i128::take(sum),
+        )
+    }
+
+    fn stands_in(&self, bytes: &[u8]) -> bool {
+        let (count, rest) = bytes.split_at(8);
+        let (least, rest) = rest.split_at(8);
+        let (greatest, sum) = rest.split_at(8);
+        self.count.stands_in(count)
+            && self.least.stands_in(least)
+            && self.greatest.stands_in(greatest)
+            && self.sum.stands_in(sum)
+    }
+
+    ghost sized = { λ v h. summary_sized v };
+
+    ghost readable = { summary_readable };
+}
+
+/// The summary of these numbers, where each is there.
+fn joined(
+    count: Option<u64>,
+    least: Option<i64>,
+    greatest: Option<i64>,
+    sum: Option<i128>,
+) -> Option<Summary>
+    ensures found { IfSome result (λ s. AreNumbersOf s count least greatest sum) }
+    ensures only { (s : Summary) → IsSummary s → AreNumbersOf s count least greatest sum → result ≡ Some s }
+{
+    match (count, least, greatest, sum) {
+        (Some(count), Some(least), Some(greatest), Some(sum)) => Some(Summary {
+            count,
+            least,
+            greatest,
+            sum,
+        }),
+        _ => None,
+    }
+}
+
+/// Keeps the summary of the inputs of each name. No update is declined.
+#[derive(Clone, Copy, Debug, Default)]
+pub struct SummaryFns;
+
+impl Functions for SummaryFns {
+    type Key = Name;
+
+    type Value = Summary;
+
+    type Input = i64;
+
+    type Output = Summary;
+
+    ghost meaning = { summaries };
+
+    ghost code = { λ name. fnv_1a (text_of name) };
+
+    fn initial(&self, _key: &Name, input: &i64) -> Option<Summary> {
+        Some(Summary::of(*input))
+    }
+
+    fn in_place(&self, _key: &Name, input: &i64, value: &mut Summary) -> bool {
+        value.count = value.count.wrapping_add(1);
+        value.least = value.least.min(*input);
+        value.greatest = value.greatest.max(*input);
+        value.sum = value.sum.wrapping_add(i128::from(*input));
+        true
+    }
+
+    fn copy(&self, key: &Name, input: &i64, held: &Summary) -> Option<Summary> {
+        let mut value = *held;
+        self.in_place(key, input, &mut value);
+        Some(value)
+    }
+
+    fn read(&self, _key: &Name, _input: &i64, held: &Summary) -> Summary {
+        *held
+    }
+
+    fn hash(&self, key: &Name) -> u64 {
+        key.hash()
+    }
+}
+
+impl OrderFree for SummaryFns {
+    ghost accepted = { λ k i held h j l. accepted k i held j l };
+
+    ghost either_order = { λ k i j held a b c d. either_order k i j held };
+}
+
+/// What the updates of a key come to, from no value: the summary of their inputs, by its definition and not by its steps. It
+/// does nothing when it runs.
+pub fn updates_come_to_summaries()
+    ensures { (key : Name) (first : ℤ) (others : List ℤ) → All (FitsSigned w64) (first ∷ others)
+        → IsSomeAnd (fold (λ held i. updated summaries key i held) None (first ∷ others))
+        (λ s. IsSummaryOf s first others) }
+{}
