@@ -1,7 +1,7 @@
 -- The inputs of a key come to their summary: each number of it by an induction over the inputs.
-use Rattle.std.specs.Prelude.{◌≡◌, ◌+◌, ◌%◌, ◌^◌, ◌<◌, ◌+ℤ◌, ◌≤ℤ◌, ◌∷◌, [], ℕ, ℤ, List, length, fold, All, Contains, FitsSigned, Option, Some, None}
+use Rattle.std.specs.Prelude.{◌≡◌, ◌+◌, ◌%◌, ◌^◌, ◌<◌, ◌+ℤ◌, ◌≤ℤ◌, ◌∷◌, [], ℤ, List, length, fold, All, Contains, FitsSigned, Some, None}
 use Rattle.std.specs.Option.{IsSomeAnd}
-use Rattle.std.specs.Int.{w64, w128, int_wrap, int_wrapping_add, int_min, int_max}
+use Rattle.std.specs.Int.{w64, w128, int_wrap, int_min, int_max}
 use Rattle.std.proofs.Common.{arith, refl, sym, ap, subst, ◌∙◌, ◌⊎◌, inl, inr, suc}
 use Rattle.std.proofs.Math.Facts.{sfits_widen}
 use Rattle.std.proofs.lemmas.Int.{int_wrap_fits, int_wrap-add_same, SFits-int_wrap, wrapping_add_is, fold-int_min_reached}

@@ -1,12 +1,12 @@
 -- The laws of summaries: their bytes are forty, and tell them apart; inputs may come in any order.
-use Rattle.std.specs.Prelude.{◌≡◌, ◌+◌, ◌%◌, ◌^◌, ◌<◌, ◌++◌, ℕ, ℤ, List, length, take, drop, FitsSigned, cond, true, false, Option, Some, None, IfSome, int_lt}
+use Rattle.std.specs.Prelude.{◌≡◌, ◌+◌, ◌%◌, ◌^◌, ◌<◌, ℕ, ℤ, List, length, take, drop, FitsSigned, cond, true, false, Option, Some, None, IfSome, int_lt}
 use Rattle.std.specs.Option.{IsSomeAnd}
 use Rattle.std.specs.Int.{w64, w128, to_le_bytes, cast_unsigned, int_wrapping_add, int_min, int_max}
-use Rattle.std.proofs.Common.{arith, rules, refl, sym, ap, ◌∙◌}
+use Rattle.std.proofs.Common.{arith, rules, refl, ap}
 use Rattle.std.proofs.Math.Facts.{sfits_widen, sfits_to_z}
 use Rattle.std.proofs.lemmas.Int.{ints, wraps}
-use Rattle.fkv_functions.specs.Integers.{signed_bytes, long_bytes, halves, halves_sized, word_readable, signed_readable, long_readable}
-use Rattle.fkv_functions.specs.Meanings.{Meanings, updated}
+use Rattle.fkv_functions.specs.Integers.{signed_bytes, long_bytes, halves, word_readable, signed_readable, long_readable}
+use Rattle.fkv_functions.specs.Meanings.{updated}
 use Rattle.fkv_example.specs.declared.summaries.Summary.{Summary}
 use Rattle.fkv_example.specs.Summaries.{IsSummary, summary_bytes, summary_of, with_input, summaries}
 

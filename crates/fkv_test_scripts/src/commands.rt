@@ -60,7 +60,7 @@ fn split(alloc: Global, line: &str) -> Result<Vec<String>, AllocError> {
 /// A run: its command line, its input, the calls after which that fails, and the bytes after which the output and
 /// what stands beside it are full.
 #[derive(Clone, Copy)]
-struct Launch {
+pub(crate) struct Launch {
     line: &'static str,
     input: &'static str,
     calls: u64,
@@ -69,7 +69,7 @@ struct Launch {
 }
 
 /// A run in which nothing fails.
-const fn start(line: &'static str, input: &'static str) -> Launch {
+pub(crate) const fn start(line: &'static str, input: &'static str) -> Launch {
     Launch {
         line,
         input,
@@ -80,7 +80,7 @@ const fn start(line: &'static str, input: &'static str) -> Launch {
 }
 
 /// Whether a run ends with this status, and prints this and tells what begins so.
-fn ends<H: Files>(
+pub(crate) fn ends<H: Files>(
     alloc: Global,
     files: &H,
     start: Launch,

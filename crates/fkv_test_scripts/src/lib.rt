@@ -5,6 +5,8 @@
 #[cfg(test)]
 mod commands;
 #[cfg(test)]
+mod named;
+#[cfg(test)]
 mod printed;
 #[cfg(test)]
 mod streams;

@@ -1,0 +1,92 @@
+//! Feeds that are named on the command line: which are read, and in which order.
+use crate::commands::{ends, start};
+use std::{fs, io};
+
+const FOLDER: &str = "named_feeds";
+
+/// What stands in `named_feeds/a` and `named_feeds/b`, the words of a run over them, its status, and what it prints and
+/// tells. Standard input has a row of its own, which no run reads that names a feed.
+const NAMED: [(&str, &str, &str, u8, &str, &str); 9] = [
+    (
+        "a,1\nb,2\n",
+        "a,5\nc,7\n",
+        "fkv_cli sum named_feeds/a named_feeds/b",
+        0,
+        "a,6\nb,2\nc,7\n",
+        "",
+    ),
+    (
+        "a,1\n",
+        "a,2\n",
+        "fkv_cli count named_feeds/b",
+        0,
+        "a,1\n",
+        "",
+    ),
+    (
+        "a,1\n",
+        "a,2\n",
+        "fkv_cli max named_feeds/a named_feeds/b named_feeds/a",
+        0,
+        "a,2\n",
+        "",
+    ),
+    (
+        "a,1\n",
+        "a,2\nx\n",
+        "fkv_cli sum named_feeds/a named_feeds/b",
+        1,
+        "",
+        "fkv_cli: bad row 2 of feed 2\n",
+    ),
+    (
+        "x\n",
+        "a,1\ny\n",
+        "fkv_cli sum named_feeds/a named_feeds/b",
+        1,
+        "",
+        "fkv_cli: bad row 1 of feed 1\n",
+    ),
+    (
+        "x\n",
+        "a,1\ny\n",
+        "fkv_cli sum named_feeds/b named_feeds/a",
+        1,
+        "",
+        "fkv_cli: bad row 2 of feed 1\n",
+    ),
+    // all feeds are opened before a row is read
+    (
+        "x\n",
+        "",
+        "fkv_cli sum named_feeds/a named_feeds/none",
+        1,
+        "",
+        "fkv_cli: cannot read input 2\n",
+    ),
+    ("", "", "fkv_cli sum named_feeds/a named_feeds/b", 0, "", ""),
+    (
+        "a,1\n",
+        "",
+        "fkv_cli sum named_feeds",
+        1,
+        "",
+        "fkv_cli: cannot read input 1\n",
+    ),
+];
+
+#[test]
+fn named_feeds(rt: HostRuntime) -> io::Result<()> {
+    fs::create_dir_all(&rt, FOLDER)?;
+    for (at, (first, second, line, status, printed, told)) in NAMED.iter().enumerate() {
+        fs::write(&rt, "named_feeds/a", *first)?;
+        fs::write(&rt, "named_feeds/b", *second)?;
+        let run = start(line, "z,9\n");
+        assert!(rt;
+            ends(rt.alloc(), &rt, run, *status, printed, told),
+            "run {at}"
+        );
+    }
+    fs::remove_dir_all(&rt, FOLDER)?;
+    Ok(())
+}
