@@ -1,0 +1,3 @@
+pub mod Histories
+pub mod Merges
+pub mod WrongHistories

@@ -1,0 +1,42 @@
+-- What is pending in a context that is open, and once it was changed.
+use Rattle.std.proofs.Common.{◌≡◌, Bool, true, false, cond, ◌&&◌, ℕ, ◌+◌, ◌*◌, ◌<◌, List, Option, Some, None, slice_get, slice_set, nat_lt, refl, ◌∙◌, ap, arith}
+use Rattle.std.proofs.lemmas.Bool.{eq-eqb}
+use Rattle.std.proofs.lemmas.Bool.Decides.{nat_tests}
+use Rattle.std.specs.declared.cmp.Ordering.{Ordering}
+use Rattle.fkv_functions.proofs.ListLemmas.{get-set_same}
+use Rattle.fkv_texts.specs.Text.{newest, value_of}
+use Rattle.fkv_operations.specs.After.{key_of}
+use Rattle.fkv_partition.specs.Context.{Context}
+use Rattle.fkv_partition.specs.Loading.{Loading}
+use Rattle.fkv_partition.specs.Phase.{Phase}
+use Rattle.fkv_partition.specs.CoreContexts.{joined, is_session, context_in, at_phase}
+use Rattle.fkv_partition.specs.CoreLoading.{AwaitsPage}
+use Rattle.fkv_partition.specs.CoreViews.{CoreView, slots_of, context_at, with_context}
+use Rattle.fkv_partition.specs.Pending.{Pending, pending, pending_of}
+
+joined-some : {A : Type 0} (o : Option (Option A)) (x : A) → joined o ≡ Some x → o ≡ Some (Some x)
+joined-some None x h = absurd (cc)
+joined-some (Some y) x h = ap Some h
+
+-- a context that is open has what was put there last
+set-context : {K V I : Type 0} (slots : List (Option ℕ)) (contexts : List (Option (Context K V I))) (slot c : ℕ) (x : Context K V I) (y : Option (Context K V I))
+    → context_in slots contexts slot c ≡ Some x → context_in slots (slice_set contexts (slot * 8 + c) y) slot c ≡ y
+set-context slots contexts slot c x y h = by_cases (is_session slots slot) (nat_lt c 8) refl refl h
+  where
+    by_cases : (a b : Bool) → is_session slots slot ≡ a → nat_lt c 8 ≡ b → cond (a && b) (joined (slice_get contexts (slot * 8 + c))) None ≡ Some x
+        → context_in slots (slice_set contexts (slot * 8 + c) y) slot c ≡ y
+    by_cases true true p q e = rw (p, q) (ap joined (get-set_same contexts (slot * 8 + c) (Some x) y (joined-some (slice_get contexts (slot * 8 + c)) x e)))
+    by_cases true false p q e = absurd (cc)
+    by_cases false b p q e = absurd (cc)
+
+module _ {K V I : Type 0} (cmp : K → K → Ordering) (v : CoreView K V I) (slot c now : ℕ) (x : Context K V I) (h : context_at v slot c ≡ Some x) where
+  -- what is pending once another operation, or none, stands there
+  pub same-pend : (y : Option (Context K V I)) → pending cmp (with_context v slot c y now) slot c ≡ pending_of cmp v.records y
+  same-pend y = ap (pending_of cmp v.records) (set-context (slots_of v) v.contexts slot c x y h)
+
+  -- what a look-up that waits for a page is to find
+  pub was-pending : (l : Loading) → AwaitsPage v slot c x l → pending cmp v slot c ≡ Some (record { moment = l.looked; value = value_of (newest cmp v.records.text (key_of x.op) l.wanted) })
+  was-pending l a =
+      ap (pending_of cmp v.records) h
+      ∙ ap (λ (p : Phase V). pending_of cmp v.records (Some (at_phase x p))) a.loading
+      ∙ rw (eq-eqb l.begin v.records.begin a.begin) refl

@@ -1,0 +1,5 @@
+pub mod ContextLemmas
+pub mod KeptLemmas
+pub mod TurnLemmas
+pub mod LoadLemmas
+pub mod EmptyLemmas

@@ -1,0 +1,8 @@
+use Rattle.std.proofs.Common.{◌≡◌, ◌+◌, ◌⊎◌, inr}
+use Rattle.fkv_locked.proofs.locked.Locked.go.Goals as goal
+
+pub returns-in-Err-go-clause-refused : goal.returns-in-Err-go-clause-refused
+returns-in-Err-go-clause-refused g c = inr (rw (← c.self.view_is, ← c.in-Ok.ensures.now) c.in-Err-go.ensures.does)
+
+pub returns-clause-does : goal.returns-clause-does
+returns-clause-does g c = (c.in-Ok-go.progress, rw (← c.self.view_is, ← c.in-Ok.ensures.now) c.in-Ok-go.ensures.does, c.note.ensures.tells)

@@ -1,0 +1,25 @@
+use Rattle.std.proofs.Common.{◌≡◌, ◌+◌, ◌<◌, ◌≤◌, ◌∙◌, length, slice_set, sym, ap, arith}
+use Rattle.std.proofs.lemmas.List.{length-set}
+use Rattle.fkv_locked.specs.Kept.{place_of}
+use Rattle.fkv_locked.proofs.TurnLemmas.{issue_keeps}
+use Rattle.fkv_locked.proofs.locked.Locked.issue.Goals as goal
+
+pub invariant_of-self-in-Ok : goal.invariant_of-self-in-Ok
+invariant_of-self-in-Ok g c =
+    let moment = c.issue.ensures.moment in
+    let start = c.starting-self-inside.ensures in
+    let next = c.in-Some.ensures.some in
+    let was = c.self.invariant.0 in
+    let a = c.in-Ok.ensures.within.0 in
+    let b = c.in-Ok.ensures.within.1 in
+    let l = c.self.invariant.1 in (
+      omega arith,
+      rw c.set_mark.ensures (length-set c.self.inside.lows.items (place_of c.args.seat.slot c.in-Ok.context) c.updates-held.result ∙ c.self.invariant.1),
+      c.self.invariant.2,
+      λ k held.
+          let count = c.updates-held.ensures ∙ g.met.H.Recorder.counted c.self.inside.history k in
+          let low : place_of c.args.seat.slot c.in-Ok.context < length c.self.inside.lows.items = omega arith in
+          issue_keeps g.F.Key.Ord.cmp g.F.Functions.meaning c.self.inside.partition c.issue.new.self (g.H.Recorder.entries c.self.inside.history) c.self.inside.lows.items c.self.inside.looks.items c.self.inside.book
+          c.in-Some.now (c.self.invariant.3 k held) c.args.seat.slot c.in-Ok.context c.op.result g.F.Functions.code c.set_mark.new.marks.items b (omega arith) c.in-Ok.ensures.event (c.issue.ensures.pends held)
+          (c.set_mark.ensures ∙ ap (slice_set c.self.inside.lows.items (place_of c.args.seat.slot c.in-Ok.context)) count) low,
+    )

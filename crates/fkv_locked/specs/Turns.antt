@@ -1,0 +1,115 @@
+-- What events of a caller's operation add to a history, and what the caller learns of them.
+use Rattle.std.specs.Prelude.{◌≡◌, ◌≢◌, ◌+◌, ◌-◌, ◌^◌, ◌<◌, ◌≤◌, ◌⊎◌, ℕ, Bool, true, List, [], ◌∷◌, ◌++◌, Option, Some, None, ⊤, if◌then◌else◌}
+use Rattle.std.specs.declared.cmp.Ordering.{Ordering}
+use Rattle.fkv_functions.specs.Meanings.{Meanings}
+use Rattle.fkv_functions.specs.declared.refusals.Refused.{Refused}
+use Rattle.fkv_functions.specs.declared.refusals.Refused.TheVariants.{Unknown, Stranger, Worn, NoMemory}
+use Rattle.fkv_functions.specs.declared.refusals.What.TheVariants as what
+use Rattle.fkv_functions.specs.Plain.{Same}
+use Rattle.fkv_operations.specs.After.{shown_of}
+use Rattle.fkv_operations.specs.Operations.{op_of}
+use Rattle.fkv_operations.specs.declared.operations.KeyedOp.TheVariants.{Read}
+use Rattle.fkv_operations.specs.declared.operations.KeyedOp.{KeyedOp}
+use Rattle.fkv_partition.specs.Progress.{Progress}
+use Rattle.fkv_partition.specs.Progress.TheVariants as progress
+use Rattle.fkv_partition.specs.Pending.{Pending, pending, OthersPend}
+use Rattle.fkv_partition.specs.CoreViews.{live_of}
+use Rattle.fkv_partition.specs.Effect.{Asked, asked, IsEvent, Finds}
+use Rattle.fkv_partition.specs.Views.{PartitionView}
+use Rattle.fkv_histories.specs.declared.entries.Entry.{Entry}
+use Rattle.fkv_histories.specs.Histories.{is_update_entry}
+use Rattle.fkv_locked.specs.declared.seats.Mine.{Mine}
+use Rattle.fkv_locked.specs.declared.turns.Turn.{Turn}
+use Rattle.fkv_locked.specs.declared.turns.Turn.TheVariants.{Done, Next, NeedsBuild, NeedsLoad, Waits}
+
+module _ {K V I : Type 0} where
+  -- what the context of a caller's operation asks while it is open
+  abbrev pub question_of : Mine K V I → Asked K V I
+  question_of mine = record { number = mine.number; op = op_of mine.op }
+
+  -- what is refused before an event of a caller's operation, and why: nothing of it is open there; there are fewer updates
+  -- than the caller was told of; or there is no next number for the updates, the book or the clock
+  abbrev pub IsUnready : Option (Asked K V I) → ℕ → ℕ → ℕ → Mine K V I → Refused → Type 0
+  IsUnready asks count book clock mine Unknown = asks ≢ Some (question_of mine)
+  IsUnready asks count book clock mine (Stranger what.Pass held came) = (held ≡ count) × (came ≡ mine.told) × (count < mine.told)
+  IsUnready asks count book clock mine Worn = (count ≡ 2 ^ 64 - 1) ⊎ (book ≡ 2 ^ 64 - 1) ⊎ (clock ≡ 2 ^ 64 - 1)
+  IsUnready asks count book clock mine NoMemory = ⊤
+  IsUnready asks count book clock mine other = ⊥
+
+-- the entries that a history keeps, how many updates were added to it, and how many operations were finished
+pub record Noted (K V I O : Type 0) : Type 0 where
+  pub entries : List (Entry K V I O)
+  pub count : ℕ
+  pub book : ℕ
+
+module _ {K V I O : Type 0} where
+  -- an entry of this operation, whose place is not before what its caller was told
+  pub record IsOf (mine : Mine K V I) (e : Entry K V I O) : Type 0 where
+    pub session_is : e.session ≡ mine.seat.session
+    pub number_is : e.number ≡ mine.number
+    pub op_is : e.op ≡ mine.op
+    pub fresh : mine.told ≤ e.at
+    pub room : e.at < 2 ^ 64 - 1
+
+  -- one entry more, of this operation, which the book counts
+  pub record Adds (keeps : Bool) (old new : Noted K V I O) (mine : Mine K V I) (e : Entry K V I O) : Type 0 where
+    pub of : IsOf mine e
+    pub book_is : new.book ≡ old.book + 1
+    pub count_is : new.count ≡ old.count + (if is_update_entry e then 1 else 0)
+    pub entries_is : keeps ≡ true → new.entries ≡ old.entries ++ e ∷ []
+
+module _ {K V I O R : Type 0} where
+  -- what an event of a caller's operation adds
+  abbrev pub Turns : Bool → Noted K V I O → Noted K V I O → Mine K V I → Turn K V I O R → Type 0
+  Turns keeps old new mine (Done e) = Adds keeps old new mine e
+  Turns keeps old new mine Next = new ≡ old
+  Turns keeps old new mine (NeedsBuild ask) = new ≡ old
+  Turns keeps old new mine (NeedsLoad r a) = new ≡ old
+  Turns keeps old new mine (Waits why) = new ≡ old
+
+  -- what the caller learns of a turn
+  abbrev pub IsTurnOf : Mine K V I → Turn K V I O R → Type 0
+  IsTurnOf mine (Done e) = IsOf mine e
+  IsTurnOf mine Next = ⊤
+  IsTurnOf mine (NeedsBuild ask) = ⊤
+  IsTurnOf mine (NeedsLoad r a) = ⊤
+  IsTurnOf mine (Waits why) = ⊤
+
+  -- a turn tells what the event told
+  abbrev pub IsToldBy : Progress K V I O R → Turn K V I O R → Type 0
+  IsToldBy (progress.Done a effect) turn = (e : Entry K V I O) × (turn ≡ Done e) × (e.answer ≡ a)
+  IsToldBy progress.Next turn = turn ≡ Next
+  IsToldBy (progress.NeedsBuild ask) turn = turn ≡ NeedsBuild ask
+  IsToldBy (progress.NeedsLoad r a) turn = turn ≡ NeedsLoad r a
+  IsToldBy (progress.Waits why) turn = turn ≡ Waits why
+
+  -- an event of a caller's operation, as its partition tells it
+  pub record IsGone (cmp : K → K → Ordering) (f : Meanings K V I O) (old new : PartitionView K V I) (mine : Mine K V I)
+      (now : ℕ) (p : Progress K V I O R) : Type 0 where
+    pub asks : asked old mine.seat.slot mine.context ≡ Some (question_of mine)
+    pub later : old.core.moment < now
+    pub event : IsEvent cmp f old new mine.seat.slot mine.context now p
+    pub finds : Finds cmp old new mine.seat.slot mine.context now p
+    pub others : OthersPend cmp old.core new.core mine.seat.slot mine.context
+
+  -- what a page that came makes of an operation on a key, for a history: a read is done as its look-up was to find; a look-up
+  -- goes on; or nothing is to be found any more
+  abbrev pub HasCome : Meanings K V I O → Mine K V I → Option (Asked K V I) → Option (Pending V) → Option (Pending V)
+      → Progress K V I O R → Type 0
+  HasCome f mine is was awaits (progress.Done a effect) = (is ≡ None)
+      × ((p : Pending V) × (was ≡ Some p) × ((k : K) × (i : I) × (mine.op ≡ Read k i) × (a ≡ shown_of f k i p.value)))
+  HasCome f mine is was awaits progress.Next = awaits ≡ None
+  HasCome f mine is was awaits (progress.NeedsBuild ask) = awaits ≡ None
+  HasCome f mine is was awaits (progress.NeedsLoad r a) = (is ≡ Some (question_of mine)) × (awaits ≡ was)
+  HasCome f mine is was awaits (progress.Waits why) = awaits ≡ None
+
+  -- a page came for a caller's operation
+  pub record IsCome (cmp : K → K → Ordering) (f : Meanings K V I O) (old new : PartitionView K V I) (mine : Mine K V I)
+      (p : Progress K V I O R) : Type 0 where
+    pub asks : asked old mine.seat.slot mine.context ≡ Some (question_of mine)
+    pub later : old.core.moment ≤ new.core.moment
+    pub effect : HasCome f mine (asked new mine.seat.slot mine.context) (pending cmp old.core mine.seat.slot mine.context)
+        (pending cmp new.core mine.seat.slot mine.context) p
+    pub live : Same (live_of cmp new.core) (live_of cmp old.core)
+    pub rest : (s d : ℕ) → (s ≢ mine.seat.slot) ⊎ (d ≢ mine.context) → asked new s d ≡ asked old s d
+    pub others : OthersPend cmp old.core new.core mine.seat.slot mine.context

@@ -1,0 +1,229 @@
+//! Operations of callers in a locked partition: each call is one event, and what it finishes is noted in the same call.
+ghost use Rattle.std.specs.Prelude.{◌≡◌, ◌+◌, ◌-◌, ◌^◌, ◌<◌, ◌≤◌, ◌⊎◌, ◌↔◌, ℕ, IsTrue, Some, Ok, Err, IfOk, IfErr, OnOk, OnErr, length};
+ghost use Rattle.fkv_pages.specs.Spelled.{IsEntryIn};
+ghost use Rattle.fkv_operations.specs.Operations.{op_of};
+ghost use Rattle.fkv_partition.specs.Effect.{asked, IsGiveUp};
+ghost use Rattle.fkv_partition.specs.Events.{Issues, Goes, Installs, Loads, GivesUp};
+ghost use Rattle.fkv_locked.specs.Locks.{IsTimed, noted, with_partition, with_issue, IsLoadRefused};
+ghost use Rattle.fkv_locked.specs.Turns.{question_of, IsUnready, Turns, IsToldBy};
+
+use crate::locked::{Locked, next_moment};
+use crate::marks::{mark_at, set_mark};
+use crate::seats::{Mine, MineOf, Seat};
+use crate::turns::{TurnOf, make_ready, note, note_loaded};
+use fkv_device::{Loaded, Receipt};
+use fkv_functions::{Built, Functions, Refused, What};
+use fkv_histories::Recorder;
+use fkv_operations::{Clock, KeyedOpOf, is_same_op};
+use fkv_partition::Partition;
+
+/// Whether a caller's operation is open in its context.
+fn is_open<F: Functions, R: Receipt>(partition: &Partition<F, R>, mine: &MineOf<F>) -> bool
+    ensures { IsTrue result
+        ↔ (asked partition.now mine.now.seat.slot mine.now.context ≡ Some (question_of mine.now)) }
+{
+    match partition.asked(mine.seat.slot, mine.context) {
+        Err(_unknown) => false,
+        Ok((number, op)) => number == mine.number && is_same_op::<F>(&op, &mine.op.op()),
+    }
+}
+
+impl<F: Functions, R: Receipt, H: Recorder<F>> Locked<F, R, H> {
+    /// Issues an operation in a session of a caller, which was told of so many updates. Refused, in this order, and then
+    /// nothing changes: `Stranger` where fewer updates stand there, `Worn` where there is no next moment, and what
+    /// [`fkv_partition::Partition::issue`] refuses.
+    pub fn issue(
+        &mut self,
+        seat: Seat,
+        op: KeyedOpOf<F>,
+        told: u64,
+        functions: &F,
+    ) -> Result<MineOf<F>, Refused>
+        ensures issues { IfOk result (λ mine.
+            Issues F.code self.old.partition self.new.partition seat.slot (op_of op) (self.old.clock + 1) (Ok mine.context)) }
+        ensures mine { IfOk result (λ mine. mine
+            ≡ record { seat = seat; context = mine.context; number = self.old.clock + 1; op = op; told = told }) }
+        ensures fresh { IfOk result (λ _. told ≤ self.old.count) }
+        ensures after { IfOk result (λ mine.
+            self.new ≡ with_issue self.old self.new.partition seat.slot mine.context) }
+        ensures err { OnErr result (self.new ≡ self.old) }
+    {
+        let held = self.history.updates();
+        if held < told {
+            return Err(Refused::Stranger {
+                what: What::Pass,
+                held,
+                came: told,
+            });
+        }
+        let Some(now) = next_moment(&self.clock) else {
+            return Err(Refused::Worn);
+        };
+        match self.partition.issue(seat.slot, op.op(), functions, now) {
+            Err(refused) => Err(refused),
+            Ok(context) => {
+                set_mark(&mut self.lows, seat.slot, context, held);
+                self.clock = Clock::starting(now);
+                Ok(Mine {
+                    seat,
+                    context,
+                    number: now,
+                    op,
+                    told,
+                })
+            }
+        }
+    }
+
+    /// Goes on with an operation of a caller, as [`fkv_partition::Partition::go`] does. Refused, in this order, and then
+    /// nothing changes: `Unknown` where something else is open in its context, or nothing; `Stranger` where fewer updates
+    /// stand there than the caller was told of; `Worn` where the updates, the book or the clock have no next number;
+    /// `NoMemory`; and what that refuses.
+    pub fn go(&mut self, mine: &MineOf<F>, functions: &F) -> Result<TurnOf<F, R>, Refused>
+        ensures does { IfOk result (λ turn. (p : _) × Goes R.stands F.Key.cmp F.meaning F.code self.old.partition
+            self.new.partition mine.now.seat.slot mine.now.context (self.old.clock + 1) (Ok p) × IsToldBy p turn) }
+        ensures turns { IfOk result (Turns H.keeps (noted self.old) (noted self.new) mine.now) }
+        ensures refused { IfErr result (λ why.
+            IsUnready (asked self.old.partition mine.now.seat.slot mine.now.context) self.old.count self.old.book
+            self.old.clock mine.now why
+            ⊎ Goes R.stands F.Key.cmp F.meaning F.code self.old.partition self.new.partition mine.now.seat.slot
+            mine.now.context (self.old.clock + 1) (Err why)) }
+        ensures err { OnErr result (self.new ≡ self.old) }
+    {
+        let Locked {
+            partition,
+            history,
+            lows,
+            looks,
+            clock,
+            book,
+            ..
+        } = self;
+        let now = match make_ready(partition, history, clock, *book, mine) {
+            Err(refused) => return Err(refused),
+            Ok(now) => now,
+        };
+        let progress = match partition.go(mine.seat.slot, mine.context, functions, now) {
+            Err(refused) => return Err(refused),
+            Ok(progress) => progress,
+        };
+        *clock = Clock::starting(now);
+        Ok(note::<F, R, H>(history, lows, looks, book, mine, progress))
+    }
+
+    /// Installs what was built for an operation of a caller, as [`fkv_partition::Partition::install`] does. Refused as
+    /// [`Locked::go`] is, with what that refuses, and then nothing changes.
+    pub fn install(
+        &mut self,
+        mine: &MineOf<F>,
+        built: Built<F>,
+        functions: &F,
+    ) -> Result<TurnOf<F, R>, Refused>
+        ensures does { IfOk result (λ turn. (p : _) × Installs F.Key.cmp F.meaning F.code self.old.partition
+            self.new.partition mine.now.seat.slot mine.now.context built (self.old.clock + 1) (Ok p) × IsToldBy p turn) }
+        ensures turns { IfOk result (Turns H.keeps (noted self.old) (noted self.new) mine.now) }
+        ensures refused { IfErr result (λ why.
+            IsUnready (asked self.old.partition mine.now.seat.slot mine.now.context) self.old.count self.old.book
+            self.old.clock mine.now why
+            ⊎ Installs {R = R} F.Key.cmp F.meaning F.code self.old.partition self.new.partition mine.now.seat.slot
+            mine.now.context built (self.old.clock + 1) (Err why)) }
+        ensures err { OnErr result (self.new ≡ self.old) }
+    {
+        let Locked {
+            partition,
+            history,
+            lows,
+            looks,
+            clock,
+            book,
+            ..
+        } = self;
+        let now = match make_ready(partition, history, clock, *book, mine) {
+            Err(refused) => return Err(refused),
+            Ok(now) => now,
+        };
+        let progress = match partition.install(
+            mine.seat.slot,
+            mine.context,
+            built,
+            functions,
+            now,
+        ) {
+            Err(refused) => return Err(refused),
+            Ok(progress) => progress,
+        };
+        *clock = Clock::starting(now);
+        Ok(note::<F, R, H>(history, lows, looks, book, mine, progress))
+    }
+
+    /// Goes on with an operation of a caller for which a page came, or a refusal in its place, as
+    /// [`fkv_partition::Partition::load`] does. Refused, in this order: as [`Locked::go`] is, and then nothing changes;
+    /// `Stranger` where its last look-up was made when fewer updates stood than the caller was told of, and then nothing
+    /// changes; and what that refuses, which may end the operation without effect.
+    pub fn load(
+        &mut self,
+        mine: &MineOf<F>,
+        came: Result<Loaded<R>, Refused>,
+        functions: &F,
+    ) -> Result<TurnOf<F, R>, Refused>
+        ensures does { IfOk result (λ turn. (p : _)
+            × Loads R.stands (IsEntryIn F.Key.bytes_of F.Value.bytes_of F.Key.is_known F.Value.is_known F.Key.SIZE
+            F.Value.SIZE) F.Key.cmp F.meaning F.code self.old.partition self.new.partition mine.now.seat.slot
+            mine.now.context came (self.old.clock + 1) (Ok p)
+            × IsToldBy p turn) }
+        ensures turns { IfOk result (Turns H.keeps (noted self.old) (noted self.new) mine.now) }
+        ensures err { IfErr result (λ _. (self.new ≡ self.old) ⊎ IsLoadRefused self.old self.new mine.now) }
+    {
+        let Locked {
+            partition,
+            history,
+            lows,
+            looks,
+            clock,
+            book,
+            ..
+        } = self;
+        let now = match make_ready(partition, history, clock, *book, mine) {
+            Err(refused) => return Err(refused),
+            Ok(now) => now,
+        };
+        let look = mark_at(looks, mine.seat.slot, mine.context);
+        if look < mine.told || look == u64::MAX {
+            return Err(Refused::Stranger {
+                what: What::Pass,
+                held: look,
+                came: mine.told,
+            });
+        }
+        partition.known();
+        *clock = Clock::starting(now);
+        let progress = match partition.load(mine.seat.slot, mine.context, came, functions, now) {
+            Err(refused) => return Err(refused),
+            Ok(progress) => progress,
+        };
+        Ok(note_loaded::<F, R, H>(history, lows, look, book, mine, progress))
+    }
+
+    /// Gives an operation of a caller up: it ends without effect. Refused, in this order, and then nothing changes: `Unknown`
+    /// where something else is open in its context, or nothing; `Worn` where there is no next moment.
+    pub fn give_up(&mut self, mine: &MineOf<F>) -> Result<(), Refused>
+        ensures does { OnOk result (GivesUp self.old.partition self.new.partition mine.now.seat.slot mine.now.context
+            (self.old.clock + 1) (Ok tt)) }
+        ensures after { OnOk result (self.new ≡ with_partition self.old self.new.partition) }
+        ensures err { OnErr result (self.new ≡ self.old) }
+    {
+        if !is_open::<F, R>(&self.partition, mine) {
+            return Err(Refused::Unknown);
+        }
+        let Some(now) = next_moment(&self.clock) else {
+            return Err(Refused::Worn);
+        };
+        match self.partition.give_up(mine.seat.slot, mine.context, now) {
+            Err(refused) => Err(refused),
+            Ok(()) => {
+                self.clock = Clock::starting(now);
+                Ok(())
+            }
+        }
+    }
+}

@@ -1,0 +1,188 @@
+//! What an event of a caller's operation comes to, and what it adds to the history.
+ghost use Rattle.std.specs.Prelude.{◌≡◌, ℕ, ◌+◌, ◌-◌, ◌^◌, ◌<◌, ◌≤◌, true, List, length, slice_index, Some, IfOk, IfErr, OnOk, OnErr};
+ghost use Rattle.fkv_operations.specs.Operations.{op_of};
+ghost use Rattle.fkv_partition.specs.Effect.{asked};
+ghost use Rattle.fkv_partition.specs.Views.{PartitionView};
+ghost use Rattle.fkv_locked.specs.Kept.{seen, place_of, IsKept};
+ghost use Rattle.fkv_locked.specs.Turns.{question_of, IsUnready, Turns, IsToldBy, IsGone, IsCome};
+
+use crate::marks::{mark_at, set_mark};
+use crate::seats::MineOf;
+use fkv_device::Receipt;
+use fkv_functions::{Ask, Functions, Refused, What};
+use fkv_histories::{Entry, Recorder};
+use fkv_operations::{Clock, is_same_op};
+use fkv_partition::{Partition, Progress, ProgressOf, Wait};
+use fkv_records::Address;
+
+/// What an event of a caller's operation comes to.
+#[derive(Drop)]
+pub enum Turn<K, V, I, O, R: Drop> {
+    /// The operation is finished, with this entry.
+    Done(Entry<K, V, I, O>),
+    /// It is to go on.
+    Next,
+    /// It needs this question answered.
+    NeedsBuild(Ask<K, V, I>),
+    /// It needs the page of this address, to be read by this receipt.
+    NeedsLoad(R, Address),
+    /// It can't go on yet, for this reason; it is to be tried again.
+    Waits(Wait),
+}
+
+/// The turns of one type of functions on one kind of device.
+pub type TurnOf<F, R> = Turn<
+    <F as Functions>::Key,
+    <F as Functions>::Value,
+    <F as Functions>::Input,
+    <F as Functions>::Output,
+    R,
+>;
+
+/// Makes ready for an event of an operation that may finish it: what is open is compared with what the caller asked, and
+/// room is made for an entry. Answers the next moment. Refused, in this order, and then nothing changes: `Unknown` where
+/// something else is open there, or nothing; `Stranger` where fewer updates stand there than the caller was told of; `Worn`
+/// where the updates, the book or the clock have no next number; `NoMemory`.
+pub(crate) fn make_ready<F: Functions, R: Receipt, H: Recorder<F>>(
+    partition: &Partition<F, R>,
+    history: &mut H,
+    clock: &Clock,
+    book: u64,
+    mine: &MineOf<F>,
+) -> Result<u64, Refused>
+    ensures entries { H.entries history.new ≡ H.entries history.old }
+    ensures count { H.count history.new ≡ H.count history.old }
+    ensures spare { OnOk result (1 ≤ H.spare history.new) }
+    ensures asks { OnOk result (asked partition.now mine.now.seat.slot mine.now.context ≡ Some (question_of mine.now)) }
+    ensures within { OnOk result ((mine.now.seat.slot < 16) × (mine.now.context < 8)) }
+    ensures now { IfOk result (λ now. now ≡ clock.now + 1) }
+    ensures room { OnOk result ((H.count history.old < 2 ^ 64 - 1) × (book < 2 ^ 64 - 1)) }
+    ensures told { OnOk result (mine.now.told ≤ H.count history.old) }
+    ensures only { IfErr result (IsUnready (asked partition.now mine.now.seat.slot mine.now.context)
+        (H.count history.old) book clock.now mine.now) }
+{
+    let Ok((number, op)) = partition.asked(mine.seat.slot, mine.context) else {
+        return Err(Refused::Unknown);
+    };
+    if number != mine.number || !is_same_op::<F>(&op, &mine.op.op()) {
+        return Err(Refused::Unknown);
+    }
+    let held = history.updates();
+    if held < mine.told {
+        return Err(Refused::Stranger {
+            what: What::Pass,
+            held,
+            came: mine.told,
+        });
+    }
+    if held == u64::MAX || book == u64::MAX {
+        return Err(Refused::Worn);
+    }
+    let Some(now) = clock.last().checked_add(1) else {
+        return Err(Refused::Worn);
+    };
+    match history.grow() {
+        Err(refused) => Err(refused),
+        Ok(()) => Ok(now),
+    }
+}
+
+/// Notes what an event of an operation told, beside its partition: what is finished is added to the history, at the end of
+/// its updates, and to the book; and where a page is asked for, it is kept how many updates stand there.
+pub(crate) fn note<F: Functions, R: Receipt, H: Recorder<F>>(
+    history: &mut H,
+    lows: &Vec<u64>,
+    looks: &mut Vec<u64>,
+    book: &mut u64,
+    mine: &MineOf<F>,
+    progress: ProgressOf<F, R>,
+) -> TurnOf<F, R>
+    requires spare { 1 ≤ H.spare history.old }
+    requires room { (H.count history.old < 2 ^ 64 - 1) × (book.old < 2 ^ 64 - 1) }
+    requires told { mine.now.told ≤ H.count history.old }
+    requires within { (mine.now.seat.slot < 16) × (mine.now.context < 8) }
+    requires marks { (length lows.now.items ≡ 128) × (length looks.old.items ≡ 128) }
+    ensures kept { H.keeps ≡ true → (old new : PartitionView F.Key F.Value F.Input) (now : ℕ)
+        → IsGone {R = R} F.Key.cmp F.meaning old new mine.now now progress
+        → IsKept F.Key.cmp F.meaning (seen F.Key.cmp old) (H.entries history.old) lows.now.items looks.old.items book.old
+        → IsKept F.Key.cmp F.meaning (seen F.Key.cmp new) (H.entries history.new) lows.now.items looks.new.items
+        book.new }
+    ensures marks { length looks.new.items ≡ 128 }
+    ensures turns { Turns H.keeps
+        (record { entries = H.entries history.old; count = H.count history.old; book = book.old })
+        (record { entries = H.entries history.new; count = H.count history.new; book = book.new }) mine.now result }
+    ensures tells { IsToldBy progress result }
+{
+    let at = history.updates();
+    match progress {
+        Progress::Next => Turn::Next,
+        Progress::NeedsBuild(ask) => Turn::NeedsBuild(ask),
+        Progress::Waits(why) => Turn::Waits(why),
+        Progress::NeedsLoad(receipt, address) => {
+            set_mark(looks, mine.seat.slot, mine.context, at);
+            Turn::NeedsLoad(receipt, address)
+        }
+        Progress::Done(answer, _effect) => {
+            let entry = Entry {
+                session: mine.seat.session,
+                number: mine.number,
+                op: mine.op,
+                answer,
+                low: mark_at(lows, mine.seat.slot, mine.context),
+                at,
+                high: at,
+            };
+            history.add(entry);
+            *book += 1;
+            Turn::Done(entry)
+        }
+    }
+}
+
+/// Notes what a page that came made of an operation, whose look-up was made when so many updates stood: a read that is
+/// finished stands there among the updates.
+pub(crate) fn note_loaded<F: Functions, R: Receipt, H: Recorder<F>>(
+    history: &mut H,
+    lows: &Vec<u64>,
+    look: u64,
+    book: &mut u64,
+    mine: &MineOf<F>,
+    progress: ProgressOf<F, R>,
+) -> TurnOf<F, R>
+    requires spare { 1 ≤ H.spare history.old }
+    requires room { (H.count history.old < 2 ^ 64 - 1) × (book.old < 2 ^ 64 - 1) × (look < 2 ^ 64 - 1) }
+    requires told { mine.now.told ≤ look }
+    requires within { (mine.now.seat.slot < 16) × (mine.now.context < 8) }
+    requires marks { length lows.now.items ≡ 128 }
+    ensures kept { H.keeps ≡ true → (old new : PartitionView F.Key F.Value F.Input) (looks : List ℕ)
+        → look ≡ slice_index looks (place_of mine.now.seat.slot mine.now.context)
+        → IsCome {R = R} F.Key.cmp F.meaning old new mine.now progress
+        → IsKept F.Key.cmp F.meaning (seen F.Key.cmp old) (H.entries history.old) lows.now.items looks book.old
+        → IsKept F.Key.cmp F.meaning (seen F.Key.cmp new) (H.entries history.new) lows.now.items looks book.new }
+    ensures turns { Turns H.keeps
+        (record { entries = H.entries history.old; count = H.count history.old; book = book.old })
+        (record { entries = H.entries history.new; count = H.count history.new; book = book.new }) mine.now result }
+    ensures tells { IsToldBy progress result }
+{
+    let high = history.updates();
+    match progress {
+        Progress::Next => Turn::Next,
+        Progress::NeedsBuild(ask) => Turn::NeedsBuild(ask),
+        Progress::Waits(why) => Turn::Waits(why),
+        Progress::NeedsLoad(receipt, address) => Turn::NeedsLoad(receipt, address),
+        Progress::Done(answer, _effect) => {
+            let entry = Entry {
+                session: mine.seat.session,
+                number: mine.number,
+                op: mine.op,
+                answer,
+                low: mark_at(lows, mine.seat.slot, mine.context),
+                at: look,
+                high,
+            };
+            history.add(entry);
+            *book += 1;
+            Turn::Done(entry)
+        }
+    }
+}
