@@ -22,6 +22,13 @@ use Rattle.fkv_locked.specs.declared.seats.Mine.{Mine}
 use Rattle.fkv_locked.specs.declared.turns.Turn.{Turn}
 use Rattle.fkv_locked.specs.declared.turns.Turn.TheVariants.{Done, Next, NeedsBuild, NeedsLoad, Waits}
 
+-- what is refused of an issue before its partition is asked: there are fewer updates than the caller was told of, or there
+-- is no next moment
+abbrev pub IsUnheard : ℕ → ℕ → ℕ → Refused → Type 0
+IsUnheard count clock told (Stranger what.Pass held came) = (held ≡ count) × (came ≡ told) × (count < told)
+IsUnheard count clock told Worn = clock ≡ 2 ^ 64 - 1
+IsUnheard count clock told other = ⊥
+
 module _ {K V I : Type 0} where
   -- what the context of a caller's operation asks while it is open
   abbrev pub question_of : Mine K V I → Asked K V I
@@ -35,6 +42,13 @@ module _ {K V I : Type 0} where
   IsUnready asks count book clock mine Worn = (count ≡ 2 ^ 64 - 1) ⊎ (book ≡ 2 ^ 64 - 1) ⊎ (clock ≡ 2 ^ 64 - 1)
   IsUnready asks count book clock mine NoMemory = ⊤
   IsUnready asks count book clock mine other = ⊥
+
+  -- a page that came is refused where its look-up was made when fewer updates stood than the caller was told of, or as many
+  -- as have no next number
+  abbrev pub IsLookedEarly : ℕ → Mine K V I → Refused → Type 0
+  IsLookedEarly look mine (Stranger what.Pass held came) =
+      (held ≡ look) × (came ≡ mine.told) × ((look < mine.told) ⊎ (look ≡ 2 ^ 64 - 1))
+  IsLookedEarly look mine other = ⊥
 
 -- the entries that a history keeps, how many updates were added to it, and how many operations were finished
 pub record Noted (K V I O : Type 0) : Type 0 where

@@ -1,11 +1,12 @@
 //! Operations of callers in a locked partition: each call is one event, and what it finishes is noted in the same call.
-ghost use Rattle.std.specs.Prelude.{◌≡◌, ◌+◌, ◌-◌, ◌^◌, ◌<◌, ◌≤◌, ◌⊎◌, ◌↔◌, ℕ, IsTrue, Some, Ok, Err, IfOk, IfErr, OnOk, OnErr, length};
+ghost use Rattle.std.specs.Prelude.{◌≡◌, ◌≢◌, ◌+◌, ◌-◌, ◌^◌, ◌<◌, ◌≤◌, ◌⊎◌, ◌↔◌, ℕ, IsTrue, Some, Ok, Err, IfOk, IfErr, OnOk, OnErr, length, slice_index};
 ghost use Rattle.fkv_pages.specs.Spelled.{IsEntryIn};
 ghost use Rattle.fkv_operations.specs.Operations.{op_of};
 ghost use Rattle.fkv_partition.specs.Effect.{asked, IsGiveUp};
 ghost use Rattle.fkv_partition.specs.Events.{Issues, Goes, Installs, Loads, GivesUp};
+ghost use Rattle.fkv_locked.specs.Kept.{place_of};
 ghost use Rattle.fkv_locked.specs.Locks.{IsTimed, noted, with_partition, with_issue, IsLoadRefused};
-ghost use Rattle.fkv_locked.specs.Turns.{question_of, IsUnready, Turns, IsToldBy};
+ghost use Rattle.fkv_locked.specs.Turns.{question_of, IsUnheard, IsUnready, IsLookedEarly, Turns, IsToldBy};
 
 use crate::locked::{Locked, next_moment};
 use crate::marks::{mark_at, set_mark};
@@ -46,6 +47,8 @@ impl<F: Functions, R: Receipt, H: Recorder<F>> Locked<F, R, H> {
         ensures fresh { IfOk result (λ _. told ≤ self.old.count) }
         ensures after { IfOk result (λ mine.
             self.new ≡ with_issue self.old self.new.partition seat.slot mine.context) }
+        ensures refused { IfErr result (λ why. IsUnheard self.old.count self.old.clock told why
+            ⊎ Issues F.code self.old.partition self.new.partition seat.slot (op_of op) (self.old.clock + 1) (Err why)) }
         ensures err { OnErr result (self.new ≡ self.old) }
     {
         let held = self.history.updates();
@@ -172,6 +175,13 @@ impl<F: Functions, R: Receipt, H: Recorder<F>> Locked<F, R, H> {
             mine.now.context came (self.old.clock + 1) (Ok p)
             × IsToldBy p turn) }
         ensures turns { IfOk result (Turns H.keeps (noted self.old) (noted self.new) mine.now) }
+        ensures refused { IfErr result (λ why.
+            IsUnready (asked self.old.partition mine.now.seat.slot mine.now.context) self.old.count self.old.book
+            self.old.clock mine.now why
+            ⊎ IsLookedEarly (slice_index self.old.looks (place_of mine.now.seat.slot mine.now.context)) mine.now why
+            ⊎ Loads R.stands (IsEntryIn F.Key.bytes_of F.Value.bytes_of F.Key.is_known F.Value.is_known F.Key.SIZE
+            F.Value.SIZE) F.Key.cmp F.meaning F.code self.old.partition self.new.partition mine.now.seat.slot
+            mine.now.context came (self.old.clock + 1) (Err why)) }
         ensures err { IfErr result (λ _. (self.new ≡ self.old) ⊎ IsLoadRefused self.old self.new mine.now) }
     {
         let Locked {
@@ -210,6 +220,12 @@ impl<F: Functions, R: Receipt, H: Recorder<F>> Locked<F, R, H> {
         ensures does { OnOk result (GivesUp self.old.partition self.new.partition mine.now.seat.slot mine.now.context
             (self.old.clock + 1) (Ok tt)) }
         ensures after { OnOk result (self.new ≡ with_partition self.old self.new.partition) }
+        ensures refused { IfErr result (λ why.
+            ((why ≡ Refused.Unknown)
+            × (asked self.old.partition mine.now.seat.slot mine.now.context ≢ Some (question_of mine.now)))
+            ⊎ ((why ≡ Refused.Worn) × (self.old.clock ≡ 2 ^ 64 - 1))
+            ⊎ GivesUp self.old.partition self.new.partition mine.now.seat.slot mine.now.context (self.old.clock + 1)
+            (Err why)) }
         ensures err { OnErr result (self.new ≡ self.old) }
     {
         if !is_open::<F, R>(&self.partition, mine) {

@@ -1,4 +1,4 @@
-use Rattle.std.proofs.Common.{◌≡◌, ◌+◌, ◌<◌, ◌≤◌, ◌∙◌, length, slice_set, sym, ap, arith}
+use Rattle.std.proofs.Common.{◌≡◌, ◌+◌, ◌<◌, ◌≤◌, ◌∙◌, inr, length, slice_set, sym, ap, arith}
 use Rattle.std.proofs.lemmas.List.{length-set}
 use Rattle.fkv_locked.specs.Kept.{place_of}
 use Rattle.fkv_locked.proofs.TurnLemmas.{issue_keeps}
@@ -23,3 +23,6 @@ invariant_of-self-in-Ok g c =
           c.in-Some.now (c.self.invariant.3 k held) c.args.seat.slot c.in-Ok.context c.op.result g.F.Functions.code c.set_mark.new.marks.items b (omega arith) c.in-Ok.ensures.event (c.issue.ensures.pends held)
           (c.set_mark.ensures ∙ ap (slice_set c.self.inside.lows.items (place_of c.args.seat.slot c.in-Ok.context)) count) low,
     )
+
+pub returns-in-Err-clause-refused : goal.returns-in-Err-clause-refused
+returns-in-Err-clause-refused g c = rw (← c.self.view_is, ← c.in-Some.ensures.some, ← c.op.ensures) (inr c.in-Err.ensures.does)

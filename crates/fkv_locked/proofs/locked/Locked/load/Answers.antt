@@ -1,4 +1,4 @@
-use Rattle.std.proofs.Common.{◌≡◌, ◌+◌, ◌<◌, ◌≤◌, arith}
+use Rattle.std.proofs.Common.{◌≡◌, ◌+◌, ◌<◌, ◌≤◌, inr, arith}
 use Rattle.fkv_locked.proofs.TurnLemmas.{failed_keeps}
 use Rattle.fkv_locked.proofs.LoadLemmas.{load_comes}
 use Rattle.fkv_locked.proofs.locked.Locked.load.Goals as goal
@@ -37,3 +37,6 @@ invariant_of-self-2 g c =
 
 pub returns-clause-does : goal.returns-clause-does
 returns-clause-does g c = (c.in-Ok-load.progress, rw (← c.self.view_is, ← c.in-Ok.ensures.now) c.in-Ok-load.ensures.does, c.note_loaded.ensures.tells)
+
+pub returns-in-Err-load-clause-refused : goal.returns-in-Err-load-clause-refused
+returns-in-Err-load-clause-refused g c = rw (← c.self.view_is, ← c.in-Ok.ensures.now) (inr (inr c.in-Err-load.ensures.does))
