@@ -37,7 +37,7 @@ AreFeeds limit (feed ∷ feeds) rows =
 abbrev pub most_rows : ℕ
 most_rows = 2 ^ 40
 
--- the table of feeds: each key of a row with what its amounts come to, keys rising
+-- the table of feeds: each key whose amounts come to a value, with that value, keys rising
 pub record IsTableOf {V O : Type 0} (f : Meanings Name V ℤ O) (feeds : List (Option (List ℕ))) (pairs : List (Name × V))
     : Type 0 where
   pub rows : List (Name × ℤ)

@@ -78,10 +78,10 @@ fn read_feeds<S: Source, F: Functions<Key = Name, Input = i64>, D: Disk>(
     Ok(())
 }
 
-/// The table of these feeds: each key of a row, with what its amounts come to by these functions. The feeds are read
-/// one after the other, to their ends, and each row is one update of a store of this configuration over this device,
-/// through the events of its partitions. On a device that keeps, the table is that of the rows; on any other the
-/// refusals below are still told as they are said.
+/// The table of these feeds: each key whose amounts come to a value by these functions, with that value. That is each key
+/// of a row, but those whose updates are all declined. The feeds are read one after the other, to their ends, and each row
+/// is one update of a store of this configuration over this device, through the events of its partitions. On a device that
+/// keeps, the table is that of the rows; on any other the refusals below are still told as they are said.
 ///
 /// # Errors
 ///
