@@ -1,3 +1,4 @@
 pub mod AmountLemmas
 pub mod DigitLemmas
 pub mod RecordLemmas
+pub mod ReadingLemmas

@@ -47,18 +47,22 @@ abbrev pub IsFeed : ℕ → Option (List ℕ) → List (Name × ℤ) → Type 0
 IsFeed limit None rows = Unit {0}
 IsFeed limit (Some bytes) rows = AreRowsOf limit (without_mark bytes) rows
 
--- Why the reading of this feed was refused, whose stream had failed so often before, and so often after. It is told as
--- unreadable where its stream failed in the reading, or where it has a record too many. A device's fault is one that
--- `fault` says.
+-- Why this feed was not read to its end, whose stream had failed so often before, and so often after. It is told as
+-- unreadable where its stream failed in the reading, or where it has a record too many.
+abbrev pub TellsUnread : ℕ → ℕ → Option (List ℕ) → ℕ → ℕ → Refused → Type 0
+TellsUnread feed limit bytes old new NoMemory = new ≡ old
+TellsUnread feed limit bytes old new (BadRow f n) =
+    (new ≡ old) × (f ≡ feed) × IfSome bytes (λ b. IsBadRow (without_mark b) n)
+TellsUnread feed limit bytes old new (Unreadable f) =
+    (f ≡ feed)
+    × ((new ≡ one_more old) ⊎ ((new ≡ old) × IfSome bytes (λ b. IsTooLong limit (without_mark b))))
+TellsUnread feed limit bytes old new other = ⊥
+
+-- Why the reading of this feed into partitions was refused: an update of a row was, where a device's fault is one that
+-- `fault` says; or the feed was not read to its end.
 abbrev pub TellsWhy : (Refused → Type 0) → ℕ → ℕ → Option (List ℕ) → ℕ → ℕ → Refused → Type 0
-TellsWhy fault feed limit bytes old new NoMemory = new ≡ old
 TellsWhy fault feed limit bytes old new Worn = new ≡ old
 TellsWhy fault feed limit bytes old new Stalled = new ≡ old
 TellsWhy fault feed limit bytes old new (Device code page) = (new ≡ old) × fault (Device code page)
 TellsWhy fault feed limit bytes old new (Damaged page) = (new ≡ old) × fault (Damaged page)
-TellsWhy fault feed limit bytes old new (BadRow f n) =
-    (new ≡ old) × (f ≡ feed) × IfSome bytes (λ b. IsBadRow (without_mark b) n)
-TellsWhy fault feed limit bytes old new (Unreadable f) =
-    (f ≡ feed)
-    × ((new ≡ one_more old) ⊎ ((new ≡ old) × IfSome bytes (λ b. IsTooLong limit (without_mark b))))
-TellsWhy fault feed limit bytes old new other = ⊥
+TellsWhy fault feed limit bytes old new other = TellsUnread feed limit bytes old new other

@@ -6,7 +6,7 @@ use Rattle.csv.specs.declared.reader.Trim.TheVariants as trim
 use Rattle.csv.specs.declared.reader.Reader.{Reader}
 use Rattle.fkv_functions.specs.declared.names.Name.{Name}
 use Rattle.fkv_functions.specs.declared.refusals.Refused.{Refused}
-use Rattle.fkv_functions.specs.declared.refusals.Refused.TheVariants.{NoMemory, Worn, Stalled, BadRow, Unreadable, Device, Damaged}
+use Rattle.fkv_functions.specs.declared.refusals.Refused.TheVariants.{NoMemory, BadRow, Unreadable}
 use Rattle.fkv_streams.specs.Counting.{one_more}
 use Rattle.fkv_feed_rows.specs.Feeds.{AreRowsOf, IsBadRow, IsTooLong}
 
@@ -27,13 +27,9 @@ abbrev pub AreRowsIn : ℕ → Option (List ℕ) → List (Name × ℤ) → Type
 AreRowsIn limit None rows = ⊤
 AreRowsIn limit (Some bytes) rows = AreRowsOf limit bytes rows
 
--- why the rows of these bytes were not all taken; a device's fault is one that `fault` says
-abbrev pub TellsOf : (Refused → Type 0) → ℕ → ℕ → Option (List ℕ) → Refused → Type 0
-TellsOf fault feed limit bytes NoMemory = ⊤
-TellsOf fault feed limit bytes Worn = ⊤
-TellsOf fault feed limit bytes Stalled = ⊤
-TellsOf fault feed limit bytes (Device code page) = fault (Device code page)
-TellsOf fault feed limit bytes (Damaged page) = fault (Damaged page)
-TellsOf fault feed limit bytes (BadRow f n) = (f ≡ feed) × IfSome bytes (λ b. IsBadRow b n)
-TellsOf fault feed limit bytes (Unreadable f) = (f ≡ feed) × IfSome bytes (λ b. IsTooLong limit b)
-TellsOf fault feed limit bytes other = ⊥
+-- why the rows of these bytes were not all read
+abbrev pub TellsOf : ℕ → ℕ → Option (List ℕ) → Refused → Type 0
+TellsOf feed limit bytes NoMemory = ⊤
+TellsOf feed limit bytes (BadRow f n) = (f ≡ feed) × IfSome bytes (λ b. IsBadRow b n)
+TellsOf feed limit bytes (Unreadable f) = (f ≡ feed) × IfSome bytes (λ b. IsTooLong limit b)
+TellsOf feed limit bytes other = ⊥

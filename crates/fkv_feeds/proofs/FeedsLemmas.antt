@@ -1,21 +1,20 @@
 -- Feeds that are read one after the other.
-use Rattle.std.proofs.Common.{◌≡◌, Bool, ◌⊎◌, ℕ, zero, suc, ◌+◌, ◌-◌, inl, inr, ℤ, List, [], ◌∷◌, ◌++◌, length, map, take, drop, Option, Some, None, slice_get, slice_set, get_or, refl, sym, ◌∙◌, ap, subst, arith, append_assoc}
+use Rattle.std.proofs.Common.{◌≡◌, Bool, ◌⊎◌, ℕ, zero, suc, ◌+◌, ◌-◌, inl, inr, ℤ, List, [], ◌∷◌, ◌++◌, length, map, take, drop, Option, Some, slice_get, slice_set, get_or, refl, sym, ◌∙◌, ap, subst, arith, append_assoc}
 use Rattle.std.proofs.lemmas.List.{append-nil}
 use Rattle.std.specs.Prelude.{slice_index}
 use Rattle.fkv_functions.specs.declared.names.Name.{Name}
 use Rattle.fkv_functions.specs.declared.refusals.Refused.{Refused}
 use Rattle.fkv_functions.specs.declared.refusals.Refused.TheVariants.{NoMemory, BadConfig, Worn, Stalled, BadRow, Unreadable, Device, Damaged}
 use Rattle.fkv_streams.specs.Counting.{one_more}
-use Rattle.fkv_feed_rows.specs.Feeds.{IsFeed, IsBadRow, IsTooLong, TellsWhy, without_mark}
-use Rattle.fkv_feed_rows.specs.Watching.{TellsOf}
+use Rattle.fkv_feed_rows.specs.Feeds.{IsFeed, TellsUnread, TellsWhy}
 use Rattle.fkv_feeds.specs.Tables.{AreFeeds, most_rows}
-use Rattle.std.specs.Prelude.{Result, Ok, Err, IfOk, IfErr, IfSome, OnOk, option_map}
+use Rattle.std.specs.Prelude.{Result, Ok, Err, IfOk, IfErr, OnOk}
 use Rattle.fkv_partition.specs.Config.{Config}
 use Rattle.std.specs.declared.cmp.Ordering.{Ordering}
 use Rattle.fkv_device.specs.Failing.{FailsOnlyBy, ReadFailsBy}
 use Rattle.fkv_hybrid.specs.Scans.{IsScanRefusal}
 use Rattle.fkv_feeds.specs.Faults.{Spelling, IsFault, IsDeviceFault}
-use Rattle.fkv_feeds.specs.Refusing.{IsReached, counted_at, TellsStopped, TellsWhyNone}
+use Rattle.fkv_feeds.specs.Refusing.{IsRowRefusal, IsReached, counted_at, TellsStopped, TellsWhyNone}
 
 -- ---- lists
 split-map : {S A : Type 0} (f : S → A) (xs : List S) (i : ℕ) (x : S) → slice_get xs i ≡ Some x → map f xs ≡ map f (take i xs) ++ f x ∷ map f (drop (suc i) xs)
@@ -143,37 +142,40 @@ stopped-by fault feeds old new e same f why = elim why [
   ]
 ]
 
-pub row-told : (fault : Refused → Type 0) (feed limit : ℕ) (bytes : Option (List ℕ)) (e : Refused) → (fault e → IsOfDevice e) → (e ≡ NoMemory) ⊎ (e ≡ Worn) ⊎ (e ≡ Stalled) ⊎ fault e → TellsOf fault feed limit bytes e
-row-told fault feed limit bytes e shape why = elim why [
-  | inl a ↦ rw a tt
+-- of a row that was refused
+row-told : (fault : Refused → Type 0) (feed limit : ℕ) (bytes : Option (List ℕ)) (old new : ℕ) (e : Refused) → (fault e → IsOfDevice e) → new ≡ old
+    → IsRowRefusal fault e
+    → TellsWhy fault feed limit bytes old new e
+row-told fault feed limit bytes old new e shape same why = elim why [
+  | inl a ↦ rw a same
   | inr b ↦ elim b [
-    | inl a ↦ rw a tt
+    | inl a ↦ rw a same
     | inr d ↦ elim d [
-      | inl a ↦ rw a tt
+      | inl a ↦ rw a same
       | inr f ↦ elim (shape f) [
-        | inl a ↦ rw a tt
+        | inl a ↦ rw a same
         | inr m ↦ elim m [
-          | inl n ↦ (let g = rw n.2 at f in rw n.2 g)
-          | inr n ↦ (let g = rw n.1 at f in rw n.1 g)
+          | inl n ↦ (let g = rw n.2 at f in rw n.2 (same, g))
+          | inr n ↦ (let g = rw n.1 at f in rw n.1 (same, g))
         ]
       ]
     ]
   ]
 ]
 
-some-unmarked : (P : List ℕ → Type 0) (bytes : Option (List ℕ)) → IfSome (option_map without_mark bytes) P → IfSome bytes (λ b. P (without_mark b))
-some-unmarked P None h = tt
-some-unmarked P (Some b) h = h
+unread-told : (fault : Refused → Type 0) (feed limit : ℕ) (bytes : Option (List ℕ)) (old new : ℕ) (e : Refused) → TellsUnread feed limit bytes old new e → TellsWhy fault feed limit bytes old new e
+unread-told fault feed limit bytes old new Worn t = absurd t
+unread-told fault feed limit bytes old new Stalled t = absurd t
+unread-told fault feed limit bytes old new (Device code page) t = absurd t
+unread-told fault feed limit bytes old new (Damaged page) t = absurd t
+unread-told fault feed limit bytes old new other t = t
 
-pub feed-told : (fault : Refused → Type 0) (feed limit : ℕ) (bytes : Option (List ℕ)) (old new : ℕ) (e : Refused) → new ≡ old → TellsOf fault feed limit (option_map without_mark bytes) e → TellsWhy fault feed limit bytes old new e
-feed-told fault feed limit bytes old new NoMemory same t = same
-feed-told fault feed limit bytes old new Worn same t = same
-feed-told fault feed limit bytes old new Stalled same t = same
-feed-told fault feed limit bytes old new (Device code page) same t = (same, t)
-feed-told fault feed limit bytes old new (Damaged page) same t = (same, t)
-feed-told fault feed limit bytes old new (BadRow f n) same t = (same, t.0, some-unmarked (λ b. IsBadRow b n) bytes t.1)
-feed-told fault feed limit bytes old new (Unreadable f) same t = (t.0, inr (same, some-unmarked (λ b. IsTooLong limit b) bytes t.1))
-feed-told fault feed limit bytes old new other same t = absurd t
+-- of a feed that was not read into partitions
+pub feed-told : (fault : Refused → Type 0) (feed limit : ℕ) (bytes : Option (List ℕ)) (old new : ℕ) (e : Refused) → (fault e → IsOfDevice e)
+    → (IsRowRefusal fault e × (new ≡ old)) ⊎ TellsUnread feed limit bytes old new e
+    → TellsWhy fault feed limit bytes old new e
+feed-told fault feed limit bytes old new e shape (inl why) = row-told fault feed limit bytes old new e shape why.1 why.0
+feed-told fault feed limit bytes old new e shape (inr t) = unread-told fault feed limit bytes old new e t
 
 opens-by : (old new : ℕ) (e : Refused) → FailsOnlyBy 1 0 old new e → IsOfDevice e
 opens-by old new e f = elim f [ inl a ↦ inl a.0 | inr b ↦ inr (inl (1, 0, b.0)) ]

@@ -15,6 +15,10 @@ pub record IsRunnable (config : Config) (record_size feeds : ℕ) : Type 0 where
   pub least : 1 ≤ feeds
   pub most : feeds ≤ 64
 
+-- why an update of a row is refused; a device's fault is one that `fault` says
+abbrev pub IsRowRefusal : (Refused → Type 0) → Refused → Type 0
+IsRowRefusal fault why = (why ≡ NoMemory) ⊎ (why ≡ Worn) ⊎ (why ≡ Stalled) ⊎ fault why
+
 -- feed n, counted from 1, is this one, and those before it have rows
 pub record IsReached (feeds : List (Option (List ℕ))) (n : ℕ) (here : Option (List ℕ)) : Type 0 where
   pub before : List (Option (List ℕ))

@@ -1,7 +1,6 @@
 -- What is pending in a context that is open, and once it was changed.
-use Rattle.std.proofs.Common.{◌≡◌, Bool, true, false, cond, ◌&&◌, ℕ, ◌+◌, ◌*◌, ◌<◌, List, Option, Some, None, slice_get, slice_set, nat_lt, refl, ◌∙◌, ap, arith}
+use Rattle.std.proofs.Common.{◌≡◌, Bool, true, false, cond, ◌&&◌, ℕ, ◌+◌, ◌*◌, List, Option, Some, None, slice_get, slice_set, nat_lt, refl, ◌∙◌, ap}
 use Rattle.std.proofs.lemmas.Bool.{eq-eqb}
-use Rattle.std.proofs.lemmas.Bool.Decides.{nat_tests}
 use Rattle.std.specs.declared.cmp.Ordering.{Ordering}
 use Rattle.fkv_functions.proofs.ListLemmas.{get-set_same}
 use Rattle.fkv_texts.specs.Text.{newest, value_of}
@@ -12,7 +11,7 @@ use Rattle.fkv_partition.specs.Phase.{Phase}
 use Rattle.fkv_partition.specs.CoreContexts.{joined, is_session, context_in, at_phase}
 use Rattle.fkv_partition.specs.CoreLoading.{AwaitsPage}
 use Rattle.fkv_partition.specs.CoreViews.{CoreView, slots_of, context_at, with_context}
-use Rattle.fkv_partition.specs.Pending.{Pending, pending, pending_of}
+use Rattle.fkv_partition.specs.Pending.{pending, pending_of}
 
 joined-some : {A : Type 0} (o : Option (Option A)) (x : A) → joined o ≡ Some x → o ≡ Some (Some x)
 joined-some None x h = absurd (cc)

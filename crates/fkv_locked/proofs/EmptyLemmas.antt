@@ -1,10 +1,9 @@
 -- What is kept under the lock of a partition with nothing in it.
-use Rattle.std.proofs.Common.{◌≡◌, ◌≤◌, ℕ, zero, suc, Bool, false, List, [], length, Option, Some, None, replicate, slice_index, refl, sym, ◌∙◌, arith}
+use Rattle.std.proofs.Common.{◌≡◌, ◌≤◌, ℕ, zero, suc, false, List, [], Some, None, replicate, slice_index, refl, sym, ◌∙◌, arith}
 use Rattle.std.specs.declared.cmp.Ordering.{Ordering}
 use Rattle.fkv_functions.specs.Meanings.{Meanings}
 use Rattle.fkv_partition.specs.Config.{Config}
 use Rattle.fkv_partition.specs.CoreContexts.{is_session}
-use Rattle.fkv_partition.specs.Pending.{pending}
 use Rattle.fkv_partition.specs.Effect.{asked}
 use Rattle.fkv_partition.specs.Views.{PartitionView, empty_partition}
 use Rattle.fkv_partition.proofs.EffectLemmas.{closed-pending}

@@ -1,5 +1,5 @@
 -- What is kept under a lock stays so with each event, by what that is to the live map and to the contexts.
-use Rattle.std.proofs.Common.{◌≡◌, ◌≢◌, ◌⊎◌, inl, inr, ℕ, ◌+◌, ◌*◌, ◌<◌, ◌≤◌, Bool, true, false, List, [], ◌∷◌, ◌++◌, length, Option, Some, None, slice_index, slice_set, refl, sym, ap, ◌∙◌, arith, length-append}
+use Rattle.std.proofs.Common.{◌≡◌, ◌≢◌, ◌⊎◌, inl, inr, ℕ, ◌+◌, ◌<◌, ◌≤◌, true, false, List, [], ◌∷◌, ◌++◌, length, Option, Some, None, slice_index, slice_set, refl, sym, ap, ◌∙◌, arith, length-append}
 use Rattle.std.specs.declared.cmp.Ordering.{Ordering}
 use Rattle.std.proofs.lemmas.Bool.{cases_eq}
 use Rattle.std.proofs.lemmas.List.{get_or-set_same, get_or-set_other}
@@ -13,7 +13,7 @@ use Rattle.fkv_operations.specs.declared.operations.KeyedOp.{KeyedOp}
 use Rattle.fkv_operations.specs.declared.operations.KeyedOp.TheVariants.{Read}
 use Rattle.fkv_operations.specs.declared.operations.Op.{Op}
 use Rattle.fkv_partition.specs.Pending.{Pending}
-use Rattle.fkv_partition.specs.Effect.{Asked, asked}
+use Rattle.fkv_partition.specs.Effect.{Asked}
 use Rattle.fkv_partition.specs.Views.{PartitionView}
 use Rattle.fkv_partition.proofs.EffectLemmas.{keyed-op, closed-pending, asked-low}
 use Rattle.fkv_histories.specs.declared.entries.Entry.{Entry}
@@ -46,7 +46,7 @@ pub op-same : {K V I : Type 0} (p q : KeyedOp K V I) → op_of p ≡ op_of q →
 op-same p q h = let e : Some p ≡ Some q = sym (keyed-op p) ∙ (ap keyed h ∙ keyed-op q) in cc
 
 -- the operation of a question, if there is one
-abbrev op_in : {K V I : Type 0} → Op K V I → Option (Asked K V I) → Op K V I
+abbrev pub op_in : {K V I : Type 0} → Op K V I → Option (Asked K V I) → Op K V I
 op_in other None = other
 op_in other (Some x) = x.op
 
@@ -93,6 +93,33 @@ module _ {K V I O : Type 0} (cmp : K → K → Ordering) (f : Meanings K V I O) 
     past = λ s d p h.
         past_stays (updates es) (updates es) s d p (slice_index lows (place_of s d)) (slice_index looks (place_of s d)) (same s d) (omega arith) (λ n le. refl)
         (k.past s d p (sym (pend s d) ∙ h));
+    counted = k.counted;
+  }
+
+  -- an event of a compactor: each operation on a key goes on asking what it asked, and is to find what it was to find, or
+  -- nothing
+  pub kept_operations : (es : List (Entry K V I O)) (lows looks : List ℕ) (book : ℕ)
+      → ((s d number : ℕ) (op : KeyedOp K V I) → old.asked s d ≡ Some (record { number = number; op = op_of op }) → new.asked s d ≡ Some (record { number = number; op = op_of op }))
+      → ((s d : ℕ) (p : Pending V) → new.pending s d ≡ Some p → old.pending s d ≡ Some p)
+      → Same new.live old.live
+      → IsKept cmp f old es lows looks book
+      → IsKept cmp f new es lows looks book
+  kept_operations es lows looks book asks pend live k = record {
+    legal = k.legal;
+    live = λ q. live q ∙ k.live q;
+    issued = k.issued;
+    past = λ s d p h.
+        let was = k.past s d p (pend s d p h) in
+        let early = was.early in
+        record {
+          number = was.number;
+          op = was.op;
+          asks = asks s d was.number was.op was.asks;
+          early = omega arith;
+          later = was.later;
+          within = was.within;
+          value = was.value;
+        };
     counted = k.counted;
   }
 

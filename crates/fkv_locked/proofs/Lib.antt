@@ -3,3 +3,4 @@ pub mod KeptLemmas
 pub mod TurnLemmas
 pub mod LoadLemmas
 pub mod EmptyLemmas
+pub mod CompactingLemmas

@@ -1,6 +1,6 @@
 -- What a page that came makes of an operation on a key, for a history.
-use Rattle.std.proofs.Common.{◌≡◌, ◌⊎◌, inl, inr, Bool, ℕ, ◌==◌, ◌<◌, ◌≤◌, true, false, cond, List, Option, Some, None, refl, sym, ap, subst, ◌∙◌, arith}
-use Rattle.std.specs.Prelude.{Result, Ok, Err}
+use Rattle.std.proofs.Common.{◌≡◌, Bool, ℕ, ◌<◌, ◌≤◌, List, Option, Some, None, refl, sym, ap, subst, ◌∙◌, arith}
+use Rattle.std.specs.Prelude.{Result, Ok}
 use Rattle.std.specs.declared.cmp.Ordering.{Ordering}
 use Rattle.std.proofs.lemmas.Bool.{eq-eqb}
 use Rattle.fkv_functions.specs.Meanings.{Meanings}
@@ -13,7 +13,6 @@ use Rattle.fkv_operations.specs.After.{key_of}
 use Rattle.fkv_operations.specs.Operations.{keyed, op_of}
 use Rattle.fkv_operations.specs.declared.operations.KeyedOp.{KeyedOp}
 use Rattle.fkv_operations.specs.declared.operations.KeyedOp.TheVariants as on_key
-use Rattle.fkv_operations.specs.declared.operations.Op.{Op}
 use Rattle.fkv_operations.specs.declared.operations.Op.TheVariants.{Read, Relocate}
 use Rattle.fkv_operations.specs.declared.operations.Answer.{Answer}
 use Rattle.fkv_partition.specs.Progress.{Progress}
@@ -27,7 +26,7 @@ use Rattle.fkv_locked.proofs.ContextLemmas.{was-pending, same-pend}
 use Rattle.fkv_partition.specs.Events.{Loads}
 use Rattle.fkv_partition.specs.Effect.{Asked, asked, IsEvent, IsLoaded, IsLoad, Finds, to_find}
 use Rattle.fkv_partition.specs.Sound.{IsCompacting}
-use Rattle.fkv_partition.specs.Views.{PartitionView, relocation_at}
+use Rattle.fkv_partition.specs.Views.{PartitionView}
 use Rattle.fkv_partition.proofs.EffectLemmas.{keyed-op, relocation-asked}
 use Rattle.fkv_locked.specs.declared.seats.Mine.{Mine}
 use Rattle.fkv_locked.specs.Turns.{question_of, HasCome, IsCome}

@@ -1,5 +1,5 @@
 -- A locked partition to which nothing has happened.
-use Rattle.std.specs.Prelude.{List, [], replicate}
+use Rattle.std.specs.Prelude.{[], replicate}
 use Rattle.fkv_partition.specs.Views.{PartitionView}
 use Rattle.fkv_locked.specs.Locks.{LockedView}
 

@@ -2,3 +2,4 @@ pub mod Kept
 pub mod Turns
 pub mod Locks
 pub mod Fresh
+pub mod Compacting

@@ -9,7 +9,6 @@ use Rattle.fkv_functions.specs.Plain.{Same}
 use Rattle.fkv_operations.specs.After.{shown_of}
 use Rattle.fkv_operations.specs.Operations.{op_of}
 use Rattle.fkv_operations.specs.declared.operations.KeyedOp.TheVariants.{Read}
-use Rattle.fkv_operations.specs.declared.operations.KeyedOp.{KeyedOp}
 use Rattle.fkv_partition.specs.Progress.{Progress}
 use Rattle.fkv_partition.specs.Progress.TheVariants as progress
 use Rattle.fkv_partition.specs.Pending.{Pending, pending, OthersPend}

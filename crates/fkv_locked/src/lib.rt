@@ -8,8 +8,10 @@
 #![tactic(auto)]
 
 pub mod beginnings;
+pub mod compacting;
 pub mod locked;
 mod marks;
+pub mod offsets;
 pub mod operations;
 pub mod pages;
 pub mod seats;

@@ -1,4 +1,4 @@
-use Rattle.std.proofs.Common.{◌≡◌, ◌+◌, ◌++◌, ◌∷◌, [], ◌∙◌, ◌<◌, length, slice_set, refl, sym, ap, arith}
+use Rattle.std.proofs.Common.{◌∙◌, ◌<◌, length, slice_set, refl, ap, arith}
 use Rattle.fkv_locked.specs.Kept.{place_of}
 use Rattle.fkv_locked.proofs.TurnLemmas.{went_next, went_build, went_wait, went_load, went_done}
 use Rattle.fkv_locked.proofs.turns.note.Goals as goal

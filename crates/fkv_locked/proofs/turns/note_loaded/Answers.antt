@@ -1,4 +1,4 @@
-use Rattle.std.proofs.Common.{◌≡◌, ◌∙◌, refl, sym, ap}
+use Rattle.std.proofs.Common.{◌∙◌, refl}
 use Rattle.fkv_locked.proofs.TurnLemmas.{came_next, came_build, came_wait, came_further, came_done}
 use Rattle.fkv_locked.proofs.turns.note_loaded.Goals as goal
 

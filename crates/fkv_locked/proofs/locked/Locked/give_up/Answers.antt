@@ -1,4 +1,4 @@
-use Rattle.std.proofs.Common.{◌≡◌, ◌+◌, ◌<◌, ◌≤◌, arith}
+use Rattle.std.proofs.Common.{arith}
 use Rattle.fkv_locked.proofs.TurnLemmas.{give_up_keeps}
 use Rattle.fkv_locked.proofs.locked.Locked.give_up.Goals as goal
 

@@ -1,4 +1,4 @@
-use Rattle.std.proofs.Common.{◌≡◌, ◌+◌, ◌⊎◌, inr}
+use Rattle.std.proofs.Common.{inr}
 use Rattle.fkv_locked.proofs.locked.Locked.go.Goals as goal
 
 pub returns-in-Err-go-clause-refused : goal.returns-in-Err-go-clause-refused

@@ -1,4 +1,4 @@
-use Rattle.std.proofs.Common.{◌≡◌, ◌+◌, ◌⊎◌, inr}
+use Rattle.std.proofs.Common.{inr}
 use Rattle.fkv_locked.proofs.locked.Locked.install.Goals as goal
 
 pub returns-in-Err-install-clause-refused : goal.returns-in-Err-install-clause-refused

@@ -1,4 +1,4 @@
-use Rattle.std.proofs.Common.{◌≡◌, ◌+◌, ◌<◌, ◌≤◌, ◌∙◌, inr, length, slice_set, sym, ap, arith}
+use Rattle.std.proofs.Common.{◌<◌, ◌∙◌, inr, length, slice_set, ap, arith}
 use Rattle.std.proofs.lemmas.List.{length-set}
 use Rattle.fkv_locked.specs.Kept.{place_of}
 use Rattle.fkv_locked.proofs.TurnLemmas.{issue_keeps}

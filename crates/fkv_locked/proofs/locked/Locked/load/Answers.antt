@@ -1,4 +1,4 @@
-use Rattle.std.proofs.Common.{◌≡◌, ◌+◌, ◌<◌, ◌≤◌, inr, arith}
+use Rattle.std.proofs.Common.{inr, arith}
 use Rattle.fkv_locked.proofs.TurnLemmas.{failed_keeps}
 use Rattle.fkv_locked.proofs.LoadLemmas.{load_comes}
 use Rattle.fkv_locked.proofs.locked.Locked.load.Goals as goal

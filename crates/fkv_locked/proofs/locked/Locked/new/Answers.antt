@@ -1,6 +1,5 @@
-use Rattle.std.proofs.Common.{◌≡◌, ◌∙◌, ap, ℕ, length, replicate}
+use Rattle.std.proofs.Common.{◌∙◌, ap, ℕ, length}
 use Rattle.std.proofs.lemmas.List.{length-replicate}
-use Rattle.fkv_records.specs.Records.{size_of}
 use Rattle.fkv_locked.proofs.EmptyLemmas.{kept_empty, early_empty}
 use Rattle.fkv_locked.proofs.locked.Locked.new.Goals as goal
 

@@ -1,4 +1,4 @@
-use Rattle.std.proofs.Common.{◌≡◌, ◌+◌, ◌<◌, ◌≤◌, ◌⊎◌, inl, inr, ◌∙◌, sym, ap, arith}
+use Rattle.std.proofs.Common.{arith}
 use Rattle.fkv_locked.proofs.TurnLemmas.{quiet_keeps}
 use Rattle.fkv_locked.proofs.locked.Locked.shift_head.Goals as goal
 

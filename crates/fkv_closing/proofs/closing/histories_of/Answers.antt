@@ -1,0 +1,19 @@
+use Rattle.std.proofs.Common.{◌++◌, [], ◌∷◌, map, sym, ap, ◌∙◌}
+use Rattle.std.proofs.lemmas.List.{map_push, map-id}
+use Rattle.std.proofs.lemmas.Iterator.Adapters.{YieldsList-from_vec}
+use Rattle.std.proofs.lemmas.Iterator.Consumers.{YieldsList-end}
+use Rattle.fkv_closing.proofs.closing.histories_of.Goals as goal
+
+pub loop-part-preserved : goal.loop-part-preserved
+loop-part-preserved g c =
+    ap (map (λ history. history.items)) c.in-Ok.ensures.items
+    ∙ (map_push (λ history. history.items) c.loop-part.histories.items c.in-Some.part.history
+    ∙ (ap (λ histories. histories ++ c.in-Some.part.history.items ∷ []) c.loop-part.invariant
+    ∙ sym (map_push (λ part. part.history.items) c.loop-part.yielded c.in-Some.part)))
+
+pub returns-clause-ok : goal.returns-clause-ok
+returns-clause-ok g c =
+    let gives = c.into_iter-part-iterator.ensures.into_iter_gives in
+    let road = YieldsList-from_vec c.args.parts.items gives.0 (gives.1 ∙ c.args.parts.ok.0) in
+    let end = YieldsList-end road c.loop-part.yielded c.loop-part.part-iterator c.loop-part.yielded_by c.next.result c.next.new.self c.in-None.is c.next.ensures.steps in
+    c.loop-part.invariant ∙ ap (map (λ part. part.history.items)) (sym (map-id c.loop-part.yielded) ∙ end.0)

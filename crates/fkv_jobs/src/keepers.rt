@@ -1,0 +1,53 @@
+//! What another thread does over and over, while jobs run.
+ghost use Rattle.std.specs.Prelude.{◌≡◌, IfErr};
+ghost use Rattle.fkv_functions.specs.declared.refusals.Refused.{Refused};
+
+use fkv_functions::Refused;
+use std::snapshot::Snapshot;
+use std::sync::Wait;
+use std::sync::atomic::{AtomicBool, Ordering};
+use std::thread;
+use std::thread::Promise;
+
+/// What another thread does over and over until it is told to stop.
+pub trait Keeper {
+    /// Why a turn may be refused.
+    ghost fault: { Self → Refused → Type 0 };
+
+    /// One turn. After a refused one there is no other.
+    fn turn<W: Wait>(&self, rt: &W) -> Result<(), Refused>
+        ensures { IfErr result (fault self.now) };
+}
+
+/// What a keeper was, for the promise of its thread.
+#[derive(Drop)]
+pub struct Kept<K>(Snapshot<K>);
+
+impl<K> Kept<K> {
+    /// This keeper.
+    pub fn by(keeper: &K) -> Kept<K>
+        ensures { result.0.value ≡ keeper.now }
+    {
+        Kept(Snapshot::of(keeper))
+    }
+}
+
+impl<K: Keeper> Promise<Result<(), Refused>> for Kept<K> {
+    ghost kept_by = { λ p r. IfErr r (K.fault p.0.value) };
+}
+
+/// Turns until it is told to stop, or a turn is refused: then so is this.
+pub fn keep<K: Keeper>(rt: &impl Wait, keeper: &K, stop: &AtomicBool) -> Result<(), Refused>
+    ensures { IfErr result (K.fault keeper.now) }
+{
+    for _ in rt.forever() {
+        if stop.load(Ordering::SeqCst) {
+            return Ok(());
+        }
+        match keeper.turn(rt) {
+            Ok(()) => thread::yield_now(),
+            Err(refused) => return Err(refused),
+        }
+    }
+    Ok(())
+}

@@ -1,0 +1,19 @@
+use Rattle.std.proofs.Common.{inr, arith}
+use Rattle.fkv_locked.proofs.CompactingLemmas.{truncation_keeps}
+use Rattle.fkv_locked.proofs.locked.Locked.truncate_cleared.Goals as goal
+
+pub invariant_of-self-in-Ok : goal.invariant_of-self-in-Ok
+invariant_of-self-in-Ok g c =
+    let moment = c.truncate_cleared.ensures.moment in
+    let start = c.starting-self-inside.ensures in
+    let next = c.in-Some.ensures.some in
+    let was = c.self.invariant.0 in (
+      omega arith,
+      c.self.invariant.1,
+      c.self.invariant.2,
+      λ k held. truncation_keeps g.F.Key.Ord.cmp g.F.Functions.meaning c.self.inside.partition c.truncate_cleared.new.partition (g.H.Recorder.entries c.self.inside.history) c.self.inside.lows.items c.self.inside.looks.items c.self.inside.book
+          (c.self.invariant.3 k held) g.R.Receipt.keeps _ c.in-Some.now held (omega arith) c.in-Ok.ensures.event,
+    )
+
+pub returns-in-Ok-clause-does : goal.returns-in-Ok-clause-does
+returns-in-Ok-clause-does g c = inr (rw (← c.self.view_is, ← c.in-Some.ensures.some) c.in-Ok.ensures.does)

@@ -1,0 +1,51 @@
+-- What a contract sees of a pass, and what an operation that it runs adds.
+use Rattle.std.specs.Prelude.{◌≡◌, ◌≢◌, ◌+◌, ◌≤◌, ◌⊎◌, ℕ, Bool, true, List, [], ◌∷◌, ◌++◌, length, slice_set, slice_index, slice_index_or, if◌then◌else◌}
+use Rattle.fkv_functions.specs.declared.refusals.Refused.{Refused}
+use Rattle.fkv_functions.specs.declared.refusals.Refused.TheVariants.{Stranger}
+use Rattle.fkv_functions.specs.declared.refusals.What.TheVariants as what
+use Rattle.fkv_operations.specs.declared.operations.KeyedOp.{KeyedOp}
+use Rattle.fkv_operations.specs.declared.operations.Answer.{Answer}
+use Rattle.fkv_histories.specs.declared.entries.Entry.{Entry}
+use Rattle.fkv_histories.specs.Histories.{is_update_entry}
+use Rattle.fkv_store.specs.Stores.{StoreView}
+
+-- the number of its store; for each partition its own list, and of how many updates it was told there; and its share: how
+-- many operations it was answered
+pub record PassView (K V I O : Type 0) : Type 0 where
+  pub store : ℕ
+  pub own : List (List (Entry K V I O))
+  pub told : List ℕ
+  pub share : ℕ
+
+module _ {K V I O : Type 0} where
+  -- a pass is of a store where it has the store's number, and as many partitions
+  abbrev pub IsPassOf : StoreView → PassView K V I O → Type 0
+  IsPassOf s p = (p.store ≡ s.id) × (length p.told ≡ s.count)
+
+  -- of how many updates a caller was told, after it was answered by an entry
+  abbrev pub told_after : Entry K V I O → ℕ
+  told_after e = if is_update_entry e then e.at + 1 else e.at
+
+  -- an operation was answered: by one entry of this operation and answer, whose place is not before what the pass was told
+  -- of the partition; where entries are kept the own list has it, at its end
+  pub record Answers (keeps : Bool) (old new : PassView K V I O) (partition : ℕ) (op : KeyedOp K V I) (answer : Answer O)
+      (e : Entry K V I O) : Type 0 where
+    pub op_is : e.op ≡ op
+    pub answer_is : e.answer ≡ answer
+    pub fresh : slice_index old.told partition ≤ e.at
+    pub own_is : keeps ≡ true
+        → new.own ≡ slice_set old.own partition (slice_index_or old.own partition [] ++ e ∷ [])
+    pub told_is : new.told ≡ slice_set old.told partition (told_after e)
+    pub share_is : new.share ≡ old.share + 1
+    pub store_is : new.store ≡ old.store
+    pub sized : length new.own ≡ length old.own
+
+  abbrev pub Runs : Bool → PassView K V I O → PassView K V I O → ℕ → KeyedOp K V I → Answer O → Type 0
+  Runs keeps old new partition op answer = (e : Entry K V I O) × Answers keeps old new partition op answer e
+
+  -- a pass of another store is refused with the two stores' numbers, or, where these agree, with their numbers of partitions
+  abbrev pub IsStrange : StoreView → PassView K V I O → Refused → Type 0
+  IsStrange s p (Stranger what.Pass held came) =
+      ((p.store ≢ s.id) × (held ≡ s.id) × (came ≡ p.store))
+      ⊎ ((p.store ≡ s.id) × (length p.told ≢ s.count) × (held ≡ s.count) × (came ≡ length p.told))
+  IsStrange s p other = ⊥

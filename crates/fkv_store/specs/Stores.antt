@@ -1,0 +1,35 @@
+-- What a contract sees of a store, and what it refuses.
+use Rattle.std.specs.Prelude.{◌≡◌, ◌⊎◌, ℕ, ⊤}
+use Rattle.fkv_functions.specs.declared.refusals.Refused.{Refused}
+use Rattle.fkv_functions.specs.declared.refusals.Refused.TheVariants.{NoMemory, NoSlot, Unknown, Stranger, Worn, Device, Damaged, Stalled, Mismatch}
+
+-- its own number, how many partitions it has, and how many turns an operation may take
+pub record StoreView : Type 0 where
+  pub id : ℕ
+  pub count : ℕ
+  pub turns : ℕ
+
+-- what a call on a store may be refused by
+abbrev pub IsTold : Refused → Type 0
+IsTold NoMemory = ⊤
+IsTold NoSlot = ⊤
+IsTold Unknown = ⊤
+IsTold (Stranger what held came) = ⊤
+IsTold Worn = ⊤
+IsTold (Device code page) = ⊤
+IsTold (Damaged page) = ⊤
+IsTold Stalled = ⊤
+IsTold other = ⊥
+
+-- a device does not open a partition's pages, or there is no memory
+abbrev pub IsUnopened : Refused → Type 0
+IsUnopened refused = (refused ≡ NoMemory) ⊎ (refused ≡ Device 1 0)
+
+-- what the end of a store may be refused by
+abbrev pub IsClosing : Refused → Type 0
+IsClosing NoMemory = ⊤
+IsClosing Worn = ⊤
+IsClosing (Device code page) = ⊤
+IsClosing (Damaged page) = ⊤
+IsClosing Mismatch = ⊤
+IsClosing other = ⊥

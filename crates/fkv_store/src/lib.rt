@@ -1,0 +1,23 @@
+//! A store that callers share: its partitions, each under a lock of its own, and the passes of its callers.
+//!
+//! A caller asks for a [`Pass`] and runs operations with it. Each hold of a partition's lock is one event of the partition;
+//! values are built, and pages are read and written, with no partition's lock held. What stands under a lock
+//! ([`fkv_locked::Locked`]) is kept whenever the lock is free. A pass has the list of what it was answered, with each
+//! partition, and of how many updates it was told there: no answer comes from fewer.
+#![tactic(auto)]
+
+pub mod closing;
+pub mod compacting;
+pub mod gates;
+pub(crate) mod holds;
+pub(crate) mod lists;
+pub mod passes;
+pub(crate) mod refusals;
+pub(crate) mod running;
+pub mod stores;
+pub mod tidying;
+
+pub use gates::{Gate, Open, Place};
+pub use passes::Pass;
+pub use stores::Store;
+pub use tidying::KEEPER;

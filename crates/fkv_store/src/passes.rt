@@ -1,0 +1,287 @@
+//! Passes: what a caller has of a store.
+ghost use Rattle.std.specs.Prelude.{◌≡◌, ◌≢◌, ◌+◌, ◌-◌, ◌^◌, ◌<◌, ◌≤◌, ◌⊎◌, ℕ, true, List, [], ◌∷◌, ◌++◌, length, slice_index, Err, Some, None, IfOk, IfErr, OnOk, OnErr};
+ghost use Rattle.fkv_partition.specs.CoreViews.{partition_of};
+ghost use Rattle.fkv_operations.specs.After.{key_of};
+ghost use Rattle.fkv_store.specs.Stores.{IsTold};
+ghost use Rattle.fkv_store.specs.Passes.{IsPassOf, IsStrange, Runs, told_after};
+
+use crate::gates::{Gate, Open, Place};
+use crate::holds::{At, enter, leave};
+use crate::lists::{add_at, room_at};
+use crate::running::{Run, refresh_all, run_in};
+use crate::stores::Store;
+use fkv_device::Disk;
+use fkv_functions::{Functions, Refused, What};
+use fkv_histories::{EntryOf, Recorder};
+use fkv_locked::Seat;
+use fkv_operations::{AnswerOf, KeyedOpOf};
+use std::alloc::Global;
+use std::marker::{Model, PhantomData};
+use std::sync::Wait;
+
+/// After how many answers a pass refreshes its sessions of itself.
+const ANSWERS: u8 = 64;
+
+/// What a caller has of a store: its sessions, and for each partition the list of what it was answered and of how many
+/// updates it was told there.
+#[derive(Drop)]
+pub struct Pass<F: Functions, D: Disk, H: Recorder<F>> {
+    pub(crate) store: u64,
+    pub(crate) worker: u32,
+    pub(crate) share: u64,
+    pub(crate) own: Vec<H>,
+    pub(crate) told: Vec<u64>,
+    pub(crate) seats: Vec<Option<Seat>>,
+    pub(crate) readers: Vec<D::Reader>,
+    /// How many operations were answered since its sessions were refreshed.
+    pub(crate) answered: u8,
+    pub(crate) functions: PhantomData<F>,
+}
+
+impl<F: Functions, D: Disk, H: Recorder<F>> Model for Pass<F, D, H> {
+    ghost use Rattle.std.specs.Prelude.{◌≡◌, length, map};
+    ghost use Rattle.fkv_store.specs.Passes.{PassView};
+
+    ghost Value = { PassView F.Key F.Value F.Input F.Output };
+
+    ghost view = { λ p. record {
+      store = p.store;
+      own = map H.entries p.own.items;
+      told = p.told.items;
+      share = p.share;
+    } };
+
+    ghost invariant = { λ p. (length p.told.items ≡ length p.own.items)
+        × (length p.seats.items ≡ length p.own.items)
+        × (length p.readers.items ≡ length p.own.items) };
+}
+
+/// Of how many updates of a partition a caller was told.
+fn told_at(told: &Vec<u64>, partition: usize) -> u64
+    requires { partition < length told.now.items }
+    ensures { result ≡ slice_index told.now.items partition }
+{
+    told[partition]
+}
+
+/// Of how many updates a caller was told, after it was answered by an entry.
+fn told_by<F: Functions>(entry: &EntryOf<F>) -> u64
+    requires { entry.now.at < 2 ^ 64 - 1 }
+    ensures { result ≡ told_after entry.now }
+{
+    if entry.is_update() {
+        entry.at + 1
+    } else {
+        entry.at
+    }
+}
+
+/// The seat in a partition: that which is there, or that of a session which is entered now.
+fn seat_in<F: Functions, D: Disk, H: Recorder<F>, G: Gate>(
+    rt: &impl Wait,
+    store: &Store<F, D, H>,
+    seats: &mut Vec<Option<Seat>>,
+    at: At,
+    gate: &G,
+) -> Result<Seat, Refused>
+    requires within { at.partition < store.now.count }
+    requires seats { length seats.old.items ≡ store.now.count }
+    ensures seats { length seats.new.items ≡ length seats.old.items }
+    ensures only { IfErr result IsTold }
+{
+    if let Some(seat) = seats[at.partition] {
+        return Ok(seat);
+    }
+    match enter(rt, store, at, gate) {
+        Ok(seat) => {
+            seats[at.partition] = Some(seat);
+            Ok(seat)
+        }
+        Err(refused) => Err(refused),
+    }
+}
+
+/// Refreshes each session of a pass where so many operations were answered since the last time.
+fn refresh_at_times<F: Functions, D: Disk, H: Recorder<F>, G: Gate>(
+    rt: &impl Wait,
+    store: &Store<F, D, H>,
+    seats: &[Option<Seat>],
+    worker: u32,
+    answered: &mut u8,
+    gate: &G,
+) -> Result<(), Refused>
+    requires { length seats.now ≡ store.now.count }
+    ensures few { OnOk result (answered.new < 64) }
+    ensures only { IfErr result IsTold }
+{
+    if *answered < ANSWERS {
+        return Ok(());
+    }
+    match refresh_all(rt, store, seats, worker, gate) {
+        Ok(()) => {
+            *answered = 0;
+            Ok(())
+        }
+        Err(refused) => Err(refused),
+    }
+}
+
+impl<F: Functions, D: Disk, H: Recorder<F>> Pass<F, D, H> {
+    /// Whether it is a pass of this store.
+    pub(crate) fn known_to(&self, store: &Store<F, D, H>) -> Result<(), Refused>
+        ensures ok { OnOk result (IsPassOf store.now self.now) }
+        ensures err { IfErr result (IsStrange store.now self.now) }
+    {
+        if self.store != store.id {
+            return Err(Refused::Stranger {
+                what: What::Pass,
+                held: store.id,
+                came: self.store,
+            });
+        }
+        if self.told.len() != store.locks.len() {
+            return Err(Refused::Stranger {
+                what: What::Pass,
+                held: store.locks.len() as u64,
+                came: self.told.len() as u64,
+            });
+        }
+        Ok(())
+    }
+
+    /// Runs an operation on a key: it is answered as the history of its partition says, from no fewer updates than the pass
+    /// was told of before, and takes effect exactly once. Where it is refused it is over, without effect, and the pass's
+    /// lists stay.
+    ///
+    /// # Errors
+    ///
+    /// In this order: `Stranger` where the pass is not of this store, with the two stores' numbers, or their numbers of
+    /// partitions; `Worn` where the pass's share has no next number. Then, in the course of the operation: `NoMemory`;
+    /// `NoSlot` where sixteen sessions are entered; `Stranger` where fewer updates stand than the pass was told of; `Worn`
+    /// where a number of the store has no next one; `Device` with code 2 where a page can't be written, 3 where one can't be
+    /// read; `Damaged` where a page came back with other bytes, or spells no record; `Stalled` where the operation took as
+    /// many turns as the configuration says; `Unknown` where another caller took the pass's sessions for its own.
+    pub fn run<G: Gate>(
+        &mut self,
+        rt: &impl Wait,
+        alloc: Global,
+        store: &Store<F, D, H>,
+        op: KeyedOpOf<F>,
+        gate: &G,
+    ) -> Result<AnswerOf<F>, Refused>
+        ensures ok { IfOk result (Runs H.keeps self.old self.new (partition_of store.now.count (F.code (key_of op))) op) }
+        ensures foreign { ¬ IsPassOf store.now self.old → IfErr result (IsStrange store.now self.old) }
+        ensures own { OnOk result (IsPassOf store.now self.old) }
+        ensures worn { OnOk result (self.old.share < 2 ^ 64 - 1) }
+        ensures only { IfErr result IsTold }
+        ensures err { OnErr result (self.new ≡ self.old) }
+    {
+        match self.known_to(store) {
+            Ok(()) => {}
+            Err(refused) => return Err(refused),
+        }
+        if self.share == u64::MAX {
+            return Err(Refused::Worn);
+        }
+        let partition = store.home(&op.key());
+        match room_at::<F, H>(&mut self.own, partition) {
+            Ok(()) => {}
+            Err(refused) => return Err(refused),
+        }
+        let at = At {
+            partition,
+            worker: self.worker,
+        };
+        gate.pass(self.worker, Place::Start);
+        match refresh_at_times(rt, store, &self.seats, at.worker, &mut self.answered, gate) {
+            Ok(()) => {}
+            Err(refused) => return Err(refused),
+        }
+        let seat = match seat_in(rt, store, &mut self.seats, at, gate) {
+            Ok(seat) => seat,
+            Err(refused) => return Err(refused),
+        };
+        let known = told_at(&self.told, partition);
+        let run = Run {
+            alloc,
+            at,
+            seats: &self.seats,
+            seat,
+            known,
+        };
+        let entry = match run_in(rt, store, &run, &mut self.readers, op, gate) {
+            Ok(entry) => entry,
+            Err(refused) => return Err(refused),
+        };
+        add_at::<F, H>(&mut self.own, partition, entry);
+        self.told[partition] = told_by::<F>(&entry);
+        self.share += 1;
+        self.answered += 1;
+        gate.pass(self.worker, Place::Answered);
+        Ok(entry.answer)
+    }
+
+    /// Refreshes each session of the pass, so that partitions need not wait for it.
+    ///
+    /// # Errors
+    ///
+    /// `Stranger` where the pass is not of this store; then, after the sessions before it are refreshed, what a partition
+    /// refuses: `Worn` where its clock has no next moment, `Unknown` where another caller left the session.
+    pub fn refresh(&mut self, rt: &impl Wait, store: &Store<F, D, H>) -> Result<(), Refused>
+        ensures foreign { ¬ IsPassOf store.now self.old → IfErr result (IsStrange store.now self.old) }
+        ensures only { IfErr result IsTold }
+        ensures same { self.new ≡ self.old }
+    {
+        match self.known_to(store) {
+            Ok(()) => {}
+            Err(refused) => return Err(refused),
+        }
+        match refresh_all(rt, store, &self.seats, self.worker, &Open) {
+            Ok(()) => {
+                self.answered = 0;
+                Ok(())
+            }
+            Err(refused) => Err(refused),
+        }
+    }
+
+    /// Leaves each session of the pass, so that partitions wait for it no longer. A later operation enters a new one.
+    ///
+    /// # Errors
+    ///
+    /// As [`Pass::refresh`]'s, after the sessions before it are left.
+    pub fn rest(&mut self, rt: &impl Wait, store: &Store<F, D, H>) -> Result<(), Refused>
+        ensures foreign { ¬ IsPassOf store.now self.old → IfErr result (IsStrange store.now self.old) }
+        ensures only { IfErr result IsTold }
+        ensures same { self.new ≡ self.old }
+    {
+        match self.known_to(store) {
+            Ok(()) => {}
+            Err(refused) => return Err(refused),
+        }
+        leave_all(rt, store, &mut self.seats, self.worker)
+    }
+}
+
+/// Leaves each session of a pass, in order.
+fn leave_all<F: Functions, D: Disk, H: Recorder<F>>(
+    rt: &impl Wait,
+    store: &Store<F, D, H>,
+    seats: &mut Vec<Option<Seat>>,
+    worker: u32,
+) -> Result<(), Refused>
+    requires { length seats.old.items ≡ store.now.count }
+    ensures seats { length seats.new.items ≡ length seats.old.items }
+    ensures only { IfErr result IsTold }
+{
+    for partition in 0..seats.len() {
+        let Some(seat) = seats[partition] else {
+            continue;
+        };
+        match leave(rt, store, At { partition, worker }, seat, &Open) {
+            Ok(()) => seats[partition] = None,
+            Err(refused) => return Err(refused),
+        }
+    }
+    Ok(())
+}

@@ -1,0 +1,175 @@
+//! How an operation of a pass runs, from its issue to its end: one event a hold, and what is done between holds.
+ghost use Rattle.std.specs.Prelude.{◌≡◌, ◌<◌, ◌≤◌, ◌-◌, ◌^◌, length, IfOk, IfErr};
+ghost use Rattle.fkv_locked.specs.Turns.{IsOf, IsTurnOf};
+ghost use Rattle.fkv_store.specs.Stores.{IsTold};
+
+use crate::gates::{Gate, Place};
+use crate::holds::{At, Hand, give_up, issue, refresh, turn};
+use crate::stores::Store;
+use fkv_device::{Disk, Loaded};
+use fkv_functions::{Built, Functions, Refused};
+use fkv_histories::{EntryOf, Recorder};
+use fkv_locked::{MineOf, Seat, Turn, TurnOf};
+use fkv_operations::KeyedOpOf;
+use std::alloc::Global;
+use std::sync::Wait;
+use std::thread;
+
+/// What a pass hands to the run of one operation: where it runs, and in which of its sessions; and of how many updates of the
+/// partition it was told.
+#[derive(Clone, Copy)]
+pub(crate) struct Run<'a> {
+    pub alloc: Global,
+    pub at: At,
+    pub seats: &'a [Option<Seat>],
+    pub seat: Seat,
+    pub known: u64,
+}
+
+/// Refreshes each session of a pass.
+pub(crate) fn refresh_all<F: Functions, D: Disk, H: Recorder<F>, G: Gate>(
+    rt: &impl Wait,
+    store: &Store<F, D, H>,
+    seats: &[Option<Seat>],
+    worker: u32,
+    gate: &G,
+) -> Result<(), Refused>
+    requires { length seats.now ≡ store.now.count }
+    ensures only { IfErr result IsTold }
+{
+    for (partition, seat) in seats.iter().enumerate() {
+        let Some(seat) = seat else {
+            continue;
+        };
+        match refresh(rt, store, At { partition, worker }, *seat, gate) {
+            Ok(()) => {}
+            Err(refused) => return Err(refused),
+        }
+    }
+    Ok(())
+}
+
+/// Makes the next event of an operation, and where a value is to be built for it builds and installs that. Refused as
+/// [`turn`] is.
+fn attempt<F: Functions, D: Disk, H: Recorder<F>, G: Gate>(
+    rt: &impl Wait,
+    store: &Store<F, D, H>,
+    at: At,
+    mine: &MineOf<F>,
+    hand: Hand<F, D::Receipt>,
+    gate: &G,
+) -> Result<TurnOf<F, D::Receipt>, Refused>
+    requires { at.partition < store.now.count }
+    ensures of { IfOk result (IsTurnOf mine.now) }
+    ensures only { IfErr result IsTold }
+{
+    let turned = match turn(rt, store, at, mine, hand, gate) {
+        Ok(turned) => turned,
+        Err(refused) => return Err(refused),
+    };
+    match turned {
+        Turn::NeedsBuild(ask) => {
+            gate.pass(at.worker, Place::Build);
+            let built = Built::make(&store.functions, ask);
+            turn(rt, store, at, mine, Hand::Built(built), gate)
+        }
+        Turn::Done(entry) => Ok(Turn::Done(entry)),
+        Turn::Next => Ok(Turn::Next),
+        Turn::NeedsLoad(receipt, address) => Ok(Turn::NeedsLoad(receipt, address)),
+        Turn::Waits(why) => Ok(Turn::Waits(why)),
+    }
+}
+
+/// Moves the pages of a partition on, and refreshes the sessions of a pass, so that what an operation waits for may come.
+fn wait<F: Functions, D: Disk, H: Recorder<F>, G: Gate>(
+    rt: &impl Wait,
+    store: &Store<F, D, H>,
+    run: &Run<'_>,
+    gate: &G,
+) -> Result<(), Refused>
+    requires seats { length run.now.seats.now ≡ store.now.count }
+    ensures only { IfErr result IsTold }
+{
+    match store.tidy(rt, run.alloc, run.at.partition, gate) {
+        Ok(_head) => {}
+        Err(refused) => return Err(refused),
+    }
+    match refresh_all(rt, store, run.seats, run.at.worker, gate) {
+        Ok(()) => {}
+        Err(refused) => return Err(refused),
+    }
+    thread::yield_now();
+    Ok(())
+}
+
+/// Goes on with an operation until it is finished, or has taken all its turns: each event that lets it go on, asks for a page
+/// or waits is a turn.
+fn run_on<F: Functions, D: Disk, H: Recorder<F>, G: Gate>(
+    rt: &impl Wait,
+    store: &Store<F, D, H>,
+    run: &Run<'_>,
+    reader: &mut D::Reader,
+    mine: &MineOf<F>,
+    gate: &G,
+) -> Result<EntryOf<F>, Refused>
+    requires within { run.now.at.partition < store.now.count }
+    requires seats { length run.now.seats.now ≡ store.now.count }
+    ensures of { IfOk result (IsOf mine.now) }
+    ensures only { IfErr result IsTold }
+{
+    let mut hand = Hand::Nothing;
+    for _turn in 0..store.turns {
+        let at_hand = hand;
+        hand = Hand::Nothing;
+        let turned = match attempt(rt, store, run.at, mine, at_hand, gate) {
+            Ok(turned) => turned,
+            Err(refused) => return Err(refused),
+        };
+        match turned {
+            Turn::Done(entry) => return Ok(entry),
+            // an install asks nothing
+            Turn::Next | Turn::NeedsBuild(_) => {}
+            Turn::NeedsLoad(receipt, _) => {
+                gate.pass(run.at.worker, Place::Load);
+                hand = Hand::Came(Loaded::fetch(reader, &receipt, store.page_size));
+            }
+            Turn::Waits(_) => match wait(rt, store, run, gate) {
+                Ok(()) => {}
+                Err(refused) => return Err(refused),
+            },
+        }
+    }
+    Err(Refused::Stalled)
+}
+
+/// Runs an operation in a session of a pass. Where it is refused it is over, without effect.
+pub(crate) fn run_in<F: Functions, D: Disk, H: Recorder<F>, G: Gate>(
+    rt: &impl Wait,
+    store: &Store<F, D, H>,
+    run: &Run<'_>,
+    readers: &mut Vec<D::Reader>,
+    op: KeyedOpOf<F>,
+    gate: &G,
+) -> Result<EntryOf<F>, Refused>
+    requires within { run.now.at.partition < store.now.count }
+    requires seats { length run.now.seats.now ≡ store.now.count }
+    requires readers { length readers.old.items ≡ store.now.count }
+    ensures readers { length readers.new.items ≡ length readers.old.items }
+    ensures op { IfOk result (λ e. e.op ≡ op) }
+    ensures fresh { IfOk result (λ e. run.now.known ≤ e.at) }
+    ensures room { IfOk result (λ e. e.at < 2 ^ 64 - 1) }
+    ensures only { IfErr result IsTold }
+{
+    let mine = match issue(rt, store, run.at, run.seat, op, run.known, gate) {
+        Ok(mine) => mine,
+        Err(refused) => return Err(refused),
+    };
+    let reader = &mut readers[run.at.partition];
+    match run_on(rt, store, run, reader, &mine, gate) {
+        Ok(entry) => Ok(entry),
+        Err(refused) => {
+            give_up(rt, store, run.at, &mine, gate);
+            Err(refused)
+        }
+    }
+}

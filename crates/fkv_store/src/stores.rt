@@ -1,0 +1,224 @@
+//! A store, its beginning, and its passes.
+ghost use Rattle.std.specs.Prelude.{◌≡◌, ◌≢◌, ◌<◌, ◌*◌, ◌^◌, ◌⊎◌, ℕ, [], length, replicate, Err, IfOk, IfErr};
+ghost use Rattle.fkv_records.specs.Records.{size_of};
+ghost use Rattle.fkv_partition.specs.CoreViews.{partition_of};
+ghost use Rattle.fkv_partition.specs.Limits.{IsWithinLimits};
+ghost use Rattle.fkv_device.specs.Failing.{FailsOnlyBy};
+ghost use Rattle.fkv_store.specs.Stores.{IsUnopened};
+
+use crate::lists::{fresh_lists, no_seats, zeros};
+use crate::passes::Pass;
+use fkv_device::Disk;
+use fkv_functions::{Functions, Refused};
+use fkv_histories::Recorder;
+use fkv_locked::Locked;
+use fkv_operations::partition_at;
+use fkv_partition::Config;
+use std::alloc::Global;
+use std::marker::{Model, PhantomData};
+use std::sync::{Mutex, Wait};
+
+/// A store that callers share: each partition under a lock of its own, and each writer of a partition's pages.
+#[derive(Drop)]
+pub struct Store<F: Functions, D: Disk, H: Recorder<F>> {
+    pub(crate) id: u64,
+    pub(crate) turns: u64,
+    pub(crate) frames: u64,
+    pub(crate) page_size: usize,
+    pub(crate) functions: F,
+    pub(crate) device: Mutex<D>,
+    pub(crate) writers: Vec<Mutex<D::Writer>>,
+    pub(crate) locks: Vec<Mutex<Locked<F, D::Receipt, H>>>,
+}
+
+impl<F: Functions, D: Disk, H: Recorder<F>> Model for Store<F, D, H> {
+    ghost use Rattle.std.specs.Prelude.{◌≡◌, ◌^◌, ℕ, length};
+    ghost use Rattle.fkv_store.specs.Stores.{StoreView};
+
+    ghost Value = { StoreView };
+
+    ghost view = { λ s. record { id = s.id; count = length s.locks.items; turns = s.turns } };
+
+    ghost invariant = { λ s. (length s.writers.items ≡ length s.locks.items)
+        × ((bits : ℕ) × (length s.locks.items ≡ 2 ^ bits)) };
+}
+
+/// The locked partitions of a store, with nothing in them, and the writers of their pages.
+#[derive(Drop)]
+struct Opened<F: Functions, D: Disk, H: Recorder<F>> {
+    writers: Vec<Mutex<D::Writer>>,
+    locks: Vec<Mutex<Locked<F, D::Receipt, H>>>,
+}
+
+/// So many locked partitions, with nothing in them, and the writers of their pages. Refused: `NoMemory`, and as the device
+/// refuses to open.
+fn open_all<F: Functions, D: Disk, H: Recorder<F>>(
+    alloc: Global,
+    config: &Config,
+    device: &mut D,
+    count: u64,
+) -> Result<Opened<F, D, H>, Refused>
+    requires limits { IsWithinLimits config.now (size_of F.Key.SIZE F.Value.SIZE) }
+    requires count { count ≡ 2 ^ config.now.partition_bits }
+    ensures locks { IfOk result (λ opened. length opened.locks.items ≡ count) }
+    ensures writers { IfOk result (λ opened. length opened.writers.items ≡ count) }
+    ensures only { IfErr result (FailsOnlyBy 1 0 (D.failures device.old) (D.failures device.new)) }
+{
+    let mut writers = Vec::new(alloc);
+    let mut locks = Vec::new(alloc);
+    for number in 0..count {
+        let locked = match Locked::<F, D::Receipt, H>::new(alloc, config, number) {
+            Ok(locked) => locked,
+            Err(refused) => return Err(refused),
+        };
+        let writer = match device.writer(number) {
+            Ok(writer) => writer,
+            Err(refused) => return Err(refused),
+        };
+        let Ok(()) = writers.push(Mutex::new(writer)) else {
+            return Err(Refused::NoMemory);
+        };
+        let Ok(()) = locks.push(Mutex::new(locked)) else {
+            return Err(Refused::NoMemory);
+        };
+    }
+    Ok(Opened { writers, locks })
+}
+
+/// A reader of the pages of each of so many partitions. Refused: `NoMemory`, and as the device refuses to open.
+pub(crate) fn readers_of<D: Disk>(
+    alloc: Global,
+    device: &mut D,
+    count: usize,
+) -> Result<Vec<D::Reader>, Refused>
+    ensures ok { IfOk result (λ readers. length readers.items ≡ count) }
+    ensures only { IfErr result IsUnopened }
+{
+    let mut readers = Vec::new(alloc);
+    for number in 0..count {
+        let reader = match device.reader(number as u64) {
+            Ok(reader) => reader,
+            Err(refused) => return Err(refused),
+        };
+        let Ok(()) = readers.push(reader) else {
+            return Err(Refused::NoMemory);
+        };
+    }
+    Ok(readers)
+}
+
+impl<F: Functions, D: Disk, H: Recorder<F>> Store<F, D, H> {
+    /// A store of this configuration with nothing in it, whose pages go to this device.
+    ///
+    /// # Errors
+    ///
+    /// In this order: `BadConfig` where a number of the configuration is outside its limits or a record is too large;
+    /// `NoMemory`; `Device` with code 1 where the device does not open a partition's pages.
+    pub fn open(
+        alloc: Global,
+        config: &Config,
+        functions: F,
+        device: D,
+    ) -> Result<Store<F, D, H>, Refused>
+        ensures ok { IfOk result (λ store. store
+            ≡ record { id = config.now.id; count = 2 ^ config.now.partition_bits; turns = config.now.turns }) }
+        ensures good { result ≢ Err Refused.BadConfig → IsWithinLimits config.now (size_of F.Key.SIZE F.Value.SIZE) }
+        ensures bad { result ≡ Err Refused.BadConfig → ¬ IsWithinLimits config.now (size_of F.Key.SIZE F.Value.SIZE) }
+        ensures only { IfErr result (λ refused. (refused ≡ Refused.BadConfig)
+            ⊎ ((failures : ℕ) × FailsOnlyBy 1 0 (D.failures device) failures refused)) }
+    {
+        if !config.is_within_limits::<F::Key, F::Value>() {
+            return Err(Refused::BadConfig);
+        }
+        let mut device = device;
+        let opened = match open_all::<F, D, H>(alloc, config, &mut device, config.partitions()) {
+            Ok(opened) => opened,
+            Err(refused) => return Err(refused),
+        };
+        let Opened { writers, locks } = opened;
+        Ok(Store {
+            id: config.id,
+            turns: config.turns,
+            frames: config.frames,
+            page_size: 1 << config.page_bits,
+            functions,
+            device: Mutex::new(device),
+            writers,
+            locks,
+        })
+    }
+
+    /// How many partitions the store has.
+    pub fn partitions(&self) -> usize
+        ensures { result ≡ self.now.count }
+    {
+        self.locks.len()
+    }
+
+    /// The partition of a key.
+    pub fn home(&self, key: &F::Key) -> usize
+        ensures value { result ≡ partition_of self.now.count (F.code key.now) }
+        ensures within { result < self.now.count }
+    {
+        let count = self.locks.len() as u64;
+        partition_at(self.functions.hash(key), count) as usize
+    }
+
+    /// A pass for a caller, who has this number at gates. It was answered nothing, and has no session yet.
+    ///
+    /// # Errors
+    ///
+    /// `NoMemory`; `Device` with code 1 where the device does not open a partition's pages.
+    pub fn pass(&self, rt: &impl Wait, alloc: Global, worker: u32) -> Result<Pass<F, D, H>, Refused>
+        ensures ok { IfOk result (λ pass. pass ≡ record {
+          store = self.now.id;
+          own = replicate self.now.count [];
+          told = replicate self.now.count 0;
+          share = 0;
+        }) }
+        ensures only { IfErr result IsUnopened }
+    {
+        let count = self.locks.len();
+        let readers = match self.readers(rt, alloc, count) {
+            Ok(readers) => readers,
+            Err(refused) => return Err(refused),
+        };
+        let own = match fresh_lists::<F, H>(alloc, count) {
+            Ok(own) => own,
+            Err(refused) => return Err(refused),
+        };
+        let told = match zeros(alloc, count) {
+            Ok(told) => told,
+            Err(refused) => return Err(refused),
+        };
+        let seats = match no_seats(alloc, count) {
+            Ok(seats) => seats,
+            Err(refused) => return Err(refused),
+        };
+        Ok(Pass {
+            store: self.id,
+            worker,
+            share: 0,
+            own,
+            told,
+            seats,
+            readers,
+            answered: 0,
+            functions: PhantomData,
+        })
+    }
+
+    /// A reader of the pages of each of so many partitions. Refused: `NoMemory`, and as the device refuses to open.
+    fn readers(
+        &self,
+        rt: &impl Wait,
+        alloc: Global,
+        count: usize,
+    ) -> Result<Vec<D::Reader>, Refused>
+        ensures ok { IfOk result (λ readers. length readers.items ≡ count) }
+        ensures only { IfErr result IsUnopened }
+    {
+        let mut device = self.device.lock(rt);
+        readers_of(alloc, &mut *device, count)
+    }
+}

@@ -1,0 +1,199 @@
+//! A locked partition of sums over a device in memory, with one caller and one compactor.
+use fkv_compaction::Compactor;
+use fkv_device::{Disk, Loaded, MemoryDevice, MemoryReader, MemoryReceipt, MemoryWriter, Written};
+use fkv_functions::{Built, Name, Refused, SumFns};
+use fkv_histories::Recorder;
+use fkv_locked::{Locked, Part, Seat, Turn};
+use fkv_operations::{Answer, KeyedOp, KeyedOpOf};
+use fkv_partition::{Config, Progress};
+use std::alloc::Global;
+
+/// 256 buckets, pages of 256 bytes and two frames.
+const CONFIG: Config = Config {
+    id: 1,
+    partition_bits: 0,
+    bucket_bits: 8,
+    page_bits: 8,
+    frames: 2,
+    turns: 1_000,
+};
+
+/// The events that an operation or a relocation may take.
+const EVENTS: usize = 100;
+
+/// One call. A key is one letter.
+#[derive(Clone, Copy)]
+pub enum Call {
+    /// Operations of the caller, each driven to its end.
+    Upsert(u8, i128),
+    Add(u8, i64),
+    Read(u8),
+    /// The read-only offset moves to a page, or Head does; the caller's session is refreshed; the lowest page is flushed.
+    ReadOnly(u64),
+    Head(u64),
+    Refresh,
+    Flush,
+    /// The compactor is refreshed, relocates once, cuts the log's start, or parts.
+    RefreshCompactor,
+    Relocate,
+    Truncate,
+    Leave,
+}
+
+/// What a call tells.
+#[derive(Clone, Copy, PartialEq)]
+pub enum Told {
+    Ok,
+    /// A page or an address.
+    At(u64),
+    Done(Answer<i128>),
+    Refused(Refused),
+}
+
+/// A call, and what it is to tell.
+pub type Row = (Call, Told);
+
+/// A locked partition, its device, and who is in it.
+#[derive(Drop)]
+pub struct Driven<H: Recorder<SumFns>> {
+    locked: Locked<SumFns, MemoryReceipt, H>,
+    reader: MemoryReader,
+    writer: MemoryWriter,
+    seat: Seat,
+    compactor: Compactor,
+    /// How many updates the caller was told of.
+    told: u64,
+}
+
+impl<H: Recorder<SumFns>> Driven<H> {
+    pub fn new(alloc: Global) -> Result<Driven<H>, Refused> {
+        let mut device = MemoryDevice::new(alloc);
+        let writer = device.writer(0)?;
+        let reader = device.reader(0)?;
+        let mut locked = Locked::new(alloc, &CONFIG, 0)?;
+        let seat = locked.enter()?;
+        let compactor = locked.join()?;
+        Ok(Driven {
+            locked,
+            reader,
+            writer,
+            seat,
+            compactor,
+            told: 0,
+        })
+    }
+
+    pub fn end(self, alloc: Global) -> Part<SumFns, MemoryReceipt> {
+        self.locked.end(alloc)
+    }
+
+    /// The page that is asked for.
+    fn fetched(&mut self, receipt: &MemoryReceipt) -> Result<Loaded<MemoryReceipt>, Refused> {
+        Loaded::fetch(&mut self.reader, receipt, self.locked.page_size())
+    }
+
+    /// An operation of the caller, driven to its end.
+    fn done(&mut self, op: KeyedOpOf<SumFns>) -> Result<Told, Refused> {
+        let mine = self.locked.issue(self.seat, op, self.told, &SumFns)?;
+        let mut turn = Turn::Next;
+        for _event in 0..EVENTS {
+            turn = match turn {
+                Turn::Next => self.locked.go(&mine, &SumFns)?,
+                Turn::NeedsBuild(ask) => {
+                    let built = Built::make(&SumFns, ask);
+                    self.locked.install(&mine, built, &SumFns)?
+                }
+                Turn::NeedsLoad(receipt, _address) => {
+                    let came = self.fetched(&receipt);
+                    self.locked.load(&mine, came, &SumFns)?
+                }
+                Turn::Waits(_why) => return Err(Refused::Stalled),
+                Turn::Done(entry) => {
+                    self.told = entry.at;
+                    return Ok(Told::Done(entry.answer));
+                }
+            };
+        }
+        Err(Refused::Stalled)
+    }
+
+    /// A relocation, driven to its end.
+    fn relocated(&mut self) -> Result<Told, Refused> {
+        let mut progress = self.locked.next(&self.compactor, &SumFns)?;
+        for _event in 0..EVENTS {
+            progress = match progress {
+                Progress::Next => self.locked.next(&self.compactor, &SumFns)?,
+                Progress::NeedsLoad(receipt, _address) => {
+                    let came = self.fetched(&receipt);
+                    self.locked.load_relocation(&self.compactor, came, &SumFns)?
+                }
+                Progress::Done(answer, _effect) => return Ok(Told::Done(answer)),
+                Progress::NeedsBuild(_) | Progress::Waits(_) => return Err(Refused::Stalled),
+            };
+        }
+        Err(Refused::Stalled)
+    }
+
+    /// The lowest page is taken, written, and handed in.
+    fn flushed(&mut self, alloc: Global) -> Result<Told, Refused> {
+        let job = self.locked.flush_take(alloc)?;
+        let page = job.page;
+        let written = Written::write(&mut self.writer, job)?;
+        self.locked.flush_done(written)?;
+        Ok(Told::At(page))
+    }
+
+    fn made(&mut self, alloc: Global, call: Call) -> Result<Told, Refused> {
+        match call {
+            Call::Upsert(letter, value) => self.done(KeyedOp::Upsert(key(letter)?, value)),
+            Call::Add(letter, amount) => self.done(KeyedOp::Rmw(key(letter)?, amount)),
+            Call::Read(letter) => self.done(KeyedOp::Read(key(letter)?, 0)),
+            Call::ReadOnly(page) => {
+                self.locked.shift_read_only(page)?;
+                Ok(Told::Ok)
+            }
+            Call::Head(page) => {
+                self.locked.shift_head(page)?;
+                Ok(Told::Ok)
+            }
+            Call::Refresh => {
+                self.locked.refresh(self.seat)?;
+                Ok(Told::Ok)
+            }
+            Call::Flush => self.flushed(alloc),
+            Call::RefreshCompactor => {
+                self.locked.refresh_compactor(&self.compactor)?;
+                Ok(Told::Ok)
+            }
+            Call::Relocate => self.relocated(),
+            Call::Truncate => {
+                let begin = self.locked.truncate_cleared(&self.compactor)?;
+                Ok(Told::At(begin))
+            }
+            Call::Leave => {
+                self.locked.part(self.compactor)?;
+                Ok(Told::Ok)
+            }
+        }
+    }
+
+    fn told(&mut self, alloc: Global, call: Call) -> Told {
+        match self.made(alloc, call) {
+            Ok(told) => told,
+            Err(refused) => Told::Refused(refused),
+        }
+    }
+
+    /// The number of the first row that tells something else.
+    pub fn first_other(&mut self, alloc: Global, rows: &[Row]) -> Option<usize> {
+        rows.iter().position(|row| self.told(alloc, row.0) != row.1)
+    }
+}
+
+/// The key of a letter.
+fn key(letter: u8) -> Result<Name, Refused> {
+    match Name::new(&[letter]) {
+        Some(name) => Ok(name),
+        None => Err(Refused::Unknown),
+    }
+}

@@ -1,0 +1,90 @@
+//! One caller's operations, in memory and from the device, beside a compactor that clears page 0: what each tells, and the
+//! history that is left, where one is kept. The records of a to c stand at 64, 120 and 176 on page 0.
+use crate::driven::{Call, Driven, Row, Told};
+use fkv_functions::{Refused, SumFns};
+use fkv_histories::{Audited, EntryOf, Plain};
+use fkv_operations::Answer;
+use std::test::Fail;
+
+const ROWS: [Row; 30] = [
+    (Call::Upsert(b'a', 10), Told::Done(Answer::Stored)),
+    (Call::Add(b'a', 5), Told::Done(Answer::Value(15))),
+    (Call::Read(b'a'), Told::Done(Answer::Value(15))),
+    (Call::Upsert(b'b', 1), Told::Done(Answer::Stored)),
+    (Call::Upsert(b'c', 1), Told::Done(Answer::Stored)),
+    (Call::Relocate, Told::Refused(Refused::NotDue)),
+    // page 0 leaves its frame
+    (Call::ReadOnly(1), Told::Ok),
+    (Call::Refresh, Told::Ok),
+    (Call::RefreshCompactor, Told::Ok),
+    (Call::Flush, Told::At(0)),
+    (Call::Head(1), Told::Ok),
+    (Call::Refresh, Told::Ok),
+    (Call::RefreshCompactor, Told::Ok),
+    // each of these loads it
+    (Call::Read(b'c'), Told::Done(Answer::Value(1))),
+    (Call::Add(b'c', 2), Told::Done(Answer::Value(3))),
+    (Call::Read(b'b'), Told::Done(Answer::Value(1))),
+    // a and b are appended again, and the record of c is superseded
+    (Call::Relocate, Told::Done(Answer::Cleared)),
+    (Call::Relocate, Told::Done(Answer::Cleared)),
+    (Call::Truncate, Told::Refused(Refused::NotDue)),
+    (Call::Relocate, Told::Done(Answer::Cleared)),
+    (Call::Relocate, Told::Refused(Refused::NotDue)),
+    (Call::Truncate, Told::At(256)),
+    (Call::Leave, Told::Ok),
+    (Call::Leave, Told::Refused(Refused::Unknown)),
+    (Call::Relocate, Told::Refused(Refused::Unknown)),
+    (Call::RefreshCompactor, Told::Refused(Refused::Unknown)),
+    (Call::Read(b'a'), Told::Done(Answer::Value(15))),
+    (Call::Read(b'b'), Told::Done(Answer::Value(1))),
+    (Call::Read(b'c'), Told::Done(Answer::Value(3))),
+    (Call::Read(b'd'), Told::Done(Answer::Absent)),
+];
+
+/// What each operation is answered, and how many updates stand before it.
+const ENTRIES: [(Answer<i128>, u64); 12] = [
+    (Answer::Stored, 0),
+    (Answer::Value(15), 1),
+    (Answer::Value(15), 2),
+    (Answer::Stored, 2),
+    (Answer::Stored, 3),
+    (Answer::Value(1), 4),
+    (Answer::Value(3), 4),
+    (Answer::Value(1), 5),
+    (Answer::Value(15), 5),
+    (Answer::Value(1), 5),
+    (Answer::Value(3), 5),
+    (Answer::Absent, 5),
+];
+
+/// The number of the first entry that is another.
+fn first_other_entry(history: &[EntryOf<SumFns>]) -> Option<usize> {
+    history.iter().zip(&ENTRIES).position(|(entry, is)| entry.answer != is.0
+        || entry.at != is.1
+        || entry.session != 1)
+}
+
+#[test]
+fn one_caller_audited(rt: HostRuntime) -> Result<(), Fail> {
+    let alloc = rt.alloc();
+    let mut driven = Driven::<Audited<SumFns>>::new(alloc)?;
+    let wrong = driven.first_other(alloc, &ROWS);
+    assert!(rt; wrong == None, "row {wrong:?}");
+    let part = driven.end(alloc);
+    let wrong = first_other_entry(&part.history);
+    assert!(rt; wrong == None, "entry {wrong:?}");
+    assert!(rt; part.history.len() == 12 && part.book == 12);
+    Ok(())
+}
+
+#[test]
+fn one_caller_plain(rt: HostRuntime) -> Result<(), Fail> {
+    let alloc = rt.alloc();
+    let mut driven = Driven::<Plain>::new(alloc)?;
+    let wrong = driven.first_other(alloc, &ROWS);
+    assert!(rt; wrong == None, "row {wrong:?}");
+    let part = driven.end(alloc);
+    assert!(rt; part.history.is_empty() && part.book == 12);
+    Ok(())
+}

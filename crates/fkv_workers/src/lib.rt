@@ -1,0 +1,10 @@
+//! What a run over feeds by several workers stands on: how feeds are dealt out to workers ([`deals`]), and the law that
+//! their table is that of one worker ([`laws`]).
+//!
+//! Each worker reads its feeds, one after the other, and makes each row an update of a store that all share. So a
+//! partition's history is a shuffle of the workers' own lists (`specs/Shares.antt`), and functions that take inputs in any
+//! order come to the same.
+#![tactic(auto)]
+
+pub mod deals;
+pub mod laws;
