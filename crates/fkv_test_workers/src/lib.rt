@@ -1,5 +1,7 @@
-//! Tests of what a run by several workers stands on.
+//! Tests of workers: who waits for whom, by gates that hold them, and tables of several workers.
 #![tactic(auto)]
 
 #[cfg(test)]
-mod deals;
+mod gated;
+#[cfg(test)]
+mod tables;

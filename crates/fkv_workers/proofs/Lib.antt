@@ -5,3 +5,6 @@ pub mod DealLemmas
 pub mod JoinLemmas
 pub mod HandLemmas
 pub mod ShareLemmas
+pub mod FeedLemmas
+pub mod StandLemmas
+pub mod WorkedLemmas

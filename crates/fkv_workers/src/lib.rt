@@ -6,5 +6,11 @@
 //! order come to the same.
 #![tactic(auto)]
 
+pub(crate) mod dealing;
 pub mod deals;
+pub(crate) mod keeping;
 pub mod laws;
+pub mod running;
+pub(crate) mod working;
+
+pub use running::{MOST_FEEDS, MOST_WORKERS, run_feeds};

@@ -1,0 +1,117 @@
+//! Tables of several workers.
+use fkv_device::MemoryDevice;
+use fkv_feeds::write_table;
+use fkv_functions::{Refused, SumFns};
+use fkv_histories::{Audited, Plain, Recorder};
+use fkv_partition::Config;
+use fkv_store::{Gate, Open};
+use fkv_streams::{CountedReader, CountedWriter};
+use fkv_workers::run_feeds;
+use std::alloc::Global;
+use std::io::Write;
+use std::sync::Wait;
+use std::test::Fail;
+use std::thread::Threads;
+
+/// One partition, 256 buckets, pages of 256 bytes and two frames.
+pub const SMALL: Config = Config {
+    id: 1,
+    partition_bits: 0,
+    bucket_bits: 8,
+    page_bits: 8,
+    frames: 2,
+    turns: 1_000_000,
+};
+
+/// The text of the table of sums of these feeds, by so many workers.
+pub fn summed<H: Recorder<SumFns> + Send, G: Gate + Sync, T: Threads + Wait + Sync>(
+    rt: &T,
+    alloc: Global,
+    feeds: &[&[u8]],
+    workers: usize,
+    config: &Config,
+    gate: &G,
+) -> Result<Vec<u8>, Refused> {
+    let mut sources = Vec::new(alloc);
+    for feed in feeds {
+        let Ok(()) = sources.push(CountedReader::new(*feed)) else {
+            return Err(Refused::NoMemory);
+        };
+    }
+    let device = MemoryDevice::new(alloc);
+    let table = run_feeds::<_, _, _, H, _, _>(
+        rt, alloc, sources, workers, SumFns, config, device, gate,
+    )?;
+    let mut text = Vec::new(alloc);
+    write_table(alloc, &table, &mut CountedWriter::new(&mut text))?;
+    Ok(text)
+}
+
+/// Rows 0 to 999, whose keys are k0 to k99 over and over, with this amount.
+fn hundred(alloc: Global, amount: u64) -> Result<Vec<u8>, Fail> {
+    let mut text = Vec::new(alloc);
+    for row in 0..1_000u64 {
+        writeln!(text, "k{},{amount}", row % 100)?;
+    }
+    Ok(text)
+}
+
+/// Two partitions, 16 buckets, pages of 256 bytes and two frames.
+const TIGHT: Config = Config {
+    id: 1,
+    partition_bits: 1,
+    bucket_bits: 4,
+    page_bits: 8,
+    frames: 2,
+    turns: 1_000_000,
+};
+
+/// Whether a table has k0 to k99, each with 100.
+fn is_hundred(text: &[u8]) -> bool {
+    let lines = text.split(|byte| *byte == b'\n');
+    lines.filter(|line| line.ends_with(b",100")).count() == 100
+}
+
+#[test]
+fn four_workers(rt: HostRuntime) -> Result<(), Fail> {
+    let alloc = rt.alloc();
+    let one = hundred(alloc, 1)?;
+    let two = hundred(alloc, 2)?;
+    let three = hundred(alloc, 3)?;
+    let four = hundred(alloc, 4)?;
+    let feeds = [
+        one.as_slice(),
+        two.as_slice(),
+        three.as_slice(),
+        four.as_slice(),
+    ];
+    let audited = summed::<Audited<SumFns>, _, _>(&rt, alloc, &feeds, 4, &TIGHT, &Open)?;
+    assert!(rt; is_hundred(audited.as_slice()));
+    let plain = summed::<Plain, _, _>(&rt, alloc, &feeds, 4, &TIGHT, &Open)?;
+    assert!(rt; is_hundred(plain.as_slice()));
+    Ok(())
+}
+
+#[test]
+fn out_of_range(rt: HostRuntime) -> Result<(), Fail> {
+    let alloc = rt.alloc();
+    let feed: &[u8] = b"a,1\n";
+    let none: [&[u8]; 0] = [];
+    let bad = Err(Refused::BadConfig);
+    assert!(rt; summed::<Plain, _, _>(&rt, alloc, &[feed], 0, &SMALL, &Open) == bad);
+    assert!(rt; summed::<Plain, _, _>(&rt, alloc, &[feed], 15, &SMALL, &Open) == bad);
+    assert!(rt; summed::<Plain, _, _>(&rt, alloc, &none, 1, &SMALL, &Open) == bad);
+    assert!(rt; summed::<Plain, _, _>(&rt, alloc, &[feed; 65], 1, &SMALL, &Open) == bad);
+    let most = summed::<Plain, _, _>(&rt, alloc, &[feed; 64], 14, &SMALL, &Open)?;
+    assert!(rt; most.as_slice() == b"a,64\n".as_slice());
+    Ok(())
+}
+
+#[test]
+fn the_first_workers_fault(rt: HostRuntime) -> Result<(), Fail> {
+    let alloc = rt.alloc();
+    let feeds: [&[u8]; 2] = [b"a,1\nb,1\nc\n", b"a\n"];
+    let told = summed::<Audited<SumFns>, _, _>(&rt, alloc, &feeds, 2, &SMALL, &Open);
+    assert!(rt; told == Err(Refused::BadRow { feed: 1, row: 3 }));
+    Ok(())
+}

@@ -1,0 +1,103 @@
+-- What workers that have read all their feeds come to.
+use Rattle.std.proofs.Common.{◌≡◌, ◌<◌, ◌++◌, [], ◌∷◌, ℕ, ◌+◌, ◌%◌, ◌==◌, ℤ, Bool, true, false, List, length, map, Option, Some, None, refl, sym, ap, subst, ◌∙◌, arith}
+use Rattle.std.specs.Prelude.{IfNone, IsSomeAnd, MatchOption, option_map, slice_get}
+use Rattle.std.specs.List.{All, AllZip, filter, enumerate_from}
+use Rattle.std.proofs.lemmas.List.{length-map}
+use Rattle.std.proofs.lemmas.Option.{slice_get-map}
+use Rattle.std.proofs.lemmas.Slice.Zip.{AllZip-long, AllZip-right}
+use Rattle.std.proofs.lemmas.List.Elements.{All-head, All-tail}
+use Rattle.fkv_functions.specs.declared.names.Name.{Name}
+use Rattle.fkv_functions.specs.declared.refusals.Refused.{Refused}
+use Rattle.fkv_feeds.specs.Tables.{AreFeeds, most_rows}
+use Rattle.fkv_store.specs.Passes.{PassView}
+use Rattle.fkv_workers.specs.Shares.{AreFed, AreDealt, HasShare, dealt, feeds_of}
+use Rattle.fkv_workers.specs.Works.{HasDone, IsFedBy}
+
+-- a worker's feeds by what is known of their texts
+texts_dealt : {S T : Type 0} (f : S → T) (workers w place : ℕ) (items : List S)
+    → map (λ item. item.1) (filter (λ item. item.0 % workers == w) (enumerate_from place (map f items)))
+    ≡ map (λ item. f item.1) (filter (λ item. item.0 % workers == w) (enumerate_from place items))
+texts_dealt f workers w place [] = refl
+texts_dealt f workers w place (x ∷ xs) =
+    let by : (b : Bool) → (place % workers == w) ≡ b
+    → map (λ item. item.1) (filter (λ item. item.0 % workers == w) (enumerate_from place (map f (x ∷ xs))))
+    ≡ map (λ item. f item.1) (filter (λ item. item.0 % workers == w) (enumerate_from place (x ∷ xs))) =
+    elim [
+      | true ↦ λ h. rw h (ap (λ l. f x ∷ l) (texts_dealt f workers w (place + 1) xs))
+      | false ↦ λ h. rw h (texts_dealt f workers w (place + 1) xs)
+    ] in
+    by (place % workers == w) refl
+
+module _ {W R S V O : Type 0} (rem : S → Option (List ℕ)) (fails : S → ℕ) (code : Name → ℕ) (feeds_in : W → List (ℕ × S))
+    (pass_of : R → PassView Name V ℤ O) (fault_of : R → Option Refused) (keeps : Bool) (stops : W → R → Type 0) where
+  -- each worker that has no fault has the rows of its feeds
+  pub record Shared (works : List W) (results : List R) : Type 0 where
+    pub shares : List (List (Name × ℤ))
+    pub read : AllZip (λ work rows. AreFeeds most_rows (map (λ feed. rem feed.1) (feeds_in work)) rows) works shares
+    pub kept : AllZip (λ pass rows. HasShare code (length pass.told) pass.own rows) (map pass_of results) shares
+
+  pub shared : (works : List W) (results : List R) → keeps ≡ true
+      → AllZip (λ work result. IfNone (fault_of result) (HasDone rem fails keeps code (feeds_in work) (pass_of result)) × stops work result)
+      works results
+      → All (λ fault. fault ≡ None) (map fault_of results)
+      → Shared works results
+  shared [] [] k each none = record { shares = []; read = tt; kept = tt }
+  shared [] (r ∷ rs) k each none = absurd each
+  shared (w ∷ ws) [] k each none = absurd each
+  shared (w ∷ ws) (r ∷ rs) k each none =
+      let done : HasDone rem fails keeps code (feeds_in w) (pass_of r) =
+      subst (λ fault. IfNone fault (HasDone rem fails keeps code (feeds_in w) (pass_of r))) (All-head (λ fault. fault ≡ None) (fault_of r) (map fault_of rs) none) each.0.0 in
+      let rest = shared ws rs k each.1 (All-tail (λ fault. fault ≡ None) (fault_of r) (map fault_of rs) none) in
+      record {
+        shares = done.rows ∷ rest.shares;
+        read = (done.read, rest.read);
+        kept = (done.stands.share k, rest.kept);
+      }
+
+-- what goes with an item of the second list
+beside : {A B : Type 0} (R : A → B → Type 0) (xs : List A) (ys : List B) (w : ℕ) (y : B) → AllZip R xs ys → slice_get ys w ≡ Some y
+    → (x : A) × (slice_get xs w ≡ Some x) × R x y
+beside {A = A} {B = B} R xs ys w y h at =
+    let right : MatchOption (slice_get ys w) (Unit {0}) (λ z. IsSomeAnd (slice_get xs w) (λ x. R x z)) = AllZip-right {A = A} {B = B} R xs ys h w in
+    let there : IsSomeAnd (slice_get xs w) (λ x. R x y) =
+    subst (λ o. MatchOption o (Unit {0}) (λ z. IsSomeAnd (slice_get xs w) (λ x. R x z))) at right in
+    from (slice_get xs w) refl there
+  where
+    from : (o : Option A) → slice_get xs w ≡ o → IsSomeAnd o (λ x. R x y) → (x : A) × (slice_get xs w ≡ Some x) × R x y
+    from None e t = absurd t
+    from (Some x) e t = (x, e, t)
+
+-- what workers share out among them, where feeds were dealt out
+pub fed_by : {W S V O : Type 0} (rem : S → Option (List ℕ)) (code : Name → ℕ) (feeds_in : W → List (ℕ × S)) (workers : ℕ) (items : List S)
+    (works : List W) (passes : List (PassView Name V ℤ O)) (shares : List (List (Name × ℤ))) → 0 < workers
+    → AreDealt workers items (map feeds_in works)
+    → AllZip (λ work rows. AreFeeds most_rows (map (λ feed. rem feed.1) (feeds_in work)) rows) works shares
+    → AllZip (λ pass rows. HasShare code (length pass.told) pass.own rows) passes shares
+    → IsFedBy code (map rem items) passes
+fed_by {W = W} rem code feeds_in workers items works passes shares some hands read kept =
+    let fed : W → List (Name × ℤ) → Type 0 = λ work rows. AreFeeds most_rows (map (λ feed. rem feed.1) (feeds_in work)) rows in
+    let many : length shares ≡ workers = AllZip-long fed works shares read ∙ (sym (length-map works feeds_in) ∙ hands.count) in
+    record {
+      shares = shares;
+      fed = record {
+        some = rw many some;
+        each = λ w rows at.
+            let found = beside fed works shares w rows read at in
+            let hand : feeds_in found.0 ≡ dealt workers w items = hands.each w (feeds_in found.0) (slice_get-map feeds_in works w ∙ ap (option_map feeds_in) found.1) in
+            rw (many, texts_dealt rem workers w 0 items) (subst (λ feeds. AreFeeds most_rows (map (λ feed. rem feed.1) feeds) rows) hand found.2);
+      };
+      kept = kept;
+    }
+
+-- as many partitions for each pass
+pub counted : {V O : Type 0} (code : Name → ℕ) (count : ℕ) (passes : List (PassView Name V ℤ O)) (shares : List (List (Name × ℤ)))
+    → All (λ pass. length pass.told ≡ count) passes
+    → AllZip (λ pass rows. HasShare code (length pass.told) pass.own rows) passes shares
+    → AllZip (HasShare code count) (map (λ pass. pass.own) passes) shares
+counted code count [] [] all kept = tt
+counted code count [] (r ∷ rs) all kept = absurd kept
+counted code count (p ∷ ps) [] all kept = absurd kept
+counted code count (p ∷ ps) (r ∷ rs) all kept = (
+  subst (λ n. HasShare code n p.own r) (All-head (λ pass. length pass.told ≡ count) p ps all) kept.0,
+  counted code count ps rs (All-tail (λ pass. length pass.told ≡ count) p ps all) kept.1,
+)

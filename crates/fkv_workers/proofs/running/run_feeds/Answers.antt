@@ -1,0 +1,32 @@
+use Rattle.std.proofs.Common.{rules, ◌≡◌, ◌<◌, length, refl, map, sym, ap, subst, ◌∙◌}
+use Rattle.std.specs.List.{All, AllZip}
+use Rattle.std.proofs.lemmas.List.{length-map}
+use Rattle.fkv_records.specs.Records.{size_of}
+use Rattle.fkv_workers.specs.Shares.{HasShare}
+use Rattle.fkv_workers.specs.Works.{IsRunnable}
+use Rattle.fkv_workers.proofs.WorkedLemmas.{counted}
+use Rattle.fkv_workers.proofs.running.run_feeds.Goals as goal
+
+pub returns-clause-ok : goal.returns-clause-ok
+returns-clause-ok g c keeps held =
+    let closed = c.in-Ok-close.ensures.closed keeps held in
+    let fed = c.in-Ok-worked.ensures.ok keeps in
+    let histories = map (λ history. history.items) c.in-Ok-close.closed.histories.items in
+    let owns = map (λ pass. pass.own) c.in-Ok-worked.passes.items in
+    let many : length histories ≡ c.in-Ok.store.count = length-map c.in-Ok-close.closed.histories.items (λ history. history.items) ∙ c.in-Ok-close.ensures.len in
+    let has : AllZip (HasShare g.F.Functions.code (length histories)) owns fed.shares =
+    counted g.F.Functions.code (length histories) c.in-Ok-worked.passes.items fed.shares (λ i d lt. (c.in-Ok-close.ensures.own i d lt).1 ∙ sym many) fed.kept in
+    let some : 0 < c.in-Ok.store.count = search rules in
+    c.tables_join.ensures.table (map g.S.Source.remaining c.args.feeds.items) fed.shares owns histories c.new.result fed.fed has
+    (record { some = rw many some; each = λ p history at. (closed.merged p history at).1 }) (λ k. rw c.new.ensures.pairs (closed.made k))
+    (rw c.new.ensures.pairs c.new.ensures.rising)
+
+pub returns-clause-good : goal.returns-clause-good
+returns-clause-good g c k =
+    subst (λ n. IsRunnable c.args.config.now (size_of 32 g.F.Value.Fixed.SIZE) c.args.workers n) (c.len.ensures ∙ c.args.feeds.ok.0)
+    (c.if-not-is_runnable.ensures.0 refl)
+
+pub returns-in-Err-close-clause-good : goal.returns-in-Err-close-clause-good
+returns-in-Err-close-clause-good g c k =
+    subst (λ n. IsRunnable c.args.config.now (size_of 32 g.F.Value.Fixed.SIZE) c.args.workers n) (c.len.ensures ∙ c.args.feeds.ok.0)
+    (c.if-not-is_runnable.ensures.0 refl)

@@ -1,0 +1,64 @@
+-- What a worker does with its feeds, and what is known of it afterwards.
+use Rattle.std.specs.Prelude.{◌≡◌, ◌<◌, ◌+◌, ◌-◌, ◌^◌, ◌≤◌, ◌⊎◌, ℕ, ℤ, Bool, true, List, ◌∷◌, ◌++◌, length, map, slice_get, Option, Some, None, min}
+use Rattle.std.specs.List.{All, AllZip}
+use Rattle.fkv_functions.specs.declared.names.Name.{Name}
+use Rattle.fkv_functions.specs.declared.refusals.Refused.{Refused}
+use Rattle.fkv_feed_rows.specs.Feeds.{TellsUnread}
+use Rattle.fkv_feeds.specs.Tables.{AreFeeds, most_rows}
+use Rattle.fkv_partition.specs.Limits.{IsWithinLimits}
+use Rattle.fkv_partition.specs.Config.{Config}
+use Rattle.fkv_store.specs.Stores.{IsTold}
+use Rattle.fkv_store.specs.Passes.{PassView}
+use Rattle.fkv_workers.specs.Shares.{AreFed, HasShare}
+
+-- a pass, whose own lists have these rows where entries are kept
+pub record StandsFor {V O : Type 0} (keeps : Bool) (code : Name → ℕ) (pass : PassView Name V ℤ O) (rows : List (Name × ℤ))
+    : Type 0 where
+  pub some : 0 < length pass.told
+  pub share : keeps ≡ true → HasShare code (length pass.told) pass.own rows
+
+-- the number of the feed at this place, counted from 1
+abbrev pub number_of : ℕ → ℕ
+number_of place = min (place + 1) (2 ^ 64 - 1)
+
+module _ {S : Type 0} (remaining : S → Option (List ℕ)) (failures : S → ℕ) where
+  -- one of these feeds was not read to its end, and why
+  pub record IsUnreadOf (feeds : List (ℕ × S)) (why : Refused) : Type 0 where
+    pub place : ℕ
+    pub feed : ℕ × S
+    pub here : slice_get feeds place ≡ Some feed
+    pub after : ℕ
+    pub tells : TellsUnread (number_of feed.0) most_rows (remaining feed.1) (failures feed.1) after why
+
+  -- a worker read these feeds to their ends, and its pass has their rows
+  pub record HasDone {V O : Type 0} (keeps : Bool) (code : Name → ℕ) (feeds : List (ℕ × S)) (pass : PassView Name V ℤ O)
+      : Type 0 where
+    pub rows : List (Name × ℤ)
+    pub read : AreFeeds most_rows (map (λ feed. remaining feed.1) feeds) rows
+    pub stands : StandsFor keeps code pass rows
+
+  -- why a worker stopped before: its pass refused an update or to rest, or a feed was not read to its end
+  abbrev pub IsStop : List (ℕ × S) → Refused → Type 0
+  IsStop feeds why = IsTold why ⊎ IsUnreadOf feeds why
+
+-- the fault of the first worker that has one
+pub record IsFirstFault (faults : List (Option Refused)) (why : Refused) : Type 0 where
+  pub before : List (Option Refused)
+  pub after : List (Option Refused)
+  pub is : faults ≡ before ++ Some why ∷ after
+  pub none : All (λ fault. fault ≡ None) before
+
+-- the own lists of these passes have the rows of these feeds, which their workers share out among them
+pub record IsFedBy {V O : Type 0} (code : Name → ℕ) (feeds : List (Option (List ℕ))) (passes : List (PassView Name V ℤ O))
+    : Type 0 where
+  pub shares : List (List (Name × ℤ))
+  pub fed : AreFed most_rows feeds shares
+  pub kept : AllZip (λ pass rows. HasShare code (length pass.told) pass.own rows) passes shares
+
+-- a run of so many workers over so many feeds is within its limits
+pub record IsRunnable (c : Config) (record_size workers feeds : ℕ) : Type 0 where
+  pub limits : IsWithinLimits c record_size
+  pub workers_least : 1 ≤ workers
+  pub workers_most : workers ≤ 14
+  pub feeds_least : 1 ≤ feeds
+  pub feeds_most : feeds ≤ 64

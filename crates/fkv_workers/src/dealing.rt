@@ -1,0 +1,82 @@
+//! What workers are given, and what they hand back.
+ghost use Rattle.std.specs.Prelude.{◌≡◌, ◌<◌, ◌⊎◌, ℕ, [], map, None, IfOk, IfErr, OnOk};
+ghost use Rattle.std.specs.List.{All};
+ghost use Rattle.fkv_functions.specs.declared.refusals.Refused.TheVariants as refused;
+ghost use Rattle.fkv_store.specs.Stores.{IsUnopened};
+ghost use Rattle.fkv_workers.specs.Works.{StandsFor, IsFirstFault};
+
+use crate::deals::Hand;
+use crate::working::{Work, Worked};
+use fkv_device::Disk;
+use fkv_functions::{Functions, Name, Refused};
+use fkv_histories::Recorder;
+use fkv_store::{Pass, Store};
+use fkv_streams::Source;
+use std::alloc::Global;
+use std::sync::Wait;
+
+/// The work of each worker: its feeds, and a pass of its own. Refused: `NoMemory`, and as the device refuses to open.
+pub(crate) fn works<
+    'a,
+    S: Source + Drop,
+    F: Functions<Key = Name, Input = i64>,
+    D: Disk,
+    H: Recorder<F>,
+    G,
+>(
+    rt: &impl Wait,
+    alloc: Global,
+    store: &'a Store<F, D, H>,
+    gate: &'a G,
+    hands: Vec<Hand<S>>,
+) -> Result<Vec<Work<'a, S, F, D, H, G>>, Refused>
+    requires { 0 < store.now.count }
+    ensures feeds { IfOk result
+        (λ works. map (λ work. work.feeds.items) works.items ≡ map (λ hand. hand.items) hands.items) }
+    ensures ready { IfOk result (λ works. All (λ work. StandsFor H.keeps F.code work.pass []) works.items) }
+    ensures only { IfErr result IsUnopened }
+{
+    let mut works = Vec::new(alloc);
+    let mut worker = 0u32;
+    for feeds in hands {
+        let pass = match store.pass(rt, alloc, worker) {
+            Ok(pass) => pass,
+            Err(refused) => return Err(refused),
+        };
+        let work = Work {
+            alloc,
+            store,
+            gate,
+            pass,
+            feeds,
+        };
+        let Ok(()) = works.push(work) else {
+            return Err(Refused::NoMemory);
+        };
+        worker = worker.wrapping_add(1);
+    }
+    Ok(works)
+}
+
+/// The passes of workers, in order. Refused: as the first of them stopped that did before its feeds ended, and `NoMemory`.
+pub(crate) fn passes_of<F: Functions, D: Disk, H: Recorder<F>>(
+    alloc: Global,
+    worked: Vec<Worked<F, D, H>>,
+) -> Result<Vec<Pass<F, D, H>>, Refused>
+    ensures ok { IfOk result (λ passes. passes.items ≡ map (λ w. w.pass) worked.items) }
+    ensures none { OnOk result (All (λ fault. fault ≡ None) (map (λ w. w.fault) worked.items)) }
+    ensures err { IfErr result (λ e. (e ≡ refused.NoMemory) ⊎ IsFirstFault (map (λ w. w.fault) worked.items) e) }
+{
+    let mut passes = Vec::new(alloc);
+    for one in worked {
+        let Worked { pass, fault } = one;
+        match fault {
+            None => {}
+            Some(refused) => return Err(refused),
+        }
+        let Ok(()) = passes.push(pass) else {
+            return Err(Refused::NoMemory);
+        };
+    }
+    Ok(passes)
+}

@@ -1,0 +1,85 @@
+//! Who moves the pages of a store while workers run.
+ghost use Rattle.std.specs.Prelude.{◌≡◌, ◌<◌, length, IfOk, IfErr};
+ghost use Rattle.fkv_functions.specs.declared.refusals.Refused.TheVariants as refused;
+ghost use Rattle.fkv_store.specs.Stores.{IsTold};
+
+use fkv_device::Disk;
+use fkv_functions::{Functions, Refused};
+use fkv_histories::Recorder;
+use fkv_jobs::Keeper;
+use fkv_store::{Gate, Store};
+use std::alloc::Global;
+use std::sync::Wait;
+use std::sync::atomic::{AtomicU64, Ordering};
+
+/// How many pages Head moves until a partition is compacted again.
+const PAGES: u64 = 64;
+
+/// The keeper of a store: where Head of each partition stood when it was compacted last.
+#[derive(Drop)]
+pub(crate) struct StoreKeeper<'a, F: Functions, D: Disk, H: Recorder<F>, G> {
+    pub alloc: Global,
+    pub store: &'a Store<F, D, H>,
+    pub gate: &'a G,
+    pub heads: Vec<AtomicU64>,
+    /// The bytes that Head moves until then.
+    pub span: u64,
+}
+
+/// Moves the pages of one partition, and compacts it where its Head has moved far enough since the last time.
+fn keep_one<F: Functions, D: Disk, H: Recorder<F>, G: Gate>(
+    rt: &impl Wait,
+    keeper: &StoreKeeper<'_, F, D, H, G>,
+    partition: usize,
+    compacted: &AtomicU64,
+) -> Result<(), Refused>
+    ensures { IfErr result IsTold }
+{
+    let head = match keeper.store.tidy(rt, keeper.alloc, partition, keeper.gate) {
+        Ok(head) => head,
+        Err(refused) => return Err(refused),
+    };
+    let last = compacted.load(Ordering::SeqCst);
+    if head.saturating_sub(last) < keeper.span {
+        return Ok(());
+    }
+    compacted.store(head, Ordering::SeqCst);
+    match keeper.store.compact(rt, partition, keeper.gate) {
+        Ok(()) => Ok(()),
+        Err(refused) => Err(refused),
+    }
+}
+
+impl<'a, F: Functions, D: Disk, H: Recorder<F>, G: Gate> Keeper for StoreKeeper<'a, F, D, H, G> {
+    ghost fault = { λ _ refused. IsTold refused };
+
+    fn turn<W: Wait>(&self, rt: &W) -> Result<(), Refused> {
+        for (partition, compacted) in self.heads.iter().enumerate() {
+            match keep_one(rt, self, partition, compacted) {
+                Ok(()) => {}
+                Err(refused) => return Err(refused),
+            }
+        }
+        Ok(())
+    }
+}
+
+/// The bytes of so many pages as Head moves between two compactions, where a page has 2 to this many.
+pub(crate) fn span_of(page_bits: u64) -> u64
+    requires { page_bits < 57 }
+{
+    PAGES << page_bits
+}
+
+/// So many places of Head, at which nothing was compacted. Refused: `NoMemory`.
+pub(crate) fn fresh_heads(alloc: Global, count: usize) -> Result<Vec<AtomicU64>, Refused>
+    ensures only { IfErr result (λ e. e ≡ refused.NoMemory) }
+{
+    let mut heads = Vec::new(alloc);
+    for _ in 0..count {
+        let Ok(()) = heads.push(AtomicU64::new(0)) else {
+            return Err(Refused::NoMemory);
+        };
+    }
+    Ok(heads)
+}

@@ -1,0 +1,175 @@
+//! Runs over feeds, with several workers.
+ghost use Rattle.std.specs.Prelude.{◌≡◌, ◌≢◌, ◌≤◌, ◌<◌, ◌↔◌, true, length, map, IsTrue, Err, None, IfOk, OnOk};
+ghost use Rattle.std.specs.List.{All};
+ghost use Rattle.fkv_records.specs.Records.{size_of};
+ghost use Rattle.fkv_partition.specs.Limits.{IsWithinLimits};
+ghost use Rattle.fkv_feeds.specs.Tables.{IsTableOf};
+ghost use Rattle.fkv_workers.specs.Works.{IsFedBy, IsRunnable};
+
+use crate::dealing::{passes_of, works};
+use crate::deals::deal;
+use crate::keeping::{StoreKeeper, fresh_heads, span_of};
+use crate::laws::tables_join;
+use crate::working::Worked;
+use fkv_device::Disk;
+use fkv_feeds::Table;
+use fkv_functions::{Fixed, Functions, Name, OrderFree, Refused};
+use fkv_histories::Recorder;
+use fkv_jobs::{Ran, run_jobs};
+use fkv_partition::Config;
+use fkv_store::{Gate, Pass, Store};
+use fkv_streams::Source;
+use std::alloc::Global;
+use std::sync::Wait;
+use std::thread::Threads;
+
+/// The most feeds of a run.
+pub const MOST_FEEDS: usize = 64;
+
+/// The most workers of a run: a partition has sixteen sessions, and a compactor needs one.
+pub const MOST_WORKERS: usize = 14;
+
+/// Whether a run of so many workers over so many feeds, with a store of this configuration, is within its limits.
+fn is_runnable<V: Fixed>(config: &Config, workers: usize, feeds: usize) -> bool
+    ensures { IsTrue result ↔ IsRunnable config.now (size_of 32 V.SIZE) workers feeds }
+{
+    config.is_within_limits::<Name, V>()
+        && (1..=MOST_WORKERS).contains(&workers)
+        && (1..=MOST_FEEDS).contains(&feeds)
+}
+
+/// The passes of workers, where neither they nor the keeper have a fault. The fault of the first worker that has one comes
+/// first, then the keeper's.
+fn ended<F: Functions, D: Disk, H: Recorder<F>>(
+    alloc: Global,
+    ran: Ran<Worked<F, D, H>>,
+) -> Result<Vec<Pass<F, D, H>>, Refused>
+    ensures ok { IfOk result (λ passes. passes.items ≡ map (λ w. w.pass) ran.results.items) }
+    ensures none { OnOk result (All (λ fault. fault ≡ None) (map (λ w. w.fault) ran.results.items)) }
+{
+    let Ran { results, kept } = ran;
+    let passes = match passes_of(alloc, results) {
+        Ok(passes) => passes,
+        Err(refused) => return Err(refused),
+    };
+    match kept {
+        Ok(()) => Ok(passes),
+        Err(refused) => Err(refused),
+    }
+}
+
+/// The passes of workers in threads of their own that have read all feeds into a store, beside a keeper.
+fn worked<
+    S: Source + Drop + Send,
+    F: OrderFree<Key = Name, Input = i64> + Send + Sync,
+    D: Disk + Send,
+    H: Recorder<F> + Send,
+    G: Gate + Sync,
+    T: Threads + Wait + Sync,
+>(
+    rt: &T,
+    alloc: Global,
+    feeds: Vec<S>,
+    workers: usize,
+    store: &Store<F, D, H>,
+    page_bits: u64,
+    gate: &G,
+) -> Result<Vec<Pass<F, D, H>>, Refused>
+where
+    F::Value: Send,
+    F::Output: Send,
+    D::Receipt: Send,
+    D::Writer: Send,
+    D::Reader: Send,
+    requires some { 0 < workers }
+    requires store { 0 < store.now.count }
+    requires bits { page_bits < 57 }
+    ensures ok { IfOk result (λ passes. H.keeps ≡ true
+        → IsFedBy F.code (map S.remaining feeds.items) passes.items) }
+{
+    let hands = match deal(alloc, feeds, workers) {
+        Ok(hands) => hands,
+        Err(refused) => return Err(refused),
+    };
+    let works = match works(rt, alloc, store, gate, hands) {
+        Ok(works) => works,
+        Err(refused) => return Err(refused),
+    };
+    let heads = match fresh_heads(alloc, store.partitions()) {
+        Ok(heads) => heads,
+        Err(refused) => return Err(refused),
+    };
+    let keeper = StoreKeeper {
+        alloc,
+        store,
+        gate,
+        heads,
+        span: span_of(page_bits),
+    };
+    let ran = match run_jobs(rt, alloc, &keeper, works) {
+        Ok(ran) => ran,
+        Err(refused) => return Err(refused),
+    };
+    match ended(alloc, ran) {
+        Ok(passes) => Ok(passes),
+        Err(refused) => Err(refused),
+    }
+}
+
+/// The table of these feeds, as [`fkv_feeds::run_one`] makes it, by so many workers in threads of their own, beside a keeper
+/// that moves pages: feed i, counted from 0, is read by worker `i mod workers`, and each row is one update of a store that all
+/// share. With a recorder that keeps, and on a device that keeps, the table is that of one worker.
+///
+/// # Errors
+///
+/// In this order: `BadConfig`, where there are none of 1 to 14 workers, or none of 1 to 64 feeds, or a number of the
+/// configuration is outside its limits, and then no feed is read; `NoMemory`, and `Device` with code 1, before any feed is
+/// read; `NoMemory` where a thread can't be made, after those that were made have ended; the fault of the first worker that has
+/// one: `BadRow` and `Unreadable` of one of its feeds, and what its pass refuses; the keeper's; and what the end of the store
+/// refuses.
+pub fn run_feeds<
+    S: Source + Drop + Send,
+    F: OrderFree<Key = Name, Input = i64> + Send + Sync,
+    D: Disk + Send,
+    H: Recorder<F> + Send,
+    G: Gate + Sync,
+    T: Threads + Wait + Sync,
+>(
+    rt: &T,
+    alloc: Global,
+    feeds: Vec<S>,
+    workers: usize,
+    functions: F,
+    config: &Config,
+    device: D,
+    gate: &G,
+) -> Result<Table<F::Value>, Refused>
+where
+    F::Value: Send,
+    F::Output: Send,
+    D::Receipt: Send,
+    D::Writer: Send,
+    D::Reader: Send,
+    ensures ok { H.keeps ≡ true → IsTrue D.Receipt.keeps
+        → IfOk result (IsTableOf F.meaning (map S.remaining feeds.items)) }
+    ensures good { result ≢ Err Refused.BadConfig
+        → IsRunnable config.now (size_of 32 F.Value.SIZE) workers (length feeds.items) }
+{
+    if !is_runnable::<F::Value>(config, workers, feeds.len()) {
+        return Err(Refused::BadConfig);
+    }
+    let store = match Store::<F, D, H>::open(alloc, config, functions, device) {
+        Ok(store) => store,
+        Err(refused) => return Err(refused),
+    };
+    let passes = match worked(rt, alloc, feeds, workers, &store, config.page_bits, gate) {
+        Ok(passes) => passes,
+        Err(refused) => return Err(refused),
+    };
+    let closed = match store.close(alloc, passes) {
+        Ok(closed) => closed,
+        Err(refused) => return Err(refused),
+    };
+    tables_join::<F>();
+    Ok(Table::new(closed.map))
+}
