@@ -9,6 +9,8 @@ mod damage;
 #[cfg(test)]
 mod faults;
 #[cfg(test)]
+mod growths;
+#[cfg(test)]
 mod sharing;
 #[cfg(test)]
 mod threads;

@@ -115,3 +115,20 @@ fn the_first_workers_fault(rt: HostRuntime) -> Result<(), Fail> {
     assert!(rt; told == Err(Refused::BadRow { feed: 1, row: 3 }));
     Ok(())
 }
+
+/// One worker, of which a growth may be refused: the table is whole, or nothing is.
+#[test]
+fn refused_growths_of_one_worker(rt: HostRuntime) -> Result<(), Fail> {
+    let two = Config {
+        partition_bits: 1,
+        ..SMALL
+    };
+    let feeds: [&[u8]; 2] = [b"a,1\n", b"b,1\n"];
+    let told = summed::<Audited<SumFns>, _, _>(&rt, rt.alloc(), &feeds, 1, &two, &Open);
+    let is_whole = match told {
+        Ok(text) => text.as_slice() == b"a,1\nb,1\n".as_slice(),
+        Err(refused) => refused == Refused::NoMemory,
+    };
+    assert!(rt; is_whole);
+    Ok(())
+}
