@@ -79,3 +79,24 @@ fn a_read_that_fails(rt: HostRuntime) -> Result<(), Fail> {
     assert!(rt; plain == None, "row {plain:?}");
     Ok(())
 }
+
+/// A page that can't be read at the end: the store and its passes are gone.
+fn closed<H: Recorder<SumFns>>(
+    rt: &impl Wait,
+    alloc: Global,
+) -> Result<Result<(Option<i128>, usize, u64), Refused>, Fail> {
+    let mut device = UnsureDevice::new(alloc);
+    device.reads = 0;
+    let mut called = Called::<UnsureDevice, H>::new(rt, alloc, &SMALL, device)?;
+    let evicted = read_fails();
+    let _told = called.first_other(rt, alloc, &evicted[..7]);
+    Ok(called.closed(alloc, 2))
+}
+
+#[test]
+fn a_read_that_fails_at_the_end(rt: HostRuntime) -> Result<(), Fail> {
+    let fault = Err(Refused::Device { code: 3, page: 0 });
+    assert!(rt; closed::<Audited<SumFns>>(&rt, rt.alloc())? == fault);
+    assert!(rt; closed::<Plain>(&rt, rt.alloc())? == fault);
+    Ok(())
+}

@@ -3,7 +3,7 @@ use crate::calls::SMALL;
 use fkv_device::MemoryDevice;
 use fkv_functions::{Name, Refused, SumFns};
 use fkv_histories::{Audited, Plain, Recorder};
-use fkv_operations::{Answer, KeyedOp};
+use fkv_operations::KeyedOp;
 use fkv_store::{Open, Pass, Store};
 use std::alloc::Global;
 use std::sync::Wait;
@@ -30,11 +30,11 @@ fn add_ones<H: Recorder<SumFns>>(
     Ok(())
 }
 
-/// What key a has, after two callers have added to it in threads of their own.
+/// What key a has, and how many operations were finished, after two callers have added to it in threads of their own.
 fn summed<H: Recorder<SumFns> + Send, T: Threads + Wait + Sync>(
     rt: &T,
     alloc: Global,
-) -> Result<Answer<i128>, Fail> {
+) -> Result<(Option<i128>, u64), Fail> {
     let store = Store::<SumFns, MemoryDevice, H>::open(
         alloc,
         &SMALL,
@@ -50,17 +50,20 @@ fn summed<H: Recorder<SumFns> + Send, T: Threads + Wait + Sync>(
     );
     left?;
     right?;
-    let Some(key) = Name::new(b"a") else {
-        return Err(Fail::from("no name"));
+    let passes = vec![in alloc; one, two]?;
+    let closed = store.close(alloc, passes)?;
+    let held = match Name::new(b"a") {
+        Some(key) => closed.map.get(&key).copied(),
+        None => None,
     };
-    Ok(one.run(rt, alloc, &store, KeyedOp::Read(key, 0), &Open)?)
+    Ok((held, closed.finished))
 }
 
 #[test]
 fn two_callers(rt: HostRuntime) -> Result<(), Fail> {
     let audited = summed::<Audited<SumFns>, _>(&rt, rt.alloc())?;
-    assert!(rt; audited == Answer::Value(2_000));
+    assert!(rt; audited == (Some(2_000), 2_000));
     let plain = summed::<Plain, _>(&rt, rt.alloc())?;
-    assert!(rt; plain == Answer::Value(2_000));
+    assert!(rt; plain == (Some(2_000), 2_000));
     Ok(())
 }
