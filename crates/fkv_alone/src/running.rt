@@ -32,7 +32,7 @@ fn is_on<K, V, I, O, R: Drop>(told: &Progress<K, V, I, O, R>) -> bool
 /// no event is allowed, `Worn`.
 fn first_moment(clock: &mut Clock, limit: u64) -> Result<u64, Refused>
     ensures ok { IfOk result (λ now. (now ≡ clock.old + 1) × (clock.new ≡ now) × (0 < limit)) }
-    ensures err { IfErr result (λ refused. (clock.new ≡ clock.old)
+    ensures refused { IfErr result (λ refused. (clock.new ≡ clock.old)
         × (((refused ≡ Refused.Stalled) × (limit ≡ 0))
         ⊎ ((refused ≡ Refused.Worn) × (0 < limit) × (clock.old ≡ 2 ^ 64 - 1)))) }
 {

@@ -1,2 +1,4 @@
-pub mod TellingLemmas
 pub mod StatusLemmas
+pub mod TellingLemmas
+pub mod WholeLemmas
+pub mod MakingLemmas

@@ -1,5 +1,5 @@
 -- What a run leaves on its output, by what was read.
-use Rattle.std.specs.Prelude.{◌≡◌, ◌⊎◌, List, [], ◌∷◌, map, ℕ, ℤ, Option, None, IfSome, codes, option_map, string_bytes}
+use Rattle.std.specs.Prelude.{◌≡◌, ◌⊎◌, true, List, [], ◌∷◌, map, ℕ, ℤ, Option, None, IfSome, codes, option_map, string_bytes}
 use Rattle.std.specs.Fmt.{decimal, signed_decimal}
 use Rattle.fkv_functions.specs.Meanings.{Meanings}
 use Rattle.fkv_functions.specs.Sets.{counts, sums, maxima}
@@ -78,12 +78,16 @@ IsStopped words input old new =
     ⊎ (MayAskVersion words × AppendsPrefix old new version_line)
     ⊎ MayAskHelp words
 
+-- the words ask for a table, and for a report of what its run did
+abbrev pub AsksReport : List Text → Type 0
+AsksReport words = (table : TableRequest) × AsksTable words table × (table.stats ≡ true)
+
 -- what a run of these words ends with: status 0 where help is asked for, or where a replay, a table or the version was
--- written whole, and then no fault was told; status 1 where nothing was written, or the front of what is asked for; status 2 where the words
+-- written whole, and then nothing was told but a report that was asked for; status 1 where nothing was written, or the front of what is asked for; status 2 where the words
 -- are mistaken, and then nothing was written
 pub record IsEnding (words : List Text) (input old new told_old told_new : Option (List ℕ)) (status : ℕ) : Type 0 where
   pub done : status ≡ 0 → IsDone words input old new
-  pub quiet : status ≡ 0 → told_new ≡ told_old
+  pub quiet : status ≡ 0 → (told_new ≡ told_old) ⊎ AsksReport words
   pub fault : status ≡ 1 → IsStopped words input old new
   pub mistake : status ≡ 2 → MayBeMistaken words × (new ≡ old)
   pub only : (status ≡ 0) ⊎ (status ≡ 1) ⊎ (status ≡ 2)

@@ -6,23 +6,37 @@ ghost use Rattle.fkv_commands.specs.Endings.{IsEnding};
 
 use crate::running::{refuse_words, run, tell};
 use fkv_functions::Refused;
+use fkv_meters::Progress;
 use fkv_streams::{Sink, Source};
 use std::alloc::Global;
 use std::fs::Files;
 use std::io::{self, ErrorKind};
 use std::process::ExitCode;
+use std::rt::Clock;
+use std::sync::Wait;
+use std::thread::Threads;
 
 /// Does what the words ask for, of which the first is the program's name, and ends with its status, as
 /// [`run`] has it. Where the words could not be had the output is as it was: status 2 where one of them is
 /// no text, and 1 where there was no memory for them.
-pub fn end<R: Source, W: Sink, E: Sink, H: Files>(
+pub fn end<
+    R: Source,
+    W: Sink,
+    E: Sink,
+    H: Files + Threads + Wait + Clock + Sync,
+    P: Progress + Sync,
+>(
+    rt: &H,
     alloc: Global,
-    files: &H,
     words: io::Result<Vec<String>>,
     reader: &mut R,
     writer: &mut W,
     faults: &mut E,
+    hook: &P,
 ) -> ExitCode
+where
+    H::File: Send,
+    H::Dir: Send,
     ensures ends { IfOk words (λ ws. IsEnding (map string_bytes ws.items) (R.remaining reader.old)
         (W.contents writer.old) (W.contents writer.new) (E.contents faults.old) (E.contents faults.new)
         (exit_status result)) }
@@ -35,27 +49,31 @@ pub fn end<R: Source, W: Sink, E: Sink, H: Files>(
         × (W.failures writer.new ≡ W.failures writer.old) }
 {
     match words {
-        Ok(words) => ended(alloc, files, words.as_slice(), reader, writer, faults),
+        Ok(words) => ended(rt, alloc, words.as_slice(), reader, writer, faults, hook),
         Err(error) => ExitCode::from(unworded(&error, faults)),
     }
 }
 
 /// Does what the words ask for, and ends with its status, as [`run`] has it.
-fn ended<R: Source, W: Sink, E: Sink, H: Files>(
+fn ended<R: Source, W: Sink, E: Sink, H: Files + Threads + Wait + Clock + Sync, P: Progress + Sync>(
+    rt: &H,
     alloc: Global,
-    files: &H,
     words: &[String],
     reader: &mut R,
     writer: &mut W,
     faults: &mut E,
+    hook: &P,
 ) -> ExitCode
+where
+    H::File: Send,
+    H::Dir: Send,
     ensures ends { IsEnding (map string_bytes words.now) (R.remaining reader.old) (W.contents writer.old)
         (W.contents writer.new) (E.contents faults.old) (E.contents faults.new) (exit_status result) }
     ensures out { exit_status result ≡ 0 → W.is_out writer.new ≡ true }
     ensures steady { exit_status result ≡ 0 → (R.failures reader.new ≡ R.failures reader.old)
         × (W.failures writer.new ≡ W.failures writer.old) }
 {
-    let status = run(alloc, files, words, reader, writer, faults);
+    let status = run(rt, alloc, words, reader, writer, faults, hook);
     ExitCode::from(status)
 }
 

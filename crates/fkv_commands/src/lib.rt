@@ -7,6 +7,9 @@
 #![tactic(auto)]
 
 pub mod ending;
+mod making;
+mod opening;
+mod reporting;
 pub mod running;
 pub mod starting;
 mod tabulating;

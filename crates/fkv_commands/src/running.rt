@@ -4,17 +4,22 @@ ghost use Rattle.std.specs.Io.KnownBytes.{Appends};
 ghost use Rattle.fkv_streams.specs.Streams.{AppendsPrefix};
 ghost use Rattle.fkv_steps.specs.Printing.{line};
 ghost use Rattle.fkv_requests.specs.Requests.{MayBeMistaken};
-ghost use Rattle.fkv_commands.specs.Endings.{IsDone, IsStopped, version_line};
+ghost use Rattle.fkv_commands.specs.Endings.{AsksReport, IsDone, IsStopped, version_line};
 
+use crate::reporting::Report;
 use crate::tabulating::tabulate;
 use crate::telling::Telling;
 use fkv_functions::Refused;
-use fkv_requests::{Request, request_of};
+use fkv_meters::Progress;
+use fkv_requests::{Request, TableRequest, request_of};
 use fkv_steps::scripts::run_script;
 use fkv_streams::{Sink, Source, write_out};
 use std::alloc::Global;
 use std::fs::Files;
 use std::io::Write;
+use std::rt::Clock;
+use std::sync::Wait;
+use std::thread::Threads;
 
 /// The status of a run that did what was asked.
 const DONE: u8 = 0;
@@ -27,21 +32,33 @@ const MISTAKE: u8 = 2;
 ///
 /// `replay`, and no word, run the script that the reader gives and write what it tells. Status 0: it was
 /// done, whatever its lines were refused. `count`, `sum` and `max` write the table of the feeds that they name, or of
-/// the reader, status 0. Status 1: it was refused; `fkv_cli: ` and why stand on `faults`,
+/// the reader, status 0; where a report is asked for it goes to `faults` afterwards, and where progress is, `hook` tells it on
+/// the way. Status 1: it was refused; `fkv_cli: ` and why stand on `faults`,
 /// and nothing was written, or where the writer failed the front of the output. `--help` writes help, and `--version`
 /// the program's name and version, status 0. Words that ask for nothing that the program does: clap's text on `faults`,
 /// status 2.
-pub fn run<R: Source, W: Sink, E: Sink, H: Files>(
+pub fn run<
+    R: Source,
+    W: Sink,
+    E: Sink,
+    H: Files + Threads + Wait + Clock + Sync,
+    P: Progress + Sync,
+>(
+    rt: &H,
     alloc: Global,
-    files: &H,
     words: &[String],
     reader: &mut R,
     writer: &mut W,
     faults: &mut E,
+    hook: &P,
 ) -> u8
+where
+    H::File: Send,
+    H::Dir: Send,
     ensures done { result ≡ 0 → IsDone (map string_bytes words.now) (R.remaining reader.old)
         (W.contents writer.old) (W.contents writer.new) }
-    ensures quiet { result ≡ 0 → E.contents faults.new ≡ E.contents faults.old }
+    // where no report was asked for
+    ensures quiet { result ≡ 0 → (E.contents faults.new ≡ E.contents faults.old) ⊎ AsksReport (map string_bytes words.now) }
     // What was written is out, and no failure of a stream is hidden.
     ensures out { result ≡ 0 → W.is_out writer.new ≡ true }
     ensures steady { result ≡ 0 → (R.failures reader.new ≡ R.failures reader.old)
@@ -57,10 +74,16 @@ pub fn run<R: Source, W: Sink, E: Sink, H: Files>(
             Ok(()) => DONE,
             Err(refused) => tell(faults, refused),
         },
-        Ok(Request::Table(table)) => match tabulate(alloc, files, &table, reader, writer) {
-            Ok(()) => DONE,
-            Err(refused) => tell(faults, refused),
-        },
+        Ok(Request::Table(table)) => {
+            begin(&table, hook);
+            match tabulate(rt, alloc, &table, reader, writer, hook) {
+                Ok(done) => {
+                    report(&table, &done, faults);
+                    DONE
+                }
+                Err(refused) => tell(faults, refused),
+            }
+        }
         Ok(Request::Help(text)) => match write_out(writer, text.as_bytes()) {
             Ok(()) => DONE,
             Err(refused) => tell(faults, refused),
@@ -77,10 +100,26 @@ pub fn run<R: Source, W: Sink, E: Sink, H: Files>(
     }
 }
 
+/// Has the hook tell how far a run is, where that is asked for.
+fn begin<P: Progress>(table: &TableRequest, hook: &P) {
+    if table.progress {
+        hook.begin();
+    }
+}
+
+/// Tells what a run did, where that is asked for.
+fn report<E: Sink>(table: &TableRequest, done: &Report, faults: &mut E)
+    ensures { (E.contents faults.new ≡ E.contents faults.old) ⊎ (table.now.stats ≡ true) }
+{
+    if table.stats {
+        done.tell(faults);
+    }
+}
+
 /// Writes the program's name and version. Refused: `Unwritable` where the writer fails.
 fn write_version<W: Sink>(writer: &mut W) -> Result<(), Refused>
     ensures ok { OnOk result (Appends (W.contents writer.old) (W.contents writer.new) version_line) }
-    ensures err { OnErr result (AppendsPrefix (W.contents writer.old) (W.contents writer.new) version_line) }
+    ensures refused { OnErr result (AppendsPrefix (W.contents writer.old) (W.contents writer.new) version_line) }
     ensures out { OnOk result (W.is_out writer.new ≡ true) }
     ensures steady { OnOk result (W.failures writer.new ≡ W.failures writer.old) }
 {

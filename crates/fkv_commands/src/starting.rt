@@ -3,24 +3,36 @@ ghost use Rattle.std.specs.Prelude.{◌≡◌, ◌⊎◌};
 ghost use Rattle.std.specs.Process.{exit_status};
 
 use crate::ending::end;
+use fkv_meters::{ProgressSource, Telling};
 use fkv_requests::words_of;
 use fkv_streams::{CountedReader, CountedWriter};
 use std::env::{self, Env};
 use std::fs::Files;
 use std::io;
 use std::process::ExitCode;
+use std::rt::Clock;
+use std::sync::Wait;
+use std::thread::Threads;
 
 /// Does what the process's own words ask for, with its own streams, and ends with [`end`]'s status: 0, 1
 /// or 2. Faults go to `faults`.
-pub fn start<R: Env + Files + Input + Print + AllocGlobal, E: Print>(rt: &R, faults: &E) -> ExitCode
+pub fn start<
+    R: Env + Files + Input + Print + AllocGlobal + Threads + Wait + Clock + Sync,
+    E: Print + Sync,
+>(rt: &R, faults: &E) -> ExitCode
+where
+    R::File: Send,
+    R::Dir: Send,
     ensures { (exit_status result ≡ 0) ⊎ (exit_status result ≡ 1) ⊎ (exit_status result ≡ 2) }
 {
+    let hook = Telling::new(rt, faults);
     end(
-        rt.alloc(),
         rt,
+        rt.alloc(),
         words_of(rt.alloc(), env::args(rt)),
-        &mut CountedReader::new(rt.reader()),
+        &mut ProgressSource::new(CountedReader::new(rt.reader()), &hook),
         &mut CountedWriter::new(io::writer(rt)),
         &mut CountedWriter::new(io::writer(faults)),
+        &hook,
     )
 }

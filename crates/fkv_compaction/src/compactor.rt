@@ -50,11 +50,11 @@ impl Compactor {
         now: u64,
     ) -> Result<Self, Refused>
         requires later { partition.old.core.moment < now }
-        ensures does { Enters partition.old partition.new now result }
+        ensures effect { Enters partition.old partition.new now result }
         ensures event { IfOk result (λ _. IsQuiet R.keeps partition.old partition.new now) }
         ensures pends { AllPend F.Key.cmp partition.old.core partition.new.core }
         ensures within { IfOk result (λ slot. slot < 16) }
-        ensures err { OnErr result (partition.new ≡ partition.old) }
+        ensures unchanged { OnErr result (partition.new ≡ partition.old) }
         ensures moment { partition.new.core.moment ≤ now }
     {
         match partition.enter(now) {
@@ -80,12 +80,12 @@ impl Compactor {
         now: u64,
     ) -> Result<ProgressOf<F, R>, Refused>
         requires later { partition.old.core.moment < now }
-        ensures does { CompactsNext R.stands F.Key.cmp F.meaning F.code partition.old partition.new self.now now result }
+        ensures effect { CompactsNext R.stands F.Key.cmp F.meaning F.code partition.old partition.new self.now now result }
         ensures event { IfOk result (λ _. IsTurn R.keeps F.Key.cmp partition.old partition.new self.now now) }
         ensures cleared { result ≡ Ok (Done Cleared now) → (c : ℕ)
             → IsFirstOpen partition.old self.now (Some c)
             → IfSome (relocation_at partition.old self.now c) (λ x. x.target < partition.new.cleared) }
-        ensures err { OnErr result (partition.new ≡ partition.old) }
+        ensures unchanged { OnErr result (partition.new ≡ partition.old) }
         ensures moment { partition.new.core.moment ≤ now }
     {
         match partition.open_relocation(self.slot) {
@@ -104,11 +104,11 @@ impl Compactor {
     ) -> Result<ProgressOf<F, R>, Refused>
         requires later { partition.old.core.moment < now }
         requires open { IsFirstOpen partition.old self.now (Some context) }
-        ensures does { CompactsNext R.stands F.Key.cmp F.meaning F.code partition.old partition.new self.now now result }
+        ensures effect { CompactsNext R.stands F.Key.cmp F.meaning F.code partition.old partition.new self.now now result }
         ensures event { IfOk result (λ _. IsTurn R.keeps F.Key.cmp partition.old partition.new self.now now) }
         ensures cleared { result ≡ Ok (Done Cleared now)
             → IfSome (relocation_at partition.old self.now context) (λ x. x.target < partition.new.cleared) }
-        ensures err { OnErr result (partition.new ≡ partition.old) }
+        ensures unchanged { OnErr result (partition.new ≡ partition.old) }
         ensures moment { partition.new.core.moment ≤ now }
     {
         partition.go(self.slot, context, functions, now)
@@ -123,10 +123,10 @@ impl Compactor {
     ) -> Result<ProgressOf<F, R>, Refused>
         requires later { partition.old.core.moment < now }
         requires none { IsFirstOpen partition.old self.now None }
-        ensures does { CompactsNext R.stands F.Key.cmp F.meaning F.code partition.old partition.new self.now now result }
+        ensures effect { CompactsNext R.stands F.Key.cmp F.meaning F.code partition.old partition.new self.now now result }
         ensures event { IfOk result (λ _. IsTurn R.keeps F.Key.cmp partition.old partition.new self.now now) }
         ensures uncleared { result ≡ Ok (Done Cleared now) → ⊥ }
-        ensures err { OnErr result (partition.new ≡ partition.old) }
+        ensures unchanged { OnErr result (partition.new ≡ partition.old) }
         ensures moment { partition.new.core.moment ≤ now }
     {
         match partition.issue(self.slot, Op::Relocate, functions, now) {
@@ -146,7 +146,7 @@ impl Compactor {
         now: u64,
     ) -> Result<ProgressOf<F, R>, Refused>
         requires later { partition.old.core.moment < now }
-        ensures does { CompactsLoad R.stands (IsEntryIn F.Key.bytes_of F.Value.bytes_of F.Key.is_known
+        ensures effect { CompactsLoad R.stands (IsEntryIn F.Key.bytes_of F.Value.bytes_of F.Key.is_known
             F.Value.is_known F.Key.SIZE F.Value.SIZE) F.Key.cmp F.meaning F.code partition.old partition.new self.now
             came now result }
         ensures event { IfOk result (λ _. IsTurn R.keeps F.Key.cmp partition.old partition.new self.now now) }
@@ -172,14 +172,14 @@ impl Compactor {
         now: u64,
     ) -> Result<Address, Refused>
         requires later { partition.old.core.moment < now }
-        ensures does { Truncates R.keeps partition.old partition.new
+        ensures effect { Truncates R.keeps partition.old partition.new
             (page_at partition.old.core.records.page_bits partition.old.cleared) now (told_of result) }
         ensures begin { IfOk result (λ begin. (begin ≡ partition.new.core.records.begin)
             × (begin ≡ start_at partition.old.core.records.page_bits
             (page_at partition.old.core.records.page_bits partition.old.cleared))) }
         ensures event { OnOk result (IsTruncation R.keeps F.Key.cmp partition.old partition.new
             (page_at partition.old.core.records.page_bits partition.old.cleared) now) }
-        ensures err { OnErr result (partition.new ≡ partition.old) }
+        ensures unchanged { OnErr result (partition.new ≡ partition.old) }
         ensures moment { partition.new.core.moment ≤ now }
     {
         partition.truncate_cleared(now)
@@ -195,7 +195,7 @@ impl Compactor {
         clock: &mut Clock,
     ) -> Result<(), Refused>
         requires past { partition.old.core.moment ≤ clock.old }
-        ensures does { Parts R.keeps partition.old partition.new self clock.old clock.new result }
+        ensures effect { Parts R.keeps partition.old partition.new self clock.old clock.new result }
         ensures event { OnOk result (IsParted R.keeps partition.old partition.new clock.new) }
         // whatever it answers: other sessions and operations on keys ask what they asked, look-ups are to find what they
         // were to find, and the live map stays
@@ -225,7 +225,7 @@ impl Compactor {
     )
         requires past { partition.old.core.moment ≤ clock.old }
         requires spare { clock.old + 9 < 2 ^ 64 }
-        ensures does { GivesUpAll self.now partition.old partition.new clock.old clock.new }
+        ensures effect { GivesUpAll self.now partition.old partition.new clock.old clock.new }
         ensures core { partition.new.core
             ≡ record partition.old.core { moment = partition.new.core.moment } }
         ensures cleared { partition.new.cleared ≡ partition.old.cleared }

@@ -174,7 +174,7 @@ impl<F: Functions, R: Receipt> Core<F, R> {
         ensures ok { OnOk result (IsClaimed F.code self.old self.new slot context operation.now now) }
         ensures full { OnErr result (list_any is_empty (words_of self.old.records.words class.bucket) ≡ false) }
         ensures only { IfErr result (λ refused. refused ≡ Refused.NoMemory) }
-        ensures err { OnErr result (self.new ≡ self.old) }
+        ensures unchanged { OnErr result (self.new ≡ self.old) }
     {
         let place = match self.records.claim(class) {
             Err(refused) => return Err(refused),
@@ -258,7 +258,7 @@ impl<F: Functions, R: Receipt> Core<F, R> {
         ensures full { result ≡ Ok None → self.new ≡ record self.old { moment = now } }
         ensures worn { (result ≡ Err Refused.Worn) ↔ (self.old.records.tail ≡ 2 ^ 48) }
         ensures only { IfErr result (λ refused. refused ≡ Refused.Worn) }
-        ensures err { OnErr result (self.new ≡ self.old) }
+        ensures unchanged { OnErr result (self.new ≡ self.old) }
     {
         records_grow::<F::Key, F::Value>();
         match self.records.append(write.entry, write.key, write.value) {

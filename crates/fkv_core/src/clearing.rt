@@ -41,9 +41,9 @@ impl<F: Functions, R: Receipt> Core<F, R> {
         requires cleared { IsTrue R.keeps
             → IsTruncationDue self.old.records page
             → IsCleared F.Key.cmp self.old.records.text (start_at self.old.records.page_bits page) }
-        ensures does { Truncates R.keeps self.old self.new page now result }
+        ensures effect { Truncates R.keeps self.old self.new page now result }
         ensures event { OnOk result (IsTruncation R.keeps F.Key.cmp self.old self.new page now) }
-        ensures err { OnErr result (self.new ≡ self.old) }
+        ensures unchanged { OnErr result (self.new ≡ self.old) }
         ensures moment { self.new.moment ≤ now }
     {
         match self.records.truncate(page) {

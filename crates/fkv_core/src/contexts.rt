@@ -95,7 +95,7 @@ pub enum Wait {
     /// The last record of its key lies where sessions with an older view may still change it: until these are refreshed
     /// or left, and then its own session is refreshed.
     Fuzzy,
-    /// The next record would begin a page whose frame has one that is not closed: until that page is flushed, Head has
+    /// The next record needs a page whose frame is still in use: until that page is flushed, Head has
     /// passed it, and every session is refreshed.
     Full,
 }
@@ -144,7 +144,7 @@ pub fn open_context<T>(contexts: &[Option<T>], slot: usize) -> Option<usize>
         .position(|context| context.is_some())
 }
 
-/// Puts an operation, or what else may stand there, or nothing, into a context.
+/// Sets or clears a context.
 pub fn set_context<T: Copy>(
     contexts: &mut Vec<Option<T>>,
     slot: usize,

@@ -98,10 +98,10 @@ impl<F: Functions, R: Receipt> Core<F, R> {
     /// nothing changes: `NoSlot` where sixteen sessions are entered.
     pub fn enter(&mut self, now: u64) -> Result<usize, Refused>
         requires later { self.old.moment < now }
-        ensures does { Enters self.old self.new now result }
+        ensures effect { Enters self.old self.new now result }
         ensures event { IfOk result (λ _. IsQuiet R.keeps self.old self.new now) }
         ensures within { IfOk result (λ slot. slot < 16) }
-        ensures err { OnErr result (self.new ≡ self.old) }
+        ensures unchanged { OnErr result (self.new ≡ self.old) }
         ensures moment { self.new.moment ≤ now }
     {
         let slot = match self.records.enter() {
@@ -127,10 +127,10 @@ impl<F: Functions, R: Receipt> Core<F, R> {
         requires entered { IsEntered self.old slot }
         requires context { context < 8 }
         requires free { context_at self.old slot context ≡ None }
-        ensures does { Issues F.code self.old self.new slot context op now result }
+        ensures effect { Issues F.code self.old self.new slot context op now result }
         ensures event { OnOk result (IsIssue F.code self.old self.new slot context op now) }
         ensures within { OnOk result (slot < 16) }
-        ensures err { OnErr result (self.new ≡ self.old) }
+        ensures unchanged { OnErr result (self.new ≡ self.old) }
         ensures moment { self.new.moment ≤ now }
     {
         self.known();

@@ -13,9 +13,9 @@ impl<F: Functions, R: Receipt> Core<F, R> {
     /// changes: `Unknown` where the slot is that of no session, `Busy` where an operation of the session is open.
     pub fn leave(&mut self, slot: usize, now: u64) -> Result<(), Refused>
         requires later { self.old.moment < now }
-        ensures does { Leaves R.keeps self.old self.new slot now result }
+        ensures effect { Leaves R.keeps self.old self.new slot now result }
         ensures event { OnOk result (IsQuiet R.keeps self.old self.new now) }
-        ensures err { OnErr result (self.new ≡ self.old) }
+        ensures unchanged { OnErr result (self.new ≡ self.old) }
         ensures moment { self.new.moment ≤ now }
     {
         if !self.is_session(slot) {
@@ -32,10 +32,10 @@ impl<F: Functions, R: Receipt> Core<F, R> {
     /// taken back. Refused, and then nothing changes: `Unknown` where no operation is open there.
     pub fn give_up(&mut self, slot: usize, context: usize, now: u64) -> Result<(), Refused>
         requires later { self.old.moment < now }
-        ensures does { GivesUp self.old self.new slot context now result }
+        ensures effect { GivesUp self.old self.new slot context now result }
         ensures event { OnOk result (IsGiveUp self.old self.new slot context now) }
         ensures within { OnOk result ((slot < 16) × (context < 8)) }
-        ensures err { OnErr result (self.new ≡ self.old) }
+        ensures unchanged { OnErr result (self.new ≡ self.old) }
         ensures moment { self.new.moment ≤ now }
     {
         self.end(slot, context, now)
@@ -43,10 +43,10 @@ impl<F: Functions, R: Receipt> Core<F, R> {
 
     /// Gives up an operation as [`Core::give_up`] does, but takes no moment.
     pub fn abandon(&mut self, slot: usize, context: usize) -> Result<(), Refused>
-        ensures does { GivesUp self.old self.new slot context self.old.moment result }
+        ensures effect { GivesUp self.old self.new slot context self.old.moment result }
         ensures event { OnOk result (IsGiveUp self.old self.new slot context self.old.moment) }
         ensures within { OnOk result ((slot < 16) × (context < 8)) }
-        ensures err { OnErr result (self.new ≡ self.old) }
+        ensures unchanged { OnErr result (self.new ≡ self.old) }
         ensures moment { self.new.moment ≤ self.old.moment }
     {
         let now = self.moment;
@@ -56,10 +56,10 @@ impl<F: Functions, R: Receipt> Core<F, R> {
     /// Ends an operation without effect at this moment.
     fn end(&mut self, slot: usize, context: usize, now: u64) -> Result<(), Refused>
         requires since { self.old.moment ≤ now }
-        ensures does { GivesUp self.old self.new slot context now result }
+        ensures effect { GivesUp self.old self.new slot context now result }
         ensures event { OnOk result (IsGiveUp self.old self.new slot context now) }
         ensures within { OnOk result ((slot < 16) × (context < 8)) }
-        ensures err { OnErr result (self.new ≡ self.old) }
+        ensures unchanged { OnErr result (self.new ≡ self.old) }
         ensures moment { self.new.moment ≤ now }
     {
         let Some(open) = self.open(slot, context) else {

@@ -52,9 +52,9 @@ impl<F: Functions, R: Receipt> Core<F, R> {
     /// the safe read-only offset, `Stranger` where the bytes that were written are others, `NoMemory`.
     pub fn flush_done(&mut self, written: Written<R>, now: u64) -> Result<(), Refused>
         requires later { self.old.moment < now }
-        ensures does { Flushes self.old self.new (R.stands written.receipt) written.bytes now result }
+        ensures effect { Flushes self.old self.new (R.stands written.receipt) written.bytes now result }
         ensures event { OnOk result (IsQuiet R.keeps self.old self.new now) }
-        ensures err { OnErr result (self.new ≡ self.old) }
+        ensures unchanged { OnErr result (self.new ≡ self.old) }
         ensures moment { self.new.moment ≤ now }
     {
         let refusal = self.records.flush_refusal(&written);

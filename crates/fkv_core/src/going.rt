@@ -45,11 +45,11 @@ impl<F: Functions, R: Receipt> Core<F, R> {
         now: u64,
     ) -> Result<ProgressOf<F, R>, Refused>
         requires later { self.old.moment < now }
-        ensures does { Goes R.stands F.Key.cmp F.meaning F.code self.old self.new slot context now result }
+        ensures effect { Goes R.stands F.Key.cmp F.meaning F.code self.old self.new slot context now result }
         ensures event { IfOk result
             (λ progress. IsEvent F.Key.cmp F.meaning self.old self.new slot context now progress) }
         ensures within { IfOk result (λ _. (slot < 16) × (context < 8)) }
-        ensures err { OnErr result (self.new ≡ self.old) }
+        ensures unchanged { OnErr result (self.new ≡ self.old) }
         ensures moment { self.new.moment ≤ now }
     {
         let Some(open) = self.open(slot, context) else {
@@ -81,7 +81,7 @@ impl<F: Functions, R: Receipt> Core<F, R> {
         requires context { context < 8 }
         requires here { context_at self.old slot context ≡ Some operation.now }
         requires phase { claim_by operation.now.phase ≡ Some place }
-        ensures does { Goes R.stands F.Key.cmp F.meaning F.code self.old self.new slot context now (Ok result) }
+        ensures effect { Goes R.stands F.Key.cmp F.meaning F.code self.old self.new slot context now (Ok result) }
         ensures event { IsEvent F.Key.cmp F.meaning self.old self.new slot context now result }
         ensures moment { self.new.moment ≤ now }
     {
@@ -105,10 +105,10 @@ impl<F: Functions, R: Receipt> Core<F, R> {
         requires asks_nothing { question_in operation.now ≡ None }
         requires unclaimed { claim_by operation.now.phase ≡ None }
         requires unloading { loading_by operation.now.phase ≡ None }
-        ensures does { Goes R.stands F.Key.cmp F.meaning F.code self.old self.new slot context now result }
+        ensures effect { Goes R.stands F.Key.cmp F.meaning F.code self.old self.new slot context now result }
         ensures event { IfOk result
             (λ progress. IsEvent F.Key.cmp F.meaning self.old self.new slot context now progress) }
-        ensures err { OnErr result (self.new ≡ self.old) }
+        ensures unchanged { OnErr result (self.new ≡ self.old) }
         ensures moment { self.new.moment ≤ now }
     {
         self.known();
@@ -178,10 +178,10 @@ impl<F: Functions, R: Receipt> Core<F, R> {
         requires entry { found_for F.code self.old write.key ≡ Some write.entry }
         requires decided { IsDecided F.Key.cmp F.meaning F.code self.old slot context
             write.key (Decision.Append write.value answer) }
-        ensures does { Goes R.stands F.Key.cmp F.meaning F.code self.old self.new slot context now result }
+        ensures effect { Goes R.stands F.Key.cmp F.meaning F.code self.old self.new slot context now result }
         ensures event { IfOk result
             (λ progress. IsEvent F.Key.cmp F.meaning self.old self.new slot context now progress) }
-        ensures err { OnErr result (self.new ≡ self.old) }
+        ensures unchanged { OnErr result (self.new ≡ self.old) }
         ensures moment { self.new.moment ≤ now }
     {
         records_grow::<F::Key, F::Value>();
@@ -209,7 +209,7 @@ impl<F: Functions, R: Receipt> Core<F, R> {
         requires stands { entry_at self.old.records.text last.address ≡ Some last }
         requires decided { Decides F.Key.cmp F.meaning F.code self.old slot context operation.now
             (Decision.Replace value answer) }
-        ensures does { Goes R.stands F.Key.cmp F.meaning F.code self.old self.new slot context now (Ok result) }
+        ensures effect { Goes R.stands F.Key.cmp F.meaning F.code self.old self.new slot context now (Ok result) }
         ensures event { IsEvent F.Key.cmp F.meaning self.old self.new slot context now result }
         ensures moment { self.new.moment ≤ now }
     {
@@ -240,7 +240,7 @@ impl<F: Functions, R: Receipt> Core<F, R> {
         requires key { ask.key ≡ key_of operation.now.op }
         requires decided { Decides F.Key.cmp F.meaning F.code self.old slot context operation.now
             (Decision.Prepare ask.source ask.input) }
-        ensures does { Goes R.stands F.Key.cmp F.meaning F.code self.old self.new slot context now (Ok result) }
+        ensures effect { Goes R.stands F.Key.cmp F.meaning F.code self.old self.new slot context now (Ok result) }
         ensures event { IsEvent F.Key.cmp F.meaning self.old self.new slot context now result }
         ensures moment { self.new.moment ≤ now }
     {
@@ -277,10 +277,10 @@ impl<F: Functions, R: Receipt> Core<F, R> {
             (class_in F.code self.old.records (key_of operation.now.op)) kept }
         requires decided { Decides F.Key.cmp F.meaning F.code self.old slot context operation.now
             (Decision.Load wanted) }
-        ensures does { Goes R.stands F.Key.cmp F.meaning F.code self.old self.new slot context now result }
+        ensures effect { Goes R.stands F.Key.cmp F.meaning F.code self.old self.new slot context now result }
         ensures event { IfOk result
             (λ progress. IsEvent F.Key.cmp F.meaning self.old self.new slot context now progress) }
-        ensures err { OnErr result (self.new ≡ self.old) }
+        ensures unchanged { OnErr result (self.new ≡ self.old) }
         ensures moment { self.new.moment ≤ now }
     {
         self.known();

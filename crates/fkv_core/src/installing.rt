@@ -31,11 +31,11 @@ impl<F: Functions, R: Receipt> Core<F, R> {
         now: u64,
     ) -> Result<ProgressOf<F, R>, Refused>
         requires later { self.old.moment < now }
-        ensures does { Installs F.Key.cmp F.meaning F.code self.old self.new slot context built now result }
+        ensures effect { Installs F.Key.cmp F.meaning F.code self.old self.new slot context built now result }
         ensures event { IsTrue R.keeps → IfOk result
             (λ progress. IsEvent F.Key.cmp F.meaning self.old self.new slot context now progress) }
         ensures within { IfOk result (λ _. (slot < 16) × (context < 8)) }
-        ensures err { OnErr result (self.new ≡ self.old) }
+        ensures unchanged { OnErr result (self.new ≡ self.old) }
         ensures moment { self.new.moment ≤ now }
     {
         let Some(open) = self.open(slot, context) else {
@@ -77,10 +77,10 @@ impl<F: Functions, R: Receipt> Core<F, R> {
         requires context { context < 8 }
         requires asks { Asks self.old slot context kept built }
         requires stands { word_at self.old.records.words kept.place ≡ kept.word }
-        ensures does { Installs F.Key.cmp F.meaning F.code self.old self.new slot context built now result }
+        ensures effect { Installs F.Key.cmp F.meaning F.code self.old self.new slot context built now result }
         ensures event { IsTrue R.keeps → IfOk result
             (λ progress. IsEvent F.Key.cmp F.meaning self.old self.new slot context now progress) }
-        ensures err { OnErr result (self.new ≡ self.old) }
+        ensures unchanged { OnErr result (self.new ≡ self.old) }
         ensures moment { self.new.moment ≤ now }
     {
         self.known();

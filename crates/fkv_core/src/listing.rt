@@ -52,7 +52,7 @@ impl<F: Functions, R: Receipt> Core<F, R> {
         ensures others { IsTrue R.keeps → OnOk result ((k : F.Key)
             → partition_of self.now.count (F.code k) ≢ self.now.number
             → get F.Key.cmp map.new k ≡ get F.Key.cmp map.old k) }
-        ensures err { IsTrue R.keeps → OnErr result
+        ensures front { IsTrue R.keeps → OnErr result
             (HasFront F.Key.cmp (get F.Key.cmp map.old) (get F.Key.cmp map.new) self.now.records.text) }
         ensures steady { OnOk result (P.failures reader.new ≡ P.failures reader.old) }
         ensures refused { IfErr result (IsScanRefusal R.keeps (page_at self.now.records.page_bits self.now.records.begin)

@@ -51,7 +51,7 @@ impl<F: Functions, R: Receipt> Core<F, R> {
         now: u64,
     ) -> Result<ProgressOf<F, R>, Refused>
         requires later { self.old.moment < now }
-        ensures does { Loads R.stands (IsEntryIn F.Key.bytes_of F.Value.bytes_of F.Key.is_known F.Value.is_known
+        ensures effect { Loads R.stands (IsEntryIn F.Key.bytes_of F.Value.bytes_of F.Key.is_known F.Value.is_known
             F.Key.SIZE F.Value.SIZE) F.Key.cmp F.meaning self.old self.new slot context came now result }
         // on a device that keeps, what comes of it is what the look-up was to find
         ensures event { IsTrue R.keeps → IfOk result
@@ -96,7 +96,7 @@ impl<F: Functions, R: Receipt> Core<F, R> {
         requires session { slot < 16 }
         requires context { context < 8 }
         requires awaits { AwaitsPage self.old slot context operation.now loading }
-        ensures does { Loads R.stands (IsEntryIn F.Key.bytes_of F.Value.bytes_of F.Key.is_known F.Value.is_known
+        ensures effect { Loads R.stands (IsEntryIn F.Key.bytes_of F.Value.bytes_of F.Key.is_known F.Value.is_known
             F.Key.SIZE F.Value.SIZE) F.Key.cmp F.meaning self.old self.new slot context (Ok loaded) now result }
         ensures event { IsTrue R.keeps → IfOk result
             (λ progress. IsLoad F.Key.cmp F.meaning self.old self.new slot context now progress) }
@@ -207,7 +207,7 @@ impl<F: Functions, R: Receipt> Core<F, R> {
         ensures effect { OnOk result (self.new ≡ with_context self.old slot context
             (Some (at_phase operation.now (Load (record loading { wanted = address })))) now) }
         ensures only { IfErr result (λ refused. refused ≡ Refused.NoMemory) }
-        ensures err { OnErr result (self.new ≡ self.old) }
+        ensures unchanged { OnErr result (self.new ≡ self.old) }
         ensures moment { self.new.moment ≤ now }
     {
         let page = self.records.page_of(address);

@@ -14,9 +14,9 @@ impl<F: Functions, R: Receipt> Core<F, R> {
     /// that of no session.
     pub fn refresh(&mut self, slot: usize, now: u64) -> Result<(), Refused>
         requires later { self.old.moment < now }
-        ensures does { Refreshes R.keeps self.old self.new slot now result }
+        ensures effect { Refreshes R.keeps self.old self.new slot now result }
         ensures event { OnOk result (IsQuiet R.keeps self.old self.new now) }
-        ensures err { OnErr result (self.new ≡ self.old) }
+        ensures unchanged { OnErr result (self.new ≡ self.old) }
         ensures moment { self.new.moment ≤ now }
     {
         match self.records.refresh(slot) {
@@ -34,9 +34,9 @@ impl<F: Functions, R: Receipt> Core<F, R> {
     /// where sixteen moves wait.
     pub fn shift_read_only(&mut self, page: u64, now: u64) -> Result<(), Refused>
         requires later { self.old.moment < now }
-        ensures does { Shifts R.keeps self.old self.new page now result }
+        ensures effect { Shifts R.keeps self.old self.new page now result }
         ensures event { OnOk result (IsQuiet R.keeps self.old self.new now) }
-        ensures err { OnErr result (self.new ≡ self.old) }
+        ensures unchanged { OnErr result (self.new ≡ self.old) }
         ensures moment { self.new.moment ≤ now }
     {
         match self.records.shift_read_only(page) {
@@ -53,9 +53,9 @@ impl<F: Functions, R: Receipt> Core<F, R> {
     /// `NotDue` where Head would not rise, or a page below is not flushed; `DrainFull` where sixteen moves wait.
     pub fn shift_head(&mut self, page: u64, now: u64) -> Result<(), Refused>
         requires later { self.old.moment < now }
-        ensures does { Evicts R.keeps self.old self.new page now result }
+        ensures effect { Evicts R.keeps self.old self.new page now result }
         ensures event { OnOk result (IsQuiet R.keeps self.old self.new now) }
-        ensures err { OnErr result (self.new ≡ self.old) }
+        ensures unchanged { OnErr result (self.new ≡ self.old) }
         ensures moment { self.new.moment ≤ now }
     {
         match self.records.shift_head(page) {

@@ -74,7 +74,7 @@ impl Epochs {
     pub fn enter(&mut self) -> Result<usize, Refused>
         ensures slot { result ≡ ok_or (free_slot self.old) Refused.NoSlot }
         ensures effect { IfOk result (λ slot. self.new ≡ renewed self.old slot) }
-        ensures refused { OnErr result (self.new ≡ self.old) }
+        ensures unchanged { OnErr result (self.new ≡ self.old) }
     {
         let Some(free) = lowest_free(&self.slots) else {
             return Err(Refused::NoSlot);

@@ -1,5 +1,5 @@
 //! Reading a feed into what takes its rows.
-ghost use Rattle.std.specs.Prelude.{◌≡◌, ◌⊎◌, ◌++◌, ℤ, List, OnOk, IfErr, option_map};
+ghost use Rattle.std.specs.Prelude.{◌≡◌, ◌≤◌, ◌⊎◌, ◌++◌, ℤ, List, length, OnOk, IfOk, IfErr, option_map};
 ghost use Rattle.csv.specs.Reading.{source_of};
 ghost use Rattle.fkv_functions.specs.declared.names.Name.{Name};
 ghost use Rattle.fkv_feed_rows.specs.Feeds.{IsFeed, TellsUnread, without_mark};
@@ -20,10 +20,10 @@ use std::marker::Brand;
 struct Ended<'a, S> {
     source: &'a mut S,
     failed: bool,
-    told: Result<(), Refused>,
+    told: Result<u64, Refused>,
 }
 
-/// Hands on each record of a reader that is at its start as a row. Refused: `BadRow`, `Unreadable` where there are more
+/// Hands on each record of a reader that is at its start as a row. Answers how many there are. Refused: `BadRow`, `Unreadable` where there are more
 /// than `limit` records, as the sink refuses a row, and `NoMemory` where the reader underneath fails too.
 fn add_rows<R: Read, K: RowSink>(
     alloc: Global,
@@ -31,19 +31,20 @@ fn add_rows<R: Read, K: RowSink>(
     feed: u64,
     limit: u64,
     sink: &mut K,
-) -> Result<(), Refused>
+) -> Result<u64, Refused>
     requires fresh { IsFresh reader.old }
     requires stands { (rows : List (Name × ℤ)) × K.stands sink.old rows }
-    ensures ok { OnOk result ((before : List (Name × ℤ)) → K.stands sink.old before
+    ensures ok { IfOk result (λ count. (before : List (Name × ℤ)) → K.stands sink.old before
         → (rows : List (Name × ℤ)) × AreRowsIn limit (source_of R.remaining reader.old) rows
-        × K.stands sink.new (before ++ rows)) }
+        × K.stands sink.new (before ++ rows) × (count ≡ length rows)) }
+    ensures within { IfOk result (λ count. count ≤ limit) }
     ensures told { IfErr result (λ e. K.fault e ⊎ TellsOf feed limit (source_of R.remaining reader.old) e) }
 {
     let mut fields = ByteRecord::new(alloc);
     for count in 0..limit {
         match reader.read_byte_record(&mut fields) {
             Ok(true) => {}
-            Ok(false) => return Ok(()),
+            Ok(false) => return Ok(count),
             Err(_) => return Err(Refused::NoMemory),
         }
         let Some((key, amount)) = row_of(&fields) else {
@@ -59,7 +60,7 @@ fn add_rows<R: Read, K: RowSink>(
     }
     match reader.read_byte_record(&mut fields) {
         Ok(true) => Err(Refused::Unreadable { number: feed }),
-        Ok(false) => Ok(()),
+        Ok(false) => Ok(limit),
         Err(_) => Err(Refused::NoMemory),
     }
 }
@@ -77,9 +78,10 @@ fn read_lent<'a, S: Source, B: Since, K: RowSink>(
     requires stands { (rows : List (Name × ℤ)) × K.stands sink.old rows }
     ensures same { result.source.ghost_name ≡ source.entry.ghost_name }
     ensures counted { S.failures result.source.now ≡ count_of result.failed (S.failures source.old) }
-    ensures ok { OnOk result.told ((before : List (Name × ℤ)) → K.stands sink.old before
+    ensures ok { IfOk result.told (λ count. (before : List (Name × ℤ)) → K.stands sink.old before
         → (rows : List (Name × ℤ)) × IsFeed limit (S.remaining source.old) rows
-        × K.stands sink.new (before ++ rows)) }
+        × K.stands sink.new (before ++ rows) × (count ≡ length rows)) }
+    ensures within { IfOk result.told (λ count. count ≤ limit) }
     ensures told { IfErr result.told
         (λ e. K.fault e ⊎ TellsOf feed limit (option_map without_mark (S.remaining source.old)) e) }
 {
@@ -96,7 +98,8 @@ fn read_lent<'a, S: Source, B: Since, K: RowSink>(
     }
 }
 
-/// Reads the feed of this number, counted from 1, to its end, and hands on each of its rows, in order.
+/// Reads the feed of this number, counted from 1, to its end, and hands on each of its rows, in order. Answers how many
+/// rows it has.
 ///
 /// # Errors
 ///
@@ -109,11 +112,12 @@ pub fn read_feed<S: Source, K: RowSink>(
     feed: u64,
     limit: u64,
     sink: &mut K,
-) -> Result<(), Refused>
+) -> Result<u64, Refused>
     requires { (rows : List (Name × ℤ)) × K.stands sink.old rows }
-    ensures ok { OnOk result ((before : List (Name × ℤ)) → K.stands sink.old before
+    ensures ok { IfOk result (λ count. (before : List (Name × ℤ)) → K.stands sink.old before
         → (rows : List (Name × ℤ)) × IsFeed limit (S.remaining source.old) rows
-        × K.stands sink.new (before ++ rows)) }
+        × K.stands sink.new (before ++ rows) × (count ≡ length rows)) }
+    ensures within { IfOk result (λ count. count ≤ limit) }
     ensures steady { OnOk result (S.failures source.new ≡ S.failures source.old) }
     ensures told { IfErr result (λ e. (K.fault e × (S.failures source.new ≡ S.failures source.old))
         ⊎ TellsUnread feed limit (S.remaining source.old) (S.failures source.old) (S.failures source.new) e) }

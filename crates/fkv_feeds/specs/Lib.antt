@@ -2,6 +2,8 @@ pub mod Tables
 pub mod Writing
 pub mod Refusing
 pub mod Faults
+pub mod Spent
+pub mod Listing
 pub mod Seats
 pub mod Sessions
 pub mod Runs

@@ -7,6 +7,7 @@ use Rattle.fkv_functions.specs.declared.asks.Ask.{Ask}
 use Rattle.fkv_records.specs.Places.{page_at}
 use Rattle.fkv_device.specs.Standing.{Standing}
 use Rattle.fkv_pages.specs.Loads.{IsHeldBy}
+use Rattle.fkv_regions.specs.Offsets.{view_of}
 use Rattle.fkv_operations.specs.After.{after, key_of}
 use Rattle.fkv_operations.specs.declared.entries.IndexEntry.{IndexEntry}
 use Rattle.fkv_operations.specs.declared.operations.KeyedOp.{KeyedOp}
@@ -17,7 +18,7 @@ use Rattle.fkv_partition.specs.Phase.{Phase}
 use Rattle.fkv_partition.specs.Phase.TheVariants.{Load}
 use Rattle.fkv_partition.specs.CoreBeginning.{IsEntered}
 use Rattle.fkv_partition.specs.CoreContexts.{loading_by, question_in, is_session}
-use Rattle.fkv_partition.specs.CoreViews.{CoreView, context_at, live_of, slots_of}
+use Rattle.fkv_partition.specs.CoreViews.{CoreView, context_at, live_of, seen_at, slots_of}
 use Rattle.fkv_feeds.specs.declared.updating.Turn.{Turn}
 use Rattle.fkv_feeds.specs.declared.updating.Turn.TheVariants.{Done, On}
 
@@ -26,6 +27,10 @@ pub record IsIdle {K V I : Type 0} (v : CoreView K V I) (slot : ℕ) : Type 0 wh
   pub entered : IsEntered v slot
   pub free : (c : ℕ) → context_at v slot c ≡ None
   pub small : slot < 16
+
+-- a session has the view of now
+abbrev pub SeesNow : {K V I : Type 0} → CoreView K V I → ℕ → Type 0
+SeesNow v slot = seen_at v slot ≡ view_of v.records.regions.offsets
 
 -- an operation waits for no page, or for the one that is kept by a receipt that stands for this
 abbrev pub WaitsFor : {K V I : Type 0} → CoreView K V I → Phase V → Option Standing → Type 0

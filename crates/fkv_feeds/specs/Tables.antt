@@ -1,5 +1,5 @@
 -- The table of feeds: what the amounts of each key come to.
-use Rattle.std.specs.Prelude.{◌≡◌, ◌++◌, ◌∷◌, [], ◌^◌, ℕ, ℤ, List, map, fold, Option, Some, None}
+use Rattle.std.specs.Prelude.{◌≡◌, ◌++◌, ◌∷◌, [], ◌^◌, ℕ, ℤ, List, length, map, fold, Option, Some, None}
 use Rattle.std.specs.Option.{option_or}
 use Rattle.std.specs.List.{filter}
 use Rattle.std.specs.BTreeMap.{is_at}
@@ -36,6 +36,10 @@ AreFeeds limit (feed ∷ feeds) rows =
 -- the rows that a feed may have
 abbrev pub most_rows : ℕ
 most_rows = 2 ^ 40
+
+-- the feeds have so many rows, all together
+abbrev pub HaveRows : List (Option (List ℕ)) → ℕ → Type 0
+HaveRows feeds n = (rows : List (Name × ℤ)) × AreFeeds most_rows feeds rows × (n ≡ length rows)
 
 -- the table of feeds: each key whose amounts come to a value, with that value, keys rising
 pub record IsTableOf {V O : Type 0} (f : Meanings Name V ℤ O) (feeds : List (Option (List ℕ))) (pairs : List (Name × V))

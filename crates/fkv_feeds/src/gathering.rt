@@ -1,8 +1,8 @@
 //! The table of a store: the live maps of its partitions as one.
-ghost use Rattle.std.specs.Prelude.{◌≡◌, ◌<◌, ◌⊎◌, ℕ, [], length, map, IsTrue, IfOk, IfErr, OnOk};
+ghost use Rattle.std.specs.Prelude.{◌≡◌, ◌<◌, ℕ, [], length, map, IsTrue, IfOk, IfErr, OnOk};
 ghost use Rattle.std.specs.BTreeMap.{get};
 ghost use Rattle.fkv_functions.specs.Plain.{Same};
-ghost use Rattle.fkv_hybrid.specs.Scans.{IsScanRefusal};
+ghost use Rattle.fkv_feeds.specs.Listing.{IsListRefusal};
 ghost use Rattle.fkv_feeds.specs.Runs.{AreIdle};
 ghost use Rattle.fkv_partition.specs.Unions.{union_of};
 
@@ -23,9 +23,12 @@ fn gather<F: Functions, D: Disk>(
     requires numbered { (slot : ℕ) × (now : ℕ) × AreIdle (map (λ shard. shard.partition) shards.old) slot now }
     ensures ok { IsTrue D.Receipt.keeps → OnOk result (Same (get F.Key.cmp tree.new)
         (union_of F.Key.cmp F.code (map (λ shard. shard.partition) shards.old))) }
-    ensures told { IfErr result (λ why. (why ≡ Refused.NoMemory)
-        ⊎ ((low : ℕ) × (flushed : ℕ) × (old : D.Reader) × (new : D.Reader)
-        × IsScanRefusal D.Receipt.keeps low flushed (D.Reader.failures old) (D.Reader.failures new) why)) }
+    ensures steady { OnOk result (map (λ shard. D.Reader.failures shard.reader) shards.new
+        ≡ map (λ shard. D.Reader.failures shard.reader) shards.old) }
+    ensures told { IfErr result (IsListRefusal D.Receipt.keeps D.Reader.failures
+        (map (λ shard. shard.partition) shards.old)
+        (map (λ shard. D.Reader.failures shard.reader) shards.old)
+        (map (λ shard. D.Reader.failures shard.reader) shards.new)) }
 {
     for index in 0..shards.len() {
         let shard = &mut shards[index];
@@ -46,9 +49,12 @@ pub fn live<F: Functions, D: Disk>(
     requires numbered { (slot : ℕ) × (now : ℕ) × AreIdle (map (λ shard. shard.partition) shards.old) slot now }
     ensures map { IsTrue D.Receipt.keeps → IfOk result (λ live. Same (get F.Key.cmp live)
         (union_of F.Key.cmp F.code (map (λ shard. shard.partition) shards.old))) }
-    ensures told { IfErr result (λ why. (why ≡ Refused.NoMemory)
-        ⊎ ((low : ℕ) × (flushed : ℕ) × (old : D.Reader) × (new : D.Reader)
-        × IsScanRefusal D.Receipt.keeps low flushed (D.Reader.failures old) (D.Reader.failures new) why)) }
+    ensures steady { OnOk result (map (λ shard. D.Reader.failures shard.reader) shards.new
+        ≡ map (λ shard. D.Reader.failures shard.reader) shards.old) }
+    ensures told { IfErr result (IsListRefusal D.Receipt.keeps D.Reader.failures
+        (map (λ shard. shard.partition) shards.old)
+        (map (λ shard. D.Reader.failures shard.reader) shards.old)
+        (map (λ shard. D.Reader.failures shard.reader) shards.new)) }
 {
     let mut tree = BTreeMap::new(alloc);
     match gather(&mut tree, shards) {

@@ -1,5 +1,5 @@
 //! Reading a feed into the store of a run.
-ghost use Rattle.std.specs.Prelude.{◌≡◌, ◌++◌, ℤ, List, map, OnOk, IfErr};
+ghost use Rattle.std.specs.Prelude.{◌≡◌, ◌≤◌, ◌++◌, ℤ, List, map, length, OnOk, IfOk, IfErr};
 ghost use Rattle.fkv_functions.specs.declared.names.Name.{Name};
 ghost use Rattle.fkv_functions.specs.Names.{name_cmp};
 ghost use Rattle.fkv_feed_rows.specs.Feeds.{IsFeed, TellsWhy};
@@ -27,6 +27,7 @@ impl<F: Functions<Key = Name, Input = i64>, D: Disk> RowSink for Shards<'_, F, D
 }
 
 /// Reads the feed of this number, counted from 1, to its end, and makes each of its rows an update, in order.
+/// Answers how many rows it has.
 ///
 /// # Errors
 ///
@@ -39,15 +40,16 @@ pub fn read_feed<S: Source, F: Functions<Key = Name, Input = i64>, D: Disk>(
     feed: u64,
     limit: u64,
     shards: &mut Shards<'_, F, D>,
-) -> Result<(), Refused>
+) -> Result<u64, Refused>
     requires { (rows : List (Name × ℤ)) × StandFor D.Receipt.keeps name_cmp F.meaning F.code
         (map (λ shard. shard.partition) shards.old.shards.items) shards.old.terms.slot shards.old.clock rows }
-    ensures ok { OnOk result ((before : List (Name × ℤ)) → StandFor D.Receipt.keeps name_cmp F.meaning F.code
+    ensures ok { IfOk result (λ count. (before : List (Name × ℤ)) → StandFor D.Receipt.keeps name_cmp F.meaning F.code
         (map (λ shard. shard.partition) shards.old.shards.items) shards.old.terms.slot shards.old.clock before
         → (rows : List (Name × ℤ)) × IsFeed limit (S.remaining source.old) rows
         × StandFor D.Receipt.keeps name_cmp F.meaning F.code
         (map (λ shard. shard.partition) shards.new.shards.items) shards.new.terms.slot shards.new.clock
-        (before ++ rows)) }
+        (before ++ rows) × (count ≡ length rows)) }
+    ensures within { IfOk result (λ count. count ≤ limit) }
     ensures steady { OnOk result (S.failures source.new ≡ S.failures source.old) }
     ensures told { IfErr result
         (TellsWhy (IsRunFault D.Receipt.keeps D.failures D.Writer.failures

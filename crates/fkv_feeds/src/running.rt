@@ -6,12 +6,13 @@ ghost use Rattle.std.specs.List.Sorted.{IsStrictlySortedBy};
 ghost use Rattle.fkv_functions.specs.Names.{name_cmp};
 ghost use Rattle.fkv_functions.specs.declared.names.Name.{Name};
 ghost use Rattle.fkv_records.specs.Records.{size_of};
-ghost use Rattle.fkv_hybrid.specs.Scans.{IsScanRefusal};
+ghost use Rattle.fkv_feeds.specs.Listing.{IsListRefusal};
 ghost use Rattle.fkv_feeds.specs.Faults.{IsRunFault};
-ghost use Rattle.fkv_feeds.specs.Tables.{IsTableOf, AreFeeds, amounts_of, folded, most_rows};
+ghost use Rattle.fkv_feeds.specs.Tables.{IsTableOf, AreFeeds, HaveRows, amounts_of, folded, most_rows};
 ghost use Rattle.fkv_feeds.specs.Refusing.{IsRunnable, TellsStopped, TellsWhyNone};
 ghost use Rattle.fkv_feeds.specs.Runs.{StandFor};
 
+use crate::counting::{Counts, Run, appended};
 use crate::gathering::live;
 use crate::reading::read_feed;
 use crate::shards::Shards;
@@ -28,65 +29,79 @@ pub const LIMIT: u64 = 1_099_511_627_776;
 /// The most feeds of a run.
 const MOST: usize = 64;
 
-/// The table of the rows that a store stands for. Refused: `NoMemory`, and as a device refuses pages.
-fn table_in<F: Functions<Key = Name, Input = i64>, D: Disk>(
+/// The run that a store stands for at its end, over so many rows. Refused: `NoMemory`, and as a device refuses pages.
+fn finish<F: Functions<Key = Name, Input = i64>, D: Disk>(
     alloc: Global,
     shards: &mut Shards<'_, F, D>,
-) -> Result<Table<F::Value>, Refused>
+    rows: u64,
+) -> Result<Run<F::Value>, Refused>
     requires stands { (rows : List (Name × ℤ)) × StandFor D.Receipt.keeps name_cmp F.meaning F.code
         (map (λ shard. shard.partition) shards.old.shards.items) shards.old.terms.slot shards.old.clock rows }
-    ensures value { IsTrue D.Receipt.keeps → IfOk result (λ pairs. (rows : List (Name × ℤ))
+    ensures value { IsTrue D.Receipt.keeps → IfOk result (λ run. (rows : List (Name × ℤ))
         → StandFor D.Receipt.keeps name_cmp F.meaning F.code
         (map (λ shard. shard.partition) shards.old.shards.items) shards.old.terms.slot shards.old.clock rows
-        → (k : Name) → lookup (is_at (name_cmp k)) pairs ≡ folded F.meaning k (amounts_of name_cmp k rows)) }
-    ensures rising { IfOk result (λ pairs. IsStrictlySortedBy name_cmp (keys_of pairs)) }
-    ensures told { IfErr result (λ why. (why ≡ Refused.NoMemory)
-        ⊎ ((low : ℕ) × (flushed : ℕ) × (old : D.Reader) × (new : D.Reader)
-        × IsScanRefusal D.Receipt.keeps low flushed (D.Reader.failures old) (D.Reader.failures new) why)) }
+        → (k : Name) → lookup (is_at (name_cmp k)) run.table ≡ folded F.meaning k (amounts_of name_cmp k rows)) }
+    ensures rising { IfOk result (λ run. IsStrictlySortedBy name_cmp (keys_of run.table)) }
+    ensures counted { IfOk result (λ run. run.counts.rows ≡ rows) }
+    ensures steady { OnOk result (map (λ shard. D.Reader.failures shard.reader) shards.new.shards.items
+        ≡ map (λ shard. D.Reader.failures shard.reader) shards.old.shards.items) }
+    ensures told { IfErr result (IsListRefusal D.Receipt.keeps D.Reader.failures
+        (map (λ shard. shard.partition) shards.old.shards.items)
+        (map (λ shard. D.Reader.failures shard.reader) shards.old.shards.items)
+        (map (λ shard. D.Reader.failures shard.reader) shards.new.shards.items)) }
 {
     match live(alloc, shards.shards.as_mut_slice()) {
-        Ok(live) => Ok(Table::new(live)),
+        Ok(live) => Ok(Run {
+            table: Table::new(live),
+            counts: Counts {
+                rows,
+                appended: Some(appended(shards.shards.as_slice())),
+            },
+        }),
         Err(refused) => Err(refused),
     }
 }
 
-/// Reads feeds, one after the other, into a store that stands for no rows.
+/// Reads feeds, one after the other, into a store that stands for no rows. Answers how many rows they have.
 fn read_feeds<S: Source, F: Functions<Key = Name, Input = i64>, D: Disk>(
     alloc: Global,
     feeds: &mut [S],
     shards: &mut Shards<'_, F, D>,
-) -> Result<(), Refused>
+) -> Result<u64, Refused>
     requires most { length feeds.old ≤ 64 }
     requires stands { StandFor D.Receipt.keeps name_cmp F.meaning F.code
         (map (λ shard. shard.partition) shards.old.shards.items) shards.old.terms.slot shards.old.clock [] }
-    ensures ok { OnOk result ((rows : List (Name × ℤ)) × AreFeeds most_rows (map S.remaining feeds.old) rows
+    ensures ok { IfOk result (λ count. (rows : List (Name × ℤ)) × AreFeeds most_rows (map S.remaining feeds.old) rows
         × StandFor D.Receipt.keeps name_cmp F.meaning F.code
-        (map (λ shard. shard.partition) shards.new.shards.items) shards.new.terms.slot shards.new.clock rows) }
+        (map (λ shard. shard.partition) shards.new.shards.items) shards.new.terms.slot shards.new.clock rows
+        × (count ≡ length rows)) }
     ensures steady { OnOk result (map S.failures feeds.new ≡ map S.failures feeds.old) }
     ensures told { IfErr result (TellsStopped (IsRunFault D.Receipt.keeps D.failures D.Writer.failures
         D.Reader.failures F.Value.bytes_of F.Value.is_known F.Value.SIZE)
         (map S.remaining feeds.old) (map S.failures feeds.old)
         (map S.failures feeds.new)) }
 {
+    let mut rows = 0u64;
     for index in 0..feeds.len() {
         let feed = &mut feeds[index];
         match read_feed(alloc, feed, index as u64 + 1, LIMIT, shards) {
-            Ok(()) => {}
+            Ok(count) => rows += count,
             Err(refused) => return Err(refused),
         }
     }
-    Ok(())
+    Ok(rows)
 }
 
 /// The table of these feeds: each key whose amounts come to a value by these functions, with that value. That is each key
 /// of a row, but those whose updates are all declined. The feeds are read one after the other, to their ends, and each row
 /// is one update of a store of this configuration over this device, through the events of its partitions. On a device that
-/// keeps, the table is that of the rows; on any other the refusals below are still told as they are said.
+/// keeps, the table is that of the rows; on any other errors are reported as below. Beside the table
+/// stands how many rows were read, and how many records they appended.
 ///
 /// # Errors
 ///
-/// In this order: `BadConfig`, where a number of the configuration is outside its limits, or the number of feeds is
-/// none from 1 to 64, and then no feed is read; `BadRow`, with the first row that is none, of the first feed that has
+/// In this order: `BadConfig`, where a number of the configuration is outside its limits, or there are not 1 to 64
+/// feeds, and then no feed is read; `BadRow`, with the first row that is none, of the first feed that has
 /// one, both counted from 1; `Unreadable`, with the number of a feed, counted from 1, whose stream fails or that has
 /// more than [`LIMIT`] rows; `NoMemory`; `Worn`, where a partition has no address left; `Stalled`, where a row takes
 /// more turns than the configuration says; `Device` with code 1, where the device does not open a partition's pages,
@@ -98,8 +113,10 @@ pub fn run_one<S: Source, F: Functions<Key = Name, Input = i64>, D: Disk>(
     functions: &F,
     config: &Config,
     mut device: D,
-) -> Result<Table<F::Value>, Refused>
-    ensures ok { IsTrue D.Receipt.keeps → IfOk result (IsTableOf F.meaning (map S.remaining feeds.old)) }
+) -> Result<Run<F::Value>, Refused>
+    ensures ok { IsTrue D.Receipt.keeps
+        → IfOk result (λ run. IsTableOf F.meaning (map S.remaining feeds.old) run.table) }
+    ensures counted { IfOk result (λ run. HaveRows (map S.remaining feeds.old) run.counts.rows) }
     ensures steady { OnOk result (map S.failures feeds.new ≡ map S.failures feeds.old) }
     ensures good { result ≢ Err Refused.BadConfig
         → IsRunnable config.now (size_of 32 F.Value.SIZE) (length feeds.old) }
@@ -117,12 +134,12 @@ pub fn run_one<S: Source, F: Functions<Key = Name, Input = i64>, D: Disk>(
         Err(refused) => return Err(refused),
     };
     match read_feeds(alloc, feeds, &mut shards) {
-        Ok(()) => table_in(alloc, &mut shards),
+        Ok(rows) => finish(alloc, &mut shards, rows),
         Err(refused) => Err(refused),
     }
 }
 
-/// The table of one feed, as [`run_one`] makes it.
+/// The run over one feed, as [`run_one`] makes it.
 ///
 /// # Errors
 ///
@@ -133,8 +150,10 @@ pub fn run_alone<S: Source, F: Functions<Key = Name, Input = i64>, D: Disk>(
     functions: &F,
     config: &Config,
     mut device: D,
-) -> Result<Table<F::Value>, Refused>
-    ensures ok { IsTrue D.Receipt.keeps → IfOk result (IsTableOf F.meaning (S.remaining feed.old ∷ [])) }
+) -> Result<Run<F::Value>, Refused>
+    ensures ok { IsTrue D.Receipt.keeps
+        → IfOk result (λ run. IsTableOf F.meaning (S.remaining feed.old ∷ []) run.table) }
+    ensures counted { IfOk result (λ run. HaveRows (S.remaining feed.old ∷ []) run.counts.rows) }
     ensures steady { OnOk result (S.failures feed.new ≡ S.failures feed.old) }
     ensures good { result ≢ Err Refused.BadConfig → IsRunnable config.now (size_of 32 F.Value.SIZE) 1 }
     ensures told { IfErr result (TellsWhyNone (IsRunFault D.Receipt.keeps D.failures D.Writer.failures
@@ -151,7 +170,7 @@ pub fn run_alone<S: Source, F: Functions<Key = Name, Input = i64>, D: Disk>(
         Err(refused) => return Err(refused),
     };
     match read_feed(alloc, feed, 1, LIMIT, &mut shards) {
-        Ok(()) => table_in(alloc, &mut shards),
+        Ok(rows) => finish(alloc, &mut shards, rows),
         Err(refused) => Err(refused),
     }
 }

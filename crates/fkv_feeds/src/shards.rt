@@ -1,5 +1,5 @@
 //! The partitions of a run, with a session in each, and what moves their pages to a device and back.
-ghost use Rattle.std.specs.Prelude.{◌≡◌, ◌<◌, ◌%◌, ◌^◌, ◌⊎◌, ℕ, ℤ, List, [], ◌∷◌, ◌++◌, length, map, IfOk, IfErr, OnOk};
+ghost use Rattle.std.specs.Prelude.{◌≡◌, ◌<◌, ◌+◌, ◌%◌, ◌^◌, ◌⊎◌, ℕ, ℤ, List, [], ◌∷◌, ◌++◌, length, map, Err, IfOk, IfErr, OnOk};
 ghost use Rattle.fkv_functions.specs.Names.{name_cmp};
 ghost use Rattle.fkv_functions.specs.declared.names.Name.{Name};
 ghost use Rattle.fkv_records.specs.Records.{size_of};
@@ -8,6 +8,7 @@ ghost use Rattle.fkv_partition.specs.Limits.{IsWithinLimits, IsPartitionOf};
 ghost use Rattle.fkv_partition.specs.CoreViews.{partition_of};
 ghost use Rattle.fkv_feeds.specs.Faults.{IsRunFault};
 ghost use Rattle.fkv_feeds.specs.Runs.{IsSeatedIn, AreNew, StandFor};
+ghost use Rattle.fkv_feeds.specs.Spent.{IsOneSpent};
 
 use crate::tidying::tidy_at_times;
 use crate::updating::update;
@@ -47,6 +48,8 @@ pub struct Shards<'a, F: Functions, D: Disk> {
     pub(crate) terms: Terms<'a, F>,
     pub(crate) shards: Vec<Shard<F, D>>,
     pub(crate) clock: Clock,
+    /// The tries of the last row that was not done at once.
+    pub(crate) tries: u64,
 }
 
 /// Adds an item. Refused: `NoMemory`.
@@ -154,6 +157,8 @@ impl<'a, F: Functions, D: Disk> Shards<'a, F, D> {
         requires { IsWithinLimits config.now (size_of F.Key.SIZE F.Value.SIZE) }
         ensures ok { IfOk result (λ s. StandFor D.Receipt.keeps F.Key.cmp F.meaning F.code
             (map (λ shard. shard.partition) s.shards.items) s.terms.slot s.clock []) }
+        // the first try is no turn
+        ensures tries { IfOk result (λ s. s.terms.tries ≡ config.now.turns + 1) }
         ensures told { IfErr result (FailsOnlyBy 1 0 (D.failures device.old) (D.failures device.new)) }
     {
         let count = config.partitions();
@@ -168,6 +173,7 @@ impl<'a, F: Functions, D: Disk> Shards<'a, F, D> {
                 },
                 shards,
                 clock: Clock::starting(count),
+                tries: 0,
             }),
             Err(refused) => Err(refused),
         }
@@ -203,12 +209,27 @@ pub fn add_row<F: Functions<Key = Name, Input = i64>, D: Disk>(
     ensures told { IfErr result (λ e. (e ≡ Refused.NoMemory) ⊎ (e ≡ Refused.Worn) ⊎ (e ≡ Refused.Stalled)
         ⊎ IsRunFault D.Receipt.keeps D.failures D.Writer.failures D.Reader.failures F.Value.bytes_of F.Value.is_known
         F.Value.SIZE e) }
+    ensures worn { result ≡ Err Refused.Worn
+        → IsOneSpent 2 (map (λ shard. shard.partition) shards.new.shards.items) shards.new.clock }
+    ensures memory { result ≡ Err Refused.NoMemory
+        → (map (λ shard. D.Writer.failures shard.writer) shards.new.shards.items
+        ≡ map (λ shard. D.Writer.failures shard.writer) shards.old.shards.items)
+        × (map (λ shard. D.Reader.failures shard.reader) shards.new.shards.items
+        ≡ map (λ shard. D.Reader.failures shard.reader) shards.old.shards.items) }
+    ensures tried { result ≡ Err Refused.Stalled → shards.new.tries ≡ shards.old.terms.tries }
 {
     // which says that their number is a power of two
     shards.shards[0].partition.known();
     let home = shards.home(key);
     let shard = &mut shards.shards[home];
-    match update(&shards.terms, shard, key, &amount, &mut shards.clock) {
+    match update(
+        &shards.terms,
+        shard,
+        key,
+        &amount,
+        &mut shards.clock,
+        &mut shards.tries,
+    ) {
         Ok(()) => tidy_at_times(&shards.terms, shard, &mut shards.clock),
         Err(refused) => Err(refused),
     }

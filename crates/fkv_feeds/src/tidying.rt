@@ -2,9 +2,10 @@
 //!
 //! A partition keeps its newest records in memory. ReadOnly follows the tail at half of the frames, each page below it
 //! is written, and Head follows so that the page after the tail's finds its frame free.
-ghost use Rattle.std.specs.Prelude.{◌≡◌, ◌≤◌, ◌⊎◌, ℕ, true, false, IfOk, IfErr, OnOk};
+ghost use Rattle.std.specs.Prelude.{◌≡◌, ◌<◌, ◌≤◌, ◌+◌, ◌^◌, ◌⊎◌, ℕ, true, false, Err, IfOk, IfErr, OnOk};
 ghost use Rattle.fkv_device.specs.Failing.{FailsOnlyBy};
 ghost use Rattle.fkv_partition.specs.CoreBeginning.{IsEntered};
+ghost use Rattle.fkv_feeds.specs.Seats.{SeesNow};
 ghost use Rattle.fkv_feeds.specs.Sessions.{IsTidied};
 
 use crate::shards::{Shard, Terms};
@@ -20,16 +21,20 @@ fn refresh<F: Functions, R: Receipt>(
     clock: &mut Clock,
 ) -> Result<(), Refused>
     requires entered { IsEntered partition.old.core slot }
+    requires small { slot < 16 }
     requires past { partition.old.core.moment ≤ clock.old }
     ensures tidied { OnOk result (IsTidied R.keeps F.Key.cmp partition.old partition.new) }
+    ensures seen { OnOk result (SeesNow partition.new.core slot) }
     ensures past { OnOk result (partition.new.core.moment ≤ clock.new) }
     ensures later { OnOk result (clock.old ≤ clock.new) }
     ensures only { IfErr result (λ refused. refused ≡ Refused.Worn) }
+    ensures worn { result ≡ Err Refused.Worn → 2 ^ 64 ≤ clock.new + 1 }
 {
     let now = match clock.tick() {
         Ok(now) => now,
         Err(refused) => return Err(refused),
     };
+    partition.known();
     match partition.refresh(slot, now) {
         Ok(()) => Ok(()),
         Err(refused) => Err(refused),
@@ -45,11 +50,14 @@ fn freeze<F: Functions, R: Receipt>(
     clock: &mut Clock,
 ) -> Result<(), Refused>
     requires entered { IsEntered partition.old.core slot }
+    requires small { slot < 16 }
     requires past { partition.old.core.moment ≤ clock.old }
     ensures tidied { OnOk result (IsTidied R.keeps F.Key.cmp partition.old partition.new) }
+    ensures seen { OnOk result (SeesNow partition.new.core slot) }
     ensures past { OnOk result (partition.new.core.moment ≤ clock.new) }
     ensures later { OnOk result (clock.old ≤ clock.new) }
     ensures only { IfErr result (λ refused. refused ≡ Refused.Worn) }
+    ensures worn { result ≡ Err Refused.Worn → 2 ^ 64 ≤ clock.new + 1 }
 {
     let now = match clock.tick() {
         Ok(now) => now,
@@ -68,11 +76,14 @@ fn evict<F: Functions, R: Receipt>(
     clock: &mut Clock,
 ) -> Result<(), Refused>
     requires entered { IsEntered partition.old.core slot }
+    requires small { slot < 16 }
     requires past { partition.old.core.moment ≤ clock.old }
     ensures tidied { OnOk result (IsTidied R.keeps F.Key.cmp partition.old partition.new) }
+    ensures seen { OnOk result (SeesNow partition.new.core slot) }
     ensures past { OnOk result (partition.new.core.moment ≤ clock.new) }
     ensures later { OnOk result (clock.old ≤ clock.new) }
     ensures only { IfErr result (λ refused. refused ≡ Refused.Worn) }
+    ensures worn { result ≡ Err Refused.Worn → 2 ^ 64 ≤ clock.new + 1 }
 {
     let now = match clock.tick() {
         Ok(now) => now,
@@ -98,6 +109,9 @@ fn flush<F: Functions, D: Disk>(
     ensures told { IfErr result (λ e. (e ≡ Refused.Worn) ⊎ (e ≡ Refused.NoMemory)
         ⊎ ((page : ℕ) × FailsOnlyBy 2 page (D.Writer.failures shard.old.writer)
         (D.Writer.failures shard.new.writer) e)) }
+    ensures worn { result ≡ Err Refused.Worn → 2 ^ 64 ≤ clock.new + 1 }
+    ensures memory { result ≡ Err Refused.NoMemory
+        → D.Writer.failures shard.new.writer ≡ D.Writer.failures shard.old.writer }
 {
     let taken = match clock.tick() {
         Ok(taken) => taken,
@@ -137,6 +151,9 @@ fn flush_all<F: Functions, D: Disk>(
     ensures told { IfErr result (λ e. (e ≡ Refused.Worn) ⊎ (e ≡ Refused.NoMemory)
         ⊎ ((page : ℕ) × FailsOnlyBy 2 page (D.Writer.failures shard.old.writer)
         (D.Writer.failures shard.new.writer) e)) }
+    ensures worn { result ≡ Err Refused.Worn → 2 ^ 64 ≤ clock.new + 1 }
+    ensures memory { result ≡ Err Refused.NoMemory
+        → D.Writer.failures shard.new.writer ≡ D.Writer.failures shard.old.writer }
 {
     for _page in 0..terms.frames {
         match flush(terms, shard, clock) {
@@ -166,6 +183,7 @@ pub fn tidy<F: Functions, D: Disk>(
     requires entered { IsEntered shard.old.partition.core terms.now.slot }
     requires past { shard.old.partition.core.moment ≤ clock.old }
     ensures tidied { OnOk result (IsTidied D.Receipt.keeps F.Key.cmp shard.old.partition shard.new.partition) }
+    ensures seen { OnOk result (SeesNow shard.new.partition.core terms.now.slot) }
     ensures past { OnOk result (shard.new.partition.core.moment ≤ clock.new) }
     ensures later { OnOk result (clock.old ≤ clock.new) }
     ensures steady { OnOk result (D.Writer.failures shard.new.writer ≡ D.Writer.failures shard.old.writer) }
@@ -173,6 +191,9 @@ pub fn tidy<F: Functions, D: Disk>(
     ensures told { IfErr result (λ e. (e ≡ Refused.Worn) ⊎ (e ≡ Refused.NoMemory)
         ⊎ ((page : ℕ) × FailsOnlyBy 2 page (D.Writer.failures shard.old.writer)
         (D.Writer.failures shard.new.writer) e)) }
+    ensures worn { result ≡ Err Refused.Worn → 2 ^ 64 ≤ clock.new + 1 }
+    ensures memory { result ≡ Err Refused.NoMemory
+        → D.Writer.failures shard.new.writer ≡ D.Writer.failures shard.old.writer }
 {
     let tail = tail_page(&shard.partition);
     let changed = (terms.frames / 2).saturating_sub(1);
@@ -209,6 +230,9 @@ pub fn tidy_at_times<F: Functions, D: Disk>(
     ensures told { IfErr result (λ e. (e ≡ Refused.Worn) ⊎ (e ≡ Refused.NoMemory)
         ⊎ ((page : ℕ) × FailsOnlyBy 2 page (D.Writer.failures shard.old.writer)
         (D.Writer.failures shard.new.writer) e)) }
+    ensures worn { result ≡ Err Refused.Worn → 2 ^ 64 ≤ clock.new + 1 }
+    ensures memory { result ≡ Err Refused.NoMemory
+        → D.Writer.failures shard.new.writer ≡ D.Writer.failures shard.old.writer }
 {
     shard.rows = shard.rows.wrapping_add(1);
     if shard.rows % 64 != 0 {

@@ -1,5 +1,5 @@
 //! One row: an update of a partition, through its own events.
-ghost use Rattle.std.specs.Prelude.{◌≡◌, ◌+◌, ◌<◌, ◌≤◌, ◌⊎◌, ◌↔◌, ℕ, IsTrue, Some, None, Ok, Err, OnOk, IfOk, IfErr, option_map, true, false};
+ghost use Rattle.std.specs.Prelude.{◌≡◌, ◌+◌, ◌^◌, ◌<◌, ◌≤◌, ◌⊎◌, ◌↔◌, ℕ, IsTrue, Some, None, Ok, Err, OnOk, IfOk, IfErr, option_map, true, false};
 ghost use Rattle.fkv_functions.specs.Plain.{Same};
 ghost use Rattle.fkv_operations.specs.After.{after};
 ghost use Rattle.fkv_operations.specs.declared.operations.KeyedOp.{KeyedOp};
@@ -7,8 +7,9 @@ ghost use Rattle.fkv_operations.specs.declared.operations.KeyedOp.TheVariants.{R
 ghost use Rattle.fkv_pages.specs.Spelled.{IsEntryIn};
 ghost use Rattle.fkv_partition.specs.CoreViews.{live_of, partition_of};
 ghost use Rattle.fkv_feeds.specs.Faults.{IsFault};
-ghost use Rattle.fkv_feeds.specs.Seats.{IsAsking};
+ghost use Rattle.fkv_feeds.specs.Seats.{IsAsking, SeesNow};
 ghost use Rattle.fkv_feeds.specs.Sessions.{IsIdle, IsOpen, Tries};
+ghost use Rattle.fkv_feeds.specs.Spent.{IsSpent};
 
 use crate::shards::{Shard, Terms};
 use crate::tidying::tidy;
@@ -42,6 +43,7 @@ fn wait<F: Functions, D: Disk>(
         → IsOpen shard.old.partition terms.now.slot context op None
         → Tries D.Receipt.keeps D.Receipt.stands F.Key.cmp F.meaning shard.old.partition shard.new.partition terms.now.slot
         context op turn) }
+    ensures seen { OnOk result (SeesNow shard.new.partition.core terms.now.slot) }
     ensures past { OnOk result (shard.new.partition.core.moment ≤ clock.new) }
     ensures later { OnOk result (clock.old ≤ clock.new) }
     ensures steady { OnOk result ((D.Writer.failures shard.new.writer ≡ D.Writer.failures shard.old.writer)
@@ -50,6 +52,10 @@ fn wait<F: Functions, D: Disk>(
         ⊎ IsFault (IsEntryIn F.Key.bytes_of F.Value.bytes_of F.Key.is_known F.Value.is_known F.Key.SIZE F.Value.SIZE)
         F.Key.cmp (D.Writer.failures shard.old.writer) (D.Writer.failures shard.new.writer)
         (D.Reader.failures shard.old.reader) (D.Reader.failures shard.new.reader) e) }
+    ensures worn { result ≡ Err Refused.Worn → IsSpent 1 shard.new.partition.core.records.tail clock.new }
+    ensures memory { result ≡ Err Refused.NoMemory
+        → (D.Writer.failures shard.new.writer ≡ D.Writer.failures shard.old.writer)
+        × (D.Reader.failures shard.new.reader ≡ D.Reader.failures shard.old.reader) }
 {
     match tidy(terms, shard, clock) {
         Ok(()) => Ok(Turn::On(None)),
@@ -80,6 +86,10 @@ fn install<F: Functions, D: Disk>(
         ⊎ IsFault (IsEntryIn F.Key.bytes_of F.Value.bytes_of F.Key.is_known F.Value.is_known F.Key.SIZE F.Value.SIZE)
         F.Key.cmp (D.Writer.failures shard.old.writer) (D.Writer.failures shard.new.writer)
         (D.Reader.failures shard.old.reader) (D.Reader.failures shard.new.reader) e) }
+    ensures worn { result ≡ Err Refused.Worn → IsSpent 1 shard.new.partition.core.records.tail clock.new }
+    ensures memory { result ≡ Err Refused.NoMemory
+        → (D.Writer.failures shard.new.writer ≡ D.Writer.failures shard.old.writer)
+        × (D.Reader.failures shard.new.reader ≡ D.Reader.failures shard.old.reader) }
 {
     let now = match clock.tick() {
         Ok(now) => now,
@@ -119,6 +129,10 @@ fn go_on<F: Functions, D: Disk>(
         ⊎ IsFault (IsEntryIn F.Key.bytes_of F.Value.bytes_of F.Key.is_known F.Value.is_known F.Key.SIZE F.Value.SIZE)
         F.Key.cmp (D.Writer.failures shard.old.writer) (D.Writer.failures shard.new.writer)
         (D.Reader.failures shard.old.reader) (D.Reader.failures shard.new.reader) e) }
+    ensures worn { result ≡ Err Refused.Worn → IsSpent 1 shard.new.partition.core.records.tail clock.new }
+    ensures memory { result ≡ Err Refused.NoMemory
+        → (D.Writer.failures shard.new.writer ≡ D.Writer.failures shard.old.writer)
+        × (D.Reader.failures shard.new.reader ≡ D.Reader.failures shard.old.reader) }
 {
     let now = match clock.tick() {
         Ok(now) => now,
@@ -161,11 +175,15 @@ fn load<F: Functions, D: Disk>(
         ⊎ IsFault (IsEntryIn F.Key.bytes_of F.Value.bytes_of F.Key.is_known F.Value.is_known F.Key.SIZE F.Value.SIZE)
         F.Key.cmp (D.Writer.failures shard.old.writer) (D.Writer.failures shard.new.writer)
         (D.Reader.failures shard.old.reader) (D.Reader.failures shard.new.reader) e) }
+    ensures worn { result ≡ Err Refused.Worn → IsSpent 1 shard.new.partition.core.records.tail clock.new }
+    ensures memory { result ≡ Err Refused.NoMemory
+        → (D.Writer.failures shard.new.writer ≡ D.Writer.failures shard.old.writer)
+        × (D.Reader.failures shard.new.reader ≡ D.Reader.failures shard.old.reader) }
 {
     let size = shard.partition.page_size();
     let loaded = match Loaded::<D::Receipt>::fetch(&mut shard.reader, &receipt, size) {
         Ok(loaded) => loaded,
-        Err(refused) => return Err(refused),
+        Err(fault) => return Err(fault),
     };
     let now = match clock.tick() {
         Ok(now) => now,
@@ -183,21 +201,25 @@ fn load<F: Functions, D: Disk>(
     }
 }
 
-/// Goes on with an update, with the page that it waits for, if it waits for one. Refused as [`go_on`] and [`load`] are.
+/// Goes on with an update, with the page that it waits for, if it waits for one, and counts the try. Refused as [`go_on`]
+/// and [`load`] are.
 fn attempt<F: Functions, D: Disk>(
     terms: &Terms<'_, F>,
     shard: &mut Shard<F, D>,
     context: usize,
     page: Option<D::Receipt>,
     clock: &mut Clock,
+    tries: &mut u64,
 ) -> Result<Turn<D::Receipt>, Refused>
     requires open { (op : KeyedOp F.Key F.Value F.Input)
         × IsOpen shard.old.partition terms.now.slot context op (option_map D.Receipt.stands page) }
+    requires few { tries.old < terms.now.tries }
     requires past { shard.old.partition.core.moment ≤ clock.old }
     ensures ok { IfOk result (λ turn. (op : KeyedOp F.Key F.Value F.Input)
         → IsOpen shard.old.partition terms.now.slot context op (option_map D.Receipt.stands page)
         → Tries D.Receipt.keeps D.Receipt.stands F.Key.cmp F.meaning shard.old.partition shard.new.partition terms.now.slot
         context op turn) }
+    ensures counted { tries.new ≡ tries.old + 1 }
     ensures past { OnOk result (shard.new.partition.core.moment ≤ clock.new) }
     ensures later { OnOk result (clock.old < clock.new) }
     ensures steady { OnOk result ((D.Writer.failures shard.new.writer ≡ D.Writer.failures shard.old.writer)
@@ -206,7 +228,12 @@ fn attempt<F: Functions, D: Disk>(
         ⊎ IsFault (IsEntryIn F.Key.bytes_of F.Value.bytes_of F.Key.is_known F.Value.is_known F.Key.SIZE F.Value.SIZE)
         F.Key.cmp (D.Writer.failures shard.old.writer) (D.Writer.failures shard.new.writer)
         (D.Reader.failures shard.old.reader) (D.Reader.failures shard.new.reader) e) }
+    ensures worn { result ≡ Err Refused.Worn → IsSpent 1 shard.new.partition.core.records.tail clock.new }
+    ensures memory { result ≡ Err Refused.NoMemory
+        → (D.Writer.failures shard.new.writer ≡ D.Writer.failures shard.old.writer)
+        × (D.Reader.failures shard.new.reader ≡ D.Reader.failures shard.old.reader) }
 {
+    *tries += 1;
     match page {
         None => go_on(terms, shard, context, clock),
         Some(receipt) => load(terms, shard, context, receipt, clock),
@@ -234,6 +261,8 @@ fn done_at_once<F: Functions, D: Disk>(
     ensures later { OnOk result (clock.old < clock.new) }
     ensures steady { (shard.new.writer ≡ shard.old.writer) × (shard.new.reader ≡ shard.old.reader) }
     ensures told { IfErr result (λ e. e ≡ Refused.Worn) }
+    // it takes two
+    ensures worn { result ≡ Err Refused.Worn → 2 ^ 64 ≤ clock.new + 2 }
 {
     let (issued, now) = match clock.tick_twice() {
         Ok(moments) => moments,
@@ -249,13 +278,14 @@ fn done_at_once<F: Functions, D: Disk>(
     }
 }
 
-/// Makes an update as [`update`] does, turn by turn.
+/// Makes an update as [`update`] does, turn by turn, and counts its tries from none.
 fn update_by_turns<F: Functions, D: Disk>(
     terms: &Terms<'_, F>,
     shard: &mut Shard<F, D>,
     key: &F::Key,
     input: &F::Input,
     clock: &mut Clock,
+    tries: &mut u64,
 ) -> Result<(), Refused>
     requires idle { IsIdle shard.old.partition terms.now.slot }
     requires own { partition_of shard.old.partition.core.count (F.code key.now) ≡ shard.old.partition.core.number }
@@ -273,6 +303,11 @@ fn update_by_turns<F: Functions, D: Disk>(
         ⊎ IsFault (IsEntryIn F.Key.bytes_of F.Value.bytes_of F.Key.is_known F.Value.is_known F.Key.SIZE F.Value.SIZE)
         F.Key.cmp (D.Writer.failures shard.old.writer) (D.Writer.failures shard.new.writer)
         (D.Reader.failures shard.old.reader) (D.Reader.failures shard.new.reader) e) }
+    ensures worn { result ≡ Err Refused.Worn → IsSpent 1 shard.new.partition.core.records.tail clock.new }
+    ensures memory { result ≡ Err Refused.NoMemory
+        → (D.Writer.failures shard.new.writer ≡ D.Writer.failures shard.old.writer)
+        × (D.Reader.failures shard.new.reader ≡ D.Reader.failures shard.old.reader) }
+    ensures tried { result ≡ Err Refused.Stalled → tries.new ≡ terms.now.tries }
     // so many moments have passed at least
     ensures stalled { result ≡ Err Refused.Stalled → clock.old + terms.now.tries < clock.new }
 {
@@ -286,9 +321,10 @@ fn update_by_turns<F: Functions, D: Disk>(
         Ok(context) => context,
         Err(refused) => return Err(refused),
     };
+    *tries = 0;
     let mut page = None;
     for _turn in 0..terms.tries {
-        match attempt(terms, shard, context, page, clock) {
+        match attempt(terms, shard, context, page, clock, tries) {
             Ok(Turn::Done) => return Ok(()),
             Ok(Turn::On(next)) => page = next,
             Err(refused) => return Err(refused),
@@ -299,15 +335,16 @@ fn update_by_turns<F: Functions, D: Disk>(
 
 /// Makes an update in a session that has no operation open, by the events of its partition, at moments that follow
 /// those that the clock gave. Where it can't go on yet the partition's pages move on, and where its key's last record
-/// is not in memory that record's page is read. Refused: `Worn` where no address or no moment is left, `NoMemory`, as
-/// the device refuses a page, `Damaged` where a page's bytes spell no record on the way, and `Stalled` where it is not
-/// done at one of so many tries.
+/// is not in memory that record's page is read. Refused: `Worn` where no address is left, or not two moments, `NoMemory`,
+/// as the device refuses a page, `Damaged` where a page's bytes spell no record on the way, and `Stalled` where it is not
+/// done at one of so many tries, which are counted from none where it is not done at once.
 pub fn update<F: Functions, D: Disk>(
     terms: &Terms<'_, F>,
     shard: &mut Shard<F, D>,
     key: &F::Key,
     input: &F::Input,
     clock: &mut Clock,
+    tries: &mut u64,
 ) -> Result<(), Refused>
     requires idle { IsIdle shard.old.partition terms.now.slot }
     requires own { partition_of shard.old.partition.core.count (F.code key.now) ≡ shard.old.partition.core.number }
@@ -325,12 +362,17 @@ pub fn update<F: Functions, D: Disk>(
         ⊎ IsFault (IsEntryIn F.Key.bytes_of F.Value.bytes_of F.Key.is_known F.Value.is_known F.Key.SIZE F.Value.SIZE)
         F.Key.cmp (D.Writer.failures shard.old.writer) (D.Writer.failures shard.new.writer)
         (D.Reader.failures shard.old.reader) (D.Reader.failures shard.new.reader) e) }
+    ensures worn { result ≡ Err Refused.Worn → IsSpent 2 shard.new.partition.core.records.tail clock.new }
+    ensures memory { result ≡ Err Refused.NoMemory
+        → (D.Writer.failures shard.new.writer ≡ D.Writer.failures shard.old.writer)
+        × (D.Reader.failures shard.new.reader ≡ D.Reader.failures shard.old.reader) }
+    ensures tried { result ≡ Err Refused.Stalled → tries.new ≡ terms.now.tries }
     // so many moments have passed at least
     ensures stalled { result ≡ Err Refused.Stalled → clock.old + terms.now.tries < clock.new }
 {
     match done_at_once(terms, shard, key, input, clock) {
         Ok(true) => Ok(()),
-        Ok(false) => update_by_turns(terms, shard, key, input, clock),
+        Ok(false) => update_by_turns(terms, shard, key, input, clock, tries),
         Err(refused) => Err(refused),
     }
 }

@@ -51,7 +51,7 @@ empty_log bits frames = record {
   text = [];
 }
 
--- no room: the next record would begin a page whose frame has one that is not closed
+-- no room: the next record needs a page whose frame is still in use
 pub record IsFull {K V : Type 0} (log : LogView K V) : Type 0 where
   pub more : log.tail < 2 ^ 48
   pub begins : offset_at log.bits log.tail ≡ 0

@@ -90,7 +90,7 @@ impl<K: Fixed, V: Fixed, R: Receipt> Log<K, V, R> {
         self.pages.next(address)
     }
 
-    /// Whether the next record would begin a page whose frame has one that is not closed.
+    /// Whether the next record needs a page whose frame is still in use.
     pub fn is_full(&self) -> bool
         ensures { IsTrue result ↔ IsFull self.now }
     {
@@ -113,7 +113,7 @@ impl<K: Fixed, V: Fixed, R: Receipt> Log<K, V, R> {
         ensures full { result ≡ Ok None → self.new ≡ self.old }
         ensures worn { (result ≡ Err Refused.Worn) ↔ (self.old.tail ≡ 2 ^ 48) }
         ensures only { IfErr result (λ refused. refused ≡ Refused.Worn) }
-        ensures err { OnErr result (self.new ≡ self.old) }
+        ensures unchanged { OnErr result (self.new ≡ self.old) }
     {
         self.pages.known();
         self.pages.append(previous, key, value)

@@ -129,7 +129,7 @@ impl Buckets {
     pub fn grow(&mut self, bucket: usize) -> Result<(), AllocError>
         requires { bucket < length self.old }
         ensures ok { OnOk result (self.new ≡ with_overflow self.old bucket) }
-        ensures err { OnErr result (self.new ≡ self.old) }
+        ensures unchanged { OnErr result (self.new ≡ self.old) }
     {
         let places = [Word::empty(); 7];
         let number = self.rows[bucket].overflow;

@@ -5,6 +5,7 @@ ghost use Rattle.fkv_jobs.specs.Runs.{HaveRun};
 use crate::keepers::{Keeper, Kept, keep};
 use fkv_functions::Refused;
 use std::alloc::Global;
+use std::rt::Clock;
 use std::snapshot::Snapshot;
 use std::sync::Wait;
 use std::sync::atomic::{AtomicBool, Ordering};
@@ -58,7 +59,7 @@ fn halt<O>(stop: &AtomicBool) -> Result<Ran<O>, Refused>
 ///
 /// `NoMemory`, where a thread can not be made, or there is no room for what the threads are or give. Jobs that were
 /// started have ended then as well, and the keeper too, but what they gave is gone.
-pub fn run_jobs<J: Job + Send, K: Keeper + Sync, T: Threads + Wait + Sync>(
+pub fn run_jobs<J: Job + Send, K: Keeper + Sync, T: Threads + Wait + Clock + Sync>(
     rt: &T,
     alloc: Global,
     keeper: &K,

@@ -3,11 +3,16 @@ ghost use Rattle.std.specs.Prelude.{◌≡◌, IfErr};
 ghost use Rattle.fkv_functions.specs.declared.refusals.Refused.{Refused};
 
 use fkv_functions::Refused;
+use std::rt::Clock;
 use std::snapshot::Snapshot;
 use std::sync::Wait;
 use std::sync::atomic::{AtomicBool, Ordering};
 use std::thread;
 use std::thread::Promise;
+use std::time::Duration;
+
+/// The milliseconds that it rests between two turns, so that jobs have the processors and the locks.
+const PAUSE: u64 = 1;
 
 /// What another thread does over and over until it is told to stop.
 pub trait Keeper {
@@ -37,7 +42,11 @@ impl<K: Keeper> Promise<Result<(), Refused>> for Kept<K> {
 }
 
 /// Turns until it is told to stop, or a turn is refused: then so is this.
-pub fn keep<K: Keeper>(rt: &impl Wait, keeper: &K, stop: &AtomicBool) -> Result<(), Refused>
+pub fn keep<K: Keeper, W: Wait + Clock>(
+    rt: &W,
+    keeper: &K,
+    stop: &AtomicBool,
+) -> Result<(), Refused>
     ensures { IfErr result (K.fault keeper.now) }
 {
     for _ in rt.forever() {
@@ -45,7 +54,7 @@ pub fn keep<K: Keeper>(rt: &impl Wait, keeper: &K, stop: &AtomicBool) -> Result<
             return Ok(());
         }
         match keeper.turn(rt) {
-            Ok(()) => thread::yield_now(),
+            Ok(()) => thread::sleep(rt, Duration::from_millis(PAUSE)),
             Err(refused) => return Err(refused),
         }
     }

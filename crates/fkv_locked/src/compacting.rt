@@ -27,11 +27,11 @@ impl<F: Functions, R: Receipt, H: Recorder<F>> Locked<F, R, H> {
     /// A compactor joins, as [`Compactor::join`] does, whose refusals it has after `Worn` where there is no next moment; then
     /// nothing changes.
     pub fn join(&mut self) -> Result<Compactor, Refused>
-        ensures does { IsTimed self.old.clock result
+        ensures effect { IsTimed self.old.clock result
             (Enters self.old.partition self.new.partition (self.old.clock + 1) result) }
         ensures within { IfOk result (λ slot. slot < 16) }
         ensures after { OnOk result (self.new ≡ with_partition self.old self.new.partition) }
-        ensures err { OnErr result (self.new ≡ self.old) }
+        ensures unchanged { OnErr result (self.new ≡ self.old) }
     {
         let Some(now) = next_moment(&self.clock) else {
             return Err(Refused::Worn);
@@ -49,10 +49,10 @@ impl<F: Functions, R: Receipt, H: Recorder<F>> Locked<F, R, H> {
     /// its session saw then as safely read-only, and a session that is not refreshed holds the offsets back. Refused, in this
     /// order, and then nothing changes: `Worn` where there is no next moment, `Unknown` where its slot is that of no session.
     pub fn refresh_compactor(&mut self, compactor: &Compactor) -> Result<(), Refused>
-        ensures does { IsTimed self.old.clock result
+        ensures effect { IsTimed self.old.clock result
             (Refreshes R.keeps self.old.partition self.new.partition compactor.now (self.old.clock + 1) result) }
         ensures after { OnOk result (self.new ≡ with_partition self.old self.new.partition) }
-        ensures err { OnErr result (self.new ≡ self.old) }
+        ensures unchanged { OnErr result (self.new ≡ self.old) }
     {
         // no caller's session has this number, and the event asks for none
         self.refresh(Seat {
@@ -68,14 +68,14 @@ impl<F: Functions, R: Receipt, H: Recorder<F>> Locked<F, R, H> {
         compactor: &Compactor,
         functions: &F,
     ) -> Result<ProgressOf<F, R>, Refused>
-        ensures does { IsTimed self.old.clock result (CompactsNext R.stands F.Key.cmp F.meaning F.code
+        ensures effect { IsTimed self.old.clock result (CompactsNext R.stands F.Key.cmp F.meaning F.code
             self.old.partition self.new.partition compactor.now (self.old.clock + 1) result) }
         ensures tells { IfOk result (IsRelocationProgress (self.old.clock + 1)) }
         ensures cleared { result ≡ Ok (Done Cleared (self.old.clock + 1)) → (c : ℕ)
             → IsFirstOpen self.old.partition compactor.now (Some c)
             → IfSome (relocation_at self.old.partition compactor.now c) (λ x. x.target < self.new.partition.cleared) }
         ensures after { OnOk result (self.new ≡ with_partition self.old self.new.partition) }
-        ensures err { OnErr result (self.new ≡ self.old) }
+        ensures unchanged { OnErr result (self.new ≡ self.old) }
     {
         let Some(now) = next_moment(&self.clock) else {
             return Err(Refused::Worn);
@@ -98,7 +98,7 @@ impl<F: Functions, R: Receipt, H: Recorder<F>> Locked<F, R, H> {
         came: Result<Loaded<R>, Refused>,
         functions: &F,
     ) -> Result<ProgressOf<F, R>, Refused>
-        ensures does { IsTimed self.old.clock result (CompactsLoad R.stands (IsEntryIn F.Key.bytes_of F.Value.bytes_of
+        ensures effect { IsTimed self.old.clock result (CompactsLoad R.stands (IsEntryIn F.Key.bytes_of F.Value.bytes_of
             F.Key.is_known F.Value.is_known F.Key.SIZE F.Value.SIZE) F.Key.cmp F.meaning F.code self.old.partition
             self.new.partition compactor.now came (self.old.clock + 1) result) }
         ensures tells { IfOk result (IsRelocationProgress (self.old.clock + 1)) }
@@ -106,7 +106,7 @@ impl<F: Functions, R: Receipt, H: Recorder<F>> Locked<F, R, H> {
             → IsFirstOpen self.old.partition compactor.now (Some c)
             → IfSome (relocation_at self.old.partition compactor.now c) (λ x. x.target < self.new.partition.cleared) }
         ensures after { OnOk result (self.new ≡ with_partition self.old self.new.partition) }
-        ensures err { IfErr result (λ _. ((self.old.clock ≡ 2 ^ 64 - 1) × (self.new ≡ self.old))
+        ensures refused { IfErr result (λ _. ((self.old.clock ≡ 2 ^ 64 - 1) × (self.new ≡ self.old))
             ⊎ IsRelocationRefused self.old self.new compactor.now) }
     {
         let Some(now) = next_moment(&self.clock) else {
@@ -119,14 +119,14 @@ impl<F: Functions, R: Receipt, H: Recorder<F>> Locked<F, R, H> {
     /// Begin moves to the start of the page up to which all is cleared, as [`Compactor::truncate_cleared`] does, whose
     /// refusals it has after `Worn` where there is no next moment; then nothing changes.
     pub fn truncate_cleared(&mut self, compactor: &Compactor) -> Result<Address, Refused>
-        ensures does { IsTimed self.old.clock result (Truncates R.keeps self.old.partition self.new.partition
+        ensures effect { IsTimed self.old.clock result (Truncates R.keeps self.old.partition self.new.partition
             (page_at self.old.partition.core.records.page_bits self.old.partition.cleared) (self.old.clock + 1)
             (told_of result)) }
         ensures begin { IfOk result (λ begin. (begin ≡ self.new.partition.core.records.begin)
             × (begin ≡ start_at self.old.partition.core.records.page_bits
             (page_at self.old.partition.core.records.page_bits self.old.partition.cleared))) }
         ensures after { OnOk result (self.new ≡ with_partition self.old self.new.partition) }
-        ensures err { OnErr result (self.new ≡ self.old) }
+        ensures unchanged { OnErr result (self.new ≡ self.old) }
     {
         let Some(now) = next_moment(&self.clock) else {
             return Err(Refused::Worn);
@@ -144,7 +144,7 @@ impl<F: Functions, R: Receipt, H: Recorder<F>> Locked<F, R, H> {
     /// each at a moment, and its session is left at one more. Where fewer than nine moments are left it is `Worn`, and nothing
     /// changes.
     pub fn part(&mut self, compactor: Compactor) -> Result<(), Refused>
-        ensures does { Parts R.keeps self.old.partition self.new.partition compactor self.old.clock self.new.clock
+        ensures effect { Parts R.keeps self.old.partition self.new.partition compactor self.old.clock self.new.clock
             result }
         ensures after { self.new
             ≡ record self.old { partition = self.new.partition; clock = self.new.clock } }

@@ -49,7 +49,7 @@ impl<F: Functions, R: Receipt, H: Recorder<F>> Locked<F, R, H> {
             self.new ≡ with_issue self.old self.new.partition seat.slot mine.context) }
         ensures refused { IfErr result (λ why. IsUnheard self.old.count self.old.clock told why
             ⊎ Issues F.code self.old.partition self.new.partition seat.slot (op_of op) (self.old.clock + 1) (Err why)) }
-        ensures err { OnErr result (self.new ≡ self.old) }
+        ensures unchanged { OnErr result (self.new ≡ self.old) }
     {
         let held = self.history.updates();
         if held < told {
@@ -83,7 +83,7 @@ impl<F: Functions, R: Receipt, H: Recorder<F>> Locked<F, R, H> {
     /// stand there than the caller was told of; `Worn` where the updates, the book or the clock have no next number;
     /// `NoMemory`; and what that refuses.
     pub fn go(&mut self, mine: &MineOf<F>, functions: &F) -> Result<TurnOf<F, R>, Refused>
-        ensures does { IfOk result (λ turn. (p : _) × Goes R.stands F.Key.cmp F.meaning F.code self.old.partition
+        ensures effect { IfOk result (λ turn. (p : _) × Goes R.stands F.Key.cmp F.meaning F.code self.old.partition
             self.new.partition mine.now.seat.slot mine.now.context (self.old.clock + 1) (Ok p) × IsToldBy p turn) }
         ensures turns { IfOk result (Turns H.keeps (noted self.old) (noted self.new) mine.now) }
         ensures refused { IfErr result (λ why.
@@ -91,7 +91,7 @@ impl<F: Functions, R: Receipt, H: Recorder<F>> Locked<F, R, H> {
             self.old.clock mine.now why
             ⊎ Goes R.stands F.Key.cmp F.meaning F.code self.old.partition self.new.partition mine.now.seat.slot
             mine.now.context (self.old.clock + 1) (Err why)) }
-        ensures err { OnErr result (self.new ≡ self.old) }
+        ensures unchanged { OnErr result (self.new ≡ self.old) }
     {
         let Locked {
             partition,
@@ -122,7 +122,7 @@ impl<F: Functions, R: Receipt, H: Recorder<F>> Locked<F, R, H> {
         built: Built<F>,
         functions: &F,
     ) -> Result<TurnOf<F, R>, Refused>
-        ensures does { IfOk result (λ turn. (p : _) × Installs F.Key.cmp F.meaning F.code self.old.partition
+        ensures effect { IfOk result (λ turn. (p : _) × Installs F.Key.cmp F.meaning F.code self.old.partition
             self.new.partition mine.now.seat.slot mine.now.context built (self.old.clock + 1) (Ok p) × IsToldBy p turn) }
         ensures turns { IfOk result (Turns H.keeps (noted self.old) (noted self.new) mine.now) }
         ensures refused { IfErr result (λ why.
@@ -130,7 +130,7 @@ impl<F: Functions, R: Receipt, H: Recorder<F>> Locked<F, R, H> {
             self.old.clock mine.now why
             ⊎ Installs {R = R} F.Key.cmp F.meaning F.code self.old.partition self.new.partition mine.now.seat.slot
             mine.now.context built (self.old.clock + 1) (Err why)) }
-        ensures err { OnErr result (self.new ≡ self.old) }
+        ensures unchanged { OnErr result (self.new ≡ self.old) }
     {
         let Locked {
             partition,
@@ -169,7 +169,7 @@ impl<F: Functions, R: Receipt, H: Recorder<F>> Locked<F, R, H> {
         came: Result<Loaded<R>, Refused>,
         functions: &F,
     ) -> Result<TurnOf<F, R>, Refused>
-        ensures does { IfOk result (λ turn. (p : _)
+        ensures effect { IfOk result (λ turn. (p : _)
             × Loads R.stands (IsEntryIn F.Key.bytes_of F.Value.bytes_of F.Key.is_known F.Value.is_known F.Key.SIZE
             F.Value.SIZE) F.Key.cmp F.meaning F.code self.old.partition self.new.partition mine.now.seat.slot
             mine.now.context came (self.old.clock + 1) (Ok p)
@@ -182,7 +182,7 @@ impl<F: Functions, R: Receipt, H: Recorder<F>> Locked<F, R, H> {
             ⊎ Loads R.stands (IsEntryIn F.Key.bytes_of F.Value.bytes_of F.Key.is_known F.Value.is_known F.Key.SIZE
             F.Value.SIZE) F.Key.cmp F.meaning F.code self.old.partition self.new.partition mine.now.seat.slot
             mine.now.context came (self.old.clock + 1) (Err why)) }
-        ensures err { IfErr result (λ _. (self.new ≡ self.old) ⊎ IsLoadRefused self.old self.new mine.now) }
+        ensures left { IfErr result (λ _. (self.new ≡ self.old) ⊎ IsLoadRefused self.old self.new mine.now) }
     {
         let Locked {
             partition,
@@ -217,7 +217,7 @@ impl<F: Functions, R: Receipt, H: Recorder<F>> Locked<F, R, H> {
     /// Gives an operation of a caller up: it ends without effect. Refused, in this order, and then nothing changes: `Unknown`
     /// where something else is open in its context, or nothing; `Worn` where there is no next moment.
     pub fn give_up(&mut self, mine: &MineOf<F>) -> Result<(), Refused>
-        ensures does { OnOk result (GivesUp self.old.partition self.new.partition mine.now.seat.slot mine.now.context
+        ensures effect { OnOk result (GivesUp self.old.partition self.new.partition mine.now.seat.slot mine.now.context
             (self.old.clock + 1) (Ok tt)) }
         ensures after { OnOk result (self.new ≡ with_partition self.old self.new.partition) }
         ensures refused { IfErr result (λ why.
@@ -226,7 +226,7 @@ impl<F: Functions, R: Receipt, H: Recorder<F>> Locked<F, R, H> {
             ⊎ ((why ≡ Refused.Worn) × (self.old.clock ≡ 2 ^ 64 - 1))
             ⊎ GivesUp self.old.partition self.new.partition mine.now.seat.slot mine.now.context (self.old.clock + 1)
             (Err why)) }
-        ensures err { OnErr result (self.new ≡ self.old) }
+        ensures unchanged { OnErr result (self.new ≡ self.old) }
     {
         if !is_open::<F, R>(&self.partition, mine) {
             return Err(Refused::Unknown);

@@ -15,10 +15,10 @@ impl<F: Functions, R: Receipt, H: Recorder<F>> Locked<F, R, H> {
     /// Moves the read-only offset, as [`fkv_partition::Partition::shift_read_only`] does, whose refusals it has after `Worn`
     /// where there is no next moment; then nothing changes.
     pub fn shift_read_only(&mut self, page: u64) -> Result<(), Refused>
-        ensures does { IsTimed self.old.clock result
+        ensures effect { IsTimed self.old.clock result
             (Shifts R.keeps self.old.partition self.new.partition page (self.old.clock + 1) result) }
         ensures after { OnOk result (self.new ≡ with_partition self.old self.new.partition) }
-        ensures err { OnErr result (self.new ≡ self.old) }
+        ensures unchanged { OnErr result (self.new ≡ self.old) }
     {
         let Some(now) = next_moment(&self.clock) else {
             return Err(Refused::Worn);
@@ -35,10 +35,10 @@ impl<F: Functions, R: Receipt, H: Recorder<F>> Locked<F, R, H> {
     /// Moves Head, as [`fkv_partition::Partition::shift_head`] does, whose refusals it has after `Worn` where there is no
     /// next moment; then nothing changes.
     pub fn shift_head(&mut self, page: u64) -> Result<(), Refused>
-        ensures does { IsTimed self.old.clock result
+        ensures effect { IsTimed self.old.clock result
             (Evicts R.keeps self.old.partition self.new.partition page (self.old.clock + 1) result) }
         ensures after { OnOk result (self.new ≡ with_partition self.old self.new.partition) }
-        ensures err { OnErr result (self.new ≡ self.old) }
+        ensures unchanged { OnErr result (self.new ≡ self.old) }
     {
         let Some(now) = next_moment(&self.clock) else {
             return Err(Refused::Worn);
@@ -65,7 +65,7 @@ impl<F: Functions, R: Receipt, H: Recorder<F>> Locked<F, R, H> {
             (IfErr result (λ refused. (refused ≡ Refused.NotDue) ⊎ (refused ≡ Refused.NoMemory))) }
         ensures after { OnOk result
             (self.new ≡ with_partition self.old (at_moment self.old.partition (self.old.clock + 1))) }
-        ensures err { OnErr result (self.new ≡ self.old) }
+        ensures unchanged { OnErr result (self.new ≡ self.old) }
     {
         let Some(now) = next_moment(&self.clock) else {
             return Err(Refused::Worn);
@@ -82,11 +82,11 @@ impl<F: Functions, R: Receipt, H: Recorder<F>> Locked<F, R, H> {
     /// Takes in that the lowest page that is not flushed was written, as [`fkv_partition::Partition::flush_done`] does, whose
     /// refusals it has after `Worn` where there is no next moment; then nothing changes.
     pub fn flush_done(&mut self, written: Written<R>) -> Result<(), Refused>
-        ensures does { IsTimed self.old.clock result
+        ensures effect { IsTimed self.old.clock result
             (Flushes self.old.partition self.new.partition (R.stands written.receipt) written.bytes
             (self.old.clock + 1) result) }
         ensures after { OnOk result (self.new ≡ with_partition self.old self.new.partition) }
-        ensures err { OnErr result (self.new ≡ self.old) }
+        ensures unchanged { OnErr result (self.new ≡ self.old) }
     {
         let Some(now) = next_moment(&self.clock) else {
             return Err(Refused::Worn);

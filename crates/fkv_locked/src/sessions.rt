@@ -23,7 +23,7 @@ impl<F: Functions, R: Receipt, H: Recorder<F>> Locked<F, R, H> {
         ensures refused { IfErr result (λ why.
             ((why ≡ Refused.Worn) × ((self.old.enters ≡ 2 ^ 64 - 1) ⊎ (self.old.clock ≡ 2 ^ 64 - 1)))
             ⊎ Enters self.old.partition self.new.partition (self.old.clock + 1) (Err why)) }
-        ensures err { OnErr result (self.new ≡ self.old) }
+        ensures unchanged { OnErr result (self.new ≡ self.old) }
     {
         let Some(session) = self.enters.checked_add(1) else {
             return Err(Refused::Worn);
@@ -44,10 +44,10 @@ impl<F: Functions, R: Receipt, H: Recorder<F>> Locked<F, R, H> {
     /// Refreshes a session, as [`fkv_partition::Partition::refresh`] does, whose refusals it has after `Worn` where there is
     /// no next moment; then nothing changes.
     pub fn refresh(&mut self, seat: Seat) -> Result<(), Refused>
-        ensures does { IsTimed self.old.clock result
+        ensures effect { IsTimed self.old.clock result
             (Refreshes R.keeps self.old.partition self.new.partition seat.slot (self.old.clock + 1) result) }
         ensures after { OnOk result (self.new ≡ with_partition self.old self.new.partition) }
-        ensures err { OnErr result (self.new ≡ self.old) }
+        ensures unchanged { OnErr result (self.new ≡ self.old) }
     {
         let Some(now) = next_moment(&self.clock) else {
             return Err(Refused::Worn);
@@ -64,10 +64,10 @@ impl<F: Functions, R: Receipt, H: Recorder<F>> Locked<F, R, H> {
     /// Leaves a session, as [`fkv_partition::Partition::leave`] does, whose refusals it has after `Worn` where there is no
     /// next moment; then nothing changes.
     pub fn leave(&mut self, seat: Seat) -> Result<(), Refused>
-        ensures does { IsTimed self.old.clock result
+        ensures effect { IsTimed self.old.clock result
             (LeavesAll R.keeps self.old.partition self.new.partition seat.slot (self.old.clock + 1) result) }
         ensures after { OnOk result (self.new ≡ with_partition self.old self.new.partition) }
-        ensures err { OnErr result (self.new ≡ self.old) }
+        ensures unchanged { OnErr result (self.new ≡ self.old) }
     {
         let Some(now) = next_moment(&self.clock) else {
             return Err(Refused::Worn);

@@ -8,7 +8,7 @@ use Rattle.fkv_texts.specs.Text.{entry_at, last_of}
 abbrev pub IsSuperseded : {K V : Type 0} → (K → K → Ordering) → List (Entry K V) → Entry K V → Type 0
 IsSuperseded cmp text e = (e.value ≡ None) ⊎ (last_of cmp text e.key ≢ Some e)
 
--- each record below an address is spent
+-- each record below an address is superseded
 abbrev pub IsCleared : {K V : Type 0} → (K → K → Ordering) → List (Entry K V) → ℕ → Type 0
 IsCleared {K} {V} cmp text limit =
     (e : Entry K V) → entry_at text e.address ≡ Some e → e.address < limit → IsSuperseded cmp text e

@@ -161,7 +161,7 @@ truncated keeps v begin = record v {
   words = map (map (swept begin)) v.words;
 }
 
--- no room: the next record would begin a page whose frame has one that is not closed
+-- no room: the next record needs a page whose frame is still in use
 pub record IsFull {K V : Type 0} (v : RecordsView K V) : Type 0 where
   pub more : v.tail < 2 ^ 48
   pub begins : offset_at v.page_bits v.tail ≡ 0

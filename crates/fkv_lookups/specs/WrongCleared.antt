@@ -1,4 +1,4 @@
--- What is spent and cleared on small texts: keys and values are numbers.
+-- What is superseded and cleared on small texts: keys and values are numbers.
 use Rattle.std.specs.Prelude.{ℕ, List, [], ◌∷◌, Option, Some, None}
 use Rattle.std.specs.Ordering.{nat_cmp}
 use Rattle.fkv_texts.specs.declared.entries.Entry.{Entry}
@@ -12,17 +12,17 @@ written_twice v w = entry 64 1 3 v ∷ entry 96 64 3 (Some w) ∷ []
 abbrev pub written_once : ℕ → Option ℕ → List (Entry ℕ ℕ)
 written_once v w = entry 64 1 3 (Some v) ∷ entry 96 1 4 w ∷ []
 
--- of two records of a key the first is spent, and the last is not where it has a value
+-- of two records of a key the first is superseded, and the last is not where it has a value
 abbrev pub LastIsNotSpent : Type 0
 LastIsNotSpent = (v : Option ℕ) (w : ℕ)
     → IsSuperseded nat_cmp (written_twice v w) (entry 64 1 3 v)
     × (IsSuperseded nat_cmp (written_twice v w) (entry 96 64 3 (Some w)) → ⊥)
 
--- a tombstone is spent, the last of its key too
+-- a tombstone is superseded, the last of its key too
 abbrev pub TombstoneIsSpent : Type 0
 TombstoneIsSpent = (v : ℕ) → IsSuperseded nat_cmp (written_once v None) (entry 96 1 4 None)
 
--- a text is cleared up to its first record that is not spent, and no further
+-- a text is cleared up to its first record that is not superseded, and no further
 abbrev pub ClearsNoLast : Type 0
 ClearsNoLast = (v : ℕ) (w : Option ℕ)
     → IsCleared nat_cmp (written_once v w) 64

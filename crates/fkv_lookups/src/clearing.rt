@@ -1,7 +1,7 @@
 //! Which records may be dropped: those that say nothing of their keys any more. Each law is what a function without a
 //! body ensures.
 //!
-//! A text is cleared up to an address where each record below is spent. Whoever copies each record that is not to the
+//! A text is cleared up to an address where each record below is superseded. Whoever copies each record that is not to the
 //! tail, the lowest first, clears the text so far; and once it is cleared, dropping what lies below takes no key's
 //! value.
 ghost use Rattle.std.specs.Prelude.{◌≡◌, ◌<◌, ◌≤◌, ℕ, Bool, Option, Some};
@@ -35,7 +35,7 @@ pub fn cleared_stay<K, V>()
         → IsTraced keeps code v
         → IsCleared cmp v.text limit
         → IsCleared cmp (text_from low v.text) limit }
-    // where the record at the limit is spent too, the limit goes on to the next place
+    // where the record at the limit is superseded too, the limit goes on to the next place
     ensures raised { (keeps : Bool) (cmp : K → K → Ordering) (code : K → ℕ) (v : RecordsView K V) (limit : ℕ)
         → IsTraced keeps code v
         → IsRecordStart v.page_bits v.record_size limit
@@ -43,7 +43,7 @@ pub fn cleared_stay<K, V>()
         → IsCleared cmp v.text limit
         → ((e : Entry K V) → entry_at v.text limit ≡ Some e → IsSuperseded cmp v.text e)
         → IsCleared cmp v.text (tail_after v.page_bits v.record_size limit) }
-    // a record is spent once its key and its value are appended again
+    // a record is superseded once its key and its value are appended again
     ensures renewed { (keeps : Bool) (cmp : K → K → Ordering) (code : K → ℕ) (v : RecordsView K V) (entry : IndexEntry)
         (limit : ℕ) (e : Entry K V)
         → IsKeyOrder cmp
@@ -70,7 +70,7 @@ pub fn cleared_stay<K, V>()
         → Same (live cmp (text_from low v.text)) (live cmp v.text) }
 {}
 
-/// What is spent and cleared, and what is not, shown on small texts.
+/// What is superseded and cleared, and what is not, shown on small texts.
 pub fn wrong_cleared()
     ensures last { LastIsNotSpent }
     ensures tombstone { TombstoneIsSpent }

@@ -14,7 +14,7 @@ pub(crate) fn put<K: FixedKey, V: Fixed>(
 ) -> Result<(), Refused>
     ensures ok { OnOk result (Same (get K.cmp map.new) (with_at K.cmp (get K.cmp map.old) key value)) }
     ensures only { IfErr result (λ refused. refused ≡ Refused.NoMemory) }
-    ensures err { OnErr result (Same (get K.cmp map.new) (get K.cmp map.old)) }
+    ensures unchanged { OnErr result (Same (get K.cmp map.new) (get K.cmp map.old)) }
 {
     match value {
         None => {

@@ -172,7 +172,7 @@ impl<F: Functions, R: Receipt> Records<F, R> {
         ensures entries { SameEntries self.old.words self.new.words }
         ensures only { IfErr result (λ refused. refused ≡ Refused.NoMemory) }
         ensures full { OnErr result (list_any is_empty (words_of self.old.words class.bucket) ≡ false) }
-        ensures err { OnErr result (self.new ≡ self.old) }
+        ensures unchanged { OnErr result (self.new ≡ self.old) }
     {
         let place = match self.index.probe(class.bucket) {
             Err(refused) => return Err(refused),
@@ -229,7 +229,7 @@ impl<F: Functions, R: Receipt> Records<F, R> {
         ensures full { result ≡ Ok None → self.new ≡ self.old }
         ensures worn { (result ≡ Err Refused.Worn) ↔ (self.old.tail ≡ 2 ^ 48) }
         ensures only { IfErr result (λ refused. refused ≡ Refused.Worn) }
-        ensures err { OnErr result (self.new ≡ self.old) }
+        ensures unchanged { OnErr result (self.new ≡ self.old) }
     {
         chains::<F::Key, F::Value, Class>();
         self.log.known();
@@ -244,7 +244,7 @@ impl<F: Functions, R: Receipt> Records<F, R> {
         Ok(Some(address))
     }
 
-    /// Whether the next record would begin a page whose frame has one that is not closed.
+    /// Whether the next record needs a page whose frame is still in use.
     pub fn is_full(&self) -> bool
         ensures { IsTrue result ↔ IsFull self.now }
     {

@@ -41,7 +41,7 @@ impl Clock {
         ensures given { IfOk result (λ moment. self.new ≡ moment) }
         ensures worn { (result ≡ Err Refused.Worn) ↔ (self.old ≡ 2 ^ 64 - 1) }
         ensures only { IfErr result (λ refused. refused ≡ Refused.Worn) }
-        ensures err { OnErr result (self.new ≡ self.old) }
+        ensures unchanged { OnErr result (self.new ≡ self.old) }
     {
         match self.last.checked_add(1) {
             None => Err(Refused::Worn),
@@ -59,7 +59,7 @@ impl Clock {
         ensures given { IfOk result (λ moments. self.new ≡ moments.1) }
         ensures worn { (result ≡ Err Refused.Worn) ↔ (2 ^ 64 ≤ self.old + 2) }
         ensures only { IfErr result (λ refused. refused ≡ Refused.Worn) }
-        ensures err { OnErr result (self.new ≡ self.old) }
+        ensures unchanged { OnErr result (self.new ≡ self.old) }
     {
         let Some(moment) = self.last.checked_add(2) else {
             return Err(Refused::Worn);

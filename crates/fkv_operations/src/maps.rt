@@ -13,7 +13,7 @@ pub(crate) fn give<K: FixedKey, V: Fixed>(
     value: V,
 ) -> Result<(), Refused>
     ensures ok { OnOk result (Same (get K.cmp map.new) (with_at K.cmp (get K.cmp map.old) key (Some value))) }
-    ensures err { OnErr result (Same (get K.cmp map.new) (get K.cmp map.old)) }
+    ensures unchanged { OnErr result (Same (get K.cmp map.new) (get K.cmp map.old)) }
     ensures only { IfErr result (λ refused. refused ≡ Refused.NoMemory) }
 {
     match map.insert(key, value) {

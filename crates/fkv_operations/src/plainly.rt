@@ -44,7 +44,7 @@ pub fn apply_plainly<F: Functions>(
     ensures map { IfOk result
         (λ _. Same (get F.Key.cmp map.new) (after F.Key.cmp F.meaning (get F.Key.cmp map.old) op)) }
     ensures answer { IfOk result (λ told. told ≡ answer F.meaning (get F.Key.cmp map.old) op) }
-    ensures err { OnErr result (Same (get F.Key.cmp map.new) (get F.Key.cmp map.old)) }
+    ensures unchanged { OnErr result (Same (get F.Key.cmp map.new) (get F.Key.cmp map.old)) }
     ensures only { IfErr result (λ refused. refused ≡ Refused.NoMemory) }
 {
     match op {
@@ -75,7 +75,7 @@ fn update_plainly<F: Functions>(
     ensures map { IfOk result
         (λ _. Same (get F.Key.cmp map.new) (after F.Key.cmp F.meaning (get F.Key.cmp map.old) (KeyedOp.Rmw key input))) }
     ensures answer { IfOk result (λ told. told ≡ answer F.meaning (get F.Key.cmp map.old) (KeyedOp.Rmw key input)) }
-    ensures err { OnErr result (Same (get F.Key.cmp map.new) (get F.Key.cmp map.old)) }
+    ensures unchanged { OnErr result (Same (get F.Key.cmp map.new) (get F.Key.cmp map.old)) }
     ensures only { IfErr result (λ refused. refused ≡ Refused.NoMemory) }
 {
     let held = map.get(&key).copied();

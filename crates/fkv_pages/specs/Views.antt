@@ -42,7 +42,7 @@ empty_pages bits frames = record {
   text = [];
 }
 
--- no room: the next record would begin a page whose frame has one that is not closed
+-- no room: the next record needs a page whose frame is still in use
 pub record IsFull {K V : Type 0} (pages : PagesView K V) : Type 0 where
   pub more : pages.tail < 2 ^ 48
   pub begins : offset_at pages.bits pages.tail ≡ 0

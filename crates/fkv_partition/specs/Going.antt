@@ -1,5 +1,5 @@
 -- What `go_on` does with a relocation: nothing is open; or it waits for a page; or its place was cleared meanwhile; or its
--- record is read, in memory or from the device, and weighed; or its last part is tried again.
+-- record is read, in memory or from the device, and checked; or its last part is tried again.
 use Rattle.std.specs.Prelude.{◌≡◌, ◌<◌, ◌≤◌, ℕ, Bool, false, Option, Some, None, Result, Ok, Err, is_some}
 use Rattle.std.specs.declared.cmp.Ordering.{Ordering}
 use Rattle.fkv_functions.specs.declared.refusals.Refused.{Refused}

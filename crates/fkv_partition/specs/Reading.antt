@@ -85,7 +85,7 @@ pub data LoadsOn {K V I O R : Type 0} (stands : R → Standing) (spells : ℕ �
       → new ≡ old
       → result ≡ Err (Stranger what.Receipt s.number (stands p.receipt).number)
       → LoadsOn stands spells cmp code old new slot c came now result
-  -- it is the page of its place: the record that the bytes spell there is weighed, or they spell none, and the relocation
+  -- it is the page of its place: the record that the bytes spell there is checked, or they spell none, and the relocation
   -- ends without effect
   checks : (x : Relocation K V) (begin : ℕ) (p : Joined R) (e : Entry K V)
       → x.stage ≡ Reading begin

@@ -1,4 +1,4 @@
--- What every compacted partition keeps: each record below `cleared` is spent, and each open relocation stands for what its
+-- What every compacted partition keeps: each record below `cleared` is superseded, and each open relocation stands for what its
 -- stage says.
 use Rattle.std.specs.Prelude.{◌≡◌, ◌+◌, ◌*◌, ◌^◌, ◌<◌, ◌≤◌, ℕ, Bool, IsTrue, true, length, Some, None, slice_get}
 use Rattle.std.specs.declared.cmp.Ordering.{Ordering}

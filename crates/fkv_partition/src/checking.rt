@@ -35,11 +35,11 @@ impl<F: Functions, R: Receipt> Partition<F, R> {
         requires stands { entry.address ≡ relocation.now.target }
         requires begun { self.old.core.records.begin ≤ relocation.now.target }
         requires is { IsTrue R.keeps → entry_at self.old.core.records.text relocation.now.target ≡ Some entry }
-        ensures does { ChecksLiveness R.stands F.Key.cmp F.code self.old self.new slot context relocation.now entry now
+        ensures effect { ChecksLiveness R.stands F.Key.cmp F.code self.old self.new slot context relocation.now entry now
             result }
         ensures event { IfOk result (λ _. IsRelocating R.keeps F.Key.cmp self.old self.new slot context now) }
         ensures cleared { result ≡ Ok (Progress.Done Answer.Cleared now) → relocation.now.target < self.new.cleared }
-        ensures err { OnErr result (self.new ≡ self.old) }
+        ensures unchanged { OnErr result (self.new ≡ self.old) }
         ensures moment { self.new.core.moment ≤ now }
     {
         self.known();
@@ -87,11 +87,11 @@ impl<F: Functions, R: Receipt> Partition<F, R> {
         requires leads { entry_for F.code self.old.core entry.key ≡ Some (address_of kept.word) }
         requires entry_stands { IsEntryOf self.old.core.records
             (class_in F.code self.old.core.records entry.key) kept }
-        ensures does { ChecksLiveness R.stands F.Key.cmp F.code self.old self.new slot context relocation.now entry now
+        ensures effect { ChecksLiveness R.stands F.Key.cmp F.code self.old self.new slot context relocation.now entry now
             result }
         ensures event { IfOk result (λ _. IsRelocating R.keeps F.Key.cmp self.old self.new slot context now) }
         ensures cleared { result ≡ Ok (Progress.Done Answer.Cleared now) → relocation.now.target < self.new.cleared }
-        ensures err { OnErr result (self.new ≡ self.old) }
+        ensures unchanged { OnErr result (self.new ≡ self.old) }
         ensures moment { self.new.core.moment ≤ now }
     {
         self.known();

@@ -31,13 +31,13 @@ impl<F: Functions, R: Receipt> Partition<F, R> {
         now: u64,
     ) -> Result<usize, Refused>
         requires later { self.old.core.moment < now }
-        ensures does { IssuesOnKey F.code self.old self.new slot op now result }
+        ensures effect { IssuesOnKey F.code self.old self.new slot op now result }
         ensures rest { self.new ≡ with_core self.old self.new.core }
         ensures event { IfOk result
             (λ context. IsIssue F.code self.old.core self.new.core slot context op now) }
         ensures closed { IfOk result (λ context. relocation_at self.old slot context ≡ None) }
         ensures within { IfOk result (λ context. (slot < 16) × (context < 8)) }
-        ensures err { OnErr result (self.new ≡ self.old) }
+        ensures unchanged { OnErr result (self.new ≡ self.old) }
         ensures moment { self.new.core.moment ≤ now }
     {
         events_preserve::<F::Key, F::Value, F::Input, F::Output, R>();
@@ -75,13 +75,13 @@ impl<F: Functions, R: Receipt> Partition<F, R> {
         now: u64,
     ) -> Result<ProgressOf<F, R>, Refused>
         requires later { self.old.core.moment < now }
-        ensures does { Goes R.stands F.Key.cmp F.meaning F.code self.old.core self.new.core
+        ensures effect { Goes R.stands F.Key.cmp F.meaning F.code self.old.core self.new.core
             slot context now result }
         ensures rest { self.new ≡ with_core self.old self.new.core }
         ensures event { IfOk result (λ progress.
             IsEvent F.Key.cmp F.meaning self.old.core self.new.core slot context now progress) }
         ensures within { IfOk result (λ _. (slot < 16) × (context < 8)) }
-        ensures err { OnErr result (self.new ≡ self.old) }
+        ensures unchanged { OnErr result (self.new ≡ self.old) }
         ensures moment { self.new.core.moment ≤ now }
     {
         events_preserve::<F::Key, F::Value, F::Input, F::Output, R>();
@@ -103,13 +103,13 @@ impl<F: Functions, R: Receipt> Partition<F, R> {
         now: u64,
     ) -> Result<ProgressOf<F, R>, Refused>
         requires later { self.old.core.moment < now }
-        ensures does { Installs F.Key.cmp F.meaning F.code self.old.core self.new.core
+        ensures effect { Installs F.Key.cmp F.meaning F.code self.old.core self.new.core
             slot context built now result }
         ensures rest { self.new ≡ with_core self.old self.new.core }
         ensures event { IsTrue R.keeps → IfOk result (λ progress.
             IsEvent F.Key.cmp F.meaning self.old.core self.new.core slot context now progress) }
         ensures within { IfOk result (λ _. (slot < 16) × (context < 8)) }
-        ensures err { OnErr result (self.new ≡ self.old) }
+        ensures unchanged { OnErr result (self.new ≡ self.old) }
         ensures moment { self.new.core.moment ≤ now }
     {
         events_preserve::<F::Key, F::Value, F::Input, F::Output, R>();
@@ -130,7 +130,7 @@ impl<F: Functions, R: Receipt> Partition<F, R> {
         now: u64,
     ) -> Result<ProgressOf<F, R>, Refused>
         requires later { self.old.core.moment < now }
-        ensures does { Loads R.stands (IsEntryIn F.Key.bytes_of F.Value.bytes_of F.Key.is_known F.Value.is_known
+        ensures effect { Loads R.stands (IsEntryIn F.Key.bytes_of F.Value.bytes_of F.Key.is_known F.Value.is_known
             F.Key.SIZE F.Value.SIZE) F.Key.cmp F.meaning self.old.core self.new.core
             slot context came now result }
         ensures rest { self.new ≡ with_core self.old self.new.core }
@@ -155,11 +155,11 @@ impl<F: Functions, R: Receipt> Partition<F, R> {
         now: u64,
     ) -> Result<(), Refused>
         requires later { self.old.core.moment < now }
-        ensures does { GivesUp self.old.core self.new.core slot context now result }
+        ensures effect { GivesUp self.old.core self.new.core slot context now result }
         ensures rest { self.new ≡ with_core self.old self.new.core }
         ensures event { OnOk result (IsGiveUp self.old.core self.new.core slot context now) }
         ensures within { OnOk result ((slot < 16) × (context < 8)) }
-        ensures err { OnErr result (self.new ≡ self.old) }
+        ensures unchanged { OnErr result (self.new ≡ self.old) }
         ensures moment { self.new.core.moment ≤ now }
     {
         events_preserve::<F::Key, F::Value, F::Input, F::Output, R>();
@@ -174,11 +174,11 @@ impl<F: Functions, R: Receipt> Partition<F, R> {
     /// stalled at the moment that stands. Refused, and then nothing changes: `Unknown` where no operation on a key is open
     /// there.
     pub fn abandon(&mut self, slot: usize, context: usize) -> Result<(), Refused>
-        ensures does { GivesUp self.old.core self.new.core slot context self.old.core.moment result }
+        ensures effect { GivesUp self.old.core self.new.core slot context self.old.core.moment result }
         ensures rest { self.new ≡ with_core self.old self.new.core }
         ensures event { OnOk result (IsGiveUp self.old.core self.new.core slot context self.old.core.moment) }
         ensures within { OnOk result ((slot < 16) × (context < 8)) }
-        ensures err { OnErr result (self.new ≡ self.old) }
+        ensures unchanged { OnErr result (self.new ≡ self.old) }
         ensures moment { self.new.core.moment ≤ self.old.core.moment }
     {
         events_preserve::<F::Key, F::Value, F::Input, F::Output, R>();

@@ -32,13 +32,13 @@ impl<F: Functions, R: Receipt> Partition<F, R> {
         now: u64,
     ) -> Result<usize, Refused>
         requires later { self.old.core.moment < now }
-        ensures does { Issues F.code self.old self.new slot op now result }
+        ensures effect { Issues F.code self.old self.new slot op now result }
         ensures event { IfOk result (λ context. IsIssue F.code self.old self.new slot context op now) }
         ensures relocating { op ≡ Relocate → IfOk result (λ context.
             IsRelocating R.keeps F.Key.cmp self.old self.new slot context now) }
         ensures pends { IsTrue R.keeps → AllPend F.Key.cmp self.old.core self.new.core }
         ensures within { IfOk result (λ context. (slot < 16) × (context < 8)) }
-        ensures err { OnErr result (self.new ≡ self.old) }
+        ensures unchanged { OnErr result (self.new ≡ self.old) }
         ensures moment { self.new.core.moment ≤ now }
     {
         pendings_stay::<F::Key, F::Value, F::Input, F::Output, R>();
@@ -77,7 +77,7 @@ impl<F: Functions, R: Receipt> Partition<F, R> {
         now: u64,
     ) -> Result<ProgressOf<F, R>, Refused>
         requires later { self.old.core.moment < now }
-        ensures does { Goes R.stands F.Key.cmp F.meaning F.code self.old self.new slot context now result }
+        ensures effect { Goes R.stands F.Key.cmp F.meaning F.code self.old self.new slot context now result }
         // of an operation on a key also where the device does not keep
         ensures on_key { relocation_at self.old slot context ≡ None → IfOk result (λ progress.
             key_effect.IsEvent F.Key.cmp F.meaning self.old.core self.new.core slot context now progress) }
@@ -92,7 +92,7 @@ impl<F: Functions, R: Receipt> Partition<F, R> {
         ensures cleared { result ≡ Ok (Done Cleared now)
             → IfSome (relocation_at self.old slot context) (λ x. x.target < self.new.cleared) }
         ensures within { IfOk result (λ _. (slot < 16) × (context < 8)) }
-        ensures err { OnErr result (self.new ≡ self.old) }
+        ensures unchanged { OnErr result (self.new ≡ self.old) }
         ensures moment { self.new.core.moment ≤ now }
     {
         pendings_stay::<F::Key, F::Value, F::Input, F::Output, R>();
@@ -117,14 +117,14 @@ impl<F: Functions, R: Receipt> Partition<F, R> {
         now: u64,
     ) -> Result<ProgressOf<F, R>, Refused>
         requires later { self.old.core.moment < now }
-        ensures does { Installs F.Key.cmp F.meaning F.code self.old self.new slot context built now result }
+        ensures effect { Installs F.Key.cmp F.meaning F.code self.old self.new slot context built now result }
         ensures event { IsTrue R.keeps → IfOk result (λ progress.
             IsEvent F.Key.cmp F.meaning self.old self.new slot context now progress) }
         ensures others { IsTrue R.keeps → OthersPend F.Key.cmp self.old.core self.new.core slot context }
         ensures finds { IsTrue R.keeps → IfOk result (λ progress.
             Finds F.Key.cmp self.old self.new slot context now progress) }
         ensures within { IfOk result (λ _. (slot < 16) × (context < 8)) }
-        ensures err { OnErr result (self.new ≡ self.old) }
+        ensures unchanged { OnErr result (self.new ≡ self.old) }
         ensures moment { self.new.core.moment ≤ now }
     {
         pendings_stay::<F::Key, F::Value, F::Input, F::Output, R>();
@@ -159,7 +159,7 @@ impl<F: Functions, R: Receipt> Partition<F, R> {
         now: u64,
     ) -> Result<ProgressOf<F, R>, Refused>
         requires later { self.old.core.moment < now }
-        ensures does { Loads R.stands (IsEntryIn F.Key.bytes_of F.Value.bytes_of F.Key.is_known F.Value.is_known
+        ensures effect { Loads R.stands (IsEntryIn F.Key.bytes_of F.Value.bytes_of F.Key.is_known F.Value.is_known
             F.Key.SIZE F.Value.SIZE) F.Key.cmp F.meaning F.code self.old self.new slot context came now result }
         // on a device that keeps, what comes of it is what the look-up was to find
         ensures event { IsTrue R.keeps → IfOk result (λ progress.
@@ -186,11 +186,11 @@ impl<F: Functions, R: Receipt> Partition<F, R> {
     /// confirm is taken back. Refused, and then nothing changes: `Unknown` where nothing is open there.
     pub fn give_up(&mut self, slot: usize, context: usize, now: u64) -> Result<(), Refused>
         requires later { self.old.core.moment < now }
-        ensures does { GivesUp self.old self.new slot context now result }
+        ensures effect { GivesUp self.old self.new slot context now result }
         ensures event { OnOk result (IsGiveUp self.old self.new slot context now) }
         ensures others { OthersPend F.Key.cmp self.old.core self.new.core slot context }
         ensures within { OnOk result ((slot < 16) × (context < 8)) }
-        ensures err { OnErr result (self.new ≡ self.old) }
+        ensures unchanged { OnErr result (self.new ≡ self.old) }
         ensures moment { self.new.core.moment ≤ now }
     {
         pendings_stay::<F::Key, F::Value, F::Input, F::Output, R>();

@@ -31,10 +31,10 @@ impl<F: Functions, R: Receipt> Partition<F, R> {
     /// refusals it has.
     pub fn shift_read_only(&mut self, page: u64, now: u64) -> Result<(), Refused>
         requires later { self.old.core.moment < now }
-        ensures does { Shifts R.keeps self.old self.new page now result }
+        ensures effect { Shifts R.keeps self.old self.new page now result }
         ensures event { OnOk result (IsQuiet R.keeps self.old self.new now) }
         ensures pends { IsTrue R.keeps → AllPend F.Key.cmp self.old.core self.new.core }
-        ensures err { OnErr result (self.new ≡ self.old) }
+        ensures unchanged { OnErr result (self.new ≡ self.old) }
         ensures moment { self.new.core.moment ≤ now }
     {
         events_preserve::<F::Key, F::Value, F::Input, F::Output, R>();
@@ -49,10 +49,10 @@ impl<F: Functions, R: Receipt> Partition<F, R> {
     /// Moves Head to the start of a page, as [`fkv_core::Core::shift_head`] does, whose refusals it has.
     pub fn shift_head(&mut self, page: u64, now: u64) -> Result<(), Refused>
         requires later { self.old.core.moment < now }
-        ensures does { Evicts R.keeps self.old self.new page now result }
+        ensures effect { Evicts R.keeps self.old self.new page now result }
         ensures event { OnOk result (IsQuiet R.keeps self.old self.new now) }
         ensures pends { IsTrue R.keeps → AllPend F.Key.cmp self.old.core self.new.core }
-        ensures err { OnErr result (self.new ≡ self.old) }
+        ensures unchanged { OnErr result (self.new ≡ self.old) }
         ensures moment { self.new.core.moment ≤ now }
     {
         events_preserve::<F::Key, F::Value, F::Input, F::Output, R>();
@@ -100,7 +100,7 @@ impl<F: Functions, R: Receipt> Partition<F, R> {
         ensures passes { OnOk result (self.new ≡ at_moment self.old now) }
         ensures event { OnOk result (IsQuiet R.keeps self.old self.new now) }
         ensures pends { AllPend F.Key.cmp self.old.core self.new.core }
-        ensures err { OnErr result (self.new ≡ self.old) }
+        ensures unchanged { OnErr result (self.new ≡ self.old) }
         ensures moment { self.new.core.moment ≤ now }
     {
         let job = match self.core.flush_take(alloc) {
@@ -115,10 +115,10 @@ impl<F: Functions, R: Receipt> Partition<F, R> {
     /// whose refusals it has.
     pub fn flush_done(&mut self, written: Written<R>, now: u64) -> Result<(), Refused>
         requires later { self.old.core.moment < now }
-        ensures does { Flushes self.old self.new (R.stands written.receipt) written.bytes now result }
+        ensures effect { Flushes self.old self.new (R.stands written.receipt) written.bytes now result }
         ensures event { OnOk result (IsQuiet R.keeps self.old self.new now) }
         ensures pends { AllPend F.Key.cmp self.old.core self.new.core }
-        ensures err { OnErr result (self.new ≡ self.old) }
+        ensures unchanged { OnErr result (self.new ≡ self.old) }
         ensures moment { self.new.core.moment ≤ now }
     {
         events_preserve::<F::Key, F::Value, F::Input, F::Output, R>();
@@ -135,9 +135,9 @@ impl<F: Functions, R: Receipt> Partition<F, R> {
     /// Begin would not rise, or would pass Head, or what is cleared.
     pub fn truncate(&mut self, page: u64, now: u64) -> Result<(), Refused>
         requires later { self.old.core.moment < now }
-        ensures does { Truncates R.keeps self.old self.new page now result }
+        ensures effect { Truncates R.keeps self.old self.new page now result }
         ensures event { OnOk result (IsTruncation R.keeps F.Key.cmp self.old self.new page now) }
-        ensures err { OnErr result (self.new ≡ self.old) }
+        ensures unchanged { OnErr result (self.new ≡ self.old) }
         ensures moment { self.new.core.moment ≤ now }
     {
         cleared_stay::<F::Key, F::Value>();
@@ -156,14 +156,14 @@ impl<F: Functions, R: Receipt> Partition<F, R> {
     /// changes: `NotDue` where Begin would not rise, or would pass Head.
     pub fn truncate_cleared(&mut self, now: u64) -> Result<Address, Refused>
         requires later { self.old.core.moment < now }
-        ensures does { Truncates R.keeps self.old self.new (page_at self.old.core.records.page_bits self.old.cleared)
+        ensures effect { Truncates R.keeps self.old self.new (page_at self.old.core.records.page_bits self.old.cleared)
             now (told_of result) }
         ensures begin { IfOk result (λ begin. (begin ≡ self.new.core.records.begin)
             × (begin ≡ start_at self.old.core.records.page_bits
             (page_at self.old.core.records.page_bits self.old.cleared))) }
         ensures event { OnOk result (IsTruncation R.keeps F.Key.cmp self.old self.new
             (page_at self.old.core.records.page_bits self.old.cleared) now) }
-        ensures err { OnErr result (self.new ≡ self.old) }
+        ensures unchanged { OnErr result (self.new ≡ self.old) }
         ensures moment { self.new.core.moment ≤ now }
     {
         let page = self.core.records().page_of(self.cleared);
@@ -211,7 +211,7 @@ impl<F: Functions, R: Receipt> Partition<F, R> {
         ensures others { IsTrue R.keeps → OnOk result ((k : F.Key)
             → partition_of self.now.core.count (F.code k) ≢ self.now.core.number
             → get F.Key.cmp map.new k ≡ get F.Key.cmp map.old k) }
-        ensures err { IsTrue R.keeps → OnErr result
+        ensures front { IsTrue R.keeps → OnErr result
             (HasFront F.Key.cmp (get F.Key.cmp map.old) (get F.Key.cmp map.new) self.now.core.records.text) }
         ensures steady { OnOk result (P.failures reader.new ≡ P.failures reader.old) }
         ensures refused { IfErr result (IsScanRefusal R.keeps

@@ -35,12 +35,12 @@ impl<F: Functions, R: Receipt> Partition<F, R> {
         now: u64,
     ) -> Result<ProgressOf<F, R>, Refused>
         requires later { self.old.core.moment < now }
-        ensures does { GoesOn R.stands F.Key.cmp F.code self.old self.new slot context now result }
+        ensures effect { GoesOn R.stands F.Key.cmp F.code self.old self.new slot context now result }
         ensures event { IfOk result (λ _. IsRelocating R.keeps F.Key.cmp self.old self.new slot context now) }
         ensures cleared { result ≡ Ok (Progress.Done Answer.Cleared now)
             → IfSome (relocation_at self.old slot context) (λ x. x.target < self.new.cleared) }
         ensures within { IfOk result (λ _. (slot < 16) × (context < 8)) }
-        ensures err { OnErr result (self.new ≡ self.old) }
+        ensures unchanged { OnErr result (self.new ≡ self.old) }
         ensures moment { self.new.core.moment ≤ now }
     {
         let Some(relocation) = self.relocation(slot, context) else {
@@ -77,10 +77,10 @@ impl<F: Functions, R: Receipt> Partition<F, R> {
         requires here { relocation_at self.old slot context ≡ Some relocation.now }
         requires fresh { relocation.now.stage ≡ Fresh }
         requires uncleared { relocation.now.target ≡ self.old.cleared }
-        ensures does { GoesOn R.stands F.Key.cmp F.code self.old self.new slot context now result }
+        ensures effect { GoesOn R.stands F.Key.cmp F.code self.old self.new slot context now result }
         ensures event { IfOk result (λ _. IsRelocating R.keeps F.Key.cmp self.old self.new slot context now) }
         ensures cleared { result ≡ Ok (Progress.Done Answer.Cleared now) → relocation.now.target < self.new.cleared }
-        ensures err { OnErr result (self.new ≡ self.old) }
+        ensures unchanged { OnErr result (self.new ≡ self.old) }
         ensures moment { self.new.core.moment ≤ now }
     {
         self.known();
@@ -118,11 +118,11 @@ impl<F: Functions, R: Receipt> Partition<F, R> {
         requires flushed { page_at self.old.core.records.page_bits wanted
             < length self.old.core.records.receipts }
         requires stands { StageStands R.keeps F.Key.cmp F.code self.old.core relocation.now.target stage }
-        ensures does { Asks R.stands self.old self.new
+        ensures effect { Asks R.stands self.old self.new
             (with_relocation self.old slot context (Some (at_stage relocation.now stage)) now) wanted result }
         ensures event { IfOk result (λ _. IsRelocating R.keeps F.Key.cmp self.old self.new slot context now) }
         ensures uncleared { result ≡ Ok (Progress.Done Answer.Cleared now) → ⊥ }
-        ensures err { OnErr result (self.new ≡ self.old) }
+        ensures unchanged { OnErr result (self.new ≡ self.old) }
         ensures moment { self.new.core.moment ≤ now }
     {
         let page = self.core.records().page_of(wanted);
@@ -151,10 +151,10 @@ impl<F: Functions, R: Receipt> Partition<F, R> {
         requires context { context < 8 }
         requires here { relocation_at self.old slot context ≡ Some relocation.now }
         requires stands { StageStands R.keeps F.Key.cmp F.code self.old.core relocation.now.target (Ready entry kept) }
-        ensures does { Ends self.old self.new slot context relocation.now entry kept now result }
+        ensures effect { Ends self.old self.new slot context relocation.now entry kept now result }
         ensures event { IfOk result (λ _. IsRelocating R.keeps F.Key.cmp self.old self.new slot context now) }
         ensures cleared { result ≡ Ok (Progress.Done Answer.Cleared now) → relocation.now.target < self.new.cleared }
-        ensures err { OnErr result (self.new ≡ self.old) }
+        ensures unchanged { OnErr result (self.new ≡ self.old) }
         ensures moment { self.new.core.moment ≤ now }
     {
         events_preserve::<F::Key, F::Value, F::Input, F::Output, R>();

@@ -19,11 +19,11 @@ impl<F: Functions, R: Receipt> Partition<F, R> {
     /// nothing changes: `NoSlot` where sixteen sessions are entered.
     pub fn enter(&mut self, now: u64) -> Result<usize, Refused>
         requires later { self.old.core.moment < now }
-        ensures does { Enters self.old self.new now result }
+        ensures effect { Enters self.old self.new now result }
         ensures event { IfOk result (λ _. IsQuiet R.keeps self.old self.new now) }
         ensures pends { AllPend F.Key.cmp self.old.core self.new.core }
         ensures within { IfOk result (λ slot. slot < 16) }
-        ensures err { OnErr result (self.new ≡ self.old) }
+        ensures unchanged { OnErr result (self.new ≡ self.old) }
         ensures moment { self.new.core.moment ≤ now }
     {
         events_preserve::<F::Key, F::Value, F::Input, F::Output, R>();
@@ -40,10 +40,10 @@ impl<F: Functions, R: Receipt> Partition<F, R> {
     /// that of no session.
     pub fn refresh(&mut self, slot: usize, now: u64) -> Result<(), Refused>
         requires later { self.old.core.moment < now }
-        ensures does { Refreshes R.keeps self.old self.new slot now result }
+        ensures effect { Refreshes R.keeps self.old self.new slot now result }
         ensures event { OnOk result (IsQuiet R.keeps self.old self.new now) }
         ensures pends { IsTrue R.keeps → AllPend F.Key.cmp self.old.core self.new.core }
-        ensures err { OnErr result (self.new ≡ self.old) }
+        ensures unchanged { OnErr result (self.new ≡ self.old) }
         ensures moment { self.new.core.moment ≤ now }
     {
         events_preserve::<F::Key, F::Value, F::Input, F::Output, R>();
@@ -60,10 +60,10 @@ impl<F: Functions, R: Receipt> Partition<F, R> {
     /// open.
     pub fn leave(&mut self, slot: usize, now: u64) -> Result<(), Refused>
         requires later { self.old.core.moment < now }
-        ensures does { LeavesAll R.keeps self.old self.new slot now result }
+        ensures effect { LeavesAll R.keeps self.old self.new slot now result }
         ensures event { OnOk result (IsQuiet R.keeps self.old self.new now) }
         ensures pends { IsTrue R.keeps → AllPend F.Key.cmp self.old.core self.new.core }
-        ensures err { OnErr result (self.new ≡ self.old) }
+        ensures unchanged { OnErr result (self.new ≡ self.old) }
         ensures moment { self.new.core.moment ≤ now }
     {
         events_preserve::<F::Key, F::Value, F::Input, F::Output, R>();
@@ -83,11 +83,11 @@ impl<F: Functions, R: Receipt> Partition<F, R> {
     /// where the address does not lie below what the session sees as safely read-only, `NoContext`.
     pub(crate) fn relocate(&mut self, slot: usize, now: u64) -> Result<usize, Refused>
         requires later { self.old.core.moment < now }
-        ensures does { Relocates self.old self.new slot now result }
+        ensures effect { Relocates self.old self.new slot now result }
         ensures event { IfOk result (λ context. IsRelocating R.keeps F.Key.cmp self.old self.new slot context now) }
         ensures within { IfOk result (λ context. (slot < 16) × (context < 8)) }
         ensures closed { IfOk result (λ context. relocation_at self.old slot context ≡ None) }
-        ensures err { OnErr result (self.new ≡ self.old) }
+        ensures unchanged { OnErr result (self.new ≡ self.old) }
         ensures moment { self.new.core.moment ≤ now }
     {
         self.core.known();
@@ -120,10 +120,10 @@ impl<F: Functions, R: Receipt> Partition<F, R> {
         now: u64,
     ) -> Result<(), Refused>
         requires later { self.old.core.moment < now }
-        ensures does { Drops self.old self.new slot context now result }
+        ensures effect { Drops self.old self.new slot context now result }
         ensures event { OnOk result (IsRelocating R.keeps F.Key.cmp self.old self.new slot context now) }
         ensures within { OnOk result ((slot < 16) × (context < 8)) }
-        ensures err { OnErr result (self.new ≡ self.old) }
+        ensures unchanged { OnErr result (self.new ≡ self.old) }
         ensures moment { self.new.core.moment ≤ now }
     {
         let Some(_relocation) = self.relocation(slot, context) else {

@@ -90,7 +90,7 @@ impl Regions {
         ensures slot { result ≡ ok_or (free_slot self.old.epochs) Refused.NoSlot }
         ensures effect { IfOk result (λ slot. self.new ≡ entered self.old slot) }
         ensures moved { IsMoved self.old self.new self.old.offsets.read_only }
-        ensures refused { OnErr result (self.new ≡ self.old) }
+        ensures unchanged { OnErr result (self.new ≡ self.old) }
     {
         self.epochs.known();
         let slot = self.epochs.enter()?;
@@ -184,7 +184,7 @@ impl Regions {
         ensures full { (result ≡ Err Refused.DrainFull)
             ↔ (IsReadOnlyDue self.old page tail × (16 ≤ length self.old.epochs.waiting)) }
         ensures only { IfErr result (λ why. (why ≡ Refused.NotDue) ⊎ (why ≡ Refused.DrainFull)) }
-        ensures refused { OnErr result (self.new ≡ self.old) }
+        ensures unchanged { OnErr result (self.new ≡ self.old) }
     {
         if !self.is_read_only_due(page, tail) {
             return Err(Refused::NotDue);
@@ -208,7 +208,7 @@ impl Regions {
         ensures full { (result ≡ Err Refused.DrainFull)
             ↔ (IsHeadDue self.old page × (16 ≤ length self.old.epochs.waiting)) }
         ensures only { IfErr result (λ why. (why ≡ Refused.NotDue) ⊎ (why ≡ Refused.DrainFull)) }
-        ensures refused { OnErr result (self.new ≡ self.old) }
+        ensures unchanged { OnErr result (self.new ≡ self.old) }
     {
         if !self.is_head_due(page) {
             return Err(Refused::NotDue);

@@ -1,10 +1,11 @@
 -- What the words of a command line ask for. The first word is the program's name.
-use Rattle.std.specs.Prelude.{◌≡◌, ◌≢◌, ◌⊎◌, ⊤, true, ◌&&◌, ◌-◌, ◌^◌, ℕ, List, [], ◌∷◌, map, Option, Some, None, codes, nat_lt, option_map, string_bytes, if◌then◌else◌}
+use Rattle.std.specs.Prelude.{◌≡◌, ◌≢◌, ◌⊎◌, ⊤, Bool, true, false, ◌&&◌, ◌-◌, ◌^◌, ℕ, List, [], ◌∷◌, map, Option, Some, None, codes, nat_lt, option_map, string_bytes, if◌then◌else◌}
 use Rattle.std.specs.Str.{bytes_eq}
 use Rattle.std.specs.Option.{option_map_or}
 use Rattle.std.specs.Str.Parse.{digits_value, without_leading_plus}
 use Rattle.clap.specs.Words.{App, IsAmong, Row, Rule, all_of, fault_of, first_of, new_app, new_rule, subcommand_of, with_rule, with_subcommand}
 pub use Rattle.clap.specs.Words.{Text}
+use Rattle.clap.specs.declared.builder.action.ArgAction.TheVariants.{SetTrue}
 use Rattle.clap.specs.declared.builder.value_parser.ValueParser.TheVariants as parser
 use Rattle.clap.specs.declared.error.kind.ErrorKind.{ErrorKind}
 use Rattle.clap.specs.declared.error.kind.ErrorKind.TheVariants.{DisplayHelp, DisplayVersion, OutOfMemory}
@@ -42,6 +43,10 @@ memory_rule = record (new_rule (codes "memory")) { long = Some (codes "memory");
 abbrev pub dir_rule : Rule
 dir_rule = record (new_rule (codes "dir")) { long = Some (codes "dir"); value_names = 1 }
 
+-- an option with no value
+abbrev pub flag_rule : Text → Rule
+flag_rule name = record (new_rule name) { long = Some name; action = Some SetTrue }
+
 -- up to 64 paths
 abbrev pub feeds_rule : Rule
 feeds_rule = record (new_rule (codes "FEED")) { range = Some (record { start_inclusive = 0; end_inclusive = 64 }) }
@@ -57,9 +62,17 @@ numbered_app name =
     (free_number_rule (codes "page-bits") 8 20))
     (free_number_rule (codes "frames") 2 1024)
 
+-- the same, with how threads share its work
+abbrev pub shared_app : App → App
+shared_app app = with_rule (with_rule app (number_rule (codes "workers") 1 14 (codes "1"))) (flag_rule (codes "audit"))
+
+-- the same, with what it tells of its work
+abbrev pub told_app : App → App
+told_app app = with_rule (with_rule app (flag_rule (codes "stats"))) (flag_rule (codes "progress"))
+
 -- a subcommand that makes a table
 abbrev pub table_app : Text → App
-table_app name = with_rule (with_rule (with_rule (numbered_app name) memory_rule) dir_rule) feeds_rule
+table_app name = with_rule (with_rule (with_rule (told_app (shared_app (numbered_app name))) memory_rule) dir_rule) feeds_rule
 
 -- a program that has a version
 abbrev pub with_version : App → App
@@ -141,6 +154,27 @@ config_of (Some memory) rows =
 abbrev pub folder_of : List Row → Option Text
 folder_of rows = first_of (codes "dir") rows
 
+-- whether a flag is given, by its text
+abbrev pub is_set : Option Text → Bool
+is_set None = false
+is_set (Some text) = bytes_eq text (codes "true")
+
+-- how many workers read its feeds
+abbrev pub workers_of : List Row → ℕ
+workers_of rows = number_of (first_of (codes "workers") rows)
+
+-- whether its histories are kept
+abbrev pub audit_of : List Row → Bool
+audit_of rows = is_set (first_of (codes "audit") rows)
+
+-- whether what it did is told at its end
+abbrev pub stats_of : List Row → Bool
+stats_of rows = is_set (first_of (codes "stats") rows)
+
+-- whether its rows are told on the way
+abbrev pub progress_of : List Row → Bool
+progress_of rows = is_set (first_of (codes "progress") rows)
+
 -- the paths of its feeds
 abbrev pub paths_of : List Row → List Text
 paths_of rows = option_map_or (λ values. values) (all_of (codes "FEED") rows) []
@@ -150,6 +184,10 @@ abbrev pub IsTableBy : Option ℕ → List Row → TableRequest → Type 0
 IsTableBy memory rows table =
     (table.config ≡ config_of memory rows)
     × (option_map string_bytes table.folder ≡ folder_of rows)
+    × (table.workers ≡ workers_of rows)
+    × (table.audit ≡ audit_of rows)
+    × (table.stats ≡ stats_of rows)
+    × (table.progress ≡ progress_of rows)
     × (map string_bytes table.paths.items ≡ paths_of rows)
 
 -- a table is asked for by a subcommand, its options and its feeds

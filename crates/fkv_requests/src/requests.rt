@@ -15,6 +15,8 @@ ghost use Rattle.fkv_requests.specs.Requests.{
   memory_rule,
   feeds_rule,
   numbered_app,
+  shared_app,
+  told_app,
   table_app,
   table_named,
   dir_rule,
@@ -24,18 +26,29 @@ ghost use Rattle.fkv_requests.specs.Requests.{
   config_of,
   folder_of,
   paths_of,
+  flag_rule,
+  is_set,
+  workers_of,
+  audit_of,
+  stats_of,
+  progress_of,
 };
 
 use crate::memory::{bucket_bits_in, frames_in, page_bits_in, share_of, size_of};
 use clap::builder::ValueParser;
 use clap::error::ErrorKind;
-use clap::{Arg, ArgMatches, Command, Error};
+use clap::{Arg, ArgAction, ArgMatches, Command, Error};
 use fkv_functions::Refused;
 use fkv_partition::Config;
 use std::alloc::{AllocError, Global};
 
 /// The program's version. `fkv_commands` writes it behind the name.
 const VERSION: &str = "0.1.0";
+
+/// Two command lines, at the end of help.
+const EXAMPLES: &str = "Examples:
+  fkv_cli sum january.csv february.csv
+  fkv_cli count --workers 4 --memory 2G --dir pages *.csv";
 
 /// What is told of a size that can't be read.
 const BAD_SIZE: &str =
@@ -60,6 +73,14 @@ pub struct TableRequest {
     pub config: Config,
     /// The folder whose files keep its pages; with none they are kept in memory.
     pub folder: Option<String>,
+    /// How many workers read the feeds, each in a thread of its own: 1 to 14.
+    pub workers: u64,
+    /// Whether the history of each partition is kept, and compared at the end with what the workers were answered.
+    pub audit: bool,
+    /// Whether what the run did is told at its end.
+    pub stats: bool,
+    /// Whether the rows that were read so far are told on the way.
+    pub progress: bool,
     /// Where its feeds are; with none the one feed is standard input.
     pub paths: Vec<String>,
 }
@@ -173,6 +194,10 @@ fn table_by(
             shown,
             config,
             folder,
+            workers: number_by(options, "workers"),
+            audit: flag_by(options, "audit"),
+            stats: flag_by(options, "stats"),
+            progress: flag_by(options, "progress"),
             paths,
         })),
         Err(refused) => Err(refused),
@@ -215,6 +240,16 @@ fn number_by(options: &ArgMatches<'_>, id: &str) -> u64
     match text.parse::<u64>() {
         Ok(number) => number,
         Err(_) => u64::MAX,
+    }
+}
+
+/// Whether a flag is given.
+fn flag_by(options: &ArgMatches<'_>, id: &str) -> bool
+    ensures { result ≡ is_set (first_value (found_of options.now) id.now) }
+{
+    match options.get_str(id) {
+        None => false,
+        Some(text) => text == "true",
     }
 }
 
@@ -346,6 +381,26 @@ fn dir<'a>(alloc: Global) -> Arg<'a>
     )
 }
 
+/// How many workers read the feeds.
+fn workers<'a>(alloc: Global) -> Arg<'a>
+    ensures rule { rule_of result ≡ number_rule (codes "workers") 1 14 (codes "1") }
+    ensures local { result.global ≡ false }
+{
+    let help = "How many threads read the feeds, each some of them: 1 to 14";
+    number(alloc, "workers", 1, 14, help).default_value("1")
+}
+
+/// An option with no value.
+fn flag<'a>(alloc: Global, name: &'a str, help: &'a str) -> Arg<'a>
+    ensures rule { rule_of result ≡ flag_rule name.entry.now }
+    ensures local { result.global ≡ false }
+{
+    Arg::new(alloc, name)
+        .long(name)
+        .action(ArgAction::SetTrue)
+        .help(help)
+}
+
 /// The paths of the feeds.
 fn feeds<'a>(alloc: Global) -> Arg<'a>
     ensures rule { rule_of result ≡ feeds_rule }
@@ -391,6 +446,38 @@ fn numbered<'a>(
         ))
 }
 
+/// A subcommand, with how threads share its work.
+fn shared<'a>(alloc: Global, command: Command<'a>) -> Result<Command<'a>, AllocError>
+    requires { (out-Command command).has_globals ≡ false }
+    ensures { IfOk result (λ more. (app_of more ≡ shared_app (app_of command.entry))
+        × ((out-Command more).has_globals ≡ false)) }
+{
+    command.arg(workers(alloc))?.arg(flag(
+        alloc,
+        "audit",
+        "Keep every update, and check at the end that the table is what they come to",
+    ))
+}
+
+/// A subcommand, with what it tells of its work.
+fn told<'a>(alloc: Global, command: Command<'a>) -> Result<Command<'a>, AllocError>
+    requires { (out-Command command).has_globals ≡ false }
+    ensures { IfOk result (λ more. (app_of more ≡ told_app (app_of command.entry))
+        × ((out-Command more).has_globals ≡ false)) }
+{
+    command
+        .arg(flag(
+            alloc,
+            "stats",
+            "Tell on standard error, at the end, what the run did",
+        ))?
+        .arg(flag(
+            alloc,
+            "progress",
+            "Tell on standard error, at most once a second, how many rows were read",
+        ))
+}
+
 /// A subcommand that makes a table.
 fn table<'a>(
     alloc: Global,
@@ -400,7 +487,7 @@ fn table<'a>(
     ensures { IfOk result (λ command. (app_of command ≡ table_app name.now)
         × ((out-Command command).has_globals ≡ false)) }
 {
-    numbered(alloc, name, about)?
+    told(alloc, shared(alloc, numbered(alloc, name, about)?)?)?
         .arg(memory(alloc))?
         .arg(dir(alloc))?
         .arg(feeds(alloc))
@@ -423,6 +510,7 @@ fn named<'a>(alloc: Global) -> Command<'a>
     Command::new(alloc, "fkv_cli")
         .about("A proved key-value store for per-key state")
         .version(VERSION)
+        .after_help(EXAMPLES)
 }
 
 /// The program's command line.

@@ -130,7 +130,7 @@ impl<F: Functions, D: Disk, H: Recorder<F>> Pass<F, D, H> {
     /// Whether it is a pass of this store.
     pub(crate) fn known_to(&self, store: &Store<F, D, H>) -> Result<(), Refused>
         ensures ok { OnOk result (IsPassOf store.now self.now) }
-        ensures err { IfErr result (IsStrange store.now self.now) }
+        ensures refused { IfErr result (IsStrange store.now self.now) }
     {
         if self.store != store.id {
             return Err(Refused::Stranger {
@@ -174,7 +174,7 @@ impl<F: Functions, D: Disk, H: Recorder<F>> Pass<F, D, H> {
         ensures own { OnOk result (IsPassOf store.now self.old) }
         ensures worn { OnOk result (self.old.share < 2 ^ 64 - 1) }
         ensures only { IfErr result IsTold }
-        ensures err { OnErr result (self.new ≡ self.old) }
+        ensures unchanged { OnErr result (self.new ≡ self.old) }
     {
         match self.known_to(store) {
             Ok(()) => {}

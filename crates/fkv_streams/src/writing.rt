@@ -12,7 +12,7 @@ use fkv_functions::Refused;
 pub fn write_out<W: Sink>(writer: &mut W, bytes: &[u8]) -> Result<(), Refused>
     ensures ok { OnOk result (Appends (W.contents writer.old) (W.contents writer.new) bytes.now) }
     ensures only { IfErr result (λ refused. refused ≡ Refused.Unwritable) }
-    ensures err { OnErr result (AppendsPrefix (W.contents writer.old) (W.contents writer.new) bytes.now) }
+    ensures refused { OnErr result (AppendsPrefix (W.contents writer.old) (W.contents writer.new) bytes.now) }
     ensures out { OnOk result (W.is_out writer.new ≡ true) }
     ensures counted { CountsOnly Refused.Unwritable result (W.failures writer.old) (W.failures writer.new) }
 {

@@ -1,4 +1,4 @@
-//! A device in memory whose writers and readers are told when to go astray.
+//! A device in memory whose writers and readers are told when to answer wrongly.
 ghost use Rattle.std.specs.Prelude.{◌≡◌, length, IfOk, IfErr};
 ghost use Rattle.fkv_functions.specs.declared.refusals.Refused.TheVariants as refused;
 
@@ -137,7 +137,7 @@ impl PageReader for UnsureReader {
     }
 }
 
-/// A device in memory whose writers fail, and whose readers go astray, after so many pages.
+/// A device in memory whose writers fail, and whose readers answer wrongly, after so many pages.
 #[derive(Drop)]
 pub struct UnsureDevice {
     alloc: Global,

@@ -30,83 +30,136 @@ fn lines(alloc: Global, times: u64, amount: u64) -> Option<Vec<u8>> {
     Some(text)
 }
 
-/// What the sums of these rows come to over a device, or what they are refused by.
-fn summed<D: Disk>(alloc: Global, config: &Config, device: D) -> Result<Vec<u8>, Refused> {
-    let Some(feed) = lines(alloc, 2, 1) else {
+/// What the sums of a hundred keys, so many times over, come to over a device, or what they are refused by.
+fn summed<D: Disk>(
+    alloc: Global,
+    times: u64,
+    config: &Config,
+    device: D,
+) -> Result<Vec<u8>, Refused> {
+    let Some(feed) = lines(alloc, times, 1) else {
         return Err(Refused::NoMemory);
     };
     let mut reader = CountedReader::new(feed.as_slice());
-    let table = match run_alone(alloc, &mut reader, &SumFns, config, device) {
-        Ok(table) => table,
+    let run = match run_alone(alloc, &mut reader, &SumFns, config, device) {
+        Ok(run) => run,
         Err(refused) => return Err(refused),
     };
     let mut text = Vec::new(alloc);
-    match write_table(alloc, &table, &mut CountedWriter::new(&mut text)) {
+    match write_table(alloc, &run.table, &mut CountedWriter::new(&mut text)) {
         Ok(()) => Ok(text),
         Err(refused) => Err(refused),
     }
 }
 
-/// The pages that are written, and those that are read, before what happens then, and what the run is refused by. The
-/// first page has three records, and each after it four; the rows of the second hundred read them in order.
-const TURNS: [(u64, u64, Turn, Option<Refused>); 9] = [
-    (1_000, 1_000, Turn::Fails, None),
+/// How often the hundred keys come, the pages that are written, and those that are read, before what happens then, and what
+/// the run is refused by. The first page has three records, and each after it four; the rows of the second hundred read
+/// them in order. Where each key comes once no row reads a page, and the list of the table's keys reads them in order.
+const TURNS: [(u64, u64, u64, Turn, Option<Refused>); 14] = [
+    (2, 1_000, 1_000, Turn::Fails, None),
     (
+        2,
         0,
         1_000,
         Turn::Fails,
         Some(Refused::Device { code: 2, page: 0 }),
     ),
     (
+        2,
         3,
         1_000,
         Turn::Fails,
         Some(Refused::Device { code: 2, page: 3 }),
     ),
     (
+        2,
         20,
         1_000,
         Turn::Fails,
         Some(Refused::Device { code: 2, page: 20 }),
     ),
     (
+        2,
         1_000,
         0,
         Turn::Fails,
         Some(Refused::Device { code: 3, page: 0 }),
     ),
     (
+        2,
         1_000,
         2,
         Turn::Fails,
         Some(Refused::Device { code: 3, page: 0 }),
     ),
     (
+        2,
         1_000,
         5,
         Turn::Fails,
         Some(Refused::Device { code: 3, page: 1 }),
     ),
-    (1_000, 2, Turn::Clears, Some(Refused::Damaged { page: 0 })),
-    (1_000, 3, Turn::Clears, Some(Refused::Damaged { page: 1 })),
+    (
+        2,
+        1_000,
+        2,
+        Turn::Clears,
+        Some(Refused::Damaged { page: 0 }),
+    ),
+    (
+        2,
+        1_000,
+        3,
+        Turn::Clears,
+        Some(Refused::Damaged { page: 1 }),
+    ),
+    (1, 1_000, 1_000, Turn::Fails, None),
+    (
+        1,
+        1_000,
+        0,
+        Turn::Fails,
+        Some(Refused::Device { code: 3, page: 0 }),
+    ),
+    (
+        1,
+        1_000,
+        7,
+        Turn::Fails,
+        Some(Refused::Device { code: 3, page: 7 }),
+    ),
+    (
+        1,
+        1_000,
+        20,
+        Turn::Fails,
+        Some(Refused::Device { code: 3, page: 20 }),
+    ),
+    (
+        1,
+        1_000,
+        7,
+        Turn::Clears,
+        Some(Refused::Damaged { page: 7 }),
+    ),
 ];
 
 #[test]
 fn devices(rt: HostRuntime) {
-    for (writes, reads, turn, told) in TURNS {
+    for (times, writes, reads, turn, told) in TURNS {
         let mut device = UnsureDevice::new(rt.alloc());
         device.writes = writes;
         device.reads = reads;
         device.turn = turn;
-        let come = summed(rt.alloc(), &CONFIG, device);
+        let come = summed(rt.alloc(), times, &CONFIG, device);
         let wanted = match told {
             Some(refused) => Err(refused),
-            None => match lines(rt.alloc(), 1, 2) {
+            None => match lines(rt.alloc(), 1, times) {
                 Some(text) => Ok(text),
                 None => Err(Refused::NoMemory),
             },
         };
-        assert!(rt; come == wanted, "{writes} {reads}");
+        assert!(rt; come == wanted, "{times} {writes} {reads}");
     }
 }
 
@@ -139,7 +192,7 @@ const PARTED: Config = Config {
 fn files(rt: HostRuntime) -> Result<(), Fail> {
     let folder = String::from_str(rt.alloc(), "device_files/feeds")?;
     let device = FileDevice::new(rt.clone()?, rt.alloc(), folder, 8);
-    let come = summed(rt.alloc(), &PARTED, device);
+    let come = summed(rt.alloc(), 2, &PARTED, device);
     let wanted = match lines(rt.alloc(), 1, 2) {
         Some(text) => Ok(text),
         None => Err(Refused::NoMemory),

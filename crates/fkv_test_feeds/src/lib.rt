@@ -2,6 +2,8 @@
 #![tactic(auto)]
 
 #[cfg(test)]
+mod counts;
+#[cfg(test)]
 mod devices;
 #[cfg(test)]
 mod random;
@@ -11,3 +13,5 @@ mod rising;
 mod streams;
 #[cfg(test)]
 mod tables;
+#[cfg(test)]
+mod turns;

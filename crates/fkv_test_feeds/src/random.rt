@@ -54,11 +54,11 @@ fn is_folded(alloc: Global, seed: u64, rows: u64, keys: u64) -> bool {
     };
     let mut reader = CountedReader::new(feed.as_slice());
     let device = MemoryDevice::new(alloc);
-    let Ok(table) = run_alone(alloc, &mut reader, &SumFns, &CONFIG, device) else {
+    let Ok(run) = run_alone(alloc, &mut reader, &SumFns, &CONFIG, device) else {
         return false;
     };
     let mut text = Vec::new(alloc);
-    write_table(alloc, &table, &mut CountedWriter::new(&mut text)) == Ok(()) && text == wanted
+    write_table(alloc, &run.table, &mut CountedWriter::new(&mut text)) == Ok(()) && text == wanted
 }
 
 /// Rows, and the keys that they are drawn from.

@@ -70,7 +70,7 @@ fn written(alloc: Global, room: usize) -> (Result<(), Refused>, Vec<u8>) {
     ];
     let device = MemoryDevice::new(alloc);
     let told = match run_one(alloc, readers.as_mut_slice(), &SumFns, &CONFIG, device) {
-        Ok(table) => write_table(alloc, &table, &mut CountedWriter::new(&mut writer)),
+        Ok(run) => write_table(alloc, &run.table, &mut CountedWriter::new(&mut writer)),
         Err(refused) => Err(refused),
     };
     (told, writer.text)

@@ -57,12 +57,12 @@ where
         }
     }
     let device = MemoryDevice::new(alloc);
-    let table = match run_one(alloc, readers.as_mut_slice(), functions, config, device) {
-        Ok(table) => table,
+    let run = match run_one(alloc, readers.as_mut_slice(), functions, config, device) {
+        Ok(run) => run,
         Err(refused) => return Err(refused),
     };
     let mut text = Vec::new(alloc);
-    match write_table(alloc, &table, &mut CountedWriter::new(&mut text)) {
+    match write_table(alloc, &run.table, &mut CountedWriter::new(&mut text)) {
         Ok(()) => Ok(text),
         Err(refused) => Err(refused),
     }

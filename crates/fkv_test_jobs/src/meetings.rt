@@ -5,6 +5,7 @@ ghost use Rattle.fkv_functions.specs.declared.refusals.Refused.{Refused};
 use fkv_functions::Refused;
 use fkv_jobs::{Job, Keeper, run_jobs};
 use std::alloc::{AllocError, Global};
+use std::rt::Clock;
 use std::sync::Wait;
 use std::sync::atomic::{AtomicBool, AtomicU64, Ordering};
 use std::test::Fail;
@@ -138,7 +139,11 @@ fn jobs_of<'a>(alloc: Global, place: &'a Place, row: &Row) -> Result<Vec<Meet<'a
 }
 
 /// Whether a row's jobs meet and give their numbers in order, and the keeper ends as it says.
-fn comes_so<T: Threads + Wait + Sync>(rt: &T, alloc: Global, row: &Row) -> Result<bool, Refused> {
+fn comes_so<T: Threads + Wait + Clock + Sync>(
+    rt: &T,
+    alloc: Global,
+    row: &Row,
+) -> Result<bool, Refused> {
     let place = Place {
         begun: AtomicU64::new(0),
         turns: AtomicU64::new(0),

@@ -75,7 +75,7 @@ pub enum Call {
     Moment,
     /// Whether the live map has these pairs.
     Live(&'static [(u8, i128)]),
-    /// From now on the reader goes astray so, once, after so many pages.
+    /// From now on the reader answers wrongly so, once, after so many pages.
     Stray(u64, Turn),
     /// From now on the writer fails, once, after so many pages.
     FailWrite(u64),

@@ -1,4 +1,4 @@
-//! A partition of sums over a device that may go astray, with a clock of its own: each event is made at the next
+//! A partition of sums over a device that may answer wrongly, with a clock of its own: each event is made at the next
 //! moment, and once more where memory is refused to it.
 ghost use Rattle.std.specs.Prelude.{◌≤◌};
 

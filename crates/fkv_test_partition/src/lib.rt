@@ -3,7 +3,7 @@
 //!
 //! A worked run is a list of constant rows, each a call and what it tells. One interpreter (`driven`, `rows`) makes the calls
 //! and says which row tells something else; `lone` has a second one for operations that are made alone. The device is one
-//! of `fkv_test_devices`, which a row may send astray. No crate below is proved a second time for its tests.
+//! of `fkv_test_devices`, which a row may make answer wrongly. No crate below is proved a second time for its tests.
 #![tactic(auto)]
 
 #[cfg(test)]
@@ -28,6 +28,8 @@ mod lone;
 mod openings;
 #[cfg(test)]
 mod operations;
+#[cfg(test)]
+mod order;
 #[cfg(test)]
 mod random;
 #[cfg(test)]

@@ -1,4 +1,4 @@
-//! A partition of sums whose operations are made alone, over a device that may go astray, with a clock of its own: each event is
+//! A partition of sums whose operations are made alone, over a device that may answer wrongly, with a clock of its own: each event is
 //! made at the next moment, and each call once more where memory is refused to it.
 ghost use Rattle.std.specs.Prelude.{◌≡◌, ◌≤◌, ⊤};
 
@@ -25,7 +25,7 @@ pub enum Step {
     Load(usize, usize),
     /// Makes an operation alone, by at most so many events.
     Alone(usize, LetterOp, u64),
-    /// From now on the reader goes astray so, once, after so many pages.
+    /// From now on the reader answers wrongly so, once, after so many pages.
     Stray(u64, Turn),
 }
 

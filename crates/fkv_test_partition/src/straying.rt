@@ -136,7 +136,7 @@ const READS: [Row; 2] = [
     (Call::Do(0, Op::Read(b'h', 0)), Told::Done(Answer::Value(1))),
 ];
 
-/// The number of the first read that tells something else, where the reader goes astray so after one page.
+/// The number of the first read that tells something else, where the reader answers wrongly so after one page.
 fn first_other_read(alloc: Global, left: u64) -> Option<usize> {
     let Ok(mut driven) = Driven::new(alloc, &WIDE) else {
         return Some(0);

@@ -231,6 +231,35 @@ const ONE_QUESTION: [Row; 10] = [
     ),
 ];
 
+/// What an update of `b` asks that was issued at moment 3.
+const LATER: Question = Ask {
+    number: 3,
+    key: b'b',
+    source: None,
+    input: 1,
+};
+
+/// A stranger's value where nothing is open, and where nothing is asked for.
+const BEFORE_A_QUESTION: [Row; 8] = [
+    (Call::Enter, Ok(Told::Number(0))),
+    (
+        Call::Install(0, 0, OF_ANOTHER_OPERATION),
+        Err(Refused::Unknown),
+    ),
+    (Call::Issue(0, KeyedOp::Rmw(b'b', 1)), Ok(Told::Number(0))),
+    (
+        Call::Install(0, 0, OF_ANOTHER_OPERATION),
+        Err(Refused::NotReady),
+    ),
+    (Call::Go(0, 0), Ok(Told::Next)),
+    (Call::Go(0, 0), Ok(Told::Next)),
+    (Call::Go(0, 0), Ok(Told::Asks(LATER))),
+    (
+        Call::Install(0, 0, LATER),
+        Ok(Told::Done(Answer::Value(1), 8)),
+    ),
+];
+
 /// What two updates of `a` ask of a value that changes no more.
 const ASKED_FIRST: Question = Ask {
     number: 17,
@@ -261,9 +290,16 @@ const SOURCE_LOST: Refused = Refused::Stranger {
     came: 17,
 };
 
+/// Of the update that asked first.
+const FIRST_AGAIN: Refused = Refused::Stranger {
+    what: What::Built,
+    held: 18,
+    came: 17,
+};
+
 /// Two updates of a frozen value: both ask, the first is installed, and the second finds the new value, which is
 /// mutable.
-const TWO_UPDATES_OF_A_FROZEN_VALUE: [Row; 25] = [
+const TWO_UPDATES_OF_A_FROZEN_VALUE: [Row; 26] = [
     (Call::Enter, Ok(Told::Number(0))),
     (
         Call::Issue(0, KeyedOp::Upsert(b'a', 1)),
@@ -298,12 +334,27 @@ const TWO_UPDATES_OF_A_FROZEN_VALUE: [Row; 25] = [
         Call::Install(0, 0, ASKED_FIRST),
         Ok(Told::Done(Answer::Value(3), 22)),
     ),
+    // before the entry, which has moved, the question is compared
+    (Call::Install(1, 0, ASKED_FIRST), Err(FIRST_AGAIN)),
     (Call::Install(1, 0, ASKED_SECOND), Ok(Told::Next)),
-    (Call::Go(1, 0), Ok(Told::Done(Answer::Value(6), 24))),
+    (Call::Go(1, 0), Ok(Told::Done(Answer::Value(6), 25))),
     (Call::Go(1, 0), Err(Refused::Unknown)),
 ];
 
-const RUNS: [Run; 2] = [
+const RUNS: [Run; 3] = [
+    Run {
+        config: Config {
+            id: 1,
+            partition_bits: 1,
+            bucket_bits: 8,
+            page_bits: 8,
+            frames: 2,
+            turns: 1,
+        },
+        number: 1,
+        rows: &BEFORE_A_QUESTION,
+        map: &[(b'b', 1)],
+    },
     Run {
         config: Config {
             id: 1,

@@ -1,12 +1,14 @@
 //! Refused growths: parts whose lines are called again where memory is refused once. Run also with each allocation
 //! refused in turn, by `bench/refuse_growths`: what was refused is answered when it is called again, and the map is whole.
+use crate::folds::Fold;
 use crate::letters::is_map;
 use fkv_functions::{Refused, SumFns};
-use fkv_world_lines::{driven, part_of};
-use fkv_worlds::ReportOf;
+use fkv_world_lines::{Call, driven, part_of};
+use fkv_worlds::{End, ReportOf, replay};
 use std::alloc::Global;
 
 /// A part, the lines that its calls print, how many lives it leaves, and its map.
+#[derive(Drop)]
 struct Growth {
     part: &'static str,
     told: &'static str,
@@ -322,4 +324,49 @@ fn refused_growths_are_called_again(rt: HostRuntime) {
     for (at, growth) in GROWTHS.iter().enumerate() {
         assert!(rt; is_grown(rt.alloc(), growth), "part {at}");
     }
+}
+
+/// The report of a replay of a part, each call of which is one step.
+fn replayed(alloc: Global, part: &str) -> Result<ReportOf<SumFns>, Refused> {
+    let part = part_of(alloc, part)?;
+    let mut steps = Vec::new(alloc);
+    for call in &part.calls {
+        let Call::Step(step) = call else {
+            return Err(Refused::Unknown);
+        };
+        if steps.push(*step).is_err() {
+            return Err(Refused::NoMemory);
+        }
+    }
+    replay(alloc, &part.config, &SumFns, &steps)
+}
+
+/// Whether the finished lives of a report, in the order of their effects, are answered by the fold, and come to its map.
+fn is_folded(report: &ReportOf<SumFns>) -> bool {
+    let mut fold = Fold::new();
+    for step in 0..=report.outcomes.len() as u64 {
+        for life in &report.lives {
+            if let End::Finished(finish) = life.end {
+                if finish.effect == step && fold.answer(&life.op) != finish.answer {
+                    return false;
+                }
+            }
+        }
+    }
+    fold.is_map(report.map.as_slice())
+}
+
+/// Whether a replay's map is the fold of its lives, replayed once more where memory is refused to it.
+fn is_replayed(alloc: Global, part: &str) -> bool {
+    let report = match replayed(alloc, part) {
+        Err(Refused::NoMemory) => replayed(alloc, part),
+        report => report,
+    };
+    report.is_ok_and(|report| is_folded(&report))
+}
+
+/// Here a step that is refused is not made again, so the steps after it tell otherwise.
+#[test]
+fn refused_growths_of_a_replay(rt: HostRuntime) {
+    assert!(rt; is_replayed(rt.alloc(), TWO_UPDATES_OF_AN_EVICTED_KEY.part));
 }

@@ -12,6 +12,8 @@ mod built;
 #[cfg(test)]
 mod classes;
 #[cfg(test)]
+mod folds;
+#[cfg(test)]
 mod growths;
 #[cfg(test)]
 mod letters;
@@ -21,3 +23,5 @@ mod limits;
 mod lives;
 #[cfg(test)]
 mod plain;
+#[cfg(test)]
+mod scripts;

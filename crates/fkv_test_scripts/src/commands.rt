@@ -1,12 +1,17 @@
 //! Whole runs as rows: their statuses, their texts, and streams that fail. Scripts stand in `fkv_rows`.
 use fkv_commands::running::{refuse_words, run, tell};
 use fkv_functions::{Refused, What};
+use fkv_meters::Silent;
 use fkv_requests::{command_lines, words_of};
 use fkv_streams::{CountedReader, CountedWriter};
 use fkv_test_streams::{Breaking, Filling};
 use std::alloc::{AllocError, Global};
 use std::env;
 use std::fs::Files;
+use std::rt::Clock;
+use std::sync::Wait;
+use std::test::Fail;
+use std::thread::Threads;
 
 const THIN_PATH: &str = "store sum 0 8 8 2
 enter 0
@@ -37,6 +42,10 @@ Commands:
 Options:
   -h, --help     Print help
   -V, --version  Print version
+
+Examples:
+  fkv_cli sum january.csv february.csv
+  fkv_cli count --workers 4 --memory 2G --dir pages *.csv
 ";
 
 const REPLAY_HELP: &str = "Runs the script on standard input, and prints what it tells
@@ -57,52 +66,63 @@ fn split(alloc: Global, line: &str) -> Result<Vec<String>, AllocError> {
     Ok(words)
 }
 
-/// A run: its command line, its input, the calls after which that fails, and the bytes after which the output and
-/// what stands beside it are full.
+/// The bytes of an input that a call gives at the most, where they are few.
+const PIECE: usize = 7;
+
+/// A run: its command line, its input with the bytes of it that a call gives at the most and the calls after which it fails,
+/// and the bytes after which the output and what stands beside it are full.
 #[derive(Clone, Copy)]
-pub(crate) struct Launch {
-    line: &'static str,
-    input: &'static str,
+pub(crate) struct Launch<'a> {
+    line: &'a str,
+    input: &'a str,
+    piece: usize,
     calls: u64,
     room: usize,
     beside: usize,
 }
 
 /// A run in which nothing fails.
-pub(crate) const fn start(line: &'static str, input: &'static str) -> Launch {
+pub(crate) const fn start<'a>(line: &'a str, input: &'a str) -> Launch<'a> {
     Launch {
         line,
         input,
-        calls: 1_000_000,
-        room: 1_000_000,
-        beside: 1_000_000,
+        piece: PIECE,
+        calls: u64::MAX,
+        room: usize::MAX,
+        beside: usize::MAX,
     }
 }
 
 /// Whether a run ends with this status, and prints this and tells what begins so.
-pub(crate) fn ends<H: Files>(
+pub(crate) fn ends<H: Files + Threads + Wait + Clock + Sync>(
+    rt: &H,
     alloc: Global,
-    files: &H,
-    start: Launch,
+    start: Launch<'_>,
     status: u8,
     printed: &str,
     told: &str,
-) -> bool {
+) -> bool
+where
+    H::File: Send,
+    H::Dir: Send,
+{
     let Ok(words) = split(alloc, start.line) else {
         return false;
     };
-    let reader = Breaking::new(start.input.as_bytes(), 7, start.calls);
+    let reader = Breaking::new(start.input.as_bytes(), start.piece, start.calls);
     let mut writer = Filling::with_room(alloc, usize::MAX, start.room);
     let mut faults = Filling::with_room(alloc, usize::MAX, start.beside);
     let ended = run(
+        rt,
         alloc,
-        files,
         words.as_slice(),
         &mut CountedReader::new(reader),
         &mut CountedWriter::new(&mut writer),
         &mut CountedWriter::new(&mut faults),
+        &Silent,
     );
-    let is_told = if status == 2 {
+    // a report ends with the seconds that the run took
+    let is_told = if status == 2 || start.line.contains("--stats") {
         faults.text.starts_with(told.as_bytes())
     } else {
         faults.text.as_slice() == told.as_bytes()
@@ -125,7 +145,7 @@ const BAD_SIZE: &str =
 const NO_FOLDER: &str = "fkv_cli: device fault 1 on page 0\n";
 
 /// Command lines, inputs, statuses, what is printed, and what is told beside it; of a mistake its first line.
-const RUNS: [(&str, &str, u8, &str, &str); 44] = [
+const RUNS: [(&str, &str, u8, &str, &str); 59] = [
     ("fkv_cli", THIN_PATH, 0, THIN_PATH_TOLD, ""),
     ("fkv_cli replay", THIN_PATH, 0, THIN_PATH_TOLD, ""),
     ("fkv_cli --", THIN_PATH, 0, THIN_PATH_TOLD, ""),
@@ -246,13 +266,97 @@ const RUNS: [(&str, &str, u8, &str, &str); 44] = [
         "",
         "error: invalid value '1' for '--frames <N>'",
     ),
+    // several workers, and histories that are kept
     (
         "fkv_cli sum --workers 2",
+        "a,5\nb,7\na,-2\n",
+        0,
+        "a,3\nb,7\n",
+        "",
+    ),
+    (
+        "fkv_cli sum --workers 14 --audit",
+        "a,5\nb,7\na,-2\n",
+        0,
+        "a,3\nb,7\n",
+        "",
+    ),
+    (
+        "fkv_cli count --audit --partition-bits 0 --bucket-bits 0 --page-bits 8 --frames 2",
+        LETTERS,
+        0,
+        LETTERS_TOLD,
+        "",
+    ),
+    (
+        "fkv_cli max --audit --dir made/pages --page-bits 8 --frames 2",
+        "a,5\nb,7\na,-2\n",
+        0,
+        "a,5\nb,7\n",
+        "",
+    ),
+    ("fkv_cli sum --audit", "", 0, "", ""),
+    ("fkv_cli sum --audit", "a,5\na,5x\n", 1, "", BAD_ROW),
+    (
+        "fkv_cli sum --audit --dir /dev/null/pages",
+        "a\n",
+        1,
+        "",
+        NO_FOLDER,
+    ),
+    (
+        "fkv_cli sum --workers 0",
         "a,1\n",
         2,
         "",
-        "error: unexpected argument '--workers' found\n",
+        "error: invalid value '0' for '--workers <N>'",
     ),
+    (
+        "fkv_cli sum --workers 15",
+        "a,1\n",
+        2,
+        "",
+        "error: invalid value '15' for '--workers <N>'",
+    ),
+    (
+        "fkv_cli sum --audit=1",
+        "a,1\n",
+        2,
+        "",
+        "error: unexpected value '1' for '--audit' found; no more were expected\n",
+    ),
+    // sixty-four feeds may be named, and no more
+    (
+        "fkv_cli sum no no no no no no no no no no no no no no no no no no no no no no no no no no no no no no no no no no no no no no no no no no no no no no no no no no no no no no no no no no no no no no no no",
+        "a,1\n",
+        1,
+        "",
+        "fkv_cli: cannot read input 1\n",
+    ),
+    (
+        "fkv_cli sum no no no no no no no no no no no no no no no no no no no no no no no no no no no no no no no no no no no no no no no no no no no no no no no no no no no no no no no no no no no no no no no no no",
+        "a,1\n",
+        2,
+        "",
+        "error: unexpected value 'no' for '[FEED]...' found; no more were expected\n",
+    ),
+    // a report: a record for each key, and the second row of `a` in place
+    (
+        "fkv_cli sum --stats",
+        LETTERS,
+        0,
+        LETTERS_TOLD,
+        "fkv_cli: rows 21\nfkv_cli: keys 20\nfkv_cli: records appended 20\nfkv_cli: updates in place 1\nfkv_cli: pages written 0\nfkv_cli: pages read 0\nfkv_cli: bytes on the device 0\nfkv_cli: seconds ",
+    ),
+    (
+        "fkv_cli sum --stats --workers 2 --audit",
+        "a,5\nb,7\na,-2\n",
+        0,
+        "a,3\nb,7\n",
+        "fkv_cli: rows 3\nfkv_cli: keys 2\nfkv_cli: pages written 0\nfkv_cli: pages read 0\nfkv_cli: bytes on the device 0\nfkv_cli: seconds ",
+    ),
+    ("fkv_cli sum --stats", "a,5\na,5x\n", 1, "", BAD_ROW),
+    ("fkv_cli sum --progress", "a,5\n", 0, "a,5\n", ""),
     // pages in memory, and in files of a folder, which is made with its parents and used again
     (
         "fkv_cli sum --partition-bits 0 --bucket-bits 0 --page-bits 8 --frames 2",
@@ -326,22 +430,24 @@ fn runs(rt: HostRuntime) {
     for (at, (line, input, status, printed, told)) in RUNS.iter().enumerate() {
         let start = start(line, input);
         assert!(rt;
-            ends(rt.alloc(), &rt, start, *status, printed, told),
+            ends(&rt, rt.alloc(), start, *status, printed, told),
             "run {at}"
         );
     }
 }
 
-/// What a run prints whose output is full after so many bytes, and how it is told.
-const FULL: [(&str, usize, &str); 10] = [
-    ("fkv_cli", 0, ""),
-    ("fkv_cli", 1, "e"),
-    ("fkv_cli", 9, "entered 0"),
+/// Command lines whose runs read the input to its end, that input, and what they print.
+const READ: [(&str, &str, &str); 2] = [
+    ("fkv_cli", THIN_PATH, THIN_PATH_TOLD),
     (
-        "fkv_cli",
-        55,
-        "entered 0\ndone value 5\ndone value 3\ndone value 3\nmap 1\n",
+        "fkv_cli sum --partition-bits 0 --bucket-bits 0 --page-bits 8 --frames 2",
+        "a,5\nb,7\na,-2\nc,1\n",
+        "a,3\nb,7\nc,1\n",
     ),
+];
+
+/// What a run prints of help whose output is full after so many bytes.
+const FULL: [(&str, usize, &str); 4] = [
     ("fkv_cli --help", 0, ""),
     ("fkv_cli --help", 1, "A"),
     ("fkv_cli --help", 9, "A proved "),
@@ -350,16 +456,106 @@ const FULL: [(&str, usize, &str); 10] = [
         42,
         "A proved key-value store for per-key state",
     ),
-    ("fkv_cli --version", 0, ""),
-    ("fkv_cli --version", 13, "fkv_cli 0.1.0"),
 ];
 
+/// More calls than give any of these inputs.
+const CALLS: u64 = 1_000;
+
+/// The calls before the first one by whose failure a run ends as it may not: each call that gives the input fails in turn,
+/// until a run makes no more calls. Where one fails nothing is printed. That run is the other one, too, where there were too
+/// few calls for all bytes and their end.
+fn first_unread<H: Files + Threads + Wait + Clock + Sync>(
+    rt: &H,
+    alloc: Global,
+    line: &str,
+    input: &str,
+    printed: &str,
+) -> Option<u64>
+where
+    H::File: Send,
+    H::Dir: Send,
+{
+    let least = input.len().div_ceil(PIECE) as u64 + 1;
+    let unreadable = "fkv_cli: cannot read input 1\n";
+    for calls in 0..CALLS {
+        let start = Launch {
+            calls,
+            ..start(line, input)
+        };
+        if ends(rt, alloc, start, 1, "", unreadable) {
+            continue;
+        }
+        let is_whole = calls >= least && ends(rt, alloc, start, 0, printed, "");
+        return if is_whole { None } else { Some(calls) };
+    }
+    Some(CALLS)
+}
+
+/// The room of the first output by which a run ends as it may not: each room up to that for all that is printed. Where it is
+/// less, as many bytes of the front are printed.
+fn first_unwritten<H: Files + Threads + Wait + Clock + Sync>(
+    rt: &H,
+    alloc: Global,
+    line: &str,
+    input: &str,
+    printed: &str,
+) -> Option<usize>
+where
+    H::File: Send,
+    H::Dir: Send,
+{
+    let unwritable = "fkv_cli: cannot write output\n";
+    (0..=printed.len()).find(|room| {
+        let (status, told) = if *room < printed.len() {
+            (1, unwritable)
+        } else {
+            (0, "")
+        };
+        let start = Launch {
+            room: *room,
+            ..start(line, input)
+        };
+        match printed.get(..*room) {
+            Some(front) => !ends(rt, alloc, start, status, front, told),
+            None => true,
+        }
+    })
+}
+
 /// Runs whose output has room for all, and runs whose fault can not be told whole: they end with their status.
-const ENDED: [(Launch, u8, &str, &str); 4] = [
+const ENDED: [(Launch<'_>, u8, &str, &str); 6] = [
+    // what is wrong with the input is told, not that the output is full
+    (
+        Launch {
+            line: "fkv_cli",
+            input: "store sum 0 8 7 2\n",
+            piece: PIECE,
+            calls: 100,
+            room: 0,
+            beside: 100,
+        },
+        1,
+        "",
+        "fkv_cli: bad configuration\n",
+    ),
+    (
+        Launch {
+            line: "fkv_cli sum",
+            input: "a\n",
+            piece: PIECE,
+            calls: 100,
+            room: 0,
+            beside: 100,
+        },
+        1,
+        "",
+        "fkv_cli: bad row 1 of feed 1\n",
+    ),
     (
         Launch {
             line: "fkv_cli",
             input: THIN_PATH,
+            piece: PIECE,
             calls: 12,
             room: 59,
             beside: 0,
@@ -372,8 +568,9 @@ const ENDED: [(Launch, u8, &str, &str); 4] = [
         Launch {
             line: "fkv_cli --help",
             input: "",
+            piece: PIECE,
             calls: 0,
-            room: 415,
+            room: 523,
             beside: 0,
         },
         0,
@@ -384,6 +581,7 @@ const ENDED: [(Launch, u8, &str, &str); 4] = [
         Launch {
             line: "fkv_cli",
             input: "",
+            piece: PIECE,
             calls: 12,
             room: 0,
             beside: 4,
@@ -396,6 +594,7 @@ const ENDED: [(Launch, u8, &str, &str); 4] = [
         Launch {
             line: "fkv_cli reply",
             input: "",
+            piece: PIECE,
             calls: 0,
             room: 0,
             beside: 4,
@@ -406,34 +605,56 @@ const ENDED: [(Launch, u8, &str, &str); 4] = [
     ),
 ];
 
-/// Eleven calls give the text, and the twelfth its end.
 #[test]
 fn streams_that_fail(rt: HostRuntime) {
-    for calls in 0..12u64 {
-        let start = Launch {
-            calls,
-            ..start("fkv_cli", THIN_PATH)
-        };
-        let told = "fkv_cli: cannot read input 1\n";
-        assert!(rt; ends(rt.alloc(), &rt, start, 1, "", told), "{calls}");
+    for (line, input, printed) in READ {
+        let unread = first_unread(&rt, rt.alloc(), line, input, printed);
+        assert!(rt; unread == None, "{line}: call {unread:?}");
+        let unwritten = first_unwritten(&rt, rt.alloc(), line, input, printed);
+        assert!(rt; unwritten == None, "{line}: room {unwritten:?}");
     }
+    let unwritten = first_unwritten(&rt, rt.alloc(), "fkv_cli -V", "", "fkv_cli 0.1.0\n");
+    assert!(rt; unwritten == None, "room {unwritten:?}");
     for (line, room, printed) in FULL {
         let start = Launch {
             room,
-            ..start(line, THIN_PATH)
+            ..start(line, "")
         };
         let told = "fkv_cli: cannot write output\n";
         assert!(rt;
-            ends(rt.alloc(), &rt, start, 1, printed, told),
+            ends(&rt, rt.alloc(), start, 1, printed, told),
             "{line} {room}"
         );
     }
     for (at, (start, status, printed, told)) in ENDED.iter().enumerate() {
         assert!(rt;
-            ends(rt.alloc(), &rt, *start, *status, printed, told),
+            ends(&rt, rt.alloc(), *start, *status, printed, told),
             "end {at}"
         );
     }
+}
+
+/// A script of so many lines.
+fn script_of(alloc: Global, lines: usize) -> Result<String, AllocError> {
+    let mut script = String::from_str(alloc, "store sum 0 8 8 2\n")?;
+    for _line in 1..lines {
+        script.push_str("enter 7\n")?;
+    }
+    Ok(script)
+}
+
+/// Of a script with a line too many none is run. A trial takes longer for it than the minute that it has: it runs with
+/// `RT_SECONDS=600 rt try --test`.
+#[test]
+fn a_script_of_too_many_lines(rt: HostRuntime) -> Result<(), Fail> {
+    let script = script_of(rt.alloc(), 1_000_001)?;
+    let start = Launch {
+        piece: 8192,
+        ..start("fkv_cli", script.as_str())
+    };
+    let told = "fkv_cli: bad script line 1000001\n";
+    assert!(rt; ends(&rt, rt.alloc(), start, 1, "", told));
+    Ok(())
 }
 
 /// Refusals, and how they are told.

@@ -6,7 +6,7 @@ const FOLDER: &str = "named_feeds";
 
 /// What stands in `named_feeds/a` and `named_feeds/b`, the words of a run over them, its status, and what it prints and
 /// tells. Standard input has a row of its own, which no run reads that names a feed.
-const NAMED: [(&str, &str, &str, u8, &str, &str); 9] = [
+const NAMED: [(&str, &str, &str, u8, &str, &str); 16] = [
     (
         "a,1\nb,2\n",
         "a,5\nc,7\n",
@@ -73,6 +73,64 @@ const NAMED: [(&str, &str, &str, u8, &str, &str); 9] = [
         "",
         "fkv_cli: cannot read input 1\n",
     ),
+    // two workers, each with a feed of its own
+    (
+        "a,1\nb,2\n",
+        "a,5\nc,7\n",
+        "fkv_cli sum --workers 2 named_feeds/a named_feeds/b",
+        0,
+        "a,6\nb,2\nc,7\n",
+        "",
+    ),
+    (
+        "a,1\nb,2\n",
+        "a,5\nc,7\n",
+        "fkv_cli sum --workers 2 --audit named_feeds/a named_feeds/b",
+        0,
+        "a,6\nb,2\nc,7\n",
+        "",
+    ),
+    (
+        "a,1\nb,2\n",
+        "a,5\nc,7\n",
+        "fkv_cli count --workers 14 --dir named_feeds/pages named_feeds/a named_feeds/b named_feeds/a",
+        0,
+        "a,3\nb,2\nc,1\n",
+        "",
+    ),
+    // the first worker's fault comes first, and standard input is not read
+    (
+        "a,1\nx\n",
+        "y\n",
+        "fkv_cli sum --workers 2 named_feeds/a named_feeds/b",
+        1,
+        "",
+        "fkv_cli: bad row 2 of feed 1\n",
+    ),
+    (
+        "a,1\n",
+        "a,2\nb,1\ny\n",
+        "fkv_cli sum --workers 2 --audit named_feeds/a named_feeds/b",
+        1,
+        "",
+        "fkv_cli: bad row 3 of feed 2\n",
+    ),
+    (
+        "x\n",
+        "",
+        "fkv_cli sum --workers 2 named_feeds/a named_feeds/none",
+        1,
+        "",
+        "fkv_cli: cannot read input 2\n",
+    ),
+    (
+        "a,1\n",
+        "",
+        "fkv_cli sum --workers 2 named_feeds/a named_feeds",
+        1,
+        "",
+        "fkv_cli: cannot read input 2\n",
+    ),
 ];
 
 #[test]
@@ -83,7 +141,7 @@ fn named_feeds(rt: HostRuntime) -> io::Result<()> {
         fs::write(&rt, "named_feeds/b", *second)?;
         let run = start(line, "z,9\n");
         assert!(rt;
-            ends(rt.alloc(), &rt, run, *status, printed, told),
+            ends(&rt, rt.alloc(), run, *status, printed, told),
             "run {at}"
         );
     }

@@ -1,9 +1,12 @@
 //! A device that fails once, behind a store that callers share.
 use crate::calls::{Call, Called, Row, SMALL, Told};
+use fkv_device::{Disk, MemoryDevice};
 use fkv_functions::{Refused, SumFns};
 use fkv_histories::{Audited, Plain, Recorder};
 use fkv_operations::Answer;
-use fkv_test_devices::UnsureDevice;
+use fkv_partition::Config;
+use fkv_store::Store;
+use fkv_test_devices::{FailingDevice, Fault, UnsureDevice};
 use std::alloc::Global;
 use std::sync::Wait;
 use std::test::Fail;
@@ -13,8 +16,11 @@ fn stored(call: Call) -> Row {
 }
 
 /// A page that could not be written is written by the next call that moves pages.
-fn write_fails() -> [Row; 8] {
+fn write_fails() -> [Row; 10] {
     [
+        // of a partition that is not there nothing else is asked
+        (Call::Tidy(1), Told::Refused(Refused::Unknown)),
+        (Call::Compact(1), Told::Refused(Refused::Unknown)),
         stored(Call::Upsert(0, b'a', 10)),
         stored(Call::Upsert(0, b'b', 1)),
         stored(Call::Upsert(0, b'c', 1)),
@@ -80,23 +86,81 @@ fn a_read_that_fails(rt: HostRuntime) -> Result<(), Fail> {
     Ok(())
 }
 
-/// A page that can't be read at the end: the store and its passes are gone.
+/// A page that can't be read at the end, to which so many of two passes come: the store and its passes are gone.
 fn closed<H: Recorder<SumFns>>(
     rt: &impl Wait,
     alloc: Global,
+    passes: usize,
 ) -> Result<Result<(Option<i128>, usize, u64), Refused>, Fail> {
     let mut device = UnsureDevice::new(alloc);
     device.reads = 0;
     let mut called = Called::<UnsureDevice, H>::new(rt, alloc, &SMALL, device)?;
     let evicted = read_fails();
     let _told = called.first_other(rt, alloc, &evicted[..7]);
-    Ok(called.closed(alloc, 2))
+    Ok(called.closed(alloc, passes))
 }
 
 #[test]
 fn a_read_that_fails_at_the_end(rt: HostRuntime) -> Result<(), Fail> {
     let fault = Err(Refused::Device { code: 3, page: 0 });
-    assert!(rt; closed::<Audited<SumFns>>(&rt, rt.alloc())? == fault);
-    assert!(rt; closed::<Plain>(&rt, rt.alloc())? == fault);
+    assert!(rt; closed::<Audited<SumFns>>(&rt, rt.alloc(), 2)? == fault);
+    assert!(rt; closed::<Plain>(&rt, rt.alloc(), 2)? == fault);
+    // a pass that is missing is told before
+    let missing = Err(Refused::Mismatch);
+    assert!(rt; closed::<Audited<SumFns>>(&rt, rt.alloc(), 0)? == missing);
+    assert!(rt; closed::<Plain>(&rt, rt.alloc(), 0)? == missing);
+    Ok(())
+}
+
+/// What the end of a store over a device refuses, with a pass of its own.
+fn refused_at_end<H: Recorder<SumFns>, D: Disk>(
+    rt: &impl Wait,
+    alloc: Global,
+    device: D,
+) -> Result<Option<Refused>, Fail> {
+    let store = Store::<SumFns, D, H>::open(alloc, &SMALL, SumFns, device)?;
+    let pass = store.pass(rt, alloc, 0)?;
+    let passes = vec![in alloc; pass]?;
+    Ok(store.close(alloc, passes).err())
+}
+
+/// The same with a pass of another store, over the second device.
+fn strange_at_end<H: Recorder<SumFns>, D: Disk>(
+    rt: &impl Wait,
+    alloc: Global,
+    device: D,
+    second: D,
+) -> Result<Option<Refused>, Fail> {
+    let store = Store::<SumFns, D, H>::open(alloc, &SMALL, SumFns, device)?;
+    let config = Config { id: 2, ..SMALL };
+    let other = Store::<SumFns, D, H>::open(alloc, &config, SumFns, second)?;
+    let pass = other.pass(rt, alloc, 0)?;
+    let passes = vec![in alloc; pass]?;
+    Ok(store.close(alloc, passes).err())
+}
+
+/// What both refuse where the devices open no more pages by then.
+fn unopened<H: Recorder<SumFns>>(
+    rt: &impl Wait,
+    alloc: Global,
+) -> Result<[Option<Refused>; 2], Fail> {
+    let fault = Fault::after(2);
+    let device = FailingDevice::new(alloc, MemoryDevice::new(alloc), &fault);
+    let own = refused_at_end::<H, _>(rt, alloc, device)?;
+    let fault = Fault::after(3);
+    let fault = &fault;
+    let device = FailingDevice::new(alloc, MemoryDevice::new(alloc), fault);
+    let second = FailingDevice::new(alloc, MemoryDevice::new(alloc), fault);
+    let strange = strange_at_end::<H, _>(rt, alloc, device, second)?;
+    Ok([own, strange])
+}
+
+/// A pass of another store is told before a device that opens no more pages.
+#[test]
+fn order_of_refusals_at_the_end(rt: HostRuntime) -> Result<(), Fail> {
+    let closed = Some(Refused::Device { code: 1, page: 0 });
+    let told = [closed, Some(Refused::Mismatch)];
+    assert!(rt; unopened::<Audited<SumFns>>(&rt, rt.alloc())? == told);
+    assert!(rt; unopened::<Plain>(&rt, rt.alloc())? == told);
     Ok(())
 }

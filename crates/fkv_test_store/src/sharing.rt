@@ -169,6 +169,53 @@ fn strangers(rt: HostRuntime) -> Result<(), Fail> {
     };
     assert!(rt; is_stranger(&rt, rt.alloc(), [&SMALL, &second], [2, 1])?);
     assert!(rt; is_stranger(&rt, rt.alloc(), [&SMALL, &wider], [2, 1])?);
+    // of both, the stores' numbers are told
+    let other = Config { id: 5, ..wider };
+    assert!(rt; is_stranger(&rt, rt.alloc(), [&SMALL, &other], [5, 1])?);
+    Ok(())
+}
+
+/// How many operations are finished of seventeen passes, each of which adds 1 to key a: the last one finds no free session,
+/// twice, until the first one rests. Anything else gives a number below 5.
+fn seventeen<H: Recorder<SumFns>>(rt: &impl Wait, alloc: Global) -> Result<u64, Fail> {
+    let device = MemoryDevice::new(alloc);
+    let store = Store::<SumFns, MemoryDevice, H>::open(alloc, &SMALL, SumFns, device)?;
+    let Some(key) = Name::new(b"a") else {
+        return Ok(0);
+    };
+    let mut passes = Vec::new(alloc);
+    for worker in 0..17u32 {
+        let mut pass = store.pass(rt, alloc, worker)?;
+        let told = pass.run(rt, alloc, &store, KeyedOp::Rmw(key, 1), &Open);
+        if worker < 16 && told != Ok(Answer::Value(i128::from(worker) + 1)) {
+            return Ok(0);
+        }
+        if worker == 16 && told != Err(Refused::NoSlot) {
+            return Ok(1);
+        }
+        passes.push(pass)?;
+    }
+    if passes.len() < 17 {
+        return Ok(2);
+    }
+    let again = passes[16].run(rt, alloc, &store, KeyedOp::Read(key, 0), &Open);
+    if again != Err(Refused::NoSlot) {
+        return Ok(3);
+    }
+    passes[0].rest(rt, &store)?;
+    let last = passes[16].run(rt, alloc, &store, KeyedOp::Rmw(key, 1), &Open);
+    if last != Ok(Answer::Value(17)) {
+        return Ok(4);
+    }
+    Ok(store.close(alloc, passes)?.finished)
+}
+
+#[test]
+fn seventeen_passes(rt: HostRuntime) -> Result<(), Fail> {
+    let audited = seventeen::<Audited<SumFns>>(&rt, rt.alloc())?;
+    assert!(rt; audited == 17, "{audited}");
+    let plain = seventeen::<Plain>(&rt, rt.alloc())?;
+    assert!(rt; plain == 17, "{plain}");
     Ok(())
 }
 

@@ -1,5 +1,5 @@
 //! Workers that are held at gates, so that what others do meanwhile is seen.
-use crate::tables::{SMALL, summed};
+use crate::tables::{LETTERS, LETTERS_TABLE, SMALL, summed};
 use fkv_functions::SumFns;
 use fkv_histories::{Audited, Plain};
 use fkv_partition::Config;
@@ -56,13 +56,6 @@ impl Gate for Held {
         }
     }
 }
-
-/// Keys a to t with 1 each, and then a once more; and t once more.
-const LETTERS: &[u8] =
-    b"a,1\nb,1\nc,1\nd,1\ne,1\nf,1\ng,1\nh,1\ni,1\nj,1\nk,1\nl,1\nm,1\nn,1\no,1\np,1\nq,1\nr,1\ns,1\nt,1\na,1\n";
-
-const LETTERS_TABLE: &[u8] =
-    b"a,2\nb,1\nc,1\nd,1\ne,1\nf,1\ng,1\nh,1\ni,1\nj,1\nk,1\nl,1\nm,1\nn,1\no,1\np,1\nq,1\nr,1\ns,1\nt,2\n";
 
 /// While one worker reads a page, another one is answered.
 #[test]

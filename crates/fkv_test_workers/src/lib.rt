@@ -1,6 +1,8 @@
-//! Tests of workers: who waits for whom, by gates that hold them, and tables of several workers.
+//! Tests of workers: who waits for whom, by gates that hold them, tables of several workers, and faults of a device.
 #![tactic(auto)]
 
+#[cfg(test)]
+mod faults;
 #[cfg(test)]
 mod gated;
 #[cfg(test)]

@@ -1,5 +1,5 @@
 //! Tables of several workers.
-use fkv_device::MemoryDevice;
+use fkv_device::{Disk, FileDevice, MemoryDevice};
 use fkv_feeds::write_table;
 use fkv_functions::{Refused, SumFns};
 use fkv_histories::{Audited, Plain, Recorder};
@@ -8,7 +8,9 @@ use fkv_store::{Gate, Open};
 use fkv_streams::{CountedReader, CountedWriter};
 use fkv_workers::run_feeds;
 use std::alloc::Global;
+use std::fs;
 use std::io::Write;
+use std::rt::Clock;
 use std::sync::Wait;
 use std::test::Fail;
 use std::thread::Threads;
@@ -23,8 +25,56 @@ pub const SMALL: Config = Config {
     turns: 1_000_000,
 };
 
-/// The text of the table of sums of these feeds, by so many workers.
-pub fn summed<H: Recorder<SumFns> + Send, G: Gate + Sync, T: Threads + Wait + Sync>(
+/// Keys a to t with 1 each, and then a once more: more than two frames of four records hold.
+pub const LETTERS: &[u8] =
+    b"a,1\nb,1\nc,1\nd,1\ne,1\nf,1\ng,1\nh,1\ni,1\nj,1\nk,1\nl,1\nm,1\nn,1\no,1\np,1\nq,1\nr,1\ns,1\nt,1\na,1\n";
+
+/// The table of the letters, and of a feed that has t once more.
+pub const LETTERS_TABLE: &[u8] =
+    b"a,2\nb,1\nc,1\nd,1\ne,1\nf,1\ng,1\nh,1\ni,1\nj,1\nk,1\nl,1\nm,1\nn,1\no,1\np,1\nq,1\nr,1\ns,1\nt,2\n";
+
+/// Room for the text of any table here.
+const ROOM: usize = 4096;
+
+/// The text of the table of sums of these feeds, by so many workers, over this device.
+pub fn summed_over<
+    H: Recorder<SumFns> + Send,
+    D: Disk + Send,
+    G: Gate + Sync,
+    T: Threads + Wait + Clock + Sync,
+>(
+    rt: &T,
+    alloc: Global,
+    feeds: &[&[u8]],
+    workers: usize,
+    config: &Config,
+    device: D,
+    gate: &G,
+) -> Result<Vec<u8>, Refused>
+where
+    D::Receipt: Send,
+    D::Writer: Send,
+    D::Reader: Send,
+{
+    let mut sources = Vec::new(alloc);
+    for feed in feeds {
+        let Ok(()) = sources.push(CountedReader::new(*feed)) else {
+            return Err(Refused::NoMemory);
+        };
+    }
+    let run = run_feeds::<_, _, _, H, _, _>(
+        rt, alloc, sources, workers, SumFns, config, device, gate,
+    )?;
+    // what it is written to takes no more memory
+    let Ok(mut text) = Vec::with_capacity(alloc, ROOM) else {
+        return Err(Refused::NoMemory);
+    };
+    write_table(alloc, &run.table, &mut CountedWriter::new(&mut text))?;
+    Ok(text)
+}
+
+/// The same over memory.
+pub fn summed<H: Recorder<SumFns> + Send, G: Gate + Sync, T: Threads + Wait + Clock + Sync>(
     rt: &T,
     alloc: Global,
     feeds: &[&[u8]],
@@ -32,19 +82,8 @@ pub fn summed<H: Recorder<SumFns> + Send, G: Gate + Sync, T: Threads + Wait + Sy
     config: &Config,
     gate: &G,
 ) -> Result<Vec<u8>, Refused> {
-    let mut sources = Vec::new(alloc);
-    for feed in feeds {
-        let Ok(()) = sources.push(CountedReader::new(*feed)) else {
-            return Err(Refused::NoMemory);
-        };
-    }
     let device = MemoryDevice::new(alloc);
-    let table = run_feeds::<_, _, _, H, _, _>(
-        rt, alloc, sources, workers, SumFns, config, device, gate,
-    )?;
-    let mut text = Vec::new(alloc);
-    write_table(alloc, &table, &mut CountedWriter::new(&mut text))?;
-    Ok(text)
+    summed_over::<H, _, _, _>(rt, alloc, feeds, workers, config, device, gate)
 }
 
 /// Rows 0 to 999, whose keys are k0 to k99 over and over, with this amount.
@@ -111,8 +150,28 @@ fn out_of_range(rt: HostRuntime) -> Result<(), Fail> {
 fn the_first_workers_fault(rt: HostRuntime) -> Result<(), Fail> {
     let alloc = rt.alloc();
     let feeds: [&[u8]; 2] = [b"a,1\nb,1\nc\n", b"a\n"];
-    let told = summed::<Audited<SumFns>, _, _>(&rt, alloc, &feeds, 2, &SMALL, &Open);
-    assert!(rt; told == Err(Refused::BadRow { feed: 1, row: 3 }));
+    let bad = Err(Refused::BadRow { feed: 1, row: 3 });
+    assert!(rt; summed::<Audited<SumFns>, _, _>(&rt, alloc, &feeds, 2, &SMALL, &Open) == bad);
+    assert!(rt; summed::<Plain, _, _>(&rt, alloc, &feeds, 2, &SMALL, &Open) == bad);
+    Ok(())
+}
+
+/// The letters and t once more, by two workers, over a file.
+#[test]
+fn files(rt: HostRuntime) -> Result<(), Fail> {
+    let alloc = rt.alloc();
+    let feeds: [&[u8]; 2] = [LETTERS, b"t,1\n"];
+    let folder = String::from_str(alloc, "shared_files/workers")?;
+    let device = FileDevice::new(rt.clone()?, alloc, folder, 8);
+    let text = summed_over::<Audited<SumFns>, _, _, _>(
+        &rt, alloc, &feeds, 2, &SMALL, device, &Open,
+    )?;
+    assert!(rt; text.as_slice() == LETTERS_TABLE);
+    let folder = String::from_str(alloc, "shared_files/workers")?;
+    let device = FileDevice::new(rt.clone()?, alloc, folder, 8);
+    let text = summed_over::<Plain, _, _, _>(&rt, alloc, &feeds, 2, &SMALL, device, &Open)?;
+    assert!(rt; text.as_slice() == LETTERS_TABLE);
+    fs::remove_dir_all(&rt, "shared_files")?;
     Ok(())
 }
 
@@ -124,11 +183,9 @@ fn refused_growths_of_one_worker(rt: HostRuntime) -> Result<(), Fail> {
         ..SMALL
     };
     let feeds: [&[u8]; 2] = [b"a,1\n", b"b,1\n"];
-    let told = summed::<Audited<SumFns>, _, _>(&rt, rt.alloc(), &feeds, 1, &two, &Open);
-    let is_whole = match told {
-        Ok(text) => text.as_slice() == b"a,1\nb,1\n".as_slice(),
-        Err(refused) => refused == Refused::NoMemory,
-    };
-    assert!(rt; is_whole);
+    match summed::<Audited<SumFns>, _, _>(&rt, rt.alloc(), &feeds, 1, &two, &Open) {
+        Ok(text) => assert!(rt; text.as_slice() == b"a,1\nb,1\n".as_slice()),
+        Err(refused) => assert!(rt; refused == Refused::NoMemory, "{refused}"),
+    }
     Ok(())
 }

@@ -8,3 +8,4 @@ pub mod ShareLemmas
 pub mod FeedLemmas
 pub mod StandLemmas
 pub mod WorkedLemmas
+pub mod StoppedLemmas

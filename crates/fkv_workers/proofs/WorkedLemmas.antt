@@ -55,7 +55,7 @@ module _ {W R S V O : Type 0} (rem : S → Option (List ℕ)) (fails : S → ℕ
       }
 
 -- what goes with an item of the second list
-beside : {A B : Type 0} (R : A → B → Type 0) (xs : List A) (ys : List B) (w : ℕ) (y : B) → AllZip R xs ys → slice_get ys w ≡ Some y
+pub beside : {A B : Type 0} (R : A → B → Type 0) (xs : List A) (ys : List B) (w : ℕ) (y : B) → AllZip R xs ys → slice_get ys w ≡ Some y
     → (x : A) × (slice_get xs w ≡ Some x) × R x y
 beside {A = A} {B = B} R xs ys w y h at =
     let right : MatchOption (slice_get ys w) (Unit {0}) (λ z. IsSomeAnd (slice_get xs w) (λ x. R x z)) = AllZip-right {A = A} {B = B} R xs ys h w in

@@ -3,13 +3,14 @@ use Rattle.std.specs.Prelude.{◌≡◌, ◌<◌, ◌+◌, ◌-◌, ◌^◌, ◌
 use Rattle.std.specs.List.{All, AllZip}
 use Rattle.fkv_functions.specs.declared.names.Name.{Name}
 use Rattle.fkv_functions.specs.declared.refusals.Refused.{Refused}
+use Rattle.fkv_functions.specs.declared.refusals.Refused.TheVariants.{BadConfig}
 use Rattle.fkv_feed_rows.specs.Feeds.{TellsUnread}
 use Rattle.fkv_feeds.specs.Tables.{AreFeeds, most_rows}
 use Rattle.fkv_partition.specs.Limits.{IsWithinLimits}
 use Rattle.fkv_partition.specs.Config.{Config}
-use Rattle.fkv_store.specs.Stores.{IsTold}
+use Rattle.fkv_store.specs.Stores.{IsTold, IsClosing}
 use Rattle.fkv_store.specs.Passes.{PassView}
-use Rattle.fkv_workers.specs.Shares.{AreFed, HasShare}
+use Rattle.fkv_workers.specs.Shares.{AreFed, HasShare, dealt}
 
 -- a pass, whose own lists have these rows where entries are kept
 pub record StandsFor {V O : Type 0} (keeps : Bool) (code : Name → ℕ) (pass : PassView Name V ℤ O) (rows : List (Name × ℤ))
@@ -40,6 +41,18 @@ module _ {S : Type 0} (remaining : S → Option (List ℕ)) (failures : S → �
   -- why a worker stopped before: its pass refused an update or to rest, or a feed was not read to its end
   abbrev pub IsStop : List (ℕ × S) → Refused → Type 0
   IsStop feeds why = IsTold why ⊎ IsUnreadOf feeds why
+
+  -- why a run by so many workers has no table: it is outside its limits; a call on the store was refused, one that opens it, an
+  -- update of a row or the keeper's work; one of the feeds that a worker has was not read to its end; or the store did not close
+  pub data IsUnmade (runnable : Type 0) (workers : ℕ) (feeds : List S) (why : Refused) : Type 0 where
+    beyond : why ≡ BadConfig → ¬ runnable → IsUnmade runnable workers feeds why
+    told : IsTold why → IsUnmade runnable workers feeds why
+    unread : (w : ℕ) → w < workers → IsUnreadOf (dealt workers w feeds) why → IsUnmade runnable workers feeds why
+    unclosed : IsClosing why → IsUnmade runnable workers feeds why
+
+  -- why the threads of a run hand no passes back
+  abbrev pub IsUnworked : ℕ → List S → Refused → Type 0
+  IsUnworked workers feeds why = IsTold why ⊎ ((w : ℕ) × (w < workers) × IsUnreadOf (dealt workers w feeds) why)
 
 -- the fault of the first worker that has one
 pub record IsFirstFault (faults : List (Option Refused)) (why : Refused) : Type 0 where

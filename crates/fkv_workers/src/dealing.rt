@@ -65,7 +65,7 @@ pub(crate) fn passes_of<F: Functions, D: Disk, H: Recorder<F>>(
 ) -> Result<Vec<Pass<F, D, H>>, Refused>
     ensures ok { IfOk result (λ passes. passes.items ≡ map (λ w. w.pass) worked.items) }
     ensures none { OnOk result (All (λ fault. fault ≡ None) (map (λ w. w.fault) worked.items)) }
-    ensures err { IfErr result (λ e. (e ≡ refused.NoMemory) ⊎ IsFirstFault (map (λ w. w.fault) worked.items) e) }
+    ensures refused { IfErr result (λ e. (e ≡ refused.NoMemory) ⊎ IsFirstFault (map (λ w. w.fault) worked.items) e) }
 {
     let mut passes = Vec::new(alloc);
     for one in worked {

@@ -1,10 +1,11 @@
 //! Runs over feeds, with several workers.
-ghost use Rattle.std.specs.Prelude.{◌≡◌, ◌≢◌, ◌≤◌, ◌<◌, ◌↔◌, true, length, map, IsTrue, Err, None, IfOk, OnOk};
+ghost use Rattle.std.specs.Prelude.{◌≡◌, ◌≢◌, ◌≤◌, ◌<◌, ◌↔◌, ◌⊎◌, true, length, map, IsTrue, Err, None, IfOk, IfErr, OnOk};
 ghost use Rattle.std.specs.List.{All};
 ghost use Rattle.fkv_records.specs.Records.{size_of};
 ghost use Rattle.fkv_partition.specs.Limits.{IsWithinLimits};
 ghost use Rattle.fkv_feeds.specs.Tables.{IsTableOf};
-ghost use Rattle.fkv_workers.specs.Works.{IsFedBy, IsRunnable};
+ghost use Rattle.fkv_functions.specs.declared.refusals.Refused.TheVariants as refused;
+ghost use Rattle.fkv_workers.specs.Works.{IsFedBy, IsFirstFault, IsRunnable, IsUnmade, IsUnworked};
 
 use crate::dealing::{passes_of, works};
 use crate::deals::deal;
@@ -12,7 +13,7 @@ use crate::keeping::{StoreKeeper, fresh_heads, span_of};
 use crate::laws::tables_join;
 use crate::working::Worked;
 use fkv_device::Disk;
-use fkv_feeds::Table;
+use fkv_feeds::{Counts, Run, Table};
 use fkv_functions::{Fixed, Functions, Name, OrderFree, Refused};
 use fkv_histories::Recorder;
 use fkv_jobs::{Ran, run_jobs};
@@ -20,6 +21,7 @@ use fkv_partition::Config;
 use fkv_store::{Gate, Pass, Store};
 use fkv_streams::Source;
 use std::alloc::Global;
+use std::rt::Clock;
 use std::sync::Wait;
 use std::thread::Threads;
 
@@ -46,6 +48,8 @@ fn ended<F: Functions, D: Disk, H: Recorder<F>>(
 ) -> Result<Vec<Pass<F, D, H>>, Refused>
     ensures ok { IfOk result (λ passes. passes.items ≡ map (λ w. w.pass) ran.results.items) }
     ensures none { OnOk result (All (λ fault. fault ≡ None) (map (λ w. w.fault) ran.results.items)) }
+    ensures refused { IfErr result (λ e. (e ≡ refused.NoMemory) ⊎ IsFirstFault (map (λ w. w.fault) ran.results.items) e
+        ⊎ (ran.kept ≡ Err e)) }
 {
     let Ran { results, kept } = ran;
     let passes = match passes_of(alloc, results) {
@@ -65,7 +69,7 @@ fn worked<
     D: Disk + Send,
     H: Recorder<F> + Send,
     G: Gate + Sync,
-    T: Threads + Wait + Sync,
+    T: Threads + Wait + Clock + Sync,
 >(
     rt: &T,
     alloc: Global,
@@ -86,6 +90,7 @@ where
     requires bits { page_bits < 57 }
     ensures ok { IfOk result (λ passes. H.keeps ≡ true
         → IsFedBy F.code (map S.remaining feeds.items) passes.items) }
+    ensures refused { IfErr result (IsUnworked S.remaining S.failures workers feeds.items) }
 {
     let hands = match deal(alloc, feeds, workers) {
         Ok(hands) => hands,
@@ -118,7 +123,8 @@ where
 
 /// The table of these feeds, as [`fkv_feeds::run_one`] makes it, by so many workers in threads of their own, beside a keeper
 /// that moves pages: feed i, counted from 0, is read by worker `i mod workers`, and each row is one update of a store that all
-/// share. With a recorder that keeps, and on a device that keeps, the table is that of one worker.
+/// share. With a recorder that keeps, and on a device that keeps, the table is that of one worker. Beside it stands how many updates
+/// were made, one a row.
 ///
 /// # Errors
 ///
@@ -133,7 +139,7 @@ pub fn run_feeds<
     D: Disk + Send,
     H: Recorder<F> + Send,
     G: Gate + Sync,
-    T: Threads + Wait + Sync,
+    T: Threads + Wait + Clock + Sync,
 >(
     rt: &T,
     alloc: Global,
@@ -143,7 +149,7 @@ pub fn run_feeds<
     config: &Config,
     device: D,
     gate: &G,
-) -> Result<Table<F::Value>, Refused>
+) -> Result<Run<F::Value>, Refused>
 where
     F::Value: Send,
     F::Output: Send,
@@ -151,9 +157,11 @@ where
     D::Writer: Send,
     D::Reader: Send,
     ensures ok { H.keeps ≡ true → IsTrue D.Receipt.keeps
-        → IfOk result (IsTableOf F.meaning (map S.remaining feeds.items)) }
+        → IfOk result (λ run. IsTableOf F.meaning (map S.remaining feeds.items) run.table) }
     ensures good { result ≢ Err Refused.BadConfig
         → IsRunnable config.now (size_of 32 F.Value.SIZE) workers (length feeds.items) }
+    ensures refused { IfErr result (IsUnmade S.remaining S.failures
+        (IsRunnable config.now (size_of 32 F.Value.SIZE) workers (length feeds.items)) workers feeds.items) }
 {
     if !is_runnable::<F::Value>(config, workers, feeds.len()) {
         return Err(Refused::BadConfig);
@@ -171,5 +179,11 @@ where
         Err(refused) => return Err(refused),
     };
     tables_join::<F>();
-    Ok(Table::new(closed.map))
+    Ok(Run {
+        table: Table::new(closed.map),
+        counts: Counts {
+            rows: closed.finished,
+            appended: None,
+        },
+    })
 }

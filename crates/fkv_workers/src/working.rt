@@ -80,7 +80,7 @@ fn read_all<S: Source + Drop, K: RowSink>(
         let mut source = source;
         let number = (place as u64).saturating_add(1);
         match read_feed(alloc, &mut source, number, LIMIT, sink) {
-            Ok(()) => {}
+            Ok(_rows) => {}
             Err(refused) => return Err(refused),
         }
     }

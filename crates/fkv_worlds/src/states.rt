@@ -172,7 +172,7 @@ impl<F: Functions> State<F> {
     /// partition, `Worn` where no moment is left.
     pub(crate) fn moment_in(&self, partition: usize) -> Result<u64, Refused>
         ensures ok { IfOk result (IsMomentIn self.now partition) }
-        ensures err { IfErr result (IsUntimely self.now partition) }
+        ensures refused { IfErr result (IsUntimely self.now partition) }
     {
         if partition >= self.partitions.len() {
             return Err(Refused::Unknown);
@@ -182,7 +182,7 @@ impl<F: Functions> State<F> {
 
     fn enter_at(&mut self, partition: usize, now: u64) -> Result<OutcomeOf<F>, Refused>
         requires due { IsMomentIn self.old partition now }
-        ensures does { Acts ⟦<MemoryReceipt as Receipt>⟧.stands (IsEntryIn F.Key.bytes_of F.Value.bytes_of F.Key.is_known F.Value.is_known
+        ensures effect { Acts ⟦<MemoryReceipt as Receipt>⟧.stands (IsEntryIn F.Key.bytes_of F.Value.bytes_of F.Key.is_known F.Value.is_known
             F.Key.SIZE F.Value.SIZE) F.Key.cmp F.meaning F.code self.old self.new (Enter partition) result }
     {
         match self.partitions[partition].enter(now) {
@@ -202,7 +202,7 @@ impl<F: Functions> State<F> {
 
     fn leave_at(&mut self, partition: usize, slot: usize, now: u64) -> Result<OutcomeOf<F>, Refused>
         requires due { IsMomentIn self.old partition now }
-        ensures does { Acts ⟦<MemoryReceipt as Receipt>⟧.stands (IsEntryIn F.Key.bytes_of F.Value.bytes_of F.Key.is_known F.Value.is_known
+        ensures effect { Acts ⟦<MemoryReceipt as Receipt>⟧.stands (IsEntryIn F.Key.bytes_of F.Value.bytes_of F.Key.is_known F.Value.is_known
             F.Key.SIZE F.Value.SIZE) F.Key.cmp F.meaning F.code self.old self.new (Leave partition slot) result }
     {
         match self.partitions[partition].leave(slot, now) {
@@ -221,7 +221,7 @@ impl<F: Functions> State<F> {
         now: u64,
     ) -> Result<OutcomeOf<F>, Refused>
         requires due { IsMomentIn self.old partition now }
-        ensures does { Acts ⟦<MemoryReceipt as Receipt>⟧.stands (IsEntryIn F.Key.bytes_of F.Value.bytes_of F.Key.is_known F.Value.is_known
+        ensures effect { Acts ⟦<MemoryReceipt as Receipt>⟧.stands (IsEntryIn F.Key.bytes_of F.Value.bytes_of F.Key.is_known F.Value.is_known
             F.Key.SIZE F.Value.SIZE) F.Key.cmp F.meaning F.code self.old self.new (Refresh partition slot) result }
     {
         match self.partitions[partition].refresh(slot, now) {
@@ -235,7 +235,7 @@ impl<F: Functions> State<F> {
 
     fn shift_at(&mut self, partition: usize, page: u64, now: u64) -> Result<OutcomeOf<F>, Refused>
         requires due { IsMomentIn self.old partition now }
-        ensures does { Acts ⟦<MemoryReceipt as Receipt>⟧.stands (IsEntryIn F.Key.bytes_of F.Value.bytes_of F.Key.is_known F.Value.is_known
+        ensures effect { Acts ⟦<MemoryReceipt as Receipt>⟧.stands (IsEntryIn F.Key.bytes_of F.Value.bytes_of F.Key.is_known F.Value.is_known
             F.Key.SIZE F.Value.SIZE) F.Key.cmp F.meaning F.code self.old self.new (ReadOnly partition page) result }
     {
         match self.partitions[partition].shift_read_only(page, now) {
@@ -249,7 +249,7 @@ impl<F: Functions> State<F> {
 
     fn evict_at(&mut self, partition: usize, page: u64, now: u64) -> Result<OutcomeOf<F>, Refused>
         requires due { IsMomentIn self.old partition now }
-        ensures does { Acts ⟦<MemoryReceipt as Receipt>⟧.stands (IsEntryIn F.Key.bytes_of F.Value.bytes_of F.Key.is_known F.Value.is_known
+        ensures effect { Acts ⟦<MemoryReceipt as Receipt>⟧.stands (IsEntryIn F.Key.bytes_of F.Value.bytes_of F.Key.is_known F.Value.is_known
             F.Key.SIZE F.Value.SIZE) F.Key.cmp F.meaning F.code self.old self.new (Head partition page) result }
     {
         match self.partitions[partition].shift_head(page, now) {
@@ -270,7 +270,7 @@ impl<F: Functions> State<F> {
         now: u64,
     ) -> Result<OutcomeOf<F>, Refused>
         requires due { IsMomentIn self.old partition now }
-        ensures does { Acts ⟦<MemoryReceipt as Receipt>⟧.stands (IsEntryIn F.Key.bytes_of F.Value.bytes_of F.Key.is_known F.Value.is_known
+        ensures effect { Acts ⟦<MemoryReceipt as Receipt>⟧.stands (IsEntryIn F.Key.bytes_of F.Value.bytes_of F.Key.is_known F.Value.is_known
             F.Key.SIZE F.Value.SIZE) F.Key.cmp F.meaning F.code self.old self.new (Issue partition slot op) result }
     {
         let Ok(()) = self.lives.try_reserve(1) else {
@@ -293,7 +293,7 @@ impl<F: Functions> State<F> {
 
     fn go_at(&mut self, functions: &F, place: ContextId, now: u64) -> Result<OutcomeOf<F>, Refused>
         requires due { IsMomentIn self.old place.partition now }
-        ensures does { Acts ⟦<MemoryReceipt as Receipt>⟧.stands (IsEntryIn F.Key.bytes_of F.Value.bytes_of F.Key.is_known F.Value.is_known
+        ensures effect { Acts ⟦<MemoryReceipt as Receipt>⟧.stands (IsEntryIn F.Key.bytes_of F.Value.bytes_of F.Key.is_known F.Value.is_known
             F.Key.SIZE F.Value.SIZE) F.Key.cmp F.meaning F.code self.old self.new (Go place) result }
     {
         let partition = &mut self.partitions[place.partition];
@@ -308,7 +308,7 @@ impl<F: Functions> State<F> {
 
     /// Installs what an operation asked for last.
     fn install(&mut self, functions: &F, place: ContextId) -> Result<OutcomeOf<F>, Refused>
-        ensures does { Acts ⟦<MemoryReceipt as Receipt>⟧.stands (IsEntryIn F.Key.bytes_of F.Value.bytes_of F.Key.is_known F.Value.is_known
+        ensures effect { Acts ⟦<MemoryReceipt as Receipt>⟧.stands (IsEntryIn F.Key.bytes_of F.Value.bytes_of F.Key.is_known F.Value.is_known
             F.Key.SIZE F.Value.SIZE) F.Key.cmp F.meaning F.code self.old self.new (Install place) result }
     {
         match self.asked(place) {
@@ -321,7 +321,7 @@ impl<F: Functions> State<F> {
     fn asked(&self, place: ContextId) -> Result<(Ask<F::Key, F::Value, F::Input>, u64), Refused>
         ensures ok { IfOk result (λ due. (question_in self.now.questions place ≡ Some due.0)
             × IsMomentIn self.now place.partition due.1) }
-        ensures err { IfErr result
+        ensures refused { IfErr result
             (λ refused. Acts ⟦<MemoryReceipt as Receipt>⟧.stands (IsEntryIn F.Key.bytes_of F.Value.bytes_of F.Key.is_known F.Value.is_known
             F.Key.SIZE F.Value.SIZE) F.Key.cmp F.meaning F.code self.now self.now (Install place) (Err refused)) }
     {
@@ -360,7 +360,7 @@ impl<F: Functions> State<F> {
     ) -> Result<OutcomeOf<F>, Refused>
         requires moment { IsMomentIn self.old place.partition now }
         requires asked { question_in self.old.questions place ≡ Some ask }
-        ensures does { Acts ⟦<MemoryReceipt as Receipt>⟧.stands (IsEntryIn F.Key.bytes_of F.Value.bytes_of F.Key.is_known F.Value.is_known
+        ensures effect { Acts ⟦<MemoryReceipt as Receipt>⟧.stands (IsEntryIn F.Key.bytes_of F.Value.bytes_of F.Key.is_known F.Value.is_known
             F.Key.SIZE F.Value.SIZE) F.Key.cmp F.meaning F.code self.old self.new (Install place) result }
     {
         let built = Built::make(functions, ask);
@@ -376,7 +376,7 @@ impl<F: Functions> State<F> {
 
     fn give_up_at(&mut self, place: ContextId, now: u64) -> Result<OutcomeOf<F>, Refused>
         requires due { IsMomentIn self.old place.partition now }
-        ensures does { Acts ⟦<MemoryReceipt as Receipt>⟧.stands (IsEntryIn F.Key.bytes_of F.Value.bytes_of F.Key.is_known F.Value.is_known
+        ensures effect { Acts ⟦<MemoryReceipt as Receipt>⟧.stands (IsEntryIn F.Key.bytes_of F.Value.bytes_of F.Key.is_known F.Value.is_known
             F.Key.SIZE F.Value.SIZE) F.Key.cmp F.meaning F.code self.old self.new (GiveUp place) result }
     {
         let partition = &mut self.partitions[place.partition];
@@ -398,7 +398,7 @@ impl<F: Functions> State<F> {
         now: u64,
     ) -> Result<OutcomeOf<F>, Refused>
         requires due { IsMomentIn self.old partition now }
-        ensures does { Acts ⟦<MemoryReceipt as Receipt>⟧.stands (IsEntryIn F.Key.bytes_of F.Value.bytes_of F.Key.is_known F.Value.is_known
+        ensures effect { Acts ⟦<MemoryReceipt as Receipt>⟧.stands (IsEntryIn F.Key.bytes_of F.Value.bytes_of F.Key.is_known F.Value.is_known
             F.Key.SIZE F.Value.SIZE) F.Key.cmp F.meaning F.code self.old self.new (Truncate partition) result }
     {
         match self.partitions[partition].truncate_cleared(now) {
@@ -412,7 +412,7 @@ impl<F: Functions> State<F> {
 
     /// Does a step.
     pub fn act(&mut self, functions: &F, step: StepOf<F>) -> Result<OutcomeOf<F>, Refused>
-        ensures does { Acts ⟦<MemoryReceipt as Receipt>⟧.stands (IsEntryIn F.Key.bytes_of F.Value.bytes_of F.Key.is_known F.Value.is_known
+        ensures effect { Acts ⟦<MemoryReceipt as Receipt>⟧.stands (IsEntryIn F.Key.bytes_of F.Value.bytes_of F.Key.is_known F.Value.is_known
             F.Key.SIZE F.Value.SIZE) F.Key.cmp F.meaning F.code self.old self.new step result }
     {
         // whether what a step answers was asked comes before whether there is a moment
@@ -430,7 +430,7 @@ impl<F: Functions> State<F> {
     /// Does a step that answers nothing, at this moment.
     fn act_at(&mut self, functions: &F, step: StepOf<F>, now: u64) -> Result<OutcomeOf<F>, Refused>
         requires due { IsMomentIn self.old (partition_in step) now }
-        ensures does { Acts ⟦<MemoryReceipt as Receipt>⟧.stands (IsEntryIn F.Key.bytes_of F.Value.bytes_of F.Key.is_known F.Value.is_known
+        ensures effect { Acts ⟦<MemoryReceipt as Receipt>⟧.stands (IsEntryIn F.Key.bytes_of F.Value.bytes_of F.Key.is_known F.Value.is_known
             F.Key.SIZE F.Value.SIZE) F.Key.cmp F.meaning F.code self.old self.new step result }
     {
         match step {

@@ -85,7 +85,7 @@ impl<F: Functions> World<F> {
     /// the page that was taken, and a load whose page could not be read, or is damaged, ends its operation without effect
     /// and takes its moment.
     pub fn step(&mut self, functions: &F, step: StepOf<F>) -> Result<OutcomeOf<F>, Refused>
-        ensures does { Steps ⟦<MemoryReceipt as Receipt>⟧.stands (IsEntryIn F.Key.bytes_of F.Value.bytes_of F.Key.is_known F.Value.is_known
+        ensures effect { Steps ⟦<MemoryReceipt as Receipt>⟧.stands (IsEntryIn F.Key.bytes_of F.Value.bytes_of F.Key.is_known F.Value.is_known
             F.Key.SIZE F.Value.SIZE) F.Key.cmp F.meaning F.code self.old self.new step result }
         ensures headline { IsHeadline F.Key.cmp F.meaning F.code self.new }
     {

@@ -45,7 +45,7 @@ impl<K: Fixed, V: Fixed, R: Receipt> Log<K, V, R> {
         ensures only { flush_refusal self.old (R.stands written.receipt).page written.bytes ≡ None
             → IfErr result (λ why. why ≡ Refused.NoMemory) }
         ensures done { OnOk result (self.new ≡ with_receipt self.old (R.stands written.receipt)) }
-        ensures err { OnErr result (self.new ≡ self.old) }
+        ensures unchanged { OnErr result (self.new ≡ self.old) }
     {
         self.regions.known();
         match self.pages.flush_done(written) {

@@ -30,7 +30,7 @@ impl<K: Fixed, V: Fixed, R: Receipt> Log<K, V, R> {
     pub fn enter(&mut self) -> Result<usize, Refused>
         ensures slot { result ≡ ok_or (free_slot self.old.regions.epochs) Refused.NoSlot }
         ensures effect { IfOk result (λ slot. self.new ≡ with_regions self.old (entered self.old.regions slot)) }
-        ensures refused { OnErr result (self.new ≡ self.old) }
+        ensures unchanged { OnErr result (self.new ≡ self.old) }
     {
         self.regions.enter()
     }
@@ -90,7 +90,7 @@ impl<K: Fixed, V: Fixed, R: Receipt> Log<K, V, R> {
             ↔ (IsReadOnlyDue self.old.regions page self.old.tail
             × (16 ≤ length self.old.regions.epochs.waiting)) }
         ensures only { IfErr result (λ why. (why ≡ Refused.NotDue) ⊎ (why ≡ Refused.DrainFull)) }
-        ensures refused { OnErr result (self.new ≡ self.old) }
+        ensures unchanged { OnErr result (self.new ≡ self.old) }
     {
         self.pages.known();
         self.regions.known();
@@ -116,7 +116,7 @@ impl<K: Fixed, V: Fixed, R: Receipt> Log<K, V, R> {
         ensures full { (result ≡ Err Refused.DrainFull)
             ↔ (IsHeadDue self.old.regions page × (16 ≤ length self.old.regions.epochs.waiting)) }
         ensures only { IfErr result (λ why. (why ≡ Refused.NotDue) ⊎ (why ≡ Refused.DrainFull)) }
-        ensures refused { OnErr result (self.new ≡ self.old) }
+        ensures unchanged { OnErr result (self.new ≡ self.old) }
     {
         self.pages.known();
         self.regions.known();

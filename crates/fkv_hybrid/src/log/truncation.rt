@@ -14,7 +14,7 @@ impl<K: Fixed, V: Fixed, R: Receipt> Log<K, V, R> {
         ensures ok { IsOk result ↔ IsTruncationDue self.old page }
         ensures effect { OnOk result (self.new ≡ truncated R.keeps self.old (start_at self.old.bits page)) }
         ensures only { IfErr result (λ refused. refused ≡ Refused.NotDue) }
-        ensures refused { OnErr result (self.new ≡ self.old) }
+        ensures unchanged { OnErr result (self.new ≡ self.old) }
     {
         if !self.is_truncation_due(page) {
             return Err(Refused::NotDue);

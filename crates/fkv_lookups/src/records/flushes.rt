@@ -64,7 +64,7 @@ impl<F: Functions, R: Receipt> Records<F, R> {
         ensures only { flush_refusal self.old (R.stands written.receipt).page written.bytes ≡ None
             → IfErr result (λ why. why ≡ Refused.NoMemory) }
         ensures done { OnOk result (self.new ≡ with_receipt self.old (R.stands written.receipt)) }
-        ensures err { OnErr result (self.new ≡ self.old) }
+        ensures unchanged { OnErr result (self.new ≡ self.old) }
     {
         let done = self.log.flush_done(written);
         self.log.known();

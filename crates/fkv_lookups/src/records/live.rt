@@ -25,7 +25,7 @@ impl<F: Functions, R: Receipt> Records<F, R> {
     ) -> Result<(), Refused>
         ensures ok { IsTrue R.keeps → OnOk result (Same (get F.Key.cmp map.new)
             (with_text F.Key.cmp (get F.Key.cmp map.old) self.now.text)) }
-        ensures err { IsTrue R.keeps
+        ensures front { IsTrue R.keeps
             → OnErr result (HasFront F.Key.cmp (get F.Key.cmp map.old) (get F.Key.cmp map.new) self.now.text) }
         ensures steady { OnOk result (P.failures reader.new ≡ P.failures reader.old) }
         ensures refused { IfErr result (IsScanRefusal R.keeps (page_at self.now.page_bits self.now.begin)

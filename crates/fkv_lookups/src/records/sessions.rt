@@ -41,7 +41,7 @@ impl<F: Functions, R: Receipt> Records<F, R> {
         ensures slot { result ≡ ok_or (free_slot self.old.regions.epochs) Refused.NoSlot }
         ensures within { IfOk result (λ slot. slot < 16) }
         ensures effect { IfOk result (λ slot. self.new ≡ with_regions self.old (entered self.old.regions slot)) }
-        ensures refused { OnErr result (self.new ≡ self.old) }
+        ensures unchanged { OnErr result (self.new ≡ self.old) }
     {
         let slot = self.log.enter();
         self.log.known();
@@ -88,7 +88,7 @@ impl<F: Functions, R: Receipt> Records<F, R> {
             ↔ (IsReadOnlyDue self.old.regions page self.old.tail
             × (16 ≤ length self.old.regions.epochs.waiting)) }
         ensures only { IfErr result (λ why. (why ≡ Refused.NotDue) ⊎ (why ≡ Refused.DrainFull)) }
-        ensures refused { OnErr result (self.new ≡ self.old) }
+        ensures unchanged { OnErr result (self.new ≡ self.old) }
     {
         let moved = self.log.shift_read_only(page);
         self.log.known();
@@ -108,7 +108,7 @@ impl<F: Functions, R: Receipt> Records<F, R> {
             ↔ (IsHeadDue self.old.regions page
             × (16 ≤ length self.old.regions.epochs.waiting)) }
         ensures only { IfErr result (λ why. (why ≡ Refused.NotDue) ⊎ (why ≡ Refused.DrainFull)) }
-        ensures refused { OnErr result (self.new ≡ self.old) }
+        ensures unchanged { OnErr result (self.new ≡ self.old) }
     {
         let moved = self.log.shift_head(page);
         self.log.known();

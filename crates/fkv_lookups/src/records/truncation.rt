@@ -17,7 +17,7 @@ impl<F: Functions, R: Receipt> Records<F, R> {
         ensures sweeps { OnOk result (Sweeps (start_at self.old.page_bits page) self.old.words self.new.words) }
         ensures tentative { OnOk result (SameTentative self.old.words self.new.words) }
         ensures only { IfErr result (λ refused. refused ≡ Refused.NotDue) }
-        ensures refused { OnErr result (self.new ≡ self.old) }
+        ensures unchanged { OnErr result (self.new ≡ self.old) }
     {
         match self.log.truncate(page) {
             Ok(()) => (),

@@ -74,7 +74,7 @@ impl<K: Fixed, V: Fixed, R: Receipt> Pages<K, V, R> {
         ensures only { flush_refusal self.old (R.stands written.receipt).page written.bytes ≡ None
             → IfErr result (λ why. why ≡ Refused.NoMemory) }
         ensures done { OnOk result (self.new ≡ with_receipt self.old (R.stands written.receipt)) }
-        ensures err { OnErr result (self.new ≡ self.old) }
+        ensures unchanged { OnErr result (self.new ≡ self.old) }
     {
         if let Some(refused) = self.flush_refusal(&written) {
             return Err(refused);
@@ -103,7 +103,7 @@ impl<K: Fixed, V: Fixed, R: Receipt> Pages<K, V, R> {
 /// Keeps one more receipt. Refused, and then the receipts are as they were: `NoMemory`.
 fn keep<R: Receipt>(receipts: &mut Vec<R>, receipt: R) -> Result<(), Refused>
     ensures ok { OnOk result (receipts.new.items ≡ receipts.old.items ++ receipt ∷ []) }
-    ensures err { OnErr result (receipts.new.items ≡ receipts.old.items) }
+    ensures unchanged { OnErr result (receipts.new.items ≡ receipts.old.items) }
     ensures only { IfErr result (λ refused. refused ≡ Refused.NoMemory) }
 {
     match receipts.push(receipt) {

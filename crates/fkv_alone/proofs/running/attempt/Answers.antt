@@ -15,10 +15,10 @@ returns-in-Err-issue-clause-ends g c =
     let first = c.in-Ok.ensures.ok in
     let some = first.2 in
     let v = c.args.partition.now in
-    let does = issued-on-key g.F.Functions.code v c.issue.new.self c.args.slot c.in-Ok.now c.args.op c.op.result (Err c.in-Err-issue.refused) c.op.ensures c.in-Err-issue.ensures.does in
+    let does = issued-on-key g.F.Functions.code v c.issue.new.self c.args.slot c.in-Ok.now c.args.op c.op.result (Err c.in-Err-issue.refused) c.op.ensures c.in-Err-issue.ensures.effect in
     Ends.unissued c.in-Err-issue.refused (λ none. omega arith)
     (subst (λ n. IssuesOnKey g.F.Functions.code v c.issue.new.self c.args.slot c.args.op n (Err c.in-Err-issue.refused)) first.0 does)
-    c.in-Err-issue.ensures.err
+    c.in-Err-issue.ensures.unchanged
     (first.1 ∙ first.0) refl refl
 
 pub drive-requires-clause-none : goal.drive-requires-clause-none
@@ -27,7 +27,7 @@ drive-requires-clause-none g c =
     let v = c.args.partition.now in
     let w = c.issue.new.self in
     let k = c.in-Ok-issue.context in
-    let issued = issue-told g.F.Functions.code v w c.args.slot k c.in-Ok.now c.args.op (issued-on-key g.F.Functions.code v w c.args.slot c.in-Ok.now c.args.op c.op.result (Ok k) c.op.ensures c.in-Ok-issue.ensures.does) in
+    let issued = issue-told g.F.Functions.code v w c.args.slot k c.in-Ok.now c.args.op (issued-on-key g.F.Functions.code v w c.args.slot c.in-Ok.now c.args.op c.op.result (Ok k) c.op.ensures c.in-Ok-issue.ensures.effect) in
     issue-none g.F.Functions.code v w c.args.slot k c.in-Ok.now c.args.op issued
 
 pub returns-in-Ok-drive-clause-ends : goal.returns-in-Ok-drive-clause-ends
@@ -36,7 +36,7 @@ returns-in-Ok-drive-clause-ends g c =
     let v = c.args.partition.now in
     let w = c.issue.new.self in
     let k = c.in-Ok-issue.context in
-    let issued = issue-told g.F.Functions.code v w c.args.slot k c.in-Ok.now c.args.op (issued-on-key g.F.Functions.code v w c.args.slot c.in-Ok.now c.args.op c.op.result (Ok k) c.op.ensures c.in-Ok-issue.ensures.does) in
+    let issued = issue-told g.F.Functions.code v w c.args.slot k c.in-Ok.now c.args.op (issued-on-key g.F.Functions.code v w c.args.slot c.in-Ok.now c.args.op c.op.result (Ok k) c.op.ensures c.in-Ok-issue.ensures.effect) in
     let begun = issue-begun g.F.Functions.code v w c.args.slot k c.in-Ok.now c.args.op issued c.known.ensures.core.places c.in-Ok-issue.ensures.within.0 in
     let drives = c.in-Ok-drive.ensures.drives c.args.op v.core c.in-Ok.now begun.ready in
     driven-ends g.R.Receipt.keeps g.R.Receipt.stands g.F.Key.Ord.cmp g.F.Functions.meaning g.F.Functions.code c.args.op v c.drive.new.partition c.args.slot k c.args.limit c.args.clock.now c.in-Ok.now c.drive.new.clock (g.P.PageReader.failures c.args.reader.now) (g.P.PageReader.failures c.drive.new.reader) issued.opens first.0 first.2 c.in-Ok-drive.progress (rw first.1 at drives)
@@ -47,12 +47,12 @@ returns-in-Err-drive-clause-ends g c =
     let v = c.args.partition.now in
     let w = c.issue.new.self in
     let k = c.in-Ok-issue.context in
-    let issued = issue-told g.F.Functions.code v w c.args.slot k c.in-Ok.now c.args.op (issued-on-key g.F.Functions.code v w c.args.slot c.in-Ok.now c.args.op c.op.result (Ok k) c.op.ensures c.in-Ok-issue.ensures.does) in
+    let issued = issue-told g.F.Functions.code v w c.args.slot k c.in-Ok.now c.args.op (issued-on-key g.F.Functions.code v w c.args.slot c.in-Ok.now c.args.op c.op.result (Ok k) c.op.ensures c.in-Ok-issue.ensures.effect) in
     let begun = issue-begun g.F.Functions.code v w c.args.slot k c.in-Ok.now c.args.op issued c.known.ensures.core.places c.in-Ok-issue.ensures.within.0 in
     let drives = c.in-Err-drive.ensures.drives c.args.op v.core c.in-Ok.now begun.ready in
     let given = c.abandon-given_up.new.self in
     driven-over g.R.Receipt.keeps g.R.Receipt.stands g.F.Key.Ord.cmp g.F.Functions.meaning g.F.Functions.code c.args.op v c.drive.new.partition c.args.slot k c.args.limit c.args.clock.now c.in-Ok.now c.drive.new.clock (g.P.PageReader.failures c.args.reader.now) (g.P.PageReader.failures c.drive.new.reader) issued.opens first.0 first.2 given c.in-Err-drive.refused (rw first.1 at drives)
-    (given-over c.drive.new.partition.core given.core c.args.slot k c.drive.new.partition.core.moment c.abandon-given_up.result c.abandon-given_up.ensures.does)
+    (given-over c.drive.new.partition.core given.core c.args.slot k c.drive.new.partition.core.moment c.abandon-given_up.result c.abandon-given_up.ensures.effect)
 
 pub returns-in-Ok-drive-clause-bound : goal.returns-in-Ok-drive-clause-bound
 returns-in-Ok-drive-clause-bound g c = λ kept clear.
@@ -60,7 +60,7 @@ returns-in-Ok-drive-clause-bound g c = λ kept clear.
     let v = c.args.partition.now in
     let w = c.issue.new.self in
     let k = c.in-Ok-issue.context in
-    let issued = issue-told g.F.Functions.code v w c.args.slot k c.in-Ok.now c.args.op (issued-on-key g.F.Functions.code v w c.args.slot c.in-Ok.now c.args.op c.op.result (Ok k) c.op.ensures c.in-Ok-issue.ensures.does) in
+    let issued = issue-told g.F.Functions.code v w c.args.slot k c.in-Ok.now c.args.op (issued-on-key g.F.Functions.code v w c.args.slot c.in-Ok.now c.args.op c.op.result (Ok k) c.op.ensures c.in-Ok-issue.ensures.effect) in
     let begun = issue-begun g.F.Functions.code v w c.args.slot k c.in-Ok.now c.args.op issued c.known.ensures.core.places c.in-Ok-issue.ensures.within.0 in
     let hashed : c.hash-hash.result ≡ g.F.Functions.code (key_of c.args.op) = c.hash-hash.ensures ∙ ap g.F.Functions.code c.key.ensures in
     let fits = c.hash-hash.type_inv in
@@ -77,7 +77,7 @@ returns-in-Err-drive-clause-bound g c = λ kept clear.
     let v = c.args.partition.now in
     let w = c.issue.new.self in
     let k = c.in-Ok-issue.context in
-    let issued = issue-told g.F.Functions.code v w c.args.slot k c.in-Ok.now c.args.op (issued-on-key g.F.Functions.code v w c.args.slot c.in-Ok.now c.args.op c.op.result (Ok k) c.op.ensures c.in-Ok-issue.ensures.does) in
+    let issued = issue-told g.F.Functions.code v w c.args.slot k c.in-Ok.now c.args.op (issued-on-key g.F.Functions.code v w c.args.slot c.in-Ok.now c.args.op c.op.result (Ok k) c.op.ensures c.in-Ok-issue.ensures.effect) in
     let begun = issue-begun g.F.Functions.code v w c.args.slot k c.in-Ok.now c.args.op issued c.known.ensures.core.places c.in-Ok-issue.ensures.within.0 in
     let hashed : c.hash-hash.result ≡ g.F.Functions.code (key_of c.args.op) = c.hash-hash.ensures ∙ ap g.F.Functions.code c.key.ensures in
     let fits = c.hash-hash.type_inv in
@@ -89,7 +89,7 @@ returns-in-Err-drive-clause-bound g c = λ kept clear.
     omega arith
 
 pub returns-in-Err-clause-enough : goal.returns-in-Err-clause-enough
-returns-in-Err-clause-enough g c = λ kept clear low e. elim c.in-Err.ensures.err.1 [
+returns-in-Err-clause-enough g c = λ kept clear low e. elim c.in-Err.ensures.refused.1 [
   | inl a ↦ absurd (let none = a.1 in omega arith)
   | inr b ↦ absurd (let is = b.0 in cc)
 ]
@@ -97,7 +97,7 @@ returns-in-Err-clause-enough g c = λ kept clear low e. elim c.in-Err.ensures.er
 pub returns-in-Err-issue-clause-enough : goal.returns-in-Err-issue-clause-enough
 returns-in-Err-issue-clause-enough g c = λ kept clear low e.
     (let v = c.args.partition.now in
-    let does = issued-on-key g.F.Functions.code v c.issue.new.self c.args.slot c.in-Ok.now c.args.op c.op.result (Err c.in-Err-issue.refused) c.op.ensures c.in-Err-issue.ensures.does in
+    let does = issued-on-key g.F.Functions.code v c.issue.new.self c.args.slot c.in-Ok.now c.args.op c.op.result (Err c.in-Err-issue.refused) c.op.ensures c.in-Err-issue.ensures.effect in
     issue-stalled g.F.Functions.code v c.issue.new.self c.args.slot c.in-Ok.now c.args.op c.in-Err-issue.refused does (cc))
 
 pub returns-in-Ok-drive-clause-enough : goal.returns-in-Ok-drive-clause-enough
@@ -109,7 +109,7 @@ returns-in-Err-drive-clause-enough g c = λ kept clear low e.
     let v = c.args.partition.now in
     let w = c.issue.new.self in
     let k = c.in-Ok-issue.context in
-    let issued = issue-told g.F.Functions.code v w c.args.slot k c.in-Ok.now c.args.op (issued-on-key g.F.Functions.code v w c.args.slot c.in-Ok.now c.args.op c.op.result (Ok k) c.op.ensures c.in-Ok-issue.ensures.does) in
+    let issued = issue-told g.F.Functions.code v w c.args.slot k c.in-Ok.now c.args.op (issued-on-key g.F.Functions.code v w c.args.slot c.in-Ok.now c.args.op c.op.result (Ok k) c.op.ensures c.in-Ok-issue.ensures.effect) in
     let begun = issue-begun g.F.Functions.code v w c.args.slot k c.in-Ok.now c.args.op issued c.known.ensures.core.places c.in-Ok-issue.ensures.within.0 in
     let hashed : c.hash-hash.result ≡ g.F.Functions.code (key_of c.args.op) = c.hash-hash.ensures ∙ ap g.F.Functions.code c.key.ensures in
     let fits = c.hash-hash.type_inv in
@@ -123,7 +123,7 @@ returns-in-Ok-drive-clause-others g c = λ kept s e other.
     let v = c.args.partition.now in
     let w = c.issue.new.self in
     let k = c.in-Ok-issue.context in
-    let issued = issue-told g.F.Functions.code v w c.args.slot k c.in-Ok.now c.args.op (issued-on-key g.F.Functions.code v w c.args.slot c.in-Ok.now c.args.op c.op.result (Ok k) c.op.ensures c.in-Ok-issue.ensures.does) in
+    let issued = issue-told g.F.Functions.code v w c.args.slot k c.in-Ok.now c.args.op (issued-on-key g.F.Functions.code v w c.args.slot c.in-Ok.now c.args.op c.op.result (Ok k) c.op.ensures c.in-Ok-issue.ensures.effect) in
     pend-free g.F.Key.Ord.cmp v w.core c.drive.new.partition.core c.args.slot k s e (c.in-Ok-issue.ensures.pends kept) (c.in-Ok-drive.ensures.others kept) issued.opens.free other
 
 pub returns-in-Err-drive-clause-others : goal.returns-in-Err-drive-clause-others
@@ -132,15 +132,15 @@ returns-in-Err-drive-clause-others g c = λ kept s e other.
     let v = c.args.partition.now in
     let w = c.issue.new.self in
     let k = c.in-Ok-issue.context in
-    let issued = issue-told g.F.Functions.code v w c.args.slot k c.in-Ok.now c.args.op (issued-on-key g.F.Functions.code v w c.args.slot c.in-Ok.now c.args.op c.op.result (Ok k) c.op.ensures c.in-Ok-issue.ensures.does) in
+    let issued = issue-told g.F.Functions.code v w c.args.slot k c.in-Ok.now c.args.op (issued-on-key g.F.Functions.code v w c.args.slot c.in-Ok.now c.args.op c.op.result (Ok k) c.op.ensures c.in-Ok-issue.ensures.effect) in
     let given = c.abandon-given_up.new.self in
     pend-free g.F.Key.Ord.cmp v w.core given.core c.args.slot k s e (c.in-Ok-issue.ensures.pends kept)
     (pend-then g.F.Key.Ord.cmp w.core c.drive.new.partition.core given.core c.args.slot k (c.in-Err-drive.ensures.others kept)
-    (given-others g.F.Key.Ord.cmp c.drive.new.partition.core given.core c.args.slot k c.drive.new.partition.core.moment c.abandon-given_up.result c.abandon-given_up.ensures.does))
+    (given-others g.F.Key.Ord.cmp c.drive.new.partition.core given.core c.args.slot k c.drive.new.partition.core.moment c.abandon-given_up.result c.abandon-given_up.ensures.effect))
     issued.opens.free other
 
 pub returns-in-Err-issue-clause-rest : goal.returns-in-Err-issue-clause-rest
-returns-in-Err-issue-clause-rest g c = rest-same c.args.partition.now c.issue.new.self c.in-Err-issue.ensures.err
+returns-in-Err-issue-clause-rest g c = rest-same c.args.partition.now c.issue.new.self c.in-Err-issue.ensures.unchanged
 
 pub returns-in-Ok-drive-clause-rest : goal.returns-in-Ok-drive-clause-rest
 returns-in-Ok-drive-clause-rest g c =
@@ -148,7 +148,7 @@ returns-in-Ok-drive-clause-rest g c =
     let v = c.args.partition.now in
     let w = c.issue.new.self in
     let k = c.in-Ok-issue.context in
-    let issued = issue-told g.F.Functions.code v w c.args.slot k c.in-Ok.now c.args.op (issued-on-key g.F.Functions.code v w c.args.slot c.in-Ok.now c.args.op c.op.result (Ok k) c.op.ensures c.in-Ok-issue.ensures.does) in
+    let issued = issue-told g.F.Functions.code v w c.args.slot k c.in-Ok.now c.args.op (issued-on-key g.F.Functions.code v w c.args.slot c.in-Ok.now c.args.op c.op.result (Ok k) c.op.ensures c.in-Ok-issue.ensures.effect) in
     rest-then v w c.drive.new.partition (issue-rest g.F.Functions.code v w c.args.slot k c.in-Ok.now c.args.op issued) c.in-Ok-drive.ensures.rest
 
 pub returns-in-Err-drive-clause-rest : goal.returns-in-Err-drive-clause-rest
@@ -157,7 +157,7 @@ returns-in-Err-drive-clause-rest g c =
     let v = c.args.partition.now in
     let w = c.issue.new.self in
     let k = c.in-Ok-issue.context in
-    let issued = issue-told g.F.Functions.code v w c.args.slot k c.in-Ok.now c.args.op (issued-on-key g.F.Functions.code v w c.args.slot c.in-Ok.now c.args.op c.op.result (Ok k) c.op.ensures c.in-Ok-issue.ensures.does) in
+    let issued = issue-told g.F.Functions.code v w c.args.slot k c.in-Ok.now c.args.op (issued-on-key g.F.Functions.code v w c.args.slot c.in-Ok.now c.args.op c.op.result (Ok k) c.op.ensures c.in-Ok-issue.ensures.effect) in
     let driven = rest-then v w c.drive.new.partition (issue-rest g.F.Functions.code v w c.args.slot k c.in-Ok.now c.args.op issued) c.in-Err-drive.ensures.rest in
     rest-then v c.drive.new.partition c.abandon-given_up.new.self driven c.abandon-given_up.ensures.rest
 

@@ -12,7 +12,7 @@ step-requires-clause-none g c = none-then c.args.partition.now c.loop-turn.parti
 pub returns-in-Err-clause-drives : goal.returns-in-Err-clause-drives
 returns-in-Err-clause-drives g c = λ op old started h.
     let i = c.loop-turn.invariant in
-    let same = c.in-Err.ensures.err in
+    let same = c.in-Err.ensures.unchanged in
     let last = c.tick.ensures.worn.0 (c.in-Err.is ∙ ap Err c.in-Err.ensures.only) in
     let below = c.loop-turn-test.true in
     Drives.spent
@@ -81,7 +81,7 @@ returns-in-Err-clause-bound g c = λ n kept near.
     let more = i.near n kept near in
     let total = more.1 in
     let k = i.taken in
-    let same = c.in-Err.ensures.err in
+    let same = c.in-Err.ensures.unchanged in
     omega arith
 
 pub returns-in-Err-step-clause-bound : goal.returns-in-Err-step-clause-bound
@@ -161,7 +161,7 @@ pub returns-in-Err-clause-within : goal.returns-in-Err-clause-within
 returns-in-Err-clause-within g c =
     let k = c.loop-turn.invariant.taken in
     let below = c.loop-turn-test.true in
-    let same = c.in-Err.ensures.err in
+    let same = c.in-Err.ensures.unchanged in
     omega arith
 
 pub returns-in-Err-step-clause-within : goal.returns-in-Err-step-clause-within

@@ -3,4 +3,4 @@ use Rattle.fkv_commands.proofs.TellingLemmas.{told_from_front}
 use Rattle.fkv_commands.proofs.running.refuse_words.Goals as goal
 
 pub returns-clause-told : goal.returns-clause-told
-returns-clause-told g c = told_from_front _ _ _ _ (search rules) c.write_out-untold.result c.write_out-untold.ensures.ok c.write_out-untold.ensures.err
+returns-clause-told g c = told_from_front _ _ _ _ (search rules) c.write_out-untold.result c.write_out-untold.ensures.ok c.write_out-untold.ensures.refused

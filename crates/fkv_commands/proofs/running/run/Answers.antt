@@ -1,4 +1,4 @@
-use Rattle.std.proofs.Common.{Err, refl, ap, map, string_bytes, inl, inr}
+use Rattle.std.proofs.Common.{⊎_elim, Err, refl, ap, map, string_bytes, inl, inr}
 use Rattle.fkv_requests.specs.Requests.{AsksReplay, AsksTable, MayAskHelp, MayAskVersion, MayBeMistaken}
 use Rattle.fkv_commands.proofs.TellingLemmas.{unwritable_or}
 use Rattle.fkv_commands.proofs.StatusLemmas.{done_is_no_fault, done_is_no_mistake, fault_is_no_mistake, uncounted}
@@ -10,7 +10,7 @@ returns-in-Ok g c =
     let asks : AsksReplay (map string_bytes c.args.words.now) = rw c.in-Ok-Replay.field-0-is at c.in-Ok-Replay.ensures.ok in
     record {
       done = λ _. inl (asks, c.in-Ok.ensures.ok);
-      quiet = λ _. refl;
+      quiet = λ _. inl refl;
       out = λ _. c.in-Ok.ensures.out;
       steady = λ _. (uncounted c.in-Ok.ensures.unread, uncounted c.in-Ok.ensures.unwritten);
       fault = λ e. absurd (done_is_no_fault 0 refl e);
@@ -23,7 +23,7 @@ returns-in-Ok-tabulate g c =
     let asks : AsksTable (map string_bytes c.args.words.now) c.in-Ok-Table.table = rw c.in-Ok-Table.field-0-is at c.in-Ok-Table.ensures.ok in
     record {
       done = λ _. inr (inl (c.in-Ok-Table.table, asks, c.in-Ok-tabulate.ensures.ok));
-      quiet = λ _. refl;
+      quiet = λ _. ⊎_elim (λ same. inl same) (λ asked. inr (c.in-Ok-Table.table, asks, asked)) c.report.ensures;
       out = λ _. c.in-Ok-tabulate.ensures.out;
       steady = λ _. c.in-Ok-tabulate.ensures.steady;
       fault = λ e. absurd (done_is_no_fault 0 refl e);
@@ -36,7 +36,7 @@ returns-in-Ok-write_out g c =
     let asks : MayAskHelp (map string_bytes c.args.words.now) = rw c.in-Ok-Help.field-0-is at c.in-Ok-Help.ensures.ok in
     record {
       done = λ _. inr (inr (inr asks));
-      quiet = λ _. refl;
+      quiet = λ _. inl refl;
       out = λ _. c.in-Ok-write_out.ensures.out;
       steady = λ _. (refl, uncounted c.in-Ok-write_out.ensures.counted);
       fault = λ e. absurd (done_is_no_fault 0 refl e);
@@ -49,7 +49,7 @@ returns-in-Ok-write_version g c =
     let asks : MayAskVersion (map string_bytes c.args.words.now) = rw c.in-Ok-Version.field-0-is at c.in-Ok-Version.ensures.ok in
     record {
       done = λ _. inr (inr (inl (asks, c.in-Ok-write_version.ensures.ok)));
-      quiet = λ _. refl;
+      quiet = λ _. inl refl;
       out = λ _. c.in-Ok-write_version.ensures.out;
       steady = λ _. (refl, c.in-Ok-write_version.ensures.steady);
       fault = λ e. absurd (done_is_no_fault 0 refl e);
@@ -115,7 +115,7 @@ returns-in-Ok-Version g c =
       quiet = λ e. absurd (done_is_no_fault _ e told);
       out = λ e. absurd (done_is_no_fault _ e told);
       steady = λ e. absurd (done_is_no_fault _ e told);
-      fault = λ _. inr (inr (inr (inl (asks, c.in-Err-write_version.ensures.err))));
+      fault = λ _. inr (inr (inr (inl (asks, c.in-Err-write_version.ensures.refused))));
       mistake = λ e. absurd (fault_is_no_mistake _ told e);
       only = inr (inl told);
     }

@@ -8,8 +8,8 @@ returns-clause-ok g c =
     let same : c.as_bytes.result.now ≡ version_line = c.as_bytes.ensures.value in
     rw same at c.write_out.ensures.ok
 
-pub returns-clause-err : goal.returns-clause-err
+pub returns-clause-refused : goal.returns-clause-refused
 unfolding version_line
-returns-clause-err g c =
+returns-clause-refused g c =
     let same : c.as_bytes.result.now ≡ version_line = c.as_bytes.ensures.value in
-    rw same at c.write_out.ensures.err
+    rw same at c.write_out.ensures.refused

@@ -1,4 +1,4 @@
-use Rattle.std.proofs.Common.{◌≡◌, ◌++◌, ◌∷◌, [], true, false, refl, ◌∙◌, rules, arith, length-append, append_assoc}
+use Rattle.std.proofs.Common.{◌≡◌, ◌++◌, ◌∷◌, [], true, false, refl, sym, ◌∙◌, rules, arith, length-append, append_assoc}
 use Rattle.std.proofs.Common.{inl, inr}
 use Rattle.std.specs.Prelude.{FitsSigned}
 use Rattle.std.specs.Int.{w64}
@@ -7,7 +7,7 @@ use Rattle.std.proofs.lemmas.List.{append-nil}
 use Rattle.fkv_feed_rows.proofs.AmountLemmas.{amount_fits}
 use Rattle.csv.specs.Reading.{source_of}
 use Rattle.csv.specs.Records.{fields_of}
-use Rattle.fkv_feed_rows.proofs.RecordLemmas.{are_rows-more, has_read-start, has_read-more, has_read-end, bad_row, too_long}
+use Rattle.fkv_feed_rows.proofs.RecordLemmas.{are_rows-more, are_rows-length, has_read-start, has_read-more, has_read-end, bad_row, too_long}
 use Rattle.fkv_feed_rows.proofs.reading.add_rows.Goals as goal
 
 pub loop-count-init : goal.loop-count-init
@@ -27,6 +27,7 @@ returns-in-Ok-false-clause-ok g c =
       old.so_far.1,
       has_read-end g.R.Read.remaining c.args.limit (source_of g.R.Read.remaining c.args.reader.now) c.loop-count.reader c.read_byte_record.new.self (fields_of c.read_byte_record.new.row) old.so_far.0 old.so_far.1 old.config old.so_far.2 read old.so_far.3 (omega (arith, old.so_far.4)),
       old.so_far.5 before h,
+      old.so_far.4 ∙ sym (are_rows-length old.so_far.0 old.so_far.1 old.so_far.3),
     )
 
 pub returns-in_default-clause-told : goal.returns-in_default-clause-told
@@ -83,6 +84,7 @@ returns-in-Ok-false-read_byte_record-clause-ok g c =
       old.so_far.1,
       has_read-end g.R.Read.remaining c.args.limit (source_of g.R.Read.remaining c.args.reader.now) c.loop-count.reader c.read_byte_record-2.new.self (fields_of c.read_byte_record-2.new.row) old.so_far.0 old.so_far.1 old.config old.so_far.2 read old.so_far.3 (omega (arith, old.so_far.4)),
       old.so_far.5 before h,
+      omega (arith, old.so_far.4, are_rows-length old.so_far.0 old.so_far.1 old.so_far.3),
     )
 
 pub add-requires : goal.add-requires

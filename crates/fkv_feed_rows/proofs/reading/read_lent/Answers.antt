@@ -1,6 +1,6 @@
 use Rattle.std.proofs.Common.{ℕ, ℤ, List, Option, None, Some, ap, ◌∙◌, subst}
 use Rattle.std.specs.Prelude.{option_map}
-use Rattle.std.proofs.lemmas.Result.{on_ok_weaker}
+use Rattle.std.proofs.lemmas.Result.{IfOk-weaker}
 use Rattle.csv.specs.Reading.{strip_bom}
 use Rattle.fkv_functions.specs.declared.names.Name.{Name}
 use Rattle.fkv_feed_rows.specs.Feeds.{IsFeed}
@@ -15,7 +15,7 @@ feed-of limit (Some bytes) rows h = h
 pub returns-clause-ok : goal.returns-clause-ok
 returns-clause-ok g c =
     let source = c.from_reader-reader.ensures.source ∙ ap (λ o. option_map strip_bom (g.S.Source.remaining o)) c.new-2.ensures.source in
-    on_ok_weaker c.add_rows-told.result
-    (λ h before stands. (let found = h before stands in
-    (found.0, feed-of c.args.limit (g.S.Source.remaining c.args.source.now) found.0 (subst (λ o. AreRowsIn c.args.limit o found.0) source found.1), found.2)))
+    IfOk-weaker c.add_rows-told.result _ _
+    (λ count h before stands. (let found = h before stands in
+    (found.0, feed-of c.args.limit (g.S.Source.remaining c.args.source.now) found.0 (subst (λ o. AreRowsIn c.args.limit o found.0) source found.1), found.2, found.3)))
     c.add_rows-told.ensures.ok

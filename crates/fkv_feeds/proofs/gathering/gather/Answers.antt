@@ -1,9 +1,9 @@
-use Rattle.std.proofs.Common.{◌≡◌, ◌≢◌, ◌<◌, length, map, slice_get, Some, get_or, inr, refl, sym, ap, ◌∙◌, subst, arith}
+use Rattle.std.proofs.Common.{◌≡◌, ◌≢◌, ◌<◌, length, map, slice_get, slice_set, Some, get_or, refl, sym, ap, ◌∙◌, subst, arith}
 use Rattle.std.proofs.lemmas.List.{length-set}
 use Rattle.std.proofs.lemmas.Option.{slice_get-get_or}
 use Rattle.std.specs.BTreeMap.{get}
 use Rattle.fkv_partition.specs.CoreViews.{partition_of}
-use Rattle.fkv_feeds.proofs.RunLemmas.{view-get, view-same}
+use Rattle.fkv_feeds.proofs.RunLemmas.{view-get, view-same, view-set}
 use Rattle.fkv_partition.proofs.UnionLemmas.{live-more}
 use Rattle.fkv_feeds.proofs.gathering.gather.Goals as goal
 
@@ -20,6 +20,7 @@ loop-index-preserved g c =
     let there : slice_get views i ≡ Some x.partition = ap (λ vs. slice_get vs i) (sym old.views) ∙ view-get (λ shard. shard.partition) items i x here in
     record {
       views = view-same (λ shard. shard.partition) items i x _ here refl ∙ old.views;
+      counts = view-same (λ shard. g.D.Reader.PageReader.failures shard.reader) items i x _ here c.in-Ok.ensures.steady ∙ old.counts;
       sized = length-set items i _ ∙ old.sized;
       so_far = λ keeps q.
           live-more g.F.Key.Ord.cmp g.F.Functions.code views i x.partition (get g.F.Key.Ord.cmp c.loop-index.tree) _ there
@@ -31,4 +32,20 @@ loop-index-preserved g c =
     }
 
 pub returns-in-Err-clause-told : goal.returns-in-Err-clause-told
-returns-in-Err-clause-told g c = inr (_, _, _, _, c.in-Err.ensures.refused)
+returns-in-Err-clause-told g c =
+    let old = c.loop-index.invariant in
+    let i = c.loop-index.index in
+    let items = c.loop-index.shards in
+    let x = get_or items i c.index-shards-index.result in
+    let low : i < length items = (let t = c.loop-index-test.true in let s = c.loop-index.auto.shards in omega arith) in
+    let here : slice_get items i ≡ Some x = slice_get-get_or items i c.index-shards-index.result low in
+    record {
+      place = i;
+      view = x.partition;
+      before = x.reader;
+      after = c.put_live.new.reader;
+      here = ap (λ vs. slice_get vs i) (sym old.views) ∙ view-get (λ shard. shard.partition) items i x here;
+      was = ap (λ cs. slice_get cs i) (sym old.counts) ∙ view-get (λ shard. g.D.Reader.PageReader.failures shard.reader) items i x here;
+      is = view-set (λ shard. g.D.Reader.PageReader.failures shard.reader) items i _ ∙ ap (λ cs. slice_set cs i (g.D.Reader.PageReader.failures c.put_live.new.reader)) old.counts;
+      refused = c.in-Err.ensures.refused;
+    }

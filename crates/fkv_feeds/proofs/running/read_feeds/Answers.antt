@@ -1,4 +1,4 @@
-use Rattle.std.proofs.Common.{◌≡◌, ◌++◌, ◌<◌, Some, slice_get, get_or, length, ◌∙◌, arith}
+use Rattle.std.proofs.Common.{◌≡◌, ◌++◌, ◌<◌, Some, slice_get, get_or, length, ◌∙◌, arith, length-append}
 use Rattle.std.proofs.lemmas.Option.{slice_get-get_or}
 use Rattle.fkv_feeds.specs.Faults.{IsRunFault}
 use Rattle.fkv_feeds.proofs.FeedsLemmas.{unread-here, unread-next, counts-kept, feeds-next, stopped}
@@ -29,5 +29,7 @@ loop-index-preserved g c =
         old.so_far.0 ++ found.0,
         feeds-next g.S.Source.remaining c.args.feeds.now i x old.so_far.0 found.0 (unread-here c.loop-index.feeds c.args.feeds.now i x old.unread here) old.so_far.1 found.1,
         found.2,
+        (let so_far = old.so_far.3 in let one = found.3 in omega (arith, length-append old.so_far.0 found.0)),
       );
+      few = (let so_far = old.few in let one = c.in-Ok.ensures.within in omega arith);
     }

@@ -1,4 +1,4 @@
-use Rattle.std.proofs.Common.{◌≡◌, ℤ, List, take, drop, map}
+use Rattle.std.proofs.Common.{◌≡◌, ◌≤◌, ◌*◌, ◌^◌, ℤ, List, length, take, drop, map}
 use Rattle.fkv_functions.specs.Names.{name_cmp}
 use Rattle.fkv_functions.specs.declared.names.Name.{Name}
 use Rattle.fkv_feeds.specs.Tables.{AreFeeds, most_rows}
@@ -11,5 +11,7 @@ invariant-loop-index g l = record {
   unread : drop l.index l.feeds ≡ drop l.index l.initial.feeds;
   so_far : (rows : List (Name × ℤ))
       × AreFeeds most_rows (map g.S.Source.remaining (take l.index l.initial.feeds)) rows
-      × StandFor g.D.Receipt.Receipt.keeps name_cmp g.F.Functions.meaning g.F.Functions.code (map (λ shard. shard.partition) l.shards.shards.items) l.shards.terms.slot l.shards.clock rows;
+      × StandFor g.D.Receipt.Receipt.keeps name_cmp g.F.Functions.meaning g.F.Functions.code (map (λ shard. shard.partition) l.shards.shards.items) l.shards.terms.slot l.shards.clock rows
+      × (l.rows ≡ length rows);
+  few : l.rows ≤ l.index * 2 ^ 40;
 }

@@ -1,18 +1,19 @@
-use Rattle.std.proofs.Common.{◌≡◌, [], ◌∷◌, inl, inr, refl, sym, ap}
+use Rattle.std.proofs.Common.{◌≡◌, [], ◌∷◌, refl, sym, ap, ◌∙◌}
 use Rattle.std.proofs.lemmas.List.{append-nil}
+use Rattle.std.proofs.lemmas.Result.{IfOk-weaker}
 use Rattle.fkv_feeds.specs.Faults.{IsRunFault, IsDeviceFault}
 use Rattle.fkv_feeds.specs.Tables.{IsTableOf}
 use Rattle.fkv_feeds.proofs.FeedsLemmas.{stopped, devices-by, stopped-by, why_none, both_ok, err_weaker}
 use Rattle.fkv_feeds.proofs.running.run_alone.Goals as goal
 
-pub table_in-requires : goal.table_in-requires
-table_in-requires g c = record { stands = let found = c.in-Ok-read_feed.ensures.ok [] c.in-Ok.ensures.ok in (found.0, found.2) }
+pub finish-requires : goal.finish-requires
+finish-requires g c = record { stands = let found = c.in-Ok-read_feed.ensures.ok [] c.in-Ok.ensures.ok in (found.0, found.2) }
 
 pub returns-in-Ok-read_feed-clause-ok : goal.returns-in-Ok-read_feed-clause-ok
 returns-in-Ok-read_feed-clause-ok g c =
     let found = c.in-Ok-read_feed.ensures.ok [] c.in-Ok.ensures.ok in
-    λ keeps. both_ok (IsTableOf g.F.Functions.meaning (g.S.Source.remaining c.args.feed.now ∷ [])) c.table_in.result (c.table_in.ensures.value keeps) c.table_in.ensures.rising
-    (λ pairs value rising. record {
+    λ keeps. both_ok (λ run. IsTableOf g.F.Functions.meaning (g.S.Source.remaining c.args.feed.now ∷ []) run.table) c.finish.result (c.finish.ensures.value keeps) c.finish.ensures.rising
+    (λ run value rising. record {
       rows = found.0;
       read = (found.0, [], found.1, refl, sym (append-nil found.0));
       value = value found.0 found.2;
@@ -38,12 +39,14 @@ returns-in-Ok-read_feed-clause-told g c =
     let old = g.S.Source.failures c.args.feed.now ∷ [] in
     let new = g.S.Source.failures c.read_feed.new.source ∷ [] in
     let same : new ≡ old = ap (λ n. n ∷ []) c.in-Ok-read_feed.ensures.steady in
-    err_weaker _ c.table_in.result
+    err_weaker _ c.finish.result
     (λ e h. why_none (IsRunFault g.D.Receipt.Receipt.keeps g.D.Disk.failures g.D.Writer.PageWriter.failures g.D.Reader.PageReader.failures g.F.Value.Fixed.bytes_of g.F.Value.Known.is_known g.F.Value.Fixed.SIZE) c.args.config.now _ feeds old new e
-    (elim h [
-      | inl a ↦ rw a same
-      | inr s ↦ (let fault = IsDeviceFault.unlisted s.0 s.1 s.2 s.3 s.4 in
-          stopped-by (IsRunFault g.D.Receipt.Receipt.keeps g.D.Disk.failures g.D.Writer.PageWriter.failures g.D.Reader.PageReader.failures g.F.Value.Fixed.bytes_of g.F.Value.Known.is_known g.F.Value.Fixed.SIZE) feeds old new e same fault
-          (devices-by g.D.Receipt.Receipt.keeps g.D.Disk.failures g.D.Writer.PageWriter.failures g.D.Reader.PageReader.failures _ _ e fault))
-    ]))
-    c.table_in.ensures.told
+    (let fault = IsDeviceFault.unlisted _ _ h.before h.after h.refused in
+    stopped-by (IsRunFault g.D.Receipt.Receipt.keeps g.D.Disk.failures g.D.Writer.PageWriter.failures g.D.Reader.PageReader.failures g.F.Value.Fixed.bytes_of g.F.Value.Known.is_known g.F.Value.Fixed.SIZE) feeds old new e same fault
+    (devices-by g.D.Receipt.Receipt.keeps g.D.Disk.failures g.D.Writer.PageWriter.failures g.D.Reader.PageReader.failures _ _ e fault)))
+    c.finish.ensures.told
+
+pub returns-in-Ok-read_feed-clause-counted : goal.returns-in-Ok-read_feed-clause-counted
+returns-in-Ok-read_feed-clause-counted g c =
+    let found = c.in-Ok-read_feed.ensures.ok [] c.in-Ok.ensures.ok in
+    IfOk-weaker c.finish.result _ _ (λ run same. (found.0, (found.0, [], found.1, refl, sym (append-nil found.0)), same ∙ found.3)) c.finish.ensures.counted

@@ -1,14 +1,15 @@
-use Rattle.std.proofs.Common.{◌<◌, ◌++◌, ◌∷◌, [], ℕ, length, map, inl, inr, refl, sym, ap, ◌∙◌, subst, arith}
+use Rattle.std.proofs.Common.{◌<◌, ◌++◌, ◌∷◌, [], ℕ, length, map, slice_set, inl, inr, refl, sym, ap, ◌∙◌, subst, arith}
 use Rattle.std.specs.Int.{w64}
 use Rattle.std.proofs.lemmas.Int.{to_z-of_z}
 use Rattle.std.proofs.lemmas.Option.{slice_get_read}
 use Rattle.fkv_functions.specs.Names.{name_cmp, same_names, name_ties, name_exact, name_total}
 use Rattle.fkv_functions.proofs.KeyOrder.{key_order}
+use Rattle.fkv_functions.proofs.ListLemmas.{get-set_same}
 use Rattle.fkv_partition.specs.CoreViews.{partition_of}
 use Rattle.fkv_feeds.specs.Runs.{StandFor}
 use Rattle.fkv_feeds.specs.Faults.{IsDeviceFault, IsFault}
 use Rattle.fkv_feeds.proofs.FeedsLemmas.{three_ok, err_weaker}
-use Rattle.fkv_feeds.proofs.RunLemmas.{stand-more, view-get, view-set, view-length}
+use Rattle.fkv_feeds.proofs.RunLemmas.{stand-more, view-get, view-same, view-set, view-length}
 use Rattle.fkv_feeds.proofs.SessionLemmas.{idle-tidied}
 use Rattle.fkv_feeds.proofs.shards.add_row.Goals as goal
 
@@ -82,3 +83,55 @@ returns-in-Err-clause-told g c = elim c.in-Err.ensures.told [
     ]
   ]
 ]
+
+pub returns-in-Err-clause-worn : goal.returns-in-Err-clause-worn
+returns-in-Err-clause-worn g c =
+    let items = c.args.shards.now.shards.items in
+    let home = c.home-home.result in
+    let old = c.index_mut-shard.result.now in
+    let here = slice_get_read items (length items) home old refl c.home-home.ensures.within c.index_mut-shard.ensures.value in
+    let new = c.update.new.shard in
+    λ e. (home, new.partition, view-get (λ shard. shard.partition) (slice_set items home new) home new (get-set_same items home old new here), c.update.ensures.worn (c.in-Err.is ∙ e))
+
+pub returns-in-Err-clause-memory : goal.returns-in-Err-clause-memory
+returns-in-Err-clause-memory g c =
+    let items = c.args.shards.now.shards.items in
+    let home = c.home-home.result in
+    let old = c.index_mut-shard.result.now in
+    let here = slice_get_read items (length items) home old refl c.home-home.ensures.within c.index_mut-shard.ensures.value in
+    let new = c.update.new.shard in
+    λ e. (let same = c.update.ensures.memory (c.in-Err.is ∙ e) in
+    (view-same (λ shard. g.D.Writer.PageWriter.failures shard.writer) items home old new here same.0, view-same (λ shard. g.D.Reader.PageReader.failures shard.reader) items home old new here same.1))
+
+pub returns-in-Err-clause-tried : goal.returns-in-Err-clause-tried
+returns-in-Err-clause-tried g c = λ e. c.update.ensures.tried (c.in-Err.is ∙ e)
+
+pub returns-in-Ok-clause-worn : goal.returns-in-Ok-clause-worn
+returns-in-Ok-clause-worn g c =
+    let items = c.args.shards.now.shards.items in
+    let home = c.home-home.result in
+    let old = c.index_mut-shard.result.now in
+    let here = slice_get_read items (length items) home old refl c.home-home.ensures.within c.index_mut-shard.ensures.value in
+    let new = c.tidy_at_times.new.shard in
+    λ e. (home, new.partition, view-get (λ shard. shard.partition) (slice_set items home new) home new (get-set_same items home old new here), inr (let a = c.tidy_at_times.ensures.worn e in omega arith))
+
+pub returns-in-Ok-clause-memory : goal.returns-in-Ok-clause-memory
+returns-in-Ok-clause-memory g c =
+    let items = c.args.shards.now.shards.items in
+    let home = c.home-home.result in
+    let old = c.index_mut-shard.result.now in
+    let here = slice_get_read items (length items) home old refl c.home-home.ensures.within c.index_mut-shard.ensures.value in
+    let new = c.tidy_at_times.new.shard in
+    λ e. (
+      view-same (λ shard. g.D.Writer.PageWriter.failures shard.writer) items home old new here (c.tidy_at_times.ensures.memory e ∙ c.in-Ok.ensures.steady.0),
+      view-same (λ shard. g.D.Reader.PageReader.failures shard.reader) items home old new here (ap g.D.Reader.PageReader.failures c.tidy_at_times.ensures.same_reader ∙ c.in-Ok.ensures.steady.1),
+    )
+
+pub returns-in-Ok-clause-tried : goal.returns-in-Ok-clause-tried
+returns-in-Ok-clause-tried g c = λ e. absurd (elim (rw e at c.tidy_at_times.ensures.told) [
+  | inl a ↦ cc
+  | inr b ↦ elim b [
+    | inl d ↦ cc
+    | inr f ↦ elim f.1 [ inl m ↦ (let n = m.0 in cc) | inr m ↦ (let n = m.0 in cc) ]
+  ]
+])

@@ -11,4 +11,4 @@ returns-in-Err-flush_done-clause-told g c =
     c.in-Ok-write.ensures.page ∙ c.in-Ok-flush_take.ensures.page ∙ sym (ap (λ (u : PartitionView _ _ _). length u.core.records.receipts) passes) in
     let bytes : slice_get taken.core.records.waiting 0 ≡ Some c.in-Ok-write.written.bytes =
     ap (λ (u : PartitionView _ _ _). slice_get u.core.records.waiting 0) passes ∙ c.in-Ok-flush_take.ensures.bytes ∙ ap Some (sym c.in-Ok-write.ensures.bytes) in
-    inr (inl (flush-refused taken.core c.flush_done.new.self.core (g.D.Receipt.Receipt.stands c.in-Ok-write.written.receipt) c.in-Ok-write.written.bytes c.in-Ok-tick.now c.in-Err-flush_done.refused page bytes c.in-Err-flush_done.ensures.does.does))
+    inr (inl (flush-refused taken.core c.flush_done.new.self.core (g.D.Receipt.Receipt.stands c.in-Ok-write.written.receipt) c.in-Ok-write.written.bytes c.in-Ok-tick.now c.in-Err-flush_done.refused page bytes c.in-Err-flush_done.ensures.effect.does))

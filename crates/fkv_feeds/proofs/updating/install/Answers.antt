@@ -10,14 +10,14 @@ returns-in-Ok-Next-clause-ok g c =
     let v = c.args.shard.now.partition in
     let w = c.install.new.self in
     let slot = c.args.terms.now.slot in
-    λ op o. (let l = installs-leads g.D.Receipt.Receipt.stands v w slot c.args.context op g.F.Key.Ord.cmp g.F.Functions.meaning g.F.Functions.code c.in-Ok.now c.make-built.result (Ok Next) o (subst (λ a. IsAsking v.core slot c.args.context a) (sym c.make-built.ensures) c.requires.asking) (rw c.in-Ok-Next.field-0-is at c.in-Ok-Next.ensures.does) in
+    λ op o. (let l = installs-leads g.D.Receipt.Receipt.stands v w slot c.args.context op g.F.Key.Ord.cmp g.F.Functions.meaning g.F.Functions.code c.in-Ok.now c.make-built.result (Ok Next) o (subst (λ a. IsAsking v.core slot c.args.context a) (sym c.make-built.ensures) c.requires.asking) (rw c.in-Ok-Next.field-0-is at c.in-Ok-Next.ensures.effect) in
     tried g.D.Receipt.Receipt.stands v w slot c.args.context op g.D.Receipt.Receipt.keeps g.F.Key.Ord.cmp g.F.Functions.meaning None l.0 l.1
     (λ keeps. effect-of g.D.Receipt.Receipt.stands v w slot c.args.context op g.F.Key.Ord.cmp g.F.Functions.meaning c.in-Ok.now None Next o (rw c.in-Ok-Next.field-0-is at c.in-Ok-Next.ensures.event keeps)))
 
 pub wait-requires-clause-open : goal.wait-requires-clause-open
 wait-requires-clause-open g c =
     let op = c.requires.open.0 in
-    (op, (installs-leads g.D.Receipt.Receipt.stands c.args.shard.now.partition c.install.new.self c.args.terms.now.slot c.args.context op g.F.Key.Ord.cmp g.F.Functions.meaning g.F.Functions.code c.in-Ok.now c.make-built.result (Ok (Waits _)) c.requires.open.1 (subst (λ a. IsAsking c.args.shard.now.partition.core c.args.terms.now.slot c.args.context a) (sym c.make-built.ensures) c.requires.asking) (rw c.in-Ok-Waits.field-0-is at c.in-Ok-Waits.ensures.does)).1)
+    (op, (installs-leads g.D.Receipt.Receipt.stands c.args.shard.now.partition c.install.new.self c.args.terms.now.slot c.args.context op g.F.Key.Ord.cmp g.F.Functions.meaning g.F.Functions.code c.in-Ok.now c.make-built.result (Ok (Waits _)) c.requires.open.1 (subst (λ a. IsAsking c.args.shard.now.partition.core c.args.terms.now.slot c.args.context a) (sym c.make-built.ensures) c.requires.asking) (rw c.in-Ok-Waits.field-0-is at c.in-Ok-Waits.ensures.effect)).1)
 
 pub returns-in-Ok-Waits-clause-ok : goal.returns-in-Ok-Waits-clause-ok
 returns-in-Ok-Waits-clause-ok g c =
@@ -25,7 +25,7 @@ returns-in-Ok-Waits-clause-ok g c =
     let w = c.install.new.self in
     let slot = c.args.terms.now.slot in
     IfOk-weaker c.wait.result _ _
-    (λ t h op o. (let l = installs-leads g.D.Receipt.Receipt.stands v w slot c.args.context op g.F.Key.Ord.cmp g.F.Functions.meaning g.F.Functions.code c.in-Ok.now c.make-built.result (Ok (Waits _)) o (subst (λ a. IsAsking v.core slot c.args.context a) (sym c.make-built.ensures) c.requires.asking) (rw c.in-Ok-Waits.field-0-is at c.in-Ok-Waits.ensures.does) in
+    (λ t h op o. (let l = installs-leads g.D.Receipt.Receipt.stands v w slot c.args.context op g.F.Key.Ord.cmp g.F.Functions.meaning g.F.Functions.code c.in-Ok.now c.make-built.result (Ok (Waits _)) o (subst (λ a. IsAsking v.core slot c.args.context a) (sym c.make-built.ensures) c.requires.asking) (rw c.in-Ok-Waits.field-0-is at c.in-Ok-Waits.ensures.effect) in
     tries-then g.D.Receipt.Receipt.stands v w slot c.args.context op g.D.Receipt.Receipt.keeps g.F.Key.Ord.cmp g.F.Functions.meaning c.wait.new.shard.partition t l.0
     (λ keeps. effect-of g.D.Receipt.Receipt.stands v w slot c.args.context op g.F.Key.Ord.cmp g.F.Functions.meaning c.in-Ok.now None (Waits _) o (rw c.in-Ok-Waits.field-0-is at c.in-Ok-Waits.ensures.event keeps))
     (h op l.1)))
@@ -36,6 +36,6 @@ returns-in-Ok-Done-clause-ok g c =
     let v = c.args.shard.now.partition in
     let w = c.install.new.self in
     let slot = c.args.terms.now.slot in
-    λ op o. (let l = installs-leads g.D.Receipt.Receipt.stands v w slot c.args.context op g.F.Key.Ord.cmp g.F.Functions.meaning g.F.Functions.code c.in-Ok.now c.make-built.result (Ok (Done _ _)) o (subst (λ a. IsAsking v.core slot c.args.context a) (sym c.make-built.ensures) c.requires.asking) (rw c.in-Ok-Done.field-0-is at c.in-Ok-Done.ensures.does) in
+    λ op o. (let l = installs-leads g.D.Receipt.Receipt.stands v w slot c.args.context op g.F.Key.Ord.cmp g.F.Functions.meaning g.F.Functions.code c.in-Ok.now c.make-built.result (Ok (Done _ _)) o (subst (λ a. IsAsking v.core slot c.args.context a) (sym c.make-built.ensures) c.requires.asking) (rw c.in-Ok-Done.field-0-is at c.in-Ok-Done.ensures.effect) in
     finished g.D.Receipt.Receipt.stands v w slot c.args.context op g.D.Receipt.Receipt.keeps g.F.Key.Ord.cmp g.F.Functions.meaning l.0 l.1
     (λ keeps. effect-of g.D.Receipt.Receipt.stands v w slot c.args.context op g.F.Key.Ord.cmp g.F.Functions.meaning c.in-Ok.now None (Done _ _) o (rw c.in-Ok-Done.field-0-is at c.in-Ok-Done.ensures.event keeps)))

@@ -10,11 +10,11 @@ use Rattle.fkv_feeds.proofs.updating.update_by_turns.Goals as goal
 
 pub returns-in-Err-issue-clause-told : goal.returns-in-Err-issue-clause-told
 returns-in-Err-issue-clause-told g c =
-    absurd (issued-always g.F.Functions.code c.args.shard.now.partition c.issue.new.self c.args.terms.now.slot c.in-Ok.now c.args.key.now c.args.input.now c.in-Err-issue.refused c.requires.idle c.requires.own c.in-Err-issue.ensures.does)
+    absurd (issued-always g.F.Functions.code c.args.shard.now.partition c.issue.new.self c.args.terms.now.slot c.in-Ok.now c.args.key.now c.args.input.now c.in-Err-issue.refused c.requires.idle c.requires.own c.in-Err-issue.ensures.effect)
 
 pub loop-turn-init : goal.loop-turn-init
 loop-turn-init g c =
-    let issued = issue-opens g.F.Functions.code c.args.shard.now.partition c.issue.new.self c.args.terms.now.slot c.in-Ok-issue.context c.in-Ok.now c.args.key.now c.args.input.now c.requires.idle c.known.ensures.core.places c.in-Ok-issue.ensures.does in
+    let issued = issue-opens g.F.Functions.code c.args.shard.now.partition c.issue.new.self c.args.terms.now.slot c.in-Ok-issue.context c.in-Ok.now c.args.key.now c.args.input.now c.requires.idle c.known.ensures.core.places c.in-Ok-issue.ensures.effect in
     record {
       seat = issued.seat;
       live = λ keeps q. ap (λ t. live g.F.Key.Ord.cmp t q) issued.text;
@@ -22,6 +22,7 @@ loop-turn-init g c =
       count = issued.count;
       past = (let m = c.in-Ok-issue.ensures.moment in let given = c.in-Ok.ensures.given in omega arith);
       later = (let given = c.in-Ok.ensures.given in let ok = c.in-Ok.ensures.ok in omega arith);
+      tried = refl;
       writer = refl;
       reader = refl;
     }
@@ -31,6 +32,9 @@ attempt-requires-clause-open g c = (Rmw c.args.key.now c.args.input.now, c.loop-
 
 pub attempt-requires-clause-past : goal.attempt-requires-clause-past
 attempt-requires-clause-past g c = c.loop-turn.invariant.past
+
+pub attempt-requires-clause-few : goal.attempt-requires-clause-few
+attempt-requires-clause-few g c = let a = c.loop-turn.invariant.tried in let t = c.loop-turn-test.true in omega arith
 
 pub returns-in-Ok-Done-clause-idle : goal.returns-in-Ok-Done-clause-idle
 returns-in-Ok-Done-clause-idle g c =
@@ -75,9 +79,16 @@ loop-turn-preserved g c =
       count = h.seat.count ∙ old.count;
       past = c.in-Ok-On.ensures.past;
       later = (let a = old.later in let b = c.in-Ok-On.ensures.later in omega arith);
+      tried = (let a = old.tried in let b = c.in-Ok-On.ensures.counted in omega arith);
       writer = c.in-Ok-On.ensures.steady.0 ∙ old.writer;
       reader = c.in-Ok-On.ensures.steady.1 ∙ old.reader;
     }
 
 pub returns-clause-stalled : goal.returns-clause-stalled
 returns-clause-stalled g c = λ e. (let a = c.loop-turn.invariant.later in let t = c.loop-turn-test.false in let u = c.loop-turn.auto in omega arith)
+
+pub returns-clause-tried : goal.returns-clause-tried
+returns-clause-tried g c = λ e. (let a = c.loop-turn.invariant.tried in let t = c.loop-turn-test.false in let u = c.loop-turn.auto in omega arith)
+
+pub returns-in-Err-attempt-clause-memory : goal.returns-in-Err-attempt-clause-memory
+returns-in-Err-attempt-clause-memory g c = λ e. (let same = c.attempt.ensures.memory (let is = c.in-Err-attempt.is in cc) in (same.0 ∙ c.loop-turn.invariant.writer, same.1 ∙ c.loop-turn.invariant.reader))

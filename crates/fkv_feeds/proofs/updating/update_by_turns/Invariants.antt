@@ -13,6 +13,7 @@ invariant-loop-turn g l = record {
   count : l.shard.partition.core.count ≡ l.fn.shard.partition.core.count;
   past : l.shard.partition.core.moment ≤ l.clock;
   later : l.fn.clock + l._turn < l.clock;
+  tried : l.tries ≡ l._turn;
   writer : g.D.Writer.PageWriter.failures l.shard.writer ≡ g.D.Writer.PageWriter.failures l.fn.shard.writer;
   reader : g.D.Reader.PageReader.failures l.shard.reader ≡ g.D.Reader.PageReader.failures l.fn.shard.reader;
 }

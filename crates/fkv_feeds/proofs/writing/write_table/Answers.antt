@@ -13,4 +13,4 @@ returns-in-Ok-clause-ok g c =
 pub returns-in-Ok-clause-unwritable : goal.returns-in-Ok-clause-unwritable
 returns-in-Ok-clause-unwritable g c =
     λ e. subst (λ text. AppendsPrefix (g.W.Sink.contents c.args.writer.now) (g.W.Sink.contents c.write_out.new.writer) text)
-    (c.as_slice.ensures.value ∙ c.in-Ok.ensures.ok ∙ ap (table_text g.V.Integer.text) c.map.ensures) (rw e at c.write_out.ensures.err)
+    (c.as_slice.ensures.value ∙ c.in-Ok.ensures.ok ∙ ap (table_text g.V.Integer.text) c.map.ensures) (rw e at c.write_out.ensures.refused)

@@ -21,8 +21,8 @@ loop-one-preserved g c =
           ∙ (ap (λ l. c.loop-one.yielded ++ l) (sym turn) ∙ old.whole);
     }
 
-pub returns-in-Some-fault-clause-err : goal.returns-in-Some-fault-clause-err
-returns-in-Some-fault-clause-err g c =
+pub returns-in-Some-fault-clause-refused : goal.returns-in-Some-fault-clause-refused
+returns-in-Some-fault-clause-refused g c =
     let old = c.loop-one.invariant in
     let turn : into_iter_items c.loop-one.one-iterator ≡ c.in-Some.one ∷ into_iter_items c.next.new.self = search rules in
     let all : into_iter_items c.into_iter-one-iterator.result ≡ c.args.worked.items = search rules in

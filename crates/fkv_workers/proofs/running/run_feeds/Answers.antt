@@ -1,9 +1,9 @@
-use Rattle.std.proofs.Common.{rules, ◌≡◌, ◌<◌, length, refl, map, sym, ap, subst, ◌∙◌}
+use Rattle.std.proofs.Common.{rules, ⊎_elim, ◌≡◌, ◌<◌, length, refl, map, sym, ap, subst, ◌∙◌}
 use Rattle.std.specs.List.{All, AllZip}
 use Rattle.std.proofs.lemmas.List.{length-map}
 use Rattle.fkv_records.specs.Records.{size_of}
 use Rattle.fkv_workers.specs.Shares.{HasShare}
-use Rattle.fkv_workers.specs.Works.{IsRunnable}
+use Rattle.fkv_workers.specs.Works.{IsRunnable, IsUnmade}
 use Rattle.fkv_workers.proofs.WorkedLemmas.{counted}
 use Rattle.fkv_workers.proofs.running.run_feeds.Goals as goal
 
@@ -30,3 +30,7 @@ pub returns-in-Err-close-clause-good : goal.returns-in-Err-close-clause-good
 returns-in-Err-close-clause-good g c k =
     subst (λ n. IsRunnable c.args.config.now (size_of 32 g.F.Value.Fixed.SIZE) c.args.workers n) (c.len.ensures ∙ c.args.feeds.ok.0)
     (c.if-not-is_runnable.ensures.0 refl)
+
+pub returns-in-Err-worked-clause-refused : goal.returns-in-Err-worked-clause-refused
+returns-in-Err-worked-clause-refused g c =
+    ⊎_elim (λ told. IsUnmade.told told) (λ unread. IsUnmade.unread unread.0 unread.1 unread.2) c.in-Err-worked.ensures.refused

@@ -1,5 +1,8 @@
-use Rattle.std.proofs.Common.{◌≡◌, length, map, sym, ap, ◌∙◌, IfSome}
-use Rattle.fkv_workers.specs.Works.{IsStop}
+use Rattle.std.proofs.Common.{◌≡◌, ⊎_elim, inl, inr, length, map, sym, ap, subst, ◌∙◌, IfSome}
+use Rattle.std.specs.Prelude.{IfErr, IfNone}
+use Rattle.fkv_store.specs.Stores.{IsTold}
+use Rattle.fkv_workers.specs.Works.{HasDone, IsStop}
+use Rattle.fkv_workers.proofs.StoppedLemmas.{stopped, told_memory}
 use Rattle.fkv_workers.proofs.WorkedLemmas.{shared, fed_by}
 use Rattle.fkv_workers.proofs.running.worked.Goals as goal
 
@@ -15,4 +18,24 @@ returns-in-Ok-ended g c = record {
       rw c.in-Ok-ended.ensures.ok
       (fed_by rem g.F.Functions.code (λ work. work.feeds.items) c.args.workers c.args.feeds.items works (map (λ w. w.pass) results) sh.shares c.requires.some
       (rw c.in-Ok-works.ensures.feeds c.in-Ok.ensures.ok) sh.read sh.kept);
+  refused = tt;
 }
+
+pub returns-clause-refused : goal.returns-clause-refused
+returns-clause-refused g c =
+    let rem = g.S.Source.remaining in
+    let fails = g.S.Source.failures in
+    let works = c.in-Ok-works.works.items in
+    let results = c.in-Ok-run_jobs.ran.results.items in
+    ⊎_elim (λ memory. inl (told_memory c.in-Err-ended.refused memory))
+    (λ rest.
+    ⊎_elim
+    (λ first.
+    let at = stopped (λ work. work.feeds.items) (λ w. w.fault) (IsStop rem fails)
+    (λ work w. IfNone w.fault (HasDone rem fails g.H.Recorder.keeps g.F.Functions.code work.feeds.items w.pass))
+    c.args.workers c.args.feeds.items works results c.in-Err-ended.refused
+    (rw c.in-Ok-works.ensures.feeds c.in-Ok.ensures.ok) c.in-Ok-run_jobs.ensures.ok.results first in
+    ⊎_elim (λ told. inl told) (λ unread. inr (at.0, at.1, unread)) at.2)
+    (λ kept. inl (subst (λ r. IfErr r IsTold) kept c.in-Ok-run_jobs.ensures.ok.kept))
+    rest)
+    c.in-Err-ended.ensures.refused

@@ -18,7 +18,7 @@ loop-context-preserved g c =
           (let some : is_some (relocation_at v slot context) ≡ true = told ∙ w.if-is_some.true in
           let inside : context < 8 = omega (arith, c.loop-context-test.true) in
           let drop = w.give_up-given_up in
-          let gone = dropped v drop.new.self slot context w.in-Ok.now drop.result some (rw c.self.view_is at drop.ensures.does) in
+          let gone = dropped v drop.new.self slot context w.in-Ok.now drop.result some (rw c.self.view_is at drop.ensures.effect) in
           rw (w.partition-is, gone, w.clock-is, w.in-Ok.ensures.given, w.in-Ok.ensures.ok)
           (record {
             none = none-past g.F.Key.Ord.cmp v slot context (c.loop-context.clock + 1) inside kept.none some;
@@ -43,8 +43,8 @@ loop-context-preserved g c =
           }))
     ]
 
-pub returns-clause-does : goal.returns-clause-does
-returns-clause-does g c =
+pub returns-clause-effect : goal.returns-clause-effect
+returns-clause-effect g c =
     let v = c.loop-context.partition in
     let kept = c.loop-context.invariant in
     kept.goes v c.loop-context.clock

@@ -3,8 +3,8 @@ use Rattle.std.proofs.lemmas.Result.{IfOk-weaker, IfErr-weaker}
 use Rattle.fkv_compaction.specs.Compactor.{IsInTurn, CompactsLoad}
 use Rattle.fkv_compaction.proofs.compactor.Compactor.load.Goals as goal
 
-pub returns-in-Some-clause-does : goal.returns-in-Some-clause-does
-returns-in-Some-clause-does g c = rw (← c.self.view_is) (CompactsLoad.loads c.in-Some.context c.in-Some.ensures c.load.ensures.does)
+pub returns-in-Some-clause-effect : goal.returns-in-Some-clause-effect
+returns-in-Some-clause-effect g c = rw (← c.self.view_is) (CompactsLoad.loads c.in-Some.context c.in-Some.ensures c.load.ensures.effect)
 
 pub returns-in-Some-clause-event : goal.returns-in-Some-clause-event
 returns-in-Some-clause-event g c =

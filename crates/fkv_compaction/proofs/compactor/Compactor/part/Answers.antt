@@ -4,13 +4,13 @@ use Rattle.fkv_compaction.specs.Compactor.{Parts}
 use Rattle.fkv_compaction.proofs.CompactorLemmas.{operation-stays, between-pends, between-live, left-asked, left-cleared, left-live, left-parted}
 use Rattle.fkv_compaction.proofs.compactor.Compactor.part.Goals as goal
 
-pub returns-clause-does : goal.returns-clause-does
-returns-clause-does g c =
+pub returns-clause-effect : goal.returns-clause-effect
+returns-clause-effect g c =
     let between = c.give_up_all.new.partition in
     let last = c.give_up_all.new.clock in
     let spare : c.args.clock.now + 9 < 2 ^ 64 = omega (arith, c.last.ensures, c.if-last.false) in
-    let does = subst (λ n. LeavesAll g.R.Receipt.keeps between c.leave.new.self c.args.self n c.leave.result) c.in-Ok.ensures.ok (rw c.self.view_is at c.leave.ensures.does) in
-    Parts.parts between last spare c.give_up_all.ensures.does does (c.in-Ok.ensures.given ∙ c.in-Ok.ensures.ok)
+    let does = subst (λ n. LeavesAll g.R.Receipt.keeps between c.leave.new.self c.args.self n c.leave.result) c.in-Ok.ensures.ok (rw c.self.view_is at c.leave.ensures.effect) in
+    Parts.parts between last spare c.give_up_all.ensures.effect does (c.in-Ok.ensures.given ∙ c.in-Ok.ensures.ok)
 
 pub returns-clause-event : goal.returns-clause-event
 returns-clause-event g c =
@@ -18,12 +18,12 @@ returns-clause-event g c =
 
 pub returns-clause-others : goal.returns-clause-others
 returns-clause-others g c = λ s d other.
-    left-asked g.R.Receipt.keeps c.give_up_all.new.partition c.leave.new.self c.in-Ok.now c.leave.result c.leave.ensures.event c.leave.ensures.err s d
+    left-asked g.R.Receipt.keeps c.give_up_all.new.partition c.leave.new.self c.in-Ok.now c.leave.result c.leave.ensures.event c.leave.ensures.unchanged s d
     ∙ c.give_up_all.ensures.others s d other
 
 pub returns-clause-operations : goal.returns-clause-operations
 returns-clause-operations g c = λ s d x o here key.
-    left-asked g.R.Receipt.keeps c.give_up_all.new.partition c.leave.new.self c.in-Ok.now c.leave.result c.leave.ensures.event c.leave.ensures.err s d
+    left-asked g.R.Receipt.keeps c.give_up_all.new.partition c.leave.new.self c.in-Ok.now c.leave.result c.leave.ensures.event c.leave.ensures.unchanged s d
     ∙ operation-stays c.args.partition.now c.give_up_all.new.partition c.give_up_all.new.partition.core.moment c.give_up_all.ensures.core s d x o here key
 
 pub returns-clause-pends : goal.returns-clause-pends
@@ -33,10 +33,10 @@ returns-clause-pends g c = λ yes_keeps s d.
 
 pub returns-clause-live : goal.returns-clause-live
 returns-clause-live g c = λ yes_keeps k.
-    left-live g.R.Receipt.keeps g.F.Key.Ord.cmp c.give_up_all.new.partition c.leave.new.self c.in-Ok.now c.leave.result c.leave.ensures.event c.leave.ensures.err yes_keeps k
+    left-live g.R.Receipt.keeps g.F.Key.Ord.cmp c.give_up_all.new.partition c.leave.new.self c.in-Ok.now c.leave.result c.leave.ensures.event c.leave.ensures.unchanged yes_keeps k
     ∙ between-live c.args.partition.now c.give_up_all.new.partition c.give_up_all.new.partition.core.moment c.give_up_all.ensures.core g.F.Key.Ord.cmp k
 
 pub returns-clause-cleared : goal.returns-clause-cleared
 returns-clause-cleared g c =
-    left-cleared g.R.Receipt.keeps c.give_up_all.new.partition c.leave.new.self c.in-Ok.now c.leave.result c.leave.ensures.event c.leave.ensures.err
+    left-cleared g.R.Receipt.keeps c.give_up_all.new.partition c.leave.new.self c.in-Ok.now c.leave.result c.leave.ensures.event c.leave.ensures.unchanged
     ∙ c.give_up_all.ensures.cleared

@@ -3,10 +3,10 @@ use Rattle.fkv_core.specs.Effect.{IsGiveUp}
 use Rattle.fkv_core.specs.Ending.{GivesUp}
 use Rattle.fkv_core.proofs.cores.Core.abandon.Goals as goal
 
-pub returns-clause-does : goal.returns-clause-does
-returns-clause-does g c =
+pub returns-clause-effect : goal.returns-clause-effect
+returns-clause-effect g c =
     let same : c.self.inside.moment ≡ c.args.self.now.moment = ap (λ v. v.moment) c.self.view_is in
-    subst (λ n. GivesUp c.args.self.now c.end.new.self c.args.slot c.args.context n c.end.result) same c.end.ensures.does
+    subst (λ n. GivesUp c.args.self.now c.end.new.self c.args.slot c.args.context n c.end.result) same c.end.ensures.effect
 
 pub returns-clause-event : goal.returns-clause-event
 returns-clause-event g c =

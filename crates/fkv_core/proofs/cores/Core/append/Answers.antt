@@ -38,7 +38,7 @@ invariant_of-self-in-Ok-Some g c =
     (rw (← c.self.view_is) at c.requires.write.own))
 
 pub invariant_of-self : goal.invariant_of-self
-invariant_of-self g c = rw c.in-Err.ensures.err c.self.invariant
+invariant_of-self g c = rw c.in-Err.ensures.unchanged c.self.invariant
 
 pub returns-in-Err-clause-room : goal.returns-in-Err-clause-room
 returns-in-Err-clause-room g c = rw (← c.self.view_is) c.in-Err.ensures.room
@@ -52,8 +52,8 @@ returns-in-Err-clause-worn g c = rw (← c.self.view_is) c.in-Err.ensures.worn
 pub returns-in-Err-clause-only : goal.returns-in-Err-clause-only
 returns-in-Err-clause-only g c = c.in-Err.ensures.only
 
-pub returns-in-Err-clause-err : goal.returns-in-Err-clause-err
-returns-in-Err-clause-err g c = rw (← c.self.view_is, c.in-Err.ensures.err) refl
+pub returns-in-Err-clause-unchanged : goal.returns-in-Err-clause-unchanged
+returns-in-Err-clause-unchanged g c = rw (← c.self.view_is, c.in-Err.ensures.unchanged) refl
 
 pub returns-clause-ok : goal.returns-clause-ok
 returns-clause-ok g c =

@@ -14,8 +14,8 @@ free-requires-clause-unclaimed g c =
     let a = c.requires.asks in
     claims-none c.args.self.now c.args.slot c.args.context a.operation a.here (question-quiet a.operation c.args.kept c.args.built a.question)
 
-pub returns-in_default-clause-does : goal.returns-in_default-clause-does
-returns-in_default-clause-does g c =
+pub returns-in_default-clause-effect : goal.returns-in_default-clause-effect
+returns-in_default-clause-effect g c =
     let a = c.requires.asks in
     rw c.free.ensures (declined a.operation c.args.kept a.here a.question c.requires.stands (sym c.in_default.ensures) refl refl)
 
@@ -50,14 +50,14 @@ append-requires-clause-write g c =
       entry = kept-entry g.F.Key.Ord.cmp g.F.Functions.code v c.known.ensures c.args.slot c.args.context x c.args.kept c.args.built a.here a.question c.requires.stands;
     })
 
-pub returns-in-Err-clause-does : goal.returns-in-Err-clause-does
-returns-in-Err-clause-does g c =
+pub returns-in-Err-clause-effect : goal.returns-in-Err-clause-effect
+returns-in-Err-clause-effect g c =
     let a = c.requires.asks in
     let e = c.in-Err.ensures.only in
-    rw c.in-Err.ensures.err (worn a.operation c.args.kept c.in-Some.value a.here a.question c.requires.stands (sym c.in-Some.ensures) (c.in-Err.ensures.worn.0 (ap Err e)) refl (ap Err e))
+    rw c.in-Err.ensures.unchanged (worn a.operation c.args.kept c.in-Some.value a.here a.question c.requires.stands (sym c.in-Some.ensures) (c.in-Err.ensures.worn.0 (ap Err e)) refl (ap Err e))
 
-pub returns-in-Ok-None-clause-does : goal.returns-in-Ok-None-clause-does
-returns-in-Ok-None-clause-does g c =
+pub returns-in-Ok-None-clause-effect : goal.returns-in-Ok-None-clause-effect
+returns-in-Ok-None-clause-effect g c =
     let a = c.requires.asks in
     let is = ap Ok c.in-Ok-None.field-0-is in
     rw (c.in-Ok-None.ensures.full is) (full a.operation c.args.kept c.in-Some.value a.here a.question c.requires.stands (sym c.in-Some.ensures) (c.in-Ok-None.ensures.room.0 is) refl refl)
@@ -68,8 +68,8 @@ returns-in-Ok-None-clause-event g c = λ keeps.
     let is = ap Ok c.in-Ok-None.field-0-is in
     rw (c.in-Ok-None.ensures.full is) (event-waits g.F.Key.Ord.cmp g.F.Functions.meaning g.F.Functions.code c.args.self.now c.args.slot c.args.context c.args.now a.operation a.here Full)
 
-pub returns-in-Ok-Some-clause-does : goal.returns-in-Ok-Some-clause-does
-returns-in-Ok-Some-clause-does g c =
+pub returns-in-Ok-Some-clause-effect : goal.returns-in-Ok-Some-clause-effect
+returns-in-Ok-Some-clause-effect g c =
     let a = c.requires.asks in
     let is = c.in-Ok-Some.field-0-is in
     let made = rw is at c.in-Ok-Some.ensures.ok in

@@ -51,11 +51,11 @@ set_phase-requires-clause-stands g c =
     (c.meetings_tell.ensures.wanted g.R.Receipt.keeps g.F.Key.Ord.cmp g.F.Functions.code v.records (key_of x.op) c.args.slot c.args.wanted order c.known.ensures.traced inside met)
     d.decided)
 
-pub returns-in-Err-clause-does : goal.returns-in-Err-clause-does
-returns-in-Err-clause-does g c = unshared c.args.operation.now c.args.wanted c.requires.decided refl (ap Err c.in-Err.ensures.memory)
+pub returns-in-Err-clause-effect : goal.returns-in-Err-clause-effect
+returns-in-Err-clause-effect g c = unshared c.args.operation.now c.args.wanted c.requires.decided refl (ap Err c.in-Err.ensures.memory)
 
-pub returns-clause-does : goal.returns-clause-does
-returns-clause-does g c =
+pub returns-clause-effect : goal.returns-clause-effect
+returns-clause-effect g c =
     let v = c.args.self.now in
     let begins : c.begin.result ≡ v.records.begin = c.begin.ensures ∙ ap (λ u. u.records.begin) c.self.view_is in
     let held = subst (λ u. IsHeldBy u.records.receipts (page_at u.records.page_bits c.args.wanted) (g.R.Receipt.stands c.in-Ok.receipt)) c.self.view_is (rw c.page_of-page.ensures at c.in-Ok.ensures.stands) in

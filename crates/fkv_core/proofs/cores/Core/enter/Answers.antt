@@ -6,10 +6,10 @@ use Rattle.fkv_core.proofs.SoundLemmas.{sound-regions}
 use Rattle.fkv_core.proofs.EventLemmas.{event-enter, slot-none, slot-some}
 use Rattle.fkv_core.proofs.cores.Core.enter.Goals as goal
 
-pub returns-in-Err-clause-does : goal.returns-in-Err-clause-does
-returns-in-Err-clause-does g c =
+pub returns-in-Err-clause-effect : goal.returns-in-Err-clause-effect
+returns-in-Err-clause-effect g c =
     let n = slot-none _ c.in-Err.refused c.in-Err.ensures.slot in
-    rw (c.in-Err.ensures.refused, ← c.self.view_is) (full n.0 refl (ap Err n.1))
+    rw (c.in-Err.ensures.unchanged, ← c.self.view_is) (full n.0 refl (ap Err n.1))
 
 pub invariant_of-self-2 : goal.invariant_of-self-2
 invariant_of-self-2 g c =
@@ -18,8 +18,8 @@ invariant_of-self-2 g c =
     (sound-regions c.self.invariant (entered was c.in-Ok.slot) c.args.now (rw c.in-Ok.ensures.effect at c.known.ensures) (record { closed = omega arith; head = omega arith; safe = omega arith; read_only = omega arith })
     (λ t d x low here. renewed-stays was.epochs.slots c.in-Ok.slot t was.epochs.epoch (c.self.invariant.housed t d x low here)))
 
-pub returns-clause-does : goal.returns-clause-does
-returns-clause-does g c =
+pub returns-clause-effect : goal.returns-clause-effect
+returns-clause-effect g c =
     rw (c.in-Ok.ensures.effect, ← c.self.view_is) (enters c.in-Ok.slot (slot-some _ c.in-Ok.slot c.in-Ok.ensures.slot) refl refl)
 
 pub returns-clause-event : goal.returns-clause-event

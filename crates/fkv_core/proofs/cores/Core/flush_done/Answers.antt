@@ -3,18 +3,18 @@ use Rattle.fkv_core.proofs.SoundLemmas.{sound-flushed}
 use Rattle.fkv_core.proofs.EventLemmas.{event-flushed, flush-refused, flush-taken}
 use Rattle.fkv_core.proofs.cores.Core.flush_done.Goals as goal
 
-pub returns-in-Err-clause-does : goal.returns-in-Err-clause-does
-returns-in-Err-clause-does g c =
+pub returns-in-Err-clause-effect : goal.returns-in-Err-clause-effect
+returns-in-Err-clause-effect g c =
     let made = c.in-Err.ensures in
-    rw (made.err, ← c.self.view_is) (flush-refused _ _ _ c.args.now _ c.in-Err.refused refl made.refused made.only)
+    rw (made.unchanged, ← c.self.view_is) (flush-refused _ _ _ c.args.now _ c.in-Err.refused refl made.refused made.only)
 
 pub invariant_of-self-2 : goal.invariant_of-self-2
 invariant_of-self-2 g c =
     let made = c.in-Ok.ensures in
     rw made.done (sound-flushed c.self.invariant _ c.args.now (rw made.done at c.known.ensures))
 
-pub returns-clause-does : goal.returns-clause-does
-returns-clause-does g c =
+pub returns-clause-effect : goal.returns-clause-effect
+returns-clause-effect g c =
     let made = c.in-Ok.ensures in
     rw (made.done, ← c.self.view_is) (flush-taken _ _ _ c.args.now _ refl made.refused)
 

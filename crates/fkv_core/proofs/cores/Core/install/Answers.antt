@@ -7,11 +7,11 @@ use Rattle.fkv_core.specs.Installing.{not_ready, stranger, moved}
 use Rattle.fkv_core.proofs.EventLemmas.{event-next, kept-at, question-quiet, if-all}
 use Rattle.fkv_core.proofs.cores.Core.install.Goals as goal
 
-pub returns-in_default-question_of-clause-does : goal.returns-in_default-question_of-clause-does
-returns-in_default-question_of-clause-does g c = not_ready c.in-Some.open (sym c.in-Some.ensures.value) (sym c.in_default-question_of.ensures) refl refl
+pub returns-in_default-question_of-clause-effect : goal.returns-in_default-question_of-clause-effect
+returns-in_default-question_of-clause-effect g c = not_ready c.in-Some.open (sym c.in-Some.ensures.value) (sym c.in_default-question_of.ensures) refl refl
 
-pub returns-then-not-is-clause-does : goal.returns-then-not-is-clause-does
-returns-then-not-is-clause-does g c =
+pub returns-then-not-is-clause-effect : goal.returns-then-not-is-clause-effect
+returns-then-not-is-clause-effect g c =
     let q = c.in-Some-question_of.question in
     rw c.ask-ask.ensures (stranger c.in-Some.open q.0 q.1 (sym c.in-Some.ensures.value) (sym c.in-Some-question_of.ensures)
     (λ e. let yes = c.is.ensures.1 (c.ask-ask.ensures ∙ e) in let no : false ≡ true = sym c.if-not-is.true ∙ yes in cc) refl refl)
@@ -27,8 +27,8 @@ set_phase-requires-clause-unclaimed g c =
     let q = c.in-Some-question_of.question in
     question-quiet c.in-Some.open q.0 q.1 (sym c.in-Some-question_of.ensures)
 
-pub returns-then-not-holds-clause-does : goal.returns-then-not-holds-clause-does
-returns-then-not-holds-clause-does g c =
+pub returns-then-not-holds-clause-effect : goal.returns-then-not-holds-clause-effect
+returns-then-not-holds-clause-effect g c =
     let q = c.in-Some-question_of.question in
     let mine : question_in c.in-Some.open ≡ Some (q.0, c.args.built) = sym c.in-Some-question_of.ensures ∙ ap (λ a. Some (q.0, a)) (sym (c.is.ensures.0 c.if-not-is.false) ∙ c.ask-ask.ensures) in
     rw c.set_phase.ensures (moved c.in-Some.open q.0 (sym c.in-Some.ensures.value) mine

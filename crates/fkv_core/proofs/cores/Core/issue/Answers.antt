@@ -7,8 +7,8 @@ use Rattle.fkv_core.proofs.AskedLemmas.{free-here}
 use Rattle.fkv_core.proofs.EventLemmas.{event-issue}
 use Rattle.fkv_core.proofs.cores.Core.issue.Goals as goal
 
-pub returns-then-home-self-clause-does : goal.returns-then-home-self-clause-does
-returns-then-home-self-clause-does g c =
+pub returns-then-home-self-clause-effect : goal.returns-then-home-self-clause-effect
+returns-then-home-self-clause-effect g c =
     let number : c.self.inside.number ≡ c.args.self.now.number = ap (λ v. v.number) c.self.view_is in
     let home : c.home-home.result ≡ partition_of c.args.self.now.count (g.F.Functions.code (key_of c.args.op)) = c.home-home.ensures ∙ ap (λ k. partition_of c.args.self.now.count (g.F.Functions.code k)) c.key.ensures in
     rw (number, home) (Issues.stranger (λ e. c.if-home-self.true (home ∙ e ∙ sym number)) refl refl)
@@ -25,8 +25,8 @@ start-requires-clause-own g c =
     let home : c.home-home.result ≡ partition_of c.args.self.now.count (g.F.Functions.code (key_of c.args.op)) = c.home-home.ensures ∙ ap (λ k. partition_of c.args.self.now.count (g.F.Functions.code k)) c.key.ensures in
     sym home ∙ c.if-home-self.false ∙ number
 
-pub returns-clause-does : goal.returns-clause-does
-returns-clause-does g c =
+pub returns-clause-effect : goal.returns-clause-effect
+returns-clause-effect g c =
     let number : c.self.inside.number ≡ c.args.self.now.number = ap (λ v. v.number) c.self.view_is in
     let home : c.home-home.result ≡ partition_of c.args.self.now.count (g.F.Functions.code (key_of c.args.op)) = c.home-home.ensures ∙ ap (λ k. partition_of c.args.self.now.count (g.F.Functions.code k)) c.key.ensures in
     rw c.start.ensures (Issues.issues c.requires.entered c.requires.context c.requires.free (sym home ∙ c.if-home-self.false ∙ number) refl refl)

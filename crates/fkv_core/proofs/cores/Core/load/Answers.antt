@@ -5,11 +5,11 @@ use Rattle.fkv_core.proofs.EventLemmas.{loading-is, claims-none, if-all}
 use Rattle.fkv_core.proofs.PendingLemmas.{load-moved}
 use Rattle.fkv_core.proofs.cores.Core.load.Goals as goal
 
-pub returns-in_default-loading_of-clause-does : goal.returns-in_default-loading_of-clause-does
-returns-in_default-loading_of-clause-does g c = Loads.not_ready c.in-Some.open (sym c.in-Some.ensures.value) (sym c.in_default-loading_of.ensures) refl refl
+pub returns-in_default-loading_of-clause-effect : goal.returns-in_default-loading_of-clause-effect
+returns-in_default-loading_of-clause-effect g c = Loads.not_ready c.in-Some.open (sym c.in-Some.ensures.value) (sym c.in_default-loading_of.ensures) refl refl
 
-pub returns-then-loading-begin-clause-does : goal.returns-then-loading-begin-clause-does
-returns-then-loading-begin-clause-does g c =
+pub returns-then-loading-begin-clause-effect : goal.returns-then-loading-begin-clause-effect
+returns-then-loading-begin-clause-effect g c =
     let l = c.in-Some-loading_of.loading in
     let begins : c.begin.result ≡ c.args.self.now.records.begin = c.begin.ensures ∙ ap (λ u. u.records.begin) c.self.view_is in
     rw c.set_phase.ensures (Loads.moved c.in-Some.open l (sym c.in-Some.ensures.value) (loading-is c.in-Some.open.phase l (sym c.in-Some-loading_of.ensures)) (λ e. c.if-loading-begin.true (e ∙ sym begins)) refl refl)
@@ -21,8 +21,8 @@ look_on-requires-clause-awaits g c = record {
   begin = c.if-loading-begin.false ∙ c.begin.ensures ∙ ap (λ u. u.records.begin) c.self.view_is;
 }
 
-pub returns-then-is_no_memory-clause-does : goal.returns-then-is_no_memory-clause-does
-returns-then-is_no_memory-clause-does g c =
+pub returns-then-is_no_memory-clause-effect : goal.returns-then-is_no_memory-clause-effect
+returns-then-is_no_memory-clause-effect g c =
     let a : AwaitsPage c.args.self.now c.args.slot c.args.context c.in-Some.open c.in-Some-loading_of.loading = record {
       here = sym c.in-Some.ensures.value;
       loading = loading-is c.in-Some.open.phase c.in-Some-loading_of.loading (sym c.in-Some-loading_of.ensures);
@@ -35,8 +35,8 @@ pub free-requires-clause-unclaimed : goal.free-requires-clause-unclaimed
 free-requires-clause-unclaimed g c =
     claims-none c.args.self.now c.args.slot c.args.context c.in-Some.open (sym c.in-Some.ensures.value) (ap claim_by (loading-is c.in-Some.open.phase c.in-Some-loading_of.loading (sym c.in-Some-loading_of.ensures)))
 
-pub returns-else-is_no_memory-clause-does : goal.returns-else-is_no_memory-clause-does
-returns-else-is_no_memory-clause-does g c =
+pub returns-else-is_no_memory-clause-effect : goal.returns-else-is_no_memory-clause-effect
+returns-else-is_no_memory-clause-effect g c =
     let a : AwaitsPage c.args.self.now c.args.slot c.args.context c.in-Some.open c.in-Some-loading_of.loading = record {
       here = sym c.in-Some.ensures.value;
       loading = loading-is c.in-Some.open.phase c.in-Some-loading_of.loading (sym c.in-Some-loading_of.ensures);
@@ -44,8 +44,8 @@ returns-else-is_no_memory-clause-does g c =
     } in
     rw c.free.ensures (Loads.failed c.in-Some.open c.in-Some-loading_of.loading c.in-Err.refused a c.in-Err.is (λ e. let memory = c.is_no_memory.ensures.1 e in let bad : false ≡ true = sym c.if-is_no_memory.false ∙ memory in cc) refl refl)
 
-pub returns-in-Ok-clause-does : goal.returns-in-Ok-clause-does
-returns-in-Ok-clause-does g c = rw c.in-Ok.is c.look_on.ensures.does
+pub returns-in-Ok-clause-effect : goal.returns-in-Ok-clause-effect
+returns-in-Ok-clause-effect g c = rw c.in-Ok.is c.look_on.ensures.effect
 
 pub returns-in-Ok-clause-within : goal.returns-in-Ok-clause-within
 returns-in-Ok-clause-within g c = if-all c.look_on.result (c.in-Some.ensures.session, c.in-Some.ensures.context)

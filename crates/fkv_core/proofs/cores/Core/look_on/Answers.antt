@@ -25,8 +25,8 @@ is_own-requires g c =
     let there = wanted-flushed g.F.Key.Ord.cmp g.F.Functions.code order v c.known.ensures c.args.slot c.args.context x l a in
     rw c.page_of-page.ensures (subst (λ u. page_at u.records.page_bits l.wanted < length u.records.receipts) (sym c.self.view_is) there)
 
-pub returns-in-Err-clause-does : goal.returns-in-Err-clause-does
-returns-in-Err-clause-does g c =
+pub returns-in-Err-clause-effect : goal.returns-in-Err-clause-effect
+returns-in-Err-clause-effect g c =
     let ord = g.met.F.Key.Ord in
     let known = g.met.F.Key.FixedKey in
     let order = key_order g.F.Key.PartialEq.eq g.F.Key.Ord.cmp ord.matches_eq known.exact ord.total in
@@ -61,8 +61,8 @@ free-requires-clause-unclaimed g c =
     let p = c.args.loaded in
     claims-none v c.args.slot c.args.context x a.here (ap claim_by a.loading)
 
-pub returns-in-Err-trace_in-clause-does : goal.returns-in-Err-trace_in-clause-does
-returns-in-Err-trace_in-clause-does g c =
+pub returns-in-Err-trace_in-clause-effect : goal.returns-in-Err-trace_in-clause-effect
+returns-in-Err-trace_in-clause-effect g c =
     let ord = g.met.F.Key.Ord in
     let known = g.met.F.Key.FixedKey in
     let order = key_order g.F.Key.PartialEq.eq g.F.Key.Ord.cmp ord.matches_eq known.exact ord.total in
@@ -100,8 +100,8 @@ tell-requires-clause-kept g c =
     let came = came-of g.R.Receipt.keeps (IsEntryIn g.F.Key.Fixed.bytes_of g.F.Value.Fixed.bytes_of g.F.Key.Known.is_known g.F.Value.Known.is_known g.F.Key.Fixed.SIZE g.F.Value.Fixed.SIZE) g.F.Key.Ord.cmp g.F.Functions.code (view_of c.self.inside.number c.self.inside.count c.self.inside.records c.self.inside.contexts.items c.self.inside.moment) v c.key-key.result (key_of x.op) c.page_of-page.result l.wanted (g.R.Receipt.stands p.receipt) p.bytes c.trace_in.result c.self.view_is c.key-key.ensures c.page_of-page.ensures (c.in_default.ensures.own.0 refl) c.trace_in.ensures.read c.trace_in.ensures.kept in
     kept-told g.F.Key.Ord.cmp g.F.Functions.code order v c.known.ensures c.args.slot c.args.context x l a (IsEntryIn g.F.Key.Fixed.bytes_of g.F.Value.Fixed.bytes_of g.F.Key.Known.is_known g.F.Value.Known.is_known g.F.Key.Fixed.SIZE g.F.Value.Fixed.SIZE) (g.R.Receipt.stands p.receipt) p.bytes c.trace_in.result came (Found c.in-Ok-Found.last) c.in-Ok-Found.last.value (c.in-Ok-Found.is ∙ ap Ok c.in-Ok-Found.field-0-is) (found c.in-Ok-Found.last)
 
-pub returns-in-Ok-Found-clause-does : goal.returns-in-Ok-Found-clause-does
-returns-in-Ok-Found-clause-does g c =
+pub returns-in-Ok-Found-clause-effect : goal.returns-in-Ok-Found-clause-effect
+returns-in-Ok-Found-clause-effect g c =
     let ord = g.met.F.Key.Ord in
     let known = g.met.F.Key.FixedKey in
     let order = key_order g.F.Key.PartialEq.eq g.F.Key.Ord.cmp ord.matches_eq known.exact ord.total in
@@ -145,8 +145,8 @@ tell-requires-then-address-begin-clause-kept g c =
     let under : b < v.records.begin = omega (arith, c.if-address-begin.true, begins) in
     kept-told g.F.Key.Ord.cmp g.F.Functions.code order v c.known.ensures c.args.slot c.args.context x l a (IsEntryIn g.F.Key.Fixed.bytes_of g.F.Value.Fixed.bytes_of g.F.Key.Known.is_known g.F.Value.Known.is_known g.F.Key.Fixed.SIZE g.F.Value.Fixed.SIZE) (g.R.Receipt.stands p.receipt) p.bytes c.trace_in.result came (Below b) None is (ended b under)
 
-pub returns-then-address-begin-clause-does : goal.returns-then-address-begin-clause-does
-returns-then-address-begin-clause-does g c =
+pub returns-then-address-begin-clause-effect : goal.returns-then-address-begin-clause-effect
+returns-then-address-begin-clause-effect g c =
     let ord = g.met.F.Key.Ord in
     let known = g.met.F.Key.FixedKey in
     let order = key_order g.F.Key.PartialEq.eq g.F.Key.Ord.cmp ord.matches_eq known.exact ord.total in
@@ -173,8 +173,8 @@ free-requires-then-not-is_place-clause-unclaimed g c =
     let p = c.args.loaded in
     claims-none v c.args.slot c.args.context x a.here (ap claim_by a.loading)
 
-pub returns-then-not-is_place-clause-does : goal.returns-then-not-is_place-clause-does
-returns-then-not-is_place-clause-does g c =
+pub returns-then-not-is_place-clause-effect : goal.returns-then-not-is_place-clause-effect
+returns-then-not-is_place-clause-effect g c =
     let ord = g.met.F.Key.Ord in
     let known = g.met.F.Key.FixedKey in
     let order = key_order g.F.Key.PartialEq.eq g.F.Key.Ord.cmp ord.matches_eq known.exact ord.total in
@@ -238,8 +238,8 @@ look_further-requires-clause-stands g c =
     let high : v.records.begin ≤ b = omega (arith, c.if-address-begin.false, begins) in
     further-stands g.F.Key.Ord.cmp g.F.Functions.code order v c.known.ensures c.args.slot c.args.context x l a (IsEntryIn g.F.Key.Fixed.bytes_of g.F.Value.Fixed.bytes_of g.F.Key.Known.is_known g.F.Value.Known.is_known g.F.Key.Fixed.SIZE g.F.Value.Fixed.SIZE) (g.R.Receipt.stands p.receipt) p.bytes c.trace_in.result came b is high
 
-pub returns-clause-does : goal.returns-clause-does
-returns-clause-does g c =
+pub returns-clause-effect : goal.returns-clause-effect
+returns-clause-effect g c =
     let ord = g.met.F.Key.Ord in
     let known = g.met.F.Key.FixedKey in
     let order = key_order g.F.Key.PartialEq.eq g.F.Key.Ord.cmp ord.matches_eq known.exact ord.total in
@@ -254,7 +254,7 @@ returns-clause-does g c =
     let begins : c.begin.result ≡ v.records.begin = c.begin.ensures ∙ ap (λ u. u.records.begin) c.self.view_is in
     let high : v.records.begin ≤ b = omega (arith, c.if-address-begin.false, begins) in
     let place = subst (λ u. IsRecordStart u.records.page_bits u.records.record_size b) c.self.view_is (c.is_place.ensures.0 c.if-not-is_place.false) in
-    further-done g.R.Receipt.stands (IsEntryIn g.F.Key.Fixed.bytes_of g.F.Value.Fixed.bytes_of g.F.Key.Known.is_known g.F.Value.Known.is_known g.F.Key.Fixed.SIZE g.F.Value.Fixed.SIZE) g.F.Key.Ord.cmp g.F.Functions.meaning v c.look_further.new.self c.args.slot c.args.context c.args.now x l p b (reads-on g.F.Key.Ord.cmp g.F.Functions.code order v c.known.ensures c.args.slot c.args.context x l a (IsEntryIn g.F.Key.Fixed.bytes_of g.F.Value.Fixed.bytes_of g.F.Key.Known.is_known g.F.Value.Known.is_known g.F.Key.Fixed.SIZE g.F.Value.Fixed.SIZE) (g.R.Receipt.stands p.receipt) p.bytes c.trace_in.result came (Ok (Below b)) is) high place c.look_further.result c.look_further.ensures.asked c.look_further.ensures.effect c.look_further.ensures.only c.look_further.ensures.err
+    further-done g.R.Receipt.stands (IsEntryIn g.F.Key.Fixed.bytes_of g.F.Value.Fixed.bytes_of g.F.Key.Known.is_known g.F.Value.Known.is_known g.F.Key.Fixed.SIZE g.F.Value.Fixed.SIZE) g.F.Key.Ord.cmp g.F.Functions.meaning v c.look_further.new.self c.args.slot c.args.context c.args.now x l p b (reads-on g.F.Key.Ord.cmp g.F.Functions.code order v c.known.ensures c.args.slot c.args.context x l a (IsEntryIn g.F.Key.Fixed.bytes_of g.F.Value.Fixed.bytes_of g.F.Key.Known.is_known g.F.Value.Known.is_known g.F.Key.Fixed.SIZE g.F.Value.Fixed.SIZE) (g.R.Receipt.stands p.receipt) p.bytes c.trace_in.result came (Ok (Below b)) is) high place c.look_further.result c.look_further.ensures.asked c.look_further.ensures.effect c.look_further.ensures.only c.look_further.ensures.unchanged
 
 pub returns-in-Ok-Found-clause-event : goal.returns-in-Ok-Found-clause-event
 returns-in-Ok-Found-clause-event g c = λ keeps.

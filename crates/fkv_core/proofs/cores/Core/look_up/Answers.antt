@@ -13,8 +13,8 @@ use Rattle.fkv_core.proofs.cores.Core.look_up.Goals as goal
 pub free-requires-clause-unclaimed : goal.free-requires-clause-unclaimed
 free-requires-clause-unclaimed g c = claims-none c.args.self.now c.args.slot c.args.context c.args.operation.now c.requires.here c.requires.unclaimed
 
-pub returns-in-Done-clause-does : goal.returns-in-Done-clause-does
-returns-in-Done-clause-does g c =
+pub returns-in-Done-clause-effect : goal.returns-in-Done-clause-effect
+returns-in-Done-clause-effect g c =
     let x = c.args.operation.now in
     let d = decides-at g.F.Key.Ord.cmp g.F.Functions.meaning g.F.Functions.code _ c.args.slot c.args.context c.args.now x c.requires.here c.known.ensures c.requires.asks_nothing c.requires.unclaimed c.requires.unloading _ _ c.decided.ensures c.in-Done.is in
     rw c.free.ensures (done x c.in-Done.answer d refl refl)
@@ -33,14 +33,14 @@ returns-in-Done-clause-event g c =
 pub claim-requires-clause-class : goal.claim-requires-clause-class
 claim-requires-clause-class g c = c.find-entry.ensures.class ∙ ap (class_in g.F.Functions.code c.args.self.now.records) c.key-key.ensures
 
-pub returns-in_default-clause-does : goal.returns-in_default-clause-does
-returns-in_default-clause-does g c =
+pub returns-in_default-clause-effect : goal.returns-in_default-clause-effect
+returns-in_default-clause-effect g c =
     let x = c.args.operation.now in
     let d = decides-at g.F.Key.Ord.cmp g.F.Functions.meaning g.F.Functions.code _ c.args.slot c.args.context c.args.now x c.requires.here c.known.ensures c.requires.asks_nothing c.requires.unclaimed c.requires.unloading _ _ c.decided.ensures c.in-Claim.is in
-    rw c.in_default.ensures.err (unclaimed x d (rw (c.find-entry.ensures.class, c.key-key.ensures) at c.in_default.ensures.full) refl refl)
+    rw c.in_default.ensures.unchanged (unclaimed x d (rw (c.find-entry.ensures.class, c.key-key.ensures) at c.in_default.ensures.full) refl refl)
 
-pub returns-in-Ok-clause-does : goal.returns-in-Ok-clause-does
-returns-in-Ok-clause-does g c =
+pub returns-in-Ok-clause-effect : goal.returns-in-Ok-clause-effect
+returns-in-Ok-clause-effect g c =
     let x = c.args.operation.now in
     let d = decides-at g.F.Key.Ord.cmp g.F.Functions.meaning g.F.Functions.code _ c.args.slot c.args.context c.args.now x c.requires.here c.known.ensures c.requires.asks_nothing c.requires.unclaimed c.requires.unloading _ _ c.decided.ensures c.in-Claim.is in
     claims x d c.in-Ok.ensures.ok refl
@@ -63,8 +63,8 @@ rewrite-requires-clause-decided g c =
     let x = c.args.operation.now in
     decides-at g.F.Key.Ord.cmp g.F.Functions.meaning g.F.Functions.code _ c.args.slot c.args.context c.args.now x c.requires.here c.known.ensures c.requires.asks_nothing c.requires.unclaimed c.requires.unloading _ _ c.decided.ensures c.in-Replace.is
 
-pub returns-in-Wait-clause-does : goal.returns-in-Wait-clause-does
-returns-in-Wait-clause-does g c =
+pub returns-in-Wait-clause-effect : goal.returns-in-Wait-clause-effect
+returns-in-Wait-clause-effect g c =
     let x = c.args.operation.now in
     let d = decides-at g.F.Key.Ord.cmp g.F.Functions.meaning g.F.Functions.code _ c.args.slot c.args.context c.args.now x c.requires.here c.known.ensures c.requires.asks_nothing c.requires.unclaimed c.requires.unloading _ _ c.decided.ensures c.in-Wait.is in
     rw c.pass.ensures (waits x d refl refl)

@@ -38,8 +38,8 @@ set_phase-requires-clause-stands g c =
     d.decided
     c.known.ensures.traced
 
-pub returns-clause-does : goal.returns-clause-does
-returns-clause-does g c =
+pub returns-clause-effect : goal.returns-clause-effect
+returns-clause-effect g c =
     rw (c.set_phase.ensures, c.requires.number, c.requires.key)
     (prepares c.args.operation.now c.args.ask.source c.args.ask.input c.args.kept c.requires.decided c.requires.kept refl refl)
 

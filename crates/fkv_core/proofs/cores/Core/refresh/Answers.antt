@@ -6,8 +6,8 @@ use Rattle.fkv_core.proofs.SoundLemmas.{sound-moved, slots-moved}
 use Rattle.fkv_core.proofs.EventLemmas.{event-moved, refreshed-same, not-entered}
 use Rattle.fkv_core.proofs.cores.Core.refresh.Goals as goal
 
-pub returns-in-Err-clause-does : goal.returns-in-Err-clause-does
-returns-in-Err-clause-does g c =
+pub returns-in-Err-clause-effect : goal.returns-in-Err-clause-effect
+returns-in-Err-clause-effect g c =
     let made = c.in-Err.ensures in
     rw (made.refused.1, ← c.self.view_is) (unknown (not-entered c.self.inside.records.regions.epochs.slots c.args.slot (λ e. let bad = made.unknown.1 e in cc)) refl (ap Err made.refused.0))
 
@@ -18,8 +18,8 @@ invariant_of-self-2 g c =
     sound-moved c.self.invariant c.refresh.new.self _ c.args.now c.known.ensures made.effect made.raised
     (λ t d x low here. slots-moved c.self.inside.records c.refresh.new.self _ t made.effect (renewed-stays was.epochs.slots c.args.slot t was.epochs.epoch (c.self.invariant.housed t d x low here)))
 
-pub returns-clause-does : goal.returns-clause-does
-returns-clause-does g c = rw (← c.self.view_is) (refreshes (c.in-Ok.ensures.unknown.0 refl) (record { moves = c.in-Ok.ensures.effect; is = refl }) refl)
+pub returns-clause-effect : goal.returns-clause-effect
+returns-clause-effect g c = rw (← c.self.view_is) (refreshes (c.in-Ok.ensures.unknown.0 refl) (record { moves = c.in-Ok.ensures.effect; is = refl }) refl)
 
 pub returns-clause-event : goal.returns-clause-event
 returns-clause-event g c =

@@ -41,8 +41,8 @@ replace-requires-clause-mutable g c =
     let same = last-is _ c.args.last m.1.entry c.requires.last m.1.last in
     rw same (c.meetings_tell.ensures.unfrozen g.R.Receipt.keeps g.F.Key.Ord.cmp g.F.Functions.code v.records (key_of x.op) c.args.slot m.0 c.known.ensures.traced inside m.1)
 
-pub returns-clause-does : goal.returns-clause-does
-returns-clause-does g c = rw c.replace.ensures (replaces c.args.operation.now c.args.value c.args.answer c.args.last c.requires.decided c.requires.last refl refl)
+pub returns-clause-effect : goal.returns-clause-effect
+returns-clause-effect g c = rw c.replace.ensures (replaces c.args.operation.now c.args.value c.args.answer c.args.last c.requires.decided c.requires.last refl refl)
 
 pub returns-clause-event : goal.returns-clause-event
 returns-clause-event g c =

@@ -5,10 +5,10 @@ use Rattle.fkv_core.proofs.SoundLemmas.{sound-moved, slots-moved}
 use Rattle.fkv_core.proofs.EventLemmas.{event-moved, shift-refused}
 use Rattle.fkv_core.proofs.cores.Core.shift_read_only.Goals as goal
 
-pub returns-in-Err-clause-does : goal.returns-in-Err-clause-does
-returns-in-Err-clause-does g c =
+pub returns-in-Err-clause-effect : goal.returns-in-Err-clause-effect
+returns-in-Err-clause-effect g c =
     let made = c.in-Err.ensures in
-    rw (made.refused, ← c.self.view_is) (shift-refused g.R.Receipt.keeps _ c.args.page c.args.now (Err c.in-Err.refused) c.in-Err.refused refl made.not_due made.full made.only)
+    rw (made.unchanged, ← c.self.view_is) (shift-refused g.R.Receipt.keeps _ c.args.page c.args.now (Err c.in-Err.refused) c.in-Err.refused refl made.not_due made.full made.only)
 
 pub invariant_of-self-2 : goal.invariant_of-self-2
 invariant_of-self-2 g c =
@@ -16,8 +16,8 @@ invariant_of-self-2 g c =
     sound-moved c.self.invariant c.shift_read_only.new.self _ c.args.now c.known.ensures made.effect made.raised
     (λ t d x low here. slots-moved c.self.inside.records c.shift_read_only.new.self _ t made.effect (c.self.invariant.housed t d x low here))
 
-pub returns-clause-does : goal.returns-clause-does
-returns-clause-does g c =
+pub returns-clause-effect : goal.returns-clause-effect
+returns-clause-effect g c =
     let due = c.in-Ok.ensures.ok.0 refl in
     rw (← c.self.view_is) (shifts due.0 due.1 (record { moves = c.in-Ok.ensures.effect; is = refl }) refl)
 

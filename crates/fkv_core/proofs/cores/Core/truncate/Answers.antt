@@ -23,8 +23,8 @@ invariant_of-self-2 g c =
     (λ yes_keeps. cleared yes_keeps due)
     (rw made.effect at c.known.ensures))
 
-pub returns-clause-does : goal.returns-clause-does
-returns-clause-does g c =
+pub returns-clause-effect : goal.returns-clause-effect
+returns-clause-effect g c =
     let made = c.in-Ok.ensures in
     rw (made.effect, ← c.self.view_is) (truncates (made.ok.0 refl) refl refl)
 

@@ -11,15 +11,15 @@ append-requires-clause-unclaimed g c =
     let d = c.requires.decided in
     claims-none c.args.self.now c.args.slot c.args.context d.operation d.decides.here (ap claim_by d.decides.fresh)
 
-pub returns-in-Err-clause-does : goal.returns-in-Err-clause-does
-returns-in-Err-clause-does g c =
+pub returns-in-Err-clause-effect : goal.returns-in-Err-clause-effect
+returns-in-Err-clause-effect g c =
     let w = c.args.write in
     let d = c.requires.decided in
     let e = c.in-Err.ensures.only in
-    rw c.in-Err.ensures.err (worn d.operation w.value c.args.answer d.decides (c.in-Err.ensures.worn.0 (ap Err e)) refl (ap Err e))
+    rw c.in-Err.ensures.unchanged (worn d.operation w.value c.args.answer d.decides (c.in-Err.ensures.worn.0 (ap Err e)) refl (ap Err e))
 
-pub returns-in-Ok-None-clause-does : goal.returns-in-Ok-None-clause-does
-returns-in-Ok-None-clause-does g c =
+pub returns-in-Ok-None-clause-effect : goal.returns-in-Ok-None-clause-effect
+returns-in-Ok-None-clause-effect g c =
     let w = c.args.write in
     let d = c.requires.decided in
     let is = ap Ok c.in-Ok-None.field-0-is in
@@ -31,8 +31,8 @@ returns-in-Ok-None-clause-event g c =
     let is = ap Ok c.in-Ok-None.field-0-is in
     rw (c.in-Ok-None.ensures.full is) (event-waits g.F.Key.Ord.cmp g.F.Functions.meaning g.F.Functions.code c.args.self.now c.args.slot c.args.context c.args.now d.operation d.decides.here Full)
 
-pub returns-in-Ok-Some-clause-does : goal.returns-in-Ok-Some-clause-does
-returns-in-Ok-Some-clause-does g c =
+pub returns-in-Ok-Some-clause-effect : goal.returns-in-Ok-Some-clause-effect
+returns-in-Ok-Some-clause-effect g c =
     let w = c.args.write in
     let d = c.requires.decided in
     let is = c.in-Ok-Some.field-0-is in

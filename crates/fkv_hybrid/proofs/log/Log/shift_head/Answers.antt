@@ -8,7 +8,7 @@ invariant_of-self g c =
     tied_followed g.R.Receipt.keeps i.pages c.follow.new.pages i.regions c.shift_head.new.self i.regions.offsets.read_only c.self.invariant c.shift_head.ensures.moved c.self.invariant.begun c.follow.ensures
 
 pub invariant_of-self-in-Err : goal.invariant_of-self-in-Err
-invariant_of-self-in-Err g c = rw c.in-Err.ensures.refused c.self.invariant
+invariant_of-self-in-Err g c = rw c.in-Err.ensures.unchanged c.self.invariant
 
 pub returns-in-Ok-clause-effect : goal.returns-in-Ok-clause-effect
 returns-in-Ok-clause-effect g c =
@@ -42,5 +42,5 @@ returns-in-Err-clause-full g c = rw (← c.self.view_is) c.in-Err.ensures.full
 pub returns-in-Err-clause-only : goal.returns-in-Err-clause-only
 returns-in-Err-clause-only g c = c.in-Err.ensures.only
 
-pub returns-in-Err-clause-refused : goal.returns-in-Err-clause-refused
-returns-in-Err-clause-refused g c = rw (← c.self.view_is, c.in-Err.ensures.refused) refl
+pub returns-in-Err-clause-unchanged : goal.returns-in-Err-clause-unchanged
+returns-in-Err-clause-unchanged g c = rw (← c.self.view_is, c.in-Err.ensures.unchanged) refl

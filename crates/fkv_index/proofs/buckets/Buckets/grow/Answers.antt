@@ -6,8 +6,8 @@ use Rattle.fkv_index.specs.Storage.{row_words, numbered}
 use Rattle.fkv_index.proofs.Rows.{add_in_block, extend_in_block, same_blocks, some_of, same_read, within_rows}
 use Rattle.fkv_index.proofs.buckets.Buckets.grow.Goals as goal
 
-pub returns-in_err-extend_from_slice-clause-err : goal.returns-in_err-extend_from_slice-clause-err
-returns-in_err-extend_from_slice-clause-err c =
+pub returns-in_err-extend_from_slice-clause-unchanged : goal.returns-in_err-extend_from_slice-clause-unchanged
+returns-in_err-extend_from_slice-clause-unchanged c =
     let p = err_from_is_err_and c.from_residual-in_err-extend_from_slice.result c.from_residual-in_err-extend_from_slice.ensures.1 in
     rw (p.1) (
     ap (λ (blocks : List (List Word)). map (row_words blocks) c.self.inside.rows.items) (same_blocks c.self.inside.blocks.items _ c.index_mut-else-number-eq0.result.now c.extend_from_slice.new.self c.index_mut-else-number-eq0.ensures.value c.in_err-extend_from_slice.ensures.items)

@@ -21,7 +21,7 @@ pub returns-in-Some-clause-map : goal.returns-in-Some-clause-map
 returns-in-Some-clause-map c = rw (← c.self.view_is) (index_map _ c.self.invariant)
 
 pub returns-in_default-grow-clause-map : goal.returns-in_default-grow-clause-map
-returns-in_default-grow-clause-map c = rw c.in_default-grow.ensures.err (index_map _ c.self.invariant)
+returns-in_default-grow-clause-map c = rw c.in_default-grow.ensures.unchanged (index_map _ c.self.invariant)
 
 pub returns-clause-map : goal.returns-clause-map
 returns-clause-map c = index_map _ (invariant_of-self-2 c)

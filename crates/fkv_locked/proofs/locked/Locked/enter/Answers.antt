@@ -16,4 +16,4 @@ invariant_of-self-in-Ok g c =
     )
 
 pub returns-in-Ok-clause-enters : goal.returns-in-Ok-clause-enters
-returns-in-Ok-clause-enters g c = rw (← c.self.view_is, ← c.in-Some-next_moment.ensures.some) c.in-Ok.ensures.does
+returns-in-Ok-clause-enters g c = rw (← c.self.view_is, ← c.in-Some-next_moment.ensures.some) c.in-Ok.ensures.effect

@@ -15,5 +15,5 @@ invariant_of-self-in-Ok g c =
           c.in-Some.now (c.self.invariant.3 k held) c.args.mine.now.seat.slot c.args.mine.now.context (omega arith) c.in-Ok.ensures.event c.give_up.ensures.others,
     )
 
-pub returns-in-Ok-clause-does : goal.returns-in-Ok-clause-does
-returns-in-Ok-clause-does g c = rw (← c.self.view_is, ← c.in-Some.ensures.some) c.in-Ok.ensures.does
+pub returns-in-Ok-clause-effect : goal.returns-in-Ok-clause-effect
+returns-in-Ok-clause-effect g c = rw (← c.self.view_is, ← c.in-Some.ensures.some) c.in-Ok.ensures.effect

@@ -25,4 +25,4 @@ invariant_of-self-in-Ok g c =
     )
 
 pub returns-in-Err-clause-refused : goal.returns-in-Err-clause-refused
-returns-in-Err-clause-refused g c = rw (← c.self.view_is, ← c.in-Some.ensures.some, ← c.op.ensures) (inr c.in-Err.ensures.does)
+returns-in-Err-clause-refused g c = rw (← c.self.view_is, ← c.in-Some.ensures.some, ← c.op.ensures) (inr c.in-Err.ensures.effect)

@@ -15,5 +15,5 @@ invariant_of-self-in-Ok g c =
           c.in-Some.now (c.self.invariant.3 k held) g.R.Receipt.keeps held (omega arith) c.in-Ok.ensures.event (c.in-Ok.ensures.pends held),
     )
 
-pub returns-in-Err-clause-does : goal.returns-in-Err-clause-does
-returns-in-Err-clause-does g c = inr (rw (← c.self.view_is, ← c.in-Some.ensures.some) c.in-Err.ensures.does)
+pub returns-in-Err-clause-effect : goal.returns-in-Err-clause-effect
+returns-in-Err-clause-effect g c = inr (rw (← c.self.view_is, ← c.in-Some.ensures.some) c.in-Err.ensures.effect)

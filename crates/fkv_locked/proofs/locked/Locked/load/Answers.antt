@@ -31,12 +31,12 @@ invariant_of-self-2 g c =
           c.note_loaded.ensures.kept k c.self.inside.partition c.load.new.self c.self.inside.looks.items c.mark_at-look.ensures
           (load_comes g.R.Receipt.stands _ g.F.Key.Ord.cmp g.F.Functions.meaning g.F.Functions.code g.R.Receipt.keeps c.self.inside.partition c.load.new.self c.args.mine.now c.args.came c.in-Ok.now
           c.known.ensures.compacting c.in-Ok.ensures.asks (λ p h. (kept.past c.args.mine.now.seat.slot c.args.mine.now.context p h).early) (omega arith)
-          c.in-Ok-load.progress c.in-Ok-load.ensures.does (c.in-Ok-load.ensures.event held) (c.load.ensures.others held))
+          c.in-Ok-load.progress c.in-Ok-load.ensures.effect (c.in-Ok-load.ensures.event held) (c.load.ensures.others held))
           (rw c.in-Ok.ensures.entries kept),
     )
 
-pub returns-clause-does : goal.returns-clause-does
-returns-clause-does g c = (c.in-Ok-load.progress, rw (← c.self.view_is, ← c.in-Ok.ensures.now) c.in-Ok-load.ensures.does, c.note_loaded.ensures.tells)
+pub returns-clause-effect : goal.returns-clause-effect
+returns-clause-effect g c = (c.in-Ok-load.progress, rw (← c.self.view_is, ← c.in-Ok.ensures.now) c.in-Ok-load.ensures.effect, c.note_loaded.ensures.tells)
 
 pub returns-in-Err-load-clause-refused : goal.returns-in-Err-load-clause-refused
-returns-in-Err-load-clause-refused g c = rw (← c.self.view_is, ← c.in-Ok.ensures.now) (inr (inr c.in-Err-load.ensures.does))
+returns-in-Err-load-clause-refused g c = rw (← c.self.view_is, ← c.in-Ok.ensures.now) (inr (inr c.in-Err-load.ensures.effect))

@@ -15,11 +15,11 @@ invariant_of-self-in-Ok g c =
           (c.self.invariant.3 k held) g.R.Receipt.keeps c.args.compactor.now c.in-Some.now held (omega arith) c.in-Ok.ensures.event,
     )
 
-pub returns-in-Err-clause-does : goal.returns-in-Err-clause-does
-returns-in-Err-clause-does g c = inr (rw (← c.self.view_is, ← c.in-Some.ensures.some) c.in-Err.ensures.does)
+pub returns-in-Err-clause-effect : goal.returns-in-Err-clause-effect
+returns-in-Err-clause-effect g c = inr (rw (← c.self.view_is, ← c.in-Some.ensures.some) c.in-Err.ensures.effect)
 
-pub returns-in-Ok-clause-does : goal.returns-in-Ok-clause-does
-returns-in-Ok-clause-does g c = inr (rw (← c.self.view_is, ← c.in-Some.ensures.some) c.in-Ok.ensures.does)
+pub returns-in-Ok-clause-effect : goal.returns-in-Ok-clause-effect
+returns-in-Ok-clause-effect g c = inr (rw (← c.self.view_is, ← c.in-Some.ensures.some) c.in-Ok.ensures.effect)
 
 pub returns-in-Ok-clause-cleared : goal.returns-in-Ok-clause-cleared
 returns-in-Ok-clause-cleared g c = rw (← c.self.view_is, ← c.in-Some.ensures.some) c.in-Ok.ensures.cleared
@@ -27,4 +27,4 @@ returns-in-Ok-clause-cleared g c = rw (← c.self.view_is, ← c.in-Some.ensures
 pub returns-in-Ok-clause-tells : goal.returns-in-Ok-clause-tells
 returns-in-Ok-clause-tells g c =
     rw (← c.self.view_is, ← c.in-Some.ensures.some)
-    (next_tells g.R.Receipt.stands g.F.Key.Ord.cmp g.F.Functions.meaning g.F.Functions.code c.self.inside.partition c.next.new.partition c.args.compactor.now c.in-Some.now _ c.in-Ok.ensures.does)
+    (next_tells g.R.Receipt.stands g.F.Key.Ord.cmp g.F.Functions.meaning g.F.Functions.code c.self.inside.partition c.next.new.partition c.args.compactor.now c.in-Some.now _ c.in-Ok.ensures.effect)

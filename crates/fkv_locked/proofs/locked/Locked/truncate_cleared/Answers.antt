@@ -15,5 +15,5 @@ invariant_of-self-in-Ok g c =
           (c.self.invariant.3 k held) g.R.Receipt.keeps _ c.in-Some.now held (omega arith) c.in-Ok.ensures.event,
     )
 
-pub returns-in-Ok-clause-does : goal.returns-in-Ok-clause-does
-returns-in-Ok-clause-does g c = inr (rw (← c.self.view_is, ← c.in-Some.ensures.some) c.in-Ok.ensures.does)
+pub returns-in-Ok-clause-effect : goal.returns-in-Ok-clause-effect
+returns-in-Ok-clause-effect g c = inr (rw (← c.self.view_is, ← c.in-Some.ensures.some) c.in-Ok.ensures.effect)

@@ -45,11 +45,11 @@ returns-in-Err-clause-refused g c =
 pub returns-in-Err-put-clause-refused : goal.returns-in-Err-put-clause-refused
 returns-in-Err-put-clause-refused g c = memory c.in-Err-put.ensures.only (c.in-Ok.ensures.steady ∙ c.loop-self.invariant.steady)
 
-pub returns-in-Err-clause-err : goal.returns-in-Err-clause-err
-returns-in-Err-clause-err g c = λ keeps. rw (← c.self.view_is) (has_front g.F.Key.Ord.cmp _ _ _ _ _ _ _ (c.loop-self.invariant.scanned keeps))
+pub returns-in-Err-clause-front : goal.returns-in-Err-clause-front
+returns-in-Err-clause-front g c = λ keeps. rw (← c.self.view_is) (has_front g.F.Key.Ord.cmp _ _ _ _ _ _ _ (c.loop-self.invariant.scanned keeps))
 
-pub returns-in-Err-put-clause-err : goal.returns-in-Err-put-clause-err
-returns-in-Err-put-clause-err g c = λ keeps. rw (← c.self.view_is) (front_stays g.F.Key.Ord.cmp _ _ _ _ _ _ _ (c.loop-self.invariant.scanned keeps) _ c.in-Err-put.ensures.err)
+pub returns-in-Err-put-clause-front : goal.returns-in-Err-put-clause-front
+returns-in-Err-put-clause-front g c = λ keeps. rw (← c.self.view_is) (front_stays g.F.Key.Ord.cmp _ _ _ _ _ _ _ (c.loop-self.invariant.scanned keeps) _ c.in-Err-put.ensures.unchanged)
 
 pub returns-in-Err-clause-caused : goal.returns-in-Err-clause-caused
 returns-in-Err-clause-caused g c = λ keeps wanted. rw (← c.self.view_is) (_, c.in-Err.ensures.caused keeps wanted)

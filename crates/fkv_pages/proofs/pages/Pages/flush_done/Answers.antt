@@ -14,7 +14,7 @@ invariant_of-self-inside g c =
     let fine = rw (← c.self.view_is) at (sym c.flush_refusal.ensures ∙ c.in_default.is) in
     let m = flushed_by g.K.Fixed.bytes_of g.V.Fixed.bytes_of g.K.Known.is_known g.V.Known.is_known g.K.Fixed.SIZE g.V.Fixed.SIZE g.R.Receipt.keeps i.shape i.begin i.closed i.frozen i.tail _ i.frames i.text.0.0 (stands written) c.args.written.bytes c.self.invariant fine
     (rw is at c.into_receipt.ensures.length) (rw is at c.into_receipt.ensures.kept) in
-    either c.keep.result c.keep.ensures.ok c.keep.ensures.err
+    either c.keep.result c.keep.ensures.ok c.keep.ensures.unchanged
     (λ e. rw (kept_more stands i.receipts.items _ written (rw is at e)) (the_text g.K.Fixed.bytes_of g.V.Fixed.bytes_of g.K.Known.is_known g.V.Known.is_known g.K.Fixed.SIZE g.V.Fixed.SIZE k.readable v.readable _ _ g.row.K.coded g.row.V.coded _ _ _ m.0.spelled, tt))
     (λ e. rw e (i.text, tt))
 
@@ -27,7 +27,7 @@ invariant_of-self g c =
     let fine = rw (← c.self.view_is) at (sym c.flush_refusal.ensures ∙ c.in_default.is) in
     let m = flushed_by g.K.Fixed.bytes_of g.V.Fixed.bytes_of g.K.Known.is_known g.V.Known.is_known g.K.Fixed.SIZE g.V.Fixed.SIZE g.R.Receipt.keeps i.shape i.begin i.closed i.frozen i.tail _ i.frames i.text.0.0 (stands written) c.args.written.bytes c.self.invariant fine
     (rw is at c.into_receipt.ensures.length) (rw is at c.into_receipt.ensures.kept) in
-    either c.keep.result c.keep.ensures.ok c.keep.ensures.err
+    either c.keep.result c.keep.ensures.ok c.keep.ensures.unchanged
     (λ e. log_with g.K.Fixed.bytes_of g.V.Fixed.bytes_of g.K.Known.is_known g.V.Known.is_known g.K.Fixed.SIZE g.V.Fixed.SIZE g.R.Receipt.keeps i.shape i.begin i.closed i.frozen i.tail _ _ i.frames c.self-1.given.0 i.text.0.0 (kept_more stands i.receipts.items _ written (rw is at e)) m.0)
     (λ e. log_with g.K.Fixed.bytes_of g.V.Fixed.bytes_of g.K.Known.is_known g.V.Known.is_known g.K.Fixed.SIZE g.V.Fixed.SIZE g.R.Receipt.keeps i.shape i.begin i.closed i.frozen i.tail _ _ i.frames c.self-1.given.0 i.text.0.0 (ap (map stands) e) c.self.invariant)
 
@@ -43,8 +43,8 @@ returns-clause-done g c =
     ok_then c.keep.result c.keep.ensures.ok
     (λ e. rw (← c.self.view_is) (view_with g.K.Fixed.bytes_of g.V.Fixed.bytes_of g.K.Known.is_known g.V.Known.is_known g.K.Fixed.SIZE g.V.Fixed.SIZE g.R.Receipt.keeps i.shape i.begin i.closed i.frozen i.tail _ _ i.frames c.self-1.given.0 i.text.0.0 (kept_more stands i.receipts.items _ written (rw is at e)) m.0 ∙ m.1))
 
-pub returns-clause-err : goal.returns-clause-err
-returns-clause-err g c =
+pub returns-clause-unchanged : goal.returns-clause-unchanged
+returns-clause-unchanged g c =
     let i = c.self.inside in
-    err_then c.keep.result c.keep.ensures.err
+    err_then c.keep.result c.keep.ensures.unchanged
     (λ e. view_with g.K.Fixed.bytes_of g.V.Fixed.bytes_of g.K.Known.is_known g.V.Known.is_known g.K.Fixed.SIZE g.V.Fixed.SIZE g.R.Receipt.keeps i.shape i.begin i.closed i.frozen i.tail _ _ i.frames c.self-1.given.0 i.text.0.0 (ap (map g.R.Receipt.stands) e) c.self.invariant ∙ c.self.view_is)

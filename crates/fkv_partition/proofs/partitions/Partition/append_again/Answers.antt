@@ -17,8 +17,8 @@ use Rattle.fkv_partition.proofs.MoveLemmas.{event-set, past-place, stands-here}
 use Rattle.fkv_partition.proofs.AgainLemmas.{keep-moment, unclaimed, writes-again, keep-again, spent-again, event-again}
 use Rattle.fkv_partition.proofs.partitions.Partition.append_again.Goals as goal
 
-pub returns-then-not-holds-clause-does : goal.returns-then-not-holds-clause-does
-returns-then-not-holds-clause-does g c =
+pub returns-then-not-holds-clause-effect : goal.returns-then-not-holds-clause-effect
+returns-then-not-holds-clause-effect g c =
     let told = rw c.records.ensures at c.holds.ensures in
     rw c.set_stage.ensures (Ends.moved
     (λ e. let yes = told.1 (ap (λ u. word_at u.core.records.words c.args.kept.place) c.self.view_is ∙ e) in let no : false ≡ true = sym c.if-not-holds.true ∙ yes in cc) refl refl)
@@ -107,8 +107,8 @@ finish-requires-clause-spent g c =
     subst (λ q. IsTrue g.R.Receipt.keeps → (d : Entry _ _) → entry_at q.records.text x.target ≡ Some d → IsSuperseded g.F.Key.Ord.cmp q.records.text d) (sym made)
     (spent-again g.F.Key.Ord.cmp g.F.Functions.code ins c.self.invariant c.args.slot c.args.context c.args.now x here sound e kept stands holds order)
 
-pub returns-in-Err-clause-does : goal.returns-in-Err-clause-does
-returns-in-Err-clause-does g c =
+pub returns-in-Err-clause-effect : goal.returns-in-Err-clause-effect
+returns-in-Err-clause-effect g c =
     let x = c.args.relocation.now in
     let e = c.args.entry in
     let kept = c.args.kept in
@@ -117,10 +117,10 @@ returns-in-Err-clause-does g c =
     let holds = ap (λ u. word_at u.core.records.words kept.place) (sym c.self.view_is) ∙ told.0 c.if-not-holds.false in
     let is = c.in-Err.ensures.only in
     let tail = ap (λ u. u.core.records.tail) (sym c.self.view_is) ∙ c.in-Err.ensures.worn.0 (ap Err is) in
-    Ends.worn holds tail (ap (λ q. view_of q c.self.inside.cleared c.self.inside.relocations.items) c.in-Err.ensures.err ∙ c.self.view_is) (ap Err is)
+    Ends.worn holds tail (ap (λ q. view_of q c.self.inside.cleared c.self.inside.relocations.items) c.in-Err.ensures.unchanged ∙ c.self.view_is) (ap Err is)
 
-pub returns-in-Ok-None-clause-does : goal.returns-in-Ok-None-clause-does
-returns-in-Ok-None-clause-does g c =
+pub returns-in-Ok-None-clause-effect : goal.returns-in-Ok-None-clause-effect
+returns-in-Ok-None-clause-effect g c =
     let x = c.args.relocation.now in
     let e = c.args.entry in
     let kept = c.args.kept in
@@ -150,8 +150,8 @@ returns-in-Ok-None-clause-event g c =
     ∙ ap (λ u. with_relocation u c.args.slot c.args.context y c.args.now) c.self.view_is in
     rw new (event-set g.R.Receipt.keeps g.F.Key.Ord.cmp v c.args.slot c.args.context c.args.now c.requires.context y)
 
-pub returns-in-Ok-Some-clause-does : goal.returns-in-Ok-Some-clause-does
-returns-in-Ok-Some-clause-does g c =
+pub returns-in-Ok-Some-clause-effect : goal.returns-in-Ok-Some-clause-effect
+returns-in-Ok-Some-clause-effect g c =
     let x = c.args.relocation.now in
     let e = c.args.entry in
     let kept = c.args.kept in

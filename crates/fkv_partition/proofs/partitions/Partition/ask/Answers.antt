@@ -5,8 +5,8 @@ use Rattle.fkv_partition.specs.Checking.{asks}
 use Rattle.fkv_partition.proofs.MoveLemmas.{event-set}
 use Rattle.fkv_partition.proofs.partitions.Partition.ask.Goals as goal
 
-pub returns-clause-does : goal.returns-clause-does
-returns-clause-does g c =
+pub returns-clause-effect : goal.returns-clause-effect
+returns-clause-effect g c =
     let held = rw (c.page_of-page.ensures, c.records.ensures, c.records-2.ensures) at c.in-Ok.ensures.stands in
     rw c.set_stage.ensures (asks c.in-Ok.receipt (subst (λ u. IsHeldBy u.core.records.receipts (page_at u.core.records.page_bits c.args.wanted) (g.R.Receipt.stands c.in-Ok.receipt)) c.self.view_is held) refl refl)
 

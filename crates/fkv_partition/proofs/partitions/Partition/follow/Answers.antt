@@ -101,21 +101,21 @@ returns-in-Superseded-clause-cleared g c =
     let e = c.args.entry in
     λ is. rw c.finish.ensures (past-place v x.target c.known.ensures.core.traced (stands-here v c.args.slot c.args.context x c.requires.here c.known.ensures.compacting).place).1
 
-pub returns-in-Last-clause-does : goal.returns-in-Last-clause-does
-returns-in-Last-clause-does g c =
+pub returns-in-Last-clause-effect : goal.returns-in-Last-clause-effect
+returns-in-Last-clause-effect g c =
     let v = c.args.self.now in
     let x = c.args.relocation.now in
     let e = c.args.entry in
     let told = sym (ap (liveness x.target) c.reach-reached.ensures) ∙ sym c.liveness_of.ensures ∙ c.in-Last.is in
     let so = subst (λ u. liveness x.target (reached_from g.F.Key.Ord.cmp g.F.Functions.code u.core c.args.slot e.key (entry_for g.F.Functions.code u.core e.key)) ≡ Last) c.self.view_is told in
-    ChecksLiveness.last c.args.kept (record { some = c.requires.some; own = c.requires.own; leads = c.requires.found; judged_so = so }) c.append_again.ensures.does
+    ChecksLiveness.last c.args.kept (record { some = c.requires.some; own = c.requires.own; leads = c.requires.found; judged_so = so }) c.append_again.ensures.effect
 
-pub returns-in-Further-clause-does : goal.returns-in-Further-clause-does
-returns-in-Further-clause-does g c =
+pub returns-in-Further-clause-effect : goal.returns-in-Further-clause-effect
+returns-in-Further-clause-effect g c =
     let v = c.args.self.now in
     let x = c.args.relocation.now in
     let e = c.args.entry in
     let told = sym (ap (liveness x.target) c.reach-reached.ensures) ∙ sym c.liveness_of.ensures ∙ c.in-Further.is in
     let so = subst (λ u. liveness x.target (reached_from g.F.Key.Ord.cmp g.F.Functions.code u.core c.args.slot e.key (entry_for g.F.Functions.code u.core e.key)) ≡ Further c.in-Further.wanted) c.self.view_is told in
     let begins = c.begin.ensures ∙ ap (λ r. r.begin) c.records.ensures ∙ ap (λ u. u.core.records.begin) c.self.view_is in
-    ChecksLiveness.further c.args.kept c.in-Further.wanted (record { some = c.requires.some; own = c.requires.own; leads = c.requires.found; judged_so = so }) (rw begins at c.ask.ensures.does)
+    ChecksLiveness.further c.args.kept c.in-Further.wanted (record { some = c.requires.some; own = c.requires.own; leads = c.requires.found; judged_so = so }) (rw begins at c.ask.ensures.effect)

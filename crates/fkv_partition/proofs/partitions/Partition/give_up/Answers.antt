@@ -5,8 +5,8 @@ use Rattle.fkv_partition.proofs.EffectLemmas.{on-ok, key-give-up}
 use Rattle.fkv_partition.proofs.OperationLemmas.{drops-event, drops-pend}
 use Rattle.fkv_partition.proofs.partitions.Partition.give_up.Goals as goal
 
-pub returns-in-None-clause-does : goal.returns-in-None-clause-does
-returns-in-None-clause-does g c = GivesUp.on_key (sym c.relocation.ensures.value ∙ c.in-None.is) c.give_up_on_key.ensures.does c.give_up_on_key.ensures.rest
+pub returns-in-None-clause-effect : goal.returns-in-None-clause-effect
+returns-in-None-clause-effect g c = GivesUp.on_key (sym c.relocation.ensures.value ∙ c.in-None.is) c.give_up_on_key.ensures.effect c.give_up_on_key.ensures.rest
 
 pub returns-in-None-clause-event : goal.returns-in-None-clause-event
 returns-in-None-clause-event g c =
@@ -15,13 +15,13 @@ returns-in-None-clause-event g c =
 
 pub returns-in-None-clause-others : goal.returns-in-None-clause-others
 returns-in-None-clause-others g c =
-    c.pendings_stay.ensures.gives_up g.F.Key.Ord.cmp c.args.self.now.core c.give_up_on_key.new.self.core c.args.slot c.args.context c.args.now c.give_up_on_key.result c.give_up_on_key.ensures.does
+    c.pendings_stay.ensures.gives_up g.F.Key.Ord.cmp c.args.self.now.core c.give_up_on_key.new.self.core c.args.slot c.args.context c.args.now c.give_up_on_key.result c.give_up_on_key.ensures.effect
 
-pub returns-in-Some-clause-does : goal.returns-in-Some-clause-does
-returns-in-Some-clause-does g c = GivesUp.relocation c.in-Some._relocation (sym c.relocation.ensures.value ∙ c.in-Some.is) c.drop_relocation.ensures.does
+pub returns-in-Some-clause-effect : goal.returns-in-Some-clause-effect
+returns-in-Some-clause-effect g c = GivesUp.relocation c.in-Some._relocation (sym c.relocation.ensures.value ∙ c.in-Some.is) c.drop_relocation.ensures.effect
 
 pub returns-in-Some-clause-event : goal.returns-in-Some-clause-event
-returns-in-Some-clause-event g c = drops-event c.args.self.now c.drop_relocation.new.self c.known.ensures.compacting c.args.slot c.args.context c.args.now c.drop_relocation.result c.drop_relocation.ensures.does
+returns-in-Some-clause-event g c = drops-event c.args.self.now c.drop_relocation.new.self c.known.ensures.compacting c.args.slot c.args.context c.args.now c.drop_relocation.result c.drop_relocation.ensures.effect
 
 pub returns-in-Some-clause-others : goal.returns-in-Some-clause-others
-returns-in-Some-clause-others g c = λ s d other. drops-pend g.F.Key.Ord.cmp c.args.self.now c.drop_relocation.new.self c.args.slot c.args.context c.args.now c.drop_relocation.result c.drop_relocation.ensures.does s d
+returns-in-Some-clause-others g c = λ s d other. drops-pend g.F.Key.Ord.cmp c.args.self.now c.drop_relocation.new.self c.args.slot c.args.context c.args.now c.drop_relocation.result c.drop_relocation.ensures.effect s d

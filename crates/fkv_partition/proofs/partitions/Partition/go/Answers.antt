@@ -5,8 +5,8 @@ use Rattle.fkv_partition.proofs.ProceedLemmas.{goes_on-proceeds}
 use Rattle.fkv_partition.proofs.OperationLemmas.{goes-event, goes-finds, relocation-event, relocation-finds, relocation-others, same-pends}
 use Rattle.fkv_partition.proofs.partitions.Partition.go.Goals as goal
 
-pub returns-in-None-clause-does : goal.returns-in-None-clause-does
-returns-in-None-clause-does g c = Goes.on_key (sym c.relocation.ensures.value ∙ c.in-None.is) c.go_on_key.ensures.does c.go_on_key.ensures.rest
+pub returns-in-None-clause-effect : goal.returns-in-None-clause-effect
+returns-in-None-clause-effect g c = Goes.on_key (sym c.relocation.ensures.value ∙ c.in-None.is) c.go_on_key.ensures.effect c.go_on_key.ensures.rest
 
 pub returns-in-None-clause-event : goal.returns-in-None-clause-event
 returns-in-None-clause-event g c = λ yes_keeps.
@@ -17,7 +17,7 @@ returns-in-None-clause-others g c = λ yes_keeps.
     let ord = g.met.F.Key.Ord in
     let known = g.met.F.Key.FixedKey in
     let order = key_order g.F.Key.PartialEq.eq g.F.Key.Ord.cmp ord.matches_eq known.exact ord.total in
-    c.pendings_stay.ensures.goes g.R.Receipt.keeps g.R.Receipt.stands g.F.Key.Ord.cmp g.F.Functions.meaning g.F.Functions.code c.args.self.now.core c.go_on_key.new.self.core c.args.slot c.args.context c.args.now c.go_on_key.result yes_keeps order c.known.ensures.core c.go_on_key.ensures.does
+    c.pendings_stay.ensures.goes g.R.Receipt.keeps g.R.Receipt.stands g.F.Key.Ord.cmp g.F.Functions.meaning g.F.Functions.code c.args.self.now.core c.go_on_key.new.self.core c.args.slot c.args.context c.args.now c.go_on_key.result yes_keeps order c.known.ensures.core c.go_on_key.ensures.effect
 
 pub returns-in-None-clause-finds : goal.returns-in-None-clause-finds
 returns-in-None-clause-finds g c = λ yes_keeps.
@@ -25,13 +25,13 @@ returns-in-None-clause-finds g c = λ yes_keeps.
     let known = g.met.F.Key.FixedKey in
     let order = key_order g.F.Key.PartialEq.eq g.F.Key.Ord.cmp ord.matches_eq known.exact ord.total in
     goes-finds g.F.Key.Ord.cmp g.F.Functions.meaning c.args.self.now c.go_on_key.new.self c.args.slot c.args.context c.args.now (sym c.relocation.ensures.value ∙ c.in-None.is) c.go_on_key.ensures.rest c.go_on_key.result
-    (λ p e. c.pendings_stay.ensures.finds g.R.Receipt.keeps g.R.Receipt.stands g.F.Key.Ord.cmp g.F.Functions.meaning g.F.Functions.code c.args.self.now.core c.go_on_key.new.self.core c.args.slot c.args.context c.args.now p order c.known.ensures.core (rw e at c.go_on_key.ensures.does))
+    (λ p e. c.pendings_stay.ensures.finds g.R.Receipt.keeps g.R.Receipt.stands g.F.Key.Ord.cmp g.F.Functions.meaning g.F.Functions.code c.args.self.now.core c.go_on_key.new.self.core c.args.slot c.args.context c.args.now p order c.known.ensures.core (rw e at c.go_on_key.ensures.effect))
 
 pub returns-in-None-clause-cleared : goal.returns-in-None-clause-cleared
 returns-in-None-clause-cleared g c = λ told. rw (sym c.relocation.ensures.value ∙ c.in-None.is) tt
 
-pub returns-in-Some-clause-does : goal.returns-in-Some-clause-does
-returns-in-Some-clause-does g c = Goes.relocation c.in-Some._relocation (sym c.relocation.ensures.value ∙ c.in-Some.is) c.go_on.ensures.does
+pub returns-in-Some-clause-effect : goal.returns-in-Some-clause-effect
+returns-in-Some-clause-effect g c = Goes.relocation c.in-Some._relocation (sym c.relocation.ensures.value ∙ c.in-Some.is) c.go_on.ensures.effect
 
 pub returns-in-Some-clause-on_key : goal.returns-in-Some-clause-on_key
 returns-in-Some-clause-on_key g c = λ none. absurd (let bad : None ≡ Some c.in-Some._relocation = sym none ∙ sym c.relocation.ensures.value ∙ c.in-Some.is in cc)
@@ -40,12 +40,12 @@ pub returns-in-Some-clause-event : goal.returns-in-Some-clause-event
 returns-in-Some-clause-event g c = λ yes_keeps.
     let here = sym c.relocation.ensures.value ∙ c.in-Some.is in
     relocation-event g.F.Key.Ord.cmp g.F.Functions.meaning c.args.self.now c.go_on.new.self c.args.slot c.args.context c.args.now c.known.ensures.compacting c.in-Some._relocation here yes_keeps c.go_on.result c.go_on.ensures.event
-    (λ p e. goes_on-proceeds g.R.Receipt.stands g.F.Key.Ord.cmp g.F.Functions.code c.args.self.now c.go_on.new.self c.args.slot c.args.context c.args.now p c.in-Some._relocation here (rw e at c.go_on.ensures.does))
+    (λ p e. goes_on-proceeds g.R.Receipt.stands g.F.Key.Ord.cmp g.F.Functions.code c.args.self.now c.go_on.new.self c.args.slot c.args.context c.args.now p c.in-Some._relocation here (rw e at c.go_on.ensures.effect))
 
 pub returns-in-Some-clause-others : goal.returns-in-Some-clause-others
 returns-in-Some-clause-others g c = λ yes_keeps.
     relocation-others g.F.Key.Ord.cmp g.F.Functions.meaning c.args.self.now c.go_on.new.self c.args.slot c.args.context c.args.now yes_keeps c.go_on.result c.go_on.ensures.event
-    (same-pends g.F.Key.Ord.cmp c.args.self.now c.go_on.new.self c.go_on.result c.go_on.ensures.err)
+    (same-pends g.F.Key.Ord.cmp c.args.self.now c.go_on.new.self c.go_on.result c.go_on.ensures.unchanged)
 
 pub returns-in-Some-clause-finds : goal.returns-in-Some-clause-finds
 returns-in-Some-clause-finds g c = λ yes_keeps.

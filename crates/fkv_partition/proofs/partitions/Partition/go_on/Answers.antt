@@ -13,8 +13,8 @@ append_again-requires-clause-stands g c =
     let sound = subst (λ u. IsCompacting g.R.Receipt.keeps g.F.Key.Ord.cmp g.F.Functions.code u) c.self.view_is c.self.invariant in
     subst (λ s. StageStands g.R.Receipt.keeps g.F.Key.Ord.cmp g.F.Functions.code v.core x.target s) c.in-Ready.is (stands-here v c.args.slot c.args.context x here sound).stage
 
-pub returns-then-relocation-self-clause-does : goal.returns-then-relocation-self-clause-does
-returns-then-relocation-self-clause-does g c =
+pub returns-then-relocation-self-clause-effect : goal.returns-then-relocation-self-clause-effect
+returns-then-relocation-self-clause-effect g c =
     let v = c.args.self.now in
     let x = c.in-Some.relocation in
     let here = sym c.in-Some.ensures.value in
@@ -38,8 +38,8 @@ look-requires-clause-uncleared g c =
     let issued = (stands-here v c.args.slot c.args.context x here sound).issued in
     omega arith
 
-pub returns-in-Reading-clause-does : goal.returns-in-Reading-clause-does
-returns-in-Reading-clause-does g c =
+pub returns-in-Reading-clause-effect : goal.returns-in-Reading-clause-effect
+returns-in-Reading-clause-effect g c =
     let x = c.in-Some.relocation in
     let here = sym c.in-Some.ensures.value in
     elim c.in-Reading.is [
@@ -47,9 +47,9 @@ returns-in-Reading-clause-does g c =
       | inr t ↦ GoesOn.not_ready x (record { begin = t.1.begin; wanted = t.1.wanted }) here (ap (awaited_by x.target) t.2) refl refl
     ]
 
-pub returns-in-Ready-clause-does : goal.returns-in-Ready-clause-does
-returns-in-Ready-clause-does g c =
+pub returns-in-Ready-clause-effect : goal.returns-in-Ready-clause-effect
+returns-in-Ready-clause-effect g c =
     let v = c.args.self.now in
     let x = c.in-Some.relocation in
     let here = sym c.in-Some.ensures.value in
-    GoesOn.again x c.in-Ready.entry c.in-Ready.kept here c.in-Ready.is c.append_again.ensures.does
+    GoesOn.again x c.in-Ready.entry c.in-Ready.kept here c.in-Ready.is c.append_again.ensures.effect

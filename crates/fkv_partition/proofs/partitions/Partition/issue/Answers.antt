@@ -3,8 +3,8 @@ use Rattle.fkv_partition.specs.Events.{Issues}
 use Rattle.fkv_partition.proofs.OperationLemmas.{keyed-not, keyed-some, issue-on-key, issues-pend, relocates-event, relocates-pend}
 use Rattle.fkv_partition.proofs.partitions.Partition.issue.Goals as goal
 
-pub returns-in-Some-clause-does : goal.returns-in-Some-clause-does
-returns-in-Some-clause-does g c = Issues.on_key c.in-Some.keyed (sym c.keyed.ensures ∙ c.in-Some.is) c.issue_on_key.ensures.does
+pub returns-in-Some-clause-effect : goal.returns-in-Some-clause-effect
+returns-in-Some-clause-effect g c = Issues.on_key c.in-Some.keyed (sym c.keyed.ensures ∙ c.in-Some.is) c.issue_on_key.ensures.effect
 
 pub returns-in-Some-clause-event : goal.returns-in-Some-clause-event
 returns-in-Some-clause-event g c =
@@ -14,17 +14,17 @@ returns-in-Some-clause-event g c =
 pub returns-in-Some-clause-pends : goal.returns-in-Some-clause-pends
 returns-in-Some-clause-pends g c = λ yes_keeps.
     issues-pend g.F.Key.Ord.cmp g.F.Functions.code c.args.self.now c.issue_on_key.new.self c.args.slot c.in-Some.keyed c.args.now c.issue_on_key.result
-    (λ p q k r h. c.pendings_stay.ensures.issues g.F.Key.Ord.cmp g.F.Functions.code p q c.args.slot k c.in-Some.keyed c.args.now r h) c.issue_on_key.ensures.does
+    (λ p q k r h. c.pendings_stay.ensures.issues g.F.Key.Ord.cmp g.F.Functions.code p q c.args.slot k c.in-Some.keyed c.args.now r h) c.issue_on_key.ensures.effect
 
-pub returns-in-None-clause-does : goal.returns-in-None-clause-does
-returns-in-None-clause-does g c = Issues.relocation (keyed-not c.args.op (sym c.keyed.ensures ∙ c.in-None.is)) c.relocate.ensures.does
+pub returns-in-None-clause-effect : goal.returns-in-None-clause-effect
+returns-in-None-clause-effect g c = Issues.relocation (keyed-not c.args.op (sym c.keyed.ensures ∙ c.in-None.is)) c.relocate.ensures.effect
 
 pub returns-in-None-clause-event : goal.returns-in-None-clause-event
 returns-in-None-clause-event g c =
-    relocates-event g.F.Functions.code c.args.self.now c.relocate.new.self c.args.slot c.args.now c.args.op c.relocate.result (keyed-not c.args.op (sym c.keyed.ensures ∙ c.in-None.is)) c.known.ensures.compacting c.relocate.ensures.within c.relocate.ensures.does
+    relocates-event g.F.Functions.code c.args.self.now c.relocate.new.self c.args.slot c.args.now c.args.op c.relocate.result (keyed-not c.args.op (sym c.keyed.ensures ∙ c.in-None.is)) c.known.ensures.compacting c.relocate.ensures.within c.relocate.ensures.effect
 
 pub returns-in-None-clause-pends : goal.returns-in-None-clause-pends
-returns-in-None-clause-pends g c = λ yes_keeps. relocates-pend g.F.Key.Ord.cmp c.args.self.now c.relocate.new.self c.args.slot c.args.now c.relocate.result c.relocate.ensures.does
+returns-in-None-clause-pends g c = λ yes_keeps. relocates-pend g.F.Key.Ord.cmp c.args.self.now c.relocate.new.self c.args.slot c.args.now c.relocate.result c.relocate.ensures.effect
 
 pub returns-in-Some-clause-relocating : goal.returns-in-Some-clause-relocating
 returns-in-Some-clause-relocating g c = λ is. absurd (keyed-some c.args.op c.in-Some.keyed (sym c.keyed.ensures ∙ c.in-Some.is) is)

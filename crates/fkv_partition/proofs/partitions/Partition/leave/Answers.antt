@@ -7,8 +7,8 @@ use Rattle.fkv_partition.proofs.KeepLemmas.{keep-left, none-at, on-err}
 use Rattle.fkv_partition.proofs.EffectLemmas.{on-ok, quiet-event, relocations-stay, left-stay}
 use Rattle.fkv_partition.proofs.partitions.Partition.leave.Goals as goal
 
-pub returns-then-has_relocation-clause-does : goal.returns-then-has_relocation-clause-does
-returns-then-has_relocation-clause-does g c =
+pub returns-then-has_relocation-clause-effect : goal.returns-then-has_relocation-clause-effect
+returns-then-has_relocation-clause-effect g c =
     let h = c.has_relocation.ensures.0 c.if-has_relocation.true in
     LeavesAll.busy h.0 h.1 h.2 refl refl
 
@@ -16,7 +16,7 @@ pub invariant_of-self : goal.invariant_of-self
 invariant_of-self g c =
     let v = view_of c.self.inside.core c.self.inside.cleared c.self.inside.relocations.items in
     let new = c.leave-left.new.self in
-    let does = c.leave-left.ensures.does in
+    let does = c.leave-left.ensures.effect in
     let has = rw (← c.self.view_is) at c.has_relocation.ensures in
     keep-left g.R.Receipt.keeps g.F.Key.Ord.cmp g.F.Functions.code v new c.args.slot c.self.invariant c.known-2.ensures.traced
     (c.events_preserve.ensures.leaves g.R.Receipt.keeps g.F.Key.Ord.cmp g.F.Functions.code v.core new c.args.slot c.args.now c.leave-left.result c.known.ensures does)
@@ -24,25 +24,25 @@ invariant_of-self g c =
     (c.sessions_preserved.ensures.leaves g.R.Receipt.keeps v.core new c.args.slot c.args.now c.leave-left.result does)
     (λ d x e. (let told = has.1 (d, x, e) in let bad : false ≡ true = sym c.if-has_relocation.false ∙ told in cc))
 
-pub returns-clause-does : goal.returns-clause-does
-returns-clause-does g c =
+pub returns-clause-effect : goal.returns-clause-effect
+returns-clause-effect g c =
     let v = view_of c.self.inside.core c.self.inside.cleared c.self.inside.relocations.items in
     let has = rw (← c.self.view_is) at c.has_relocation.ensures in
     rw (← c.self.view_is)
-    (LeavesAll.leaves (λ d. none-at (relocation_at v c.args.slot d) (λ x e. (let told = has.1 (d, x, e) in let bad : false ≡ true = sym c.if-has_relocation.false ∙ told in cc))) c.leave-left.ensures.does refl)
+    (LeavesAll.leaves (λ d. none-at (relocation_at v c.args.slot d) (λ x e. (let told = has.1 (d, x, e) in let bad : false ≡ true = sym c.if-has_relocation.false ∙ told in cc))) c.leave-left.ensures.effect refl)
 
-pub returns-clause-err : goal.returns-clause-err
-returns-clause-err g c = rw (← c.self.view_is) (on-err c.leave-left.result (λ same. ap (λ p. view_of p c.self.inside.cleared c.self.inside.relocations.items) same) c.leave-left.ensures.err)
+pub returns-clause-unchanged : goal.returns-clause-unchanged
+returns-clause-unchanged g c = rw (← c.self.view_is) (on-err c.leave-left.result (λ same. ap (λ p. view_of p c.self.inside.cleared c.self.inside.relocations.items) same) c.leave-left.ensures.unchanged)
 
 pub returns-clause-event : goal.returns-clause-event
 returns-clause-event g c =
     let v = view_of c.self.inside.core c.self.inside.cleared c.self.inside.relocations.items in
     let new = c.leave-left.new.self in
-    let does = c.leave-left.ensures.does in
+    let does = c.leave-left.ensures.effect in
     let has = rw (← c.self.view_is) at c.has_relocation.ensures in
     let seats = c.sessions_preserved.ensures.leaves g.R.Receipt.keeps v.core new c.args.slot c.args.now c.leave-left.result does in
     let stay = left-stay v new c.args.slot seats.1 (λ d x e. (let told = has.1 (d, x, e) in let bad : false ≡ true = sym c.if-has_relocation.false ∙ told in cc)) in
     rw (← c.self.view_is) (on-ok c.leave-left.result (λ q. quiet-event v new c.args.now (relocations-stay v new c.self.invariant stay) q) c.leave-left.ensures.event)
 
 pub returns-clause-pends : goal.returns-clause-pends
-returns-clause-pends g c = rw (← c.self.view_is) (λ yes_keeps. c.pendings_stay.ensures.leaves g.R.Receipt.keeps g.F.Key.Ord.cmp c.self.inside.core c.leave-left.new.self c.args.slot c.args.now c.leave-left.result yes_keeps c.leave-left.ensures.does)
+returns-clause-pends g c = rw (← c.self.view_is) (λ yes_keeps. c.pendings_stay.ensures.leaves g.R.Receipt.keeps g.F.Key.Ord.cmp c.self.inside.core c.leave-left.new.self c.args.slot c.args.now c.leave-left.result yes_keeps c.leave-left.ensures.effect)

@@ -37,8 +37,8 @@ ask-requires-clause-stands g c =
     let begins = c.begin-begin.ensures ∙ ap (λ r. r.begin) c.records-2.ensures ∙ ap (λ u. u.core.records.begin) c.self.view_is in
     rw begins (place-reading g.F.Key.Ord.cmp g.F.Functions.code v c.known.ensures.compacting c.known.ensures.core c.args.slot c.args.context x c.requires.here c.requires.uncleared under)
 
-pub returns-then-target-low_of-clause-does : goal.returns-then-target-low_of-clause-does
-returns-then-target-low_of-clause-does g c =
+pub returns-then-target-low_of-clause-effect : goal.returns-then-target-low_of-clause-effect
+returns-then-target-low_of-clause-effect g c =
     let v = c.args.self.now in
     let x = c.args.relocation.now in
     let low = c.low_of.ensures
@@ -47,7 +47,7 @@ returns-then-target-low_of-clause-does g c =
     ∙ ap (λ u. low_at u c.args.slot) c.self.view_is in
     let under = subst (λ n. x.target < n) low c.if-target-low_of.true in
     let begins = c.begin-begin.ensures ∙ ap (λ r. r.begin) c.records-2.ensures ∙ ap (λ u. u.core.records.begin) c.self.view_is in
-    GoesOn.reads x c.requires.here c.requires.fresh c.requires.uncleared under (rw begins at c.ask.ensures.does)
+    GoesOn.reads x c.requires.here c.requires.fresh c.requires.uncleared under (rw begins at c.ask.ensures.effect)
 
 pub record_at-entry-requires-clause-there : goal.record_at-entry-requires-clause-there
 record_at-entry-requires-clause-there g c =
@@ -75,8 +75,8 @@ pub check_liveness-requires-clause-stands : goal.check_liveness-requires-clause-
 check_liveness-requires-clause-stands g c =
     address-at c.records-3.result.now.text c.args.relocation.now.target c.record_at-entry.result c.record_at-entry.ensures.entry
 
-pub returns-clause-does : goal.returns-clause-does
-returns-clause-does g c =
+pub returns-clause-effect : goal.returns-clause-effect
+returns-clause-effect g c =
     let v = c.args.self.now in
     let x = c.args.relocation.now in
     let low = c.low_of.ensures
@@ -85,4 +85,4 @@ returns-clause-does g c =
     ∙ ap (λ u. low_at u c.args.slot) c.self.view_is in
     let over = subst (λ n. n ≤ x.target) low c.if-target-low_of.false in
     let there = subst (λ u. entry_at u.core.records.text x.target ≡ Some c.record_at-entry.result) c.self.view_is (rw c.records-3.ensures at c.record_at-entry.ensures.entry) in
-    GoesOn.checks x c.record_at-entry.result c.requires.here c.requires.fresh c.requires.uncleared over there c.check_liveness.ensures.does
+    GoesOn.checks x c.record_at-entry.result c.requires.here c.requires.fresh c.requires.uncleared over there c.check_liveness.ensures.effect

@@ -22,8 +22,8 @@ is_own-requires g c =
     let held = subst (λ u. page_at u.core.records.page_bits x.target < length u.core.records.receipts) (sym c.self.view_is) there in
     rw (c.page_of-page.ensures, c.records.ensures, c.records-2.ensures) held
 
-pub returns-in-Err-clause-does : goal.returns-in-Err-clause-does
-returns-in-Err-clause-does g c =
+pub returns-in-Err-clause-effect : goal.returns-in-Err-clause-effect
+returns-in-Err-clause-effect g c =
     let v = c.args.self.now in
     let x = c.args.relocation.now in
     let a = c.requires.awaits in
@@ -59,8 +59,8 @@ check_liveness-requires-clause-is g c =
     let kept = subst (λ u. IsTrue g.R.Receipt.keeps → IfSome (entry_at u.core.records.text x.target) (λ y. c.own_record_in.result ≡ Ok y)) c.self.view_is (rw c.records-3.ensures at c.own_record_in.ensures.kept) in
     place-read g.F.Key.Ord.cmp g.F.Functions.code v sound s c.args.slot c.args.context x v.core.records.begin at refl a.here c.in-Ok.entry c.own_record_in.result c.in-Ok.is kept
 
-pub returns-in-Err-own_record_in-clause-does : goal.returns-in-Err-own_record_in-clause-does
-returns-in-Err-own_record_in-clause-does g c =
+pub returns-in-Err-own_record_in-clause-effect : goal.returns-in-Err-own_record_in-clause-effect
+returns-in-Err-own_record_in-clause-effect g c =
     let v = c.args.self.now in
     let x = c.args.relocation.now in
     let a = c.requires.awaits in
@@ -75,8 +75,8 @@ returns-in-Err-own_record_in-clause-does g c =
     let found = subst (λ u. (y : Entry _ _) → (IsEntryIn g.F.Key.Fixed.bytes_of g.F.Value.Fixed.bytes_of g.F.Key.Known.is_known g.F.Value.Known.is_known g.F.Key.Fixed.SIZE g.F.Value.Fixed.SIZE) u.core.records.page_bits p.bytes x.target y → c.own_record_in.result ≡ Ok y) c.self.view_is (rw c.records-3.ensures at c.own_record_in.ensures.found) in
     rw (c.end.ensures, page) (LoadsOn.damaged x v.core.records.begin p at has refl (λ y spelled. let bad = sym c.in-Err-own_record_in.is ∙ found y spelled in cc) refl refl)
 
-pub returns-in-Ok-clause-does : goal.returns-in-Ok-clause-does
-returns-in-Ok-clause-does g c =
+pub returns-in-Ok-clause-effect : goal.returns-in-Ok-clause-effect
+returns-in-Ok-clause-effect g c =
     let v = c.args.self.now in
     let x = c.args.relocation.now in
     let a = c.requires.awaits in
@@ -88,4 +88,4 @@ returns-in-Ok-clause-does g c =
     (subst (λ n. IsHeldBy c.self.inside.core.records.receipts n (g.R.Receipt.stands p.receipt)) (rw c.records.ensures at c.page_of-page.ensures) (rw c.records-2.ensures at (c.in_default.ensures.own.0 refl))) in
     let has : HasPage v c.args.slot c.args.context x x.target (g.R.Receipt.stands p.receipt) = record { awaits = a; own = own } in
     let spelled = subst (λ u. (IsEntryIn g.F.Key.Fixed.bytes_of g.F.Value.Fixed.bytes_of g.F.Key.Known.is_known g.F.Value.Known.is_known g.F.Key.Fixed.SIZE g.F.Value.Fixed.SIZE) u.core.records.page_bits p.bytes x.target c.in-Ok.entry) c.self.view_is (rw (c.records-3.ensures, c.in-Ok.is) at c.own_record_in.ensures.only) in
-    LoadsOn.checks x v.core.records.begin p c.in-Ok.entry at has refl spelled c.check_liveness.ensures.does
+    LoadsOn.checks x v.core.records.begin p c.in-Ok.entry at has refl spelled c.check_liveness.ensures.effect

@@ -5,16 +5,16 @@ use Rattle.fkv_partition.proofs.KeepLemmas.{may-relocate}
 use Rattle.fkv_partition.proofs.TruncateLemmas.{relocating-set}
 use Rattle.fkv_partition.proofs.partitions.Partition.relocate.Goals as goal
 
-pub returns-then-not-is_session-clause-does : goal.returns-then-not-is_session-clause-does
-returns-then-not-is_session-clause-does g c = rw (← c.self.view_is) (Relocates.unknown (sym c.is_session.ensures.value ∙ c.if-not-is_session.true) refl refl)
+pub returns-then-not-is_session-clause-effect : goal.returns-then-not-is_session-clause-effect
+returns-then-not-is_session-clause-effect g c = rw (← c.self.view_is) (Relocates.unknown (sym c.is_session.ensures.value ∙ c.if-not-is_session.true) refl refl)
 
-pub returns-then-target-view-clause-does : goal.returns-then-target-view-clause-does
-returns-then-target-view-clause-does g c =
+pub returns-then-target-view-clause-effect : goal.returns-then-target-view-clause-effect
+returns-then-target-view-clause-effect g c =
     let inside = sym c.is_session.ensures.value ∙ c.if-not-is_session.false in
     rw (← c.self.view_is) (Relocates.not_due inside (rw (c.view-view.ensures.value, c.records.ensures) at c.if-target-view.true) refl refl)
 
-pub returns-in_default-clause-does : goal.returns-in_default-clause-does
-returns-in_default-clause-does g c =
+pub returns-in_default-clause-effect : goal.returns-in_default-clause-effect
+returns-in_default-clause-effect g c =
     let inside = sym c.is_session.ensures.value ∙ c.if-not-is_session.false in
     let none = rw (← c.self.view_is) at c.in_default.ensures.value in
     rw (← c.self.view_is) (Relocates.full inside (rw (c.view-view.ensures.value, c.records.ensures) at c.if-target-view.false) none refl refl)
@@ -30,8 +30,8 @@ begin_relocation-requires-clause-stands g c =
     let low = c.if-target-view.false in
     rw (← c.self.view_is) (may-relocate g.R.Receipt.keeps g.F.Key.Ord.cmp g.F.Functions.code v c.self.invariant c.known.ensures.traced (omega (arith, safe, low)) c.args.now)
 
-pub returns-clause-does : goal.returns-clause-does
-returns-clause-does g c =
+pub returns-clause-effect : goal.returns-clause-effect
+returns-clause-effect g c =
     let inside = sym c.is_session.ensures.value ∙ c.if-not-is_session.false in
     let first = rw (← c.self.view_is) at c.in-Some.ensures.value in
     rw (c.begin_relocation.ensures, ← c.self.view_is) (Relocates.relocates c.in-Some.context inside (rw (c.view-view.ensures.value, c.records.ensures) at c.if-target-view.false) first refl refl)

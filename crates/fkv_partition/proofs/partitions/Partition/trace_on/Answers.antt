@@ -26,8 +26,8 @@ is_own-requires g c =
     let held = subst (λ u. page_at u.core.records.page_bits l.wanted < length u.core.records.receipts) (sym c.self.view_is) there in
     rw (c.page_of-page.ensures, c.records.ensures, c.records-2.ensures) held
 
-pub returns-in-Err-clause-does : goal.returns-in-Err-clause-does
-returns-in-Err-clause-does g c =
+pub returns-in-Err-clause-effect : goal.returns-in-Err-clause-effect
+returns-in-Err-clause-effect g c =
     let ord = g.met.F.Key.Ord in
     let known = g.met.F.Key.FixedKey in
     let order = key_order g.F.Key.PartialEq.eq g.F.Key.Ord.cmp ord.matches_eq known.exact ord.total in
@@ -63,8 +63,8 @@ trace_in-requires g c =
     let held = subst (λ u. page_at u.core.records.page_bits l.wanted < length u.core.records.receipts) (sym c.self.view_is) there in
     record { flushed = rw c.records-3.ensures held }
 
-pub returns-in-Err-trace_in-clause-does : goal.returns-in-Err-trace_in-clause-does
-returns-in-Err-trace_in-clause-does g c =
+pub returns-in-Err-trace_in-clause-effect : goal.returns-in-Err-trace_in-clause-effect
+returns-in-Err-trace_in-clause-effect g c =
     let ord = g.met.F.Key.Ord in
     let known = g.met.F.Key.FixedKey in
     let order = key_order g.F.Key.PartialEq.eq g.F.Key.Ord.cmp ord.matches_eq known.exact ord.total in
@@ -165,8 +165,8 @@ append_again-requires-clause-stands g c =
     let j = sym c.liveness_of.ensures ∙ c.in-Last.is in
     way-last g.F.Key.Ord.cmp g.F.Functions.code order v sound s c.args.slot c.args.context x e l a at (IsEntryIn g.F.Key.Fixed.bytes_of g.F.Value.Fixed.bytes_of g.F.Key.Known.is_known g.F.Value.Known.is_known g.F.Key.Fixed.SIZE g.F.Value.Fixed.SIZE) (g.R.Receipt.stands p.receipt) p.bytes c.trace_in.result came r is j
 
-pub returns-then-not-is_place-clause-does : goal.returns-then-not-is_place-clause-does
-returns-then-not-is_place-clause-does g c =
+pub returns-then-not-is_place-clause-effect : goal.returns-then-not-is_place-clause-effect
+returns-then-not-is_place-clause-effect g c =
     let ord = g.met.F.Key.Ord in
     let known = g.met.F.Key.FixedKey in
     let order = key_order g.F.Key.PartialEq.eq g.F.Key.Ord.cmp ord.matches_eq known.exact ord.total in
@@ -234,8 +234,8 @@ ask-requires-clause-stands g c =
     let j = sym c.liveness_of.ensures ∙ c.in-Further.is in
     way-further g.F.Key.Ord.cmp g.F.Functions.code order v sound s c.args.slot c.args.context x e l a at (IsEntryIn g.F.Key.Fixed.bytes_of g.F.Value.Fixed.bytes_of g.F.Key.Known.is_known g.F.Value.Known.is_known g.F.Key.Fixed.SIZE g.F.Value.Fixed.SIZE) (g.R.Receipt.stands p.receipt) p.bytes c.trace_in.result came r b is j
 
-pub returns-in-Superseded-clause-does : goal.returns-in-Superseded-clause-does
-returns-in-Superseded-clause-does g c =
+pub returns-in-Superseded-clause-effect : goal.returns-in-Superseded-clause-effect
+returns-in-Superseded-clause-effect g c =
     let ord = g.met.F.Key.Ord in
     let known = g.met.F.Key.FixedKey in
     let order = key_order g.F.Key.PartialEq.eq g.F.Key.Ord.cmp ord.matches_eq known.exact ord.total in
@@ -283,8 +283,8 @@ returns-in-Superseded-clause-cleared g c =
     let up = past-place v x.target sound.traced (stands-here v c.args.slot c.args.context x a.here s).place in
     λ done. rw c.finish.ensures up.1
 
-pub returns-in-Last-clause-does : goal.returns-in-Last-clause-does
-returns-in-Last-clause-does g c =
+pub returns-in-Last-clause-effect : goal.returns-in-Last-clause-effect
+returns-in-Last-clause-effect g c =
     let ord = g.met.F.Key.Ord in
     let known = g.met.F.Key.FixedKey in
     let order = key_order g.F.Key.PartialEq.eq g.F.Key.Ord.cmp ord.matches_eq known.exact ord.total in
@@ -302,10 +302,10 @@ returns-in-Last-clause-does g c =
     let r = c.in-Ok.reached in
     let is = c.in-Ok.is in
     let j = sym c.liveness_of.ensures ∙ c.in-Last.is in
-    LoadsOn.ends x e l p r at (has-page g.F.Key.Ord.cmp g.F.Functions.code order v sound s c.args.slot c.args.context x e l a at (IsEntryIn g.F.Key.Fixed.bytes_of g.F.Value.Fixed.bytes_of g.F.Key.Known.is_known g.F.Value.Known.is_known g.F.Key.Fixed.SIZE g.F.Value.Fixed.SIZE) (g.R.Receipt.stands p.receipt) p.bytes c.trace_in.result came) refl (traces-to g.F.Key.Ord.cmp g.F.Functions.code order v sound s c.args.slot c.args.context x e l a at (IsEntryIn g.F.Key.Fixed.bytes_of g.F.Value.Fixed.bytes_of g.F.Key.Known.is_known g.F.Value.Known.is_known g.F.Key.Fixed.SIZE g.F.Value.Fixed.SIZE) (g.R.Receipt.stands p.receipt) p.bytes c.trace_in.result came (Ok r) is) j c.append_again.ensures.does
+    LoadsOn.ends x e l p r at (has-page g.F.Key.Ord.cmp g.F.Functions.code order v sound s c.args.slot c.args.context x e l a at (IsEntryIn g.F.Key.Fixed.bytes_of g.F.Value.Fixed.bytes_of g.F.Key.Known.is_known g.F.Value.Known.is_known g.F.Key.Fixed.SIZE g.F.Value.Fixed.SIZE) (g.R.Receipt.stands p.receipt) p.bytes c.trace_in.result came) refl (traces-to g.F.Key.Ord.cmp g.F.Functions.code order v sound s c.args.slot c.args.context x e l a at (IsEntryIn g.F.Key.Fixed.bytes_of g.F.Value.Fixed.bytes_of g.F.Key.Known.is_known g.F.Value.Known.is_known g.F.Key.Fixed.SIZE g.F.Value.Fixed.SIZE) (g.R.Receipt.stands p.receipt) p.bytes c.trace_in.result came (Ok r) is) j c.append_again.ensures.effect
 
-pub returns-else-not-is_place-clause-does : goal.returns-else-not-is_place-clause-does
-returns-else-not-is_place-clause-does g c =
+pub returns-else-not-is_place-clause-effect : goal.returns-else-not-is_place-clause-effect
+returns-else-not-is_place-clause-effect g c =
     let ord = g.met.F.Key.Ord in
     let known = g.met.F.Key.FixedKey in
     let order = key_order g.F.Key.PartialEq.eq g.F.Key.Ord.cmp ord.matches_eq known.exact ord.total in
@@ -325,4 +325,4 @@ returns-else-not-is_place-clause-does g c =
     let b = c.in-Further.address in
     let j = sym c.liveness_of.ensures ∙ c.in-Further.is in
     let place = subst (λ u. IsRecordStart u.core.records.page_bits u.core.records.record_size b) c.self.view_is ((rw c.records-in-Further.ensures at c.is_place.ensures).0 c.if-not-is_place.false) in
-    LoadsOn.further x e l p b at (has-page g.F.Key.Ord.cmp g.F.Functions.code order v sound s c.args.slot c.args.context x e l a at (IsEntryIn g.F.Key.Fixed.bytes_of g.F.Value.Fixed.bytes_of g.F.Key.Known.is_known g.F.Value.Known.is_known g.F.Key.Fixed.SIZE g.F.Value.Fixed.SIZE) (g.R.Receipt.stands p.receipt) p.bytes c.trace_in.result came) refl (way-below g.F.Key.Ord.cmp g.F.Functions.code order v sound s c.args.slot c.args.context x e l a at (IsEntryIn g.F.Key.Fixed.bytes_of g.F.Value.Fixed.bytes_of g.F.Key.Known.is_known g.F.Value.Known.is_known g.F.Key.Fixed.SIZE g.F.Value.Fixed.SIZE) (g.R.Receipt.stands p.receipt) p.bytes c.trace_in.result came r b is j) (above-place g.F.Key.Ord.cmp g.F.Functions.code order v sound s c.args.slot c.args.context x e l a at (IsEntryIn g.F.Key.Fixed.bytes_of g.F.Value.Fixed.bytes_of g.F.Key.Known.is_known g.F.Value.Known.is_known g.F.Key.Fixed.SIZE g.F.Value.Fixed.SIZE) (g.R.Receipt.stands p.receipt) p.bytes c.trace_in.result came r b is j) place c.ask.ensures.does
+    LoadsOn.further x e l p b at (has-page g.F.Key.Ord.cmp g.F.Functions.code order v sound s c.args.slot c.args.context x e l a at (IsEntryIn g.F.Key.Fixed.bytes_of g.F.Value.Fixed.bytes_of g.F.Key.Known.is_known g.F.Value.Known.is_known g.F.Key.Fixed.SIZE g.F.Value.Fixed.SIZE) (g.R.Receipt.stands p.receipt) p.bytes c.trace_in.result came) refl (way-below g.F.Key.Ord.cmp g.F.Functions.code order v sound s c.args.slot c.args.context x e l a at (IsEntryIn g.F.Key.Fixed.bytes_of g.F.Value.Fixed.bytes_of g.F.Key.Known.is_known g.F.Value.Known.is_known g.F.Key.Fixed.SIZE g.F.Value.Fixed.SIZE) (g.R.Receipt.stands p.receipt) p.bytes c.trace_in.result came r b is j) (above-place g.F.Key.Ord.cmp g.F.Functions.code order v sound s c.args.slot c.args.context x e l a at (IsEntryIn g.F.Key.Fixed.bytes_of g.F.Value.Fixed.bytes_of g.F.Key.Known.is_known g.F.Value.Known.is_known g.F.Key.Fixed.SIZE g.F.Value.Fixed.SIZE) (g.R.Receipt.stands p.receipt) p.bytes c.trace_in.result came r b is j) place c.ask.ensures.effect

@@ -8,8 +8,8 @@ use Rattle.fkv_partition.proofs.TruncateLemmas.{page-low, page-high, cleared-bel
 use Rattle.fkv_partition.proofs.EffectLemmas.{on-ok, truncated-event}
 use Rattle.fkv_partition.proofs.partitions.Partition.truncate.Goals as goal
 
-pub returns-then-page-page_of-clause-does : goal.returns-then-page-page_of-clause-does
-returns-then-page-page_of-clause-does g c =
+pub returns-then-page-page_of-clause-effect : goal.returns-then-page-page_of-clause-effect
+returns-then-page-page_of-clause-effect g c =
     let high = rw (c.page_of.ensures, c.records.ensures) at c.if-page-page_of.true in
     rw (← c.self.view_is) (Truncates.not_due (λ d. page-high c.self.inside.core.records.page_bits c.args.page c.self.inside.cleared high d.cleared) refl refl)
 
@@ -28,7 +28,7 @@ invariant_of-self g c =
     let low = page-low r.page_bits c.args.page c.self.inside.cleared (rw (c.page_of.ensures, c.records.ensures) at c.if-page-page_of.false) in
     let v = view_of c.self.inside.core c.self.inside.cleared c.self.inside.relocations.items in
     let new = c.truncate-truncated.new.self in
-    let does = c.truncate-truncated.ensures.does in
+    let does = c.truncate-truncated.ensures.effect in
     let cut = truncates-cut g.R.Receipt.keeps v.core new c.args.page c.args.now c.self.inside.cleared c.truncate-truncated.result c.self.invariant.begun low does in
     let seats = c.sessions_preserved.ensures.truncates g.R.Receipt.keeps v.core new c.args.page c.args.now c.truncate-truncated.result does in
     keep-event g.R.Receipt.keeps g.F.Key.Ord.cmp g.F.Functions.code v new c.self.invariant c.known-2.ensures.traced
@@ -36,15 +36,15 @@ invariant_of-self g c =
     (λ yes_keeps due. cleared-below g.F.Key.Ord.cmp r.text (start_at r.page_bits c.args.page) c.self.inside.cleared low (c.self.invariant.cleared yes_keeps)) does)
     cut.number cut.count cut.begun (λ p x h none. seats.0 p none) (λ s d x under h inside. seats.1 s inside)
 
-pub returns-clause-does : goal.returns-clause-does
-returns-clause-does g c =
+pub returns-clause-effect : goal.returns-clause-effect
+returns-clause-effect g c =
     let r = c.self.inside.core.records in
     let low = page-low r.page_bits c.args.page c.self.inside.cleared (rw (c.page_of.ensures, c.records.ensures) at c.if-page-page_of.false) in
     let v = view_of c.self.inside.core c.self.inside.cleared c.self.inside.relocations.items in
-    rw (← c.self.view_is) (truncates-told g.R.Receipt.keeps v c.truncate-truncated.new.self c.args.page c.args.now c.truncate-truncated.result low c.truncate-truncated.ensures.does)
+    rw (← c.self.view_is) (truncates-told g.R.Receipt.keeps v c.truncate-truncated.new.self c.args.page c.args.now c.truncate-truncated.result low c.truncate-truncated.ensures.effect)
 
-pub returns-clause-err : goal.returns-clause-err
-returns-clause-err g c = rw (← c.self.view_is) (on-err c.truncate-truncated.result (λ same. ap (λ p. view_of p c.self.inside.cleared c.self.inside.relocations.items) same) c.truncate-truncated.ensures.err)
+pub returns-clause-unchanged : goal.returns-clause-unchanged
+returns-clause-unchanged g c = rw (← c.self.view_is) (on-err c.truncate-truncated.result (λ same. ap (λ p. view_of p c.self.inside.cleared c.self.inside.relocations.items) same) c.truncate-truncated.ensures.unchanged)
 
 pub returns-clause-event : goal.returns-clause-event
 returns-clause-event g c =

@@ -2,15 +2,15 @@ use Rattle.std.proofs.Common.{◌≡◌, ◌∙◌, refl}
 use Rattle.fkv_records.specs.Places.{page_at}
 use Rattle.fkv_partition.proofs.partitions.Partition.truncate_cleared.Goals as goal
 
-pub returns-in-Err-clause-does : goal.returns-in-Err-clause-does
-returns-in-Err-clause-does g c =
+pub returns-in-Err-clause-effect : goal.returns-in-Err-clause-effect
+returns-in-Err-clause-effect g c =
     let page : c.page_of-page.result ≡ page_at c.args.self.now.core.records.page_bits c.args.self.now.cleared = c.page_of-page.ensures ∙ (rw (c.records.ensures, ← c.self.view_is) refl) in
-    rw page at c.in-Err.ensures.does
+    rw page at c.in-Err.ensures.effect
 
-pub returns-clause-does : goal.returns-clause-does
-returns-clause-does g c =
+pub returns-clause-effect : goal.returns-clause-effect
+returns-clause-effect g c =
     let page : c.page_of-page.result ≡ page_at c.args.self.now.core.records.page_bits c.args.self.now.cleared = c.page_of-page.ensures ∙ (rw (c.records.ensures, ← c.self.view_is) refl) in
-    rw page at c.in-Ok.ensures.does
+    rw page at c.in-Ok.ensures.effect
 
 pub returns-clause-begin : goal.returns-clause-begin
 returns-clause-begin g c =

@@ -11,7 +11,7 @@ pub returns-in-Ok-output_of-clause-unwritable : goal.returns-in-Ok-output_of-cla
 returns-in-Ok-output_of-clause-unwritable g c =
     written-part (g.R.Source.remaining c.args.reader.now) _ _ c.in-Ok-output_of.text.items c.write_out.result
     (is-output (g.R.Source.remaining c.args.reader.now) c.in-Ok.script.opening c.in-Ok.script.lines.items c.in-Ok-output_of.text.items c.in-Ok.ensures.ok (c.in-Ok-output_of.ensures.good (λ e. cc)) c.in-Ok-output_of.ensures.ok)
-    (rw c.as_slice.ensures.value at c.write_out.ensures.err)
+    (rw c.as_slice.ensures.value at c.write_out.ensures.refused)
 
 pub returns-in-Ok-output_of-clause-nothing : goal.returns-in-Ok-output_of-clause-nothing
 returns-in-Ok-output_of-clause-nothing g c = no-other _ c.write_out.result c.write_out.ensures.only

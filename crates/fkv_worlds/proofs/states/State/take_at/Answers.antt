@@ -13,14 +13,14 @@ flush_take-requires g c =
 pub invariant_of-self-in-Err : goal.invariant_of-self-in-Err
 invariant_of-self-in-Err g c =
     let due = rw (← c.self.view_is) at c.requires.due in
-    refused-state g.F.Key.Ord.cmp g.F.Functions.meaning g.F.Functions.code _ c.self.invariant c.args.partition c.args.now due c.index_mut.result.now c.index_mut.ensures.value c.flush_take.new.self c.in-Err.ensures.err
+    refused-state g.F.Key.Ord.cmp g.F.Functions.meaning g.F.Functions.code _ c.self.invariant c.args.partition c.args.now due c.index_mut.result.now c.index_mut.ensures.value c.flush_take.new.self c.in-Err.ensures.unchanged
 
 pub returns-in-Err : goal.returns-in-Err
 returns-in-Err g c =
     let due = rw (← c.self.view_is) at c.requires.due in
     rw (← c.self.view_is)
     (record {
-      does = refused-take g.F.Key.Ord.cmp g.F.Functions.meaning g.F.Functions.code _ c.self.invariant c.args.partition c.args.now due c.index_mut.result.now c.index_mut.ensures.value c.flush_take.new.self c.in-Err.refused c.in-Err.ensures.err c.in-Err.ensures.only
+      effect = refused-take g.F.Key.Ord.cmp g.F.Functions.meaning g.F.Functions.code _ c.self.invariant c.args.partition c.args.now due c.index_mut.result.now c.index_mut.ensures.value c.flush_take.new.self c.in-Err.refused c.in-Err.ensures.unchanged c.in-Err.ensures.only
           (λ e. c.in-Err.ensures.due.0 (ap Err e)) (λ w. (let k = c.in-Err.ensures.due.1 w in cc));
     })
 
@@ -38,4 +38,4 @@ pub returns-in-Ok : goal.returns-in-Ok
 returns-in-Ok g c =
     let due = rw (← c.self.view_is) at c.requires.due in
     rw (← c.self.view_is, flush_slot-set c.self.inside.flush_slots.items c.args.partition (record { job = Some c.in-Ok.job }) (Some c.in-Ok.job) refl)
-    (record { does = does-take g.F.Key.Ord.cmp g.F.Functions.meaning g.F.Functions.code _ c.self.invariant c.args.partition c.args.now due c.index_mut.result.now c.index_mut.ensures.value c.flush_take.new.self c.in-Ok.job c.in-Ok.ensures.page c.in-Ok.ensures.bytes c.in-Ok.ensures.passes })
+    (record { effect = does-take g.F.Key.Ord.cmp g.F.Functions.meaning g.F.Functions.code _ c.self.invariant c.args.partition c.args.now due c.index_mut.result.now c.index_mut.ensures.value c.flush_take.new.self c.in-Ok.job c.in-Ok.ensures.page c.in-Ok.ensures.bytes c.in-Ok.ensures.passes })

@@ -9,7 +9,7 @@ pub returns-then-is_none : goal.returns-then-is_none
 returns-then-is_none g c =
     let there : c.args.partition < length c.self.inside.partitions.items = (let t = c.if-partition-len.false in let l = c.len.ensures in omega arith) in
     let low : c.args.partition < length (map (λ (e : FlushSlot). e.job) c.self.inside.flush_slots.items) = (let l = c.self.invariant.tables.jobs in omega arith) in
-    rw (← c.self.view_is) (record { does = no_flush_job c.args.partition c.args.access refl there (flush_slot-idle c.self.inside.flush_slots.items c.args.partition c.index.result.now low c.index.ensures c.if-is_none.ensures) refl refl })
+    rw (← c.self.view_is) (record { effect = no_flush_job c.args.partition c.args.access refl there (flush_slot-idle c.self.inside.flush_slots.items c.args.partition c.index.result.now low c.index.ensures c.if-is_none.ensures) refl refl })
 
 pub write_at-requires-clause-asked : goal.write_at-requires-clause-asked
 write_at-requires-clause-asked g c =
@@ -21,4 +21,4 @@ pub returns-in-Err : goal.returns-in-Err
 returns-in-Err g c =
     let there : c.args.partition < length c.self.inside.partitions.items = (let t = c.if-partition-len.false in let l = c.len.ensures in omega arith) in
     let low : c.args.partition < length (map (λ (e : FlushSlot). e.job) c.self.inside.flush_slots.items) = (let l = c.self.invariant.tables.jobs in omega arith) in
-    record { does = acts-untimely _ _ g.F.Key.Ord.cmp g.F.Functions.meaning g.F.Functions.code c.args.self.now _ c.in-Err.refused (rw (← c.self.view_is) (flush_slot-busy c.self.inside.flush_slots.items c.args.partition c.index.result.now low c.index.ensures c.if-is_none.ensures)) c.in-Err.ensures.err }
+    record { effect = acts-untimely _ _ g.F.Key.Ord.cmp g.F.Functions.meaning g.F.Functions.code c.args.self.now _ c.in-Err.refused (rw (← c.self.view_is) (flush_slot-busy c.self.inside.flush_slots.items c.args.partition c.index.result.now low c.index.ensures c.if-is_none.ensures)) c.in-Err.ensures.refused }

@@ -31,7 +31,7 @@ pub invariant_of-self-in-Err-flush_done : goal.invariant_of-self-in-Err-flush_do
 invariant_of-self-in-Err-flush_done g c =
     let due = rw (← c.self.view_is) at c.requires.due in
     rw (flush_slot-set c.self.inside.flush_slots.items c.args.partition c.write.new.self None c.write.ensures.spent)
-    (state-spent g.F.Key.Ord.cmp g.F.Functions.meaning g.F.Functions.code _ (refused-state g.F.Key.Ord.cmp g.F.Functions.meaning g.F.Functions.code _ c.self.invariant c.args.partition c.args.now due c.index_mut-in-Ok.result.now c.index_mut-in-Ok.ensures.value c.flush_done.new.self c.in-Err-flush_done.ensures.err) c.args.partition None)
+    (state-spent g.F.Key.Ord.cmp g.F.Functions.meaning g.F.Functions.code _ (refused-state g.F.Key.Ord.cmp g.F.Functions.meaning g.F.Functions.code _ c.self.invariant c.args.partition c.args.now due c.index_mut-in-Ok.result.now c.index_mut-in-Ok.ensures.value c.flush_done.new.self c.in-Err-flush_done.ensures.unchanged) c.args.partition None)
 
 pub invariant_of-self-in-Err : goal.invariant_of-self-in-Err
 invariant_of-self-in-Err g c =
@@ -47,8 +47,8 @@ returns-in-Ok-flush_done g c =
     let w = c.in-Ok.ensures.written job.0 mine in
     rw (← c.self.view_is, flush_slot-set c.self.inside.flush_slots.items c.args.partition c.write.new.self None c.write.ensures.spent)
     (record {
-      does = does-write g.F.Key.Ord.cmp g.F.Functions.meaning g.F.Functions.code _ c.self.invariant c.args.partition c.args.now due c.index_mut-in-Ok.result.now c.index_mut-in-Ok.ensures.value c.args.access job.0 asked job.1
-          c.flush_done.new.self _ _ w.0 w.1 w.2 c.page-page.result c.page-page.ensures c.in-Ok-flush_done.ensures.does c.in-Ok-flush_done.ensures.event;
+      effect = does-write g.F.Key.Ord.cmp g.F.Functions.meaning g.F.Functions.code _ c.self.invariant c.args.partition c.args.now due c.index_mut-in-Ok.result.now c.index_mut-in-Ok.ensures.value c.args.access job.0 asked job.1
+          c.flush_done.new.self _ _ w.0 w.1 w.2 c.page-page.result c.page-page.ensures c.in-Ok-flush_done.ensures.effect c.in-Ok-flush_done.ensures.event;
     })
 
 pub returns-in-Err-flush_done : goal.returns-in-Err-flush_done
@@ -61,8 +61,8 @@ returns-in-Err-flush_done g c =
     let w = c.in-Ok.ensures.written job.0 mine in
     rw (← c.self.view_is, flush_slot-set c.self.inside.flush_slots.items c.args.partition c.write.new.self None c.write.ensures.spent)
     (record {
-      does = spoils-strange g.F.Key.Ord.cmp g.F.Functions.meaning g.F.Functions.code _ c.self.invariant c.args.partition c.args.now due c.index_mut-in-Ok.result.now c.index_mut-in-Ok.ensures.value c.args.access job.0 asked job.1
-          c.flush_done.new.self _ _ w.0 w.1 w.2 c.in-Err-flush_done.refused c.in-Err-flush_done.ensures.err c.in-Err-flush_done.ensures.does;
+      effect = spoils-strange g.F.Key.Ord.cmp g.F.Functions.meaning g.F.Functions.code _ c.self.invariant c.args.partition c.args.now due c.index_mut-in-Ok.result.now c.index_mut-in-Ok.ensures.value c.args.access job.0 asked job.1
+          c.flush_done.new.self _ _ w.0 w.1 w.2 c.in-Err-flush_done.refused c.in-Err-flush_done.ensures.unchanged c.in-Err-flush_done.ensures.effect;
     })
 
 pub returns-in-Err : goal.returns-in-Err
@@ -74,4 +74,4 @@ returns-in-Err g c =
     let mine = sym has ∙ job.1 in
     let held = some-at c.self.inside.partitions.items c.args.partition due.there in
     rw (← c.self.view_is, flush_slot-set c.self.inside.flush_slots.items c.args.partition c.write.new.self None c.write.ensures.spent)
-    (record { does = spoils-unwritten g.F.Key.Ord.cmp g.F.Functions.meaning g.F.Functions.code _ c.self.invariant c.args.partition c.args.now due held.0 (index-of c.self.inside.partitions.items c.args.partition held.0 held.1) c.args.access job.0 asked job.1 c.in-Err.refused (c.in-Err.ensures.unwritten job.0 mine) })
+    (record { effect = spoils-unwritten g.F.Key.Ord.cmp g.F.Functions.meaning g.F.Functions.code _ c.self.invariant c.args.partition c.args.now due held.0 (index-of c.self.inside.partitions.items c.args.partition held.0 held.1) c.args.access job.0 asked job.1 c.in-Err.refused (c.in-Err.ensures.unwritten job.0 mine) })

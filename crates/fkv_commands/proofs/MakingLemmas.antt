@@ -1,0 +1,17 @@
+-- What runs of several workers are not refused by.
+use Rattle.std.proofs.Common.{◌≡◌, ◌<◌, ℕ, List, Option, sym, subst, ◌∙◌}
+use Rattle.std.specs.Prelude.{◌≢◌}
+use Rattle.fkv_functions.specs.declared.refusals.Refused.{Refused}
+use Rattle.fkv_functions.specs.declared.refusals.Refused.TheVariants.{BadConfig, Unwritable}
+use Rattle.fkv_feed_rows.specs.Feeds.{TellsUnread}
+use Rattle.fkv_feeds.specs.Tables.{most_rows}
+use Rattle.fkv_store.specs.Stores.{IsTold, IsClosing}
+use Rattle.fkv_workers.specs.Works.{IsUnmade, number_of}
+
+module _ {S : Type 0} (remaining : S → Option (List ℕ)) (failures : S → ℕ) (runnable : Type 0) (workers : ℕ) (feeds : List S) where
+  pub blames-no-writer : (why : Refused) → IsUnmade remaining failures runnable workers feeds why → why ≢ Unwritable
+  blames-no-writer why (IsUnmade.beyond is not) e = (let bad : BadConfig ≡ Unwritable = sym is ∙ e in cc)
+  blames-no-writer why (IsUnmade.told told) e = subst IsTold e told
+  blames-no-writer why (IsUnmade.unread w lt u) e =
+      subst (TellsUnread (number_of u.feed.0) most_rows (remaining u.feed.1) (failures u.feed.1) u.after) e u.tells
+  blames-no-writer why (IsUnmade.unclosed closing) e = subst IsClosing e closing

@@ -1,0 +1,136 @@
+//! Making tables over a device, by one worker or by several.
+ghost use Rattle.std.specs.Prelude.{◌≡◌, ◌≢◌, ◌∷◌, [], true, map, IfOk, IfErr, IsTrue, OnOk};
+ghost use Rattle.fkv_feeds.specs.Tables.{IsTableOf};
+
+use crate::opening::{all_opened, read_whole};
+use fkv_device::Disk;
+use fkv_feeds::{Run, run_alone, run_one};
+use fkv_functions::{Name, OrderFree, Refused};
+use fkv_histories::{Audited, Plain, Recorder};
+use fkv_meters::Progress;
+use fkv_requests::TableRequest;
+use fkv_store::Open;
+use fkv_streams::{CountedReader, Source};
+use fkv_workers::run_feeds;
+use std::alloc::Global;
+use std::fs::Files;
+use std::rt::Clock;
+use std::sync::Wait;
+use std::thread::Threads;
+
+/// How many workers have a feed to read, where so many are asked for: none reads another's.
+fn workers_for(asked: u64, feeds: usize) -> usize {
+    match usize::try_from(asked) {
+        Ok(asked) => asked.min(feeds),
+        Err(_) => feeds,
+    }
+}
+
+/// A run over these feeds, by the workers that are asked for, in threads of their own.
+fn shared<
+    S: Source + Drop + Send,
+    F: OrderFree<Key = Name, Input = i64> + Send + Sync,
+    H: Recorder<F> + Send,
+    D: Disk + Send,
+    T: Threads + Wait + Clock + Sync,
+>(
+    rt: &T,
+    alloc: Global,
+    table: &TableRequest,
+    functions: F,
+    feeds: Vec<S>,
+    device: D,
+) -> Result<Run<F::Value>, Refused>
+where
+    F::Value: Send,
+    F::Output: Send,
+    D::Receipt: Send,
+    D::Writer: Send,
+    D::Reader: Send,
+    ensures ok { H.keeps ≡ true → IsTrue D.Receipt.keeps
+        → IfOk result (λ run. IsTableOf F.meaning (map S.remaining feeds.items) run.table) }
+    ensures only { IfErr result (λ e. e ≢ Refused.Unwritable) }
+{
+    let workers = workers_for(table.workers, feeds.len());
+    let config = &table.config;
+    run_feeds::<S, F, D, H, Open, T>(rt, alloc, feeds, workers, functions, config, device, &Open)
+}
+
+/// A run over a reader's bytes. An audited one reads them whole before it starts threads, since the reader stays where it
+/// is; the histories that it keeps take more memory than that.
+pub(crate) fn made_of_input<
+    R: Source,
+    F: OrderFree<Key = Name, Input = i64> + Send + Sync,
+    D: Disk + Send,
+    T: Threads + Wait + Clock + Sync,
+>(
+    rt: &T,
+    alloc: Global,
+    table: &TableRequest,
+    functions: F,
+    reader: &mut R,
+    device: D,
+) -> Result<Run<F::Value>, Refused>
+where
+    F::Value: Send,
+    F::Output: Send,
+    D::Receipt: Send,
+    D::Writer: Send,
+    D::Reader: Send,
+    ensures ok { IsTrue D.Receipt.keeps
+        → IfOk result (λ run. IsTableOf F.meaning (R.remaining reader.old ∷ []) run.table) }
+    ensures steady { OnOk result (R.failures reader.new ≡ R.failures reader.old) }
+    ensures only { IfErr result (λ e. e ≢ Refused.Unwritable) }
+{
+    if !table.audit {
+        return run_alone(alloc, reader, &functions, &table.config, device);
+    }
+    let bytes = match read_whole(alloc, reader) {
+        Ok(bytes) => bytes,
+        Err(refused) => return Err(refused),
+    };
+    let mut feeds = Vec::new(alloc);
+    let Ok(()) = feeds.push(CountedReader::new(bytes.as_slice())) else {
+        return Err(Refused::NoMemory);
+    };
+    shared::<_, F, Audited<F>, D, T>(rt, alloc, table, functions, feeds, device)
+}
+
+/// A run over the feeds that are named, all of which are opened, in order, before a row is read. One worker that keeps no
+/// histories needs no thread.
+pub(crate) fn made_of_feeds<
+    F: OrderFree<Key = Name, Input = i64> + Send + Sync,
+    D: Disk + Send,
+    H: Files + Threads + Wait + Clock + Sync,
+    P: Progress + Sync,
+>(
+    rt: &H,
+    alloc: Global,
+    table: &TableRequest,
+    functions: F,
+    device: D,
+    hook: &P,
+) -> Result<Run<F::Value>, Refused>
+where
+    F::Value: Send,
+    F::Output: Send,
+    H::File: Send,
+    H::Dir: Send,
+    D::Receipt: Send,
+    D::Writer: Send,
+    D::Reader: Send,
+    ensures only { IfErr result (λ e. e ≢ Refused.Unwritable) }
+{
+    let mut feeds = match all_opened(alloc, rt, table.paths.as_slice(), hook) {
+        Ok(feeds) => feeds,
+        Err(refused) => return Err(refused),
+    };
+    if table.audit {
+        return shared::<_, F, Audited<F>, D, H>(rt, alloc, table, functions, feeds, device);
+    }
+    if workers_for(table.workers, feeds.len()) > 1 {
+        return shared::<_, F, Plain, D, H>(rt, alloc, table, functions, feeds, device);
+    }
+    let config = &table.config;
+    run_one(alloc, feeds.as_mut_slice(), &functions, config, device)
+}
