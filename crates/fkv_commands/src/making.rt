@@ -57,7 +57,7 @@ where
 }
 
 /// A run over a reader's bytes. An audited one reads them whole before it starts threads, since the reader stays where it
-/// is; the histories that it keeps take more memory than that.
+/// is; the entry that it keeps of a row takes more memory than a row of usual length.
 pub(crate) fn made_of_input<
     R: Source,
     F: OrderFree<Key = Name, Input = i64> + Send + Sync,

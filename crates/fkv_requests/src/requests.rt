@@ -455,7 +455,7 @@ fn shared<'a>(alloc: Global, command: Command<'a>) -> Result<Command<'a>, AllocE
     command.arg(workers(alloc))?.arg(flag(
         alloc,
         "audit",
-        "Keep every update, and check at the end that the table is what they come to",
+        "Keep every update, and compare them at the end with what the workers were answered",
     ))
 }
 
