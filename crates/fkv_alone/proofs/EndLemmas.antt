@@ -113,7 +113,7 @@ module _ {K V I O R : Type 0} (keeps : Bool) (stands : R → Standing) (cmp : K 
       subst (λ (u : Progress K V I O R). Ends keeps cmp f code op old v slot limit start end before after (Ok u)) same (come-ends q come off (omega arith) steady)
   driven-ends p (Drives.refused why halted within stop r) = absurd (cc)
   driven-ends p (Drives.stalled halted e steady r) = absurd (cc)
-  driven-ends p (Drives.spent halted e within steady r) = absurd (cc)
+  driven-ends p (Drives.exhausted halted e within steady r) = absurd (cc)
 
   -- it is refused, and over once it is given up
   pub driven-over : (w : PartitionView K V I) (why : Refused) → Drives {O = O} keeps stands cmp f code op old.core v.core slot c now (limit - 1) now end before after (Err why) → IsOver v.core w.core slot c → Ends {R = R} keeps cmp f code op old w slot limit start end before after (Err why)
@@ -124,5 +124,5 @@ module _ {K V I O R : Type 0} (keeps : Bool) (stands : R → Standing) (cmp : K 
       (Ends.refused c e opens (halted-over old.core v.core w.core slot c halted over) (omega arith) stop refl)
   driven-over w why (Drives.stalled halted e steady r) over =
       Ends.stalled c opens (halted-over old.core v.core w.core slot c halted over) (omega arith) steady r
-  driven-over w why (Drives.spent halted e within steady r) over =
-      Ends.spent c opens (halted-over old.core v.core w.core slot c halted over) e (omega arith) steady r
+  driven-over w why (Drives.exhausted halted e within steady r) over =
+      Ends.exhausted c opens (halted-over old.core v.core w.core slot c halted over) e (omega arith) steady r

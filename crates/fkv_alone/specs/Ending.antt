@@ -110,7 +110,7 @@ pub data Ends {K V I O R : Type 0} (keeps : Bool) (cmp : K → K → Ordering) (
       → result ≡ Err Stalled
       → Ends keeps cmp f code op old new slot limit start end before after result
   -- the clock has no moment left for the next event, and the operation is over
-  spent : (c : ℕ)
+  exhausted : (c : ℕ)
       → Opens code old slot c op
       → IsOver old.core new.core slot c
       → end ≡ 2 ^ 64 - 1
@@ -147,7 +147,7 @@ pub data Drives {K V I O R : Type 0} (keeps : Bool) (stands : R → Standing) (c
       → after ≡ before
       → result ≡ Err Stalled
       → Drives keeps stands cmp f code op old new slot c started left start end before after result
-  spent : IsHalted old new slot c
+  exhausted : IsHalted old new slot c
       → end ≡ 2 ^ 64 - 1
       → end ≤ start + left
       → after ≡ before

@@ -150,8 +150,8 @@ module _ {K V : Type 0} {keeps : Bool} (cmp : K → K → Ordering) (code : K �
   }
 
   -- the last record of a key that has a value lies above all that is cleared
-  unspent-high : IsKeyOrder cmp → (k : K) (e : Entry K V) → last_of cmp v.text k ≡ Some e → IsSome (value_at v.text e.address) → (limit : ℕ) → IsCleared cmp v.text limit → limit ≤ e.address
-  unspent-high order k e last some limit c = elim (cases_lt e.address limit) [
+  live-high : IsKeyOrder cmp → (k : K) (e : Entry K V) → last_of cmp v.text k ≡ Some e → IsSome (value_at v.text e.address) → (limit : ℕ) → IsCleared cmp v.text limit → limit ≤ e.address
+  live-high order k e last some limit c = elim (cases_lt e.address limit) [
     | inr high ↦ high
     | inl under ↦ absurd (
         let there = entry_at-in v.text t.rising e (last_where-in (has_key cmp k) v.text e last) e.address refl in
@@ -284,7 +284,7 @@ module _ {K V I : Type 0} {keeps : Bool} (cmp : K → K → Ordering) (code : K 
     goes-bear stands f result order grows met kept clears (Goes.replaces x value t e d last is r) =
         let m = met x value t e d last in
         borne-value e.address value m.1 (kept e.address value m.0 m.1)
-        (λ limit low h. clears e.address value limit (unspent-high cmp code v.records s.traced order (key_of x.op) e last m.0 limit h) m.0 h)
+        (λ limit low h. clears e.address value limit (live-high cmp code v.records s.traced order (key_of x.op) e last m.0 limit h) m.0 h)
         (ap (λ (u : CoreView K V I). u.records) is)
     goes-bear stands f result order grows met kept clears (Goes.waits x d is r) = borne-same (ap (λ (u : CoreView K V I). u.records) is)
     goes-bear stands f result order grows met kept clears (Goes.prepares x source i e d entry is r) = borne-same (ap (λ (u : CoreView K V I). u.records) is)

@@ -234,8 +234,8 @@ module _ {K V : Type 0} {keeps : Bool} (cmp : K → K → Ordering) (code : K �
           let top : d.address ≤ e.address = highest passes v.text t.rising e h was.0.place d was.0.here (last_where-found passes (text_from low v.text) d g) in
           omega arith)
 
-      spent : (e : Entry K V) → newest cmp v.text k a ≡ Some e → e.address < low → (e.value ≡ None) ⊎ (last_of cmp v.text k ≢ Some e)
-      spent e h under =
+      superseded : (e : Entry K V) → newest cmp v.text k a ≡ Some e → e.address < low → (e.value ≡ None) ⊎ (last_of cmp v.text k ≢ Some e)
+      superseded e h under =
           let there = entry_at-in v.text t.rising e (last_where-in passes v.text e h) e.address refl in
           let own : e.key ≡ k = order.same e.key k (and_parts (nat_le e.address a) (has_key cmp k e) (last_where-found passes v.text e h)).1 in
           elim (clear yes_keeps e there under) [
@@ -247,7 +247,7 @@ module _ {K V : Type 0} {keeps : Bool} (cmp : K → K → Ordering) (code : K �
           → (newest cmp (truncated keeps v low).text k a ≡ newest cmp v.text k a) ⊎ IsCut cmp (indexed v) (indexed (truncated keeps v low)) k a
       by_newest None h = inl (filtered ∙ last_where-narrow_none passes (λ x. nat_le low x.address) v.text h ∙ sym h)
       by_newest (Some e) h = elim (cases_lt e.address low) [
-        | inl under ↦ inr (record { entry = e; was = h; below = under; spent = spent e h under; gone = cut ∙ gone e h under (last_where passes (text_from low v.text)) refl })
+        | inl under ↦ inr (record { entry = e; was = h; below = under; superseded = superseded e h under; gone = cut ∙ gone e h under (last_where passes (text_from low v.text)) refl })
         | inr high ↦ (let yes : nat_le low e.address ≡ true = grind (arith, nat_tests) in
             inl (filtered ∙ last_where-narrow passes (λ x. nat_le low x.address) v.text e h yes ∙ sym h))
       ]

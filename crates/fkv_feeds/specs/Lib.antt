@@ -2,7 +2,7 @@ pub mod Tables
 pub mod Writing
 pub mod Refusing
 pub mod Faults
-pub mod Spent
+pub mod Exhausted
 pub mod Listing
 pub mod Seats
 pub mod Sessions

@@ -8,7 +8,7 @@ ghost use Rattle.fkv_partition.specs.Limits.{IsWithinLimits, IsPartitionOf};
 ghost use Rattle.fkv_partition.specs.CoreViews.{partition_of};
 ghost use Rattle.fkv_feeds.specs.Faults.{IsRunFault};
 ghost use Rattle.fkv_feeds.specs.Runs.{IsSeatedIn, AreNew, StandFor};
-ghost use Rattle.fkv_feeds.specs.Spent.{IsOneSpent};
+ghost use Rattle.fkv_feeds.specs.Exhausted.{IsOneExhausted};
 
 use crate::tidying::tidy_at_times;
 use crate::updating::update;
@@ -210,7 +210,7 @@ pub fn add_row<F: Functions<Key = Name, Input = i64>, D: Disk>(
         ⊎ IsRunFault D.Receipt.keeps D.failures D.Writer.failures D.Reader.failures F.Value.bytes_of F.Value.is_known
         F.Value.SIZE e) }
     ensures worn { result ≡ Err Refused.Worn
-        → IsOneSpent 2 (map (λ shard. shard.partition) shards.new.shards.items) shards.new.clock }
+        → IsOneExhausted 2 (map (λ shard. shard.partition) shards.new.shards.items) shards.new.clock }
     ensures memory { result ≡ Err Refused.NoMemory
         → (map (λ shard. D.Writer.failures shard.writer) shards.new.shards.items
         ≡ map (λ shard. D.Writer.failures shard.writer) shards.old.shards.items)

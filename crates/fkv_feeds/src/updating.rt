@@ -9,7 +9,7 @@ ghost use Rattle.fkv_partition.specs.CoreViews.{live_of, partition_of};
 ghost use Rattle.fkv_feeds.specs.Faults.{IsFault};
 ghost use Rattle.fkv_feeds.specs.Seats.{IsAsking, SeesNow};
 ghost use Rattle.fkv_feeds.specs.Sessions.{IsIdle, IsOpen, Tries};
-ghost use Rattle.fkv_feeds.specs.Spent.{IsSpent};
+ghost use Rattle.fkv_feeds.specs.Exhausted.{IsExhausted};
 
 use crate::shards::{Shard, Terms};
 use crate::tidying::tidy;
@@ -52,7 +52,7 @@ fn wait<F: Functions, D: Disk>(
         ⊎ IsFault (IsEntryIn F.Key.bytes_of F.Value.bytes_of F.Key.is_known F.Value.is_known F.Key.SIZE F.Value.SIZE)
         F.Key.cmp (D.Writer.failures shard.old.writer) (D.Writer.failures shard.new.writer)
         (D.Reader.failures shard.old.reader) (D.Reader.failures shard.new.reader) e) }
-    ensures worn { result ≡ Err Refused.Worn → IsSpent 1 shard.new.partition.core.records.tail clock.new }
+    ensures worn { result ≡ Err Refused.Worn → IsExhausted 1 shard.new.partition.core.records.tail clock.new }
     ensures memory { result ≡ Err Refused.NoMemory
         → (D.Writer.failures shard.new.writer ≡ D.Writer.failures shard.old.writer)
         × (D.Reader.failures shard.new.reader ≡ D.Reader.failures shard.old.reader) }
@@ -86,7 +86,7 @@ fn install<F: Functions, D: Disk>(
         ⊎ IsFault (IsEntryIn F.Key.bytes_of F.Value.bytes_of F.Key.is_known F.Value.is_known F.Key.SIZE F.Value.SIZE)
         F.Key.cmp (D.Writer.failures shard.old.writer) (D.Writer.failures shard.new.writer)
         (D.Reader.failures shard.old.reader) (D.Reader.failures shard.new.reader) e) }
-    ensures worn { result ≡ Err Refused.Worn → IsSpent 1 shard.new.partition.core.records.tail clock.new }
+    ensures worn { result ≡ Err Refused.Worn → IsExhausted 1 shard.new.partition.core.records.tail clock.new }
     ensures memory { result ≡ Err Refused.NoMemory
         → (D.Writer.failures shard.new.writer ≡ D.Writer.failures shard.old.writer)
         × (D.Reader.failures shard.new.reader ≡ D.Reader.failures shard.old.reader) }
@@ -129,7 +129,7 @@ fn go_on<F: Functions, D: Disk>(
         ⊎ IsFault (IsEntryIn F.Key.bytes_of F.Value.bytes_of F.Key.is_known F.Value.is_known F.Key.SIZE F.Value.SIZE)
         F.Key.cmp (D.Writer.failures shard.old.writer) (D.Writer.failures shard.new.writer)
         (D.Reader.failures shard.old.reader) (D.Reader.failures shard.new.reader) e) }
-    ensures worn { result ≡ Err Refused.Worn → IsSpent 1 shard.new.partition.core.records.tail clock.new }
+    ensures worn { result ≡ Err Refused.Worn → IsExhausted 1 shard.new.partition.core.records.tail clock.new }
     ensures memory { result ≡ Err Refused.NoMemory
         → (D.Writer.failures shard.new.writer ≡ D.Writer.failures shard.old.writer)
         × (D.Reader.failures shard.new.reader ≡ D.Reader.failures shard.old.reader) }
@@ -175,7 +175,7 @@ fn load<F: Functions, D: Disk>(
         ⊎ IsFault (IsEntryIn F.Key.bytes_of F.Value.bytes_of F.Key.is_known F.Value.is_known F.Key.SIZE F.Value.SIZE)
         F.Key.cmp (D.Writer.failures shard.old.writer) (D.Writer.failures shard.new.writer)
         (D.Reader.failures shard.old.reader) (D.Reader.failures shard.new.reader) e) }
-    ensures worn { result ≡ Err Refused.Worn → IsSpent 1 shard.new.partition.core.records.tail clock.new }
+    ensures worn { result ≡ Err Refused.Worn → IsExhausted 1 shard.new.partition.core.records.tail clock.new }
     ensures memory { result ≡ Err Refused.NoMemory
         → (D.Writer.failures shard.new.writer ≡ D.Writer.failures shard.old.writer)
         × (D.Reader.failures shard.new.reader ≡ D.Reader.failures shard.old.reader) }
@@ -228,7 +228,7 @@ fn attempt<F: Functions, D: Disk>(
         ⊎ IsFault (IsEntryIn F.Key.bytes_of F.Value.bytes_of F.Key.is_known F.Value.is_known F.Key.SIZE F.Value.SIZE)
         F.Key.cmp (D.Writer.failures shard.old.writer) (D.Writer.failures shard.new.writer)
         (D.Reader.failures shard.old.reader) (D.Reader.failures shard.new.reader) e) }
-    ensures worn { result ≡ Err Refused.Worn → IsSpent 1 shard.new.partition.core.records.tail clock.new }
+    ensures worn { result ≡ Err Refused.Worn → IsExhausted 1 shard.new.partition.core.records.tail clock.new }
     ensures memory { result ≡ Err Refused.NoMemory
         → (D.Writer.failures shard.new.writer ≡ D.Writer.failures shard.old.writer)
         × (D.Reader.failures shard.new.reader ≡ D.Reader.failures shard.old.reader) }
@@ -303,7 +303,7 @@ fn update_by_turns<F: Functions, D: Disk>(
         ⊎ IsFault (IsEntryIn F.Key.bytes_of F.Value.bytes_of F.Key.is_known F.Value.is_known F.Key.SIZE F.Value.SIZE)
         F.Key.cmp (D.Writer.failures shard.old.writer) (D.Writer.failures shard.new.writer)
         (D.Reader.failures shard.old.reader) (D.Reader.failures shard.new.reader) e) }
-    ensures worn { result ≡ Err Refused.Worn → IsSpent 1 shard.new.partition.core.records.tail clock.new }
+    ensures worn { result ≡ Err Refused.Worn → IsExhausted 1 shard.new.partition.core.records.tail clock.new }
     ensures memory { result ≡ Err Refused.NoMemory
         → (D.Writer.failures shard.new.writer ≡ D.Writer.failures shard.old.writer)
         × (D.Reader.failures shard.new.reader ≡ D.Reader.failures shard.old.reader) }
@@ -362,7 +362,7 @@ pub fn update<F: Functions, D: Disk>(
         ⊎ IsFault (IsEntryIn F.Key.bytes_of F.Value.bytes_of F.Key.is_known F.Value.is_known F.Key.SIZE F.Value.SIZE)
         F.Key.cmp (D.Writer.failures shard.old.writer) (D.Writer.failures shard.new.writer)
         (D.Reader.failures shard.old.reader) (D.Reader.failures shard.new.reader) e) }
-    ensures worn { result ≡ Err Refused.Worn → IsSpent 2 shard.new.partition.core.records.tail clock.new }
+    ensures worn { result ≡ Err Refused.Worn → IsExhausted 2 shard.new.partition.core.records.tail clock.new }
     ensures memory { result ≡ Err Refused.NoMemory
         → (D.Writer.failures shard.new.writer ≡ D.Writer.failures shard.old.writer)
         × (D.Reader.failures shard.new.reader ≡ D.Reader.failures shard.old.reader) }

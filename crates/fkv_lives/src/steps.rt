@@ -35,7 +35,7 @@ pub enum Step<K, V, I> {
     ReadOnly(usize, u64),
     /// Takes a copy of the lowest page of this partition that is not flushed, to be written.
     Take(usize),
-    /// Writes the page that was taken last from this partition, which is spent by it.
+    /// Writes the page that was taken last from this partition, and empties its slot.
     Write(usize, Access),
     /// Moves Head of this partition to the start of this page.
     Head(usize, u64),

@@ -1,4 +1,4 @@
--- Records that are spent, and texts that are cleared.
+-- Records that are superseded, and texts that are cleared.
 use Rattle.std.proofs.Common.{◌≡◌, Bool, true, false, cond, ℕ, ◌+◌, ◌^◌, ◌<◌, ◌≤◌, ◌==◌, inl, inr, List, [], ◌∷◌, ◌++◌, Option, Some, None, option_map, nat_le, unwrap_or, refl, sym, ◌∙◌, ap, subst, arith}
 use Rattle.std.proofs.lemmas.Bool.{cases_lt, cases_eq}
 use Rattle.std.proofs.lemmas.Bool.Decides.{nat_tests}
@@ -58,14 +58,14 @@ module _ {K V : Type 0} (cmp : K → K → Ordering) (text : List (Entry K V)) w
       let at = ap (λ (x : Entry K V). x.address) same in omega arith)
   append-test false l n e low h = h
 
-  spent-appended : (n e : Entry K V) → e.address < n.address → IsSuperseded cmp text e → IsSuperseded cmp (text ++ n ∷ []) e
-  spent-appended n e low (inl none) = inl none
-  spent-appended n e low (inr other) = inr (λ is. other (append-test (has_key cmp e.key n) (last_of cmp text e.key) n e low (sym (last_of-append cmp text n e.key) ∙ is)))
+  superseded-appended : (n e : Entry K V) → e.address < n.address → IsSuperseded cmp text e → IsSuperseded cmp (text ++ n ∷ []) e
+  superseded-appended n e low (inl none) = inl none
+  superseded-appended n e low (inr other) = inr (λ is. other (append-test (has_key cmp e.key n) (last_of cmp text e.key) n e low (sym (last_of-append cmp text n e.key) ∙ is)))
 
   pub cleared-appended : (n : Entry K V) (limit : ℕ) → limit ≤ n.address → IsCleared cmp text limit → IsCleared cmp (text ++ n ∷ []) limit
   cleared-appended n limit le h e here low =
       let was : entry_at text e.address ≡ Some e = sym (entry_at-old text n e.address (λ q. omega arith)) ∙ here in
-      spent-appended n e (omega arith) (h e was low)
+      superseded-appended n e (omega arith) (h e was low)
 
   -- ---- a record gets another value, or becomes a tombstone
   changed-back : (a : ℕ) (v : Option V) (l : Option (Entry K V)) (e : Entry K V) → e.address < a → option_map (set_at a v) l ≡ Some e → l ≡ Some e
@@ -75,28 +75,28 @@ module _ {K V : Type 0} (cmp : K → K → Ordering) (text : List (Entry K V)) w
       let at : y.address ≡ e.address = sym (set_at-address a v y) ∙ ap (λ (x : Entry K V). x.address) is in
       ap Some (sym (set_at-other a v y (λ q. omega arith)) ∙ is)
 
-  spent-changed : (a : ℕ) (v : Option V) (e : Entry K V) → e.address < a → IsSuperseded cmp text e → IsSuperseded cmp (changed text a v) e
-  spent-changed a v e low (inl none) = inl none
-  spent-changed a v e low (inr other) = inr (λ is. other (changed-back a v (last_of cmp text e.key) e low (sym (last_of-changed a v cmp text e.key) ∙ is)))
+  superseded-changed : (a : ℕ) (v : Option V) (e : Entry K V) → e.address < a → IsSuperseded cmp text e → IsSuperseded cmp (changed text a v) e
+  superseded-changed a v e low (inl none) = inl none
+  superseded-changed a v e low (inr other) = inr (λ is. other (changed-back a v (last_of cmp text e.key) e low (sym (last_of-changed a v cmp text e.key) ∙ is)))
 
   pub cleared-changed : (a : ℕ) (v : Option V) (limit : ℕ) → limit ≤ a → IsCleared cmp text limit → IsCleared cmp (changed text a v) limit
   cleared-changed a v limit le h e here low =
       let was : entry_at text e.address ≡ Some e = sym (entry_at-elsewhere a v text e.address (λ q. omega arith)) ∙ here in
-      spent-changed a v e (omega arith) (h e was low)
+      superseded-changed a v e (omega arith) (h e was low)
 
   -- ---- records are dropped
-  spent-dropped : (low : ℕ) → IsRising text → (e : Entry K V) → IsSuperseded cmp text e → IsSuperseded cmp (text_from low text) e
-  spent-dropped low r e (inl none) = inl none
-  spent-dropped low r e (inr other) = inr (λ is. other (cut-found (has_key cmp e.key) text low r e is))
+  superseded-dropped : (low : ℕ) → IsRising text → (e : Entry K V) → IsSuperseded cmp text e → IsSuperseded cmp (text_from low text) e
+  superseded-dropped low r e (inl none) = inl none
+  superseded-dropped low r e (inr other) = inr (λ is. other (cut-found (has_key cmp e.key) text low r e is))
 
   pub cleared-dropped : (low limit : ℕ) → IsRising text → IsCleared cmp text limit → IsCleared cmp (text_from low text) limit
   cleared-dropped low limit r h e here under =
       let high = cut-high (λ x. x.address == e.address) text low e here in
-      spent-dropped low r e (h e (sym (cut-entry low e.address text high) ∙ here) under)
+      superseded-dropped low r e (h e (sym (cut-entry low e.address text high) ∙ here) under)
 
   -- ---- a record is appended again
-  pub spent-renewed : IsKeyOrder cmp → (n e : Entry K V) → n.key ≡ e.key → e.address < n.address → IsSuperseded cmp (text ++ n ∷ []) e
-  spent-renewed order n e key low = inr (λ is.
+  pub superseded-renewed : IsKeyOrder cmp → (n e : Entry K V) → n.key ≡ e.key → e.address < n.address → IsSuperseded cmp (text ++ n ∷ []) e
+  superseded-renewed order n e key low = inr (λ is.
       let yes : has_key cmp e.key n ≡ true = ap (λ (q : K). is_at (cmp q) e.key) key ∙ order.self e.key in
       let last : last_of cmp (text ++ n ∷ []) e.key ≡ Some n = last_of-append cmp text n e.key ∙ rw yes refl in
       let both : Some n ≡ Some e = sym last ∙ is in
@@ -185,10 +185,10 @@ module _ {K V : Type 0} {keeps : Bool} {code : K → ℕ} (v : RecordsView K V) 
       → IsCleared cmp v.text limit
       → ((e : Entry K V) → entry_at v.text limit ≡ Some e → IsSuperseded cmp v.text e)
       → IsCleared cmp v.text (tail_after v.page_bits v.record_size limit)
-  cleared-raised cmp limit place h spent e here under = elim (cases_lt e.address limit) [
+  cleared-raised cmp limit place h superseded e here under = elim (cases_lt e.address limit) [
     | inl low ↦ h e here low
     | inr high ↦ elim (cases_eq e.address limit) [
-      | inl same ↦ spent e (subst (λ a. entry_at v.text a ≡ Some e) same here)
+      | inl same ↦ superseded e (subst (λ a. entry_at v.text a ≡ Some e) same here)
       | inr ne ↦
           (let less : limit < e.address = grind (arith, ne) in
           let there = record-place e (last_where-in (λ x. x.address == e.address) v.text e here) in

@@ -1,4 +1,4 @@
--- Small texts, of which some records are spent.
+-- Small texts, of which some records are superseded.
 use Rattle.std.proofs.Common.{◌≡◌, ℕ, zero, suc, ◌≤◌, ◌==◌, inl, inr, Option, Some, None, slice_get, refl, ap, arith, lit<}
 use Rattle.std.specs.Ordering.{nat_cmp}
 use Rattle.fkv_texts.specs.declared.entries.Entry.{Entry}
@@ -7,8 +7,8 @@ use Rattle.fkv_texts.proofs.LastWhere.{last_where-in}
 use Rattle.fkv_lookups.specs.Cleared.{IsSuperseded, IsCleared}
 use Rattle.fkv_lookups.specs.WrongCleared.{written_twice, written_once}
 
-pub first-spent : (v : Option ℕ) (w : ℕ) → IsSuperseded nat_cmp (written_twice v w) (entry 64 1 3 v)
-first-spent v w = inr (λ h.
+pub first-superseded : (v : Option ℕ) (w : ℕ) → IsSuperseded nat_cmp (written_twice v w) (entry 64 1 3 v)
+first-superseded v w = inr (λ h.
     let both : Some (entry 96 64 3 (Some w)) ≡ Some (entry 64 1 3 v) = h in
     let same : entry 96 64 3 (Some w) ≡ entry 64 1 3 v = cc in
     let at = ap (λ (x : Entry ℕ ℕ). x.address) same in
@@ -35,9 +35,9 @@ none-below v w e here low =
     let high = stands-high v w e m.place m.here in
     absurd (omega arith)
 
-spent-once : (v : ℕ) (w : Option ℕ) → IsSuperseded nat_cmp (written_once v w) (entry 64 1 3 (Some v)) → ⊥
-spent-once v w (inl none) = absurd (let bad : Some v ≡ None = none in cc)
-spent-once v w (inr other) = other refl
+superseded-once : (v : ℕ) (w : Option ℕ) → IsSuperseded nat_cmp (written_once v w) (entry 64 1 3 (Some v)) → ⊥
+superseded-once v w (inl none) = absurd (let bad : Some v ≡ None = none in cc)
+superseded-once v w (inr other) = other refl
 
 pub not-past : (v : ℕ) (w : Option ℕ) → IsCleared nat_cmp (written_once v w) 96 → ⊥
-not-past v w h = spent-once v w (h (entry 64 1 3 (Some v)) refl (lit< tt))
+not-past v w h = superseded-once v w (h (entry 64 1 3 (Some v)) refl (lit< tt))

@@ -13,14 +13,14 @@ abbrev pub written_once : ℕ → Option ℕ → List (Entry ℕ ℕ)
 written_once v w = entry 64 1 3 (Some v) ∷ entry 96 1 4 w ∷ []
 
 -- of two records of a key the first is superseded, and the last is not where it has a value
-abbrev pub LastIsNotSpent : Type 0
-LastIsNotSpent = (v : Option ℕ) (w : ℕ)
+abbrev pub LastIsNotSuperseded : Type 0
+LastIsNotSuperseded = (v : Option ℕ) (w : ℕ)
     → IsSuperseded nat_cmp (written_twice v w) (entry 64 1 3 v)
     × (IsSuperseded nat_cmp (written_twice v w) (entry 96 64 3 (Some w)) → ⊥)
 
 -- a tombstone is superseded, the last of its key too
-abbrev pub TombstoneIsSpent : Type 0
-TombstoneIsSpent = (v : ℕ) → IsSuperseded nat_cmp (written_once v None) (entry 96 1 4 None)
+abbrev pub TombstoneIsSuperseded : Type 0
+TombstoneIsSuperseded = (v : ℕ) → IsSuperseded nat_cmp (written_once v None) (entry 96 1 4 None)
 
 -- a text is cleared up to its first record that is not superseded, and no further
 abbrev pub ClearsNoLast : Type 0

@@ -15,7 +15,7 @@ ghost use Rattle.fkv_operations.specs.declared.entries.IndexEntry.{IndexEntry};
 ghost use Rattle.fkv_lookups.specs.Cleared.{IsSuperseded, IsCleared};
 ghost use Rattle.fkv_lookups.specs.RecordsViews.{RecordsView, with_record, with_value};
 ghost use Rattle.fkv_lookups.specs.Traced.{IsTraced};
-ghost use Rattle.fkv_lookups.specs.WrongCleared.{LastIsNotSpent, TombstoneIsSpent, ClearsNoLast};
+ghost use Rattle.fkv_lookups.specs.WrongCleared.{LastIsNotSuperseded, TombstoneIsSuperseded, ClearsNoLast};
 
 /// What is cleared stays so, whatever is done above; how it is cleared further; and what dropping it leaves.
 pub fn cleared_stay<K, V>()
@@ -72,7 +72,7 @@ pub fn cleared_stay<K, V>()
 
 /// What is superseded and cleared, and what is not, shown on small texts.
 pub fn wrong_cleared()
-    ensures last { LastIsNotSpent }
-    ensures tombstone { TombstoneIsSpent }
+    ensures last { LastIsNotSuperseded }
+    ensures tombstone { TombstoneIsSuperseded }
     ensures cleared { ClearsNoLast }
 {}

@@ -53,7 +53,7 @@ module _ {K V : Type 0} (cmp : K → K → Ordering) (class : K → Class) where
         let again : IsFound class u k e = record { bucket = found.bucket; place = n.places e.place found.place; word = there; final = found.final; tag = found.tag } in
         elim (n.records k (address_of e.word) low still) [
           | inl same ↦ stays u us m next again (subst (IsStill u.frozen) (sym same) (still-raised v.frozen u.frozen (newest cmp v.text k (address_of e.word)) n.frozen still)) here ∙ ap value_of same
-          | inr cut ↦ stays u us m next again (subst (IsStill u.frozen) (sym cut.gone) tt) here ∙ ap value_of cut.gone ∙ sym (ap value_of cut.was ∙ elim cut.spent [
+          | inr cut ↦ stays u us m next again (subst (IsStill u.frozen) (sym cut.gone) tt) here ∙ ap value_of cut.gone ∙ sym (ap value_of cut.was ∙ elim cut.superseded [
             | inl none ↦ none
             | inr other ↦ absurd (other (sym (l.leads k e found) ∙ cut.was))
           ])

@@ -41,7 +41,7 @@ pub record IsCut {K V : Type 0} (cmp : K → K → Ordering) (old new : IndexedT
   pub entry : Entry K V
   pub was : newest cmp old.text k a ≡ Some entry
   pub below : entry.address < new.begin
-  pub spent : (entry.value ≡ None) ⊎ (last_of cmp old.text k ≢ Some entry)
+  pub superseded : (entry.value ≡ None) ⊎ (last_of cmp old.text k ≢ Some entry)
   pub gone : newest cmp new.text k a ≡ None
 
 -- one event: what stood at addresses that were taken, and is not changed in place, stays or is cut; and an entry that is

@@ -1,4 +1,4 @@
--- What appending the record of a place again leaves: the live map, what operations are to find, and a record that is spent.
+-- What appending the record of a place again leaves: the live map, what operations are to find, and a record that is superseded.
 use Rattle.std.proofs.Common.{◌≡◌, inl, inr, ◌&&◌, ◌==◌, ◌+◌, ◌*◌, ◌<◌, ℕ, Bool, cond, nat_le, nat_lt, IsTrue, List, Option, Some, None, option_map, slice_get, slice_set, refl, sym, ap, subst, ◌∙◌, arith}
 use Rattle.std.proofs.lemmas.Bool.{cases_eq}
 use Rattle.std.specs.declared.cmp.Ordering.{Ordering}
@@ -18,7 +18,7 @@ use Rattle.fkv_lookups.specs.Cleared.{IsSuperseded}
 use Rattle.fkv_lookups.specs.RecordsViews.{RecordsView, class_in, entry_of, IsEntryOf, with_record}
 use Rattle.fkv_lookups.specs.Traced.{IsTraced}
 use Rattle.fkv_lookups.proofs.TracedLemmas.{entry-stands, traced-held}
-use Rattle.fkv_lookups.proofs.ClearedLemmas.{spent-renewed, lives-renewed}
+use Rattle.fkv_lookups.proofs.ClearedLemmas.{superseded-renewed, lives-renewed}
 use Rattle.fkv_core.specs.declared.contexts.Context.{Context}
 use Rattle.fkv_core.specs.declared.contexts.Loading.{Loading}
 use Rattle.fkv_core.specs.declared.contexts.Phase.{Phase}
@@ -141,9 +141,9 @@ module _ {K V I : Type 0} {keeps : Bool} (cmp : K → K → Ordering) (code : K 
     keep-again t b = keep-event keeps cmp code v (with_appended v.core slot c kept e.key e.value now) s t b refl refl s.begun
         (λ q y g none. freed-same v.core.contexts (slot * 8 + c) q alone-here ∙ none) (λ a d y low g inside. inside)
 
-    -- the record of the place is spent then
-    pub spent-again : IsKeyOrder cmp → IsTrue keeps → (d : Entry K V) → entry_at (with_record v.core.records kept e.key e.value).text x.target ≡ Some d → IsSuperseded cmp (with_record v.core.records kept e.key e.value).text d
-    spent-again order yes_keeps d there =
+    -- the record of the place is superseded then
+    pub superseded-again : IsKeyOrder cmp → IsTrue keeps → (d : Entry K V) → entry_at (with_record v.core.records kept e.key e.value).text x.target ≡ Some d → IsSuperseded cmp (with_record v.core.records kept e.key e.value).text d
+    superseded-again order yes_keeps d there =
         let r = v.core.records in
         let n : Entry K V = record { address = r.tail; previous = address_of kept.word; key = e.key; value = e.value } in
         let m = stands-in-text yes_keeps in
@@ -153,7 +153,7 @@ module _ {K V I : Type 0} {keeps : Bool} (cmp : K → K → Ordering) (code : K 
         let is : entry_at (with_record r kept e.key e.value).text x.target ≡ entry_at r.text x.target = entry_at-old r.text n x.target (λ q. (let same : x.target ≡ r.tail = q in omega arith)) in
         let both : Some e ≡ Some d = sym was ∙ sym is ∙ there in
         let same : e ≡ d = cc in
-        subst (IsSuperseded cmp (with_record r kept e.key e.value).text) same (spent-renewed cmp r.text order n e refl below)
+        subst (IsSuperseded cmp (with_record r kept e.key e.value).text) same (superseded-renewed cmp r.text order n e refl below)
 
     pub event-again : IsKeyOrder cmp → IsRelocating keeps cmp v (again_at v slot c x.target kept e now) slot c now
     event-again order = record {

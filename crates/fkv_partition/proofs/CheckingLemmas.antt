@@ -92,12 +92,12 @@ module _ {K V : Type 0} (cmp : K → K → Ordering) (order : IsKeyOrder cmp) (t
           h ∙ ap Some (one_address text rising m.place stands-in.0.place x e m.here stands-in.0.here (omega arith))
 
 -- what is said of the record of a place is said of any that stands there
-pub spent-one : {K V : Type 0} {keeps : Bool} (cmp : K → K → Ordering) (text : List (Entry K V)) (place : ℕ) (e : Entry K V) → (IsTrue keeps → entry_at text place ≡ Some e) → (IsTrue keeps → IsSuperseded cmp text e)
+pub superseded-one : {K V : Type 0} {keeps : Bool} (cmp : K → K → Ordering) (text : List (Entry K V)) (place : ℕ) (e : Entry K V) → (IsTrue keeps → entry_at text place ≡ Some e) → (IsTrue keeps → IsSuperseded cmp text e)
     → IsTrue keeps → (d : Entry K V) → entry_at text place ≡ Some d → IsSuperseded cmp text d
-spent-one cmp text place e is spent yes_keeps d there =
+superseded-one cmp text place e is superseded yes_keeps d there =
     let both : Some e ≡ Some d = sym (is yes_keeps) ∙ there in
     let same : e ≡ d = cc in
-    subst (IsSuperseded cmp text) same (spent yes_keeps)
+    subst (IsSuperseded cmp text) same (superseded yes_keeps)
 
 -- ---- what the way is liveness by
 pub liveness-dead : {K V : Type 0} (place : ℕ) (r : ChainPosition K V) → liveness place r ≡ Superseded → (x : Entry K V) × (r ≡ Found x) × (place < x.address)
@@ -201,16 +201,16 @@ was-entry code r k kept h = record { place = h.place; bucket = h.bucket; final =
 module _ {K V I : Type 0} {keeps : Bool} (cmp : K → K → Ordering) (code : K → ℕ) (order : IsKeyOrder cmp) (v : CoreView K V I) (s : IsSound keeps cmp code v) (slot : ℕ) (entered : IsEntered v slot) (place : ℕ) (e : Entry K V)
     (here : e.address ≡ place) (is : IsTrue keeps → entry_at v.records.text place ≡ Some e) where
   -- a record of a key that belongs elsewhere stands here on no device that keeps
-  pub spent-foreign : partition_of v.count (code e.key) ≢ v.number → IsTrue keeps → IsSuperseded cmp v.records.text e
-  spent-foreign other yes_keeps = let m = (stands-in cmp order v.records.text s.traced.rising place e (is yes_keeps)).0 in absurd (other (s.routed m.place e m.here))
+  pub superseded-foreign : partition_of v.count (code e.key) ≢ v.number → IsTrue keeps → IsSuperseded cmp v.records.text e
+  superseded-foreign other yes_keeps = let m = (stands-in cmp order v.records.text s.traced.rising place e (is yes_keeps)).0 in absurd (other (s.routed m.place e m.here))
 
   -- nor does one of a key whose class has no entry
-  pub spent-nowhere : entry_for code v e.key ≡ None → IsTrue keeps → IsSuperseded cmp v.records.text e
-  spent-nowhere none yes_keeps = inr (λ last. let no : None ≡ Some e = sym (traced-none cmp code v.records e.key order s.traced none) ∙ last in cc)
+  pub superseded-nowhere : entry_for code v e.key ≡ None → IsTrue keeps → IsSuperseded cmp v.records.text e
+  superseded-nowhere none yes_keeps = inr (λ last. let no : None ≡ Some e = sym (traced-none cmp code v.records e.key order s.traced none) ∙ last in cc)
 
   module _ (kept : IndexEntry) (stands : IsEntryOf v.records (class_in code v.records e.key) kept) (leads : entry_for code v e.key ≡ Some (address_of kept.word)) where
-    pub spent-newer : liveness place (reached_from cmp code v slot e.key (entry_for code v e.key)) ≡ Superseded → IsTrue keeps → IsSuperseded cmp v.records.text e
-    spent-newer j yes_keeps =
+    pub superseded-newer : liveness place (reached_from cmp code v slot e.key (entry_for code v e.key)) ≡ Superseded → IsTrue keeps → IsSuperseded cmp v.records.text e
+    superseded-newer j yes_keeps =
         met-dead cmp code order v.records s.traced.rising place e (is yes_keeps) (low_of v.records.begin (seen_at v slot)) (address_of kept.word) (reached_from cmp code v slot e.key (entry_for code v e.key)) (going cmp code v s slot entered order e.key (address_of kept.word) leads) j
 
     under : IsTrue keeps → place ≤ address_of kept.word

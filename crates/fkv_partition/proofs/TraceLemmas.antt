@@ -124,7 +124,7 @@ module _ {K V I : Type 0} {keeps : Bool} (cmp : K → K → Ordering) (code : K 
         let same : k.0 ≡ r = cc in
         subst (GoesOn cmp code v.core.records e.key (first_place v.core.records.page_bits (page_at v.core.records.page_bits l.wanted)) l.wanted) same k.2
 
-    -- a newer record of the key was met: the record of the place is spent
+    -- a newer record of the key was met: the record of the place is superseded
     pub way-dead : (r : ChainPosition K V) → result ≡ Ok r → liveness x.target r ≡ Superseded → IsTrue keeps → (y : Entry K V) → entry_at v.core.records.text x.target ≡ Some y → IsSuperseded cmp v.core.records.text y
     way-dead r is j yes_keeps y here =
         let own = is-own yes_keeps in

@@ -41,11 +41,11 @@ pub data NeedsNoCopy {K V I : Type 0} (cmp : K → K → Ordering) (code : K →
 
 -- a record with a value whose key belongs here and has this entry, from which the look-up in memory tells this of it
 pub record IsChecked {K V I : Type 0} (cmp : K → K → Ordering) (code : K → ℕ) (v : CoreView K V I) (slot place : ℕ)
-    (entry : Entry K V) (kept : IndexEntry) (judgement : Liveness) : Type 0 where
+    (entry : Entry K V) (kept : IndexEntry) (outcome : Liveness) : Type 0 where
   pub some : entry.value ≢ None
   pub own : partition_of v.count (code entry.key) ≡ v.number
   pub leads : found_for code v entry.key ≡ Some kept
-  pub judged_so : liveness place (reached_from cmp code v slot entry.key (entry_for code v entry.key)) ≡ judgement
+  pub outcome_is : liveness place (reached_from cmp code v slot entry.key (entry_for code v entry.key)) ≡ outcome
 
 -- the last part: where the entry stands as it was kept, the record is appended again and its place is cleared, in one
 -- event, or waits where there is no room; where it has moved, the relocation is to begin anew

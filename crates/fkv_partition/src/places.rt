@@ -109,7 +109,7 @@ impl<F: Functions, R: Receipt> Partition<F, R> {
         requires issued { place ≤ self.old.cleared }
         requires place { IsRecordStart self.old.core.records.page_bits self.old.core.records.record_size place }
         requires low { place < self.old.core.records.tail }
-        requires spent { IsTrue R.keeps → (e : Entry F.Key F.Value)
+        requires superseded { IsTrue R.keeps → (e : Entry F.Key F.Value)
             → entry_at self.old.core.records.text place ≡ Some e
             → IsSuperseded F.Key.cmp self.old.core.records.text e }
         ensures { self.new ≡ done_at self.old slot context place now }

@@ -123,8 +123,8 @@ fn numbers_are_used_up(rt: HostRuntime) {
     assert!(rt; numbers(rt.alloc(), &mut memory, 6) == last);
     let mut file = FileWriter::at(rt.alloc(), Faulty { left: 100 }, 6, u64::MAX - 1);
     assert!(rt; numbers(rt.alloc(), &mut file, 6) == last);
-    let mut spent = FileWriter::at(rt.alloc(), Faulty { left: 100 }, 6, u64::MAX);
-    assert!(rt; numbers(rt.alloc(), &mut spent, 6) == [fault; 3]);
+    let mut exhausted = FileWriter::at(rt.alloc(), Faulty { left: 100 }, 6, u64::MAX);
+    assert!(rt; numbers(rt.alloc(), &mut exhausted, 6) == [fault; 3]);
 }
 
 #[test]

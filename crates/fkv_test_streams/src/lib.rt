@@ -11,8 +11,8 @@ pub use readers::Breaking;
 pub use writers::Filling;
 
 /// Counts a call, and says whether it is the one after the last. From then on it is counted down from 2^64 - 1.
-fn is_spent(left: &mut u64) -> bool {
-    let (next, is_spent) = left.overflowing_sub(1);
+fn is_used_up(left: &mut u64) -> bool {
+    let (next, is_used_up) = left.overflowing_sub(1);
     *left = next;
-    is_spent
+    is_used_up
 }

@@ -1,5 +1,5 @@
 //! A reader that fails.
-use crate::is_spent;
+use crate::is_used_up;
 use std::io::{self, Error, ErrorKind, Read};
 
 /// Gives a text in pieces, and fails after so many calls.
@@ -44,7 +44,7 @@ impl Read for Breaking<'_> {
         if self.is_ended {
             return Ok(0);
         }
-        if is_spent(&mut self.calls) {
+        if is_used_up(&mut self.calls) {
             if self.is_broken {
                 self.calls = 0;
             }

@@ -1,5 +1,5 @@
 //! A writer that fails.
-use crate::is_spent;
+use crate::is_used_up;
 use std::alloc::Global;
 use std::io::{self, Error, ErrorKind, Write};
 
@@ -42,7 +42,7 @@ impl Filling {
 
 impl Write for Filling {
     fn write(&mut self, buf: &[u8]) -> io::Result<usize> {
-        if is_spent(&mut self.calls) {
+        if is_used_up(&mut self.calls) {
             return match self.kind {
                 Some(kind) => Err(Error::from(kind)),
                 None => Ok(0),
@@ -58,7 +58,7 @@ impl Write for Filling {
     }
 
     fn flush(&mut self) -> io::Result<()> {
-        if is_spent(&mut self.calls) {
+        if is_used_up(&mut self.calls) {
             return Err(Error::from(ErrorKind::Other));
         }
         Ok(())

@@ -10,7 +10,7 @@ use std::alloc::Global;
 /// What a step or a run tells.
 type Told = Result<OutcomeOf<SumFns>, Refused>;
 
-/// What a step tells that was refused for want of memory, done again. A write has spent its page, so that is taken
+/// What a step tells that was refused for want of memory, done again. A write has used its page, so that is taken
 /// again.
 fn told_again(world: &mut World<SumFns>, step: StepOf<SumFns>) -> Told {
     if let Step::Write(partition, _) = step {

@@ -126,9 +126,9 @@ tables-kept s t tables partitions begun questions receipts jobs seats enters lat
 }
 
 module _ {K V I O R : Type 0} (cmp : K → K → Ordering) (f : Meanings K V I O) (code : K → ℕ) (s : StateView K V I O R) (state : IsState cmp f code s) where
-  -- a page that was taken is spent
-  pub state-spent : (p : ℕ) (job : Option FlushJob) → IsState cmp f code (record s { jobs = slice_set s.jobs p job })
-  state-spent p job = record {
+  -- a page that was taken is used
+  pub state-used : (p : ℕ) (job : Option FlushJob) → IsState cmp f code (record s { jobs = slice_set s.jobs p job })
+  state-used p job = record {
     world = state.world;
     tables = tables-kept s (record s { jobs = slice_set s.jobs p job }) state.tables refl refl refl refl (length-set s.jobs p job) refl refl (omega arith);
   }

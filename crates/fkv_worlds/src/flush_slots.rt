@@ -25,7 +25,7 @@ impl FlushSlot {
         FlushSlot { job: None }
     }
 
-    /// Writes the page that was taken last, which is spent by it. Refused: `Device` with code 2 where the device is to
+    /// Writes the page that was taken last, and empties the slot. Refused: `Device` with code 2 where the device is to
     /// fail, and where it works `NoMemory` alone.
     pub fn write(
         &mut self,
@@ -33,7 +33,7 @@ impl FlushSlot {
         access: Access,
     ) -> Result<Written<MemoryReceipt>, Refused>
         requires { IsSome self.old.job }
-        ensures spent { self.new.job ≡ None }
+        ensures used { self.new.job ≡ None }
         ensures written { IfOk result (λ w. (job : FlushJob)
             → self.old.job ≡ Some job
             → (access ≡ Access.Works) × (⟦<MemoryReceipt as Receipt>⟧.stands w.receipt ≡ receipt_of job)

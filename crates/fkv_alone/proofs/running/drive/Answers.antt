@@ -15,7 +15,7 @@ returns-in-Err-clause-drives g c = λ op old started h.
     let same = c.in-Err.ensures.unchanged in
     let last = c.tick.ensures.worn.0 (c.in-Err.is ∙ ap Err c.in-Err.ensures.only) in
     let below = c.loop-turn-test.true in
-    Drives.spent
+    Drives.exhausted
     (come-halted g.R.Receipt.keeps g.R.Receipt.stands g.F.Key.Ord.cmp g.F.Functions.meaning g.F.Functions.code op old c.args.slot c.args.context started c.loop-turn.partition.core c.loop-turn.told (i.comes op old started h).0 i.on)
     (same ∙ last) (let k = i.taken in omega arith) (i.comes op old started h).1 (ap Err c.in-Err.ensures.only)
 

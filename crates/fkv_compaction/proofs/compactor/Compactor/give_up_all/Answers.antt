@@ -27,7 +27,7 @@ loop-context-preserved g c =
             core = ap {A = CoreView g.row.F-Key.Denot g.row.F-Value.Denot g.row.F-Input.Denot} (λ p. record p { moment = c.loop-context.clock + 1 }) kept.core;
             cleared = kept.cleared;
             past = omega arith;
-            spent = omega (arith, kept.spent);
+            used = omega (arith, kept.used);
           }))
       | else-is_some w ↦
           (let none : is_some (relocation_at v slot context) ≡ false = told ∙ w.if-is_some.false in
@@ -39,7 +39,7 @@ loop-context-preserved g c =
             core = kept.core;
             cleared = kept.cleared;
             past = kept.past;
-            spent = omega (arith, kept.spent);
+            used = omega (arith, kept.used);
           }))
     ]
 

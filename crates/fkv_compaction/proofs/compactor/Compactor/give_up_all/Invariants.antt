@@ -14,5 +14,5 @@ invariant-loop-context g l = record {
   core : l.partition.core ≡ record l.fn.partition.core { moment = l.partition.core.moment };
   cleared : l.partition.cleared ≡ l.fn.partition.cleared;
   past : l.partition.core.moment ≤ l.clock;
-  spent : l.clock ≤ l.fn.clock + l.context;
+  used : l.clock ≤ l.fn.clock + l.context;
 }

@@ -14,7 +14,7 @@ use Rattle.fkv_partition.specs.Views.{at_stage, with_relocation, done_at, again_
 use Rattle.fkv_partition.specs.Stages.{StageStands}
 use Rattle.fkv_partition.specs.Checking.{Ends}
 use Rattle.fkv_partition.proofs.MoveLemmas.{event-set, past-place, stands-here}
-use Rattle.fkv_partition.proofs.AgainLemmas.{keep-moment, unclaimed, writes-again, keep-again, spent-again, event-again}
+use Rattle.fkv_partition.proofs.AgainLemmas.{keep-moment, unclaimed, writes-again, keep-again, superseded-again, event-again}
 use Rattle.fkv_partition.proofs.partitions.Partition.append_again.Goals as goal
 
 pub returns-then-not-holds-clause-effect : goal.returns-then-not-holds-clause-effect
@@ -89,8 +89,8 @@ finish-requires-clause-place g c =
     let made = rw c.in-Ok-Some.field-0-is at c.in-Ok-Some.ensures.ok in
     subst (λ q. IsRecordStart q.records.page_bits q.records.record_size x.target) (sym made) (stands-here ins c.args.slot c.args.context x here c.self.invariant).place
 
-pub finish-requires-clause-spent : goal.finish-requires-clause-spent
-finish-requires-clause-spent g c =
+pub finish-requires-clause-superseded : goal.finish-requires-clause-superseded
+finish-requires-clause-superseded g c =
     let ord = g.met.F.Key.Ord in
     let known = g.met.F.Key.FixedKey in
     let order = key_order g.F.Key.PartialEq.eq g.F.Key.Ord.cmp ord.matches_eq known.exact ord.total in
@@ -105,7 +105,7 @@ finish-requires-clause-spent g c =
     let holds = told.0 c.if-not-holds.false in
     let made = rw c.in-Ok-Some.field-0-is at c.in-Ok-Some.ensures.ok in
     subst (λ q. IsTrue g.R.Receipt.keeps → (d : Entry _ _) → entry_at q.records.text x.target ≡ Some d → IsSuperseded g.F.Key.Ord.cmp q.records.text d) (sym made)
-    (spent-again g.F.Key.Ord.cmp g.F.Functions.code ins c.self.invariant c.args.slot c.args.context c.args.now x here sound e kept stands holds order)
+    (superseded-again g.F.Key.Ord.cmp g.F.Functions.code ins c.self.invariant c.args.slot c.args.context c.args.now x here sound e kept stands holds order)
 
 pub returns-in-Err-clause-effect : goal.returns-in-Err-clause-effect
 returns-in-Err-clause-effect g c =

@@ -4,7 +4,7 @@ use Rattle.fkv_index.specs.Words.{address_of}
 use Rattle.fkv_operations.specs.declared.entries.IndexEntry.{IndexEntry}
 use Rattle.fkv_core.specs.Views.{partition_of, entry_for}
 use Rattle.fkv_partition.proofs.MoveLemmas.{event-done, past-place, open-here, stands-here, low-here}
-use Rattle.fkv_partition.proofs.CheckingLemmas.{spent-one, spent-foreign, spent-nowhere}
+use Rattle.fkv_partition.proofs.CheckingLemmas.{superseded-one, superseded-foreign, superseded-nowhere}
 use Rattle.fkv_partition.proofs.partitions.Partition.check_liveness.Goals as goal
 
 pub finish-requires-clause-issued : goal.finish-requires-clause-issued
@@ -55,8 +55,8 @@ finish-requires-then-home-number-clause-low g c =
     let x = c.args.relocation.now in
     low-here v c.args.slot c.args.context x c.requires.here c.known.ensures.compacting c.known.ensures.core.traced
 
-pub finish-requires-then-home-number-clause-spent : goal.finish-requires-then-home-number-clause-spent
-finish-requires-then-home-number-clause-spent g c =
+pub finish-requires-then-home-number-clause-superseded : goal.finish-requires-then-home-number-clause-superseded
+finish-requires-then-home-number-clause-superseded g c =
     let ord = g.met.F.Key.Ord in
     let known = g.met.F.Key.FixedKey in
     let order = key_order g.F.Key.PartialEq.eq g.F.Key.Ord.cmp ord.matches_eq known.exact ord.total in
@@ -64,7 +64,7 @@ finish-requires-then-home-number-clause-spent g c =
     let x = c.args.relocation.now in
     let e = c.args.entry in
     let other = subst (λ u. partition_of u.core.count (g.F.Functions.code e.key) ≢ u.core.number) c.self.view_is (λ q. c.if-home-number.true (c.home-home.ensures ∙ q ∙ sym c.number.ensures)) in
-    spent-one g.F.Key.Ord.cmp v.core.records.text x.target e c.requires.is (spent-foreign g.F.Key.Ord.cmp g.F.Functions.code order v.core c.known.ensures.core c.args.slot (open-here v c.args.slot c.args.context x c.requires.here).inside x.target e c.requires.stands c.requires.is other)
+    superseded-one g.F.Key.Ord.cmp v.core.records.text x.target e c.requires.is (superseded-foreign g.F.Key.Ord.cmp g.F.Functions.code order v.core c.known.ensures.core c.args.slot (open-here v c.args.slot c.args.context x c.requires.here).inside x.target e c.requires.stands c.requires.is other)
 
 pub returns-then-home-number-clause-event : goal.returns-then-home-number-clause-event
 returns-then-home-number-clause-event g c =
@@ -96,8 +96,8 @@ finish-requires-in-None-clause-low g c =
     let x = c.args.relocation.now in
     low-here v c.args.slot c.args.context x c.requires.here c.known.ensures.compacting c.known.ensures.core.traced
 
-pub finish-requires-in-None-clause-spent : goal.finish-requires-in-None-clause-spent
-finish-requires-in-None-clause-spent g c =
+pub finish-requires-in-None-clause-superseded : goal.finish-requires-in-None-clause-superseded
+finish-requires-in-None-clause-superseded g c =
     let ord = g.met.F.Key.Ord in
     let known = g.met.F.Key.FixedKey in
     let order = key_order g.F.Key.PartialEq.eq g.F.Key.Ord.cmp ord.matches_eq known.exact ord.total in
@@ -105,7 +105,7 @@ finish-requires-in-None-clause-spent g c =
     let x = c.args.relocation.now in
     let e = c.args.entry in
     let none = subst (λ u. entry_for g.F.Functions.code u.core e.key ≡ None) c.self.view_is (sym c.find-found.ensures.address ∙ ap (option_map (λ (q : IndexEntry). address_of q.word)) c.in-None.is) in
-    spent-one g.F.Key.Ord.cmp v.core.records.text x.target e c.requires.is (spent-nowhere g.F.Key.Ord.cmp g.F.Functions.code order v.core c.known.ensures.core c.args.slot (open-here v c.args.slot c.args.context x c.requires.here).inside x.target e c.requires.stands c.requires.is none)
+    superseded-one g.F.Key.Ord.cmp v.core.records.text x.target e c.requires.is (superseded-nowhere g.F.Key.Ord.cmp g.F.Functions.code order v.core c.known.ensures.core c.args.slot (open-here v c.args.slot c.args.context x c.requires.here).inside x.target e c.requires.stands c.requires.is none)
 
 pub returns-in-None-clause-event : goal.returns-in-None-clause-event
 returns-in-None-clause-event g c =

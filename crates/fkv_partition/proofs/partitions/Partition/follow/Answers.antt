@@ -6,7 +6,7 @@ use Rattle.fkv_core.proofs.DecidedLemmas.{page_flushed}
 use Rattle.fkv_partition.specs.declared.relocations.Liveness.TheVariants.{Superseded, Last, Further}
 use Rattle.fkv_partition.specs.Checking.{liveness, ChecksLiveness}
 use Rattle.fkv_partition.proofs.MoveLemmas.{event-done, past-place, open-here, stands-here, low-here}
-use Rattle.fkv_partition.proofs.CheckingLemmas.{spent-one, spent-newer, ready, further-disk, tracing}
+use Rattle.fkv_partition.proofs.CheckingLemmas.{superseded-one, superseded-newer, ready, further-disk, tracing}
 use Rattle.fkv_partition.proofs.partitions.Partition.follow.Goals as goal
 
 pub reach-reached-requires-clause-entered : goal.reach-reached-requires-clause-entered
@@ -37,8 +37,8 @@ finish-requires-clause-low g c =
     let e = c.args.entry in
     low-here v c.args.slot c.args.context x c.requires.here c.known.ensures.compacting c.known.ensures.core.traced
 
-pub finish-requires-clause-spent : goal.finish-requires-clause-spent
-finish-requires-clause-spent g c =
+pub finish-requires-clause-superseded : goal.finish-requires-clause-superseded
+finish-requires-clause-superseded g c =
     let ord = g.met.F.Key.Ord in
     let known = g.met.F.Key.FixedKey in
     let order = key_order g.F.Key.PartialEq.eq g.F.Key.Ord.cmp ord.matches_eq known.exact ord.total in
@@ -47,7 +47,7 @@ finish-requires-clause-spent g c =
     let e = c.args.entry in
     let told = sym (ap (liveness x.target) c.reach-reached.ensures) ∙ sym c.liveness_of.ensures ∙ c.in-Superseded.is in
     let so = subst (λ u. liveness x.target (reached_from g.F.Key.Ord.cmp g.F.Functions.code u.core c.args.slot e.key (entry_for g.F.Functions.code u.core e.key)) ≡ Superseded) c.self.view_is told in
-    spent-one g.F.Key.Ord.cmp v.core.records.text x.target e c.requires.is (spent-newer g.F.Key.Ord.cmp g.F.Functions.code order v.core c.known.ensures.core c.args.slot (open-here v c.args.slot c.args.context x c.requires.here).inside x.target e c.requires.stands c.requires.is c.args.kept c.requires.entry_stands c.requires.leads so)
+    superseded-one g.F.Key.Ord.cmp v.core.records.text x.target e c.requires.is (superseded-newer g.F.Key.Ord.cmp g.F.Functions.code order v.core c.known.ensures.core c.args.slot (open-here v c.args.slot c.args.context x c.requires.here).inside x.target e c.requires.stands c.requires.is c.args.kept c.requires.entry_stands c.requires.leads so)
 
 pub append_again-requires-clause-stands : goal.append_again-requires-clause-stands
 append_again-requires-clause-stands g c =
@@ -108,7 +108,7 @@ returns-in-Last-clause-effect g c =
     let e = c.args.entry in
     let told = sym (ap (liveness x.target) c.reach-reached.ensures) ∙ sym c.liveness_of.ensures ∙ c.in-Last.is in
     let so = subst (λ u. liveness x.target (reached_from g.F.Key.Ord.cmp g.F.Functions.code u.core c.args.slot e.key (entry_for g.F.Functions.code u.core e.key)) ≡ Last) c.self.view_is told in
-    ChecksLiveness.last c.args.kept (record { some = c.requires.some; own = c.requires.own; leads = c.requires.found; judged_so = so }) c.append_again.ensures.effect
+    ChecksLiveness.last c.args.kept (record { some = c.requires.some; own = c.requires.own; leads = c.requires.found; outcome_is = so }) c.append_again.ensures.effect
 
 pub returns-in-Further-clause-effect : goal.returns-in-Further-clause-effect
 returns-in-Further-clause-effect g c =
@@ -118,4 +118,4 @@ returns-in-Further-clause-effect g c =
     let told = sym (ap (liveness x.target) c.reach-reached.ensures) ∙ sym c.liveness_of.ensures ∙ c.in-Further.is in
     let so = subst (λ u. liveness x.target (reached_from g.F.Key.Ord.cmp g.F.Functions.code u.core c.args.slot e.key (entry_for g.F.Functions.code u.core e.key)) ≡ Further c.in-Further.wanted) c.self.view_is told in
     let begins = c.begin.ensures ∙ ap (λ r. r.begin) c.records.ensures ∙ ap (λ u. u.core.records.begin) c.self.view_is in
-    ChecksLiveness.further c.args.kept c.in-Further.wanted (record { some = c.requires.some; own = c.requires.own; leads = c.requires.found; judged_so = so }) (rw begins at c.ask.ensures.effect)
+    ChecksLiveness.further c.args.kept c.in-Further.wanted (record { some = c.requires.some; own = c.requires.own; leads = c.requires.found; outcome_is = so }) (rw begins at c.ask.ensures.effect)

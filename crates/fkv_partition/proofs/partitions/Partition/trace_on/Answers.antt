@@ -123,8 +123,8 @@ finish-requires-clause-low g c =
     let low : x.target < v.core.records.tail = (let st = stands-here v c.args.slot c.args.context x a.here s in let o = sound.traced.regions.agree.in_order in omega (arith, st.frozen, o.safe, sound.traced.regions.read_only)) in
     low
 
-pub finish-requires-clause-spent : goal.finish-requires-clause-spent
-finish-requires-clause-spent g c =
+pub finish-requires-clause-superseded : goal.finish-requires-clause-superseded
+finish-requires-clause-superseded g c =
     let ord = g.met.F.Key.Ord in
     let known = g.met.F.Key.FixedKey in
     let order = key_order g.F.Key.PartialEq.eq g.F.Key.Ord.cmp ord.matches_eq known.exact ord.total in

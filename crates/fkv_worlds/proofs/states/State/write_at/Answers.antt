@@ -1,7 +1,7 @@
 use Rattle.std.proofs.Common.{refl, None, sym, ◌∙◌}
 use Rattle.fkv_functions.proofs.KeyOrder.{key_order}
 use Rattle.fkv_worlds.proofs.ResultLemmas.{some_of, some_there}
-use Rattle.fkv_worlds.proofs.StateLemmas.{some-at, index-of, state-spent}
+use Rattle.fkv_worlds.proofs.StateLemmas.{some-at, index-of, state-used}
 use Rattle.fkv_worlds.proofs.EventLemmas.{rows, event-later, refused-state, quiet-state}
 use Rattle.fkv_worlds.proofs.PagingLemmas.{flush_slot-job, flush_slot-set, spoils-unwritten, spoils-strange, does-write}
 use Rattle.fkv_worlds.proofs.states.State.write_at.Goals as goal
@@ -24,18 +24,18 @@ invariant_of-self g c =
     let known = g.met.F.Key.FixedKey in
     let order = key_order g.F.Key.PartialEq.eq g.F.Key.Ord.cmp ord.matches_eq known.exact ord.total in
     let due = rw (← c.self.view_is) at c.requires.due in
-    rw (flush_slot-set c.self.inside.flush_slots.items c.args.partition c.write.new.self None c.write.ensures.spent)
-    (state-spent g.F.Key.Ord.cmp g.F.Functions.meaning g.F.Functions.code _ (quiet-state g.F.Key.Ord.cmp g.F.Functions.meaning g.F.Functions.code _ c.self.invariant c.args.partition c.args.now due c.index_mut-in-Ok.result.now c.index_mut-in-Ok.ensures.value c.flush_done.new.self order c.in-Ok-flush_done.ensures.event c.flush_done.ensures.pends) c.args.partition None)
+    rw (flush_slot-set c.self.inside.flush_slots.items c.args.partition c.write.new.self None c.write.ensures.used)
+    (state-used g.F.Key.Ord.cmp g.F.Functions.meaning g.F.Functions.code _ (quiet-state g.F.Key.Ord.cmp g.F.Functions.meaning g.F.Functions.code _ c.self.invariant c.args.partition c.args.now due c.index_mut-in-Ok.result.now c.index_mut-in-Ok.ensures.value c.flush_done.new.self order c.in-Ok-flush_done.ensures.event c.flush_done.ensures.pends) c.args.partition None)
 
 pub invariant_of-self-in-Err-flush_done : goal.invariant_of-self-in-Err-flush_done
 invariant_of-self-in-Err-flush_done g c =
     let due = rw (← c.self.view_is) at c.requires.due in
-    rw (flush_slot-set c.self.inside.flush_slots.items c.args.partition c.write.new.self None c.write.ensures.spent)
-    (state-spent g.F.Key.Ord.cmp g.F.Functions.meaning g.F.Functions.code _ (refused-state g.F.Key.Ord.cmp g.F.Functions.meaning g.F.Functions.code _ c.self.invariant c.args.partition c.args.now due c.index_mut-in-Ok.result.now c.index_mut-in-Ok.ensures.value c.flush_done.new.self c.in-Err-flush_done.ensures.unchanged) c.args.partition None)
+    rw (flush_slot-set c.self.inside.flush_slots.items c.args.partition c.write.new.self None c.write.ensures.used)
+    (state-used g.F.Key.Ord.cmp g.F.Functions.meaning g.F.Functions.code _ (refused-state g.F.Key.Ord.cmp g.F.Functions.meaning g.F.Functions.code _ c.self.invariant c.args.partition c.args.now due c.index_mut-in-Ok.result.now c.index_mut-in-Ok.ensures.value c.flush_done.new.self c.in-Err-flush_done.ensures.unchanged) c.args.partition None)
 
 pub invariant_of-self-in-Err : goal.invariant_of-self-in-Err
 invariant_of-self-in-Err g c =
-    rw (flush_slot-set c.self.inside.flush_slots.items c.args.partition c.write.new.self None c.write.ensures.spent) (state-spent g.F.Key.Ord.cmp g.F.Functions.meaning g.F.Functions.code _ c.self.invariant c.args.partition None)
+    rw (flush_slot-set c.self.inside.flush_slots.items c.args.partition c.write.new.self None c.write.ensures.used) (state-used g.F.Key.Ord.cmp g.F.Functions.meaning g.F.Functions.code _ c.self.invariant c.args.partition None)
 
 pub returns-in-Ok-flush_done : goal.returns-in-Ok-flush_done
 returns-in-Ok-flush_done g c =
@@ -45,7 +45,7 @@ returns-in-Ok-flush_done g c =
     let job = some_of _ asked in
     let mine = sym has ∙ job.1 in
     let w = c.in-Ok.ensures.written job.0 mine in
-    rw (← c.self.view_is, flush_slot-set c.self.inside.flush_slots.items c.args.partition c.write.new.self None c.write.ensures.spent)
+    rw (← c.self.view_is, flush_slot-set c.self.inside.flush_slots.items c.args.partition c.write.new.self None c.write.ensures.used)
     (record {
       effect = does-write g.F.Key.Ord.cmp g.F.Functions.meaning g.F.Functions.code _ c.self.invariant c.args.partition c.args.now due c.index_mut-in-Ok.result.now c.index_mut-in-Ok.ensures.value c.args.access job.0 asked job.1
           c.flush_done.new.self _ _ w.0 w.1 w.2 c.page-page.result c.page-page.ensures c.in-Ok-flush_done.ensures.effect c.in-Ok-flush_done.ensures.event;
@@ -59,7 +59,7 @@ returns-in-Err-flush_done g c =
     let job = some_of _ asked in
     let mine = sym has ∙ job.1 in
     let w = c.in-Ok.ensures.written job.0 mine in
-    rw (← c.self.view_is, flush_slot-set c.self.inside.flush_slots.items c.args.partition c.write.new.self None c.write.ensures.spent)
+    rw (← c.self.view_is, flush_slot-set c.self.inside.flush_slots.items c.args.partition c.write.new.self None c.write.ensures.used)
     (record {
       effect = spoils-strange g.F.Key.Ord.cmp g.F.Functions.meaning g.F.Functions.code _ c.self.invariant c.args.partition c.args.now due c.index_mut-in-Ok.result.now c.index_mut-in-Ok.ensures.value c.args.access job.0 asked job.1
           c.flush_done.new.self _ _ w.0 w.1 w.2 c.in-Err-flush_done.refused c.in-Err-flush_done.ensures.unchanged c.in-Err-flush_done.ensures.effect;
@@ -73,5 +73,5 @@ returns-in-Err g c =
     let job = some_of _ asked in
     let mine = sym has ∙ job.1 in
     let held = some-at c.self.inside.partitions.items c.args.partition due.there in
-    rw (← c.self.view_is, flush_slot-set c.self.inside.flush_slots.items c.args.partition c.write.new.self None c.write.ensures.spent)
+    rw (← c.self.view_is, flush_slot-set c.self.inside.flush_slots.items c.args.partition c.write.new.self None c.write.ensures.used)
     (record { effect = spoils-unwritten g.F.Key.Ord.cmp g.F.Functions.meaning g.F.Functions.code _ c.self.invariant c.args.partition c.args.now due held.0 (index-of c.self.inside.partitions.items c.args.partition held.0 held.1) c.args.access job.0 asked job.1 c.in-Err.refused (c.in-Err.ensures.unwritten job.0 mine) })
