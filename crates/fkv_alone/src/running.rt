@@ -14,7 +14,7 @@ ghost use Rattle.fkv_alone.specs.Ending.{Ends, IsOn, Drives};
 use crate::outcomes::{Alone, AloneOf};
 use crate::stepping::step;
 use fkv_device::{PageReader, Receipt};
-use fkv_functions::{Functions, Refused};
+use fkv_functions::{Functions, Mergeable, Refused};
 use fkv_operations::{Clock, KeyedOpOf};
 use fkv_partition::{Partition, Progress, ProgressOf};
 
@@ -44,7 +44,7 @@ fn first_moment(clock: &mut Clock, limit: u64) -> Result<u64, Refused>
 
 /// Goes on with an open operation until it is done, waits or is refused, by at most so many events, each at the next
 /// moment of the clock. Refused: as the events are; `Worn` where the clock has no moment for the next event; `Stalled`.
-fn drive<F: Functions, R: Receipt, P: PageReader<Receipt = R>>(
+fn drive<F: Mergeable, R: Receipt, P: PageReader<Receipt = R>>(
     partition: &mut Partition<F, R>,
     slot: usize,
     context: usize,
@@ -92,7 +92,7 @@ fn drive<F: Functions, R: Receipt, P: PageReader<Receipt = R>>(
 }
 
 /// Issues an operation, goes on with it, and gives it up where it is refused.
-fn attempt<F: Functions, R: Receipt, P: PageReader<Receipt = R>>(
+fn attempt<F: Mergeable, R: Receipt, P: PageReader<Receipt = R>>(
     partition: &mut Partition<F, R>,
     slot: usize,
     op: KeyedOpOf<F>,
@@ -158,7 +158,7 @@ fn attempt<F: Functions, R: Receipt, P: PageReader<Receipt = R>>(
 /// [`Partition::issue`]; and then, as events come, `NoMemory`, `Worn` where no address is left, `Device` and `Damaged`
 /// as the reader tells, `Damaged` where the bytes that were read spell no record, `Worn` where the clock has no moment
 /// for the next event, and `Stalled` after `limit` events.
-pub fn run_alone<F: Functions, R: Receipt, P: PageReader<Receipt = R>>(
+pub fn run_alone<F: Mergeable, R: Receipt, P: PageReader<Receipt = R>>(
     partition: &mut Partition<F, R>,
     slot: usize,
     op: KeyedOpOf<F>,

@@ -10,11 +10,11 @@ ghost use Rattle.fkv_alone.specs.Ending.{Advances, IsOn};
 ghost use Rattle.fkv_alone.specs.Bound.{IsNear, IsNearer};
 
 use fkv_device::{Loaded, PageReader, Receipt};
-use fkv_functions::{Built, Functions, Refused};
+use fkv_functions::{Built, Mergeable, Refused};
 use fkv_partition::{Partition, Progress, ProgressOf};
 
 /// Reads the page that an operation asked for, and hands it in, or what came in its place.
-fn load<F: Functions, R: Receipt, P: PageReader<Receipt = R>>(
+fn load<F: Mergeable, R: Receipt, P: PageReader<Receipt = R>>(
     partition: &mut Partition<F, R>,
     slot: usize,
     context: usize,
@@ -44,7 +44,7 @@ fn load<F: Functions, R: Receipt, P: PageReader<Receipt = R>>(
 
 /// Makes one event of an operation, by what it told last: it goes on, or what it asked for is built and installed, or
 /// read and handed in.
-pub(crate) fn step<F: Functions, R: Receipt, P: PageReader<Receipt = R>>(
+pub(crate) fn step<F: Mergeable, R: Receipt, P: PageReader<Receipt = R>>(
     partition: &mut Partition<F, R>,
     slot: usize,
     context: usize,

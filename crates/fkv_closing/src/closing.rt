@@ -14,7 +14,7 @@ use crate::merges::{are_merged, are_numbered};
 use crate::owns::by_partition;
 use crate::sums::{sum_of_books, sum_of_shares};
 use fkv_device::{PageReader, Receipt};
-use fkv_functions::{Functions, Refused};
+use fkv_functions::{Mergeable, Refused};
 use fkv_histories::{EntryOf, Recorder};
 use fkv_locked::Part;
 use std::alloc::Global;
@@ -22,7 +22,7 @@ use std::collections::BTreeMap;
 
 /// What a store comes to at its end.
 #[derive(Drop)]
-pub struct Closed<F: Functions> {
+pub struct Closed<F: Mergeable> {
     /// Each live key with its value.
     pub map: BTreeMap<F::Key, F::Value>,
     /// The history of each partition, in order of partitions; each is empty where nothing is kept.
@@ -34,7 +34,7 @@ pub struct Closed<F: Functions> {
 /// How many operations were finished, by the shares and by the books alike, in partitions that stand in their places.
 /// Refused, in this order: `Worn` where the shares or the books have no sum below 2^64, `Mismatch` where the sums differ or a
 /// partition does not stand in its place.
-fn count_finished<F: Functions, R: Receipt>(
+fn count_finished<F: Mergeable, R: Receipt>(
     parts: &[Part<F, R>],
     shares: &[u64],
 ) -> Result<u64, Refused>
@@ -62,7 +62,7 @@ fn count_finished<F: Functions, R: Receipt>(
 }
 
 /// Sees that each history is a merge of the own lists of its partition. Refused: `Mismatch` where one is not, `NoMemory`.
-fn audit<F: Functions, R: Receipt, H: Recorder<F>>(
+fn audit<F: Mergeable, R: Receipt, H: Recorder<F>>(
     alloc: Global,
     parts: &[Part<F, R>],
     owns: Vec<Vec<H>>,
@@ -86,7 +86,7 @@ fn audit<F: Functions, R: Receipt, H: Recorder<F>>(
 }
 
 /// The histories of these parts, in order. Refused: `NoMemory`.
-fn histories_of<F: Functions, R: Receipt>(
+fn histories_of<F: Mergeable, R: Receipt>(
     alloc: Global,
     parts: Vec<Part<F, R>>,
 ) -> Result<Vec<Vec<EntryOf<F>>>, Refused>
@@ -111,7 +111,7 @@ fn histories_of<F: Functions, R: Receipt>(
 /// partition does not stand in its place; `NoMemory` where the own lists can't be put in order, and `Mismatch` where a history
 /// is no merge of those of its partition; as a reader refuses a page of its partition; `NoMemory`. A store whose partitions and
 /// passes were made together meets no `Mismatch`.
-pub fn close_parts<F: Functions, R: Receipt, H: Recorder<F>, P: PageReader<Receipt = R>>(
+pub fn close_parts<F: Mergeable, R: Receipt, H: Recorder<F>, P: PageReader<Receipt = R>>(
     alloc: Global,
     parts: Vec<Part<F, R>>,
     readers: &mut [P],

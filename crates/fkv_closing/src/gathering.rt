@@ -7,14 +7,14 @@ ghost use Rattle.fkv_closing.specs.Closing.{AreNumbered};
 ghost use Rattle.fkv_closing.specs.Refusing.{IsUnread, MayFailIn};
 
 use fkv_device::{PageReader, Receipt};
-use fkv_functions::{Functions, Refused};
+use fkv_functions::{Mergeable, Refused};
 use fkv_locked::Part;
 use std::alloc::Global;
 use std::collections::BTreeMap;
 
 /// Puts each live key of all partitions with its value into an empty map. Refused: `NoMemory`, and as a reader refuses pages
 /// of its partition.
-fn gather<F: Functions, R: Receipt, P: PageReader<Receipt = R>>(
+fn gather<F: Mergeable, R: Receipt, P: PageReader<Receipt = R>>(
     tree: &mut BTreeMap<F::Key, F::Value>,
     parts: &[Part<F, R>],
     readers: &mut [P],
@@ -40,7 +40,7 @@ fn gather<F: Functions, R: Receipt, P: PageReader<Receipt = R>>(
 }
 
 /// Each live key of all partitions with its value. Refused: `NoMemory`, and as a reader refuses pages of its partition.
-pub(crate) fn live<F: Functions, R: Receipt, P: PageReader<Receipt = R>>(
+pub(crate) fn live<F: Mergeable, R: Receipt, P: PageReader<Receipt = R>>(
     alloc: Global,
     parts: &[Part<F, R>],
     readers: &mut [P],

@@ -5,13 +5,13 @@ ghost use Rattle.fkv_closing.specs.Lists.{lists_at};
 
 use crate::owns::Lists;
 use fkv_device::Receipt;
-use fkv_functions::{Functions, Refused};
+use fkv_functions::{Mergeable, Refused};
 use fkv_histories::is_merge;
 use fkv_locked::Part;
 use std::alloc::Global;
 
 /// Whether each partition stands in its place: it has that number, and says that there are as many as there are.
-pub(crate) fn are_numbered<F: Functions, R: Receipt>(parts: &[Part<F, R>]) -> bool
+pub(crate) fn are_numbered<F: Mergeable, R: Receipt>(parts: &[Part<F, R>]) -> bool
     ensures { IsTrue result ↔ AreNumbered (map (λ part. part.partition) parts.now) }
 {
     for (place, part) in parts.iter().enumerate() {
@@ -26,7 +26,7 @@ pub(crate) fn are_numbered<F: Functions, R: Receipt>(parts: &[Part<F, R>]) -> bo
 }
 
 /// Whether each history is a merge of the own lists of its partition. Refused: `NoMemory`.
-pub(crate) fn are_merged<F: Functions, R: Receipt>(
+pub(crate) fn are_merged<F: Mergeable, R: Receipt>(
     alloc: Global,
     parts: &[Part<F, R>],
     all: &[Lists<F>],

@@ -3,7 +3,7 @@ ghost use Rattle.std.specs.Prelude.{◌≡◌, ◌<◌, ◌++◌, [], ◌∷◌,
 ghost use Rattle.std.specs.List.{All};
 ghost use Rattle.fkv_closing.specs.Lists.{AddsLists, AreByPartition};
 
-use fkv_functions::{Functions, Refused};
+use fkv_functions::{Mergeable, Refused};
 use fkv_histories::{EntryOf, Recorder};
 use std::alloc::Global;
 
@@ -11,7 +11,7 @@ use std::alloc::Global;
 pub(crate) type Lists<F> = Vec<Vec<EntryOf<F>>>;
 
 /// No list yet, for so many partitions. Refused: `NoMemory`.
-fn no_lists<F: Functions>(alloc: Global, count: usize) -> Result<Vec<Lists<F>>, Refused>
+fn no_lists<F: Mergeable>(alloc: Global, count: usize) -> Result<Vec<Lists<F>>, Refused>
     ensures ok { IfOk result (λ all. map (λ of. map (λ own. own.items) of.items) all.items ≡ replicate count []) }
     ensures only { IfErr result (λ refused. refused ≡ Refused.NoMemory) }
 {
@@ -25,7 +25,7 @@ fn no_lists<F: Functions>(alloc: Global, count: usize) -> Result<Vec<Lists<F>>, 
 }
 
 /// Puts each own list of a pass behind the other lists of its partition. Refused: `NoMemory`.
-fn add_lists<F: Functions, H: Recorder<F>>(
+fn add_lists<F: Mergeable, H: Recorder<F>>(
     alloc: Global,
     all: &mut Vec<Lists<F>>,
     own: Vec<H>,
@@ -44,7 +44,7 @@ fn add_lists<F: Functions, H: Recorder<F>>(
 }
 
 /// The own lists of each partition, in order of passes. Refused: `NoMemory`.
-pub(crate) fn by_partition<F: Functions, H: Recorder<F>>(
+pub(crate) fn by_partition<F: Mergeable, H: Recorder<F>>(
     alloc: Global,
     owns: Vec<Vec<H>>,
     count: usize,

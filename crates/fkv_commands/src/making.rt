@@ -5,7 +5,7 @@ ghost use Rattle.fkv_feeds.specs.Tables.{IsTableOf};
 use crate::opening::{all_opened, read_whole};
 use fkv_device::Disk;
 use fkv_feeds::{Run, run_alone, run_one};
-use fkv_functions::{Name, OrderFree, Refused};
+use fkv_functions::{Mergeable, Name, OrderFree, Refused};
 use fkv_histories::{Audited, Plain, Recorder};
 use fkv_meters::Progress;
 use fkv_requests::TableRequest;
@@ -29,7 +29,7 @@ fn workers_for(asked: u64, feeds: usize) -> usize {
 /// A run over these feeds, by the workers that are asked for, in threads of their own.
 fn shared<
     S: Source + Drop + Send,
-    F: OrderFree<Key = Name, Input = i64> + Send + Sync,
+    F: Mergeable + OrderFree<Key = Name, Input = i64> + Send + Sync,
     H: Recorder<F> + Send,
     D: Disk + Send,
     T: Threads + Wait + Clock + Sync,
@@ -60,7 +60,7 @@ where
 /// is; the entry that it keeps of a row takes more memory than a row of usual length.
 pub(crate) fn made_of_input<
     R: Source,
-    F: OrderFree<Key = Name, Input = i64> + Send + Sync,
+    F: Mergeable + OrderFree<Key = Name, Input = i64> + Send + Sync,
     D: Disk + Send,
     T: Threads + Wait + Clock + Sync,
 >(
@@ -99,7 +99,7 @@ where
 /// A run over the feeds that are named, all of which are opened, in order, before a row is read. One worker that keeps no
 /// histories needs no thread.
 pub(crate) fn made_of_feeds<
-    F: OrderFree<Key = Name, Input = i64> + Send + Sync,
+    F: Mergeable + OrderFree<Key = Name, Input = i64> + Send + Sync,
     D: Disk + Send,
     H: Files + Threads + Wait + Clock + Sync,
     P: Progress + Sync,

@@ -11,7 +11,7 @@ use crate::making::{made_of_feeds, made_of_input};
 use crate::reporting::Report;
 use fkv_device::{Disk, FileDevice, MemoryDevice};
 use fkv_feeds::{Run, write_table};
-use fkv_functions::{CountFns, MaxFns, Name, OrderFree, Refused, SumFns};
+use fkv_functions::{CountFns, MaxFns, Mergeable, Name, OrderFree, Refused, SumFns};
 use fkv_meters::{MeteredDevice, Meters, Progress};
 use fkv_requests::{Shown, TableRequest};
 use fkv_streams::{Sink, Source};
@@ -26,7 +26,7 @@ use std::thread::Threads;
 /// Of the files of feeds nothing is known.
 fn run_on<
     R: Source,
-    F: OrderFree<Key = Name, Input = i64> + Send + Sync,
+    F: Mergeable + OrderFree<Key = Name, Input = i64> + Send + Sync,
     H: Files + Threads + Wait + Clock + Sync,
     D: Disk + Send,
     P: Progress + Sync,
@@ -63,7 +63,7 @@ where
 /// a file gives back is not known.
 fn run_of<
     R: Source,
-    F: OrderFree<Key = Name, Input = i64> + Send + Sync,
+    F: Mergeable + OrderFree<Key = Name, Input = i64> + Send + Sync,
     H: Files + Threads + Wait + Clock + Sync,
     P: Progress + Sync,
 >(
@@ -103,7 +103,7 @@ where
 fn tabulate_by<
     R: Source,
     W: Sink,
-    F: OrderFree<Key = Name, Input = i64> + Send + Sync,
+    F: Mergeable + OrderFree<Key = Name, Input = i64> + Send + Sync,
     H: Files + Threads + Wait + Clock + Sync,
     P: Progress + Sync,
 >(

@@ -17,7 +17,7 @@ ghost use Rattle.fkv_partition.specs.Truncating.{Truncates, told_of};
 ghost use Rattle.fkv_compaction.specs.Compactor.{IsTurn, IsParted, CompactsNext, CompactsLoad, GivesUpAll, Parts};
 
 use fkv_device::{Loaded, Receipt};
-use fkv_functions::{Functions, Refused};
+use fkv_functions::{Mergeable, Refused};
 use fkv_operations::{Clock, Op};
 use fkv_partition::{Partition, Progress, ProgressOf};
 use fkv_records::Address;
@@ -45,7 +45,7 @@ impl Model for Compactor {
 
 impl Compactor {
     /// Enters a session of a partition. Refused, and then nothing changes: `NoSlot` where sixteen sessions are entered.
-    pub fn join<F: Functions, R: Receipt>(
+    pub fn join<F: Mergeable, R: Receipt>(
         partition: &mut Partition<F, R>,
         now: u64,
     ) -> Result<Self, Refused>
@@ -73,7 +73,7 @@ impl Compactor {
     /// Takes the next step. Where no relocation of its session is open it issues one, as [`Partition::issue`] does, and
     /// answers `Next`; else it goes on with the one of the lowest context in which one is open, as [`Partition::go`] does.
     /// Refused, and then nothing changes: as those are.
-    pub fn next<F: Functions, R: Receipt>(
+    pub fn next<F: Mergeable, R: Receipt>(
         &self,
         partition: &mut Partition<F, R>,
         functions: &F,
@@ -95,7 +95,7 @@ impl Compactor {
     }
 
     /// Goes on with its relocation in the lowest context in which one is open.
-    fn go<F: Functions, R: Receipt>(
+    fn go<F: Mergeable, R: Receipt>(
         &self,
         partition: &mut Partition<F, R>,
         context: usize,
@@ -115,7 +115,7 @@ impl Compactor {
     }
 
     /// Issues a relocation where none of its session is open.
-    fn begin<F: Functions, R: Receipt>(
+    fn begin<F: Mergeable, R: Receipt>(
         &self,
         partition: &mut Partition<F, R>,
         functions: &F,
@@ -138,7 +138,7 @@ impl Compactor {
     /// Goes on with the relocation of the lowest context in which one of its session is open, with the page that it
     /// waits for, or with the refusal that came in its place, as [`Partition::load`] does, whose refusals it has, and
     /// `Unknown` where none is open. A refusal gives the relocation up, or changes nothing.
-    pub fn load<F: Functions, R: Receipt>(
+    pub fn load<F: Mergeable, R: Receipt>(
         &self,
         partition: &mut Partition<F, R>,
         came: Result<Loaded<R>, Refused>,
@@ -166,7 +166,7 @@ impl Compactor {
 
     /// Moves Begin to the start of the page up to which all is cleared, as [`Partition::truncate_cleared`] does, whose
     /// refusals it has.
-    pub fn truncate_cleared<F: Functions, R: Receipt>(
+    pub fn truncate_cleared<F: Mergeable, R: Receipt>(
         &self,
         partition: &mut Partition<F, R>,
         now: u64,
@@ -189,7 +189,7 @@ impl Compactor {
     /// and then leaves the session at one more. Refused, in this order: `Worn` where the clock has fewer than nine
     /// moments left, and then nothing changes; `Unknown` where its slot is that of no session; `Busy` where an
     /// operation of the session is open, and then the session stays, and its relocations are given up nonetheless.
-    pub fn part<F: Functions, R: Receipt>(
+    pub fn part<F: Mergeable, R: Receipt>(
         self,
         partition: &mut Partition<F, R>,
         clock: &mut Clock,
@@ -218,7 +218,7 @@ impl Compactor {
     }
 
     /// Gives up the relocations of its session that are open.
-    fn give_up_all<F: Functions, R: Receipt>(
+    fn give_up_all<F: Mergeable, R: Receipt>(
         &self,
         partition: &mut Partition<F, R>,
         clock: &mut Clock,

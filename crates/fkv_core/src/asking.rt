@@ -6,10 +6,10 @@ ghost use Rattle.fkv_core.specs.Views.{loading_at};
 use crate::contexts::loading_of;
 use crate::cores::Core;
 use fkv_device::Receipt;
-use fkv_functions::{Functions, Refused};
+use fkv_functions::{Mergeable, Refused};
 use fkv_operations::KeyedOpOf;
 
-impl<F: Functions, R: Receipt> Core<F, R> {
+impl<F: Mergeable, R: Receipt> Core<F, R> {
     /// The operation that is open in a context, after its number, which is the moment of its issue.
     /// Refused: `Unknown` where none is open there.
     pub fn asked(&self, slot: usize, context: usize) -> Result<(u64, KeyedOpOf<F>), Refused>

@@ -20,7 +20,7 @@ ghost use Rattle.fkv_core.specs.Writes.{IsWrite};
 use crate::contexts::{Context, ContextOf, Phase, move_on, set_context};
 use crate::cores::Core;
 use fkv_device::Receipt;
-use fkv_functions::{Functions, Refused};
+use fkv_functions::{Mergeable, Refused};
 use fkv_index::Place;
 use fkv_lookups::laws::{records_change, records_grow};
 use fkv_operations::{Class, IndexEntry, KeyedOpOf};
@@ -47,7 +47,7 @@ impl<K: Copy, V: Copy> Clone for Write<K, V> {
     }
 }
 
-impl<F: Functions, R: Receipt> Core<F, R> {
+impl<F: Mergeable, R: Receipt> Core<F, R> {
     /// A moment passes, and nothing else changes.
     pub fn pass(&mut self, now: u64)
         ensures { self.new ≡ record self.old { moment = now } }

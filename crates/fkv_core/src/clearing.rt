@@ -7,10 +7,10 @@ ghost use Rattle.fkv_core.specs.Truncating.{Truncates, IsTruncation};
 
 use crate::cores::Core;
 use fkv_device::Receipt;
-use fkv_functions::{Functions, Refused};
+use fkv_functions::{Mergeable, Refused};
 use fkv_lookups::Records;
 
-impl<F: Functions, R: Receipt> Core<F, R> {
+impl<F: Mergeable, R: Receipt> Core<F, R> {
     /// The records of the partition, to look at.
     pub fn records(&self) -> &Records<F, R>
         ensures { result.now ≡ self.now.records }

@@ -9,7 +9,7 @@ ghost use Rattle.fkv_core.specs.Effect.{IsQuiet, IsIssue};
 use crate::contexts::Context;
 use crate::limits::Config;
 use fkv_device::Receipt;
-use fkv_functions::{Functions, Refused, What};
+use fkv_functions::{Mergeable, Refused, What};
 use fkv_lookups::Records;
 use fkv_operations::KeyedOpOf;
 use std::alloc::Global;
@@ -21,7 +21,7 @@ const MAX_CONTEXTS: usize = 128;
 /// One partition of a store: its records with their entries and sessions, and the open operations of these. Each call that
 /// takes a moment is one event; the moments of a partition rise.
 #[derive(Drop)]
-pub struct Core<F: Functions, R: Receipt> {
+pub struct Core<F: Mergeable, R: Receipt> {
     pub(crate) number: u64,
     pub(crate) count: u64,
     pub(crate) records: Records<F, R>,
@@ -29,7 +29,7 @@ pub struct Core<F: Functions, R: Receipt> {
     pub(crate) moment: u64,
 }
 
-impl<F: Functions, R: Receipt> Model for Core<F, R> {
+impl<F: Mergeable, R: Receipt> Model for Core<F, R> {
     ghost use Rattle.fkv_core.specs.Views.{CoreView};
 
     ghost Value = { CoreView F.Key F.Value F.Input };
@@ -57,7 +57,7 @@ fn free_places<T: Drop>(alloc: Global) -> Result<Vec<Option<T>>, Refused>
     Ok(places)
 }
 
-impl<F: Functions, R: Receipt> Core<F, R> {
+impl<F: Mergeable, R: Receipt> Core<F, R> {
     /// The partition of this number, with nothing in it. Refused, in this order: `BadConfig` where a
     /// number of the configuration is outside its limits, a record is too large, or there is no partition
     /// of this number, `NoMemory`.

@@ -6,9 +6,9 @@ ghost use Rattle.fkv_core.specs.Effect.{IsQuiet, IsGiveUp};
 use crate::contexts::claim_of;
 use crate::cores::Core;
 use fkv_device::Receipt;
-use fkv_functions::{Functions, Refused};
+use fkv_functions::{Mergeable, Refused};
 
-impl<F: Functions, R: Receipt> Core<F, R> {
+impl<F: Mergeable, R: Receipt> Core<F, R> {
     /// Leaves a session, frees its slot, and moves the offsets that are due then. Refused, in this order, and then nothing
     /// changes: `Unknown` where the slot is that of no session, `Busy` where an operation of the session is open.
     pub fn leave(&mut self, slot: usize, now: u64) -> Result<(), Refused>

@@ -8,10 +8,10 @@ ghost use Rattle.fkv_core.specs.Effect.{IsQuiet};
 
 use crate::cores::Core;
 use fkv_device::{FlushJob, Receipt, Written};
-use fkv_functions::{Functions, Refused};
+use fkv_functions::{Mergeable, Refused};
 use std::alloc::Global;
 
-impl<F: Functions, R: Receipt> Core<F, R> {
+impl<F: Mergeable, R: Receipt> Core<F, R> {
     /// The lowest page that is not flushed.
     pub fn unflushed(&self) -> u64
         ensures { result ≡ length self.now.records.receipts }

@@ -16,7 +16,7 @@ use crate::contexts::{
 use crate::cores::Core;
 use crate::looking::address_of;
 use fkv_device::Receipt;
-use fkv_functions::{Ask, Functions, Refused};
+use fkv_functions::{Ask, Mergeable, Refused};
 use fkv_index::Place;
 use fkv_lookups::Decision;
 use fkv_lookups::laws::{entries_lead, meetings_tell, records_change, records_grow};
@@ -24,7 +24,7 @@ use fkv_operations::{AnswerOf, IndexEntry};
 use fkv_records::Address;
 use fkv_texts::{ChainPosition, Entry};
 
-impl<F: Functions, R: Receipt> Core<F, R> {
+impl<F: Mergeable, R: Receipt> Core<F, R> {
     /// Goes on with an operation: it looks its key up, and what it meets decides. A read is finished with
     /// its answer, and a delete of a key without a value. A write of a class without an entry makes a tentative one
     /// and answers `Next`; the next call confirms it, or takes it back where another entry of its tag stands in the

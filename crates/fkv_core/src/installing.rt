@@ -10,11 +10,11 @@ use crate::changes::Write;
 use crate::contexts::{Phase, Progress, ProgressOf, Wait, question_of};
 use crate::cores::Core;
 use fkv_device::Receipt;
-use fkv_functions::{Built, Functions, Refused, What};
+use fkv_functions::{Built, Functions, Mergeable, Refused, What};
 use fkv_lookups::laws::{entries_lead, records_grow};
 use fkv_operations::{Answer, IndexEntry};
 
-impl<F: Functions, R: Receipt> Core<F, R> {
+impl<F: Mergeable, R: Receipt> Core<F, R> {
     /// Appends what was built for an update, where the place of its key's entry still holds the word that it held when
     /// the update asked; else the update is to look again, and the answer is `Next`. Where the functions decline the
     /// update, it is done and nothing is appended. Refused, in this order, and then

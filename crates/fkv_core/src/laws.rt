@@ -25,7 +25,7 @@ ghost use Rattle.fkv_core.specs.Frozen.{FrozenStay};
 ghost use Rattle.fkv_core.specs.Sound.{IsSound};
 
 use fkv_device::Receipt;
-use fkv_functions::Functions;
+use fkv_functions::Mergeable;
 use fkv_lookups::laws::{meetings_tell, records_change, records_grow};
 
 /// On a device that keeps, what a look-up that waits for a page is to find stays, whatever other operations do and
@@ -86,7 +86,7 @@ pub fn pendings_stay<K, V, I, O, R>()
 
 /// A load leaves what the others are to find; one that fails changes nothing, or ends the operation that it was for,
 /// without effect.
-pub fn loads_end<F: Functions, R: Receipt>()
+pub fn loads_end<F: Mergeable, R: Receipt>()
     ensures loads { (old new : CoreView F.Key F.Value F.Input) (slot c : ℕ) (came : Result (Joined R) Refused)
         (now : ℕ) (result : Result (Progress F.Key F.Value F.Input F.Output R) Refused)
         → Loads R.stands (IsEntryIn F.Key.bytes_of F.Value.bytes_of F.Key.is_known F.Value.is_known

@@ -11,7 +11,7 @@ ghost use Rattle.fkv_core.specs.Views.{live_of, partition_of};
 
 use crate::cores::Core;
 use fkv_device::{PageReader, Receipt};
-use fkv_functions::{Functions, Refused};
+use fkv_functions::{Mergeable, Refused};
 use std::alloc::Global;
 use std::collections::BTreeMap;
 
@@ -32,7 +32,7 @@ pub fn pairs_of<K: Ord + Copy + Drop, V: Copy + Drop>(
     Ok(pairs)
 }
 
-impl<F: Functions, R: Receipt> Core<F, R> {
+impl<F: Mergeable, R: Receipt> Core<F, R> {
     /// Puts the live map into a map: each key that has a record gets its value there, none where it is gone, and the others
     /// stay. Flushed pages are read from the device, each once, the others from their frames. On a device that keeps all
     /// keys with a record belong to this partition. Refused: `NoMemory`, or as the device refuses a flushed page; `Damaged`

@@ -15,7 +15,7 @@ ghost use Rattle.fkv_core.specs.Views.{with_context};
 use crate::contexts::{ContextOf, Loading, Phase, Progress, ProgressOf, loading_of};
 use crate::cores::Core;
 use fkv_device::{Loaded, Receipt};
-use fkv_functions::{Ask, Functions, Refused};
+use fkv_functions::{Ask, Mergeable, Refused};
 use fkv_operations::KeyedOp;
 use fkv_operations::plainly::shown;
 use fkv_records::Address;
@@ -31,7 +31,7 @@ pub fn is_no_memory(refused: &Refused) -> bool
     }
 }
 
-impl<F: Functions, R: Receipt> Core<F, R> {
+impl<F: Mergeable, R: Receipt> Core<F, R> {
     /// Goes on with an operation that waits for a page, with that page as a device gave it, or with the refusal that came
     /// in its place. Where Begin has moved since the look-up the operation is to look again, whatever came, and the answer
     /// is `Next`. Else the records of the page are followed along the key's class: where the key's newest record stands

@@ -13,7 +13,7 @@ ghost use Rattle.fkv_core.specs.Sound.{IsSound};
 use crate::contexts::{ContextOf, is_vacant, open_at, open_context};
 use crate::cores::Core;
 use fkv_device::Receipt;
-use fkv_functions::Functions;
+use fkv_functions::{Functions, Mergeable};
 use fkv_lookups::{DecisionOf, LookupResult, decide, low_of, met_by};
 use fkv_operations::{Class, IndexEntry, KeyedOpOf, partition_at};
 use fkv_records::Address;
@@ -32,7 +32,7 @@ pub(crate) fn address_of(entry: &Option<IndexEntry>) -> Option<Address>
     }
 }
 
-impl<F: Functions, R: Receipt> Core<F, R> {
+impl<F: Mergeable, R: Receipt> Core<F, R> {
     /// What holds of every partition. It does nothing when it runs.
     pub fn known(&self)
         ensures { IsSound R.keeps F.Key.cmp F.code self.now }

@@ -33,7 +33,7 @@ ghost use Rattle.fkv_core.specs.Grown.{IsPreserved, ArePreserved, NoneOpens, All
 ghost use Rattle.fkv_core.specs.Sound.{IsSound};
 
 use fkv_device::Receipt;
-use fkv_functions::Functions;
+use fkv_functions::Mergeable;
 use fkv_lookups::clearing::cleared_stay;
 use fkv_lookups::laws::{entries_lead, meetings_tell, records_change};
 use fkv_operations::kept_words_are_sound;
@@ -97,7 +97,7 @@ pub fn events_preserve<K, V, I, O, R>()
 }
 
 /// So it is where a page comes: a load changes no record.
-pub fn loads_preserve<F: Functions, R: Receipt>()
+pub fn loads_preserve<F: Mergeable, R: Receipt>()
     ensures { (keeps : Bool) (code : F.Key → ℕ) (old new : CoreView F.Key F.Value F.Input) (slot c : ℕ)
         (came : Result (Joined R) Refused) (now : ℕ)
         (result : Result (Progress F.Key F.Value F.Input F.Output R) Refused)
@@ -166,7 +166,7 @@ pub fn sessions_preserved<K, V, I, O, R>()
 {}
 
 /// So it is where a page comes.
-pub fn loads_preserve_sessions<F: Functions, R: Receipt>()
+pub fn loads_preserve_sessions<F: Mergeable, R: Receipt>()
     ensures { (old new : CoreView F.Key F.Value F.Input) (slot c : ℕ) (came : Result (Joined R) Refused)
         (now : ℕ) (result : Result (Progress F.Key F.Value F.Input F.Output R) Refused)
         → Loads R.stands (IsEntryIn F.Key.bytes_of F.Value.bytes_of F.Key.is_known F.Value.is_known

@@ -5,10 +5,10 @@ ghost use Rattle.fkv_core.specs.Effect.{IsQuiet};
 
 use crate::cores::Core;
 use fkv_device::Receipt;
-use fkv_functions::{Functions, Refused};
+use fkv_functions::{Mergeable, Refused};
 use fkv_records::Address;
 
-impl<F: Functions, R: Receipt> Core<F, R> {
+impl<F: Mergeable, R: Receipt> Core<F, R> {
     /// Refreshes a session: it tells that the session relies on nothing that it saw before, moves the offsets that are
     /// due then, and gives the session the view of now. Refused, and then nothing changes: `Unknown` where the slot is
     /// that of no session.

@@ -8,11 +8,11 @@ ghost use Rattle.fkv_core.specs.Beginning.{IsEntered};
 
 use crate::cores::Core;
 use fkv_device::Receipt;
-use fkv_functions::Functions;
+use fkv_functions::{Functions, Mergeable};
 use fkv_lookups::laws::{meetings_tell, records_change};
 use fkv_texts::{ChainPosition, Entry};
 
-impl<F: Functions, R: Receipt> Core<F, R> {
+impl<F: Mergeable, R: Receipt> Core<F, R> {
     /// Issues an update at one moment, in a context of a session that the caller has chosen and in which nothing is open,
     /// and goes on with it at another, where that gives its key a value: where the last record of its key may be changed
     /// in place, and the functions do not decline the update. That is what [`Core::issue`] and [`Core::go`] do then, but no

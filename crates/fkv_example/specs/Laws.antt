@@ -6,9 +6,9 @@ use Rattle.std.proofs.Common.{arith, rules, refl, ap}
 use Rattle.std.proofs.Math.Facts.{sfits_widen, sfits_to_z}
 use Rattle.std.proofs.lemmas.Int.{ints, wraps}
 use Rattle.fkv_functions.specs.Integers.{signed_bytes, long_bytes, halves, word_readable, signed_readable, long_readable}
-use Rattle.fkv_functions.specs.Meanings.{updated}
+use Rattle.fkv_functions.specs.Meanings.{Merges, updated}
 use Rattle.fkv_example.specs.declared.summaries.Summary.{Summary}
-use Rattle.fkv_example.specs.Summaries.{IsSummary, summary_bytes, summary_of, with_input, summaries}
+use Rattle.fkv_example.specs.Summaries.{IsSummary, summary_bytes, summary_of, with_input, with_later, summaries, summary_parts}
 
 -- two summaries of the same numbers are one
 pub same_numbers : (s t : Summary) → s.count ≡ t.count → s.least ≡ t.least → s.greatest ≡ t.greatest → s.sum ≡ t.sum → s ≡ t
@@ -60,6 +60,31 @@ pub accepted : {K : Type 0} (k : K) (i : ℤ) (held : Option Summary) → FitsSi
     → IsSomeAnd (updated (summaries {K = K}) k i held) IsSummary
 accepted k i None h known = first_known i h
 accepted k i (Some s) h known = next_known s i known h
+
+-- updates are joins, and of three summaries the later two may be joined first
+pub summaries_merge : {K : Type 0} → Merges (summaries {K = K}) summary_parts
+summaries_merge = record { first = λ k i. refl; next = λ k s i. refl }
+
+count_associative : (u v w : ℕ) → ((u + v) % 2 ^ 64 + w) % 2 ^ 64 ≡ (u + (v + w) % 2 ^ 64) % 2 ^ 64
+count_associative u v w = omega arith
+
+min_associative : (u v w : ℤ) → int_min (int_min u v) w ≡ int_min u (int_min v w)
+min_associative u v w = grind (arith, ints)
+
+max_associative : (u v w : ℤ) → int_max (int_max u v) w ≡ int_max u (int_max v w)
+max_associative u v w = grind (arith, ints)
+
+sum_associative : (u v w : ℤ)
+    → int_wrapping_add w128 (int_wrapping_add w128 u v) w ≡ int_wrapping_add w128 u (int_wrapping_add w128 v w)
+sum_associative u v w = search (rules, wraps)
+
+pub summaries_associative : (s t u : Summary) → with_later (with_later s t) u ≡ with_later s (with_later t u)
+summaries_associative s t u =
+    same_numbers _ _
+    (count_associative s.count t.count u.count)
+    (min_associative s.least t.least u.least)
+    (max_associative s.greatest t.greatest u.greatest)
+    (sum_associative s.sum t.sum u.sum)
 
 -- two inputs give the same summary in either order
 min_from_none : (i j : ℤ) → int_min i j ≡ int_min j i

@@ -2,7 +2,7 @@
 use Rattle.std.specs.Prelude.{◌≡◌, ◌+◌, ◌%◌, ◌^◌, ◌<◌, ◌+ℤ◌, ◌≤ℤ◌, ◌++◌, ◌∷◌, ℕ, ℤ, List, length, fold, All, Contains, FitsSigned, Option, Some}
 use Rattle.std.specs.Int.{w64, w128, to_le_bytes, int_wrap, int_wrapping_add, int_min, int_max}
 use Rattle.fkv_functions.specs.Integers.{signed_bytes, long_bytes}
-use Rattle.fkv_functions.specs.Meanings.{Meanings}
+use Rattle.fkv_functions.specs.Meanings.{Meanings, Parts}
 use Rattle.fkv_example.specs.declared.summaries.Summary.{Summary}
 
 -- the numbers are within the ranges of their types
@@ -52,3 +52,16 @@ summaries = record {
   next = λ k s i. Some (with_input s i);
   shown = λ k i s. s;
 }
+
+-- two summaries, the inputs of the second after those of the first
+abbrev pub with_later : Summary → Summary → Summary
+with_later s t = record {
+  count = (s.count + t.count) % 2 ^ 64;
+  least = int_min s.least t.least;
+  greatest = int_max s.greatest t.greatest;
+  sum = int_wrapping_add w128 s.sum t.sum;
+}
+
+-- the part of a summary that an input is: the summary of it alone
+abbrev pub summary_parts : {K : Type 0} → Parts K Summary ℤ
+summary_parts = record { delta = λ k i. summary_of i; joined = with_later }

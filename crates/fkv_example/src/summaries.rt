@@ -1,16 +1,16 @@
 //! Summaries: how many inputs a key had, the least and the greatest of them, and their sum.
-ghost use Rattle.std.specs.Prelude.{◌≡◌, ◌<◌, ◌∷◌, ℤ, List, length, fold, All, FitsSigned, IfSome, Some, None};
+ghost use Rattle.std.specs.Prelude.{◌≡◌, ◌<◌, ◌∷◌, ℤ, List, length, fold, true, All, FitsSigned, IfSome, Some, None};
 ghost use Rattle.std.specs.Int.{w64};
 ghost use Rattle.std.specs.Option.{IsSomeAnd};
 ghost use Rattle.fkv_functions.specs.Meanings.{updated};
 ghost use Rattle.fkv_functions.specs.declared.names.Name.{Name};
 ghost use Rattle.fkv_functions.specs.Hashes.{fnv_1a};
 ghost use Rattle.fkv_functions.specs.Names.{text_of};
-ghost use Rattle.fkv_example.specs.Summaries.{AreNumbersOf, IsSummary, IsSummaryOf, summary_bytes, summary_of, summaries};
+ghost use Rattle.fkv_example.specs.Summaries.{AreNumbersOf, IsSummary, IsSummaryOf, summary_bytes, summary_of, summaries, summary_parts, with_later};
 ghost use Rattle.fkv_example.specs.declared.summaries.Summary.{Summary};
-ghost use Rattle.fkv_example.specs.Laws.{accepted, either_order, summary_readable, summary_sized};
+ghost use Rattle.fkv_example.specs.Laws.{accepted, either_order, summaries_associative, summaries_merge, summary_readable, summary_sized};
 
-use fkv_functions::{Fixed, Functions, Known, Name, OrderFree};
+use fkv_functions::{Fixed, Functions, Known, Mergeable, Name, OrderFree};
 use std::fmt::{self, Display};
 
 /// What a key's inputs come to.
@@ -32,6 +32,18 @@ impl Summary {
             least: input,
             greatest: input,
             sum: i128::from(input),
+        }
+    }
+
+    /// The summary of these inputs and of those of a later one.
+    fn with_later(&self, later: &Summary) -> Summary
+        ensures { result ≡ with_later self.now later.now }
+    {
+        Summary {
+            count: self.count.wrapping_add(later.count),
+            least: self.least.min(later.least),
+            greatest: self.greatest.max(later.greatest),
+            sum: self.sum.wrapping_add(later.sum),
         }
     }
 }
@@ -172,6 +184,26 @@ impl Functions for SummaryFns {
 
     fn hash(&self, key: &Name) -> u64 {
         key.hash()
+    }
+}
+
+impl Mergeable for SummaryFns {
+    const MERGES: bool = true;
+
+    ghost MERGES = { true };
+
+    ghost parts = { summary_parts };
+
+    ghost merges = { λ _. summaries_merge };
+
+    ghost associative = { λ s t u. summaries_associative s t u };
+
+    fn delta(&self, _key: &Name, input: &i64) -> Summary {
+        Summary::of(*input)
+    }
+
+    fn join(&self, value: &Summary, part: &Summary) -> Summary {
+        value.with_later(part)
     }
 }
 

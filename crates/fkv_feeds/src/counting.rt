@@ -2,7 +2,7 @@
 use crate::shards::Shard;
 use crate::tables::Table;
 use fkv_device::Disk;
-use fkv_functions::Functions;
+use fkv_functions::Mergeable;
 use fkv_records::{FIRST, record_size};
 
 /// How much a run did.
@@ -39,7 +39,7 @@ fn records_below(tail: u64, page: u64, record: u64) -> u64 {
 }
 
 /// The records of all logs.
-pub fn appended<F: Functions, D: Disk>(shards: &[Shard<F, D>]) -> u64 {
+pub fn appended<F: Mergeable, D: Disk>(shards: &[Shard<F, D>]) -> u64 {
     let record = record_size::<F::Key, F::Value>().unwrap_or(0) as u64;
     let mut count = 0u64;
     for shard in shards {

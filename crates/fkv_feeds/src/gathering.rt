@@ -8,13 +8,13 @@ ghost use Rattle.fkv_partition.specs.Unions.{union_of};
 
 use crate::shards::Shard;
 use fkv_device::Disk;
-use fkv_functions::{Functions, Refused};
+use fkv_functions::{Mergeable, Refused};
 use std::alloc::Global;
 use std::collections::BTreeMap;
 
 /// Puts each live key of all partitions with its value into an empty map. Refused: `NoMemory`, and as a device refuses
 /// pages of a partition.
-fn gather<F: Functions, D: Disk>(
+fn gather<F: Mergeable, D: Disk>(
     tree: &mut BTreeMap<F::Key, F::Value>,
     shards: &mut [Shard<F, D>],
 ) -> Result<(), Refused>
@@ -41,7 +41,7 @@ fn gather<F: Functions, D: Disk>(
 }
 
 /// Each live key of all partitions with its value. Refused: `NoMemory`, and as a device refuses pages of a partition.
-pub fn live<F: Functions, D: Disk>(
+pub fn live<F: Mergeable, D: Disk>(
     alloc: Global,
     shards: &mut [Shard<F, D>],
 ) -> Result<BTreeMap<F::Key, F::Value>, Refused>

@@ -10,11 +10,11 @@ ghost use Rattle.fkv_feeds.specs.Runs.{StandFor};
 use crate::shards::{Shards, add_row};
 use fkv_device::Disk;
 use fkv_feed_rows::RowSink;
-use fkv_functions::{Functions, Name, Refused};
+use fkv_functions::{Mergeable, Name, Refused};
 use fkv_streams::Source;
 use std::alloc::Global;
 
-impl<F: Functions<Key = Name, Input = i64>, D: Disk> RowSink for Shards<'_, F, D> {
+impl<F: Mergeable<Key = Name, Input = i64>, D: Disk> RowSink for Shards<'_, F, D> {
     ghost stands = { λ s rows. StandFor D.Receipt.keeps name_cmp F.meaning F.code
         (map (λ shard. shard.partition) s.shards.items) s.terms.slot s.clock rows };
 
@@ -34,7 +34,7 @@ impl<F: Functions<Key = Name, Input = i64>, D: Disk> RowSink for Shards<'_, F, D
 /// `BadRow` with the first record that is no row, counted from 1: then those before it are rows. `Unreadable` with
 /// the feed's number where its stream fails, or where it has more records than `limit`. `NoMemory`. `Worn` and
 /// `Stalled`, by an update. `Device` and `Damaged`, by a page. The store then stands for no rows.
-pub fn read_feed<S: Source, F: Functions<Key = Name, Input = i64>, D: Disk>(
+pub fn read_feed<S: Source, F: Mergeable<Key = Name, Input = i64>, D: Disk>(
     alloc: Global,
     source: &mut S,
     feed: u64,

@@ -18,7 +18,7 @@ use crate::reading::read_feed;
 use crate::shards::Shards;
 use crate::tables::Table;
 use fkv_device::Disk;
-use fkv_functions::{Functions, Name, Refused};
+use fkv_functions::{Mergeable, Name, Refused};
 use fkv_partition::Config;
 use fkv_streams::Source;
 use std::alloc::Global;
@@ -30,7 +30,7 @@ pub const LIMIT: u64 = 1_099_511_627_776;
 const MOST: usize = 64;
 
 /// The run that a store stands for at its end, over so many rows. Refused: `NoMemory`, and as a device refuses pages.
-fn finish<F: Functions<Key = Name, Input = i64>, D: Disk>(
+fn finish<F: Mergeable<Key = Name, Input = i64>, D: Disk>(
     alloc: Global,
     shards: &mut Shards<'_, F, D>,
     rows: u64,
@@ -63,7 +63,7 @@ fn finish<F: Functions<Key = Name, Input = i64>, D: Disk>(
 }
 
 /// Reads feeds, one after the other, into a store that stands for no rows. Answers how many rows they have.
-fn read_feeds<S: Source, F: Functions<Key = Name, Input = i64>, D: Disk>(
+fn read_feeds<S: Source, F: Mergeable<Key = Name, Input = i64>, D: Disk>(
     alloc: Global,
     feeds: &mut [S],
     shards: &mut Shards<'_, F, D>,
@@ -107,7 +107,7 @@ fn read_feeds<S: Source, F: Functions<Key = Name, Input = i64>, D: Disk>(
 /// more turns than the configuration says; `Device` with code 1, where the device does not open a partition's pages,
 /// before any feed is read, 2, where it does not write a page, and 3, where it does not read one; `Damaged`, where it
 /// gives other bytes than were written, or bytes that spell no records.
-pub fn run_one<S: Source, F: Functions<Key = Name, Input = i64>, D: Disk>(
+pub fn run_one<S: Source, F: Mergeable<Key = Name, Input = i64>, D: Disk>(
     alloc: Global,
     feeds: &mut [S],
     functions: &F,
@@ -144,7 +144,7 @@ pub fn run_one<S: Source, F: Functions<Key = Name, Input = i64>, D: Disk>(
 /// # Errors
 ///
 /// As [`run_one`]'s.
-pub fn run_alone<S: Source, F: Functions<Key = Name, Input = i64>, D: Disk>(
+pub fn run_alone<S: Source, F: Mergeable<Key = Name, Input = i64>, D: Disk>(
     alloc: Global,
     feed: &mut S,
     functions: &F,

@@ -13,14 +13,14 @@ ghost use Rattle.fkv_feeds.specs.Exhausted.{IsOneExhausted};
 use crate::tidying::tidy_at_times;
 use crate::updating::update;
 use fkv_device::Disk;
-use fkv_functions::{Functions, Name, Refused};
+use fkv_functions::{Functions, Mergeable, Name, Refused};
 use fkv_operations::{Clock, partition_at};
 use fkv_partition::{Config, Partition};
 use std::alloc::Global;
 
 /// What holds for every row of a run.
 #[derive(Drop)]
-pub struct Terms<'a, F: Functions> {
+pub struct Terms<'a, F: Mergeable> {
     pub alloc: Global,
     pub functions: &'a F,
     /// The slot of the session in each partition: the first, which is named where a row's time shows it.
@@ -34,7 +34,7 @@ pub struct Terms<'a, F: Functions> {
 
 /// One partition of a run, with what writes its pages to the device and what reads them back.
 #[derive(Drop)]
-pub struct Shard<F: Functions, D: Disk> {
+pub struct Shard<F: Mergeable, D: Disk> {
     pub partition: Partition<F, D::Receipt>,
     pub writer: D::Writer,
     pub reader: D::Reader,
@@ -44,7 +44,7 @@ pub struct Shard<F: Functions, D: Disk> {
 
 /// The partitions of a run. Between two rows no operation is open.
 #[derive(Drop)]
-pub struct Shards<'a, F: Functions, D: Disk> {
+pub struct Shards<'a, F: Mergeable, D: Disk> {
     pub(crate) terms: Terms<'a, F>,
     pub(crate) shards: Vec<Shard<F, D>>,
     pub(crate) clock: Clock,
@@ -64,7 +64,7 @@ fn keep<T: Drop>(items: &mut Vec<T>, item: T) -> Result<(), Refused>
 }
 
 /// The partition of this number, with nothing in it but a session, whose slot is 0. Refused: `NoMemory`.
-fn seated<F: Functions, D: Disk>(
+fn seated<F: Mergeable, D: Disk>(
     alloc: Global,
     config: &Config,
     number: u64,
@@ -86,7 +86,7 @@ fn seated<F: Functions, D: Disk>(
 
 /// The partition of this number, as [`seated`] makes it, with its place on a device. Refused: `NoMemory`, and as the
 /// device refuses to open.
-fn placed<F: Functions, D: Disk>(
+fn placed<F: Mergeable, D: Disk>(
     alloc: Global,
     config: &Config,
     device: &mut D,
@@ -119,7 +119,7 @@ fn placed<F: Functions, D: Disk>(
 
 /// Partitions with nothing in them but a session in each, whose slot is 0, with their places on a device. Refused:
 /// `NoMemory`, and as the device refuses to open.
-fn all_placed<F: Functions, D: Disk>(
+fn all_placed<F: Mergeable, D: Disk>(
     alloc: Global,
     config: &Config,
     device: &mut D,
@@ -145,7 +145,7 @@ fn all_placed<F: Functions, D: Disk>(
     Ok(shards)
 }
 
-impl<'a, F: Functions, D: Disk> Shards<'a, F, D> {
+impl<'a, F: Mergeable, D: Disk> Shards<'a, F, D> {
     /// Partitions with nothing in them, with their places on a device. Refused: `NoMemory`, and as the device refuses
     /// to open.
     pub fn open(
@@ -193,7 +193,7 @@ impl<'a, F: Functions, D: Disk> Shards<'a, F, D> {
 
 /// Makes a row one update of its key's partition, and moves that partition's pages at times. Refused: `NoMemory`,
 /// `Worn`, `Stalled`, and as the device refuses a page; then the store stands for no rows.
-pub fn add_row<F: Functions<Key = Name, Input = i64>, D: Disk>(
+pub fn add_row<F: Mergeable<Key = Name, Input = i64>, D: Disk>(
     shards: &mut Shards<'_, F, D>,
     key: &Name,
     amount: i64,

@@ -10,12 +10,12 @@ ghost use Rattle.fkv_feeds.specs.Sessions.{IsTidied};
 
 use crate::shards::{Shard, Terms};
 use fkv_device::{Disk, Receipt, Written};
-use fkv_functions::{Functions, Refused};
+use fkv_functions::{Mergeable, Refused};
 use fkv_operations::Clock;
 use fkv_partition::Partition;
 
 /// Refreshes a session. Refused: `Worn` where no moment is left.
-fn refresh<F: Functions, R: Receipt>(
+fn refresh<F: Mergeable, R: Receipt>(
     partition: &mut Partition<F, R>,
     slot: usize,
     clock: &mut Clock,
@@ -43,7 +43,7 @@ fn refresh<F: Functions, R: Receipt>(
 
 /// Moves ReadOnly to a page, where that is due and there is room for the move, and refreshes a session. Refused: `Worn`
 /// where no moment is left.
-fn freeze<F: Functions, R: Receipt>(
+fn freeze<F: Mergeable, R: Receipt>(
     partition: &mut Partition<F, R>,
     slot: usize,
     page: u64,
@@ -69,7 +69,7 @@ fn freeze<F: Functions, R: Receipt>(
 
 /// Moves Head to a page, where that is due and there is room for the move, and refreshes a session. Refused: `Worn`
 /// where no moment is left.
-fn evict<F: Functions, R: Receipt>(
+fn evict<F: Mergeable, R: Receipt>(
     partition: &mut Partition<F, R>,
     slot: usize,
     page: u64,
@@ -95,7 +95,7 @@ fn evict<F: Functions, R: Receipt>(
 
 /// Writes the lowest page that is not flushed, where it waits. `Ok` tells whether it did. Refused: `Worn`, `NoMemory`,
 /// and as the device refuses the page.
-fn flush<F: Functions, D: Disk>(
+fn flush<F: Mergeable, D: Disk>(
     terms: &Terms<'_, F>,
     shard: &mut Shard<F, D>,
     clock: &mut Clock,
@@ -137,7 +137,7 @@ fn flush<F: Functions, D: Disk>(
 }
 
 /// Writes the pages that wait, as many as there are frames at the most. Refused as [`flush`] is.
-fn flush_all<F: Functions, D: Disk>(
+fn flush_all<F: Mergeable, D: Disk>(
     terms: &Terms<'_, F>,
     shard: &mut Shard<F, D>,
     clock: &mut Clock,
@@ -166,7 +166,7 @@ fn flush_all<F: Functions, D: Disk>(
 }
 
 /// The page of a partition's next record.
-fn tail_page<F: Functions, R: Receipt>(partition: &Partition<F, R>) -> u64 {
+fn tail_page<F: Mergeable, R: Receipt>(partition: &Partition<F, R>) -> u64 {
     let size = partition.page_size() as u64;
     partition.tail().checked_div(size).unwrap_or(0)
 }
@@ -175,7 +175,7 @@ fn tail_page<F: Functions, R: Receipt>(partition: &Partition<F, R>) -> u64 {
 /// least; the session is refreshed; the pages below are written, as many as there are frames at the most; Head follows,
 /// as far as pages are written, so that the page behind the tail's finds its frame free; and the session is refreshed.
 /// What is not due is passed over. Refused: `Worn`, `NoMemory`, and as the device refuses a page.
-pub fn tidy<F: Functions, D: Disk>(
+pub fn tidy<F: Mergeable, D: Disk>(
     terms: &Terms<'_, F>,
     shard: &mut Shard<F, D>,
     clock: &mut Clock,
@@ -216,7 +216,7 @@ pub fn tidy<F: Functions, D: Disk>(
 }
 
 /// Counts a row, and moves the partition's pages on after every 64. Refused as [`tidy`] is.
-pub fn tidy_at_times<F: Functions, D: Disk>(
+pub fn tidy_at_times<F: Mergeable, D: Disk>(
     terms: &Terms<'_, F>,
     shard: &mut Shard<F, D>,
     clock: &mut Clock,

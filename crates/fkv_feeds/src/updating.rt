@@ -14,7 +14,7 @@ ghost use Rattle.fkv_feeds.specs.Exhausted.{IsExhausted};
 use crate::shards::{Shard, Terms};
 use crate::tidying::tidy;
 use fkv_device::{Disk, Loaded};
-use fkv_functions::{AskOf, Built, Functions, Refused};
+use fkv_functions::{AskOf, Built, Mergeable, Refused};
 use fkv_operations::{Clock, Op};
 use fkv_partition::Progress;
 
@@ -31,7 +31,7 @@ pub enum Turn<R: Drop> {
 }
 
 /// Moves the pages of a partition on, for an update that can't go on yet. Refused as [`tidy`] is.
-fn wait<F: Functions, D: Disk>(
+fn wait<F: Mergeable, D: Disk>(
     terms: &Terms<'_, F>,
     shard: &mut Shard<F, D>,
     context: usize,
@@ -64,7 +64,7 @@ fn wait<F: Functions, D: Disk>(
 }
 
 /// Answers what an update asked, and installs that. Refused: `Worn`, `NoMemory`, and as the device refuses a page.
-fn install<F: Functions, D: Disk>(
+fn install<F: Mergeable, D: Disk>(
     terms: &Terms<'_, F>,
     shard: &mut Shard<F, D>,
     context: usize,
@@ -109,7 +109,7 @@ fn install<F: Functions, D: Disk>(
 }
 
 /// Goes on with an update that waits for no page. Refused: `Worn`, `NoMemory`, and as the device refuses a page.
-fn go_on<F: Functions, D: Disk>(
+fn go_on<F: Mergeable, D: Disk>(
     terms: &Terms<'_, F>,
     shard: &mut Shard<F, D>,
     context: usize,
@@ -153,7 +153,7 @@ fn go_on<F: Functions, D: Disk>(
 
 /// Reads the page that an update waits for, and goes on with it. Refused: `Worn`, `NoMemory`, and as the device refuses
 /// the page or a page that is to be written; `Damaged` where its bytes spell no record on the way.
-fn load<F: Functions, D: Disk>(
+fn load<F: Mergeable, D: Disk>(
     terms: &Terms<'_, F>,
     shard: &mut Shard<F, D>,
     context: usize,
@@ -203,7 +203,7 @@ fn load<F: Functions, D: Disk>(
 
 /// Goes on with an update, with the page that it waits for, if it waits for one, and counts the try. Refused as [`go_on`]
 /// and [`load`] are.
-fn attempt<F: Functions, D: Disk>(
+fn attempt<F: Mergeable, D: Disk>(
     terms: &Terms<'_, F>,
     shard: &mut Shard<F, D>,
     context: usize,
@@ -242,7 +242,7 @@ fn attempt<F: Functions, D: Disk>(
 
 /// Makes an update in a session that has no operation open in one call, where the key's last record may be changed in place.
 /// Answers whether it is done; where it is not nothing has changed. Refused: `Worn` where no moment is left.
-fn done_at_once<F: Functions, D: Disk>(
+fn done_at_once<F: Mergeable, D: Disk>(
     terms: &Terms<'_, F>,
     shard: &mut Shard<F, D>,
     key: &F::Key,
@@ -279,7 +279,7 @@ fn done_at_once<F: Functions, D: Disk>(
 }
 
 /// Makes an update as [`update`] does, turn by turn, and counts its tries from none.
-fn update_by_turns<F: Functions, D: Disk>(
+fn update_by_turns<F: Mergeable, D: Disk>(
     terms: &Terms<'_, F>,
     shard: &mut Shard<F, D>,
     key: &F::Key,
@@ -338,7 +338,7 @@ fn update_by_turns<F: Functions, D: Disk>(
 /// is not in memory that record's page is read. Refused: `Worn` where no address is left, or not two moments, `NoMemory`,
 /// as the device refuses a page, `Damaged` where a page's bytes spell no record on the way, and `Stalled` where it is not
 /// done at one of so many tries, which are counted from none where it is not done at once.
-pub fn update<F: Functions, D: Disk>(
+pub fn update<F: Mergeable, D: Disk>(
     terms: &Terms<'_, F>,
     shard: &mut Shard<F, D>,
     key: &F::Key,

@@ -4,7 +4,7 @@ use Rattle.fkv_functions.specs.declared.refusals.Refused.{Refused}
 use Rattle.fkv_functions.specs.declared.refusals.Refused.TheVariants.{NoMemory, BadConfig, NoSlot, NoContext, Unknown}
 use Rattle.fkv_functions.specs.declared.refusals.Refused.TheVariants.{Busy, NotDue, DrainFull, Stranger, Worn, Device}
 use Rattle.fkv_functions.specs.declared.refusals.Refused.TheVariants.{Damaged, Stalled, Mismatch, BadRow, BadScript}
-use Rattle.fkv_functions.specs.declared.refusals.Refused.TheVariants.{NotReady, Unreadable, Unwritable}
+use Rattle.fkv_functions.specs.declared.refusals.Refused.TheVariants.{NotReady, Unreadable, Unwritable, NoMerge}
 
 abbrev pub name_of : Refused → List ℕ
 name_of NoMemory = codes "NoMemory"
@@ -26,3 +26,4 @@ name_of (BadScript line) = codes "BadScript"
 name_of NotReady = codes "NotReady"
 name_of (Unreadable number) = codes "Unreadable"
 name_of Unwritable = codes "Unwritable"
+name_of NoMerge = codes "NoMerge"

@@ -5,7 +5,7 @@ use Rattle.std.specs.Int.{w64, w128, int_wrapping_add, int_max, cast_unsigned}
 use Rattle.std.proofs.Common.{arith, rules, refl, ap}
 use Rattle.std.proofs.Math.Facts.{sfits_widen, sfits_to_z}
 use Rattle.std.proofs.lemmas.Int.{ints, wraps}
-use Rattle.fkv_functions.specs.Meanings.{Meanings, updated}
+use Rattle.fkv_functions.specs.Meanings.{Meanings, Parts, Merges, updated}
 
 -- how often a key had an input, modulo 2^64
 abbrev pub counts : {K : Type 0} → Meanings K ℕ ℤ ℕ
@@ -43,7 +43,25 @@ capped_sums = record {
   shown = λ k i v. v;
 }
 
+-- counts are joined by their sum, modulo 2^64, and an input is a part of 1
+abbrev pub count_parts : {K : Type 0} → Parts K ℕ ℤ
+count_parts = record { delta = λ k i. 1; joined = λ v w. (v + w) % 2 ^ 64 }
+
+-- sums are joined by their sum, modulo 2^128, and an input is the part
+abbrev pub sum_parts : {K : Type 0} → Parts K ℤ ℤ
+sum_parts = record { delta = λ k i. i; joined = λ v w. int_wrapping_add w128 v w }
+
+-- maxima are joined by the greater, and an input is the part
+abbrev pub max_parts : {K : Type 0} → Parts K ℤ ℤ
+max_parts = record { delta = λ k i. i; joined = λ v w. int_max v w }
+
 -- a count's laws
+pub count_merges : {K : Type 0} → Merges (counts {K = K}) count_parts
+count_merges = record { first = λ k i. refl; next = λ k v i. refl }
+
+pub count_associative : (u v w : ℕ) → ((u + v) % 2 ^ 64 + w) % 2 ^ 64 ≡ (u + (v + w) % 2 ^ 64) % 2 ^ 64
+count_associative u v w = omega arith
+
 pub count_accepted : {K : Type 0} (k : K) (i : ℤ) (held : Option ℕ) → IsSomeAnd (updated (counts {K = K}) k i held) (λ n. n < 2 ^ 64)
 count_accepted k i None = omega arith
 count_accepted k i (Some v) = omega arith
@@ -61,6 +79,13 @@ sum_next_known : (v i : ℤ) → FitsSigned w128 (int_wrapping_add w128 v i)
 sum_next_known v i =
     let small : (cast_unsigned w128 v + cast_unsigned w128 i) % 2 ^ 128 < 2 ^ 128 = omega arith in
     sfits_to_z {w = w128} (record { fits = small })
+
+pub sum_merges : {K : Type 0} → Merges (sums {K = K}) sum_parts
+sum_merges = record { first = λ k i. refl; next = λ k v i. refl }
+
+pub sum_associative : (u v w : ℤ)
+    → int_wrapping_add w128 (int_wrapping_add w128 u v) w ≡ int_wrapping_add w128 u (int_wrapping_add w128 v w)
+sum_associative u v w = search (rules, wraps)
 
 sum_from_none : (i j : ℤ) → int_wrapping_add w128 i j ≡ int_wrapping_add w128 j i
 sum_from_none i j = search (rules, wraps)
@@ -82,6 +107,12 @@ sum_either_order k i j (Some v) = ap Some (sum_from_any v i j)
 -- a maximum's laws
 max_next_known : (v i : ℤ) → FitsSigned w64 v → FitsSigned w64 i → FitsSigned w64 (int_max v i)
 max_next_known v i h k = elim (int_lt i v) as (λ b. FitsSigned w64 (cond b v i)) [ true ↦ h | false ↦ k ]
+
+pub max_merges : {K : Type 0} → Merges (maxima {K = K}) max_parts
+max_merges = record { first = λ k i. refl; next = λ k v i. refl }
+
+pub max_associative : (u v w : ℤ) → int_max (int_max u v) w ≡ int_max u (int_max v w)
+max_associative u v w = grind (arith, ints)
 
 max_from_none : (i j : ℤ) → int_max i j ≡ int_max j i
 max_from_none i j = grind (arith, ints)

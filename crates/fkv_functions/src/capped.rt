@@ -1,11 +1,12 @@
 //! Capped sums: what the inputs of each key add up to, within a cap.
-ghost use Rattle.std.specs.Prelude.{◌≡◌};
+ghost use Rattle.std.specs.Prelude.{◌≡◌, false};
 ghost use Rattle.fkv_functions.specs.Sets.{capped_sums, within_cap};
+ghost use Rattle.fkv_functions.specs.Meanings.{unmerged, unmerged_associative};
 ghost use Rattle.fkv_functions.specs.Hashes.{fnv_1a};
 ghost use Rattle.fkv_functions.specs.Names.{text_of};
 
 use crate::names::Name;
-use crate::updates::Functions;
+use crate::updates::{Functions, Mergeable};
 
 /// The greatest total that an update may come to.
 const CAP: i128 = 1_000_000;
@@ -63,5 +64,25 @@ impl Functions for CappedSumFns {
 
     fn hash(&self, key: &Name) -> u64 {
         key.hash()
+    }
+}
+
+impl Mergeable for CappedSumFns {
+    const MERGES: bool = false;
+
+    ghost MERGES = { false };
+
+    ghost parts = { unmerged (λ k i. i) };
+
+    ghost merges = { λ h. absurd (cc) };
+
+    ghost associative = { λ u v w. unmerged_associative w };
+
+    fn delta(&self, _key: &Name, input: &i64) -> i128 {
+        i128::from(*input)
+    }
+
+    fn join(&self, _value: &i128, part: &i128) -> i128 {
+        *part
     }
 }

@@ -1,10 +1,11 @@
 //! Counts: how often each key had an input.
-ghost use Rattle.fkv_functions.specs.Sets.{counts, count_accepted, count_either_order};
+ghost use Rattle.std.specs.Prelude.{true};
+ghost use Rattle.fkv_functions.specs.Sets.{counts, count_accepted, count_either_order, count_parts, count_merges, count_associative};
 ghost use Rattle.fkv_functions.specs.Hashes.{fnv_1a};
 ghost use Rattle.fkv_functions.specs.Names.{text_of};
 
 use crate::names::Name;
-use crate::updates::{Functions, OrderFree};
+use crate::updates::{Functions, Mergeable, OrderFree};
 
 /// What a key is counted as at its first input.
 const FIRST: u64 = 1;
@@ -45,6 +46,26 @@ impl Functions for CountFns {
 
     fn hash(&self, key: &Name) -> u64 {
         key.hash()
+    }
+}
+
+impl Mergeable for CountFns {
+    const MERGES: bool = true;
+
+    ghost MERGES = { true };
+
+    ghost parts = { count_parts };
+
+    ghost merges = { λ _. count_merges };
+
+    ghost associative = { λ u v w. count_associative u v w };
+
+    fn delta(&self, _key: &Name, _input: &i64) -> u64 {
+        FIRST
+    }
+
+    fn join(&self, value: &u64, part: &u64) -> u64 {
+        value.wrapping_add(*part)
     }
 }
 

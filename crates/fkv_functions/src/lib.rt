@@ -24,5 +24,5 @@ pub use maxima::MaxFns;
 pub use names::Name;
 pub use refusals::{Refused, What};
 pub use sums::SumFns;
-pub use updates::{Functions, OrderFree};
+pub use updates::{Functions, Mergeable, OrderFree};
 pub use values::{Fixed, FixedKey, Known};

@@ -1,10 +1,11 @@
 //! Maxima: the greatest input of each key.
-ghost use Rattle.fkv_functions.specs.Sets.{maxima, max_accepted, max_either_order};
+ghost use Rattle.std.specs.Prelude.{true};
+ghost use Rattle.fkv_functions.specs.Sets.{maxima, max_accepted, max_either_order, max_parts, max_merges, max_associative};
 ghost use Rattle.fkv_functions.specs.Hashes.{fnv_1a};
 ghost use Rattle.fkv_functions.specs.Names.{text_of};
 
 use crate::names::Name;
-use crate::updates::{Functions, OrderFree};
+use crate::updates::{Functions, Mergeable, OrderFree};
 
 /// Keeps the greatest input of each name.
 #[derive(Clone, Copy, Debug, Default)]
@@ -42,6 +43,26 @@ impl Functions for MaxFns {
 
     fn hash(&self, key: &Name) -> u64 {
         key.hash()
+    }
+}
+
+impl Mergeable for MaxFns {
+    const MERGES: bool = true;
+
+    ghost MERGES = { true };
+
+    ghost parts = { max_parts };
+
+    ghost merges = { λ _. max_merges };
+
+    ghost associative = { λ u v w. max_associative u v w };
+
+    fn delta(&self, _key: &Name, input: &i64) -> i64 {
+        *input
+    }
+
+    fn join(&self, value: &i64, part: &i64) -> i64 {
+        (*value).max(*part)
     }
 }
 

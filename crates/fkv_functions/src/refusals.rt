@@ -83,6 +83,9 @@ pub enum Refused {
     /// The output can not be written.
     #[error("cannot write output")]
     Unwritable,
+    /// A merge was asked of functions that do not merge.
+    #[error("functions do not merge")]
+    NoMerge,
 }
 
 impl Refused {
@@ -110,6 +113,7 @@ impl Refused {
             Refused::NotReady => "NotReady",
             Refused::Unreadable { .. } => "Unreadable",
             Refused::Unwritable => "Unwritable",
+            Refused::NoMerge => "NoMerge",
         }
     }
 }

@@ -1,10 +1,11 @@
 //! Sums: what the inputs of each key add up to.
-ghost use Rattle.fkv_functions.specs.Sets.{sums, sum_accepted, sum_either_order};
+ghost use Rattle.std.specs.Prelude.{true};
+ghost use Rattle.fkv_functions.specs.Sets.{sums, sum_accepted, sum_either_order, sum_parts, sum_merges, sum_associative};
 ghost use Rattle.fkv_functions.specs.Hashes.{fnv_1a};
 ghost use Rattle.fkv_functions.specs.Names.{text_of};
 
 use crate::names::Name;
-use crate::updates::{Functions, OrderFree};
+use crate::updates::{Functions, Mergeable, OrderFree};
 
 /// Adds up the inputs of each name, modulo 2^128.
 #[derive(Clone, Copy, Debug, Default)]
@@ -42,6 +43,26 @@ impl Functions for SumFns {
 
     fn hash(&self, key: &Name) -> u64 {
         key.hash()
+    }
+}
+
+impl Mergeable for SumFns {
+    const MERGES: bool = true;
+
+    ghost MERGES = { true };
+
+    ghost parts = { sum_parts };
+
+    ghost merges = { λ _. sum_merges };
+
+    ghost associative = { λ u v w. sum_associative u v w };
+
+    fn delta(&self, _key: &Name, input: &i64) -> i128 {
+        i128::from(*input)
+    }
+
+    fn join(&self, value: &i128, part: &i128) -> i128 {
+        value.wrapping_add(*part)
     }
 }
 

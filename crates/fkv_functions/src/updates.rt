@@ -1,8 +1,8 @@
 //! The functions of a store, by what they mean.
-ghost use Rattle.std.specs.Prelude.{◌≡◌, ℕ, Option, Some, None, IfSome};
+ghost use Rattle.std.specs.Prelude.{◌≡◌, ℕ, Bool, Option, Some, None, IfSome, IsTrue};
 ghost use Rattle.std.specs.Bool.{OnTrue, OnFalse};
 ghost use Rattle.std.specs.Option.{IsSomeAnd};
-ghost use Rattle.fkv_functions.specs.Meanings.{Meanings, updated};
+ghost use Rattle.fkv_functions.specs.Meanings.{Meanings, Parts, Merges, updated};
 
 use crate::values::{Fixed, FixedKey, Known};
 
@@ -44,6 +44,35 @@ pub trait Functions: Drop {
     /// The hash of a key.
     fn hash(&self, key: &Self::Key) -> u64
         ensures { result ≡ code key.now };
+}
+
+/// Functions whose updates may be kept as parts of a value, and be joined to the value that they change later.
+///
+/// Where `MERGES` is true, an update of a value is that value joined with the input's part, and the first value of a
+/// key is the part itself; so no update is declined. Functions whose updates can't be kept so say `MERGES = false`.
+pub trait Mergeable: Functions {
+    /// Whether these functions merge.
+    const MERGES: bool;
+
+    ghost MERGES: { Bool };
+
+    /// What parts mean: the part of a value that an input is, and a value or part with the part after it.
+    ghost parts: { Parts Self.Key Self.Value Self.Input };
+
+    /// The part of a value that an input is.
+    fn delta(&self, key: &Self::Key, input: &Self::Input) -> Self::Value
+        ensures { result ≡ parts.delta key.now input.now };
+
+    /// A value, or a part of one, with the part that comes after it.
+    fn join(&self, value: &Self::Value, part: &Self::Value) -> Self::Value
+        ensures { result ≡ parts.joined value.now part.now };
+
+    /// Where the functions merge, updates are joins.
+    ghost merges: { IsTrue MERGES → Merges Self.Functions.meaning parts };
+
+    /// Parts may be joined first.
+    ghost associative: { (u v w : Self.Value) → parts.joined (parts.joined u v) w
+        ≡ parts.joined u (parts.joined v w) };
 }
 
 /// Functions whose inputs may come in any order. They never decline an update.

@@ -3,7 +3,7 @@ ghost use Rattle.std.specs.Prelude.{◌≡◌, ◌↔◌, ⊤, IsTrue};
 ghost use Rattle.fkv_histories.specs.Histories.{is_update_entry};
 ghost use Rattle.fkv_histories.specs.Merges.{told_of};
 
-use fkv_functions::{Functions, Known};
+use fkv_functions::{Functions, Known, Mergeable};
 use fkv_operations::{Answer, AnswerOf, KeyedOp, KeyedOpOf, is_same_answer, is_same_op};
 use std::alloc::AllocError;
 
@@ -53,14 +53,14 @@ impl<K, V, I, O> Entry<K, V, I, O> {
 }
 
 /// Whether both operations on keys are one.
-fn is_same_keyed_op<F: Functions>(left: &KeyedOpOf<F>, right: &KeyedOpOf<F>) -> bool
+fn is_same_keyed_op<F: Mergeable>(left: &KeyedOpOf<F>, right: &KeyedOpOf<F>) -> bool
     ensures { IsTrue result ↔ (left.now ≡ right.now) }
 {
     is_same_op::<F>(&left.op(), &right.op())
 }
 
 /// Whether both tell a caller the same: they are one entry but for `low` and `high`.
-pub fn is_same_told<F: Functions>(left: &EntryOf<F>, right: &EntryOf<F>) -> bool
+pub fn is_same_told<F: Mergeable>(left: &EntryOf<F>, right: &EntryOf<F>) -> bool
     ensures { IsTrue result ↔ (told_of left.now ≡ told_of right.now) }
 {
     left.session == right.session

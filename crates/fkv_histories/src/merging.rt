@@ -4,7 +4,7 @@ ghost use Rattle.std.specs.List.{filter, All};
 ghost use Rattle.fkv_histories.specs.Merges.{told, owned_by, owner_in, AreClaimed, AreOwners, IsShuffle, IsShuffleBy, IsMerge};
 
 use crate::entries::{EntryOf, is_same_told};
-use fkv_functions::{Functions, Refused};
+use fkv_functions::{Mergeable, Refused};
 use std::alloc::Global;
 
 /// The owner of a session by a table, or nobody where the table is too short.
@@ -18,7 +18,7 @@ fn owner_of(who: &[u64], nobody: u64, session: u64) -> u64
 }
 
 /// Whether an own list is, in order, what the history has of the sessions of its owner.
-fn is_part<F: Functions>(
+fn is_part<F: Mergeable>(
     who: &[u64],
     nobody: u64,
     owner: u64,
@@ -44,7 +44,7 @@ fn is_part<F: Functions>(
 }
 
 /// Whether a history is a merge of these own lists by the table.
-fn is_shuffle_by<F: Functions>(
+fn is_shuffle_by<F: Mergeable>(
     who: &[u64],
     nobody: u64,
     history: &[EntryOf<F>],
@@ -68,7 +68,7 @@ fn is_shuffle_by<F: Functions>(
 }
 
 /// The greatest of a number and the sessions of a list.
-fn top_of<F: Functions>(least: u64, list: &[EntryOf<F>]) -> u64
+fn top_of<F: Mergeable>(least: u64, list: &[EntryOf<F>]) -> u64
     ensures least { least ≤ result }
     ensures all { All (λ entry. entry.session ≤ result) list.now }
 {
@@ -80,7 +80,7 @@ fn top_of<F: Functions>(least: u64, list: &[EntryOf<F>]) -> u64
 }
 
 /// The greatest session of the lists, or 0.
-fn top_session<F: Functions>(owns: &[Vec<EntryOf<F>>]) -> u64
+fn top_session<F: Mergeable>(owns: &[Vec<EntryOf<F>>]) -> u64
     ensures { All (λ own. All (λ entry. entry.session ≤ result) own.items) owns.now }
 {
     let mut top = 0;
@@ -91,7 +91,7 @@ fn top_session<F: Functions>(owns: &[Vec<EntryOf<F>>]) -> u64
 }
 
 /// Claims each session of a list for an owner.
-fn claim<F: Functions>(who: &mut Vec<u64>, list: &[EntryOf<F>], owner: u64)
+fn claim<F: Mergeable>(who: &mut Vec<u64>, list: &[EntryOf<F>], owner: u64)
     requires { All (λ entry. entry.session < length who.old.items) list.now }
     ensures len { length who.new.items ≡ length who.old.items }
     ensures claimed { AreClaimed who.old.items who.new.items list.now owner }
@@ -102,7 +102,7 @@ fn claim<F: Functions>(who: &mut Vec<u64>, list: &[EntryOf<F>], owner: u64)
 }
 
 /// A table of owners: in which of the lists each session stands. Refused: `NoMemory`.
-fn owners<F: Functions>(alloc: Global, owns: &[Vec<EntryOf<F>>]) -> Result<Vec<u64>, Refused>
+fn owners<F: Mergeable>(alloc: Global, owns: &[Vec<EntryOf<F>>]) -> Result<Vec<u64>, Refused>
     ensures ok { IfOk result (λ who. AreOwners who.items (map (λ own. own.items) owns.now) (length owns.now)) }
     ensures only { IfErr result (λ refused. refused ≡ Refused.NoMemory) }
 {
@@ -120,7 +120,7 @@ fn owners<F: Functions>(alloc: Global, owns: &[Vec<EntryOf<F>>]) -> Result<Vec<u
 }
 
 /// Whether a history is a merge of these own lists, the updates and reads of each in one order. Refused: `NoMemory`.
-pub fn is_merge<F: Functions>(
+pub fn is_merge<F: Mergeable>(
     alloc: Global,
     history: &[EntryOf<F>],
     owns: &[Vec<EntryOf<F>>],

@@ -5,11 +5,11 @@ ghost use Rattle.fkv_histories.specs.declared.entries.Entry.{Entry};
 ghost use Rattle.fkv_histories.specs.Histories.{is_update_entry, updates};
 
 use crate::entries::EntryOf;
-use fkv_functions::{Functions, Refused};
+use fkv_functions::{Mergeable, Refused};
 use std::alloc::Global;
 
 /// Keeps the entries that are added, or only counts the updates among them. No call but [`Recorder::lists`] tells which.
-pub trait Recorder<F: Functions>: Drop {
+pub trait Recorder<F: Mergeable>: Drop {
     /// Whether entries are kept.
     ghost keeps: { Bool };
 
@@ -58,13 +58,13 @@ pub trait Recorder<F: Functions>: Drop {
 
 /// Keeps each entry.
 #[derive(Drop)]
-pub struct Audited<F: Functions> {
+pub struct Audited<F: Mergeable> {
     list: Vec<EntryOf<F>>,
     updated: u64,
     ghost counted: { updated ≡ length (updates list.items) },
 }
 
-impl<F: Functions> Recorder<F> for Audited<F> {
+impl<F: Mergeable> Recorder<F> for Audited<F> {
     ghost keeps = { true };
 
     ghost entries = { λ a. a.list.items };
@@ -120,7 +120,7 @@ pub struct Plain {
     updated: u64,
 }
 
-impl<F: Functions> Recorder<F> for Plain {
+impl<F: Mergeable> Recorder<F> for Plain {
     ghost keeps = { false };
 
     ghost entries = { λ a. [] };

@@ -8,13 +8,13 @@ ghost use Rattle.fkv_locked.specs.Fresh.{fresh_lock};
 use crate::locked::Locked;
 use crate::marks::fresh_marks;
 use fkv_device::Receipt;
-use fkv_functions::{Functions, Refused};
+use fkv_functions::{Mergeable, Refused};
 use fkv_histories::Recorder;
 use fkv_operations::Clock;
 use fkv_partition::{Config, Partition};
 use std::alloc::Global;
 
-impl<F: Functions, R: Receipt, H: Recorder<F>> Locked<F, R, H> {
+impl<F: Mergeable, R: Receipt, H: Recorder<F>> Locked<F, R, H> {
     /// The partition of this number, with nothing in it, and nothing finished. Refused, in this order: `BadConfig` where a
     /// number of the configuration is outside its limits, a record is too large, or there is no partition of this number,
     /// `NoMemory`.

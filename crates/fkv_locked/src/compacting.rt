@@ -17,13 +17,13 @@ use crate::locked::{Locked, next_moment};
 use crate::seats::Seat;
 use fkv_compaction::Compactor;
 use fkv_device::{Loaded, Receipt};
-use fkv_functions::{Functions, Refused};
+use fkv_functions::{Mergeable, Refused};
 use fkv_histories::Recorder;
 use fkv_operations::Clock;
 use fkv_partition::ProgressOf;
 use fkv_records::Address;
 
-impl<F: Functions, R: Receipt, H: Recorder<F>> Locked<F, R, H> {
+impl<F: Mergeable, R: Receipt, H: Recorder<F>> Locked<F, R, H> {
     /// A compactor joins, as [`Compactor::join`] does, whose refusals it has after `Worn` where there is no next moment; then
     /// nothing changes.
     pub fn join(&mut self) -> Result<Compactor, Refused>

@@ -5,7 +5,7 @@ ghost use Rattle.fkv_partition.specs.Sound.{IsCompacting};
 ghost use Rattle.fkv_locked.specs.Kept.{seen, IsKept, IsEnded};
 
 use fkv_device::Receipt;
-use fkv_functions::Functions;
+use fkv_functions::Mergeable;
 use fkv_histories::{EntryOf, Recorder};
 use fkv_operations::Clock;
 use fkv_partition::Partition;
@@ -16,7 +16,7 @@ use std::marker::Model;
 /// at the issue and at the last look-up of each context, how many operations were finished (the book), and how many
 /// sessions were entered.
 #[derive(Drop)]
-pub struct Locked<F: Functions, R: Receipt, H: Recorder<F>> {
+pub struct Locked<F: Mergeable, R: Receipt, H: Recorder<F>> {
     pub(crate) partition: Partition<F, R>,
     pub(crate) history: H,
     pub(crate) lows: Vec<u64>,
@@ -26,7 +26,7 @@ pub struct Locked<F: Functions, R: Receipt, H: Recorder<F>> {
     pub(crate) enters: u64,
 }
 
-impl<F: Functions, R: Receipt, H: Recorder<F>> Model for Locked<F, R, H> {
+impl<F: Mergeable, R: Receipt, H: Recorder<F>> Model for Locked<F, R, H> {
     ghost use Rattle.std.specs.Prelude.{◌≡◌, ◌≤◌, true, IsTrue, length};
     ghost use Rattle.fkv_locked.specs.Locks.{LockedView};
     ghost use Rattle.fkv_locked.specs.Kept.{seen, IsKept};
@@ -62,13 +62,13 @@ pub(crate) fn next_moment(clock: &Clock) -> Option<u64>
 
 /// What is left of a locked partition at its end.
 #[derive(Drop)]
-pub struct Part<F: Functions, R: Receipt> {
+pub struct Part<F: Mergeable, R: Receipt> {
     pub partition: Partition<F, R>,
     pub history: Vec<EntryOf<F>>,
     pub book: u64,
 }
 
-impl<F: Functions, R: Receipt, H: Recorder<F>> Locked<F, R, H> {
+impl<F: Mergeable, R: Receipt, H: Recorder<F>> Locked<F, R, H> {
     /// What holds whenever the lock is free. It does nothing when it runs.
     pub fn known(&self)
         ensures core { IsSound R.keeps F.Key.cmp F.code self.now.partition.core }

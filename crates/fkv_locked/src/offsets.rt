@@ -3,11 +3,11 @@ ghost use Rattle.std.specs.Prelude.{◌≡◌, ◌^◌, length};
 
 use crate::locked::Locked;
 use fkv_device::Receipt;
-use fkv_functions::Functions;
+use fkv_functions::Mergeable;
 use fkv_histories::Recorder;
 use fkv_records::Address;
 
-impl<F: Functions, R: Receipt, H: Recorder<F>> Locked<F, R, H> {
+impl<F: Mergeable, R: Receipt, H: Recorder<F>> Locked<F, R, H> {
     /// The address of the next record, or 2^48 where there can't be one.
     pub fn tail(&self) -> Address
         ensures { result ≡ self.now.partition.core.records.tail }

@@ -13,13 +13,13 @@ use crate::marks::{mark_at, set_mark};
 use crate::seats::{Mine, MineOf, Seat};
 use crate::turns::{TurnOf, make_ready, note, note_loaded};
 use fkv_device::{Loaded, Receipt};
-use fkv_functions::{Built, Functions, Refused, What};
+use fkv_functions::{Built, Mergeable, Refused, What};
 use fkv_histories::Recorder;
 use fkv_operations::{Clock, KeyedOpOf, is_same_op};
 use fkv_partition::Partition;
 
 /// Whether a caller's operation is open in its context.
-fn is_open<F: Functions, R: Receipt>(partition: &Partition<F, R>, mine: &MineOf<F>) -> bool
+fn is_open<F: Mergeable, R: Receipt>(partition: &Partition<F, R>, mine: &MineOf<F>) -> bool
     ensures { IsTrue result
         ↔ (asked partition.now mine.now.seat.slot mine.now.context ≡ Some (question_of mine.now)) }
 {
@@ -29,7 +29,7 @@ fn is_open<F: Functions, R: Receipt>(partition: &Partition<F, R>, mine: &MineOf<
     }
 }
 
-impl<F: Functions, R: Receipt, H: Recorder<F>> Locked<F, R, H> {
+impl<F: Mergeable, R: Receipt, H: Recorder<F>> Locked<F, R, H> {
     /// Issues an operation in a session of a caller, which was told of so many updates. Refused, in this order, and then
     /// nothing changes: `Stranger` where fewer updates stand there, `Worn` where there is no next moment, and what
     /// [`fkv_partition::Partition::issue`] refuses.

@@ -6,12 +6,12 @@ ghost use Rattle.fkv_locked.specs.Locks.{IsTimed, with_partition};
 
 use crate::locked::{Locked, next_moment};
 use fkv_device::{FlushJob, Receipt, Written};
-use fkv_functions::{Functions, Refused};
+use fkv_functions::{Mergeable, Refused};
 use fkv_histories::Recorder;
 use fkv_operations::Clock;
 use std::alloc::Global;
 
-impl<F: Functions, R: Receipt, H: Recorder<F>> Locked<F, R, H> {
+impl<F: Mergeable, R: Receipt, H: Recorder<F>> Locked<F, R, H> {
     /// Moves the read-only offset, as [`fkv_partition::Partition::shift_read_only`] does, whose refusals it has after `Worn`
     /// where there is no next moment; then nothing changes.
     pub fn shift_read_only(&mut self, page: u64) -> Result<(), Refused>

@@ -8,11 +8,11 @@ ghost use Rattle.fkv_locked.specs.Locks.{IsTimed, with_partition, with_session};
 use crate::locked::{Locked, next_moment};
 use crate::seats::Seat;
 use fkv_device::Receipt;
-use fkv_functions::{Functions, Refused};
+use fkv_functions::{Mergeable, Refused};
 use fkv_histories::Recorder;
 use fkv_operations::Clock;
 
-impl<F: Functions, R: Receipt, H: Recorder<F>> Locked<F, R, H> {
+impl<F: Mergeable, R: Receipt, H: Recorder<F>> Locked<F, R, H> {
     /// Enters a session, as [`fkv_partition::Partition::enter`] does, and gives it the next number. Refused, in this order,
     /// and then nothing changes: `Worn` where there is no next number of sessions or no next moment, and what that refuses.
     pub fn enter(&mut self) -> Result<Seat, Refused>

@@ -9,7 +9,7 @@ ghost use Rattle.fkv_locked.specs.Turns.{question_of, IsUnready, Turns, IsToldBy
 use crate::marks::{mark_at, set_mark};
 use crate::seats::MineOf;
 use fkv_device::Receipt;
-use fkv_functions::{Ask, Functions, Refused, What};
+use fkv_functions::{Ask, Functions, Mergeable, Refused, What};
 use fkv_histories::{Entry, Recorder};
 use fkv_operations::{Clock, is_same_op};
 use fkv_partition::{Partition, Progress, ProgressOf, Wait};
@@ -43,7 +43,7 @@ pub type TurnOf<F, R> = Turn<
 /// room is made for an entry. Answers the next moment. Refused, in this order, and then nothing changes: `Unknown` where
 /// something else is open there, or nothing; `Stranger` where fewer updates stand there than the caller was told of; `Worn`
 /// where the updates, the book or the clock have no next number; `NoMemory`.
-pub(crate) fn make_ready<F: Functions, R: Receipt, H: Recorder<F>>(
+pub(crate) fn make_ready<F: Mergeable, R: Receipt, H: Recorder<F>>(
     partition: &Partition<F, R>,
     history: &mut H,
     clock: &Clock,
@@ -89,7 +89,7 @@ pub(crate) fn make_ready<F: Functions, R: Receipt, H: Recorder<F>>(
 
 /// Notes what an event of an operation told, beside its partition: what is finished is added to the history, at the end of
 /// its updates, and to the book; and where a page is asked for, it is kept how many updates stand there.
-pub(crate) fn note<F: Functions, R: Receipt, H: Recorder<F>>(
+pub(crate) fn note<F: Mergeable, R: Receipt, H: Recorder<F>>(
     history: &mut H,
     lows: &Vec<u64>,
     looks: &mut Vec<u64>,
@@ -141,7 +141,7 @@ pub(crate) fn note<F: Functions, R: Receipt, H: Recorder<F>>(
 
 /// Notes what a page that came made of an operation, whose look-up was made when so many updates stood: a read that is
 /// finished stands there among the updates.
-pub(crate) fn note_loaded<F: Functions, R: Receipt, H: Recorder<F>>(
+pub(crate) fn note_loaded<F: Mergeable, R: Receipt, H: Recorder<F>>(
     history: &mut H,
     lows: &Vec<u64>,
     look: u64,

@@ -2,7 +2,7 @@
 ghost use Rattle.std.specs.Prelude.{◌≡◌, ⊤};
 ghost use Rattle.fkv_lookups.specs.Decisions.{low_of, met_by, met_in, decision, held_of};
 
-use fkv_functions::Functions;
+use fkv_functions::{Functions, Mergeable};
 use fkv_operations::plainly::shown;
 use fkv_operations::{Answer, KeyedOp, KeyedOpOf};
 use fkv_records::Address;
@@ -134,7 +134,7 @@ pub type DecisionOf<F> = Decision<
 >;
 
 /// What an operation does for what it met.
-pub fn decide<F: Functions>(
+pub fn decide<F: Mergeable>(
     functions: &F,
     op: &KeyedOpOf<F>,
     met: &LookupResult<F::Value>,
@@ -168,7 +168,7 @@ pub fn decide<F: Functions>(
 }
 
 /// What an update does to a value that may be changed in place.
-fn update<F: Functions>(
+fn update<F: Mergeable>(
     functions: &F,
     key: &F::Key,
     input: &F::Input,

@@ -28,7 +28,7 @@ ghost use Rattle.fkv_lookups.specs.Lookups.{looked_up};
 
 use crate::entries::move_entry;
 use fkv_device::Receipt;
-use fkv_functions::{Fixed, Functions, Refused};
+use fkv_functions::{Fixed, Functions, Mergeable, Refused};
 use fkv_hybrid::Log;
 use fkv_index::{Index, Place};
 use fkv_operations::{Class, IndexEntry, class_of};
@@ -47,14 +47,14 @@ mod truncation;
 
 /// The records of one partition, and the index of their classes.
 #[derive(Drop)]
-pub struct Records<F: Functions, R: Receipt> {
+pub struct Records<F: Mergeable, R: Receipt> {
     log: Log<F::Key, F::Value, R>,
     index: Index,
     partition_bits: u64,
     bucket_bits: u64,
 }
 
-impl<F: Functions, R: Receipt> Model for Records<F, R> {
+impl<F: Mergeable, R: Receipt> Model for Records<F, R> {
     ghost use Rattle.fkv_records.specs.Records.{size_of};
     ghost use Rattle.fkv_lookups.specs.RecordsViews.{RecordsView};
     ghost use Rattle.fkv_lookups.specs.Inside.{view_of};
@@ -68,7 +68,7 @@ impl<F: Functions, R: Receipt> Model for Records<F, R> {
         (view_of r.partition_bits r.bucket_bits (size_of F.Key.SIZE F.Value.SIZE) r.log r.index) };
 }
 
-impl<F: Functions, R: Receipt> Records<F, R> {
+impl<F: Mergeable, R: Receipt> Records<F, R> {
     ghost use Rattle.fkv_index.specs.declared.places.Place.{Place};
 
     /// No records and no entries, of one of 2^`partition_bits` partitions, with 2^`bucket_bits` buckets, and a log

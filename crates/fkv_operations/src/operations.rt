@@ -1,7 +1,7 @@
 //! Operations and their answers.
 ghost use Rattle.std.specs.Prelude.{◌≡◌, ◌↔◌, IsTrue};
 
-use fkv_functions::{Functions, Known};
+use fkv_functions::{Functions, Known, Mergeable};
 use std::alloc::AllocError;
 
 /// An operation on a key.
@@ -111,7 +111,7 @@ impl<K: Copy, V: Copy, I: Copy> Op<K, V, I> {
 pub type OpOf<F> = Op<<F as Functions>::Key, <F as Functions>::Value, <F as Functions>::Input>;
 
 /// Whether both are one operation.
-pub fn is_same_op<F: Functions>(left: &OpOf<F>, right: &OpOf<F>) -> bool
+pub fn is_same_op<F: Mergeable>(left: &OpOf<F>, right: &OpOf<F>) -> bool
     ensures { IsTrue result ↔ (left.now ≡ right.now) }
 {
     match (*left, *right) {
@@ -145,7 +145,7 @@ pub enum Answer<O> {
 pub type AnswerOf<F> = Answer<<F as Functions>::Output>;
 
 /// Whether both are one answer.
-pub fn is_same_answer<F: Functions>(left: &AnswerOf<F>, right: &AnswerOf<F>) -> bool
+pub fn is_same_answer<F: Mergeable>(left: &AnswerOf<F>, right: &AnswerOf<F>) -> bool
     ensures { IsTrue result ↔ (left.now ≡ right.now) }
 {
     match (*left, *right) {

@@ -7,13 +7,13 @@ ghost use Rattle.fkv_operations.specs.After.{after, answer, after_all, answers, 
 
 use crate::maps::give;
 use crate::operations::{Answer, AnswerOf, KeyedOp, KeyedOpOf};
-use fkv_functions::{Functions, Refused};
+use fkv_functions::{Functions, Mergeable, Refused};
 use std::alloc::Global;
 use std::collections::BTreeMap;
 
 /// What a list of operations leaves and answers.
 #[derive(Drop)]
-pub struct PlainRun<F: Functions> {
+pub struct PlainRun<F: Mergeable> {
     /// The value of each key that has one.
     pub map: BTreeMap<F::Key, F::Value>,
     /// The answers, in the order of the operations.
@@ -21,7 +21,7 @@ pub struct PlainRun<F: Functions> {
 }
 
 /// What the key's value, or none, shows to this input.
-pub fn shown<F: Functions>(
+pub fn shown<F: Mergeable>(
     functions: &F,
     key: &F::Key,
     input: &F::Input,
@@ -36,7 +36,7 @@ pub fn shown<F: Functions>(
 }
 
 /// Does one operation to the map. Refused: `NoMemory`, and then the map is as it was.
-pub fn apply_plainly<F: Functions>(
+pub fn apply_plainly<F: Mergeable>(
     functions: &F,
     map: &mut BTreeMap<F::Key, F::Value>,
     op: KeyedOpOf<F>,
@@ -66,7 +66,7 @@ pub fn apply_plainly<F: Functions>(
 
 /// Changes the value of a key by an input, or gives it its first one. A declined update leaves the map. Refused:
 /// `NoMemory`, and then the map is as it was.
-fn update_plainly<F: Functions>(
+fn update_plainly<F: Mergeable>(
     functions: &F,
     map: &mut BTreeMap<F::Key, F::Value>,
     key: F::Key,
@@ -89,7 +89,7 @@ fn update_plainly<F: Functions>(
 }
 
 /// What an update makes of the value that its key has, or of none; `None` where it is declined.
-fn updated<F: Functions>(
+fn updated<F: Mergeable>(
     functions: &F,
     key: &F::Key,
     input: &F::Input,
@@ -104,7 +104,7 @@ fn updated<F: Functions>(
 }
 
 /// Does one operation, and adds what it answers to what was told. Refused: `NoMemory`.
-fn tell<F: Functions>(
+fn tell<F: Mergeable>(
     functions: &F,
     map: &mut BTreeMap<F::Key, F::Value>,
     told: &mut Vec<AnswerOf<F>>,
@@ -129,7 +129,7 @@ fn tell<F: Functions>(
 }
 
 /// Does the operations in order, from no keys. Refused: `NoMemory`.
-pub fn run_plainly<F: Functions>(
+pub fn run_plainly<F: Mergeable>(
     alloc: Global,
     functions: &F,
     ops: &[KeyedOpOf<F>],

@@ -12,10 +12,10 @@ use crate::partitions::Partition;
 use crate::relocations::{EntryOf, Liveness, RelocationOf, Stage, liveness_of};
 use fkv_core::{Loading, Progress, ProgressOf};
 use fkv_device::Receipt;
-use fkv_functions::{Functions, Refused};
+use fkv_functions::{Mergeable, Refused};
 use fkv_operations::{Answer, IndexEntry};
 
-impl<F: Functions, R: Receipt> Partition<F, R> {
+impl<F: Mergeable, R: Receipt> Partition<F, R> {
     /// Checks the liveness of the record at a relocation's target: clears the target, asks for a page where the chain from the
     /// entry of the record's class goes on above it, or appends the record again. Refused, and then nothing changes: `Worn`,
     /// `NoMemory`.

@@ -16,10 +16,10 @@ use fkv_core::preserving::{
     events_preserve, loads_preserve, loads_preserve_sessions, sessions_preserved,
 };
 use fkv_device::{Loaded, Receipt};
-use fkv_functions::{Built, Functions, Refused, What};
+use fkv_functions::{Built, Mergeable, Refused, What};
 use fkv_operations::KeyedOpOf;
 
-impl<F: Functions, R: Receipt> Partition<F, R> {
+impl<F: Mergeable, R: Receipt> Partition<F, R> {
     /// Issues an operation on a key in a session and answers its context, the lowest free one. Refused, in this order, and
     /// then nothing changes: `Unknown` where the slot is that of no session, `Stranger` where the key belongs to another
     /// partition, `NoContext`.

@@ -16,10 +16,10 @@ use crate::partitions::Partition;
 use fkv_core::ProgressOf;
 use fkv_core::laws::{loads_end, pendings_stay};
 use fkv_device::{Loaded, Receipt};
-use fkv_functions::{Built, Functions, Refused};
+use fkv_functions::{Built, Mergeable, Refused};
 use fkv_operations::OpOf;
 
-impl<F: Functions, R: Receipt> Partition<F, R> {
+impl<F: Mergeable, R: Receipt> Partition<F, R> {
     /// Issues an operation in a session and answers its context, the lowest free one. A relocation takes the lowest address
     /// that is not cleared. Refused, in this order, and then nothing changes: `Unknown` where the slot is that of no
     /// session, `Stranger` where the operation's key belongs to another partition, `NotDue` where a relocation's address

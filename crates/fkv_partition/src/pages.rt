@@ -20,13 +20,13 @@ use crate::partitions::Partition;
 use fkv_core::laws::pendings_stay;
 use fkv_core::preserving::{events_preserve, sessions_preserved};
 use fkv_device::{FlushJob, PageReader, Receipt, Written};
-use fkv_functions::{Functions, Refused};
+use fkv_functions::{Mergeable, Refused};
 use fkv_lookups::clearing::cleared_stay;
 use fkv_records::Address;
 use std::alloc::Global;
 use std::collections::BTreeMap;
 
-impl<F: Functions, R: Receipt> Partition<F, R> {
+impl<F: Mergeable, R: Receipt> Partition<F, R> {
     /// Moves the read-only offset to the start of a page, as [`fkv_core::Core::shift_read_only`] does, whose
     /// refusals it has.
     pub fn shift_read_only(&mut self, page: u64, now: u64) -> Result<(), Refused>

@@ -16,7 +16,7 @@ use crate::relocations::{Relocation, RelocationOf, awaited};
 use fkv_core::contexts::{CONTEXTS, open_at};
 use fkv_core::{Config, Core};
 use fkv_device::Receipt;
-use fkv_functions::{Functions, Refused};
+use fkv_functions::{Mergeable, Refused};
 use fkv_operations::{Op, OpOf};
 use fkv_records::{Address, FIRST};
 use std::alloc::Global;
@@ -27,13 +27,13 @@ const MAX_CONTEXTS: usize = 128;
 
 /// One partition of a store. Each call that takes a moment is one event; the moments of a partition rise.
 #[derive(Drop)]
-pub struct Partition<F: Functions, R: Receipt> {
+pub struct Partition<F: Mergeable, R: Receipt> {
     pub(crate) core: Core<F, R>,
     pub(crate) cleared: Address,
     pub(crate) relocations: Vec<Option<Relocation<F::Key, F::Value>>>,
 }
 
-impl<F: Functions, R: Receipt> Model for Partition<F, R> {
+impl<F: Mergeable, R: Receipt> Model for Partition<F, R> {
     ghost use Rattle.fkv_partition.specs.Views.{PartitionView};
     ghost use Rattle.fkv_partition.specs.Inside.{view_of};
     ghost use Rattle.fkv_partition.specs.Sound.{IsCompacting};
@@ -60,7 +60,7 @@ fn free_places<T: Drop>(alloc: Global) -> Result<Vec<Option<T>>, Refused>
     Ok(places)
 }
 
-impl<F: Functions, R: Receipt> Partition<F, R> {
+impl<F: Mergeable, R: Receipt> Partition<F, R> {
     /// The partition of this number, with nothing in it. Refused, in this order: `BadConfig` where a number of the
     /// configuration is outside its limits, a record is too large, or there is no partition of this number, `NoMemory`.
     pub fn new(alloc: Global, config: &Config, number: u64) -> Result<Self, Refused>

@@ -15,11 +15,11 @@ use crate::partitions::Partition;
 use crate::relocations::{RelocationOf, StageOf, in_stage};
 use fkv_core::contexts::{is_vacant, open_context, set_context};
 use fkv_device::Receipt;
-use fkv_functions::Functions;
+use fkv_functions::Mergeable;
 use fkv_lookups::clearing::cleared_stay;
 use fkv_records::Address;
 
-impl<F: Functions, R: Receipt> Partition<F, R> {
+impl<F: Mergeable, R: Receipt> Partition<F, R> {
     /// Whether neither an operation nor a relocation stands in a context of a session.
     pub(crate) fn is_free(&self, slot: usize, context: usize) -> bool
         requires session { slot < 16 }

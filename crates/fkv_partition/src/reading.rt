@@ -12,10 +12,10 @@ use crate::relocations::{EntryOf, Liveness, RelocationOf, Stage, awaited, livene
 use fkv_core::loading::is_no_memory;
 use fkv_core::{Loading, Progress, ProgressOf};
 use fkv_device::{Loaded, Receipt};
-use fkv_functions::{Functions, Refused};
+use fkv_functions::{Mergeable, Refused};
 use fkv_operations::Answer;
 
-impl<F: Functions, R: Receipt> Partition<F, R> {
+impl<F: Mergeable, R: Receipt> Partition<F, R> {
     /// Goes on with a relocation that waits for a page, with that page as a device gave it, or with the refusal that came in
     /// its place. Where Begin has moved since it asked it is to begin anew, whatever came, and the answer is `Next`. Else
     /// the page of its target gives its record, whose liveness is checked, and a page on the chain from the entry is followed

@@ -13,12 +13,12 @@ use crate::relocations::{EntryOf, RelocationOf, Stage, StageOf};
 use fkv_core::preserving::events_preserve;
 use fkv_core::{Progress, ProgressOf, Wait, Write};
 use fkv_device::Receipt;
-use fkv_functions::{Functions, Refused};
+use fkv_functions::{Mergeable, Refused};
 use fkv_lookups::low_of;
 use fkv_operations::{Answer, IndexEntry};
 use fkv_records::Address;
 
-impl<F: Functions, R: Receipt> Partition<F, R> {
+impl<F: Mergeable, R: Receipt> Partition<F, R> {
     /// Goes on with a relocation. Where its target was cleared meanwhile it is finished. Else the record there is read in
     /// memory, or its page is asked for. Where the record is a tombstone, or its class has no entry, or a newer record of its
     /// key is met, its target is cleared as it is; where the chain from the entry of its class goes on, above its target,

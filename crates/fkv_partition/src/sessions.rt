@@ -12,9 +12,9 @@ use crate::relocations::{Relocation, Stage};
 use fkv_core::laws::pendings_stay;
 use fkv_core::preserving::{events_preserve, sessions_preserved};
 use fkv_device::Receipt;
-use fkv_functions::{Functions, Refused};
+use fkv_functions::{Mergeable, Refused};
 
-impl<F: Functions, R: Receipt> Partition<F, R> {
+impl<F: Mergeable, R: Receipt> Partition<F, R> {
     /// Enters a session, which has the view of now, and answers its slot, the lowest free one. Refused, and then
     /// nothing changes: `NoSlot` where sixteen sessions are entered.
     pub fn enter(&mut self, now: u64) -> Result<usize, Refused>

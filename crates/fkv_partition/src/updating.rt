@@ -5,9 +5,9 @@ ghost use Rattle.fkv_partition.specs.AtOnce.{IsAtHand, IsDoneAtOnce};
 use crate::partitions::Partition;
 use fkv_core::preserving::{events_preserve, sessions_preserved};
 use fkv_device::Receipt;
-use fkv_functions::Functions;
+use fkv_functions::Mergeable;
 
-impl<F: Functions, R: Receipt> Partition<F, R> {
+impl<F: Mergeable, R: Receipt> Partition<F, R> {
     /// Issues an update at one moment and goes on with it at another, where that gives its key a value: where the last
     /// record of its key may be changed in place, and the functions do not decline the update. That is what
     /// [`Partition::issue`] and [`Partition::go`] do then, but no context is written and read again. Answers what the update

@@ -41,7 +41,7 @@ value_written key value ksize vsize bytes r v room sized some s =
     let two : length (front ++ value v) ≡ 8 + ksize + vsize = omega (arith, length-append front (value v)) in
     let apart : front ++ rest ≡ (front ++ value v) ++ drop (8 + ksize + vsize) bytes = sym (append_assoc front (value v) (drop (8 + ksize + vsize) bytes)) in
     record {
-      header = header ∙ s.header ∙ ap (λ t. header_bytes r.previous t false) (no_tombstone r.value some);
+      header = header ∙ s.header ∙ ap (λ t. header_bytes r.previous t r.delta) (no_tombstone r.value some);
       key_same = key_kept ∙ s.key_same;
       value_same = part_at front (value v) (drop (8 + ksize + vsize) bytes) (8 + ksize) (8 + ksize + vsize) (omega arith) (omega arith);
       padding = ap (padding_part ksize vsize) apart ∙ rest_at (front ++ value v) (drop (8 + ksize + vsize) bytes) (8 + ksize + vsize) (omega arith) ∙ s.padding;
@@ -56,15 +56,15 @@ same_behind one other ksize vsize e =
 
 -- the tombstone bit
 pub tombstone_set : {K V : Type 0} (key : K → List ℕ) (value : V → List ℕ) (ksize vsize : ℕ) (bytes : List ℕ) (r : Record K V)
-    → r.previous < 2 ^ 48 → Spells key value ksize vsize bytes r
+    → r.delta ≡ false → r.previous < 2 ^ 48 → Spells key value ksize vsize bytes r
     → Spells key value ksize vsize (slice_set bytes 6 (bit_or (slice_index bytes 6) 1)) (record r { value = None })
-tombstone_set key value ksize vsize bytes r fits s =
+tombstone_set key value ksize vsize bytes r no_delta fits s =
     let now : List ℕ = slice_set bytes 6 (bit_or (slice_index bytes 6) 1) in
     let behind : drop 8 now ≡ drop 8 bytes = drop-set-lt 8 bytes 6 (bit_or (slice_index bytes 6) 1) (omega arith) in
     let flag : slice_index (take 8 bytes) 6 ≡ slice_index bytes 6 = get_or-take 8 bytes 6 0 (omega arith) in
     let front : take 8 now ≡ slice_set (take 8 bytes) 6 (bit_or (slice_index bytes 6) 1) = take-set-lt 8 bytes 6 (bit_or (slice_index bytes 6) 1) (omega arith) in
-    let set : slice_set (take 8 bytes) 6 (bit_or (slice_index (take 8 bytes) 6) 1) ≡ header_bytes r.previous true false =
-    ap (λ (x : List ℕ). slice_set x 6 (bit_or (slice_index x 6) 1)) s.header ∙ tombstone_bytes r.previous (is_none r.value) fits in
+    let set : slice_set (take 8 bytes) 6 (bit_or (slice_index (take 8 bytes) 6) 1) ≡ header_bytes r.previous true r.delta =
+    ap (λ (x : List ℕ). slice_set x 6 (bit_or (slice_index x 6) 1)) (rw no_delta at s.header) ∙ rw no_delta (tombstone_bytes r.previous (is_none r.value) fits) in
     record {
       header = front ∙ ap (λ x. slice_set (take 8 bytes) 6 (bit_or x 1)) (sym flag) ∙ set;
       key_same = ap (take (8 + ksize - 8)) behind ∙ s.key_same;

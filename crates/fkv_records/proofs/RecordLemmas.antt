@@ -46,8 +46,8 @@ of_value value size (Some v) x e = e
 pub spelled : {K V : Type 0} (key : K → List ℕ) (value : V → List ℕ) (ksize vsize : ℕ) (r : Record K V)
     → length (key r.key) ≡ ksize → length (value_bytes value vsize r.value) ≡ vsize → Spells key value ksize vsize (record_bytes key value ksize vsize r) r
 spelled key value ksize vsize r key_sized value_sized =
-    let p = parts (header_bytes r.previous (is_none r.value) false) (key r.key) (value_bytes value vsize r.value) (replicate (padding_of ksize vsize) 0) ksize vsize
-    (length-word_bytes (header_word r.previous (is_none r.value) false)) key_sized value_sized in
+    let p = parts (header_bytes r.previous (is_none r.value) r.delta) (key r.key) (value_bytes value vsize r.value) (replicate (padding_of ksize vsize) 0) ksize vsize
+    (length-word_bytes (header_word r.previous (is_none r.value) r.delta)) key_sized value_sized in
     record { header = p.first; key_same = p.second; value_same = of_value value vsize r.value _ p.third; padding = p.last }
 
 regroup : (h k v z : List ℕ) → h ++ (k ++ (v ++ z)) ≡ h ++ k ++ v ++ z
@@ -69,7 +69,7 @@ pub same_bytes : {K V : Type 0} (key : K → List ℕ) (value : V → List ℕ) 
 same_bytes key value ksize vsize one other r s t e =
     let a = whole one _ _ _ ksize vsize s.header s.key_same s.padding in
     let b = whole other _ _ _ ksize vsize t.header t.key_same t.padding in
-    a ∙ ap (λ m. header_bytes r.previous (is_none r.value) false ++ key r.key ++ m ++ replicate (padding_of ksize vsize) 0) e ∙ sym b
+    a ∙ ap (λ m. header_bytes r.previous (is_none r.value) r.delta ++ key r.key ++ m ++ replicate (padding_of ksize vsize) 0) e ∙ sym b
 
 same_value : {V : Type 0} (value : V → List ℕ) (is_value : V → Type 0) (readable : (a b : V) → is_value a → is_value b → value a ≡ value b → a ≡ b)
     (x : List ℕ) (o p : Option V) → is_none o ≡ is_none p → IfSome o is_value → IfSome p is_value → IfSome o (λ v. x ≡ value v) → IfSome p (λ v. x ≡ value v) → o ≡ p
@@ -84,9 +84,10 @@ pub same_record : {K V : Type 0} (key : K → List ℕ) (value : V → List ℕ)
     → (bytes : List ℕ) (r q : Record K V) → IsRecord is_key is_value address r → IsRecord is_key is_value address q
     → Spells key value ksize vsize bytes r → Spells key value ksize vsize bytes q → r ≡ q
 same_record key value is_key is_value ksize vsize address key_readable value_readable bytes r q h k s t =
-    let header = same_header (header_part bytes) (record { previous = r.previous; is_tombstone = is_none r.value; is_delta = false })
-    (record { previous = q.previous; is_tombstone = is_none q.value; is_delta = false }) (record { fits = h.fits; same = s.header }) (record { fits = k.fits; same = t.header }) in
+    let header = same_header (header_part bytes) (record { previous = r.previous; is_tombstone = is_none r.value; is_delta = r.delta })
+    (record { previous = q.previous; is_tombstone = is_none q.value; is_delta = q.delta }) (record { fits = h.fits; same = s.header }) (record { fits = k.fits; same = t.header }) in
     let previous : r.previous ≡ q.previous = ap (λ x. x.previous) header in
     let keys : r.key ≡ q.key = key_readable r.key q.key h.key k.key (sym s.key_same ∙ t.key_same) in
     let values : r.value ≡ q.value = same_value value is_value value_readable (value_part ksize vsize bytes) r.value q.value (ap (λ x. x.is_tombstone) header) h.value k.value s.value_same t.value_same in
-    λ i. record { previous = previous i; key = keys i; value = values i }
+    let deltas : r.delta ≡ q.delta = ap (λ x. x.is_delta) header in
+    λ i. record { previous = previous i; key = keys i; value = values i; delta = deltas i }

@@ -1,6 +1,6 @@
 -- Records as bytes: a header, the key's bytes, the value's bytes, and zeros up to a multiple of 8.
 use Rattle.std.specs.Prelude.{◌≡◌, ◌+◌, ◌*◌, ◌/◌, ◌-◌, ◌^◌, ◌<◌, ◌≤◌, ◌⊎◌, ℕ, List, ◌++◌, Option, None, Some, IfSome}
-use Rattle.std.specs.Prelude.{is_none, false, replicate, slice_range, take, drop}
+use Rattle.std.specs.Prelude.{is_none, IsSome, IsTrue, replicate, slice_range, take, drop}
 use Rattle.fkv_records.specs.Headers.{header_bytes}
 use Rattle.fkv_records.specs.declared.records.Record.{Record}
 
@@ -32,7 +32,7 @@ with_value_part ksize vsize bytes middle = take (8 + ksize) bytes ++ (middle ++ 
 -- the bytes are those of the record; where it is a tombstone, the value's bytes may be any
 pub record Spells {K V : Type 0} (key : K → List ℕ) (value : V → List ℕ) (ksize vsize : ℕ)
     (bytes : List ℕ) (r : Record K V) : Type 0 where
-  pub header : header_part bytes ≡ header_bytes r.previous (is_none r.value) false
+  pub header : header_part bytes ≡ header_bytes r.previous (is_none r.value) r.delta
   pub key_same : key_part ksize bytes ≡ key r.key
   pub value_same : IfSome r.value (λ v. value_part ksize vsize bytes ≡ value v)
   pub padding : padding_part ksize vsize bytes ≡ replicate (padding_of ksize vsize) 0
@@ -41,13 +41,15 @@ pub record Spells {K V : Type 0} (key : K → List ℕ) (value : V → List ℕ)
 abbrev pub IsPrevious : ℕ → ℕ → Type 0
 IsPrevious address previous = (previous ≡ 1) ⊎ ((64 ≤ previous) × (previous < address))
 
--- a record that may stand at this address: its previous one fits the header (as it does where the address does)
+-- a record that may stand at this address: its previous one fits the header (as it does where the address does), and a
+-- delta has a value
 pub record IsRecord {K V : Type 0} (is_key : K → Type 0) (is_value : V → Type 0)
     (address : ℕ) (r : Record K V) : Type 0 where
   pub previous : IsPrevious address r.previous
   pub fits : r.previous < 2 ^ 48
   pub key : is_key r.key
   pub value : IfSome r.value is_value
+  pub whole : IsTrue r.delta → IsSome r.value
 
 -- the bytes of a value, or zeros for a tombstone
 abbrev pub value_bytes : {V : Type 0} → (V → List ℕ) → ℕ → Option V → List ℕ
@@ -57,7 +59,7 @@ value_bytes value vsize (Some v) = value v
 -- the bytes of a record with these bytes in its value's place
 abbrev pub spelling : {K V : Type 0} → (K → List ℕ) → ℕ → ℕ → Record K V → List ℕ → List ℕ
 spelling key ksize vsize r middle =
-    header_bytes r.previous (is_none r.value) false ++ key r.key ++ middle ++ replicate (padding_of ksize vsize) 0
+    header_bytes r.previous (is_none r.value) r.delta ++ key r.key ++ middle ++ replicate (padding_of ksize vsize) 0
 
 -- the bytes that are written for a record
 abbrev pub record_bytes : {K V : Type 0} → (K → List ℕ) → (V → List ℕ) → ℕ → ℕ → Record K V → List ℕ

@@ -1,5 +1,5 @@
 //! Changes of a record where it stands.
-ghost use Rattle.std.specs.Prelude.{◌≡◌, ◌+◌, ◌^◌, ◌<◌, ◌≤◌, ℕ, List, length};
+ghost use Rattle.std.specs.Prelude.{◌≡◌, ◌+◌, ◌^◌, ◌<◌, ◌≤◌, ℕ, List, false, length};
 ghost use Rattle.std.specs.Prelude.{slice_set, slice_index, bit_or, IsSome, Some, None};
 ghost use Rattle.fkv_records.specs.Records.{size_of, with_value_part, Spells};
 ghost use Rattle.fkv_records.specs.declared.records.Record.{Record};
@@ -28,11 +28,11 @@ pub fn write_value<K: Fixed, V: Fixed>(value: &V, place: &mut [u8])
     value.put(place);
 }
 
-/// Makes the record in these bytes a tombstone. All bits but the tombstone's stay.
+/// Makes the record in these bytes, which is no delta, a tombstone. All bits but the tombstone's stay.
 pub fn set_tombstone<K: Fixed, V: Fixed>(bytes: &mut [u8])
     requires { length bytes.old ≡ size_of K.SIZE V.SIZE }
     ensures bytes { bytes.new ≡ slice_set bytes.old 6 (bit_or (slice_index bytes.old 6) 1) }
-    ensures spells { (r : Record K V) → r.previous < 2 ^ 48
+    ensures spells { (r : Record K V) → r.delta ≡ false → r.previous < 2 ^ 48
         → Spells K.bytes_of V.bytes_of K.SIZE V.SIZE bytes.old r
         → Spells K.bytes_of V.bytes_of K.SIZE V.SIZE bytes.new (record r { value = None }) }
 {

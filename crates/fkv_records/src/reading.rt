@@ -3,7 +3,6 @@ ghost use Rattle.std.specs.Prelude.{◌≡◌, ◌^◌, ◌<◌, ◌≤◌, ◌�
 ghost use Rattle.fkv_records.specs.Records.{size_of, IsRecord, Spells};
 ghost use Rattle.fkv_records.specs.declared.records.Record.{Record};
 
-use crate::addresses::Address;
 use crate::headers::Header;
 use crate::records::Record;
 use fkv_functions::Fixed;
@@ -19,15 +18,14 @@ pub fn is_of<K: Fixed, V: Fixed>(bytes: &[u8], key: &K) -> bool
     key.stands_in(&bytes[8..8 + K::SIZE])
 }
 
-/// The record's previous address, and whether it is a tombstone.
-pub fn link_of<K: Fixed, V: Fixed>(bytes: &[u8]) -> (Address, bool)
+/// The record's header: its previous address, and whether it is a tombstone or a delta.
+pub fn link_of<K: Fixed, V: Fixed>(bytes: &[u8]) -> Header
     requires most { size_of K.SIZE V.SIZE ≤ 192 }
     requires room { length bytes.now ≡ size_of K.SIZE V.SIZE }
     ensures { (r : Record K V) → r.previous < 2 ^ 48 → Spells K.bytes_of V.bytes_of K.SIZE V.SIZE bytes.now r
-        → (result.0 ≡ r.previous) × (result.1 ≡ is_none r.value) }
+        → result ≡ record { previous = r.previous; is_tombstone = is_none r.value; is_delta = r.delta } }
 {
-    let header = Header::held_in(&bytes[..8]);
-    (header.previous, header.is_tombstone)
+    Header::held_in(&bytes[..8])
 }
 
 /// The record's value, where it is no tombstone.
@@ -53,15 +51,16 @@ pub fn record_of<K: Fixed, V: Fixed>(bytes: &[u8]) -> Record<K, V>
         → Spells K.bytes_of V.bytes_of K.SIZE V.SIZE bytes.now r
         → result ≡ r }
 {
-    let (previous, is_tombstone) = link_of::<K, V>(bytes);
-    let value = if is_tombstone {
+    let header = link_of::<K, V>(bytes);
+    let value = if header.is_tombstone {
         None
     } else {
         value_of::<K, V>(bytes)
     };
     Record {
-        previous,
+        previous: header.previous,
         key: K::held_in(&bytes[8..8 + K::SIZE]),
         value,
+        delta: header.is_delta,
     }
 }

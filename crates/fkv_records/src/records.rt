@@ -1,5 +1,5 @@
 //! Records and their bytes.
-ghost use Rattle.std.specs.Prelude.{◌≡◌, ◌+◌, ◌^◌, ◌<◌, ◌≤◌, ◌↔◌, ℕ, Bool, false, length, replicate, IfOk, IfSome};
+ghost use Rattle.std.specs.Prelude.{◌≡◌, ◌+◌, ◌^◌, ◌<◌, ◌≤◌, ◌↔◌, ◌&&◌, ℕ, Bool, false, length, replicate, IfOk, IfSome};
 ghost use Rattle.std.specs.Prelude.{IsSome, IsTrue};
 ghost use Rattle.fkv_records.specs.Headers.{header_bytes};
 ghost use Rattle.fkv_records.specs.Records.{size_of, value_part, value_bytes, spelling, record_bytes};
@@ -19,6 +19,8 @@ pub struct Record<K, V> {
     pub key: K,
     /// The value, or `None` for a tombstone.
     pub value: Option<V>,
+    /// Whether the value is a part, to be joined with what the key had before. A tombstone is no delta.
+    pub delta: bool,
 }
 
 /// The bytes spell no record.
@@ -65,7 +67,7 @@ fn fill_record<K: Fixed, V: Fixed>(entry: &Record<K, V>, out: &mut [u8])
     let header = Header {
         previous: entry.previous,
         is_tombstone: entry.value.is_none(),
-        is_delta: false,
+        is_delta: entry.delta,
     };
     let (front, rest) = out.split_at_mut(8);
     front.copy_from_slice(&header.to_bytes());
@@ -82,7 +84,8 @@ fn fill_record<K: Fixed, V: Fixed>(entry: &Record<K, V>, out: &mut [u8])
     padding.fill(0);
 }
 
-/// The one record that these bytes spell at this address, or [`Damaged`] where they spell none.
+/// The one record that these bytes spell at this address, or [`Damaged`] where they spell none: a header that says both
+/// tombstone and delta is none's.
 pub fn read_record<K: Fixed, V: Fixed>(
     address: Address,
     bytes: &[u8],
@@ -114,6 +117,7 @@ pub fn read_record<K: Fixed, V: Fixed>(
             previous: header.previous,
             key,
             value: None,
+            delta: false,
         });
     }
     let Some(value) = V::take(&bytes[key_end..value_end]) else {
@@ -123,19 +127,25 @@ pub fn read_record<K: Fixed, V: Fixed>(
         previous: header.previous,
         key,
         value: Some(value),
+        delta: header.is_delta,
     })
 }
 
 /// The header that these eight bytes are, of a record at this address.
 fn read_header(address: Address, bytes: &[u8]) -> Option<Header>
     requires { length bytes.now ≡ 8 }
-    ensures spelled { IfSome result (λ h. bytes.now ≡ header_bytes h.previous h.is_tombstone false) }
+    ensures spelled { IfSome result (λ h. bytes.now ≡ header_bytes h.previous h.is_tombstone h.is_delta) }
     ensures previous { IfSome result (λ h. IsPrevious address h.previous × (h.previous < 2 ^ 48)) }
-    ensures only { (p : ℕ) (t : Bool) → IsPrevious address p → p < 2 ^ 48 → bytes.now ≡ header_bytes p t false
-        → IfSome result (λ h. (h.previous ≡ p) × (h.is_tombstone ≡ t)) × IsSome result }
+    ensures one { IfSome result (λ h. (h.is_tombstone && h.is_delta) ≡ false) }
+    ensures only { (p : ℕ) (t d : Bool) → IsPrevious address p → p < 2 ^ 48 → (t && d) ≡ false
+        → bytes.now ≡ header_bytes p t d
+        → IfSome result (λ h. (h.previous ≡ p) × (h.is_tombstone ≡ t) × (h.is_delta ≡ d)) × IsSome result }
 {
     let header = Header::from_bytes(bytes)?;
-    if header.is_delta || !is_previous(header.previous, address) {
+    if header.is_tombstone && header.is_delta {
+        return None;
+    }
+    if !is_previous(header.previous, address) {
         return None;
     }
     Some(header)

@@ -12,7 +12,7 @@ use crate::passes::Pass;
 use crate::stores::{Store, readers_of};
 use fkv_closing::{Closed, close_parts};
 use fkv_device::{Disk, Receipt};
-use fkv_functions::{Functions, Refused};
+use fkv_functions::{Mergeable, Refused};
 use fkv_histories::Recorder;
 use fkv_locked::{Locked, Part};
 use std::alloc::Global;
@@ -26,7 +26,7 @@ struct Kept<H: Drop> {
 }
 
 /// What these passes of so many partitions keep, in order. Refused: `NoMemory`.
-fn kept_by<F: Functions, D: Disk, H: Recorder<F>>(
+fn kept_by<F: Mergeable, D: Disk, H: Recorder<F>>(
     alloc: Global,
     passes: Vec<Pass<F, D, H>>,
     count: usize,
@@ -53,7 +53,7 @@ fn kept_by<F: Functions, D: Disk, H: Recorder<F>>(
 }
 
 /// What is left of partitions under their locks, in order. Refused: `NoMemory`.
-fn parts_of<F: Functions, R: Receipt, H: Recorder<F>>(
+fn parts_of<F: Mergeable, R: Receipt, H: Recorder<F>>(
     alloc: Global,
     locks: Vec<Mutex<Locked<F, R, H>>>,
 ) -> Result<Vec<Part<F, R>>, Refused>
@@ -71,7 +71,7 @@ fn parts_of<F: Functions, R: Receipt, H: Recorder<F>>(
     Ok(parts)
 }
 
-impl<F: Functions, D: Disk, H: Recorder<F>> Store<F, D, H> {
+impl<F: Mergeable, D: Disk, H: Recorder<F>> Store<F, D, H> {
     /// Whether each pass is of this store.
     fn knows_all(&self, passes: &[Pass<F, D, H>]) -> bool
         ensures { IsTrue result ↔ All (IsPassOf self.now) passes.now }

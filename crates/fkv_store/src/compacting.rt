@@ -9,7 +9,7 @@ use crate::stores::Store;
 use crate::tidying::KEEPER;
 use fkv_compaction::Compactor;
 use fkv_device::{Disk, Loaded};
-use fkv_functions::{Functions, Refused};
+use fkv_functions::{Mergeable, Refused};
 use fkv_histories::Recorder;
 use fkv_partition::{Progress, ProgressOf};
 use fkv_records::Address;
@@ -35,7 +35,7 @@ enum Stage<R: Drop> {
 }
 
 /// What comes of an event of a compactor: relocations end where one waits, or where none is due.
-fn after_event<F: Functions, D: Disk>(
+fn after_event<F: Mergeable, D: Disk>(
     turned: Result<ProgressOf<F, D::Receipt>, Refused>,
 ) -> Result<Stage<D::Receipt>, Refused>
     ensures only { IfErr result IsTold }
@@ -48,7 +48,7 @@ fn after_event<F: Functions, D: Disk>(
     }
 }
 
-impl<F: Functions, D: Disk, H: Recorder<F>> Store<F, D, H> {
+impl<F: Mergeable, D: Disk, H: Recorder<F>> Store<F, D, H> {
     /// Relocates what lives at the start of a partition's log, up to the Head that it finds at the most, and moves Begin
     /// behind what is cleared. It stops early where a part is not due; where a relocation waits it begins no other, and gives
     /// that one up. No value of a key changes.

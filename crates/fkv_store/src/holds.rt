@@ -7,7 +7,7 @@ use crate::gates::{Gate, Place};
 use crate::refusals::told;
 use crate::stores::Store;
 use fkv_device::{Disk, Loaded, Receipt};
-use fkv_functions::{Built, Functions, Refused};
+use fkv_functions::{Built, Mergeable, Refused};
 use fkv_histories::Recorder;
 use fkv_locked::{MineOf, Seat, TurnOf};
 use fkv_operations::KeyedOpOf;
@@ -29,7 +29,7 @@ impl At {
 
 /// What is at hand for the next event of an operation.
 #[derive(Drop)]
-pub(crate) enum Hand<F: Functions, R: Receipt> {
+pub(crate) enum Hand<F: Mergeable, R: Receipt> {
     /// Nothing: it goes on.
     Nothing,
     /// What was built for it.
@@ -39,7 +39,7 @@ pub(crate) enum Hand<F: Functions, R: Receipt> {
 }
 
 /// Enters a session. Refused as [`fkv_locked::Locked::enter`] is.
-pub(crate) fn enter<F: Functions, D: Disk, H: Recorder<F>, G: Gate>(
+pub(crate) fn enter<F: Mergeable, D: Disk, H: Recorder<F>, G: Gate>(
     rt: &impl Wait,
     store: &Store<F, D, H>,
     at: At,
@@ -57,7 +57,7 @@ pub(crate) fn enter<F: Functions, D: Disk, H: Recorder<F>, G: Gate>(
 }
 
 /// Refreshes a session. Refused as [`fkv_locked::Locked::refresh`] is.
-pub(crate) fn refresh<F: Functions, D: Disk, H: Recorder<F>, G: Gate>(
+pub(crate) fn refresh<F: Mergeable, D: Disk, H: Recorder<F>, G: Gate>(
     rt: &impl Wait,
     store: &Store<F, D, H>,
     at: At,
@@ -76,7 +76,7 @@ pub(crate) fn refresh<F: Functions, D: Disk, H: Recorder<F>, G: Gate>(
 }
 
 /// Leaves a session. Refused as [`fkv_locked::Locked::leave`] is.
-pub(crate) fn leave<F: Functions, D: Disk, H: Recorder<F>, G: Gate>(
+pub(crate) fn leave<F: Mergeable, D: Disk, H: Recorder<F>, G: Gate>(
     rt: &impl Wait,
     store: &Store<F, D, H>,
     at: At,
@@ -95,7 +95,7 @@ pub(crate) fn leave<F: Functions, D: Disk, H: Recorder<F>, G: Gate>(
 }
 
 /// Issues an operation of a caller. Refused as [`fkv_locked::Locked::issue`] is.
-pub(crate) fn issue<F: Functions, D: Disk, H: Recorder<F>, G: Gate>(
+pub(crate) fn issue<F: Mergeable, D: Disk, H: Recorder<F>, G: Gate>(
     rt: &impl Wait,
     store: &Store<F, D, H>,
     at: At,
@@ -119,7 +119,7 @@ pub(crate) fn issue<F: Functions, D: Disk, H: Recorder<F>, G: Gate>(
 
 /// Makes the next event of an operation of a caller, with what is at hand. Refused as [`fkv_locked::Locked::go`], `install`
 /// and `load` are.
-pub(crate) fn turn<F: Functions, D: Disk, H: Recorder<F>, G: Gate>(
+pub(crate) fn turn<F: Mergeable, D: Disk, H: Recorder<F>, G: Gate>(
     rt: &impl Wait,
     store: &Store<F, D, H>,
     at: At,
@@ -145,7 +145,7 @@ pub(crate) fn turn<F: Functions, D: Disk, H: Recorder<F>, G: Gate>(
 }
 
 /// Gives an operation of a caller up, if it is still open.
-pub(crate) fn give_up<F: Functions, D: Disk, H: Recorder<F>, G: Gate>(
+pub(crate) fn give_up<F: Mergeable, D: Disk, H: Recorder<F>, G: Gate>(
     rt: &impl Wait,
     store: &Store<F, D, H>,
     at: At,

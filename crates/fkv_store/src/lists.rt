@@ -1,13 +1,13 @@
 //! Lists with an item for each partition, which a pass has.
 ghost use Rattle.std.specs.Prelude.{◌≡◌, ◌+◌, ◌-◌, ◌^◌, ◌<◌, ◌≤◌, ◌⊎◌, true, [], ◌∷◌, ◌++◌, length, map, replicate, vec_len, slice_index, slice_index_or, slice_set, None, IfOk, IfErr, OnOk};
 
-use fkv_functions::{Functions, Refused};
+use fkv_functions::{Mergeable, Refused};
 use fkv_histories::{EntryOf, Recorder};
 use fkv_locked::Seat;
 use std::alloc::Global;
 
 /// So many recorders, to which nothing was added. Refused: `NoMemory`.
-pub(crate) fn fresh_lists<F: Functions, H: Recorder<F>>(
+pub(crate) fn fresh_lists<F: Mergeable, H: Recorder<F>>(
     alloc: Global,
     count: usize,
 ) -> Result<Vec<H>, Refused>
@@ -47,7 +47,7 @@ pub(crate) fn no_seats(alloc: Global, count: usize) -> Result<Vec<Option<Seat>>,
 
 /// Makes room for an entry in one list. Refused, in this order, and then the entries stay: `Worn` where its updates have no
 /// next number, `NoMemory`.
-pub(crate) fn room_at<F: Functions, H: Recorder<F>>(
+pub(crate) fn room_at<F: Mergeable, H: Recorder<F>>(
     own: &mut Vec<H>,
     place: usize,
 ) -> Result<(), Refused>
@@ -69,7 +69,7 @@ pub(crate) fn room_at<F: Functions, H: Recorder<F>>(
 }
 
 /// Adds an entry to one list, for which there has to be room.
-pub(crate) fn add_at<F: Functions, H: Recorder<F>>(
+pub(crate) fn add_at<F: Mergeable, H: Recorder<F>>(
     own: &mut Vec<H>,
     place: usize,
     entry: EntryOf<F>,

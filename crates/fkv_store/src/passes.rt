@@ -11,7 +11,7 @@ use crate::lists::{add_at, room_at};
 use crate::running::{Run, refresh_all, run_in};
 use crate::stores::Store;
 use fkv_device::Disk;
-use fkv_functions::{Functions, Refused, What};
+use fkv_functions::{Mergeable, Refused, What};
 use fkv_histories::{EntryOf, Recorder};
 use fkv_locked::Seat;
 use fkv_operations::{AnswerOf, KeyedOpOf};
@@ -25,7 +25,7 @@ const ANSWERS: u8 = 64;
 /// What a caller has of a store: its sessions, and for each partition the list of what it was answered and of how many
 /// updates it was told there.
 #[derive(Drop)]
-pub struct Pass<F: Functions, D: Disk, H: Recorder<F>> {
+pub struct Pass<F: Mergeable, D: Disk, H: Recorder<F>> {
     pub(crate) store: u64,
     pub(crate) worker: u32,
     pub(crate) share: u64,
@@ -38,7 +38,7 @@ pub struct Pass<F: Functions, D: Disk, H: Recorder<F>> {
     pub(crate) functions: PhantomData<F>,
 }
 
-impl<F: Functions, D: Disk, H: Recorder<F>> Model for Pass<F, D, H> {
+impl<F: Mergeable, D: Disk, H: Recorder<F>> Model for Pass<F, D, H> {
     ghost use Rattle.std.specs.Prelude.{◌≡◌, length, map};
     ghost use Rattle.fkv_store.specs.Passes.{PassView};
 
@@ -65,7 +65,7 @@ fn told_at(told: &Vec<u64>, partition: usize) -> u64
 }
 
 /// Of how many updates a caller was told, after it was answered by an entry.
-fn told_by<F: Functions>(entry: &EntryOf<F>) -> u64
+fn told_by<F: Mergeable>(entry: &EntryOf<F>) -> u64
     requires { entry.now.at < 2 ^ 64 - 1 }
     ensures { result ≡ told_after entry.now }
 {
@@ -77,7 +77,7 @@ fn told_by<F: Functions>(entry: &EntryOf<F>) -> u64
 }
 
 /// The seat in a partition: that which is there, or that of a session which is entered now.
-fn seat_in<F: Functions, D: Disk, H: Recorder<F>, G: Gate>(
+fn seat_in<F: Mergeable, D: Disk, H: Recorder<F>, G: Gate>(
     rt: &impl Wait,
     store: &Store<F, D, H>,
     seats: &mut Vec<Option<Seat>>,
@@ -102,7 +102,7 @@ fn seat_in<F: Functions, D: Disk, H: Recorder<F>, G: Gate>(
 }
 
 /// Refreshes each session of a pass where so many operations were answered since the last time.
-fn refresh_at_times<F: Functions, D: Disk, H: Recorder<F>, G: Gate>(
+fn refresh_at_times<F: Mergeable, D: Disk, H: Recorder<F>, G: Gate>(
     rt: &impl Wait,
     store: &Store<F, D, H>,
     seats: &[Option<Seat>],
@@ -126,7 +126,7 @@ fn refresh_at_times<F: Functions, D: Disk, H: Recorder<F>, G: Gate>(
     }
 }
 
-impl<F: Functions, D: Disk, H: Recorder<F>> Pass<F, D, H> {
+impl<F: Mergeable, D: Disk, H: Recorder<F>> Pass<F, D, H> {
     /// Whether it is a pass of this store.
     pub(crate) fn known_to(&self, store: &Store<F, D, H>) -> Result<(), Refused>
         ensures ok { OnOk result (IsPassOf store.now self.now) }
@@ -264,7 +264,7 @@ impl<F: Functions, D: Disk, H: Recorder<F>> Pass<F, D, H> {
 }
 
 /// Leaves each session of a pass, in order.
-fn leave_all<F: Functions, D: Disk, H: Recorder<F>>(
+fn leave_all<F: Mergeable, D: Disk, H: Recorder<F>>(
     rt: &impl Wait,
     store: &Store<F, D, H>,
     seats: &mut Vec<Option<Seat>>,

@@ -7,7 +7,7 @@ use crate::gates::{Gate, Place};
 use crate::holds::{At, Hand, give_up, issue, refresh, turn};
 use crate::stores::Store;
 use fkv_device::{Disk, Loaded};
-use fkv_functions::{Built, Functions, Refused};
+use fkv_functions::{Built, Mergeable, Refused};
 use fkv_histories::{EntryOf, Recorder};
 use fkv_locked::{MineOf, Seat, Turn, TurnOf};
 use fkv_operations::KeyedOpOf;
@@ -27,7 +27,7 @@ pub(crate) struct Run<'a> {
 }
 
 /// Refreshes each session of a pass.
-pub(crate) fn refresh_all<F: Functions, D: Disk, H: Recorder<F>, G: Gate>(
+pub(crate) fn refresh_all<F: Mergeable, D: Disk, H: Recorder<F>, G: Gate>(
     rt: &impl Wait,
     store: &Store<F, D, H>,
     seats: &[Option<Seat>],
@@ -51,7 +51,7 @@ pub(crate) fn refresh_all<F: Functions, D: Disk, H: Recorder<F>, G: Gate>(
 
 /// Makes the next event of an operation, and where a value is to be built for it builds and installs that. Refused as
 /// [`turn`] is.
-fn attempt<F: Functions, D: Disk, H: Recorder<F>, G: Gate>(
+fn attempt<F: Mergeable, D: Disk, H: Recorder<F>, G: Gate>(
     rt: &impl Wait,
     store: &Store<F, D, H>,
     at: At,
@@ -81,7 +81,7 @@ fn attempt<F: Functions, D: Disk, H: Recorder<F>, G: Gate>(
 }
 
 /// Moves the pages of a partition on, and refreshes the sessions of a pass, so that what an operation waits for may come.
-fn wait<F: Functions, D: Disk, H: Recorder<F>, G: Gate>(
+fn wait<F: Mergeable, D: Disk, H: Recorder<F>, G: Gate>(
     rt: &impl Wait,
     store: &Store<F, D, H>,
     run: &Run<'_>,
@@ -104,7 +104,7 @@ fn wait<F: Functions, D: Disk, H: Recorder<F>, G: Gate>(
 
 /// Goes on with an operation until it is finished, or has taken all its turns: each event that lets it go on, asks for a page
 /// or waits is a turn.
-fn run_on<F: Functions, D: Disk, H: Recorder<F>, G: Gate>(
+fn run_on<F: Mergeable, D: Disk, H: Recorder<F>, G: Gate>(
     rt: &impl Wait,
     store: &Store<F, D, H>,
     run: &Run<'_>,
@@ -143,7 +143,7 @@ fn run_on<F: Functions, D: Disk, H: Recorder<F>, G: Gate>(
 }
 
 /// Runs an operation in a session of a pass. Where it is refused it is over, without effect.
-pub(crate) fn run_in<F: Functions, D: Disk, H: Recorder<F>, G: Gate>(
+pub(crate) fn run_in<F: Mergeable, D: Disk, H: Recorder<F>, G: Gate>(
     rt: &impl Wait,
     store: &Store<F, D, H>,
     run: &Run<'_>,

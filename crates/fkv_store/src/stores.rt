@@ -9,7 +9,7 @@ ghost use Rattle.fkv_store.specs.Stores.{IsUnopened};
 use crate::lists::{fresh_lists, no_seats, zeros};
 use crate::passes::Pass;
 use fkv_device::Disk;
-use fkv_functions::{Functions, Refused};
+use fkv_functions::{Functions, Mergeable, Refused};
 use fkv_histories::Recorder;
 use fkv_locked::Locked;
 use fkv_operations::partition_at;
@@ -20,7 +20,7 @@ use std::sync::{Mutex, Wait};
 
 /// A store that callers share: each partition under a lock of its own, and each writer of a partition's pages.
 #[derive(Drop)]
-pub struct Store<F: Functions, D: Disk, H: Recorder<F>> {
+pub struct Store<F: Mergeable, D: Disk, H: Recorder<F>> {
     pub(crate) id: u64,
     pub(crate) turns: u64,
     pub(crate) frames: u64,
@@ -31,7 +31,7 @@ pub struct Store<F: Functions, D: Disk, H: Recorder<F>> {
     pub(crate) locks: Vec<Mutex<Locked<F, D::Receipt, H>>>,
 }
 
-impl<F: Functions, D: Disk, H: Recorder<F>> Model for Store<F, D, H> {
+impl<F: Mergeable, D: Disk, H: Recorder<F>> Model for Store<F, D, H> {
     ghost use Rattle.std.specs.Prelude.{◌≡◌, ◌^◌, ℕ, length};
     ghost use Rattle.fkv_store.specs.Stores.{StoreView};
 
@@ -45,14 +45,14 @@ impl<F: Functions, D: Disk, H: Recorder<F>> Model for Store<F, D, H> {
 
 /// The locked partitions of a store, with nothing in them, and the writers of their pages.
 #[derive(Drop)]
-struct Opened<F: Functions, D: Disk, H: Recorder<F>> {
+struct Opened<F: Mergeable, D: Disk, H: Recorder<F>> {
     writers: Vec<Mutex<D::Writer>>,
     locks: Vec<Mutex<Locked<F, D::Receipt, H>>>,
 }
 
 /// So many locked partitions, with nothing in them, and the writers of their pages. Refused: `NoMemory`, and as the device
 /// refuses to open.
-fn open_all<F: Functions, D: Disk, H: Recorder<F>>(
+fn open_all<F: Mergeable, D: Disk, H: Recorder<F>>(
     alloc: Global,
     config: &Config,
     device: &mut D,
@@ -107,7 +107,7 @@ pub(crate) fn readers_of<D: Disk>(
     Ok(readers)
 }
 
-impl<F: Functions, D: Disk, H: Recorder<F>> Store<F, D, H> {
+impl<F: Mergeable, D: Disk, H: Recorder<F>> Store<F, D, H> {
     /// A store of this configuration with nothing in it, whose pages go to this device.
     ///
     /// # Errors

@@ -7,7 +7,7 @@ use crate::holds::At;
 use crate::refusals::told;
 use crate::stores::Store;
 use fkv_device::{Disk, FlushJob, Written};
-use fkv_functions::{Functions, Refused};
+use fkv_functions::{Mergeable, Refused};
 use fkv_histories::Recorder;
 use fkv_records::Address;
 use std::alloc::Global;
@@ -26,7 +26,7 @@ fn passed(shifted: Result<(), Refused>) -> Result<(), Refused>
     }
 }
 
-impl<F: Functions, D: Disk, H: Recorder<F>> Store<F, D, H> {
+impl<F: Mergeable, D: Disk, H: Recorder<F>> Store<F, D, H> {
     /// Moves a partition's pages on: ReadOnly follows the tail, so that half of the frames are changed in place, one at
     /// least; the pages that wait are written, as many as there are frames at the most; and Head follows, as far as pages
     /// are written, so that the page behind the tail's finds its frame free. What is not due is passed over. Pages wait for

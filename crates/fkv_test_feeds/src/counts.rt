@@ -1,7 +1,7 @@
 //! How much a run did.
 use fkv_device::MemoryDevice;
 use fkv_feeds::{Counts, run_one};
-use fkv_functions::{CappedSumFns, Functions, Name};
+use fkv_functions::{CappedSumFns, Mergeable, Name};
 use fkv_partition::Config;
 use fkv_streams::CountedReader;
 use std::alloc::Global;
@@ -25,7 +25,7 @@ const ROOMY: Config = Config {
 };
 
 /// What a run over these feeds did.
-fn counted<F: Functions<Key = Name, Input = i64>>(
+fn counted<F: Mergeable<Key = Name, Input = i64>>(
     alloc: Global,
     functions: &F,
     feeds: &[&str],

@@ -1,9 +1,10 @@
 //! Functions of the tests' own, which decline a first amount below 0 and each amount that does not rise.
-ghost use Rattle.std.specs.Prelude.{◌≡◌, pos, int_le, int_lt, if◌then◌else◌, Some, None};
+ghost use Rattle.std.specs.Prelude.{◌≡◌, pos, int_le, int_lt, if◌then◌else◌, false, Some, None};
 ghost use Rattle.fkv_functions.specs.Hashes.{fnv_1a};
+ghost use Rattle.fkv_functions.specs.Meanings.{unmerged, unmerged_associative};
 ghost use Rattle.fkv_functions.specs.Names.{text_of};
 
-use fkv_functions::{Functions, Name};
+use fkv_functions::{Functions, Mergeable, Name};
 
 /// Sets the value of a name to its input, where that rises.
 #[derive(Clone, Copy, Debug, Default)]
@@ -49,5 +50,25 @@ impl Functions for RisingFns {
 
     fn hash(&self, key: &Name) -> u64 {
         key.hash()
+    }
+}
+
+impl Mergeable for RisingFns {
+    const MERGES: bool = false;
+
+    ghost MERGES = { false };
+
+    ghost parts = { unmerged (λ k i. i) };
+
+    ghost merges = { λ h. absurd (cc) };
+
+    ghost associative = { λ u v w. unmerged_associative w };
+
+    fn delta(&self, _key: &Name, input: &i64) -> i64 {
+        *input
+    }
+
+    fn join(&self, _value: &i64, part: &i64) -> i64 {
+        *part
     }
 }

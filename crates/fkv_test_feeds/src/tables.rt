@@ -2,7 +2,7 @@
 use crate::rising::RisingFns;
 use fkv_device::MemoryDevice;
 use fkv_feeds::{run_one, write_table};
-use fkv_functions::{CappedSumFns, CountFns, Functions, MaxFns, Name, Refused, SumFns};
+use fkv_functions::{CappedSumFns, CountFns, MaxFns, Mergeable, Name, Refused, SumFns};
 use fkv_partition::Config;
 use fkv_streams::{CountedReader, CountedWriter};
 use itoa::Integer;
@@ -41,7 +41,7 @@ enum Kind {
 }
 
 /// The text of the table of these feeds.
-fn text_of<F: Functions<Key = Name, Input = i64>>(
+fn text_of<F: Mergeable<Key = Name, Input = i64>>(
     alloc: Global,
     functions: &F,
     feeds: &[&str],

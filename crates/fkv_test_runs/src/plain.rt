@@ -1,6 +1,6 @@
 //! The plain program on worked runs, and the clock at its end.
 use crate::letters::{name, on_name};
-use fkv_functions::{CappedSumFns, CountFns, Functions, MaxFns, Name, Refused, SumFns};
+use fkv_functions::{CappedSumFns, CountFns, MaxFns, Mergeable, Name, Refused, SumFns};
 use fkv_operations::{Answer, Clock, KeyedOp, PlainRun, apply_plainly, run_plainly};
 use std::alloc::{AllocError, Global};
 use std::collections::BTreeMap;
@@ -23,7 +23,7 @@ fn ops_of<V: Copy + Drop, O>(
 }
 
 /// The value of a key after a run.
-fn held<F: Functions<Key = Name>>(run: &PlainRun<F>, key: u8) -> Option<F::Value> {
+fn held<F: Mergeable<Key = Name>>(run: &PlainRun<F>, key: u8) -> Option<F::Value> {
     match name(key) {
         Some(key) => run.map.get(&key).copied(),
         None => None,
@@ -31,7 +31,7 @@ fn held<F: Functions<Key = Name>>(run: &PlainRun<F>, key: u8) -> Option<F::Value
 }
 
 /// Whether the operations answer so one after the other, and leave these values.
-fn runs_to<F: Functions<Key = Name, Input = i64>>(
+fn runs_to<F: Mergeable<Key = Name, Input = i64>>(
     alloc: Global,
     functions: &F,
     rows: &[Row<F::Value, F::Output>],

@@ -1,5 +1,5 @@
 -- What the definitions refuse, on small texts: keys and values are numbers, and the class of a key is its half.
-use Rattle.std.specs.Prelude.{◌≡◌, ◌<◌, ◌/◌, ◌==◌, ℕ, [], ◌∷◌, Option, Some, None}
+use Rattle.std.specs.Prelude.{◌≡◌, ◌<◌, ◌/◌, ◌==◌, ℕ, [], ◌∷◌, false, Option, Some, None}
 use Rattle.std.specs.Ordering.{nat_cmp}
 use Rattle.fkv_texts.specs.declared.entries.Entry.{Entry}
 use Rattle.fkv_texts.specs.Text.{newest, live, changed, text_from}
@@ -8,7 +8,7 @@ use Rattle.fkv_texts.specs.Chains.{IsChained, falling, leads_to}
 
 -- an entry by its address, previous address, key and value
 abbrev pub entry : ℕ → ℕ → ℕ → Option ℕ → Entry ℕ ℕ
-entry address previous key value = record { address = address; previous = previous; key = key; value = value }
+entry address previous key value = record { address = address; previous = previous; key = key; value = value; delta = false }
 
 -- the class of a key
 abbrev pub half : ℕ → ℕ

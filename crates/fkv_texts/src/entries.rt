@@ -1,5 +1,5 @@
 //! The entries of a text.
-ghost use Rattle.std.specs.Prelude.{◌≡◌};
+ghost use Rattle.std.specs.Prelude.{◌≡◌, false};
 
 use fkv_records::{Address, Record};
 
@@ -12,6 +12,8 @@ pub struct Entry<K, V> {
     pub key: K,
     /// The key's value, or `None` for a tombstone.
     pub value: Option<V>,
+    /// Whether the value is a part, to be joined with what the key had before. A tombstone is no delta.
+    pub delta: bool,
 }
 
 /// What a reader of a chain comes to.
@@ -25,29 +27,37 @@ pub enum ChainPosition<K, V> {
 
 /// The entry that a record is at an address.
 pub fn entry_of<K, V>(address: Address, found: Record<K, V>) -> Entry<K, V>
-    ensures { result ≡ record { address = address; previous = found.previous; key = found.key; value = found.value } }
+    ensures { result ≡ record {
+      address = address;
+      previous = found.previous;
+      key = found.key;
+      value = found.value;
+      delta = found.delta;
+    } }
 {
     Entry {
         address,
         previous: found.previous,
         key: found.key,
         value: found.value,
+        delta: found.delta,
     }
 }
 
-/// An entry of a key in hand.
+/// An entry of a key in hand, which is no delta.
 pub fn entry_with<K: Copy, V>(
     address: Address,
     previous: Address,
     key: &K,
     value: Option<V>,
 ) -> Entry<K, V>
-    ensures { result ≡ record { address = address; previous = previous; key = key.now; value = value } }
+    ensures { result ≡ record { address = address; previous = previous; key = key.now; value = value; delta = false } }
 {
     Entry {
         address,
         previous,
         key: *key,
         value,
+        delta: false,
     }
 }

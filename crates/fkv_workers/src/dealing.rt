@@ -8,7 +8,7 @@ ghost use Rattle.fkv_workers.specs.Works.{StandsFor, IsFirstFault};
 use crate::deals::Hand;
 use crate::working::{Work, Worked};
 use fkv_device::Disk;
-use fkv_functions::{Functions, Name, Refused};
+use fkv_functions::{Mergeable, Name, Refused};
 use fkv_histories::Recorder;
 use fkv_store::{Pass, Store};
 use fkv_streams::Source;
@@ -19,7 +19,7 @@ use std::sync::Wait;
 pub(crate) fn works<
     'a,
     S: Source + Drop,
-    F: Functions<Key = Name, Input = i64>,
+    F: Mergeable<Key = Name, Input = i64>,
     D: Disk,
     H: Recorder<F>,
     G,
@@ -59,7 +59,7 @@ pub(crate) fn works<
 }
 
 /// The passes of workers, in order. Refused: as the first of them stopped that did before its feeds ended, and `NoMemory`.
-pub(crate) fn passes_of<F: Functions, D: Disk, H: Recorder<F>>(
+pub(crate) fn passes_of<F: Mergeable, D: Disk, H: Recorder<F>>(
     alloc: Global,
     worked: Vec<Worked<F, D, H>>,
 ) -> Result<Vec<Pass<F, D, H>>, Refused>

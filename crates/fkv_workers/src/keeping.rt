@@ -4,7 +4,7 @@ ghost use Rattle.fkv_functions.specs.declared.refusals.Refused.TheVariants as re
 ghost use Rattle.fkv_store.specs.Stores.{IsTold};
 
 use fkv_device::Disk;
-use fkv_functions::{Functions, Refused};
+use fkv_functions::{Mergeable, Refused};
 use fkv_histories::Recorder;
 use fkv_jobs::Keeper;
 use fkv_store::{Gate, Store};
@@ -17,7 +17,7 @@ const PAGES: u64 = 64;
 
 /// The keeper of a store: where Head of each partition stood when it was compacted last.
 #[derive(Drop)]
-pub(crate) struct StoreKeeper<'a, F: Functions, D: Disk, H: Recorder<F>, G> {
+pub(crate) struct StoreKeeper<'a, F: Mergeable, D: Disk, H: Recorder<F>, G> {
     pub alloc: Global,
     pub store: &'a Store<F, D, H>,
     pub gate: &'a G,
@@ -27,7 +27,7 @@ pub(crate) struct StoreKeeper<'a, F: Functions, D: Disk, H: Recorder<F>, G> {
 }
 
 /// Moves the pages of one partition, and compacts it where its Head has moved far enough since the last time.
-fn keep_one<F: Functions, D: Disk, H: Recorder<F>, G: Gate>(
+fn keep_one<F: Mergeable, D: Disk, H: Recorder<F>, G: Gate>(
     rt: &impl Wait,
     keeper: &StoreKeeper<'_, F, D, H, G>,
     partition: usize,
@@ -50,7 +50,7 @@ fn keep_one<F: Functions, D: Disk, H: Recorder<F>, G: Gate>(
     }
 }
 
-impl<'a, F: Functions, D: Disk, H: Recorder<F>, G: Gate> Keeper for StoreKeeper<'a, F, D, H, G> {
+impl<'a, F: Mergeable, D: Disk, H: Recorder<F>, G: Gate> Keeper for StoreKeeper<'a, F, D, H, G> {
     ghost fault = { λ _ refused. IsTold refused };
 
     fn turn<W: Wait>(&self, rt: &W) -> Result<(), Refused> {

@@ -13,7 +13,7 @@ ghost use Rattle.fkv_partition.specs.CoreViews.{partition_of};
 ghost use Rattle.fkv_feeds.specs.Tables.{AreFeeds, IsTableOf, amounts_of, folded, most_rows};
 ghost use Rattle.fkv_workers.specs.Shares.{AreFed, AreShuffled, HasShare, value_by};
 
-use fkv_functions::{Name, OrderFree};
+use fkv_functions::{Mergeable, Name, OrderFree};
 
 /// A worker's own lists have no rows while they are empty (`none`), and one row more where the list of its key's partition has
 /// an update of it at its end (`more`).
@@ -36,7 +36,7 @@ pub fn shares_grow<V, O>()
 /// lists of its updates of them, of which the partitions' histories are shuffles. Then each key has, by the history of its
 /// partition, what its amounts come to in the order of the feeds (`values`); so what the histories make of the empty map is
 /// the table of the feeds (`table`).
-pub fn tables_join<F: OrderFree<Key = Name, Input = i64>>()
+pub fn tables_join<F: Mergeable + OrderFree<Key = Name, Input = i64>>()
     ensures values { (limit : ℕ) (feeds : List (Option (List ℕ))) (shares : List (List (Name × ℤ)))
         (owns : List (List (List (Entry Name F.Value ℤ F.Output)))) (histories : List (List (Entry Name F.Value ℤ F.Output)))
         → AreFed limit feeds shares

@@ -14,7 +14,7 @@ use crate::laws::tables_join;
 use crate::working::Worked;
 use fkv_device::Disk;
 use fkv_feeds::{Counts, Run, Table};
-use fkv_functions::{Fixed, Functions, Name, OrderFree, Refused};
+use fkv_functions::{Fixed, Mergeable, Name, OrderFree, Refused};
 use fkv_histories::Recorder;
 use fkv_jobs::{Ran, run_jobs};
 use fkv_partition::Config;
@@ -42,7 +42,7 @@ fn is_runnable<V: Fixed>(config: &Config, workers: usize, feeds: usize) -> bool
 
 /// The passes of workers, where neither they nor the keeper have a fault. The fault of the first worker that has one comes
 /// first, then the keeper's.
-fn ended<F: Functions, D: Disk, H: Recorder<F>>(
+fn ended<F: Mergeable, D: Disk, H: Recorder<F>>(
     alloc: Global,
     ran: Ran<Worked<F, D, H>>,
 ) -> Result<Vec<Pass<F, D, H>>, Refused>
@@ -65,7 +65,7 @@ fn ended<F: Functions, D: Disk, H: Recorder<F>>(
 /// The passes of workers in threads of their own that have read all feeds into a store, beside a keeper.
 fn worked<
     S: Source + Drop + Send,
-    F: OrderFree<Key = Name, Input = i64> + Send + Sync,
+    F: Mergeable + OrderFree<Key = Name, Input = i64> + Send + Sync,
     D: Disk + Send,
     H: Recorder<F> + Send,
     G: Gate + Sync,
@@ -135,7 +135,7 @@ where
 /// refuses.
 pub fn run_feeds<
     S: Source + Drop + Send,
-    F: OrderFree<Key = Name, Input = i64> + Send + Sync,
+    F: Mergeable + OrderFree<Key = Name, Input = i64> + Send + Sync,
     D: Disk + Send,
     H: Recorder<F> + Send,
     G: Gate + Sync,

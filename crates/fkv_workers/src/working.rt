@@ -9,7 +9,7 @@ use crate::deals::Hand;
 use fkv_device::Disk;
 use fkv_feed_rows::{RowSink, read_feed};
 use fkv_feeds::LIMIT;
-use fkv_functions::{Functions, Name, Refused};
+use fkv_functions::{Mergeable, Name, Refused};
 use fkv_histories::Recorder;
 use fkv_jobs::Job;
 use fkv_operations::KeyedOp;
@@ -20,7 +20,7 @@ use std::sync::Wait;
 
 /// A pass, into which rows go.
 #[derive(Drop)]
-struct Rows<'a, W, F: Functions, D: Disk, H: Recorder<F>, G> {
+struct Rows<'a, W, F: Mergeable, D: Disk, H: Recorder<F>, G> {
     rt: &'a W,
     alloc: Global,
     store: &'a Store<F, D, H>,
@@ -28,7 +28,7 @@ struct Rows<'a, W, F: Functions, D: Disk, H: Recorder<F>, G> {
     pass: Pass<F, D, H>,
 }
 
-impl<'a, W: Wait, F: Functions<Key = Name, Input = i64>, D: Disk, H: Recorder<F>, G: Gate> RowSink
+impl<'a, W: Wait, F: Mergeable<Key = Name, Input = i64>, D: Disk, H: Recorder<F>, G: Gate> RowSink
     for Rows<'a, W, F, D, H, G> {
     ghost stands = { λ r rows. StandsFor H.keeps F.code r.pass rows };
 
@@ -48,7 +48,7 @@ impl<'a, W: Wait, F: Functions<Key = Name, Input = i64>, D: Disk, H: Recorder<F>
 
 /// What one worker is to do.
 #[derive(Drop)]
-pub(crate) struct Work<'a, S: Source + Drop, F: Functions, D: Disk, H: Recorder<F>, G> {
+pub(crate) struct Work<'a, S: Source + Drop, F: Mergeable, D: Disk, H: Recorder<F>, G> {
     pub alloc: Global,
     pub store: &'a Store<F, D, H>,
     pub gate: &'a G,
@@ -58,7 +58,7 @@ pub(crate) struct Work<'a, S: Source + Drop, F: Functions, D: Disk, H: Recorder<
 
 /// What a worker hands back: its pass, which rests, and why it stopped, if it did before its feeds ended.
 #[derive(Drop)]
-pub(crate) struct Worked<F: Functions, D: Disk, H: Recorder<F>> {
+pub(crate) struct Worked<F: Mergeable, D: Disk, H: Recorder<F>> {
     pub pass: Pass<F, D, H>,
     pub fault: Option<Refused>,
 }
@@ -91,7 +91,7 @@ fn read_all<S: Source + Drop, K: RowSink>(
 fn run_work<
     W: Wait,
     S: Source + Drop,
-    F: Functions<Key = Name, Input = i64>,
+    F: Mergeable<Key = Name, Input = i64>,
     D: Disk,
     H: Recorder<F>,
     G: Gate,
@@ -137,7 +137,7 @@ fn run_work<
 impl<
     'a,
     S: Source + Drop,
-    F: Functions<Key = Name, Input = i64>,
+    F: Mergeable<Key = Name, Input = i64>,
     D: Disk,
     H: Recorder<F>,
     G: Gate,

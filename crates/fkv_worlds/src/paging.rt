@@ -12,7 +12,7 @@ use crate::flush_slots::read;
 use crate::states::State;
 use crate::tables::{end_life, has_receipt, life_at, note_progress, row_of};
 use fkv_device::{Loaded, MemoryReceipt, Receipt};
-use fkv_functions::{Functions, Refused};
+use fkv_functions::{Mergeable, Refused};
 use fkv_lives::lives::End;
 use fkv_lives::outcomes::{Outcome, OutcomeOf};
 use fkv_lives::steps::{Access, ContextId, Step};
@@ -49,7 +49,7 @@ pub(crate) fn read_asked(
     read(alloc, receipt, access)
 }
 
-impl<F: Functions> State<F> {
+impl<F: Mergeable> State<F> {
     /// Takes the lowest page that is not flushed, to be written.
     pub(crate) fn take_at(&mut self, partition: usize, now: u64) -> Result<OutcomeOf<F>, Refused>
         requires due { IsMomentIn self.old partition now }

@@ -9,13 +9,13 @@ ghost use Rattle.fkv_worlds.specs.Reports.{RunsTo, IsReport, IsReplay};
 use crate::reports::ReportOf;
 use crate::worlds::World;
 use fkv_device::{MemoryReceipt, Receipt};
-use fkv_functions::{Functions, Refused};
+use fkv_functions::{Mergeable, Refused};
 use fkv_lives::steps::StepOf;
 use fkv_partition::Config;
 use std::alloc::Global;
 
 /// Does the steps in turn, each of them kept. Refused: `NoMemory` where an outcome could not be kept.
-fn step_all<F: Functions>(
+fn step_all<F: Mergeable>(
     world: &mut World<F>,
     functions: &F,
     steps: &[StepOf<F>],
@@ -33,7 +33,7 @@ fn step_all<F: Functions>(
 }
 
 /// Does the steps in turn, and reports what became of the world. Refused: `NoMemory`.
-fn run<F: Functions>(
+fn run<F: Mergeable>(
     world: &mut World<F>,
     alloc: Global,
     functions: &F,
@@ -56,7 +56,7 @@ fn run<F: Functions>(
 /// Does the steps in turn in a world with nothing in it, and reports what became of them. A step that is
 /// refused is an outcome like the others, and the replay goes on. Refused, in this order: `BadConfig`
 /// where a number of the configuration is outside its limits, `NoMemory`.
-pub fn replay<F: Functions>(
+pub fn replay<F: Mergeable>(
     alloc: Global,
     config: &Config,
     functions: &F,

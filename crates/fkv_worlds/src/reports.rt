@@ -10,7 +10,7 @@ ghost use Rattle.fkv_worlds.specs.Reports.{IsReport};
 use crate::flush_slots::reader;
 use crate::states::State;
 use crate::worlds::World;
-use fkv_functions::{Functions, Refused};
+use fkv_functions::{Functions, Mergeable, Refused};
 use fkv_lives::lives::Life;
 use fkv_lives::outcomes::Outcome;
 use fkv_partition::pairs_of;
@@ -71,7 +71,7 @@ fn report_of<K: Copy + Drop, V: Copy + Drop, I: Copy, O: Copy>(
     })
 }
 
-impl<F: Functions> State<F> {
+impl<F: Mergeable> State<F> {
     /// Each live key of all partitions with its value, keys rising. Refused: `NoMemory`.
     pub fn live(&self, alloc: Global) -> Result<Vec<(F::Key, F::Value)>, Refused>
         ensures map { IfOk result (λ pairs. (k : F.Key)
@@ -107,7 +107,7 @@ impl<F: Functions> State<F> {
     }
 }
 
-impl<F: Functions> World<F> {
+impl<F: Mergeable> World<F> {
     /// Each live key of all partitions with its value, keys rising. Refused: `NoMemory`.
     pub fn live(&self, alloc: Global) -> Result<Vec<(F::Key, F::Value)>, Refused>
         ensures map { IfOk result (λ pairs. (k : F.Key)

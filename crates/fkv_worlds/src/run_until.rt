@@ -7,7 +7,7 @@ ghost use Rattle.fkv_worlds.specs.Reports.{follows, first_step, RunsUntil, IsRun
 
 use crate::worlds::World;
 use fkv_device::{MemoryReceipt, Receipt};
-use fkv_functions::{Functions, Refused};
+use fkv_functions::{Mergeable, Refused};
 use fkv_lives::outcomes::{Outcome, OutcomeOf};
 use fkv_lives::steps::{Access, ContextId, Step, StepOf};
 
@@ -24,7 +24,7 @@ pub enum Until {
 }
 
 /// The step that follows a step with this result, if one does.
-fn following<F: Functions>(
+fn following<F: Mergeable>(
     until: Until,
     place: ContextId,
     told: &Result<OutcomeOf<F>, Refused>,
@@ -45,7 +45,7 @@ fn following<F: Functions>(
     }
 }
 
-impl<F: Functions> World<F> {
+impl<F: Mergeable> World<F> {
     /// Goes on with an operation or a relocation until it answers anything but `Next`, and answers that. It is `Stalled`
     /// after 10,000 steps, and then it stays open as it is; no step tells that, so it is not
     /// among the outcomes. Refused with `NoMemory` where an outcome could not be kept, and else as

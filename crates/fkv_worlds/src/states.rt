@@ -18,7 +18,7 @@ use crate::tables::{
     Tables, begin_life, end_life, life_at, note_progress, question_at, seat_session,
 };
 use fkv_device::{MemoryReceipt, Receipt};
-use fkv_functions::{Ask, Built, Functions, Refused};
+use fkv_functions::{Ask, Built, Mergeable, Refused};
 use fkv_lives::lives::{End, LifeOf};
 use fkv_lives::outcomes::{Outcome, OutcomeOf};
 use fkv_lives::steps::{ContextId, Step, StepOf};
@@ -29,7 +29,7 @@ use std::marker::Model;
 
 /// The partitions with the page that each has to write, the tables, lives and last moment of a world.
 #[derive(Drop)]
-pub struct State<F: Functions> {
+pub struct State<F: Mergeable> {
     pub(crate) alloc: Global,
     pub(crate) partitions: Vec<Partition<F, MemoryReceipt>>,
     pub(crate) flush_slots: Vec<FlushSlot>,
@@ -38,7 +38,7 @@ pub struct State<F: Functions> {
     pub(crate) moment: u64,
 }
 
-impl<F: Functions> Model for State<F> {
+impl<F: Mergeable> Model for State<F> {
     ghost use Rattle.std.specs.Prelude.{map};
     ghost use Rattle.fkv_worlds.specs.declared.flush_slots.FlushSlot.{FlushSlot};
     ghost use Rattle.fkv_device.specs.declared.memory.MemoryReceipt.{MemoryReceipt};
@@ -77,7 +77,7 @@ fn keep<T: Drop>(items: &mut Vec<T>, item: T) -> Result<(), Refused>
 }
 
 /// Adds the partition of this number, with nothing in it. Refused: `NoMemory`.
-fn add_empty<F: Functions>(
+fn add_empty<F: Mergeable>(
     partitions: &mut Vec<Partition<F, MemoryReceipt>>,
     alloc: Global,
     config: &Config,
@@ -94,7 +94,7 @@ fn add_empty<F: Functions>(
 }
 
 /// Partitions with nothing in them, one of each number. Refused: `NoMemory`.
-fn empty_partitions<F: Functions>(
+fn empty_partitions<F: Mergeable>(
     alloc: Global,
     config: &Config,
     count: u64,
@@ -126,7 +126,7 @@ fn empty_flush_slots(alloc: Global, count: u64) -> Result<Vec<FlushSlot>, Refuse
     Ok(flush_slots)
 }
 
-impl<F: Functions> State<F> {
+impl<F: Mergeable> State<F> {
     /// The state before the first step. Refused, in this order: `BadConfig` where a number of the
     /// configuration is outside its limits, `NoMemory`.
     pub fn new(alloc: Global, config: &Config) -> Result<Self, Refused>

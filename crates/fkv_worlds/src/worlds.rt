@@ -10,7 +10,7 @@ ghost use Rattle.fkv_worlds.specs.Headline.{IsHeadline};
 
 use crate::states::State;
 use fkv_device::{MemoryReceipt, Receipt};
-use fkv_functions::{Functions, Refused};
+use fkv_functions::{Mergeable, Refused};
 use fkv_lives::outcomes::OutcomeOf;
 use fkv_lives::steps::StepOf;
 use fkv_partition::Config;
@@ -21,12 +21,12 @@ use std::marker::Model;
 /// number from 1. The world keeps what became of each operation that was issued (its lives), and the
 /// outcome of each call of [`World::step`], refused ones included.
 #[derive(Drop)]
-pub struct World<F: Functions> {
+pub struct World<F: Mergeable> {
     pub(crate) state: State<F>,
     pub(crate) outcomes: Vec<Result<OutcomeOf<F>, Refused>>,
 }
 
-impl<F: Functions> Model for World<F> {
+impl<F: Mergeable> Model for World<F> {
     ghost use Rattle.fkv_device.specs.declared.memory.MemoryReceipt.{MemoryReceipt};
     ghost use Rattle.fkv_worlds.specs.States.{WorldView};
     ghost use Rattle.fkv_lives.specs.Told.{IsAccount, taken};
@@ -38,7 +38,7 @@ impl<F: Functions> Model for World<F> {
     ghost invariant = { λ w. IsAccount w.state.lives (taken w.outcomes.items) w.state.moment };
 }
 
-impl<F: Functions> World<F> {
+impl<F: Mergeable> World<F> {
     /// A world before its first step. Refused, in this order: `BadConfig` where a number of the
     /// configuration is outside its limits, `NoMemory`.
     pub fn new(alloc: Global, config: &Config) -> Result<Self, Refused>

@@ -10,10 +10,10 @@ ghost use Rattle.fkv_lookups.specs.RecordsViews.{with_receipt};
 
 use crate::records::Records;
 use fkv_device::{FlushJob, Receipt, Written};
-use fkv_functions::{Functions, Refused};
+use fkv_functions::{Mergeable, Refused};
 use std::alloc::Global;
 
-impl<F: Functions, R: Receipt> Records<F, R> {
+impl<F: Mergeable, R: Receipt> Records<F, R> {
     /// The lowest page that is not flushed.
     pub fn unflushed(&self) -> u64
         ensures { result ≡ length self.now.receipts }

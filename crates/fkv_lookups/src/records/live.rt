@@ -9,10 +9,10 @@ ghost use Rattle.fkv_lookups.specs.Overlays.{with_text, HasFront};
 use crate::maps::put;
 use crate::records::Records;
 use fkv_device::{PageReader, Receipt};
-use fkv_functions::{Functions, Refused};
+use fkv_functions::{Mergeable, Refused};
 use std::collections::BTreeMap;
 
-impl<F: Functions, R: Receipt> Records<F, R> {
+impl<F: Mergeable, R: Receipt> Records<F, R> {
     /// Puts what all records from Begin on say in turn into a map: those of flushed pages are read from the device, each
     /// page once, the others from their frames. On a device that keeps, a key of a record gets the value of its last one,
     /// none where that is a tombstone, and the others stay. Refused: `NoMemory`, or as the device refuses a flushed page;

@@ -12,11 +12,11 @@ ghost use Rattle.fkv_lookups.specs.Lookups.{IsOfClass, GoesOn};
 
 use crate::records::Records;
 use fkv_device::{Loaded, Receipt};
-use fkv_functions::{Functions, Refused};
+use fkv_functions::{Mergeable, Refused};
 use fkv_records::Address;
 use fkv_texts::{ChainPosition, Entry};
 
-impl<F: Functions, R: Receipt> Records<F, R> {
+impl<F: Mergeable, R: Receipt> Records<F, R> {
     /// The page of an address.
     pub fn page_of(&self, address: Address) -> u64
         ensures { result ≡ page_at self.now.page_bits address }

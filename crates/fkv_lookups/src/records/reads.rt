@@ -6,11 +6,11 @@ ghost use Rattle.fkv_texts.specs.Text.{entry_at};
 
 use crate::records::Records;
 use fkv_device::Receipt;
-use fkv_functions::Functions;
+use fkv_functions::Mergeable;
 use fkv_records::Address;
 use fkv_texts::Entry;
 
-impl<F: Functions, R: Receipt> Records<F, R> {
+impl<F: Mergeable, R: Receipt> Records<F, R> {
     /// The record at an address whose frame is not closed, where one stands.
     pub fn record_at(&self, address: Address) -> Entry<F::Key, F::Value>
         requires there { IsSome (entry_at self.now.text address) }

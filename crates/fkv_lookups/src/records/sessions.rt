@@ -12,11 +12,11 @@ ghost use Rattle.fkv_lookups.specs.RecordsViews.{with_regions, with_value, IsMov
 
 use crate::records::Records;
 use fkv_device::Receipt;
-use fkv_functions::{Functions, Refused};
+use fkv_functions::{Mergeable, Refused};
 use fkv_records::Address;
 use fkv_regions::View;
 
-impl<F: Functions, R: Receipt> Records<F, R> {
+impl<F: Mergeable, R: Receipt> Records<F, R> {
     /// Whether a session is entered at a slot.
     pub fn is_entered(&self, slot: usize) -> bool
         ensures value { result ≡ is_entered self.now.regions.epochs slot }

@@ -6,9 +6,9 @@ ghost use Rattle.fkv_lookups.specs.RecordsViews.{IsTruncationDue, truncated};
 
 use crate::records::Records;
 use fkv_device::Receipt;
-use fkv_functions::{Functions, Refused};
+use fkv_functions::{Mergeable, Refused};
 
-impl<F: Functions, R: Receipt> Records<F, R> {
+impl<F: Mergeable, R: Receipt> Records<F, R> {
     /// Moves Begin to the start of a page: records below are dropped, and the entries that lead there are emptied.
     /// Refused, and then nothing changes: `NotDue` where Begin would not rise, or would pass Head.
     pub fn truncate(&mut self, page: u64) -> Result<(), Refused>

@@ -16,7 +16,7 @@ ghost use Rattle.fkv_steps.specs.Running.{context_in, is_page, op_of, record_siz
 
 use crate::scripts::printing::text_of;
 use crate::scripts::written::Written;
-use fkv_functions::{CappedSumFns, CountFns, Functions, MaxFns, Name, Refused, SumFns};
+use fkv_functions::{CappedSumFns, CountFns, MaxFns, Mergeable, Name, Refused, SumFns};
 use fkv_lives::{Access, ContextId, Outcome, OutcomeOf, Printed, Step};
 use fkv_operations::{KeyedOp, Op};
 use fkv_partition::Config;
@@ -40,7 +40,7 @@ fn on_values<V: Written>(op: KeyedOp<Name, i64, i64>) -> Op<Name, V, i64>
 
 /// Does what a line says, and answers what its last step told; `None` where there is no memory to keep a
 /// step's outcome.
-fn run_line<F: Functions<Key = Name, Input = i64>>(
+fn run_line<F: Mergeable<Key = Name, Input = i64>>(
     world: &mut World<F>,
     functions: &F,
     line: &Line,
@@ -104,7 +104,7 @@ fn is_page<V: Copy, O: Copy>(told: &Result<Outcome<V, O>, Refused>) -> bool
 }
 
 /// Issues an operation, and finishes it.
-fn do_operation<F: Functions<Key = Name, Input = i64>>(
+fn do_operation<F: Mergeable<Key = Name, Input = i64>>(
     world: &mut World<F>,
     functions: &F,
     partition: usize,
@@ -123,7 +123,7 @@ where
 }
 
 /// Issues a relocation, and finishes it.
-fn compact<F: Functions<Key = Name, Input = i64>>(
+fn compact<F: Mergeable<Key = Name, Input = i64>>(
     world: &mut World<F>,
     functions: &F,
     partition: usize,
@@ -141,7 +141,7 @@ where
 }
 
 /// Finishes what was issued, and answers what its last step told; where nothing was issued, what the issue told.
-fn finish_issued<F: Functions<Key = Name, Input = i64>>(
+fn finish_issued<F: Mergeable<Key = Name, Input = i64>>(
     world: &mut World<F>,
     functions: &F,
     partition: usize,
@@ -165,7 +165,7 @@ fn finish_issued<F: Functions<Key = Name, Input = i64>>(
 
 /// Takes the lowest page that is not flushed and writes it, and answers what the write told; where no page was taken,
 /// what the take told.
-fn flush<F: Functions<Key = Name, Input = i64>>(
+fn flush<F: Mergeable<Key = Name, Input = i64>>(
     world: &mut World<F>,
     functions: &F,
     partition: usize,
@@ -186,7 +186,7 @@ where
 }
 
 /// Does what the lines say, in turn, and answers what the last step of each told. Refused: `NoMemory`.
-fn run_lines<F: Functions<Key = Name, Input = i64>>(
+fn run_lines<F: Mergeable<Key = Name, Input = i64>>(
     alloc: Global,
     world: &mut World<F>,
     functions: &F,
@@ -212,7 +212,7 @@ where
 
 /// The text that the lines print, run in a world with nothing in it. Refused, in this order: `BadConfig`
 /// where a number of the configuration is outside its limits, `NoMemory`.
-fn printed_by<F: Functions<Key = Name, Input = i64>>(
+fn printed_by<F: Mergeable<Key = Name, Input = i64>>(
     alloc: Global,
     functions: &F,
     config: &Config,
@@ -235,7 +235,7 @@ where
 }
 
 /// The text that the lines print, run in this world. Refused: `NoMemory`.
-fn printed_in<F: Functions<Key = Name, Input = i64>>(
+fn printed_in<F: Mergeable<Key = Name, Input = i64>>(
     alloc: Global,
     world: &mut World<F>,
     functions: &F,
