@@ -360,7 +360,7 @@ module _ {K V : Type 0} {keeps : Bool} (cmp : K → K → Ordering) (code : K �
   }
     where
       last : Entry K V
-      last = record { address = v.tail; previous = address_of e.word; key = k; value = value }
+      last = record { address = v.tail; previous = address_of e.word; key = k; value = value; delta = false }
 
       written : Writes e.place (final_word (tag_of e.word) v.tail) v.words (with_record v e k value).words
       written = writes v.words e.place (final_word (tag_of e.word) v.tail) place

@@ -1,5 +1,5 @@
 -- What events leave to a layer above: what stands for operations of its own, and what it knows of records.
-use Rattle.std.proofs.Common.{◌≡◌, ◌<◌, ◌≤◌, inl, inr, ℕ, Bool, IsTrue, IsSome, List, [], ◌∷◌, Option, Some, None, option_map, Result, position, refl, sym, ◌∙◌, ap, subst, arith}
+use Rattle.std.proofs.Common.{◌≡◌, ◌<◌, ◌≤◌, inl, inr, ℕ, Bool, IsTrue, IsSome, List, [], ◌∷◌, Option, Some, None, option_map, Result, position, refl, sym, ◌∙◌, ap, subst, arith, false}
 use Rattle.std.proofs.lemmas.Bool.{cases_lt}
 use Rattle.std.proofs.lemmas.Option.{slice_get_within}
 use Rattle.std.specs.declared.cmp.Ordering.{Ordering}
@@ -116,7 +116,7 @@ module _ {K V : Type 0} {keeps : Bool} (cmp : K → K → Ordering) (code : K �
     raised = raised-self v.regions.offsets;
     receipts = λ page s h. h;
     stay = λ a begun low. (let o = t.regions.agree.in_order in let safe = o.safe in let top = t.regions.read_only in
-        entry_at-old v.text (record { address = v.tail; previous = _; key = k; value = value }) a (λ same. omega arith));
+        entry_at-old v.text (record { address = v.tail; previous = _; key = k; value = value; delta = false }) a (λ same. omega arith));
     clear = λ limit low yes_keeps c. clears limit low c;
     places = λ p h. ((writes v.words e.place (final_word (tag_of e.word) v.tail) place).places p).1 h;
   }

@@ -278,7 +278,7 @@ module _ {K V I : Type 0} {keeps : Bool} {cmp : K → K → Ordering} {code : K 
         }) (λ y h. absurd (cc))
       where
         last : Entry K V
-        last = record { address = v.records.tail; previous = address_of e.word; key = k; value = value }
+        last = record { address = v.records.tail; previous = address_of e.word; key = k; value = value; delta = false }
 
     -- a record gets another value where it stands, or becomes a tombstone
     pub sound-replaced : (slot c now a : ℕ) (value : Option V)

@@ -289,7 +289,7 @@ pub record IsTextOf {K V : Type 0} (code : K → ℕ) (w : RecordsView K V) : Ty
 pub text_then : {K V : Type 0} {keeps : Bool} {code : K → ℕ} (p k size : ℕ) (words : List (List Word)) (e : IndexEntry) (key : K) (value : Option V) (old new : LogView K V)
     → new ≡ log.with_entry size old (address_of e.word) key value
     → IsLogOf keeps size new
-    → IsChained (class_in code (view_of p k size old words)) same_class old.from (old.text ++ record { address = old.tail; previous = address_of e.word; key = key; value = value } ∷ [])
+    → IsChained (class_in code (view_of p k size old words)) same_class old.from (old.text ++ record { address = old.tail; previous = address_of e.word; key = key; value = value; delta = false } ∷ [])
     → IsTextOf code (with_record (view_of p k size old words) e key value)
 text_then {K} {V} {keeps} {code} p k size words e key value old new is known chained =
     let l : IsLogOf keeps size (log.with_entry size old (address_of e.word) key value) = subst (IsLogOf keeps size) is known in
@@ -322,7 +322,7 @@ pub traced-record : {K V : Type 0} {keeps : Bool} {code : K → ℕ} (v : Record
 traced-record {K} {V} {keeps} {code} v e key value t new moved =
     let c : Class = class_in code v key in
     let w : RecordsView K V = with_record v e key value in
-    let x : Entry K V = record { address = v.tail; previous = address_of e.word; key = key; value = value } in
+    let x : Entry K V = record { address = v.tail; previous = address_of e.word; key = key; value = value; delta = false } in
     let rises = new.below (length v.text) x (get-append_last v.text x) in
     let entry = entry-set v.words w.words c v.tail moved.sets in
     record {

@@ -1,5 +1,5 @@
 -- What a contract sees of the records of a partition.
-use Rattle.std.specs.Prelude.{◌≡◌, ◌+◌, ◌^◌, ◌<◌, ◌≤◌, ℕ, Bool, IsTrue, List, [], ◌∷◌, ◌++◌, Option, Some, None, option_map}
+use Rattle.std.specs.Prelude.{◌≡◌, ◌+◌, ◌^◌, ◌<◌, ◌≤◌, ℕ, Bool, IsTrue, List, [], ◌∷◌, ◌++◌, Option, Some, None, option_map, false}
 use Rattle.std.specs.Prelude.{drop, replicate, map}
 use Rattle.fkv_records.specs.Places.{page_at, offset_at, start_at}
 use Rattle.fkv_device.specs.Standing.{Standing}
@@ -96,7 +96,7 @@ pub record WasEntryOf {K V : Type 0} (v : RecordsView K V) (c : Class) (e : Inde
 -- with a record at the tail, behind the one to which the entry leads, and the entry moved to it
 abbrev pub with_record : {K V : Type 0} → RecordsView K V → IndexEntry → K → Option V → RecordsView K V
 with_record v e key value = record v {
-  text = v.text ++ record { address = v.tail; previous = address_of e.word; key = key; value = value } ∷ [];
+  text = v.text ++ record { address = v.tail; previous = address_of e.word; key = key; value = value; delta = false } ∷ [];
   tail = tail_after v.page_bits v.record_size v.tail;
   words = with_word v.words e.place (final_word (tag_of e.word) v.tail);
 }

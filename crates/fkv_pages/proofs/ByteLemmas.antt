@@ -1,10 +1,10 @@
 -- Texts by what spells them, and bytes written into pages.
-use Rattle.std.proofs.Common.{◌≡◌, ◌+◌, ◌-◌, ◌^◌, ◌<◌, ◌≤◌, inl, inr, ℕ, List, ◌++◌, length, take, drop, Option, refl, sym, ◌∙◌, ap, arith, length-append, length-take, length-drop, append_assoc}
+use Rattle.std.proofs.Common.{◌≡◌, ◌+◌, ◌-◌, ◌^◌, ◌<◌, ◌≤◌, inl, inr, ℕ, List, ◌++◌, length, take, drop, Option, refl, sym, ◌∙◌, ap, arith, length-append, length-take, length-drop, append_assoc, false, Bool}
 use Rattle.std.proofs.lemmas.List.{take-append-drop, take-append-le, drop-append-le, drop-drop, drop-take}
 use Rattle.std.proofs.Math.Seq.{take-add, take-take}
 use Rattle.std.proofs.lemmas.Slice.{drop-append-drop}
 use Rattle.std.specs.Prelude.{slice_range, unwrap_or, IfSome, OnErr, Result, Ok, Err}
-use Rattle.std.specs.Coded.{Coded, Coded-set, coded_ℕ, coded_list, coded×, coded_option, code_by}
+use Rattle.std.specs.Coded.{Coded, Coded-set, coded_ℕ, coded_bool, coded_list, coded×, coded_option, code_by}
 use mathlib.Core.Logic.{∥∥₁_elim}
 use mathlib.Core.HLevel.{Σ_prop_path}
 use Rattle.fkv_records.specs.Places.{place_after}
@@ -24,15 +24,15 @@ tail_is bits size a o b e f = e ∙ ap (λ (x : Option ℕ). unwrap_or x (2 ^ 48
 
 -- a record that may stand at an address below 2^48
 pub sound_record : {K V : Type 0} (is_key : K → Type 0) (is_value : V → Type 0) (a p : ℕ) (k : K) (v : Option V) → a < 2 ^ 48 → IsPrevious a p → is_key k → IfSome v is_value
-    → IsRecord is_key is_value a (record { previous = p; key = k; value = v })
+    → IsRecord is_key is_value a (record { previous = p; key = k; value = v; delta = false })
 sound_record is_key is_value a p k v below previous key value =
-    record { previous = previous; fits = elim previous [ inl one ↦ omega arith | inr low ↦ omega arith ]; key = key; value = value }
+    record { previous = previous; fits = elim previous [ inl one ↦ omega arith | inr low ↦ omega arith ]; key = key; value = value; whole = λ d. absurd (cc) }
 
 -- ---- the one of which something holds
 entry_code : {K V : Type 0} → Coded K → Coded V → Coded (Entry K V)
 entry_code {K} {V} k v =
-    code_by (ℕ × (ℕ × (K × Option V))) (coded× coded_ℕ (coded× coded_ℕ (coded× k (coded_option v))))
-    (λ e. (e.address, (e.previous, (e.key, e.value)))) (λ p. record { address = p.0; previous = p.1.0; key = p.1.1.0; value = p.1.1.1 }) (λ _. refl)
+    code_by (ℕ × (ℕ × (K × (Option V × Bool)))) (coded× coded_ℕ (coded× coded_ℕ (coded× k (coded× (coded_option v) coded_bool))))
+    (λ e. (e.address, (e.previous, (e.key, (e.value, e.delta))))) (λ p. record { address = p.0; previous = p.1.0; key = p.1.1.0; value = p.1.1.1.0; delta = p.1.1.1.1 }) (λ _. refl)
 
 -- a value is the one where no other is
 pub one_of : {A : Type 0} → Coded A → (P : A → Type 0) → ((a b : A) → P a → P b → a ≡ b) → (a : A) → P a → TheOne P

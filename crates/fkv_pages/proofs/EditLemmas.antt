@@ -1,5 +1,5 @@
 -- Entries that get another value, or become tombstones, where they stand.
-use Rattle.std.proofs.Common.{◌≡◌, ◌^◌, ◌≤◌, inl, inr, ℕ, Bool, List, length, Option, Some, IsSome, refl, sym, ◌∙◌, ap, subst, arith}
+use Rattle.std.proofs.Common.{◌≡◌, ◌^◌, ◌≤◌, inl, inr, ℕ, Bool, List, length, Option, Some, IsSome, refl, sym, ◌∙◌, ap, subst, arith, false}
 use Rattle.std.specs.Prelude.{IfSome}
 use Rattle.std.proofs.lemmas.Bool.{cases_eq, cases_lt}
 use Rattle.fkv_records.specs.Places.{page_at, offset_at}
@@ -87,7 +87,7 @@ module _ {K V : Type 0} (key : K → List ℕ) (value : V → List ℕ) (is_key 
                     let bits_part : Spells key value ksize vsize (part_of page (offset_at old.bits a) (size_of ksize vsize)) (record_of was.entry) =
                     subst (λ (b : ℕ). Spells key value ksize vsize (part_of page (offset_at b a) (size_of ksize vsize)) (record_of was.entry)) (sym log.ringed.bits_same) spells in
                     rw (set_at-here a v was.entry same) (put_spelled key value is_key is_value ksize vsize keeps shape begin closed frozen tail receipts old new r.bytes text a log st.place open_here p sized (record was.entry { value = v }) same
-                    (record { previous = h.sound.previous; fits = h.sound.fits; key = h.sound.key; value = known }) (r.spells (record_of was.entry) ok bits_part)))
+                    (record { previous = h.sound.previous; fits = h.sound.fits; key = h.sound.key; value = known; whole = λ d. absurd (let no = h.whole in cc) }) h.whole (r.spells (record_of was.entry) ok bits_part)))
                 | inr ne ↦
                     (rw (set_at-other a v was.entry ne) (elim (cases_lt was.entry.address a) [
                       | inl less ↦

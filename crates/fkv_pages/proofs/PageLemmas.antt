@@ -75,7 +75,7 @@ module _ {K V : Type 0} (key : K → List ℕ) (value : V → List ℕ) (is_key 
         let r : record_of e ≡ record_of d = same_record key value is_key is_value ksize vsize e.address key_readable value_readable (part_of s.page (offset_at bits e.address) size)
         (record_of e) (record_of d) s.sound (subst (λ (a : ℕ). IsRecord is_key is_value a (record_of d)) (sym at) t.sound) s.spells
         (subst (λ (b : List ℕ). Spells key value ksize vsize b (record_of d)) parts t.spells) in
-        λ i. record { address = at i; previous = (r i).previous; key = (r i).key; value = (r i).value }
+        λ i. record { address = at i; previous = (r i).previous; key = (r i).key; value = (r i).value; delta = (r i).delta }
 
     one_text-from : (tail begin : ℕ) (text other : List (Entry K V)) → IsLaidOut bits (size_of ksize vsize) begin tail text → IsLaidOut bits (size_of ksize vsize) begin tail other
         → ((i : ℕ) (e : Entry K V) → slice_get text i ≡ Some e → IsSpelled key value is_key is_value ksize vsize bits pages e)
@@ -124,7 +124,7 @@ module _ {K V : Type 0} (key : K → List ℕ) (value : V → List ℕ) (is_key 
       → IsTextOf key value is_key is_value ksize vsize bits pages from tail text → IsTextOf key value is_key is_value ksize vsize bits others from tail text
   transfer bits pages others from tail text same t = record {
     laid_out = t.laid_out;
-    spelled = λ i e g. let s = t.spelled i e g in record { page = s.page; here = same i e g ∙ s.here; sound = s.sound; spells = s.spells };
+    spelled = λ i e g. let s = t.spelled i e g in record { page = s.page; here = same i e g ∙ s.here; sound = s.sound; whole = s.whole; spells = s.spells };
   }
 
   -- each place from where the text begins has an entry

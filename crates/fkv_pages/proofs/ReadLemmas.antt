@@ -50,6 +50,7 @@ module _ {K V : Type 0} (key : K → List ℕ) (value : V → List ℕ) (is_key 
         stands = found.1;
         place = subst (λ (n : ℕ). IsRecordStart bits n a) log.size stands.place;
         sound = subst (λ (b : ℕ). IsRecord is_key is_value b (record_of e)) found.1 t.sound;
+        whole = t.whole;
         spells = subst (λ (b : List ℕ). Spells key value ksize vsize b (record_of e)) part t.spells;
       }
 
@@ -84,7 +85,7 @@ module _ {K V : Type 0} (key : K → List ℕ) (value : V → List ℕ) (is_key 
       let r : record_of d ≡ record_of e = same_record key value is_key is_value ksize vsize a key_readable value_readable (part_of bytes (offset_at bits a) (size_of ksize vsize))
       (record_of d) (record_of e) h.sound k.sound h.spells k.spells in
       let at : d.address ≡ e.address = h.stands ∙ sym k.stands in
-      λ i. record { address = at i; previous = (r i).previous; key = (r i).key; value = (r i).value }
+      λ i. record { address = at i; previous = (r i).previous; key = (r i).key; value = (r i).value; delta = (r i).delta }
 
   -- the entries of the text in a flushed page are those that its receipt's bytes spell
   pub entries_in : (keeps : Bool) (shape : Shape) (begin closed frozen tail : ℕ) (receipts : List Standing) (ring : Ring) (text : List (Entry K V)) (from : ℕ) (s : Standing)

@@ -75,14 +75,14 @@ pub(crate) fn put_value<K: Fixed, V: Fixed>(
     frames.write_in(page, offset, bytes);
 }
 
-/// Makes the record in the bytes at an address a tombstone.
+/// Makes the record in the bytes at an address, which is no delta, a tombstone.
 pub(crate) fn put_tombstone<K: Fixed, V: Fixed>(frames: &mut Frames, shape: Shape, address: Address)
     requires bits { shape.page_bits ≡ frames.old.bits }
     requires size { shape.record_size ≡ size_of K.SIZE V.SIZE }
     requires held { IsSome (held frames.old (page_at frames.old.bits address)) }
     requires place { IsRecordStart shape.page_bits shape.record_size address }
     ensures { IfSome (held frames.old (page_at frames.old.bits address))
-        (IsEdited K.bytes_of V.bytes_of K.SIZE V.SIZE (λ r. r.previous < 2 ^ 48) None
+        (IsEdited K.bytes_of V.bytes_of K.SIZE V.SIZE (λ r. (r.delta ≡ false) × (r.previous < 2 ^ 48)) None
         frames.old.bits address frames.old frames.new) }
 {
     let page = shape.page_of(address);

@@ -46,13 +46,12 @@ impl<K: FixedKey, V: Fixed, R: Receipt> Pages<K, V, R> {
     {
         let bytes = self.bytes_at(address);
         if !is_of::<K, V>(bytes, key) {
-            let (previous, _is_tombstone) = link_of::<K, V>(bytes);
-            return Err(previous);
+            return Err(link_of::<K, V>(bytes).previous);
         }
-        let (previous, is_tombstone) = link_of::<K, V>(bytes);
-        if is_tombstone {
-            return Ok(entry_with(address, previous, key, None));
+        let header = link_of::<K, V>(bytes);
+        if header.is_tombstone {
+            return Ok(entry_with(address, header.previous, key, None));
         }
-        Ok(entry_with(address, previous, key, value_of::<K, V>(bytes)))
+        Ok(entry_with(address, header.previous, key, value_of::<K, V>(bytes)))
     }
 }

@@ -12,7 +12,7 @@ use fkv_records::{Address, Shape, read_record};
 use fkv_texts::entries::entry_of;
 use fkv_texts::{ChainPosition, Entry};
 
-/// The entry at an address, from the bytes of its page. Refused: `Damaged` where they spell none there.
+/// The entry at an address, from the bytes of its page. Refused: `Damaged` where they spell none there, or a delta.
 pub(crate) fn entry_in<K: Fixed, V: Fixed>(
     shape: Shape,
     page: &[u8],
@@ -33,11 +33,17 @@ pub(crate) fn entry_in<K: Fixed, V: Fixed>(
         });
     }
     let bytes = part(page, shape.offset_of(address), shape.record_size);
-    match read_record(address, bytes) {
-        Ok(found) => Ok(entry_of(address, found)),
-        Err(_) => Err(Refused::Damaged {
-            page: shape.page_of(address),
-        }),
+    let damaged = Refused::Damaged {
+        page: shape.page_of(address),
+    };
+    match read_record::<K, V>(address, bytes) {
+        Ok(found) => {
+            if found.delta {
+                return Err(damaged);
+            }
+            Ok(entry_of(address, found))
+        }
+        Err(_) => Err(damaged),
     }
 }
 

@@ -143,6 +143,7 @@ impl<K: Fixed, V: Fixed, R: Receipt> Pages<K, V, R> {
             previous,
             key,
             value,
+            delta: false,
         };
         put_record(&mut self.frames, is_new, page, address, size, &entry);
         self.tail = self.shape.next_place(address).unwrap_or(END);

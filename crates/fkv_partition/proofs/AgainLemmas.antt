@@ -1,5 +1,5 @@
 -- What appending the record of a place again leaves: the live map, what operations are to find, and a record that is superseded.
-use Rattle.std.proofs.Common.{◌≡◌, inl, inr, ◌&&◌, ◌==◌, ◌+◌, ◌*◌, ◌<◌, ℕ, Bool, cond, nat_le, nat_lt, IsTrue, List, Option, Some, None, option_map, slice_get, slice_set, refl, sym, ap, subst, ◌∙◌, arith}
+use Rattle.std.proofs.Common.{◌≡◌, inl, inr, ◌&&◌, ◌==◌, ◌+◌, ◌*◌, ◌<◌, ℕ, Bool, cond, nat_le, nat_lt, IsTrue, List, Option, Some, None, option_map, slice_get, slice_set, refl, sym, ap, subst, ◌∙◌, arith, false}
 use Rattle.std.proofs.lemmas.Bool.{cases_eq}
 use Rattle.std.specs.declared.cmp.Ordering.{Ordering}
 use Rattle.fkv_functions.specs.Plain.{IsKeyOrder}
@@ -85,7 +85,7 @@ module _ {K V : Type 0} {keeps : Bool} (cmp : K → K → Ordering) (code : K �
       let o = t.regions.agree.in_order in
       let on_disk = h.on_disk in
       let taken : l.wanted < r.tail = omega (arith, on_disk, o.head, o.safe, t.regions.read_only) in
-      newest-below cmp r.text (record { address = r.tail; previous = address_of e.word; key = key; value = value }) k l.wanted taken
+      newest-below cmp r.text (record { address = r.tail; previous = address_of e.word; key = key; value = value; delta = false }) k l.wanted taken
 
   pending-same : {I : Type 0} (op : KeyedOp K V I) (p : Phase V) → StandsFor keeps cmp code r op p → pending_by cmp (with_record r e key value) op p ≡ pending_by cmp r op p
   pending-same op phase.Fresh h = refl
@@ -145,7 +145,7 @@ module _ {K V I : Type 0} {keeps : Bool} (cmp : K → K → Ordering) (code : K 
     pub superseded-again : IsKeyOrder cmp → IsTrue keeps → (d : Entry K V) → entry_at (with_record v.core.records kept e.key e.value).text x.target ≡ Some d → IsSuperseded cmp (with_record v.core.records kept e.key e.value).text d
     superseded-again order yes_keeps d there =
         let r = v.core.records in
-        let n : Entry K V = record { address = r.tail; previous = address_of kept.word; key = e.key; value = e.value } in
+        let n : Entry K V = record { address = r.tail; previous = address_of kept.word; key = e.key; value = e.value; delta = false } in
         let m = stands-in-text yes_keeps in
         let below = p.traced.below m.place e m.here in
         let at = stands.1.here in
@@ -159,7 +159,7 @@ module _ {K V I : Type 0} {keeps : Bool} (cmp : K → K → Ordering) (code : K 
     event-again order = record {
       same = λ a d. ap (option_map asked_by) (contexts-same a d kept e.key e.value);
       pend = λ yes_keeps. all-pend p kept e.key e.value;
-      live = λ yes_keeps. lives-renewed cmp v.core.records.text order (record { address = v.core.records.tail; previous = address_of kept.word; key = e.key; value = e.value }) e refl refl (is-last order yes_keeps);
+      live = λ yes_keeps. lives-renewed cmp v.core.records.text order (record { address = v.core.records.tail; previous = address_of kept.word; key = e.key; value = e.value; delta = false }) e refl refl (is-last order yes_keeps);
       others = λ a d other. context-other (slots_of v.core) v.relocations slot c a d None (open-here v slot c x h).low other;
       rises = (past-place v x.target p.traced (stands-here v slot c x h s).place).0;
       number = refl;

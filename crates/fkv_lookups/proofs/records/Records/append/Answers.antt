@@ -1,4 +1,4 @@
-use Rattle.std.proofs.Common.{◌≢◌, ◌^◌, subst, sym, ◌∙◌, arith}
+use Rattle.std.proofs.Common.{◌≢◌, ◌^◌, subst, sym, ◌∙◌, arith, false}
 use Rattle.fkv_records.specs.Records.{IsPrevious}
 use Rattle.fkv_index.specs.Words.{address_of}
 use Rattle.fkv_operations.specs.Classes.{class_at, same_class}
@@ -34,7 +34,7 @@ invariant_of-self-2 g c =
     let stands = rw (← c.self.view_is) at c.requires in
     let entry = entry-stands i.index own.bucket own.tag e.place e.word t.map stands in
     let behind = leads_of t own (address_of e.word) entry in
-    let chained = c.chains.ensures.kept class same_class i.log.from i.log.text (record { address = i.log.tail; previous = address_of e.word; key = c.args.key; value = c.args.value }) t.chained t.below behind in
+    let chained = c.chains.ensures.kept class same_class i.log.from i.log.text (record { address = i.log.tail; previous = address_of e.word; key = c.args.key; value = c.args.value; delta = false }) t.chained t.below behind in
     let made = c.move_entry.ensures in
     let moved = rw (made.word, c.tail-address.ensures.tail) at (moved-there own e.place e.word c.tail-address.result i.index c.move_entry.new.index stands.bucket stands.tag made.entry made.map made.buckets) in
     let appended = rw (c.in-Ok-Some.field-0-is, c.address.ensures) at c.in-Ok-Some.ensures.appended in
