@@ -109,14 +109,18 @@ fn write_read(address: u64, bytes: &[u8], out: &mut String) -> Result<(), AllocE
         return writeln!(out, "Damaged");
     };
     write!(out, "{} {:?} ", record.previous, record.value)?;
+    if record.delta {
+        write!(out, "delta ")?;
+    }
     write_bytes(record.key.bytes(), out)
 }
 
-/// Writes the bytes of a record of a sum; a value that is no number is that of a tombstone.
+/// Writes the bytes of a record of a sum, or of a delta; a value that is no number is that of a tombstone.
 fn write_written(
     previous: u64,
     key: &[u8],
     value: &str,
+    delta: bool,
     out: &mut String,
 ) -> Result<(), AllocError> {
     let Some(key) = Name::new(key) else {
@@ -130,6 +134,7 @@ fn write_written(
         previous,
         key,
         value,
+        delta,
     };
     let mut bytes = [0xffu8; 56];
     write_record(&record, &mut bytes);
@@ -188,7 +193,8 @@ impl Subject for RecordCalls {
             ("size" | "flips", "name") => self.call_at::<Name, Name>(line, out),
             ("size" | "flips", "byte") => self.call_at::<Byte, i64>(line, out),
             ("read", _) => write_read(line.numbers[0], &bytes, out),
-            ("write", _) => write_written(line.numbers[0], &bytes, line.texts[2], out),
+            ("write", _) => write_written(line.numbers[0], &bytes, line.texts[2], false, out),
+            ("delta", _) => write_written(line.numbers[0], &bytes, line.texts[2], true, out),
             ("change", value) => {
                 let mut bytes = bytes;
                 write_changed(&mut bytes, value, out)

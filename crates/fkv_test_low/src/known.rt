@@ -40,6 +40,7 @@ fn what_is_known_at_any_time(rt: HostRuntime) {
             previous: 64,
             key,
             value: Some(2u64),
+            delta: true,
         };
         assert!(rt; read_back(65, &last, &mut [1u8; 48]) == Ok(last));
         let pages = Pages::new(rt.alloc(), shape, 2);
