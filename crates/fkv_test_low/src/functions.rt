@@ -1,13 +1,13 @@
 //! Printed texts, and each generic item at the three sets of functions.
 use fkv_functions::{
-    Ask, Built, CappedSumFns, CountFns, Functions, Known, MaxFns, Name, OrderFree, Refused, SumFns,
+    Ask, Built, CappedSumFns, CountFns, Known, MaxFns, Mergeable, Name, OrderFree, Refused, SumFns,
     What,
 };
 use std::alloc::Global;
 
 /// A first input, and then another: by a copy, in place, and built from a question. What is shown at the end, if
-/// the three agree.
-fn first_and_next<F: Functions>(
+/// the three agree, and so do parts, where the functions merge.
+fn first_and_next<F: Mergeable>(
     functions: &F,
     key: F::Key,
     first: F::Input,
@@ -33,7 +33,11 @@ fn first_and_next<F: Functions>(
         input: first,
     };
     let begun = Built::make(functions, fresh);
-    let is_one = changed.is(&copied)
+    let part = functions.delta(&key, &next);
+    let is_joined = functions.join(&started, &part).is(&copied)
+        && functions.delta(&key, &first).is(&started);
+    let is_one = (is_joined || !F::MERGES)
+        && changed.is(&copied)
         && built.value().is_some_and(|value| value.is(&copied))
         && built.ask().is(&ask)
         && begun.value().is_some_and(|value| value.is(&started));
@@ -44,7 +48,7 @@ fn first_and_next<F: Functions>(
 }
 
 /// What is shown after two inputs, if it is the same in either order.
-fn in_either_order<F: OrderFree>(
+fn in_either_order<F: Mergeable + OrderFree>(
     functions: &F,
     key: F::Key,
     first: F::Input,
@@ -194,6 +198,7 @@ const REFUSALS: [(Refused, &str, &str); 20] = [
         "Unreadable",
     ),
     (Refused::Unwritable, "cannot write output", "Unwritable"),
+    (Refused::NoMerge, "functions do not merge", "NoMerge"),
 ];
 
 #[test]
