@@ -1,7 +1,7 @@
 //! Printed texts, and each generic item at the three sets of functions.
 use fkv_functions::{
-    Ask, Built, CappedSumFns, CountFns, Known, MaxFns, Mergeable, Name, OrderFree, Refused, SumFns,
-    What,
+    Ask, Built, CappedSumFns, CountFns, Functions, Known, MaxFns, Mergeable, Name, OrderFree,
+    Refused, SumFns, What,
 };
 use std::alloc::Global;
 
@@ -147,7 +147,7 @@ fn capped_sums(rt: HostRuntime) {
 }
 
 /// A refusal, its text and its name.
-const REFUSALS: [(Refused, &str, &str); 20] = [
+const REFUSALS: [(Refused, &str, &str); 21] = [
     (Refused::NoMemory, "no memory", "NoMemory"),
     (Refused::BadConfig, "bad configuration", "BadConfig"),
     (Refused::NoSlot, "no free session", "NoSlot"),
