@@ -2,7 +2,7 @@
 use Rattle.std.specs.Prelude.{◌≡◌, ◌==◌, Bool, true, false, cond, ℕ, zero, suc, List, [], ◌∷◌, Option, Some, None, Result, Ok, Err, length, map, slice_get}
 use Rattle.std.specs.List.{filter}
 use Rattle.fkv_functions.specs.declared.refusals.Refused.{Refused}
-use Rattle.fkv_functions.specs.declared.refusals.Refused.TheVariants.{NoMemory, BadConfig, NoSlot, NoContext, Unknown, Busy, NotDue, DrainFull, Stranger, Worn, Device, Damaged, Stalled, Mismatch, BadRow, BadScript, NotReady, Unreadable, Unwritable}
+use Rattle.fkv_functions.specs.declared.refusals.Refused.TheVariants.{NoMemory, BadConfig, NoSlot, NoContext, Unknown, Busy, NotDue, DrainFull, Stranger, Worn, Device, Damaged, Stalled, Mismatch, BadRow, BadScript, NotReady, Unreadable, Unwritable, NoMerge}
 use Rattle.fkv_operations.specs.declared.operations.Answer.{Answer}
 use Rattle.fkv_lives.specs.declared.lives.Life.{Life}
 use Rattle.fkv_lives.specs.declared.lives.Finish.{Finish}
@@ -31,6 +31,7 @@ ends_operation (BadScript line) = false
 ends_operation NotReady = false
 ends_operation (Unreadable number) = false
 ends_operation Unwritable = false
+ends_operation NoMerge = false
 
 -- whether a step took a moment: it was not refused, or was a load that ended its operation
 abbrev pub took_moment : {V O : Type 0} → Result (Outcome V O) Refused → Bool

@@ -1,7 +1,7 @@
 -- What the end of a store is refused by.
 use Rattle.std.proofs.Common.{◌≡◌, ◌⊎◌, ⊎_elim, ℕ, Bool, List}
 use Rattle.fkv_functions.specs.declared.refusals.Refused.{Refused}
-use Rattle.fkv_functions.specs.declared.refusals.Refused.TheVariants.{NoMemory, BadConfig, NoSlot, NoContext, Unknown, Busy, NotDue, DrainFull, Stranger, Worn, Device, Damaged, Stalled, Mismatch, BadRow, BadScript, NotReady, Unreadable, Unwritable}
+use Rattle.fkv_functions.specs.declared.refusals.Refused.TheVariants.{NoMemory, BadConfig, NoSlot, NoContext, Unknown, Busy, NotDue, DrainFull, Stranger, Worn, Device, Damaged, Stalled, Mismatch, BadRow, BadScript, NotReady, Unreadable, Unwritable, NoMerge}
 use Rattle.fkv_device.specs.Failing.{ReadFailsBy}
 use Rattle.fkv_hybrid.specs.Scans.{IsStepRefusal, IsScanRefusal}
 use Rattle.fkv_hybrid.specs.Scans.IsScanRefusal.{memory, at_page}
@@ -49,3 +49,4 @@ module _ {K V I O : Type 0} (keeps : Bool) (views : List (PartitionView K V I)) 
   unclosed shared booked NotReady h = other NotReady h
   unclosed shared booked (Unreadable number) h = other (Unreadable number) h
   unclosed shared booked Unwritable h = other Unwritable h
+  unclosed shared booked NoMerge h = other NoMerge h
