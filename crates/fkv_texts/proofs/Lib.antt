@@ -5,3 +5,4 @@ pub mod PlaceLemmas
 pub mod ChainLemmas
 pub mod CutLemmas
 pub mod PartLemmas
+pub mod ValueLemmas

@@ -1,4 +1,5 @@
 pub mod Text
 pub mod Places
 pub mod Chains
+pub mod Deltas
 pub mod WrongTexts
