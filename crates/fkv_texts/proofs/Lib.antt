@@ -6,3 +6,4 @@ pub mod ChainLemmas
 pub mod CutLemmas
 pub mod PartLemmas
 pub mod ValueLemmas
+pub mod CoverLemmas

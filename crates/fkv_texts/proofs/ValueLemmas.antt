@@ -1,5 +1,5 @@
 -- What keys have once entries stand: a fold over the entries of the key.
-use Rattle.std.proofs.Common.{◌≡◌, Bool, true, false, cond, ◌&&◌, ℕ, ◌<◌, ◌≤◌, List, [], ◌∷◌, ◌++◌, filter, Option, Some, None, refl, sym, ◌∙◌, ap, subst, arith, nat_le}
+use Rattle.std.proofs.Common.{◌≡◌, Bool, true, false, cond, ◌&&◌, ℕ, ◌<◌, List, [], ◌∷◌, ◌++◌, filter, Option, Some, None, refl, sym, ◌∙◌, ap, arith, nat_le}
 use Rattle.std.proofs.lemmas.Bool.Decides.{nat_tests}
 use Rattle.std.specs.List.{fold}
 use Rattle.std.specs.Option.{option_or}
@@ -8,7 +8,7 @@ use Rattle.std.specs.BTreeMap.{is_at}
 use Rattle.fkv_functions.specs.Plain.{PlainMap, IsKeyOrder, with_at}
 use Rattle.fkv_texts.specs.declared.entries.Entry.{Entry}
 use Rattle.fkv_texts.specs.Text.{has_key, last_of, newest, value_of, live, AllAbove, IsRising}
-use Rattle.fkv_texts.specs.Deltas.{onto, risen, stood_on, stood}
+use Rattle.fkv_texts.specs.Deltas.{risen, stood_on, stood}
 use Rattle.fkv_texts.proofs.LastWhere.{last_where-filter}
 use Rattle.fkv_texts.proofs.CutLemmas.{filter-one}
 

@@ -1,5 +1,5 @@
 -- What deltas stand for. A delta is an entry whose value is a part, to be joined with what its key had before.
-use Rattle.std.specs.Prelude.{◌≡◌, ℕ, ◌<◌, ◌≤◌, ◌&&◌, ◌⊎◌, Bool, true, false, cond, List, [], ◌∷◌, filter, reverse}
+use Rattle.std.specs.Prelude.{◌≡◌, ℕ, ◌<◌, ◌&&◌, ◌⊎◌, Bool, true, false, cond, List, [], ◌∷◌, filter, reverse}
 use Rattle.std.specs.Prelude.{Option, Some, None, nat_le, nat_lt, slice_get}
 use Rattle.std.specs.declared.cmp.Ordering.{Ordering}
 use Rattle.fkv_functions.specs.Plain.{PlainMap, with_at}
