@@ -7,3 +7,4 @@ pub mod CutLemmas
 pub mod PartLemmas
 pub mod ValueLemmas
 pub mod CoverLemmas
+pub mod StoodLemmas
