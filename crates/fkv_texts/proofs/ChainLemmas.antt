@@ -16,7 +16,7 @@ use Rattle.fkv_texts.proofs.LastWhere.{last_where-append, last_where-same, last_
 use Rattle.fkv_texts.proofs.TextLemmas.{one_address, entry_at-in, newest-below}
 
 -- what holds of no elements, and of one more wherever it holds, holds of any list
-by_appends : {A : Type 0} (P : List A → Type 0) → ((xs : List A) (x : A) → P xs → P (xs ++ x ∷ [])) → (done rest : List A) → P done → P (done ++ rest)
+pub by_appends : {A : Type 0} (P : List A → Type 0) → ((xs : List A) (x : A) → P xs → P (xs ++ x ∷ [])) → (done rest : List A) → P done → P (done ++ rest)
 by_appends P step done [] p = subst P (sym (append-nil done)) p
 by_appends P step done (y ∷ ys) p = subst P (append_assoc done (y ∷ []) ys) (by_appends P step (done ++ y ∷ []) ys (step done y p))
 

@@ -8,3 +8,5 @@ pub mod PartLemmas
 pub mod ValueLemmas
 pub mod CoverLemmas
 pub mod StoodLemmas
+pub mod GatherLemmas
+pub mod DeltaChangeLemmas

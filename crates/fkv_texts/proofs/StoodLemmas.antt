@@ -51,7 +51,7 @@ module _ {K V : Type 0} where
   alike-laid_out bits size begin tail (d ∷ ds) [] h l = absurd h
   alike-laid_out bits size begin tail (d ∷ ds) (e ∷ es) h l = (sym (alike-address d e h.0) ∙ l.0, l.1, alike-laid_out bits size (tail_after bits size begin) tail ds es h.1 l.2)
 
-  alike-above : (a : ℕ) (ds es : List (Entry K V)) → AreAlike ds es → AllAbove a ds → AllAbove a es
+  pub alike-above : (a : ℕ) (ds es : List (Entry K V)) → AreAlike ds es → AllAbove a ds → AllAbove a es
   alike-above a [] [] h l = tt
   alike-above a [] (e ∷ es) h l = absurd h
   alike-above a (d ∷ ds) [] h l = absurd h
