@@ -1,17 +1,20 @@
 -- What a cleared text still says once its lower part goes.
-use Rattle.std.proofs.Common.{◌≡◌, ◌==◌, ◌↔◌, Bool, true, false, cond, ◌&&◌, ℕ, zero, suc, ◌<◌, ◌≤◌, ◌⊎◌, inl, inr, List, [], ◌∷◌, ◌++◌, length, filter, Option, Some, None, slice_get, refl, sym, ◌∙◌, ap, subst, arith, nat_le}
+use Rattle.std.proofs.Common.{◌≡◌, ◌==◌, ◌↔◌, Bool, true, false, cond, ◌&&◌, ℕ, zero, suc, ◌<◌, ◌≤◌, ◌⊎◌, inl, inr, List, [], ◌∷◌, ◌++◌, length, filter, Option, Some, None, option_map, slice_get, refl, sym, ◌∙◌, ap, subst, arith, nat_le}
 use Rattle.std.proofs.lemmas.Bool.{cases_lt, and_parts, leb-true, le-leb}
 use Rattle.std.proofs.lemmas.Bool.Decides.{nat_tests}
 use Rattle.std.specs.List.{fold}
+use Rattle.std.specs.BTreeMap.{is_at}
+use Rattle.std.proofs.lemmas.Option.{slice_get-map}
 use Rattle.std.specs.declared.cmp.Ordering.{Ordering}
 use Rattle.fkv_functions.specs.Plain.{IsKeyOrder}
 use Rattle.fkv_texts.specs.declared.entries.Entry.{Entry}
-use Rattle.fkv_texts.specs.Text.{has_key, newest, value_of, live, AllAbove, IsRising, text_from}
+use Rattle.fkv_texts.specs.Text.{has_key, newest, value_of, live, AllAbove, IsRising, text_from, set_at, changed}
 use Rattle.fkv_texts.specs.Chains.{IsIn}
 use Rattle.fkv_texts.specs.Deltas.{onto, risen, stood, HasWholeAbove, IsCovered, IsSuperseded, IsCleared}
 use Rattle.fkv_texts.proofs.LastWhere.{last_where-filter, last_where-none, last_where-narrow, last_where-found, last_where-in, none-passes}
 use Rattle.fkv_texts.proofs.TextLemmas.{entry_at-in, entry_at-old, above-in}
 use Rattle.fkv_texts.proofs.CutLemmas.{filter-one, filter-all, filter-in, cut-entry, cut-rising, highest}
+use Rattle.fkv_texts.proofs.ChangeLemmas.{by_test, set_at-address, set_at-key, entry_at-elsewhere}
 use Rattle.fkv_texts.proofs.ChainLemmas.{shorter-get}
 use Rattle.fkv_functions.proofs.ListLemmas.{get-append_last}
 use Rattle.fkv_texts.proofs.ValueLemmas.{live-fold, newest-fold}
@@ -133,6 +136,9 @@ module _ {K V : Type 0} (join : V → V → V) (q : Entry K V → Bool) where
     ]
 
 -- ---- what stays of a cleared text
+pub cleared-lower : {K V : Type 0} (cmp : K → K → Ordering) (es : List (Entry K V)) (low limit : ℕ) → low ≤ limit → IsCleared cmp es limit → IsCleared cmp es low
+cleared-lower cmp es low limit le clear e here lt = clear e here (omega arith)
+
 module _ {K V : Type 0} (cmp : K → K → Ordering) (join : V → V → V) (o : IsKeyOrder cmp) (es : List (Entry K V)) (r : IsRising es) (b : ℕ) (clear : IsCleared cmp es b) where
   same_key : (k : K) (e d : Entry K V) → has_key cmp k e ≡ true → has_key cmp e.key d ≡ true → has_key cmp k d ≡ true
   same_key k e d he hd = subst (λ (q : K). has_key cmp q d ≡ true) (o.same e.key k he) hd
@@ -247,3 +253,21 @@ module _ {K V : Type 0} (cmp : K → K → Ordering) (es : List (Entry K V)) (d 
   pub cleared-append : (limit : ℕ) → limit ≤ d.address → IsCleared cmp es limit → IsCleared cmp (es ++ d ∷ []) limit
   cleared-append limit le clear e here low =
       superseded-append e (clear e (sym (entry_at-old es d e.address (λ at. omega arith)) ∙ here) low)
+
+-- ---- an entry gets another value
+module _ {K V : Type 0} (cmp : K → K → Ordering) (es : List (Entry K V)) (a : ℕ) (v : Option V) where
+  pub covered-changed : (k : K) (b : ℕ) → HasWholeAbove cmp es k b → HasWholeAbove cmp (changed es a v) k b
+  covered-changed k b w = record {
+    by = set_at a v w.by;
+    stands = record { place = w.stands.place; here = slice_get-map (set_at a v) es w.stands.place ∙ ap (option_map (set_at a v)) w.stands.here };
+    key = ap (λ (q : K). is_at (cmp q) k) (set_at-key a v w.by) ∙ w.key;
+    whole = set_at-delta w.by ∙ w.whole;
+    above = subst (λ (n : ℕ). b < n) (sym (set_at-address a v w.by)) w.above;
+  }
+    where
+      set_at-delta : (e : Entry K V) → (set_at a v e).delta ≡ e.delta
+      set_at-delta e = by_test a v (λ d. d.delta ≡ e.delta) (e.address == a) e refl refl
+
+  pub cleared-changed : (limit : ℕ) → limit ≤ a → IsCleared cmp es limit → IsCleared cmp (changed es a v) limit
+  cleared-changed limit le clear e here low =
+      elim (clear e (sym (entry_at-elsewhere a v es e.address (λ at. omega arith)) ∙ here) low) [ inl none ↦ inl none | inr w ↦ inr (covered-changed e.key e.address w) ]

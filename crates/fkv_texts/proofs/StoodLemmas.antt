@@ -116,6 +116,16 @@ module _ {K V : Type 0} where
         (alike-last (λ x. nat_lt x.address w.0.address && has_class class same (class w.0.key) x) (λ x v. refl) ds es alike)
         (h i w.0 w.1))
 
+  module _ (cmp : K → K → Ordering) (join : V → V → V) (es : List (Entry K V)) where
+    pub alike : AreAlike es (stood cmp join es)
+    alike = stood-alike cmp join (λ k. None) es
+
+    pub alike_back : AreAlike (stood cmp join es) es
+    alike_back = alike-back es (stood cmp join es) alike
+
+    pub stood-last : (p : Entry K V → Bool) → IgnoresValues p → last_where p (stood cmp join es) ≡ option_map (with_value (value_of (last_where p (stood cmp join es)))) (last_where p es)
+    stood-last p blind = both-map (last_where p es) (last_where p (stood cmp join es)) (alike-last p blind es (stood cmp join es) alike)
+
 -- ---- what an entry has once it stands
 -- each entry, and what its key has once it stands
 abbrev AreRisen : {K V : Type 0} → (V → V → V) → List (Entry K V) → List (Entry K V) → Type 0

@@ -55,6 +55,11 @@ module _ {K V : Type 0} (cmp : K → K → Ordering) (join : V → V → V) wher
   pub live-after : (es : List (Entry K V)) (k : K) → live cmp (stood cmp join es) k ≡ after (λ q. None) es k
   live-after es k = none-value (last_of cmp (stood cmp join es) k) ∙ last-after (λ q. None) es k
 
+  pub stood-append : (es : List (Entry K V)) (e : Entry K V) → stood cmp join (es ++ e ∷ []) ≡ stood cmp join es ++ record e { value = risen join (live cmp (stood cmp join es) e.key) e } ∷ []
+  stood-append es e =
+      stood_on-append (λ q. None) es e
+      ∙ ap (λ v. stood cmp join es ++ record e { value = risen join v e } ∷ []) (sym (live-after es e.key))
+
   -- ---- and that is a fold
   fold-step : IsKeyOrder cmp → (m : PlainMap K V) (e : Entry K V) (es : List (Entry K V)) (k : K) (b : Bool) → is_at (cmp e.key) k ≡ b
       → fold (risen join) (cond b (risen join (m e.key) e) (m k)) (filter (has_key cmp k) es) ≡ fold (risen join) (m k) (cond b (e ∷ filter (has_key cmp k) es) (filter (has_key cmp k) es))

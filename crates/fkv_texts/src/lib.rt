@@ -5,6 +5,7 @@
 //! same wherever its bytes are.
 #![tactic(auto)]
 
+pub mod deltas;
 pub mod entries;
 pub mod laws;
 
