@@ -222,14 +222,16 @@ module _ {K V : Type 0} (cmp : K → K → Ordering) (es : List (Entry K V)) (b 
 
   pub cut-covered : (k : K) (a : ℕ) → b ≤ a → HasWholeAbove cmp (text_from b es) k a ↔ HasWholeAbove cmp es k a
   cut-covered k a le = (
-      (λ w. record { by = w.by; stands = (filter-in (λ x. nat_le b x.address) es w.stands.place w.by w.stands.here).0; key = w.key; whole = w.whole; above = w.above }),
-      (λ w. let lt : a < w.by.address = w.above in
-      record { by = w.by; stands = filter-has (λ x. nat_le b x.address) es w.by w.stands.place w.stands.here (le-leb b w.by.address (omega arith)); key = w.key; whole = w.whole; above = w.above }))
+    (λ w. record { by = w.by; stands = (filter-in (λ x. nat_le b x.address) es w.stands.place w.by w.stands.here).0; key = w.key; whole = w.whole; above = w.above }),
+    (λ w. let lt : a < w.by.address = w.above in
+        record { by = w.by; stands = filter-has (λ x. nat_le b x.address) es w.by w.stands.place w.stands.here (le-leb b w.by.address (omega arith)); key = w.key; whole = w.whole; above = w.above }),
+  )
 
   pub cut-superseded : (e : Entry K V) → b ≤ e.address → IsSuperseded cmp (text_from b es) e ↔ IsSuperseded cmp es e
   cut-superseded e le = let c = cut-covered e.key e.address le in (
-      (λ s. elim s [ inl none ↦ inl none | inr w ↦ inr (c.0 w) ]),
-      (λ s. elim s [ inl none ↦ inl none | inr w ↦ inr (c.1 w) ]))
+    (λ s. elim s [ inl none ↦ inl none | inr w ↦ inr (c.0 w) ]),
+    (λ s. elim s [ inl none ↦ inl none | inr w ↦ inr (c.1 w) ]),
+  )
 
   pub cut-cleared : (limit : ℕ) → IsCleared cmp es limit → IsCleared cmp (text_from b es) limit
   cut-cleared limit clear e here low =

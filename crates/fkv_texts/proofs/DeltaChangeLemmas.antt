@@ -24,7 +24,7 @@ module _ {K V : Type 0} (cmp : K → K → Ordering) (join : V → V → V) wher
       let value : risen join (m e.key) e ≡ risen join (n e.key) e = ap (λ v. risen join v e) own in
       let first : record e { value = risen join (m e.key) e } ≡ record e { value = risen join (n e.key) e } = ap (λ (v : Option V). record e { value = v }) value in
       let rest = stood-same (with_at cmp m e.key (risen join (m e.key) e)) (with_at cmp n e.key (risen join (n e.key) e)) es
-        (λ d i. (let at = h d (record { place = suc i.place; here = i.here }) in λ j. cond (is_at (cmp e.key) d.key) (value j) (at j))) in
+      (λ d i. (let at = h d (record { place = suc i.place; here = i.here }) in λ j. cond (is_at (cmp e.key) d.key) (value j) (at j))) in
       λ i. first i ∷ rest i
 
   module _ (a : ℕ) (v : Option V) where

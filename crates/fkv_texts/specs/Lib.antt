@@ -3,3 +3,4 @@ pub mod Places
 pub mod Chains
 pub mod Deltas
 pub mod WrongTexts
+pub mod WrongDeltas

@@ -14,6 +14,8 @@ ghost use Rattle.fkv_texts.specs.Chains.{last_of_class, Leads, IsChained};
 ghost use Rattle.fkv_texts.specs.Deltas.{onto, IsAssociative, risen, with_value, stood_on, stood, AreWhole, IgnoresValues};
 ghost use Rattle.fkv_texts.specs.Deltas.{gathered, falling_to, falling_between};
 ghost use Rattle.fkv_texts.specs.Deltas.{IsCovered, IsSuperseded, IsCleared};
+ghost use Rattle.fkv_texts.specs.WrongDeltas.{DeltasJoin, WholesEnd, FirstDeltasStand, PartsGather, LaterIsLater};
+ghost use Rattle.fkv_texts.specs.WrongDeltas.{WholesCover, CutNeedsClearing};
 
 /// Entries stand where they stood: what they stand for has their addresses, previous addresses, keys and flags, and
 /// other values alone.
@@ -188,4 +190,15 @@ pub fn gathers<K, V>()
         → gathered join (falling_between cmp es k low a) parts ≡ (joined, None)
         → onto join (value_of (newest cmp (stood cmp join es) k a)) parts
         ≡ onto join (value_of (newest cmp (stood cmp join es) k low)) joined }
+{}
+
+/// What deltas stand for, and what they cover and do not, shown on small texts.
+pub fn wrong_deltas()
+    ensures join { DeltasJoin }
+    ensures ends { WholesEnd }
+    ensures first { FirstDeltasStand }
+    ensures gather { PartsGather }
+    ensures order { LaterIsLater }
+    ensures cover { WholesCover }
+    ensures cut { CutNeedsClearing }
 {}
