@@ -35,7 +35,7 @@ module _ {V : Type 0} (join : V → V → V) where
     abbrev pub joined_end : Option V × Option (Entry K V) → Option V
     joined_end g = onto join (from_end g.1) g.0
 
-    gather-step : (y : Option V) (e : Entry K V) (rs : List (Entry K V)) (c : Option V) → onto join y (onto join e.value c) ≡ joined_end (gathered join rs (onto join e.value c)) → (b : Bool)
+    pub gather-step : (y : Option V) (e : Entry K V) (rs : List (Entry K V)) (c : Option V) → onto join y (onto join e.value c) ≡ joined_end (gathered join rs (onto join e.value c)) → (b : Bool)
         → onto join (cond b (onto join y e.value) e.value) c ≡ joined_end (cond b (gathered join rs (onto join e.value c)) (c, Some e))
     gather-step y e rs c rest true = onto-onto h y e.value c ∙ rest
     gather-step y e rs c rest false = refl
@@ -49,13 +49,13 @@ module _ {V : Type 0} (join : V → V → V) where
         [] xs (λ c. refl)
 
 -- ---- the entries up to an address, and those above it
-filter-same : {A : Type 0} (p q : A → Bool) (xs : List A) → ((i : ℕ) (x : A) → slice_get xs i ≡ Some x → p x ≡ q x) → filter p xs ≡ filter q xs
+pub filter-same : {A : Type 0} (p q : A → Bool) (xs : List A) → ((i : ℕ) (x : A) → slice_get xs i ≡ Some x → p x ≡ q x) → filter p xs ≡ filter q xs
 filter-same p q [] h = refl
 filter-same p q (x ∷ xs) h =
     ap (λ b. cond b (x ∷ filter p xs) (filter p xs)) (h zero x refl)
     ∙ ap (λ l. cond (q x) (x ∷ l) l) (filter-same p q xs (λ i. h (suc i)))
 
-filter-nothing : {A : Type 0} (p : A → Bool) (xs : List A) → ((i : ℕ) (x : A) → slice_get xs i ≡ Some x → p x ≡ false) → filter p xs ≡ []
+pub filter-nothing : {A : Type 0} (p : A → Bool) (xs : List A) → ((i : ℕ) (x : A) → slice_get xs i ≡ Some x → p x ≡ false) → filter p xs ≡ []
 filter-nothing p [] h = refl
 filter-nothing p (x ∷ xs) h = filter-one p x xs false (h zero x refl) ∙ filter-nothing p xs (λ i. h (suc i))
 
@@ -99,6 +99,19 @@ module _ {K V : Type 0} (t : Entry K V → Bool) (b : ℕ) where
       on : (u v : Bool) → u ≡ true → v ≡ (u && v)
       on u v h = rw h refl
 
+module _ {K V : Type 0} (cmp : K → K → Ordering) (es : List (Entry K V)) (k : K) where
+  -- the entries at or below a lower address
+  pub up_to-lower : (b a : ℕ) → b ≤ a → filter (λ e. nat_le e.address b && (nat_le e.address a && has_key cmp k e)) es ≡ filter (λ e. nat_le e.address b && has_key cmp k e) es
+  up_to-lower b a le = filter-same (λ e. nat_le e.address b && (nat_le e.address a && has_key cmp k e)) (λ e. nat_le e.address b && has_key cmp k e) es
+      (λ i x g. inner (nat_le x.address b) (nat_le x.address a) (has_key cmp k x) (λ h. both x h))
+    where
+      inner : (u v w : Bool) → (u ≡ true → v ≡ true) → (u && (v && w)) ≡ (u && w)
+      inner true v w h = rw (h refl) refl
+      inner false v w h = refl
+
+      both : (x : Entry K V) → nat_le x.address b ≡ true → nat_le x.address a ≡ true
+      both x h = grind (arith, nat_tests, h)
+
 module _ {K V : Type 0} (cmp : K → K → Ordering) (join : V → V → V) (o : IsKeyOrder cmp) (assoc : IsAssociative join) (es : List (Entry K V)) (r : IsRising es) (k : K) where
   -- down to the first entry that is no delta, or to the end
   none-end : (l : Option (Entry K V)) → from_end join {K = K} assoc None l ≡ value_of l
@@ -113,18 +126,6 @@ module _ {K V : Type 0} (cmp : K → K → Ordering) (join : V → V → V) (o :
       ∙ ap (joined_end join assoc None) g
       ∙ ap (λ v. onto join v d) (none-end end)
 
-  -- the entries at or below a lower address
-  lower : (b a : ℕ) → b ≤ a → filter (λ e. nat_le e.address b && (nat_le e.address a && has_key cmp k e)) es ≡ filter (λ e. nat_le e.address b && has_key cmp k e) es
-  lower b a le = filter-same (λ e. nat_le e.address b && (nat_le e.address a && has_key cmp k e)) (λ e. nat_le e.address b && has_key cmp k e) es
-      (λ i x g. inner (nat_le x.address b) (nat_le x.address a) (has_key cmp k x) (λ h. both x h))
-    where
-      inner : (u v w : Bool) → (u ≡ true → v ≡ true) → (u && (v && w)) ≡ (u && w)
-      inner true v w h = rw (h refl) refl
-      inner false v w h = refl
-
-      both : (x : Entry K V) → nat_le x.address b ≡ true → nat_le x.address a ≡ true
-      both x h = grind (arith, nat_tests, h)
-
   -- down to an address
   pub gather-to : (b a : ℕ) → b ≤ a → (c d : Option V) (end : Option (Entry K V)) → gathered join (falling_between cmp es k b a) c ≡ (d, end)
       → onto join (value_of (newest cmp (stood cmp join es) k a)) c ≡ onto join (from_end join assoc (value_of (newest cmp (stood cmp join es) k b)) end) d
@@ -132,7 +133,7 @@ module _ {K V : Type 0} (cmp : K → K → Ordering) (join : V → V → V) (o :
       let t : Entry K V → Bool = λ e. nat_le e.address a && has_key cmp k e in
       let ls = filter (λ e. nat_le e.address b && t e) es in
       let hs = filter (λ e. nat_lt b e.address && t e) es in
-      let below : fold (risen join) None ls ≡ value_of (newest cmp (stood cmp join es) k b) = ap (fold (risen join) None) (lower b a le) ∙ sym (newest-fold cmp join o es r k b) in
+      let below : fold (risen join) None ls ≡ value_of (newest cmp (stood cmp join es) k b) = ap (fold (risen join) None) (up_to-lower cmp es k b a le) ∙ sym (newest-fold cmp join o es r k b) in
       ap (λ v. onto join v c)
       (newest-fold cmp join o es r k a ∙ ap (fold (risen join) None) (filter-split_at t b es r) ∙ fold-append (risen join) None ls hs ∙ ap (λ v. fold (risen join) v hs) below)
       ∙ gather-fold join assoc (value_of (newest cmp (stood cmp join es) k b)) hs c

@@ -10,3 +10,5 @@ pub mod CoverLemmas
 pub mod StoodLemmas
 pub mod GatherLemmas
 pub mod DeltaChangeLemmas
+pub mod ReadLemmas
+pub mod BaseLemmas

@@ -1,7 +1,7 @@
 //! What holds of texts with deltas. An entry that is a delta has a part of a value, to be joined with what its key had
 //! before: so entries are one thing, and what they stand for another, which the laws of texts speak of.
-ghost use Rattle.std.specs.Prelude.{◌≡◌, ◌<◌, ◌≤◌, ◌&&◌, ◌↔◌, ℕ, Bool, true, false, List, [], ◌∷◌, ◌++◌, map, filter};
-ghost use Rattle.std.specs.Prelude.{Option, Some, None, IsSome, nat_le};
+ghost use Rattle.std.specs.Prelude.{◌≡◌, ◌≢◌, ◌<◌, ◌≤◌, ◌&&◌, ◌⊎◌, ◌↔◌, ℕ, Bool, true, false, List, [], ◌∷◌, ◌++◌, map, filter};
+ghost use Rattle.std.specs.Prelude.{Option, Some, None, IsSome, nat_le, slice_get};
 ghost use Rattle.std.specs.Option.{option_map};
 ghost use Rattle.std.specs.List.{fold};
 ghost use Rattle.std.specs.declared.cmp.Ordering.{Ordering};
@@ -10,7 +10,7 @@ ghost use Rattle.fkv_texts.specs.declared.entries.Entry.{Entry};
 ghost use Rattle.fkv_texts.specs.Text.{last_where, entry_at, value_at, has_key, last_of, newest, value_of, live};
 ghost use Rattle.fkv_texts.specs.Text.{IsRising, IsFrom, IsBelow, changed, text_from};
 ghost use Rattle.fkv_texts.specs.Places.{IsLaidOut};
-ghost use Rattle.fkv_texts.specs.Chains.{last_of_class, Leads, IsChained};
+ghost use Rattle.fkv_texts.specs.Chains.{IsClassTest, last_of_class, Leads, IsChained, IsChainFrom, leads_to};
 ghost use Rattle.fkv_texts.specs.Deltas.{onto, IsAssociative, risen, with_value, stood_on, stood, AreWhole, IgnoresValues};
 ghost use Rattle.fkv_texts.specs.Deltas.{gathered, falling_to, falling_between};
 ghost use Rattle.fkv_texts.specs.Deltas.{IsCovered, IsSuperseded, IsCleared};
@@ -131,6 +131,32 @@ pub fn uncovered_stays<K, V>()
         → IsCleared cmp (text_from low es) limit }
 {}
 
+/// Which entries are covered, and what stands for itself.
+pub fn covers<K, V>()
+    ensures decided { (cmp : K → K → Ordering) (es : List (Entry K V)) (e : Entry K V)
+        → IsCovered cmp es e ⊎ (IsCovered cmp es e → ⊥) }
+    // an entry that is covered is not the last of its key; where none is a delta, one that is not the last is covered
+    ensures passed { (cmp : K → K → Ordering) (es : List (Entry K V)) (e : Entry K V)
+        → IsRising es
+        → IsCovered cmp es e
+        → last_of cmp es e.key ≢ Some e }
+    ensures whole { (cmp : K → K → Ordering) (es : List (Entry K V)) (e : Entry K V)
+        → IsKeyOrder cmp
+        → IsRising es
+        → AreWhole es
+        → entry_at es e.address ≡ Some e
+        → last_of cmp es e.key ≢ Some e
+        → IsCovered cmp es e }
+    // an entry that is not covered stands for its own value, a delta too, where all below it is superseded
+    ensures lowest { (cmp : K → K → Ordering) (join : V → V → V) (es : List (Entry K V)) (e : Entry K V)
+        → IsKeyOrder cmp
+        → IsRising es
+        → entry_at es e.address ≡ Some e
+        → IsCleared cmp es e.address
+        → (IsCovered cmp es e → ⊥)
+        → value_of (newest cmp (stood cmp join es) e.key e.address) ≡ e.value }
+{}
+
 /// What is superseded stays so as a text grows.
 pub fn superseded_stays<K, V>()
     // an entry that is no delta covers those of its key below it
@@ -190,6 +216,39 @@ pub fn gathers<K, V>()
         → gathered join (falling_between cmp es k low a) parts ≡ (joined, None)
         → onto join (value_of (newest cmp (stood cmp join es) k a)) parts
         ≡ onto join (value_of (newest cmp (stood cmp join es) k low)) joined }
+{}
+
+/// The same along a chain, from an entry of the key's class down to an address.
+pub fn chain_gathers<K, V, C>()
+    // the reader meets an entry of the key that is no delta
+    ensures met { (cmp : K → K → Ordering) (join : V → V → V) (class : K → C) (same : C → C → Bool)
+        (begin low : ℕ) (es upper : List (Entry K V)) (k : K) (i : ℕ) (d e : Entry K V) (parts joined : Option V)
+        → IsKeyOrder cmp
+        → IsAssociative join
+        → IsClassTest same
+        → begin ≤ low
+        → IsRising es
+        → IsChained class same begin es
+        → slice_get es i ≡ Some d
+        → class d.key ≡ class k
+        → IsChainFrom low es d.address upper
+        → gathered join (filter (has_key cmp k) upper) parts ≡ (joined, Some e)
+        → onto join (value_of (newest cmp (stood cmp join es) k d.address)) parts ≡ onto join e.value joined }
+    // or what the key has where the chain leads on is wanted still
+    ensures on { (cmp : K → K → Ordering) (join : V → V → V) (class : K → C) (same : C → C → Bool)
+        (begin low : ℕ) (es upper : List (Entry K V)) (k : K) (i : ℕ) (d : Entry K V) (parts joined : Option V)
+        → IsKeyOrder cmp
+        → IsAssociative join
+        → IsClassTest same
+        → begin ≤ low
+        → IsRising es
+        → IsChained class same begin es
+        → slice_get es i ≡ Some d
+        → class d.key ≡ class k
+        → IsChainFrom low es d.address upper
+        → gathered join (filter (has_key cmp k) upper) parts ≡ (joined, None)
+        → onto join (value_of (newest cmp (stood cmp join es) k d.address)) parts
+        ≡ onto join (value_of (newest cmp (stood cmp join es) k (leads_to d.address upper))) joined }
 {}
 
 /// What deltas stand for, and what they cover and do not, shown on small texts.
