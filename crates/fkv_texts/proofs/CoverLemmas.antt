@@ -10,7 +10,7 @@ use Rattle.fkv_functions.specs.Plain.{IsKeyOrder}
 use Rattle.fkv_texts.specs.declared.entries.Entry.{Entry}
 use Rattle.fkv_texts.specs.Text.{has_key, newest, value_of, live, AllAbove, IsRising, text_from, set_at, changed}
 use Rattle.fkv_texts.specs.Chains.{IsIn}
-use Rattle.fkv_texts.specs.Deltas.{onto, risen, stood, HasWholeAbove, IsCovered, IsSuperseded, IsCleared}
+use Rattle.fkv_texts.specs.Deltas.{risen, stood, HasWholeAbove, IsCovered, IsSuperseded, IsCleared}
 use Rattle.fkv_texts.proofs.LastWhere.{last_where-filter, last_where-none, last_where-narrow, last_where-found, last_where-in, none-passes}
 use Rattle.fkv_texts.proofs.TextLemmas.{entry_at-in, entry_at-old, above-in}
 use Rattle.fkv_texts.proofs.CutLemmas.{filter-one, filter-all, filter-in, cut-entry, cut-rising, highest}
@@ -86,10 +86,6 @@ module _ {K V : Type 0} (join : V → V → V) (q : Entry K V → Bool) where
       | inl none ↦ inl none
       | inr w ↦ (let lt : y.address < e.address = above-in y.address ys above m.place e m.here in inr (later-tail y ys e.address (omega arith) w))
     ]
-
-    onto-none : (x : Option V) → onto join x None ≡ x
-    onto-none None = refl
-    onto-none (Some v) = refl
 
     -- what an entry without a value leaves
     next-none : (x : Option V) (e : Entry K V) (es : List (Entry K V)) (d : Bool) → e.delta ≡ d → e.value ≡ None → (x ≡ None) ⊎ HasWhole (e ∷ es) → (risen join x e ≡ None) ⊎ HasWhole es

@@ -16,10 +16,6 @@ use Rattle.fkv_texts.proofs.ChainLemmas.{by_appends}
 use Rattle.fkv_texts.proofs.ValueLemmas.{newest-fold}
 
 module _ {V : Type 0} (join : V → V → V) where
-  pub onto-none : (v : Option V) → onto join v None ≡ v
-  onto-none None = refl
-  onto-none (Some v) = refl
-
   pub onto-onto : IsAssociative join → (u v w : Option V) → onto join (onto join u v) w ≡ onto join u (onto join v w)
   onto-onto h None v w = refl
   onto-onto h (Some u) None w = refl

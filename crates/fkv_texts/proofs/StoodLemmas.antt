@@ -7,7 +7,7 @@ use Rattle.fkv_texts.specs.declared.entries.Entry.{Entry}
 use Rattle.fkv_texts.specs.Text.{last_where, value_of, AllAbove, IsRising, IsFrom, IsBelow}
 use Rattle.fkv_texts.specs.Places.{tail_after, IsLaidOut}
 use Rattle.fkv_texts.specs.Chains.{has_class, last_of_class, last_below, Leads, IsChained}
-use Rattle.fkv_texts.specs.Deltas.{onto, risen, stood_on, stood, with_value, AreWhole, IgnoresValues}
+use Rattle.fkv_texts.specs.Deltas.{onto, risen, stood_on, stood, having, AreWhole, IgnoresValues}
 
 -- ---- lists whose entries differ in their values alone
 abbrev pub AreAlike : {K V : Type 0} → List (Entry K V) → List (Entry K V) → Type 0
@@ -27,11 +27,11 @@ module _ {K V : Type 0} where
   stood-alike cmp join m [] = tt
   stood-alike cmp join m (e ∷ es) = (refl, stood-alike cmp join (with_at cmp m e.key (risen join (m e.key) e)) es)
 
-  pub alike-unvalued : (ds es : List (Entry K V)) → AreAlike ds es → map (with_value None) es ≡ map (with_value None) ds
+  pub alike-unvalued : (ds es : List (Entry K V)) → AreAlike ds es → map (having None) es ≡ map (having None) ds
   alike-unvalued [] [] h = refl
   alike-unvalued [] (e ∷ es) h = absurd h
   alike-unvalued (d ∷ ds) [] h = absurd h
-  alike-unvalued (d ∷ ds) (e ∷ es) h = let first = ap (with_value None) (sym h.0) in let rest = alike-unvalued ds es h.1 in λ i. first i ∷ rest i
+  alike-unvalued (d ∷ ds) (e ∷ es) h = let first = ap (having None) (sym h.0) in let rest = alike-unvalued ds es h.1 in λ i. first i ∷ rest i
 
   -- an entry, and the one at its place
   pub alike-get : (ds es : List (Entry K V)) → AreAlike ds es → (i : ℕ) (e : Entry K V) → slice_get es i ≡ Some e → (d : Entry K V) × (slice_get ds i ≡ Some d) × (record d { value = e.value } ≡ e)
@@ -91,7 +91,7 @@ module _ {K V : Type 0} where
   alike-last p blind (d ∷ ds) [] h = absurd h
   alike-last p blind (d ∷ ds) (e ∷ es) h = alike-or d e (p d) (p e) (last_where p ds) (last_where p es) (sym (blind d e.value) ∙ ap p h.0) h.0 (alike-last p blind ds es h.1)
 
-  pub both-map : (l m : Option (Entry K V)) → BothAlike l m → m ≡ option_map (with_value (value_of m)) l
+  pub both-map : (l m : Option (Entry K V)) → BothAlike l m → m ≡ option_map (having (value_of m)) l
   both-map None None h = refl
   both-map None (Some e) h = absurd h
   both-map (Some d) None h = absurd h
@@ -123,7 +123,7 @@ module _ {K V : Type 0} where
     pub alike_back : AreAlike (stood cmp join es) es
     alike_back = alike-back es (stood cmp join es) alike
 
-    pub stood-last : (p : Entry K V → Bool) → IgnoresValues p → last_where p (stood cmp join es) ≡ option_map (with_value (value_of (last_where p (stood cmp join es)))) (last_where p es)
+    pub stood-last : (p : Entry K V → Bool) → IgnoresValues p → last_where p (stood cmp join es) ≡ option_map (having (value_of (last_where p (stood cmp join es)))) (last_where p es)
     stood-last p blind = both-map (last_where p es) (last_where p (stood cmp join es)) (alike-last p blind es (stood cmp join es) alike)
 
 -- ---- what an entry has once it stands

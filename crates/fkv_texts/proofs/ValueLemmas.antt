@@ -8,7 +8,7 @@ use Rattle.std.specs.BTreeMap.{is_at}
 use Rattle.fkv_functions.specs.Plain.{PlainMap, IsKeyOrder, with_at}
 use Rattle.fkv_texts.specs.declared.entries.Entry.{Entry}
 use Rattle.fkv_texts.specs.Text.{has_key, last_of, newest, value_of, live, AllAbove, IsRising}
-use Rattle.fkv_texts.specs.Deltas.{risen, stood_on, stood}
+use Rattle.fkv_texts.specs.Deltas.{onto, risen, stood_on, stood}
 use Rattle.fkv_texts.proofs.LastWhere.{last_where-filter}
 use Rattle.fkv_texts.proofs.CutLemmas.{filter-one}
 
@@ -20,6 +20,11 @@ filter-step p false x xs ys h = h
 pub filter-filter : {A : Type 0} (p g : A → Bool) (xs : List A) → filter p (filter g xs) ≡ filter (λ x. g x && p x) xs
 filter-filter p g [] = refl
 filter-filter p g (x ∷ xs) = filter-step p (g x) x (filter g xs) (filter (λ y. g y && p y) xs) (filter-filter p g xs)
+
+-- nothing after a value leaves it
+pub onto-none : {V : Type 0} (join : V → V → V) (v : Option V) → onto join v None ≡ v
+onto-none join None = refl
+onto-none join (Some v) = refl
 
 module _ {K V : Type 0} (cmp : K → K → Ordering) (join : V → V → V) where
   -- what keys have after entries

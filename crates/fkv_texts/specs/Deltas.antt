@@ -22,14 +22,14 @@ abbrev pub risen : {K V : Type 0} → (V → V → V) → Option V → Entry K V
 risen join held e = cond e.delta (onto join held e.value) e.value
 
 -- an entry with another value, or none
-abbrev pub with_value : {K V : Type 0} → Option V → Entry K V → Entry K V
-with_value v e = record e { value = v }
+abbrev pub having : {K V : Type 0} → Option V → Entry K V → Entry K V
+having v e = record e { value = v }
 
 -- each entry with what its key has once it stands, from what keys had before
 abbrev pub stood_on : {K V : Type 0} → (K → K → Ordering) → (V → V → V) → PlainMap K V → List (Entry K V) → List (Entry K V)
 stood_on cmp join m [] = []
 stood_on cmp join m (e ∷ es) =
-    with_value (risen join (m e.key) e) e ∷ stood_on cmp join (with_at cmp m e.key (risen join (m e.key) e)) es
+    having (risen join (m e.key) e) e ∷ stood_on cmp join (with_at cmp m e.key (risen join (m e.key) e)) es
 
 -- the same, where no key had a value before
 abbrev pub stood : {K V : Type 0} → (K → K → Ordering) → (V → V → V) → List (Entry K V) → List (Entry K V)
@@ -41,7 +41,7 @@ AreWhole {K} {V} es = (i : ℕ) (e : Entry K V) → slice_get es i ≡ Some e �
 
 -- a test that does not look at values
 abbrev pub IgnoresValues : {K V : Type 0} → (Entry K V → Bool) → Type 0
-IgnoresValues {K} {V} p = (e : Entry K V) (v : Option V) → p (with_value v e) ≡ p e
+IgnoresValues {K} {V} p = (e : Entry K V) (v : Option V) → p (having v e) ≡ p e
 
 -- ---- reading
 -- over entries of one key, newest first: their parts joined before those collected, down to an entry that is no delta

@@ -1,6 +1,7 @@
 //! What holds of texts with deltas. An entry that is a delta has a part of a value, to be joined with what its key had
 //! before: so entries are one thing, and what they stand for another, which the laws of texts speak of.
-ghost use Rattle.std.specs.Prelude.{◌≡◌, ◌≢◌, ◌<◌, ◌≤◌, ◌&&◌, ◌⊎◌, ◌↔◌, ℕ, Bool, true, false, List, [], ◌∷◌, ◌++◌, map, filter};
+ghost use Rattle.std.specs.Prelude.{◌≡◌, ◌≢◌, ◌<◌, ◌≤◌, ◌&&◌, ◌⊎◌, ◌↔◌, ℕ, Bool, true, false};
+ghost use Rattle.std.specs.Prelude.{List, [], ◌∷◌, ◌++◌, map, filter};
 ghost use Rattle.std.specs.Prelude.{Option, Some, None, IsSome, nat_le, slice_get};
 ghost use Rattle.std.specs.Option.{option_map};
 ghost use Rattle.std.specs.List.{fold};
@@ -11,7 +12,7 @@ ghost use Rattle.fkv_texts.specs.Text.{last_where, entry_at, value_at, has_key, 
 ghost use Rattle.fkv_texts.specs.Text.{IsRising, IsFrom, IsBelow, changed, text_from};
 ghost use Rattle.fkv_texts.specs.Places.{IsLaidOut};
 ghost use Rattle.fkv_texts.specs.Chains.{IsClassTest, last_of_class, Leads, IsChained, IsChainFrom, leads_to};
-ghost use Rattle.fkv_texts.specs.Deltas.{onto, IsAssociative, risen, with_value, stood_on, stood, AreWhole, IgnoresValues};
+ghost use Rattle.fkv_texts.specs.Deltas.{onto, IsAssociative, risen, having, stood_on, stood, AreWhole, IgnoresValues};
 ghost use Rattle.fkv_texts.specs.Deltas.{gathered, falling_to, falling_between};
 ghost use Rattle.fkv_texts.specs.Deltas.{IsCovered, IsSuperseded, IsCleared};
 ghost use Rattle.fkv_texts.specs.WrongDeltas.{DeltasJoin, WholesEnd, FirstDeltasStand, PartsGather, LaterIsLater};
@@ -21,7 +22,7 @@ ghost use Rattle.fkv_texts.specs.WrongDeltas.{WholesCover, CutNeedsClearing};
 /// other values alone.
 pub fn places<K, V, C>()
     ensures same { (cmp : K → K → Ordering) (join : V → V → V) (es : List (Entry K V))
-        → map (with_value None) (stood cmp join es) ≡ map (with_value None) es }
+        → map (having None) (stood cmp join es) ≡ map (having None) es }
     ensures laid_out { (cmp : K → K → Ordering) (join : V → V → V) (es : List (Entry K V)) (bits size begin tail : ℕ)
         → IsLaidOut bits size begin tail (stood cmp join es) ↔ IsLaidOut bits size begin tail es }
     ensures rising { (cmp : K → K → Ordering) (join : V → V → V) (es : List (Entry K V))
@@ -35,20 +36,21 @@ pub fn places<K, V, C>()
         → IsChained class same begin (stood cmp join es) ↔ IsChained class same begin es }
     ensures leads { (cmp : K → K → Ordering) (join : V → V → V) (es : List (Entry K V))
         (class : K → C) (same : C → C → Bool) (begin : ℕ) (c : C) (a : ℕ)
-        → Leads begin (last_of_class class same (stood cmp join es) c) a ↔ Leads begin (last_of_class class same es c) a }
+        → Leads begin (last_of_class class same (stood cmp join es) c) a
+        ↔ Leads begin (last_of_class class same es c) a }
     // what is found at an address, or of a key, is the same entry, with what its key has there
     ensures entry { (cmp : K → K → Ordering) (join : V → V → V) (es : List (Entry K V)) (a : ℕ)
-        → entry_at (stood cmp join es) a ≡ option_map (with_value (value_at (stood cmp join es) a)) (entry_at es a) }
+        → entry_at (stood cmp join es) a ≡ option_map (having (value_at (stood cmp join es) a)) (entry_at es a) }
     ensures last { (cmp : K → K → Ordering) (join : V → V → V) (es : List (Entry K V)) (k : K)
         → last_of cmp (stood cmp join es) k
-        ≡ option_map (with_value (live cmp (stood cmp join es) k)) (last_of cmp es k) }
+        ≡ option_map (having (live cmp (stood cmp join es) k)) (last_of cmp es k) }
     ensures newest { (cmp : K → K → Ordering) (join : V → V → V) (es : List (Entry K V)) (k : K) (a : ℕ)
         → newest cmp (stood cmp join es) k a
-        ≡ option_map (with_value (value_of (newest cmp (stood cmp join es) k a))) (newest cmp es k a) }
+        ≡ option_map (having (value_of (newest cmp (stood cmp join es) k a))) (newest cmp es k a) }
     ensures last_where { (cmp : K → K → Ordering) (join : V → V → V) (es : List (Entry K V)) (p : Entry K V → Bool)
         → IgnoresValues p
         → last_where p (stood cmp join es)
-        ≡ option_map (with_value (value_of (last_where p (stood cmp join es)))) (last_where p es) }
+        ≡ option_map (having (value_of (last_where p (stood cmp join es)))) (last_where p es) }
     // an entry that is no delta, a tombstone too, has its own value; and one that has a value has one once it stands
     ensures whole { (cmp : K → K → Ordering) (join : V → V → V) (es : List (Entry K V)) (p : Entry K V → Bool)
         (e : Entry K V)
@@ -68,7 +70,7 @@ pub fn places<K, V, C>()
 pub fn values<K, V>()
     ensures appended { (cmp : K → K → Ordering) (join : V → V → V) (es : List (Entry K V)) (e : Entry K V)
         → stood cmp join (es ++ e ∷ [])
-        ≡ stood cmp join es ++ with_value (risen join (live cmp (stood cmp join es) e.key) e) e ∷ [] }
+        ≡ stood cmp join es ++ having (risen join (live cmp (stood cmp join es) e.key) e) e ∷ [] }
     ensures live { (cmp : K → K → Ordering) (join : V → V → V) (es : List (Entry K V)) (k : K)
         → IsKeyOrder cmp
         → live cmp (stood cmp join es) k ≡ fold (risen join) None (filter (has_key cmp k) es) }
@@ -108,7 +110,8 @@ pub fn uncovered_stays<K, V>()
         → IsCleared cmp es limit
         → low ≤ limit
         → ((e : Entry K V) → newest cmp es k a ≡ Some e → IsCovered cmp es e → ⊥)
-        → value_of (newest cmp (stood cmp join (text_from low es)) k a) ≡ value_of (newest cmp (stood cmp join es) k a) }
+        → value_of (newest cmp (stood cmp join (text_from low es)) k a)
+        ≡ value_of (newest cmp (stood cmp join es) k a) }
     // that entry is there still, or there is none where it goes
     ensures stays { (cmp : K → K → Ordering) (es : List (Entry K V)) (low : ℕ) (k : K) (a : ℕ) (e : Entry K V)
         → newest cmp es k a ≡ Some e

@@ -1,5 +1,6 @@
 use Rattle.std.proofs.Common.{None, Some}
-use Rattle.fkv_texts.proofs.GatherLemmas.{onto-none, gather-all, gather-to}
+use Rattle.fkv_texts.proofs.ValueLemmas.{onto-none}
+use Rattle.fkv_texts.proofs.GatherLemmas.{gather-all, gather-to}
 use Rattle.fkv_texts.proofs.deltas.gathers.Goals as goal
 
 pub returns : goal.returns
