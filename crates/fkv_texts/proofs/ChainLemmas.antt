@@ -16,12 +16,12 @@ use Rattle.fkv_texts.proofs.LastWhere.{last_where-append, last_where-same, last_
 use Rattle.fkv_texts.proofs.TextLemmas.{one_address, entry_at-in, newest-below}
 
 -- what holds of no elements, and of one more wherever it holds, holds of any list
-by_appends : {A : Type 0} (P : List A → Type 0) → ((xs : List A) (x : A) → P xs → P (xs ++ x ∷ [])) → (done rest : List A) → P done → P (done ++ rest)
+pub by_appends : {A : Type 0} (P : List A → Type 0) → ((xs : List A) (x : A) → P xs → P (xs ++ x ∷ [])) → (done rest : List A) → P done → P (done ++ rest)
 by_appends P step done [] p = subst P (sym (append-nil done)) p
 by_appends P step done (y ∷ ys) p = subst P (append_assoc done (y ∷ []) ys) (by_appends P step (done ++ y ∷ []) ys (step done y p))
 
 -- ---- a chain of a text is one of a longer text
-shorter-get : {A : Type 0} (text : List A) (e : A) (i : ℕ) (x : A) → slice_get text i ≡ Some x → slice_get (text ++ e ∷ []) i ≡ Some x
+pub shorter-get : {A : Type 0} (text : List A) (e : A) (i : ℕ) (x : A) → slice_get text i ≡ Some x → slice_get (text ++ e ∷ []) i ≡ Some x
 shorter-get text e i x h = get-append_left text (e ∷ []) i (slice_get_within text i x h) ∙ h
 
 longer : {K V : Type 0} (begin : ℕ) (text : List (Entry K V)) (e : Entry K V) (a : ℕ) (es : List (Entry K V)) → IsChainFrom begin text a es → IsChainFrom begin (text ++ e ∷ []) a es

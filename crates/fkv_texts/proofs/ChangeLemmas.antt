@@ -14,7 +14,7 @@ use Rattle.fkv_texts.proofs.TextLemmas.{one_address}
 
 module _ {K V : Type 0} (a : ℕ) (v : Option V) where
   -- ---- an entry
-  by_test : (P : Entry K V → Type 0) (b : Bool) (e : Entry K V) → P (record e { value = v }) → P e → P (cond b (record e { value = v }) e)
+  pub by_test : (P : Entry K V → Type 0) (b : Bool) (e : Entry K V) → P (record e { value = v }) → P e → P (cond b (record e { value = v }) e)
   by_test P true e p q = p
   by_test P false e p q = q
 

@@ -97,7 +97,7 @@ module _ {K V : Type 0} where
   highest-step p y ys None e l r h rest (suc j) x g t = absurd (let no : p x ≡ false = none-passes p ys l j x g in let bad : true ≡ false = sym t ∙ no in cc)
 
   -- what passes stands no higher than the last that does
-  highest : (p : Entry K V → Bool) (xs : List (Entry K V)) (e : Entry K V) → IsRising xs → last_where p xs ≡ Some e → (i : ℕ) (x : Entry K V) → slice_get xs i ≡ Some x → p x ≡ true → x.address ≤ e.address
+  pub highest : (p : Entry K V → Bool) (xs : List (Entry K V)) (e : Entry K V) → IsRising xs → last_where p xs ≡ Some e → (i : ℕ) (x : Entry K V) → slice_get xs i ≡ Some x → p x ≡ true → x.address ≤ e.address
   highest p [] e r l i x g h = absurd (cc)
   highest p (y ∷ ys) e r l i x g h = highest-step p y ys (last_where p ys) e refl r l (λ d k. highest p ys d r.1 k) i x g h
 

@@ -5,3 +5,10 @@ pub mod PlaceLemmas
 pub mod ChainLemmas
 pub mod CutLemmas
 pub mod PartLemmas
+pub mod ValueLemmas
+pub mod CoverLemmas
+pub mod StoodLemmas
+pub mod GatherLemmas
+pub mod DeltaChangeLemmas
+pub mod ReadLemmas
+pub mod BaseLemmas

@@ -11,7 +11,7 @@ use Rattle.fkv_texts.specs.Chains.{IsIn}
 use Rattle.fkv_texts.proofs.LastWhere.{last_where-append, last_where-found, last_where-in, none-passes}
 
 -- ---- addresses
-above-in : {K V : Type 0} (a : ℕ) (xs : List (Entry K V)) → AllAbove a xs → (i : ℕ) (x : Entry K V) → slice_get xs i ≡ Some x → a < x.address
+pub above-in : {K V : Type 0} (a : ℕ) (xs : List (Entry K V)) → AllAbove a xs → (i : ℕ) (x : Entry K V) → slice_get xs i ≡ Some x → a < x.address
 above-in a [] h i x e = absurd (cc)
 above-in a (y ∷ ys) h zero x e = let same : y ≡ x = cc in let lt : a < y.address = h.0 in subst (λ (z : Entry _ _). a < z.address) same lt
 above-in a (y ∷ ys) h (suc i) x e = above-in a ys h.1 i x e
