@@ -60,6 +60,27 @@ marked_same marks marks' i count set lt = rw set (get_or-set_same marks i count 
 pub marked_other : (marks marks' : List ℕ) (i j count : ℕ) → marks' ≡ slice_set marks i count → j ≢ i → slice_index marks' j ≡ slice_index marks j
 marked_other marks marks' i j count set ne = rw set (get_or-set_other marks i j count 0 ne)
 
+-- the mark of a context in which nothing is open may be any that is not above the count
+pub kept_unmarked : {K V I O : Type 0} (cmp : K → K → Ordering) (f : Meanings K V I O) (s : Seen K V I) → IsOrderly s → (slot c : ℕ) → c < 8 → s.asked slot c ≡ None
+    → (es : List (Entry K V I O)) (lows lows' looks : List ℕ) (book : ℕ)
+    → ((i : ℕ) → i ≢ place_of slot c → slice_index lows i ≡ slice_index lows' i)
+    → ((i : ℕ) → slice_index lows i ≤ length (updates es))
+    → IsKept cmp f s es lows' looks book
+    → IsKept cmp f s es lows looks book
+kept_unmarked cmp f s ordered slot c low closed es lows lows' looks book same below k = record {
+  legal = k.legal;
+  live = k.live;
+  issued = below;
+  past = λ t d p h. elim (same_place t d slot c) [
+    | inl e ↦ (let here : s.pending slot c ≡ Some p = rw (← e.0, ← e.1) h in let bad : None ≡ Some p = sym (ordered.closed slot c closed) ∙ here in absurd (cc))
+    | inr n ↦
+        let was = k.past t d p h in
+        let far = apart t d slot c (ordered.within t d (record { number = was.number; op = op_of was.op }) was.asks) low n in
+        rw (same (place_of t d) far) was
+  ];
+  counted = k.counted;
+}
+
 module _ {K V I O : Type 0} (cmp : K → K → Ordering) (f : Meanings K V I O) (old new : Seen K V I) (later : old.moment ≤ new.moment) where
   -- what a look-up is to find stays, while updates are added
   past_stays : (us us' : List (Entry K V I O)) (s d : ℕ) (p : Pending V) (low look : ℕ) → new.asked s d ≡ old.asked s d

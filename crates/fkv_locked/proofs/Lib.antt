@@ -4,3 +4,4 @@ pub mod TurnLemmas
 pub mod LoadLemmas
 pub mod EmptyLemmas
 pub mod CompactingLemmas
+pub mod AtOnceLemmas

@@ -3,3 +3,4 @@ pub mod Turns
 pub mod Locks
 pub mod Fresh
 pub mod Compacting
+pub mod AtOnce

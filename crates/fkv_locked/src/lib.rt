@@ -17,6 +17,7 @@ pub mod pages;
 pub mod seats;
 pub mod sessions;
 pub mod turns;
+pub mod updating;
 
 pub use locked::{Locked, Part};
 pub use seats::{Mine, MineOf, Seat};

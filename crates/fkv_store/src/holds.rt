@@ -1,5 +1,6 @@
-//! Holds of a partition's lock, each for one event.
-ghost use Rattle.std.specs.Prelude.{◌≡◌, ◌<◌, IfOk, IfErr};
+//! Holds of a partition's lock, each for one event, or for an update that is issued and finished at once.
+ghost use Rattle.std.specs.Prelude.{◌≡◌, ◌<◌, ◌≤◌, ◌-◌, ◌^◌, IfOk, IfErr, IfSome};
+ghost use Rattle.fkv_operations.specs.declared.operations.KeyedOp.TheVariants.{Rmw};
 ghost use Rattle.fkv_locked.specs.Turns.{IsTurnOf};
 ghost use Rattle.fkv_store.specs.Stores.{IsTold};
 
@@ -8,7 +9,7 @@ use crate::refusals::told;
 use crate::stores::Store;
 use fkv_device::{Disk, Loaded, Receipt};
 use fkv_functions::{Built, Mergeable, Refused};
-use fkv_histories::Recorder;
+use fkv_histories::{EntryOf, Recorder};
 use fkv_locked::{MineOf, Seat, TurnOf};
 use fkv_operations::KeyedOpOf;
 use std::sync::Wait;
@@ -113,6 +114,31 @@ pub(crate) fn issue<F: Mergeable, D: Disk, H: Recorder<F>, G: Gate>(
     gate.pass(at.worker, at.locked());
     match held.issue(seat, op, known, &store.functions) {
         Ok(mine) => Ok(mine),
+        Err(refused) => Err(told(refused)),
+    }
+}
+
+/// Makes an update of a caller in one call, where it is finished so. Refused as [`fkv_locked::Locked::update_at_once`] is.
+pub(crate) fn update_at_once<F: Mergeable, D: Disk, H: Recorder<F>, G: Gate>(
+    rt: &impl Wait,
+    store: &Store<F, D, H>,
+    at: At,
+    seat: Seat,
+    key: &F::Key,
+    input: &F::Input,
+    known: u64,
+    gate: &G,
+) -> Result<Option<EntryOf<F>>, Refused>
+    requires { at.partition < store.now.count }
+    ensures op { IfOk result (λ done. IfSome done (λ e. e.op ≡ Rmw key.now input.now)) }
+    ensures fresh { IfOk result (λ done. IfSome done (λ e. known ≤ e.at)) }
+    ensures room { IfOk result (λ done. IfSome done (λ e. e.at < 2 ^ 64 - 1)) }
+    ensures only { IfErr result IsTold }
+{
+    let mut held = store.locks[at.partition].lock(rt);
+    gate.pass(at.worker, at.locked());
+    match held.update_at_once(seat, key, input, known, &store.functions) {
+        Ok(entry) => Ok(entry),
         Err(refused) => Err(told(refused)),
     }
 }

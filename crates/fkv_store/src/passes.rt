@@ -8,7 +8,7 @@ ghost use Rattle.fkv_store.specs.Passes.{IsPassOf, IsStrange, Runs, told_after};
 use crate::gates::{Gate, Open, Place};
 use crate::holds::{At, enter, leave};
 use crate::lists::{add_at, room_at};
-use crate::running::{Run, refresh_all, run_in};
+use crate::running::{Run, refresh_all, refresh_moved, run_in};
 use crate::stores::Store;
 use fkv_device::Disk;
 use fkv_functions::{Mergeable, Refused, What};
@@ -32,6 +32,8 @@ pub struct Pass<F: Mergeable, D: Disk, H: Recorder<F>> {
     pub(crate) own: Vec<H>,
     pub(crate) told: Vec<u64>,
     pub(crate) seats: Vec<Option<Seat>>,
+    /// For each partition how often its pages had been moved when its session was refreshed.
+    pub(crate) seen: Vec<u64>,
     pub(crate) readers: Vec<D::Reader>,
     /// How many operations were answered since its sessions were refreshed.
     pub(crate) answered: u8,
@@ -53,6 +55,7 @@ impl<F: Mergeable, D: Disk, H: Recorder<F>> Model for Pass<F, D, H> {
 
     ghost invariant = { λ p. (length p.told.items ≡ length p.own.items)
         × (length p.seats.items ≡ length p.own.items)
+        × (length p.seen.items ≡ length p.own.items)
         × (length p.readers.items ≡ length p.own.items) };
 }
 
@@ -101,23 +104,27 @@ fn seat_in<F: Mergeable, D: Disk, H: Recorder<F>, G: Gate>(
     }
 }
 
-/// Refreshes each session of a pass where so many operations were answered since the last time.
+/// Refreshes the sessions of a pass where so many operations were answered since the last time: those in partitions whose
+/// pages were moved since they were refreshed. To the others a refresh would show nothing new.
 fn refresh_at_times<F: Mergeable, D: Disk, H: Recorder<F>, G: Gate>(
     rt: &impl Wait,
     store: &Store<F, D, H>,
     seats: &[Option<Seat>],
+    seen: &mut Vec<u64>,
     worker: u32,
     answered: &mut u8,
     gate: &G,
 ) -> Result<(), Refused>
-    requires { length seats.now ≡ store.now.count }
+    requires seats { length seats.now ≡ store.now.count }
+    requires seen { length seen.old.items ≡ store.now.count }
+    ensures seen { length seen.new.items ≡ length seen.old.items }
     ensures few { OnOk result (answered.new < 64) }
     ensures only { IfErr result IsTold }
 {
     if *answered < ANSWERS {
         return Ok(());
     }
-    match refresh_all(rt, store, seats, worker, gate) {
+    match refresh_moved(rt, store, seats, seen, worker, gate) {
         Ok(()) => {
             *answered = 0;
             Ok(())
@@ -193,7 +200,15 @@ impl<F: Mergeable, D: Disk, H: Recorder<F>> Pass<F, D, H> {
             worker: self.worker,
         };
         gate.pass(self.worker, Place::Start);
-        match refresh_at_times(rt, store, &self.seats, at.worker, &mut self.answered, gate) {
+        match refresh_at_times(
+            rt,
+            store,
+            &self.seats,
+            &mut self.seen,
+            at.worker,
+            &mut self.answered,
+            gate,
+        ) {
             Ok(()) => {}
             Err(refused) => return Err(refused),
         }

@@ -1,16 +1,16 @@
-//! How an operation of a pass runs, from its issue to its end: one event a hold, and what is done between holds.
-ghost use Rattle.std.specs.Prelude.{◌≡◌, ◌<◌, ◌≤◌, ◌-◌, ◌^◌, length, IfOk, IfErr};
+//! How an operation of a pass runs, from its issue to its end: in one hold, or one event a hold, and what is done between holds.
+ghost use Rattle.std.specs.Prelude.{◌≡◌, ◌<◌, ◌≤◌, ◌-◌, ◌^◌, length, IfOk, IfErr, IfSome};
 ghost use Rattle.fkv_locked.specs.Turns.{IsOf, IsTurnOf};
 ghost use Rattle.fkv_store.specs.Stores.{IsTold};
 
 use crate::gates::{Gate, Place};
-use crate::holds::{At, Hand, give_up, issue, refresh, turn};
+use crate::holds::{At, Hand, give_up, issue, refresh, turn, update_at_once};
 use crate::stores::Store;
 use fkv_device::{Disk, Loaded};
 use fkv_functions::{Built, Mergeable, Refused};
 use fkv_histories::{EntryOf, Recorder};
 use fkv_locked::{MineOf, Seat, Turn, TurnOf};
-use fkv_operations::KeyedOpOf;
+use fkv_operations::{KeyedOp, KeyedOpOf};
 use std::alloc::Global;
 use std::sync::Wait;
 use std::thread;
@@ -43,6 +43,36 @@ pub(crate) fn refresh_all<F: Mergeable, D: Disk, H: Recorder<F>, G: Gate>(
         };
         match refresh(rt, store, At { partition, worker }, *seat, gate) {
             Ok(()) => {}
+            Err(refused) => return Err(refused),
+        }
+    }
+    Ok(())
+}
+
+/// Refreshes the sessions of a pass in partitions whose pages were moved since they were refreshed.
+pub(crate) fn refresh_moved<F: Mergeable, D: Disk, H: Recorder<F>, G: Gate>(
+    rt: &impl Wait,
+    store: &Store<F, D, H>,
+    seats: &[Option<Seat>],
+    seen: &mut Vec<u64>,
+    worker: u32,
+    gate: &G,
+) -> Result<(), Refused>
+    requires seats { length seats.now ≡ store.now.count }
+    requires seen { length seen.old.items ≡ store.now.count }
+    ensures seen { length seen.new.items ≡ length seen.old.items }
+    ensures only { IfErr result IsTold }
+{
+    for (partition, seat) in seats.iter().enumerate() {
+        let Some(seat) = seat else {
+            continue;
+        };
+        let moves = store.moves_of(partition);
+        if seen[partition] == moves {
+            continue;
+        }
+        match refresh(rt, store, At { partition, worker }, *seat, gate) {
+            Ok(()) => seen[partition] = moves,
             Err(refused) => return Err(refused),
         }
     }
@@ -142,6 +172,27 @@ fn run_on<F: Mergeable, D: Disk, H: Recorder<F>, G: Gate>(
     Err(Refused::Stalled)
 }
 
+/// Makes an operation in one hold, where it is an update that is finished so; where it is not, nothing has changed. Refused as
+/// [`update_at_once`] is.
+fn try_at_once<F: Mergeable, D: Disk, H: Recorder<F>, G: Gate>(
+    rt: &impl Wait,
+    store: &Store<F, D, H>,
+    run: &Run<'_>,
+    op: KeyedOpOf<F>,
+    gate: &G,
+) -> Result<Option<EntryOf<F>>, Refused>
+    requires { run.now.at.partition < store.now.count }
+    ensures op { IfOk result (λ done. IfSome done (λ e. e.op ≡ op)) }
+    ensures fresh { IfOk result (λ done. IfSome done (λ e. run.now.known ≤ e.at)) }
+    ensures room { IfOk result (λ done. IfSome done (λ e. e.at < 2 ^ 64 - 1)) }
+    ensures only { IfErr result IsTold }
+{
+    let KeyedOp::Rmw(key, input) = op else {
+        return Ok(None);
+    };
+    update_at_once(rt, store, run.at, run.seat, &key, &input, run.known, gate)
+}
+
 /// Runs an operation in a session of a pass. Where it is refused it is over, without effect.
 pub(crate) fn run_in<F: Mergeable, D: Disk, H: Recorder<F>, G: Gate>(
     rt: &impl Wait,
@@ -160,6 +211,11 @@ pub(crate) fn run_in<F: Mergeable, D: Disk, H: Recorder<F>, G: Gate>(
     ensures room { IfOk result (λ e. e.at < 2 ^ 64 - 1) }
     ensures only { IfErr result IsTold }
 {
+    match try_at_once(rt, store, run, op, gate) {
+        Ok(Some(entry)) => return Ok(entry),
+        Ok(None) => {}
+        Err(refused) => return Err(refused),
+    }
     let mine = match issue(rt, store, run.at, run.seat, op, run.known, gate) {
         Ok(mine) => mine,
         Err(refused) => return Err(refused),

@@ -16,6 +16,7 @@ use fkv_operations::partition_at;
 use fkv_partition::Config;
 use std::alloc::Global;
 use std::marker::{Model, PhantomData};
+use std::sync::atomic::{AtomicU64, Ordering};
 use std::sync::{Mutex, Wait};
 
 /// A store that callers share: each partition under a lock of its own, and each writer of a partition's pages.
@@ -29,6 +30,8 @@ pub struct Store<F: Mergeable, D: Disk, H: Recorder<F>> {
     pub(crate) device: Mutex<D>,
     pub(crate) writers: Vec<Mutex<D::Writer>>,
     pub(crate) locks: Vec<Mutex<Locked<F, D::Receipt, H>>>,
+    /// For each partition how often its pages were moved: a session that was refreshed since the last time sees all that moved.
+    pub(crate) moves: Vec<AtomicU64>,
 }
 
 impl<F: Mergeable, D: Disk, H: Recorder<F>> Model for Store<F, D, H> {
@@ -40,6 +43,7 @@ impl<F: Mergeable, D: Disk, H: Recorder<F>> Model for Store<F, D, H> {
     ghost view = { λ s. record { id = s.id; count = length s.locks.items; turns = s.turns } };
 
     ghost invariant = { λ s. (length s.writers.items ≡ length s.locks.items)
+        × (length s.moves.items ≡ length s.locks.items)
         × ((bits : ℕ) × (length s.locks.items ≡ 2 ^ bits)) };
 }
 
@@ -48,6 +52,7 @@ impl<F: Mergeable, D: Disk, H: Recorder<F>> Model for Store<F, D, H> {
 struct Opened<F: Mergeable, D: Disk, H: Recorder<F>> {
     writers: Vec<Mutex<D::Writer>>,
     locks: Vec<Mutex<Locked<F, D::Receipt, H>>>,
+    moves: Vec<AtomicU64>,
 }
 
 /// So many locked partitions, with nothing in them, and the writers of their pages. Refused: `NoMemory`, and as the device
@@ -62,10 +67,12 @@ fn open_all<F: Mergeable, D: Disk, H: Recorder<F>>(
     requires count { count ≡ 2 ^ config.now.partition_bits }
     ensures locks { IfOk result (λ opened. length opened.locks.items ≡ count) }
     ensures writers { IfOk result (λ opened. length opened.writers.items ≡ count) }
+    ensures moves { IfOk result (λ opened. length opened.moves.items ≡ count) }
     ensures only { IfErr result (FailsOnlyBy 1 0 (D.failures device.old) (D.failures device.new)) }
 {
     let mut writers = Vec::new(alloc);
     let mut locks = Vec::new(alloc);
+    let mut moves = Vec::new(alloc);
     for number in 0..count {
         let locked = match Locked::<F, D::Receipt, H>::new(alloc, config, number) {
             Ok(locked) => locked,
@@ -81,8 +88,15 @@ fn open_all<F: Mergeable, D: Disk, H: Recorder<F>>(
         let Ok(()) = locks.push(Mutex::new(locked)) else {
             return Err(Refused::NoMemory);
         };
+        let Ok(()) = moves.push(AtomicU64::new(0)) else {
+            return Err(Refused::NoMemory);
+        };
     }
-    Ok(Opened { writers, locks })
+    Ok(Opened {
+        writers,
+        locks,
+        moves,
+    })
 }
 
 /// A reader of the pages of each of so many partitions. Refused: `NoMemory`, and as the device refuses to open.
@@ -135,7 +149,11 @@ impl<F: Mergeable, D: Disk, H: Recorder<F>> Store<F, D, H> {
             Ok(opened) => opened,
             Err(refused) => return Err(refused),
         };
-        let Opened { writers, locks } = opened;
+        let Opened {
+            writers,
+            locks,
+            moves,
+        } = opened;
         Ok(Store {
             id: config.id,
             turns: config.turns,
@@ -145,6 +163,7 @@ impl<F: Mergeable, D: Disk, H: Recorder<F>> Store<F, D, H> {
             device: Mutex::new(device),
             writers,
             locks,
+            moves,
         })
     }
 
@@ -153,6 +172,20 @@ impl<F: Mergeable, D: Disk, H: Recorder<F>> Store<F, D, H> {
         ensures { result ≡ self.now.count }
     {
         self.locks.len()
+    }
+
+    /// How often the pages of a partition were moved.
+    pub(crate) fn moves_of(&self, partition: usize) -> u64
+        requires { partition < self.now.count }
+    {
+        self.moves[partition].load(Ordering::SeqCst)
+    }
+
+    /// Tells sessions that pages of a partition were moved.
+    pub(crate) fn tell_move(&self, partition: usize)
+        requires { partition < self.now.count }
+    {
+        let _before = self.moves[partition].fetch_add(1, Ordering::SeqCst);
     }
 
     /// The partition of a key.
@@ -195,6 +228,10 @@ impl<F: Mergeable, D: Disk, H: Recorder<F>> Store<F, D, H> {
             Ok(seats) => seats,
             Err(refused) => return Err(refused),
         };
+        let seen = match zeros(alloc, count) {
+            Ok(seen) => seen,
+            Err(refused) => return Err(refused),
+        };
         Ok(Pass {
             store: self.id,
             worker,
@@ -202,6 +239,7 @@ impl<F: Mergeable, D: Disk, H: Recorder<F>> Store<F, D, H> {
             own,
             told,
             seats,
+            seen,
             readers,
             answered: 0,
             functions: PhantomData,

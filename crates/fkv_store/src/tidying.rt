@@ -73,7 +73,13 @@ impl<F: Mergeable, D: Disk, H: Recorder<F>> Store<F, D, H> {
         gate.pass(at.worker, at.locked());
         let page = self.page_of(held.tail());
         let changed = (self.frames / 2).saturating_sub(1);
-        passed(held.shift_read_only(page.saturating_sub(changed)))
+        match held.shift_read_only(page.saturating_sub(changed)) {
+            Ok(()) => {
+                self.tell_move(at.partition);
+                Ok(())
+            }
+            Err(refused) => passed(Err(refused)),
+        }
     }
 
     /// Moves Head behind the tail, as far as pages are written, and answers it.
@@ -86,7 +92,11 @@ impl<F: Mergeable, D: Disk, H: Recorder<F>> Store<F, D, H> {
         let page = self.page_of(held.tail());
         let kept = page.saturating_sub(self.frames.saturating_sub(2));
         let written = held.unflushed();
-        match passed(held.shift_head(kept.min(written))) {
+        let shifted = held.shift_head(kept.min(written));
+        if let Ok(()) = shifted {
+            self.tell_move(at.partition);
+        }
+        match passed(shifted) {
             Ok(()) => Ok(held.head()),
             Err(refused) => Err(refused),
         }
@@ -144,7 +154,10 @@ impl<F: Mergeable, D: Disk, H: Recorder<F>> Store<F, D, H> {
         let mut held = self.locks[at.partition].lock(rt);
         gate.pass(at.worker, at.locked());
         match held.flush_done(written) {
-            Ok(()) => Ok(true),
+            Ok(()) => {
+                self.tell_move(at.partition);
+                Ok(true)
+            }
             Err(refused) => Err(told(refused)),
         }
     }

@@ -28,6 +28,8 @@ pub enum Call {
     Upsert(u8, i128),
     Add(u8, i64),
     Read(u8),
+    /// An update, in one call; where it is not finished so it tells no more than that.
+    AddAtOnce(u8, i64),
     /// The read-only offset moves to a page, or Head does; the caller's session is refreshed; the lowest page is flushed.
     ReadOnly(u64),
     Head(u64),
@@ -117,6 +119,21 @@ impl<H: Recorder<SumFns>> Driven<H> {
         Err(Refused::Stalled)
     }
 
+    /// An update of the caller, in one call.
+    fn done_at_once(&mut self, letter: u8, amount: i64) -> Result<Told, Refused> {
+        let key = key(letter)?;
+        match self
+            .locked
+            .update_at_once(self.seat, &key, &amount, self.told, &SumFns)?
+        {
+            Some(entry) => {
+                self.told = entry.at + 1;
+                Ok(Told::Done(entry.answer))
+            }
+            None => Ok(Told::Ok),
+        }
+    }
+
     /// A relocation, driven to its end.
     fn relocated(&mut self) -> Result<Told, Refused> {
         let mut progress = self.locked.next(&self.compactor, &SumFns)?;
@@ -148,6 +165,7 @@ impl<H: Recorder<SumFns>> Driven<H> {
             Call::Upsert(letter, value) => self.done(KeyedOp::Upsert(key(letter)?, value)),
             Call::Add(letter, amount) => self.done(KeyedOp::Rmw(key(letter)?, amount)),
             Call::Read(letter) => self.done(KeyedOp::Read(key(letter)?, 0)),
+            Call::AddAtOnce(letter, amount) => self.done_at_once(letter, amount),
             Call::ReadOnly(page) => {
                 self.locked.shift_read_only(page)?;
                 Ok(Told::Ok)

@@ -5,5 +5,6 @@ abbrev pub invariant-loop-number : goal.invariant-loop-number
 invariant-loop-number g l = record {
   writers : length l.writers.items ≡ l.number;
   locks : length l.locks.items ≡ l.number;
+  moves : length l.moves.items ≡ l.number;
   steady : g.D.Disk.failures l.device ≡ g.D.Disk.failures l.initial.device;
 }

@@ -1,0 +1,51 @@
+use Rattle.std.proofs.Common.{◌≡◌, ◌+◌, ◌-◌, Ok, refl, ◌∙◌, arith}
+use Rattle.fkv_functions.proofs.KeyOrder.{key_order}
+use Rattle.fkv_operations.specs.declared.operations.KeyedOp.TheVariants.{Rmw}
+use Rattle.fkv_operations.specs.declared.operations.Answer.TheVariants.{Value}
+use Rattle.fkv_partition.specs.Progress.TheVariants.{Done}
+use Rattle.fkv_locked.proofs.AtOnceLemmas.{at_once_keeps}
+use Rattle.fkv_locked.proofs.locked.Locked.update_at_once.Goals as goal
+
+pub invariant_of-self-2 : goal.invariant_of-self-2
+invariant_of-self-2 g c =
+    let moment = c.update_at_once.ensures.moment in
+    let start = c.starting.ensures in
+    let last = c.last.ensures in
+    let next = c.in-Some.ensures in
+    let was = c.self.invariant.0 in (
+      omega arith,
+      c.self.invariant.1,
+      c.self.invariant.2,
+      λ k held.
+          let ord = g.met.F.Key.Ord in
+          let known = g.met.F.Key.FixedKey in
+          let order = key_order g.F.Key.PartialEq.eq g.F.Key.Ord.cmp ord.matches_eq known.exact ord.total in
+          let cmp = g.F.Key.Ord.cmp in
+          let f = g.F.Functions.meaning in
+          let stands = g.R.Receipt.stands in
+          let code = g.F.Functions.code in
+          let keeps = g.R.Receipt.keeps in
+          let slot = c.args.seat.slot in
+          let op = Rmw c.args.key.now c.args.input.now in
+          let issued = c.in-Some.now - 1 in
+          let now = c.in-Some.now in
+          let shown = c.in-Some-update_at_once.shown in
+          let done = c.in-Some-update_at_once.ensures.done in
+          let count = c.updates-at.ensures ∙ g.met.H.Recorder.counted c.self.inside.history k in
+          rw (c.add.ensures.entries k, c.in-Ok.ensures.entries)
+          (at_once_keeps cmp f stands code c.self.inside.partition c.update_at_once.new.self slot c.args.key.now c.args.input.now issued now shown done keeps c.known.ensures.core
+          c.in-Some-update_at_once.ensures.within (omega arith) (omega arith)
+          (λ p q h. c.pendings_stay.ensures.issues cmp code p q slot done.context op issued (Ok tt) h)
+          (λ p q s h. c.pendings_stay.ensures.goes keeps stands cmp f code p q slot done.context now (Ok (Done (Value shown) now)) held order s h)
+          (g.H.Recorder.entries c.self.inside.history) c.self.inside.lows.items c.self.inside.looks.items c.self.inside.book (c.self.invariant.3 k held) c.self.invariant.1
+          (record { session = c.args.seat.session; number = issued; op = op; answer = Value shown; low = c.updates-at.result; at = c.updates-at.result; high = c.updates-at.result })
+          refl refl count count count),
+    )
+
+pub returns-clause-done : goal.returns-clause-done
+returns-clause-done g c =
+    let last = c.last.ensures in
+    let next = c.in-Some.ensures in
+    let first : c.in-Some.now - 1 ≡ c.self.inside.clock + 1 = omega arith in
+    let second : c.in-Some.now ≡ c.self.inside.clock + 2 = omega arith in
+    rw (← c.self.view_is, ← first, ← second, ← c.updates-at.ensures) (c.in-Some-update_at_once.shown, refl, c.in-Some-update_at_once.ensures.done)

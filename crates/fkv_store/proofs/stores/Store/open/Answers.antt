@@ -1,0 +1,4 @@
+use Rattle.fkv_store.proofs.stores.Store.open.Goals as goal
+
+pub returns-clause-good : goal.returns-clause-good
+returns-clause-good g c = λ n. c.if-not-is_within_limits.ensures.0 tt
