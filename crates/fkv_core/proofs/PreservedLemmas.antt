@@ -22,6 +22,7 @@ use Rattle.fkv_texts.proofs.LastWhere.{last_where-found, last_where-in}
 use Rattle.fkv_texts.proofs.TextLemmas.{entry_at-in, entry_at-old}
 use Rattle.fkv_texts.proofs.ChangeLemmas.{entry_at-elsewhere}
 use Rattle.fkv_texts.proofs.CutLemmas.{cut-entry}
+use Rattle.fkv_texts.proofs.BaseLemmas.{covered-passed}
 use Rattle.fkv_index.specs.declared.words.Word.{Word}
 use Rattle.fkv_index.specs.declared.places.Place.{Place}
 use Rattle.fkv_index.specs.Words.{empty, final_word, tentative_word, tag_of, is_tentative, is_final_of}
@@ -40,7 +41,7 @@ use Rattle.fkv_operations.specs.declared.operations.Answer.{Answer}
 use Rattle.fkv_lookups.specs.declared.decisions.Decision.TheVariants.{Replace}
 use Rattle.fkv_lookups.specs.RecordsViews.{RecordsView, class_in, indexed, with_record, with_value, with_regions, with_receipt, confirmed, released, moved, truncated, ChangesAt, IsTruncationDue}
 use Rattle.fkv_lookups.specs.Traced.{IsTraced}
-use Rattle.fkv_lookups.specs.Cleared.{IsCleared}
+use Rattle.fkv_texts.specs.Deltas.{IsCleared}
 use Rattle.fkv_core.specs.declared.changes.Write.{Write}
 use Rattle.fkv_core.specs.declared.contexts.Context.{Context}
 use Rattle.fkv_core.specs.declared.contexts.Phase.TheVariants.{Confirm}
@@ -159,7 +160,7 @@ module _ {K V : Type 0} {keeps : Bool} (cmp : K → K → Ordering) (code : K �
         let value : IsSome e.value = subst (λ o. IsSome (value_of o)) there some in
         elim (c e there under) [
           | inl none ↦ none-some e.value none value
-          | inr other ↦ other (ap (last_of cmp v.text) own ∙ last)
+          | inr covered ↦ covered-passed cmp v.text t.rising e covered (ap (last_of cmp v.text) own ∙ last)
         ])
   ]
 

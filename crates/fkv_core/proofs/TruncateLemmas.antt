@@ -13,6 +13,7 @@ use Rattle.fkv_texts.specs.Chains.{Leads}
 use Rattle.fkv_texts.proofs.LastWhere.{last_where-filter, last_where-found, last_where-in, last_where-narrow, last_where-narrow_none}
 use Rattle.fkv_texts.proofs.TextLemmas.{entry_at-in}
 use Rattle.fkv_texts.proofs.CutLemmas.{cut-leads, cut-from, filter-in}
+use Rattle.fkv_texts.proofs.BaseLemmas.{covered-passed}
 use Rattle.fkv_index.specs.declared.words.Word.{Word}
 use Rattle.fkv_index.specs.declared.places.Place.{Place}
 use Rattle.fkv_index.specs.Words.{empty, address_of, tentative_word, is_empty, is_tentative, is_final}
@@ -28,7 +29,7 @@ use Rattle.fkv_operations.specs.declared.operations.KeyedOp.{KeyedOp}
 use Rattle.fkv_operations.specs.declared.operations.KeyedOp.TheVariants.{Read, Upsert, Rmw, Delete}
 use Rattle.fkv_lookups.specs.RecordsViews.{RecordsView, class_in, indexed, IsEntryOf, WasEntryOf, truncated}
 use Rattle.fkv_lookups.specs.Traced.{IsTraced}
-use Rattle.fkv_lookups.specs.Cleared.{IsCleared}
+use Rattle.fkv_texts.specs.Deltas.{IsCleared}
 use Rattle.fkv_lookups.proofs.TracedLemmas.{entry-stands, traced-held, highest}
 use Rattle.fkv_core.specs.declared.contexts.Context.{Context}
 use Rattle.fkv_core.specs.declared.contexts.Loading.{Loading}
@@ -145,7 +146,7 @@ module _ {K V : Type 0} {keeps : Bool} (cmp : K → K → Ordering) (code : K �
       let own : e.key ≡ k = order.same e.key k (last_where-found (has_key cmp k) v.text e g.was) in
       elim (clear yes_keeps e there g.under) [
         | inl none ↦ ap value_of g.was ∙ none
-        | inr other ↦ absurd (other (ap (last_of cmp v.text) own ∙ g.was))
+        | inr covered ↦ absurd (covered-passed cmp v.text t.rising e covered (ap (last_of cmp v.text) own ∙ g.was))
       ]
 
   pub last-cleared : IsTrue keeps → (k : K) → value_of (last_of cmp (truncated keeps v low).text k) ≡ value_of (last_of cmp v.text k)
@@ -240,7 +241,7 @@ module _ {K V : Type 0} {keeps : Bool} (cmp : K → K → Ordering) (code : K �
           let own : e.key ≡ k = order.same e.key k (and_parts (nat_le e.address a) (has_key cmp k e) (last_where-found passes v.text e h)).1 in
           elim (clear yes_keeps e there under) [
             | inl none ↦ inl none
-            | inr other ↦ inr (λ last. other (ap (last_of cmp v.text) own ∙ last))
+            | inr covered ↦ inr (λ last. covered-passed cmp v.text t.rising e covered (ap (last_of cmp v.text) own ∙ last))
           ]
 
       by_newest : (o : Option (Entry K V)) → newest cmp v.text k a ≡ o

@@ -11,7 +11,7 @@ use Rattle.fkv_index.specs.Places.{word_at, IsPlace}
 use Rattle.fkv_operations.specs.declared.entries.IndexEntry.{IndexEntry}
 use Rattle.fkv_operations.specs.KeptWords.{IsNext}
 use Rattle.fkv_lookups.specs.RecordsViews.{RecordsView, class_in, indexed, WasEntryOf}
-use Rattle.fkv_lookups.specs.Cleared.{IsCleared}
+use Rattle.fkv_texts.specs.Deltas.{IsCleared}
 use Rattle.fkv_core.specs.declared.contexts.Loading.{Loading}
 use Rattle.fkv_core.specs.Contexts.{joined, is_session}
 use Rattle.fkv_core.specs.Sound.{IsKept, IsLoading, IsSound}

@@ -15,7 +15,7 @@ ghost use Rattle.fkv_operations.specs.declared.operations.KeyedOp.{KeyedOp};
 ghost use Rattle.fkv_operations.specs.KeptWords.{after_last};
 ghost use Rattle.fkv_operations.specs.Still.{IsStill};
 ghost use Rattle.fkv_lookups.specs.RecordsViews.{class_in, IsEntryOf, IsTruncationDue};
-ghost use Rattle.fkv_lookups.specs.Cleared.{IsCleared};
+ghost use Rattle.fkv_texts.specs.Deltas.{IsCleared};
 ghost use Rattle.fkv_core.specs.declared.changes.Write.{Write};
 ghost use Rattle.fkv_core.specs.declared.contexts.Progress.{Progress};
 ghost use Rattle.fkv_core.specs.Contexts.{joined, is_session};

@@ -12,7 +12,7 @@ ghost use Rattle.fkv_texts.specs.declared.entries.Entry.{Entry};
 ghost use Rattle.fkv_texts.specs.Places.{tail_after};
 ghost use Rattle.fkv_texts.specs.Text.{entry_at, value_of, last_of, live, text_from};
 ghost use Rattle.fkv_operations.specs.declared.entries.IndexEntry.{IndexEntry};
-ghost use Rattle.fkv_lookups.specs.Cleared.{IsSuperseded, IsCleared};
+ghost use Rattle.fkv_texts.specs.Deltas.{IsSuperseded, IsCleared};
 ghost use Rattle.fkv_lookups.specs.RecordsViews.{RecordsView, with_record, with_value};
 ghost use Rattle.fkv_lookups.specs.Traced.{IsTraced};
 ghost use Rattle.fkv_lookups.specs.WrongCleared.{LastIsNotSuperseded, TombstoneIsSuperseded, ClearsNoLast};

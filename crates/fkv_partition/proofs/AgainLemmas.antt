@@ -14,7 +14,7 @@ use Rattle.fkv_index.specs.Places.{word_at}
 use Rattle.fkv_operations.specs.declared.entries.IndexEntry.{IndexEntry}
 use Rattle.fkv_operations.specs.declared.operations.KeyedOp.{KeyedOp}
 use Rattle.fkv_operations.specs.declared.operations.KeyedOp.TheVariants.{Read, Upsert, Rmw, Delete}
-use Rattle.fkv_lookups.specs.Cleared.{IsSuperseded}
+use Rattle.fkv_texts.specs.Deltas.{IsSuperseded}
 use Rattle.fkv_lookups.specs.RecordsViews.{RecordsView, class_in, entry_of, IsEntryOf, with_record}
 use Rattle.fkv_lookups.specs.Traced.{IsTraced}
 use Rattle.fkv_lookups.proofs.TracedLemmas.{entry-stands, traced-held}
@@ -153,7 +153,7 @@ module _ {K V I : Type 0} {keeps : Bool} (cmp : K → K → Ordering) (code : K 
         let is : entry_at (with_record r kept e.key e.value).text x.target ≡ entry_at r.text x.target = entry_at-old r.text n x.target (λ q. (let same : x.target ≡ r.tail = q in omega arith)) in
         let both : Some e ≡ Some d = sym was ∙ sym is ∙ there in
         let same : e ≡ d = cc in
-        subst (IsSuperseded cmp (with_record r kept e.key e.value).text) same (superseded-renewed cmp r.text order n e refl below)
+        subst (IsSuperseded cmp (with_record r kept e.key e.value).text) same (superseded-renewed cmp r.text order n e refl refl below)
 
     pub event-again : IsKeyOrder cmp → IsRelocating keeps cmp v (again_at v slot c x.target kept e now) slot c now
     event-again order = record {

@@ -15,7 +15,7 @@ use Rattle.fkv_texts.proofs.LastWhere.{last_where-in, last_where-found, none-pas
 use Rattle.fkv_texts.proofs.TextLemmas.{one_address}
 use Rattle.fkv_index.specs.Words.{address_of}
 use Rattle.fkv_operations.specs.declared.entries.IndexEntry.{IndexEntry}
-use Rattle.fkv_lookups.specs.Cleared.{IsSuperseded}
+use Rattle.fkv_texts.specs.Deltas.{AreWhole, IsCovered, IsSuperseded}
 use Rattle.fkv_lookups.specs.Decisions.{low_of}
 use Rattle.fkv_lookups.specs.Lookups.{IsOfClass, GoesOn}
 use Rattle.fkv_lookups.specs.RecordsViews.{RecordsView, class_in, IsEntryOf, WasEntryOf}
@@ -50,14 +50,13 @@ module _ {K V : Type 0} (cmp : K → K → Ordering) (order : IsKeyOrder cmp) (t
   newest-low a x found =
       leb-true x.address a (and_parts (nat_le x.address a) (has_key cmp e.key x) (last_where-found (λ d. nat_le d.address a && has_key cmp e.key d) text x found)).0
 
-  -- where a newer one of its key stands, it is not the last
-  pub not-last : (a : ℕ) (x : Entry K V) → newest cmp text e.key a ≡ Some x → place < x.address → last_of cmp text e.key ≢ Some e
-  not-last a x found above last =
+  -- where a newer one of its key stands, which is no delta, that covers it
+  pub covered-by : AreWhole text → (a : ℕ) (x : Entry K V) → newest cmp text e.key a ≡ Some x → place < x.address → IsCovered cmp text e
+  covered-by whole a x found above =
       let m = last_where-in (λ d. nat_le d.address a && has_key cmp e.key d) text x found in
       let mine = (and_parts (nat_le x.address a) (has_key cmp e.key x) (last_where-found (λ d. nat_le d.address a && has_key cmp e.key d) text x found)).1 in
-      let up = highest (has_key cmp e.key) text rising e last m.place x m.here mine in
       let at = stands-in.1 in
-      omega arith
+      record { by = x; stands = m; key = mine; whole = whole m.place x m.here; above = omega arith }
 
   -- an address that the last of its key is at or below is no lower than the place
   pub place-under : (a : ℕ) → newest cmp text e.key a ≡ last_of cmp text e.key → place ≤ a
@@ -137,11 +136,11 @@ last-below place a false t j = grind (arith, nat_tests)
 
 module _ {K V : Type 0} (cmp : K → K → Ordering) (code : K → ℕ) (order : IsKeyOrder cmp) (v : RecordsView K V) (rising : IsRising v.text) (place : ℕ) (e : Entry K V) where
   -- where a newer record is met
-  pub met-dead : entry_at v.text place ≡ Some e → (low a : ℕ) (r : ChainPosition K V) → GoesOn cmp code v e.key low a r → liveness place r ≡ Superseded → IsSuperseded cmp v.text e
-  met-dead here low a r goes j = let d = liveness-dead place r j in inr (by_going d.0 d.2 (subst (λ (q : ChainPosition K V). GoesOn cmp code v e.key low a q) d.1 goes))
+  pub met-dead : AreWhole v.text → entry_at v.text place ≡ Some e → (low a : ℕ) (r : ChainPosition K V) → GoesOn cmp code v e.key low a r → liveness place r ≡ Superseded → IsSuperseded cmp v.text e
+  met-dead whole here low a r goes j = let d = liveness-dead place r j in inr (by_going d.0 d.2 (subst (λ (q : ChainPosition K V). GoesOn cmp code v e.key low a q) d.1 goes))
     where
-      by_going : (x : Entry K V) → place < x.address → GoesOn cmp code v e.key low a (Found x) → last_of cmp v.text e.key ≢ Some e
-      by_going x above (GoesOn.found is there high) = not-last cmp order v.text rising place e here a x is above
+      by_going : (x : Entry K V) → place < x.address → GoesOn cmp code v e.key low a (Found x) → IsCovered cmp v.text e
+      by_going x above (GoesOn.found is there high) = covered-by cmp order v.text rising place e here whole a x is above
 
   -- where none above the place is met
   none-above : (low a : ℕ) (r : ChainPosition K V) → GoesOn cmp code v e.key low a r → liveness place r ≡ Last → entry_at v.text place ≡ Some e → (x : Entry K V) → newest cmp v.text e.key a ≡ Some x → x.address ≤ place
@@ -206,12 +205,15 @@ module _ {K V I : Type 0} {keeps : Bool} (cmp : K → K → Ordering) (code : K 
 
   -- nor does one of a key whose class has no entry
   pub superseded-nowhere : entry_for code v e.key ≡ None → IsTrue keeps → IsSuperseded cmp v.records.text e
-  superseded-nowhere none yes_keeps = inr (λ last. let no : None ≡ Some e = sym (traced-none cmp code v.records e.key order s.traced none) ∙ last in cc)
+  superseded-nowhere none yes_keeps =
+      let m = (stands-in cmp order v.records.text s.traced.rising place e (is yes_keeps)).0 in
+      let no = none-passes (has_key cmp e.key) v.records.text (traced-none cmp code v.records e.key order s.traced none) m.place e m.here in
+      absurd (let yes : has_key cmp e.key e ≡ true = order.self e.key in cc)
 
   module _ (kept : IndexEntry) (stands : IsEntryOf v.records (class_in code v.records e.key) kept) (leads : entry_for code v e.key ≡ Some (address_of kept.word)) where
     pub superseded-newer : liveness place (reached_from cmp code v slot e.key (entry_for code v e.key)) ≡ Superseded → IsTrue keeps → IsSuperseded cmp v.records.text e
     superseded-newer j yes_keeps =
-        met-dead cmp code order v.records s.traced.rising place e (is yes_keeps) (low_of v.records.begin (seen_at v slot)) (address_of kept.word) (reached_from cmp code v slot e.key (entry_for code v e.key)) (going cmp code v s slot entered order e.key (address_of kept.word) leads) j
+        met-dead cmp code order v.records s.traced.rising place e s.traced.whole (is yes_keeps) (low_of v.records.begin (seen_at v slot)) (address_of kept.word) (reached_from cmp code v slot e.key (entry_for code v e.key)) (going cmp code v s slot entered order e.key (address_of kept.word) leads) j
 
     under : IsTrue keeps → place ≤ address_of kept.word
     under yes_keeps = place-under cmp order v.records.text s.traced.rising place e (is yes_keeps) (address_of kept.word) (held cmp code v s slot entered order e.key (address_of kept.word) leads)

@@ -11,7 +11,7 @@ use Rattle.fkv_pages.specs.Views.{text_begin}
 use Rattle.fkv_texts.specs.declared.entries.Entry.{Entry}
 use Rattle.fkv_texts.specs.Places.{tail_after, IsLaidOut}
 use Rattle.fkv_texts.proofs.PlaceLemmas.{after, after-nearest}
-use Rattle.fkv_lookups.specs.Cleared.{IsCleared}
+use Rattle.fkv_texts.specs.Deltas.{IsCleared}
 use Rattle.fkv_lookups.specs.RecordsViews.{RecordsView}
 use Rattle.fkv_lookups.specs.Traced.{IsTraced}
 use Rattle.fkv_functions.specs.declared.refusals.Refused.{Refused}

@@ -16,7 +16,7 @@ use Rattle.fkv_texts.proofs.LastWhere.{last_where-found}
 use Rattle.fkv_pages.specs.Loads.{IsHeldBy, IsReached, first_place}
 use Rattle.fkv_pages.proofs.FrameLemmas.{page_rises}
 use Rattle.fkv_index.specs.Words.{address_of}
-use Rattle.fkv_lookups.specs.Cleared.{IsSuperseded}
+use Rattle.fkv_texts.specs.Deltas.{IsSuperseded}
 use Rattle.fkv_lookups.specs.Lookups.{IsOfClass, GoesOn}
 use Rattle.fkv_lookups.specs.RecordsViews.{RecordsView}
 use Rattle.fkv_core.specs.declared.contexts.Loading.{Loading}
@@ -131,7 +131,7 @@ module _ {K V I : Type 0} {keeps : Bool} (cmp : K → K → Ordering) (code : K 
         let both : Some e ≡ Some y = sym own ∙ here in
         let same : e ≡ y = cc in
         subst (λ (d : Entry K V). IsSuperseded cmp v.core.records.text d) same
-        (met-dead cmp code order v.core.records sound.traced.rising x.target e own (first_place v.core.records.page_bits (page_at v.core.records.page_bits l.wanted)) l.wanted r (goes yes_keeps r is) j)
+        (met-dead cmp code order v.core.records sound.traced.rising x.target e sound.traced.whole own (first_place v.core.records.page_bits (page_at v.core.records.page_bits l.wanted)) l.wanted r (goes yes_keeps r is) j)
 
     -- none was met above the place: its record is the newest from where the entry led
     led-newest : (r : ChainPosition K V) → result ≡ Ok r → liveness x.target r ≡ Last → IsTrue keeps → newest cmp v.core.records.text e.key (address_of l.kept.word) ≡ Some e

@@ -4,7 +4,7 @@ use Rattle.fkv_records.specs.Places.{IsRecordStart}
 use Rattle.fkv_texts.specs.declared.entries.Entry.{Entry}
 use Rattle.fkv_texts.specs.Text.{entry_at}
 use Rattle.fkv_index.specs.Places.{word_at}
-use Rattle.fkv_lookups.specs.Cleared.{IsSuperseded}
+use Rattle.fkv_texts.specs.Deltas.{IsSuperseded}
 use Rattle.fkv_lookups.specs.RecordsViews.{IsFull}
 use Rattle.fkv_core.specs.Contexts.{claim_at}
 use Rattle.fkv_core.specs.Writes.{IsWrite}
