@@ -126,12 +126,17 @@ loading-grown keeps cmp code old new k l t g h =
       on_disk = omega arith;
       class = λ yes_keeps same begun. g.same_class k l.wanted frozen begun (h.class yes_keeps (same ∙ g.begin) (let up = g.from in omega arith));
       newest = λ yes_keeps same.
-          let was = h.newest yes_keeps (same ∙ g.begin) in
-          let there = still-below cmp old.text k l.wanted old.regions.offsets.safe_read_only frozen in
-          g.kept yes_keeps k (address_of l.kept.word) low (subst (IsStill old.regions.offsets.safe_read_only) (sym was) there)
-          ∙ was
-          ∙ sym (g.kept yes_keeps k l.wanted taken there);
+          kept-same yes_keeps same
+          ∙ h.newest yes_keeps (same ∙ g.begin)
+          ∙ sym (g.kept yes_keeps k l.wanted taken (still-below cmp old.text k l.wanted old.regions.offsets.safe_read_only frozen));
+      still = λ yes_keeps same.
+          subst (IsStill new.regions.offsets.safe_read_only) (sym (kept-same yes_keeps same))
+          (still-raised old.regions.offsets.safe_read_only new.regions.offsets.safe_read_only (newest cmp old.text k (address_of l.kept.word)) g.safe (h.still yes_keeps (same ∙ g.begin)));
     }
+  where
+    -- what is newest from where the entry led stays
+    kept-same : IsTrue keeps → l.begin ≡ new.begin → newest cmp new.text k (address_of l.kept.word) ≡ newest cmp old.text k (address_of l.kept.word)
+    kept-same yes_keeps same = g.kept yes_keeps k (address_of l.kept.word) h.low (h.still yes_keeps (same ∙ g.begin))
 
 pub kept-grown : {K V : Type 0} (keeps : Bool) (cmp : K → K → Ordering) (code : K → ℕ) (old new : RecordsView K V) (k : K) (e : IndexEntry) (source : Option V) → IsTraced keeps code old → Grows keeps cmp code old new → IsKept keeps cmp code old k e source
     → IsKept keeps cmp code new k e source

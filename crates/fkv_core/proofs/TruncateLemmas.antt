@@ -276,6 +276,7 @@ module _ {K V : Type 0} {keeps : Bool} (cmp : K → K → Ordering) (code : K �
         on_disk = h.on_disk;
         class = λ yes_keeps same begins. absurd (omega arith);
         newest = λ yes_keeps same. absurd (omega arith);
+        still = λ yes_keeps same. absurd (omega arith);
       }
 
   pub stands-cut : {I : Type 0} (op : KeyedOp K V I) (phase : Phase V) → StandsFor keeps cmp code v op phase → StandsFor keeps cmp code (truncated keeps v low) op phase

@@ -79,21 +79,17 @@ keep-moment {keeps = keeps} {cmp = cmp} {code = code} v s now = record {
 }
 
 -- ---- what look-ups that wait for a page are to find
-module _ {K V : Type 0} {keeps : Bool} (cmp : K → K → Ordering) (code : K → ℕ) (r : RecordsView K V) (t : IsTraced keeps code r) (e : IndexEntry) (key : K) (value : Option V) where
-  wanted-same : (k : K) (l : Loading) → IsLoading keeps cmp code r k l → newest cmp (with_record r e key value).text k l.wanted ≡ newest cmp r.text k l.wanted
-  wanted-same k l h =
-      let o = t.regions.agree.in_order in
-      let on_disk = h.on_disk in
-      let taken : l.wanted < r.tail = omega (arith, on_disk, o.head, o.safe, t.regions.read_only) in
-      newest-below cmp r.text (record { address = r.tail; previous = address_of e.word; key = key; value = value; delta = false }) k l.wanted taken
+module _ {K V : Type 0} (keeps : Bool) (cmp : K → K → Ordering) (code : K → ℕ) (r : RecordsView K V) (e : IndexEntry) (key : K) (value : Option V) where
+  kept-same : (k : K) (l : Loading) → IsLoading keeps cmp code r k l → newest cmp (with_record r e key value).text k (address_of l.kept.word) ≡ newest cmp r.text k (address_of l.kept.word)
+  kept-same k l h = newest-below cmp r.text (record { address = r.tail; previous = address_of e.word; key = key; value = value; delta = false }) k (address_of l.kept.word) h.low
 
   pending-same : {I : Type 0} (op : KeyedOp K V I) (p : Phase V) → StandsFor keeps cmp code r op p → pending_by cmp (with_record r e key value) op p ≡ pending_by cmp r op p
   pending-same op phase.Fresh h = refl
   pending-same op (phase.Confirm q) h = refl
   pending-same op (phase.Prepared b s) h = refl
-  pending-same (Read k i) (phase.Load l) h = ap (λ o. cond (l.begin == r.begin) (Some (record { moment = l.looked; value = value_of o })) None) (wanted-same k l h)
+  pending-same (Read k i) (phase.Load l) h = ap (λ o. cond (l.begin == r.begin) (Some (record { moment = l.looked; value = value_of o })) None) (kept-same k l h)
   pending-same (Upsert k u) (phase.Load l) h = absurd h
-  pending-same (Rmw k i) (phase.Load l) h = ap (λ o. cond (l.begin == r.begin) (Some (record { moment = l.looked; value = value_of o })) None) (wanted-same k l h)
+  pending-same (Rmw k i) (phase.Load l) h = ap (λ o. cond (l.begin == r.begin) (Some (record { moment = l.looked; value = value_of o })) None) (kept-same k l h)
   pending-same (Delete k) (phase.Load l) h = absurd h
 
 module _ {K V I : Type 0} {keeps : Bool} (cmp : K → K → Ordering) (code : K → ℕ) (v : PartitionView K V I) (s : IsCompacting keeps cmp code v) (slot c now : ℕ) (x : Relocation K V) (h : relocation_at v slot c ≡ Some x) where
@@ -112,7 +108,7 @@ module _ {K V I : Type 0} {keeps : Bool} (cmp : K → K → Ordering) (code : K 
     where
       by_context : (o : Option (Context K V I)) → context_at v.core a d ≡ o → pending_of cmp (with_record v.core.records e key value) o ≡ pending_of cmp v.core.records o
       by_context None g = refl
-      by_context (Some y) g = pending-same cmp code v.core.records p.traced e key value y.op y.phase (stands-at cmp code v.core p a d y g)
+      by_context (Some y) g = pending-same keeps cmp code v.core.records e key value y.op y.phase (stands-at cmp code v.core p a d y g)
 
   module _ (p : IsSound keeps cmp code v.core) (e : Entry K V) (kept : IndexEntry) (stands : StageStands keeps cmp code v.core x.target (Ready e kept)) (holds : word_at v.core.records.words kept.place ≡ kept.word) where
     -- the entry stands as that of the record's class

@@ -23,6 +23,7 @@ use Rattle.fkv_lookups.proofs.TracedLemmas.{highest, traced-held, traced-none, t
 use Rattle.fkv_lookups.proofs.LookupLemmas.{begun}
 use Rattle.fkv_lookups.proofs.MeetingLemmas.{low_head, low_begin, low_under, tells}
 use Rattle.fkv_core.specs.Beginning.{IsEntered}
+use Rattle.fkv_core.proofs.GrownLemmas.{still-below}
 use Rattle.fkv_core.specs.Sound.{IsSound}
 use Rattle.fkv_core.specs.Views.{CoreView, partition_of, slots_of, seen_at, entry_for, reached_from}
 use Rattle.fkv_partition.specs.declared.relocations.Liveness.TheVariants.{Superseded, Last, Further}
@@ -267,10 +268,14 @@ module _ {K V I : Type 0} {keeps : Bool} (cmp : K → K → Ordering) (code : K 
           on_disk = further-disk.1;
           class = λ yes_keeps same begins. by_class goes-below begins;
           newest = λ yes_keeps same. by_newest goes-below;
+          still = λ yes_keeps same. rw (by_newest goes-below) (still-below cmp v.records.text e.key b v.records.regions.offsets.safe_read_only on-disk);
         };
         is = λ yes_keeps same. is yes_keeps;
       }
         where
+          on-disk : b < v.records.regions.offsets.safe_read_only
+          on-disk = let low = further-disk.1 in let head = s.traced.regions.agree.in_order.head in omega arith
+
           by_class : GoesOn cmp code v.records e.key (low_of v.records.begin (seen_at v slot)) (address_of kept.word) (Below b) → v.records.from ≤ b → IsOfClass code v.records e.key b
           by_class (GoesOn.below low same class) begins = class begins
 

@@ -211,6 +211,7 @@ module _ {K V I : Type 0} {keeps : Bool} (cmp : K → K → Ordering) (code : K 
             on_disk = omega arith;
             class = λ yes_keeps same begins. lower-class (goes yes_keeps (Below b) is-below) begins;
             newest = λ yes_keeps same. h.newest yes_keeps same ∙ lower-newest (goes yes_keeps (Below b) is-below);
+            still = h.still;
           }
 
       pub way-further : StageStands keeps cmp code v.core x.target (Tracing e (record l { wanted = b }))
