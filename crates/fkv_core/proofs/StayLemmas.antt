@@ -1,6 +1,6 @@
 -- What events leave of look-ups that wait for a page, and of frozen records.
 use Rattle.std.proofs.lemmas.Bool.{eqb-true}
-use Rattle.std.proofs.Common.{◌≡◌, ◌<◌, ◌+◌, ◌*◌, ◌⊎◌, ◌==◌, cond, true, false, ℕ, Bool, IsTrue, List, Option, Some, None, option_map, Result, Err, inl, inr, slice_set, refl, sym, ◌∙◌, ap, arith}
+use Rattle.std.proofs.Common.{◌≡◌, ◌<◌, ◌+◌, ◌*◌, ◌⊎◌, ◌==◌, cond, true, false, ℕ, Bool, IsTrue, List, Option, Some, None, option_map, Result, Err, inl, inr, slice_set, refl, sym, ◌∙◌, ap}
 use Rattle.std.specs.declared.cmp.Ordering.{Ordering}
 use Rattle.fkv_functions.specs.Meanings.{Meanings}
 use Rattle.fkv_functions.proofs.ListLemmas.{get-set_cases}

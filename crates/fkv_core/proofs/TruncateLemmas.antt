@@ -35,7 +35,6 @@ use Rattle.fkv_core.specs.declared.contexts.Context.{Context}
 use Rattle.fkv_core.specs.declared.contexts.Loading.{Loading}
 use Rattle.fkv_core.specs.declared.contexts.Phase.{Phase}
 use Rattle.fkv_core.specs.declared.contexts.Phase.TheVariants.{Fresh, Confirm, Prepared, Load}
-use Rattle.fkv_core.specs.Grown.{IsKeptRecord}
 use Rattle.fkv_core.specs.Pending.{pending_by, pending_of}
 use Rattle.fkv_core.specs.Sound.{IsKept, IsLoading, StandsFor, IsSound}
 use Rattle.fkv_core.specs.Truncating.{IsTruncation}
@@ -191,26 +190,6 @@ module _ {K V : Type 0} {keeps : Bool} (cmp : K → K → Ordering) (code : K �
         let still = h.still yes_keeps (stood k e h.entry here) in
         rw (led-cut k e stands yes_keeps) (still-cleared yes_keeps k v.regions.offsets.safe_read_only (subst (IsStill v.regions.offsets.safe_read_only) (led k e stands) still));
     nowhere = h.nowhere;
-  }
-
-  -- the last record of a key stays, if it has a value
-  last-kept : IsTrue keeps → (k : K) (x : Entry K V) → last_of cmp v.text k ≡ Some x → IsSome x.value → last_of cmp (truncated keeps v low).text k ≡ Some x
-  last-kept yes_keeps k x last some = ap (λ u. last_of cmp u k) (cut-text yes_keeps) ∙ elim (last-cut cmp v.from low v.text t.rising (cut-low yes_keeps) k) [
-    | inl same ↦ same ∙ last
-    | inr gone ↦ absurd (none-some x.value (ap value_of (sym last) ∙ gone-none yes_keeps k gone) some)
-  ]
-
-  pub record-cut : (k : K) (e : IndexEntry) (x : Entry K V) → IsKeptRecord keeps cmp code v k e x → IsKeptRecord keeps cmp code (truncated keeps v low) k e x
-  record-cut k e x h = record {
-    entry = was-cut k e h.entry;
-    low = h.low;
-    led = h.led;
-    some = h.some;
-    frozen = h.frozen;
-    newest = λ yes_keeps here.
-        let stands = entry-stood k e h.entry here in
-        let last = sym (led k e stands) ∙ h.newest yes_keeps (stood k e h.entry here) in
-        led-cut k e stands yes_keeps ∙ last-kept yes_keeps k x last h.some;
   }
 
   -- the newest record of a key at or below an address is the same, or lies below

@@ -1,5 +1,5 @@
 -- Records that are superseded, and texts that are cleared.
-use Rattle.std.proofs.Common.{◌≡◌, Bool, true, false, cond, ℕ, ◌+◌, ◌^◌, ◌<◌, ◌≤◌, ◌==◌, inl, inr, List, [], ◌∷◌, ◌++◌, Option, Some, None, option_map, nat_le, unwrap_or, refl, sym, ◌∙◌, ap, subst, arith}
+use Rattle.std.proofs.Common.{◌≡◌, Bool, true, false, cond, ℕ, ◌+◌, ◌^◌, ◌<◌, ◌≤◌, ◌==◌, inl, inr, List, [], ◌∷◌, ◌++◌, Option, Some, None, nat_le, unwrap_or, refl, sym, ◌∙◌, ap, subst, arith}
 use Rattle.std.proofs.lemmas.Bool.{cases_lt, cases_eq}
 use Rattle.std.proofs.lemmas.Bool.Decides.{nat_tests}
 use Rattle.std.specs.declared.cmp.Ordering.{Ordering}
@@ -60,11 +60,10 @@ module _ {K V : Type 0} (cmp : K → K → Ordering) (text : List (Entry K V)) w
   renewed-test true v l h = sym (h refl)
   renewed-test false v l h = refl
 
-  pub lives-renewed : IsKeyOrder cmp → (n e : Entry K V) → n.key ≡ e.key → n.value ≡ e.value → last_of cmp text e.key ≡ Some e → Same (live cmp (text ++ n ∷ [])) (live cmp text)
-  lives-renewed order n e key value last q =
+  pub lives-renewed : IsKeyOrder cmp → (n : Entry K V) → live cmp text n.key ≡ n.value → Same (live cmp (text ++ n ∷ [])) (live cmp text)
+  lives-renewed order n held q =
       live-append cmp text n q
-      ∙ renewed-test (is_at (cmp n.key) q) n.value (live cmp text q)
-      (λ t. ap (live cmp text) (sym (order.same n.key q t) ∙ key) ∙ ap value_of last ∙ sym value)
+      ∙ renewed-test (is_at (cmp n.key) q) n.value (live cmp text q) (λ t. ap (live cmp text) (sym (order.same n.key q t)) ∙ held)
 
   -- ---- what is dropped of a cleared text takes no key's value
   module _ (order : IsKeyOrder cmp) (r : IsRising text) (low limit : ℕ) (cleared : IsCleared cmp text limit) (le : low ≤ limit) (k : K) where

@@ -35,7 +35,7 @@ use Rattle.fkv_partition.specs.Views.{PartitionView}
 use Rattle.fkv_partition.specs.Checking.{liveness}
 use Rattle.fkv_partition.proofs.MoveLemmas.{stands-here}
 use Rattle.fkv_partition.proofs.ReadLemmas.{kept-from, same-awaited}
-use Rattle.fkv_partition.proofs.CheckingLemmas.{met-dead, met-last, liveness-further}
+use Rattle.fkv_partition.proofs.CheckingLemmas.{met-dead, met-last, ready-by, liveness-further}
 
 -- ---- a way out of a page ends below it
 abbrev out_of : {K V : Type 0} → ℕ → Result (ChainPosition K V) Refused
@@ -143,23 +143,7 @@ module _ {K V I : Type 0} {keeps : Bool} (cmp : K → K → Ordering) (code : K 
     pub way-last : (r : ChainPosition K V) → result ≡ Ok r → liveness x.target r ≡ Last → StageStands keeps cmp code v.core x.target (Ready e l.kept)
     way-last r is j = (
       staged.0,
-      record {
-        here = tracing.here;
-        record_kept = record {
-          entry = tracing.loading.entry;
-          low = tracing.loading.low;
-          led = λ yes_keeps. (
-              let le = newest-under cmp v.core.records.text e.key (address_of l.kept.word) e (led-newest r is j yes_keeps) in
-              let least = sound.traced.first in
-              let same = begin-same in
-              let up = tracing.begun in
-              let here = tracing.here in
-              omega arith);
-          some = tracing.some;
-          frozen = (let here = tracing.here in let low = stands.frozen in omega arith);
-          newest = λ yes_keeps word. led-newest r is j yes_keeps;
-        };
-      },
+      ready-by cmp code order v.core.records sound.traced x.target e l.kept tracing.here tracing.some stands.frozen tracing.loading.entry tracing.loading.low is-own (led-newest r is j),
     )
 
     -- the way goes on above the place, in a lower page

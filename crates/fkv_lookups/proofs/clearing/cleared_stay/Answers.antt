@@ -22,8 +22,8 @@ returns-clause-renewed g c = λ keeps cmp code v entry limit e order t here.
     superseded-renewed cmp v.text order (record { address = v.tail; previous = address_of entry.word; key = e.key; value = e.value; delta = false }) e refl refl (record-low v t limit e here)
 
 pub returns-clause-kept : goal.returns-clause-kept
-returns-clause-kept g c = λ cmp v entry e order last.
-    lives-renewed cmp v.text order (record { address = v.tail; previous = address_of entry.word; key = e.key; value = e.value; delta = false }) e refl refl last
+returns-clause-kept g c = λ cmp v entry key value order held.
+    lives-renewed cmp v.text order (record { address = v.tail; previous = address_of entry.word; key = key; value = value; delta = false }) held
 
 pub returns-clause-last : goal.returns-clause-last
 returns-clause-last g c = λ keeps cmp code v low limit k order t h le. last-cleared cmp v.text order t.rising low limit h le k
