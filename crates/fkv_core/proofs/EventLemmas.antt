@@ -49,7 +49,7 @@ use Rattle.fkv_core.specs.Going.{Decides, Goes, confirms, backs_off}
 use Rattle.fkv_core.specs.Sound.{IsKept, IsLoading, StandsFor, IsSound}
 use Rattle.fkv_functions.proofs.ListLemmas.{get-set_other, get-set_same}
 use Rattle.fkv_lookups.specs.Traced.{IsTraced}
-use Rattle.fkv_core.proofs.GrownLemmas.{newest-nowhere}
+use Rattle.fkv_core.proofs.GrownLemmas.{newest-nowhere, still-below}
 use Rattle.fkv_core.proofs.AskedLemmas.{open_at, context-inside, context-other, asked-same, asked-other, free-slot, idle, idle-asked, context-left, context-elsewhere, context-renewed}
 
 -- a context that asks nothing to be built and claims nothing is fresh
@@ -242,9 +242,12 @@ module _ {K V I O : Type 0} (cmp : K → K → Ordering) (f : Meanings K V I O) 
         → newest cmp v.records.text (key_of x.op) (address_of e.word) ≡ last_of cmp v.records.text (key_of x.op)
         → IsWanted cmp code v.records (key_of x.op) b
         → decision f x.op (met_at cmp code v slot (key_of x.op)) ≡ decided.Load b
+        → IsTraced keeps code v.records
         → StandsFor keeps cmp code v.records x.op (Load (record { begin = v.records.begin; kept = e; wanted = b; looked = now }))
-    loading-stands keeps e b entry low newest wanted d =
+    loading-stands keeps e b entry low newest wanted d traced =
         let k : K = key_of x.op in
+        let under = wanted.low in
+        let head = traced.regions.agree.in_order.head in
         let l : Loading = record { begin = v.records.begin; kept = e; wanted = b; looked = now } in
         let stands : IsLoading keeps cmp code v.records k l = record {
           entry = record { place = entry.place; bucket = entry.bucket; final = entry.final; tag = entry.tag };
@@ -254,6 +257,7 @@ module _ {K V I O : Type 0} (cmp : K → K → Ordering) (f : Meanings K V I O) 
           on_disk = wanted.low;
           class = λ yes_keeps same begun. wanted.class begun;
           newest = λ yes_keeps same. newest ∙ wanted.newest;
+          still = λ yes_keeps same. rw (newest ∙ wanted.newest) (still-below cmp v.records.text k b v.records.regions.offsets.safe_read_only (omega arith));
         } in
         let o = load-op f x.op (met_at cmp code v slot k) b d in
         elim o.1 [

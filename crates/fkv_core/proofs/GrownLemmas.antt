@@ -39,7 +39,6 @@ use Rattle.fkv_core.specs.declared.contexts.Phase.{Phase}
 use Rattle.fkv_core.specs.declared.contexts.Phase.TheVariants.{Fresh, Confirm, Prepared, Load}
 use Rattle.fkv_core.specs.declared.contexts.Loading.{Loading}
 use Rattle.fkv_core.specs.Contexts.{claim_by}
-use Rattle.fkv_core.specs.Grown.{IsKeptRecord}
 use Rattle.fkv_core.specs.Sound.{IsKept, IsLoading, StandsFor}
 use Rattle.fkv_core.proofs.ClaimLemmas.{place-or}
 
@@ -126,12 +125,17 @@ loading-grown keeps cmp code old new k l t g h =
       on_disk = omega arith;
       class = λ yes_keeps same begun. g.same_class k l.wanted frozen begun (h.class yes_keeps (same ∙ g.begin) (let up = g.from in omega arith));
       newest = λ yes_keeps same.
-          let was = h.newest yes_keeps (same ∙ g.begin) in
-          let there = still-below cmp old.text k l.wanted old.regions.offsets.safe_read_only frozen in
-          g.kept yes_keeps k (address_of l.kept.word) low (subst (IsStill old.regions.offsets.safe_read_only) (sym was) there)
-          ∙ was
-          ∙ sym (g.kept yes_keeps k l.wanted taken there);
+          kept-same yes_keeps same
+          ∙ h.newest yes_keeps (same ∙ g.begin)
+          ∙ sym (g.kept yes_keeps k l.wanted taken (still-below cmp old.text k l.wanted old.regions.offsets.safe_read_only frozen));
+      still = λ yes_keeps same.
+          subst (IsStill new.regions.offsets.safe_read_only) (sym (kept-same yes_keeps same))
+          (still-raised old.regions.offsets.safe_read_only new.regions.offsets.safe_read_only (newest cmp old.text k (address_of l.kept.word)) g.safe (h.still yes_keeps (same ∙ g.begin)));
     }
+  where
+    -- what is newest from where the entry led stays
+    kept-same : IsTrue keeps → l.begin ≡ new.begin → newest cmp new.text k (address_of l.kept.word) ≡ newest cmp old.text k (address_of l.kept.word)
+    kept-same yes_keeps same = g.kept yes_keeps k (address_of l.kept.word) h.low (h.still yes_keeps (same ∙ g.begin))
 
 pub kept-grown : {K V : Type 0} (keeps : Bool) (cmp : K → K → Ordering) (code : K → ℕ) (old new : RecordsView K V) (k : K) (e : IndexEntry) (source : Option V) → IsTraced keeps code old → Grows keeps cmp code old new → IsKept keeps cmp code old k e source
     → IsKept keeps cmp code new k e source
@@ -163,32 +167,6 @@ kept-grown keeps cmp code old new k e source t g h =
     by_still yes_keeps (inl was) = subst (IsStill new.regions.offsets.safe_read_only) (sym (g.kept yes_keeps k a h.low (h.still yes_keeps was)))
         (still-raised old.regions.offsets.safe_read_only new.regions.offsets.safe_read_only (newest cmp old.text k a) g.safe (h.still yes_keeps was))
     by_still yes_keeps (inr none) = rw (nowhere yes_keeps none) tt
-
--- the last record of a key, which is frozen, stays so while the entry stands as it was
-pub last-grown : {K V : Type 0} (keeps : Bool) (cmp : K → K → Ordering) (code : K → ℕ) (old new : RecordsView K V) (k : K) (e : IndexEntry) (x : Entry K V) → Grows keeps cmp code old new → IsKeptRecord keeps cmp code old k e x
-    → IsKeptRecord keeps cmp code new k e x
-last-grown keeps cmp code old new k e x g h =
-    let low = h.low in
-    let tail = g.tail in
-    let frozen = h.frozen in
-    let safe = g.safe in
-    record {
-      entry = was-entry k e g h.entry;
-      low = omega arith;
-      led = h.led;
-      some = h.some;
-      frozen = omega arith;
-      newest = λ yes_keeps here. by_newest yes_keeps (g.held e.place e.word h.entry.final low here);
-    }
-  where
-    a : ℕ
-    a = address_of e.word
-
-    by_newest : IsTrue keeps → (word_at old.words e.place ≡ e.word) ⊎ (a < 64) → newest cmp new.text k a ≡ Some x
-    by_newest yes_keeps (inl was) =
-        let is = h.newest yes_keeps was in
-        g.kept yes_keeps k a h.low (subst (IsStill old.regions.offsets.safe_read_only) (sym is) (inr h.frozen)) ∙ is
-    by_newest yes_keeps (inr none) = absurd (let led = h.led yes_keeps in omega arith)
 
 -- an operation stands for what it stood for, where the word that it claims stays
 pub stands-grown : {K V I : Type 0} (keeps : Bool) (cmp : K → K → Ordering) (code : K → ℕ) (old new : RecordsView K V) (op : KeyedOp K V I) (phase : Phase V) → IsTraced keeps code old → Grows keeps cmp code old new → ((p : Place) → claim_by phase ≡ Some p → word_at new.words p ≡ word_at old.words p) → StandsFor keeps cmp code old op phase → StandsFor keeps cmp code new op phase

@@ -37,7 +37,7 @@ use Rattle.fkv_core.specs.Sound.{IsKept, IsLoading, StandsFor, IsSound}
 use Rattle.fkv_core.specs.Loading.{Tells, MayLoad, AwaitsPage, ReadsOn, IsTold, Loads, found, ended}
 use Rattle.std.proofs.lemmas.Option.{slice_get_cases}
 use Rattle.fkv_index.specs.Words.{address_of}
-use Rattle.fkv_core.proofs.GrownLemmas.{still-below, newest-nowhere}
+use Rattle.fkv_core.proofs.GrownLemmas.{newest-nowhere}
 use Rattle.fkv_core.proofs.EventLemmas.{stands-at}
 use Rattle.fkv_core.proofs.DecidedLemmas.{page_flushed, lower_page}
 
@@ -133,21 +133,19 @@ module _ {K V I : Type 0} {keeps : Bool} (cmp : K → K → Ordering) (code : K 
         let from = from_first s.traced in
         ap value_of (is ∙ newest_below cmp code v.records (key_of x.op) order s.traced b (omega arith))
 
-    pub newest-told : IsTrue keeps → (r : ChainPosition K V) (value : Option V) → result ≡ Ok r → Tells v.records.begin r value → value_of (newest cmp v.records.text (key_of x.op) l.wanted) ≡ value
-    newest-told yes_keeps r value is tells = told-newest r value tells (goes yes_keeps r is)
+    -- which is its newest from where the entry led
+    pub newest-told : IsTrue keeps → (r : ChainPosition K V) (value : Option V) → result ≡ Ok r → Tells v.records.begin r value → value_of (newest cmp v.records.text (key_of x.op) (address_of l.kept.word)) ≡ value
+    newest-told yes_keeps r value is tells = ap value_of (loading-at.newest yes_keeps a.begin) ∙ told-newest r value tells (goes yes_keeps r is)
 
     pub kept-told : (r : ChainPosition K V) (value : Option V) → result ≡ Ok r → Tells v.records.begin r value → IsKept keeps cmp code v.records (key_of x.op) l.kept value
     kept-told r value is tells =
         let h = loading-at in
-        let o = s.traced.regions.agree.in_order in
-        let on_disk = h.on_disk in
-        let frozen : l.wanted < v.records.regions.offsets.safe_read_only = omega (arith, on_disk, o.head) in
         record {
           entry = h.entry;
           low = h.low;
-          value = λ yes_keeps here. ap value_of (h.newest yes_keeps a.begin) ∙ newest-told yes_keeps r value is tells;
-          nowhere = λ yes_keeps none. sym (newest-told yes_keeps r value is tells) ∙ ap value_of (sym (h.newest yes_keeps a.begin) ∙ newest-nowhere cmp v.records (key_of x.op) (address_of l.kept.word) s.traced none);
-          still = λ yes_keeps here. rw (h.newest yes_keeps a.begin) (still-below cmp v.records.text (key_of x.op) l.wanted v.records.regions.offsets.safe_read_only frozen);
+          value = λ yes_keeps here. newest-told yes_keeps r value is tells;
+          nowhere = λ yes_keeps none. sym (newest-told yes_keeps r value is tells) ∙ ap value_of (newest-nowhere cmp v.records (key_of x.op) (address_of l.kept.word) s.traced none);
+          still = λ yes_keeps here. h.still yes_keeps a.begin;
         }
 
     -- the way goes on in a lower page
@@ -163,7 +161,7 @@ module _ {K V I : Type 0} {keeps : Bool} (cmp : K → K → Ordering) (code : K 
           let low = lower in
           absurd (omega arith)
 
-      pub further-newest : IsTrue keeps → newest cmp v.records.text (key_of x.op) l.wanted ≡ newest cmp v.records.text (key_of x.op) b
+      further-newest : IsTrue keeps → newest cmp v.records.text (key_of x.op) l.wanted ≡ newest cmp v.records.text (key_of x.op) b
       further-newest yes_keeps = by_going (goes yes_keeps (Below b) is)
         where
           by_going : GoesOn cmp code v.records (key_of x.op) (first_place v.records.page_bits (page_at v.records.page_bits l.wanted)) l.wanted (Below b) → newest cmp v.records.text (key_of x.op) l.wanted ≡ newest cmp v.records.text (key_of x.op) b
@@ -185,6 +183,7 @@ module _ {K V I : Type 0} {keeps : Bool} (cmp : K → K → Ordering) (code : K 
             on_disk = omega arith;
             class = λ yes_keeps same begins. goes-class (goes yes_keeps (Below b) is) begins;
             newest = λ yes_keeps same. h.newest yes_keeps same ∙ further-newest yes_keeps;
+            still = h.still;
           }
         where
           goes-class : GoesOn cmp code v.records (key_of x.op) (first_place v.records.page_bits (page_at v.records.page_bits l.wanted)) l.wanted (Below b) → v.records.from ≤ b → IsOfClass code v.records (key_of x.op) b

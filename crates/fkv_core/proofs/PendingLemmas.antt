@@ -9,6 +9,7 @@ use Rattle.fkv_device.specs.Standing.{Standing}
 use Rattle.fkv_pages.specs.Loads.{IsHeldBy}
 use Rattle.fkv_functions.specs.Meanings.{Meanings}
 use Rattle.fkv_texts.specs.Text.{newest, value_of}
+use Rattle.fkv_index.specs.Words.{address_of}
 use Rattle.fkv_operations.specs.After.{key_of, shown_of}
 use Rattle.fkv_operations.specs.declared.operations.KeyedOp.TheVariants.{Read, Rmw}
 use Rattle.fkv_core.specs.declared.contexts.Context.{Context}
@@ -36,7 +37,7 @@ module _ {K V I : Type 0} (cmp : K → K → Ordering) (v : CoreView K V I) (slo
   frame-of y = record { others = λ t d o. asked-other v slot c now x h y t d o; number = refl; count = refl; begin = refl; regions = refl; moment = refl }
 
   -- what was to be found
-  pub was-pending : (l : Loading) → AwaitsPage v slot c x l → pending cmp v slot c ≡ Some (record { moment = l.looked; value = value_of (newest cmp v.records.text (key_of x.op) l.wanted) })
+  pub was-pending : (l : Loading) → AwaitsPage v slot c x l → pending cmp v slot c ≡ Some (record { moment = l.looked; value = value_of (newest cmp v.records.text (key_of x.op) (address_of l.kept.word)) })
   was-pending l a =
       ap (pending_of cmp v.records) h
       ∙ ap (λ (p : Phase V). pending_of cmp v.records (Some (at_phase x p))) a.loading
@@ -59,7 +60,7 @@ module _ {K V I : Type 0} (cmp : K → K → Ordering) (v : CoreView K V I) (slo
         gone false e = rw e refl
 
     module _ (l : Loading) (a : AwaitsPage v slot c x l) where
-      pub load-told : (value : Option V) → value_of (newest cmp v.records.text (key_of x.op) l.wanted) ≡ value → MayLoad x.op → (new : CoreView K V I) (q : Progress K V I O R)
+      pub load-told : (value : Option V) → value_of (newest cmp v.records.text (key_of x.op) (address_of l.kept.word)) ≡ value → MayLoad x.op → (new : CoreView K V I) (q : Progress K V I O R)
           → ((k : K) (i : I) → x.op ≡ Read k i → (new ≡ with_context v slot c None now) × (q ≡ Done (shown_of f k i value) l.looked))
           → ((k : K) (i : I) → x.op ≡ Rmw k i → (new ≡ with_context v slot c (Some (at_phase x (Prepared l.kept value))) now) × (q ≡ NeedsBuild (record { number = x.number; key = k; source = value; input = i })))
           → IsLoad cmp f v new slot c now q
@@ -82,27 +83,23 @@ module _ {K V I : Type 0} (cmp : K → K → Ordering) (v : CoreView K V I) (slo
         }))
       ]
 
-      pub load-further : (b : ℕ) (r : R) → newest cmp v.records.text (key_of x.op) l.wanted ≡ newest cmp v.records.text (key_of x.op) b
-          → IsLoad {O = O} cmp f v (with_context v slot c (Some (at_phase x (Load (record l { wanted = b })))) now) slot c now (NeedsLoad r b)
-      load-further b r same =
+      load-further : (b : ℕ) (r : R) → IsLoad {O = O} cmp f v (with_context v slot c (Some (at_phase x (Load (record l { wanted = b })))) now) slot c now (NeedsLoad r b)
+      load-further b r =
           let y : Option (Context K V I) = Some (at_phase x (Load (record l { wanted = b }))) in
+          let there : pending_of cmp v.records y ≡ Some (record { moment = l.looked; value = value_of (newest cmp v.records.text (key_of x.op) (address_of l.kept.word)) }) = rw (eq-eqb l.begin v.records.begin a.begin) refl in
           record {
             question = asked_by x;
             was = ap (option_map asked_by) h;
-            effect = (
-              asked-same v slot c now x h y,
-              same-pend y ∙ rw (eq-eqb l.begin v.records.begin a.begin) (ap (λ o. Some (record { moment = l.looked; value = value_of o })) (sym same)) ∙ sym (was-pending l a),
-            );
+            effect = (asked-same v slot c now x h y, same-pend y ∙ there ∙ sym (was-pending l a));
             live = λ q. refl;
             others = others-pend y;
             frame = frame-of y;
           }
 
       pub further-load : (b : ℕ) (new : CoreView K V I) (result : Result (Progress K V I O R) Refused)
-          → newest cmp v.records.text (key_of x.op) l.wanted ≡ newest cmp v.records.text (key_of x.op) b
           → (stands : R → Standing)
           → IfOk result (λ progress. (r : R) × (progress ≡ NeedsLoad r b) × IsHeldBy v.records.receipts (page_at v.records.page_bits b) (stands r))
           → OnOk result (new ≡ with_context v slot c (Some (at_phase x (Load (record l { wanted = b })))) now)
           → IfOk result (λ progress. IsLoad cmp f v new slot c now progress)
-      further-load b new (Ok q) same stands asked effect = rw (asked.1, effect) (load-further b asked.0 same)
-      further-load b new (Err why) same stands asked effect = tt
+      further-load b new (Ok q) stands asked effect = rw (asked.1, effect) (load-further b asked.0)
+      further-load b new (Err why) stands asked effect = tt

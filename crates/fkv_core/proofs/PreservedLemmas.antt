@@ -22,6 +22,7 @@ use Rattle.fkv_texts.proofs.LastWhere.{last_where-found, last_where-in}
 use Rattle.fkv_texts.proofs.TextLemmas.{entry_at-in, entry_at-old}
 use Rattle.fkv_texts.proofs.ChangeLemmas.{entry_at-elsewhere}
 use Rattle.fkv_texts.proofs.CutLemmas.{cut-entry}
+use Rattle.fkv_texts.proofs.BaseLemmas.{covered-passed}
 use Rattle.fkv_index.specs.declared.words.Word.{Word}
 use Rattle.fkv_index.specs.declared.places.Place.{Place}
 use Rattle.fkv_index.specs.Words.{empty, final_word, tentative_word, tag_of, is_tentative, is_final_of}
@@ -40,7 +41,7 @@ use Rattle.fkv_operations.specs.declared.operations.Answer.{Answer}
 use Rattle.fkv_lookups.specs.declared.decisions.Decision.TheVariants.{Replace}
 use Rattle.fkv_lookups.specs.RecordsViews.{RecordsView, class_in, indexed, with_record, with_value, with_regions, with_receipt, confirmed, released, moved, truncated, ChangesAt, IsTruncationDue}
 use Rattle.fkv_lookups.specs.Traced.{IsTraced}
-use Rattle.fkv_lookups.specs.Cleared.{IsCleared}
+use Rattle.fkv_texts.specs.Deltas.{IsCleared}
 use Rattle.fkv_core.specs.declared.changes.Write.{Write}
 use Rattle.fkv_core.specs.declared.contexts.Context.{Context}
 use Rattle.fkv_core.specs.declared.contexts.Phase.TheVariants.{Confirm}
@@ -60,9 +61,9 @@ use Rattle.fkv_core.specs.Views.{CoreView, context_at, with_appended, MovesTo}
 use Rattle.fkv_core.specs.Writes.{IsWrite}
 use Rattle.fkv_core.proofs.AskedLemmas.{position-found}
 use Rattle.fkv_core.proofs.EventLemmas.{kept-entry}
-use Rattle.fkv_core.proofs.GrownLemmas.{Grows, next-grown, kept-grown, loading-grown, last-grown, tail-most, tail-up, grown-same, grown-regions, grown-moved, grown-flushed, grown-appended, grown-replaced}
+use Rattle.fkv_core.proofs.GrownLemmas.{Grows, next-grown, kept-grown, loading-grown, tail-most, tail-up, grown-same, grown-regions, grown-moved, grown-flushed, grown-appended, grown-replaced}
 use Rattle.fkv_core.proofs.ChangeLemmas.{IsMade, grown-words, is-tentative, tentative-place, tentative-made, confirmed-made, released-made}
-use Rattle.fkv_core.proofs.TruncateLemmas.{none-some, kept-cut, loading-cut, record-cut, next-cut}
+use Rattle.fkv_core.proofs.TruncateLemmas.{none-some, kept-cut, loading-cut, next-cut}
 
 raised-self : (o : Offsets) → IsRaised o o
 raised-self o = record { closed = omega arith; head = omega arith; safe = omega arith; read_only = omega arith }
@@ -159,7 +160,7 @@ module _ {K V : Type 0} {keeps : Bool} (cmp : K → K → Ordering) (code : K �
         let value : IsSome e.value = subst (λ o. IsSome (value_of o)) there some in
         elim (c e there under) [
           | inl none ↦ none-some e.value none value
-          | inr other ↦ other (ap (last_of cmp v.text) own ∙ last)
+          | inr covered ↦ covered-passed cmp v.text t.rising e covered (ap (last_of cmp v.text) own ∙ last)
         ])
   ]
 
@@ -189,7 +190,6 @@ module _ {K V I : Type 0} {keeps : Bool} (cmp : K → K → Ordering) (code : K 
     bears = subst (λ u. Bears keeps cmp code v.records u) (sym is) (record {
       kept = λ k e source was. kept-grown keeps cmp code v.records r k e source s.traced g was;
       loading = λ k l was. loading-grown keeps cmp code v.records r k l s.traced g was;
-      last = λ k e x was. last-grown keeps cmp code v.records r k e x g was;
     });
     grown = subst (λ u. IsGrown keeps cmp v.records u) (sym is) h;
     next = λ yes_keeps. subst (λ u. IsNext cmp (indexed v.records) (indexed u)) (sym is) (next-grown v.records r g yes_keeps);
@@ -378,7 +378,6 @@ module _ {K V I : Type 0} {keeps : Bool} (cmp : K → K → Ordering) (code : K 
         bears = subst (λ u. Bears keeps cmp code v.records u) (sym here) (record {
           kept = λ k e source was. kept-cut cmp code order v.records s.traced low due.higher (λ yes_keeps. clear yes_keeps due) k e source was;
           loading = λ k l was. loading-cut cmp code order v.records s.traced low due.higher (λ yes_keeps. clear yes_keeps due) k l was;
-          last = λ k e x was. record-cut cmp code order v.records s.traced low due.higher (λ yes_keeps. clear yes_keeps due) k e x was;
         });
         grown = subst (λ u. IsGrown keeps cmp v.records u) (sym here) (know-cut cmp code v.records s.traced low due.higher (λ limit c. drops (text_begin keeps low v.records.regions.offsets.closed) limit c));
         next = λ yes_keeps. subst (λ u. IsNext cmp (indexed v.records) (indexed u)) (sym here) (next-cut cmp code order v.records s.traced low due.higher (λ yes. clear yes due) yes_keeps);

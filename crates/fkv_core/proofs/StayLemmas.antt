@@ -1,5 +1,6 @@
 -- What events leave of look-ups that wait for a page, and of frozen records.
-use Rattle.std.proofs.Common.{◌≡◌, ◌<◌, ◌+◌, ◌*◌, ◌⊎◌, ℕ, Bool, IsTrue, List, Option, Some, None, option_map, Result, Err, inl, inr, slice_set, refl, sym, ◌∙◌, ap, arith}
+use Rattle.std.proofs.lemmas.Bool.{eqb-true}
+use Rattle.std.proofs.Common.{◌≡◌, ◌<◌, ◌+◌, ◌*◌, ◌⊎◌, ◌==◌, cond, true, false, ℕ, Bool, IsTrue, List, Option, Some, None, option_map, Result, Err, inl, inr, slice_set, refl, sym, ◌∙◌, ap}
 use Rattle.std.specs.declared.cmp.Ordering.{Ordering}
 use Rattle.fkv_functions.specs.Meanings.{Meanings}
 use Rattle.fkv_functions.proofs.ListLemmas.{get-set_cases}
@@ -8,7 +9,8 @@ use Rattle.fkv_functions.specs.declared.refusals.Refused.{Refused}
 use Rattle.fkv_device.specs.Standing.{Standing, Joined}
 use Rattle.fkv_regions.specs.RegionsView.{RegionsView, entered}
 use Rattle.fkv_texts.specs.declared.entries.Entry.{Entry}
-use Rattle.fkv_texts.specs.Text.{entry_at, newest, last_of}
+use Rattle.fkv_texts.specs.Text.{entry_at, newest, last_of, value_of}
+use Rattle.fkv_index.specs.Words.{address_of}
 use Rattle.fkv_operations.specs.After.{key_of}
 use Rattle.fkv_operations.specs.Still.{IsStill}
 use Rattle.fkv_operations.specs.declared.entries.IndexEntry.{IndexEntry}
@@ -16,7 +18,6 @@ use Rattle.fkv_operations.specs.declared.operations.KeyedOp.{KeyedOp}
 use Rattle.fkv_operations.specs.declared.operations.KeyedOp.TheVariants.{Read, Upsert, Rmw, Delete}
 use Rattle.fkv_operations.specs.declared.operations.Answer.{Answer}
 use Rattle.fkv_lookups.specs.RecordsViews.{RecordsView, with_record, with_value, with_receipt, released}
-use Rattle.fkv_lookups.specs.Traced.{IsTraced}
 use Rattle.fkv_lookups.specs.declared.decisions.Decision.TheVariants as decided
 use Rattle.fkv_core.specs.declared.contexts.Context.{Context}
 use Rattle.fkv_core.specs.declared.contexts.Loading.{Loading}
@@ -35,11 +36,10 @@ use Rattle.fkv_core.specs.Flushing.{Flushes}
 use Rattle.fkv_core.specs.Loading.{Loads}
 use Rattle.fkv_core.specs.Effect.{asked_by, IsGiveUp}
 use Rattle.fkv_core.specs.Frozen.{FrozenStay}
-use Rattle.fkv_core.specs.Pending.{pending_by, pending_of, pending, OthersPend, AllPend}
+use Rattle.fkv_core.specs.Pending.{Pending, pending_by, pending_of, pending, OthersPend, AllPend}
 use Rattle.fkv_core.proofs.AskedLemmas.{open_at, asked-same, context-other, context-inside}
 use Rattle.fkv_core.proofs.EventLemmas.{stands-at, refreshed-same, left-same, entered-same, same_or}
 use Rattle.fkv_core.proofs.PendingLemmas.{others-pend, frame-of}
-use Rattle.fkv_core.proofs.GrownLemmas.{still-below}
 
 -- what is to be found depends on Begin and the text alone
 pub pending-same : {K V I : Type 0} (cmp : K → K → Ordering) (r s : RecordsView K V) (o : Option (Context K V I)) → s.begin ≡ r.begin → s.text ≡ r.text → pending_of cmp s o ≡ pending_of cmp r o
@@ -59,32 +59,35 @@ KeepsStill {K} cmp old new = (k : K) (a : ℕ)
     → IsStill old.regions.offsets.safe_read_only (newest cmp old.text k a)
     → newest cmp new.text k a ≡ newest cmp old.text k a
 
-loads-same : {K V : Type 0} {keeps : Bool} (cmp : K → K → Ordering) (code : K → ℕ) (r s : RecordsView K V) (k : K) (l : Loading) → IsTraced keeps code r → s.begin ≡ r.begin → KeepsStill cmp r s → IsLoading keeps cmp code r k l
-    → newest cmp s.text k l.wanted ≡ newest cmp r.text k l.wanted
-loads-same cmp code r s k l t begin kept h =
-    let o = t.regions.agree.in_order in
-    let on_disk = h.on_disk in
-    let frozen : l.wanted < r.regions.offsets.safe_read_only = omega (arith, on_disk, o.head) in
-    let taken : l.wanted < r.tail = omega (arith, frozen, o.safe, t.regions.read_only) in
-    kept k l.wanted taken (still-below cmp r.text k l.wanted r.regions.offsets.safe_read_only frozen)
+-- so what a look-up is to find stays
+abbrev found_by : {K V I : Type 0} → (K → K → Ordering) → RecordsView K V → KeyedOp K V I → Loading → Pending V
+found_by cmp r op l = record { moment = l.looked; value = value_of (newest cmp r.text (key_of op) (address_of l.kept.word)) }
 
-pending-kept : {K V I : Type 0} {keeps : Bool} (cmp : K → K → Ordering) (code : K → ℕ) (r s : RecordsView K V) (op : KeyedOp K V I) (p : Phase V) → IsTraced keeps code r → s.begin ≡ r.begin → KeepsStill cmp r s → StandsFor keeps cmp code r op p
+loads-same : {K V I : Type 0} {keeps : Bool} (cmp : K → K → Ordering) (code : K → ℕ) (r s : RecordsView K V) (op : KeyedOp K V I) (l : Loading) → IsTrue keeps → s.begin ≡ r.begin → KeepsStill cmp r s → IsLoading keeps cmp code r (key_of op) l
+    → pending_by cmp s op (Load l) ≡ pending_by cmp r op (Load l)
+loads-same cmp code r s op l yes_keeps begin kept h = rw begin (by_begin (l.begin == r.begin) refl)
+  where
+    by_begin : (b : Bool) → (l.begin == r.begin) ≡ b → cond b (Some (found_by cmp s op l)) None ≡ cond b (Some (found_by cmp r op l)) None
+    by_begin true same = ap (λ o. Some (record { moment = l.looked; value = value_of o })) (kept (key_of op) (address_of l.kept.word) h.low (h.still yes_keeps (eqb-true l.begin r.begin same)))
+    by_begin false same = refl
+
+pending-kept : {K V I : Type 0} {keeps : Bool} (cmp : K → K → Ordering) (code : K → ℕ) (r s : RecordsView K V) (op : KeyedOp K V I) (p : Phase V) → IsTrue keeps → s.begin ≡ r.begin → KeepsStill cmp r s → StandsFor keeps cmp code r op p
     → pending_by cmp s op p ≡ pending_by cmp r op p
-pending-kept cmp code r s op Fresh t begin kept h = refl
-pending-kept cmp code r s op (Confirm q) t begin kept h = refl
-pending-kept cmp code r s op (Prepared e v) t begin kept h = refl
-pending-kept cmp code r s (Read k i) (Load l) t begin kept h = rw (begin, loads-same cmp code r s k l t begin kept h) refl
-pending-kept cmp code r s (Upsert k u) (Load l) t begin kept h = absurd h
-pending-kept cmp code r s (Rmw k i) (Load l) t begin kept h = rw (begin, loads-same cmp code r s k l t begin kept h) refl
-pending-kept cmp code r s (Delete k) (Load l) t begin kept h = absurd h
+pending-kept cmp code r s op Fresh yes_keeps begin kept h = refl
+pending-kept cmp code r s op (Confirm q) yes_keeps begin kept h = refl
+pending-kept cmp code r s op (Prepared e v) yes_keeps begin kept h = refl
+pending-kept cmp code r s (Read k i) (Load l) yes_keeps begin kept h = loads-same cmp code r s (Read k i) l yes_keeps begin kept h
+pending-kept cmp code r s (Upsert k u) (Load l) yes_keeps begin kept h = absurd h
+pending-kept cmp code r s (Rmw k i) (Load l) yes_keeps begin kept h = loads-same cmp code r s (Rmw k i) l yes_keeps begin kept h
+pending-kept cmp code r s (Delete k) (Load l) yes_keeps begin kept h = absurd h
 
-module _ {K V I : Type 0} {keeps : Bool} (cmp : K → K → Ordering) (code : K → ℕ) (v : CoreView K V I) (s : IsSound keeps cmp code v) where
+module _ {K V I : Type 0} {keeps : Bool} (cmp : K → K → Ordering) (code : K → ℕ) (v : CoreView K V I) (s : IsSound keeps cmp code v) (yes_keeps : IsTrue keeps) where
   all-kept : (r : RecordsView K V) → r.begin ≡ v.records.begin → KeepsStill cmp v.records r → (t d : ℕ) → pending_of cmp r (context_at v t d) ≡ pending_of cmp v.records (context_at v t d)
   all-kept r begin kept t d = by_context (context_at v t d) refl
     where
       by_context : (o : Option (Context K V I)) → context_at v t d ≡ o → pending_of cmp r o ≡ pending_of cmp v.records o
       by_context None h = refl
-      by_context (Some x) h = pending-kept cmp code v.records r x.op x.phase s.traced begin kept (stands-at cmp code v s t d x h)
+      by_context (Some x) h = pending-kept cmp code v.records r x.op x.phase yes_keeps begin kept (stands-at cmp code v s t d x h)
 
   -- one context is set, and the records change
   pub changed-others : (slot c now : ℕ) (x : Context K V I) → context_at v slot c ≡ Some x → (y : Option (Context K V I)) (r : RecordsView K V) → r.begin ≡ v.records.begin → r.regions ≡ v.records.regions → KeepsStill cmp v.records r

@@ -13,6 +13,7 @@ use Rattle.fkv_texts.specs.Chains.{Leads}
 use Rattle.fkv_texts.proofs.LastWhere.{last_where-filter, last_where-found, last_where-in, last_where-narrow, last_where-narrow_none}
 use Rattle.fkv_texts.proofs.TextLemmas.{entry_at-in}
 use Rattle.fkv_texts.proofs.CutLemmas.{cut-leads, cut-from, filter-in}
+use Rattle.fkv_texts.proofs.BaseLemmas.{covered-passed}
 use Rattle.fkv_index.specs.declared.words.Word.{Word}
 use Rattle.fkv_index.specs.declared.places.Place.{Place}
 use Rattle.fkv_index.specs.Words.{empty, address_of, tentative_word, is_empty, is_tentative, is_final}
@@ -28,13 +29,12 @@ use Rattle.fkv_operations.specs.declared.operations.KeyedOp.{KeyedOp}
 use Rattle.fkv_operations.specs.declared.operations.KeyedOp.TheVariants.{Read, Upsert, Rmw, Delete}
 use Rattle.fkv_lookups.specs.RecordsViews.{RecordsView, class_in, indexed, IsEntryOf, WasEntryOf, truncated}
 use Rattle.fkv_lookups.specs.Traced.{IsTraced}
-use Rattle.fkv_lookups.specs.Cleared.{IsCleared}
+use Rattle.fkv_texts.specs.Deltas.{IsCleared}
 use Rattle.fkv_lookups.proofs.TracedLemmas.{entry-stands, traced-held, highest}
 use Rattle.fkv_core.specs.declared.contexts.Context.{Context}
 use Rattle.fkv_core.specs.declared.contexts.Loading.{Loading}
 use Rattle.fkv_core.specs.declared.contexts.Phase.{Phase}
 use Rattle.fkv_core.specs.declared.contexts.Phase.TheVariants.{Fresh, Confirm, Prepared, Load}
-use Rattle.fkv_core.specs.Grown.{IsKeptRecord}
 use Rattle.fkv_core.specs.Pending.{pending_by, pending_of}
 use Rattle.fkv_core.specs.Sound.{IsKept, IsLoading, StandsFor, IsSound}
 use Rattle.fkv_core.specs.Truncating.{IsTruncation}
@@ -145,7 +145,7 @@ module _ {K V : Type 0} {keeps : Bool} (cmp : K → K → Ordering) (code : K �
       let own : e.key ≡ k = order.same e.key k (last_where-found (has_key cmp k) v.text e g.was) in
       elim (clear yes_keeps e there g.under) [
         | inl none ↦ ap value_of g.was ∙ none
-        | inr other ↦ absurd (other (ap (last_of cmp v.text) own ∙ g.was))
+        | inr covered ↦ absurd (covered-passed cmp v.text t.rising e covered (ap (last_of cmp v.text) own ∙ g.was))
       ]
 
   pub last-cleared : IsTrue keeps → (k : K) → value_of (last_of cmp (truncated keeps v low).text k) ≡ value_of (last_of cmp v.text k)
@@ -192,26 +192,6 @@ module _ {K V : Type 0} {keeps : Bool} (cmp : K → K → Ordering) (code : K �
     nowhere = h.nowhere;
   }
 
-  -- the last record of a key stays, if it has a value
-  last-kept : IsTrue keeps → (k : K) (x : Entry K V) → last_of cmp v.text k ≡ Some x → IsSome x.value → last_of cmp (truncated keeps v low).text k ≡ Some x
-  last-kept yes_keeps k x last some = ap (λ u. last_of cmp u k) (cut-text yes_keeps) ∙ elim (last-cut cmp v.from low v.text t.rising (cut-low yes_keeps) k) [
-    | inl same ↦ same ∙ last
-    | inr gone ↦ absurd (none-some x.value (ap value_of (sym last) ∙ gone-none yes_keeps k gone) some)
-  ]
-
-  pub record-cut : (k : K) (e : IndexEntry) (x : Entry K V) → IsKeptRecord keeps cmp code v k e x → IsKeptRecord keeps cmp code (truncated keeps v low) k e x
-  record-cut k e x h = record {
-    entry = was-cut k e h.entry;
-    low = h.low;
-    led = h.led;
-    some = h.some;
-    frozen = h.frozen;
-    newest = λ yes_keeps here.
-        let stands = entry-stood k e h.entry here in
-        let last = sym (led k e stands) ∙ h.newest yes_keeps (stood k e h.entry here) in
-        led-cut k e stands yes_keeps ∙ last-kept yes_keeps k x last h.some;
-  }
-
   -- the newest record of a key at or below an address is the same, or lies below
   newest-cut-at : IsTrue keeps → (k : K) (a : ℕ) → (newest cmp (truncated keeps v low).text k a ≡ newest cmp v.text k a) ⊎ IsCut cmp (indexed v) (indexed (truncated keeps v low)) k a
   newest-cut-at yes_keeps k a = by_newest (newest cmp v.text k a) refl
@@ -240,7 +220,7 @@ module _ {K V : Type 0} {keeps : Bool} (cmp : K → K → Ordering) (code : K �
           let own : e.key ≡ k = order.same e.key k (and_parts (nat_le e.address a) (has_key cmp k e) (last_where-found passes v.text e h)).1 in
           elim (clear yes_keeps e there under) [
             | inl none ↦ inl none
-            | inr other ↦ inr (λ last. other (ap (last_of cmp v.text) own ∙ last))
+            | inr covered ↦ inr (λ last. covered-passed cmp v.text t.rising e covered (ap (last_of cmp v.text) own ∙ last))
           ]
 
       by_newest : (o : Option (Entry K V)) → newest cmp v.text k a ≡ o
@@ -275,6 +255,7 @@ module _ {K V : Type 0} {keeps : Bool} (cmp : K → K → Ordering) (code : K �
         on_disk = h.on_disk;
         class = λ yes_keeps same begins. absurd (omega arith);
         newest = λ yes_keeps same. absurd (omega arith);
+        still = λ yes_keeps same. absurd (omega arith);
       }
 
   pub stands-cut : {I : Type 0} (op : KeyedOp K V I) (phase : Phase V) → StandsFor keeps cmp code v op phase → StandsFor keeps cmp code (truncated keeps v low) op phase

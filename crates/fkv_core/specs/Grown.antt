@@ -1,44 +1,28 @@
 -- What events leave for one who keeps, beside a partition, entries, look-ups, records and addresses of its own.
-use Rattle.std.specs.Prelude.{◌≡◌, ◌<◌, ◌≤◌, Bool, IsTrue, IsSome, true, ℕ, List, [], ◌∷◌, Option, Some, None, slice_get}
+use Rattle.std.specs.Prelude.{◌≡◌, ◌<◌, ◌≤◌, Bool, IsTrue, true, ℕ, List, [], ◌∷◌, Option, Some, None, slice_get}
 use Rattle.std.specs.declared.cmp.Ordering.{Ordering}
 use Rattle.fkv_device.specs.Standing.{Standing}
 use Rattle.fkv_regions.specs.Agree.{IsRaised}
-use Rattle.fkv_texts.specs.declared.entries.Entry.{Entry}
-use Rattle.fkv_texts.specs.Text.{entry_at, newest}
+use Rattle.fkv_texts.specs.Text.{entry_at}
 use Rattle.fkv_index.specs.declared.places.Place.{Place}
-use Rattle.fkv_index.specs.Words.{address_of}
-use Rattle.fkv_index.specs.Places.{word_at, IsPlace}
+use Rattle.fkv_index.specs.Places.{IsPlace}
 use Rattle.fkv_operations.specs.declared.entries.IndexEntry.{IndexEntry}
 use Rattle.fkv_operations.specs.KeptWords.{IsNext}
-use Rattle.fkv_lookups.specs.RecordsViews.{RecordsView, class_in, indexed, WasEntryOf}
-use Rattle.fkv_lookups.specs.Cleared.{IsCleared}
+use Rattle.fkv_lookups.specs.RecordsViews.{RecordsView, indexed}
+use Rattle.fkv_texts.specs.Deltas.{IsCleared}
 use Rattle.fkv_core.specs.declared.contexts.Loading.{Loading}
 use Rattle.fkv_core.specs.Contexts.{joined, is_session}
 use Rattle.fkv_core.specs.Sound.{IsKept, IsLoading, IsSound}
 use Rattle.fkv_core.specs.Views.{CoreView, slots_of}
 
--- a record with a value, which nobody changes: on a device that keeps, it is the last of its key while the entry that
--- was kept stands as it was
-pub record IsKeptRecord {K V : Type 0} (keeps : Bool) (cmp : K → K → Ordering) (code : K → ℕ) (r : RecordsView K V)
-    (k : K) (e : IndexEntry) (x : Entry K V) : Type 0 where
-  pub entry : WasEntryOf r (class_in code r k) e
-  pub low : address_of e.word < r.tail
-  pub led : IsTrue keeps → 64 ≤ address_of e.word
-  pub some : IsSome x.value
-  pub frozen : x.address < r.regions.offsets.safe_read_only
-  pub newest : IsTrue keeps → word_at r.words e.place ≡ e.word → newest cmp r.text k (address_of e.word) ≡ Some x
-
--- what a prepared update of any key kept, what a look-up of any key that waits for a page is to find, and a record that
--- is the last of its key, whether or not the partition has a context of it
+-- what a prepared update of any key kept, and what a look-up of any key that waits for a page is to find, whether or not
+-- the partition has a context of it
 pub record Bears {K V : Type 0} (keeps : Bool) (cmp : K → K → Ordering) (code : K → ℕ) (old new : RecordsView K V)
     : Type 0 where
   pub kept : (k : K) (e : IndexEntry) (source : Option V)
       → IsKept keeps cmp code old k e source
       → IsKept keeps cmp code new k e source
   pub loading : (k : K) (l : Loading) → IsLoading keeps cmp code old k l → IsLoading keeps cmp code new k l
-  pub last : (k : K) (e : IndexEntry) (x : Entry K V)
-      → IsKeptRecord keeps cmp code old k e x
-      → IsKeptRecord keeps cmp code new k e x
 
 -- what is set once for all
 pub record IsSameShape {K V : Type 0} (old new : RecordsView K V) : Type 0 where

@@ -4,6 +4,7 @@ use Rattle.std.specs.declared.cmp.Ordering.{Ordering}
 use Rattle.fkv_functions.specs.Meanings.{Meanings}
 use Rattle.fkv_functions.specs.Plain.{Same}
 use Rattle.fkv_texts.specs.Text.{newest, value_of}
+use Rattle.fkv_index.specs.Words.{address_of}
 use Rattle.fkv_operations.specs.After.{key_of, shown_of}
 use Rattle.fkv_operations.specs.declared.operations.KeyedOp.{KeyedOp}
 use Rattle.fkv_operations.specs.declared.operations.KeyedOp.TheVariants.{Read, Rmw}
@@ -21,14 +22,18 @@ pub record Pending (V : Type 0) : Type 0 where
   pub moment : ℕ
   pub value : Option V
 
--- of an operation that waits for a page, while Begin stands: the newest record of its key from the address that is wanted
+-- of an operation that waits for a page, while Begin stands: the value of the newest record of its key at or below the
+-- address where the entry led that it kept
 abbrev pub pending_by : {K V I : Type 0} → (K → K → Ordering) → RecordsView K V → KeyedOp K V I → Phase V
     → Option (Pending V)
 pending_by cmp r op Fresh = None
 pending_by cmp r op (Confirm p) = None
 pending_by cmp r op (Prepared e s) = None
 pending_by cmp r op (Load l) = cond (l.begin == r.begin)
-    (Some (record { moment = l.looked; value = value_of (newest cmp r.text (key_of op) l.wanted) })) None
+    (Some (record {
+      moment = l.looked;
+      value = value_of (newest cmp r.text (key_of op) (address_of l.kept.word));
+    })) None
 
 abbrev pub pending_of : {K V I : Type 0} → (K → K → Ordering) → RecordsView K V → Option (Context K V I)
     → Option (Pending V)

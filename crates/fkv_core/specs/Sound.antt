@@ -42,7 +42,7 @@ pub record IsKept {K V : Type 0} (keeps : Bool) (cmp : K → K → Ordering) (co
 
 -- a look-up goes on in a page on disk, since Begin stood no higher than now. On a device that keeps, while Begin
 -- stands, a record of the key's class stands at the address that is wanted, and the newest of the key from there is its
--- newest from where the entry led
+-- newest from where the entry led, which nobody changes
 pub record IsLoading {K V : Type 0} (keeps : Bool) (cmp : K → K → Ordering) (code : K → ℕ) (r : RecordsView K V) (k : K)
     (l : Loading) : Type 0 where
   pub entry : WasEntryOf r (class_in code r k) l.kept
@@ -51,6 +51,9 @@ pub record IsLoading {K V : Type 0} (keeps : Bool) (cmp : K → K → Ordering) 
   pub past : l.begin ≤ r.begin
   pub on_disk : l.wanted < r.regions.offsets.head
   pub class : IsTrue keeps → l.begin ≡ r.begin → r.from ≤ l.wanted → IsOfClass code r k l.wanted
+  pub still : IsTrue keeps
+      → l.begin ≡ r.begin
+      → IsStill r.regions.offsets.safe_read_only (newest cmp r.text k (address_of l.kept.word))
   pub newest : IsTrue keeps
       → l.begin ≡ r.begin
       → newest cmp r.text k (address_of l.kept.word) ≡ newest cmp r.text k l.wanted

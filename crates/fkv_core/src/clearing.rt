@@ -2,7 +2,7 @@
 ghost use Rattle.std.specs.Prelude.{◌≡◌, ◌<◌, ◌≤◌, IsTrue, OnOk, OnErr};
 ghost use Rattle.fkv_records.specs.Places.{start_at};
 ghost use Rattle.fkv_lookups.specs.RecordsViews.{IsTruncationDue};
-ghost use Rattle.fkv_lookups.specs.Cleared.{IsCleared};
+ghost use Rattle.fkv_texts.specs.Deltas.{IsCleared};
 ghost use Rattle.fkv_core.specs.Truncating.{Truncates, IsTruncation};
 
 use crate::cores::Core;

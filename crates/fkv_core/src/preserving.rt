@@ -15,7 +15,7 @@ ghost use Rattle.fkv_operations.specs.declared.operations.KeyedOp.{KeyedOp};
 ghost use Rattle.fkv_operations.specs.KeptWords.{after_last};
 ghost use Rattle.fkv_operations.specs.Still.{IsStill};
 ghost use Rattle.fkv_lookups.specs.RecordsViews.{class_in, IsEntryOf, IsTruncationDue};
-ghost use Rattle.fkv_lookups.specs.Cleared.{IsCleared};
+ghost use Rattle.fkv_texts.specs.Deltas.{IsCleared};
 ghost use Rattle.fkv_core.specs.declared.changes.Write.{Write};
 ghost use Rattle.fkv_core.specs.declared.contexts.Progress.{Progress};
 ghost use Rattle.fkv_core.specs.Contexts.{joined, is_session};
@@ -38,9 +38,8 @@ use fkv_lookups::clearing::cleared_stay;
 use fkv_lookups::laws::{entries_lead, meetings_tell, records_change};
 use fkv_operations::kept_words_are_sound;
 
-/// What a prepared update of any key kept, what a look-up of any key that waits for a page is to find, and a frozen
-/// record with a value that is its key's last are kept by every event; no offset falls, what is frozen stays, and what
-/// was cleared is cleared.
+/// What a prepared update of any key kept, and what a look-up of any key that waits for a page is to find, are kept by
+/// every event; no offset falls, what is frozen stays, and what was cleared is cleared.
 pub fn events_preserve<K, V, I, O, R>()
     ensures goes { (keeps : Bool) (stands : R → Standing) (cmp : K → K → Ordering) (f : Meanings K V I O) (code : K → ℕ)
         (old new : CoreView K V I) (slot c now : ℕ) (result : Result (Progress K V I O R) Refused)

@@ -9,6 +9,7 @@ use Rattle.fkv_functions.specs.declared.refusals.Refused.{Refused}
 use Rattle.fkv_device.specs.Standing.{Standing, Joined}
 use Rattle.fkv_texts.specs.declared.entries.Entry.{Entry}
 use Rattle.fkv_texts.specs.Text.{newest, value_of}
+use Rattle.fkv_index.specs.Words.{address_of}
 use Rattle.fkv_operations.specs.After.{key_of}
 use Rattle.fkv_operations.specs.Operations.{keyed, op_of}
 use Rattle.fkv_operations.specs.declared.operations.KeyedOp.{KeyedOp}
@@ -71,11 +72,11 @@ module _ {K V I O R : Type 0} (stands : R → Standing) (entry : ℕ → List �
   loads-further q a moment (core_loading.Loads.done x l p k i value told e op n r) is = absurd (cc)
   loads-further q a moment (core_loading.Loads.prepares x l p k i value told e op n r) is = absurd (cc)
   loads-further q a moment (core_loading.Loads.goes_on x l p b s w e g m h n r) is =
-      let new-is : pending cmp new slot c ≡ Some (record { moment = l.looked; value = value_of (newest cmp old.records.text (key_of x.op) b) }) =
+      let new-is : pending cmp new slot c ≡ Some (record { moment = l.looked; value = value_of (newest cmp old.records.text (key_of x.op) (address_of l.kept.word)) }) =
       ap (λ (v : CoreView K V I). pending cmp v slot c) n
       ∙ (same-pend cmp old slot c now x w.awaits.here (Some (at_phase x (Load (record l { wanted = b }))))
       ∙ rw (eq-eqb l.begin old.records.begin w.awaits.begin) refl) in
-      let both : Some (record { moment = l.looked; value = value_of (newest cmp old.records.text (key_of x.op) b) }) ≡ Some is.found = sym new-is ∙ is.is in
+      let both : Some (record { moment = l.looked; value = value_of (newest cmp old.records.text (key_of x.op) (address_of l.kept.word)) }) ≡ Some is.found = sym new-is ∙ is.is in
       let looked : l.looked ≡ is.found.moment = cc in
       record { found = _; is = was-pending cmp old slot c now x w.awaits.here l w.awaits; at = looked ∙ is.at }
   loads-further q a moment (core_loading.Loads.unshared x l p b w e g m n r) is = absurd (cc)

@@ -1,5 +1,5 @@
 -- Records that are superseded, and texts that are cleared.
-use Rattle.std.proofs.Common.{◌≡◌, Bool, true, false, cond, ℕ, ◌+◌, ◌^◌, ◌<◌, ◌≤◌, ◌==◌, inl, inr, List, [], ◌∷◌, ◌++◌, Option, Some, None, option_map, nat_le, unwrap_or, refl, sym, ◌∙◌, ap, subst, arith}
+use Rattle.std.proofs.Common.{◌≡◌, Bool, true, false, cond, ℕ, ◌+◌, ◌^◌, ◌<◌, ◌≤◌, ◌==◌, inl, inr, List, [], ◌∷◌, ◌++◌, Option, Some, None, nat_le, unwrap_or, refl, sym, ◌∙◌, ap, subst, arith}
 use Rattle.std.proofs.lemmas.Bool.{cases_lt, cases_eq}
 use Rattle.std.proofs.lemmas.Bool.Decides.{nat_tests}
 use Rattle.std.specs.declared.cmp.Ordering.{Ordering}
@@ -10,17 +10,18 @@ use Rattle.fkv_regions.specs.Agree.{IsMark}
 use Rattle.fkv_regions.proofs.MoveLemmas.{mark-place}
 use Rattle.fkv_texts.specs.declared.entries.Entry.{Entry}
 use Rattle.fkv_texts.specs.Places.{tail_after, IsLaidOut}
-use Rattle.fkv_texts.specs.Text.{last_where, entry_at, has_key, last_of, value_of, live, changed, set_at, text_from, IsRising}
+use Rattle.fkv_texts.specs.Text.{last_where, entry_at, has_key, last_of, value_of, live, text_from, IsRising}
 use Rattle.fkv_texts.specs.Chains.{IsIn}
 use Rattle.fkv_texts.proofs.LastWhere.{last_where-in, last_where-found, last_where-filter, last_where-narrow, last_where-narrow_none}
-use Rattle.fkv_texts.proofs.TextLemmas.{last_of-append, live-append, entry_at-old, entry_at-in}
-use Rattle.fkv_texts.proofs.ChangeLemmas.{entry_at-elsewhere, last_of-changed, set_at-address, set_at-other}
-use Rattle.fkv_texts.proofs.CutLemmas.{cut-entry, cut-from, filter-in}
+use Rattle.fkv_texts.proofs.TextLemmas.{live-append, entry_at-in}
+use Rattle.fkv_texts.proofs.CutLemmas.{cut-from, filter-in}
+use Rattle.fkv_texts.proofs.CoverLemmas.{covered-new}
+use Rattle.fkv_texts.proofs.BaseLemmas.{covered-passed}
 use Rattle.fkv_texts.proofs.PlaceLemmas.{stands, after-nearest}
 use Rattle.fkv_pages.proofs.PageLemmas.{begin_place, begins_low}
 use Rattle.fkv_lookups.specs.RecordsViews.{RecordsView}
 use Rattle.fkv_lookups.specs.Traced.{IsTraced}
-use Rattle.fkv_lookups.specs.Cleared.{IsSuperseded, IsCleared}
+use Rattle.fkv_texts.specs.Deltas.{IsSuperseded, IsCleared}
 use Rattle.fkv_lookups.proofs.TracedLemmas.{highest}
 
 -- ---- the last that passes a test, where the text begins higher
@@ -51,68 +52,18 @@ module _ {K V : Type 0} (p : Entry K V → Bool) (text : List (Entry K V)) (low 
           n ∙ sym (cut-some y n (omega arith)) ∙ h
 
 module _ {K V : Type 0} (cmp : K → K → Ordering) (text : List (Entry K V)) where
-  -- ---- a record is appended
-  append-test : (b : Bool) (l : Option (Entry K V)) (n e : Entry K V) → e.address < n.address → cond b (Some n) l ≡ Some e → l ≡ Some e
-  append-test true l n e low h = absurd (
-      let same : n ≡ e = cc in
-      let at = ap (λ (x : Entry K V). x.address) same in omega arith)
-  append-test false l n e low h = h
-
-  superseded-appended : (n e : Entry K V) → e.address < n.address → IsSuperseded cmp text e → IsSuperseded cmp (text ++ n ∷ []) e
-  superseded-appended n e low (inl none) = inl none
-  superseded-appended n e low (inr other) = inr (λ is. other (append-test (has_key cmp e.key n) (last_of cmp text e.key) n e low (sym (last_of-append cmp text n e.key) ∙ is)))
-
-  pub cleared-appended : (n : Entry K V) (limit : ℕ) → limit ≤ n.address → IsCleared cmp text limit → IsCleared cmp (text ++ n ∷ []) limit
-  cleared-appended n limit le h e here low =
-      let was : entry_at text e.address ≡ Some e = sym (entry_at-old text n e.address (λ q. omega arith)) ∙ here in
-      superseded-appended n e (omega arith) (h e was low)
-
-  -- ---- a record gets another value, or becomes a tombstone
-  changed-back : (a : ℕ) (v : Option V) (l : Option (Entry K V)) (e : Entry K V) → e.address < a → option_map (set_at a v) l ≡ Some e → l ≡ Some e
-  changed-back a v None e low h = absurd (cc)
-  changed-back a v (Some y) e low h =
-      let is : set_at a v y ≡ e = cc in
-      let at : y.address ≡ e.address = sym (set_at-address a v y) ∙ ap (λ (x : Entry K V). x.address) is in
-      ap Some (sym (set_at-other a v y (λ q. omega arith)) ∙ is)
-
-  superseded-changed : (a : ℕ) (v : Option V) (e : Entry K V) → e.address < a → IsSuperseded cmp text e → IsSuperseded cmp (changed text a v) e
-  superseded-changed a v e low (inl none) = inl none
-  superseded-changed a v e low (inr other) = inr (λ is. other (changed-back a v (last_of cmp text e.key) e low (sym (last_of-changed a v cmp text e.key) ∙ is)))
-
-  pub cleared-changed : (a : ℕ) (v : Option V) (limit : ℕ) → limit ≤ a → IsCleared cmp text limit → IsCleared cmp (changed text a v) limit
-  cleared-changed a v limit le h e here low =
-      let was : entry_at text e.address ≡ Some e = sym (entry_at-elsewhere a v text e.address (λ q. omega arith)) ∙ here in
-      superseded-changed a v e (omega arith) (h e was low)
-
-  -- ---- records are dropped
-  superseded-dropped : (low : ℕ) → IsRising text → (e : Entry K V) → IsSuperseded cmp text e → IsSuperseded cmp (text_from low text) e
-  superseded-dropped low r e (inl none) = inl none
-  superseded-dropped low r e (inr other) = inr (λ is. other (cut-found (has_key cmp e.key) text low r e is))
-
-  pub cleared-dropped : (low limit : ℕ) → IsRising text → IsCleared cmp text limit → IsCleared cmp (text_from low text) limit
-  cleared-dropped low limit r h e here under =
-      let high = cut-high (λ x. x.address == e.address) text low e here in
-      superseded-dropped low r e (h e (sym (cut-entry low e.address text high) ∙ here) under)
-
   -- ---- a record is appended again
-  pub superseded-renewed : IsKeyOrder cmp → (n e : Entry K V) → n.key ≡ e.key → e.address < n.address → IsSuperseded cmp (text ++ n ∷ []) e
-  superseded-renewed order n e key low = inr (λ is.
-      let yes : has_key cmp e.key n ≡ true = ap (λ (q : K). is_at (cmp q) e.key) key ∙ order.self e.key in
-      let last : last_of cmp (text ++ n ∷ []) e.key ≡ Some n = last_of-append cmp text n e.key ∙ rw yes refl in
-      let both : Some n ≡ Some e = sym last ∙ is in
-      let same : n ≡ e = cc in
-      let at = ap (λ (x : Entry K V). x.address) same in
-      omega arith)
+  pub superseded-renewed : IsKeyOrder cmp → (n e : Entry K V) → n.key ≡ e.key → n.delta ≡ false → e.address < n.address → IsSuperseded cmp (text ++ n ∷ []) e
+  superseded-renewed order n e key whole low = inr (covered-new cmp text n e (ap (λ (q : K). is_at (cmp q) e.key) key ∙ order.self e.key) whole low)
 
   renewed-test : (b : Bool) (v l : Option V) → (b ≡ true → l ≡ v) → cond b v l ≡ l
   renewed-test true v l h = sym (h refl)
   renewed-test false v l h = refl
 
-  pub lives-renewed : IsKeyOrder cmp → (n e : Entry K V) → n.key ≡ e.key → n.value ≡ e.value → last_of cmp text e.key ≡ Some e → Same (live cmp (text ++ n ∷ [])) (live cmp text)
-  lives-renewed order n e key value last q =
+  pub lives-renewed : IsKeyOrder cmp → (n : Entry K V) → live cmp text n.key ≡ n.value → Same (live cmp (text ++ n ∷ [])) (live cmp text)
+  lives-renewed order n held q =
       live-append cmp text n q
-      ∙ renewed-test (is_at (cmp n.key) q) n.value (live cmp text q)
-      (λ t. ap (live cmp text) (sym (order.same n.key q t) ∙ key) ∙ ap value_of last ∙ sym value)
+      ∙ renewed-test (is_at (cmp n.key) q) n.value (live cmp text q) (λ t. ap (live cmp text) (sym (order.same n.key q t)) ∙ held)
 
   -- ---- what is dropped of a cleared text takes no key's value
   module _ (order : IsKeyOrder cmp) (r : IsRising text) (low limit : ℕ) (cleared : IsCleared cmp text limit) (le : low ≤ limit) (k : K) where
@@ -130,9 +81,10 @@ module _ {K V : Type 0} (cmp : K → K → Ordering) (text : List (Entry K V)) w
             let high = cut-high (has_key cmp k) text low z n in
             omega arith)
 
+    -- a last record that is superseded is a tombstone: nothing covers it
     dead : (y : Entry K V) → last_of cmp text k ≡ Some y → IsSuperseded cmp text y → y.value ≡ None
     dead y h (inl none) = none
-    dead y h (inr other) = absurd (other (ap (last_of cmp text) (order.same y.key k (last_where-found (has_key cmp k) text y h)) ∙ h))
+    dead y h (inr covered) = absurd (covered-passed cmp text r y covered (ap (last_of cmp text) (order.same y.key k (last_where-found (has_key cmp k) text y h)) ∙ h))
 
     pub last-cleared : value_of (last_of cmp (text_from low text) k) ≡ value_of (last_of cmp text k)
     last-cleared = by_last (last_of cmp text k) refl

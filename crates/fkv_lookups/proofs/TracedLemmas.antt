@@ -9,10 +9,11 @@ use Rattle.fkv_records.specs.Records.{IsPrevious}
 use Rattle.fkv_texts.specs.declared.entries.Entry.{Entry}
 use Rattle.fkv_texts.specs.Places.{IsLaidOut}
 use Rattle.fkv_texts.specs.Text.{last_where, has_key, last_of, newest, AllAbove, IsRising, IsFrom, IsBelow}
+use Rattle.fkv_texts.specs.Deltas.{AreWhole}
 use Rattle.fkv_texts.specs.Chains.{has_class, last_of_class, Leads, IsChained, IsIn}
 use Rattle.fkv_functions.proofs.ListLemmas.{get-append_last}
 use Rattle.fkv_regions.specs.RegionsView.{RegionsView}
-use Rattle.fkv_texts.proofs.ChangeLemmas.{laid_out-changed, rising-changed, from-changed, below-changed, chained-changed, leads-changed}
+use Rattle.fkv_texts.proofs.ChangeLemmas.{at_all, laid_out-changed, rising-changed, from-changed, below-changed, chained-changed, leads-changed}
 use Rattle.fkv_texts.proofs.LastWhere.{last_where-append, last_where-found, last_where-in, none-passes, last_where-narrow, last_where-narrow_none}
 use Rattle.fkv_index.specs.declared.words.Word.{Word}
 use Rattle.fkv_index.specs.declared.places.Place.{Place}
@@ -81,6 +82,7 @@ traced-by p k size words l few small log chained buckets map leads placed = reco
   rising = log.rising;
   from = log.from;
   below = log.below;
+  whole = log.whole;
   regions = record { agree = log.regions; timely = log.timely; bits = log.bits; headed = log.headed; read_only = log.read_only };
   flushed = log.flushed;
   chained = chained;
@@ -125,6 +127,7 @@ traced-words v words buckets map same t = record {
   rising = t.rising;
   from = t.from;
   below = t.below;
+  whole = t.whole;
   regions = t.regions;
   flushed = t.flushed;
   chained = t.chained;
@@ -250,6 +253,7 @@ traced-value {keeps = keeps} {code = code} v a value t = record {
   rising = rising-changed a value v.text t.rising;
   from = from-changed a value v.from v.text t.from;
   below = below-changed a value v.tail v.text t.below;
+  whole = at_all a value (λ e. e.delta ≡ false) v.text (λ i e h. (t.whole i e h, t.whole i e h));
   regions = t.regions;
   flushed = t.flushed;
   chained = chained-changed a value (class_in code v) same_class v.from v.text t.chained;
@@ -284,6 +288,7 @@ pub record IsTextOf {K V : Type 0} (code : K → ℕ) (w : RecordsView K V) : Ty
   pub rising : IsRising w.text
   pub from : IsFrom w.from w.text
   pub below : IsBelow w.tail w.text
+  pub whole : AreWhole w.text
   pub chained : IsChained (class_in code w) same_class w.from w.text
 
 pub text_then : {K V : Type 0} {keeps : Bool} {code : K → ℕ} (p k size : ℕ) (words : List (List Word)) (e : IndexEntry) (key : K) (value : Option V) (old new : LogView K V)
@@ -293,7 +298,7 @@ pub text_then : {K V : Type 0} {keeps : Bool} {code : K → ℕ} (p k size : ℕ
     → IsTextOf code (with_record (view_of p k size old words) e key value)
 text_then {K} {V} {keeps} {code} p k size words e key value old new is known chained =
     let l : IsLogOf keeps size (log.with_entry size old (address_of e.word) key value) = subst (IsLogOf keeps size) is known in
-    record { laid_out = l.laid_out; rising = l.rising; from = l.from; below = l.below; chained = chained }
+    record { laid_out = l.laid_out; rising = l.rising; from = l.from; below = l.below; whole = l.whole; chained = chained }
 
 -- and what an index says of its words once an entry has moved
 pub record AreMoved (c : Class) (a : ℕ) (old new : List (List Word)) : Type 0 where
@@ -336,6 +341,7 @@ traced-record {K} {V} {keeps} {code} v e key value t new moved =
       rising = new.rising;
       from = new.from;
       below = new.below;
+      whole = new.whole;
       regions = below-tail t.regions rises;
       flushed = t.flushed;
       chained = new.chained;

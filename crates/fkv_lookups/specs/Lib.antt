@@ -6,6 +6,5 @@ pub mod Flushes
 pub mod Decisions
 pub mod DecisionLaws
 pub mod Meeting
-pub mod Cleared
 pub mod WrongCleared
 pub mod Overlays

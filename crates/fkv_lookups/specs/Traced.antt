@@ -6,6 +6,7 @@ use Rattle.fkv_records.specs.Places.{IsShape}
 use Rattle.fkv_records.specs.Records.{IsPrevious}
 use Rattle.fkv_texts.specs.Places.{IsLaidOut}
 use Rattle.fkv_texts.specs.Text.{IsRising, IsFrom, IsBelow}
+use Rattle.fkv_texts.specs.Deltas.{AreWhole}
 use Rattle.fkv_texts.specs.Chains.{last_of_class, Leads, IsChained}
 use Rattle.fkv_epoch.specs.Timely.{IsTimely}
 use Rattle.fkv_regions.specs.RegionsView.{RegionsView}
@@ -36,6 +37,8 @@ pub record IsTraced {K V : Type 0} (keeps : Bool) (code : K → ℕ) (v : Record
   pub rising : IsRising v.text
   pub from : IsFrom v.from v.text
   pub below : IsBelow v.tail v.text
+  -- no record is a delta
+  pub whole : AreWhole v.text
   pub regions : AreRegionsBelow v.page_bits v.begin v.tail v.regions
   -- each flushed page has its receipt
   pub flushed : v.regions.flushed ≡ length v.receipts

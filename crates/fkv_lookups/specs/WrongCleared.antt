@@ -3,7 +3,7 @@ use Rattle.std.specs.Prelude.{ℕ, List, [], ◌∷◌, Option, Some, None}
 use Rattle.std.specs.Ordering.{nat_cmp}
 use Rattle.fkv_texts.specs.declared.entries.Entry.{Entry}
 use Rattle.fkv_texts.specs.WrongTexts.{entry}
-use Rattle.fkv_lookups.specs.Cleared.{IsSuperseded, IsCleared}
+use Rattle.fkv_texts.specs.Deltas.{IsSuperseded, IsCleared}
 
 -- a text of two records of one key, and one of two records of two keys
 abbrev pub written_twice : Option ℕ → ℕ → List (Entry ℕ ℕ)

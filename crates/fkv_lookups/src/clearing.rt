@@ -12,7 +12,7 @@ ghost use Rattle.fkv_texts.specs.declared.entries.Entry.{Entry};
 ghost use Rattle.fkv_texts.specs.Places.{tail_after};
 ghost use Rattle.fkv_texts.specs.Text.{entry_at, value_of, last_of, live, text_from};
 ghost use Rattle.fkv_operations.specs.declared.entries.IndexEntry.{IndexEntry};
-ghost use Rattle.fkv_lookups.specs.Cleared.{IsSuperseded, IsCleared};
+ghost use Rattle.fkv_texts.specs.Deltas.{IsSuperseded, IsCleared};
 ghost use Rattle.fkv_lookups.specs.RecordsViews.{RecordsView, with_record, with_value};
 ghost use Rattle.fkv_lookups.specs.Traced.{IsTraced};
 ghost use Rattle.fkv_lookups.specs.WrongCleared.{LastIsNotSuperseded, TombstoneIsSuperseded, ClearsNoLast};
@@ -50,11 +50,11 @@ pub fn cleared_stay<K, V>()
         → IsTraced keeps code v
         → entry_at v.text limit ≡ Some e
         → IsSuperseded cmp (with_record v entry e.key e.value).text e }
-    // and where it was the last of its key, no key's value changes by that
-    ensures kept { (cmp : K → K → Ordering) (v : RecordsView K V) (entry : IndexEntry) (e : Entry K V)
+    // and where its key has that value, no key's value changes by that
+    ensures kept { (cmp : K → K → Ordering) (v : RecordsView K V) (entry : IndexEntry) (key : K) (value : Option V)
         → IsKeyOrder cmp
-        → last_of cmp v.text e.key ≡ Some e
-        → Same (live cmp (with_record v entry e.key e.value).text) (live cmp v.text) }
+        → live cmp v.text key ≡ value
+        → Same (live cmp (with_record v entry key value).text) (live cmp v.text) }
     // no key's value goes with what is dropped where the text is cleared
     ensures last { (keeps : Bool) (cmp : K → K → Ordering) (code : K → ℕ) (v : RecordsView K V) (low limit : ℕ) (k : K)
         → IsKeyOrder cmp

@@ -7,6 +7,7 @@ ghost use Rattle.fkv_records.specs.Records.{size_of, IsPrevious};
 ghost use Rattle.fkv_device.specs.Standing.{Standing};
 ghost use Rattle.fkv_texts.specs.Places.{IsLaidOut, tail_after};
 ghost use Rattle.fkv_texts.specs.Text.{entry_at, IsRising, IsFrom, IsBelow};
+ghost use Rattle.fkv_texts.specs.Deltas.{AreWhole};
 ghost use Rattle.fkv_pages.specs.Spelled.{TheOne, IsTextOf, IsPageOf, IsIn};
 ghost use Rattle.fkv_pages.specs.Pages.{page_in};
 ghost use Rattle.fkv_pages.specs.Views.{text_begin, IsFull, empty_pages, with_entry};
@@ -218,6 +219,8 @@ impl<K: Fixed, V: Fixed, R: Receipt> Pages<K, V, R> {
         ensures rising { IsRising self.now.text }
         ensures low { IsFrom self.now.from self.now.text }
         ensures below { IsBelow self.now.tail self.now.text }
+        // no entry is a delta
+        ensures whole { AreWhole self.now.text }
         // what is closed, or below Begin, is flushed, and what is flushed is frozen
         ensures begun { page_at self.now.bits self.now.begin ≤ length self.now.receipts }
         ensures kept { page_at self.now.bits self.now.closed ≤ length self.now.receipts }

@@ -1,20 +1,19 @@
 -- What appending the record of a place again leaves: the live map, what operations are to find, and a record that is superseded.
-use Rattle.std.proofs.Common.{◌≡◌, inl, inr, ◌&&◌, ◌==◌, ◌+◌, ◌*◌, ◌<◌, ℕ, Bool, cond, nat_le, nat_lt, IsTrue, List, Option, Some, None, option_map, slice_get, slice_set, refl, sym, ap, subst, ◌∙◌, arith, false}
-use Rattle.std.proofs.lemmas.Bool.{cases_eq}
+use Rattle.std.proofs.Common.{◌≡◌, inl, inr, ◌&&◌, ◌==◌, ◌+◌, ◌*◌, ◌<◌, ℕ, Bool, cond, nat_lt, IsTrue, List, Option, Some, None, option_map, slice_get, slice_set, refl, sym, ap, ◌∙◌, arith, false}
+use Rattle.std.proofs.lemmas.Bool.{cases_eq, eqb-true}
 use Rattle.std.specs.declared.cmp.Ordering.{Ordering}
 use Rattle.fkv_functions.specs.Plain.{IsKeyOrder}
 use Rattle.fkv_functions.proofs.ListLemmas.{get-set_cases, get-set_other}
 use Rattle.fkv_texts.specs.declared.entries.Entry.{Entry}
-use Rattle.fkv_texts.specs.Text.{entry_at, has_key, last_of, newest, value_of}
-use Rattle.fkv_texts.specs.Chains.{IsIn}
-use Rattle.fkv_texts.proofs.LastWhere.{last_where-in}
-use Rattle.fkv_texts.proofs.TextLemmas.{entry_at-in, entry_at-old, newest-below}
+use Rattle.fkv_texts.specs.Text.{entry_at, newest, live, value_of}
+use Rattle.fkv_texts.proofs.LastWhere.{last_where-found}
+use Rattle.fkv_texts.proofs.TextLemmas.{entry_at-old, newest-below}
 use Rattle.fkv_index.specs.Words.{address_of}
 use Rattle.fkv_index.specs.Places.{word_at}
 use Rattle.fkv_operations.specs.declared.entries.IndexEntry.{IndexEntry}
 use Rattle.fkv_operations.specs.declared.operations.KeyedOp.{KeyedOp}
 use Rattle.fkv_operations.specs.declared.operations.KeyedOp.TheVariants.{Read, Upsert, Rmw, Delete}
-use Rattle.fkv_lookups.specs.Cleared.{IsSuperseded}
+use Rattle.fkv_texts.specs.Deltas.{IsSuperseded}
 use Rattle.fkv_lookups.specs.RecordsViews.{RecordsView, class_in, entry_of, IsEntryOf, with_record}
 use Rattle.fkv_lookups.specs.Traced.{IsTraced}
 use Rattle.fkv_lookups.proofs.TracedLemmas.{entry-stands, traced-held}
@@ -79,21 +78,17 @@ keep-moment {keeps = keeps} {cmp = cmp} {code = code} v s now = record {
 }
 
 -- ---- what look-ups that wait for a page are to find
-module _ {K V : Type 0} {keeps : Bool} (cmp : K → K → Ordering) (code : K → ℕ) (r : RecordsView K V) (t : IsTraced keeps code r) (e : IndexEntry) (key : K) (value : Option V) where
-  wanted-same : (k : K) (l : Loading) → IsLoading keeps cmp code r k l → newest cmp (with_record r e key value).text k l.wanted ≡ newest cmp r.text k l.wanted
-  wanted-same k l h =
-      let o = t.regions.agree.in_order in
-      let on_disk = h.on_disk in
-      let taken : l.wanted < r.tail = omega (arith, on_disk, o.head, o.safe, t.regions.read_only) in
-      newest-below cmp r.text (record { address = r.tail; previous = address_of e.word; key = key; value = value; delta = false }) k l.wanted taken
+module _ {K V : Type 0} (keeps : Bool) (cmp : K → K → Ordering) (code : K → ℕ) (r : RecordsView K V) (e : IndexEntry) (key : K) (value : Option V) where
+  kept-same : (k : K) (l : Loading) → IsLoading keeps cmp code r k l → newest cmp (with_record r e key value).text k (address_of l.kept.word) ≡ newest cmp r.text k (address_of l.kept.word)
+  kept-same k l h = newest-below cmp r.text (record { address = r.tail; previous = address_of e.word; key = key; value = value; delta = false }) k (address_of l.kept.word) h.low
 
   pending-same : {I : Type 0} (op : KeyedOp K V I) (p : Phase V) → StandsFor keeps cmp code r op p → pending_by cmp (with_record r e key value) op p ≡ pending_by cmp r op p
   pending-same op phase.Fresh h = refl
   pending-same op (phase.Confirm q) h = refl
   pending-same op (phase.Prepared b s) h = refl
-  pending-same (Read k i) (phase.Load l) h = ap (λ o. cond (l.begin == r.begin) (Some (record { moment = l.looked; value = value_of o })) None) (wanted-same k l h)
+  pending-same (Read k i) (phase.Load l) h = ap (λ o. cond (l.begin == r.begin) (Some (record { moment = l.looked; value = value_of o })) None) (kept-same k l h)
   pending-same (Upsert k u) (phase.Load l) h = absurd h
-  pending-same (Rmw k i) (phase.Load l) h = ap (λ o. cond (l.begin == r.begin) (Some (record { moment = l.looked; value = value_of o })) None) (wanted-same k l h)
+  pending-same (Rmw k i) (phase.Load l) h = ap (λ o. cond (l.begin == r.begin) (Some (record { moment = l.looked; value = value_of o })) None) (kept-same k l h)
   pending-same (Delete k) (phase.Load l) h = absurd h
 
 module _ {K V I : Type 0} {keeps : Bool} (cmp : K → K → Ordering) (code : K → ℕ) (v : PartitionView K V I) (s : IsCompacting keeps cmp code v) (slot c now : ℕ) (x : Relocation K V) (h : relocation_at v slot c ≡ Some x) where
@@ -112,12 +107,12 @@ module _ {K V I : Type 0} {keeps : Bool} (cmp : K → K → Ordering) (code : K 
     where
       by_context : (o : Option (Context K V I)) → context_at v.core a d ≡ o → pending_of cmp (with_record v.core.records e key value) o ≡ pending_of cmp v.core.records o
       by_context None g = refl
-      by_context (Some y) g = pending-same cmp code v.core.records p.traced e key value y.op y.phase (stands-at cmp code v.core p a d y g)
+      by_context (Some y) g = pending-same keeps cmp code v.core.records e key value y.op y.phase (stands-at cmp code v.core p a d y g)
 
   module _ (p : IsSound keeps cmp code v.core) (e : Entry K V) (kept : IndexEntry) (stands : StageStands keeps cmp code v.core x.target (Ready e kept)) (holds : word_at v.core.records.words kept.place ≡ kept.word) where
     -- the entry stands as that of the record's class
     entry-here : IsEntryOf v.core.records (class_in code v.core.records e.key) kept
-    entry-here = let was = stands.1.record_kept.entry in record { bucket = was.bucket; place = was.place; word = holds; final = was.final; tag = was.tag }
+    entry-here = let was = stands.1.is_kept.entry in record { bucket = was.bucket; place = was.place; word = holds; final = was.final; tag = was.tag }
 
     pub writes-again : IsWrite code v.core (record { entry = kept; key = e.key; value = e.value })
     writes-again = record { own = stands.0; entry = entry-here }
@@ -127,12 +122,9 @@ module _ {K V I : Type 0} {keeps : Bool} (cmp : K → K → Ordering) (code : K 
         let class = class_in code v.core.records e.key in
         entry-stands v.core.records.words class.bucket class.tag kept.place kept.word p.traced.map entry-here
 
-    -- on a device that keeps it stands in the text, and is the last of its key
-    stands-in-text : IsTrue keeps → IsIn v.core.records.text e
-    stands-in-text yes_keeps = last_where-in (λ (d : Entry K V). nat_le d.address (address_of kept.word) && has_key cmp e.key d) v.core.records.text e (stands.1.record_kept.newest yes_keeps holds)
-
-    is-last : IsKeyOrder cmp → IsTrue keeps → last_of cmp v.core.records.text e.key ≡ Some e
-    is-last order yes_keeps = sym (traced-held cmp code v.core.records e.key order p.traced (address_of kept.word) leads) ∙ stands.1.record_kept.newest yes_keeps holds
+    -- on a device that keeps its key has its value
+    held : IsKeyOrder cmp → IsTrue keeps → live cmp v.core.records.text e.key ≡ e.value
+    held order yes_keeps = ap value_of (sym (traced-held cmp code v.core.records e.key order p.traced (address_of kept.word) leads)) ∙ stands.1.is_kept.value yes_keeps holds
 
     -- every compacted partition's facts hold of what is appended
     pub keep-again : IsTraced keeps code (with_appended v.core slot c kept e.key e.value now).records
@@ -146,20 +138,18 @@ module _ {K V I : Type 0} {keeps : Bool} (cmp : K → K → Ordering) (code : K 
     superseded-again order yes_keeps d there =
         let r = v.core.records in
         let n : Entry K V = record { address = r.tail; previous = address_of kept.word; key = e.key; value = e.value; delta = false } in
-        let m = stands-in-text yes_keeps in
-        let below = p.traced.below m.place e m.here in
-        let at = stands.1.here in
-        let was : entry_at r.text x.target ≡ Some e = entry_at-in r.text p.traced.rising e m x.target at in
-        let is : entry_at (with_record r kept e.key e.value).text x.target ≡ entry_at r.text x.target = entry_at-old r.text n x.target (λ q. (let same : x.target ≡ r.tail = q in omega arith)) in
-        let both : Some e ≡ Some d = sym was ∙ sym is ∙ there in
-        let same : e ≡ d = cc in
-        subst (IsSuperseded cmp (with_record r kept e.key e.value).text) same (superseded-renewed cmp r.text order n e refl below)
+        let frozen = (stands-here v slot c x h s).frozen in
+        let o = p.traced.regions.agree.in_order in
+        let low : x.target < r.tail = omega (arith, frozen, o.safe, p.traced.regions.read_only) in
+        let was : entry_at r.text x.target ≡ Some d = sym (entry_at-old r.text n x.target (λ same. omega arith)) ∙ there in
+        let at = eqb-true d.address x.target (last_where-found (λ y. y.address == x.target) r.text d was) in
+        superseded-renewed cmp r.text order n d (sym (stands.1.own yes_keeps d was)) refl (omega arith)
 
     pub event-again : IsKeyOrder cmp → IsRelocating keeps cmp v (again_at v slot c x.target kept e now) slot c now
     event-again order = record {
       same = λ a d. ap (option_map asked_by) (contexts-same a d kept e.key e.value);
       pend = λ yes_keeps. all-pend p kept e.key e.value;
-      live = λ yes_keeps. lives-renewed cmp v.core.records.text order (record { address = v.core.records.tail; previous = address_of kept.word; key = e.key; value = e.value; delta = false }) e refl refl (is-last order yes_keeps);
+      live = λ yes_keeps. lives-renewed cmp v.core.records.text order (record { address = v.core.records.tail; previous = address_of kept.word; key = e.key; value = e.value; delta = false }) (held order yes_keeps);
       others = λ a d other. context-other (slots_of v.core) v.relocations slot c a d None (open-here v slot c x h).low other;
       rises = (past-place v x.target p.traced (stands-here v slot c x h s).place).0;
       number = refl;

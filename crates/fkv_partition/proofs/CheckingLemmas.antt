@@ -1,7 +1,7 @@
 -- What a look-up tells of the record of a place: whether it is the last of its key.
 use Rattle.std.proofs.Common.{◌≡◌, ◌≢◌, ◌&&◌, ◌==◌, ◌<◌, ◌≤◌, inr, ℕ, Bool, true, false, cond, nat_le, nat_lt, is_some, IsTrue, IsSome, List, Option, Some, None, slice_get, refl, sym, ap, subst, ◌∙◌, arith}
 use Rattle.std.proofs.lemmas.Bool.Decides.{nat_tests}
-use Rattle.std.proofs.lemmas.Bool.{and_parts, eqb-true, leb-true, ltb-true}
+use Rattle.std.proofs.lemmas.Bool.{and_parts, eqb-true, leb-true, le-leb, ltb-true}
 use Rattle.std.specs.Option.{option_flatten}
 use Rattle.std.specs.declared.cmp.Ordering.{Ordering}
 use Rattle.fkv_functions.specs.Plain.{IsKeyOrder}
@@ -9,20 +9,22 @@ use Rattle.fkv_regions.specs.Agree.{ViewAgrees}
 use Rattle.fkv_texts.specs.declared.entries.Entry.{Entry}
 use Rattle.fkv_texts.specs.declared.entries.ChainPosition.{ChainPosition}
 use Rattle.fkv_texts.specs.declared.entries.ChainPosition.TheVariants.{Found, Below}
-use Rattle.fkv_texts.specs.Text.{entry_at, has_key, last_of, newest, IsRising}
+use Rattle.fkv_texts.specs.Text.{entry_at, has_key, last_of, newest, value_of, IsRising}
 use Rattle.fkv_texts.specs.Chains.{IsIn}
 use Rattle.fkv_texts.proofs.LastWhere.{last_where-in, last_where-found, none-passes}
 use Rattle.fkv_texts.proofs.TextLemmas.{one_address}
 use Rattle.fkv_index.specs.Words.{address_of}
 use Rattle.fkv_operations.specs.declared.entries.IndexEntry.{IndexEntry}
-use Rattle.fkv_lookups.specs.Cleared.{IsSuperseded}
+use Rattle.fkv_texts.specs.Deltas.{AreWhole, IsCovered, IsSuperseded}
 use Rattle.fkv_lookups.specs.Decisions.{low_of}
 use Rattle.fkv_lookups.specs.Lookups.{IsOfClass, GoesOn}
 use Rattle.fkv_lookups.specs.RecordsViews.{RecordsView, class_in, IsEntryOf, WasEntryOf}
+use Rattle.fkv_lookups.specs.Traced.{IsTraced}
 use Rattle.fkv_lookups.proofs.TracedLemmas.{highest, traced-held, traced-none, traced-low}
 use Rattle.fkv_lookups.proofs.LookupLemmas.{begun}
 use Rattle.fkv_lookups.proofs.MeetingLemmas.{low_head, low_begin, low_under, tells}
 use Rattle.fkv_core.specs.Beginning.{IsEntered}
+use Rattle.fkv_core.proofs.GrownLemmas.{still-below, newest-nowhere}
 use Rattle.fkv_core.specs.Sound.{IsSound}
 use Rattle.fkv_core.specs.Views.{CoreView, partition_of, slots_of, seen_at, entry_for, reached_from}
 use Rattle.fkv_partition.specs.declared.relocations.Liveness.TheVariants.{Superseded, Last, Further}
@@ -50,14 +52,13 @@ module _ {K V : Type 0} (cmp : K → K → Ordering) (order : IsKeyOrder cmp) (t
   newest-low a x found =
       leb-true x.address a (and_parts (nat_le x.address a) (has_key cmp e.key x) (last_where-found (λ d. nat_le d.address a && has_key cmp e.key d) text x found)).0
 
-  -- where a newer one of its key stands, it is not the last
-  pub not-last : (a : ℕ) (x : Entry K V) → newest cmp text e.key a ≡ Some x → place < x.address → last_of cmp text e.key ≢ Some e
-  not-last a x found above last =
+  -- where a newer one of its key stands, which is no delta, that covers it
+  pub covered-by : AreWhole text → (a : ℕ) (x : Entry K V) → newest cmp text e.key a ≡ Some x → place < x.address → IsCovered cmp text e
+  covered-by whole a x found above =
       let m = last_where-in (λ d. nat_le d.address a && has_key cmp e.key d) text x found in
       let mine = (and_parts (nat_le x.address a) (has_key cmp e.key x) (last_where-found (λ d. nat_le d.address a && has_key cmp e.key d) text x found)).1 in
-      let up = highest (has_key cmp e.key) text rising e last m.place x m.here mine in
       let at = stands-in.1 in
-      omega arith
+      record { by = x; stands = m; key = mine; whole = whole m.place x m.here; above = omega arith }
 
   -- an address that the last of its key is at or below is no lower than the place
   pub place-under : (a : ℕ) → newest cmp text e.key a ≡ last_of cmp text e.key → place ≤ a
@@ -90,6 +91,14 @@ module _ {K V : Type 0} (cmp : K → K → Ordering) (order : IsKeyOrder cmp) (t
           let down = low x h in
           let at = stands-in.1 in
           h ∙ ap Some (one_address text rising m.place stands-in.0.place x e m.here stands-in.0.here (omega arith))
+
+  -- where it is the newest at or below an address, none of its key stands between
+  pub none-between : (a : ℕ) → newest cmp text e.key a ≡ Some e → (d : Entry K V) → IsIn text d → has_key cmp e.key d ≡ true → place < d.address → d.address ≤ a → ⊥
+  none-between a is d m key above under =
+      let passes : (nat_le d.address a && has_key cmp e.key d) ≡ true = rw (le-leb d.address a under, key) refl in
+      let up = highest (λ x. nat_le x.address a && has_key cmp e.key x) text rising e is m.place d m.here passes in
+      let at = stands-in.1 in
+      omega arith
 
 -- what is said of the record of a place is said of any that stands there
 pub superseded-one : {K V : Type 0} {keeps : Bool} (cmp : K → K → Ordering) (text : List (Entry K V)) (place : ℕ) (e : Entry K V) → (IsTrue keeps → entry_at text place ≡ Some e) → (IsTrue keeps → IsSuperseded cmp text e)
@@ -137,11 +146,11 @@ last-below place a false t j = grind (arith, nat_tests)
 
 module _ {K V : Type 0} (cmp : K → K → Ordering) (code : K → ℕ) (order : IsKeyOrder cmp) (v : RecordsView K V) (rising : IsRising v.text) (place : ℕ) (e : Entry K V) where
   -- where a newer record is met
-  pub met-dead : entry_at v.text place ≡ Some e → (low a : ℕ) (r : ChainPosition K V) → GoesOn cmp code v e.key low a r → liveness place r ≡ Superseded → IsSuperseded cmp v.text e
-  met-dead here low a r goes j = let d = liveness-dead place r j in inr (by_going d.0 d.2 (subst (λ (q : ChainPosition K V). GoesOn cmp code v e.key low a q) d.1 goes))
+  pub met-dead : AreWhole v.text → entry_at v.text place ≡ Some e → (low a : ℕ) (r : ChainPosition K V) → GoesOn cmp code v e.key low a r → liveness place r ≡ Superseded → IsSuperseded cmp v.text e
+  met-dead whole here low a r goes j = let d = liveness-dead place r j in inr (by_going d.0 d.2 (subst (λ (q : ChainPosition K V). GoesOn cmp code v e.key low a q) d.1 goes))
     where
-      by_going : (x : Entry K V) → place < x.address → GoesOn cmp code v e.key low a (Found x) → last_of cmp v.text e.key ≢ Some e
-      by_going x above (GoesOn.found is there high) = not-last cmp order v.text rising place e here a x is above
+      by_going : (x : Entry K V) → place < x.address → GoesOn cmp code v e.key low a (Found x) → IsCovered cmp v.text e
+      by_going x above (GoesOn.found is there high) = covered-by cmp order v.text rising place e here whole a x is above
 
   -- where none above the place is met
   none-above : (low a : ℕ) (r : ChainPosition K V) → GoesOn cmp code v e.key low a r → liveness place r ≡ Last → entry_at v.text place ≡ Some e → (x : Entry K V) → newest cmp v.text e.key a ≡ Some x → x.address ≤ place
@@ -159,6 +168,30 @@ module _ {K V : Type 0} (cmp : K → K → Ordering) (code : K → ℕ) (order :
   -- it is the newest at or below where the way began
   pub met-last : entry_at v.text place ≡ Some e → (low a : ℕ) (r : ChainPosition K V) → GoesOn cmp code v e.key low a r → liveness place r ≡ Last → place ≤ a → newest cmp v.text e.key a ≡ Some e
   met-last here low a r goes j le = the-newest cmp order v.text rising place e here a le (none-above low a r goes j here)
+
+-- a frozen record with a value, which is the newest of its key at or below where an entry leads, may be appended again
+pub ready-by : {K V : Type 0} {keeps : Bool} (cmp : K → K → Ordering) (code : K → ℕ) → IsKeyOrder cmp → (v : RecordsView K V) → IsTraced keeps code v → (place : ℕ) (e : Entry K V) (kept : IndexEntry)
+    → e.address ≡ place
+    → IsSome e.value
+    → place < v.regions.offsets.safe_read_only
+    → WasEntryOf v (class_in code v e.key) kept
+    → address_of kept.word < v.tail
+    → (IsTrue keeps → entry_at v.text place ≡ Some e)
+    → (IsTrue keeps → newest cmp v.text e.key (address_of kept.word) ≡ Some e)
+    → IsReady keeps cmp code v place e kept
+ready-by cmp code order v t place e kept here some frozen entry low is last = record {
+  here = here;
+  some = some;
+  is_kept = record {
+    entry = entry;
+    low = low;
+    value = λ yes_keeps holds. ap value_of (last yes_keeps);
+    still = λ yes_keeps holds. rw (last yes_keeps) (inr (omega arith));
+    nowhere = λ yes_keeps none. absurd (let no : None ≡ Some e = sym (newest-nowhere cmp v e.key (address_of kept.word) t none) ∙ last yes_keeps in cc);
+  };
+  between = λ yes_keeps holds. none-between cmp order v.text t.rising place e (is yes_keeps) (address_of kept.word) (last yes_keeps);
+  own = λ yes_keeps d there. (let both : Some e ≡ Some d = sym (is yes_keeps) ∙ there in let same : e ≡ d = cc in ap (λ (x : Entry _ _). x.key) (sym same));
+}
 
 -- ---- in memory, from the entry of the record's class
 at-epoch : (o : Option (Option ℕ)) → is_some (option_flatten o) ≡ true → (n : ℕ) × (o ≡ Some (Some n))
@@ -206,12 +239,15 @@ module _ {K V I : Type 0} {keeps : Bool} (cmp : K → K → Ordering) (code : K 
 
   -- nor does one of a key whose class has no entry
   pub superseded-nowhere : entry_for code v e.key ≡ None → IsTrue keeps → IsSuperseded cmp v.records.text e
-  superseded-nowhere none yes_keeps = inr (λ last. let no : None ≡ Some e = sym (traced-none cmp code v.records e.key order s.traced none) ∙ last in cc)
+  superseded-nowhere none yes_keeps =
+      let m = (stands-in cmp order v.records.text s.traced.rising place e (is yes_keeps)).0 in
+      let no = none-passes (has_key cmp e.key) v.records.text (traced-none cmp code v.records e.key order s.traced none) m.place e m.here in
+      absurd (let yes : has_key cmp e.key e ≡ true = order.self e.key in cc)
 
   module _ (kept : IndexEntry) (stands : IsEntryOf v.records (class_in code v.records e.key) kept) (leads : entry_for code v e.key ≡ Some (address_of kept.word)) where
     pub superseded-newer : liveness place (reached_from cmp code v slot e.key (entry_for code v e.key)) ≡ Superseded → IsTrue keeps → IsSuperseded cmp v.records.text e
     superseded-newer j yes_keeps =
-        met-dead cmp code order v.records s.traced.rising place e (is yes_keeps) (low_of v.records.begin (seen_at v slot)) (address_of kept.word) (reached_from cmp code v slot e.key (entry_for code v e.key)) (going cmp code v s slot entered order e.key (address_of kept.word) leads) j
+        met-dead cmp code order v.records s.traced.rising place e s.traced.whole (is yes_keeps) (low_of v.records.begin (seen_at v slot)) (address_of kept.word) (reached_from cmp code v slot e.key (entry_for code v e.key)) (going cmp code v s slot entered order e.key (address_of kept.word) leads) j
 
     under : IsTrue keeps → place ≤ address_of kept.word
     under yes_keeps = place-under cmp order v.records.text s.traced.rising place e (is yes_keeps) (address_of kept.word) (held cmp code v s slot entered order e.key (address_of kept.word) leads)
@@ -220,17 +256,10 @@ module _ {K V I : Type 0} {keeps : Bool} (cmp : K → K → Ordering) (code : K 
     pub ready : v.records.begin ≤ place → place < v.records.regions.offsets.safe_read_only → e.value ≢ None
         → liveness place (reached_from cmp code v slot e.key (entry_for code v e.key)) ≡ Last
         → IsReady keeps cmp code v.records place e kept
-    ready high frozen some j = record {
-      here = here;
-      record_kept = record {
-        entry = was-entry code v.records e.key kept stands;
-        low = traced-low v.records (class_in code v.records e.key) (address_of kept.word) s.traced leads;
-        led = λ yes_keeps. (let le = under yes_keeps in let least = s.traced.first in omega arith);
-        some = some-of e.value some;
-        frozen = omega arith;
-        newest = λ yes_keeps word. met-last cmp code order v.records s.traced.rising place e (is yes_keeps) (low_of v.records.begin (seen_at v slot)) (address_of kept.word) (reached_from cmp code v slot e.key (entry_for code v e.key)) (going cmp code v s slot entered order e.key (address_of kept.word) leads) j (under yes_keeps);
-      };
-    }
+    ready high frozen some j =
+        ready-by cmp code order v.records s.traced place e kept here (some-of e.value some) frozen (was-entry code v.records e.key kept stands)
+        (traced-low v.records (class_in code v.records e.key) (address_of kept.word) s.traced leads) is
+        (λ yes_keeps. met-last cmp code order v.records s.traced.rising place e (is yes_keeps) (low_of v.records.begin (seen_at v slot)) (address_of kept.word) (reached_from cmp code v slot e.key (entry_for code v e.key)) (going cmp code v s slot entered order e.key (address_of kept.word) leads) j (under yes_keeps))
 
     -- the way goes on, in a page on disk above the place
     module _ (b : ℕ) (high : v.records.begin ≤ place) (j : liveness place (reached_from cmp code v slot e.key (entry_for code v e.key)) ≡ Further b) where
@@ -265,10 +294,14 @@ module _ {K V I : Type 0} {keeps : Bool} (cmp : K → K → Ordering) (code : K 
           on_disk = further-disk.1;
           class = λ yes_keeps same begins. by_class goes-below begins;
           newest = λ yes_keeps same. by_newest goes-below;
+          still = λ yes_keeps same. rw (by_newest goes-below) (still-below cmp v.records.text e.key b v.records.regions.offsets.safe_read_only on-disk);
         };
         is = λ yes_keeps same. is yes_keeps;
       }
         where
+          on-disk : b < v.records.regions.offsets.safe_read_only
+          on-disk = let low = further-disk.1 in let head = s.traced.regions.agree.in_order.head in omega arith
+
           by_class : GoesOn cmp code v.records e.key (low_of v.records.begin (seen_at v slot)) (address_of kept.word) (Below b) → v.records.from ≤ b → IsOfClass code v.records e.key b
           by_class (GoesOn.below low same class) begins = class begins
 

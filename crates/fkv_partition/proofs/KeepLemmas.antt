@@ -1,7 +1,7 @@
 -- What the changes of a compacted partition keep.
-use Rattle.std.proofs.Common.{◌≡◌, ◌≢◌, Bool, true, false, ℕ, ◌+◌, ◌*◌, ◌^◌, ◌<◌, ◌≤◌, ◌⊎◌, inl, inr, IsTrue, List, [], ◌∷◌, cond, nat_le, replicate, zero, suc, Option, Some, None, Result, Ok, Err, OnErr, slice_get, slice_set, refl, sym, ◌∙◌, ap, subst, arith}
+use Rattle.std.proofs.Common.{◌≡◌, ◌≢◌, Bool, true, false, ℕ, ◌+◌, ◌*◌, ◌^◌, ◌<◌, ◌≤◌, ◌⊎◌, inl, inr, ◌&&◌, ◌==◌, IsTrue, List, [], ◌∷◌, cond, nat_le, replicate, zero, suc, Option, Some, None, Result, Ok, Err, OnErr, slice_get, slice_set, refl, sym, ◌∙◌, ap, subst, arith}
 use Rattle.std.proofs.lemmas.List.{length-set}
-use Rattle.std.proofs.lemmas.Bool.{cases_lt, cases_eq}
+use Rattle.std.proofs.lemmas.Bool.{cases_lt, cases_eq, and_parts, leb-true, le-leb, eqb-true}
 use Rattle.std.proofs.lemmas.Bool.Decides.{nat_tests}
 use Rattle.std.specs.declared.cmp.Ordering.{Ordering}
 use Rattle.fkv_records.specs.Places.{IsShape, IsRecordStart, first}
@@ -10,16 +10,24 @@ use Rattle.fkv_regions.proofs.MoveLemmas.{mark-place}
 use Rattle.fkv_pages.specs.Views.{text_begin}
 use Rattle.fkv_texts.specs.declared.entries.Entry.{Entry}
 use Rattle.fkv_texts.specs.Places.{tail_after, IsLaidOut}
+use Rattle.fkv_texts.specs.Text.{has_key, newest}
+use Rattle.fkv_texts.specs.Chains.{IsIn}
+use Rattle.fkv_texts.proofs.LastWhere.{last_where-in, last_where-found, none-passes}
 use Rattle.fkv_texts.proofs.PlaceLemmas.{after, after-nearest}
-use Rattle.fkv_lookups.specs.Cleared.{IsCleared}
+use Rattle.fkv_texts.specs.Deltas.{IsCleared}
 use Rattle.fkv_lookups.specs.RecordsViews.{RecordsView}
 use Rattle.fkv_lookups.specs.Traced.{IsTraced}
+use Rattle.fkv_lookups.proofs.TracedLemmas.{highest}
+use Rattle.fkv_index.specs.Words.{address_of}
+use Rattle.fkv_index.specs.Places.{word_at}
+use Rattle.fkv_operations.specs.declared.entries.IndexEntry.{IndexEntry}
 use Rattle.fkv_functions.specs.declared.refusals.Refused.{Refused}
 use Rattle.fkv_functions.proofs.ListLemmas.{get-set_cases}
 use Rattle.fkv_operations.specs.After.{key_of}
 use Rattle.fkv_operations.specs.declared.operations.KeyedOp.{KeyedOp}
 use Rattle.fkv_core.specs.Beginning.{Issues}
 use Rattle.fkv_core.proofs.AskedLemmas.{context-inside}
+use Rattle.fkv_core.proofs.TruncateLemmas.{none-some}
 use Rattle.fkv_partition.specs.Beginning.{IssuesOnKey, IsFirstFree}
 use Rattle.fkv_core.specs.Contexts.{joined, is_session}
 use Rattle.fkv_core.specs.Views.{CoreView, slots_of, partition_of}
@@ -29,7 +37,7 @@ use Rattle.fkv_partition.specs.declared.relocations.Stage.{Stage}
 use Rattle.fkv_partition.specs.declared.relocations.Stage.TheVariants.{Fresh, Reading, Tracing, Ready}
 use Rattle.fkv_partition.specs.Views.{PartitionView, with_core, place_behind, cleared_past, done_at, relocation_at}
 use Rattle.fkv_partition.specs.Inside.{view_of}
-use Rattle.fkv_partition.specs.Stages.{RelocationStands, StageStands}
+use Rattle.fkv_partition.specs.Stages.{IsReady, RelocationStands, StageStands}
 use Rattle.fkv_partition.specs.Sound.{IsCompacting}
 use Rattle.fkv_partition.proofs.SteadyLemmas.{IsSteady}
 
@@ -74,6 +82,9 @@ next-low v t a place low =
       | inr end ↦ (let most = next.most in omega arith)
     ]
 
+both : (a b : Bool) → a ≡ true → b ≡ true → (a && b) ≡ true
+both a b h k = rw h k
+
 none-in : {A : Type 0} (n p : ℕ) (x : A) → slice_get (replicate n None) p ≡ Some (Some x) → ⊥
 none-in zero p x e = cc
 none-in (suc n) zero x e = cc
@@ -81,6 +92,56 @@ none-in (suc n) (suc p) x e = none-in n p x e
 
 module _ {K V I : Type 0} (keeps : Bool) (cmp : K → K → Ordering) (code : K → ℕ) where
   -- ---- an event of the partition
+  -- an entry that stands as it was kept stood so
+  word-stood : (old new : CoreView K V I) → IsPreserved keeps cmp code old new → (place : ℕ) (entry : Entry K V) (kept : IndexEntry) → IsReady keeps cmp code old.records place entry kept → IsTrue keeps
+      → word_at new.records.words kept.place ≡ kept.word → word_at old.records.words kept.place ≡ kept.word
+  word-stood old new b place entry kept h yes_keeps holds =
+      let n = b.next yes_keeps in
+      let low = h.is_kept.low in
+      elim (n.words kept.place kept.word h.is_kept.entry.final holds) [
+        | inl was ↦ was
+        | inr (inl none) ↦ absurd (none-some entry.value (h.is_kept.nowhere yes_keeps none) h.some)
+        | inr (inr fresh) ↦ absurd (let high : old.records.tail ≤ address_of kept.word = fresh in omega arith)
+      ]
+
+  -- a relocation that is to append its record again
+  ready-kept : (old new : CoreView K V I) → IsTraced keeps code new.records → IsPreserved keeps cmp code old new → (place : ℕ) → place < old.records.regions.offsets.safe_read_only → (entry : Entry K V) (kept : IndexEntry)
+      → IsReady keeps cmp code old.records place entry kept → IsReady keeps cmp code new.records place entry kept
+  ready-kept old new t b place frozen entry kept h = record {
+    here = h.here;
+    some = h.some;
+    is_kept = b.bears.kept entry.key kept entry.value h.is_kept;
+    between = λ yes_keeps holds d m key above under.
+        let n = b.next yes_keeps in
+        let was = word-stood old new b place entry kept h yes_keeps holds in
+        elim (n.records entry.key (address_of kept.word) h.is_kept.low (h.is_kept.still yes_keeps was)) [
+          | inl same ↦ by_newest yes_keeps was d m key above under (newest cmp new.records.text entry.key (address_of kept.word)) refl same
+          | inr cut ↦ (let no = none-passes passes new.records.text cut.gone m.place d m.here in let yes = passed d key under in cc)
+        ];
+    own = λ yes_keeps d there.
+        let m = last_where-in (λ x. x.address == place) new.records.text d there in
+        let at = eqb-true d.address place (last_where-found (λ x. x.address == place) new.records.text d there) in
+        let low = t.from m.place d m.here in
+        h.own yes_keeps d (sym (b.grown.stay place (omega arith) frozen) ∙ there);
+  }
+    where
+      passes : Entry K V → Bool
+      passes x = nat_le x.address (address_of kept.word) && has_key cmp entry.key x
+
+      passed : (d : Entry K V) → has_key cmp entry.key d ≡ true → d.address ≤ address_of kept.word → passes d ≡ true
+      passed d key under = both (nat_le d.address (address_of kept.word)) (has_key cmp entry.key d) (le-leb d.address (address_of kept.word) under) key
+
+      -- the newest at or below where the entry led stood there before
+      by_newest : IsTrue keeps → word_at old.records.words kept.place ≡ kept.word → (d : Entry K V) → IsIn new.records.text d → has_key cmp entry.key d ≡ true → place < d.address → d.address ≤ address_of kept.word
+          → (o : Option (Entry K V)) → newest cmp new.records.text entry.key (address_of kept.word) ≡ o → newest cmp new.records.text entry.key (address_of kept.word) ≡ newest cmp old.records.text entry.key (address_of kept.word) → ⊥
+      by_newest yes_keeps was d m key above under None is same = let no = none-passes passes new.records.text is m.place d m.here in let yes = passed d key under in cc
+      by_newest yes_keeps was d m key above under (Some z) is same =
+          let stood : newest cmp old.records.text entry.key (address_of kept.word) ≡ Some z = sym same ∙ is in
+          let up = highest passes new.records.text t.rising z is m.place d m.here (passed d key under) in
+          let found = and_parts (nat_le z.address (address_of kept.word)) (has_key cmp entry.key z) (last_where-found passes old.records.text z stood) in
+          let le = leb-true z.address (address_of kept.word) found.0 in
+          h.between yes_keeps was z (last_where-in passes old.records.text z stood) found.1 (omega arith) le
+
   -- a relocation stands for what it stood for
   stage-kept : (old new : CoreView K V I) → new.number ≡ old.number → new.count ≡ old.count → IsTraced keeps code new.records → IsPreserved keeps cmp code old new
       → (place : ℕ) → place < old.records.regions.offsets.safe_read_only → (stage : Stage K V) → StageStands keeps cmp code old place stage → StageStands keeps cmp code new place stage
@@ -109,7 +170,7 @@ module _ {K V I : Type 0} (keeps : Bool) (cmp : K → K → Ordering) (code : K 
     },
   )
   stage-kept old new number count t b place frozen (Ready entry kept) h =
-      (ap (λ n. partition_of n (code entry.key)) count ∙ h.0 ∙ sym number, record { here = h.1.here; record_kept = b.bears.last entry.key kept entry h.1.record_kept })
+      (ap (λ n. partition_of n (code entry.key)) count ∙ h.0 ∙ sym number, ready-kept old new t b place frozen entry kept h.1)
 
   -- an event of the partition keeps what every compacted partition keeps, where no operation is opened beside a
   -- relocation, no session with one is left, and Begin passes nothing that is not cleared

@@ -16,7 +16,7 @@ use Rattle.fkv_texts.proofs.LastWhere.{last_where-found}
 use Rattle.fkv_pages.specs.Loads.{IsHeldBy, IsReached, first_place}
 use Rattle.fkv_pages.proofs.FrameLemmas.{page_rises}
 use Rattle.fkv_index.specs.Words.{address_of}
-use Rattle.fkv_lookups.specs.Cleared.{IsSuperseded}
+use Rattle.fkv_texts.specs.Deltas.{IsSuperseded}
 use Rattle.fkv_lookups.specs.Lookups.{IsOfClass, GoesOn}
 use Rattle.fkv_lookups.specs.RecordsViews.{RecordsView}
 use Rattle.fkv_core.specs.declared.contexts.Loading.{Loading}
@@ -35,7 +35,7 @@ use Rattle.fkv_partition.specs.Views.{PartitionView}
 use Rattle.fkv_partition.specs.Checking.{liveness}
 use Rattle.fkv_partition.proofs.MoveLemmas.{stands-here}
 use Rattle.fkv_partition.proofs.ReadLemmas.{kept-from, same-awaited}
-use Rattle.fkv_partition.proofs.CheckingLemmas.{met-dead, met-last, liveness-further}
+use Rattle.fkv_partition.proofs.CheckingLemmas.{met-dead, met-last, ready-by, liveness-further}
 
 -- ---- a way out of a page ends below it
 abbrev out_of : {K V : Type 0} → ℕ → Result (ChainPosition K V) Refused
@@ -131,7 +131,7 @@ module _ {K V I : Type 0} {keeps : Bool} (cmp : K → K → Ordering) (code : K 
         let both : Some e ≡ Some y = sym own ∙ here in
         let same : e ≡ y = cc in
         subst (λ (d : Entry K V). IsSuperseded cmp v.core.records.text d) same
-        (met-dead cmp code order v.core.records sound.traced.rising x.target e own (first_place v.core.records.page_bits (page_at v.core.records.page_bits l.wanted)) l.wanted r (goes yes_keeps r is) j)
+        (met-dead cmp code order v.core.records sound.traced.rising x.target e sound.traced.whole own (first_place v.core.records.page_bits (page_at v.core.records.page_bits l.wanted)) l.wanted r (goes yes_keeps r is) j)
 
     -- none was met above the place: its record is the newest from where the entry led
     led-newest : (r : ChainPosition K V) → result ≡ Ok r → liveness x.target r ≡ Last → IsTrue keeps → newest cmp v.core.records.text e.key (address_of l.kept.word) ≡ Some e
@@ -143,23 +143,7 @@ module _ {K V I : Type 0} {keeps : Bool} (cmp : K → K → Ordering) (code : K 
     pub way-last : (r : ChainPosition K V) → result ≡ Ok r → liveness x.target r ≡ Last → StageStands keeps cmp code v.core x.target (Ready e l.kept)
     way-last r is j = (
       staged.0,
-      record {
-        here = tracing.here;
-        record_kept = record {
-          entry = tracing.loading.entry;
-          low = tracing.loading.low;
-          led = λ yes_keeps. (
-              let le = newest-under cmp v.core.records.text e.key (address_of l.kept.word) e (led-newest r is j yes_keeps) in
-              let least = sound.traced.first in
-              let same = begin-same in
-              let up = tracing.begun in
-              let here = tracing.here in
-              omega arith);
-          some = tracing.some;
-          frozen = (let here = tracing.here in let low = stands.frozen in omega arith);
-          newest = λ yes_keeps word. led-newest r is j yes_keeps;
-        };
-      },
+      ready-by cmp code order v.core.records sound.traced x.target e l.kept tracing.here tracing.some stands.frozen tracing.loading.entry tracing.loading.low is-own (led-newest r is j),
     )
 
     -- the way goes on above the place, in a lower page
@@ -211,6 +195,7 @@ module _ {K V I : Type 0} {keeps : Bool} (cmp : K → K → Ordering) (code : K 
             on_disk = omega arith;
             class = λ yes_keeps same begins. lower-class (goes yes_keeps (Below b) is-below) begins;
             newest = λ yes_keeps same. h.newest yes_keeps same ∙ lower-newest (goes yes_keeps (Below b) is-below);
+            still = h.still;
           }
 
       pub way-further : StageStands keeps cmp code v.core x.target (Tracing e (record l { wanted = b }))

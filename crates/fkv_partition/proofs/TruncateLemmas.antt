@@ -7,7 +7,7 @@ use Rattle.fkv_functions.specs.declared.refusals.Refused.{Refused}
 use Rattle.fkv_records.specs.Places.{page_at, start_at}
 use Rattle.fkv_records.proofs.PlaceLemmas.{next_start}
 use Rattle.fkv_texts.specs.declared.entries.Entry.{Entry}
-use Rattle.fkv_lookups.specs.Cleared.{IsCleared}
+use Rattle.fkv_texts.specs.Deltas.{IsCleared}
 use Rattle.fkv_core.specs.Views.{CoreView, slots_of}
 use Rattle.fkv_core.specs.Truncating as partition
 use Rattle.fkv_core.proofs.AskedLemmas.{context-other}

@@ -3,7 +3,7 @@
 use Rattle.std.specs.Prelude.{◌≡◌, ◌+◌, ◌*◌, ◌^◌, ◌<◌, ◌≤◌, ℕ, Bool, IsTrue, true, length, Some, None, slice_get}
 use Rattle.std.specs.declared.cmp.Ordering.{Ordering}
 use Rattle.fkv_records.specs.Places.{IsRecordStart}
-use Rattle.fkv_lookups.specs.Cleared.{IsCleared}
+use Rattle.fkv_texts.specs.Deltas.{IsCleared}
 use Rattle.fkv_core.specs.Contexts.{joined, is_session}
 use Rattle.fkv_core.specs.Views.{slots_of}
 use Rattle.fkv_partition.specs.declared.relocations.Relocation.{Relocation}
@@ -15,7 +15,7 @@ pub record IsCompacting {K V I : Type 0} (keeps : Bool) (cmp : K → K → Order
   pub begun : v.core.records.begin ≤ v.cleared
   pub low : v.cleared ≤ v.core.records.tail
   pub place : v.cleared < 2 ^ 48 → IsRecordStart v.core.records.page_bits v.core.records.record_size v.cleared
-  -- on a device that keeps: each record below is a tombstone, or not the last of its key
+  -- on a device that keeps: each record below is a tombstone, or a later one of its key covers it
   pub cleared : IsTrue keeps → IsCleared cmp v.core.records.text v.cleared
   pub places : length v.relocations ≡ 128
   pub stands : (p : ℕ) (x : Relocation K V)

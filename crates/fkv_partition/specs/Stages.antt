@@ -1,14 +1,16 @@
 -- What an open relocation stands for.
-use Rattle.std.specs.Prelude.{◌≡◌, ◌<◌, ◌≤◌, ℕ, Bool, IsTrue, IsSome, Some}
+use Rattle.std.specs.Prelude.{◌≡◌, ◌<◌, ◌≤◌, ℕ, Bool, true, IsTrue, IsSome, Some}
 use Rattle.std.specs.declared.cmp.Ordering.{Ordering}
 use Rattle.fkv_records.specs.Places.{IsRecordStart}
 use Rattle.fkv_texts.specs.declared.entries.Entry.{Entry}
-use Rattle.fkv_texts.specs.Text.{entry_at}
+use Rattle.fkv_texts.specs.Text.{entry_at, has_key}
+use Rattle.fkv_texts.specs.Chains.{IsIn}
+use Rattle.fkv_index.specs.Words.{address_of}
+use Rattle.fkv_index.specs.Places.{word_at}
 use Rattle.fkv_lookups.specs.RecordsViews.{RecordsView}
 use Rattle.fkv_operations.specs.declared.entries.IndexEntry.{IndexEntry}
 use Rattle.fkv_core.specs.declared.contexts.Loading.{Loading}
-use Rattle.fkv_core.specs.Sound.{IsLoading}
-use Rattle.fkv_core.specs.Grown.{IsKeptRecord}
+use Rattle.fkv_core.specs.Sound.{IsKept, IsLoading}
 use Rattle.fkv_core.specs.Views.{CoreView, partition_of}
 use Rattle.fkv_partition.specs.declared.relocations.Relocation.{Relocation}
 use Rattle.fkv_partition.specs.declared.relocations.Stage.{Stage}
@@ -31,12 +33,22 @@ pub record IsTracing {K V : Type 0} (keeps : Bool) (cmp : K → K → Ordering) 
   pub loading : IsLoading keeps cmp code r entry.key l
   pub is : IsTrue keeps → l.begin ≡ r.begin → entry_at r.text place ≡ Some entry
 
--- its record is to be appended again: on a device that keeps, it is the last of its key while its entry stands as it was
--- kept
+-- its record is to be appended again. On a device that keeps, its key has its value while the entry stands as it was kept,
+-- and no record of the key stands between the place and where the entry led; and the record of the place has that key
 pub record IsReady {K V : Type 0} (keeps : Bool) (cmp : K → K → Ordering) (code : K → ℕ) (r : RecordsView K V)
     (place : ℕ) (entry : Entry K V) (kept : IndexEntry) : Type 0 where
   pub here : entry.address ≡ place
-  pub record_kept : IsKeptRecord keeps cmp code r entry.key kept entry
+  pub some : IsSome entry.value
+  pub is_kept : IsKept keeps cmp code r entry.key kept entry.value
+  pub between : IsTrue keeps
+      → word_at r.words kept.place ≡ kept.word
+      → (d : Entry K V)
+      → IsIn r.text d
+      → has_key cmp entry.key d ≡ true
+      → place < d.address
+      → d.address ≤ address_of kept.word
+      → ⊥
+  pub own : IsTrue keeps → (d : Entry K V) → entry_at r.text place ≡ Some d → d.key ≡ entry.key
 
 abbrev pub StageStands : {K V I : Type 0} → Bool → (K → K → Ordering) → (K → ℕ) → CoreView K V I → ℕ → Stage K V
     → Type 0

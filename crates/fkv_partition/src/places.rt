@@ -3,7 +3,7 @@ ghost use Rattle.std.specs.Prelude.{◌≡◌, ◌+◌, ◌*◌, ◌<◌, ◌≤
 ghost use Rattle.fkv_records.specs.Places.{IsRecordStart};
 ghost use Rattle.fkv_texts.specs.declared.entries.Entry.{Entry};
 ghost use Rattle.fkv_texts.specs.Text.{entry_at};
-ghost use Rattle.fkv_lookups.specs.Cleared.{IsSuperseded};
+ghost use Rattle.fkv_texts.specs.Deltas.{IsSuperseded};
 ghost use Rattle.fkv_core.specs.Contexts.{is_session, joined};
 ghost use Rattle.fkv_core.specs.Views.{slots_of};
 ghost use Rattle.fkv_core.specs.Beginning.{IsEntered};

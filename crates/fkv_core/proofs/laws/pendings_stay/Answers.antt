@@ -6,7 +6,7 @@ use Rattle.fkv_core.proofs.laws.pendings_stay.Goals as goal
 pub returns : goal.returns
 returns g c = record {
   goes = λ keeps stands cmp f code old new slot at now result yes_keeps order s goes.
-      goes-others cmp code old s new slot at now stands f result
+      goes-others cmp code old s yes_keeps new slot at now stands f result
       (λ e key value k a low. c.records_grow.ensures.kept cmp old.records e key value k a low)
       (λ x value told e d last k a low still.
       c.records_change.ensures.kept cmp keeps code old.records e.address value k a s.traced
@@ -18,10 +18,9 @@ returns g c = record {
       (λ k w entered m. c.meetings_tell.ensures.unfrozen keeps cmp code old.records k slot w s.traced entered m) d last) still)
       goes;
   finds = λ keeps stands cmp f code old new slot at now progress order s goes.
-      goes-find cmp f code old new slot at now stands s
-      (λ k b entered met. c.meetings_tell.ensures.wanted keeps cmp code old.records k slot b order s.traced entered met) progress goes;
+      goes-find cmp f code old new slot at now stands order s progress goes;
   installs = λ keeps cmp f code old new slot at ask now result yes_keeps s installs.
-      installs-others cmp code old s new slot at now f ask result
+      installs-others cmp code old s yes_keeps new slot at now f ask result
       (λ e key value k a low. c.records_grow.ensures.kept cmp old.records e key value k a low)
       installs;
   built = λ cmp f code old new slot at ask now progress installs. installs-find cmp f code old new slot at now ask progress installs;

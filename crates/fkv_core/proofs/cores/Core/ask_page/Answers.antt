@@ -49,7 +49,7 @@ set_phase-requires-clause-stands g c =
     (c.entries_lead.ensures.low g.R.Receipt.keeps g.F.Functions.code v.records class a c.known.ensures.traced leads)
     (c.entries_lead.ensures.held g.F.Key.Ord.cmp g.R.Receipt.keeps g.F.Functions.code v.records (key_of x.op) a order c.known.ensures.traced leads)
     (c.meetings_tell.ensures.wanted g.R.Receipt.keeps g.F.Key.Ord.cmp g.F.Functions.code v.records (key_of x.op) c.args.slot c.args.wanted order c.known.ensures.traced inside met)
-    d.decided)
+    d.decided c.known.ensures.traced)
 
 pub returns-in-Err-clause-effect : goal.returns-in-Err-clause-effect
 returns-in-Err-clause-effect g c = unshared c.args.operation.now c.args.wanted c.requires.decided refl (ap Err c.in-Err.ensures.memory)

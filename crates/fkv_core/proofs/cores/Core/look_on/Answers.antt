@@ -8,7 +8,7 @@ use Rattle.fkv_core.specs.Contexts.{claim_by}
 use Rattle.fkv_core.specs.Inside.{view_of}
 use Rattle.fkv_core.specs.Loading.{Loads, found, ended}
 use Rattle.fkv_core.proofs.EventLemmas.{claims-none}
-use Rattle.fkv_core.proofs.LoadLemmas.{came-of, stranger-kept, told-done, further-done, may-load, wanted-flushed, reads-on, kept-told, further-flushed, further-stands, newest-told, further-newest}
+use Rattle.fkv_core.proofs.LoadLemmas.{came-of, stranger-kept, told-done, further-done, may-load, wanted-flushed, reads-on, kept-told, further-flushed, further-stands, newest-told}
 use Rattle.fkv_core.proofs.PendingLemmas.{load-told, further-load}
 use Rattle.fkv_core.proofs.cores.Core.look_on.Goals as goal
 
@@ -289,17 +289,5 @@ returns-then-address-begin-clause-event g c = λ keeps.
 
 pub returns-clause-event : goal.returns-clause-event
 returns-clause-event g c = λ keeps.
-    let ord = g.met.F.Key.Ord in
-    let known = g.met.F.Key.FixedKey in
-    let order = key_order g.F.Key.PartialEq.eq g.F.Key.Ord.cmp ord.matches_eq known.exact ord.total in
-    let v = c.args.self.now in
-    let x = c.args.operation.now in
-    let l = c.args.loading in
     let a = c.requires.awaits in
-    let p = c.args.loaded in
-    let came = came-of g.R.Receipt.keeps (IsEntryIn g.F.Key.Fixed.bytes_of g.F.Value.Fixed.bytes_of g.F.Key.Known.is_known g.F.Value.Known.is_known g.F.Key.Fixed.SIZE g.F.Value.Fixed.SIZE) g.F.Key.Ord.cmp g.F.Functions.code (view_of c.self.inside.number c.self.inside.count c.self.inside.records c.self.inside.contexts.items c.self.inside.moment) v c.key-key.result (key_of x.op) c.page_of-page.result l.wanted (g.R.Receipt.stands p.receipt) p.bytes c.trace_in.result c.self.view_is c.key-key.ensures c.page_of-page.ensures (c.in_default.ensures.own.0 refl) c.trace_in.ensures.read c.trace_in.ensures.kept in
-    let is = c.in-Ok-Below.is ∙ ap Ok c.in-Ok-Below.field-0-is in
-    let b = c.in-Ok-Below.address in
-    let begins : c.begin.result ≡ v.records.begin = c.begin.ensures ∙ ap (λ u. u.records.begin) c.self.view_is in
-    let high : v.records.begin ≤ b = omega (arith, c.if-address-begin.false, begins) in
-    further-load g.F.Key.Ord.cmp v c.args.slot c.args.context c.args.now x a.here g.F.Functions.meaning l a b c.look_further.new.self c.look_further.result (further-newest g.F.Key.Ord.cmp g.F.Functions.code order v c.known.ensures c.args.slot c.args.context x l a (IsEntryIn g.F.Key.Fixed.bytes_of g.F.Value.Fixed.bytes_of g.F.Key.Known.is_known g.F.Value.Known.is_known g.F.Key.Fixed.SIZE g.F.Value.Fixed.SIZE) (g.R.Receipt.stands p.receipt) p.bytes c.trace_in.result came b is high keeps) g.R.Receipt.stands c.look_further.ensures.asked c.look_further.ensures.effect
+    further-load g.F.Key.Ord.cmp c.args.self.now c.args.slot c.args.context c.args.now c.args.operation.now a.here g.F.Functions.meaning c.args.loading a c.in-Ok-Below.address c.look_further.new.self c.look_further.result g.R.Receipt.stands c.look_further.ensures.asked c.look_further.ensures.effect

@@ -2,7 +2,7 @@ use Rattle.std.proofs.Common.{IsTrue, refl}
 use Rattle.fkv_functions.proofs.KeyOrder.{key_order}
 use Rattle.fkv_records.specs.Places.{start_at}
 use Rattle.fkv_lookups.specs.RecordsViews.{IsTruncationDue}
-use Rattle.fkv_lookups.specs.Cleared.{IsCleared}
+use Rattle.fkv_texts.specs.Deltas.{IsCleared}
 use Rattle.fkv_core.specs.Inside.{view_of}
 use Rattle.fkv_core.specs.Truncating.{truncates}
 use Rattle.fkv_core.proofs.TruncateLemmas.{sound-truncated, event-truncated}

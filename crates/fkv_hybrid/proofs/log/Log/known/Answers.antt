@@ -21,6 +21,7 @@ returns-clause-log g c =
       rising = p.rising;
       from = p.low;
       below = p.below;
+      whole = p.whole;
       most = p.most;
       end = p.end;
       regions = r.regions;

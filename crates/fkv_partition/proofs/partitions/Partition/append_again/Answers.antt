@@ -1,10 +1,10 @@
-use Rattle.std.proofs.Common.{◌≡◌, ◌+◌, ◌*◌, IsTrue, true, Some, false, None, Ok, Err, refl, sym, ap, subst, ◌∙◌}
+use Rattle.std.proofs.Common.{◌≡◌, ◌+◌, ◌*◌, IsTrue, true, Some, false, None, Ok, Err, refl, sym, ap, subst, ◌∙◌, arith}
 use Rattle.fkv_functions.proofs.KeyOrder.{key_order}
 use Rattle.fkv_records.specs.Places.{IsRecordStart}
 use Rattle.fkv_texts.specs.declared.entries.Entry.{Entry}
 use Rattle.fkv_texts.specs.Text.{entry_at}
 use Rattle.fkv_index.specs.Places.{word_at}
-use Rattle.fkv_lookups.specs.Cleared.{IsSuperseded}
+use Rattle.fkv_texts.specs.Deltas.{IsSuperseded}
 use Rattle.fkv_lookups.specs.RecordsViews.{IsFull}
 use Rattle.fkv_core.specs.Contexts.{claim_at}
 use Rattle.fkv_core.specs.Writes.{IsWrite}
@@ -78,6 +78,17 @@ finish-requires-clause-issued g c =
     let ins = view_of c.self.inside.core c.self.inside.cleared c.self.inside.relocations.items in
     let here = rw (← c.self.view_is) at c.requires.here in
     (stands-here ins c.args.slot c.args.context x here c.self.invariant).issued
+
+pub finish-requires-clause-low : goal.finish-requires-clause-low
+finish-requires-clause-low g c =
+    let x = c.args.relocation.now in
+    let ins = view_of c.self.inside.core c.self.inside.cleared c.self.inside.relocations.items in
+    let here = rw (← c.self.view_is) at c.requires.here in
+    let made = rw c.in-Ok-Some.field-0-is at c.in-Ok-Some.ensures.ok in
+    let same = ap (λ q. q.records.regions.offsets.safe_read_only) made in
+    let frozen = (stands-here ins c.args.slot c.args.context x here c.self.invariant).frozen in
+    let t = c.known-in-Ok-Some.ensures.traced in
+    omega (arith, same, frozen, t.regions.agree.in_order.safe, t.regions.read_only)
 
 pub finish-requires-clause-place : goal.finish-requires-clause-place
 finish-requires-clause-place g c =
