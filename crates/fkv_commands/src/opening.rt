@@ -1,15 +1,35 @@
 //! Opening feeds, and reading one that no thread can take.
 ghost use Rattle.std.specs.Prelude.{◌≡◌, ◌≢◌, ◌⊎◌, IfOk, IfErr, IfSome, OnOk};
+ghost use Rattle.fkv_commands.specs.Sources.{remaining_of, failures_of};
 
 use fkv_functions::Refused;
-use fkv_meters::ProgressSource;
+use fkv_meters::{Progress, ProgressSource};
 use fkv_streams::{CountedReader, Source};
 use std::alloc::Global;
 use std::fs::{self, Files};
-use std::io::ErrorKind;
+use std::io::{ErrorKind, Read};
 
-/// A feed in a file, which tells how far it is.
-pub(crate) type Opened<'a, T, P> = ProgressSource<'a, CountedReader<T>, P>;
+/// A feed in a file, which tells how far it is, or one whose bytes were read.
+#[derive(Drop)]
+pub(crate) enum Feed<'a, 'b, T, P> {
+    File(ProgressSource<'a, CountedReader<T>, P>),
+    Bytes(CountedReader<&'b [u8]>),
+}
+
+impl<'a, 'b, T: Read, P: Progress> Source for Feed<'a, 'b, T, P> {
+    ghost remaining = { remaining_of ⟦<ProgressSource<'a, CountedReader<T>, P> as Source>⟧.remaining
+        ⟦<CountedReader<&'b [u8]> as Source>⟧.remaining };
+
+    ghost failures = { failures_of ⟦<ProgressSource<'a, CountedReader<T>, P> as Source>⟧.failures
+        ⟦<CountedReader<&'b [u8]> as Source>⟧.failures };
+
+    fn read(&mut self, buf: &mut [u8]) -> Result<usize, Refused> {
+        match self {
+            Feed::File(source) => source.read(buf),
+            Feed::Bytes(source) => source.read(buf),
+        }
+    }
+}
 
 /// Opens the feed of this number, counted from 1. Refused: `Unreadable` with the number; `NoMemory`.
 fn opened<H: Files>(files: &H, path: &str, number: u64) -> Result<CountedReader<H::File>, Refused>
@@ -26,12 +46,12 @@ fn opened<H: Files>(files: &H, path: &str, number: u64) -> Result<CountedReader<
 
 /// Opens feeds, in order, which tell this hook how far they are. Refused: `Unreadable` with the number of the first that
 /// can not be opened, counted from 1; `NoMemory`.
-pub(crate) fn all_opened<'a, H: Files, P>(
+pub(crate) fn all_opened<'a, 'b, H: Files, P>(
     alloc: Global,
     files: &H,
     paths: &[String],
     hook: &'a P,
-) -> Result<Vec<Opened<'a, H::File, P>>, Refused>
+) -> Result<Vec<Feed<'a, 'b, H::File, P>>, Refused>
     ensures { IfErr result (λ e. e ≢ Refused.Unwritable) }
 {
     let mut feeds = Vec::new(alloc);
@@ -42,7 +62,7 @@ pub(crate) fn all_opened<'a, H: Files, P>(
             Ok(feed) => feed,
             Err(refused) => return Err(refused),
         };
-        let Ok(()) = feeds.push(ProgressSource::new(feed, hook)) else {
+        let Ok(()) = feeds.push(Feed::File(ProgressSource::new(feed, hook))) else {
             return Err(Refused::NoMemory);
         };
     }
