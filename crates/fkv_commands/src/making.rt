@@ -1,5 +1,5 @@
 //! Making tables over a device, by one worker or by several.
-ghost use Rattle.std.specs.Prelude.{◌≡◌, ◌≢◌, ◌∷◌, [], true, map, string_bytes, IfOk, IfErr, IsTrue, OnOk};
+ghost use Rattle.std.specs.Prelude.{◌≡◌, ◌≢◌, ◌∷◌, [], true, map, IfOk, IfErr, IsTrue, OnOk};
 ghost use Rattle.fkv_feeds.specs.Tables.{IsTableOf};
 
 use crate::opening::{Feed, all_opened, read_whole};
@@ -56,9 +56,9 @@ where
     run_feeds::<S, F, D, H, Open, T>(rt, alloc, feeds, workers, functions, config, device, &Open)
 }
 
-/// An audited run over the feeds that are named, or over the reader's bytes, which are read whole before threads start, since
-/// the reader stays where it is; the entry that is kept of a row takes more memory than a row of usual length.
-pub(crate) fn made_audited<
+/// A run over a reader's bytes. An audited one reads them whole before it starts threads, since the reader stays where it
+/// is; the entry that it keeps of a row takes more memory than a row of usual length.
+pub(crate) fn made_of_input<
     R: Source,
     F: OrderFree<Key = Name, Input = i64> + Send + Sync,
     D: Disk + Send,
@@ -71,7 +71,7 @@ pub(crate) fn made_audited<
     functions: F,
     reader: &mut R,
     device: D,
-    hook: &P,
+    _hook: &P,
 ) -> Result<Run<F::Value>, Refused>
 where
     F::Value: Send,
@@ -81,17 +81,13 @@ where
     D::Receipt: Send,
     D::Writer: Send,
     D::Reader: Send,
-    ensures ok { IsTrue D.Receipt.keeps → IfOk result (λ run. map string_bytes table.now.paths.items ≡ []
-        → IsTableOf F.meaning (R.remaining reader.old ∷ []) run.table) }
+    ensures ok { IsTrue D.Receipt.keeps
+        → IfOk result (λ run. IsTableOf F.meaning (R.remaining reader.old ∷ []) run.table) }
     ensures steady { OnOk result (R.failures reader.new ≡ R.failures reader.old) }
     ensures only { IfErr result (λ e. e ≢ Refused.Unwritable) }
 {
-    if !table.paths.is_empty() {
-        let feeds = match all_opened(alloc, rt, table.paths.as_slice(), hook) {
-            Ok(feeds) => feeds,
-            Err(refused) => return Err(refused),
-        };
-        return shared::<_, F, Audited<F>, D, H>(rt, alloc, table, functions, feeds, device);
+    if !table.audit {
+        return run_alone(alloc, reader, &functions, &table.config, device);
     }
     let bytes = match read_whole(alloc, reader) {
         Ok(bytes) => bytes,
@@ -104,10 +100,9 @@ where
     shared::<_, F, Audited<F>, D, H>(rt, alloc, table, functions, feeds, device)
 }
 
-/// A run that is not audited, over the feeds that are named, all of which are opened, in order, before a row is read, or over
-/// the reader. One worker needs no thread.
-pub(crate) fn made_plain<
-    R: Source,
+/// A run over the feeds that are named, all of which are opened, in order, before a row is read. One worker that keeps no
+/// histories needs no thread.
+pub(crate) fn made_of_feeds<
     F: OrderFree<Key = Name, Input = i64> + Send + Sync,
     D: Disk + Send,
     H: Files + Threads + Wait + Clock + Sync,
@@ -117,7 +112,6 @@ pub(crate) fn made_plain<
     alloc: Global,
     table: &TableRequest,
     functions: F,
-    reader: &mut R,
     device: D,
     hook: &P,
 ) -> Result<Run<F::Value>, Refused>
@@ -129,16 +123,15 @@ where
     D::Receipt: Send,
     D::Writer: Send,
     D::Reader: Send,
-    ensures steady { OnOk result (R.failures reader.new ≡ R.failures reader.old) }
     ensures only { IfErr result (λ e. e ≢ Refused.Unwritable) }
 {
-    if table.paths.is_empty() {
-        return run_alone(alloc, reader, &functions, &table.config, device);
-    }
     let mut feeds = match all_opened(alloc, rt, table.paths.as_slice(), hook) {
         Ok(feeds) => feeds,
         Err(refused) => return Err(refused),
     };
+    if table.audit {
+        return shared::<_, F, Audited<F>, D, H>(rt, alloc, table, functions, feeds, device);
+    }
     if workers_for(table.workers, feeds.len()) > 1 {
         return shared::<_, F, Plain, D, H>(rt, alloc, table, functions, feeds, device);
     }

@@ -1,38 +1,39 @@
--- What stands for a page of memory or of another device, and how often both have failed.
-use Rattle.std.specs.Prelude.{ℕ, List, ◌∷◌, Option, Some, None}
+-- What belongs to memory or to another device, and what stands for a page of either.
+use Rattle.std.specs.Prelude.{ℕ, List, ◌∷◌, Bool, true, false, Option, Some, None}
 use Rattle.fkv_device.specs.Standing.{Standing}
-use Rattle.fkv_places.specs.declared.chosen.ChosenReceipt.{ChosenReceipt}
-use Rattle.fkv_places.specs.declared.chosen.ChosenReceipt.TheVariants as receipt
-use Rattle.fkv_places.specs.declared.chosen.ChosenWriter.{ChosenWriter}
-use Rattle.fkv_places.specs.declared.chosen.ChosenWriter.TheVariants as writer
-use Rattle.fkv_device.specs.declared.memory.MemoryReceipt.{MemoryReceipt}
-use Rattle.fkv_device.specs.declared.memory.MemoryWriter.{MemoryWriter}
+use Rattle.fkv_places.specs.declared.places.Place.{Place}
+use Rattle.fkv_places.specs.declared.places.Place.TheVariants.{Memory, Other}
+
+-- f of what belongs to memory, or g of what belongs to the other device
+abbrev pub at : {M R : Type 0} {T : Type 1} → (M → T) → (R → T) → Place M R → T
+at f g (Memory x) = f x
+at f g (Other y) = g y
+
+abbrev pub is_memory : {M R : Type 0} → Place M R → Bool
+is_memory (Memory x) = true
+is_memory (Other y) = false
+
+-- there is no other device
+abbrev pub is_absent : {T : Type 0} → Option T → Bool
+is_absent None = true
+is_absent (Some x) = false
 
 -- how often the other device has failed, where there is one
 abbrev pub failures_of : {T : Type 0} → (T → ℕ) → Option T → ℕ
 failures_of failures None = 0
 failures_of failures (Some x) = failures x
 
--- what a page stands for, of this device
-abbrev pub on : ℕ → Standing → Standing
-on device standing = record { number = standing.number; page = standing.page; length = standing.length; bytes = standing.bytes; mark = device ∷ standing.mark }
+-- the same, on the device of this number
+abbrev pub marked : ℕ → Standing → Standing
+marked device s = record { number = s.number; page = s.page; length = s.length; bytes = s.bytes; mark = device ∷ s.mark }
 
--- what a page of memory stands for, and one of the other device: its mark begins with 0, or with 1
-abbrev pub chosen_stands : {R : Type 0} → (MemoryReceipt → Standing) → (R → Standing) → ChosenReceipt R → Standing
-chosen_stands memory other (receipt.Memory r) = on 0 (memory r)
-chosen_stands memory other (receipt.Other r) = on 1 (other r)
+-- what stands for a page: the mark of one in memory begins with 0, and of one on the other device with 1
+abbrev pub stands_at : {M R : Type 0} → (M → Standing) → (R → Standing) → Place M R → Standing
+stands_at memory other (Memory x) = marked 0 (memory x)
+stands_at memory other (Other y) = marked 1 (other y)
 
--- a number of a writer to memory, or of one to the other device
-abbrev pub written_by : {W : Type 0} → (MemoryWriter → ℕ) → (W → ℕ) → ChosenWriter W → ℕ
-written_by memory other (writer.Memory w) = memory w
-written_by memory other (writer.Other w) = other w
-
--- what holds of a writer wherever a write of it comes to a fault
-abbrev pub CanFailToWrite : {W : Type 0} → (MemoryWriter → Type 0) → (W → Type 0) → ChosenWriter W → Type 0
-CanFailToWrite memory other (writer.Memory w) = memory w
-CanFailToWrite memory other (writer.Other w) = other w
-
--- and wherever a read comes to one: of a page of the other device it always may, for that may be missing
-abbrev pub CanFailToRead : {R : Type 0} → (MemoryReceipt → ℕ → Type 0) → ChosenReceipt R → ℕ → Type 0
-CanFailToRead memory (receipt.Memory r) size = memory r size
-CanFailToRead memory (receipt.Other r) size = Unit {0}
+-- what holds wherever a read by a receipt comes to a fault: of a page on the other device nothing more is said, since a reader
+-- may lack that device
+abbrev pub CanFailToRead : {M R : Type 0} → (M → ℕ → Type 0) → Place M R → ℕ → Type 0
+CanFailToRead memory (Memory x) size = memory x size
+CanFailToRead memory (Other y) size = Unit {0}
