@@ -2,7 +2,7 @@
 ghost use Rattle.std.specs.Prelude.{◌≡◌, ◌≢◌, ◌∷◌, [], true, map, IfOk, IfErr, IsTrue, OnOk};
 ghost use Rattle.fkv_feeds.specs.Tables.{IsTableOf};
 
-use crate::opening::{Feed, all_opened, read_whole};
+use crate::opening::{Feed, FeedOf, all_opened, read_whole};
 use fkv_device::Disk;
 use fkv_feeds::{Run, run_alone, run_one};
 use fkv_functions::{Name, OrderFree, Refused};
@@ -93,7 +93,7 @@ where
         Ok(bytes) => bytes,
         Err(refused) => return Err(refused),
     };
-    let mut feeds: Vec<Feed<'_, '_, H::File, P>> = Vec::new(alloc);
+    let mut feeds: Vec<FeedOf<'_, '_, H::File, P>> = Vec::new(alloc);
     let Ok(()) = feeds.push(Feed::Bytes(CountedReader::new(bytes.as_slice()))) else {
         return Err(Refused::NoMemory);
     };

@@ -1,27 +1,31 @@
 //! Opening feeds, and reading one that no thread can take.
 ghost use Rattle.std.specs.Prelude.{◌≡◌, ◌≢◌, ◌⊎◌, IfOk, IfErr, IfSome, OnOk};
-ghost use Rattle.fkv_commands.specs.Sources.{remaining_of, failures_of};
+ghost use Rattle.fkv_commands.specs.Sources.{said_of};
 
 use fkv_functions::Refused;
-use fkv_meters::{Progress, ProgressSource};
+use fkv_meters::ProgressSource;
 use fkv_streams::{CountedReader, Source};
 use std::alloc::Global;
 use std::fs::{self, Files};
-use std::io::{ErrorKind, Read};
+use std::io::ErrorKind;
 
-/// A feed in a file, which tells how far it is, or one whose bytes were read.
+/// A feed in a file, or one whose bytes were read. A run takes both as one type, so it is compiled once.
 #[derive(Drop)]
-pub(crate) enum Feed<'a, 'b, T, P> {
-    File(ProgressSource<'a, CountedReader<T>, P>),
-    Bytes(CountedReader<&'b [u8]>),
+pub(crate) enum Feed<F, B> {
+    File(F),
+    Bytes(B),
 }
 
-impl<'a, 'b, T: Read, P: Progress> Source for Feed<'a, 'b, T, P> {
-    ghost remaining = { remaining_of ⟦<ProgressSource<'a, CountedReader<T>, P> as Source>⟧.remaining
-        ⟦<CountedReader<&'b [u8]> as Source>⟧.remaining };
+/// A feed that tells how far it is where it is in a file; the reader of the bytes has told it of the other.
+pub(crate) type FeedOf<'a, 'b, T, P> = Feed<
+    ProgressSource<'a, CountedReader<T>, P>,
+    CountedReader<&'b [u8]>,
+>;
 
-    ghost failures = { failures_of ⟦<ProgressSource<'a, CountedReader<T>, P> as Source>⟧.failures
-        ⟦<CountedReader<&'b [u8]> as Source>⟧.failures };
+impl<F: Source, B: Source> Source for Feed<F, B> {
+    ghost remaining = { said_of F.remaining B.remaining };
+
+    ghost failures = { said_of F.failures B.failures };
 
     fn read(&mut self, buf: &mut [u8]) -> Result<usize, Refused> {
         match self {
@@ -51,7 +55,7 @@ pub(crate) fn all_opened<'a, 'b, H: Files, P>(
     files: &H,
     paths: &[String],
     hook: &'a P,
-) -> Result<Vec<Feed<'a, 'b, H::File, P>>, Refused>
+) -> Result<Vec<FeedOf<'a, 'b, H::File, P>>, Refused>
     ensures { IfErr result (λ e. e ≢ Refused.Unwritable) }
 {
     let mut feeds = Vec::new(alloc);

@@ -68,7 +68,7 @@ fn folder_of<'a, H: Files>(
     alloc: Global,
     table: &TableRequest,
 ) -> Result<Option<FileDevice<&'a H>>, Refused>
-    ensures ok { IfOk result (λ folder. option_map string_bytes table.now.folder ≡ None → is_absent folder ≡ true) }
+    ensures ok { IfOk result (λ folder. option_map string_bytes table.now.folder ≡ None → IsTrue (is_absent folder)) }
     ensures only { IfErr result (λ e. e ≡ Refused.NoMemory) }
 {
     let Some(folder) = &table.folder else {

@@ -4,10 +4,15 @@ use Rattle.fkv_device.specs.Standing.{Standing}
 use Rattle.fkv_places.specs.declared.places.Place.{Place}
 use Rattle.fkv_places.specs.declared.places.Place.TheVariants.{Memory, Other}
 
--- f of what belongs to memory, or g of what belongs to the other device
-abbrev pub at : {M R : Type 0} {T : Type 1} → (M → T) → (R → T) → Place M R → T
-at f g (Memory x) = f x
-at f g (Other y) = g y
+-- a number of what belongs to memory, or of what belongs to the other device
+abbrev pub number_at : {M R : Type 0} → (M → ℕ) → (R → ℕ) → Place M R → ℕ
+number_at memory other (Memory x) = memory x
+number_at memory other (Other y) = other y
+
+-- this holds of what belongs to memory, or that of what belongs to the other device
+abbrev pub HoldsAt : {M R : Type 0} → (M → Type 0) → (R → Type 0) → Place M R → Type 0
+HoldsAt memory other (Memory x) = memory x
+HoldsAt memory other (Other y) = other y
 
 abbrev pub is_memory : {M R : Type 0} → Place M R → Bool
 is_memory (Memory x) = true

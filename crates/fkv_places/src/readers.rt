@@ -27,7 +27,11 @@ impl<R: PageReader, K: Keeping> PageReader for PlacedReader<R, K> {
 
     ghost can_fail = { λ r size. CanFailToRead ⟦<MemoryReader as PageReader>⟧.can_fail r.place size };
 
-    fn read(&mut self, receipt: &PlacedReceipt<R::Receipt, K>, size: usize) -> Result<Page, Refused> {
+    fn read(
+        &mut self,
+        receipt: &PlacedReceipt<R::Receipt, K>,
+        size: usize,
+    ) -> Result<Page, Refused> {
         match &receipt.place {
             Place::Memory(receipt) => self.memory.read(receipt, size),
             Place::Other(receipt) => match &mut self.other {

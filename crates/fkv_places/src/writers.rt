@@ -1,6 +1,6 @@
 //! Writers of pages to memory, or to another device.
 ghost use Rattle.std.specs.Prelude.{◌≡◌, true, if◌then◌else◌};
-ghost use Rattle.fkv_places.specs.Places.{is_memory, at};
+ghost use Rattle.fkv_places.specs.Places.{is_memory, number_at, HoldsAt};
 
 use crate::keeping::Keeping;
 use crate::places::Place;
@@ -20,11 +20,11 @@ pub struct PlacedWriter<W: PageWriter, K: Keeping> {
 impl<W: PageWriter, K: Keeping> PageWriter for PlacedWriter<W, K> {
     type Receipt = PlacedReceipt<W::Receipt, K>;
 
-    ghost failures = { λ w. at ⟦<MemoryWriter as PageWriter>⟧.failures W.failures w.place };
+    ghost failures = { λ w. number_at ⟦<MemoryWriter as PageWriter>⟧.failures W.failures w.place };
 
-    ghost next = { λ w. at ⟦<MemoryWriter as PageWriter>⟧.next W.next w.place };
+    ghost next = { λ w. number_at ⟦<MemoryWriter as PageWriter>⟧.next W.next w.place };
 
-    ghost can_fail = { λ w. at ⟦<MemoryWriter as PageWriter>⟧.can_fail W.can_fail w.place };
+    ghost can_fail = { λ w. HoldsAt ⟦<MemoryWriter as PageWriter>⟧.can_fail W.can_fail w.place };
 
     fn write(&mut self, page: u64, bytes: &Page) -> Result<PlacedReceipt<W::Receipt, K>, Refused> {
         let place = match &mut self.place {
