@@ -1,5 +1,5 @@
 -- What belongs to memory or to another device, and what stands for a page of either.
-use Rattle.std.specs.Prelude.{ℕ, List, ◌∷◌, Bool, true, false, Option, Some, None}
+use Rattle.std.specs.Prelude.{ℕ, ◌∷◌, Bool, true, false, Option, Some, None}
 use Rattle.fkv_device.specs.Standing.{Standing}
 use Rattle.fkv_places.specs.declared.places.Place.{Place}
 use Rattle.fkv_places.specs.declared.places.Place.TheVariants.{Memory, Other}
