@@ -1,6 +1,6 @@
--- What runs of several workers are not refused by.
-use Rattle.std.proofs.Common.{◌≡◌, ◌<◌, ℕ, List, Option, sym, subst, ◌∙◌}
-use Rattle.std.specs.Prelude.{◌≢◌}
+-- What runs of several workers are not refused by, and answers under a premise.
+use Rattle.std.proofs.Common.{◌≡◌, ◌<◌, ℕ, List, Option, Result, Ok, Err, sym, subst, ◌∙◌}
+use Rattle.std.specs.Prelude.{◌≢◌, IfOk}
 use Rattle.fkv_functions.specs.declared.refusals.Refused.{Refused}
 use Rattle.fkv_functions.specs.declared.refusals.Refused.TheVariants.{BadConfig, Unwritable}
 use Rattle.fkv_feed_rows.specs.Feeds.{TellsUnread}
@@ -15,3 +15,8 @@ module _ {S : Type 0} (remaining : S → Option (List ℕ)) (failures : S → �
   blames-no-writer why (IsUnmade.unread w lt u) e =
       subst (TellsUnread (number_of u.feed.0) most_rows (remaining u.feed.1) (failures u.feed.1) u.after) e u.tells
   blames-no-writer why (IsUnmade.unclosed closing) e = subst IsClosing e closing
+
+-- a fact of an answer that has a premise, as a fact under that premise
+pub later : {T E K : Type 0} (r : Result T E) (P : T → Type 0) → (K → IfOk r P) → IfOk r (λ x. K → P x)
+later (Ok x) P h = h
+later (Err e) P h = tt

@@ -2,7 +2,7 @@
 ghost use Rattle.std.specs.Prelude.{◌≡◌, ◌≢◌, ◌∷◌, [], true, map, IfOk, IfErr, IsTrue, OnOk};
 ghost use Rattle.fkv_feeds.specs.Tables.{IsTableOf};
 
-use crate::opening::{all_opened, read_whole};
+use crate::opening::{Feed, FeedOf, all_opened, read_whole};
 use fkv_device::Disk;
 use fkv_feeds::{Run, run_alone, run_one};
 use fkv_functions::{Mergeable, Name, OrderFree, Refused};
@@ -62,18 +62,22 @@ pub(crate) fn made_of_input<
     R: Source,
     F: Mergeable + OrderFree<Key = Name, Input = i64> + Send + Sync,
     D: Disk + Send,
-    T: Threads + Wait + Clock + Sync,
+    H: Files + Threads + Wait + Clock + Sync,
+    P: Progress + Sync,
 >(
-    rt: &T,
+    rt: &H,
     alloc: Global,
     table: &TableRequest,
     functions: F,
     reader: &mut R,
     device: D,
+    _hook: &P,
 ) -> Result<Run<F::Value>, Refused>
 where
     F::Value: Send,
     F::Output: Send,
+    H::File: Send,
+    H::Dir: Send,
     D::Receipt: Send,
     D::Writer: Send,
     D::Reader: Send,
@@ -89,11 +93,11 @@ where
         Ok(bytes) => bytes,
         Err(refused) => return Err(refused),
     };
-    let mut feeds = Vec::new(alloc);
-    let Ok(()) = feeds.push(CountedReader::new(bytes.as_slice())) else {
+    let mut feeds: Vec<FeedOf<'_, '_, H::File, P>> = Vec::new(alloc);
+    let Ok(()) = feeds.push(Feed::Bytes(CountedReader::new(bytes.as_slice()))) else {
         return Err(Refused::NoMemory);
     };
-    shared::<_, F, Audited<F>, D, T>(rt, alloc, table, functions, feeds, device)
+    shared::<_, F, Audited<F>, D, H>(rt, alloc, table, functions, feeds, device)
 }
 
 /// A run over the feeds that are named, all of which are opened, in order, before a row is read. One worker that keeps no

@@ -1,5 +1,6 @@
 //! Opening feeds, and reading one that no thread can take.
 ghost use Rattle.std.specs.Prelude.{◌≡◌, ◌≢◌, ◌⊎◌, IfOk, IfErr, IfSome, OnOk};
+ghost use Rattle.fkv_commands.specs.Sources.{said_of};
 
 use fkv_functions::Refused;
 use fkv_meters::ProgressSource;
@@ -8,8 +9,31 @@ use std::alloc::Global;
 use std::fs::{self, Files};
 use std::io::ErrorKind;
 
-/// A feed in a file, which tells how far it is.
-pub(crate) type Opened<'a, T, P> = ProgressSource<'a, CountedReader<T>, P>;
+/// A feed in a file, or one whose bytes were read. A run takes both as one type, so it is compiled once.
+#[derive(Drop)]
+pub(crate) enum Feed<F, B> {
+    File(F),
+    Bytes(B),
+}
+
+/// A feed that tells how far it is where it is in a file; the reader of the bytes has told it of the other.
+pub(crate) type FeedOf<'a, 'b, T, P> = Feed<
+    ProgressSource<'a, CountedReader<T>, P>,
+    CountedReader<&'b [u8]>,
+>;
+
+impl<F: Source, B: Source> Source for Feed<F, B> {
+    ghost remaining = { said_of F.remaining B.remaining };
+
+    ghost failures = { said_of F.failures B.failures };
+
+    fn read(&mut self, buf: &mut [u8]) -> Result<usize, Refused> {
+        match self {
+            Feed::File(source) => source.read(buf),
+            Feed::Bytes(source) => source.read(buf),
+        }
+    }
+}
 
 /// Opens the feed of this number, counted from 1. Refused: `Unreadable` with the number; `NoMemory`.
 fn opened<H: Files>(files: &H, path: &str, number: u64) -> Result<CountedReader<H::File>, Refused>
@@ -26,12 +50,12 @@ fn opened<H: Files>(files: &H, path: &str, number: u64) -> Result<CountedReader<
 
 /// Opens feeds, in order, which tell this hook how far they are. Refused: `Unreadable` with the number of the first that
 /// can not be opened, counted from 1; `NoMemory`.
-pub(crate) fn all_opened<'a, H: Files, P>(
+pub(crate) fn all_opened<'a, 'b, H: Files, P>(
     alloc: Global,
     files: &H,
     paths: &[String],
     hook: &'a P,
-) -> Result<Vec<Opened<'a, H::File, P>>, Refused>
+) -> Result<Vec<FeedOf<'a, 'b, H::File, P>>, Refused>
     ensures { IfErr result (λ e. e ≢ Refused.Unwritable) }
 {
     let mut feeds = Vec::new(alloc);
@@ -42,7 +66,7 @@ pub(crate) fn all_opened<'a, H: Files, P>(
             Ok(feed) => feed,
             Err(refused) => return Err(refused),
         };
-        let Ok(()) = feeds.push(ProgressSource::new(feed, hook)) else {
+        let Ok(()) = feeds.push(Feed::File(ProgressSource::new(feed, hook))) else {
             return Err(Refused::NoMemory);
         };
     }

@@ -1,7 +1,8 @@
 //! Making tables of feeds, and writing them.
-ghost use Rattle.std.specs.Prelude.{◌≡◌, ◌≢◌, ◌∷◌, [], List, Err, None, true, map, option_map, string_bytes, IfOk, IfErr, IsTrue, OnOk};
+ghost use Rattle.std.specs.Prelude.{◌≡◌, ◌≢◌, ◌∷◌, [], List, Err, None, true, map, option_map, string_bytes, if◌then◌else◌, IfOk, IfErr, IsTrue, OnOk};
 ghost use Rattle.std.specs.Io.KnownBytes.{Appends};
 ghost use Rattle.fkv_functions.specs.declared.names.Name.{Name};
+ghost use Rattle.fkv_places.specs.Places.{is_absent};
 ghost use Rattle.fkv_streams.specs.Streams.{AppendsPrefix};
 ghost use Rattle.fkv_feeds.specs.Tables.{IsTableOf};
 ghost use Rattle.fkv_feeds.specs.Writing.{table_text};
@@ -9,34 +10,37 @@ ghost use Rattle.fkv_commands.specs.Endings.{PrintsTable, PrintsTablePart};
 
 use crate::making::{made_of_feeds, made_of_input};
 use crate::reporting::Report;
-use fkv_device::{Disk, FileDevice, MemoryDevice};
+use fkv_device::FileDevice;
 use fkv_feeds::{Run, write_table};
 use fkv_functions::{CountFns, MaxFns, Mergeable, Name, OrderFree, Refused, SumFns};
 use fkv_meters::{MeteredDevice, Meters, Progress};
+use fkv_places::{Keeping, PlacedDevice};
 use fkv_requests::{Shown, TableRequest};
 use fkv_streams::{Sink, Source};
 use itoa::Integer;
 use std::alloc::Global;
 use std::fs::Files;
+use std::marker::Brand;
 use std::rt::Clock;
 use std::sync::Wait;
 use std::thread::Threads;
 
-/// The run that is asked for, over the feeds that are named, or over the reader, by a store whose pages go to this device.
-/// Of the files of feeds nothing is known.
+/// The run that is asked for, over the feeds that are named, or over the reader, by a store whose pages go to this folder, else
+/// to memory, and are counted. Of the files of feeds nothing is known.
 fn run_on<
     R: Source,
     F: Mergeable + OrderFree<Key = Name, Input = i64> + Send + Sync,
     H: Files + Threads + Wait + Clock + Sync,
-    D: Disk + Send,
     P: Progress + Sync,
+    K: Keeping + Send,
 >(
     rt: &H,
     alloc: Global,
     table: &TableRequest,
     functions: F,
     reader: &mut R,
-    device: D,
+    folder: Option<FileDevice<&H>>,
+    meters: &Meters,
     hook: &P,
 ) -> Result<Run<F::Value>, Refused>
 where
@@ -44,23 +48,41 @@ where
     F::Output: Send,
     H::File: Send,
     H::Dir: Send,
-    D::Receipt: Send,
-    D::Writer: Send,
-    D::Reader: Send,
-    ensures ok { IsTrue D.Receipt.keeps → IfOk result (λ run. map string_bytes table.now.paths.items ≡ []
+    requires { (if K.keeps then is_absent folder else true) ≡ true }
+    ensures ok { IsTrue K.keeps → IfOk result (λ run. map string_bytes table.now.paths.items ≡ []
         → IsTableOf F.meaning (R.remaining reader.old ∷ []) run.table) }
     ensures steady { OnOk result (R.failures reader.new ≡ R.failures reader.old) }
     ensures only { IfErr result (λ e. e ≢ Refused.Unwritable) }
 {
+    let device = MeteredDevice::new(PlacedDevice::<_, K>::new(alloc, folder), meters);
     if table.paths.is_empty() {
-        made_of_input(rt, alloc, table, functions, reader, device)
+        made_of_input(rt, alloc, table, functions, reader, device, hook)
     } else {
         made_of_feeds(rt, alloc, table, functions, device, hook)
     }
 }
 
-/// The run that is asked for, by a store whose pages go to the folder that is named, else to memory, and are counted. What
-/// a file gives back is not known.
+/// The folder that is named, as a device; `None` where none is. Refused: `NoMemory`.
+fn folder_of<'a, H: Files>(
+    rt: &'a H,
+    alloc: Global,
+    table: &TableRequest,
+) -> Result<Option<FileDevice<&'a H>>, Refused>
+    ensures ok { IfOk result (λ folder. option_map string_bytes table.now.folder ≡ None → IsTrue (is_absent folder)) }
+    ensures only { IfErr result (λ e. e ≡ Refused.NoMemory) }
+{
+    let Some(folder) = &table.folder else {
+        return Ok(None);
+    };
+    let Ok(folder) = String::from_str(alloc, folder.as_str()) else {
+        return Err(Refused::NoMemory);
+    };
+    let page_bits = u32::try_from(table.config.page_bits).unwrap_or(u32::MAX);
+    Ok(Some(FileDevice::new(rt, alloc, folder, page_bits)))
+}
+
+/// The run that is asked for, by a store whose pages go to the folder that is named, else to memory. What a file gives back
+/// is not known.
 fn run_of<
     R: Source,
     F: Mergeable + OrderFree<Key = Name, Input = i64> + Send + Sync,
@@ -86,17 +108,12 @@ where
     ensures steady { OnOk result (R.failures reader.new ≡ R.failures reader.old) }
     ensures only { IfErr result (λ e. e ≢ Refused.Unwritable) }
 {
-    let Some(folder) = &table.folder else {
-        let device = MeteredDevice::new(MemoryDevice::new(alloc), meters);
-        return run_on(rt, alloc, table, functions, reader, device, hook);
-    };
-    let Ok(folder) = String::from_str(alloc, folder.as_str()) else {
-        return Err(Refused::NoMemory);
-    };
-    let page_bits = u32::try_from(table.config.page_bits).unwrap_or(u32::MAX);
-    let device = FileDevice::new(rt, alloc, folder, page_bits);
-    let device = MeteredDevice::new(device, meters);
-    run_on(rt, alloc, table, functions, reader, device, hook)
+    match folder_of(rt, alloc, table) {
+        Ok(folder) => run_on::<R, F, H, P, Brand>(
+            rt, alloc, table, functions, reader, folder, meters, hook,
+        ),
+        Err(refused) => Err(refused),
+    }
 }
 
 /// Makes a table by these functions, and writes it. Answers what the run did.

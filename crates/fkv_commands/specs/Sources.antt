@@ -1,0 +1,9 @@
+-- What is said of a feed, by where it comes from.
+use Rattle.std.specs.Prelude.{ℕ, List, Option}
+use Rattle.fkv_commands.specs.declared.opening.Feed.{Feed}
+use Rattle.fkv_commands.specs.declared.opening.Feed.TheVariants.{File, Bytes}
+
+-- this of a feed in a file, or that of one whose bytes were read
+abbrev pub said_of : {T : Type 0} {F B : Type 0} → (F → T) → (B → T) → Feed F B → T
+said_of file bytes (File f) = file f
+said_of file bytes (Bytes b) = bytes b
