@@ -2,7 +2,7 @@
 ghost use Rattle.std.specs.Prelude.{◌≡◌, ◌≢◌, ◌∷◌, [], List, Err, None, true, map, option_map, string_bytes, if◌then◌else◌, IfOk, IfErr, IsTrue, OnOk};
 ghost use Rattle.std.specs.Io.KnownBytes.{Appends};
 ghost use Rattle.fkv_functions.specs.declared.names.Name.{Name};
-ghost use Rattle.fkv_places.specs.Places.{is_absent};
+ghost use Rattle.fkv_either.specs.Either.{is_absent};
 ghost use Rattle.fkv_streams.specs.Streams.{AppendsPrefix};
 ghost use Rattle.fkv_feeds.specs.Tables.{IsTableOf};
 ghost use Rattle.fkv_feeds.specs.Writing.{table_text};
@@ -14,7 +14,7 @@ use fkv_device::FileDevice;
 use fkv_feeds::{Run, write_table};
 use fkv_functions::{CountFns, MaxFns, Mergeable, Name, OrderFree, Refused, SumFns};
 use fkv_meters::{MeteredDevice, Meters, Progress};
-use fkv_places::{Keeping, PlacedDevice};
+use fkv_either::{Keeping, EitherDevice};
 use fkv_requests::{Shown, TableRequest};
 use fkv_streams::{Sink, Source};
 use itoa::Integer;
@@ -54,7 +54,7 @@ where
     ensures steady { OnOk result (R.failures reader.new ≡ R.failures reader.old) }
     ensures only { IfErr result (λ e. e ≢ Refused.Unwritable) }
 {
-    let device = MeteredDevice::new(PlacedDevice::<_, K>::new(alloc, folder), meters);
+    let device = MeteredDevice::new(EitherDevice::<_, K>::new(alloc, folder), meters);
     if table.paths.is_empty() {
         made_of_input(rt, alloc, table, functions, reader, device, hook)
     } else {

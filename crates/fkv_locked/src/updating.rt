@@ -5,11 +5,11 @@ ghost use Rattle.fkv_locked.specs.AtOnce.{IsUnfit, IsUpdated, entry_at_once};
 
 use crate::locked::Locked;
 use crate::seats::Seat;
-use fkv_core::laws::pendings_stay;
 use fkv_device::Receipt;
 use fkv_functions::{Mergeable, Refused, What};
 use fkv_histories::{Entry, EntryOf, Recorder};
 use fkv_operations::{Answer, Clock, KeyedOp};
+use fkv_partition::pendings_stay;
 
 impl<F: Mergeable, R: Receipt, H: Recorder<F>> Locked<F, R, H> {
     /// Issues an update of a key in a session of a caller, which was told of so many updates, and finishes it, where the last

@@ -25,6 +25,7 @@ pub mod relocations;
 pub mod sessions;
 pub mod updating;
 
+pub use fkv_core::laws::pendings_stay;
 pub use fkv_core::{Config, Progress, ProgressOf, Wait, pairs_of};
 pub use partitions::Partition;
 pub use relocations::{Liveness, Relocation, Stage};

@@ -1,4 +1,4 @@
-use Rattle.fkv_places.specs.Places.{is_absent}
+use Rattle.fkv_either.specs.Either.{is_absent}
 use Rattle.fkv_commands.proofs.tabulating.run_of.Given as goal
 
 -- the device keeps where no folder is named

@@ -2,7 +2,7 @@
 
 /// What belongs to memory, or to another device.
 #[derive(Drop)]
-pub(crate) enum Place<M, R> {
+pub(crate) enum Either<M, R> {
     Memory(M),
     Other(R),
 }

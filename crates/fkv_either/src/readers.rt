@@ -1,10 +1,10 @@
 //! Readers of pages in memory and on another device.
 ghost use Rattle.std.specs.Prelude.{◌≡◌, ◌+◌};
-ghost use Rattle.fkv_places.specs.Places.{failures_of, CanFailToRead};
+ghost use Rattle.fkv_either.specs.Either.{failures_of, CanFailToRead};
 
+use crate::either::Either;
 use crate::keeping::Keeping;
-use crate::places::Place;
-use crate::receipts::PlacedReceipt;
+use crate::receipts::EitherReceipt;
 use fkv_device::failures::Failures;
 use fkv_device::{MemoryReader, Page, PageReader, Receipt};
 use fkv_functions::Refused;
@@ -12,7 +12,7 @@ use std::marker::PhantomData;
 
 /// Reads pages in memory, and those of the other device where there is one.
 #[derive(Drop)]
-pub struct PlacedReader<R: PageReader, K: Keeping> {
+pub struct EitherReader<R: PageReader, K: Keeping> {
     pub(crate) memory: MemoryReader,
     pub(crate) other: Option<R>,
     /// How often it was asked for a page of a device that it has not.
@@ -20,21 +20,21 @@ pub struct PlacedReader<R: PageReader, K: Keeping> {
     pub(crate) of: PhantomData<K>,
 }
 
-impl<R: PageReader, K: Keeping> PageReader for PlacedReader<R, K> {
-    type Receipt = PlacedReceipt<R::Receipt, K>;
+impl<R: PageReader, K: Keeping> PageReader for EitherReader<R, K> {
+    type Receipt = EitherReceipt<R::Receipt, K>;
 
     ghost failures = { λ r. ⟦<MemoryReader as PageReader>⟧.failures r.memory + failures_of R.failures r.other + r.strange };
 
-    ghost can_fail = { λ r size. CanFailToRead ⟦<MemoryReader as PageReader>⟧.can_fail r.place size };
+    ghost can_fail = { λ r size. CanFailToRead ⟦<MemoryReader as PageReader>⟧.can_fail r.either size };
 
     fn read(
         &mut self,
-        receipt: &PlacedReceipt<R::Receipt, K>,
+        receipt: &EitherReceipt<R::Receipt, K>,
         size: usize,
     ) -> Result<Page, Refused> {
-        match &receipt.place {
-            Place::Memory(receipt) => self.memory.read(receipt, size),
-            Place::Other(receipt) => match &mut self.other {
+        match &receipt.either {
+            Either::Memory(receipt) => self.memory.read(receipt, size),
+            Either::Other(receipt) => match &mut self.other {
                 Some(other) => other.read(receipt, size),
                 None => {
                     let page = receipt.page();
