@@ -9,3 +9,4 @@ pub mod FeedLemmas
 pub mod StandLemmas
 pub mod WorkedLemmas
 pub mod StoppedLemmas
+pub mod SplitLemmas

@@ -14,10 +14,10 @@ use Rattle.fkv_histories.specs.Histories.{ops_of}
 use Rattle.fkv_workers.specs.Shares.{rows_at, HasRows, HasShare}
 
 module _ (code : Name → ℕ) (count : ℕ) where
-  rows_one : (p : ℕ) (rows : List (Name × ℤ)) (r : Name × ℤ) → partition_of count (code r.0) ≡ p → rows_at code count p (rows ++ r ∷ []) ≡ rows_at code count p rows ++ r ∷ []
+  pub rows_one : (p : ℕ) (rows : List (Name × ℤ)) (r : Name × ℤ) → partition_of count (code r.0) ≡ p → rows_at code count p (rows ++ r ∷ []) ≡ rows_at code count p rows ++ r ∷ []
   rows_one p rows r is = filter-append (λ x. partition_of count (code x.0) == p) rows (r ∷ []) ∙ rw (eq-eqb (partition_of count (code r.0)) p is) refl
 
-  rows_none : (p : ℕ) (rows : List (Name × ℤ)) (r : Name × ℤ) → (partition_of count (code r.0) ≡ p → ⊥) → rows_at code count p (rows ++ r ∷ []) ≡ rows_at code count p rows
+  pub rows_none : (p : ℕ) (rows : List (Name × ℤ)) (r : Name × ℤ) → (partition_of count (code r.0) ≡ p → ⊥) → rows_at code count p (rows ++ r ∷ []) ≡ rows_at code count p rows
   rows_none p rows r ne = filter-append (λ x. partition_of count (code x.0) == p) rows (r ∷ []) ∙ rw (ne_eqb (partition_of count (code r.0)) p ne) (append-nil (rows_at code count p rows))
 
 module _ {V O : Type 0} (code : Name → ℕ) (count : ℕ) where

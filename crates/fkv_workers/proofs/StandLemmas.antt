@@ -1,6 +1,5 @@
 -- Passes of a store that have no rows yet.
-use Rattle.std.proofs.Common.{◌≡◌, ◌<◌, ◌∙◌, ℕ, ℤ, Bool, List, [], length, replicate, sym, subst}
-use Rattle.std.specs.Prelude.{slice_index_or}
+use Rattle.std.proofs.Common.{◌≡◌, ◌<◌, ℕ, ℤ, Bool, [], replicate, sym, subst}
 use Rattle.std.proofs.lemmas.List.{length-replicate, get_or-replicate}
 use Rattle.fkv_functions.specs.declared.names.Name.{Name}
 use Rattle.fkv_store.specs.Stores.{StoreView}

@@ -1,5 +1,5 @@
 -- What workers that have read all their feeds come to.
-use Rattle.std.proofs.Common.{◌≡◌, ◌<◌, ◌++◌, [], ◌∷◌, ℕ, ◌+◌, ◌%◌, ◌==◌, ℤ, Bool, true, false, List, length, map, Option, Some, None, refl, sym, ap, subst, ◌∙◌, arith}
+use Rattle.std.proofs.Common.{◌≡◌, ◌<◌, [], ◌∷◌, ℕ, ◌+◌, ◌%◌, ◌==◌, ℤ, Bool, true, false, List, length, map, Option, Some, None, refl, sym, ap, subst, ◌∙◌}
 use Rattle.std.specs.Prelude.{IfNone, IsSomeAnd, MatchOption, option_map, slice_get}
 use Rattle.std.specs.List.{All, AllZip, filter, enumerate_from}
 use Rattle.std.proofs.lemmas.List.{length-map}
@@ -10,7 +10,7 @@ use Rattle.fkv_functions.specs.declared.names.Name.{Name}
 use Rattle.fkv_functions.specs.declared.refusals.Refused.{Refused}
 use Rattle.fkv_feeds.specs.Tables.{AreFeeds, most_rows}
 use Rattle.fkv_store.specs.Passes.{PassView}
-use Rattle.fkv_workers.specs.Shares.{AreFed, AreDealt, HasShare, dealt, feeds_of}
+use Rattle.fkv_workers.specs.Shares.{AreDealt, HasShare, dealt}
 use Rattle.fkv_workers.specs.Works.{HasDone, IsFedBy}
 
 -- a worker's feeds by what is known of their texts

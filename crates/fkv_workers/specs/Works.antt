@@ -1,5 +1,6 @@
 -- What a worker does with its feeds, and what is known of it afterwards.
-use Rattle.std.specs.Prelude.{◌≡◌, ◌<◌, ◌+◌, ◌-◌, ◌^◌, ◌≤◌, ◌⊎◌, ℕ, ℤ, Bool, true, List, ◌∷◌, ◌++◌, length, map, slice_get, Option, Some, None, min}
+use Rattle.std.specs.Prelude.{◌≡◌, ◌<◌, ◌+◌, ◌-◌, ◌^◌, ◌≤◌, ◌⊎◌, ℕ, ℤ, Bool, true, FitsSigned, List, [], ◌∷◌, ◌++◌, length, map, slice_get, slice_index_or, Option, Some, None, min}
+use Rattle.std.specs.Int.{w64}
 use Rattle.std.specs.List.{All, AllZip}
 use Rattle.fkv_functions.specs.declared.names.Name.{Name}
 use Rattle.fkv_functions.specs.declared.refusals.Refused.{Refused}
@@ -8,15 +9,28 @@ use Rattle.fkv_feed_rows.specs.Feeds.{TellsUnread}
 use Rattle.fkv_feeds.specs.Tables.{AreFeeds, most_rows}
 use Rattle.fkv_partition.specs.Limits.{IsWithinLimits}
 use Rattle.fkv_partition.specs.Config.{Config}
+use Rattle.fkv_partition.specs.CoreViews.{partition_of}
 use Rattle.fkv_store.specs.Stores.{IsTold, IsClosing}
 use Rattle.fkv_store.specs.Passes.{PassView}
-use Rattle.fkv_workers.specs.Shares.{AreFed, HasShare, dealt}
+use Rattle.fkv_workers.specs.Shares.{AreFed, HasShare, dealt, rows_at}
 
 -- a pass, whose own lists have these rows where entries are kept
 pub record StandsFor {V O : Type 0} (keeps : Bool) (code : Name → ℕ) (pass : PassView Name V ℤ O) (rows : List (Name × ℤ))
     : Type 0 where
   pub some : 0 < length pass.told
   pub share : keeps ≡ true → HasShare code (length pass.told) pass.own rows
+
+-- a pass has some of these rows, and the others wait: those of each partition in a list of its own, in their order
+pub record AreSplit {V O : Type 0} (keeps : Bool) (code : Name → ℕ) (pass : PassView Name V ℤ O)
+    (waiting : List (List (Name × ℤ))) (rows : List (Name × ℤ)) : Type 0 where
+  pub done : List (Name × ℤ)
+  pub stands : StandsFor keeps code pass done
+  pub sized : length waiting ≡ length pass.told
+  pub parts : (p : ℕ) → p < length pass.told → rows_at code (length pass.told) p rows
+      ≡ rows_at code (length pass.told) p done ++ slice_index_or waiting p []
+  pub placed : (p : ℕ) → p < length pass.told
+      → All (λ r. partition_of (length pass.told) (code r.0) ≡ p) (slice_index_or waiting p [])
+  pub small : All (λ r. FitsSigned w64 r.1) rows
 
 -- the number of the feed at this place, counted from 1
 abbrev pub number_of : ℕ → ℕ

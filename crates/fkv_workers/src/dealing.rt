@@ -1,5 +1,5 @@
 //! What workers are given, and what they hand back.
-ghost use Rattle.std.specs.Prelude.{◌≡◌, ◌<◌, ◌⊎◌, ℕ, [], map, None, IfOk, IfErr, OnOk};
+ghost use Rattle.std.specs.Prelude.{◌≡◌, ◌<◌, ◌⊎◌, ℕ, [], length, map, None, IfOk, IfErr, OnOk};
 ghost use Rattle.std.specs.List.{All};
 ghost use Rattle.fkv_functions.specs.declared.refusals.Refused.TheVariants as refused;
 ghost use Rattle.fkv_store.specs.Stores.{IsUnopened};
@@ -33,7 +33,8 @@ pub(crate) fn works<
     requires { 0 < store.now.count }
     ensures feeds { IfOk result
         (λ works. map (λ work. work.feeds.items) works.items ≡ map (λ hand. hand.items) hands.items) }
-    ensures ready { IfOk result (λ works. All (λ work. StandsFor H.keeps F.code work.pass []) works.items) }
+    ensures ready { IfOk result (λ works. All (λ work. StandsFor H.keeps F.code work.pass []
+        × (length work.pass.told ≡ work.store.now.count)) works.items) }
     ensures only { IfErr result IsUnopened }
 {
     let mut works = Vec::new(alloc);

@@ -11,6 +11,7 @@ pub mod deals;
 pub(crate) mod keeping;
 pub mod laws;
 pub mod running;
+pub(crate) mod waiting;
 pub(crate) mod working;
 
 pub use running::{MOST_FEEDS, MOST_WORKERS, run_feeds};

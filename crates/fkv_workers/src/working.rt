@@ -1,11 +1,12 @@
 //! What one worker does: it reads its feeds, one after the other, and makes each row an update.
-ghost use Rattle.std.specs.Prelude.{◌≡◌, ◌⊎◌, ◌++◌, ◌∷◌, [], ℤ, List, map, IfSome, IfNone, IfErr, OnOk};
+ghost use Rattle.std.specs.Prelude.{◌≡◌, ◌<◌, ◌⊎◌, ◌++◌, ◌∷◌, [], ℤ, List, length, map, slice_set, vec_len, IfSome, IfNone, IfErr, OnOk};
 ghost use Rattle.fkv_functions.specs.declared.names.Name.{Name};
 ghost use Rattle.fkv_feeds.specs.Tables.{AreFeeds, most_rows};
 ghost use Rattle.fkv_store.specs.Stores.{IsTold};
-ghost use Rattle.fkv_workers.specs.Works.{StandsFor, IsUnreadOf, HasDone, IsStop};
+ghost use Rattle.fkv_workers.specs.Works.{StandsFor, AreSplit, IsUnreadOf, HasDone, IsStop};
 
 use crate::deals::Hand;
+use crate::waiting::{Waiting, clear, none_wait, put, rows_of};
 use fkv_device::Disk;
 use fkv_feed_rows::{RowSink, read_feed};
 use fkv_feeds::LIMIT;
@@ -18,7 +19,7 @@ use fkv_streams::Source;
 use std::alloc::Global;
 use std::sync::Wait;
 
-/// A pass, into which rows go.
+/// A pass, into which rows go, and those that wait for it.
 #[derive(Drop)]
 struct Rows<'a, W, F: Mergeable, D: Disk, H: Recorder<F>, G> {
     rt: &'a W,
@@ -26,21 +27,102 @@ struct Rows<'a, W, F: Mergeable, D: Disk, H: Recorder<F>, G> {
     store: &'a Store<F, D, H>,
     gate: &'a G,
     pass: Pass<F, D, H>,
+    waiting: Waiting,
+}
+
+/// Makes rows updates by a pass, in order. Refused as the pass refuses an update.
+fn update_all<F: Functions<Key = Name, Input = i64>, D: Disk, H: Recorder<F>, G: Gate>(
+    rt: &impl Wait,
+    alloc: Global,
+    store: &Store<F, D, H>,
+    gate: &G,
+    pass: &mut Pass<F, D, H>,
+    rows: &[(Name, i64)],
+) -> Result<(), Refused>
+    ensures ok { OnOk result ((before : List (Name × ℤ)) → StandsFor H.keeps F.code pass.old before
+        → StandsFor H.keeps F.code pass.new (before ++ rows.now)) }
+    ensures long { OnOk result (length pass.new.told ≡ length pass.old.told) }
+    ensures told { IfErr result IsTold }
+{
+    for row in rows {
+        let (key, amount) = *row;
+        match pass.run(rt, alloc, store, KeyedOp::Rmw(key, amount), gate) {
+            Ok(_answer) => {}
+            Err(refused) => return Err(refused),
+        }
+    }
+    Ok(())
+}
+
+impl<'a, W: Wait, F: Functions<Key = Name, Input = i64>, D: Disk, H: Recorder<F>, G: Gate> Rows<
+    'a,
+    W,
+    F,
+    D,
+    H,
+    G,
+> {
+    /// Makes the rows of a partition that wait updates. Refused as [`update_all`] is.
+    fn make(&mut self, partition: usize) -> Result<(), Refused>
+        requires { partition < vec_len self.old.waiting }
+        ensures ok { OnOk result ((rows : List (Name × ℤ))
+            → AreSplit H.keeps F.code self.old.pass (map (λ rows. rows.items) self.old.waiting.items) rows
+            → AreSplit H.keeps F.code self.new.pass (map (λ rows. rows.items) self.new.waiting.items) rows) }
+        ensures empty { OnOk result (map (λ rows. rows.items) self.new.waiting.items
+            ≡ slice_set (map (λ rows. rows.items) self.old.waiting.items) partition []) }
+        ensures long { OnOk result (length self.new.pass.told ≡ length self.old.pass.told) }
+        ensures store { self.new.store ≡ self.old.store }
+        ensures told { IfErr result IsTold }
+    {
+        let rows = rows_of(&self.waiting, partition);
+        match update_all(
+            self.rt,
+            self.alloc,
+            self.store,
+            self.gate,
+            &mut self.pass,
+            rows,
+        ) {
+            Ok(()) => {}
+            Err(refused) => return Err(refused),
+        }
+        clear(&mut self.waiting, partition);
+        Ok(())
+    }
+
+    /// Makes all rows that wait updates, partition by partition. Refused as [`update_all`] is.
+    fn make_all(&mut self) -> Result<(), Refused>
+        ensures ok { OnOk result ((rows : List (Name × ℤ))
+            → AreSplit H.keeps F.code self.old.pass (map (λ rows. rows.items) self.old.waiting.items) rows
+            → StandsFor H.keeps F.code self.new.pass rows) }
+        ensures told { IfErr result IsTold }
+    {
+        for partition in 0..self.waiting.len() {
+            match self.make(partition) {
+                Ok(()) => {}
+                Err(refused) => return Err(refused),
+            }
+        }
+        Ok(())
+    }
 }
 
 impl<'a, W: Wait, F: Mergeable<Key = Name, Input = i64>, D: Disk, H: Recorder<F>, G: Gate> RowSink
     for Rows<'a, W, F, D, H, G> {
-    ghost stands = { λ r rows. StandsFor H.keeps F.code r.pass rows };
+    ghost stands = { λ r rows. AreSplit H.keeps F.code r.pass (map (λ rows. rows.items) r.waiting.items) rows
+        × (length r.pass.told ≡ r.store.now.count) };
 
     ghost fault = { IsTold };
 
     fn add(&mut self, key: &Name, amount: i64) -> Result<(), Refused> {
-        let update = KeyedOp::Rmw(*key, amount);
-        match self
-            .pass
-            .run(self.rt, self.alloc, self.store, update, self.gate)
-        {
-            Ok(_answer) => Ok(()),
+        let partition = self.store.home(key);
+        match put(&mut self.waiting, partition, key, amount) {
+            Ok(false) => return Ok(()),
+            Ok(true) => {}
+            Err(refused) => return Err(refused),
+        }
+        match self.make(partition) {
+            Ok(()) => Ok(()),
             Err(refused) => Err(refused),
         }
     }
@@ -87,6 +169,31 @@ fn read_all<S: Source + Drop, K: RowSink>(
     Ok(())
 }
 
+/// Reads feeds into a pass, one after the other, until none of their rows waits. Refused as [`read_all`] is, and as the pass
+/// refuses an update.
+fn work_through<
+    W: Wait,
+    S: Source + Drop,
+    F: Functions<Key = Name, Input = i64>,
+    D: Disk,
+    H: Recorder<F>,
+    G: Gate,
+>(alloc: Global, feeds: Hand<S>, rows: &mut Rows<'_, W, F, D, H, G>) -> Result<(), Refused>
+    requires none { AreSplit H.keeps F.code rows.old.pass (map (λ rows. rows.items) rows.old.waiting.items) [] }
+    requires long { length rows.old.pass.told ≡ rows.old.store.now.count }
+    ensures done { OnOk result (HasDone S.remaining S.failures H.keeps F.code feeds.items rows.new.pass) }
+    ensures stopped { IfErr result (IsStop S.remaining S.failures feeds.items) }
+{
+    match read_all(alloc, feeds, rows) {
+        Ok(()) => {}
+        Err(refused) => return Err(refused),
+    }
+    match rows.make_all() {
+        Ok(()) => Ok(()),
+        Err(refused) => Err(refused),
+    }
+}
+
 /// Does a worker's work. Its pass rests at its end, so that no other worker waits for it.
 fn run_work<
     W: Wait,
@@ -96,7 +203,8 @@ fn run_work<
     H: Recorder<F>,
     G: Gate,
 >(rt: &W, asked: Work<'_, S, F, D, H, G>) -> Worked<F, D, H>
-    requires { StandsFor H.keeps F.code asked.pass [] }
+    requires none { StandsFor H.keeps F.code asked.pass [] }
+    requires long { length asked.pass.told ≡ asked.store.now.count }
     ensures done { IfNone result.fault
         (HasDone S.remaining S.failures H.keeps F.code asked.entry.feeds.items result.pass) }
     ensures stopped { IfSome result.fault (IsStop S.remaining S.failures asked.entry.feeds.items) }
@@ -108,14 +216,24 @@ fn run_work<
         pass,
         feeds,
     } = asked;
+    let waiting = match none_wait(alloc, store.partitions()) {
+        Ok(waiting) => waiting,
+        Err(refused) => {
+            return Worked {
+                pass,
+                fault: Some(refused),
+            };
+        }
+    };
     let mut rows = Rows {
         rt,
         alloc,
         store,
         gate,
         pass,
+        waiting,
     };
-    let read = read_all(alloc, feeds, &mut rows);
+    let read = work_through(alloc, feeds, &mut rows);
     let Rows { pass, .. } = rows;
     let mut pass = pass;
     let rested = pass.rest(rt, store);
@@ -144,7 +262,7 @@ impl<
 > Job for Work<'a, S, F, D, H, G> {
     type Output = Worked<F, D, H>;
 
-    ghost ready = { λ j. StandsFor H.keeps F.code j.pass [] };
+    ghost ready = { λ j. StandsFor H.keeps F.code j.pass [] × (length j.pass.told ≡ j.store.now.count) };
 
     ghost gives = { λ j w. IfNone w.fault
         (HasDone S.remaining S.failures H.keeps F.code j.feeds.items w.pass)

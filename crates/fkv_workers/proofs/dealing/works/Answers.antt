@@ -1,6 +1,5 @@
-use Rattle.std.proofs.Common.{◌≡◌, ◌++◌, [], ◌∷◌, map, refl, sym, ap, ◌∙◌}
-use Rattle.std.specs.List.{All}
-use Rattle.std.proofs.lemmas.List.{map_push}
+use Rattle.std.proofs.Common.{◌≡◌, ◌++◌, [], ◌∷◌, length, sym, ap, ◌∙◌}
+use Rattle.std.proofs.lemmas.List.{map_push, length-replicate}
 use Rattle.std.proofs.lemmas.List.Elements.{All-push}
 use Rattle.fkv_workers.specs.Works.{StandsFor}
 use Rattle.fkv_workers.proofs.StandLemmas.{stands_fresh}
@@ -17,6 +16,8 @@ loop-feeds-preserved g c =
           ∙ sym (map_push (λ hand. hand.items) c.loop-feeds.yielded c.in-Some.feeds)));
       ready =
           rw c.in-Ok-push.ensures.items
-          (All-push (λ work. StandsFor g.H.Recorder.keeps g.F.Functions.code work.pass []) c.loop-feeds.works.items _ old.ready
-          (stands_fresh g.H.Recorder.keeps g.F.Functions.code c.args.store.now c.in-Ok.pass c.requires c.in-Ok.ensures.ok));
+          (All-push (λ work. StandsFor g.H.Recorder.keeps g.F.Functions.code work.pass [] × (length work.pass.told ≡ work.store.now.count)) c.loop-feeds.works.items _ old.ready (
+            stands_fresh g.H.Recorder.keeps g.F.Functions.code c.args.store.now c.in-Ok.pass c.requires c.in-Ok.ensures.ok,
+            ap (λ p. length p.told) c.in-Ok.ensures.ok ∙ length-replicate c.args.store.now.count 0,
+          ));
     }

@@ -1,5 +1,5 @@
-use Rattle.std.proofs.Common.{rules, ⊎_elim, ◌≡◌, ◌<◌, length, refl, map, sym, ap, subst, ◌∙◌}
-use Rattle.std.specs.List.{All, AllZip}
+use Rattle.std.proofs.Common.{rules, ⊎_elim, ◌≡◌, ◌<◌, length, refl, map, sym, subst, ◌∙◌}
+use Rattle.std.specs.List.{AllZip}
 use Rattle.std.proofs.lemmas.List.{length-map}
 use Rattle.fkv_records.specs.Records.{size_of}
 use Rattle.fkv_workers.specs.Shares.{HasShare}

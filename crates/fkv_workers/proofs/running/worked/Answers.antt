@@ -1,4 +1,4 @@
-use Rattle.std.proofs.Common.{◌≡◌, ⊎_elim, inl, inr, length, map, sym, ap, subst, ◌∙◌, IfSome}
+use Rattle.std.proofs.Common.{⊎_elim, inl, inr, map, subst, IfSome}
 use Rattle.std.specs.Prelude.{IfErr, IfNone}
 use Rattle.fkv_store.specs.Stores.{IsTold}
 use Rattle.fkv_workers.specs.Works.{HasDone, IsStop}
