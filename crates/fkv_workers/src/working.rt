@@ -31,7 +31,7 @@ struct Rows<'a, W, F: Mergeable, D: Disk, H: Recorder<F>, G> {
 }
 
 /// Makes rows updates by a pass, in order. Refused as the pass refuses an update.
-fn update_all<F: Functions<Key = Name, Input = i64>, D: Disk, H: Recorder<F>, G: Gate>(
+fn update_all<F: Mergeable<Key = Name, Input = i64>, D: Disk, H: Recorder<F>, G: Gate>(
     rt: &impl Wait,
     alloc: Global,
     store: &Store<F, D, H>,
@@ -54,7 +54,7 @@ fn update_all<F: Functions<Key = Name, Input = i64>, D: Disk, H: Recorder<F>, G:
     Ok(())
 }
 
-impl<'a, W: Wait, F: Functions<Key = Name, Input = i64>, D: Disk, H: Recorder<F>, G: Gate> Rows<
+impl<'a, W: Wait, F: Mergeable<Key = Name, Input = i64>, D: Disk, H: Recorder<F>, G: Gate> Rows<
     'a,
     W,
     F,
@@ -174,7 +174,7 @@ fn read_all<S: Source + Drop, K: RowSink>(
 fn work_through<
     W: Wait,
     S: Source + Drop,
-    F: Functions<Key = Name, Input = i64>,
+    F: Mergeable<Key = Name, Input = i64>,
     D: Disk,
     H: Recorder<F>,
     G: Gate,
