@@ -11,6 +11,7 @@ use Rattle.fkv_device.specs.Standing.{Standing, Joined}
 use Rattle.fkv_device.specs.Failing.{ReadFailsBy}
 use Rattle.fkv_texts.specs.declared.entries.Entry.{Entry}
 use Rattle.fkv_texts.specs.Text.{live, newest, value_of}
+use Rattle.fkv_index.specs.Words.{address_of}
 use Rattle.fkv_pages.specs.Loads.{IsHeldBy}
 use Rattle.fkv_operations.specs.After.{key_of, after, answer, shown_of}
 use Rattle.fkv_operations.specs.declared.entries.IndexEntry.{IndexEntry}
@@ -374,7 +375,7 @@ module _ {K V I O R : Type 0} (keeps : Bool) (stands : R → Standing) (cmp : K 
         let y = at_phase x (Load (record l { wanted = b })) in
         let there : context_at w slot c ≡ Some y = ap (λ (t : CoreView K V I). context_at t slot c) is ∙ set-here v slot c now x o.here (Some y) v.records refl in
         let shown : pending_of cmp w.records (Some y) ≡ Some (record { moment = now; value = u }) = sym (ap (pending_of cmp w.records) there) ∙ e in
-        by (l.begin == w.records.begin) (value_of (newest cmp w.records.text (key_of x.op) b)) shown
+        by (l.begin == w.records.begin) (value_of (newest cmp w.records.text (key_of x.op) (address_of l.kept.word))) shown
       where
         by : (t : Bool) (a : Option V) → cond {A = Option (Pending V)} t (Some (record { moment = l.looked; value = a })) None ≡ Some (record { moment = now; value = u }) → ⊥
         by true a k = looked-before l same (ap (λ (z : Pending V). z.moment) (some-same (record { moment = l.looked; value = a }) (record { moment = now; value = u }) (Some (record { moment = l.looked; value = a })) refl k))
