@@ -1,5 +1,4 @@
 -- What is said of a feed, by where it comes from.
-use Rattle.std.specs.Prelude.{ℕ, List, Option}
 use Rattle.fkv_commands.specs.declared.opening.Feed.{Feed}
 use Rattle.fkv_commands.specs.declared.opening.Feed.TheVariants.{File, Bytes}
 

@@ -57,7 +57,8 @@ where
 }
 
 /// A run over a reader's bytes. An audited one reads them whole before it starts threads, since the reader stays where it
-/// is; the entry that it keeps of a row takes more memory than a row of usual length.
+/// is; the entry that it keeps of a row takes more memory than a row of usual length. Its feed has the type of one in a file
+/// (`H`, `P`), so that runs over both are one code.
 pub(crate) fn made_of_input<
     R: Source,
     F: Mergeable + OrderFree<Key = Name, Input = i64> + Send + Sync,
@@ -71,7 +72,6 @@ pub(crate) fn made_of_input<
     functions: F,
     reader: &mut R,
     device: D,
-    _hook: &P,
 ) -> Result<Run<F::Value>, Refused>
 where
     F::Value: Send,

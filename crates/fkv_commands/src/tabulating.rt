@@ -56,7 +56,7 @@ where
 {
     let device = MeteredDevice::new(EitherDevice::<_, K>::new(alloc, folder), meters);
     if table.paths.is_empty() {
-        made_of_input(rt, alloc, table, functions, reader, device, hook)
+        made_of_input::<R, F, _, H, P>(rt, alloc, table, functions, reader, device)
     } else {
         made_of_feeds(rt, alloc, table, functions, device, hook)
     }
@@ -69,6 +69,7 @@ fn folder_of<'a, H: Files>(
     table: &TableRequest,
 ) -> Result<Option<FileDevice<&'a H>>, Refused>
     ensures ok { IfOk result (λ folder. option_map string_bytes table.now.folder ≡ None → IsTrue (is_absent folder)) }
+    ensures named { IfOk result (λ folder. IsTrue (is_absent folder) → option_map string_bytes table.now.folder ≡ None) }
     ensures only { IfErr result (λ e. e ≡ Refused.NoMemory) }
 {
     let Some(folder) = &table.folder else {
