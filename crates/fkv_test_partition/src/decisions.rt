@@ -207,6 +207,7 @@ fn reached(came: Came) -> ChainPosition<u8, i128> {
             previous: 1,
             key: 7,
             value,
+            delta: false,
         }),
     }
 }
