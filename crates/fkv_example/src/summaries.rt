@@ -39,6 +39,8 @@ impl Summary {
     fn with_later(&self, later: &Summary) -> Summary
         ensures { result ≡ with_later self.now later.now }
     {
+        self.known();
+        later.known();
         Summary {
             count: self.count.wrapping_add(later.count),
             least: self.least.min(later.least),
