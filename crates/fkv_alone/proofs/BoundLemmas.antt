@@ -20,9 +20,6 @@ use Rattle.fkv_texts.specs.declared.entries.Entry.{Entry}
 use Rattle.fkv_texts.specs.declared.entries.ChainPosition.{ChainPosition}
 use Rattle.fkv_texts.specs.declared.entries.ChainPosition.TheVariants.{Found, Below}
 use Rattle.fkv_regions.specs.declared.offsets.View.{View}
-use Rattle.fkv_regions.specs.declared.offsets.Region.{Region}
-use Rattle.fkv_regions.specs.declared.offsets.Region.TheVariants as region
-use Rattle.fkv_regions.specs.Offsets.{region_of}
 use Rattle.fkv_pages.specs.Loads.{IsReached, first_place}
 use Rattle.fkv_pages.specs.Views.{text_begin}
 use Rattle.fkv_operations.specs.After.{key_of, shown_of}
@@ -33,11 +30,12 @@ use Rattle.fkv_operations.specs.declared.operations.Answer.TheVariants as answer
 use Rattle.fkv_operations.specs.declared.operations.KeyedOp.{KeyedOp}
 use Rattle.fkv_operations.specs.declared.operations.KeyedOp.TheVariants.{Read, Upsert, Rmw, Delete}
 use Rattle.fkv_lookups.specs.RecordsViews.{RecordsView, class_in, entry_of, found_in, confirmed}
+use Rattle.fkv_lookups.specs.declared.gathered.Gathered.{Gathered}
+use Rattle.fkv_lookups.specs.Lookups.{looked_up, IsGathered}
 use Rattle.fkv_lookups.specs.Meeting.{met_from}
-use Rattle.fkv_lookups.specs.Decisions.{met_in, met_last, met_by}
-use Rattle.fkv_lookups.specs.DecisionLaws.{claim-met, prepare-op}
-use Rattle.fkv_lookups.specs.declared.decisions.LookupResult.{LookupResult}
-use Rattle.fkv_lookups.specs.declared.decisions.LookupResult.TheVariants.{NoEntry, NoValue, OnDisk}
+use Rattle.fkv_lookups.specs.Decisions.{low_of}
+use Rattle.fkv_lookups.specs.DecisionLaws.{claim-met, none-met, prepare-op}
+use Rattle.fkv_lookups.specs.declared.decisions.LookupResult.TheVariants.{NoEntry}
 use Rattle.fkv_lookups.specs.declared.decisions.Decision.TheVariants.{Claim}
 use Rattle.fkv_partition.specs.Context.{Context}
 use Rattle.fkv_partition.specs.Loading.{Loading}
@@ -61,28 +59,10 @@ use Rattle.fkv_alone.proofs.StageLemmas.{some-same, question-rmw}
 use Rattle.fkv_alone.proofs.IndexLemmas.{tentative-tag, tentative-is, tentative-place, confirmed-final, confirmed-tag, alone-made}
 use Rattle.fkv_alone.proofs.CountLemmas.{count-fewer, count-less, last-passes}
 
--- ---- what is met where the class has an entry
-met_by-some : {K V : Type 0} (a begin : ℕ) (view : View) (r : ChainPosition K V) → met_by (Some a) begin view r ≡ NoEntry → ⊥
-met_by-some {K} {V} a begin view (Found e) h = last e.value h
-  where
-    in_region : (g : Region) (w : V) → met_in g w ≡ NoEntry → ⊥
-    in_region region.OnDisk w k = absurd (cc)
-    in_region region.ReadOnly w k = absurd (cc)
-    in_region region.Fuzzy w k = absurd (cc)
-    in_region region.Mutable w k = absurd (cc)
-
-    last : (o : Option V) → met_last view e.address o ≡ NoEntry → ⊥
-    last None k = absurd (cc)
-    last (Some w) k = in_region (region_of view e.address) w k
-met_by-some {K} {V} a begin view (Below b) h = by (nat_lt b begin) _ refl h
-  where
-    by : (t : Bool) (m : LookupResult V) → cond t NoValue (OnDisk b) ≡ m → m ≡ NoEntry → ⊥
-    by true m k e = let bad : NoValue ≡ m = k in absurd (cc)
-    by false m k e = let bad : OnDisk b ≡ m = k in absurd (cc)
-
-met-entry : {K V : Type 0} (cmp : K → K → Ordering) (code : K → ℕ) (r : RecordsView K V) (view : View) (k : K) (o : Option ℕ) → met_from cmp code r view k o ≡ NoEntry → o ≡ None
-met-entry cmp code r view k None h = refl
-met-entry cmp code r view k (Some a) h = absurd (met_by-some a r.begin view _ h)
+-- ---- where no entry is met there is none
+met-entry : {K V : Type 0} (cmp : K → K → Ordering) (join : V → V → V) (code : K → ℕ) (r : RecordsView K V) (view : View) (k : K) (o : Option ℕ) → met_from cmp join code r view k o ≡ NoEntry → o ≡ None
+met-entry cmp join code r view k None h = refl
+met-entry cmp join code r view k (Some a) h = none-met join r.begin view (Some a) (looked_up cmp join code r (low_of r.begin view) k a) h
 
 -- an entry that was found stands
 found-word : {K V : Type 0} (r : RecordsView K V) (c : Class) (e : IndexEntry) → found_in r c ≡ Some e → word_at r.words e.place ≡ e.word
@@ -102,6 +82,24 @@ reached-low entry cmp k bits low a b r (IsReached.none h n) e = absurd (cc)
 reached-low entry cmp k bits low a b r (IsReached.found h n t) e = absurd (cc)
 reached-low entry cmp k bits low a b r (IsReached.on {e = x} h n t rest) e = reached-low entry cmp k bits low x.previous b r rest e
 
+-- and so it does where parts of deltas were gathered
+abbrev position_in : {K V : Type 0} → Result (Gathered K V) Refused → ChainPosition K V
+position_in (Ok g) = g.position
+position_in (Err e) = Below 0
+
+gathered-low : {K V : Type 0} (join : V → V → V) (entry : ℕ → Entry K V → Type 0) (cmp : K → K → Ordering) (k : K) (bits low a b : ℕ) (parts ps : Option V) (r : Result (Gathered K V) Refused)
+    → IsGathered join entry cmp k bits low a parts r → r ≡ Ok (record { parts = ps; position = Below b }) → b < low
+gathered-low join entry cmp k bits low a b parts ps r (IsGathered.refused h) e = absurd (cc)
+gathered-low {K} {V} join entry cmp k bits low a b parts ps r (IsGathered.below {b = d} h) e =
+    let place : Below d ≡ Below b = ap position_in e in
+    let same : d ≡ b = cc in
+    let below : d < low = reached-low entry cmp k bits low a d (Ok (Below d)) h refl in
+    omega arith
+gathered-low {K} {V} join entry cmp k bits low a b parts ps r (IsGathered.found {e = x} h whole) e =
+    let place : Found x ≡ Below b = ap position_in e in
+    absurd (cc)
+gathered-low join entry cmp k bits low a b parts ps r (IsGathered.joins {d = d} h delta rest) e = gathered-low join entry cmp k bits low d.previous b _ ps r rest e
+
 -- which is no higher than the address that was wanted
 page-low : (bits a : ℕ) → 64 ≤ a → first_place bits (page_at bits a) ≤ a
 page-low bits a h = by (page_at bits a == 0) refl
@@ -119,37 +117,37 @@ class-self c = and_from (c.bucket == c.bucket) (c.tag == c.tag) (eq-eqb c.bucket
 class-small : {K V : Type 0} (code : K → ℕ) (r : RecordsView K V) (k : K) → code k < 2 ^ 64 → (class_in code r k).tag < 2 ^ 15
 class-small code r k h = omega arith
 
-module _ {K V I : Type 0} (keeps : Bool) (cmp : K → K → Ordering) (code : K → ℕ) (v : CoreView K V I) (slot c n : ℕ) (s : IsSound keeps cmp code v) where
-  stands-at : (x : Context K V I) (phase : Phase V) → context_at v slot c ≡ Some x → x.phase ≡ phase → StandsFor keeps cmp code v.records x.op phase
-  stands-at x phase h e = subst (λ (p : Phase V). StandsFor keeps cmp code v.records x.op p) e (s.stands (slot * 8 + c) x (open_at (slots_of v) v.contexts slot c x h).here)
+module _ {K V I : Type 0} (keeps : Bool) (cmp : K → K → Ordering) (join : V → V → V) (code : K → ℕ) (v : CoreView K V I) (slot c n : ℕ) (s : IsSound keeps cmp join code v) where
+  stands-at : (x : Context K V I) (phase : Phase V) → context_at v slot c ≡ Some x → x.phase ≡ phase → StandsFor keeps cmp join code v.records x.op phase
+  stands-at x phase h e = subst (λ (p : Phase V). StandsFor keeps cmp join code v.records x.op p) e (s.stands (slot * 8 + c) x (open_at (slots_of v) v.contexts slot c x h).here)
 
-  loading-stands : (op : KeyedOp K V I) (l : Loading) → StandsFor keeps cmp code v.records op (Load l) → IsLoading keeps cmp code v.records (key_of op) l
+  loading-stands : (op : KeyedOp K V I) (l : Loading V) → StandsFor keeps cmp join code v.records op (Load l) → IsLoading keeps cmp join code v.records (key_of op) l
   loading-stands (Read k i) l h = h
   loading-stands (Upsert k u) l h = absurd h
   loading-stands (Rmw k i) l h = h
   loading-stands (Delete k) l h = absurd h
 
   -- fewer records than up to a wanted address are those that pass a narrower test, which fails there
-  fewer-below : IsTrue keeps → (x : Context K V I) (l : Loading) → AwaitsPage v slot c x l → (q : Entry K V → Bool)
+  fewer-below : IsTrue keeps → (x : Context K V I) (l : Loading V) → AwaitsPage v slot c x l → (q : Entry K V → Bool)
       → ((e : Entry K V) → q e ≡ true → (nat_le e.address l.wanted && is_evicted code v.records (key_of x.op) e) ≡ true)
       → ((e : Entry K V) → e.address ≡ l.wanted → q e ≡ false)
-      → length (filter q v.records.text) < evicted_to code v.records (key_of x.op) l.wanted
+      → length (filter q v.records.entries) < evicted_to code v.records (key_of x.op) l.wanted
   fewer-below kept x l a q within fails =
       let ld = loading-stands x.op l (stands-at x (Load l) a.here a.loading) in
       let from : v.records.from ≡ v.records.begin = s.traced.begins ∙ ap (λ b. text_begin b v.records.begin v.records.regions.offsets.closed) kept in
       let low = ld.begun in
       let begin = a.begin in
       let o = ld.class kept a.begin (omega arith) in
-      let at : o.entry.address ≡ l.wanted = eqb-true o.entry.address l.wanted (last-passes (λ e. e.address == l.wanted) v.records.text o.entry o.here) in
+      let at : o.entry.address ≡ l.wanted = eqb-true o.entry.address l.wanted (last-passes (λ e. e.address == l.wanted) v.records.entries o.entry o.here) in
       let disk = ld.on_disk in
       let reaches : nat_le o.entry.address l.wanted ≡ true = grind (arith, nat_tests) in
       let below : nat_lt o.entry.address v.records.regions.offsets.head ≡ true = grind (arith, nat_tests) in
       let classed : same_class (class_in code v.records o.entry.key) (class_in code v.records (key_of x.op)) ≡ true = ap (λ (d : Class). same_class d (class_in code v.records (key_of x.op))) o.class ∙ class-self (class_in code v.records (key_of x.op)) in
-      count-less (λ e. nat_le e.address l.wanted && is_evicted code v.records (key_of x.op) e) q within (λ e. e.address == l.wanted) v.records.text o.entry o.here
+      count-less (λ e. nat_le e.address l.wanted && is_evicted code v.records (key_of x.op) e) q within (λ e. e.address == l.wanted) v.records.entries o.entry o.here
       (and_from _ _ reaches (and_from _ _ below classed)) (fails o.entry at)
 
   -- the way goes on lower
-  wanted-low : (x : Context K V I) (l : Loading) → AwaitsPage v slot c x l → 64 ≤ l.wanted
+  wanted-low : (x : Context K V I) (l : Loading V) → AwaitsPage v slot c x l → 64 ≤ l.wanted
   wanted-low x l a =
       let ld = loading-stands x.op l (stands-at x (Load l) a.here a.loading) in
       let low = ld.begun in let begin = a.begin in let first = s.traced.first in omega arith
@@ -163,8 +161,8 @@ module _ {K V I : Type 0} (keeps : Bool) (cmp : K → K → Ordering) (code : K 
 
     -- ---- a look-up
     fresh-near : (x : Context K V I) → context_at v slot c ≡ Some x → x.phase ≡ Fresh → 2 + evicted code v.records (key_of x.op) ≤ n
-        → ((y : Context K V I) → x ≡ y → Decides cmp f code v slot c y Claim → IsClaimed code v w slot c y now → IsNearer {O = O} {R = R} code w slot c Next n)
-        → (p : Progress K V I O R) → Goes stands cmp f code v w slot c now (Ok p) → IsOn p → IsNearer code w slot c p n
+        → ((y : Context K V I) → x ≡ y → Decides cmp join f code v slot c y Claim → IsClaimed code v w slot c y now → IsNearer {O = O} {R = R} code w slot c Next n)
+        → (p : Progress K V I O R) → Goes stands cmp join f code v w slot c now (Ok p) → IsOn p → IsNearer code w slot c p n
     fresh-near x h fresh le claims p (Goes.unknown here is r) on = absurd (cc)
     fresh-near x h fresh le claims p (Goes.asks y e ask here q is r) on =
         let same : y ≡ x = some-same y x (context_at v slot c) here h in
@@ -198,19 +196,19 @@ module _ {K V I : Type 0} (keeps : Bool) (cmp : K → K → Ordering) (code : K 
           fewer = omega arith;
           near = IsNear.builds z e ask (set-here v slot c now y d.here (Some z) v.records refl) (question-rmw y.number y.op e source (key_of y.op) i (prepare-op f y.op _ source i d.decided)) (found-word v.records (class_in code v.records (key_of y.op)) e found) refl (omega arith);
         }))
-    fresh-near x h fresh le claims p (Goes.asks_page y b e receipt d found held is r) on =
+    fresh-near x h fresh le claims p (Goes.asks_page y b parts e receipt d found held is r) on =
         let t : p ≡ NeedsLoad receipt b = cc in
         let same : x ≡ y = some-same x y (context_at v slot c) h d.here in
         let key : evicted code v.records (key_of x.op) ≡ evicted code v.records (key_of y.op) = ap (λ (z : Context K V I). evicted code v.records (key_of z.op)) same in
-        let l : Loading = record { begin = v.records.begin; kept = e; wanted = b; looked = now } in
+        let l : Loading V = record { begin = v.records.begin; kept = e; wanted = b; parts = parts; looked = now } in
         let z = at_phase y (Load l) in
-        let less : evicted_to code v.records (key_of y.op) b ≤ evicted code v.records (key_of y.op) = count-fewer (is_evicted code v.records (key_of y.op)) (λ u. nat_le u.address b && is_evicted code v.records (key_of y.op) u) (λ u k. (and_parts _ _ k).1) v.records.text in
+        let less : evicted_to code v.records (key_of y.op) b ≤ evicted code v.records (key_of y.op) = count-fewer (is_evicted code v.records (key_of y.op)) (λ u. nat_le u.address b && is_evicted code v.records (key_of y.op) u) (λ u k. (and_parts _ _ k).1) v.records.entries in
         near-as p (NeedsLoad receipt b) t (rw is (record {
           left = 1 + evicted_to code v.records (key_of y.op) b;
           fewer = omega arith;
           near = IsNear.fetches z l receipt b (record { here = set-here v slot c now y d.here (Some z) v.records refl; loading = refl; begin = refl }) (found-word v.records (class_in code v.records (key_of y.op)) e found) refl (omega arith);
         }))
-    fresh-near x h fresh le claims p (Goes.unshared y b d is r) on = absurd (cc)
+    fresh-near x h fresh le claims p (Goes.unshared y b parts d is r) on = absurd (cc)
 
     -- no word is tentative where no operation holds a tentative entry
     unclaimed : NoneClaims v → (q : Place) → is_tentative (word_at v.records.words q) ≡ true → ⊥
@@ -220,23 +218,23 @@ module _ {K V I : Type 0} (keeps : Bool) (cmp : K → K → Ordering) (code : K 
         absurd (cc)
 
     -- a claim is made for a class that has no entry
-    none-met : (y : Context K V I) → Decides cmp f code v slot c y Claim → entry_of v.records (class_in code v.records (key_of y.op)) ≡ None
-    none-met y d = met-entry cmp code v.records (seen_at v slot) (key_of y.op) (entry_of v.records (class_in code v.records (key_of y.op))) (claim-met f y.op _ d.decided)
+    claim-none : (y : Context K V I) → Decides cmp join f code v slot c y Claim → entry_of v.records (class_in code v.records (key_of y.op)) ≡ None
+    claim-none y d = met-entry cmp join code v.records (seen_at v slot) (key_of y.op) (entry_of v.records (class_in code v.records (key_of y.op))) (claim-met f y.op _ d.decided)
 
-    made-met : (y : Context K V I) (p : Place) → IsMade v.records (class_in code v.records (key_of y.op)) p → Decides cmp f code v slot c y Claim → ⊥
+    made-met : (y : Context K V I) (p : Place) → IsMade v.records (class_in code v.records (key_of y.op)) p → Decides cmp join f code v slot c y Claim → ⊥
     made-met y p made d =
         let k = class_in code v.records (key_of y.op) in
         let found : entry_at v.records.words p.bucket (tag_of (word_at v.records.words p)) ≡ Some (address_of (word_at v.records.words p)) = s.traced.map.entry p made.final in
         let here : entry_at v.records.words k.bucket k.tag ≡ Some (address_of (word_at v.records.words p)) = ap (λ b. entry_at v.records.words b k.tag) (sym made.bucket) ∙ ap (λ t. entry_at v.records.words p.bucket t) (sym made.tag) ∙ found in
-        let bad : Some (address_of (word_at v.records.words p)) ≡ None = sym here ∙ none-met y d in
+        let bad : Some (address_of (word_at v.records.words p)) ≡ None = sym here ∙ claim-none y d in
         absurd (cc)
 
     claimed-near : (y : Context K V I) → ((q : Place) → is_tentative (word_at v.records.words q) ≡ true → ⊥) → code (key_of y.op) < 2 ^ 64 → 4 + evicted code v.records (key_of y.op) ≤ n
-        → Decides cmp f code v slot c y Claim → IsClaimed code v w slot c y now → IsNearer {O = O} {R = R} code w slot c Next n
+        → Decides cmp join f code v slot c y Claim → IsClaimed code v w slot c y now → IsNearer {O = O} {R = R} code w slot c Next n
     claimed-near y clear range le d k =
         let kind = class_in code v.records (key_of y.op) in
         let z = at_phase y (Confirm k.place) in
-        let alone = alone-made v.records.words k.claims.probed kind.bucket kind.tag k.place k.claims.probes (class-small code v.records (key_of y.op) range) s.traced.map (none-met y d) clear in
+        let alone = alone-made v.records.words k.claims.probed kind.bucket kind.tag k.place k.claims.probes (class-small code v.records (key_of y.op) range) s.traced.map (claim-none y d) clear in
         let count : evicted code k.records (key_of y.op) ≡ evicted code v.records (key_of y.op) = ap (λ (r : RecordsView K V). evicted code r (key_of y.op)) k.claims.is in
         rw k.is (record {
           left = 3 + evicted code v.records (key_of y.op);
@@ -247,7 +245,7 @@ module _ {K V I : Type 0} (keeps : Bool) (cmp : K → K → Ordering) (code : K 
 
     -- ---- a tentative entry is confirmed
     confirm-near : (x : Context K V I) (place : Place) → context_at v slot c ≡ Some x → x.phase ≡ Confirm place → IsAlone v.records.words place → code (key_of x.op) < 2 ^ 64 → 3 + evicted code v.records (key_of x.op) ≤ n
-        → (p : Progress K V I O R) → Goes stands cmp f code v w slot c now (Ok p) → IsOn p → IsNearer code w slot c p n
+        → (p : Progress K V I O R) → Goes stands cmp join f code v w slot c now (Ok p) → IsOn p → IsNearer code w slot c p n
     confirm-near x place h phase alone range le p goes on = by p goes on
       where
         not-fresh : (y : Context K V I) → context_at v slot c ≡ Some y → y.phase ≡ Fresh → ⊥
@@ -269,7 +267,7 @@ module _ {K V I : Type 0} (keeps : Bool) (cmp : K → K → Ordering) (code : K 
               tag = confirmed-tag v.records.words q there ∙ ap tag_of claim.word ∙ tentative-tag (class_in code v.records (key_of x.op)).tag (class-small code v.records (key_of x.op) range);
             }
 
-        by : (p : Progress K V I O R) → Goes stands cmp f code v w slot c now (Ok p) → IsOn p → IsNearer code w slot c p n
+        by : (p : Progress K V I O R) → Goes stands cmp join f code v w slot c now (Ok p) → IsOn p → IsNearer code w slot c p n
         by p (Goes.unknown here is r) on = absurd (cc)
         by p (Goes.asks y e ask here q is r) on =
             let same : y ≡ x = some-same y x (context_at v slot c) here h in
@@ -300,10 +298,10 @@ module _ {K V I : Type 0} (keeps : Bool) (cmp : K → K → Ordering) (code : K 
         by p (Goes.replaces y value a e d last is r) on = absurd (not-fresh y d.here d.fresh)
         by p (Goes.waits y d is r) on = absurd (not-fresh y d.here d.fresh)
         by p (Goes.prepares y source i e d found is r) on = absurd (not-fresh y d.here d.fresh)
-        by p (Goes.asks_page y b e receipt d found held is r) on = absurd (not-fresh y d.here d.fresh)
-        by p (Goes.unshared y b d is r) on = absurd (not-fresh y d.here d.fresh)
+        by p (Goes.asks_page y b parts e receipt d found held is r) on = absurd (not-fresh y d.here d.fresh)
+        by p (Goes.unshared y b parts d is r) on = absurd (not-fresh y d.here d.fresh)
 
-    goes-near : (p : Progress K V I O R) → IsNear {O = O} {R = R} code v slot c Next n → Goes stands cmp f code v w slot c now (Ok p) → IsOn p → IsNearer code w slot c p n
+    goes-near : (p : Progress K V I O R) → IsNear {O = O} {R = R} code v slot c Next n → Goes stands cmp join f code v w slot c now (Ok p) → IsOn p → IsNearer code w slot c p n
     goes-near p (IsNear.begins x h fresh clear range told le) goes on =
         fresh-near x h fresh (omega arith) (λ y same d k. claimed-near y (unclaimed clear) (subst (λ (z : Context K V I). code (key_of z.op) < 2 ^ 64) same range) (subst (λ (z : Context K V I). 4 + evicted code v.records (key_of z.op) ≤ n) same le) d k) p goes on
     goes-near p (IsNear.confirms x place h phase alone range told le) goes on = confirm-near x place h phase alone range le p goes on
@@ -336,31 +334,31 @@ module _ {K V I : Type 0} (keeps : Bool) (cmp : K → K → Ordering) (code : K 
 
     -- ---- a page came
     loads-near : IsTrue keeps → (entry : ℕ → List ℕ → ℕ → Entry K V → Type 0) (receipt : R) (a : ℕ) (came : Result (Joined R) Refused) (p : Progress K V I O R) → IsNear {O = O} {R = R} code v slot c (NeedsLoad receipt a) n
-        → Loads stands entry cmp f v w slot c came now (Ok p) → IsOn p → IsNearer code w slot c p n
+        → Loads stands entry cmp join f v w slot c came now (Ok p) → IsOn p → IsNearer code w slot c p n
     loads-near kept entry receipt a came p (IsNear.begins x h fresh clear range told le) loads on = absurd (cc)
     loads-near kept entry receipt a came p (IsNear.confirms x place h phase alone range told le) loads on = absurd (cc)
     loads-near kept entry receipt a came p (IsNear.looks x place h fresh made told le) loads on = absurd (cc)
     loads-near kept entry receipt a came p (IsNear.builds x e ask h q word told le) loads on = absurd (cc)
     loads-near kept entry receipt a came p (IsNear.fetches x l rr aa await word told le) loads on = by p loads on
       where
-        same-loading : (y : Context K V I) (m : Loading) → context_at v slot c ≡ Some y → y.phase ≡ Load m → l ≡ m
+        same-loading : (y : Context K V I) (m : Loading V) → context_at v slot c ≡ Some y → y.phase ≡ Load m → l ≡ m
         same-loading y m here phase =
             let same : x ≡ y = some-same x y (context_at v slot c) await.here here in
             let e : Load l ≡ Load m = sym await.loading ∙ ap (λ (z : Context K V I). z.phase) same ∙ phase in
             cc
 
-        stays : (y : Context K V I) (m : Loading) → AwaitsPage v slot c y m → word_at v.records.words m.kept.place ≡ m.kept.word
-        stays y m aw = subst (λ (z : Loading). word_at v.records.words z.kept.place ≡ z.kept.word) (same-loading y m aw.here aw.loading) word
+        stays : (y : Context K V I) (m : Loading V) → AwaitsPage v slot c y m → word_at v.records.words m.kept.place ≡ m.kept.word
+        stays y m aw = subst (λ (z : Loading V). word_at v.records.words z.kept.place ≡ z.kept.word) (same-loading y m aw.here aw.loading) word
 
-        bound : (y : Context K V I) (m : Loading) → AwaitsPage v slot c y m → 1 + evicted_to code v.records (key_of y.op) m.wanted ≤ n
+        bound : (y : Context K V I) (m : Loading V) → AwaitsPage v slot c y m → 1 + evicted_to code v.records (key_of y.op) m.wanted ≤ n
         bound y m aw =
             let one = same-loading y m aw.here aw.loading in
             let same : x ≡ y = some-same x y (context_at v slot c) await.here aw.here in
-            subst (λ (z : Loading). 1 + evicted_to code v.records (key_of y.op) z.wanted ≤ n) one (subst (λ (z : Context K V I). 1 + evicted_to code v.records (key_of z.op) l.wanted ≤ n) same le)
+            subst (λ (z : Loading V). 1 + evicted_to code v.records (key_of y.op) z.wanted ≤ n) one (subst (λ (z : Context K V I). 1 + evicted_to code v.records (key_of z.op) l.wanted ≤ n) same le)
 
-        further : (y : Context K V I) (m : Loading) (b : ℕ) (r : R) → AwaitsPage v slot c y m → b < m.wanted → w ≡ with_context v slot c (Some (at_phase y (Load (record m { wanted = b })))) now → IsNearer {O = O} code w slot c (NeedsLoad r b) n
-        further y m b r aw low is =
-            let next : Loading = record m { wanted = b } in
+        further : (y : Context K V I) (m : Loading V) (b : ℕ) (parts : Option V) (r : R) → AwaitsPage v slot c y m → b < m.wanted → w ≡ with_context v slot c (Some (at_phase y (Load (record m { wanted = b; parts = parts })))) now → IsNearer {O = O} code w slot c (NeedsLoad r b) n
+        further y m b parts r aw low is =
+            let next : Loading V = record m { wanted = b; parts = parts } in
             let z = at_phase y (Load next) in
             let less : evicted_to code v.records (key_of y.op) b < evicted_to code v.records (key_of y.op) m.wanted =
             fewer-below kept y m aw (λ e. nat_le e.address b && is_evicted code v.records (key_of y.op) e)
@@ -373,38 +371,38 @@ module _ {K V I : Type 0} (keeps : Bool) (cmp : K → K → Ordering) (code : K 
               near = IsNear.fetches z next r b (record { here = set-here v slot c now y aw.here (Some z) v.records refl; loading = refl; begin = aw.begin }) (stays y m aw) refl (omega arith);
             })
 
-        by : (p : Progress K V I O R) → Loads stands entry cmp f v w slot c came now (Ok p) → IsOn p → IsNearer code w slot c p n
+        by : (p : Progress K V I O R) → Loads stands entry cmp join f v w slot c came now (Ok p) → IsOn p → IsNearer code w slot c p n
         by p (Loads.unknown here is r) on = absurd (cc)
         by p (Loads.not_ready y here q is r) on = absurd (cc)
-        by p (Loads.moved y m here phase begin is r) on = absurd (begin (ap (λ (z : Loading). z.begin) (sym (same-loading y m here phase)) ∙ await.begin))
+        by p (Loads.moved y m here phase begin is r) on = absurd (begin (ap (λ (z : Loading V). z.begin) (sym (same-loading y m here phase)) ∙ await.begin))
         by p (Loads.failed y m why aw e other is r) on = absurd (cc)
         by p (Loads.unread y m aw e is r) on = absurd (cc)
         by p (Loads.stranger y m j t aw e held other is r) on = absurd (cc)
         by p (Loads.damaged y m j why reads e is r) on = absurd (cc)
-        by p (Loads.bad_link y m j b reads e low place is r) on = absurd (cc)
+        by p (Loads.bad_link y m j b parts reads e low place is r) on = absurd (cc)
         by p (Loads.done y m j k i value told e read is r) on = let a = shown_of f k i value in let t : p ≡ Done a m.looked = cc in off p (Done a m.looked) t on (λ z. z)
         by p (Loads.prepares y m j k i value told e rmw is r) on =
             let ask : Ask K V I = record { number = y.number; key = k; source = value; input = i } in
             let t : p ≡ NeedsBuild ask = cc in
             let z = at_phase y (Prepared m.kept value) in
             let aw = told.reads.awaits in
-            let some : length (filter (λ (e : Entry K V). false) v.records.text) < evicted_to code v.records (key_of y.op) m.wanted = fewer-below kept y m aw (λ e. false) (λ e no_e. let bad : false ≡ true = no_e in absurd (cc)) (λ e at. refl) in
+            let some : length (filter (λ (e : Entry K V). false) v.records.entries) < evicted_to code v.records (key_of y.op) m.wanted = fewer-below kept y m aw (λ e. false) (λ e no_e. let bad : false ≡ true = no_e in absurd (cc)) (λ e at. refl) in
             let le = bound y m aw in
             near-as p (NeedsBuild ask) t (rw is (record {
               left = 1;
               fewer = omega arith;
               near = IsNear.builds z m.kept ask (set-here v slot c now y aw.here (Some z) v.records refl) (question-rmw y.number y.op m.kept value k i rmw) (stays y m aw) refl (omega arith);
             }))
-        by p (Loads.goes_on y m j b r reads e low place held is res) on =
+        by p (Loads.goes_on y m j b parts r reads e low place held is res) on =
             let t : p ≡ NeedsLoad r b = cc in
             let aw = reads.awaits in
-            let under = reached-low _ cmp (key_of y.op) v.records.page_bits (first_place v.records.page_bits (page_at v.records.page_bits m.wanted)) m.wanted b (Ok (Below b)) reads.reads refl in
+            let under = gathered-low join _ cmp (key_of y.op) v.records.page_bits (first_place v.records.page_bits (page_at v.records.page_bits m.wanted)) m.wanted b m.parts parts _ reads.reads refl in
             let first = page-low v.records.page_bits m.wanted (wanted-low y m aw) in
-            near-as p (NeedsLoad r b) t (further y m b r aw (omega arith) is)
-        by p (Loads.unshared y m j b reads e low place is r) on = absurd (cc)
+            near-as p (NeedsLoad r b) t (further y m b parts r aw (omega arith) is)
+        by p (Loads.unshared y m j b parts reads e low place is r) on = absurd (cc)
 
     -- ---- of each result
-    pub goes-nearer : IsNear {O = O} {R = R} code v slot c Next n → (r : Result (Progress K V I O R) Refused) → Goes stands cmp f code v w slot c now r → IfOk r (λ p. IsOn p → IsNearer code w slot c p n)
+    pub goes-nearer : IsNear {O = O} {R = R} code v slot c Next n → (r : Result (Progress K V I O R) Refused) → Goes stands cmp join f code v w slot c now r → IfOk r (λ p. IsOn p → IsNearer code w slot c p n)
     goes-nearer near (Ok p) goes = goes-near p near goes
     goes-nearer near (Err why) goes = tt
 
@@ -413,7 +411,7 @@ module _ {K V I : Type 0} (keeps : Bool) (cmp : K → K → Ordering) (code : K 
     installs-nearer ask near (Err why) installs = tt
 
     pub loads-nearer : IsTrue keeps → (entry : ℕ → List ℕ → ℕ → Entry K V → Type 0) (receipt : R) (a : ℕ) (came : Result (Joined R) Refused) → IsNear {O = O} {R = R} code v slot c (NeedsLoad receipt a) n
-        → (r : Result (Progress K V I O R) Refused) → Loads stands entry cmp f v w slot c came now r → IfOk r (λ p. IsOn p → IsNearer code w slot c p n)
+        → (r : Result (Progress K V I O R) Refused) → Loads stands entry cmp join f v w slot c came now r → IfOk r (λ p. IsOn p → IsNearer code w slot c p n)
     loads-nearer kept entry receipt a came near (Ok p) loads = loads-near kept entry receipt a came p near loads
     loads-nearer kept entry receipt a came near (Err why) loads = tt
 

@@ -21,20 +21,20 @@ use Rattle.fkv_alone.specs.Stages.{IsOpen, HasCome}
 use Rattle.fkv_alone.specs.Ending.{IsOver, IsOn, IsHalted}
 use Rattle.fkv_alone.proofs.OpenLemmas.{leaves-then, leaves-own, leaves-self, set-here, set-frame, open_at, context-other}
 
-module _ {K V I O R : Type 0} (keeps : Bool) (stands : R → Standing) (cmp : K → K → Ordering) (f : Meanings K V I O) (code : K → ℕ) (op : KeyedOp K V I) (old : CoreView K V I) (slot c started : ℕ) where
+module _ {K V I O R : Type 0} (keeps : Bool) (stands : R → Standing) (cmp : K → K → Ordering) (join : V → V → V) (f : Meanings K V I O) (code : K → ℕ) (op : KeyedOp K V I) (old : CoreView K V I) (slot c started : ℕ) where
   -- an operation that is to go on is open
-  come-open : (v : CoreView K V I) (p : Progress K V I O R) → HasCome keeps stands cmp f code op old v slot c started p → IsOn p → (x : Context K V I) × IsOpen op old v slot c started x
+  come-open : (v : CoreView K V I) (p : Progress K V I O R) → HasCome keeps stands cmp join f code op old v slot c started p → IsOn p → (x : Context K V I) × IsOpen op old v slot c started x
   come-open v (Done a effect) h on = absurd on
   come-open v Next h on = (h.operation, h.open_is)
   come-open v (NeedsBuild ask) h on = (h.operation, h.open_is)
   come-open v (NeedsLoad r a) h on = (h.operation, h.open_is)
   come-open v (Waits why) h on = absurd on
 
-  pub come-halted : (v : CoreView K V I) (p : Progress K V I O R) → HasCome keeps stands cmp f code op old v slot c started p → IsOn p → IsHalted old v slot c
+  pub come-halted : (v : CoreView K V I) (p : Progress K V I O R) → HasCome keeps stands cmp join f code op old v slot c started p → IsOn p → IsHalted old v slot c
   come-halted v p h on = let o = come-open v p h on in record { records = o.1.records; frame = o.1.frame }
 
   -- an event is refused
-  pub stop-halted : (v w : CoreView K V I) (p : Progress K V I O R) → HasCome keeps stands cmp f code op old v slot c started p → IsOn p → (w ≡ v) ⊎ IsOver old w slot c → IsHalted old w slot c
+  pub stop-halted : (v w : CoreView K V I) (p : Progress K V I O R) → HasCome keeps stands cmp join f code op old v slot c started p → IsOn p → (w ≡ v) ⊎ IsOver old w slot c → IsHalted old w slot c
   stop-halted v w p h on e = elim e [
     | inl same ↦ subst (λ (u : CoreView K V I). IsHalted old u slot c) (sym same) (come-halted v p h on)
     | inr over ↦ record { records = over.records; frame = over.frame }

@@ -97,30 +97,30 @@ module _ {K V I : Type 0} (code : K → ℕ) (old new : PartitionView K V I) (sl
         fresh = refl;
       }
 
-module _ {K V I O R : Type 0} (keeps : Bool) (stands : R → Standing) (cmp : K → K → Ordering) (f : Meanings K V I O) (code : K → ℕ) (op : KeyedOp K V I) (old v : PartitionView K V I) (slot c limit start now end before after : ℕ) (opens : Opens code old slot c op)
+module _ {K V I O R : Type 0} (keeps : Bool) (stands : R → Standing) (cmp : K → K → Ordering) (join : V → V → V) (f : Meanings K V I O) (code : K → ℕ) (op : KeyedOp K V I) (old v : PartitionView K V I) (slot c limit start now end before after : ℕ) (opens : Opens code old slot c op)
     (first : now ≡ start + 1) (some : 0 < limit) where
   -- it is done or waits
-  come-ends : (p : Progress K V I O R) → HasCome keeps stands cmp f code op old.core v.core slot c now p → (IsOn p → ⊥) → end ≤ start + limit → after ≡ before → Ends keeps cmp f code op old v slot limit start end before after (Ok p)
+  come-ends : (p : Progress K V I O R) → HasCome keeps stands cmp join f code op old.core v.core slot c now p → (IsOn p → ⊥) → end ≤ start + limit → after ≡ before → Ends keeps cmp join f code op old v slot limit start end before after (Ok p)
   come-ends (Done a effect) h off within steady = Ends.done c a effect opens (subst (λ n. IsDone keeps cmp f op old.core v.core slot c n a effect) first h) within steady refl
   come-ends Next h off within steady = absurd (off tt)
   come-ends (NeedsBuild ask) h off within steady = absurd (off tt)
   come-ends (NeedsLoad r a) h off within steady = absurd (off tt)
-  come-ends (Waits why) h off within steady = Ends.waits c why opens (subst (λ n. IsWaiting cmp code op old.core v.core slot c n why) first h) within steady refl
+  come-ends (Waits why) h off within steady = Ends.waits c why opens (subst (λ n. IsWaiting cmp join code op old.core v.core slot c n why) first h) within steady refl
 
-  pub driven-ends : (p : Progress K V I O R) → Drives keeps stands cmp f code op old.core v.core slot c now (limit - 1) now end before after (Ok p) → Ends keeps cmp f code op old v slot limit start end before after (Ok p)
+  pub driven-ends : (p : Progress K V I O R) → Drives keeps stands cmp join f code op old.core v.core slot c now (limit - 1) now end before after (Ok p) → Ends keeps cmp join f code op old v slot limit start end before after (Ok p)
   driven-ends p (Drives.ends q come off within steady r) =
       let same : q ≡ p = cc in
-      subst (λ (u : Progress K V I O R). Ends keeps cmp f code op old v slot limit start end before after (Ok u)) same (come-ends q come off (omega arith) steady)
+      subst (λ (u : Progress K V I O R). Ends keeps cmp join f code op old v slot limit start end before after (Ok u)) same (come-ends q come off (omega arith) steady)
   driven-ends p (Drives.refused why halted within stop r) = absurd (cc)
   driven-ends p (Drives.stalled halted e steady r) = absurd (cc)
   driven-ends p (Drives.exhausted halted e within steady r) = absurd (cc)
 
   -- it is refused, and over once it is given up
-  pub driven-over : (w : PartitionView K V I) (why : Refused) → Drives {O = O} keeps stands cmp f code op old.core v.core slot c now (limit - 1) now end before after (Err why) → IsOver v.core w.core slot c → Ends {R = R} keeps cmp f code op old w slot limit start end before after (Err why)
+  pub driven-over : (w : PartitionView K V I) (why : Refused) → Drives {O = O} keeps stands cmp join f code op old.core v.core slot c now (limit - 1) now end before after (Err why) → IsOver v.core w.core slot c → Ends {R = R} keeps cmp join f code op old w slot limit start end before after (Err why)
   driven-over w why (Drives.ends q come off within steady r) over = absurd (cc)
   driven-over w why (Drives.refused e halted within stop r) over =
       let same : e ≡ why = cc in
-      subst (λ (u : Refused). Ends {R = R} keeps cmp f code op old w slot limit start end before after (Err u)) same
+      subst (λ (u : Refused). Ends {R = R} keeps cmp join f code op old w slot limit start end before after (Err u)) same
       (Ends.refused c e opens (halted-over old.core v.core w.core slot c halted over) (omega arith) stop refl)
   driven-over w why (Drives.stalled halted e steady r) over =
       Ends.stalled c opens (halted-over old.core v.core w.core slot c halted over) (omega arith) steady r

@@ -83,17 +83,17 @@ module _ {K V I : Type 0} where
         ap (λ (z : Asked K V I). z.op) (sym (same_Some (record { number = x.number; op = op_of x.op }) q (sym mine ∙ was)))
 
     module _ (empty : joined (slice_get v.relocations (slot * 8 + c)) ≡ None) where
-      pub goes-on-key : {O R : Type 0} (stands : R → Standing) (cmp : K → K → Ordering) (f : Meanings K V I O) (code : K → ℕ) (r : Result (Progress K V I O R) Refused) → Goes stands cmp f code v w slot c now r → going.Goes stands cmp f code v.core w.core slot c now r × (w ≡ with_core v w.core)
-      goes-on-key stands cmp f code r (Goes.on_key none does rest) = (does, rest)
-      goes-on-key stands cmp f code r (Goes.relocation x h does) = absurd (refuted x (relocation_at v slot c) h (none-at v slot c empty))
+      pub goes-on-key : {O R : Type 0} (stands : R → Standing) (cmp : K → K → Ordering) (join : V → V → V) (f : Meanings K V I O) (code : K → ℕ) (r : Result (Progress K V I O R) Refused) → Goes stands cmp join f code v w slot c now r → going.Goes stands cmp join f code v.core w.core slot c now r × (w ≡ with_core v w.core)
+      goes-on-key stands cmp join f code r (Goes.on_key none does rest) = (does, rest)
+      goes-on-key stands cmp join f code r (Goes.relocation x h does) = absurd (refuted x (relocation_at v slot c) h (none-at v slot c empty))
 
       pub installs-on-key : {O R : Type 0} (cmp : K → K → Ordering) (f : Meanings K V I O) (code : K → ℕ) (ask : Ask K V I) (r : Result (Progress K V I O R) Refused) → Installs cmp f code v w slot c ask now r → installing.Installs cmp f code v.core w.core slot c ask now r × (w ≡ with_core v w.core)
       installs-on-key cmp f code ask r (Installs.on_key none does rest) = (does, rest)
       installs-on-key cmp f code ask r (Installs.relocation x h same e) = absurd (refuted x (relocation_at v slot c) h (none-at v slot c empty))
 
-      pub loads-on-key : {O R : Type 0} (stands : R → Standing) (entry : ℕ → List ℕ → ℕ → Entry K V → Type 0) (cmp : K → K → Ordering) (f : Meanings K V I O) (code : K → ℕ) (came : Result (Joined R) Refused) (r : Result (Progress K V I O R) Refused) → Loads stands entry cmp f code v w slot c came now r → loading.Loads stands entry cmp f v.core w.core slot c came now r × (w ≡ with_core v w.core)
-      loads-on-key stands entry cmp f code came r (Loads.on_key none does rest) = (does, rest)
-      loads-on-key stands entry cmp f code came r (Loads.relocation x h does) = absurd (refuted x (relocation_at v slot c) h (none-at v slot c empty))
+      pub loads-on-key : {O R : Type 0} (stands : R → Standing) (entry : ℕ → List ℕ → ℕ → Entry K V → Type 0) (cmp : K → K → Ordering) (join : V → V → V) (f : Meanings K V I O) (code : K → ℕ) (came : Result (Joined R) Refused) (r : Result (Progress K V I O R) Refused) → Loads stands entry cmp join f code v w slot c came now r → loading.Loads stands entry cmp join f v.core w.core slot c came now r × (w ≡ with_core v w.core)
+      loads-on-key stands entry cmp join f code came r (Loads.on_key none does rest) = (does, rest)
+      loads-on-key stands entry cmp join f code came r (Loads.relocation x h does) = absurd (refuted x (relocation_at v slot c) h (none-at v slot c empty))
 
       pub none-here : relocation_at v slot c ≡ None
       none-here = none-at v slot c empty

@@ -122,28 +122,28 @@ stop-of tail page before after why h = elim h [
   | inr d ↦ IsStop.damaged page d.0 d.1
 ]
 
-module _ {K V I O R : Type 0} (keeps : Bool) (stands : R → Standing) (cmp : K → K → Ordering) (f : Meanings K V I O) (code : K → ℕ) (op : KeyedOp K V I) (old v w : CoreView K V I) (slot c started now : ℕ) (later : v.moment < now) where
-  told-as : (p q : Progress K V I O R) → p ≡ q → HasCome keeps stands cmp f code op old w slot c started q → HasCome keeps stands cmp f code op old w slot c started p
-  told-as p q e h = subst (HasCome keeps stands cmp f code op old w slot c started) (sym e) h
+module _ {K V I O R : Type 0} (keeps : Bool) (stands : R → Standing) (cmp : K → K → Ordering) (join : V → V → V) (f : Meanings K V I O) (code : K → ℕ) (op : KeyedOp K V I) (old v w : CoreView K V I) (slot c started now : ℕ) (later : v.moment < now) where
+  told-as : (p q : Progress K V I O R) → p ≡ q → HasCome keeps stands cmp join f code op old w slot c started q → HasCome keeps stands cmp join f code op old w slot c started p
+  told-as p q e h = subst (HasCome keeps stands cmp join f code op old w slot c started) (sym e) h
 
   -- the tail is where it was
   tail-was : (x : Context K V I) → IsOpen op old v slot c started x → v.records.tail ≡ 2 ^ 48 → old.records.tail ≡ 2 ^ 48
   tail-was x o e = sym (ap (λ (r : RecordsView K V). r.tail) o.records) ∙ e
 
   -- ---- it goes on
-  event-done : (x : Context K V I) → IsOpen op old v slot c started x → (p : Progress K V I O R) (a : Answer O) → p ≡ Done a now → IsEvent cmp f v w slot c now p → HasCome keeps stands cmp f code op old w slot c started p
+  event-done : (x : Context K V I) → IsOpen op old v slot c started x → (p : Progress K V I O R) (a : Answer O) → p ≡ Done a now → IsEvent cmp f v w slot c now p → HasCome keeps stands cmp join f code op old w slot c started p
   event-done x o p a e event =
       let ev : IsEvent cmp f v w slot c now (Done a now) = subst (IsEvent cmp f v w slot c now) e event in
       told-as p (Done a now) e (done-told op old v slot c started x o keeps cmp f w now a later (mapped-none asked_by (context_at w slot c) ev.effect.0) ev.frame
       (λ kept. let q = open-asks op old v slot c started x o ev.question ev.was in
       (subst (λ (z : KeyedOp K V I). Same (live_of cmp w) (after cmp f (live_of cmp v) z)) q ev.effect.2, ev.effect.3 ∙ ap (answer f (live_of cmp v)) q)))
 
-  asked-page : (x : Context K V I) (b : ℕ) (e : IndexEntry) (receipt : R) → IsOpen op old v slot c started x → IsHeldBy v.records.receipts (page_at v.records.page_bits b) (stands receipt)
-      → w ≡ with_context v slot c (Some (at_phase x (Load (record { begin = v.records.begin; kept = e; wanted = b; looked = now })))) now
+  asked-page : (x : Context K V I) (b : ℕ) (parts : Option V) (e : IndexEntry) (receipt : R) → IsOpen op old v slot c started x → IsHeldBy v.records.receipts (page_at v.records.page_bits b) (stands receipt)
+      → w ≡ with_context v slot c (Some (at_phase x (Load (record { begin = v.records.begin; kept = e; wanted = b; parts = parts; looked = now })))) now
       → (IsTrue keeps → pending cmp w slot c ≡ Some (record { moment = now; value = live_of cmp v (key_of x.op) }))
       → IsFetching keeps cmp op old w slot c started (stands receipt) b
-  asked-page x b e receipt o held is finds =
-      let l : Loading = record { begin = v.records.begin; kept = e; wanted = b; looked = now } in
+  asked-page x b parts e receipt o held is finds =
+      let l : Loading V = record { begin = v.records.begin; kept = e; wanted = b; parts = parts; looked = now } in
       let y = at_phase x (Load l) in
       let here = set-here v slot c now x o.here (Some y) v.records refl in
       let value : live_of cmp v (key_of x.op) ≡ live_of cmp old (key_of op) = ap (λ (z : KeyedOp K V I). live_of cmp v (key_of z)) o.op_is ∙ ap (λ (r : RecordsView K V). live cmp r.text (key_of op)) o.records in
@@ -161,8 +161,8 @@ module _ {K V I O R : Type 0} (keeps : Bool) (stands : R → Standing) (cmp : K 
         finds = there;
       })
 
-  pub goes-told : IsReady op old v slot c started → (p : Progress K V I O R) → Goes stands cmp f code v w slot c now (Ok p) → IsEvent cmp f v w slot c now p → (IsTrue keeps → Asks cmp v w slot c now p)
-      → HasCome keeps stands cmp f code op old w slot c started p
+  pub goes-told : IsReady op old v slot c started → (p : Progress K V I O R) → Goes stands cmp join f code v w slot c now (Ok p) → IsEvent cmp f v w slot c now p → (IsTrue keeps → Asks cmp v w slot c now p)
+      → HasCome keeps stands cmp join f code op old w slot c started p
   goes-told h p (Goes.unknown here is r) event finds = absurd (cc)
   goes-told h p (Goes.asks x e ask here q is r) event finds =
       let t : p ≡ NeedsBuild ask = cc in
@@ -198,7 +198,7 @@ module _ {K V I O R : Type 0} (keeps : Bool) (stands : R → Standing) (cmp : K 
       let t : p ≡ Waits Fuzzy = cc in
       let o = open-same op old v slot c started h.operation x h.open_is d.here in
       let fuzzy = wait-met f x.op _ d.decided in
-      let met = subst (λ (k : K). met_at cmp code v slot k ≡ meets.Fuzzy fuzzy.0) (ap key_of o.op_is) fuzzy.1 in
+      let met = subst (λ (k : K). met_at cmp join code v slot k ≡ meets.Fuzzy fuzzy.0) (ap key_of o.op_is) fuzzy.1 in
       told-as p (Waits Fuzzy) t (rw is (record { operation = x; open_is = open-pass op old v slot c started x o now later; reason = (fuzzy.0, met) }))
   goes-told h p (Goes.prepares x source i e d found is r) event finds =
       let ask : Ask K V I = record { number = x.number; key = key_of x.op; source = source; input = i } in
@@ -213,13 +213,13 @@ module _ {K V I O R : Type 0} (keeps : Bool) (stands : R → Standing) (cmp : K 
         kept = e;
         question = question-rmw x.number x.op e source (key_of x.op) i is_rmw;
       }))
-  goes-told h p (Goes.asks_page x b e receipt d found held is r) event finds =
+  goes-told h p (Goes.asks_page x b parts e receipt d found held is r) event finds =
       let t : p ≡ NeedsLoad receipt b = cc in
       let o = open-same op old v slot c started h.operation x h.open_is d.here in
-      told-as p (NeedsLoad receipt b) t (asked-page x b e receipt o held is (λ kept. subst (Asks cmp v w slot c now) t (finds kept) x d.here))
-  goes-told h p (Goes.unshared x b d is r) event finds = absurd (cc)
+      told-as p (NeedsLoad receipt b) t (asked-page x b parts e receipt o held is (λ kept. subst (Asks cmp v w slot c now) t (finds kept) x d.here))
+  goes-told h p (Goes.unshared x b parts d is r) event finds = absurd (cc)
 
-  pub goes-stops : IsReady op old v slot c started → (why : Refused) → Goes {O = O} {R = R} stands cmp f code v w slot c now (Err why) → (why ≡ NoMemory) ⊎ ((why ≡ Worn) × (old.records.tail ≡ 2 ^ 48))
+  pub goes-stops : IsReady op old v slot c started → (why : Refused) → Goes {O = O} {R = R} stands cmp join f code v w slot c now (Err why) → (why ≡ NoMemory) ⊎ ((why ≡ Worn) × (old.records.tail ≡ 2 ^ 48))
   goes-stops h why (Goes.unknown here is r) = absurd (some-none h.operation (context_at v slot c) h.open_is.here here)
   goes-stops h why (Goes.asks x e ask here q is r) = absurd (cc)
   goes-stops h why (Goes.not_ready x l here phase is r) =
@@ -237,18 +237,18 @@ module _ {K V I O R : Type 0} (keeps : Bool) (stands : R → Standing) (cmp : K 
   goes-stops h why (Goes.replaces x value a e d last is r) = absurd (cc)
   goes-stops h why (Goes.waits x d is r) = absurd (cc)
   goes-stops h why (Goes.prepares x source i e d found is r) = absurd (cc)
-  goes-stops h why (Goes.asks_page x b e receipt d found held is r) = absurd (cc)
-  goes-stops h why (Goes.unshared x b d is r) = let e : why ≡ NoMemory = cc in inl e
+  goes-stops h why (Goes.asks_page x b parts e receipt d found held is r) = absurd (cc)
+  goes-stops h why (Goes.unshared x b parts d is r) = let e : why ≡ NoMemory = cc in inl e
 
-  pub goes-advances : IsReady op old v slot c started → (n : ℕ) (result : Result (Progress K V I O R) Refused) → Goes stands cmp f code v w slot c now result → IfOk result (λ p. IsEvent cmp f v w slot c now p)
+  pub goes-advances : IsReady op old v slot c started → (n : ℕ) (result : Result (Progress K V I O R) Refused) → Goes stands cmp join f code v w slot c now result → IfOk result (λ p. IsEvent cmp f v w slot c now p)
       → (IsTrue keeps → IfOk result (λ p. Asks cmp v w slot c now p)) → OnErr result (w ≡ v)
-      → Advances keeps stands cmp f code op old v w slot c started n n result
+      → Advances keeps stands cmp join f code op old v w slot c started n n result
   goes-advances h n (Ok p) goes event finds err = (goes-told h p goes event finds, refl)
   goes-advances h n (Err why) goes event finds err = (elim (goes-stops h why goes) [ inl e ↦ IsStop.memory e refl | inr e ↦ IsStop.worn e.0 e.1 refl ], inl err)
 
   -- ---- what was built is installed
   pub installs-told : (ask : Ask K V I) → IsAsking op old v slot c started ask → (p : Progress K V I O R) → Installs cmp f code v w slot c ask now (Ok p) → (IsTrue keeps → Finishes cmp f v w slot c now p)
-      → HasCome keeps stands cmp f code op old w slot c started p
+      → HasCome keeps stands cmp join f code op old w slot c started p
   installs-told ask h p (Installs.unknown here is r) event = absurd (cc)
   installs-told ask h p (Installs.not_ready x here q is r) event = absurd (cc)
   installs-told ask h p (Installs.stranger x e mine here q other is r) event = absurd (cc)
@@ -295,25 +295,25 @@ module _ {K V I O R : Type 0} (keeps : Bool) (stands : R → Standing) (cmp : K 
 
   pub installs-advances : (ask : Ask K V I) → IsAsking op old v slot c started ask → (n : ℕ) (result : Result (Progress K V I O R) Refused) → Installs cmp f code v w slot c ask now result
       → (IsTrue keeps → IfOk result (λ p. Finishes cmp f v w slot c now p)) → OnErr result (w ≡ v)
-      → Advances keeps stands cmp f code op old v w slot c started n n result
+      → Advances keeps stands cmp join f code op old v w slot c started n n result
   installs-advances ask h n (Ok p) installs event err = (installs-told ask h p installs event, refl)
   installs-advances ask h n (Err why) installs event err = (let e = installs-stops ask h why installs in IsStop.worn e.0 e.1 refl, inl err)
 
   -- ---- a page came for it, or what came in its place
   module _ (entry : ℕ → List ℕ → ℕ → Entry K V → Type 0) (a : ℕ) (s : Standing) (h : IsFetching keeps cmp op old v slot c started s a) where
     -- it is its own look-up that goes on
-    await-same : (x : Context K V I) (l : Loading) → context_at v slot c ≡ Some x → x.phase ≡ Load l → h.loading ≡ l
+    await-same : (x : Context K V I) (l : Loading V) → context_at v slot c ≡ Some x → x.phase ≡ Load l → h.loading ≡ l
     await-same x l here phase =
         let same : h.operation ≡ x = some-same h.operation x (context_at v slot c) h.open_is.here here in
         let e : Load h.loading ≡ Load l = sym h.awaits.loading ∙ ap (λ (z : Context K V I). z.phase) same ∙ phase in
         cc
 
     -- a read is done
-    read-told : (x : Context K V I) (l : Loading) (b : Answer O) → IsOpen op old v slot c started x → h.loading ≡ l → w ≡ with_context v slot c None now
+    read-told : (x : Context K V I) (l : Loading V) (b : Answer O) → IsOpen op old v slot c started x → h.loading ≡ l → w ≡ with_context v slot c None now
         → (IsTrue keeps → HasRead cmp f v w slot c x b)
         → IsDone keeps cmp f op old w slot c started b l.looked
     read-told x l b o same is load =
-        let looked : h.loading.looked ≡ l.looked = ap (λ (z : Loading). z.looked) same in
+        let looked : h.loading.looked ≡ l.looked = ap (λ (z : Loading V). z.looked) same in
         let moment : w.moment ≡ now = ap (λ (u : CoreView K V I). u.moment) is in
         let frame = subst (λ (u : CoreView K V I). LeavesOthers v u slot c now) (sym is) (set-frame v slot c now x o.here None v.records refl refl) in
         record {
@@ -338,14 +338,14 @@ module _ {K V I O R : Type 0} (keeps : Bool) (stands : R → Standing) (cmp : K 
             r.answers ∙ ap (shown_of f r.key r.input) value ∙ ap (answer f (live_of cmp old)) (sym is_read)
 
     -- the way goes on in another page
-    further-told : (x : Context K V I) (l : Loading) (b : ℕ) (receipt : R) → IsOpen op old v slot c started x → AwaitsPage v slot c x l → h.loading ≡ l → IsHeldBy v.records.receipts (page_at v.records.page_bits b) (stands receipt)
-        → w ≡ with_context v slot c (Some (at_phase x (Load (record l { wanted = b })))) now
+    further-told : (x : Context K V I) (l : Loading V) (b : ℕ) (parts : Option V) (receipt : R) → IsOpen op old v slot c started x → AwaitsPage v slot c x l → h.loading ≡ l → IsHeldBy v.records.receipts (page_at v.records.page_bits b) (stands receipt)
+        → w ≡ with_context v slot c (Some (at_phase x (Load (record l { wanted = b; parts = parts })))) now
         → (IsTrue keeps → pending cmp w slot c ≡ pending cmp v slot c)
         → IsFetching keeps cmp op old w slot c started (stands receipt) b
-    further-told x l b receipt o aw same held is load =
-        let next : Loading = record l { wanted = b } in
+    further-told x l b parts receipt o aw same held is load =
+        let next : Loading V = record l { wanted = b; parts = parts } in
         let y = at_phase x (Load next) in
-        let looked : h.loading.looked ≡ l.looked = ap (λ (z : Loading). z.looked) same in
+        let looked : h.loading.looked ≡ l.looked = ap (λ (z : Loading V). z.looked) same in
         let finds : IsTrue keeps → pending cmp w slot c ≡ Some (record { moment = l.looked; value = live_of cmp old (key_of op) }) =
         λ kept. load kept ∙ h.finds kept ∙ ap (λ n. Some (record { moment = n; value = live_of cmp old (key_of op) })) looked in
         let there : IsTrue keeps → pending cmp (with_context v slot c (Some y) now) slot c ≡ Some (record { moment = l.looked; value = live_of cmp old (key_of op) }) = rw is at finds in
@@ -362,17 +362,17 @@ module _ {K V I O R : Type 0} (keeps : Bool) (stands : R → Standing) (cmp : K 
         })
 
     -- it looked before this moment, and is to find what it was to find then
-    looked-before : (l : Loading) → h.loading ≡ l → l.looked ≢ now
+    looked-before : (l : Loading V) → h.loading ≡ l → l.looked ≢ now
     looked-before l same e =
-        let looked : h.loading.looked ≡ l.looked = ap (λ (z : Loading). z.looked) same in
+        let looked : h.loading.looked ≡ l.looked = ap (λ (z : Loading V). z.looked) same in
         let past = h.past in
         omega arith
 
-    further-looks : (x : Context K V I) (l : Loading) (b : ℕ) → IsOpen op old v slot c started x → h.loading ≡ l
-        → w ≡ with_context v slot c (Some (at_phase x (Load (record l { wanted = b })))) now
+    further-looks : (x : Context K V I) (l : Loading V) (b : ℕ) (parts : Option V) → IsOpen op old v slot c started x → h.loading ≡ l
+        → w ≡ with_context v slot c (Some (at_phase x (Load (record l { wanted = b; parts = parts })))) now
         → (u : Option V) → pending cmp w slot c ≡ Some (record { moment = now; value = u }) → ⊥
-    further-looks x l b o same is u e =
-        let y = at_phase x (Load (record l { wanted = b })) in
+    further-looks x l b parts o same is u e =
+        let y = at_phase x (Load (record l { wanted = b; parts = parts })) in
         let there : context_at w slot c ≡ Some y = ap (λ (t : CoreView K V I). context_at t slot c) is ∙ set-here v slot c now x o.here (Some y) v.records refl in
         let shown : pending_of cmp w.records (Some y) ≡ Some (record { moment = now; value = u }) = sym (ap (pending_of cmp w.records) there) ∙ e in
         by (l.begin == w.records.begin) (value_of (newest cmp w.records.text (key_of x.op) (address_of l.kept.word))) shown
@@ -385,30 +385,30 @@ module _ {K V I O R : Type 0} (keeps : Bool) (stands : R → Standing) (cmp : K 
     over-is x o is = subst (λ (u : CoreView K V I). IsOver old u slot c) (sym is) (open-over op old v slot c started x o now)
 
     -- what came answers nothing where it is a refusal, since Begin stands
-    came-in : (y : Refused) (p : Progress K V I O R) → Loads stands entry cmp f v w slot c (Err y) now (Ok p) → ⊥
+    came-in : (y : Refused) (p : Progress K V I O R) → Loads stands entry cmp join f v w slot c (Err y) now (Ok p) → ⊥
     came-in y p (Loads.unknown here is r) = absurd (cc)
     came-in y p (Loads.not_ready x here q is r) = absurd (cc)
-    came-in y p (Loads.moved x l here phase begin is r) = begin (ap (λ (z : Loading). z.begin) (sym (await-same x l here phase)) ∙ h.awaits.begin)
+    came-in y p (Loads.moved x l here phase begin is r) = begin (ap (λ (z : Loading V). z.begin) (sym (await-same x l here phase)) ∙ h.awaits.begin)
     came-in y p (Loads.failed x l why await e other is r) = absurd (cc)
     came-in y p (Loads.unread x l await e is r) = absurd (cc)
     came-in y p (Loads.stranger x l j t await e held other is r) = absurd (cc)
     came-in y p (Loads.damaged x l j why reads e is r) = absurd (cc)
-    came-in y p (Loads.bad_link x l j b reads e low place is r) = absurd (cc)
+    came-in y p (Loads.bad_link x l j b parts reads e low place is r) = absurd (cc)
     came-in y p (Loads.done x l j k i value told e read is r) = absurd (cc)
     came-in y p (Loads.prepares x l j k i value told e rmw is r) = absurd (cc)
-    came-in y p (Loads.goes_on x l j b receipt reads e low place held is r) = absurd (cc)
-    came-in y p (Loads.unshared x l j b reads e low place is r) = absurd (cc)
+    came-in y p (Loads.goes_on x l j b parts receipt reads e low place held is r) = absurd (cc)
+    came-in y p (Loads.unshared x l j b parts reads e low place is r) = absurd (cc)
 
-    pub loads-told : (came : Result (Joined R) Refused) (p : Progress K V I O R) → Loads stands entry cmp f v w slot c came now (Ok p) → (IsTrue keeps → Tells cmp f v w slot c now p)
-        → HasCome keeps stands cmp f code op old w slot c started p
+    pub loads-told : (came : Result (Joined R) Refused) (p : Progress K V I O R) → Loads stands entry cmp join f v w slot c came now (Ok p) → (IsTrue keeps → Tells cmp f v w slot c now p)
+        → HasCome keeps stands cmp join f code op old w slot c started p
     loads-told came p (Loads.unknown here is r) load = absurd (cc)
     loads-told came p (Loads.not_ready x here q is r) load = absurd (cc)
-    loads-told came p (Loads.moved x l here phase begin is r) load = absurd (begin (ap (λ (z : Loading). z.begin) (sym (await-same x l here phase)) ∙ h.awaits.begin))
+    loads-told came p (Loads.moved x l here phase begin is r) load = absurd (begin (ap (λ (z : Loading V). z.begin) (sym (await-same x l here phase)) ∙ h.awaits.begin))
     loads-told came p (Loads.failed x l why await e other is r) load = absurd (cc)
     loads-told came p (Loads.unread x l await e is r) load = absurd (cc)
     loads-told came p (Loads.stranger x l j t await e held other is r) load = absurd (cc)
     loads-told came p (Loads.damaged x l j why reads e is r) load = absurd (cc)
-    loads-told came p (Loads.bad_link x l j b reads e low place is r) load = absurd (cc)
+    loads-told came p (Loads.bad_link x l j b parts reads e low place is r) load = absurd (cc)
     loads-told came p (Loads.done x l j k i value told e read is r) load =
         let t : p ≡ Done (shown_of f k i value) l.looked = cc in
         let aw = told.reads.awaits in
@@ -424,16 +424,16 @@ module _ {K V I O R : Type 0} (keeps : Bool) (stands : R → Standing) (cmp : K 
           kept = l.kept;
           question = question-rmw x.number x.op l.kept value k i rmw;
         }))
-    loads-told came p (Loads.goes_on x l j b receipt reads e low place held is r) load =
+    loads-told came p (Loads.goes_on x l j b parts receipt reads e low place held is r) load =
         let t : p ≡ NeedsLoad receipt b = cc in
         let aw = reads.awaits in
         let o = open-same op old v slot c started h.operation x h.open_is aw.here in
-        told-as p (NeedsLoad receipt b) t (further-told x l b receipt o aw (await-same x l aw.here aw.loading) held is (λ kept. subst (Tells cmp f v w slot c now) t (load kept) x aw.here (further-looks x l b o (await-same x l aw.here aw.loading) is)))
-    loads-told came p (Loads.unshared x l j b reads e low place is r) load = absurd (cc)
+        told-as p (NeedsLoad receipt b) t (further-told x l b parts receipt o aw (await-same x l aw.here aw.loading) held is (λ kept. subst (Tells cmp f v w slot c now) t (load kept) x aw.here (further-looks x l b parts o (await-same x l aw.here aw.loading) is)))
+    loads-told came p (Loads.unshared x l j b parts reads e low place is r) load = absurd (cc)
 
     -- why it is refused
     pub loads-stops : (page before after : ℕ) (came : Result (Joined R) Refused) → IfOk came (λ j. stands j.receipt ≡ s) → OnOk came (after ≡ before) → IfErr came (ReadFailsBy page before after)
-        → (why : Refused) → Loads {O = O} stands entry cmp f v w slot c came now (Err why) → IsStop old.records.tail before after why × ((w ≡ v) ⊎ IsOver old w slot c)
+        → (why : Refused) → Loads {O = O} stands entry cmp join f v w slot c came now (Err why) → IsStop old.records.tail before after why × ((w ≡ v) ⊎ IsOver old w slot c)
     loads-stops page before after came own steady counted why (Loads.unknown here is r) = absurd (some-none h.operation (context_at v slot c) h.open_is.here here)
     loads-stops page before after came own steady counted why (Loads.not_ready x here q is r) =
         let same : h.operation ≡ x = some-same h.operation x (context_at v slot c) h.open_is.here here in
@@ -449,31 +449,31 @@ module _ {K V I O R : Type 0} (keeps : Bool) (stands : R → Standing) (cmp : K 
         (stop-of old.records.tail page before after why (subst (ReadFailsBy page before after) (sym t) (subst (λ (q : Result (Joined R) Refused). IfErr q (ReadFailsBy page before after)) e counted)), inl is)
     loads-stops page before after came own steady counted why (Loads.stranger x l j t await e held other is r) =
         let mine : stands j.receipt ≡ s = subst (λ (q : Result (Joined R) Refused). IfOk q (λ j. stands j.receipt ≡ s)) e own in
-        let wanted : a ≡ l.wanted = sym h.wanted ∙ ap (λ (z : Loading). z.wanted) (await-same x l await.here await.loading) in
+        let wanted : a ≡ l.wanted = sym h.wanted ∙ ap (λ (z : Loading V). z.wanted) (await-same x l await.here await.loading) in
         let there : slice_get v.records.receipts (page_at v.records.page_bits l.wanted) ≡ Some s = subst (λ n. IsHeldBy v.records.receipts (page_at v.records.page_bits n) s) wanted h.held in
         absurd (other (some-same t s (slice_get v.records.receipts (page_at v.records.page_bits l.wanted)) held there ∙ sym mine))
     loads-stops page before after came own steady counted why (Loads.damaged x l j y reads e is r) =
         let t : why ≡ Damaged (page_at v.records.page_bits l.wanted) = cc in
         let o = open-same op old v slot c started h.operation x h.open_is reads.awaits.here in
         (IsStop.misspelled _ t (subst (λ (q : Result (Joined R) Refused). OnOk q (after ≡ before)) e steady), inr (over-is x o is))
-    loads-stops page before after came own steady counted why (Loads.bad_link x l j b reads e low place is r) =
+    loads-stops page before after came own steady counted why (Loads.bad_link x l j b parts reads e low place is r) =
         let t : why ≡ Damaged (page_at v.records.page_bits l.wanted) = cc in
         let o = open-same op old v slot c started h.operation x h.open_is reads.awaits.here in
         (IsStop.misspelled _ t (subst (λ (q : Result (Joined R) Refused). OnOk q (after ≡ before)) e steady), inr (over-is x o is))
     loads-stops page before after came own steady counted why (Loads.done x l j k i value told e read is r) = absurd (cc)
     loads-stops page before after came own steady counted why (Loads.prepares x l j k i value told e rmw is r) = absurd (cc)
-    loads-stops page before after came own steady counted why (Loads.goes_on x l j b receipt reads e low place held is r) = absurd (cc)
-    loads-stops page before after came own steady counted why (Loads.unshared x l j b reads e low place is r) =
+    loads-stops page before after came own steady counted why (Loads.goes_on x l j b parts receipt reads e low place held is r) = absurd (cc)
+    loads-stops page before after came own steady counted why (Loads.unshared x l j b parts reads e low place is r) =
         let t : why ≡ NoMemory = cc in
         (IsStop.memory t (subst (λ (q : Result (Joined R) Refused). OnOk q (after ≡ before)) e steady), inl is)
 
     -- where nothing failed, the reader counts as before
-    loads-steady : (page before after : ℕ) (came : Result (Joined R) Refused) → OnOk came (after ≡ before) → (p : Progress K V I O R) → Loads stands entry cmp f v w slot c came now (Ok p) → after ≡ before
+    loads-steady : (page before after : ℕ) (came : Result (Joined R) Refused) → OnOk came (after ≡ before) → (p : Progress K V I O R) → Loads stands entry cmp join f v w slot c came now (Ok p) → after ≡ before
     loads-steady page before after (Ok j) steady p loads = steady
     loads-steady page before after (Err why) steady p loads = absurd (came-in why p loads)
 
     pub loads-advances : (page before after : ℕ) (came : Result (Joined R) Refused) → IfOk came (λ j. stands j.receipt ≡ s) → OnOk came (after ≡ before) → IfErr came (ReadFailsBy page before after)
-        → (result : Result (Progress K V I O R) Refused) → Loads stands entry cmp f v w slot c came now result → (IsTrue keeps → IfOk result (λ p. Tells cmp f v w slot c now p))
-        → Advances keeps stands cmp f code op old v w slot c started before after result
+        → (result : Result (Progress K V I O R) Refused) → Loads stands entry cmp join f v w slot c came now result → (IsTrue keeps → IfOk result (λ p. Tells cmp f v w slot c now p))
+        → Advances keeps stands cmp join f code op old v w slot c started before after result
     loads-advances page before after came own steady counted (Ok p) loads load = (loads-told came p loads load, loads-steady page before after came steady p loads)
     loads-advances page before after came own steady counted (Err why) loads load = loads-stops page before after came own steady counted why loads

@@ -26,10 +26,10 @@ is_evicted code r k e = nat_lt e.address r.regions.offsets.head && same_class (c
 
 -- how many there are, and how many of them at or below an address
 abbrev pub evicted : {K V : Type 0} → (K → ℕ) → RecordsView K V → K → ℕ
-evicted code r k = length (filter (is_evicted code r k) r.text)
+evicted code r k = length (filter (is_evicted code r k) r.entries)
 
 abbrev pub evicted_to : {K V : Type 0} → (K → ℕ) → RecordsView K V → K → ℕ → ℕ
-evicted_to code r k a = length (filter (λ e. nat_le e.address a && is_evicted code r k e) r.text)
+evicted_to code r k a = length (filter (λ e. nat_le e.address a && is_evicted code r k e) r.entries)
 
 -- no open operation holds a tentative entry
 abbrev pub NoneClaims : {K V I : Type 0} → CoreView K V I → Type 0
@@ -70,7 +70,7 @@ pub data IsNear {K V I O R : Type 0} (code : K → ℕ) (v : CoreView K V I) (sl
       → 2 + evicted code v.records (key_of x.op) ≤ n
       → IsNear code v slot c told n
   -- the entry that it kept stands: each page brings it to another record of the class
-  fetches : (x : Context K V I) (l : Loading) (r : R) (a : ℕ)
+  fetches : (x : Context K V I) (l : Loading V) (r : R) (a : ℕ)
       → AwaitsPage v slot c x l
       → word_at v.records.words l.kept.place ≡ l.kept.word
       → told ≡ NeedsLoad r a

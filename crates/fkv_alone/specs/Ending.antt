@@ -36,12 +36,12 @@ pub data IsStop (tail before after : ℕ) (why : Refused) : Type 0 where
 
 -- one event of the operation, from `v`: it comes to what it tells, or it is refused, and then nothing has changed or
 -- the operation is over
-abbrev pub Advances : {K V I O R : Type 0} → Bool → (R → Standing) → (K → K → Ordering) → Meanings K V I O → (K → ℕ)
-    → KeyedOp K V I → CoreView K V I → CoreView K V I → CoreView K V I → ℕ → ℕ → ℕ → ℕ → ℕ
+abbrev pub Advances : {K V I O R : Type 0} → Bool → (R → Standing) → (K → K → Ordering) → (V → V → V)
+    → Meanings K V I O → (K → ℕ) → KeyedOp K V I → CoreView K V I → CoreView K V I → CoreView K V I → ℕ → ℕ → ℕ → ℕ → ℕ
     → Result (Progress K V I O R) Refused → Type 0
-Advances keeps stands cmp f code op old v new slot c started before after (Ok progress) =
-    HasCome keeps stands cmp f code op old new slot c started progress × (after ≡ before)
-Advances keeps stands cmp f code op old v new slot c started before after (Err why) =
+Advances keeps stands cmp join f code op old v new slot c started before after (Ok progress) =
+    HasCome keeps stands cmp join f code op old new slot c started progress × (after ≡ before)
+Advances keeps stands cmp join f code op old v new slot c started before after (Err why) =
     IsStop old.records.tail before after why × ((new ≡ v) ⊎ IsOver old new slot c)
 
 -- the operation is to go on
@@ -60,15 +60,15 @@ pub record Opens {K V I : Type 0} (code : K → ℕ) (v : PartitionView K V I) (
 
 -- what became of an operation that was driven by at most `limit` events after the clock gave `start`: a rule for each
 -- case, in the order of the tests
-pub data Ends {K V I O R : Type 0} (keeps : Bool) (cmp : K → K → Ordering) (f : Meanings K V I O) (code : K → ℕ)
-    (op : KeyedOp K V I) (old new : PartitionView K V I) (slot limit start end before after : ℕ)
+pub data Ends {K V I O R : Type 0} (keeps : Bool) (cmp : K → K → Ordering) (join : V → V → V) (f : Meanings K V I O)
+    (code : K → ℕ) (op : KeyedOp K V I) (old new : PartitionView K V I) (slot limit start end before after : ℕ)
     (result : Result (Progress K V I O R) Refused) : Type 0 where
   -- no event is allowed
   barred : limit ≡ 0 → new ≡ old → end ≡ start → after ≡ before → result ≡ Err Stalled
-      → Ends keeps cmp f code op old new slot limit start end before after result
+      → Ends keeps cmp join f code op old new slot limit start end before after result
   -- the clock has no moment left for the issue
   late : limit ≢ 0 → start ≡ 2 ^ 64 - 1 → new ≡ old → end ≡ start → after ≡ before → result ≡ Err Worn
-      → Ends keeps cmp f code op old new slot limit start end before after result
+      → Ends keeps cmp join f code op old new slot limit start end before after result
   -- the issue is refused
   unissued : (why : Refused)
       → limit ≢ 0
@@ -77,22 +77,22 @@ pub data Ends {K V I O R : Type 0} (keeps : Bool) (cmp : K → K → Ordering) (
       → end ≡ start + 1
       → after ≡ before
       → result ≡ Err why
-      → Ends keeps cmp f code op old new slot limit start end before after result
+      → Ends keeps cmp join f code op old new slot limit start end before after result
   done : (c : ℕ) (a : Answer O) (effect : ℕ)
       → Opens code old slot c op
       → IsDone keeps cmp f op old.core new.core slot c (start + 1) a effect
       → end ≤ start + limit
       → after ≡ before
       → result ≡ Ok (Done a effect)
-      → Ends keeps cmp f code op old new slot limit start end before after result
+      → Ends keeps cmp join f code op old new slot limit start end before after result
   -- it stays open
   waits : (c : ℕ) (why : Wait)
       → Opens code old slot c op
-      → IsWaiting cmp code op old.core new.core slot c (start + 1) why
+      → IsWaiting cmp join code op old.core new.core slot c (start + 1) why
       → end ≤ start + limit
       → after ≡ before
       → result ≡ Ok (Waits why)
-      → Ends keeps cmp f code op old new slot limit start end before after result
+      → Ends keeps cmp join f code op old new slot limit start end before after result
   -- an event is refused, and the operation is over
   refused : (c : ℕ) (why : Refused)
       → Opens code old slot c op
@@ -100,7 +100,7 @@ pub data Ends {K V I O R : Type 0} (keeps : Bool) (cmp : K → K → Ordering) (
       → end ≤ start + limit
       → IsStop old.core.records.tail before after why
       → result ≡ Err why
-      → Ends keeps cmp f code op old new slot limit start end before after result
+      → Ends keeps cmp join f code op old new slot limit start end before after result
   -- all its events are made, and the operation is over
   stalled : (c : ℕ)
       → Opens code old slot c op
@@ -108,7 +108,7 @@ pub data Ends {K V I O R : Type 0} (keeps : Bool) (cmp : K → K → Ordering) (
       → end ≡ start + limit
       → after ≡ before
       → result ≡ Err Stalled
-      → Ends keeps cmp f code op old new slot limit start end before after result
+      → Ends keeps cmp join f code op old new slot limit start end before after result
   -- the clock has no moment left for the next event, and the operation is over
   exhausted : (c : ℕ)
       → Opens code old slot c op
@@ -117,7 +117,7 @@ pub data Ends {K V I O R : Type 0} (keeps : Bool) (cmp : K → K → Ordering) (
       → end ≤ start + limit
       → after ≡ before
       → result ≡ Err Worn
-      → Ends keeps cmp f code op old new slot limit start end before after result
+      → Ends keeps cmp join f code op old new slot limit start end before after result
 
 -- an operation that is refused is over, or open still: of the records the words of the index alone may be others
 pub record IsHalted {K V I : Type 0} (old new : CoreView K V I) (slot c : ℕ) : Type 0 where
@@ -125,31 +125,31 @@ pub record IsHalted {K V I : Type 0} (old new : CoreView K V I) (slot c : ℕ) :
   pub frame : LeavesOthers old new slot c new.moment
 
 -- what at most `left` events make of an open operation, after the clock gave `start`
-pub data Drives {K V I O R : Type 0} (keeps : Bool) (stands : R → Standing) (cmp : K → K → Ordering)
+pub data Drives {K V I O R : Type 0} (keeps : Bool) (stands : R → Standing) (cmp : K → K → Ordering) (join : V → V → V)
     (f : Meanings K V I O) (code : K → ℕ) (op : KeyedOp K V I) (old new : CoreView K V I)
     (slot c started left start end before after : ℕ)
     (result : Result (Progress K V I O R) Refused) : Type 0 where
   ends : (progress : Progress K V I O R)
-      → HasCome keeps stands cmp f code op old new slot c started progress
+      → HasCome keeps stands cmp join f code op old new slot c started progress
       → (IsOn progress → ⊥)
       → end ≤ start + left
       → after ≡ before
       → result ≡ Ok progress
-      → Drives keeps stands cmp f code op old new slot c started left start end before after result
+      → Drives keeps stands cmp join f code op old new slot c started left start end before after result
   refused : (why : Refused)
       → IsHalted old new slot c
       → end ≤ start + left
       → IsStop old.records.tail before after why
       → result ≡ Err why
-      → Drives keeps stands cmp f code op old new slot c started left start end before after result
+      → Drives keeps stands cmp join f code op old new slot c started left start end before after result
   stalled : IsHalted old new slot c
       → end ≡ start + left
       → after ≡ before
       → result ≡ Err Stalled
-      → Drives keeps stands cmp f code op old new slot c started left start end before after result
+      → Drives keeps stands cmp join f code op old new slot c started left start end before after result
   exhausted : IsHalted old new slot c
       → end ≡ 2 ^ 64 - 1
       → end ≤ start + left
       → after ≡ before
       → result ≡ Err Worn
-      → Drives keeps stands cmp f code op old new slot c started left start end before after result
+      → Drives keeps stands cmp join f code op old new slot c started left start end before after result

@@ -58,7 +58,7 @@ pub record IsFetching {K V I : Type 0} (keeps : Bool) (cmp : K → K → Orderin
     (old v : CoreView K V I) (slot c started : ℕ) (s : Standing) (a : ℕ) : Type 0 where
   pub operation : Context K V I
   pub open_is : IsOpen op old v slot c started operation
-  pub loading : Loading
+  pub loading : Loading V
   pub awaits : AwaitsPage v slot c operation loading
   pub wanted : loading.wanted ≡ a
   pub held : IsHeldBy v.records.receipts (page_at v.records.page_bits a) s
@@ -68,16 +68,17 @@ pub record IsFetching {K V I : Type 0} (keeps : Bool) (cmp : K → K → Orderin
       → pending cmp v slot c ≡ Some (record { moment = loading.looked; value = live_of cmp old (key_of op) })
 
 -- why an operation on a key has to wait
-abbrev pub IsHeldUp : {K V I : Type 0} → (K → K → Ordering) → (K → ℕ) → CoreView K V I → ℕ → K → Wait → Type 0
-IsHeldUp {K} {V} {I} cmp code v slot k wait.Fuzzy = (w : V) × (met_at cmp code v slot k ≡ met.Fuzzy w)
-IsHeldUp cmp code v slot k wait.Full = IsFull v.records
+abbrev pub IsHeldUp : {K V I : Type 0} → (K → K → Ordering) → (V → V → V) → (K → ℕ) → CoreView K V I → ℕ → K → Wait
+    → Type 0
+IsHeldUp {K} {V} {I} cmp join code v slot k wait.Fuzzy = (w : V) × (met_at cmp join code v slot k ≡ met.Fuzzy w)
+IsHeldUp cmp join code v slot k wait.Full = IsFull v.records
 
 -- it cannot go on yet
-pub record IsWaiting {K V I : Type 0} (cmp : K → K → Ordering) (code : K → ℕ) (op : KeyedOp K V I)
+pub record IsWaiting {K V I : Type 0} (cmp : K → K → Ordering) (join : V → V → V) (code : K → ℕ) (op : KeyedOp K V I)
     (old v : CoreView K V I) (slot c started : ℕ) (why : Wait) : Type 0 where
   pub operation : Context K V I
   pub open_is : IsOpen op old v slot c started operation
-  pub reason : IsHeldUp cmp code v slot (key_of op) why
+  pub reason : IsHeldUp cmp join code v slot (key_of op) why
 
 -- it is done, and its context is free: on a device that keeps, the live map is what the operation makes of it, once,
 -- and the answer is the plain map's; its effect is after its issue
@@ -91,11 +92,14 @@ pub record IsDone {K V I O : Type 0} (keeps : Bool) (cmp : K → K → Ordering)
   pub frame : LeavesOthers old new slot c new.moment
 
 -- what it told last
-abbrev pub HasCome : {K V I O R : Type 0} → Bool → (R → Standing) → (K → K → Ordering) → Meanings K V I O → (K → ℕ)
+abbrev pub HasCome : {K V I O R : Type 0} → Bool → (R → Standing) → (K → K → Ordering) → (V → V → V)
+    → Meanings K V I O → (K → ℕ)
     → KeyedOp K V I → CoreView K V I → CoreView K V I → ℕ → ℕ → ℕ → Progress K V I O R → Type 0
-HasCome keeps stands cmp f code op old v slot c started (Done a effect) = IsDone keeps cmp f op old v slot c started a effect
-HasCome keeps stands cmp f code op old v slot c started Next = IsReady op old v slot c started
-HasCome keeps stands cmp f code op old v slot c started (NeedsBuild ask) = IsAsking op old v slot c started ask
-HasCome keeps stands cmp f code op old v slot c started (NeedsLoad r a) =
+HasCome keeps stands cmp join f code op old v slot c started (Done a effect) =
+    IsDone keeps cmp f op old v slot c started a effect
+HasCome keeps stands cmp join f code op old v slot c started Next = IsReady op old v slot c started
+HasCome keeps stands cmp join f code op old v slot c started (NeedsBuild ask) = IsAsking op old v slot c started ask
+HasCome keeps stands cmp join f code op old v slot c started (NeedsLoad r a) =
     IsFetching keeps cmp op old v slot c started (stands r) a
-HasCome keeps stands cmp f code op old v slot c started (Waits why) = IsWaiting cmp code op old v slot c started why
+HasCome keeps stands cmp join f code op old v slot c started (Waits why) =
+    IsWaiting cmp join code op old v slot c started why

@@ -57,7 +57,8 @@ fn drive<F: Mergeable, R: Receipt, P: PageReader<Receipt = R>>(
     requires none { joined (slice_get partition.old.relocations (slot * 8 + context)) ≡ None }
     ensures drives { (op : KeyedOp F.Key F.Value F.Input) (old : CoreView F.Key F.Value F.Input) (started : ℕ)
         → IsReady op old partition.old.core slot context started
-        → Drives R.keeps R.stands F.Key.cmp F.meaning F.code op old partition.new.core slot context started left
+        → Drives R.keeps R.stands F.Key.cmp F.parts.joined F.meaning F.code
+        op old partition.new.core slot context started left
         clock.old clock.new (P.failures reader.old) (P.failures reader.new) result }
     ensures others { IsTrue R.keeps → OthersPend F.Key.cmp partition.old.core partition.new.core slot context }
     ensures bound { (n : ℕ) → IsTrue R.keeps
@@ -102,7 +103,7 @@ fn attempt<F: Mergeable, R: Receipt, P: PageReader<Receipt = R>>(
     limit: u64,
 ) -> Result<ProgressOf<F, R>, Refused>
     requires past { partition.old.core.moment ≤ clock.old }
-    ensures ends { Ends R.keeps F.Key.cmp F.meaning F.code op partition.old partition.new slot limit
+    ensures ends { Ends R.keeps F.Key.cmp F.parts.joined F.meaning F.code op partition.old partition.new slot limit
         clock.old clock.new (P.failures reader.old) (P.failures reader.new) result }
     ensures others { IsTrue R.keeps → (s c : ℕ)
         → (s ≢ slot) ⊎ ¬ IsFirstFree partition.old slot (Some c)
@@ -168,7 +169,7 @@ pub fn run_alone<F: Mergeable, R: Receipt, P: PageReader<Receipt = R>>(
     limit: u64,
 ) -> AloneOf<F, R>
     requires past { partition.old.core.moment ≤ clock.old }
-    ensures ends { Ends R.keeps F.Key.cmp F.meaning F.code op partition.old partition.new slot limit
+    ensures ends { Ends R.keeps F.Key.cmp F.parts.joined F.meaning F.code op partition.old partition.new slot limit
         clock.old clock.new (P.failures reader.old) (P.failures reader.new) result.progress }
     ensures events { clock.new ≡ clock.old + result.events }
     ensures within { result.events ≤ limit }

@@ -27,7 +27,8 @@ fn load<F: Mergeable, R: Receipt, P: PageReader<Receipt = R>>(
     requires none { joined (slice_get partition.old.relocations (slot * 8 + context)) ≡ None }
     ensures advances { (op : KeyedOp F.Key F.Value F.Input) (old : CoreView F.Key F.Value F.Input) (started a : ℕ)
         → IsFetching R.keeps F.Key.cmp op old partition.old.core slot context started (R.stands receipt) a
-        → Advances R.keeps R.stands F.Key.cmp F.meaning F.code op old partition.old.core partition.new.core slot context
+        → Advances R.keeps R.stands F.Key.cmp F.parts.joined F.meaning F.code op old
+        partition.old.core partition.new.core slot context
         started (P.failures reader.old) (P.failures reader.new) result }
     ensures others { IsTrue R.keeps → OthersPend F.Key.cmp partition.old.core partition.new.core slot context }
     ensures nearer { (n a : ℕ) → IsTrue R.keeps
@@ -57,8 +58,10 @@ pub(crate) fn step<F: Mergeable, R: Receipt, P: PageReader<Receipt = R>>(
     requires none { joined (slice_get partition.old.relocations (slot * 8 + context)) ≡ None }
     requires on { IsOn told }
     ensures advances { (op : KeyedOp F.Key F.Value F.Input) (old : CoreView F.Key F.Value F.Input) (started : ℕ)
-        → HasCome R.keeps R.stands F.Key.cmp F.meaning F.code op old partition.old.core slot context started told
-        → Advances R.keeps R.stands F.Key.cmp F.meaning F.code op old partition.old.core partition.new.core slot context
+        → HasCome R.keeps R.stands F.Key.cmp F.parts.joined F.meaning F.code op old
+        partition.old.core slot context started told
+        → Advances R.keeps R.stands F.Key.cmp F.parts.joined F.meaning F.code op old
+        partition.old.core partition.new.core slot context
         started (P.failures reader.old) (P.failures reader.new) result }
     ensures others { IsTrue R.keeps → OthersPend F.Key.cmp partition.old.core partition.new.core slot context }
     // on a device that keeps, where nobody is in its way, the operation comes nearer to its end

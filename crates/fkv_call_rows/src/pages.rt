@@ -108,7 +108,7 @@ impl<D: Disk> Driven<D> {
             return Told::Never;
         }
         let value = line.texts[2].parse::<u64>().ok();
-        match self.pages.append(previous, key, value) {
+        match self.pages.append(previous, key, value, false) {
             Ok(Some(address)) => Told::At(address),
             Ok(None) => Told::Full,
             Err(refused) => Told::Refused(refused),
@@ -127,7 +127,11 @@ impl<D: Disk> Driven<D> {
         if !self.pages.has_entry(address) || address < self.pages.frozen() {
             return Told::Never;
         }
-        match (self.pages.record_at(address).value, value) {
+        let entry = self.pages.record_at(address);
+        if entry.delta {
+            return Told::Never;
+        }
+        match (entry.value, value) {
             (Some(_), Some(value)) => self.pages.write_value(address, value),
             (_, None) => self.pages.set_tombstone(address),
             (None, Some(_)) => return Told::Never,
@@ -198,13 +202,21 @@ impl<D: Disk> Driven<D> {
             Ok(loaded) => loaded,
             Err(refused) => return Told::Refused(refused),
         };
-        if self.pages.shape().page_of(address) >= self.pages.unflushed() {
+        let own = self.pages.shape().page_of(address);
+        if own >= self.pages.unflushed() {
             return Told::Refused(Refused::NotReady);
         }
         let Some(key) = Name::new(line.texts[2].as_bytes()) else {
             return record_told(self.pages.record_in(&loaded, address));
         };
-        match self.pages.first_in_page(&loaded, &key, address) {
+        if let Err(refused) = self.pages.is_own(&loaded, own) {
+            return Told::Refused(refused);
+        }
+        let low = self.pages.first_of(own);
+        match self
+            .pages
+            .own_first_in_page(&loaded, &key, address, own, low)
+        {
             Ok(ChainPosition::Found(entry)) => record_told(Ok(entry)),
             Ok(ChainPosition::Below(address)) => Told::Below(address),
             Err(refused) => Told::Refused(refused),

@@ -112,6 +112,7 @@ fn histories_of<F: Mergeable, R: Receipt>(
 /// is no merge of those of its partition; as a reader refuses a page of its partition; `NoMemory`. A store whose partitions and
 /// passes were made together meets no `Mismatch`.
 pub fn close_parts<F: Mergeable, R: Receipt, H: Recorder<F>, P: PageReader<Receipt = R>>(
+    functions: &F,
     alloc: Global,
     parts: Vec<Part<F, R>>,
     readers: &mut [P],
@@ -159,7 +160,7 @@ pub fn close_parts<F: Mergeable, R: Receipt, H: Recorder<F>, P: PageReader<Recei
         Err(refused) => return Err(refused),
         Ok(()) => {}
     }
-    let map = match live::<F, R, P>(alloc, slice, readers) {
+    let map = match live::<F, R, P>(functions, alloc, slice, readers) {
         Err(refused) => return Err(refused),
         Ok(map) => map,
     };

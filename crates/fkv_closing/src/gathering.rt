@@ -15,6 +15,7 @@ use std::collections::BTreeMap;
 /// Puts each live key of all partitions with its value into an empty map. Refused: `NoMemory`, and as a reader refuses pages
 /// of its partition.
 fn gather<F: Mergeable, R: Receipt, P: PageReader<Receipt = R>>(
+    functions: &F,
     tree: &mut BTreeMap<F::Key, F::Value>,
     parts: &[Part<F, R>],
     readers: &mut [P],
@@ -31,7 +32,10 @@ fn gather<F: Mergeable, R: Receipt, P: PageReader<Receipt = R>>(
         → MayFailIn R.stands P.can_fail (map (λ part. part.partition) parts.now)) }
 {
     for (place, part) in parts.iter().enumerate() {
-        match part.partition.put_live(&mut readers[place], tree) {
+        match part
+            .partition
+            .put_live(functions, &mut readers[place], tree)
+        {
             Ok(()) => {}
             Err(refused) => return Err(refused),
         }
@@ -41,6 +45,7 @@ fn gather<F: Mergeable, R: Receipt, P: PageReader<Receipt = R>>(
 
 /// Each live key of all partitions with its value. Refused: `NoMemory`, and as a reader refuses pages of its partition.
 pub(crate) fn live<F: Mergeable, R: Receipt, P: PageReader<Receipt = R>>(
+    functions: &F,
     alloc: Global,
     parts: &[Part<F, R>],
     readers: &mut [P],
@@ -56,7 +61,7 @@ pub(crate) fn live<F: Mergeable, R: Receipt, P: PageReader<Receipt = R>>(
         → MayFailIn R.stands P.can_fail (map (λ part. part.partition) parts.now)) }
 {
     let mut tree = BTreeMap::new(alloc);
-    match gather::<F, R, P>(&mut tree, parts, readers) {
+    match gather::<F, R, P>(functions, &mut tree, parts, readers) {
         Ok(()) => Ok(tree),
         Err(refused) => Err(refused),
     }

@@ -27,35 +27,37 @@ pub record IsTurn {K V I : Type 0} (keeps : Bool) (cmp : K → K → Ordering) (
   pub taken : IsInTurn old slot context
   pub event : IsRelocating keeps cmp old new slot context now
 
-pub data CompactsNext {K V I O R : Type 0} (stands : R → Standing) (cmp : K → K → Ordering) (f : Meanings K V I O)
+pub data CompactsNext {K V I O R : Type 0} (stands : R → Standing) (cmp : K → K → Ordering) (join : V → V → V)
+    (f : Meanings K V I O)
     (code : K → ℕ) (old new : PartitionView K V I) (slot now : ℕ) (result : Result (Progress K V I O R) Refused)
     : Type 0 where
   refused : (why : Refused)
       → IsFirstOpen old slot None
       → Issues code old new slot Relocate now (Err why)
       → result ≡ Err why
-      → CompactsNext stands cmp f code old new slot now result
+      → CompactsNext stands cmp join f code old new slot now result
   issues : (c : ℕ)
       → IsFirstOpen old slot None
       → Issues code old new slot Relocate now (Ok c)
       → result ≡ Ok Next
-      → CompactsNext stands cmp f code old new slot now result
+      → CompactsNext stands cmp join f code old new slot now result
   goes_on : (c : ℕ)
       → IsFirstOpen old slot (Some c)
-      → Goes stands cmp f code old new slot c now result
-      → CompactsNext stands cmp f code old new slot now result
+      → Goes stands cmp join f code old new slot c now result
+      → CompactsNext stands cmp join f code old new slot now result
 
 pub data CompactsLoad {K V I O R : Type 0} (stands : R → Standing) (spells : ℕ → List ℕ → ℕ → Entry K V → Type 0)
-    (cmp : K → K → Ordering) (f : Meanings K V I O) (code : K → ℕ) (old new : PartitionView K V I) (slot : ℕ)
+    (cmp : K → K → Ordering) (join : V → V → V) (f : Meanings K V I O) (code : K → ℕ) (old new : PartitionView K V I)
+    (slot : ℕ)
     (came : Result (Joined R) Refused) (now : ℕ) (result : Result (Progress K V I O R) Refused) : Type 0 where
   unknown : IsFirstOpen old slot None
       → new ≡ old
       → result ≡ Err Unknown
-      → CompactsLoad stands spells cmp f code old new slot came now result
+      → CompactsLoad stands spells cmp join f code old new slot came now result
   loads : (c : ℕ)
       → IsFirstOpen old slot (Some c)
-      → Loads stands spells cmp f code old new slot c came now result
-      → CompactsLoad stands spells cmp f code old new slot came now result
+      → Loads stands spells cmp join f code old new slot c came now result
+      → CompactsLoad stands spells cmp join f code old new slot came now result
 
 -- who has left: of the partition its number and count stay, its text on a device that keeps, and where that begins
 pub record IsParted {K V I : Type 0} (keeps : Bool) (old new : PartitionView K V I) (now : ℕ) : Type 0 where

@@ -80,7 +80,8 @@ impl Compactor {
         now: u64,
     ) -> Result<ProgressOf<F, R>, Refused>
         requires later { partition.old.core.moment < now }
-        ensures effect { CompactsNext R.stands F.Key.cmp F.meaning F.code partition.old partition.new self.now now result }
+        ensures effect { CompactsNext R.stands F.Key.cmp F.parts.joined F.meaning F.code
+            partition.old partition.new self.now now result }
         ensures event { IfOk result (λ _. IsTurn R.keeps F.Key.cmp partition.old partition.new self.now now) }
         ensures cleared { result ≡ Ok (Done Cleared now) → (c : ℕ)
             → IsFirstOpen partition.old self.now (Some c)
@@ -104,7 +105,8 @@ impl Compactor {
     ) -> Result<ProgressOf<F, R>, Refused>
         requires later { partition.old.core.moment < now }
         requires open { IsFirstOpen partition.old self.now (Some context) }
-        ensures effect { CompactsNext R.stands F.Key.cmp F.meaning F.code partition.old partition.new self.now now result }
+        ensures effect { CompactsNext R.stands F.Key.cmp F.parts.joined F.meaning F.code
+            partition.old partition.new self.now now result }
         ensures event { IfOk result (λ _. IsTurn R.keeps F.Key.cmp partition.old partition.new self.now now) }
         ensures cleared { result ≡ Ok (Done Cleared now)
             → IfSome (relocation_at partition.old self.now context) (λ x. x.target < partition.new.cleared) }
@@ -123,7 +125,8 @@ impl Compactor {
     ) -> Result<ProgressOf<F, R>, Refused>
         requires later { partition.old.core.moment < now }
         requires none { IsFirstOpen partition.old self.now None }
-        ensures effect { CompactsNext R.stands F.Key.cmp F.meaning F.code partition.old partition.new self.now now result }
+        ensures effect { CompactsNext R.stands F.Key.cmp F.parts.joined F.meaning F.code
+            partition.old partition.new self.now now result }
         ensures event { IfOk result (λ _. IsTurn R.keeps F.Key.cmp partition.old partition.new self.now now) }
         ensures uncleared { result ≡ Ok (Done Cleared now) → ⊥ }
         ensures unchanged { OnErr result (partition.new ≡ partition.old) }
@@ -147,8 +150,8 @@ impl Compactor {
     ) -> Result<ProgressOf<F, R>, Refused>
         requires later { partition.old.core.moment < now }
         ensures effect { CompactsLoad R.stands (IsEntryIn F.Key.bytes_of F.Value.bytes_of F.Key.is_known
-            F.Value.is_known F.Key.SIZE F.Value.SIZE) F.Key.cmp F.meaning F.code partition.old partition.new self.now
-            came now result }
+            F.Value.is_known F.Key.SIZE F.Value.SIZE) F.Key.cmp F.parts.joined F.meaning F.code
+            partition.old partition.new self.now came now result }
         ensures event { IfOk result (λ _. IsTurn R.keeps F.Key.cmp partition.old partition.new self.now now) }
         ensures fails { IfErr result (λ _. (partition.new ≡ partition.old)
             ⊎ ((c : ℕ) × IsFirstOpen partition.old self.now (Some c)

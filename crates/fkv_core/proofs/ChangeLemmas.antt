@@ -13,7 +13,8 @@ use Rattle.fkv_index.proofs.Written.{place_of-word, written_there}
 use Rattle.fkv_operations.specs.After.{key_of}
 use Rattle.fkv_lookups.specs.RecordsViews.{RecordsView, class_in, Claims, confirmed, released}
 use Rattle.fkv_lookups.specs.RecordsViews.{ChangesAt}
-use Rattle.fkv_lookups.specs.Traced.{IsTraced}
+use Rattle.fkv_lookups.specs.Traced.{IsTraced, IsStood}
+use Rattle.fkv_texts.specs.Chains.{IsIn}
 use Rattle.fkv_operations.specs.declared.classes.Class.{Class}
 use Rattle.fkv_core.specs.declared.contexts.Context.{Context}
 use Rattle.fkv_core.specs.declared.contexts.Phase.TheVariants.{Fresh, Confirm}
@@ -35,8 +36,8 @@ IsReworded old new = new ≡ record old { words = new.words }
 abbrev pub IsMade : Word → Type 0
 IsMade w = IsTrue (is_final w) → address_of w < 64
 
-pub grown-words : {K V : Type 0} (keeps : Bool) (cmp : K → K → Ordering) (code : K → ℕ) (q : Place) (old new : RecordsView K V) → IsReworded old new → ChangesAt q old.words new.words → IsMade (word_at new.words q) → Grows keeps cmp code old new
-grown-words keeps cmp code q old new is words made = record {
+pub grown-words : {K V : Type 0} (keeps : Bool) (cmp : K → K → Ordering) (join : V → V → V) (code : K → ℕ) (q : Place) (old new : RecordsView K V) → IsReworded old new → ChangesAt q old.words new.words → IsMade (word_at new.words q) → Grows keeps cmp join code old new
+grown-words keeps cmp join code q old new is words made = record {
   class = λ k. ap (λ (r : RecordsView _ _). class_in code r k) is;
   tail = (let same : new.tail ≡ old.tail = ap (λ (r : RecordsView _ _). r.tail) is in omega arith);
   safe = (let same : new.regions.offsets.safe_read_only ≡ old.regions.offsets.safe_read_only = ap (λ (r : RecordsView _ _). r.regions.offsets.safe_read_only) is in omega arith);
@@ -44,9 +45,10 @@ grown-words keeps cmp code q old new is words made = record {
   begin = ap (λ (r : RecordsView _ _). r.begin) is;
   from = (let same : new.from ≡ old.from = ap (λ (r : RecordsView _ _). r.from) is in omega arith);
   kept = λ keeps k a h still. ap (λ (r : RecordsView _ _). newest cmp r.text k a) is;
+  was = λ e m low. (e, subst (λ (r : RecordsView _ _). IsIn r.entries e) is m, refl, refl, refl);
   same_class = λ k a low begun o. record {
     entry = o.entry;
-    here = ap (λ (r : RecordsView _ _). entry_at r.text a) is ∙ o.here;
+    here = ap (λ (r : RecordsView _ _). entry_at r.entries a) is ∙ o.here;
     class = ap (λ (r : RecordsView _ _). class_in code r o.entry.key) is ∙ o.class ∙ sym (ap (λ (r : RecordsView _ _). class_in code r k) is);
   };
   places = words.places;
@@ -90,7 +92,7 @@ module _ {K V : Type 0} (old new : RecordsView K V) (q : Place) (is : IsTrue (is
 pub claims-place : {K V I : Type 0} (v : CoreView K V I) (slot c : ℕ) (x : Context K V I) (q : Place) → context_at v slot c ≡ Some x → x.phase ≡ Confirm q → claim_at v.contexts (slot * 8 + c) ≡ Some q
 claims-place v slot c x q h phase = ap (λ o. claim_of (joined o)) (open_at (slots_of v) v.contexts slot c x h).here ∙ ap claim_by phase
 
-module _ {K V I : Type 0} {keeps : Bool} (cmp : K → K → Ordering) (code : K → ℕ) (v : CoreView K V I) (s : IsSound keeps cmp code v) (slot c now : ℕ) (x : Context K V I) (h : context_at v slot c ≡ Some x) where
+module _ {K V I : Type 0} {keeps : Bool} (cmp : K → K → Ordering) (join : V → V → V) (code : K → ℕ) (v : CoreView K V I) (s : IsSound keeps cmp join code v) (slot c now : ℕ) (x : Context K V I) (h : context_at v slot c ≡ Some x) where
   pub is-tentative : (q : Place) → x.phase ≡ Confirm q → IsTrue (is_tentative (word_at v.records.words q))
   is-tentative q phase = s.owned.tentative (slot * 8 + c) q (claims-place v slot c x q h phase)
 
@@ -105,18 +107,19 @@ module _ {K V I : Type 0} {keeps : Bool} (cmp : K → K → Ordering) (code : K 
       → word_at r.words q ≡ tentative_word class.tag
       → IsTrue (is_tentative (word_at r.words q))
       → IsTraced keeps code r
-      → IsSound keeps cmp code (record (with_context v slot c (Some (at_phase x (Confirm q))) now) { records = r })
-  sound-claims r class q quiet own claims words was bucket word is traced =
+      → IsStood cmp join r
+      → IsSound keeps cmp join code (record (with_context v slot c (Some (at_phase x (Confirm q))) now) { records = r })
+  sound-claims r class q quiet own claims words was bucket word is traced stood =
       let reworded : IsReworded v.records r = claims.is ∙ ap (λ (w : RecordsView K V). record v.records { words = w.words }) (sym claims.is) in
       let o = open_at (slots_of v) v.contexts slot c x h in
       let same : class ≡ class_in code r (key_of x.op) = own ∙ ap (λ (w : RecordsView K V). class_in code w (key_of x.op)) (sym reworded) in
       let claimed : IsClaimOf r class q = record { bucket = bucket; word = word } in
-      sound-claimed s r slot c now x q traced (grown-words keeps cmp code q v.records r reworded words (tentative-made (word_at r.words q) is)) words
+      sound-claimed s r slot c now x q traced stood (grown-words keeps cmp join code q v.records r reworded words (tentative-made (word_at r.words q) is)) words
       (ap (λ (w : RecordsView K V). w.partition_bits) reworded)
       (ap (λ (w : RecordsView K V). w.regions) reworded)
-      (ap (λ (w : RecordsView K V). w.text) reworded)
+      (ap (λ (w : RecordsView K V). w.entries) reworded)
       was is o.here quiet
-      (record { stands = subst (λ d. IsClaimOf r d q) same claimed; own = own-at cmp code v s slot c x h; inside = o.inside; low = o.low })
+      (record { stands = subst (λ d. IsClaimOf r d q) same claimed; own = own-at cmp join code v s slot c x h; inside = o.inside; low = o.low })
 
   -- it is confirmed or taken back, and the operation is to look again
   pub sound-settles : (r : RecordsView K V) (q : Place)
@@ -126,14 +129,15 @@ module _ {K V I : Type 0} {keeps : Bool} (cmp : K → K → Ordering) (code : K 
       → is_tentative (word_at r.words q) ≡ false
       → IsMade (word_at r.words q)
       → IsTraced keeps code r
-      → IsSound keeps cmp code (record (with_context v slot c (Some (at_phase x Fresh)) now) { records = r })
-  sound-settles r q phase reworded words freed made traced =
+      → IsStood cmp join r
+      → IsSound keeps cmp join code (record (with_context v slot c (Some (at_phase x Fresh)) now) { records = r })
+  sound-settles r q phase reworded words freed made traced stood =
       let o = open_at (slots_of v) v.contexts slot c x h in
-      let fits : Fits s r slot c (at_phase x Fresh) = record { stands = tt; own = own-at cmp code v s slot c x h; inside = o.inside; low = o.low } in
-      sound-settled s r slot c now x q (Some (at_phase x Fresh)) traced (grown-words keeps cmp code q v.records r reworded words made) words
+      let fits : Fits s r slot c (at_phase x Fresh) = record { stands = tt; own = own-at cmp join code v s slot c x h; inside = o.inside; low = o.low } in
+      sound-settled s r slot c now x q (Some (at_phase x Fresh)) traced stood (grown-words keeps cmp join code q v.records r reworded words made) words
       (ap (λ (w : RecordsView K V). w.partition_bits) reworded)
       (ap (λ (w : RecordsView K V). w.regions) reworded)
-      (ap (λ (w : RecordsView K V). w.text) reworded)
+      (ap (λ (w : RecordsView K V). w.entries) reworded)
       freed o.here phase refl
       (λ z e. (let same : at_phase x Fresh ≡ z = cc in subst (Fits s r slot c) same fits))
 
@@ -145,13 +149,14 @@ module _ {K V I : Type 0} {keeps : Bool} (cmp : K → K → Ordering) (code : K 
       → is_tentative (word_at r.words q) ≡ false
       → IsMade (word_at r.words q)
       → IsTraced keeps code r
-      → IsSound keeps cmp code (record (with_context v slot c None now) { records = r })
-  sound-cancels r q phase reworded words freed made traced =
+      → IsStood cmp join r
+      → IsSound keeps cmp join code (record (with_context v slot c None now) { records = r })
+  sound-cancels r q phase reworded words freed made traced stood =
       let o = open_at (slots_of v) v.contexts slot c x h in
-      sound-settled s r slot c now x q None traced (grown-words keeps cmp code q v.records r reworded words made) words
+      sound-settled s r slot c now x q None traced stood (grown-words keeps cmp join code q v.records r reworded words made) words
       (ap (λ (w : RecordsView K V). w.partition_bits) reworded)
       (ap (λ (w : RecordsView K V). w.regions) reworded)
-      (ap (λ (w : RecordsView K V). w.text) reworded)
+      (ap (λ (w : RecordsView K V). w.entries) reworded)
       freed o.here phase refl
       (λ z e. absurd (cc))
 

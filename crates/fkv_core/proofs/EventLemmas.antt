@@ -49,18 +49,18 @@ use Rattle.fkv_core.specs.Going.{Decides, Goes, confirms, backs_off}
 use Rattle.fkv_core.specs.Sound.{IsKept, IsLoading, StandsFor, IsSound}
 use Rattle.fkv_functions.proofs.ListLemmas.{get-set_other, get-set_same}
 use Rattle.fkv_lookups.specs.Traced.{IsTraced}
-use Rattle.fkv_core.proofs.GrownLemmas.{newest-nowhere, still-below}
+use Rattle.fkv_core.proofs.GrownLemmas.{newest-nowhere}
 use Rattle.fkv_core.proofs.AskedLemmas.{open_at, context-inside, context-other, asked-same, asked-other, free-slot, idle, idle-asked, context-left, context-elsewhere, context-renewed}
 
 -- a context that asks nothing to be built and claims nothing is fresh
-pub fresh-by : {K V I : Type 0} (n : ℕ) (op : KeyedOp K V I) (phase : Phase V) (keeps : Bool) (cmp : K → K → Ordering) (code : K → ℕ) (r : RecordsView K V) → StandsFor keeps cmp code r op phase → question_by n op phase ≡ None → claim_by phase ≡ None → loading_by phase ≡ None → phase ≡ Fresh
-fresh-by n op Fresh keeps cmp code r s h q l = refl
-fresh-by n op (Confirm p) keeps cmp code r s h q l = absurd (cc)
-fresh-by n (Read k i) (Prepared e source) keeps cmp code r s h q l = absurd s
-fresh-by n (Upsert k v) (Prepared e source) keeps cmp code r s h q l = absurd s
-fresh-by n (Delete k) (Prepared e source) keeps cmp code r s h q l = absurd s
-fresh-by n (Rmw k i) (Prepared e source) keeps cmp code r s h q l = absurd (cc)
-fresh-by n op (Load m) keeps cmp code r s h q l = absurd (cc)
+pub fresh-by : {K V I : Type 0} (n : ℕ) (op : KeyedOp K V I) (phase : Phase V) (keeps : Bool) (cmp : K → K → Ordering) (join : V → V → V) (code : K → ℕ) (r : RecordsView K V) → StandsFor keeps cmp join code r op phase → question_by n op phase ≡ None → claim_by phase ≡ None → loading_by phase ≡ None → phase ≡ Fresh
+fresh-by n op Fresh keeps cmp join code r s h q l = refl
+fresh-by n op (Confirm p) keeps cmp join code r s h q l = absurd (cc)
+fresh-by n (Read k i) (Prepared e source) keeps cmp join code r s h q l = absurd s
+fresh-by n (Upsert k v) (Prepared e source) keeps cmp join code r s h q l = absurd s
+fresh-by n (Delete k) (Prepared e source) keeps cmp join code r s h q l = absurd s
+fresh-by n (Rmw k i) (Prepared e source) keeps cmp join code r s h q l = absurd (cc)
+fresh-by n op (Load m) keeps cmp join code r s h q l = absurd (cc)
 
 -- the place that a phase claims
 pub confirm-by : {V : Type 0} (phase : Phase V) (p : Place) → claim_by phase ≡ Some p → phase ≡ Confirm p
@@ -70,7 +70,7 @@ confirm-by (Prepared e source) p h = absurd (cc)
 confirm-by (Load l) p h = absurd (cc)
 
 -- the look-up that waits for a page
-pub loading-is : {V : Type 0} (phase : Phase V) (l : Loading) → loading_by phase ≡ Some l → phase ≡ Load l
+pub loading-is : {V : Type 0} (phase : Phase V) (l : Loading V) → loading_by phase ≡ Some l → phase ≡ Load l
 loading-is Fresh l h = absurd (cc)
 loading-is (Confirm q) l h = absurd (cc)
 loading-is (Prepared e source) l h = absurd (cc)
@@ -119,9 +119,9 @@ pub quiet-regions : {K V I : Type 0} (keeps : Bool) (v : CoreView K V I) (region
     → IsQuiet keeps v (in_regions v regions now) now
 quiet-regions keeps v regions now h = record { same = λ t d. ap (option_map asked_by) (h t d); text = λ keeps. refl; number = refl; count = refl; begin = refl; moment = refl }
 
-module _ {K V I : Type 0} {keeps : Bool} (cmp : K → K → Ordering) (code : K → ℕ) (v : CoreView K V I) (s : IsSound keeps cmp code v) where
+module _ {K V I : Type 0} {keeps : Bool} (cmp : K → K → Ordering) (join : V → V → V) (code : K → ℕ) (v : CoreView K V I) (s : IsSound keeps cmp join code v) where
   -- a context of an entered session stands for what it says
-  pub stands-at : (slot c : ℕ) (x : Context K V I) → context_at v slot c ≡ Some x → StandsFor keeps cmp code v.records x.op x.phase
+  pub stands-at : (slot c : ℕ) (x : Context K V I) → context_at v slot c ≡ Some x → StandsFor keeps cmp join code v.records x.op x.phase
   stands-at slot c x h = s.stands (slot * 8 + c) x (open_at (slots_of v) v.contexts slot c x h).here
 
   pub own-at : (slot c : ℕ) (x : Context K V I) → context_at v slot c ≡ Some x → partition_of v.count (code (key_of x.op)) ≡ v.number
@@ -129,13 +129,13 @@ module _ {K V I : Type 0} {keeps : Bool} (cmp : K → K → Ordering) (code : K 
 
   -- and is fresh where it asks nothing and claims nothing
   pub fresh-at : (slot c : ℕ) (x : Context K V I) → context_at v slot c ≡ Some x → question_in x ≡ None → claim_by x.phase ≡ None → loading_by x.phase ≡ None → x.phase ≡ Fresh
-  fresh-at slot c x h q n l = fresh-by x.number x.op x.phase keeps cmp code v.records (stands-at slot c x h) q n l
+  fresh-at slot c x h q n l = fresh-by x.number x.op x.phase keeps cmp join code v.records (stands-at slot c x h) q n l
 
   -- what a prepared update kept
   pub kept-at : (slot c : ℕ) (x : Context K V I) (e : IndexEntry) (ask : Ask K V I) → context_at v slot c ≡ Some x → question_in x ≡ Some (e, ask) → IsKept keeps cmp code v.records ask.key e ask.source
   kept-at slot c x e ask h q =
       let w = question-of x.number x.op x.phase e ask q in
-      subst (λ (o : KeyedOp K V I). StandsFor keeps cmp code v.records o (Prepared e ask.source)) w.op_is (subst (λ (p : Phase V). StandsFor keeps cmp code v.records x.op p) w.phase_is (stands-at slot c x h))
+      subst (λ (o : KeyedOp K V I). StandsFor keeps cmp join code v.records o (Prepared e ask.source)) w.op_is (subst (λ (p : Phase V). StandsFor keeps cmp join code v.records x.op p) w.phase_is (stands-at slot c x h))
 
   -- whose entry stands as that of its key's class where its place holds the kept word still
   pub kept-entry : (slot c : ℕ) (x : Context K V I) (e : IndexEntry) (ask : Ask K V I) → context_at v slot c ≡ Some x → question_in x ≡ Some (e, ask) → word_at v.records.words e.place ≡ e.word → IsEntryOf v.records (class_in code v.records ask.key) e
@@ -179,7 +179,7 @@ module _ {K V I : Type 0} {keeps : Bool} (cmp : K → K → Ordering) (code : K 
   pub event-enter : (slot now : ℕ) → free_slot v ≡ Some slot → IsQuiet keeps v (in_regions v (entered v.records.regions slot) now) now
   event-enter slot now free = quiet-regions keeps v (entered v.records.regions slot) now (entered-same slot free)
 
-module _ {K V I O : Type 0} (cmp : K → K → Ordering) (f : Meanings K V I O) (code : K → ℕ) (v : CoreView K V I) where
+module _ {K V I O : Type 0} (cmp : K → K → Ordering) (join : V → V → V) (f : Meanings K V I O) (code : K → ℕ) (v : CoreView K V I) where
   module _ (slot c now : ℕ) (x : Context K V I) (h : context_at v slot c ≡ Some x) where
     leaves-in : (y : Option (Context K V I)) (r : RecordsView K V) → r.begin ≡ v.records.begin → r.regions ≡ v.records.regions
         → LeavesOthers v (record (with_context v slot c y now) { records = r }) slot c now
@@ -202,13 +202,13 @@ module _ {K V I O : Type 0} (cmp : K → K → Ordering) (f : Meanings K V I O) 
     was-asked = ap (option_map asked_by) h
 
     -- what an operation asks
-    pub asks-rmw : (source : Option V) (i : I) → decision f x.op (met_at cmp code v slot (key_of x.op)) ≡ Prepare source i → x.op ≡ Rmw (key_of x.op) i
-    asks-rmw source i d = prepare-op f x.op (met_at cmp code v slot (key_of x.op)) source i d
+    pub asks-rmw : (source : Option V) (i : I) → decision f x.op (met_at cmp join code v slot (key_of x.op)) ≡ Prepare source i → x.op ≡ Rmw (key_of x.op) i
+    asks-rmw source i d = prepare-op f x.op (met_at cmp join code v slot (key_of x.op)) source i d
 
     -- the source of a question is what the key holds
-    pub source-held : (source : Option V) (i : I) → IsHeld (met_at cmp code v slot (key_of x.op)) (live_of cmp v (key_of x.op)) → decision f x.op (met_at cmp code v slot (key_of x.op)) ≡ Prepare source i → live_of cmp v (key_of x.op) ≡ source
+    pub source-held : (source : Option V) (i : I) → IsHeld (met_at cmp join code v slot (key_of x.op)) (live_of cmp v (key_of x.op)) → decision f x.op (met_at cmp join code v slot (key_of x.op)) ≡ Prepare source i → live_of cmp v (key_of x.op) ≡ source
     source-held source i held d =
-        let m = met_at cmp code v slot (key_of x.op) in
+        let m = met_at cmp join code v slot (key_of x.op) in
         let is : source ≡ held_of m = prepare-source f x.op m source i d in
         elim (prepare-met f x.op m source i d) [
           | inl none ↦ (let o = subst (λ w. IsHeld w (live_of cmp v (key_of x.op))) none held in o ∙ sym (is ∙ ap held_of none))
@@ -220,10 +220,10 @@ module _ {K V I O : Type 0} (cmp : K → K → Ordering) (f : Meanings K V I O) 
         → address_of e.word < v.records.tail
         → newest cmp v.records.text (key_of x.op) (address_of e.word) ≡ last_of cmp v.records.text (key_of x.op)
         → IsStill v.records.regions.offsets.safe_read_only (last_of cmp v.records.text (key_of x.op))
-        → IsHeld (met_at cmp code v slot (key_of x.op)) (live_of cmp v (key_of x.op))
-        → decision f x.op (met_at cmp code v slot (key_of x.op)) ≡ Prepare source i
+        → IsHeld (met_at cmp join code v slot (key_of x.op)) (live_of cmp v (key_of x.op))
+        → decision f x.op (met_at cmp join code v slot (key_of x.op)) ≡ Prepare source i
         → IsTraced keeps code v.records
-        → StandsFor keeps cmp code v.records x.op (Prepared e source)
+        → StandsFor keeps cmp join code v.records x.op (Prepared e source)
     prepared-stands keeps e source i entry low newest still held d traced =
         let k : K = key_of x.op in
         let kept : IsKept keeps cmp code v.records k e source = record {
@@ -233,45 +233,44 @@ module _ {K V I O : Type 0} (cmp : K → K → Ordering) (f : Meanings K V I O) 
           still = λ yes_keeps here. rw newest still;
           nowhere = λ yes_keeps none. sym (source-held source i held d) ∙ ap value_of (sym newest ∙ newest-nowhere cmp v.records k (address_of e.word) traced none);
         } in
-        subst (λ (o : KeyedOp K V I). StandsFor keeps cmp code v.records o (Prepared e source)) (sym (asks-rmw source i d)) kept
+        subst (λ (o : KeyedOp K V I). StandsFor keeps cmp join code v.records o (Prepared e source)) (sym (asks-rmw source i d)) kept
 
     -- a look-up that goes on in a page
-    pub loading-stands : (keeps : Bool) (e : IndexEntry) (b : ℕ)
+    pub loading-stands : (keeps : Bool) (e : IndexEntry) (b : ℕ) (parts : Option V)
         → IsEntryOf v.records (class_in code v.records (key_of x.op)) e
         → address_of e.word < v.records.tail
         → newest cmp v.records.text (key_of x.op) (address_of e.word) ≡ last_of cmp v.records.text (key_of x.op)
-        → IsWanted cmp code v.records (key_of x.op) b
-        → decision f x.op (met_at cmp code v slot (key_of x.op)) ≡ decided.Load b
+        → IsWanted cmp join code v.records (key_of x.op) b parts
+        → decision f x.op (met_at cmp join code v slot (key_of x.op)) ≡ decided.Load b parts
         → IsTraced keeps code v.records
-        → StandsFor keeps cmp code v.records x.op (Load (record { begin = v.records.begin; kept = e; wanted = b; looked = now }))
-    loading-stands keeps e b entry low newest wanted d traced =
+        → StandsFor keeps cmp join code v.records x.op (Load (record { begin = v.records.begin; kept = e; wanted = b; parts = parts; looked = now }))
+    loading-stands keeps e b parts entry low newest wanted d traced =
         let k : K = key_of x.op in
-        let under = wanted.low in
-        let head = traced.regions.agree.in_order.head in
-        let l : Loading = record { begin = v.records.begin; kept = e; wanted = b; looked = now } in
-        let stands : IsLoading keeps cmp code v.records k l = record {
+        let l : Loading V = record { begin = v.records.begin; kept = e; wanted = b; parts = parts; looked = now } in
+        let stands : IsLoading keeps cmp join code v.records k l = record {
           entry = record { place = entry.place; bucket = entry.bucket; final = entry.final; tag = entry.tag };
           low = low;
           begun = wanted.begun;
           past = omega arith;
           on_disk = wanted.low;
           class = λ yes_keeps same begun. wanted.class begun;
-          newest = λ yes_keeps same. newest ∙ wanted.newest;
-          still = λ yes_keeps same. rw (newest ∙ wanted.newest) (still-below cmp v.records.text k b v.records.regions.offsets.safe_read_only (omega arith));
+          still = λ yes_keeps same. rw newest wanted.still;
+          newest = λ yes_keeps same. ap value_of newest ∙ wanted.newest;
+          between = λ yes_keeps same y stands own above under. wanted.between y stands own above;
         } in
-        let o = load-op f x.op (met_at cmp code v slot k) b d in
+        let o = load-op f x.op (met_at cmp join code v slot k) b parts d in
         elim o.1 [
-          | inl is ↦ subst (λ (w : KeyedOp K V I). StandsFor keeps cmp code v.records w (Load l)) (sym is) stands
-          | inr is ↦ subst (λ (w : KeyedOp K V I). StandsFor keeps cmp code v.records w (Load l)) (sym is) stands
+          | inl is ↦ subst (λ (w : KeyedOp K V I). StandsFor keeps cmp join code v.records w (Load l)) (sym is) stands
+          | inr is ↦ subst (λ (w : KeyedOp K V I). StandsFor keeps cmp join code v.records w (Load l)) (sym is) stands
         ]
 
     -- an operation that asks nothing and claims nothing looks its key up, and so decides
-    pub decides-at : {keeps : Bool} → IsSound keeps cmp code v → question_in x ≡ None → claim_by x.phase ≡ None → loading_by x.phase ≡ None → (d e : Decision V I O) → d ≡ decision f x.op (met_at cmp code v slot (key_of x.op)) → d ≡ e → Decides cmp f code v slot c x e
-    decides-at s q n l d e is same = record { here = h; fresh = fresh-at cmp code v s slot c x h q n l; decided = sym is ∙ same }
+    pub decides-at : {keeps : Bool} → IsSound keeps cmp join code v → question_in x ≡ None → claim_by x.phase ≡ None → loading_by x.phase ≡ None → (d e : Decision V I O) → d ≡ decision f x.op (met_at cmp join code v slot (key_of x.op)) → d ≡ e → Decides cmp join f code v slot c x e
+    decides-at s q n l d e is same = record { here = h; fresh = fresh-at cmp join code v s slot c x h q n l; decided = sym is ∙ same }
 
     -- an operation is done without a write
-    pub event-quiet : {R : Type 0} → IsKeyOrder cmp → IsHeld (met_at cmp code v slot (key_of x.op)) (live_of cmp v (key_of x.op)) → (a : Answer O) → decision f x.op (met_at cmp code v slot (key_of x.op)) ≡ Decision.Done a → IsEvent {R = R} cmp f v (with_context v slot c None now) slot c now (Done a now)
-    event-quiet order held a d = let quiet = quiet-does cmp f (live_of cmp v) order x.op (met_at cmp code v slot (key_of x.op)) a held d in record {
+    pub event-quiet : {R : Type 0} → IsKeyOrder cmp → IsHeld (met_at cmp join code v slot (key_of x.op)) (live_of cmp v (key_of x.op)) → (a : Answer O) → decision f x.op (met_at cmp join code v slot (key_of x.op)) ≡ Decision.Done a → IsEvent {R = R} cmp f v (with_context v slot c None now) slot c now (Done a now)
+    event-quiet order held a d = let quiet = quiet-does cmp f (live_of cmp v) order x.op (met_at cmp join code v slot (key_of x.op)) a held d in record {
       question = asked_by x;
       was = was-asked;
       effect = (
@@ -284,11 +283,11 @@ module _ {K V I O : Type 0} (cmp : K → K → Ordering) (f : Meanings K V I O) 
     }
 
     -- or appends a record
-    pub event-appends : {R : Type 0} (e : IndexEntry) (value : Option V) (a : Answer O) → Same (live cmp (with_record v.records e (key_of x.op) value).text) (with_at cmp (live_of cmp v) (key_of x.op) value) → decision f x.op (met_at cmp code v slot (key_of x.op)) ≡ Append value a
+    pub event-appends : {R : Type 0} (e : IndexEntry) (value : Option V) (a : Answer O) → Same (live cmp (with_record v.records e (key_of x.op) value).text) (with_at cmp (live_of cmp v) (key_of x.op) value) → decision f x.op (met_at cmp join code v slot (key_of x.op)) ≡ Append value a
         → IsEvent {R = R} cmp f v (with_appended v slot c e (key_of x.op) value now) slot c now (Done a now)
     event-appends e value a lives d =
         let l = leaves None in
-        let does = append-does cmp f (live_of cmp v) x.op (met_at cmp code v slot (key_of x.op)) value a d in
+        let does = append-does cmp f (live_of cmp v) x.op (met_at cmp join code v slot (key_of x.op)) value a d in
         record {
           question = asked_by x;
           was = was-asked;
@@ -303,10 +302,10 @@ module _ {K V I O : Type 0} (cmp : K → K → Ordering) (f : Meanings K V I O) 
         }
 
     -- or gives the last record of its key another value where it stands, or makes it a tombstone
-    pub event-replaces : {R : Type 0} (at : ℕ) (value : Option V) (a : Answer O) → IsHeld (met_at cmp code v slot (key_of x.op)) (live_of cmp v (key_of x.op))
-        → Same (live cmp (with_value v.records at value).text) (with_at cmp (live_of cmp v) (key_of x.op) value) → decision f x.op (met_at cmp code v slot (key_of x.op)) ≡ Replace value a
+    pub event-replaces : {R : Type 0} (at : ℕ) (value : Option V) (a : Answer O) → IsHeld (met_at cmp join code v slot (key_of x.op)) (live_of cmp v (key_of x.op))
+        → Same (live cmp (with_value v.records at value).text) (with_at cmp (live_of cmp v) (key_of x.op) value) → decision f x.op (met_at cmp join code v slot (key_of x.op)) ≡ Replace value a
         → IsEvent {R = R} cmp f v (with_replaced v slot c at value now) slot c now (Done a now)
-    event-replaces at value a held lives d = let does = replace-does cmp f (live_of cmp v) x.op (met_at cmp code v slot (key_of x.op)) value a held d in record {
+    event-replaces at value a held lives d = let does = replace-does cmp f (live_of cmp v) x.op (met_at cmp join code v slot (key_of x.op)) value a held d in record {
       question = asked_by x;
       was = was-asked;
       effect = (
@@ -374,14 +373,14 @@ module _ {K V I O : Type 0} (cmp : K → K → Ordering) (f : Meanings K V I O) 
         }
 
     -- what was built for an update whose entry stands is what its key comes to
-    built-is : {keeps : Bool} → IsTrue keeps → IsSound keeps cmp code v → (e : IndexEntry) (ask : Ask K V I) (value : Option V) → question_in x ≡ Some (e, ask) → word_at v.records.words e.place ≡ e.word
+    built-is : {keeps : Bool} → IsTrue keeps → IsSound keeps cmp join code v → (e : IndexEntry) (ask : Ask K V I) (value : Option V) → question_in x ≡ Some (e, ask) → word_at v.records.words e.place ≡ e.word
         → newest cmp v.records.text ask.key (address_of e.word) ≡ last_of cmp v.records.text ask.key
         → updated f ask.key ask.input ask.source ≡ value
         → updated f ask.key ask.input (live_of cmp v ask.key) ≡ value
-    built-is yes_keeps s e ask value q stands newest u = ap (updated f ask.key ask.input) (sym (source-is cmp code v s yes_keeps slot c x e ask h q stands newest)) ∙ u
+    built-is yes_keeps s e ask value q stands newest u = ap (updated f ask.key ask.input) (sym (source-is cmp join code v s yes_keeps slot c x e ask h q stands newest)) ∙ u
 
     -- it is declined
-    pub event-declined : {R : Type 0} → {keeps : Bool} → IsTrue keeps → IsSound keeps cmp code v → (e : IndexEntry) (ask : Ask K V I) → question_in x ≡ Some (e, ask) → word_at v.records.words e.place ≡ e.word → newest cmp v.records.text ask.key (address_of e.word) ≡ last_of cmp v.records.text ask.key
+    pub event-declined : {R : Type 0} → {keeps : Bool} → IsTrue keeps → IsSound keeps cmp join code v → (e : IndexEntry) (ask : Ask K V I) → question_in x ≡ Some (e, ask) → word_at v.records.words e.place ≡ e.word → newest cmp v.records.text ask.key (address_of e.word) ≡ last_of cmp v.records.text ask.key
         → updated f ask.key ask.input ask.source ≡ None
         → IsEvent {R = R} cmp f v (with_context v slot c None now) slot c now (Done Declined now)
     event-declined yes_keeps s e ask q stands newest u =
@@ -400,7 +399,7 @@ module _ {K V I O : Type 0} (cmp : K → K → Ordering) (f : Meanings K V I O) 
         }
 
     -- or the built value is appended
-    pub event-done : {R : Type 0} → {keeps : Bool} → IsTrue keeps → IsSound keeps cmp code v → (e : IndexEntry) (ask : Ask K V I) (value : V) → question_in x ≡ Some (e, ask) → word_at v.records.words e.place ≡ e.word → newest cmp v.records.text ask.key (address_of e.word) ≡ last_of cmp v.records.text ask.key
+    pub event-done : {R : Type 0} → {keeps : Bool} → IsTrue keeps → IsSound keeps cmp join code v → (e : IndexEntry) (ask : Ask K V I) (value : V) → question_in x ≡ Some (e, ask) → word_at v.records.words e.place ≡ e.word → newest cmp v.records.text ask.key (address_of e.word) ≡ last_of cmp v.records.text ask.key
         → updated f ask.key ask.input ask.source ≡ Some value
         → ((value : Option V) → Same (live cmp (with_record v.records e ask.key value).text) (with_at cmp (live_of cmp v) ask.key value))
         → IsEvent {R = R} cmp f v (with_appended v slot c e ask.key (Some value) now) slot c now (Done (Value (f.shown ask.key ask.input value)) now)
@@ -500,22 +499,22 @@ pub claims-none : {K V I : Type 0} (v : CoreView K V I) (slot c : ℕ) (x : Cont
 claims-none v slot c x h quiet = ap (λ o. claim_of (joined o)) (open_at (slots_of v) v.contexts slot c x h).here ∙ quiet
 
 -- an entry is confirmed, or backs off
-module _ {K V I O R : Type 0} (stands : R → Standing) (cmp : K → K → Ordering) (f : Meanings K V I O) (code : K → ℕ) (old new : CoreView K V I) (slot c now : ℕ) (x : Context K V I) (p : Place) (h : context_at old slot c ≡ Some x) (phase : x.phase ≡ Confirm p) (final : Bool) (alone : IsTrue final ↔ IsAlone old.records.words p) where
+module _ {K V I O R : Type 0} (stands : R → Standing) (cmp : K → K → Ordering) (join : V → V → V) (f : Meanings K V I O) (code : K → ℕ) (old new : CoreView K V I) (slot c now : ℕ) (x : Context K V I) (p : Place) (h : context_at old slot c ≡ Some x) (phase : x.phase ≡ Confirm p) (final : Bool) (alone : IsTrue final ↔ IsAlone old.records.words p) where
   settle-does : OnTrue final (new ≡ record (with_context old slot c (Some (at_phase x Fresh)) now) { records = confirmed old.records p })
       → OnFalse final (new ≡ record (with_context old slot c (Some (at_phase x Fresh)) now) { records = released old.records p })
-      → (b : Bool) → final ≡ b → Goes stands cmp f code old new slot c now (Ok Next)
+      → (b : Bool) → final ≡ b → Goes stands cmp join f code old new slot c now (Ok Next)
   settle-does made emptied true e = confirms x p h phase (alone.0 e) (OnTrue_at e made) refl
   settle-does made emptied false e = backs_off x p h phase (λ a. (let both : false ≡ true = sym e ∙ alone.1 a in absurd (cc))) (OnFalse_at e emptied) refl
 
   settle-event : OnTrue final (new ≡ record (with_context old slot c (Some (at_phase x Fresh)) now) { records = confirmed old.records p })
       → OnFalse final (new ≡ record (with_context old slot c (Some (at_phase x Fresh)) now) { records = released old.records p })
       → (b : Bool) → final ≡ b → IsEvent {R = R} cmp f old new slot c now Next
-  settle-event made emptied true e = rw (OnTrue_at e made) (event-next cmp f code old slot c now x h Fresh (confirmed old.records p) refl refl refl)
-  settle-event made emptied false e = rw (OnFalse_at e emptied) (event-next cmp f code old slot c now x h Fresh (released old.records p) refl refl refl)
+  settle-event made emptied true e = rw (OnTrue_at e made) (event-next cmp join f code old slot c now x h Fresh (confirmed old.records p) refl refl refl)
+  settle-event made emptied false e = rw (OnFalse_at e emptied) (event-next cmp join f code old slot c now x h Fresh (released old.records p) refl refl refl)
 
   pub settles : OnTrue final (new ≡ record (with_context old slot c (Some (at_phase x Fresh)) now) { records = confirmed old.records p })
       → OnFalse final (new ≡ record (with_context old slot c (Some (at_phase x Fresh)) now) { records = released old.records p })
-      → Goes stands cmp f code old new slot c now (Ok Next) × IsEvent {R = R} cmp f old new slot c now Next
+      → Goes stands cmp join f code old new slot c now (Ok Next) × IsEvent {R = R} cmp f old new slot c now Next
   settles made emptied = (settle-does made emptied final refl, settle-event made emptied final refl)
 
 -- ---- what the records answer

@@ -80,9 +80,9 @@ module _ {K V I : Type 0} (cmp : K → K → Ordering) (old new : CoreView K V I
   fresh-none : (x : Context K V I) → x.phase ≡ Fresh → pending_by cmp old.records x.op x.phase ≡ None
   fresh-none x h = ap (pending_by cmp old.records x.op) h
 
-module _ {K V I O R : Type 0} (cmp : K → K → Ordering) (f : Meanings K V I O) (code : K → ℕ) (old new : CoreView K V I) (slot c now : ℕ) where
-  pub goes-find : {keeps : Bool} (stands : R → Standing) → IsKeyOrder cmp → IsSound keeps cmp code old
-      → (progress : Progress K V I O R) → Goes stands cmp f code old new slot c now (Ok progress) → Finds cmp old new slot c now progress
+module _ {K V I O R : Type 0} (cmp : K → K → Ordering) (join : V → V → V) (f : Meanings K V I O) (code : K → ℕ) (old new : CoreView K V I) (slot c now : ℕ) where
+  pub goes-find : {keeps : Bool} (stands : R → Standing) → IsKeyOrder cmp → IsSound keeps cmp join code old
+      → (progress : Progress K V I O R) → Goes stands cmp join f code old new slot c now (Ok progress) → Finds cmp old new slot c now progress
   goes-find stands order s progress (Goes.unknown h is e) = absurd (cc)
   goes-find stands order s progress (Goes.asks x k ask h q is e) = let p : progress ≡ NeedsBuild ask = cc in rw p (stays-none cmp old new slot c now x h (asks-none cmp old.records x.number x.op x.phase (k, ask) q) is)
   goes-find stands order s progress (Goes.not_ready x l h phase is e) = absurd (cc)
@@ -97,7 +97,7 @@ module _ {K V I O R : Type 0} (cmp : K → K → Ordering) (f : Meanings K V I O
   goes-find stands order s progress (Goes.replaces x value a k d last is e) = let p : progress ≡ Done a now = cc in rw p (set-none cmp old new slot c now x d.here None _ refl refl is)
   goes-find stands order s progress (Goes.waits x d is e) = let p : progress ≡ Waits Fuzzy = cc in rw p (stays-none cmp old new slot c now x d.here (fresh-none cmp old new slot c now x d.fresh) is)
   goes-find stands order s progress (Goes.prepares x source i k d entry is e) = let p : progress ≡ NeedsBuild (record { number = x.number; key = key_of x.op; source = source; input = i }) = cc in rw p (set-none cmp old new slot c now x d.here (Some (at_phase x (Prepared k source))) old.records refl refl is)
-  goes-find stands order s progress (Goes.asks_page x b k p d entry held is e) =
+  goes-find stands order s progress (Goes.asks_page x b parts k p d entry held is e) =
       let led = traced-held cmp code old.records (key_of x.op) order s.traced (address_of k.word) (found-leads old.records.words (class_in code old.records (key_of x.op)).bucket (class_in code old.records (key_of x.op)).tag k entry) in
       let q : progress ≡ NeedsLoad p b = cc in
       rw q (record {
@@ -107,7 +107,7 @@ module _ {K V I O R : Type 0} (cmp : K → K → Ordering) (f : Meanings K V I O
             ∙ ap (pending_of cmp old.records) (context-same old slot c now x d.here _)
             ∙ (rw (eq-eqb old.records.begin old.records.begin refl) (ap (λ o. Some (record { moment = now; value = value_of o })) led));
       })
-  goes-find stands order s progress (Goes.unshared x b d is e) = absurd (cc)
+  goes-find stands order s progress (Goes.unshared x b parts d is e) = absurd (cc)
 
   pub installs-find : (ask : Ask K V I) (progress : Progress K V I O R) → Installs cmp f code old new slot c ask now (Ok progress) → Finds cmp old new slot c now progress
   installs-find ask progress (Installs.unknown h is e) = absurd (cc)

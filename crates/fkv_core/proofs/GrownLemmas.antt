@@ -1,5 +1,5 @@
 -- What changes of records leave to the operations that are open.
-use Rattle.std.proofs.Common.{◌≡◌, true, false, ℕ, ◌+◌, ◌*◌, ◌/◌, ◌^◌, ◌<◌, ◌≤◌, ◌⊎◌, ◌&&◌, inl, inr, Bool, IsTrue, List, [], ◌∷◌, cond, unwrap_or, nat_le, Option, Some, None, refl, sym, ◌∙◌, ap, subst, arith}
+use Rattle.std.proofs.Common.{◌≡◌, true, false, ℕ, ◌+◌, ◌*◌, ◌/◌, ◌^◌, ◌<◌, ◌≤◌, ◌⊎◌, ◌&&◌, ◌==◌, inl, inr, Bool, IsTrue, List, [], ◌∷◌, cond, unwrap_or, nat_le, slice_get, Option, Some, None, refl, sym, ◌∙◌, ap, subst, arith}
 use Rattle.std.proofs.lemmas.Bool.Decides.{nat_tests}
 use Rattle.std.proofs.lemmas.Bool.{and_parts, leb-true, cases_lt}
 use Rattle.std.proofs.lemmas.Nat.{div-add-mod', pow_pos}
@@ -16,8 +16,13 @@ use Rattle.fkv_texts.specs.Text.{entry_at, has_key, newest, value_of}
 use Rattle.fkv_texts.specs.Places.{tail_after, IsLaidOut}
 use Rattle.fkv_texts.proofs.LastWhere.{last_where-found, last_where-none}
 use Rattle.fkv_texts.proofs.TextLemmas.{entry_at-old, newest-below}
-use Rattle.fkv_texts.proofs.ChangeLemmas.{entry_at-elsewhere}
-use Rattle.fkv_texts.proofs.CutLemmas.{cut-entry}
+use Rattle.fkv_texts.specs.Text.{set_at}
+use Rattle.fkv_texts.proofs.ChangeLemmas.{by_test, entry_at-elsewhere, was_at, set_at-address, set_at-key}
+use Rattle.fkv_texts.proofs.CutLemmas.{cut-entry, filter-in}
+use Rattle.fkv_texts.specs.Chains.{IsIn}
+use Rattle.fkv_texts.specs.Deltas.{onto}
+use Rattle.fkv_functions.proofs.ListLemmas.{get-append_cases}
+use Rattle.std.specs.BTreeMap.{is_at}
 use Rattle.fkv_index.specs.declared.places.Place.{Place}
 use Rattle.fkv_index.specs.declared.words.Word.{Word}
 use Rattle.fkv_index.specs.Words.{address_of, final_word, tag_of, is_final}
@@ -45,7 +50,7 @@ use Rattle.fkv_core.proofs.ClaimLemmas.{place-or}
 -- records change: on a device that keeps, what is newest at or below each address that is taken stays where it is still;
 -- what is frozen is frozen, and of its class while the text has begun there; no offset falls, no place of the index goes,
 -- and no class changes; a final word that leads to a taken address, and stands, stood there before, or leads nowhere
-pub record Grows {K V : Type 0} (keeps : Bool) (cmp : K → K → Ordering) (code : K → ℕ) (old new : RecordsView K V) : Type 0 where
+pub record Grows {K V : Type 0} (keeps : Bool) (cmp : K → K → Ordering) (join : V → V → V) (code : K → ℕ) (old new : RecordsView K V) : Type 0 where
   pub class : (k : K) → class_in code new k ≡ class_in code old k
   pub tail : old.tail ≤ new.tail
   pub safe : old.regions.offsets.safe_read_only ≤ new.regions.offsets.safe_read_only
@@ -62,6 +67,10 @@ pub record Grows {K V : Type 0} (keeps : Bool) (cmp : K → K → Ordering) (cod
       → new.from ≤ a
       → IsOfClass code old k a
       → IsOfClass code new k a
+  pub was : (e : Entry K V)
+      → IsIn new.entries e
+      → e.address < old.tail
+      → (d : Entry K V) × IsIn old.entries d × (d.address ≡ e.address) × (d.key ≡ e.key) × (d.delta ≡ e.delta)
   pub places : (p : Place) → IsPlace old.words p → IsPlace new.words p
   pub held : (p : Place) (w : Word)
       → IsTrue (is_final w)
@@ -70,7 +79,7 @@ pub record Grows {K V : Type 0} (keeps : Bool) (cmp : K → K → Ordering) (cod
       → (word_at old.words p ≡ w) ⊎ (address_of w < 64)
 
 -- so no address is used twice
-pub next-grown : {K V : Type 0} {keeps : Bool} {cmp : K → K → Ordering} {code : K → ℕ} (old new : RecordsView K V) → Grows keeps cmp code old new → IsTrue keeps → IsNext cmp (indexed old) (indexed new)
+pub next-grown : {K V : Type 0} {keeps : Bool} {cmp : K → K → Ordering} {join : V → V → V} {code : K → ℕ} (old new : RecordsView K V) → Grows keeps cmp join code old new → IsTrue keeps → IsNext cmp (indexed old) (indexed new)
 next-grown old new g yes_keeps = record {
   begin = (let same = g.begin in omega arith);
   frozen = g.safe;
@@ -92,6 +101,13 @@ newest-nowhere cmp r k a t low = last_where-none (λ e. nat_le e.address a && ha
     let no : nat_le e.address a ≡ false = grind (arith, nat_tests) in
     rw no refl)
 
+-- nor below where the text begins
+pub newest-under : {K V : Type 0} {keeps : Bool} {code : K → ℕ} (cmp : K → K → Ordering) (r : RecordsView K V) (k : K) (a : ℕ) → IsTraced keeps code r → a < r.from → newest cmp r.text k a ≡ None
+newest-under cmp r k a t low = last_where-none (λ e. nat_le e.address a && has_key cmp k e) r.text (λ i e h.
+    let high : r.from ≤ e.address = t.from i e h in
+    let no : nat_le e.address a ≡ false = grind (arith, nat_tests) in
+    rw no refl)
+
 -- the newest of a key below a frozen address is still
 pub still-below : {K V : Type 0} (cmp : K → K → Ordering) (text : List (Entry K V)) (k : K) (a safe : ℕ) → a < safe → IsStill safe (newest cmp text k a)
 still-below cmp text k a safe low = by_newest (newest cmp text k a) refl
@@ -103,13 +119,13 @@ still-below cmp text k a safe low = by_newest (newest cmp text k a) refl
         let parts = and_parts (nat_le e.address a) (has_key cmp k e) found in
         let under : nat_le e.address a ≡ true = parts.0 in
         let le : e.address ≤ a = grind (arith, nat_tests, under) in
-        inr (omega arith)
+        inr (inr (omega arith))
 
-was-entry : {K V : Type 0} {keeps : Bool} {cmp : K → K → Ordering} {code : K → ℕ} {old new : RecordsView K V} (k : K) (e : IndexEntry) → Grows keeps cmp code old new → WasEntryOf old (class_in code old k) e → WasEntryOf new (class_in code new k) e
+was-entry : {K V : Type 0} {keeps : Bool} {cmp : K → K → Ordering} {join : V → V → V} {code : K → ℕ} {old new : RecordsView K V} (k : K) (e : IndexEntry) → Grows keeps cmp join code old new → WasEntryOf old (class_in code old k) e → WasEntryOf new (class_in code new k) e
 was-entry k e g w = rw (g.class k) (record { place = g.places e.place w.place; bucket = w.bucket; final = w.final; tag = w.tag })
 
-pub loading-grown : {K V : Type 0} (keeps : Bool) (cmp : K → K → Ordering) (code : K → ℕ) (old new : RecordsView K V) (k : K) (l : Loading) → IsTraced keeps code old → Grows keeps cmp code old new → IsLoading keeps cmp code old k l → IsLoading keeps cmp code new k l
-loading-grown keeps cmp code old new k l t g h =
+pub loading-grown : {K V : Type 0} (keeps : Bool) (cmp : K → K → Ordering) (join : V → V → V) (code : K → ℕ) (old new : RecordsView K V) (k : K) (l : Loading V) → IsTraced keeps code old → Grows keeps cmp join code old new → IsLoading keeps cmp join code old k l → IsLoading keeps cmp join code new k l
+loading-grown keeps cmp join code old new k l t g h =
     let o = t.regions.agree.in_order in
     let on_disk = h.on_disk in
     let frozen : l.wanted < old.regions.offsets.safe_read_only = omega (arith, on_disk, o.head) in
@@ -125,9 +141,13 @@ loading-grown keeps cmp code old new k l t g h =
       on_disk = omega arith;
       class = λ yes_keeps same begun. g.same_class k l.wanted frozen begun (h.class yes_keeps (same ∙ g.begin) (let up = g.from in omega arith));
       newest = λ yes_keeps same.
-          kept-same yes_keeps same
+          ap value_of (kept-same yes_keeps same)
           ∙ h.newest yes_keeps (same ∙ g.begin)
-          ∙ sym (g.kept yes_keeps k l.wanted taken (still-below cmp old.text k l.wanted old.regions.offsets.safe_read_only frozen));
+          ∙ sym (ap (λ o. onto join (value_of o) l.parts) (g.kept yes_keeps k l.wanted taken (still-below cmp old.text k l.wanted old.regions.offsets.safe_read_only frozen)));
+      between = λ yes_keeps same e m key above under.
+          let d = g.was e m (omega (arith, low, under)) in
+          let own : has_key cmp k d.0 ≡ true = ap (λ q. is_at (cmp q) k) d.3 ∙ key in
+          sym d.4 ∙ h.between yes_keeps (same ∙ g.begin) d.0 d.1 own (let at = d.2 in omega (arith, at, above)) (let at = d.2 in omega (arith, at, under));
       still = λ yes_keeps same.
           subst (IsStill new.regions.offsets.safe_read_only) (sym (kept-same yes_keeps same))
           (still-raised old.regions.offsets.safe_read_only new.regions.offsets.safe_read_only (newest cmp old.text k (address_of l.kept.word)) g.safe (h.still yes_keeps (same ∙ g.begin)));
@@ -137,9 +157,9 @@ loading-grown keeps cmp code old new k l t g h =
     kept-same : IsTrue keeps → l.begin ≡ new.begin → newest cmp new.text k (address_of l.kept.word) ≡ newest cmp old.text k (address_of l.kept.word)
     kept-same yes_keeps same = g.kept yes_keeps k (address_of l.kept.word) h.low (h.still yes_keeps (same ∙ g.begin))
 
-pub kept-grown : {K V : Type 0} (keeps : Bool) (cmp : K → K → Ordering) (code : K → ℕ) (old new : RecordsView K V) (k : K) (e : IndexEntry) (source : Option V) → IsTraced keeps code old → Grows keeps cmp code old new → IsKept keeps cmp code old k e source
+pub kept-grown : {K V : Type 0} (keeps : Bool) (cmp : K → K → Ordering) (join : V → V → V) (code : K → ℕ) (old new : RecordsView K V) (k : K) (e : IndexEntry) (source : Option V) → IsTraced keeps code old → Grows keeps cmp join code old new → IsKept keeps cmp code old k e source
     → IsKept keeps cmp code new k e source
-kept-grown keeps cmp code old new k e source t g h =
+kept-grown keeps cmp join code old new k e source t g h =
     let low = h.low in
     let tail = g.tail in
     record {
@@ -169,18 +189,18 @@ kept-grown keeps cmp code old new k e source t g h =
     by_still yes_keeps (inr none) = rw (nowhere yes_keeps none) tt
 
 -- an operation stands for what it stood for, where the word that it claims stays
-pub stands-grown : {K V I : Type 0} (keeps : Bool) (cmp : K → K → Ordering) (code : K → ℕ) (old new : RecordsView K V) (op : KeyedOp K V I) (phase : Phase V) → IsTraced keeps code old → Grows keeps cmp code old new → ((p : Place) → claim_by phase ≡ Some p → word_at new.words p ≡ word_at old.words p) → StandsFor keeps cmp code old op phase → StandsFor keeps cmp code new op phase
-stands-grown keeps cmp code old new op Fresh t g n h = tt
-stands-grown keeps cmp code old new op (Confirm p) t g n h =
+pub stands-grown : {K V I : Type 0} (keeps : Bool) (cmp : K → K → Ordering) (join : V → V → V) (code : K → ℕ) (old new : RecordsView K V) (op : KeyedOp K V I) (phase : Phase V) → IsTraced keeps code old → Grows keeps cmp join code old new → ((p : Place) → claim_by phase ≡ Some p → word_at new.words p ≡ word_at old.words p) → StandsFor keeps cmp join code old op phase → StandsFor keeps cmp join code new op phase
+stands-grown keeps cmp join code old new op Fresh t g n h = tt
+stands-grown keeps cmp join code old new op (Confirm p) t g n h =
     rw (g.class (key_of op)) (record { bucket = h.bucket; word = n p refl ∙ h.word })
-stands-grown keeps cmp code old new (Read k i) (Prepared e s) t g n h = h
-stands-grown keeps cmp code old new (Upsert k v) (Prepared e s) t g n h = h
-stands-grown keeps cmp code old new (Rmw k i) (Prepared e s) t g n h = kept-grown keeps cmp code old new k e s t g h
-stands-grown keeps cmp code old new (Delete k) (Prepared e s) t g n h = h
-stands-grown keeps cmp code old new (Read k i) (Load l) t g n h = loading-grown keeps cmp code old new k l t g h
-stands-grown keeps cmp code old new (Upsert k v) (Load l) t g n h = h
-stands-grown keeps cmp code old new (Rmw k i) (Load l) t g n h = loading-grown keeps cmp code old new k l t g h
-stands-grown keeps cmp code old new (Delete k) (Load l) t g n h = h
+stands-grown keeps cmp join code old new (Read k i) (Prepared e s) t g n h = h
+stands-grown keeps cmp join code old new (Upsert k v) (Prepared e s) t g n h = h
+stands-grown keeps cmp join code old new (Rmw k i) (Prepared e s) t g n h = kept-grown keeps cmp join code old new k e s t g h
+stands-grown keeps cmp join code old new (Delete k) (Prepared e s) t g n h = h
+stands-grown keeps cmp join code old new (Read k i) (Load l) t g n h = loading-grown keeps cmp join code old new k l t g h
+stands-grown keeps cmp join code old new (Upsert k v) (Load l) t g n h = h
+stands-grown keeps cmp join code old new (Rmw k i) (Load l) t g n h = loading-grown keeps cmp join code old new k l t g h
+stands-grown keeps cmp join code old new (Delete k) (Load l) t g n h = h
 
 -- ---- the tail, and the entry that is moved there
 after-most : (bits size a : ℕ) → tail_after bits size a ≤ 2 ^ 48
@@ -242,9 +262,13 @@ appended-leads words p t a place low =
       | inr end ↦ inr (subst (λ w. address_of w < 64) (sym there) (last-address t a (omega arith)))
     ]
 
+-- another value leaves whether a record is a delta
+flag-kept : {K V : Type 0} (a : ℕ) (v : Option V) (e : Entry K V) → (set_at a v e).delta ≡ e.delta
+flag-kept a v e = by_test a v (λ d. d.delta ≡ e.delta) (e.address == a) e refl refl
+
 -- ---- each change
-module _ {K V : Type 0} {keeps : Bool} (cmp : K → K → Ordering) (code : K → ℕ) (v : RecordsView K V) (t : IsTraced keeps code v) where
-  pub grown-same : Grows keeps cmp code v v
+module _ {K V : Type 0} {keeps : Bool} (cmp : K → K → Ordering) (join : V → V → V) (code : K → ℕ) (v : RecordsView K V) (t : IsTraced keeps code v) where
+  pub grown-same : Grows keeps cmp join code v v
   grown-same = record {
     class = λ k. refl;
     tail = omega arith;
@@ -254,12 +278,13 @@ module _ {K V : Type 0} {keeps : Bool} (cmp : K → K → Ordering) (code : K �
     from = omega arith;
     kept = λ keeps k a low still. refl;
     same_class = λ k a low begun h. h;
+    was = λ e m low. (e, m, refl, refl, refl);
     places = λ p h. h;
     held = λ p w f low h. inl h;
   }
 
   -- the regions move
-  pub grown-regions : (regions : RegionsView) → IsRaised v.regions.offsets regions.offsets → Grows keeps cmp code v (with_regions v regions)
+  pub grown-regions : (regions : RegionsView) → IsRaised v.regions.offsets regions.offsets → Grows keeps cmp join code v (with_regions v regions)
   grown-regions regions up = record {
     class = λ k. refl;
     tail = omega arith;
@@ -269,12 +294,13 @@ module _ {K V : Type 0} {keeps : Bool} (cmp : K → K → Ordering) (code : K �
     from = omega arith;
     kept = λ keeps k a low still. refl;
     same_class = λ k a low begun h. record { entry = h.entry; here = h.here; class = h.class };
+    was = λ e m low. (e, m, refl, refl, refl);
     places = λ p h. h;
     held = λ p w f low h. inl h;
   }
 
   -- frames are closed too, and the text may begin higher
-  pub grown-moved : (r : RecordsView K V) (regions : RegionsView) → IsMoved keeps regions v r → IsRaised v.regions.offsets r.regions.offsets → Grows keeps cmp code v r
+  pub grown-moved : (r : RecordsView K V) (regions : RegionsView) → IsMoved keeps regions v r → IsRaised v.regions.offsets r.regions.offsets → Grows keeps cmp join code v r
   grown-moved r regions m up = record {
     class = λ k. ap (λ (w : RecordsView K V). class_in code w k) m.is;
     tail = (let same : r.tail ≡ v.tail = ap (λ (w : RecordsView K V). w.tail) m.is in omega arith);
@@ -288,9 +314,10 @@ module _ {K V : Type 0} {keeps : Bool} (cmp : K → K → Ordering) (code : K �
     kept = λ yes_keeps k a low still. ap (λ t. newest cmp t k a) (m.kept yes_keeps);
     same_class = λ k a frozen begun o. record {
       entry = o.entry;
-      here = ap (λ (w : RecordsView K V). entry_at w.text a) m.is ∙ cut-entry (text_begin keeps v.begin regions.offsets.closed) a v.text (subst (λ n. n ≤ a) starts begun) ∙ o.here;
+      here = ap (λ (w : RecordsView K V). entry_at w.entries a) m.is ∙ cut-entry (text_begin keeps v.begin regions.offsets.closed) a v.entries (subst (λ n. n ≤ a) starts begun) ∙ o.here;
       class = ap (λ (w : RecordsView K V). class_in code w o.entry.key) m.is ∙ o.class ∙ sym (ap (λ (w : RecordsView K V). class_in code w k) m.is);
     };
+    was = λ e i low. (e, (filter-in (λ (d : Entry K V). nat_le (text_begin keeps v.begin regions.offsets.closed) d.address) v.entries i.place e (ap (λ (w : RecordsView K V). slice_get w.entries i.place) (sym m.is) ∙ i.here)).0, refl, refl, refl);
     places = λ p h. subst (λ w. IsPlace w p) (sym (ap (λ (w : RecordsView K V). w.words) m.is)) h;
     held = λ p w f low h. inl (sym (ap (λ (u : RecordsView K V). word_at u.words p) m.is) ∙ h);
   }
@@ -299,7 +326,7 @@ module _ {K V : Type 0} {keeps : Bool} (cmp : K → K → Ordering) (code : K �
       starts = ap (λ (w : RecordsView K V). w.from) m.is
 
   -- a page is flushed
-  pub grown-flushed : (st : Standing) → Grows keeps cmp code v (with_receipt v st)
+  pub grown-flushed : (st : Standing) → Grows keeps cmp join code v (with_receipt v st)
   grown-flushed st = record {
     class = λ k. refl;
     tail = omega arith;
@@ -309,6 +336,7 @@ module _ {K V : Type 0} {keeps : Bool} (cmp : K → K → Ordering) (code : K �
     from = omega arith;
     kept = λ keeps k a low still. refl;
     same_class = λ k a low begun h. record { entry = h.entry; here = h.here; class = h.class };
+    was = λ e m low. (e, m, refl, refl, refl);
     places = λ p h. h;
     held = λ p w f low h. inl h;
   }
@@ -317,14 +345,18 @@ module _ {K V : Type 0} {keeps : Bool} (cmp : K → K → Ordering) (code : K �
   frozen-low a low = let o = t.regions.agree.in_order in omega (arith, low, o.safe, t.regions.read_only)
 
   -- a record at the tail
-  pub grown-appended : (e : IndexEntry) (k : K) (value : Option V) → IsPlace v.words e.place → Grows keeps cmp code v (with_record v e k value)
+  pub grown-appended : (e : IndexEntry) (k : K) (value : Option V) → IsPlace v.words e.place → Grows keeps cmp join code v (with_record v e k value)
   grown-appended e k value place = record {
     class = λ q. refl;
     safe = omega arith;
     head = omega arith;
     begin = refl;
     from = omega arith;
-    same_class = λ q a low begun o. (let under = frozen-low a low in record { entry = o.entry; here = entry_at-old v.text last a (λ same. omega arith) ∙ o.here; class = o.class });
+    same_class = λ q a low begun o. (let under = frozen-low a low in record { entry = o.entry; here = entry_at-old v.entries last a (λ same. omega arith) ∙ o.here; class = o.class });
+    was = λ x m low. elim (get-append_cases v.entries last m.place x m.here) [
+      | inl was ↦ (x, record { place = m.place; here = was }, refl, refl, refl)
+      | inr new ↦ absurd (let at : v.tail ≡ x.address = ap (λ (y : Entry K V). y.address) new.1 in omega arith)
+    ];
     tail = tail-up v.page_bits v.record_size v.tail (tail-most v t);
     kept = λ keeps q a low still. newest-below cmp v.text last q a low;
     places = λ p h. (written.places p).1 h;
@@ -347,7 +379,7 @@ module _ {K V : Type 0} {keeps : Bool} (cmp : K → K → Ordering) (code : K �
   pub grown-replaced : (a : ℕ) (value : Option V)
       → v.regions.offsets.safe_read_only ≤ a
       → ((q : K) (b : ℕ) → IsStill v.regions.offsets.safe_read_only (newest cmp v.text q b) → newest cmp (with_value v a value).text q b ≡ newest cmp v.text q b)
-      → Grows keeps cmp code v (with_value v a value)
+      → Grows keeps cmp join code v (with_value v a value)
   grown-replaced a value high kept = record {
     class = λ q. refl;
     tail = omega arith;
@@ -356,7 +388,9 @@ module _ {K V : Type 0} {keeps : Bool} (cmp : K → K → Ordering) (code : K �
     begin = refl;
     from = omega arith;
     kept = λ keeps q b low still. kept q b still;
-    same_class = λ q b low begun o. record { entry = o.entry; here = entry_at-elsewhere a value v.text b (λ same. omega arith) ∙ o.here; class = o.class };
+    same_class = λ q b low begun o. record { entry = o.entry; here = entry_at-elsewhere a value v.entries b (λ same. omega arith) ∙ o.here; class = o.class };
+    was = λ e m low. (let w = was_at a value v.entries m.place e m.here in
+        (w.entry, record { place = m.place; here = w.here }, sym (ap (λ (y : Entry K V). y.address) (sym w.is) ∙ set_at-address a value w.entry), sym (ap (λ (y : Entry K V). y.key) (sym w.is) ∙ set_at-key a value w.entry), sym (ap (λ (y : Entry K V). y.delta) (sym w.is) ∙ flag-kept a value w.entry)));
     places = λ p h. h;
     held = λ p w f low h. inl h;
   }

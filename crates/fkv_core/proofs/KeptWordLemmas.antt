@@ -23,13 +23,13 @@ indexed-last v (w ∷ ws) = indexed-last w ws
 abbrev pub class_of : {K : Type 0} → (K → ℕ) → ℕ → ℕ → K → Class
 class_of code p b k = class_at p b (code k)
 
-module _ {K V I : Type 0} {keeps : Bool} (cmp : K → K → Ordering) (code : K → ℕ) (order : IsKeyOrder cmp) (yes_keeps : IsTrue keeps) (p b : ℕ) where
-  pub led-at : (v : CoreView K V I) → IsSound keeps cmp code v → v.records.partition_bits ≡ p → v.records.bucket_bits ≡ b → IsLed cmp (class_of code p b) (indexed v.records)
+module _ {K V I : Type 0} {keeps : Bool} (cmp : K → K → Ordering) (join : V → V → V) (code : K → ℕ) (order : IsKeyOrder cmp) (yes_keeps : IsTrue keeps) (p b : ℕ) where
+  pub led-at : (v : CoreView K V I) → IsSound keeps cmp join code v → v.records.partition_bits ≡ p → v.records.bucket_bits ≡ b → IsLed cmp (class_of code p b) (indexed v.records)
   led-at v s is at =
       subst (λ n. IsLed cmp (class_of code p n) (indexed v.records)) at
       (subst (λ n. IsLed cmp (class_of code n v.records.bucket_bits) (indexed v.records)) is (traced-led cmp code v.records order s.traced))
 
-  pub are-next : (v : CoreView K V I) (vs : List (CoreView K V I)) → v.records.partition_bits ≡ p → v.records.bucket_bits ≡ b → ArePreserved keeps cmp code v vs → AreNext cmp (class_of code p b) (indexed v.records) (indexed_all vs)
+  pub are-next : (v : CoreView K V I) (vs : List (CoreView K V I)) → v.records.partition_bits ≡ p → v.records.bucket_bits ≡ b → ArePreserved keeps cmp join code v vs → AreNext cmp (class_of code p b) (indexed v.records) (indexed_all vs)
   are-next v [] is at h = tt
   are-next v (w ∷ ws) is at (borne, s, more) =
       let here = borne.grown.shape.partition_bits ∙ is in

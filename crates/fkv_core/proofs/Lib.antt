@@ -10,6 +10,7 @@ pub mod PendingLemmas
 pub mod StayLemmas
 pub mod FindsLemmas
 pub mod ListingLemmas
+pub mod StoodLemmas
 pub mod TruncateLemmas
 pub mod PreservedLemmas
 pub mod SeatLemmas

@@ -1,7 +1,7 @@
 -- What a page that came tells an operation that waits for it.
 use Rattle.std.proofs.Common.{◌≡◌, ◌≢◌, ◌<◌, ◌≤◌, inl, inr, ℕ, Bool, true, false, List, Option, Some, None, length, nat_lt, slice_get, refl, sym, ◌∙◌, ap, subst, arith}
 use Rattle.std.proofs.lemmas.Bool.Decides.{nat_tests}
-use Rattle.std.proofs.lemmas.Bool.{ltb-true}
+use Rattle.std.proofs.lemmas.Bool.{ltb-true, cases_lt}
 use Rattle.std.specs.Prelude.{IsTrue, Result, Ok, Err, IfSome, IfOk, IfErr, OnOk, OnErr}
 use Rattle.std.specs.declared.cmp.Ordering.{Ordering}
 use Rattle.fkv_functions.specs.Plain.{IsKeyOrder}
@@ -14,7 +14,10 @@ use Rattle.fkv_device.specs.Standing.{Standing, Joined}
 use Rattle.fkv_texts.specs.declared.entries.Entry.{Entry}
 use Rattle.fkv_texts.specs.declared.entries.ChainPosition.{ChainPosition}
 use Rattle.fkv_texts.specs.declared.entries.ChainPosition.TheVariants.{Below}
-use Rattle.fkv_texts.specs.Text.{newest, value_of}
+use Rattle.fkv_texts.specs.Text.{has_key, newest, value_of}
+use Rattle.fkv_texts.specs.Chains.{IsIn}
+use Rattle.fkv_texts.specs.Deltas.{onto}
+use Rattle.fkv_lookups.specs.declared.gathered.Gathered.{Gathered}
 use Rattle.fkv_pages.specs.Views.{text_begin}
 use Rattle.fkv_pages.specs.Loads.{IsHeldBy, IsReached, first_place}
 use Rattle.fkv_pages.proofs.FrameLemmas.{page_rises}
@@ -22,9 +25,9 @@ use Rattle.fkv_operations.specs.After.{key_of, shown_of}
 use Rattle.fkv_operations.specs.declared.operations.KeyedOp.{KeyedOp}
 use Rattle.fkv_operations.specs.declared.operations.KeyedOp.TheVariants.{Read, Upsert, Rmw, Delete}
 use Rattle.fkv_lookups.specs.RecordsViews.{RecordsView}
-use Rattle.fkv_lookups.specs.Lookups.{IsOfClass, GoesOn}
+use Rattle.fkv_lookups.specs.Lookups.{IsOfClass, GoesOn, IsGathered, end_of}
 use Rattle.fkv_lookups.proofs.TracedLemmas.{from_first}
-use Rattle.fkv_lookups.proofs.LookupLemmas.{newest_below}
+use Rattle.fkv_lookups.proofs.LookupLemmas.{raw-traced, values_tell, between_tells, page_up}
 use Rattle.fkv_core.specs.declared.contexts.Context.{Context}
 use Rattle.fkv_core.specs.declared.contexts.Loading.{Loading}
 use Rattle.fkv_core.specs.declared.contexts.Phase.{Phase}
@@ -37,16 +40,22 @@ use Rattle.fkv_core.specs.Sound.{IsKept, IsLoading, StandsFor, IsSound}
 use Rattle.fkv_core.specs.Loading.{Tells, MayLoad, AwaitsPage, ReadsOn, IsTold, Loads, found, ended}
 use Rattle.std.proofs.lemmas.Option.{slice_get_cases}
 use Rattle.fkv_index.specs.Words.{address_of}
-use Rattle.fkv_core.proofs.GrownLemmas.{newest-nowhere}
+use Rattle.fkv_core.proofs.GrownLemmas.{newest-nowhere, newest-under}
 use Rattle.fkv_core.proofs.EventLemmas.{stands-at}
 use Rattle.fkv_core.proofs.DecidedLemmas.{page_flushed, lower_page}
 
 -- what waits for a page is a read or an update, and knows where it goes on
-loading-by : {K V I : Type 0} (keeps : Bool) (cmp : K → K → Ordering) (code : K → ℕ) (r : RecordsView K V) (op : KeyedOp K V I) (l : Loading) → StandsFor keeps cmp code r op (Load l) → MayLoad op × IsLoading keeps cmp code r (key_of op) l
-loading-by keeps cmp code r (Read k i) l h = ((i, inl refl), h)
-loading-by keeps cmp code r (Upsert k u) l h = absurd h
-loading-by keeps cmp code r (Rmw k i) l h = ((i, inr refl), h)
-loading-by keeps cmp code r (Delete k) l h = absurd h
+loading-by : {K V I : Type 0} (keeps : Bool) (cmp : K → K → Ordering) (join : V → V → V) (code : K → ℕ) (r : RecordsView K V) (op : KeyedOp K V I) (l : Loading V) → StandsFor keeps cmp join code r op (Load l) → MayLoad op × IsLoading keeps cmp join code r (key_of op) l
+loading-by keeps cmp join code r (Read k i) l h = ((i, inl refl), h)
+loading-by keeps cmp join code r (Upsert k u) l h = absurd h
+loading-by keeps cmp join code r (Rmw k i) l h = ((i, inr refl), h)
+loading-by keeps cmp join code r (Delete k) l h = absurd h
+
+-- where the way goes on, a record of the key's class stands
+way-class : {K V : Type 0} (cmp : K → K → Ordering) (join : V → V → V) (code : K → ℕ) (v : RecordsView K V) (k : K) (low a : ℕ) (parts : Option V) (r : Gathered K V) → GoesOn cmp join code v k low a parts r → (b : ℕ) → r.position ≡ Below b → v.from ≤ b → IsOfClass code v k b
+way-class cmp join code v k low a parts r (GoesOn.found is stands high whole) b at begins = absurd (cc)
+way-class cmp join code v k low a parts r (GoesOn.below {b = c} under is class) b at begins = let same : c ≡ b = cc in subst (IsOfClass code v k) same (class (let s = same in omega arith))
+way-class cmp join code v k low a parts r (GoesOn.joins {d = d} is high part more) b at begins = way-class cmp join code v k low d.previous (onto join d.value parts) r more b at begins
 
 abbrev out_of : {K V : Type 0} → ℕ → Result (ChainPosition K V) Refused
 out_of a = Ok (Below a)
@@ -61,44 +70,55 @@ reached-low entry cmp k bits low a b r (IsReached.none high none) is = absurd (c
 reached-low entry cmp k bits low a b r (IsReached.found high e passes) is = absurd (cc)
 reached-low entry cmp k bits low a b r (IsReached.on {e = e} high h no_key more) is = reached-low entry cmp k bits low e.previous b r more is
 
+-- where a look-up in a page leaves it
+abbrev pub left_of : {K V : Type 0} → Result (Gathered K V) Refused → Result (ChainPosition K V) Refused
+left_of (Ok g) = Ok g.position
+left_of (Err why) = Err why
+
+pub gathered-low : {K V : Type 0} (join : V → V → V) (entry : ℕ → Entry K V → Type 0) (cmp : K → K → Ordering) (k : K) (bits low a b : ℕ) (parts : Option V) (r : Result (Gathered K V) Refused) → IsGathered join entry cmp k bits low a parts r → left_of r ≡ Ok (Below b) → b < low
+gathered-low join entry cmp k bits low a b parts r (IsGathered.refused way) is = absurd (cc)
+gathered-low {K} {V} join entry cmp k bits low a b parts r (IsGathered.below {b = c} way) is = reached-low entry cmp k bits low a b (Ok (Below c)) way is
+gathered-low join entry cmp k bits low a b parts r (IsGathered.found way whole) is = absurd (cc)
+gathered-low join entry cmp k bits low a b parts r (IsGathered.joins {d = d} way part more) is = gathered-low join entry cmp k bits low d.previous b (onto join d.value parts) r more is
+
 -- what the page that came says
-pub record Came {K V I : Type 0} (keeps : Bool) (entry : ℕ → List ℕ → ℕ → Entry K V → Type 0) (cmp : K → K → Ordering) (code : K → ℕ) (v : CoreView K V I) (key : K) (wanted : ℕ) (st : Standing) (bytes : List ℕ)
-    (result : Result (ChainPosition K V) Refused) : Type 0 where
+pub record Came {K V I : Type 0} (keeps : Bool) (entry : ℕ → List ℕ → ℕ → Entry K V → Type 0) (cmp : K → K → Ordering) (join : V → V → V) (code : K → ℕ) (v : CoreView K V I) (key : K) (wanted : ℕ) (parts : Option V) (st : Standing) (bytes : List ℕ)
+    (result : Result (Gathered K V) Refused) : Type 0 where
   pub own : IsHeldBy v.records.receipts (page_at v.records.page_bits wanted) st
-  pub reads : IsReached (entry v.records.page_bits bytes) cmp key v.records.page_bits (first_place v.records.page_bits (page_at v.records.page_bits wanted)) wanted result
+  pub reads : IsGathered join (entry v.records.page_bits bytes) cmp key v.records.page_bits (first_place v.records.page_bits (page_at v.records.page_bits wanted)) wanted parts result
   pub kept : IsTrue keeps
       → v.records.begin ≤ wanted
       → IsOfClass code v.records key wanted
-      → (r : ChainPosition K V) × (result ≡ Ok r) × GoesOn cmp code v.records key (first_place v.records.page_bits (page_at v.records.page_bits wanted)) wanted r
+      → (r : Gathered K V) × (result ≡ Ok r) × GoesOn cmp join code v.records key (first_place v.records.page_bits (page_at v.records.page_bits wanted)) wanted parts r
 
-pub came-of : {K V I : Type 0} (keeps : Bool) (entry : ℕ → List ℕ → ℕ → Entry K V → Type 0) (cmp : K → K → Ordering) (code : K → ℕ) (u v : CoreView K V I) (key k : K) (page wanted : ℕ) (st : Standing) (bytes : List ℕ) (result : Result (ChainPosition K V) Refused)
+pub came-of : {K V I : Type 0} (keeps : Bool) (entry : ℕ → List ℕ → ℕ → Entry K V → Type 0) (cmp : K → K → Ordering) (join : V → V → V) (code : K → ℕ) (u v : CoreView K V I) (key k : K) (page low wanted : ℕ) (parts : Option V) (st : Standing) (bytes : List ℕ) (result : Result (Gathered K V) Refused)
     → u ≡ v
     → key ≡ k
     → page ≡ page_at u.records.page_bits wanted
+    → low ≡ first_place u.records.page_bits page
     → IsHeldBy u.records.receipts page st
-    → (IsHeldBy u.records.receipts (page_at u.records.page_bits wanted) st
-    → IsReached (entry u.records.page_bits bytes) cmp key u.records.page_bits (first_place u.records.page_bits (page_at u.records.page_bits wanted)) wanted result)
+    → IsGathered join (entry u.records.page_bits bytes) cmp key u.records.page_bits low wanted parts result
     → (IsTrue keeps
-    → IsHeldBy u.records.receipts (page_at u.records.page_bits wanted) st
     → u.records.begin ≤ wanted
     → IsOfClass code u.records key wanted
-    → (r : ChainPosition K V) × (result ≡ Ok r) × GoesOn cmp code u.records key (first_place u.records.page_bits (page_at u.records.page_bits wanted)) wanted r)
-    → Came keeps entry cmp code v k wanted st bytes result
-came-of keeps entry cmp code u v key k page wanted st bytes result same key_is page_is held reads kept =
+    → (r : Gathered K V) × (result ≡ Ok r) × GoesOn cmp join code u.records key low wanted parts r)
+    → Came keeps entry cmp join code v k wanted parts st bytes result
+came-of keeps entry cmp join code u v key k page low wanted parts st bytes result same key_is page_is low_is held reads kept =
     let own = subst (λ (n : ℕ). IsHeldBy u.records.receipts n st) page_is held in
-    subst (λ (w : CoreView _ _ _). Came keeps entry cmp code w k wanted st bytes result) same
-    (subst (λ q. Came keeps entry cmp code u q wanted st bytes result) key_is
-    (record { own = own; reads = reads own; kept = λ yes_keeps. kept yes_keeps own }))
+    let floor : low ≡ first_place u.records.page_bits (page_at u.records.page_bits wanted) = low_is ∙ ap (first_place u.records.page_bits) page_is in
+    subst (λ (w : CoreView _ _ _). Came keeps entry cmp join code w k wanted parts st bytes result) same
+    (subst (λ q. Came keeps entry cmp join code u q wanted parts st bytes result) key_is
+    (record { own = own; reads = rw floor at reads; kept = rw floor at kept }))
 
-module _ {K V I : Type 0} {keeps : Bool} (cmp : K → K → Ordering) (code : K → ℕ) (order : IsKeyOrder cmp) (v : CoreView K V I) (s : IsSound keeps cmp code v) (slot c : ℕ) (x : Context K V I) (l : Loading) (a : AwaitsPage v slot c x l) where
-  stands : StandsFor keeps cmp code v.records x.op (Load l)
-  stands = subst (λ (p : Phase V). StandsFor keeps cmp code v.records x.op p) a.loading (stands-at cmp code v s slot c x a.here)
+module _ {K V I : Type 0} {keeps : Bool} (cmp : K → K → Ordering) (join : V → V → V) (code : K → ℕ) (order : IsKeyOrder cmp) (v : CoreView K V I) (s : IsSound keeps cmp join code v) (slot c : ℕ) (x : Context K V I) (l : Loading V) (a : AwaitsPage v slot c x l) where
+  stands : StandsFor keeps cmp join code v.records x.op (Load l)
+  stands = subst (λ (p : Phase V). StandsFor keeps cmp join code v.records x.op p) a.loading (stands-at cmp join code v s slot c x a.here)
 
   pub may-load : MayLoad x.op
-  may-load = (loading-by keeps cmp code v.records x.op l stands).0
+  may-load = (loading-by keeps cmp join code v.records x.op l stands).0
 
-  loading-at : IsLoading keeps cmp code v.records (key_of x.op) l
-  loading-at = (loading-by keeps cmp code v.records x.op l stands).1
+  loading-at : IsLoading keeps cmp join code v.records (key_of x.op) l
+  loading-at = (loading-by keeps cmp join code v.records x.op l stands).1
 
   begun : v.records.begin ≤ l.wanted
   begun = let h = loading-at.begun in let same = a.begin in omega arith
@@ -114,30 +134,48 @@ module _ {K V I : Type 0} {keeps : Bool} (cmp : K → K → Ordering) (code : K 
       by_keeps true h = refl
       by_keeps false h = absurd (let bad : false ≡ true = h in cc)
 
-  module _ (entry : ℕ → List ℕ → ℕ → Entry K V → Type 0) (st : Standing) (bytes : List ℕ) (result : Result (ChainPosition K V) Refused) (came : Came keeps entry cmp code v (key_of x.op) l.wanted st bytes result) where
-    pub reads-on : (r : Result (ChainPosition K V) Refused) → result ≡ r → ReadsOn entry cmp v slot c x l st bytes r
-    reads-on r is = record { awaits = a; own = came.own; reads = subst (λ q. IsReached (entry v.records.page_bits bytes) cmp (key_of x.op) v.records.page_bits (first_place v.records.page_bits (page_at v.records.page_bits l.wanted)) l.wanted q) is came.reads }
+  -- the floor of the page, at or above which the text has begun
+  abbrev floor : ℕ
+  floor = first_place v.records.page_bits (page_at v.records.page_bits l.wanted)
 
-    goes : IsTrue keeps → (r : ChainPosition K V) → result ≡ Ok r → GoesOn cmp code v.records (key_of x.op) (first_place v.records.page_bits (page_at v.records.page_bits l.wanted)) l.wanted r
+  floor-up : IsTrue keeps → v.records.from ≤ floor
+  floor-up yes_keeps = page_up v.records floor l.wanted s.traced yes_keeps begun (omega arith)
+
+  module _ (entry : ℕ → List ℕ → ℕ → Entry K V → Type 0) (st : Standing) (bytes : List ℕ) (result : Result (Gathered K V) Refused) (came : Came keeps entry cmp join code v (key_of x.op) l.wanted l.parts st bytes result) where
+    pub reads-on : (r : Result (Gathered K V) Refused) → result ≡ r → ReadsOn entry cmp join v slot c x l st bytes r
+    reads-on r is = record { awaits = a; own = came.own; reads = subst (λ q. IsGathered join (entry v.records.page_bits bytes) cmp (key_of x.op) v.records.page_bits floor l.wanted l.parts q) is came.reads }
+
+    class-at : IsTrue keeps → IsOfClass code v.records (key_of x.op) l.wanted
+    class-at yes_keeps = loading-at.class yes_keeps a.begin (text-begins yes_keeps)
+
+    goes : IsTrue keeps → (r : Gathered K V) → result ≡ Ok r → GoesOn cmp join code v.records (key_of x.op) floor l.wanted l.parts r
     goes yes_keeps r is =
-        let k = came.kept yes_keeps begun (loading-at.class yes_keeps a.begin (text-begins yes_keeps)) in
+        let k = came.kept yes_keeps begun (class-at yes_keeps) in
         let both : Ok k.0 ≡ Ok r = sym k.1 ∙ is in
         let same : k.0 ≡ r = cc in
-        subst (GoesOn cmp code v.records (key_of x.op) (first_place v.records.page_bits (page_at v.records.page_bits l.wanted)) l.wanted) same k.2
+        subst (GoesOn cmp join code v.records (key_of x.op) floor l.wanted l.parts) same k.2
 
-    -- the value that is told is that of the key's newest record from the address that was wanted
-    told-newest : (r : ChainPosition K V) (value : Option V) → Tells v.records.begin r value → GoesOn cmp code v.records (key_of x.op) (first_place v.records.page_bits (page_at v.records.page_bits l.wanted)) l.wanted r
-        → value_of (newest cmp v.records.text (key_of x.op) l.wanted) ≡ value
-    told-newest r value (found e) (GoesOn.found is there high) = ap value_of is
-    told-newest r value (ended b under) (GoesOn.below low is class) =
+    -- what the key has from where the entry led, by where the look-up stands
+    pub newest-at : IsTrue keeps → (r : Gathered K V) → result ≡ Ok r → value_of (newest cmp v.records.text (key_of x.op) (address_of l.kept.word)) ≡ onto join (end_of cmp v.records (key_of x.op) r.position) r.parts
+    newest-at yes_keeps r is =
+        loading-at.newest yes_keeps a.begin
+        ∙ values_tell cmp join code v.records (key_of x.op) order s.traced s.stood floor l.wanted l.parts r (goes yes_keeps r is)
+
+    -- below Begin the key has nothing
+    nothing-below : (b : ℕ) → b < v.records.begin → value_of (newest cmp v.records.text (key_of x.op) b) ≡ None
+    nothing-below b under =
         let from = from_first s.traced in
-        ap value_of (is ∙ newest_below cmp code v.records (key_of x.op) order s.traced b (omega arith))
+        ap value_of (newest-under cmp v.records (key_of x.op) b s.traced (omega arith))
 
-    -- which is its newest from where the entry led
-    pub newest-told : IsTrue keeps → (r : ChainPosition K V) (value : Option V) → result ≡ Ok r → Tells v.records.begin r value → value_of (newest cmp v.records.text (key_of x.op) (address_of l.kept.word)) ≡ value
-    newest-told yes_keeps r value is tells = ap value_of (loading-at.newest yes_keeps a.begin) ∙ told-newest r value tells (goes yes_keeps r is)
+    told-at : (r : Gathered K V) (value : Option V) → Tells join v.records.begin r value → onto join (end_of cmp v.records (key_of x.op) r.position) r.parts ≡ value
+    told-at r value (found e parts) = refl
+    told-at r value (ended b parts under) = ap (λ o. onto join o parts) (nothing-below b under)
 
-    pub kept-told : (r : ChainPosition K V) (value : Option V) → result ≡ Ok r → Tells v.records.begin r value → IsKept keeps cmp code v.records (key_of x.op) l.kept value
+    -- the value that is told is what the key has from where the entry led
+    pub newest-told : IsTrue keeps → (r : Gathered K V) (value : Option V) → result ≡ Ok r → Tells join v.records.begin r value → value_of (newest cmp v.records.text (key_of x.op) (address_of l.kept.word)) ≡ value
+    newest-told yes_keeps r value is tells = newest-at yes_keeps r is ∙ told-at r value tells
+
+    pub kept-told : (r : Gathered K V) (value : Option V) → result ≡ Ok r → Tells join v.records.begin r value → IsKept keeps cmp code v.records (key_of x.op) l.kept value
     kept-told r value is tells =
         let h = loading-at in
         record {
@@ -149,9 +187,9 @@ module _ {K V I : Type 0} {keeps : Bool} (cmp : K → K → Ordering) (code : K 
         }
 
     -- the way goes on in a lower page
-    module _ (b : ℕ) (is : result ≡ Ok (Below b)) (high : v.records.begin ≤ b) where
+    module _ (b : ℕ) (parts : Option V) (is : result ≡ Ok (record { parts = parts; position = Below b })) (high : v.records.begin ≤ b) where
       lower : page_at v.records.page_bits b < page_at v.records.page_bits l.wanted
-      lower = lower_page v.records b (page_at v.records.page_bits l.wanted) s.traced high (reached-low (entry v.records.page_bits bytes) cmp (key_of x.op) v.records.page_bits (first_place v.records.page_bits (page_at v.records.page_bits l.wanted)) l.wanted b result came.reads is)
+      lower = lower_page v.records b (page_at v.records.page_bits l.wanted) s.traced high (gathered-low join (entry v.records.page_bits bytes) cmp (key_of x.op) v.records.page_bits floor l.wanted b l.parts result came.reads (ap left_of is))
 
       below-wanted : (t : Bool) → nat_lt b l.wanted ≡ t → b < l.wanted
       below-wanted true h = ltb-true b l.wanted h
@@ -161,16 +199,16 @@ module _ {K V I : Type 0} {keeps : Bool} (cmp : K → K → Ordering) (code : K 
           let low = lower in
           absurd (omega arith)
 
-      further-newest : IsTrue keeps → newest cmp v.records.text (key_of x.op) l.wanted ≡ newest cmp v.records.text (key_of x.op) b
-      further-newest yes_keeps = by_going (goes yes_keeps (Below b) is)
-        where
-          by_going : GoesOn cmp code v.records (key_of x.op) (first_place v.records.page_bits (page_at v.records.page_bits l.wanted)) l.wanted (Below b) → newest cmp v.records.text (key_of x.op) l.wanted ≡ newest cmp v.records.text (key_of x.op) b
-          by_going (GoesOn.below low same class) = same
-
       pub further-flushed : page_at v.records.page_bits b < length v.records.receipts
       further-flushed = let low = lower in let top = wanted-flushed in omega arith
 
-      pub further-stands : IsLoading keeps cmp code v.records (key_of x.op) (record l { wanted = b })
+      further-between : IsTrue keeps → (e : Entry K V) → IsIn v.records.entries e → has_key cmp (key_of x.op) e ≡ true → b < e.address → e.address ≤ address_of l.kept.word → e.delta ≡ true
+      further-between yes_keeps e m own above under = elim (cases_lt l.wanted e.address) [
+        | inl past ↦ loading-at.between yes_keeps a.begin e m own past under
+        | inr within ↦ between_tells cmp code v.records (key_of x.op) order (raw-traced cmp join v.records s.stood.is s.traced) join floor l.wanted l.parts (record { parts = parts; position = Below b }) (goes yes_keeps _ is) e m own within above
+      ]
+
+      pub further-stands : IsLoading keeps cmp join code v.records (key_of x.op) (record l { wanted = b; parts = parts })
       further-stands =
           let h = loading-at in
           let under = below-wanted (nat_lt b l.wanted) refl in
@@ -181,13 +219,11 @@ module _ {K V I : Type 0} {keeps : Bool} (cmp : K → K → Ordering) (code : K 
             begun = (let same = a.begin in omega arith);
             past = h.past;
             on_disk = omega arith;
-            class = λ yes_keeps same begins. goes-class (goes yes_keeps (Below b) is) begins;
-            newest = λ yes_keeps same. h.newest yes_keeps same ∙ further-newest yes_keeps;
+            class = λ yes_keeps same begins. way-class cmp join code v.records (key_of x.op) floor l.wanted l.parts _ (goes yes_keeps _ is) b refl begins;
+            newest = λ yes_keeps same. newest-at yes_keeps (record { parts = parts; position = Below b }) is;
             still = h.still;
+            between = λ yes_keeps same. further-between yes_keeps;
           }
-        where
-          goes-class : GoesOn cmp code v.records (key_of x.op) (first_place v.records.page_bits (page_at v.records.page_bits l.wanted)) l.wanted (Below b) → v.records.from ≤ b → IsOfClass code v.records (key_of x.op) b
-          goes-class (GoesOn.below low same class) begins = class begins
 
 -- the receipt that is kept of a page that was read by another
 pub stranger-kept : {K V I : Type 0} (u v : CoreView K V I) (page wanted : ℕ) (st : Standing) (why : Refused)
@@ -210,27 +246,27 @@ stranger-kept {K} {V} {I} u v page wanted st why same page_is there told =
     by_get (Some s) h t = (s, h, t.0, t.1)
 
 -- what is told, by the operation
-pub told-done : {K V I O R : Type 0} (stands : R → Standing) (entry : ℕ → List ℕ → ℕ → Entry K V → Type 0) (cmp : K → K → Ordering) (f : Meanings K V I O) (old new : CoreView K V I) (slot c now : ℕ) (x : Context K V I) (l : Loading) (p : Joined R) (value : Option V) (q : Progress K V I O R)
+pub told-done : {K V I O R : Type 0} (stands : R → Standing) (entry : ℕ → List ℕ → ℕ → Entry K V → Type 0) (cmp : K → K → Ordering) (join : V → V → V) (f : Meanings K V I O) (old new : CoreView K V I) (slot c now : ℕ) (x : Context K V I) (l : Loading V) (p : Joined R) (value : Option V) (q : Progress K V I O R)
     → MayLoad x.op
-    → IsTold stands entry cmp old slot c x l p value
+    → IsTold stands entry cmp join old slot c x l p value
     → ((k : K) (i : I) → x.op ≡ Read k i → (new ≡ with_context old slot c None now) × (q ≡ Done (shown_of f k i value) l.looked))
     → ((k : K) (i : I) → x.op ≡ Rmw k i → (new ≡ with_context old slot c (Some (at_phase x (Prepared l.kept value))) now) × (q ≡ NeedsBuild (record { number = x.number; key = k; source = value; input = i })))
-    → Loads stands entry cmp f old new slot c (Ok p) now (Ok q)
-told-done stands entry cmp f old new slot c now x l p value q may told read update = elim may.1 [
+    → Loads stands entry cmp join f old new slot c (Ok p) now (Ok q)
+told-done stands entry cmp join f old new slot c now x l p value q may told read update = elim may.1 [
   | inl is ↦ (let h = read (key_of x.op) may.0 is in Loads.done x l p (key_of x.op) may.0 value told refl is h.0 (ap Ok h.1))
   | inr is ↦ (let h = update (key_of x.op) may.0 is in Loads.prepares x l p (key_of x.op) may.0 value told refl is h.0 (ap Ok h.1))
 ]
 
 -- another page is asked for, or the memory to share its receipt is refused
-pub further-done : {K V I O R : Type 0} (stands : R → Standing) (entry : ℕ → List ℕ → ℕ → Entry K V → Type 0) (cmp : K → K → Ordering) (f : Meanings K V I O) (old new : CoreView K V I) (slot c now : ℕ) (x : Context K V I) (l : Loading) (p : Joined R) (b : ℕ)
-    → ReadsOn entry cmp old slot c x l (stands p.receipt) p.bytes (Ok (Below b))
+pub further-done : {K V I O R : Type 0} (stands : R → Standing) (entry : ℕ → List ℕ → ℕ → Entry K V → Type 0) (cmp : K → K → Ordering) (join : V → V → V) (f : Meanings K V I O) (old new : CoreView K V I) (slot c now : ℕ) (x : Context K V I) (l : Loading V) (p : Joined R) (b : ℕ) (parts : Option V)
+    → ReadsOn entry cmp join old slot c x l (stands p.receipt) p.bytes (Ok (record { parts = parts; position = Below b }))
     → old.records.begin ≤ b
     → IsRecordStart old.records.page_bits old.records.record_size b
     → (result : Result (Progress K V I O R) Refused)
     → IfOk result (λ progress. (r : R) × (progress ≡ NeedsLoad r b) × IsHeldBy old.records.receipts (page_at old.records.page_bits b) (stands r))
-    → OnOk result (new ≡ with_context old slot c (Some (at_phase x (Load (record l { wanted = b })))) now)
+    → OnOk result (new ≡ with_context old slot c (Some (at_phase x (Load (record l { wanted = b; parts = parts })))) now)
     → IfErr result (λ refused. refused ≡ NoMemory)
     → OnErr result (new ≡ old)
-    → Loads stands entry cmp f old new slot c (Ok p) now result
-further-done stands entry cmp f old new slot c now x l p b reads high place (Ok q) asked effect only err = Loads.goes_on x l p b asked.0 reads refl high place asked.2 effect (ap Ok asked.1)
-further-done stands entry cmp f old new slot c now x l p b reads high place (Err why) asked effect only err = Loads.unshared x l p b reads refl high place err (ap Err only)
+    → Loads stands entry cmp join f old new slot c (Ok p) now result
+further-done stands entry cmp join f old new slot c now x l p b parts reads high place (Ok q) asked effect only err = Loads.goes_on x l p b parts asked.0 reads refl high place asked.2 effect (ap Ok asked.1)
+further-done stands entry cmp join f old new slot c now x l p b parts reads high place (Err why) asked effect only err = Loads.unshared x l p b parts reads refl high place err (ap Err only)

@@ -37,7 +37,7 @@ module _ {K V I : Type 0} (cmp : K → K → Ordering) (v : CoreView K V I) (slo
   frame-of y = record { others = λ t d o. asked-other v slot c now x h y t d o; number = refl; count = refl; begin = refl; regions = refl; moment = refl }
 
   -- what was to be found
-  pub was-pending : (l : Loading) → AwaitsPage v slot c x l → pending cmp v slot c ≡ Some (record { moment = l.looked; value = value_of (newest cmp v.records.text (key_of x.op) (address_of l.kept.word)) })
+  pub was-pending : (l : Loading V) → AwaitsPage v slot c x l → pending cmp v slot c ≡ Some (record { moment = l.looked; value = value_of (newest cmp v.records.text (key_of x.op) (address_of l.kept.word)) })
   was-pending l a =
       ap (pending_of cmp v.records) h
       ∙ ap (λ (p : Phase V). pending_of cmp v.records (Some (at_phase x p))) a.loading
@@ -45,7 +45,7 @@ module _ {K V I : Type 0} (cmp : K → K → Ordering) (v : CoreView K V I) (slo
 
   module _ {O R : Type 0} (f : Meanings K V I O) where
     -- Begin has moved: it is to look again
-    pub load-moved : (l : Loading) → x.phase ≡ Load l → l.begin ≢ v.records.begin → IsLoad {O = O} {R = R} cmp f v (with_context v slot c (Some (at_phase x Fresh)) now) slot c now Next
+    pub load-moved : (l : Loading V) → x.phase ≡ Load l → l.begin ≢ v.records.begin → IsLoad {O = O} {R = R} cmp f v (with_context v slot c (Some (at_phase x Fresh)) now) slot c now Next
     load-moved l phase moved = record {
       question = asked_by x;
       was = ap (option_map asked_by) h;
@@ -59,7 +59,7 @@ module _ {K V I : Type 0} (cmp : K → K → Ordering) (v : CoreView K V I) (slo
         gone true e = absurd (moved (eqb-true l.begin v.records.begin e))
         gone false e = rw e refl
 
-    module _ (l : Loading) (a : AwaitsPage v slot c x l) where
+    module _ (l : Loading V) (a : AwaitsPage v slot c x l) where
       pub load-told : (value : Option V) → value_of (newest cmp v.records.text (key_of x.op) (address_of l.kept.word)) ≡ value → MayLoad x.op → (new : CoreView K V I) (q : Progress K V I O R)
           → ((k : K) (i : I) → x.op ≡ Read k i → (new ≡ with_context v slot c None now) × (q ≡ Done (shown_of f k i value) l.looked))
           → ((k : K) (i : I) → x.op ≡ Rmw k i → (new ≡ with_context v slot c (Some (at_phase x (Prepared l.kept value))) now) × (q ≡ NeedsBuild (record { number = x.number; key = k; source = value; input = i })))
@@ -83,9 +83,9 @@ module _ {K V I : Type 0} (cmp : K → K → Ordering) (v : CoreView K V I) (slo
         }))
       ]
 
-      load-further : (b : ℕ) (r : R) → IsLoad {O = O} cmp f v (with_context v slot c (Some (at_phase x (Load (record l { wanted = b })))) now) slot c now (NeedsLoad r b)
-      load-further b r =
-          let y : Option (Context K V I) = Some (at_phase x (Load (record l { wanted = b }))) in
+      load-further : (b : ℕ) (parts : Option V) (r : R) → IsLoad {O = O} cmp f v (with_context v slot c (Some (at_phase x (Load (record l { wanted = b; parts = parts })))) now) slot c now (NeedsLoad r b)
+      load-further b parts r =
+          let y : Option (Context K V I) = Some (at_phase x (Load (record l { wanted = b; parts = parts }))) in
           let there : pending_of cmp v.records y ≡ Some (record { moment = l.looked; value = value_of (newest cmp v.records.text (key_of x.op) (address_of l.kept.word)) }) = rw (eq-eqb l.begin v.records.begin a.begin) refl in
           record {
             question = asked_by x;
@@ -96,10 +96,10 @@ module _ {K V I : Type 0} (cmp : K → K → Ordering) (v : CoreView K V I) (slo
             frame = frame-of y;
           }
 
-      pub further-load : (b : ℕ) (new : CoreView K V I) (result : Result (Progress K V I O R) Refused)
+      pub further-load : (b : ℕ) (parts : Option V) (new : CoreView K V I) (result : Result (Progress K V I O R) Refused)
           → (stands : R → Standing)
           → IfOk result (λ progress. (r : R) × (progress ≡ NeedsLoad r b) × IsHeldBy v.records.receipts (page_at v.records.page_bits b) (stands r))
-          → OnOk result (new ≡ with_context v slot c (Some (at_phase x (Load (record l { wanted = b })))) now)
+          → OnOk result (new ≡ with_context v slot c (Some (at_phase x (Load (record l { wanted = b; parts = parts })))) now)
           → IfOk result (λ progress. IsLoad cmp f v new slot c now progress)
-      further-load b new (Ok q) stands asked effect = rw (asked.1, effect) (load-further b asked.0)
-      further-load b new (Err why) stands asked effect = tt
+      further-load b parts new (Ok q) stands asked effect = rw (asked.1, effect) (load-further b parts asked.0)
+      further-load b parts new (Err why) stands asked effect = tt

@@ -86,53 +86,53 @@ module _ {K V I : Type 0} (v new : CoreView K V I) where
 
   -- ---- by kind of event
   module _ (slot c now : ℕ) where
-    pub goes-seats : {O R : Type 0} (stands : R → Standing) (cmp : K → K → Ordering) (f : Meanings K V I O) (code : K → ℕ) (result : Result (Progress K V I O R) Refused)
-        → Goes stands cmp f code v new slot c now result
+    pub goes-seats : {O R : Type 0} (stands : R → Standing) (cmp : K → K → Ordering) (join : V → V → V) (f : Meanings K V I O) (code : K → ℕ) (result : Result (Progress K V I O R) Refused)
+        → Goes stands cmp join f code v new slot c now result
         → Seats v new
-    goes-seats stands cmp f code result (Goes.unknown h is r) = seats-as is
-    goes-seats stands cmp f code result (Goes.asks x e ask h q is r) = seats-same (ap (λ (u : CoreView K V I). u.contexts) is) (ap (λ (u : CoreView K V I). slots_of u) is)
-    goes-seats stands cmp f code result (Goes.not_ready x l h phase is r) = seats-as is
-    goes-seats stands cmp f code result (Goes.confirms x p h phase alone is r) = seats-changed slot c x _ h (ap (λ (u : CoreView K V I). u.contexts) is) (ap (λ (u : CoreView K V I). slots_of u) is)
-    goes-seats stands cmp f code result (Goes.backs_off x p h phase alone is r) = seats-changed slot c x _ h (ap (λ (u : CoreView K V I). u.contexts) is) (ap (λ (u : CoreView K V I). slots_of u) is)
-    goes-seats stands cmp f code result (Goes.done x t d is r) = seats-freed slot c (ap (λ (u : CoreView K V I). u.contexts) is) (ap (λ (u : CoreView K V I). slots_of u) is)
-    goes-seats stands cmp f code result (Goes.claims x d i r) = seats-changed slot c x _ d.here (ap (λ (u : CoreView K V I). u.contexts) i.is) (ap (λ (u : CoreView K V I). slots_of u) i.is ∙ ap (λ (r : RecordsView K V). r.regions.epochs.slots) i.claims.is)
-    goes-seats stands cmp f code result (Goes.unclaimed x d full is r) = seats-as is
-    goes-seats stands cmp f code result (Goes.appends x value t e d entry room free is r) = seats-freed slot c (ap (λ (u : CoreView K V I). u.contexts) is) (ap (λ (u : CoreView K V I). slots_of u) is)
-    goes-seats stands cmp f code result (Goes.worn x value t d room is r) = seats-as is
-    goes-seats stands cmp f code result (Goes.full x value t d room is r) = seats-same (ap (λ (u : CoreView K V I). u.contexts) is) (ap (λ (u : CoreView K V I). slots_of u) is)
-    goes-seats stands cmp f code result (Goes.replaces x value t e d last is r) = seats-freed slot c (ap (λ (u : CoreView K V I). u.contexts) is) (ap (λ (u : CoreView K V I). slots_of u) is)
-    goes-seats stands cmp f code result (Goes.waits x d is r) = seats-same (ap (λ (u : CoreView K V I). u.contexts) is) (ap (λ (u : CoreView K V I). slots_of u) is)
-    goes-seats stands cmp f code result (Goes.prepares x source i e d entry is r) = seats-changed slot c x _ d.here (ap (λ (u : CoreView K V I). u.contexts) is) (ap (λ (u : CoreView K V I). slots_of u) is)
-    goes-seats stands cmp f code result (Goes.asks_page x b e p d entry held is r) = seats-changed slot c x _ d.here (ap (λ (u : CoreView K V I). u.contexts) is) (ap (λ (u : CoreView K V I). slots_of u) is)
-    goes-seats stands cmp f code result (Goes.unshared x b d is r) = seats-as is
+    goes-seats stands cmp join f code result (Goes.unknown h is r) = seats-as is
+    goes-seats stands cmp join f code result (Goes.asks x e ask h q is r) = seats-same (ap (λ (u : CoreView K V I). u.contexts) is) (ap (λ (u : CoreView K V I). slots_of u) is)
+    goes-seats stands cmp join f code result (Goes.not_ready x l h phase is r) = seats-as is
+    goes-seats stands cmp join f code result (Goes.confirms x p h phase alone is r) = seats-changed slot c x _ h (ap (λ (u : CoreView K V I). u.contexts) is) (ap (λ (u : CoreView K V I). slots_of u) is)
+    goes-seats stands cmp join f code result (Goes.backs_off x p h phase alone is r) = seats-changed slot c x _ h (ap (λ (u : CoreView K V I). u.contexts) is) (ap (λ (u : CoreView K V I). slots_of u) is)
+    goes-seats stands cmp join f code result (Goes.done x t d is r) = seats-freed slot c (ap (λ (u : CoreView K V I). u.contexts) is) (ap (λ (u : CoreView K V I). slots_of u) is)
+    goes-seats stands cmp join f code result (Goes.claims x d i r) = seats-changed slot c x _ d.here (ap (λ (u : CoreView K V I). u.contexts) i.is) (ap (λ (u : CoreView K V I). slots_of u) i.is ∙ ap (λ (r : RecordsView K V). r.regions.epochs.slots) i.claims.is)
+    goes-seats stands cmp join f code result (Goes.unclaimed x d full is r) = seats-as is
+    goes-seats stands cmp join f code result (Goes.appends x value t e d entry room free is r) = seats-freed slot c (ap (λ (u : CoreView K V I). u.contexts) is) (ap (λ (u : CoreView K V I). slots_of u) is)
+    goes-seats stands cmp join f code result (Goes.worn x value t d room is r) = seats-as is
+    goes-seats stands cmp join f code result (Goes.full x value t d room is r) = seats-same (ap (λ (u : CoreView K V I). u.contexts) is) (ap (λ (u : CoreView K V I). slots_of u) is)
+    goes-seats stands cmp join f code result (Goes.replaces x value t e d last is r) = seats-freed slot c (ap (λ (u : CoreView K V I). u.contexts) is) (ap (λ (u : CoreView K V I). slots_of u) is)
+    goes-seats stands cmp join f code result (Goes.waits x d is r) = seats-same (ap (λ (u : CoreView K V I). u.contexts) is) (ap (λ (u : CoreView K V I). slots_of u) is)
+    goes-seats stands cmp join f code result (Goes.prepares x source i e d entry is r) = seats-changed slot c x _ d.here (ap (λ (u : CoreView K V I). u.contexts) is) (ap (λ (u : CoreView K V I). slots_of u) is)
+    goes-seats stands cmp join f code result (Goes.asks_page x b parts e p d entry held is r) = seats-changed slot c x _ d.here (ap (λ (u : CoreView K V I). u.contexts) is) (ap (λ (u : CoreView K V I). slots_of u) is)
+    goes-seats stands cmp join f code result (Goes.unshared x b parts d is r) = seats-as is
 
-    pub installs-seats : {O R : Type 0} (cmp : K → K → Ordering) (f : Meanings K V I O) (code : K → ℕ) (ask : Ask K V I) (result : Result (Progress K V I O R) Refused)
+    pub installs-seats : {O R : Type 0} (cmp : K → K → Ordering) (join : V → V → V) (f : Meanings K V I O) (code : K → ℕ) (ask : Ask K V I) (result : Result (Progress K V I O R) Refused)
         → Installs cmp f code v new slot c ask now result
         → Seats v new
-    installs-seats cmp f code ask result (Installs.unknown h is r) = seats-as is
-    installs-seats cmp f code ask result (Installs.not_ready x h q is r) = seats-as is
-    installs-seats cmp f code ask result (Installs.stranger x e mine h q n is r) = seats-as is
-    installs-seats cmp f code ask result (Installs.moved x e h q n is r) = seats-changed slot c x _ h (ap (λ (u : CoreView K V I). u.contexts) is) (ap (λ (u : CoreView K V I). slots_of u) is)
-    installs-seats cmp f code ask result (Installs.declined x e h q n u is r) = seats-freed slot c (ap (λ (u : CoreView K V I). u.contexts) is) (ap (λ (u : CoreView K V I). slots_of u) is)
-    installs-seats cmp f code ask result (Installs.worn x e value h q n u room is r) = seats-as is
-    installs-seats cmp f code ask result (Installs.full x e value h q n u room is r) = seats-same (ap (λ (u : CoreView K V I). u.contexts) is) (ap (λ (u : CoreView K V I). slots_of u) is)
-    installs-seats cmp f code ask result (Installs.done x e value h q n u room free is r) = seats-freed slot c (ap (λ (u : CoreView K V I). u.contexts) is) (ap (λ (u : CoreView K V I). slots_of u) is)
+    installs-seats cmp join f code ask result (Installs.unknown h is r) = seats-as is
+    installs-seats cmp join f code ask result (Installs.not_ready x h q is r) = seats-as is
+    installs-seats cmp join f code ask result (Installs.stranger x e mine h q n is r) = seats-as is
+    installs-seats cmp join f code ask result (Installs.moved x e h q n is r) = seats-changed slot c x _ h (ap (λ (u : CoreView K V I). u.contexts) is) (ap (λ (u : CoreView K V I). slots_of u) is)
+    installs-seats cmp join f code ask result (Installs.declined x e h q n u is r) = seats-freed slot c (ap (λ (u : CoreView K V I). u.contexts) is) (ap (λ (u : CoreView K V I). slots_of u) is)
+    installs-seats cmp join f code ask result (Installs.worn x e value h q n u room is r) = seats-as is
+    installs-seats cmp join f code ask result (Installs.full x e value h q n u room is r) = seats-same (ap (λ (u : CoreView K V I). u.contexts) is) (ap (λ (u : CoreView K V I). slots_of u) is)
+    installs-seats cmp join f code ask result (Installs.done x e value h q n u room free is r) = seats-freed slot c (ap (λ (u : CoreView K V I). u.contexts) is) (ap (λ (u : CoreView K V I). slots_of u) is)
 
-    pub loads-seats : {O R : Type 0} (stands : R → Standing) (entry : ℕ → List ℕ → ℕ → Entry K V → Type 0) (cmp : K → K → Ordering) (f : Meanings K V I O) (came : Result (Joined R) Refused) (result : Result (Progress K V I O R) Refused)
-        → Loads stands entry cmp f v new slot c came now result
+    pub loads-seats : {O R : Type 0} (stands : R → Standing) (entry : ℕ → List ℕ → ℕ → Entry K V → Type 0) (cmp : K → K → Ordering) (join : V → V → V) (f : Meanings K V I O) (came : Result (Joined R) Refused) (result : Result (Progress K V I O R) Refused)
+        → Loads stands entry cmp join f v new slot c came now result
         → Seats v new
-    loads-seats stands entry cmp f came result (Loads.unknown h is r) = seats-as is
-    loads-seats stands entry cmp f came result (Loads.not_ready x h n is r) = seats-as is
-    loads-seats stands entry cmp f came result (Loads.moved x l h phase n is r) = seats-changed slot c x _ h (ap (λ (u : CoreView K V I). u.contexts) is) (ap (λ (u : CoreView K V I). slots_of u) is)
-    loads-seats stands entry cmp f came result (Loads.failed x l why a q n is r) = seats-freed slot c (ap (λ (u : CoreView K V I). u.contexts) is) (ap (λ (u : CoreView K V I). slots_of u) is)
-    loads-seats stands entry cmp f came result (Loads.unread x l a q is r) = seats-as is
-    loads-seats stands entry cmp f came result (Loads.stranger x l p st a q h n is r) = seats-as is
-    loads-seats stands entry cmp f came result (Loads.damaged x l p why a q is r) = seats-freed slot c (ap (λ (u : CoreView K V I). u.contexts) is) (ap (λ (u : CoreView K V I). slots_of u) is)
-    loads-seats stands entry cmp f came result (Loads.bad_link x l p b a q high n is r) = seats-freed slot c (ap (λ (u : CoreView K V I). u.contexts) is) (ap (λ (u : CoreView K V I). slots_of u) is)
-    loads-seats stands entry cmp f came result (Loads.done x l p k i value a q op is r) = seats-freed slot c (ap (λ (u : CoreView K V I). u.contexts) is) (ap (λ (u : CoreView K V I). slots_of u) is)
-    loads-seats stands entry cmp f came result (Loads.prepares x l p k i value a q op is r) = seats-changed slot c x _ a.reads.awaits.here (ap (λ (u : CoreView K V I). u.contexts) is) (ap (λ (u : CoreView K V I). slots_of u) is)
-    loads-seats stands entry cmp f came result (Loads.goes_on x l p b r a q high at held is t) = seats-changed slot c x _ a.awaits.here (ap (λ (u : CoreView K V I). u.contexts) is) (ap (λ (u : CoreView K V I). slots_of u) is)
-    loads-seats stands entry cmp f came result (Loads.unshared x l p b a q high at is r) = seats-as is
+    loads-seats stands entry cmp join f came result (Loads.unknown h is r) = seats-as is
+    loads-seats stands entry cmp join f came result (Loads.not_ready x h n is r) = seats-as is
+    loads-seats stands entry cmp join f came result (Loads.moved x l h phase n is r) = seats-changed slot c x _ h (ap (λ (u : CoreView K V I). u.contexts) is) (ap (λ (u : CoreView K V I). slots_of u) is)
+    loads-seats stands entry cmp join f came result (Loads.failed x l why a q n is r) = seats-freed slot c (ap (λ (u : CoreView K V I). u.contexts) is) (ap (λ (u : CoreView K V I). slots_of u) is)
+    loads-seats stands entry cmp join f came result (Loads.unread x l a q is r) = seats-as is
+    loads-seats stands entry cmp join f came result (Loads.stranger x l p st a q h n is r) = seats-as is
+    loads-seats stands entry cmp join f came result (Loads.damaged x l p why a q is r) = seats-freed slot c (ap (λ (u : CoreView K V I). u.contexts) is) (ap (λ (u : CoreView K V I). slots_of u) is)
+    loads-seats stands entry cmp join f came result (Loads.bad_link x l p b parts a q high n is r) = seats-freed slot c (ap (λ (u : CoreView K V I). u.contexts) is) (ap (λ (u : CoreView K V I). slots_of u) is)
+    loads-seats stands entry cmp join f came result (Loads.done x l p k i value a q op is r) = seats-freed slot c (ap (λ (u : CoreView K V I). u.contexts) is) (ap (λ (u : CoreView K V I). slots_of u) is)
+    loads-seats stands entry cmp join f came result (Loads.prepares x l p k i value a q op is r) = seats-changed slot c x _ a.reads.awaits.here (ap (λ (u : CoreView K V I). u.contexts) is) (ap (λ (u : CoreView K V I). slots_of u) is)
+    loads-seats stands entry cmp join f came result (Loads.goes_on x l p b parts r a q high at held is t) = seats-changed slot c x _ a.awaits.here (ap (λ (u : CoreView K V I). u.contexts) is) (ap (λ (u : CoreView K V I). slots_of u) is)
+    loads-seats stands entry cmp join f came result (Loads.unshared x l p b parts a q high at is r) = seats-as is
 
     pub gives-up-seats : (result : Result (Unit {0}) Refused) → GivesUp v new slot c now result → Seats v new
     gives-up-seats result (GivesUp.unknown h is r) = seats-as is

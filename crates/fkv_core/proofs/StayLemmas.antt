@@ -60,34 +60,34 @@ KeepsStill {K} cmp old new = (k : K) (a : ℕ)
     → newest cmp new.text k a ≡ newest cmp old.text k a
 
 -- so what a look-up is to find stays
-abbrev found_by : {K V I : Type 0} → (K → K → Ordering) → RecordsView K V → KeyedOp K V I → Loading → Pending V
+abbrev found_by : {K V I : Type 0} → (K → K → Ordering) → RecordsView K V → KeyedOp K V I → Loading V → Pending V
 found_by cmp r op l = record { moment = l.looked; value = value_of (newest cmp r.text (key_of op) (address_of l.kept.word)) }
 
-loads-same : {K V I : Type 0} {keeps : Bool} (cmp : K → K → Ordering) (code : K → ℕ) (r s : RecordsView K V) (op : KeyedOp K V I) (l : Loading) → IsTrue keeps → s.begin ≡ r.begin → KeepsStill cmp r s → IsLoading keeps cmp code r (key_of op) l
+loads-same : {K V I : Type 0} {keeps : Bool} (cmp : K → K → Ordering) (join : V → V → V) (code : K → ℕ) (r s : RecordsView K V) (op : KeyedOp K V I) (l : Loading V) → IsTrue keeps → s.begin ≡ r.begin → KeepsStill cmp r s → IsLoading keeps cmp join code r (key_of op) l
     → pending_by cmp s op (Load l) ≡ pending_by cmp r op (Load l)
-loads-same cmp code r s op l yes_keeps begin kept h = rw begin (by_begin (l.begin == r.begin) refl)
+loads-same cmp join code r s op l yes_keeps begin kept h = rw begin (by_begin (l.begin == r.begin) refl)
   where
     by_begin : (b : Bool) → (l.begin == r.begin) ≡ b → cond b (Some (found_by cmp s op l)) None ≡ cond b (Some (found_by cmp r op l)) None
     by_begin true same = ap (λ o. Some (record { moment = l.looked; value = value_of o })) (kept (key_of op) (address_of l.kept.word) h.low (h.still yes_keeps (eqb-true l.begin r.begin same)))
     by_begin false same = refl
 
-pending-kept : {K V I : Type 0} {keeps : Bool} (cmp : K → K → Ordering) (code : K → ℕ) (r s : RecordsView K V) (op : KeyedOp K V I) (p : Phase V) → IsTrue keeps → s.begin ≡ r.begin → KeepsStill cmp r s → StandsFor keeps cmp code r op p
+pending-kept : {K V I : Type 0} {keeps : Bool} (cmp : K → K → Ordering) (join : V → V → V) (code : K → ℕ) (r s : RecordsView K V) (op : KeyedOp K V I) (p : Phase V) → IsTrue keeps → s.begin ≡ r.begin → KeepsStill cmp r s → StandsFor keeps cmp join code r op p
     → pending_by cmp s op p ≡ pending_by cmp r op p
-pending-kept cmp code r s op Fresh yes_keeps begin kept h = refl
-pending-kept cmp code r s op (Confirm q) yes_keeps begin kept h = refl
-pending-kept cmp code r s op (Prepared e v) yes_keeps begin kept h = refl
-pending-kept cmp code r s (Read k i) (Load l) yes_keeps begin kept h = loads-same cmp code r s (Read k i) l yes_keeps begin kept h
-pending-kept cmp code r s (Upsert k u) (Load l) yes_keeps begin kept h = absurd h
-pending-kept cmp code r s (Rmw k i) (Load l) yes_keeps begin kept h = loads-same cmp code r s (Rmw k i) l yes_keeps begin kept h
-pending-kept cmp code r s (Delete k) (Load l) yes_keeps begin kept h = absurd h
+pending-kept cmp join code r s op Fresh yes_keeps begin kept h = refl
+pending-kept cmp join code r s op (Confirm q) yes_keeps begin kept h = refl
+pending-kept cmp join code r s op (Prepared e v) yes_keeps begin kept h = refl
+pending-kept cmp join code r s (Read k i) (Load l) yes_keeps begin kept h = loads-same cmp join code r s (Read k i) l yes_keeps begin kept h
+pending-kept cmp join code r s (Upsert k u) (Load l) yes_keeps begin kept h = absurd h
+pending-kept cmp join code r s (Rmw k i) (Load l) yes_keeps begin kept h = loads-same cmp join code r s (Rmw k i) l yes_keeps begin kept h
+pending-kept cmp join code r s (Delete k) (Load l) yes_keeps begin kept h = absurd h
 
-module _ {K V I : Type 0} {keeps : Bool} (cmp : K → K → Ordering) (code : K → ℕ) (v : CoreView K V I) (s : IsSound keeps cmp code v) (yes_keeps : IsTrue keeps) where
+module _ {K V I : Type 0} {keeps : Bool} (cmp : K → K → Ordering) (join : V → V → V) (code : K → ℕ) (v : CoreView K V I) (s : IsSound keeps cmp join code v) (yes_keeps : IsTrue keeps) where
   all-kept : (r : RecordsView K V) → r.begin ≡ v.records.begin → KeepsStill cmp v.records r → (t d : ℕ) → pending_of cmp r (context_at v t d) ≡ pending_of cmp v.records (context_at v t d)
   all-kept r begin kept t d = by_context (context_at v t d) refl
     where
       by_context : (o : Option (Context K V I)) → context_at v t d ≡ o → pending_of cmp r o ≡ pending_of cmp v.records o
       by_context None h = refl
-      by_context (Some x) h = pending-kept cmp code v.records r x.op x.phase yes_keeps begin kept (stands-at cmp code v s t d x h)
+      by_context (Some x) h = pending-kept cmp join code v.records r x.op x.phase yes_keeps begin kept (stands-at cmp join code v s t d x h)
 
   -- one context is set, and the records change
   pub changed-others : (slot c now : ℕ) (x : Context K V I) → context_at v slot c ≡ Some x → (y : Option (Context K V I)) (r : RecordsView K V) → r.begin ≡ v.records.begin → r.regions ≡ v.records.regions → KeepsStill cmp v.records r
@@ -112,8 +112,8 @@ module _ {K V I : Type 0} {keeps : Bool} (cmp : K → K → Ordering) (code : K 
 
     pub goes-others : {O R : Type 0} (stands : R → Standing) (f : Meanings K V I O) (result : Result (Progress K V I O R) Refused)
         → ((e : IndexEntry) (key : K) (value : Option V) (k : K) (a : ℕ) → a < v.records.tail → newest cmp (with_record v.records e key value).text k a ≡ newest cmp v.records.text k a)
-        → ((x : Context K V I) (value : Option V) (told : Answer O) (e : Entry K V) → Decides cmp f code v slot c x (decided.Replace value told) → last_of cmp v.records.text (key_of x.op) ≡ Some e → KeepsStill cmp v.records (with_value v.records e.address value))
-        → Goes stands cmp f code v new slot c now result
+        → ((x : Context K V I) (value : Option V) (told : Answer O) (e : Entry K V) → Decides cmp join f code v slot c x (decided.Replace value told) → last_of cmp v.records.text (key_of x.op) ≡ Some e → KeepsStill cmp v.records (with_value v.records e.address value))
+        → Goes stands cmp join f code v new slot c now result
         → OthersPend cmp v new slot c
     goes-others stands f result grows changes (Goes.unknown h is r) = as-others new v slot c is (λ t d o. refl)
     goes-others stands f result grows changes (Goes.asks x e ask h q is r) = as-others new _ slot c is (λ t d o. refl)
@@ -129,8 +129,8 @@ module _ {K V I : Type 0} {keeps : Bool} (cmp : K → K → Ordering) (code : K 
     goes-others stands f result grows changes (Goes.replaces x value t e d last is r) = as-others new _ slot c is (changed-others slot c now x d.here None (with_value v.records e.address value) refl refl (changes x value t e d last))
     goes-others stands f result grows changes (Goes.waits x d is r) = as-others new _ slot c is (λ t d o. refl)
     goes-others stands f result grows changes (Goes.prepares x source i e d entry is r) = set x d.here _ is
-    goes-others stands f result grows changes (Goes.asks_page x b e p d entry held is r) = set x d.here _ is
-    goes-others stands f result grows changes (Goes.unshared x b d is r) = as-others new v slot c is (λ t d o. refl)
+    goes-others stands f result grows changes (Goes.asks_page x b parts e p d entry held is r) = set x d.here _ is
+    goes-others stands f result grows changes (Goes.unshared x b parts d is r) = as-others new v slot c is (λ t d o. refl)
 
     pub installs-others : {O R : Type 0} (f : Meanings K V I O) (ask : Ask K V I) (result : Result (Progress K V I O R) Refused)
         → ((e : IndexEntry) (key : K) (value : Option V) (k : K) (a : ℕ) → a < v.records.tail → newest cmp (with_record v.records e key value).text k a ≡ newest cmp v.records.text k a)
@@ -191,17 +191,17 @@ leaves-all keeps cmp old new slot now result yes_keeps (Leaves.unknown h is r) =
 leaves-all keeps cmp old new slot now result yes_keeps (Leaves.busy c h q is r) = as-all cmp old new is
 leaves-all keeps cmp old new slot now result yes_keeps (Leaves.leaves h q is r) = moved-all keeps cmp _ old new now yes_keeps is (left-same old slot q)
 
-pub enters-all : {K V I : Type 0} {keeps : Bool} (cmp : K → K → Ordering) (code : K → ℕ) (old new : CoreView K V I) (now : ℕ) (result : Result ℕ Refused) → IsSound keeps cmp code old → Enters old new now result → AllPend cmp old new
-enters-all cmp code old new now result s (Enters.full h is r) = as-all cmp old new is
-enters-all cmp code old new now result s (Enters.enters slot h is r) = λ t d.
+pub enters-all : {K V I : Type 0} {keeps : Bool} (cmp : K → K → Ordering) (join : V → V → V) (code : K → ℕ) (old new : CoreView K V I) (now : ℕ) (result : Result ℕ Refused) → IsSound keeps cmp join code old → Enters old new now result → AllPend cmp old new
+enters-all cmp join code old new now result s (Enters.full h is r) = as-all cmp old new is
+enters-all cmp join code old new now result s (Enters.enters slot h is r) = λ t d.
     ap (λ (w : CoreView _ _ _). pending cmp w t d) is
-    ∙ ap (pending_of cmp (in_regions old (entered old.records.regions slot) now).records) (entered-same cmp code old s slot h t d)
+    ∙ ap (pending_of cmp (in_regions old (entered old.records.regions slot) now).records) (entered-same cmp join code old s slot h t d)
     ∙ pending-same cmp old.records (in_regions old (entered old.records.regions slot) now).records (context_at old t d) refl refl
 
 -- a context that was free holds an operation that has not begun
-pub issues-all : {K V I : Type 0} (cmp : K → K → Ordering) (code : K → ℕ) (old new : CoreView K V I) (slot c : ℕ) (op : KeyedOp K V I) (now : ℕ) (result : Result (Unit {0}) Refused) → Issues code old new slot c op now result → AllPend cmp old new
-issues-all cmp code old new slot c op now result (Issues.stranger n is r) = as-all cmp old new is
-issues-all {K} {V} {I} cmp code old new slot c op now result (Issues.issues h low free n is r) = λ t d. ap (λ (w : CoreView K V I). pending cmp w t d) is ∙ elim (same_or t slot) [
+pub issues-all : {K V I : Type 0} (cmp : K → K → Ordering) (join : V → V → V) (code : K → ℕ) (old new : CoreView K V I) (slot c : ℕ) (op : KeyedOp K V I) (now : ℕ) (result : Result (Unit {0}) Refused) → Issues code old new slot c op now result → AllPend cmp old new
+issues-all cmp join code old new slot c op now result (Issues.stranger n is r) = as-all cmp old new is
+issues-all {K} {V} {I} cmp join code old new slot c op now result (Issues.issues h low free n is r) = λ t d. ap (λ (w : CoreView K V I). pending cmp w t d) is ∙ elim (same_or t slot) [
   | inl e ↦ elim (same_or d c) [
     | inl f ↦ rw (e, f) (by_context (context_at (with_context old slot c fresh now) slot c) refl ∙ sym (ap (pending_of cmp old.records) free))
     | inr m ↦ ap (pending_of cmp old.records) (context-other (slots_of old) old.contexts slot c t d fresh low (inr m))
@@ -223,14 +223,14 @@ issues-all {K} {V} {I} cmp code old new slot c op now result (Issues.issues h lo
         ]
 
 -- ---- a page comes, or what came in its place
-module _ {K V I O R : Type 0} (stands : R → Standing) (entry : ℕ → List ℕ → ℕ → Entry K V → Type 0) (cmp : K → K → Ordering) (f : Meanings K V I O) (old new : CoreView K V I) (slot c now : ℕ) (came : Result (Joined R) Refused) where
+module _ {K V I O R : Type 0} (stands : R → Standing) (entry : ℕ → List ℕ → ℕ → Entry K V → Type 0) (cmp : K → K → Ordering) (join : V → V → V) (f : Meanings K V I O) (old new : CoreView K V I) (slot c now : ℕ) (came : Result (Joined R) Refused) where
   stays : new ≡ old → OthersPend cmp old new slot c
   stays is t d o = ap (λ (w : CoreView K V I). pending cmp w t d) is
 
   sets : (x : Context K V I) → context_at old slot c ≡ Some x → (y : Option (Context K V I)) → new ≡ with_context old slot c y now → OthersPend cmp old new slot c
   sets x h y is t d o = ap (λ (w : CoreView K V I). pending cmp w t d) is ∙ others-pend cmp old slot c now x h y t d o
 
-  pub loads-others : (result : Result (Progress K V I O R) Refused) → Loads stands entry cmp f old new slot c came now result → OthersPend cmp old new slot c
+  pub loads-others : (result : Result (Progress K V I O R) Refused) → Loads stands entry cmp join f old new slot c came now result → OthersPend cmp old new slot c
   loads-others result (Loads.unknown h is r) = stays is
   loads-others result (Loads.not_ready x h n is r) = stays is
   loads-others result (Loads.moved x l h phase n is r) = sets x h _ is
@@ -238,11 +238,11 @@ module _ {K V I O R : Type 0} (stands : R → Standing) (entry : ℕ → List �
   loads-others result (Loads.unread x l a q is r) = stays is
   loads-others result (Loads.stranger x l p s a q h n is r) = stays is
   loads-others result (Loads.damaged x l p why a q is r) = sets x a.awaits.here None is
-  loads-others result (Loads.bad_link x l p b a q high n is r) = sets x a.awaits.here None is
+  loads-others result (Loads.bad_link x l p b parts a q high n is r) = sets x a.awaits.here None is
   loads-others result (Loads.done x l p k i value a q op is r) = sets x a.reads.awaits.here None is
   loads-others result (Loads.prepares x l p k i value a q op is r) = sets x a.reads.awaits.here _ is
-  loads-others result (Loads.goes_on x l p b r a q high place held is t) = sets x a.awaits.here _ is
-  loads-others result (Loads.unshared x l p b a q high place is r) = stays is
+  loads-others result (Loads.goes_on x l p b parts r a q high place held is t) = sets x a.awaits.here _ is
+  loads-others result (Loads.unshared x l p b parts a q high place is r) = stays is
 
   ends : (x : Context K V I) → context_at old slot c ≡ Some x → new ≡ with_context old slot c None now → (new ≡ old) ⊎ IsGiveUp old new slot c now
   ends x h is = inr (rw is (record {
@@ -254,7 +254,7 @@ module _ {K V I O R : Type 0} (stands : R → Standing) (entry : ℕ → List �
   }))
 
   -- one that fails
-  pub fails-whole : (why : Refused) → Loads stands entry cmp f old new slot c came now (Err why) → (new ≡ old) ⊎ IsGiveUp old new slot c now
+  pub fails-whole : (why : Refused) → Loads stands entry cmp join f old new slot c came now (Err why) → (new ≡ old) ⊎ IsGiveUp old new slot c now
   fails-whole why (Loads.unknown h is r) = inl is
   fails-whole why (Loads.not_ready x h n is r) = inl is
   fails-whole why (Loads.moved x l h phase n is r) = absurd (cc)
@@ -262,22 +262,22 @@ module _ {K V I O R : Type 0} (stands : R → Standing) (entry : ℕ → List �
   fails-whole why (Loads.unread x l a q is r) = inl is
   fails-whole why (Loads.stranger x l p s a q h n is r) = inl is
   fails-whole why (Loads.damaged x l p w a q is r) = ends x a.awaits.here is
-  fails-whole why (Loads.bad_link x l p b a q high n is r) = ends x a.awaits.here is
+  fails-whole why (Loads.bad_link x l p b parts a q high n is r) = ends x a.awaits.here is
   fails-whole why (Loads.done x l p k i value a q op is r) = absurd (cc)
   fails-whole why (Loads.prepares x l p k i value a q op is r) = absurd (cc)
-  fails-whole why (Loads.goes_on x l p b s a q high place held is r) = absurd (cc)
-  fails-whole why (Loads.unshared x l p b a q high place is r) = inl is
+  fails-whole why (Loads.goes_on x l p b parts s a q high place held is r) = absurd (cc)
+  fails-whole why (Loads.unshared x l p b parts a q high place is r) = inl is
 
 -- ---- frozen records
 as-frozen : {K V I : Type 0} (old new u : CoreView K V I) → new ≡ u → FrozenStay old u → FrozenStay old new
-as-frozen old new u is h = λ a low. ap (λ (w : CoreView _ _ _). entry_at w.records.text a) is ∙ h a low
+as-frozen old new u is h = λ a low. ap (λ (w : CoreView _ _ _). entry_at w.records.entries a) is ∙ h a low
 
-module _ {K V I : Type 0} (cmp : K → K → Ordering) (code : K → ℕ) (old new : CoreView K V I) (slot c now : ℕ) where
+module _ {K V I : Type 0} (cmp : K → K → Ordering) (join : V → V → V) (code : K → ℕ) (old new : CoreView K V I) (slot c now : ℕ) where
   pub goes-frozen : {O R : Type 0} (stands : R → Standing) (f : Meanings K V I O) (result : Result (Progress K V I O R) Refused)
-      → ((e : IndexEntry) (key : K) (value : Option V) (a : ℕ) → a < old.records.regions.offsets.safe_read_only → entry_at (with_record old.records e key value).text a ≡ entry_at old.records.text a)
-      → ((x : Context K V I) (value : Option V) (told : Answer O) (e : Entry K V) → Decides cmp f code old slot c x (decided.Replace value told) → last_of cmp old.records.text (key_of x.op) ≡ Some e
-      → (a : ℕ) → a < old.records.regions.offsets.safe_read_only → entry_at (with_value old.records e.address value).text a ≡ entry_at old.records.text a)
-      → Goes stands cmp f code old new slot c now result
+      → ((e : IndexEntry) (key : K) (value : Option V) (a : ℕ) → a < old.records.regions.offsets.safe_read_only → entry_at (with_record old.records e key value).entries a ≡ entry_at old.records.entries a)
+      → ((x : Context K V I) (value : Option V) (told : Answer O) (e : Entry K V) → Decides cmp join f code old slot c x (decided.Replace value told) → last_of cmp old.records.text (key_of x.op) ≡ Some e
+      → (a : ℕ) → a < old.records.regions.offsets.safe_read_only → entry_at (with_value old.records e.address value).entries a ≡ entry_at old.records.entries a)
+      → Goes stands cmp join f code old new slot c now result
       → FrozenStay old new
   goes-frozen stands f result grows changes (Goes.unknown h is r) = as-frozen old new _ is (λ a low. refl)
   goes-frozen stands f result grows changes (Goes.asks x e ask h q is r) = as-frozen old new _ is (λ a low. refl)
@@ -285,7 +285,7 @@ module _ {K V I : Type 0} (cmp : K → K → Ordering) (code : K → ℕ) (old n
   goes-frozen stands f result grows changes (Goes.confirms x p h phase alone is r) = as-frozen old new _ is (λ a low. refl)
   goes-frozen stands f result grows changes (Goes.backs_off x p h phase alone is r) = as-frozen old new _ is (λ a low. refl)
   goes-frozen stands f result grows changes (Goes.done x t d is r) = as-frozen old new _ is (λ a low. refl)
-  goes-frozen stands f result grows changes (Goes.claims x d is r) = as-frozen old new _ is.is (λ a low. ap (λ (w : RecordsView K V). entry_at w.text a) is.claims.is)
+  goes-frozen stands f result grows changes (Goes.claims x d is r) = as-frozen old new _ is.is (λ a low. ap (λ (w : RecordsView K V). entry_at w.entries a) is.claims.is)
   goes-frozen stands f result grows changes (Goes.unclaimed x d full is r) = as-frozen old new _ is (λ a low. refl)
   goes-frozen stands f result grows changes (Goes.appends x value t e d entry room free is r) = as-frozen old new _ is (λ a low. grows e (key_of x.op) value a low)
   goes-frozen stands f result grows changes (Goes.worn x value t d room is r) = as-frozen old new _ is (λ a low. refl)
@@ -293,11 +293,11 @@ module _ {K V I : Type 0} (cmp : K → K → Ordering) (code : K → ℕ) (old n
   goes-frozen stands f result grows changes (Goes.replaces x value t e d last is r) = as-frozen old new _ is (λ a low. changes x value t e d last a low)
   goes-frozen stands f result grows changes (Goes.waits x d is r) = as-frozen old new _ is (λ a low. refl)
   goes-frozen stands f result grows changes (Goes.prepares x source i e d entry is r) = as-frozen old new _ is (λ a low. refl)
-  goes-frozen stands f result grows changes (Goes.asks_page x b e p d entry held is r) = as-frozen old new _ is (λ a low. refl)
-  goes-frozen stands f result grows changes (Goes.unshared x b d is r) = as-frozen old new _ is (λ a low. refl)
+  goes-frozen stands f result grows changes (Goes.asks_page x b parts e p d entry held is r) = as-frozen old new _ is (λ a low. refl)
+  goes-frozen stands f result grows changes (Goes.unshared x b parts d is r) = as-frozen old new _ is (λ a low. refl)
 
   pub installs-frozen : {O R : Type 0} (f : Meanings K V I O) (ask : Ask K V I) (result : Result (Progress K V I O R) Refused)
-      → ((e : IndexEntry) (key : K) (value : Option V) (a : ℕ) → a < old.records.regions.offsets.safe_read_only → entry_at (with_record old.records e key value).text a ≡ entry_at old.records.text a)
+      → ((e : IndexEntry) (key : K) (value : Option V) (a : ℕ) → a < old.records.regions.offsets.safe_read_only → entry_at (with_record old.records e key value).entries a ≡ entry_at old.records.entries a)
       → Installs cmp f code old new slot c ask now result
       → FrozenStay old new
   installs-frozen f ask result grows (Installs.unknown h is r) = as-frozen old new _ is (λ a low. refl)

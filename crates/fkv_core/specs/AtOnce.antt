@@ -13,18 +13,18 @@ use Rattle.fkv_core.specs.Going.{Goes}
 use Rattle.fkv_core.specs.Effect.{IsIssue, IsEvent}
 
 -- a key belongs here, and a look-up of it meets this value where it may be changed in place
-pub record IsAtHand {K V I : Type 0} (cmp : K → K → Ordering) (code : K → ℕ) (v : CoreView K V I) (slot : ℕ)
+pub record IsAtHand {K V I : Type 0} (cmp : K → K → Ordering) (join : V → V → V) (code : K → ℕ) (v : CoreView K V I) (slot : ℕ)
     (key : K) (held : V) : Type 0 where
   pub own : partition_of v.count (code key) ≡ v.number
-  pub met : met_at cmp code v slot key ≡ Mutable held
+  pub met : met_at cmp join code v slot key ≡ Mutable held
 
 -- the update is issued in a context at one moment, and done with this answer when it goes on at another: what stands
 -- between them is what the issue makes
-pub record IsDoneAtOnce {K V I O R : Type 0} (stands : R → Standing) (cmp : K → K → Ordering) (f : Meanings K V I O)
+pub record IsDoneAtOnce {K V I O R : Type 0} (stands : R → Standing) (cmp : K → K → Ordering) (join : V → V → V) (f : Meanings K V I O)
     (code : K → ℕ) (old new : CoreView K V I) (slot c : ℕ) (key : K) (input : I) (issued now : ℕ) (shown : O)
     : Type 0 where
   pub between : CoreView K V I
   pub issues : Issues code old between slot c (Rmw key input) issued (Ok tt)
   pub issue : IsIssue code old between slot c (Rmw key input) issued
-  pub goes : Goes stands cmp f code between new slot c now (Ok (Done (Value shown) now))
+  pub goes : Goes stands cmp join f code between new slot c now (Ok (Done (Value shown) now))
   pub event : IsEvent {R = R} cmp f between new slot c now (Done (Value shown) now)

@@ -50,14 +50,14 @@ claim_by (Prepared e s) = None
 claim_by (Load l) = None
 
 -- the look-up that goes on in a page which an operation waits for
-abbrev pub loading_by : {V : Type 0} → Phase V → Option Loading
+abbrev pub loading_by : {V : Type 0} → Phase V → Option (Loading V)
 loading_by Fresh = None
 loading_by (Confirm p) = None
 loading_by (Prepared e s) = None
 loading_by (Load l) = Some l
 
 -- the same of an open operation, if there is one
-abbrev pub loading_of : {K V I : Type 0} → Option (Context K V I) → Option Loading
+abbrev pub loading_of : {K V I : Type 0} → Option (Context K V I) → Option (Loading V)
 loading_of None = None
 loading_of (Some x) = loading_by x.phase
 

@@ -17,12 +17,12 @@ use Rattle.fkv_core.specs.Views.{CoreView, slots_of}
 
 -- what a prepared update of any key kept, and what a look-up of any key that waits for a page is to find, whether or not
 -- the partition has a context of it
-pub record Bears {K V : Type 0} (keeps : Bool) (cmp : K → K → Ordering) (code : K → ℕ) (old new : RecordsView K V)
+pub record Bears {K V : Type 0} (keeps : Bool) (cmp : K → K → Ordering) (join : V → V → V) (code : K → ℕ) (old new : RecordsView K V)
     : Type 0 where
   pub kept : (k : K) (e : IndexEntry) (source : Option V)
       → IsKept keeps cmp code old k e source
       → IsKept keeps cmp code new k e source
-  pub loading : (k : K) (l : Loading) → IsLoading keeps cmp code old k l → IsLoading keeps cmp code new k l
+  pub loading : (k : K) (l : Loading V) → IsLoading keeps cmp join code old k l → IsLoading keeps cmp join code new k l
 
 -- what is set once for all
 pub record IsSameShape {K V : Type 0} (old new : RecordsView K V) : Type 0 where
@@ -45,26 +45,26 @@ pub record IsGrown {K V : Type 0} (keeps : Bool) (cmp : K → K → Ordering) (o
   pub stay : (a : ℕ)
       → new.from ≤ a
       → a < old.regions.offsets.safe_read_only
-      → entry_at new.text a ≡ entry_at old.text a
+      → entry_at new.entries a ≡ entry_at old.entries a
   pub clear : (limit : ℕ)
       → limit ≤ old.tail
       → IsTrue keeps
-      → IsCleared cmp old.text limit
-      → IsCleared cmp new.text limit
+      → IsCleared cmp old.entries limit
+      → IsCleared cmp new.entries limit
   pub places : (p : Place) → IsPlace old.words p → IsPlace new.words p
 
 -- both of an event; and on a device that keeps, no address is used twice
-pub record IsPreserved {K V I : Type 0} (keeps : Bool) (cmp : K → K → Ordering) (code : K → ℕ)
+pub record IsPreserved {K V I : Type 0} (keeps : Bool) (cmp : K → K → Ordering) (join : V → V → V) (code : K → ℕ)
     (old new : CoreView K V I) : Type 0 where
-  pub bears : Bears keeps cmp code old.records new.records
+  pub bears : Bears keeps cmp join code old.records new.records
   pub grown : IsGrown keeps cmp old.records new.records
   pub next : IsTrue keeps → IsNext cmp (indexed old.records) (indexed new.records)
 
 -- events one after another
-abbrev pub ArePreserved : {K V I : Type 0} → Bool → (K → K → Ordering) → (K → ℕ) → CoreView K V I
+abbrev pub ArePreserved : {K V I : Type 0} → Bool → (K → K → Ordering) → (V → V → V) → (K → ℕ) → CoreView K V I
     → List (CoreView K V I) → Type 0
-ArePreserved keeps cmp code v [] = Unit {0}
-ArePreserved keeps cmp code v (w ∷ ws) = IsPreserved keeps cmp code v w × IsSound keeps cmp code w × ArePreserved keeps cmp code w ws
+ArePreserved keeps cmp join code v [] = Unit {0}
+ArePreserved keeps cmp join code v (w ∷ ws) = IsPreserved keeps cmp join code v w × IsSound keeps cmp join code w × ArePreserved keeps cmp join code w ws
 
 -- where no operation was open none is, and who was entered is
 abbrev pub NoneOpens : {K V I : Type 0} → CoreView K V I → CoreView K V I → Type 0

@@ -19,7 +19,7 @@ pub data Truncates {K V I : Type 0} (keeps : Bool) (old new : CoreView K V I) (p
       → Truncates keeps old new page now result
   truncates : IsTruncationDue old.records page
       → new ≡ record old {
-        records = truncated keeps old.records (start_at old.records.page_bits page);
+        records = truncated keeps old.records (start_at old.records.page_bits page) new.records.text;
         moment = now;
       }
       → result ≡ Ok tt

@@ -11,10 +11,11 @@ use Rattle.fkv_operations.specs.declared.entries.IndexEntry.{IndexEntry}
 use Rattle.fkv_lookups.specs.RecordsViews.{RecordsView, empty_records, class_in, entry_of, found_in}
 use Rattle.fkv_lookups.specs.RecordsViews.{with_record, with_value, with_regions, IsMoved}
 use Rattle.fkv_lookups.specs.Meeting as meeting
-use Rattle.fkv_lookups.specs.Lookups.{looked_up}
+use Rattle.fkv_lookups.specs.Lookups.{first_up, looked_up}
 use Rattle.fkv_lookups.specs.Decisions.{low_of}
 use Rattle.fkv_texts.specs.declared.entries.ChainPosition.{ChainPosition}
 use Rattle.fkv_texts.specs.declared.entries.ChainPosition.TheVariants.{Below}
+use Rattle.fkv_lookups.specs.declared.gathered.Gathered.{Gathered}
 use Rattle.fkv_lookups.specs.declared.decisions.LookupResult.{LookupResult}
 use Rattle.fkv_core.specs.declared.contexts.Context.{Context}
 use Rattle.fkv_core.specs.declared.contexts.Loading.{Loading}
@@ -48,6 +49,10 @@ partition_of count code = code % count
 abbrev pub live_of : {K V I : Type 0} → (K → K → Ordering) → CoreView K V I → PlainMap K V
 live_of cmp v = live cmp v.records.text
 
+-- no key of this partition has a value in a map
+abbrev pub IsBare : {K V I : Type 0} → (K → ℕ) → CoreView K V I → PlainMap K V → Type 0
+IsBare {K} code v m = (k : K) → partition_of v.count (code k) ≡ v.number → m k ≡ None
+
 -- the final entry of a key's class, and the address to which it leads
 abbrev pub found_for : {K V I : Type 0} → (K → ℕ) → CoreView K V I → K → Option IndexEntry
 found_for code v k = found_in v.records (class_in code v.records k)
@@ -64,22 +69,27 @@ abbrev pub seen_at : {K V I : Type 0} → CoreView K V I → ℕ → View
 seen_at v slot = view_at v.records.regions.views slot
 
 -- what the session at a slot meets when it looks a key up
-abbrev pub met_at : {K V I : Type 0} → (K → K → Ordering) → (K → ℕ) → CoreView K V I → ℕ → K → LookupResult V
-met_at cmp code v slot k = meeting.met_at cmp code v.records (seen_at v slot) k
+abbrev pub met_at : {K V I : Type 0} → (K → K → Ordering) → (V → V → V) → (K → ℕ) → CoreView K V I → ℕ → K → LookupResult V
+met_at cmp join code v slot k = meeting.met_at cmp join code v.records (seen_at v slot) k
 
--- what its look-up comes to in memory, with the address to which the entry of the key's class leads
-abbrev pub reached_from : {K V I : Type 0} → (K → K → Ordering) → (K → ℕ) → CoreView K V I → ℕ → K → Option ℕ
+-- the last record of the key that it reads in memory, with the address to which the entry of the key's class leads
+abbrev pub first_from : {K V I : Type 0} → (K → K → Ordering) → (K → ℕ) → CoreView K V I → ℕ → K → Option ℕ
     → ChainPosition K V
-reached_from cmp code v slot k None = Below 1
-reached_from cmp code v slot k (Some a) =
-    looked_up cmp code v.records (low_of v.records.begin (seen_at v slot)) k a
+first_from cmp code v slot k None = Below 1
+first_from cmp code v slot k (Some a) = first_up cmp code v.records (low_of v.records.begin (seen_at v slot)) k a
+
+-- what its look-up comes to in memory, no lower than an address
+abbrev pub reached_from : {K V I : Type 0} → (K → K → Ordering) → (V → V → V) → (K → ℕ) → CoreView K V I → ℕ → K → ℕ
+    → Option ℕ → Gathered K V
+reached_from cmp join code v slot k low None = record { parts = None; position = Below 1 }
+reached_from cmp join code v slot k low (Some a) = looked_up cmp join code v.records low k a
 
 -- the operation that is open in a context of an entered session
 abbrev pub context_at : {K V I : Type 0} → CoreView K V I → ℕ → ℕ → Option (Context K V I)
 context_at v slot c = context_in (slots_of v) v.contexts slot c
 
 -- the look-up in which it waits for a page
-abbrev pub loading_at : {K V I : Type 0} → CoreView K V I → ℕ → ℕ → Option Loading
+abbrev pub loading_at : {K V I : Type 0} → CoreView K V I → ℕ → ℕ → Option (Loading V)
 loading_at v slot c = loading_of (context_at v slot c)
 
 -- the view with this operation, or none, in a context, at another moment

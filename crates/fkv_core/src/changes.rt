@@ -7,11 +7,10 @@ ghost use Rattle.fkv_index.specs.Places.{words_of};
 ghost use Rattle.fkv_index.specs.Entries.{IsAlone};
 ghost use Rattle.fkv_operations.specs.After.{key_of};
 ghost use Rattle.fkv_operations.specs.Classes.{IsClass};
-ghost use Rattle.fkv_lookups.specs.RecordsViews.{class_in, confirmed, released, with_value, IsFull};
+ghost use Rattle.fkv_lookups.specs.RecordsViews.{class_in, confirmed, released, with_value, IsFull, IsReplaceable};
 ghost use Rattle.fkv_core.specs.Contexts.{at_phase, claim_by, claim_at};
 ghost use Rattle.fkv_core.specs.Claiming.{IsClaimed};
 ghost use Rattle.fkv_regions.specs.RegionsView.{left};
-ghost use Rattle.fkv_texts.specs.Text.{value_at};
 ghost use Rattle.fkv_core.specs.Views.{context_at, open_context, MovesTo, partition_of, with_context, with_appended, with_replaced};
 ghost use Rattle.fkv_core.specs.Sound.{StandsFor};
 ghost use Rattle.fkv_core.specs.Beginning.{IsEntered};
@@ -99,7 +98,7 @@ impl<F: Mergeable, R: Receipt> Core<F, R> {
         requires here { context_at self.old slot context ≡ Some operation.now }
         requires unclaimed { claim_by operation.now.phase ≡ None }
         requires claims_nothing { claim_by phase ≡ None }
-        requires stands { StandsFor R.keeps F.Key.cmp F.code self.old.records operation.now.op phase }
+        requires stands { StandsFor R.keeps F.Key.cmp F.parts.joined F.code self.old.records operation.now.op phase }
         ensures { self.new ≡ with_context self.old slot context (Some (at_phase operation.now phase)) now }
     {
         self.moment = now;
@@ -117,7 +116,7 @@ impl<F: Mergeable, R: Receipt> Core<F, R> {
         self.moment = now;
     }
 
-    /// Gives the record at an address, which has a value, another one where it stands, or makes it a tombstone, and frees
+    /// Gives the last record of its key, which has a value, another one where it stands, or makes it a tombstone, and frees
     /// the context, whose operation waits to confirm no entry.
     pub(crate) fn replace(
         &mut self,
@@ -130,7 +129,7 @@ impl<F: Mergeable, R: Receipt> Core<F, R> {
         requires session { slot < 16 }
         requires context { context < 8 }
         requires unclaimed { claim_at self.old.contexts (slot * 8 + context) ≡ None }
-        requires value { IsSome (value_at self.old.records.text address) }
+        requires last { IsReplaceable F.Key.cmp self.old.records address }
         requires mutable { self.old.records.regions.offsets.safe_read_only ≤ address }
         ensures { self.new ≡ with_replaced self.old slot context address value now }
     {
@@ -142,9 +141,9 @@ impl<F: Mergeable, R: Receipt> Core<F, R> {
         set_context(&mut self.contexts, slot, context, None);
     }
 
-    /// Gives the record at an address, which has a value, another one where it stands. No context changes.
+    /// Gives the last record of its key, which has a value, another one where it stands. No context changes.
     pub(crate) fn revalue(&mut self, address: Address, value: F::Value, now: u64)
-        requires value { IsSome (value_at self.old.records.text address) }
+        requires last { IsReplaceable F.Key.cmp self.old.records address }
         requires mutable { self.old.records.regions.offsets.safe_read_only ≤ address }
         ensures { self.new ≡ record self.old { records = with_value self.old.records address (Some value); moment = now } }
     {

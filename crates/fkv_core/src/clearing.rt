@@ -33,14 +33,14 @@ impl<F: Mergeable, R: Receipt> Core<F, R> {
     }
 
     /// Moves Begin to the start of a page: the records below are dropped, and the entries that lead there. On a device
-    /// that keeps, the caller vouches that each of them is superseded: a tombstone, or not the last of its key; so the live
-    /// map stays. Each look-up that waits for a page is to look again. Refused, and then nothing changes: `NotDue`
+    /// that keeps, the caller vouches that each of them is superseded: a tombstone, or followed by a value or a tombstone of
+    /// its key; so the live map stays. Each look-up that waits for a page is to look again. Refused, and then nothing changes: `NotDue`
     /// where Begin would not rise, or would pass Head.
     pub fn truncate(&mut self, page: u64, now: u64) -> Result<(), Refused>
         requires later { self.old.moment < now }
         requires cleared { IsTrue R.keeps
             → IsTruncationDue self.old.records page
-            → IsCleared F.Key.cmp self.old.records.text (start_at self.old.records.page_bits page) }
+            → IsCleared F.Key.cmp self.old.records.entries (start_at self.old.records.page_bits page) }
         ensures effect { Truncates R.keeps self.old self.new page now result }
         ensures event { OnOk result (IsTruncation R.keeps F.Key.cmp self.old self.new page now) }
         ensures unchanged { OnErr result (self.new ≡ self.old) }

@@ -22,7 +22,7 @@ pub enum Phase<V> {
     /// An update waits for its new value, built from this source; the entry of its key's class then stood so.
     Prepared { kept: IndexEntry, source: Option<V> },
     /// It waits for a page on the device.
-    Load(Loading),
+    Load(Loading<V>),
 }
 
 impl<V: Copy> Clone for Phase<V> {
@@ -36,16 +36,28 @@ impl<V: Copy> Clone for Phase<V> {
 }
 
 /// A look-up that goes on in a page on the device.
-#[derive(Clone, Copy)]
-pub struct Loading {
+#[derive(Copy)]
+pub struct Loading<V> {
     /// Begin at the look-up.
     pub begin: Address,
     /// The entry of the key's class as it stood then.
     pub kept: IndexEntry,
-    /// The address whose page is asked for: the key has no record between it and where the entry leads.
+    /// The address whose page is asked for: the key has no records but deltas between it and where the entry leads.
     pub wanted: Address,
+    /// The parts of those deltas, joined, or `None` where there is none.
+    pub parts: Option<V>,
     /// The moment of the look-up.
     pub looked: u64,
+}
+
+impl<V: Copy> Clone for Loading<V> {
+    ghost is_clone = { λ x y. y ≡ x };
+
+    ghost is_infallible = { λ _. ⊤ };
+
+    fn clone(&self) -> Result<Self, AllocError> {
+        Ok(*self)
+    }
 }
 
 /// An open operation.
@@ -191,7 +203,7 @@ pub fn claim_of<V>(phase: &Phase<V>) -> Option<Place>
 }
 
 /// The look-up that goes on in a page which an operation waits for.
-pub fn loading_of<V>(phase: &Phase<V>) -> Option<Loading>
+pub fn loading_of<V: Copy>(phase: &Phase<V>) -> Option<Loading<V>>
     ensures { result ≡ loading_by phase.now }
 {
     match phase {

@@ -39,7 +39,7 @@ impl<F: Mergeable, R: Receipt> Model for Core<F, R> {
 
     ghost view = { λ p. view_of p.number p.count p.records p.contexts.items p.moment };
 
-    ghost invariant = { λ p. IsSound R.keeps F.Key.cmp F.code
+    ghost invariant = { λ p. IsSound R.keeps F.Key.cmp F.parts.joined F.code
         (view_of p.number p.count p.records p.contexts.items p.moment) };
 }
 

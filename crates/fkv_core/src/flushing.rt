@@ -24,14 +24,14 @@ impl<F: Mergeable, R: Receipt> Core<F, R> {
         ensures receipts { (n : ℕ) (s : Standing)
             → slice_get self.now.records.receipts n ≡ Some s
             → (s.page ≡ n) × (s.length ≡ 2 ^ self.now.records.page_bits) }
-        // the pages from the first that is not flushed to below that of SafeReadOnly wait, each with the text's entries
+        // the pages from the first that is not flushed to below that of SafeReadOnly wait, each with the records there
         ensures waiting { length self.now.records.waiting
             ≡ page_at self.now.records.page_bits self.now.records.regions.offsets.safe_read_only
             - length self.now.records.receipts }
         ensures spelled { (i : ℕ) (page : List ℕ)
             → slice_get self.now.records.waiting i ≡ Some page
             → IsPageOf F.Key.bytes_of F.Value.bytes_of F.Key.SIZE F.Value.SIZE self.now.records.page_bits
-            (length self.now.records.receipts + i) self.now.records.text page }
+            (length self.now.records.receipts + i) self.now.records.entries page }
     {
         self.records.pages_known();
     }

@@ -1,5 +1,5 @@
 //! What an operation does when it goes on.
-ghost use Rattle.std.specs.Prelude.{◌≡◌, ◌<◌, ◌≤◌, IsSome, Option, Some, None, Ok, IfOk, OnErr};
+ghost use Rattle.std.specs.Prelude.{◌≡◌, ◌<◌, ◌≤◌, IsSome, Option, Some, None, false, Ok, IfOk, OnErr};
 ghost use Rattle.fkv_operations.specs.After.{key_of};
 ghost use Rattle.fkv_lookups.specs.RecordsViews.{class_in, IsEntryOf};
 ghost use Rattle.fkv_texts.specs.Text.{entry_at, last_of};
@@ -19,7 +19,7 @@ use fkv_device::Receipt;
 use fkv_functions::{Ask, Mergeable, Refused};
 use fkv_index::Place;
 use fkv_lookups::Decision;
-use fkv_lookups::laws::{entries_lead, meetings_tell, records_change, records_grow};
+use fkv_lookups::laws::{entries_lead, lookups_tell, meetings_tell, records_change, records_grow};
 use fkv_operations::{AnswerOf, IndexEntry};
 use fkv_records::Address;
 use fkv_texts::{ChainPosition, Entry};
@@ -29,7 +29,8 @@ impl<F: Mergeable, R: Receipt> Core<F, R> {
     /// its answer, and a delete of a key without a value. A write of a class without an entry makes a tentative one
     /// and answers `Next`; the next call confirms it, or takes it back where another entry of its tag stands in the
     /// bucket, and answers `Next` too. Where there is an entry, the region of the key's last record by the session's view
-    /// decides. A mutable value is changed where it stands, by an upsert, an update or a delete, which is finished.
+    /// decides. Where that is a delta, the parts of the key's deltas are joined with what it had before, for a read or an
+    /// update. A mutable value is changed where it stands, by an upsert, an update or a delete, which is finished.
     /// Else an upsert, and a delete of a value, append a record and are finished; and an update keeps the entry and the
     /// key's value and asks for the new one, the same again until it is installed, but over a fuzzy value it answers
     /// `Waits`. Where the records of the key's class go on below what the session reads in memory, a read and an update
@@ -45,7 +46,7 @@ impl<F: Mergeable, R: Receipt> Core<F, R> {
         now: u64,
     ) -> Result<ProgressOf<F, R>, Refused>
         requires later { self.old.moment < now }
-        ensures effect { Goes R.stands F.Key.cmp F.meaning F.code self.old self.new slot context now result }
+        ensures effect { Goes R.stands F.Key.cmp F.parts.joined F.meaning F.code self.old self.new slot context now result }
         ensures event { IfOk result
             (λ progress. IsEvent F.Key.cmp F.meaning self.old self.new slot context now progress) }
         ensures within { IfOk result (λ _. (slot < 16) × (context < 8)) }
@@ -81,7 +82,7 @@ impl<F: Mergeable, R: Receipt> Core<F, R> {
         requires context { context < 8 }
         requires here { context_at self.old slot context ≡ Some operation.now }
         requires phase { claim_by operation.now.phase ≡ Some place }
-        ensures effect { Goes R.stands F.Key.cmp F.meaning F.code self.old self.new slot context now (Ok result) }
+        ensures effect { Goes R.stands F.Key.cmp F.parts.joined F.meaning F.code self.old self.new slot context now (Ok result) }
         ensures event { IsEvent F.Key.cmp F.meaning self.old self.new slot context now result }
         ensures moment { self.new.moment ≤ now }
     {
@@ -105,7 +106,7 @@ impl<F: Mergeable, R: Receipt> Core<F, R> {
         requires asks_nothing { question_in operation.now ≡ None }
         requires unclaimed { claim_by operation.now.phase ≡ None }
         requires unloading { loading_by operation.now.phase ≡ None }
-        ensures effect { Goes R.stands F.Key.cmp F.meaning F.code self.old self.new slot context now result }
+        ensures effect { Goes R.stands F.Key.cmp F.parts.joined F.meaning F.code self.old self.new slot context now result }
         ensures event { IfOk result
             (λ progress. IsEvent F.Key.cmp F.meaning self.old self.new slot context now progress) }
         ensures unchanged { OnErr result (self.new ≡ self.old) }
@@ -113,12 +114,13 @@ impl<F: Mergeable, R: Receipt> Core<F, R> {
     {
         self.known();
         entries_lead::<F::Key, F::Value>();
+        lookups_tell::<F::Key, F::Value>();
         meetings_tell::<F::Key, F::Value>();
         let key = operation.op.key();
         let (class, entry) = self.find(functions, &key);
         let address = address_of(&entry);
-        let reached = self.reach(slot, &key, address);
-        match self.decided(slot, functions, &operation.op, address, &reached) {
+        let first = self.first(slot, &key, address);
+        match self.decided(slot, functions, &operation.op, address, &first) {
             Decision::Done(answer) => {
                 self.free(slot, context, now);
                 Ok(Progress::Done(answer, now))
@@ -135,7 +137,7 @@ impl<F: Mergeable, R: Receipt> Core<F, R> {
                 self.write(slot, context, write, answer, now)
             }
             Decision::Replace(value, answer) => {
-                let ChainPosition::Found(last) = reached else {
+                let ChainPosition::Found(last) = first else {
                     unreachable!()
                 };
                 Ok(self.rewrite(slot, context, operation, last, value, answer, now))
@@ -154,9 +156,9 @@ impl<F: Mergeable, R: Receipt> Core<F, R> {
                 };
                 Ok(self.prepare(slot, context, operation, kept, ask, now))
             }
-            Decision::Load(wanted) => {
+            Decision::Load(wanted, parts) => {
                 let Some(kept) = entry else { unreachable!() };
-                self.ask_page(slot, context, operation, kept, wanted, now)
+                self.ask_page(slot, context, operation, kept, wanted, parts, now)
             }
         }
     }
@@ -176,9 +178,9 @@ impl<F: Mergeable, R: Receipt> Core<F, R> {
         requires context { context < 8 }
         requires write { IsWrite F.code self.old write }
         requires entry { found_for F.code self.old write.key ≡ Some write.entry }
-        requires decided { IsDecided F.Key.cmp F.meaning F.code self.old slot context
+        requires decided { IsDecided F.Key.cmp F.parts.joined F.meaning F.code self.old slot context
             write.key (Decision.Append write.value answer) }
-        ensures effect { Goes R.stands F.Key.cmp F.meaning F.code self.old self.new slot context now result }
+        ensures effect { Goes R.stands F.Key.cmp F.parts.joined F.meaning F.code self.old self.new slot context now result }
         ensures event { IfOk result
             (λ progress. IsEvent F.Key.cmp F.meaning self.old self.new slot context now progress) }
         ensures unchanged { OnErr result (self.new ≡ self.old) }
@@ -207,9 +209,10 @@ impl<F: Mergeable, R: Receipt> Core<F, R> {
         requires context { context < 8 }
         requires last { last_of F.Key.cmp self.old.records.text (key_of operation.now.op) ≡ Some last }
         requires stands { entry_at self.old.records.text last.address ≡ Some last }
-        requires decided { Decides F.Key.cmp F.meaning F.code self.old slot context operation.now
+        requires whole { last.delta ≡ false }
+        requires decided { Decides F.Key.cmp F.parts.joined F.meaning F.code self.old slot context operation.now
             (Decision.Replace value answer) }
-        ensures effect { Goes R.stands F.Key.cmp F.meaning F.code self.old self.new slot context now (Ok result) }
+        ensures effect { Goes R.stands F.Key.cmp F.parts.joined F.meaning F.code self.old self.new slot context now (Ok result) }
         ensures event { IsEvent F.Key.cmp F.meaning self.old self.new slot context now result }
         ensures moment { self.new.moment ≤ now }
     {
@@ -238,9 +241,9 @@ impl<F: Mergeable, R: Receipt> Core<F, R> {
             (class_in F.code self.old.records (key_of operation.now.op)) kept }
         requires number { ask.number ≡ operation.now.number }
         requires key { ask.key ≡ key_of operation.now.op }
-        requires decided { Decides F.Key.cmp F.meaning F.code self.old slot context operation.now
+        requires decided { Decides F.Key.cmp F.parts.joined F.meaning F.code self.old slot context operation.now
             (Decision.Prepare ask.source ask.input) }
-        ensures effect { Goes R.stands F.Key.cmp F.meaning F.code self.old self.new slot context now (Ok result) }
+        ensures effect { Goes R.stands F.Key.cmp F.parts.joined F.meaning F.code self.old self.new slot context now (Ok result) }
         ensures event { IsEvent F.Key.cmp F.meaning self.old self.new slot context now result }
         ensures moment { self.new.moment ≤ now }
     {
@@ -258,8 +261,8 @@ impl<F: Mergeable, R: Receipt> Core<F, R> {
         Progress::NeedsBuild(ask)
     }
 
-    /// Keeps Begin, the entry as it stands and the address to which the records of the key's class lead on disk, and
-    /// asks for the page there. Refused, and then nothing changes: `NoMemory`.
+    /// Keeps Begin, the entry as it stands, the address to which the records of the key's class lead on disk and the parts
+    /// of the key's deltas above, and asks for the page there. Refused, and then nothing changes: `NoMemory`.
     fn ask_page(
         &mut self,
         slot: usize,
@@ -267,6 +270,7 @@ impl<F: Mergeable, R: Receipt> Core<F, R> {
         operation: &ContextOf<F>,
         kept: IndexEntry,
         wanted: Address,
+        parts: Option<F::Value>,
         now: u64,
     ) -> Result<ProgressOf<F, R>, Refused>
         requires later { self.old.moment < now }
@@ -275,9 +279,9 @@ impl<F: Mergeable, R: Receipt> Core<F, R> {
         requires kept { found_for F.code self.old (key_of operation.now.op) ≡ Some kept }
         requires stands { IsEntryOf self.old.records
             (class_in F.code self.old.records (key_of operation.now.op)) kept }
-        requires decided { Decides F.Key.cmp F.meaning F.code self.old slot context operation.now
-            (Decision.Load wanted) }
-        ensures effect { Goes R.stands F.Key.cmp F.meaning F.code self.old self.new slot context now result }
+        requires decided { Decides F.Key.cmp F.parts.joined F.meaning F.code self.old slot context operation.now
+            (Decision.Load wanted parts) }
+        ensures effect { Goes R.stands F.Key.cmp F.parts.joined F.meaning F.code self.old self.new slot context now result }
         ensures event { IfOk result
             (λ progress. IsEvent F.Key.cmp F.meaning self.old self.new slot context now progress) }
         ensures unchanged { OnErr result (self.new ≡ self.old) }
@@ -295,6 +299,7 @@ impl<F: Mergeable, R: Receipt> Core<F, R> {
             begin: self.records.begin(),
             kept,
             wanted,
+            parts,
             looked: now,
         };
         self.set_phase(slot, context, operation, Phase::Load(loading), now);

@@ -31,25 +31,25 @@ use fkv_lookups::laws::{meetings_tell, records_change, records_grow};
 /// On a device that keeps, what a look-up that waits for a page is to find stays, whatever other operations do and
 /// however pages move.
 pub fn pendings_stay<K, V, I, O, R>()
-    ensures goes { (keeps : Bool) (stands : R → Standing) (cmp : K → K → Ordering) (f : Meanings K V I O) (code : K → ℕ)
+    ensures goes { (keeps : Bool) (stands : R → Standing) (cmp : K → K → Ordering) (join : V → V → V) (f : Meanings K V I O) (code : K → ℕ)
         (old new : CoreView K V I) (slot c now : ℕ) (result : Result (Progress K V I O R) Refused)
-        → IsTrue keeps → IsKeyOrder cmp → IsSound keeps cmp code old
-        → Goes stands cmp f code old new slot c now result
+        → IsTrue keeps → IsKeyOrder cmp → IsSound keeps cmp join code old
+        → Goes stands cmp join f code old new slot c now result
         → OthersPend cmp old new slot c }
     // where a page is asked for, it is to find what the live map says of the key at that moment, and nothing else is to be
     // found
-    ensures finds { (keeps : Bool) (stands : R → Standing) (cmp : K → K → Ordering) (f : Meanings K V I O) (code : K → ℕ)
+    ensures finds { (keeps : Bool) (stands : R → Standing) (cmp : K → K → Ordering) (join : V → V → V) (f : Meanings K V I O) (code : K → ℕ)
         (old new : CoreView K V I) (slot c now : ℕ) (progress : Progress K V I O R)
-        → IsKeyOrder cmp → IsSound keeps cmp code old
-        → Goes stands cmp f code old new slot c now (Ok progress)
+        → IsKeyOrder cmp → IsSound keeps cmp join code old
+        → Goes stands cmp join f code old new slot c now (Ok progress)
         → Finds cmp old new slot c now progress }
-    ensures installs { (keeps : Bool) (cmp : K → K → Ordering) (f : Meanings K V I O) (code : K → ℕ)
+    ensures installs { (keeps : Bool) (cmp : K → K → Ordering) (join : V → V → V) (f : Meanings K V I O) (code : K → ℕ)
         (old new : CoreView K V I) (slot c : ℕ) (ask : Ask K V I) (now : ℕ)
         (result : Result (Progress K V I O R) Refused)
-        → IsTrue keeps → IsSound keeps cmp code old
+        → IsTrue keeps → IsSound keeps cmp join code old
         → Installs cmp f code old new slot c ask now result
         → OthersPend cmp old new slot c }
-    ensures built { (cmp : K → K → Ordering) (f : Meanings K V I O) (code : K → ℕ)
+    ensures built { (cmp : K → K → Ordering) (join : V → V → V) (f : Meanings K V I O) (code : K → ℕ)
         (old new : CoreView K V I) (slot c : ℕ) (ask : Ask K V I) (now : ℕ) (progress : Progress K V I O R)
         → Installs cmp f code old new slot c ask now (Ok progress)
         → Finds cmp old new slot c now progress }
@@ -65,14 +65,14 @@ pub fn pendings_stay<K, V, I, O, R>()
     ensures flushes { (cmp : K → K → Ordering) (old new : CoreView K V I) (s : Standing) (bytes : List ℕ) (now : ℕ)
         (result : Result (Unit {0}) Refused)
         → Flushes old new s bytes now result → AllPend cmp old new }
-    ensures enters { (keeps : Bool) (cmp : K → K → Ordering) (code : K → ℕ) (old new : CoreView K V I) (now : ℕ)
+    ensures enters { (keeps : Bool) (cmp : K → K → Ordering) (join : V → V → V) (code : K → ℕ) (old new : CoreView K V I) (now : ℕ)
         (result : Result ℕ Refused)
-        → IsSound keeps cmp code old → Enters old new now result → AllPend cmp old new }
+        → IsSound keeps cmp join code old → Enters old new now result → AllPend cmp old new }
     ensures leaves { (keeps : Bool) (cmp : K → K → Ordering) (old new : CoreView K V I) (slot now : ℕ)
         (result : Result (Unit {0}) Refused)
         → IsTrue keeps → Leaves keeps old new slot now result → AllPend cmp old new }
     // an operation that was just issued has not looked yet
-    ensures issues { (cmp : K → K → Ordering) (code : K → ℕ) (old new : CoreView K V I) (slot c : ℕ)
+    ensures issues { (cmp : K → K → Ordering) (join : V → V → V) (code : K → ℕ) (old new : CoreView K V I) (slot c : ℕ)
         (op : KeyedOp K V I) (now : ℕ) (result : Result (Unit {0}) Refused)
         → Issues code old new slot c op now result → AllPend cmp old new }
     ensures gives_up { (cmp : K → K → Ordering) (old new : CoreView K V I) (slot c now : ℕ)
@@ -90,27 +90,27 @@ pub fn loads_end<F: Mergeable, R: Receipt>()
     ensures loads { (old new : CoreView F.Key F.Value F.Input) (slot c : ℕ) (came : Result (Joined R) Refused)
         (now : ℕ) (result : Result (Progress F.Key F.Value F.Input F.Output R) Refused)
         → Loads R.stands (IsEntryIn F.Key.bytes_of F.Value.bytes_of F.Key.is_known F.Value.is_known
-        F.Key.SIZE F.Value.SIZE) F.Key.cmp F.meaning old new slot c came now result
+        F.Key.SIZE F.Value.SIZE) F.Key.cmp F.parts.joined F.meaning old new slot c came now result
         → OthersPend F.Key.cmp old new slot c }
     ensures fails { (old new : CoreView F.Key F.Value F.Input) (slot c : ℕ) (came : Result (Joined R) Refused)
         (now : ℕ) (why : Refused)
         → Loads R.stands (IsEntryIn F.Key.bytes_of F.Value.bytes_of F.Key.is_known F.Value.is_known
-        F.Key.SIZE F.Value.SIZE) F.Key.cmp F.meaning old new slot c came now (Err why)
+        F.Key.SIZE F.Value.SIZE) F.Key.cmp F.parts.joined F.meaning old new slot c came now (Err why)
         → (new ≡ old) ⊎ IsGiveUp old new slot c now }
 {}
 
 /// No event of an operation changes a frozen record: one below the safe read-only offset. The other events leave the
 /// text, or, on a device that need not keep, drop what it begins with.
 pub fn frozen_stay<K, V, I, O, R>()
-    ensures goes { (keeps : Bool) (stands : R → Standing) (cmp : K → K → Ordering) (f : Meanings K V I O) (code : K → ℕ)
+    ensures goes { (keeps : Bool) (stands : R → Standing) (cmp : K → K → Ordering) (join : V → V → V) (f : Meanings K V I O) (code : K → ℕ)
         (old new : CoreView K V I) (slot c now : ℕ) (result : Result (Progress K V I O R) Refused)
-        → IsKeyOrder cmp → IsSound keeps cmp code old
-        → Goes stands cmp f code old new slot c now result
+        → IsKeyOrder cmp → IsSound keeps cmp join code old
+        → Goes stands cmp join f code old new slot c now result
         → FrozenStay old new }
-    ensures installs { (keeps : Bool) (cmp : K → K → Ordering) (f : Meanings K V I O) (code : K → ℕ)
+    ensures installs { (keeps : Bool) (cmp : K → K → Ordering) (join : V → V → V) (f : Meanings K V I O) (code : K → ℕ)
         (old new : CoreView K V I) (slot c : ℕ) (ask : Ask K V I) (now : ℕ)
         (result : Result (Progress K V I O R) Refused)
-        → IsSound keeps cmp code old
+        → IsSound keeps cmp join code old
         → Installs cmp f code old new slot c ask now result
         → FrozenStay old new }
 {

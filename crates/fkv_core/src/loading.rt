@@ -16,6 +16,8 @@ use crate::contexts::{ContextOf, Loading, Phase, Progress, ProgressOf, loading_o
 use crate::cores::Core;
 use fkv_device::{Loaded, Receipt};
 use fkv_functions::{Ask, Mergeable, Refused};
+use fkv_lookups::gathered::onto;
+use fkv_lookups::laws::lookups_tell;
 use fkv_operations::KeyedOp;
 use fkv_operations::plainly::shown;
 use fkv_records::Address;
@@ -34,8 +36,8 @@ pub fn is_no_memory(refused: &Refused) -> bool
 impl<F: Mergeable, R: Receipt> Core<F, R> {
     /// Goes on with an operation that waits for a page, with that page as a device gave it, or with the refusal that came
     /// in its place. Where Begin has moved since the look-up the operation is to look again, whatever came, and the answer
-    /// is `Next`. Else the records of the page are followed along the key's class: where the key's newest record stands
-    /// there, or the way ends below Begin, a read is finished, its effect being at its look-up, and an update asks for its
+    /// is `Next`. Else the records of the page are followed along the key's class, and the parts of the key's deltas are
+    /// joined: where a record of the key that is no delta stands there, or the way ends below Begin, a read is finished, its effect being at its look-up, and an update asks for its
     /// new value; where the way goes on in another page, that one is asked for. Refused, in this order: `Unknown` where no
     /// operation is open there; `NotReady` where it waits for no page; what came in place of the page, which ends the
     /// operation without effect unless it is `NoMemory`; `Stranger` where the page was read by another receipt than the
@@ -52,7 +54,7 @@ impl<F: Mergeable, R: Receipt> Core<F, R> {
     ) -> Result<ProgressOf<F, R>, Refused>
         requires later { self.old.moment < now }
         ensures effect { Loads R.stands (IsEntryIn F.Key.bytes_of F.Value.bytes_of F.Key.is_known F.Value.is_known
-            F.Key.SIZE F.Value.SIZE) F.Key.cmp F.meaning self.old self.new slot context came now result }
+            F.Key.SIZE F.Value.SIZE) F.Key.cmp F.parts.joined F.meaning self.old self.new slot context came now result }
         // on a device that keeps, what comes of it is what the look-up was to find
         ensures event { IsTrue R.keeps → IfOk result
             (λ progress. IsLoad F.Key.cmp F.meaning self.old self.new slot context now progress) }
@@ -87,7 +89,7 @@ impl<F: Mergeable, R: Receipt> Core<F, R> {
         slot: usize,
         context: usize,
         operation: &ContextOf<F>,
-        loading: Loading,
+        loading: Loading<F::Value>,
         loaded: Loaded<R>,
         functions: &F,
         now: u64,
@@ -97,36 +99,48 @@ impl<F: Mergeable, R: Receipt> Core<F, R> {
         requires context { context < 8 }
         requires awaits { AwaitsPage self.old slot context operation.now loading }
         ensures effect { Loads R.stands (IsEntryIn F.Key.bytes_of F.Value.bytes_of F.Key.is_known F.Value.is_known
-            F.Key.SIZE F.Value.SIZE) F.Key.cmp F.meaning self.old self.new slot context (Ok loaded) now result }
+            F.Key.SIZE F.Value.SIZE) F.Key.cmp F.parts.joined F.meaning self.old self.new slot context (Ok loaded) now result }
         ensures event { IsTrue R.keeps → IfOk result
             (λ progress. IsLoad F.Key.cmp F.meaning self.old self.new slot context now progress) }
         ensures moment { self.new.moment ≤ now }
     {
         self.known();
+        lookups_tell::<F::Key, F::Value>();
         let key = operation.op.key();
         let page = self.records.page_of(loading.wanted);
         if let Err(refused) = self.records.is_own(&loaded, page) {
             return Err(refused);
         }
-        match self.records.trace_in(&loaded, &key, loading.wanted) {
+        let low = self.records.first_of(page);
+        let came = match self.records.trace_in(
+            functions,
+            &loaded,
+            &key,
+            loading.wanted,
+            low,
+            loading.parts,
+        ) {
             Err(_damaged) => {
                 self.free(slot, context, now);
-                Err(Refused::Damaged { page })
+                return Err(Refused::Damaged { page });
             }
-            Ok(ChainPosition::Found(last)) => {
-                Ok(self.tell(
-                    slot, context, operation, loading, last.value, functions, now,
-                ))
+            Ok(came) => came,
+        };
+        let parts = came.parts;
+        match came.position {
+            ChainPosition::Found(last) => {
+                let value = onto(functions, last.value, parts);
+                Ok(self.tell(slot, context, operation, loading, value, functions, now))
             }
-            Ok(ChainPosition::Below(address)) => {
+            ChainPosition::Below(address) => {
                 if address < self.records.begin() {
-                    return Ok(self.tell(slot, context, operation, loading, None, functions, now));
+                    return Ok(self.tell(slot, context, operation, loading, parts, functions, now));
                 }
                 if !self.records.is_place(address) {
                     self.free(slot, context, now);
                     return Err(Refused::Damaged { page });
                 }
-                self.look_further(slot, context, operation, loading, address, now)
+                self.look_further(slot, context, operation, loading, address, parts, now)
             }
         }
     }
@@ -137,7 +151,7 @@ impl<F: Mergeable, R: Receipt> Core<F, R> {
         slot: usize,
         context: usize,
         operation: &ContextOf<F>,
-        loading: Loading,
+        loading: Loading<F::Value>,
         value: Option<F::Value>,
         functions: &F,
         now: u64,
@@ -189,8 +203,9 @@ impl<F: Mergeable, R: Receipt> Core<F, R> {
         slot: usize,
         context: usize,
         operation: &ContextOf<F>,
-        loading: Loading,
+        loading: Loading<F::Value>,
         address: Address,
+        parts: Option<F::Value>,
         now: u64,
     ) -> Result<ProgressOf<F, R>, Refused>
         requires later { self.old.moment < now }
@@ -199,13 +214,13 @@ impl<F: Mergeable, R: Receipt> Core<F, R> {
         requires awaits { AwaitsPage self.old slot context operation.now loading }
         requires asks { MayLoad operation.now.op }
         requires flushed { page_at self.old.records.page_bits address < length self.old.records.receipts }
-        requires stands { IsLoading R.keeps F.Key.cmp F.code self.old.records (key_of operation.now.op)
-            (record loading { wanted = address }) }
+        requires stands { IsLoading R.keeps F.Key.cmp F.parts.joined F.code self.old.records (key_of operation.now.op)
+            (record loading { wanted = address; parts = parts }) }
         ensures asked { IfOk result (λ progress. (r : R)
             × (progress ≡ Progress.NeedsLoad r address)
             × IsHeldBy self.old.records.receipts (page_at self.old.records.page_bits address) (R.stands r)) }
         ensures effect { OnOk result (self.new ≡ with_context self.old slot context
-            (Some (at_phase operation.now (Load (record loading { wanted = address })))) now) }
+            (Some (at_phase operation.now (Load (record loading { wanted = address; parts = parts })))) now) }
         ensures only { IfErr result (λ refused. refused ≡ Refused.NoMemory) }
         ensures unchanged { OnErr result (self.new ≡ self.old) }
         ensures moment { self.new.moment ≤ now }
@@ -219,6 +234,7 @@ impl<F: Mergeable, R: Receipt> Core<F, R> {
             begin: loading.begin,
             kept: loading.kept,
             wanted: address,
+            parts,
             looked: loading.looked,
         };
         self.set_phase(slot, context, operation, Phase::Load(further), now);

@@ -1,20 +1,23 @@
 //! What events look at in a partition. None of these changes it.
-ghost use Rattle.std.specs.Prelude.{◌≡◌, ◌+◌, ◌*◌, ◌<◌, ◌↔◌, Some, None, IsTrue, IfSome, option_map, slice_get};
+ghost use Rattle.std.specs.Prelude.{◌≡◌, ◌+◌, ◌*◌, ◌<◌, ◌≤◌, ◌↔◌, Some, None, true, IsTrue, IfSome, option_map, slice_get};
 ghost use Rattle.fkv_index.specs.Words.{address_of};
 ghost use Rattle.fkv_operations.specs.After.{key_of};
-ghost use Rattle.fkv_lookups.specs.Decisions.{decision};
+ghost use Rattle.fkv_texts.specs.declared.entries.Entry.{Entry};
+ghost use Rattle.fkv_lookups.specs.Decisions.{decision, low_of};
 ghost use Rattle.fkv_operations.specs.Classes.{IsClass};
 ghost use Rattle.fkv_lookups.specs.RecordsViews.{class_in, IsEntryOf};
 ghost use Rattle.fkv_core.specs.Contexts.{is_session, joined};
 ghost use Rattle.fkv_core.specs.Beginning.{IsEntered};
-ghost use Rattle.fkv_core.specs.Views.{context_at, entry_for, found_for, met_at, open_context, partition_of, reached_from, slots_of};
+ghost use Rattle.fkv_core.specs.Views.{context_at, entry_for, found_for, first_from, met_at, open_context, partition_of, reached_from, seen_at, slots_of};
 ghost use Rattle.fkv_core.specs.Sound.{IsSound};
 
 use crate::contexts::{ContextOf, is_vacant, open_at, open_context};
 use crate::cores::Core;
 use fkv_device::Receipt;
 use fkv_functions::{Functions, Mergeable};
-use fkv_lookups::{DecisionOf, LookupResult, decide, low_of, met_by};
+use fkv_lookups::decisions::blind;
+use fkv_lookups::laws::lookups_tell;
+use fkv_lookups::{DecisionOf, Gathered, LookupResult, decide, low_of, met_by};
 use fkv_operations::{Class, IndexEntry, KeyedOpOf, partition_at};
 use fkv_records::Address;
 use fkv_texts::ChainPosition;
@@ -35,7 +38,7 @@ pub(crate) fn address_of(entry: &Option<IndexEntry>) -> Option<Address>
 impl<F: Mergeable, R: Receipt> Core<F, R> {
     /// What holds of every partition. It does nothing when it runs.
     pub fn known(&self)
-        ensures { IsSound R.keeps F.Key.cmp F.code self.now }
+        ensures { IsSound R.keeps F.Key.cmp F.parts.joined F.code self.now }
     {
         let _moment = self.moment;
     }
@@ -107,10 +110,10 @@ impl<F: Mergeable, R: Receipt> Core<F, R> {
         self.records.leads(&class)
     }
 
-    /// What a look-up of a key comes to, as the session at a slot reads in memory, by the address to which the entry of the
-    /// key's class leads.
+    /// The last record of a key that the session at a slot reads in memory, by the address to which the entry of the key's
+    /// class leads, or where the records of the class lead.
     #[inline(always)]
-    pub fn reach(
+    pub(crate) fn first(
         &self,
         slot: usize,
         key: &F::Key,
@@ -118,52 +121,118 @@ impl<F: Mergeable, R: Receipt> Core<F, R> {
     ) -> ChainPosition<F::Key, F::Value>
         requires entered { IsEntered self.now slot }
         requires entry { entry ≡ entry_for F.code self.now key.now }
-        ensures { result ≡ reached_from F.Key.cmp F.code self.now slot key.now (entry_for F.code self.now key.now) }
+        ensures { result ≡ first_from F.Key.cmp F.code self.now slot key.now (entry_for F.code self.now key.now) }
     {
         match entry {
             None => ChainPosition::Below(NOWHERE),
             Some(address) => {
-                let view = self.records.view(slot);
-                let low = low_of(self.records.begin(), &view);
-                self.records.trace(address, key, low)
+                let low = self.lowest(slot);
+                self.records.first(address, key, low)
             }
         }
     }
 
-    /// What the session at a slot meets, by the address to which the entry of a key's class leads and by what the look-up of
-    /// the key comes to.
-    pub(crate) fn met(
-        &self,
-        slot: usize,
-        entry: Option<Address>,
-        reached: &ChainPosition<F::Key, F::Value>,
-    ) -> LookupResult<F::Value>
-        requires entered { IsEntered self.now slot }
-        ensures { (key : F.Key) → entry ≡ entry_for F.code self.now key
-            → reached.now ≡ reached_from F.Key.cmp F.code self.now slot key (entry_for F.code self.now key)
-            → result ≡ met_at F.Key.cmp F.code self.now slot key }
+    /// The lowest address that the session at a slot reads in memory.
+    pub fn lowest(&self, slot: usize) -> Address
+        requires { IsEntered self.now slot }
+        ensures value { result ≡ low_of self.now.records.begin (seen_at self.now slot) }
+        ensures begin { self.now.records.begin ≤ result }
+        ensures closed { self.now.records.regions.offsets.closed ≤ result }
     {
         let view = self.records.view(slot);
-        met_by(entry, self.records.begin(), &view, reached)
+        low_of(self.records.begin(), &view)
     }
 
-    /// What an operation of the session at a slot does for what it meets: by the entry of its key's class, and by what
-    /// the look-up comes to.
+    /// What a look-up of a key comes to in memory, no lower than an address that a session reads there ([`Core::lowest`]), by
+    /// the address to which the entry of the key's class leads.
+    pub fn reach(
+        &self,
+        functions: &F,
+        slot: usize,
+        key: &F::Key,
+        low: Address,
+        entry: Option<Address>,
+    ) -> Gathered<F::Key, F::Value>
+        requires begin { self.now.records.begin ≤ low }
+        requires closed { self.now.records.regions.offsets.closed ≤ low }
+        requires entry { entry ≡ entry_for F.code self.now key.now }
+        ensures { result ≡ reached_from F.Key.cmp F.parts.joined F.code self.now slot key.now low
+            (entry_for F.code self.now key.now) }
+    {
+        let _slot = slot;
+        match entry {
+            None => Gathered {
+                parts: None,
+                position: ChainPosition::Below(NOWHERE),
+            },
+            Some(address) => {
+                let first = self.records.first(address, key, low);
+                self.records.gather(functions, address, first, key, low)
+            }
+        }
+    }
+
+    /// What the session at a slot meets, by the address to which the entry of a key's class leads and by the last record of
+    /// the key that it reads in memory.
+    pub(crate) fn met(
+        &self,
+        functions: &F,
+        slot: usize,
+        key: &F::Key,
+        entry: Option<Address>,
+        first: &ChainPosition<F::Key, F::Value>,
+    ) -> LookupResult<F::Value>
+        requires entered { IsEntered self.now slot }
+        requires entry { entry ≡ entry_for F.code self.now key.now }
+        requires first { first.now ≡ first_from F.Key.cmp F.code self.now slot key.now
+            (entry_for F.code self.now key.now) }
+        ensures { result ≡ met_at F.Key.cmp F.parts.joined F.code self.now slot key.now }
+    {
+        let view = self.records.view(slot);
+        let begin = self.records.begin();
+        let Some(address) = entry else {
+            return LookupResult::NoEntry;
+        };
+        let low = self.lowest(slot);
+        let came = self.records.gather(functions, address, *first, key, low);
+        met_by(functions, entry, begin, &view, &came)
+    }
+
+    /// What an operation of the session at a slot does for what it meets: by the entry of its key's class, and by the last
+    /// record of its key that it reads in memory. Parts of deltas are not collected for an operation that needs no value.
     pub(crate) fn decided(
         &self,
         slot: usize,
         functions: &F,
         op: &KeyedOpOf<F>,
         entry: Option<Address>,
-        reached: &ChainPosition<F::Key, F::Value>,
+        first: &ChainPosition<F::Key, F::Value>,
     ) -> DecisionOf<F>
         requires entered { IsEntered self.now slot }
         requires entry { entry ≡ entry_for F.code self.now (key_of op.now) }
-        requires reached { reached.now ≡ reached_from F.Key.cmp F.code self.now slot (key_of op.now)
+        requires first { first.now ≡ first_from F.Key.cmp F.code self.now slot (key_of op.now)
             (entry_for F.code self.now (key_of op.now)) }
-        ensures { result ≡ decision F.meaning op.now (met_at F.Key.cmp F.code self.now slot (key_of op.now)) }
+        ensures { result ≡ decision F.meaning op.now
+            (met_at F.Key.cmp F.parts.joined F.code self.now slot (key_of op.now)) }
     {
-        let met = self.met(slot, entry, reached);
+        self.known();
+        lookups_tell::<F::Key, F::Value>();
+        if is_delta(first) {
+            if let Some(decision) = blind::<F>(op) {
+                return decision;
+            }
+        }
+        let met = self.met(functions, slot, &op.key(), entry, first);
         decide(functions, op, &met)
+    }
+}
+
+/// Whether a look-up came to a delta.
+fn is_delta<K, V>(position: &ChainPosition<K, V>) -> bool
+    ensures { IsTrue result ↔ ((e : Entry K V) × (position.now ≡ ChainPosition.Found e) × (e.delta ≡ true)) }
+{
+    match position {
+        ChainPosition::Found(last) => last.delta,
+        ChainPosition::Below(_) => false,
     }
 }

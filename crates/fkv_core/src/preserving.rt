@@ -41,54 +41,55 @@ use fkv_operations::kept_words_are_sound;
 /// What a prepared update of any key kept, and what a look-up of any key that waits for a page is to find, are kept by
 /// every event; no offset falls, what is frozen stays, and what was cleared is cleared.
 pub fn events_preserve<K, V, I, O, R>()
-    ensures goes { (keeps : Bool) (stands : R → Standing) (cmp : K → K → Ordering) (f : Meanings K V I O) (code : K → ℕ)
+    ensures goes { (keeps : Bool) (stands : R → Standing) (cmp : K → K → Ordering) (join : V → V → V) (f : Meanings K V I O) (code : K → ℕ)
         (old new : CoreView K V I) (slot c now : ℕ) (result : Result (Progress K V I O R) Refused)
-        → IsKeyOrder cmp → IsSound keeps cmp code old
-        → Goes stands cmp f code old new slot c now result
-        → IsPreserved keeps cmp code old new }
-    ensures installs { (keeps : Bool) (cmp : K → K → Ordering) (f : Meanings K V I O) (code : K → ℕ)
+        → IsKeyOrder cmp → IsSound keeps cmp join code old
+        → Goes stands cmp join f code old new slot c now result
+        → IsPreserved keeps cmp join code old new }
+    ensures installs { (keeps : Bool) (cmp : K → K → Ordering) (join : V → V → V) (f : Meanings K V I O) (code : K → ℕ)
         (old new : CoreView K V I) (slot c : ℕ) (ask : Ask K V I) (now : ℕ)
         (result : Result (Progress K V I O R) Refused)
-        → IsSound keeps cmp code old
+        → IsSound keeps cmp join code old
         → Installs cmp f code old new slot c ask now result
-        → IsPreserved keeps cmp code old new }
-    ensures gives_up { (keeps : Bool) (cmp : K → K → Ordering) (code : K → ℕ) (old new : CoreView K V I)
+        → IsPreserved keeps cmp join code old new }
+    ensures gives_up { (keeps : Bool) (cmp : K → K → Ordering) (join : V → V → V) (code : K → ℕ) (old new : CoreView K V I)
         (slot c now : ℕ) (result : Result (Unit {0}) Refused)
-        → IsSound keeps cmp code old → GivesUp old new slot c now result → IsPreserved keeps cmp code old new }
-    ensures issues { (keeps : Bool) (cmp : K → K → Ordering) (code : K → ℕ) (old new : CoreView K V I)
+        → IsSound keeps cmp join code old → GivesUp old new slot c now result → IsPreserved keeps cmp join code old new }
+    ensures issues { (keeps : Bool) (cmp : K → K → Ordering) (join : V → V → V) (code : K → ℕ) (old new : CoreView K V I)
         (slot c : ℕ) (op : KeyedOp K V I) (now : ℕ) (result : Result (Unit {0}) Refused)
-        → IsSound keeps cmp code old → Issues code old new slot c op now result → IsPreserved keeps cmp code old new }
-    ensures enters { (keeps : Bool) (cmp : K → K → Ordering) (code : K → ℕ) (old new : CoreView K V I) (now : ℕ)
+        → IsSound keeps cmp join code old → Issues code old new slot c op now result → IsPreserved keeps cmp join code old new }
+    ensures enters { (keeps : Bool) (cmp : K → K → Ordering) (join : V → V → V) (code : K → ℕ) (old new : CoreView K V I) (now : ℕ)
         (result : Result ℕ Refused)
-        → IsSound keeps cmp code old → Enters old new now result → IsPreserved keeps cmp code old new }
-    ensures leaves { (keeps : Bool) (cmp : K → K → Ordering) (code : K → ℕ) (old new : CoreView K V I)
+        → IsSound keeps cmp join code old → Enters old new now result → IsPreserved keeps cmp join code old new }
+    ensures leaves { (keeps : Bool) (cmp : K → K → Ordering) (join : V → V → V) (code : K → ℕ) (old new : CoreView K V I)
         (slot now : ℕ) (result : Result (Unit {0}) Refused)
-        → IsSound keeps cmp code old → Leaves keeps old new slot now result → IsPreserved keeps cmp code old new }
-    ensures refreshes { (keeps : Bool) (cmp : K → K → Ordering) (code : K → ℕ) (old new : CoreView K V I)
+        → IsSound keeps cmp join code old → Leaves keeps old new slot now result → IsPreserved keeps cmp join code old new }
+    ensures refreshes { (keeps : Bool) (cmp : K → K → Ordering) (join : V → V → V) (code : K → ℕ) (old new : CoreView K V I)
         (slot now : ℕ) (result : Result (Unit {0}) Refused)
-        → IsSound keeps cmp code old → Refreshes keeps old new slot now result → IsPreserved keeps cmp code old new }
-    ensures shifts { (keeps : Bool) (cmp : K → K → Ordering) (code : K → ℕ) (old new : CoreView K V I)
+        → IsSound keeps cmp join code old → Refreshes keeps old new slot now result → IsPreserved keeps cmp join code old new }
+    ensures shifts { (keeps : Bool) (cmp : K → K → Ordering) (join : V → V → V) (code : K → ℕ) (old new : CoreView K V I)
         (page now : ℕ) (result : Result (Unit {0}) Refused)
-        → IsSound keeps cmp code old → Shifts keeps old new page now result → IsPreserved keeps cmp code old new }
-    ensures evicts { (keeps : Bool) (cmp : K → K → Ordering) (code : K → ℕ) (old new : CoreView K V I)
+        → IsSound keeps cmp join code old → Shifts keeps old new page now result → IsPreserved keeps cmp join code old new }
+    ensures evicts { (keeps : Bool) (cmp : K → K → Ordering) (join : V → V → V) (code : K → ℕ) (old new : CoreView K V I)
         (page now : ℕ) (result : Result (Unit {0}) Refused)
-        → IsSound keeps cmp code old → Evicts keeps old new page now result → IsPreserved keeps cmp code old new }
-    ensures flushes { (keeps : Bool) (cmp : K → K → Ordering) (code : K → ℕ) (old new : CoreView K V I)
+        → IsSound keeps cmp join code old → Evicts keeps old new page now result → IsPreserved keeps cmp join code old new }
+    ensures flushes { (keeps : Bool) (cmp : K → K → Ordering) (join : V → V → V) (code : K → ℕ) (old new : CoreView K V I)
         (s : Standing) (bytes : List ℕ) (now : ℕ) (result : Result (Unit {0}) Refused)
-        → IsSound keeps cmp code old → Flushes old new s bytes now result → IsPreserved keeps cmp code old new }
+        → IsSound keeps cmp join code old → Flushes old new s bytes now result → IsPreserved keeps cmp join code old new }
     // the log's start is cut where all below is cleared
-    ensures truncates { (keeps : Bool) (cmp : K → K → Ordering) (code : K → ℕ) (old new : CoreView K V I)
+    ensures truncates { (keeps : Bool) (cmp : K → K → Ordering) (join : V → V → V) (code : K → ℕ) (old new : CoreView K V I)
         (page now : ℕ) (result : Result (Unit {0}) Refused)
-        → IsKeyOrder cmp → IsSound keeps cmp code old
+        → IsKeyOrder cmp → IsSound keeps cmp join code old
         → (IsTrue keeps → IsTruncationDue old.records page
-        → IsCleared cmp old.records.text (start_at old.records.page_bits page))
+        → IsCleared cmp old.records.entries (start_at old.records.page_bits page))
         → Truncates keeps old new page now result
-        → IsPreserved keeps cmp code old new }
+        → IsSound keeps cmp join code new
+        → IsPreserved keeps cmp join code old new }
     // a record is appended behind the entry of its class
-    ensures appends { (keeps : Bool) (cmp : K → K → Ordering) (code : K → ℕ) (v : CoreView K V I) (slot c now : ℕ)
+    ensures appends { (keeps : Bool) (cmp : K → K → Ordering) (join : V → V → V) (code : K → ℕ) (v : CoreView K V I) (slot c now : ℕ)
         (write : Write K V)
-        → IsSound keeps cmp code v → IsWrite code v write
-        → IsPreserved keeps cmp code v (with_appended v slot c write.entry write.key write.value now) }
+        → IsSound keeps cmp join code v → IsWrite code v write
+        → IsPreserved keeps cmp join code v (with_appended v slot c write.entry write.key write.value now) }
 {
     cleared_stay::<K, V>();
     records_change::<K, V>();
@@ -100,19 +101,19 @@ pub fn loads_preserve<F: Mergeable, R: Receipt>()
     ensures { (keeps : Bool) (code : F.Key → ℕ) (old new : CoreView F.Key F.Value F.Input) (slot c : ℕ)
         (came : Result (Joined R) Refused) (now : ℕ)
         (result : Result (Progress F.Key F.Value F.Input F.Output R) Refused)
-        → IsSound keeps F.Key.cmp code old
+        → IsSound keeps F.Key.cmp F.parts.joined code old
         → Loads R.stands (IsEntryIn F.Key.bytes_of F.Value.bytes_of F.Key.is_known F.Value.is_known
-        F.Key.SIZE F.Value.SIZE) F.Key.cmp F.meaning old new slot c came now result
-        → IsPreserved keeps F.Key.cmp code old new }
+        F.Key.SIZE F.Value.SIZE) F.Key.cmp F.parts.joined F.meaning old new slot c came now result
+        → IsPreserved keeps F.Key.cmp F.parts.joined code old new }
 {}
 
 /// So an entry that was kept is sound wherever its place holds the kept word, after any number of events, although it was
 /// swept and made again in between: an address is never used again.
 pub fn kept_words_stay_sound<K, V, I>()
-    ensures { (keeps : Bool) (cmp : K → K → Ordering) (code : K → ℕ) (v : CoreView K V I)
+    ensures { (keeps : Bool) (cmp : K → K → Ordering) (join : V → V → V) (code : K → ℕ) (v : CoreView K V I)
         (vs : List (CoreView K V I)) (k : K) (e : IndexEntry)
         → IsTrue keeps → IsKeyOrder cmp
-        → IsSound keeps cmp code v → ArePreserved keeps cmp code v vs
+        → IsSound keeps cmp join code v → ArePreserved keeps cmp join code v vs
         → IsEntryOf v.records (class_in code v.records k) e
         → IsStill v.records.regions.offsets.safe_read_only (last_of cmp v.records.text k)
         → IsEntryOf (after_last v vs).records (class_in code v.records k) e
@@ -125,10 +126,10 @@ pub fn kept_words_stay_sound<K, V, I>()
 /// Where no operation was open none is, and a session that was entered is, by every event but those that are for this:
 /// an issue opens an operation in the context alone that was chosen, and the session alone goes that leaves.
 pub fn sessions_preserved<K, V, I, O, R>()
-    ensures goes { (stands : R → Standing) (cmp : K → K → Ordering) (f : Meanings K V I O) (code : K → ℕ)
+    ensures goes { (stands : R → Standing) (cmp : K → K → Ordering) (join : V → V → V) (f : Meanings K V I O) (code : K → ℕ)
         (old new : CoreView K V I) (slot c now : ℕ) (result : Result (Progress K V I O R) Refused)
-        → Goes stands cmp f code old new slot c now result → NoneOpens old new × AllStay old new }
-    ensures installs { (cmp : K → K → Ordering) (f : Meanings K V I O) (code : K → ℕ) (old new : CoreView K V I)
+        → Goes stands cmp join f code old new slot c now result → NoneOpens old new × AllStay old new }
+    ensures installs { (cmp : K → K → Ordering) (join : V → V → V) (f : Meanings K V I O) (code : K → ℕ) (old new : CoreView K V I)
         (slot c : ℕ) (ask : Ask K V I) (now : ℕ) (result : Result (Progress K V I O R) Refused)
         → Installs cmp f code old new slot c ask now result → NoneOpens old new × AllStay old new }
     ensures gives_up { (old new : CoreView K V I) (slot c now : ℕ) (result : Result (Unit {0}) Refused)
@@ -169,6 +170,6 @@ pub fn loads_preserve_sessions<F: Mergeable, R: Receipt>()
     ensures { (old new : CoreView F.Key F.Value F.Input) (slot c : ℕ) (came : Result (Joined R) Refused)
         (now : ℕ) (result : Result (Progress F.Key F.Value F.Input F.Output R) Refused)
         → Loads R.stands (IsEntryIn F.Key.bytes_of F.Value.bytes_of F.Key.is_known F.Value.is_known
-        F.Key.SIZE F.Value.SIZE) F.Key.cmp F.meaning old new slot c came now result
+        F.Key.SIZE F.Value.SIZE) F.Key.cmp F.parts.joined F.meaning old new slot c came now result
         → NoneOpens old new × AllStay old new }
 {}

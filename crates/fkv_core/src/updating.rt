@@ -1,15 +1,15 @@
 //! Updates of values where they stand, each in one call: most updates of a feed are such.
-ghost use Rattle.std.specs.Prelude.{◌≡◌, ◌<◌, ◌≤◌, None, Some, IfSome};
+ghost use Rattle.std.specs.Prelude.{◌≡◌, ◌<◌, ◌≤◌, None, Some, false, IfSome};
 ghost use Rattle.fkv_lookups.specs.declared.decisions.LookupResult.TheVariants.{Mutable};
 ghost use Rattle.fkv_texts.specs.declared.entries.ChainPosition.TheVariants.{Found};
-ghost use Rattle.fkv_core.specs.Views.{context_at, entry_for, met_at, partition_of, reached_from};
+ghost use Rattle.fkv_core.specs.Views.{context_at, entry_for, first_from, met_at, partition_of};
 ghost use Rattle.fkv_core.specs.AtOnce.{IsAtHand, IsDoneAtOnce};
 ghost use Rattle.fkv_core.specs.Beginning.{IsEntered};
 
 use crate::cores::Core;
 use fkv_device::Receipt;
 use fkv_functions::{Functions, Mergeable};
-use fkv_lookups::laws::{meetings_tell, records_change};
+use fkv_lookups::laws::{lookups_tell, meetings_tell, records_change};
 use fkv_texts::{ChainPosition, Entry};
 
 impl<F: Mergeable, R: Receipt> Core<F, R> {
@@ -34,9 +34,9 @@ impl<F: Mergeable, R: Receipt> Core<F, R> {
         requires entered { IsEntered self.old slot }
         requires context { context < 8 }
         requires free { context_at self.old slot context ≡ None }
-        ensures done { IfSome result (λ shown. IsDoneAtOnce R.stands F.Key.cmp F.meaning F.code self.old self.new
+        ensures done { IfSome result (λ shown. IsDoneAtOnce R.stands F.Key.cmp F.parts.joined F.meaning F.code self.old self.new
             slot context key.now input.now issued now shown) }
-        ensures left { result ≡ None → (held : F.Value) → IsAtHand F.Key.cmp F.code self.old slot key.now held
+        ensures left { result ≡ None → (held : F.Value) → IsAtHand F.Key.cmp F.parts.joined F.code self.old slot key.now held
             → F.meaning.next key.now held input.now ≡ None }
         ensures none { result ≡ None → self.new ≡ self.old }
         ensures moment { self.new.moment ≤ now }
@@ -60,16 +60,21 @@ impl<F: Mergeable, R: Receipt> Core<F, R> {
         functions: &F,
     ) -> Option<(Entry<F::Key, F::Value>, F::Value)>
         requires { IsEntered self.now slot }
-        ensures reached { IfSome result (λ r. reached_from F.Key.cmp F.code self.now slot key.now
+        ensures first { IfSome result (λ r. first_from F.Key.cmp F.code self.now slot key.now
             (entry_for F.code self.now key.now) ≡ Found r.0) }
-        ensures met { IfSome result (λ r. met_at F.Key.cmp F.code self.now slot key.now ≡ Mutable r.1) }
-        ensures none { result ≡ None → (held : F.Value) → ¬ (met_at F.Key.cmp F.code self.now slot key.now ≡ Mutable held) }
+        ensures whole { IfSome result (λ r. r.0.delta ≡ false) }
+        ensures met { IfSome result (λ r. met_at F.Key.cmp F.parts.joined F.code self.now slot key.now ≡ Mutable r.1) }
+        ensures none { result ≡ None → (held : F.Value) → ¬ (met_at F.Key.cmp F.parts.joined F.code self.now slot key.now ≡ Mutable held) }
     {
         self.known();
+        lookups_tell::<F::Key, F::Value>();
         let entry = self.leads(functions, key);
-        let ChainPosition::Found(last) = self.reach(slot, key, entry) else {
+        let ChainPosition::Found(last) = self.first(slot, key, entry) else {
             return None;
         };
+        if last.delta {
+            return None;
+        }
         let Some(held) = last.value else {
             return None;
         };
@@ -98,16 +103,18 @@ impl<F: Mergeable, R: Receipt> Core<F, R> {
         requires own { partition_of self.old.count (F.code key.now) ≡ self.old.number }
         requires free { context_at self.old slot _context ≡ None }
         requires low { _context < 8 }
-        requires reached { reached_from F.Key.cmp F.code self.old slot key.now (entry_for F.code self.old key.now)
+        requires first { first_from F.Key.cmp F.code self.old slot key.now (entry_for F.code self.old key.now)
             ≡ Found last }
-        requires met { met_at F.Key.cmp F.code self.old slot key.now ≡ Mutable held }
-        ensures done { IfSome result (λ shown. IsDoneAtOnce R.stands F.Key.cmp F.meaning F.code self.old self.new
+        requires whole { last.delta ≡ false }
+        requires met { met_at F.Key.cmp F.parts.joined F.code self.old slot key.now ≡ Mutable held }
+        ensures done { IfSome result (λ shown. IsDoneAtOnce R.stands F.Key.cmp F.parts.joined F.meaning F.code self.old self.new
             slot _context key.now input.now _issued now shown) }
         ensures declined { result ≡ None → F.meaning.next key.now held input.now ≡ None }
         ensures none { result ≡ None → self.new ≡ self.old }
         ensures moment { IfSome result (λ _. self.new.moment ≤ now) }
     {
         self.known();
+        lookups_tell::<F::Key, F::Value>();
         records_change::<F::Key, F::Value>();
         meetings_tell::<F::Key, F::Value>();
         let mut value = held;

@@ -97,7 +97,7 @@ fn read_by_events<P: Print>(
 /// Prints what is live, keys rising.
 fn report<P: Print>(rt: &P, store: &mut Store, alloc: Global) -> Result<()> {
     println!(rt; "in the end:")?;
-    for (key, summary) in store.partition.live(alloc, &mut store.reader)? {
+    for (key, summary) in store.partition.live(&SummaryFns, alloc, &mut store.reader)? {
         println!(rt; "{}: {summary}", str::from_utf8(key.bytes())?)?;
     }
     Ok(())

@@ -21,12 +21,12 @@ pub record IsUpdated {K V I O : Type 0} (cmp : K → K → Ordering) (f : Meanin
   pub count : w.core.count ≡ v.core.count
   pub effect : Same (live_of cmp w.core) (after cmp f (live_of cmp v.core) (Rmw key input))
 
-pub updated-at_once : {K V I O R : Type 0} (stands : R → Standing) (cmp : K → K → Ordering) (f : Meanings K V I O) (code : K → ℕ) (v w : PartitionView K V I) (slot : ℕ) (key : K) (input : I) (issued now : ℕ) (shown : O)
-    → IsIdle v slot → length v.core.contexts ≡ 128 → IsDoneAtOnce stands cmp f code v w slot key input issued now shown → IsUpdated cmp f v w slot key input
-updated-at_once stands cmp f code v w slot key input issued now shown idle places d =
+pub updated-at_once : {K V I O R : Type 0} (stands : R → Standing) (cmp : K → K → Ordering) (join : V → V → V) (f : Meanings K V I O) (code : K → ℕ) (v w : PartitionView K V I) (slot : ℕ) (key : K) (input : I) (issued now : ℕ) (shown : O)
+    → IsIdle v slot → length v.core.contexts ≡ 128 → IsDoneAtOnce stands cmp join f code v w slot key input issued now shown → IsUpdated cmp f v w slot key input
+updated-at_once stands cmp join f code v w slot key input issued now shown idle places d =
     let op = Rmw key input in
     let opened = issue-opens code v d.between slot d.context issued key input idle places d.issues in
-    let leads = goes-leads stands d.between w slot d.context op cmp f code now (Ok (Done (Value shown) now)) opened.seat d.goes in
+    let leads = goes-leads stands d.between w slot d.context op cmp join f code now (Ok (Done (Value shown) now)) opened.seat d.goes in
     let effect = effect-of stands d.between w slot d.context op cmp f now None (Done (Value shown) now) opened.seat d.event in
     record {
       idle = leads.1;

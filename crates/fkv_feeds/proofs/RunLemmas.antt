@@ -4,6 +4,7 @@ use Rattle.std.proofs.lemmas.List.{length-set, map-append, append-nil}
 use Rattle.std.proofs.lemmas.Option.{slice_get_within}
 use Rattle.std.proofs.lemmas.List.Elements.{filter-append}
 use Rattle.std.proofs.lemmas.List.Sums.{fold-append}
+use Rattle.std.proofs.lemmas.Bool.Decides.{nat_tests}
 use Rattle.std.proofs.lemmas.Nat.{pow_pos}
 use Rattle.std.specs.List.{filter}
 use Rattle.std.specs.Option.{option_or}
@@ -19,7 +20,7 @@ use Rattle.fkv_operations.specs.declared.operations.KeyedOp.TheVariants.{Rmw}
 use Rattle.fkv_partition.specs.Config.{Config}
 use Rattle.fkv_partition.specs.CoreBeginning as beginning
 use Rattle.fkv_partition.specs.CoreContexts.{joined, is_session, context_in}
-use Rattle.fkv_partition.specs.CoreViews.{CoreView, slots_of, context_at, live_of, partition_of, empty_core}
+use Rattle.fkv_partition.specs.CoreViews.{CoreView, slots_of, context_at, live_of, partition_of, IsBare, empty_core}
 use Rattle.fkv_partition.specs.Events.{Enters}
 use Rattle.fkv_partition.specs.Views.{PartitionView, empty_partition}
 use Rattle.fkv_feeds.specs.Tables.{amounts_of, folded_on, folded}
@@ -200,3 +201,12 @@ module _ {S A : Type 0} (view : S → A) where
   view-same [] i x y h e = refl
   view-same (z ∷ zs) zero x y h e = let same : z ≡ x = cc in ap (λ a. a ∷ map view zs) (e ∙ ap view (sym same))
   view-same (z ∷ zs) (suc i) x y h e = ap (λ bs. view z ∷ bs) (view-same zs i x y h e)
+
+-- no key of a partition has a value in the map of those before it
+pub bare_before : {K V I : Type 0} (cmp : K → K → Ordering) (code : K → ℕ) (views : List (PartitionView K V I)) (i : ℕ) (v : PartitionView K V I) (m : PlainMap K V) → v.core.number ≡ i → v.core.count ≡ length views
+    → Same m (λ q. cond (nat_lt (partition_of (length views) (code q)) i) (union_of cmp code views q) None)
+    → IsBare code v.core m
+bare_before cmp code views i v m numbered counted before k own =
+    let here : partition_of (length views) (code k) ≡ i = ap (λ n. partition_of n (code k)) (sym counted) ∙ own ∙ numbered in
+    let low : nat_lt (partition_of (length views) (code k)) i ≡ false = grind (arith, nat_tests) in
+    before k ∙ ap (λ b. cond b (union_of cmp code views k) None) low

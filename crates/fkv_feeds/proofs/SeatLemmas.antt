@@ -208,38 +208,38 @@ module _ {K V I O R : Type 0} (stands : R → Standing) where
   Leads why v w slot c op (Err e) = why e
 
   module _ (v w : CoreView K V I) (slot c : ℕ) (op : KeyedOp K V I) where
-    pub goes-leads : (cmp : K → K → Ordering) (f : Meanings K V I O) (code : K → ℕ) (now : ℕ) (r : Result (Progress K V I O R) Refused) → IsOpen v slot c op None → Goes stands cmp f code v w slot c now r → Leads (λ e. (e ≡ Worn) ⊎ (e ≡ NoMemory)) v w slot c op r
-    goes-leads cmp f code now r o (Goes.unknown a e b) = absurd (none-open v slot c op None o a)
-    goes-leads cmp f code now r o (Goes.asks x k ask h q e b) =
+    pub goes-leads : (cmp : K → K → Ordering) (join : V → V → V) (f : Meanings K V I O) (code : K → ℕ) (now : ℕ) (r : Result (Progress K V I O R) Refused) → IsOpen v slot c op None → Goes stands cmp join f code v w slot c now r → Leads (λ e. (e ≡ Worn) ⊎ (e ≡ NoMemory)) v w slot c op r
+    goes-leads cmp join f code now r o (Goes.unknown a e b) = absurd (none-open v slot c op None o a)
+    goes-leads cmp join f code now r o (Goes.asks x k ask h q e b) =
         let p = passes v w slot c op now e o in
         rw b (p.0, (p.1, record { operation = x; kept = k; here = ap (λ (t : CoreView K V I). context_at t slot c) e ∙ h; question = q }))
-    goes-leads cmp f code now r o (Goes.not_ready x l h p e b) = absurd (let none : loading_by x.phase ≡ None = rw (found v slot c op None x o h) at o.waits in let bad : Some l ≡ None = rw p at none in cc)
-    goes-leads cmp f code now r o (Goes.confirms x p h q a e b) = rw b (turns v w slot c op None x Fresh o h refl (set-by v w slot c op _ now _ e refl refl refl refl))
-    goes-leads cmp f code now r o (Goes.backs_off x p h q a e b) = rw b (turns v w slot c op None x Fresh o h refl (set-by v w slot c op _ now _ e refl refl refl refl))
-    goes-leads cmp f code now r o (Goes.done x a d e b) = rw b (over v w slot c op None o (set-by v w slot c op _ now _ e refl refl refl refl))
-    goes-leads cmp f code now r o (Goes.claims x d m b) = rw b (turns v w slot c op None x (Confirm m.place) o d.here refl (set-by v w slot c op _ now _ m.is refl refl (ap (λ (t : RecordsView K V). t.regions.epochs.slots) m.claims.is) refl))
-    goes-leads cmp f code now r o (Goes.unclaimed x d l e b) = rw b (inr refl)
-    goes-leads cmp f code now r o (Goes.appends x a g k d h t n e b) = rw b (over v w slot c op None o (set-by v w slot c op _ now _ e refl refl refl refl))
-    goes-leads cmp f code now r o (Goes.worn x a g d t e b) = rw b (inl refl)
-    goes-leads cmp f code now r o (Goes.full x a g d t e b) = rw b (passes v w slot c op now e o)
-    goes-leads cmp f code now r o (Goes.replaces x a g k d h e b) = rw b (over v w slot c op None o (set-by v w slot c op _ now _ e refl refl refl refl))
-    goes-leads cmp f code now r o (Goes.waits x d e b) = rw b (passes v w slot c op now e o)
-    goes-leads cmp f code now r o (Goes.prepares x s i k d h e b) =
+    goes-leads cmp join f code now r o (Goes.not_ready x l h p e b) = absurd (let none : loading_by x.phase ≡ None = rw (found v slot c op None x o h) at o.waits in let bad : Some l ≡ None = rw p at none in cc)
+    goes-leads cmp join f code now r o (Goes.confirms x p h q a e b) = rw b (turns v w slot c op None x Fresh o h refl (set-by v w slot c op _ now _ e refl refl refl refl))
+    goes-leads cmp join f code now r o (Goes.backs_off x p h q a e b) = rw b (turns v w slot c op None x Fresh o h refl (set-by v w slot c op _ now _ e refl refl refl refl))
+    goes-leads cmp join f code now r o (Goes.done x a d e b) = rw b (over v w slot c op None o (set-by v w slot c op _ now _ e refl refl refl refl))
+    goes-leads cmp join f code now r o (Goes.claims x d m b) = rw b (turns v w slot c op None x (Confirm m.place) o d.here refl (set-by v w slot c op _ now _ m.is refl refl (ap (λ (t : RecordsView K V). t.regions.epochs.slots) m.claims.is) refl))
+    goes-leads cmp join f code now r o (Goes.unclaimed x d l e b) = rw b (inr refl)
+    goes-leads cmp join f code now r o (Goes.appends x a g k d h t n e b) = rw b (over v w slot c op None o (set-by v w slot c op _ now _ e refl refl refl refl))
+    goes-leads cmp join f code now r o (Goes.worn x a g d t e b) = rw b (inl refl)
+    goes-leads cmp join f code now r o (Goes.full x a g d t e b) = rw b (passes v w slot c op now e o)
+    goes-leads cmp join f code now r o (Goes.replaces x a g k d h e b) = rw b (over v w slot c op None o (set-by v w slot c op _ now _ e refl refl refl refl))
+    goes-leads cmp join f code now r o (Goes.waits x d e b) = rw b (passes v w slot c op now e o)
+    goes-leads cmp join f code now r o (Goes.prepares x s i k d h e b) =
         let set = set-by v w slot c op _ now (Some (at_phase x (Prepared k s))) e refl refl refl refl in
         let t = turns v w slot c op None x (Prepared k s) o d.here refl set in
         let rmw = op-of v w slot c op None x o d.here ∙ o.update.1 in
-        let input : i ≡ o.update.0 = prepared-input f x.op (met_at cmp code v slot (key_of x.op)) (key_of op) o.update.0 s i rmw d.decided in
+        let input : i ≡ o.update.0 = prepared-input f x.op (met_at cmp join code v slot (key_of x.op)) (key_of op) o.update.0 s i rmw d.decided in
         let key : key_of x.op ≡ key_of op = ap key_of (op-of v w slot c op None x o d.here) in
         rw b (t.0, (t.1, asks-now v w slot c op x k s None (key_of x.op) i o d.here (rw (key, input) rmw) set))
-    goes-leads cmp f code now r o (Goes.asks_page x p k m d h held e b) =
-        let l : Loading = record { begin = v.records.begin; kept = k; wanted = p; looked = now } in
+    goes-leads cmp join f code now r o (Goes.asks_page x p parts k m d h held e b) =
+        let l : Loading V = record { begin = v.records.begin; kept = k; wanted = p; parts = parts; looked = now } in
         let set = set-by v w slot c op _ now (Some (at_phase x (Load l))) e refl refl refl refl in
         rw b (
           moved-set v w slot c op (Some (at_phase x (Load l))) set,
           open-set v w slot c op None (Some (stands m)) (at_phase x (Load l)) o set (op-of v w slot c op None x o d.here)
               (l, refl, subst (λ (u : CoreView K V I). IsHeldBy u.records.receipts (page_at u.records.page_bits p) (stands m)) (sym e) held),
         )
-    goes-leads cmp f code now r o (Goes.unshared x p d e b) = rw b (inr refl)
+    goes-leads cmp join f code now r o (Goes.unshared x p parts d e b) = rw b (inr refl)
 
     pub installs-leads : (cmp : K → K → Ordering) (f : Meanings K V I O) (code : K → ℕ) (now : ℕ) (ask : Ask K V I) (r : Result (Progress K V I O R) Refused) → IsOpen v slot c op None → IsAsking v slot c ask → Installs cmp f code v w slot c ask now r → Leads (λ e. e ≡ Worn) v w slot c op r
     installs-leads cmp f code now ask r o q (Installs.unknown a e b) = absurd (none-open v slot c op None o a)
@@ -251,70 +251,70 @@ module _ {K V I O R : Type 0} (stands : R → Standing) where
     installs-leads cmp f code now ask r o q (Installs.full x k value h n d u t e b) = rw b (passes v w slot c op now e o)
     installs-leads cmp f code now ask r o q (Installs.done x k value h n d u t g e b) = rw b (over v w slot c op None o (set-by v w slot c op _ now _ e refl refl refl refl))
 
-    pub loads-leads : (entry : Spelling K V) (cmp : K → K → Ordering) (f : Meanings K V I O) (now : ℕ) (p : Joined R) (s : Standing) (r : Result (Progress K V I O R) Refused)
-        → IsOpen v slot c op (Some s) → stands p.receipt ≡ s → Loads stands entry cmp f v w slot c (Ok p) now r → Leads (IsLoadRefusal entry cmp) v w slot c op r
-    loads-leads entry cmp f now p s r o own (Loads.unknown a e b) = absurd (none-open v slot c op (Some s) o a)
-    loads-leads entry cmp f now p s r o own (Loads.not_ready x h n e b) = absurd (let bad : None ≡ Some o.waits.0 = sym n ∙ ap (λ (t : Context K V I). loading_by t.phase) (sym (found v slot c op (Some s) x o h)) ∙ ap loading_by o.waits.1 in cc)
-    loads-leads entry cmp f now p s r o own (Loads.moved x l h q n e b) = rw b (turns v w slot c op (Some s) x Fresh o h refl (set-by v w slot c op _ now _ e refl refl refl refl))
-    loads-leads entry cmp f now p s r o own (Loads.failed x l why a g n e b) = absurd (cc)
-    loads-leads entry cmp f now p s r o own (Loads.unread x l a g e b) = absurd (cc)
-    loads-leads entry cmp f now p s r o own (Loads.stranger x l q t a g h n e b) = absurd (
+    pub loads-leads : (entry : Spelling K V) (cmp : K → K → Ordering) (join : V → V → V) (f : Meanings K V I O) (now : ℕ) (p : Joined R) (s : Standing) (r : Result (Progress K V I O R) Refused)
+        → IsOpen v slot c op (Some s) → stands p.receipt ≡ s → Loads stands entry cmp join f v w slot c (Ok p) now r → Leads (IsLoadRefusal entry cmp) v w slot c op r
+    loads-leads entry cmp join f now p s r o own (Loads.unknown a e b) = absurd (none-open v slot c op (Some s) o a)
+    loads-leads entry cmp join f now p s r o own (Loads.not_ready x h n e b) = absurd (let bad : None ≡ Some o.waits.0 = sym n ∙ ap (λ (t : Context K V I). loading_by t.phase) (sym (found v slot c op (Some s) x o h)) ∙ ap loading_by o.waits.1 in cc)
+    loads-leads entry cmp join f now p s r o own (Loads.moved x l h q n e b) = rw b (turns v w slot c op (Some s) x Fresh o h refl (set-by v w slot c op _ now _ e refl refl refl refl))
+    loads-leads entry cmp join f now p s r o own (Loads.failed x l why a g n e b) = absurd (cc)
+    loads-leads entry cmp join f now p s r o own (Loads.unread x l a g e b) = absurd (cc)
+    loads-leads entry cmp join f now p s r o own (Loads.stranger x l q t a g h n e b) = absurd (
         let came : p ≡ q = cc in
         let phase : x.phase ≡ Load o.waits.0 = ap (λ (u : Context K V I). u.phase) (sym (found v slot c op (Some s) x o a.here)) ∙ o.waits.1 in
         let loading = a.loading in
         let same : l ≡ o.waits.0 = cc in
-        let held : Some t ≡ Some s = sym h ∙ ap (λ (u : Loading). slice_get v.records.receipts (page_at v.records.page_bits u.wanted)) same ∙ o.waits.2 in
+        let held : Some t ≡ Some s = sym h ∙ ap (λ (u : Loading V). slice_get v.records.receipts (page_at v.records.page_bits u.wanted)) same ∙ o.waits.2 in
         n (same_Some t s held ∙ sym own ∙ ap (λ (u : Joined R). stands u.receipt) came)
         )
-    loads-leads entry cmp f now p s r o own (Loads.damaged x l q why d g e b) =
-        rw b (inr (page_at v.records.page_bits l.wanted, IsSpoilt.unspelled v.records.page_bits l.wanted q.bytes (key_of x.op) why refl d.reads, refl))
-    loads-leads entry cmp f now p s r o own (Loads.bad_link x l q t d g high n e b) =
-        rw b (inr (page_at v.records.page_bits l.wanted, IsSpoilt.bad_link v.records.page_bits v.records.record_size l.wanted t q.bytes (key_of x.op) refl d.reads n, refl))
-    loads-leads entry cmp f now p s r o own (Loads.done x l q k i value t g is e b) = absurd (let h = t.reads.awaits.here in let bad : Read k i ≡ Rmw (key_of op) o.update.0 = sym is ∙ op-of v w slot c op (Some s) x o h ∙ o.update.1 in cc)
-    loads-leads entry cmp f now p s r o own (Loads.prepares x l q k i value t g is e b) =
+    loads-leads entry cmp join f now p s r o own (Loads.damaged x l q why d g e b) =
+        rw b (inr (page_at v.records.page_bits l.wanted, IsSpoilt.unspelled join v.records.page_bits l.wanted q.bytes (key_of x.op) l.parts why refl d.reads, refl))
+    loads-leads entry cmp join f now p s r o own (Loads.bad_link x l q t parts d g high n e b) =
+        rw b (inr (page_at v.records.page_bits l.wanted, IsSpoilt.bad_link join v.records.page_bits v.records.record_size l.wanted t q.bytes (key_of x.op) l.parts parts refl d.reads n, refl))
+    loads-leads entry cmp join f now p s r o own (Loads.done x l q k i value t g is e b) = absurd (let h = t.reads.awaits.here in let bad : Read k i ≡ Rmw (key_of op) o.update.0 = sym is ∙ op-of v w slot c op (Some s) x o h ∙ o.update.1 in cc)
+    loads-leads entry cmp join f now p s r o own (Loads.prepares x l q k i value t g is e b) =
         let h = t.reads.awaits.here in
         let set = set-by v w slot c op _ now (Some (at_phase x (Prepared l.kept value))) e refl refl refl refl in
         let done = turns v w slot c op (Some s) x (Prepared l.kept value) o h refl set in
         rw b (done.0, (done.1, asks-now v w slot c op x l.kept value (Some s) k i o h is set))
-    loads-leads entry cmp f now p s r o own (Loads.goes_on x l q t m d g high place held e b) =
+    loads-leads entry cmp join f now p s r o own (Loads.goes_on x l q t parts m d g high place held e b) =
         let h = d.awaits.here in
-        let on : Loading = record l { wanted = t } in
+        let on : Loading V = record l { wanted = t; parts = parts } in
         let set = set-by v w slot c op _ now (Some (at_phase x (Load on))) e refl refl refl refl in
         rw b (
           moved-set v w slot c op (Some (at_phase x (Load on))) set,
           open-set v w slot c op (Some s) (Some (stands m)) (at_phase x (Load on)) o set (op-of v w slot c op (Some s) x o h)
               (on, refl, subst (λ (u : CoreView K V I). IsHeldBy u.records.receipts (page_at u.records.page_bits t) (stands m)) (sym e) held),
         )
-    loads-leads entry cmp f now p s r o own (Loads.unshared x l q t d g high place e b) = rw b (inl refl)
+    loads-leads entry cmp join f now p s r o own (Loads.unshared x l q t parts d g high place e b) = rw b (inl refl)
 
     -- no install and no load asks what it can not, no load finishes an update, and none waits
-    pub no-load : (entry : Spelling K V) (cmp : K → K → Ordering) (f : Meanings K V I O) (now : ℕ) (p : Joined R) (s : Standing) → IsOpen v slot c op (Some s) → (why : Wait) → Loads stands entry cmp f v w slot c (Ok p) now (Ok (Waits why)) → ⊥
-    no-load entry cmp f now p s o why (Loads.unknown a e b) = absurd (cc)
-    no-load entry cmp f now p s o why (Loads.not_ready x h n e b) = absurd (cc)
-    no-load entry cmp f now p s o why (Loads.moved x l h q n e b) = absurd (cc)
-    no-load entry cmp f now p s o why (Loads.failed x l t a g n e b) = absurd (cc)
-    no-load entry cmp f now p s o why (Loads.unread x l a g e b) = absurd (cc)
-    no-load entry cmp f now p s o why (Loads.stranger x l q t a g h n e b) = absurd (cc)
-    no-load entry cmp f now p s o why (Loads.damaged x l q t d g e b) = absurd (cc)
-    no-load entry cmp f now p s o why (Loads.bad_link x l q t d g high n e b) = absurd (cc)
-    no-load entry cmp f now p s o why (Loads.done x l q k i value t g is e b) = absurd (cc)
-    no-load entry cmp f now p s o why (Loads.prepares x l q k i value t g is e b) = absurd (cc)
-    no-load entry cmp f now p s o why (Loads.goes_on x l q t m d g high place held e b) = absurd (cc)
-    no-load entry cmp f now p s o why (Loads.unshared x l q t d g high place e b) = absurd (cc)
+    pub no-load : (entry : Spelling K V) (cmp : K → K → Ordering) (join : V → V → V) (f : Meanings K V I O) (now : ℕ) (p : Joined R) (s : Standing) → IsOpen v slot c op (Some s) → (why : Wait) → Loads stands entry cmp join f v w slot c (Ok p) now (Ok (Waits why)) → ⊥
+    no-load entry cmp join f now p s o why (Loads.unknown a e b) = absurd (cc)
+    no-load entry cmp join f now p s o why (Loads.not_ready x h n e b) = absurd (cc)
+    no-load entry cmp join f now p s o why (Loads.moved x l h q n e b) = absurd (cc)
+    no-load entry cmp join f now p s o why (Loads.failed x l t a g n e b) = absurd (cc)
+    no-load entry cmp join f now p s o why (Loads.unread x l a g e b) = absurd (cc)
+    no-load entry cmp join f now p s o why (Loads.stranger x l q t a g h n e b) = absurd (cc)
+    no-load entry cmp join f now p s o why (Loads.damaged x l q t d g e b) = absurd (cc)
+    no-load entry cmp join f now p s o why (Loads.bad_link x l q t parts d g high n e b) = absurd (cc)
+    no-load entry cmp join f now p s o why (Loads.done x l q k i value t g is e b) = absurd (cc)
+    no-load entry cmp join f now p s o why (Loads.prepares x l q k i value t g is e b) = absurd (cc)
+    no-load entry cmp join f now p s o why (Loads.goes_on x l q t parts m d g high place held e b) = absurd (cc)
+    no-load entry cmp join f now p s o why (Loads.unshared x l q t parts d g high place e b) = absurd (cc)
 
-    pub no-done : (entry : Spelling K V) (cmp : K → K → Ordering) (f : Meanings K V I O) (now at : ℕ) (a : Answer O) (p : Joined R) (s : Standing) → IsOpen v slot c op (Some s) → Loads stands entry cmp f v w slot c (Ok p) now (Ok (Done a at)) → ⊥
-    no-done entry cmp f now at a p s o (Loads.unknown h e b) = absurd (cc)
-    no-done entry cmp f now at a p s o (Loads.not_ready x h n e b) = absurd (cc)
-    no-done entry cmp f now at a p s o (Loads.moved x l h q n e b) = absurd (cc)
-    no-done entry cmp f now at a p s o (Loads.failed x l t h g n e b) = absurd (cc)
-    no-done entry cmp f now at a p s o (Loads.unread x l h g e b) = absurd (cc)
-    no-done entry cmp f now at a p s o (Loads.stranger x l q t h g m n e b) = absurd (cc)
-    no-done entry cmp f now at a p s o (Loads.damaged x l q t d g e b) = absurd (cc)
-    no-done entry cmp f now at a p s o (Loads.bad_link x l q t d g high n e b) = absurd (cc)
-    no-done entry cmp f now at a p s o (Loads.done x l q k i value t g is e b) = absurd (let bad : Read k i ≡ Rmw (key_of op) o.update.0 = sym is ∙ op-of v w slot c op (Some s) x o t.reads.awaits.here ∙ o.update.1 in cc)
-    no-done entry cmp f now at a p s o (Loads.prepares x l q k i value t g is e b) = absurd (cc)
-    no-done entry cmp f now at a p s o (Loads.goes_on x l q t m d g high place held e b) = absurd (cc)
-    no-done entry cmp f now at a p s o (Loads.unshared x l q t d g high place e b) = absurd (cc)
+    pub no-done : (entry : Spelling K V) (cmp : K → K → Ordering) (join : V → V → V) (f : Meanings K V I O) (now at : ℕ) (a : Answer O) (p : Joined R) (s : Standing) → IsOpen v slot c op (Some s) → Loads stands entry cmp join f v w slot c (Ok p) now (Ok (Done a at)) → ⊥
+    no-done entry cmp join f now at a p s o (Loads.unknown h e b) = absurd (cc)
+    no-done entry cmp join f now at a p s o (Loads.not_ready x h n e b) = absurd (cc)
+    no-done entry cmp join f now at a p s o (Loads.moved x l h q n e b) = absurd (cc)
+    no-done entry cmp join f now at a p s o (Loads.failed x l t h g n e b) = absurd (cc)
+    no-done entry cmp join f now at a p s o (Loads.unread x l h g e b) = absurd (cc)
+    no-done entry cmp join f now at a p s o (Loads.stranger x l q t h g m n e b) = absurd (cc)
+    no-done entry cmp join f now at a p s o (Loads.damaged x l q t d g e b) = absurd (cc)
+    no-done entry cmp join f now at a p s o (Loads.bad_link x l q t parts d g high n e b) = absurd (cc)
+    no-done entry cmp join f now at a p s o (Loads.done x l q k i value t g is e b) = absurd (let bad : Read k i ≡ Rmw (key_of op) o.update.0 = sym is ∙ op-of v w slot c op (Some s) x o t.reads.awaits.here ∙ o.update.1 in cc)
+    no-done entry cmp join f now at a p s o (Loads.prepares x l q k i value t g is e b) = absurd (cc)
+    no-done entry cmp join f now at a p s o (Loads.goes_on x l q t parts m d g high place held e b) = absurd (cc)
+    no-done entry cmp join f now at a p s o (Loads.unshared x l q t parts d g high place e b) = absurd (cc)
 
     -- ---- turns
     pub tried : (keeps : Bool) (cmp : K → K → Ordering) (f : Meanings K V I O) (t : Turn R) → IsMoved v w → Leaves stands w slot c op t → (IsTrue keeps → HasDone cmp f v w op t) → Tries keeps stands cmp f v w slot c op t

@@ -162,27 +162,27 @@ module _ {K V I O R : Type 0} (stands : R → Standing) where
     leads why (Ok (NeedsLoad r a)) none h = (h.0, record { seat = h.1; relocations = none })
     leads why (Err e) none h = h
 
-    pub goes-leads : (cmp : K → K → Ordering) (f : Meanings K V I O) (code : K → ℕ) (now : ℕ) (r : Result (Progress K V I O R) Refused) → IsOpen v slot c op None → Goes stands cmp f code v w slot c now r → Leads (λ e. (e ≡ Worn) ⊎ (e ≡ NoMemory)) v w slot c op r
-    goes-leads cmp f code now r o (Goes.on_key none does rest) = leads (λ e. (e ≡ Worn) ⊎ (e ≡ NoMemory)) r (after-key v w slot c op None o rest) (seat.goes-leads stands v.core w.core slot c op cmp f code now r o.seat does)
-    goes-leads cmp f code now r o (Goes.relocation x h does) = absurd (let bad : Some x ≡ None = sym h ∙ o.relocations c in cc)
+    pub goes-leads : (cmp : K → K → Ordering) (join : V → V → V) (f : Meanings K V I O) (code : K → ℕ) (now : ℕ) (r : Result (Progress K V I O R) Refused) → IsOpen v slot c op None → Goes stands cmp join f code v w slot c now r → Leads (λ e. (e ≡ Worn) ⊎ (e ≡ NoMemory)) v w slot c op r
+    goes-leads cmp join f code now r o (Goes.on_key none does rest) = leads (λ e. (e ≡ Worn) ⊎ (e ≡ NoMemory)) r (after-key v w slot c op None o rest) (seat.goes-leads stands v.core w.core slot c op cmp join f code now r o.seat does)
+    goes-leads cmp join f code now r o (Goes.relocation x h does) = absurd (let bad : Some x ≡ None = sym h ∙ o.relocations c in cc)
 
     pub installs-leads : (cmp : K → K → Ordering) (f : Meanings K V I O) (code : K → ℕ) (now : ℕ) (ask : Ask K V I) (r : Result (Progress K V I O R) Refused) → IsOpen v slot c op None → IsAsking v.core slot c ask → Installs cmp f code v w slot c ask now r → Leads (λ e. e ≡ Worn) v w slot c op r
     installs-leads cmp f code now ask r o q (Installs.on_key none does rest) = leads (λ e. e ≡ Worn) r (after-key v w slot c op None o rest) (seat.installs-leads stands v.core w.core slot c op cmp f code now ask r o.seat q does)
     installs-leads cmp f code now ask r o q (Installs.relocation x h same e) = absurd (let bad : Some x ≡ None = sym h ∙ o.relocations c in cc)
 
-    pub loads-leads : (entry : Spelling K V) (cmp : K → K → Ordering) (f : Meanings K V I O) (code : K → ℕ) (now : ℕ) (p : Joined R) (s : Standing) (r : Result (Progress K V I O R) Refused)
-        → IsOpen v slot c op (Some s) → stands p.receipt ≡ s → Loads stands entry cmp f code v w slot c (Ok p) now r → Leads (IsLoadRefusal entry cmp) v w slot c op r
-    loads-leads entry cmp f code now p s r o own (Loads.on_key none does rest) = leads (IsLoadRefusal entry cmp) r (after-key v w slot c op (Some s) o rest) (seat.loads-leads stands v.core w.core slot c op entry cmp f now p s r o.seat own does)
-    loads-leads entry cmp f code now p s r o own (Loads.relocation x h does) = absurd (let bad : Some x ≡ None = sym h ∙ o.relocations c in cc)
+    pub loads-leads : (entry : Spelling K V) (cmp : K → K → Ordering) (join : V → V → V) (f : Meanings K V I O) (code : K → ℕ) (now : ℕ) (p : Joined R) (s : Standing) (r : Result (Progress K V I O R) Refused)
+        → IsOpen v slot c op (Some s) → stands p.receipt ≡ s → Loads stands entry cmp join f code v w slot c (Ok p) now r → Leads (IsLoadRefusal entry cmp) v w slot c op r
+    loads-leads entry cmp join f code now p s r o own (Loads.on_key none does rest) = leads (IsLoadRefusal entry cmp) r (after-key v w slot c op (Some s) o rest) (seat.loads-leads stands v.core w.core slot c op entry cmp join f now p s r o.seat own does)
+    loads-leads entry cmp join f code now p s r o own (Loads.relocation x h does) = absurd (let bad : Some x ≡ None = sym h ∙ o.relocations c in cc)
 
     -- no load of an update finishes it, and none waits
-    pub no-load : (entry : Spelling K V) (cmp : K → K → Ordering) (f : Meanings K V I O) (code : K → ℕ) (now : ℕ) (p : Joined R) (s : Standing) → IsOpen v slot c op (Some s) → (why : Wait) → Loads stands entry cmp f code v w slot c (Ok p) now (Ok (Waits why)) → ⊥
-    no-load entry cmp f code now p s o why (Loads.on_key none does rest) = seat.no-load stands v.core w.core slot c op entry cmp f now p s o.seat why does
-    no-load entry cmp f code now p s o why (Loads.relocation x h does) = absurd (let bad : Some x ≡ None = sym h ∙ o.relocations c in cc)
+    pub no-load : (entry : Spelling K V) (cmp : K → K → Ordering) (join : V → V → V) (f : Meanings K V I O) (code : K → ℕ) (now : ℕ) (p : Joined R) (s : Standing) → IsOpen v slot c op (Some s) → (why : Wait) → Loads stands entry cmp join f code v w slot c (Ok p) now (Ok (Waits why)) → ⊥
+    no-load entry cmp join f code now p s o why (Loads.on_key none does rest) = seat.no-load stands v.core w.core slot c op entry cmp join f now p s o.seat why does
+    no-load entry cmp join f code now p s o why (Loads.relocation x h does) = absurd (let bad : Some x ≡ None = sym h ∙ o.relocations c in cc)
 
-    pub no-done : (entry : Spelling K V) (cmp : K → K → Ordering) (f : Meanings K V I O) (code : K → ℕ) (now at : ℕ) (a : Answer O) (p : Joined R) (s : Standing) → IsOpen v slot c op (Some s) → Loads stands entry cmp f code v w slot c (Ok p) now (Ok (Done a at)) → ⊥
-    no-done entry cmp f code now at a p s o (Loads.on_key none does rest) = seat.no-done stands v.core w.core slot c op entry cmp f now at a p s o.seat does
-    no-done entry cmp f code now at a p s o (Loads.relocation x h does) = absurd (let bad : Some x ≡ None = sym h ∙ o.relocations c in cc)
+    pub no-done : (entry : Spelling K V) (cmp : K → K → Ordering) (join : V → V → V) (f : Meanings K V I O) (code : K → ℕ) (now at : ℕ) (a : Answer O) (p : Joined R) (s : Standing) → IsOpen v slot c op (Some s) → Loads stands entry cmp join f code v w slot c (Ok p) now (Ok (Done a at)) → ⊥
+    no-done entry cmp join f code now at a p s o (Loads.on_key none does rest) = seat.no-done stands v.core w.core slot c op entry cmp join f now at a p s o.seat does
+    no-done entry cmp join f code now at a p s o (Loads.relocation x h does) = absurd (let bad : Some x ≡ None = sym h ∙ o.relocations c in cc)
 
     -- ---- what they make of the live map, and turns
     abbrev pub Effects : (K → K → Ordering) → Meanings K V I O → Progress K V I O R → Type 0

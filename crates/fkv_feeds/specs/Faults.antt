@@ -1,5 +1,5 @@
 -- Why a device, or the bytes that it gave, ends a run.
-use Rattle.std.specs.Prelude.{◌≡◌, ℕ, Bool, List, Ok, Err}
+use Rattle.std.specs.Prelude.{◌≡◌, ℕ, Bool, List, Option, Ok, Err}
 use Rattle.std.specs.declared.cmp.Ordering.{Ordering}
 use Rattle.fkv_functions.specs.Names.{name_bytes, name_cmp}
 use Rattle.fkv_functions.specs.declared.refusals.Refused.{Refused}
@@ -9,23 +9,25 @@ use Rattle.fkv_device.specs.Failing.{FailsOnlyBy, ReadFailsBy}
 use Rattle.fkv_texts.specs.declared.entries.Entry.{Entry}
 use Rattle.fkv_texts.specs.declared.entries.ChainPosition.TheVariants.{Below}
 use Rattle.fkv_pages.specs.Spelled.{IsEntryIn}
-use Rattle.fkv_pages.specs.Loads.{IsReached, first_place}
+use Rattle.fkv_pages.specs.Loads.{first_place}
 use Rattle.fkv_hybrid.specs.Scans.{IsScanRefusal}
+use Rattle.fkv_lookups.specs.Lookups.{IsGathered}
 
 -- when the bytes of a page of 2 ^ bits bytes spell an entry at an address
 abbrev pub Spelling : Type 0 → Type 0 → Type 1
 Spelling K V = ℕ → List ℕ → ℕ → Entry K V → Type 0
 
--- these bytes of a page, followed from an address in it along the records of a key's class, spell no record on the way,
--- or lead to an address that is no record's place
+-- these bytes of a page, followed from an address in it along the records of a key's class, the parts of its deltas
+-- joined, spell no record on the way, or lead to an address that is no record's place
 pub data IsSpoilt {K V : Type 0} (entry : Spelling K V) (cmp : K → K → Ordering) (page : ℕ) : Type 0 where
-  unspelled : (bits a : ℕ) (bytes : List ℕ) (k : K) (why : Refused)
+  unspelled : (join : V → V → V) (bits a : ℕ) (bytes : List ℕ) (k : K) (parts : Option V) (why : Refused)
       → page_at bits a ≡ page
-      → IsReached (entry bits bytes) cmp k bits (first_place bits page) a (Err why)
+      → IsGathered join (entry bits bytes) cmp k bits (first_place bits page) a parts (Err why)
       → IsSpoilt entry cmp page
-  bad_link : (bits size a b : ℕ) (bytes : List ℕ) (k : K)
+  bad_link : (join : V → V → V) (bits size a b : ℕ) (bytes : List ℕ) (k : K) (parts more : Option V)
       → page_at bits a ≡ page
-      → IsReached (entry bits bytes) cmp k bits (first_place bits page) a (Ok (Below b))
+      → IsGathered join (entry bits bytes) cmp k bits (first_place bits page) a parts
+      (Ok (record { parts = more; position = Below b }))
       → ¬ IsRecordStart bits size b
       → IsSpoilt entry cmp page
 

@@ -35,8 +35,8 @@ SeesNow v slot = seen_at v slot ≡ view_of v.records.regions.offsets
 -- an operation waits for no page, or for the one that is kept by a receipt that stands for this
 abbrev pub WaitsFor : {K V I : Type 0} → CoreView K V I → Phase V → Option Standing → Type 0
 WaitsFor v phase None = loading_by phase ≡ None
-WaitsFor v phase (Some s) =
-    (l : Loading)
+WaitsFor {K} {V} {I} v phase (Some s) =
+    (l : Loading V)
     × (phase ≡ Load l)
     × IsHeldBy v.records.receipts (page_at v.records.page_bits l.wanted) s
 

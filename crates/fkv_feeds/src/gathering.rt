@@ -15,6 +15,7 @@ use std::collections::BTreeMap;
 /// Puts each live key of all partitions with its value into an empty map. Refused: `NoMemory`, and as a device refuses
 /// pages of a partition.
 fn gather<F: Mergeable, D: Disk>(
+    functions: &F,
     tree: &mut BTreeMap<F::Key, F::Value>,
     shards: &mut [Shard<F, D>],
 ) -> Result<(), Refused>
@@ -32,7 +33,7 @@ fn gather<F: Mergeable, D: Disk>(
 {
     for index in 0..shards.len() {
         let shard = &mut shards[index];
-        match shard.partition.put_live(&mut shard.reader, tree) {
+        match shard.partition.put_live(functions, &mut shard.reader, tree) {
             Ok(()) => {}
             Err(refused) => return Err(refused),
         }
@@ -42,6 +43,7 @@ fn gather<F: Mergeable, D: Disk>(
 
 /// Each live key of all partitions with its value. Refused: `NoMemory`, and as a device refuses pages of a partition.
 pub fn live<F: Mergeable, D: Disk>(
+    functions: &F,
     alloc: Global,
     shards: &mut [Shard<F, D>],
 ) -> Result<BTreeMap<F::Key, F::Value>, Refused>
@@ -57,7 +59,7 @@ pub fn live<F: Mergeable, D: Disk>(
         (map (λ shard. D.Reader.failures shard.reader) shards.new)) }
 {
     let mut tree = BTreeMap::new(alloc);
-    match gather(&mut tree, shards) {
+    match gather(functions, &mut tree, shards) {
         Ok(()) => Ok(tree),
         Err(refused) => Err(refused),
     }

@@ -50,7 +50,7 @@ fn finish<F: Mergeable<Key = Name, Input = i64>, D: Disk>(
         (map (λ shard. D.Reader.failures shard.reader) shards.old.shards.items)
         (map (λ shard. D.Reader.failures shard.reader) shards.new.shards.items)) }
 {
-    match live(alloc, shards.shards.as_mut_slice()) {
+    match live(shards.terms.functions, alloc, shards.shards.as_mut_slice()) {
         Ok(live) => Ok(Run {
             table: Table::new(live),
             counts: Counts {

@@ -3,7 +3,7 @@ use Rattle.std.specs.Prelude.{◌≡◌, ◌^◌, ◌<◌, ◌≤◌, ◌↔◌,
 use Rattle.fkv_records.specs.Places.{IsShape, IsRecordStart}
 use Rattle.fkv_texts.specs.Places.{IsLaidOut}
 use Rattle.fkv_texts.specs.Text.{entry_at, IsRising, IsFrom, IsBelow}
-use Rattle.fkv_texts.specs.Deltas.{AreWhole}
+use Rattle.fkv_texts.specs.Deltas.{AreValued}
 use Rattle.fkv_epoch.specs.Timely.{IsTimely}
 use Rattle.fkv_regions.specs.Agree.{IsRegions, IsMark}
 use Rattle.fkv_pages.specs.Views.{text_begin}
@@ -25,8 +25,8 @@ pub record IsLogOf {K V : Type 0} (keeps : Bool) (size : ℕ) (log : LogView K V
   pub rising : IsRising log.text
   pub from : IsFrom log.from log.text
   pub below : IsBelow log.tail log.text
-  -- no entry is a delta
-  pub whole : AreWhole log.text
+  -- each delta has a part
+  pub valued : AreValued log.text
   pub most : log.tail ≤ 2 ^ 48
   pub end : log.tail < 2 ^ 48 → IsRecordStart log.bits size log.tail
   -- the views of the sessions agree with the offsets, which are those of this log

@@ -1,5 +1,5 @@
 -- What a contract sees of a log.
-use Rattle.std.specs.Prelude.{◌≡◌, ◌<◌, ◌≤◌, ◌+◌, ◌^◌, ℕ, Bool, IsTrue, List, [], ◌∷◌, ◌++◌, drop, Option, false}
+use Rattle.std.specs.Prelude.{◌≡◌, ◌<◌, ◌≤◌, ◌+◌, ◌^◌, ℕ, Bool, IsTrue, List, [], ◌∷◌, ◌++◌, drop, Option}
 use Rattle.fkv_records.specs.Places.{page_at, offset_at, start_at}
 use Rattle.fkv_device.specs.Standing.{Standing}
 use Rattle.fkv_texts.specs.declared.entries.Entry.{Entry}
@@ -58,9 +58,9 @@ pub record IsFull {K V : Type 0} (log : LogView K V) : Type 0 where
   pub taken : page_at log.bits log.regions.offsets.closed + log.frames ≤ page_at log.bits log.tail
 
 -- the log with one more entry, at the tail
-abbrev pub with_entry : {K V : Type 0} → ℕ → LogView K V → ℕ → K → Option V → LogView K V
-with_entry size log previous key value = record log {
-  text = log.text ++ record { address = log.tail; previous = previous; key = key; value = value; delta = false } ∷ [];
+abbrev pub with_entry : {K V : Type 0} → ℕ → LogView K V → ℕ → K → Option V → Bool → LogView K V
+with_entry size log previous key value delta = record log {
+  text = log.text ++ record { address = log.tail; previous = previous; key = key; value = value; delta = delta } ∷ [];
   tail = tail_after log.bits size log.tail;
 }
 

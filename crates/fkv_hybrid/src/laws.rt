@@ -10,9 +10,9 @@ ghost use Rattle.fkv_hybrid.specs.WrongLogs.{AppendsItWhole, ClosesFrames, Trunc
 /// read-only offset, or gets another value at or above that offset, or a page is flushed, the regions move or Begin
 /// does, and the entries stay from where the text begins then.
 pub fn frozen_stay<K, V>()
-    ensures appended { (size : ℕ) (log : LogView K V) (p : ℕ) (k : K) (v : Option V)
+    ensures appended { (size : ℕ) (log : LogView K V) (p : ℕ) (k : K) (v : Option V) (d : Bool)
         → log.regions.offsets.safe_read_only ≤ log.tail
-        → FrozenStay log (with_entry size log p k v) }
+        → FrozenStay log (with_entry size log p k v d) }
     ensures changed { (log : LogView K V) (a : ℕ) (v : Option V)
         → log.regions.offsets.safe_read_only ≤ a
         → FrozenStay log (with_value log a v) }
@@ -24,8 +24,8 @@ pub fn frozen_stay<K, V>()
 
 /// A log holds the same number of frames, whatever is done to it.
 pub fn frames_stay<K, V>()
-    ensures appended { (size : ℕ) (log : LogView K V) (p : ℕ) (k : K) (v : Option V)
-        → (with_entry size log p k v).frames ≡ log.frames }
+    ensures appended { (size : ℕ) (log : LogView K V) (p : ℕ) (k : K) (v : Option V) (d : Bool)
+        → (with_entry size log p k v d).frames ≡ log.frames }
     ensures changed { (log : LogView K V) (a : ℕ) (v : Option V) → (with_value log a v).frames ≡ log.frames }
     ensures flushed { (log : LogView K V) (s : Standing) → (with_receipt log s).frames ≡ log.frames }
     ensures seen { (log : LogView K V) (regions : RegionsView) → (with_regions log regions).frames ≡ log.frames }

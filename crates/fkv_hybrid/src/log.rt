@@ -1,6 +1,6 @@
 //! The log: pages and regions that move together.
 ghost use Rattle.std.specs.Prelude.{◌≡◌, ◌+◌, ◌-◌, ◌^◌, ◌<◌, ◌≤◌, ◌↔◌, ℕ, List, Ok, Err, IfOk, IfErr, IfSome, IsTrue};
-ghost use Rattle.std.specs.Prelude.{Some, None, OnErr, length, slice_get};
+ghost use Rattle.std.specs.Prelude.{Some, None, IsSome, OnErr, length, slice_get};
 ghost use Rattle.fkv_records.specs.Places.{page_at};
 ghost use Rattle.fkv_records.specs.Records.{size_of, IsPrevious};
 ghost use Rattle.fkv_device.specs.Standing.{Standing};
@@ -98,17 +98,20 @@ impl<K: Fixed, V: Fixed, R: Receipt> Log<K, V, R> {
     }
 
     /// Appends a record and answers its address, or `None` where there is no room ([`Log::is_full`]), and then nothing
-    /// changes. No memory is taken. Refused, and then nothing changes: `Worn` where no address is left.
+    /// changes. The value of a delta is a part, to be joined with what the key had before. No memory is taken.
+    /// Refused, and then nothing changes: `Worn` where no address is left.
     pub fn append(
         &mut self,
         previous: Address,
         key: K,
         value: Option<V>,
+        delta: bool,
     ) -> Result<Option<Address>, Refused>
         requires previous { IsPrevious self.old.tail previous }
+        requires whole { IsTrue delta → IsSome value }
         ensures address { IfOk result (λ o. IfSome o (λ address. address ≡ self.old.tail)) }
         ensures appended { IfOk result (λ o. IfSome o (λ _. self.new
-            ≡ with_entry (size_of K.SIZE V.SIZE) self.old previous key value)) }
+            ≡ with_entry (size_of K.SIZE V.SIZE) self.old previous key value delta)) }
         ensures room { (result ≡ Ok None) ↔ IsFull self.old }
         ensures full { result ≡ Ok None → self.new ≡ self.old }
         ensures worn { (result ≡ Err Refused.Worn) ↔ (self.old.tail ≡ 2 ^ 48) }
@@ -116,7 +119,7 @@ impl<K: Fixed, V: Fixed, R: Receipt> Log<K, V, R> {
         ensures unchanged { OnErr result (self.new ≡ self.old) }
     {
         self.pages.known();
-        self.pages.append(previous, key, value)
+        self.pages.append(previous, key, value, delta)
     }
 
     /// What holds of every log: its text has one entry at each place from where it begins to below the tail, and the

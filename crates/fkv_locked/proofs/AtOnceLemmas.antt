@@ -56,17 +56,17 @@ module _ {K V I : Type 0} (code : K → ℕ) (old between : PartitionView K V I)
   begun (events.Issues.relocation is h) = absurd (cc)
 
   -- and it goes on as the core goes on
-  gone_on_key : {O R : Type 0} (stands : R → Standing) (cmp : K → K → Ordering) (f : Meanings K V I O) (new : PartitionView K V I) (now : ℕ) (result : Result (Progress K V I O R) Refused)
+  gone_on_key : {O R : Type 0} (stands : R → Standing) (cmp : K → K → Ordering) (join : V → V → V) (f : Meanings K V I O) (new : PartitionView K V I) (now : ℕ) (result : Result (Progress K V I O R) Refused)
       → relocation_at between slot c ≡ None
-      → events.Goes stands cmp f code between new slot c now result
-      → going.Goes stands cmp f code between.core new.core slot c now result
-  gone_on_key stands cmp f new now result none (events.Goes.on_key n h rest) = h
-  gone_on_key stands cmp f new now result none (events.Goes.relocation x is h) = let bad : None ≡ Some x = sym none ∙ is in absurd (cc)
+      → events.Goes stands cmp join f code between new slot c now result
+      → going.Goes stands cmp join f code between.core new.core slot c now result
+  gone_on_key stands cmp join f new now result none (events.Goes.on_key n h rest) = h
+  gone_on_key stands cmp join f new now result none (events.Goes.relocation x is h) = let bad : None ≡ Some x = sym none ∙ is in absurd (cc)
 
-module _ {K V I O R : Type 0} (cmp : K → K → Ordering) (f : Meanings K V I O) (stands : R → Standing) (code : K → ℕ) (old new : PartitionView K V I) (slot : ℕ) (key : K) (input : I) (issued now : ℕ) (shown : O)
-    (d : IsDoneAtOnce stands cmp f code old new slot key input issued now shown) (keeps : Bool) (sound : IsSound keeps cmp code old.core) (few : slot < 16) (later : old.core.moment < issued) (after : issued < now)
+module _ {K V I O R : Type 0} (cmp : K → K → Ordering) (join : V → V → V) (f : Meanings K V I O) (stands : R → Standing) (code : K → ℕ) (old new : PartitionView K V I) (slot : ℕ) (key : K) (input : I) (issued now : ℕ) (shown : O)
+    (d : IsDoneAtOnce stands cmp join f code old new slot key input issued now shown) (keeps : Bool) (sound : IsSound keeps cmp join code old.core) (few : slot < 16) (later : old.core.moment < issued) (after : issued < now)
     (issue_law : (p q : CoreView K V I) → beginning.Issues code p q slot d.context (on_key.Rmw key input) issued (Ok tt) → AllPend cmp p q)
-    (go_law : (p q : CoreView K V I) → IsSound keeps cmp code p → going.Goes stands cmp f code p q slot d.context now (Ok (Done (Value shown) now)) → OthersPend cmp p q slot d.context) where
+    (go_law : (p q : CoreView K V I) → IsSound keeps cmp join code p → going.Goes stands cmp join f code p q slot d.context now (Ok (Done (Value shown) now)) → OthersPend cmp p q slot d.context) where
   pub at_once_keeps : (es : List (Entry K V I O)) (lows looks : List ℕ) (book : ℕ) → IsKept cmp f (seen cmp old) es lows looks book → length lows ≡ 128
       → (e : Entry K V I O) → e.op ≡ on_key.Rmw key input → e.answer ≡ Value shown
       → e.low ≡ length (updates es)
@@ -81,8 +81,8 @@ module _ {K V I O R : Type 0} (cmp : K → K → Ordering) (f : Meanings K V I O
       let within : place_of slot c < length lows = omega arith in
       let lows' = slice_set lows (place_of slot c) (length us) in
       let mid = issue_keeps cmp f old d.between es lows looks book issued k slot c (Rmw key input) code lows' eight later d.issue (issue_law old.core d.between.core begin.issues) refl within in
-      let sound' = sound-issued keeps cmp code old.core d.between.core slot c issued (on_key.Rmw key input) sound few begin.issues in
-      let others = go_law d.between.core new.core sound' (gone_on_key code old d.between slot c issued key input stands cmp f new now (Ok (Done (Value shown) now)) begin.none d.goes) in
+      let sound' = sound-issued keeps cmp join code old.core d.between.core slot c issued (on_key.Rmw key input) sound few begin.issues in
+      let others = go_law d.between.core new.core sound' (gone_on_key code old d.between slot c issued key input stands cmp join f new now (Ok (Done (Value shown) now)) begin.none d.goes) in
       let first = d.issue.frame.moment in
       let second = d.event.frame.moment in
       let x = d.event.question in

@@ -32,7 +32,7 @@ use Rattle.fkv_locked.specs.Kept.{seen, IsKept}
 use Rattle.fkv_locked.proofs.KeptLemmas.{op_in, kept_operations}
 
 -- ---- what a relocation's event comes to
-module _ {K V I O R : Type 0} (stands : R → Standing) (cmp : K → K → Ordering) (f : Meanings K V I O) (code : K → ℕ) (old new : PartitionView K V I) (slot c now : ℕ)
+module _ {K V I O R : Type 0} (stands : R → Standing) (cmp : K → K → Ordering) (join : V → V → V) (f : Meanings K V I O) (code : K → ℕ) (old new : PartitionView K V I) (slot c now : ℕ)
     (result : Result (Progress K V I O R) Refused) where
   -- where it is refused, the relocation is given up, or nothing changes
   abbrev pub Fails : Type 0
@@ -51,12 +51,12 @@ module _ {K V I O R : Type 0} (stands : R → Standing) (cmp : K → K → Order
   asks-comes asking wanted (Asks.asks q h n r) = rw r (tt, tt)
   asks-comes asking wanted (Asks.unshared n r) = rw r (tt, inl n)
 
-  checks-comes : (x : Relocation K V) (e : texts.Entry K V) → ChecksLiveness stands cmp code old new slot c x e now result → Comes
+  checks-comes : (x : Relocation K V) (e : texts.Entry K V) → ChecksLiveness stands cmp join code old new slot c x e now result → Comes
   checks-comes x e (ChecksLiveness.superseded w n r) = rw r ((refl, refl), tt)
-  checks-comes x e (ChecksLiveness.last kept l ends) = ends-comes x e kept ends
-  checks-comes x e (ChecksLiveness.further kept b l asking) = asks-comes _ b asking
+  checks-comes x e (ChecksLiveness.last kept parts l ends) = ends-comes x _ kept ends
+  checks-comes x e (ChecksLiveness.further kept b parts l asking) = asks-comes _ b asking
 
-  goes_on-comes : GoesOn stands cmp code old new slot c now result → Comes
+  goes_on-comes : GoesOn stands cmp join code old new slot c now result → Comes
   goes_on-comes (GoesOn.unknown h n r) = rw r (tt, inl n)
   goes_on-comes (GoesOn.not_ready x a h w n r) = rw r (tt, inl n)
   goes_on-comes (GoesOn.again x e kept h s ends) = ends-comes x e kept ends
@@ -64,12 +64,12 @@ module _ {K V I O R : Type 0} (stands : R → Standing) (cmp : K → K → Order
   goes_on-comes (GoesOn.checks x e h s t low at checks) = checks-comes x e checks
   goes_on-comes (GoesOn.reads x h s t lt asking) = asks-comes _ x.target asking
 
-  goes_comes : IsFirstOpen old slot (Some c) → Goes stands cmp f code old new slot c now result → Comes
+  goes_comes : IsFirstOpen old slot (Some c) → Goes stands cmp join f code old new slot c now result → Comes
   goes_comes first (Goes.on_key none does rest) = absurd (let bad : false ≡ true = ap is_some (sym none) ∙ first.0 in cc)
   goes_comes first (Goes.relocation x h does) = goes_on-comes does
 
   module _ (spells : ℕ → List ℕ → ℕ → texts.Entry K V → Type 0) (came : Result (Joined R) Refused) where
-    loads_on-comes : LoadsOn stands spells cmp code old new slot c came now result → Comes
+    loads_on-comes : LoadsOn stands spells cmp join code old new slot c came now result → Comes
     loads_on-comes (LoadsOn.unknown h n r) = rw r (tt, inl n)
     loads_on-comes (LoadsOn.not_ready x h w n r) = rw r (tt, inl n)
     loads_on-comes (LoadsOn.moved x a h w b n r) = rw r (tt, tt)
@@ -79,28 +79,28 @@ module _ {K V I O R : Type 0} (stands : R → Standing) (cmp : K → K → Order
     loads_on-comes (LoadsOn.checks x begin p e s h q t checks) = checks-comes x e checks
     loads_on-comes (LoadsOn.damaged x begin p s h q t n r) = rw r (tt, inr n)
     loads_on-comes (LoadsOn.newer x e l p q s h g t w n r) = rw r ((refl, refl), tt)
-    loads_on-comes (LoadsOn.ends x e l p q s h g t w ends) = ends-comes x e l.kept ends
-    loads_on-comes (LoadsOn.further x e l p b s h g t lt at asking) = asks-comes _ b asking
+    loads_on-comes (LoadsOn.ends x e l p q parts s h g t w ends) = ends-comes x _ l.kept ends
+    loads_on-comes (LoadsOn.further x e l p b parts s h g t lt at asking) = asks-comes _ b asking
     loads_on-comes (LoadsOn.bad_record x e l p why s h g t n r) = rw r (tt, inr n)
-    loads_on-comes (LoadsOn.bad_link x e l p b s h g t lt stray n r) = rw r (tt, inr n)
+    loads_on-comes (LoadsOn.bad_link x e l p b parts s h g t lt stray n r) = rw r (tt, inr n)
 
-    loads_comes : IsFirstOpen old slot (Some c) → Loads stands spells cmp f code old new slot c came now result → Comes
+    loads_comes : IsFirstOpen old slot (Some c) → Loads stands spells cmp join f code old new slot c came now result → Comes
     loads_comes first (Loads.on_key none does rest) = absurd (let bad : false ≡ true = ap is_some (sym none) ∙ first.0 in cc)
     loads_comes first (Loads.relocation x h does) = loads_on-comes does
 
-module _ {K V I O R : Type 0} (stands : R → Standing) (cmp : K → K → Ordering) (f : Meanings K V I O) (code : K → ℕ) (old new : PartitionView K V I) (slot now : ℕ)
+module _ {K V I O R : Type 0} (stands : R → Standing) (cmp : K → K → Ordering) (join : V → V → V) (f : Meanings K V I O) (code : K → ℕ) (old new : PartitionView K V I) (slot now : ℕ)
     (result : Result (Progress K V I O R) Refused) where
   -- what a step may tell
-  pub next_tells : CompactsNext stands cmp f code old new slot now result → IfOk result (IsRelocationProgress now)
+  pub next_tells : CompactsNext stands cmp join f code old new slot now result → IfOk result (IsRelocationProgress now)
   next_tells (CompactsNext.refused why none does r) = rw r tt
   next_tells (CompactsNext.issues c none does r) = rw r tt
-  next_tells (CompactsNext.goes_on c first does) = (goes_comes stands cmp f code old new slot c now result first does).0
+  next_tells (CompactsNext.goes_on c first does) = (goes_comes stands cmp join f code old new slot c now result first does).0
 
   module _ (spells : ℕ → List ℕ → ℕ → texts.Entry K V → Type 0) (came : Result (Joined R) Refused) where
     -- and what a load may tell
-    pub load_tells : CompactsLoad stands spells cmp f code old new slot came now result → IfOk result (IsRelocationProgress now)
+    pub load_tells : CompactsLoad stands spells cmp join f code old new slot came now result → IfOk result (IsRelocationProgress now)
     load_tells (CompactsLoad.unknown none n r) = rw r tt
-    load_tells (CompactsLoad.loads c first does) = (loads_comes stands cmp f code old new slot c now result spells came first does).0
+    load_tells (CompactsLoad.loads c first does) = (loads_comes stands cmp join f code old new slot c now result spells came first does).0
 
 -- ---- a refused load, and who parts, leave all of the core but its moment
 module _ {K V I : Type 0} (old new : PartitionView K V I) where
@@ -115,11 +115,11 @@ module _ {K V I : Type 0} (old new : PartitionView K V I) where
     | inr n ↦ record { moment = now; later = omega arith; core = ap (λ (v : PartitionView K V I). v.core) n }
   ]
 
-  load-later : {O R : Type 0} (stands : R → Standing) (spells : ℕ → List ℕ → ℕ → texts.Entry K V → Type 0) (cmp : K → K → Ordering) (f : Meanings K V I O) (code : K → ℕ) (slot : ℕ)
-      (came : Result (Joined R) Refused) (now : ℕ) (why : Refused) → old.core.moment < now → CompactsLoad {O = O} stands spells cmp f code old new slot came now (Err why) → IsLater
-  load-later stands spells cmp f code slot came now why later (CompactsLoad.unknown none n r) = fails-later slot 0 now later (inl n)
-  load-later stands spells cmp f code slot came now why later (CompactsLoad.loads c first does) =
-      fails-later slot c now later (loads_comes stands cmp f code old new slot c now (Err why) spells came first does).1
+  load-later : {O R : Type 0} (stands : R → Standing) (spells : ℕ → List ℕ → ℕ → texts.Entry K V → Type 0) (cmp : K → K → Ordering) (join : V → V → V) (f : Meanings K V I O) (code : K → ℕ) (slot : ℕ)
+      (came : Result (Joined R) Refused) (now : ℕ) (why : Refused) → old.core.moment < now → CompactsLoad {O = O} stands spells cmp join f code old new slot came now (Err why) → IsLater
+  load-later stands spells cmp join f code slot came now why later (CompactsLoad.unknown none n r) = fails-later slot 0 now later (inl n)
+  load-later stands spells cmp join f code slot came now why later (CompactsLoad.loads c first does) =
+      fails-later slot c now later (loads_comes stands cmp join f code old new slot c now (Err why) spells came first does).1
 
 -- no moment is past
 given-later : {K V I : Type 0} (slot : ℕ) {old new : PartitionView K V I} {start end : ℕ} → GivesUpAll slot old new start end → old.core.moment ≤ start
@@ -185,13 +185,13 @@ module _ {K V I O : Type 0} (cmp : K → K → Ordering) (f : Meanings K V I O) 
       k
 
   -- a load, refused or not
-  pub load_keeps : {R : Type 0} (stands : R → Standing) (spells : ℕ → List ℕ → ℕ → texts.Entry K V → Type 0) (code : K → ℕ) (keeps : Bool) (slot now : ℕ) (came : Result (Joined R) Refused)
+  pub load_keeps : {R : Type 0} (stands : R → Standing) (spells : ℕ → List ℕ → ℕ → texts.Entry K V → Type 0) (join : V → V → V) (code : K → ℕ) (keeps : Bool) (slot now : ℕ) (came : Result (Joined R) Refused)
       (result : Result (Progress K V I O R) Refused) → IsTrue keeps → old.core.moment < now
-      → CompactsLoad stands spells cmp f code old new slot came now result
+      → CompactsLoad stands spells cmp join f code old new slot came now result
       → IfOk result (λ moved. IsTurn keeps cmp old new slot now)
       → IsKept cmp f (seen cmp new) es lows looks book
-  load_keeps stands spells code keeps slot now came (Ok moved) held later does turn = turn_keeps keeps slot now held later turn
-  load_keeps stands spells code keeps slot now came (Err why) held later does turn = later_keeps (load-later old new stands spells cmp f code slot came now why later does)
+  load_keeps stands spells join code keeps slot now came (Ok moved) held later does turn = turn_keeps keeps slot now held later turn
+  load_keeps stands spells join code keeps slot now came (Err why) held later does turn = later_keeps (load-later old new stands spells cmp join f code slot came now why later does)
 
   -- the log's start is cut: no look-up is to find what it was to find
   pub truncation_keeps : (keeps : Bool) (page now : ℕ) → IsTrue keeps → old.core.moment < now → IsTruncation keeps cmp old new page now → IsKept cmp f (seen cmp new) es lows looks book

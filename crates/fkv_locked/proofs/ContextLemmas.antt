@@ -35,7 +35,7 @@ module _ {K V I : Type 0} (cmp : K → K → Ordering) (v : CoreView K V I) (slo
   same-pend y = ap (pending_of cmp v.records) (set-context (slots_of v) v.contexts slot c x y h)
 
   -- what a look-up that waits for a page is to find
-  pub was-pending : (l : Loading) → AwaitsPage v slot c x l → pending cmp v slot c ≡ Some (record { moment = l.looked; value = value_of (newest cmp v.records.text (key_of x.op) (address_of l.kept.word)) })
+  pub was-pending : (l : Loading V) → AwaitsPage v slot c x l → pending cmp v slot c ≡ Some (record { moment = l.looked; value = value_of (newest cmp v.records.text (key_of x.op) (address_of l.kept.word)) })
   was-pending l a =
       ap (pending_of cmp v.records) h
       ∙ ap (λ (p : Phase V). pending_of cmp v.records (Some (at_phase x p))) a.loading

@@ -39,10 +39,10 @@ pub record IsLookedUp {V : Type 0} (o : Option (Pending V)) (moment : ℕ) : Typ
   pub is : o ≡ Some found
   pub at : found.moment ≡ moment
 
-module _ {K V I O R : Type 0} (stands : R → Standing) (entry : ℕ → List ℕ → ℕ → Entry K V → Type 0) (cmp : K → K → Ordering) (f : Meanings K V I O) (old new : CoreView K V I)
+module _ {K V I O R : Type 0} (stands : R → Standing) (entry : ℕ → List ℕ → ℕ → Entry K V → Type 0) (cmp : K → K → Ordering) (join : V → V → V) (f : Meanings K V I O) (old new : CoreView K V I)
     (slot c : ℕ) (came : Result (Joined R) Refused) (now : ℕ) where
   -- a read that a page finishes has its effect at its look-up
-  loads-done : (a : Answer O) (effect : ℕ) → core_loading.Loads stands entry cmp f old new slot c came now (Ok (Done a effect)) → IsLookedUp (pending cmp old slot c) effect
+  loads-done : (a : Answer O) (effect : ℕ) → core_loading.Loads stands entry cmp join f old new slot c came now (Ok (Done a effect)) → IsLookedUp (pending cmp old slot c) effect
   loads-done a effect (core_loading.Loads.unknown h n r) = absurd (cc)
   loads-done a effect (core_loading.Loads.not_ready x h l n r) = absurd (cc)
   loads-done a effect (core_loading.Loads.moved x l h p b n r) = absurd (cc)
@@ -50,16 +50,16 @@ module _ {K V I O R : Type 0} (stands : R → Standing) (entry : ℕ → List �
   loads-done a effect (core_loading.Loads.unread x l w e n r) = absurd (cc)
   loads-done a effect (core_loading.Loads.stranger x l p s w e g m n r) = absurd (cc)
   loads-done a effect (core_loading.Loads.damaged x l p why w e n r) = absurd (cc)
-  loads-done a effect (core_loading.Loads.bad_link x l p b w e g m n r) = absurd (cc)
+  loads-done a effect (core_loading.Loads.bad_link x l p b parts w e g m n r) = absurd (cc)
   loads-done a effect (core_loading.Loads.done x l p k i value told e op n r) =
       let at : effect ≡ l.looked = cc in
       record { found = _; is = was-pending cmp old slot c now x told.reads.awaits.here l told.reads.awaits; at = sym at }
   loads-done a effect (core_loading.Loads.prepares x l p k i value told e op n r) = absurd (cc)
-  loads-done a effect (core_loading.Loads.goes_on x l p b q w e g m h n r) = absurd (cc)
-  loads-done a effect (core_loading.Loads.unshared x l p b w e g m n r) = absurd (cc)
+  loads-done a effect (core_loading.Loads.goes_on x l p b parts q w e g m h n r) = absurd (cc)
+  loads-done a effect (core_loading.Loads.unshared x l p b parts w e g m n r) = absurd (cc)
 
   -- a look-up that goes on in another page is the same look-up
-  pub loads-further : (q : R) (a moment : ℕ) → core_loading.Loads stands entry cmp f old new slot c came now (Ok (NeedsLoad q a)) → IsLookedUp (pending cmp new slot c) moment
+  pub loads-further : (q : R) (a moment : ℕ) → core_loading.Loads stands entry cmp join f old new slot c came now (Ok (NeedsLoad q a)) → IsLookedUp (pending cmp new slot c) moment
       → IsLookedUp (pending cmp old slot c) moment
   loads-further q a moment (core_loading.Loads.unknown h n r) is = absurd (cc)
   loads-further q a moment (core_loading.Loads.not_ready x h l n r) is = absurd (cc)
@@ -68,31 +68,31 @@ module _ {K V I O R : Type 0} (stands : R → Standing) (entry : ℕ → List �
   loads-further q a moment (core_loading.Loads.unread x l w e n r) is = absurd (cc)
   loads-further q a moment (core_loading.Loads.stranger x l p s w e g m n r) is = absurd (cc)
   loads-further q a moment (core_loading.Loads.damaged x l p why w e n r) is = absurd (cc)
-  loads-further q a moment (core_loading.Loads.bad_link x l p b w e g m n r) is = absurd (cc)
+  loads-further q a moment (core_loading.Loads.bad_link x l p b parts w e g m n r) is = absurd (cc)
   loads-further q a moment (core_loading.Loads.done x l p k i value told e op n r) is = absurd (cc)
   loads-further q a moment (core_loading.Loads.prepares x l p k i value told e op n r) is = absurd (cc)
-  loads-further q a moment (core_loading.Loads.goes_on x l p b s w e g m h n r) is =
+  loads-further q a moment (core_loading.Loads.goes_on x l p b parts s w e g m h n r) is =
       let new-is : pending cmp new slot c ≡ Some (record { moment = l.looked; value = value_of (newest cmp old.records.text (key_of x.op) (address_of l.kept.word)) }) =
       ap (λ (v : CoreView K V I). pending cmp v slot c) n
-      ∙ (same-pend cmp old slot c now x w.awaits.here (Some (at_phase x (Load (record l { wanted = b }))))
+      ∙ (same-pend cmp old slot c now x w.awaits.here (Some (at_phase x (Load (record l { wanted = b; parts = parts }))))
       ∙ rw (eq-eqb l.begin old.records.begin w.awaits.begin) refl) in
       let both : Some (record { moment = l.looked; value = value_of (newest cmp old.records.text (key_of x.op) (address_of l.kept.word)) }) ≡ Some is.found = sym new-is ∙ is.is in
       let looked : l.looked ≡ is.found.moment = cc in
       record { found = _; is = was-pending cmp old slot c now x w.awaits.here l w.awaits; at = looked ∙ is.at }
-  loads-further q a moment (core_loading.Loads.unshared x l p b w e g m n r) is = absurd (cc)
+  loads-further q a moment (core_loading.Loads.unshared x l p b parts w e g m n r) is = absurd (cc)
 
 -- an operation on a key and a relocation are told apart by what they ask
 not-relocate : {K V I : Type 0} (op : KeyedOp K V I) → op_of op ≡ Relocate → ⊥
 not-relocate op h = let bad : Some op ≡ None = sym (keyed-op op) ∙ ap keyed h in absurd (cc)
 
-module _ {K V I O R : Type 0} (stands : R → Standing) (entry : ℕ → List ℕ → ℕ → Entry K V → Type 0) (cmp : K → K → Ordering) (f : Meanings K V I O) (code : K → ℕ) (keeps : Bool)
+module _ {K V I O R : Type 0} (stands : R → Standing) (entry : ℕ → List ℕ → ℕ → Entry K V → Type 0) (cmp : K → K → Ordering) (join : V → V → V) (f : Meanings K V I O) (code : K → ℕ) (keeps : Bool)
     (old new : PartitionView K V I) (mine : Mine K V I) (came : Result (Joined R) Refused) (now : ℕ)
-    (compacting : IsCompacting keeps cmp code old)
+    (compacting : IsCompacting keeps cmp join code old)
     (asks : asked old mine.seat.slot mine.context ≡ Some (question_of mine))
     (early : (p : Pending V) → pending cmp old.core mine.seat.slot mine.context ≡ Some p → p.moment ≤ old.core.moment)
     (later : old.core.moment < now) where
-  core-loads : (r : Result (Progress K V I O R) Refused) → Loads stands entry cmp f code old new mine.seat.slot mine.context came now r
-      → core_loading.Loads stands entry cmp f old.core new.core mine.seat.slot mine.context came now r
+  core-loads : (r : Result (Progress K V I O R) Refused) → Loads stands entry cmp join f code old new mine.seat.slot mine.context came now r
+      → core_loading.Loads stands entry cmp join f old.core new.core mine.seat.slot mine.context came now r
   core-loads r (Loads.on_key none does passed) = does
   core-loads r (Loads.relocation x h does) =
       let both : Some (question_of mine) ≡ Some (record { number = x.number; op = Relocate }) = sym asks ∙ relocation-asked old mine.seat.slot mine.context compacting x h in
@@ -121,33 +121,33 @@ module _ {K V I O R : Type 0} (stands : R → Standing) (entry : ℕ → List �
   loaded-come (NeedsLoad r a) l = (l.effect.0 ∙ ap Some (op-is l.question l.was), l.effect.1)
   loaded-come (Waits why) l = absurd l.effect
 
-  event-come : (p : Progress K V I O R) → core_loading.Loads stands entry cmp f old.core new.core mine.seat.slot mine.context came now (Ok p)
+  event-come : (p : Progress K V I O R) → core_loading.Loads stands entry cmp join f old.core new.core mine.seat.slot mine.context came now (Ok p)
       → IsEvent cmp f old new mine.seat.slot mine.context now p
       → Finds cmp old new mine.seat.slot mine.context now p
       → HasCome f mine (asked new mine.seat.slot mine.context) (pending cmp old.core mine.seat.slot mine.context) (pending cmp new.core mine.seat.slot mine.context) p
   event-come (Done a effect) does ev finds =
       absurd (looked-now (subst (IsLookedUp (pending cmp old.core mine.seat.slot mine.context)) ev.effect.1
-      (loads-done stands entry cmp f old.core new.core mine.seat.slot mine.context came now a effect does)))
+      (loads-done stands entry cmp join f old.core new.core mine.seat.slot mine.context came now a effect does)))
   event-come Next does ev finds = finds
   event-come (NeedsBuild ask) does ev finds = finds
   event-come (NeedsLoad r a) does ev finds =
       let y = op-is finds.question finds.was in
       let asking = finds.asks ∙ (ap (λ (z : Asked K V I). to_find cmp old now (keyed z.op)) y ∙ ap (to_find cmp old now) (keyed-op mine.op)) in
-      absurd (looked-now (loads-further stands entry cmp f old.core new.core mine.seat.slot mine.context came now r a now does (record { found = _; is = asking; at = refl })))
+      absurd (looked-now (loads-further stands entry cmp join f old.core new.core mine.seat.slot mine.context came now r a now does (record { found = _; is = asking; at = refl })))
   event-come (Waits why) does ev finds = finds
 
-  event-live : (p : Progress K V I O R) → core_loading.Loads stands entry cmp f old.core new.core mine.seat.slot mine.context came now (Ok p)
+  event-live : (p : Progress K V I O R) → core_loading.Loads stands entry cmp join f old.core new.core mine.seat.slot mine.context came now (Ok p)
       → IsEvent cmp f old new mine.seat.slot mine.context now p
       → Same (live_of cmp new.core) (live_of cmp old.core)
   event-live (Done a effect) does ev =
       absurd (looked-now (subst (IsLookedUp (pending cmp old.core mine.seat.slot mine.context)) ev.effect.1
-      (loads-done stands entry cmp f old.core new.core mine.seat.slot mine.context came now a effect does)))
+      (loads-done stands entry cmp join f old.core new.core mine.seat.slot mine.context came now a effect does)))
   event-live Next does ev = ev.effect.1
   event-live (NeedsBuild ask) does ev = ev.effect.1
   event-live (NeedsLoad r a) does ev = ev.effect.1
   event-live (Waits why) does ev = ev.effect.1
 
-  pub load_comes : (p : Progress K V I O R) → Loads stands entry cmp f code old new mine.seat.slot mine.context came now (Ok p)
+  pub load_comes : (p : Progress K V I O R) → Loads stands entry cmp join f code old new mine.seat.slot mine.context came now (Ok p)
       → IsLoad cmp f old new mine.seat.slot mine.context now p
       → OthersPend cmp old.core new.core mine.seat.slot mine.context
       → IsCome cmp f old new mine p

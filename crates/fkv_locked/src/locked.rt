@@ -71,8 +71,8 @@ pub struct Part<F: Mergeable, R: Receipt> {
 impl<F: Mergeable, R: Receipt, H: Recorder<F>> Locked<F, R, H> {
     /// What holds whenever the lock is free. It does nothing when it runs.
     pub fn known(&self)
-        ensures core { IsSound R.keeps F.Key.cmp F.code self.now.partition.core }
-        ensures compacting { IsCompacting R.keeps F.Key.cmp F.code self.now.partition }
+        ensures core { IsSound R.keeps F.Key.cmp F.parts.joined F.code self.now.partition.core }
+        ensures compacting { IsCompacting R.keeps F.Key.cmp F.parts.joined F.code self.now.partition }
         ensures kept { H.keeps ≡ true → IsTrue R.keeps → IsKept F.Key.cmp F.meaning (seen F.Key.cmp self.now.partition)
             self.now.entries self.now.lows self.now.looks self.now.book }
     {

@@ -83,14 +83,15 @@ impl<F: Mergeable, R: Receipt, H: Recorder<F>> Locked<F, R, H> {
     /// stand there than the caller was told of; `Worn` where the updates, the book or the clock have no next number;
     /// `NoMemory`; and what that refuses.
     pub fn go(&mut self, mine: &MineOf<F>, functions: &F) -> Result<TurnOf<F, R>, Refused>
-        ensures effect { IfOk result (λ turn. (p : _) × Goes R.stands F.Key.cmp F.meaning F.code self.old.partition
+        ensures effect { IfOk result (λ turn. (p : _) × Goes R.stands F.Key.cmp F.parts.joined F.meaning F.code
+            self.old.partition
             self.new.partition mine.now.seat.slot mine.now.context (self.old.clock + 1) (Ok p) × IsToldBy p turn) }
         ensures turns { IfOk result (Turns H.keeps (noted self.old) (noted self.new) mine.now) }
         ensures refused { IfErr result (λ why.
             IsUnready (asked self.old.partition mine.now.seat.slot mine.now.context) self.old.count self.old.book
             self.old.clock mine.now why
-            ⊎ Goes R.stands F.Key.cmp F.meaning F.code self.old.partition self.new.partition mine.now.seat.slot
-            mine.now.context (self.old.clock + 1) (Err why)) }
+            ⊎ Goes R.stands F.Key.cmp F.parts.joined F.meaning F.code
+            self.old.partition self.new.partition mine.now.seat.slot mine.now.context (self.old.clock + 1) (Err why)) }
         ensures unchanged { OnErr result (self.new ≡ self.old) }
     {
         let Locked {
@@ -171,8 +172,8 @@ impl<F: Mergeable, R: Receipt, H: Recorder<F>> Locked<F, R, H> {
     ) -> Result<TurnOf<F, R>, Refused>
         ensures effect { IfOk result (λ turn. (p : _)
             × Loads R.stands (IsEntryIn F.Key.bytes_of F.Value.bytes_of F.Key.is_known F.Value.is_known F.Key.SIZE
-            F.Value.SIZE) F.Key.cmp F.meaning F.code self.old.partition self.new.partition mine.now.seat.slot
-            mine.now.context came (self.old.clock + 1) (Ok p)
+            F.Value.SIZE) F.Key.cmp F.parts.joined F.meaning F.code
+            self.old.partition self.new.partition mine.now.seat.slot mine.now.context came (self.old.clock + 1) (Ok p)
             × IsToldBy p turn) }
         ensures turns { IfOk result (Turns H.keeps (noted self.old) (noted self.new) mine.now) }
         ensures refused { IfErr result (λ why.
@@ -180,7 +181,8 @@ impl<F: Mergeable, R: Receipt, H: Recorder<F>> Locked<F, R, H> {
             self.old.clock mine.now why
             ⊎ IsLookedEarly (slice_index self.old.looks (place_of mine.now.seat.slot mine.now.context)) mine.now why
             ⊎ Loads R.stands (IsEntryIn F.Key.bytes_of F.Value.bytes_of F.Key.is_known F.Value.is_known F.Key.SIZE
-            F.Value.SIZE) F.Key.cmp F.meaning F.code self.old.partition self.new.partition mine.now.seat.slot
+            F.Value.SIZE) F.Key.cmp F.parts.joined F.meaning F.code
+            self.old.partition self.new.partition mine.now.seat.slot
             mine.now.context came (self.old.clock + 1) (Err why)) }
         ensures left { IfErr result (λ _. (self.new ≡ self.old) ⊎ IsLoadRefused self.old self.new mine.now) }
     {

@@ -28,12 +28,13 @@ impl<F: Mergeable, R: Receipt, H: Recorder<F>> Locked<F, R, H> {
     ) -> Result<Option<EntryOf<F>>, Refused>
         ensures done { IfOk result (λ done. IfSome done (λ e. (shown : F.Output)
             × (e ≡ entry_at_once self.old seat key.now input.now shown)
-            × IsDoneAtOnce R.stands F.Key.cmp F.meaning F.code self.old.partition self.new.partition seat.slot key.now
+            × IsDoneAtOnce R.stands F.Key.cmp F.parts.joined F.meaning F.code
+            self.old.partition self.new.partition seat.slot key.now
             input.now (self.old.clock + 1) (self.old.clock + 2) shown)) }
         ensures after { IfOk result (λ done. IfSome done (IsUpdated H.keeps self.old self.new)) }
         ensures fresh { IfOk result (λ done. IfSome done (λ e. (told ≤ e.at) × (e.at < 2 ^ 64 - 1))) }
         ensures left { result ≡ Ok None → (held : F.Value)
-            → IsAtHand F.Key.cmp F.code self.old.partition seat.slot key.now held
+            → IsAtHand F.Key.cmp F.parts.joined F.code self.old.partition seat.slot key.now held
             → F.meaning.next key.now held input.now ≡ None }
         ensures none { result ≡ Ok None → self.new ≡ self.old }
         ensures refused { IfErr result (IsUnfit self.old.count self.old.book self.old.clock told) }

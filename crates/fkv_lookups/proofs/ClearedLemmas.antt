@@ -10,46 +10,16 @@ use Rattle.fkv_regions.specs.Agree.{IsMark}
 use Rattle.fkv_regions.proofs.MoveLemmas.{mark-place}
 use Rattle.fkv_texts.specs.declared.entries.Entry.{Entry}
 use Rattle.fkv_texts.specs.Places.{tail_after, IsLaidOut}
-use Rattle.fkv_texts.specs.Text.{last_where, entry_at, has_key, last_of, value_of, live, text_from, IsRising}
+use Rattle.fkv_texts.specs.Text.{entry_at, live}
 use Rattle.fkv_texts.specs.Chains.{IsIn}
-use Rattle.fkv_texts.proofs.LastWhere.{last_where-in, last_where-found, last_where-filter, last_where-narrow, last_where-narrow_none}
-use Rattle.fkv_texts.proofs.TextLemmas.{live-append, entry_at-in}
-use Rattle.fkv_texts.proofs.CutLemmas.{cut-from, filter-in}
+use Rattle.fkv_texts.proofs.LastWhere.{last_where-in}
+use Rattle.fkv_texts.proofs.TextLemmas.{live-append}
 use Rattle.fkv_texts.proofs.CoverLemmas.{covered-new}
-use Rattle.fkv_texts.proofs.BaseLemmas.{covered-passed}
 use Rattle.fkv_texts.proofs.PlaceLemmas.{stands, after-nearest}
 use Rattle.fkv_pages.proofs.PageLemmas.{begin_place, begins_low}
 use Rattle.fkv_lookups.specs.RecordsViews.{RecordsView}
 use Rattle.fkv_lookups.specs.Traced.{IsTraced}
 use Rattle.fkv_texts.specs.Deltas.{IsSuperseded, IsCleared}
-use Rattle.fkv_lookups.proofs.TracedLemmas.{highest}
-
--- ---- the last that passes a test, where the text begins higher
-module _ {K V : Type 0} (p : Entry K V → Bool) (text : List (Entry K V)) (low : ℕ) where
-  cut-none : last_where p text ≡ None → last_where p (text_from low text) ≡ None
-  cut-none h = last_where-filter p (λ x. nat_le low x.address) text ∙ last_where-narrow_none p (λ x. nat_le low x.address) text h
-
-  cut-some : (y : Entry K V) → last_where p text ≡ Some y → low ≤ y.address → last_where p (text_from low text) ≡ Some y
-  cut-some y h le =
-      let yes : nat_le low y.address ≡ true = grind (arith, nat_tests) in
-      last_where-filter p (λ x. nat_le low x.address) text ∙ last_where-narrow p (λ x. nat_le low x.address) text y h yes
-
-  -- what is found there stands there
-  cut-high : (e : Entry K V) → last_where p (text_from low text) ≡ Some e → low ≤ e.address
-  cut-high e h = let m = last_where-in p (text_from low text) e h in cut-from low text m.place e m.here
-
-  -- and is the last of all
-  cut-found : IsRising text → (e : Entry K V) → last_where p (text_from low text) ≡ Some e → last_where p text ≡ Some e
-  cut-found r e h = by_last (last_where p text) refl
-    where
-      by_last : (o : Option (Entry K V)) → last_where p text ≡ o → last_where p text ≡ Some e
-      by_last None n = absurd (let none = cut-none n in let bad : None ≡ Some e = sym none ∙ h in cc)
-      by_last (Some y) n =
-          let m = last_where-in p (text_from low text) e h in
-          let was = filter-in (λ (d : Entry K V). nat_le low d.address) text m.place e m.here in
-          let up : e.address ≤ y.address = highest p text r y n was.0.place e was.0.here (last_where-found p (text_from low text) e h) in
-          let high = cut-high e h in
-          n ∙ sym (cut-some y n (omega arith)) ∙ h
 
 module _ {K V : Type 0} (cmp : K → K → Ordering) (text : List (Entry K V)) where
   -- ---- a record is appended again
@@ -64,40 +34,6 @@ module _ {K V : Type 0} (cmp : K → K → Ordering) (text : List (Entry K V)) w
   lives-renewed order n held q =
       live-append cmp text n q
       ∙ renewed-test (is_at (cmp n.key) q) n.value (live cmp text q) (λ t. ap (live cmp text) (sym (order.same n.key q t)) ∙ held)
-
-  -- ---- what is dropped of a cleared text takes no key's value
-  module _ (order : IsKeyOrder cmp) (r : IsRising text) (low limit : ℕ) (cleared : IsCleared cmp text limit) (le : low ≤ limit) (k : K) where
-    -- the last of a key is no higher than what is dropped: none is left
-    none-left : (y : Entry K V) → last_of cmp text k ≡ Some y → y.address < low → last_of cmp (text_from low text) k ≡ None
-    none-left y h under = by_last (last_of cmp (text_from low text) k) refl
-      where
-        by_last : (o : Option (Entry K V)) → last_of cmp (text_from low text) k ≡ o → last_of cmp (text_from low text) k ≡ None
-        by_last None n = n
-        by_last (Some z) n = absurd (
-            let all = cut-found (has_key cmp k) text low r z n in
-            let both : Some y ≡ Some z = sym h ∙ all in
-            let same : y ≡ z = cc in
-            let at = ap (λ (x : Entry K V). x.address) same in
-            let high = cut-high (has_key cmp k) text low z n in
-            omega arith)
-
-    -- a last record that is superseded is a tombstone: nothing covers it
-    dead : (y : Entry K V) → last_of cmp text k ≡ Some y → IsSuperseded cmp text y → y.value ≡ None
-    dead y h (inl none) = none
-    dead y h (inr covered) = absurd (covered-passed cmp text r y covered (ap (last_of cmp text) (order.same y.key k (last_where-found (has_key cmp k) text y h)) ∙ h))
-
-    pub last-cleared : value_of (last_of cmp (text_from low text) k) ≡ value_of (last_of cmp text k)
-    last-cleared = by_last (last_of cmp text k) refl
-      where
-        by_last : (o : Option (Entry K V)) → last_of cmp text k ≡ o → value_of (last_of cmp (text_from low text) k) ≡ value_of (last_of cmp text k)
-        by_last None h = ap value_of (cut-none (has_key cmp k) text low h ∙ sym h)
-        by_last (Some y) h = elim (cases_lt y.address low) [
-          | inr high ↦ ap value_of (cut-some (has_key cmp k) text low y h high ∙ sym h)
-          | inl under ↦
-              (let here = entry_at-in text r y (last_where-in (has_key cmp k) text y h) y.address refl in
-              let none : y.value ≡ None = dead y h (cleared y here (omega arith)) in
-              ap value_of (none-left y h under) ∙ sym none ∙ ap value_of (sym h))
-        ]
 
 -- ---- the limit goes on to the next place
 after-most : (bits size a : ℕ) → tail_after bits size a ≤ 2 ^ 48

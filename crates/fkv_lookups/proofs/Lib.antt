@@ -1,8 +1,10 @@
 pub mod ScanLemmas
 pub mod StillLemmas
+pub mod ReplaceLemmas
 pub mod TracedLemmas
 pub mod SessionLemmas
 pub mod LookupLemmas
+pub mod WayLemmas
 pub mod MeetingLemmas
 pub mod LiveLemmas
 pub mod TruncationLemmas

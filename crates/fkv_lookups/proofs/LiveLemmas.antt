@@ -17,8 +17,8 @@ use Rattle.fkv_hybrid.proofs.ScanLemmas.{begins_kept, is_place}
 
 module _ {K V : Type 0} (keeps : Bool) (size : ℕ) (log : LogView K V) (h : IsLogOf keeps size log) where
   -- at Begin nothing is done
-  pub scan_begins : (cmp : K → K → Ordering) (begin : ℕ) (map : PlainMap K V) → IsTrue keeps → begin ≡ log.begin → IsScanned cmp map log.bits size log.tail log.text begin map
-  scan_begins cmp begin map k is = rw is (record {
+  pub scan_begins : (cmp : K → K → Ordering) (join : V → V → V) (begin : ℕ) (map : PlainMap K V) → IsTrue keeps → begin ≡ log.begin → IsScanned cmp join map log.bits size log.tail log.text begin map
+  scan_begins cmp join begin map k is = rw is (record {
     done = [];
     rest = log.text;
     whole = refl;

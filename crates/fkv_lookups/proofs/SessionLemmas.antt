@@ -1,7 +1,9 @@
 -- What a log's own events leave of the records.
 use Rattle.std.proofs.Common.{◌≡◌, ℕ, Bool, List, refl, ap}
 use Rattle.std.specs.Prelude.{Result, Ok, Err, IfOk, IfErr, OnOk, OnErr}
+use Rattle.std.specs.declared.cmp.Ordering.{Ordering}
 use Rattle.fkv_device.specs.Standing.{Standing}
+use Rattle.fkv_texts.specs.Deltas.{stood}
 use Rattle.fkv_regions.specs.RegionsView.{RegionsView}
 use Rattle.fkv_hybrid.specs.Views.{LogView}
 use Rattle.fkv_hybrid.specs.Views as log
@@ -37,14 +39,19 @@ err-same P why (Ok x) h = tt
 err-same P why (Err e) h = h.1
 
 -- ---- the records follow their log
-pub records-moved : {K V T E : Type 0} (r : Result T E) (keeps : Bool) (p k size : ℕ) (words : List (List Word)) (made : RegionsView) (old new : LogView K V)
+pub records-moved : {K V T E : Type 0} (r : Result T E) (cmp : K → K → Ordering) (join : V → V → V) (keeps : Bool) (p k size : ℕ) (words : List (List Word)) (made : RegionsView) (old new : LogView K V)
     → OnOk r (log.IsMoved keeps made old new)
-    → OnOk r (IsMoved keeps made (view_of p k size old words) (view_of p k size new words))
-records-moved (Ok x) keeps p k size words made old new m = record { more = m.more; is = ap (λ (l : LogView _ _). view_of p k size l words) m.is; kept = m.kept }
-records-moved (Err e) keeps p k size words made old new m = tt
+    → OnOk r (IsMoved keeps made (view_of cmp join p k size old words) (view_of cmp join p k size new words))
+records-moved {K} {V} (Ok x) cmp join keeps p k size words made old new m = record {
+  more = m.more;
+  is = ap (λ (l : LogView K V). record (view_of cmp join p k size l words) { text = stood cmp join new.text }) m.is;
+  kept = λ keep. ap (stood cmp join) (m.kept keep);
+  entries = m.kept;
+}
+records-moved (Err e) cmp join keeps p k size words made old new m = tt
 
-pub records-same : {K V T E : Type 0} (r : Result T E) (p k size : ℕ) (words : List (List Word)) (old new : LogView K V)
+pub records-same : {K V T E : Type 0} (r : Result T E) (cmp : K → K → Ordering) (join : V → V → V) (p k size : ℕ) (words : List (List Word)) (old new : LogView K V)
     → OnErr r (new ≡ old)
-    → OnErr r (view_of p k size new words ≡ view_of p k size old words)
-records-same (Ok x) p k size words old new e = tt
-records-same (Err x) p k size words old new e = ap (λ (l : LogView _ _). view_of p k size l words) e
+    → OnErr r (view_of cmp join p k size new words ≡ view_of cmp join p k size old words)
+records-same (Ok x) cmp join p k size words old new e = tt
+records-same (Err x) cmp join p k size words old new e = ap (λ (l : LogView _ _). view_of cmp join p k size l words) e

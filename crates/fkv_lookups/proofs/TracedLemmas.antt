@@ -9,16 +9,18 @@ use Rattle.fkv_records.specs.Records.{IsPrevious}
 use Rattle.fkv_texts.specs.declared.entries.Entry.{Entry}
 use Rattle.fkv_texts.specs.Places.{IsLaidOut}
 use Rattle.fkv_texts.specs.Text.{last_where, has_key, last_of, newest, AllAbove, IsRising, IsFrom, IsBelow}
-use Rattle.fkv_texts.specs.Deltas.{AreWhole}
+use Rattle.fkv_texts.specs.Deltas.{stood}
 use Rattle.fkv_texts.specs.Chains.{has_class, last_of_class, Leads, IsChained, IsIn}
 use Rattle.fkv_functions.proofs.ListLemmas.{get-append_last}
 use Rattle.fkv_regions.specs.RegionsView.{RegionsView}
-use Rattle.fkv_texts.proofs.ChangeLemmas.{at_all, laid_out-changed, rising-changed, from-changed, below-changed, chained-changed, leads-changed}
+use Rattle.fkv_texts.proofs.ChangeLemmas.{laid_out-changed, rising-changed, from-changed, below-changed, chained-changed, leads-changed}
+use Rattle.fkv_texts.proofs.StoodLemmas.{AreAlike, alike, alike_back, alike-laid_out, alike-rising, alike-from, alike-below, alike-leads, alike-chained}
+use Rattle.fkv_texts.proofs.ValueLemmas.{stood-append}
 use Rattle.fkv_texts.proofs.LastWhere.{last_where-append, last_where-found, last_where-in, none-passes, last_where-narrow, last_where-narrow_none}
 use Rattle.fkv_index.specs.declared.words.Word.{Word}
 use Rattle.fkv_index.specs.declared.places.Place.{Place}
 use Rattle.fkv_index.specs.Words.{empty, final_word, address_of, tag_of, is_final}
-use Rattle.fkv_index.specs.Places.{word_at}
+use Rattle.fkv_index.specs.Places.{word_at, with_word}
 use Rattle.fkv_index.specs.Entries.{entry_at, StandsAt, IsIndexMap}
 use Rattle.fkv_index.specs.Changes.{Writes, SetsEntry, SameEntries}
 use Rattle.fkv_operations.specs.declared.classes.Class.{Class}
@@ -27,7 +29,7 @@ use Rattle.fkv_operations.specs.Classes.{same_class}
 use Rattle.fkv_operations.specs.KeptWords.{IsLed}
 use Rattle.fkv_lookups.specs.RecordsViews.{RecordsView, class_in, indexed, entry_of, leads_to, with_record, with_value, moved}
 use Rattle.fkv_lookups.specs.RecordsViews.{ChangesAt}
-use Rattle.fkv_lookups.specs.Traced.{AreRegionsBelow, IsTraced}
+use Rattle.fkv_lookups.specs.Traced.{AreRegionsBelow, IsTraced, IsStood}
 use Rattle.fkv_operations.proofs.ClassLemmas.{class_test, entry-set}
 use Rattle.std.specs.Prelude.{Result, Ok, Err, OnOk, OnErr}
 use Rattle.fkv_texts.proofs.CutLemmas.{cut-leads, cut-chained}
@@ -60,18 +62,60 @@ tail_from {v = v} t =
     let begin = from_first t in
     omega (arith, t.first)
 
+-- ---- the records as pages spell them
+-- the records, each with its own value
+abbrev pub raw : {K V : Type 0} → RecordsView K V → RecordsView K V
+raw v = record v { text = v.entries }
+
+-- what is kept does not speak of values
+traced-alike : {K V : Type 0} {keeps : Bool} {code : K → ℕ} (v : RecordsView K V) (text : List (Entry K V))
+    → AreAlike v.text text
+    → IsTraced keeps code v
+    → IsTraced keeps code (record v { text = text })
+traced-alike {code = code} v text same t = record {
+  partition_bits = t.partition_bits;
+  bucket_bits = t.bucket_bits;
+  shape = t.shape;
+  first = t.first;
+  marked = t.marked;
+  begins = t.begins;
+  laid_out = alike-laid_out v.page_bits v.record_size v.from v.tail v.text text same t.laid_out;
+  rising = alike-rising v.text text same t.rising;
+  from = alike-from v.from v.text text same t.from;
+  below = alike-below v.tail v.text text same t.below;
+  regions = t.regions;
+  flushed = t.flushed;
+  chained = alike-chained (class_in code v) same_class v.from v.text text same t.chained;
+  buckets = t.buckets;
+  map = t.map;
+  leads = λ c. alike-leads (class_in code v) same_class v.from v.text text same c (leads_to (entry_of v c)) (t.leads c);
+  placed = t.placed;
+}
+
+pub traced-raw : {K V : Type 0} {keeps : Bool} {code : K → ℕ} {cmp : K → K → Ordering} {join : V → V → V} {v : RecordsView K V}
+    → IsTraced keeps code v
+    → IsStood cmp join v
+    → IsTraced keeps code (raw v)
+traced-raw {cmp = cmp} {join = join} {v = v} t s = traced-alike v v.entries (rw s.is (alike_back cmp join v.entries)) t
+
+-- the same of what a log is seen as
+pub log-raw : {K V : Type 0} {keeps : Bool} {code : K → ℕ} (cmp : K → K → Ordering) (join : V → V → V) (p k size : ℕ) (words : List (List Word)) (l : LogView K V)
+    → IsTraced keeps code (view_of cmp join p k size l words)
+    → IsTraced keeps code (raw (view_of cmp join p k size l words))
+log-raw cmp join p k size words l t = traced-alike (view_of cmp join p k size l words) l.text (alike_back cmp join l.text) t
+
 -- ---- what a log says, with an index
-pub traced-by : {K V : Type 0} {keeps : Bool} {code : K → ℕ} (p k size : ℕ) (words : List (List Word)) (l : LogView K V)
+pub traced-by : {K V : Type 0} {keeps : Bool} {code : K → ℕ} (cmp : K → K → Ordering) (join : V → V → V) (p k size : ℕ) (words : List (List Word)) (l : LogView K V)
     → p ≤ 6
     → k ≤ 20
     → IsLogOf keeps size l
-    → IsChained (class_in code (view_of p k size l words)) same_class l.from l.text
+    → IsChained (class_in code (view_of cmp join p k size l words)) same_class l.from l.text
     → length words ≡ 2 ^ k
     → IsIndexMap words
-    → ((c : Class) → Leads l.from (last_of_class (class_in code (view_of p k size l words)) same_class l.text c) (leads_to (entry_at words c.bucket c.tag)))
+    → ((c : Class) → Leads l.from (last_of_class (class_in code (view_of cmp join p k size l words)) same_class l.text c) (leads_to (entry_at words c.bucket c.tag)))
     → ((c : Class) → IsPrevious l.tail (leads_to (entry_at words c.bucket c.tag)))
-    → IsTraced keeps code (view_of p k size l words)
-traced-by p k size words l few small log chained buckets map leads placed = record {
+    → IsTraced keeps code (view_of cmp join p k size l words)
+traced-by cmp join p k size words l few small log chained buckets map leads placed = traced-alike (raw (view_of cmp join p k size l words)) (stood cmp join l.text) (alike cmp join l.text) (record {
   partition_bits = few;
   bucket_bits = small;
   shape = log.shape;
@@ -82,7 +126,6 @@ traced-by p k size words l few small log chained buckets map leads placed = reco
   rising = log.rising;
   from = log.from;
   below = log.below;
-  whole = log.whole;
   regions = record { agree = log.regions; timely = log.timely; bits = log.bits; headed = log.headed; read_only = log.read_only };
   flushed = log.flushed;
   chained = chained;
@@ -90,19 +133,19 @@ traced-by p k size words l few small log chained buckets map leads placed = reco
   map = map;
   leads = leads;
   placed = placed;
-}
+})
 
 -- no records
-pub traced-empty : {K V : Type 0} {keeps : Bool} {code : K → ℕ} (p k size bits frames : ℕ) (l : LogView K V)
+pub traced-empty : {K V : Type 0} {keeps : Bool} {code : K → ℕ} (cmp : K → K → Ordering) (join : V → V → V) (p k size bits frames : ℕ) (l : LogView K V)
     → p ≤ 6
     → k ≤ 20
     → l ≡ log.empty_log bits frames
     → IsLogOf keeps size l
     → IsIndexMap (replicate (2 ^ k) (replicate 7 empty))
     → ((b t : ℕ) → entry_at (replicate (2 ^ k) (replicate 7 empty)) b t ≡ None)
-    → IsTraced keeps code (view_of p k size l (replicate (2 ^ k) (replicate 7 empty)))
-traced-empty p k size bits frames l few small is log map none =
-    traced-by p k size (replicate (2 ^ k) (replicate 7 empty)) l few small log
+    → IsTraced keeps code (view_of cmp join p k size l (replicate (2 ^ k) (replicate 7 empty)))
+traced-empty cmp join p k size bits frames l few small is log map none =
+    traced-by cmp join p k size (replicate (2 ^ k) (replicate 7 empty)) l few small log
     (rw is (λ i e h. absurd (cc)))
     (length-replicate (2 ^ k) (replicate 7 empty))
     map
@@ -127,7 +170,6 @@ traced-words v words buckets map same t = record {
   rising = t.rising;
   from = t.from;
   below = t.below;
-  whole = t.whole;
   regions = t.regions;
   flushed = t.flushed;
   chained = t.chained;
@@ -196,47 +238,49 @@ begin_rises false begin low high up = by_low (nat_le begin low) (nat_le begin hi
     by_low false true g h = grind (arith, nat_tests)
     by_low true false g h = grind (arith, nat_tests)
 
-moved_log : {K V : Type 0} {keeps : Bool} {code : K → ℕ} (p k size : ℕ) (words : List (List Word)) (old new : LogView K V) (made : RegionsView)
+moved_log : {K V : Type 0} {keeps : Bool} {code : K → ℕ} (cmp : K → K → Ordering) (join : V → V → V) (p k size : ℕ) (words : List (List Word)) (old new : LogView K V) (made : RegionsView)
     → log.IsMoved keeps made old new
     → old.regions.offsets.closed ≤ made.offsets.closed
     → IsLogOf keeps size new
-    → IsTraced keeps code (view_of p k size old words)
-    → IsTraced keeps code (view_of p k size new words)
-moved_log {K} {V} {keeps} {code} p k size words old new made m up known t =
-    let class = class_in code (view_of p k size old words) in
+    → IsTraced keeps code (view_of cmp join p k size old words)
+    → IsTraced keeps code (view_of cmp join p k size new words)
+moved_log {K} {V} {keeps} {code} cmp join p k size words old new made m up known t =
+    let class = class_in code (view_of cmp join p k size old words) in
+    let r = log-raw cmp join p k size words old t in
     let closes : old.from ≤ text_begin keeps old.begin made.offsets.closed =
     subst (λ n. n ≤ text_begin keeps old.begin made.offsets.closed) (sym t.begins) (begin_rises keeps old.begin old.regions.offsets.closed made.offsets.closed up) in
     let now : new ≡ log.moved keeps old made m.more = m.is in
-    traced-by p k size words new t.partition_bits t.bucket_bits known
-    (rw now (cut-chained class same_class old.from (text_begin keeps old.begin made.offsets.closed) old.text t.rising closes t.chained))
+    traced-by cmp join p k size words new t.partition_bits t.bucket_bits known
+    (rw now (cut-chained class same_class old.from (text_begin keeps old.begin made.offsets.closed) old.text r.rising closes r.chained))
     t.buckets
     t.map
-    (rw now (λ c. cut-leads class same_class old.from (text_begin keeps old.begin made.offsets.closed) old.text t.rising closes c (leads_to (entry_at words c.bucket c.tag)) (t.leads c)))
+    (rw now (λ c. cut-leads class same_class old.from (text_begin keeps old.begin made.offsets.closed) old.text r.rising closes c (leads_to (entry_at words c.bucket c.tag)) (r.leads c)))
     (rw now t.placed)
 
-pub traced-moved : {K V T E : Type 0} {keeps : Bool} {code : K → ℕ} (r : Result T E) (p k size : ℕ) (words : List (List Word)) (old new : LogView K V) (made : RegionsView)
+pub traced-moved : {K V T E : Type 0} {keeps : Bool} {code : K → ℕ} (r : Result T E) (cmp : K → K → Ordering) (join : V → V → V) (p k size : ℕ) (words : List (List Word)) (old new : LogView K V) (made : RegionsView)
     → OnOk r (log.IsMoved keeps made old new)
     → OnErr r (new ≡ old)
     → old.regions.offsets.closed ≤ new.regions.offsets.closed
     → IsLogOf keeps size new
-    → IsTraced keeps code (view_of p k size old words)
-    → IsTraced keeps code (view_of p k size new words)
-traced-moved {K} {V} {T} {E} {keeps} {code} (Ok x) p k size words old new made ok err up known t =
+    → IsTraced keeps code (view_of cmp join p k size old words)
+    → IsTraced keeps code (view_of cmp join p k size new words)
+traced-moved {K} {V} {T} {E} {keeps} {code} (Ok x) cmp join p k size words old new made ok err up known t =
     let same : new.regions ≡ made = ap (λ (l : LogView K V). l.regions) ok.is in
-    moved_log p k size words old new made ok (subst (λ (g : RegionsView). old.regions.offsets.closed ≤ g.offsets.closed) same up) known t
-traced-moved {K} {V} {T} {E} {keeps} {code} (Err e) p k size words old new made ok err up known t =
-    subst (λ (l : LogView K V). IsTraced keeps code (view_of p k size l words)) (sym err) t
+    moved_log cmp join p k size words old new made ok (subst (λ (g : RegionsView). old.regions.offsets.closed ≤ g.offsets.closed) same up) known t
+traced-moved {K} {V} {T} {E} {keeps} {code} (Err e) cmp join p k size words old new made ok err up known t =
+    subst (λ (l : LogView K V). IsTraced keeps code (view_of cmp join p k size l words)) (sym err) t
 
 -- a session enters, or a page is flushed: the text is as it was
-pub traced-same : {K V : Type 0} {keeps : Bool} {code : K → ℕ} (p k size : ℕ) (words : List (List Word)) (old new : LogView K V)
+pub traced-same : {K V : Type 0} {keeps : Bool} {code : K → ℕ} (cmp : K → K → Ordering) (join : V → V → V) (p k size : ℕ) (words : List (List Word)) (old new : LogView K V)
     → new.text ≡ old.text
     → new.from ≡ old.from
     → new.tail ≡ old.tail
     → IsLogOf keeps size new
-    → IsTraced keeps code (view_of p k size old words)
-    → IsTraced keeps code (view_of p k size new words)
-traced-same p k size words old new text from tail known t =
-    traced-by p k size words new t.partition_bits t.bucket_bits known (rw (text, from) t.chained) t.buckets t.map (rw (text, from) t.leads) (rw tail t.placed)
+    → IsTraced keeps code (view_of cmp join p k size old words)
+    → IsTraced keeps code (view_of cmp join p k size new words)
+traced-same cmp join p k size words old new text from tail known t =
+    let r = log-raw cmp join p k size words old t in
+    traced-by cmp join p k size words new t.partition_bits t.bucket_bits known (rw (text, from) r.chained) t.buckets t.map (rw (text, from) r.leads) (rw tail t.placed)
 
 -- ---- a record gets another value, or becomes a tombstone
 pub traced-value : {K V : Type 0} {keeps : Bool} {code : K → ℕ} (v : RecordsView K V) (a : ℕ) (value : Option V)
@@ -253,7 +297,6 @@ traced-value {keeps = keeps} {code = code} v a value t = record {
   rising = rising-changed a value v.text t.rising;
   from = from-changed a value v.from v.text t.from;
   below = below-changed a value v.tail v.text t.below;
-  whole = at_all a value (λ e. e.delta ≡ false) v.text (λ i e h. (t.whole i e h, t.whole i e h));
   regions = t.regions;
   flushed = t.flushed;
   chained = chained-changed a value (class_in code v) same_class v.from v.text t.chained;
@@ -288,17 +331,42 @@ pub record IsTextOf {K V : Type 0} (code : K → ℕ) (w : RecordsView K V) : Ty
   pub rising : IsRising w.text
   pub from : IsFrom w.from w.text
   pub below : IsBelow w.tail w.text
-  pub whole : AreWhole w.text
   pub chained : IsChained (class_in code w) same_class w.from w.text
 
-pub text_then : {K V : Type 0} {keeps : Bool} {code : K → ℕ} (p k size : ℕ) (words : List (List Word)) (e : IndexEntry) (key : K) (value : Option V) (old new : LogView K V)
-    → new ≡ log.with_entry size old (address_of e.word) key value
+-- a record that is no delta stands for its own value
+pub whole-append : {K V : Type 0} (cmp : K → K → Ordering) (join : V → V → V) (es : List (Entry K V)) (x : Entry K V) → x.delta ≡ false
+    → stood cmp join (es ++ x ∷ []) ≡ stood cmp join es ++ x ∷ []
+whole-append cmp join es x whole =
+    stood-append cmp join es x ∙ ap (λ v. stood cmp join es ++ record x { value = v } ∷ []) (rw whole refl)
+
+pub records-appended : {K V : Type 0} (cmp : K → K → Ordering) (join : V → V → V) (p k size : ℕ) (old new : LogView K V) (words made : List (List Word)) (e : IndexEntry) (key : K) (value : Option V)
+    → new ≡ log.with_entry size old (address_of e.word) key value false
+    → made ≡ with_word words e.place (final_word (tag_of e.word) old.tail)
+    → view_of cmp join p k size new made ≡ with_record (view_of cmp join p k size old words) e key value
+records-appended {K} {V} cmp join p k size old new words made e key value is word =
+    let x : Entry K V = record { address = old.tail; previous = address_of e.word; key = key; value = value; delta = false } in
+    let w : RecordsView K V = with_record (view_of cmp join p k size old words) e key value in
+    ap (λ (l : LogView K V). view_of cmp join p k size l made) is
+    ∙ ap (λ (text : List (Entry K V)). record w { text = text; words = made }) (whole-append cmp join old.text x refl)
+    ∙ ap (λ (ws : List (List Word)). record w { words = ws }) word
+
+pub text_then : {K V : Type 0} {keeps : Bool} {code : K → ℕ} (cmp : K → K → Ordering) (join : V → V → V) (p k size : ℕ) (words : List (List Word)) (e : IndexEntry) (key : K) (value : Option V) (old new : LogView K V)
+    → new ≡ log.with_entry size old (address_of e.word) key value false
     → IsLogOf keeps size new
-    → IsChained (class_in code (view_of p k size old words)) same_class old.from (old.text ++ record { address = old.tail; previous = address_of e.word; key = key; value = value; delta = false } ∷ [])
-    → IsTextOf code (with_record (view_of p k size old words) e key value)
-text_then {K} {V} {keeps} {code} p k size words e key value old new is known chained =
-    let l : IsLogOf keeps size (log.with_entry size old (address_of e.word) key value) = subst (IsLogOf keeps size) is known in
-    record { laid_out = l.laid_out; rising = l.rising; from = l.from; below = l.below; whole = l.whole; chained = chained }
+    → IsChained (class_in code (view_of cmp join p k size old words)) same_class old.from (old.text ++ record { address = old.tail; previous = address_of e.word; key = key; value = value; delta = false } ∷ [])
+    → IsTextOf code (with_record (view_of cmp join p k size old words) e key value)
+text_then {K} {V} {keeps} {code} cmp join p k size words e key value old new is known chained =
+    let l : IsLogOf keeps size (log.with_entry size old (address_of e.word) key value false) = subst (IsLogOf keeps size) is known in
+    let x : Entry K V = record { address = old.tail; previous = address_of e.word; key = key; value = value; delta = false } in
+    let w : RecordsView K V = with_record (view_of cmp join p k size old words) e key value in
+    let same : AreAlike (old.text ++ x ∷ []) w.text = rw (← whole-append cmp join old.text x refl) (alike cmp join (old.text ++ x ∷ [])) in
+    record {
+      laid_out = alike-laid_out w.page_bits w.record_size w.from w.tail (old.text ++ x ∷ []) w.text same l.laid_out;
+      rising = alike-rising (old.text ++ x ∷ []) w.text same l.rising;
+      from = alike-from w.from (old.text ++ x ∷ []) w.text same l.from;
+      below = alike-below w.tail (old.text ++ x ∷ []) w.text same l.below;
+      chained = alike-chained (class_in code w) same_class w.from (old.text ++ x ∷ []) w.text same chained;
+    }
 
 -- and what an index says of its words once an entry has moved
 pub record AreMoved (c : Class) (a : ℕ) (old new : List (List Word)) : Type 0 where
@@ -341,7 +409,6 @@ traced-record {K} {V} {keeps} {code} v e key value t new moved =
       rising = new.rising;
       from = new.from;
       below = new.below;
-      whole = new.whole;
       regions = below-tail t.regions rises;
       flushed = t.flushed;
       chained = new.chained;

@@ -1,6 +1,7 @@
 -- The log's start is cut: what the entries that are left say of the records that are left.
 use Rattle.std.proofs.Common.{◌≡◌, ◌<◌, ◌≤◌, ℕ, Bool, true, false, cond, List, Option, Some, None, nat_lt, inl, refl, sym, ap, subst, arith, length}
 use Rattle.std.proofs.lemmas.Bool.Decides.{nat_tests}
+use Rattle.std.specs.declared.cmp.Ordering.{Ordering}
 use Rattle.fkv_records.specs.Records.{IsPrevious}
 use Rattle.fkv_texts.specs.declared.entries.Entry.{Entry}
 use Rattle.fkv_texts.specs.Text.{text_from}
@@ -19,7 +20,7 @@ use Rattle.fkv_operations.specs.Classes.{same_class}
 use Rattle.fkv_lookups.specs.RecordsViews.{class_in, leads_to}
 use Rattle.fkv_lookups.specs.Inside.{view_of}
 use Rattle.fkv_lookups.specs.Traced.{IsTraced}
-use Rattle.fkv_lookups.proofs.TracedLemmas.{traced-by}
+use Rattle.fkv_lookups.proofs.TracedLemmas.{log-raw, traced-by}
 
 -- ---- an entry that leads below Begin is gone, and the others lead where they led
 module _ {K V : Type 0} (begin from : ℕ) (first : 64 ≤ begin) (low : begin ≤ from) where
@@ -47,28 +48,29 @@ placed-kept begin tail None h = h
 placed-kept begin tail (Some a) h = placed-test (nat_lt a begin) tail a h
 
 -- ---- the records, with their entries
-pub traced-truncated : {K V : Type 0} {keeps : Bool} {code : K → ℕ} (p k size begin : ℕ) (words made : List (List Word)) (old new : LogView K V)
+pub traced-truncated : {K V : Type 0} {keeps : Bool} {code : K → ℕ} (cmp : K → K → Ordering) (join : V → V → V) (p k size begin : ℕ) (words made : List (List Word)) (old new : LogView K V)
     → new ≡ log.truncated keeps old begin
     → old.begin ≤ begin
     → IsLogOf keeps size new
     → SweepsEntries begin words made
     → length made ≡ length words
     → IsIndexMap made
-    → IsTraced keeps code (view_of p k size old words)
-    → IsTraced keeps code (view_of p k size new made)
-traced-truncated {K} {V} {keeps} {code} p k size begin words made old new is up known sweeps buckets map t =
-    let class = class_in code (view_of p k size old words) in
+    → IsTraced keeps code (view_of cmp join p k size old words)
+    → IsTraced keeps code (view_of cmp join p k size new made)
+traced-truncated {K} {V} {keeps} {code} cmp join p k size begin words made old new is up known sweeps buckets map t =
+    let class = class_in code (view_of cmp join p k size old words) in
+    let r = log-raw cmp join p k size words old t in
     let from : ℕ = text_begin keeps begin old.regions.offsets.closed in
     let cut : old.from ≤ from = subst (λ n. n ≤ from) (sym t.begins) (begins_rise keeps old.begin old.regions.offsets.closed begin old.regions.offsets.closed up (omega arith)) in
     let same : new.begin ≡ begin = ap (λ (l : LogView K V). l.begin) is in
     let first : 64 ≤ begin = subst (λ n. 64 ≤ n) same known.first in
     let low : begin ≤ from = begins_high keeps begin old.regions.offsets.closed in
-    traced-by p k size made new t.partition_bits t.bucket_bits known
-    (rw is (cut-chained class same_class old.from from old.text t.rising cut t.chained))
+    traced-by cmp join p k size made new t.partition_bits t.bucket_bits known
+    (rw is (cut-chained class same_class old.from from old.text r.rising cut r.chained))
     (rw buckets t.buckets)
     map
     (rw is (λ c.
-    let led = cut-leads class same_class old.from from old.text t.rising cut c (leads_to (entry_at words c.bucket c.tag)) (t.leads c) in
+    let led = cut-leads class same_class old.from from old.text r.rising cut c (leads_to (entry_at words c.bucket c.tag)) (r.leads c) in
     let last = last_of_class class same_class (text_from from old.text) c in
     let high : (e : Entry K V) → last ≡ Some e → from ≤ e.address = λ e h. (
     let m = last_where-in (has_class class same_class c) (text_from from old.text) e h in

@@ -14,7 +14,9 @@ use Rattle.fkv_regions.specs.declared.offsets.Region.{Region}
 use Rattle.fkv_regions.specs.declared.offsets.Region.TheVariants as region
 use Rattle.fkv_regions.specs.Offsets.{region_of}
 use Rattle.fkv_operations.specs.After.{key_of, after, after_update, answer, shown_of, told_of}
-use Rattle.fkv_lookups.specs.Decisions.{met_in, met_last, met_by, held_of, IsHeld, replaced, decision}
+use Rattle.fkv_texts.specs.Deltas.{onto}
+use Rattle.fkv_lookups.specs.declared.gathered.Gathered.{Gathered}
+use Rattle.fkv_lookups.specs.Decisions.{met_in, met_last, met_on, met_by, joined_to, held_of, IsHeld, replaced, decision}
 use Rattle.fkv_operations.specs.declared.operations.KeyedOp.{KeyedOp}
 use Rattle.fkv_operations.specs.declared.operations.KeyedOp.TheVariants.{Read, Upsert, Rmw, Delete}
 use Rattle.fkv_operations.specs.declared.operations.Answer.{Answer}
@@ -38,7 +40,7 @@ module _ {K V I O : Type 0} (cmp : K → K → Ordering) (f : Meanings K V I O) 
   Does op met (Replace v a) = IsHeld met (m (key_of op)) → (after cmp f m op ≡ with_at cmp m (key_of op) v) × (a ≡ answer f m op)
   Does op met (Prepare s i) = Unit {0}
   Does op met Wait = Unit {0}
-  Does op met (Load b) = Unit {0}
+  Does op met (Load b c) = Unit {0}
 
   -- the table, row by row
   does : (op : KeyedOp K V I) (met : LookupResult V) → Does op met (decision f op met)
@@ -47,13 +49,13 @@ module _ {K V I O : Type 0} (cmp : K → K → Ordering) (f : Meanings K V I O) 
   does (Read k i) (ReadOnly w) = λ order h. ((λ q. refl), ap (shown_of f k i) (sym h))
   does (Read k i) (Fuzzy w) = λ order h. ((λ q. refl), ap (shown_of f k i) (sym h))
   does (Read k i) (Mutable w) = λ order h. ((λ q. refl), ap (shown_of f k i) (sym h))
-  does (Read k i) (OnDisk b) = tt
+  does (Read k i) (OnDisk b c) = tt
   does (Upsert k u) NoEntry = tt
   does (Upsert k u) NoValue = (refl, refl)
   does (Upsert k u) (ReadOnly w) = (refl, refl)
   does (Upsert k u) (Fuzzy w) = (refl, refl)
   does (Upsert k u) (Mutable w) = λ h. (refl, refl)
-  does (Upsert k u) (OnDisk b) = (refl, refl)
+  does (Upsert k u) (OnDisk b c) = (refl, refl)
   does (Rmw k i) NoEntry = tt
   does (Rmw k i) NoValue = tt
   does (Rmw k i) (ReadOnly w) = tt
@@ -66,13 +68,13 @@ module _ {K V I O : Type 0} (cmp : K → K → Ordering) (f : Meanings K V I O) 
       by_next : (o : Option V) → f.next k w i ≡ o → Does (Rmw k i) (Mutable w) (replaced f k i o)
       by_next None e = λ order h. ((λ q. ap (λ (o : Option V). after_update cmp m k o q) (came None e h)), sym (ap (told_of f k i) (came None e h)))
       by_next (Some v) e = λ h. (ap (after_update cmp m k) (came (Some v) e h), sym (ap (told_of f k i) (came (Some v) e h)))
-  does (Rmw k i) (OnDisk b) = tt
+  does (Rmw k i) (OnDisk b c) = tt
   does (Delete k) NoEntry = λ order h. ((λ q. sym (removed (is_at (cmp k) q) (m q) (λ t. ap m (sym (order.same k q t)) ∙ h))), refl)
   does (Delete k) NoValue = λ order h. ((λ q. sym (removed (is_at (cmp k) q) (m q) (λ t. ap m (sym (order.same k q t)) ∙ h))), refl)
   does (Delete k) (ReadOnly w) = (refl, refl)
   does (Delete k) (Fuzzy w) = (refl, refl)
   does (Delete k) (Mutable w) = λ h. (refl, refl)
-  does (Delete k) (OnDisk b) = (refl, refl)
+  does (Delete k) (OnDisk b c) = (refl, refl)
 
   -- an operation that is done without a write leaves the map as it is, and answers as the map does
   pub quiet-does : IsKeyOrder cmp
@@ -104,7 +106,7 @@ module _ {K V I O : Type 0} (f : Meanings K V I O) where
   IsDecided op met (Replace v a) = (w : V) × (met ≡ Mutable w)
   IsDecided op met (Prepare s i) = (op ≡ Rmw (key_of op) i) × (s ≡ held_of met) × ((met ≡ NoValue) ⊎ ((w : V) × (met ≡ ReadOnly w)))
   IsDecided op met Wait = ((i : I) × (op ≡ Rmw (key_of op) i)) × ((w : V) × (met ≡ Fuzzy w))
-  IsDecided op met (Load b) = (met ≡ OnDisk b) × ((i : I) × ((op ≡ Read (key_of op) i) ⊎ (op ≡ Rmw (key_of op) i)))
+  IsDecided op met (Load b c) = (met ≡ OnDisk b c) × ((i : I) × ((op ≡ Read (key_of op) i) ⊎ (op ≡ Rmw (key_of op) i)))
 
   -- the table, row by row
   is-decided : (op : KeyedOp K V I) (met : LookupResult V) → IsDecided op met (decision f op met)
@@ -113,13 +115,13 @@ module _ {K V I O : Type 0} (f : Meanings K V I O) where
   is-decided (Read k i) (ReadOnly w) = tt
   is-decided (Read k i) (Fuzzy w) = tt
   is-decided (Read k i) (Mutable w) = tt
-  is-decided (Read k i) (OnDisk b) = (refl, (i, inl refl))
+  is-decided (Read k i) (OnDisk b c) = (refl, (i, inl refl))
   is-decided (Upsert k u) NoEntry = refl
   is-decided (Upsert k u) NoValue = λ e. cc
   is-decided (Upsert k u) (ReadOnly w) = λ e. cc
   is-decided (Upsert k u) (Fuzzy w) = λ e. cc
   is-decided (Upsert k u) (Mutable w) = (w, refl)
-  is-decided (Upsert k u) (OnDisk b) = λ e. cc
+  is-decided (Upsert k u) (OnDisk b c) = λ e. cc
   is-decided (Rmw k i) NoEntry = refl
   is-decided (Rmw k i) NoValue = (refl, refl, inl refl)
   is-decided (Rmw k i) (ReadOnly w) = (refl, refl, inr (w, refl))
@@ -129,13 +131,13 @@ module _ {K V I O : Type 0} (f : Meanings K V I O) where
       by_next : (o : Option V) → IsDecided (Rmw k i) (Mutable w) (replaced f k i o)
       by_next None = tt
       by_next (Some v) = (w, refl)
-  is-decided (Rmw k i) (OnDisk b) = (refl, (i, inr refl))
+  is-decided (Rmw k i) (OnDisk b c) = (refl, (i, inr refl))
   is-decided (Delete k) NoEntry = tt
   is-decided (Delete k) NoValue = tt
   is-decided (Delete k) (ReadOnly w) = λ e. cc
   is-decided (Delete k) (Fuzzy w) = λ e. cc
   is-decided (Delete k) (Mutable w) = (w, refl)
-  is-decided (Delete k) (OnDisk b) = λ e. cc
+  is-decided (Delete k) (OnDisk b c) = λ e. cc
 
   -- one that asks for a value is an update by an input, and its source is what was met: none, or a value that changes no
   -- more
@@ -172,20 +174,20 @@ module _ {K V I O : Type 0} (f : Meanings K V I O) where
   wait-met op met d = (subst (IsDecided op met) d (is-decided op met)).1
 
   -- without an entry nothing is written but an entry
-  pub append-entry : (op : KeyedOp K V I) (entry : Option ℕ) (begin : ℕ) (view : View) (r : ChainPosition K V) (v : Option V) (a : Answer O)
-      → decision f op (met_by entry begin view r) ≡ Append v a
+  pub append-entry : (op : KeyedOp K V I) (join : V → V → V) (entry : Option ℕ) (begin : ℕ) (view : View) (came : Gathered K V) (v : Option V) (a : Answer O)
+      → decision f op (met_by join entry begin view came) ≡ Append v a
       → IsSome entry
-  append-entry op None begin view r v a d = absurd (subst (IsDecided op NoEntry) d (is-decided op NoEntry) refl)
-  append-entry op (Some e) begin view r v a d = refl
+  append-entry op join None begin view came v a d = absurd (subst (IsDecided op NoEntry) d (is-decided op NoEntry) refl)
+  append-entry op join (Some e) begin view came v a d = refl
 
-  pub prepare-entry : (op : KeyedOp K V I) (entry : Option ℕ) (begin : ℕ) (view : View) (r : ChainPosition K V) (s : Option V) (i : I)
-      → decision f op (met_by entry begin view r) ≡ Prepare s i
+  pub prepare-entry : (op : KeyedOp K V I) (join : V → V → V) (entry : Option ℕ) (begin : ℕ) (view : View) (came : Gathered K V) (s : Option V) (i : I)
+      → decision f op (met_by join entry begin view came) ≡ Prepare s i
       → IsSome entry
-  prepare-entry op None begin view r s i d = elim (prepare-met op NoEntry s i d) [
+  prepare-entry op join None begin view came s i d = elim (prepare-met op NoEntry s i d) [
     | inl e ↦ absurd (cc)
     | inr e ↦ absurd (let no = e.1 in cc)
   ]
-  prepare-entry op (Some e) begin view r s i d = refl
+  prepare-entry op join (Some e) begin view came s i d = refl
 
   pub claim-met : (op : KeyedOp K V I) (met : LookupResult V)
       → decision f op met ≡ Claim
@@ -193,15 +195,15 @@ module _ {K V I O : Type 0} (f : Meanings K V I O) where
   claim-met op met d = subst (IsDecided op met) d (is-decided op met)
 
   -- only a read or an update asks for a page, and what it met lies there
-  pub load-met : (op : KeyedOp K V I) (met : LookupResult V) (b : ℕ)
-      → decision f op met ≡ Load b
-      → met ≡ OnDisk b
-  load-met op met b d = (subst (IsDecided op met) d (is-decided op met)).0
+  pub load-met : (op : KeyedOp K V I) (met : LookupResult V) (b : ℕ) (c : Option V)
+      → decision f op met ≡ Load b c
+      → met ≡ OnDisk b c
+  load-met op met b c d = (subst (IsDecided op met) d (is-decided op met)).0
 
-  pub load-op : (op : KeyedOp K V I) (met : LookupResult V) (b : ℕ)
-      → decision f op met ≡ Load b
+  pub load-op : (op : KeyedOp K V I) (met : LookupResult V) (b : ℕ) (c : Option V)
+      → decision f op met ≡ Load b c
       → (i : I) × ((op ≡ Read (key_of op) i) ⊎ (op ≡ Rmw (key_of op) i))
-  load-op op met b d = (subst (IsDecided op met) d (is-decided op met)).1
+  load-op op met b c d = (subst (IsDecided op met) d (is-decided op met)).1
 
 -- ---- what was met
 held-in : {V : Type 0} (r : Region) (v : V) (o : Option V) → o ≡ Some v → IsHeld (met_in r v) o
@@ -232,11 +234,11 @@ frozen-only region.ReadOnly v w h = ((cc), inl refl)
 frozen-only region.Fuzzy v w h = absurd (cc)
 frozen-only region.Mutable v w h = absurd (cc)
 
-disk-none : {V : Type 0} (r : Region) (v : V) (b : ℕ) → met_in r v ≡ OnDisk b → ⊥
-disk-none region.OnDisk v b h = cc
-disk-none region.ReadOnly v b h = cc
-disk-none region.Fuzzy v b h = cc
-disk-none region.Mutable v b h = cc
+disk-none : {V : Type 0} (r : Region) (v : V) (b : ℕ) (c : Option V) → met_in r v ≡ OnDisk b c → ⊥
+disk-none region.OnDisk v b c h = cc
+disk-none region.ReadOnly v b c h = cc
+disk-none region.Fuzzy v b c h = cc
+disk-none region.Mutable v b c h = cc
 
 none-none : {V : Type 0} (r : Region) (v : V) → met_in r v ≡ NoEntry → ⊥
 none-none region.OnDisk v h = cc
@@ -250,114 +252,222 @@ absent-none region.ReadOnly v h = cc
 absent-none region.Fuzzy v h = cc
 absent-none region.Mutable v h = cc
 
-module _ {K V : Type 0} (begin : ℕ) (view : View) where
-  -- what is met says what the key holds, where the look-up tells: the record that it comes to is the last of the key, and
-  -- below Begin there is none
-  pub held-met : (entry : Option ℕ) (r : ChainPosition K V) (o : Option V)
+-- a part is joined to what came before it, and where there is none, that stays
+joined-onto : {V : Type 0} (join : V → V → V) (v : Option V) (p : V) → onto join v (Some p) ≡ Some (joined_to join v p)
+joined-onto join None p = refl
+joined-onto join (Some v) p = refl
+
+onto-none : {V : Type 0} (join : V → V → V) (v : Option V) → onto join v None ≡ v
+onto-none join None = refl
+onto-none join (Some v) = refl
+
+module _ {K V : Type 0} (join : V → V → V) (begin : ℕ) (view : View) where
+  -- what is met says what the key holds, where the look-up tells: it comes to the last record of the key that is no delta,
+  -- and below Begin there is none
+  pub held-met : (entry : Option ℕ) (came : Gathered K V) (o : Option V)
       → (entry ≡ None → o ≡ None)
-      → ((e : Entry K V) → r ≡ Found e → o ≡ e.value)
-      → ((b : ℕ) → r ≡ Below b → b < begin → o ≡ None)
-      → IsHeld (met_by entry begin view r) o
-  held-met None r o none found below = none refl
-  held-met (Some a) (Found e) o none found below = held-last view e.address e.value o (found e refl)
-  held-met (Some a) (Below b) o none found below = by_begin (nat_lt b begin) refl
+      → ((e : Entry K V) → came.position ≡ Found e → o ≡ onto join e.value came.parts)
+      → ((b : ℕ) → came.position ≡ Below b → b < begin → o ≡ came.parts)
+      → IsHeld (met_by join entry begin view came) o
+  held-met None came o none found below = none refl
+  held-met (Some a) came o none found below = on came.parts came.position found below
     where
-      by_begin : (c : Bool) → nat_lt b begin ≡ c → IsHeld (cond c NoValue (OnDisk b)) o
-      by_begin true h = below b refl (grind (arith, nat_tests))
-      by_begin false h = tt
+      on : (c : Option V) (r : ChainPosition K V)
+          → ((e : Entry K V) → r ≡ Found e → o ≡ onto join e.value c)
+          → ((b : ℕ) → r ≡ Below b → b < begin → o ≡ c)
+          → IsHeld (met_on join begin view c r) o
+      on None (Found e) found below = held-last view e.address e.value o (found e refl ∙ onto-none join e.value)
+      on (Some p) (Found e) found below = found e refl ∙ joined-onto join e.value p
+      on None (Below b) found below = by_begin (nat_lt b begin) refl
+        where
+          by_begin : (t : Bool) → nat_lt b begin ≡ t → IsHeld (cond t NoValue (OnDisk b None)) o
+          by_begin true h = below b refl (grind (arith, nat_tests))
+          by_begin false h = tt
+      on (Some p) (Below b) found below = by_begin (nat_lt b begin) refl
+        where
+          by_begin : (t : Bool) → nat_lt b begin ≡ t → IsHeld (cond t (ReadOnly p) (OnDisk b (Some p))) o
+          by_begin true h = below b refl (grind (arith, nat_tests))
+          by_begin false h = tt
 
   -- where there is no entry, and only there, none is met
-  pub none-met : (entry : Option ℕ) (r : ChainPosition K V) → met_by entry begin view r ≡ NoEntry → entry ≡ None
-  none-met None r h = refl
-  none-met (Some a) (Found e) h = absurd (by_value e.value h)
+  pub none-met : (entry : Option ℕ) (came : Gathered K V) → met_by join entry begin view came ≡ NoEntry → entry ≡ None
+  none-met None came h = refl
+  none-met (Some a) came h = absurd (on came.parts came.position h)
     where
-      by_value : (o : Option V) → met_last view e.address o ≡ NoEntry → ⊥
-      by_value None h = cc
-      by_value (Some v) h = none-none (region_of view e.address) v h
-  none-met (Some a) (Below b) h = absurd (by_begin (nat_lt b begin) h)
-    where
-      by_begin : (c : Bool) → cond {A = LookupResult V} c NoValue (OnDisk b) ≡ NoEntry → ⊥
-      by_begin true h = cc
-      by_begin false h = cc
+      on : (c : Option V) (r : ChainPosition K V) → met_on join begin view c r ≡ NoEntry → ⊥
+      on None (Found e) h = by_value e.value h
+        where
+          by_value : (o : Option V) → met_last view e.address o ≡ NoEntry → ⊥
+          by_value None h = cc
+          by_value (Some v) h = none-none (region_of view e.address) v h
+      on (Some p) (Found e) h = cc
+      on None (Below b) h = by_begin (nat_lt b begin) h
+        where
+          by_begin : (t : Bool) → cond {A = LookupResult V} t NoValue (OnDisk b None) ≡ NoEntry → ⊥
+          by_begin true h = cc
+          by_begin false h = cc
+      on (Some p) (Below b) h = by_begin (nat_lt b begin) h
+        where
+          by_begin : (t : Bool) → cond {A = LookupResult V} t (ReadOnly p) (OnDisk b (Some p)) ≡ NoEntry → ⊥
+          by_begin true h = cc
+          by_begin false h = cc
 
-  -- what lies on disk is where the look-up led, at or above Begin
-  pub record IsMetOnDisk (entry : Option ℕ) (r : ChainPosition K V) (b : ℕ) : Type 0 where
-    pub is : r ≡ Below b
+  -- what lies on disk is where the look-up led, at or above Begin, with the parts that it collected
+  pub record IsMetOnDisk (entry : Option ℕ) (came : Gathered K V) (b : ℕ) (c : Option V) : Type 0 where
+    pub is : came.position ≡ Below b
+    pub parts : came.parts ≡ c
     pub high : begin ≤ b
     pub some : IsSome entry
 
-  pub disk-met : (entry : Option ℕ) (r : ChainPosition K V) (b : ℕ) → met_by entry begin view r ≡ OnDisk b → IsMetOnDisk entry r b
-  disk-met None r b h = absurd (cc)
-  disk-met (Some a) (Found e) b h = absurd (by_value e.value h)
+  pub disk-met : (entry : Option ℕ) (came : Gathered K V) (b : ℕ) (parts : Option V)
+      → met_by join entry begin view came ≡ OnDisk b parts
+      → IsMetOnDisk entry came b parts
+  disk-met None came b parts h = absurd (cc)
+  disk-met (Some a) came b parts h =
+      let d = on came.parts came.position h in
+      record { is = d.0; parts = d.1; high = d.2; some = refl }
     where
-      by_value : (o : Option V) → met_last view e.address o ≡ OnDisk b → ⊥
-      by_value None h = cc
-      by_value (Some v) h = disk-none (region_of view e.address) v b h
-  disk-met (Some a) (Below c) b h = by_begin (nat_lt c begin) refl h
-    where
-      by_begin : (t : Bool) → nat_lt c begin ≡ t → cond {A = LookupResult V} t NoValue (OnDisk c) ≡ OnDisk b → IsMetOnDisk (Some a) (Below c) b
-      by_begin true is h = absurd (cc)
-      by_begin false is h =
-          let same : c ≡ b = cc in
-          let high : begin ≤ c = grind (arith, nat_tests) in
-          record { is = ap Below same; high = subst (λ (n : ℕ). begin ≤ n) same high; some = refl }
+      led : (c : Option V) (d : ℕ) (m : LookupResult V)
+          → ((n : ℕ) (o : Option V) → m ≡ OnDisk n o → ⊥)
+          → (t : Bool)
+          → nat_lt d begin ≡ t
+          → cond t m (OnDisk d c) ≡ OnDisk b parts
+          → (d ≡ b) × (c ≡ parts) × (begin ≤ b)
+      led c d m none true is h = absurd (none b parts h)
+      led c d m none false is h =
+          let same : d ≡ b = cc in
+          let high : begin ≤ d = grind (arith, nat_tests) in
+          (same, (cc), subst (λ (n : ℕ). begin ≤ n) same high)
 
-  -- a value is met in the region of the record that the look-up comes to
-  pub record IsMetIn (r : ChainPosition K V) (w : V) (g : Region) : Type 0 where
+      on : (c : Option V) (r : ChainPosition K V) → met_on join begin view c r ≡ OnDisk b parts → (r ≡ Below b) × (c ≡ parts) × (begin ≤ b)
+      on None (Found e) h = absurd (by_value e.value h)
+        where
+          by_value : (o : Option V) → met_last view e.address o ≡ OnDisk b parts → ⊥
+          by_value None h = cc
+          by_value (Some v) h = disk-none (region_of view e.address) v b parts h
+      on (Some p) (Found e) h = absurd (cc)
+      on None (Below d) h =
+          let l = led None d NoValue (λ n o e. cc) (nat_lt d begin) refl h in
+          (ap Below l.0, l.1, l.2)
+      on (Some p) (Below d) h =
+          let l = led (Some p) d (ReadOnly p) (λ n o e. cc) (nat_lt d begin) refl h in
+          (ap Below l.0, l.1, l.2)
+
+  -- a value is met in the region of the record that the look-up comes to, which is no delta, with no parts above
+  pub record IsMetIn (came : Gathered K V) (w : V) (g : Region) : Type 0 where
     pub entry : Entry K V
-    pub is : r ≡ Found entry
+    pub parts : came.parts ≡ None
+    pub is : came.position ≡ Found entry
     pub value : entry.value ≡ Some w
     pub region : region_of view entry.address ≡ g
+
+  -- or it was joined from the parts above, and from what the key had where the look-up ends
+  pub record IsMetJoined (came : Gathered K V) (w : V) : Type 0 where
+    pub part : V
+    pub parts : came.parts ≡ Some part
+    pub on : ((e : Entry K V) × (came.position ≡ Found e) × (w ≡ joined_to join e.value part))
+        ⊎ ((b : ℕ) × (came.position ≡ Below b) × (b < begin) × (w ≡ part))
 
   in-region : {P : Region → Type 0} (met : V → LookupResult V)
       → ((r : Region) (v w : V) → met_in r v ≡ met w → (v ≡ w) × P r)
       → ((w : V) → NoEntry ≡ met w → ⊥)
       → ((w : V) → NoValue ≡ met w → ⊥)
-      → ((b : ℕ) (w : V) → OnDisk b ≡ met w → ⊥)
-      → (entry : Option ℕ) (r : ChainPosition K V) (w : V)
-      → met_by entry begin view r ≡ met w
-      → (g : Region) × P g × IsMetIn r w g
-  in-region met is no_entry no_value no_disk None r w h = absurd (no_entry w h)
-  in-region met is no_entry no_value no_disk (Some a) (Below b) w h = absurd (by_begin (nat_lt b begin) h)
+      → ((b : ℕ) (c : Option V) (w : V) → OnDisk b c ≡ met w → ⊥)
+      → (entry : Option ℕ) (came : Gathered K V) (w : V)
+      → met_by join entry begin view came ≡ met w
+      → ((g : Region) × P g × IsMetIn came w g) ⊎ ((p : V) × (came.parts ≡ Some p) × (met_on join begin view (Some p) came.position ≡ met w))
+  in-region met is no_entry no_value no_disk None came w h = absurd (no_entry w h)
+  in-region {P} met is no_entry no_value no_disk (Some a) came w h = by_parts came.parts refl h
     where
-      by_begin : (c : Bool) → cond c NoValue (OnDisk b) ≡ met w → ⊥
-      by_begin true h = no_value w h
-      by_begin false h = no_disk b w h
-  in-region {P} met is no_entry no_value no_disk (Some a) (Found e) w h = by_value e.value refl h
+      on : came.parts ≡ None → (r : ChainPosition K V) → came.position ≡ r → met_on join begin view None r ≡ met w → (g : Region) × P g × IsMetIn came w g
+      on none (Below b) at h = absurd (by_begin (nat_lt b begin) h)
+        where
+          by_begin : (t : Bool) → cond t NoValue (OnDisk b None) ≡ met w → ⊥
+          by_begin true h = no_value w h
+          by_begin false h = no_disk b None w h
+      on none (Found e) at h = by_value e.value refl h
+        where
+          by_value : (o : Option V) → e.value ≡ o → met_last view e.address o ≡ met w → (g : Region) × P g × IsMetIn came w g
+          by_value None q h = absurd (no_value w h)
+          by_value (Some v) q h =
+              let i = is (region_of view e.address) v w h in
+              (region_of view e.address, i.1, record { entry = e; parts = none; is = at; value = q ∙ ap Some i.0; region = refl })
+
+      by_parts : (c : Option V) → came.parts ≡ c → met_on join begin view c came.position ≡ met w
+          → ((g : Region) × P g × IsMetIn came w g) ⊎ ((p : V) × (came.parts ≡ Some p) × (met_on join begin view (Some p) came.position ≡ met w))
+      by_parts None is h = inl (on is came.position refl h)
+      by_parts (Some p) is h = inr (p, is, h)
+
+  -- with parts, a value that is met changes no more
+  no-region : (p : V) (r : ChainPosition K V) (m : LookupResult V)
+      → ((w : V) → ReadOnly w ≡ m → ⊥)
+      → ((b : ℕ) (c : Option V) → OnDisk b c ≡ m → ⊥)
+      → met_on join begin view (Some p) r ≡ m
+      → ⊥
+  no-region p (Found e) m no_value no_disk h = no_value (joined_to join e.value p) h
+  no-region p (Below b) m no_value no_disk h = by_begin (nat_lt b begin) h
     where
-      by_value : (o : Option V) → e.value ≡ o → met_last view e.address o ≡ met w → (g : Region) × P g × IsMetIn (Found e) w g
-      by_value None q h = absurd (no_value w h)
-      by_value (Some v) q h =
-          let i = is (region_of view e.address) v w h in
-          (region_of view e.address, i.1, record { entry = e; is = refl; value = q ∙ ap Some i.0; region = refl })
+      by_begin : (t : Bool) → cond t (ReadOnly p) (OnDisk b (Some p)) ≡ m → ⊥
+      by_begin true h = no_value p h
+      by_begin false h = no_disk b (Some p) h
 
-  pub mutable-met : (entry : Option ℕ) (r : ChainPosition K V) (w : V) → met_by entry begin view r ≡ Mutable w → IsMetIn r w region.Mutable
-  mutable-met entry r w h =
-      let m = in-region {P = λ g. g ≡ region.Mutable} Mutable mutable-only (λ w e. cc) (λ w e. cc) (λ b w e. cc) entry r w h in
-      let i = m.2 in
-      record { entry = i.entry; is = i.is; value = i.value; region = i.region ∙ m.1 }
+  pub mutable-met : (entry : Option ℕ) (came : Gathered K V) (w : V)
+      → met_by join entry begin view came ≡ Mutable w
+      → IsMetIn came w region.Mutable
+  mutable-met entry came w h =
+      elim (in-region {P = λ g. g ≡ region.Mutable} Mutable mutable-only (λ w e. cc) (λ w e. cc) (λ b c w e. cc) entry came w h) [
+        | inl m ↦ let i = m.2 in record { entry = i.entry; parts = i.parts; is = i.is; value = i.value; region = i.region ∙ m.1 }
+        | inr p ↦ absurd (no-region p.0 came.position (Mutable w) (λ w e. cc) (λ b c e. cc) p.2)
+      ]
 
-  pub fuzzy-met : (entry : Option ℕ) (r : ChainPosition K V) (w : V) → met_by entry begin view r ≡ Fuzzy w → IsMetIn r w region.Fuzzy
-  fuzzy-met entry r w h =
-      let m = in-region {P = λ g. g ≡ region.Fuzzy} Fuzzy fuzzy-only (λ w e. cc) (λ w e. cc) (λ b w e. cc) entry r w h in
-      let i = m.2 in
-      record { entry = i.entry; is = i.is; value = i.value; region = i.region ∙ m.1 }
+  pub fuzzy-met : (entry : Option ℕ) (came : Gathered K V) (w : V)
+      → met_by join entry begin view came ≡ Fuzzy w
+      → IsMetIn came w region.Fuzzy
+  fuzzy-met entry came w h =
+      elim (in-region {P = λ g. g ≡ region.Fuzzy} Fuzzy fuzzy-only (λ w e. cc) (λ w e. cc) (λ b c w e. cc) entry came w h) [
+        | inl m ↦ let i = m.2 in record { entry = i.entry; parts = i.parts; is = i.is; value = i.value; region = i.region ∙ m.1 }
+        | inr p ↦ absurd (no-region p.0 came.position (Fuzzy w) (λ w e. cc) (λ b c e. cc) p.2)
+      ]
 
-  pub frozen-met : (entry : Option ℕ) (r : ChainPosition K V) (w : V) → met_by entry begin view r ≡ ReadOnly w
-      → (g : Region) × ((g ≡ region.ReadOnly) ⊎ (g ≡ region.OnDisk)) × IsMetIn r w g
-  frozen-met entry r w h = in-region {P = λ g. (g ≡ region.ReadOnly) ⊎ (g ≡ region.OnDisk)} ReadOnly frozen-only (λ w e. cc) (λ w e. cc) (λ b w e. cc) entry r w h
-
-  -- where there is no value, the look-up came to a tombstone, or below Begin
-  pub absent-met : (entry : Option ℕ) (r : ChainPosition K V) → met_by entry begin view r ≡ NoValue
-      → ((e : Entry K V) × (r ≡ Found e) × (e.value ≡ None)) ⊎ ((b : ℕ) × (r ≡ Below b) × (b < begin))
-  absent-met None r h = absurd (cc)
-  absent-met (Some a) (Found e) h = inl (e, refl, by_value e.value refl h)
+  pub frozen-met : (entry : Option ℕ) (came : Gathered K V) (w : V)
+      → met_by join entry begin view came ≡ ReadOnly w
+      → ((g : Region) × ((g ≡ region.ReadOnly) ⊎ (g ≡ region.OnDisk)) × IsMetIn came w g) ⊎ IsMetJoined came w
+  frozen-met entry came w h =
+      elim (in-region {P = λ g. (g ≡ region.ReadOnly) ⊎ (g ≡ region.OnDisk)} ReadOnly frozen-only (λ w e. cc) (λ w e. cc) (λ b c w e. cc) entry came w h) [
+        | inl m ↦ inl m
+        | inr p ↦ inr (record { part = p.0; parts = p.1; on = on p.0 came.position p.2 })
+      ]
     where
-      by_value : (o : Option V) → e.value ≡ o → met_last view e.address o ≡ NoValue → e.value ≡ None
-      by_value None q h = q
-      by_value (Some v) q h = absurd (absent-none (region_of view e.address) v h)
-  absent-met (Some a) (Below b) h = inr (b, refl, by_begin (nat_lt b begin) refl h)
+      on : (p : V) (r : ChainPosition K V) → met_on join begin view (Some p) r ≡ ReadOnly w
+          → ((e : Entry K V) × (r ≡ Found e) × (w ≡ joined_to join e.value p)) ⊎ ((b : ℕ) × (r ≡ Below b) × (b < begin) × (w ≡ p))
+      on p (Found e) h = inl (e, refl, (cc))
+      on p (Below b) h = let both = by_begin (nat_lt b begin) refl h in inr (b, refl, both.0, both.1)
+        where
+          by_begin : (t : Bool) → nat_lt b begin ≡ t → cond t (ReadOnly p) (OnDisk b (Some p)) ≡ ReadOnly w → (b < begin) × (w ≡ p)
+          by_begin true is h = (grind (arith, nat_tests), (cc))
+          by_begin false is h = absurd (cc)
+
+  -- where there is no value, the look-up came to a tombstone, or below Begin, with no parts above
+  pub absent-met : (entry : Option ℕ) (came : Gathered K V)
+      → met_by join entry begin view came ≡ NoValue
+      → (came.parts ≡ None) × (((e : Entry K V) × (came.position ≡ Found e) × (e.value ≡ None)) ⊎ ((b : ℕ) × (came.position ≡ Below b) × (b < begin)))
+  absent-met None came h = absurd (cc)
+  absent-met (Some a) came h = by_parts came.parts h
     where
-      by_begin : (c : Bool) → nat_lt b begin ≡ c → cond {A = LookupResult V} c NoValue (OnDisk b) ≡ NoValue → b < begin
-      by_begin true is h = grind (arith, nat_tests)
-      by_begin false is h = absurd (cc)
+      on : (r : ChainPosition K V) → met_on join begin view None r ≡ NoValue
+          → ((e : Entry K V) × (r ≡ Found e) × (e.value ≡ None)) ⊎ ((b : ℕ) × (r ≡ Below b) × (b < begin))
+      on (Found e) h = inl (e, refl, by_value e.value refl h)
+        where
+          by_value : (o : Option V) → e.value ≡ o → met_last view e.address o ≡ NoValue → e.value ≡ None
+          by_value None q h = q
+          by_value (Some v) q h = absurd (absent-none (region_of view e.address) v h)
+      on (Below b) h = inr (b, refl, by_begin (nat_lt b begin) refl h)
+        where
+          by_begin : (t : Bool) → nat_lt b begin ≡ t → cond {A = LookupResult V} t NoValue (OnDisk b None) ≡ NoValue → b < begin
+          by_begin true is h = grind (arith, nat_tests)
+          by_begin false is h = absurd (cc)
+
+      by_parts : (c : Option V) → met_on join begin view c came.position ≡ NoValue
+          → (c ≡ None) × (((e : Entry K V) × (came.position ≡ Found e) × (e.value ≡ None)) ⊎ ((b : ℕ) × (came.position ≡ Below b) × (b < begin)))
+      by_parts None h = (refl, on came.position h)
+      by_parts (Some p) h = absurd (no-region p came.position NoValue (λ w e. cc) (λ b c e. cc) h)

@@ -11,6 +11,7 @@ use Rattle.fkv_operations.specs.After.{shown_of}
 use Rattle.fkv_operations.specs.declared.operations.KeyedOp.{KeyedOp}
 use Rattle.fkv_operations.specs.declared.operations.KeyedOp.TheVariants.{Read, Upsert, Rmw, Delete}
 use Rattle.fkv_operations.specs.declared.operations.Answer.TheVariants.{Value, Stored, Deleted, Declined}
+use Rattle.fkv_lookups.specs.declared.gathered.Gathered.{Gathered}
 use Rattle.fkv_lookups.specs.declared.decisions.LookupResult.{LookupResult}
 use Rattle.fkv_lookups.specs.declared.decisions.LookupResult.TheVariants.{NoEntry, NoValue, ReadOnly, Fuzzy, Mutable, OnDisk}
 use Rattle.fkv_lookups.specs.declared.decisions.Decision.{Decision}
@@ -33,13 +34,24 @@ met_last view a (Some v) = met_in (region_of view a) v
 abbrev pub low_of : ℕ → View → ℕ
 low_of begin view = cond (nat_le begin view.head) view.head begin
 
--- what is met, by the address to which the entry of the key's class leads, by Begin and the session's view, and by what
--- the look-up comes to: the last record of the key, or where the records of its class lead below what was read, which is
--- nowhere below Begin
-abbrev pub met_by : {K V : Type 0} → Option ℕ → ℕ → View → ChainPosition K V → LookupResult V
-met_by None begin view reached = NoEntry
-met_by (Some a) begin view (Found e) = met_last view e.address e.value
-met_by (Some a) begin view (Below b) = cond (nat_lt b begin) NoValue (OnDisk b)
+-- a value that ends with this part, from what the key had before it
+abbrev pub joined_to : {V : Type 0} → (V → V → V) → Option V → V → V
+joined_to join None p = p
+joined_to join (Some v) p = join v p
+
+-- what is met where a look-up of a key comes to: its last record, where that is no delta; or, where parts of deltas were
+-- collected, their value, which nobody changes where it stands; or where the records of its class lead below what was read,
+-- which is nowhere below Begin
+abbrev pub met_on : {K V : Type 0} → (V → V → V) → ℕ → View → Option V → ChainPosition K V → LookupResult V
+met_on join begin view None (Found e) = met_last view e.address e.value
+met_on join begin view (Some p) (Found e) = ReadOnly (joined_to join e.value p)
+met_on join begin view None (Below b) = cond (nat_lt b begin) NoValue (OnDisk b None)
+met_on join begin view (Some p) (Below b) = cond (nat_lt b begin) (ReadOnly p) (OnDisk b (Some p))
+
+-- and by the address to which the entry of the key's class leads
+abbrev pub met_by : {K V : Type 0} → (V → V → V) → Option ℕ → ℕ → View → Gathered K V → LookupResult V
+met_by join None begin view came = NoEntry
+met_by join (Some a) begin view came = met_on join begin view came.parts came.position
 
 -- the value that was met; what lies on disk is not known yet
 abbrev pub held_of : {V : Type 0} → LookupResult V → Option V
@@ -48,7 +60,7 @@ held_of NoValue = None
 held_of (ReadOnly v) = Some v
 held_of (Fuzzy v) = Some v
 held_of (Mutable v) = Some v
-held_of (OnDisk b) = None
+held_of (OnDisk b c) = None
 
 -- what a key's value is said to be by what was met: nothing is said where a page has to be loaded
 abbrev pub IsHeld : {V : Type 0} → LookupResult V → Option V → Type 0
@@ -57,7 +69,7 @@ IsHeld NoValue o = o ≡ None
 IsHeld (ReadOnly v) o = o ≡ Some v
 IsHeld (Fuzzy v) o = o ≡ Some v
 IsHeld (Mutable v) o = o ≡ Some v
-IsHeld (OnDisk b) o = Unit {0}
+IsHeld (OnDisk b c) o = Unit {0}
 
 -- what an update does to a value that may be changed in place, by what it comes to: it replaces the value, or is declined
 -- and writes nothing
@@ -72,22 +84,22 @@ decision f (Read k i) NoValue = Done (shown_of f k i None)
 decision f (Read k i) (ReadOnly w) = Done (shown_of f k i (Some w))
 decision f (Read k i) (Fuzzy w) = Done (shown_of f k i (Some w))
 decision f (Read k i) (Mutable w) = Done (shown_of f k i (Some w))
-decision f (Read k i) (OnDisk b) = Load b
+decision f (Read k i) (OnDisk b c) = Load b c
 decision f (Upsert k v) NoEntry = Claim
 decision f (Upsert k v) NoValue = Append (Some v) Stored
 decision f (Upsert k v) (ReadOnly w) = Append (Some v) Stored
 decision f (Upsert k v) (Fuzzy w) = Append (Some v) Stored
 decision f (Upsert k v) (Mutable w) = Replace (Some v) Stored
-decision f (Upsert k v) (OnDisk b) = Append (Some v) Stored
+decision f (Upsert k v) (OnDisk b c) = Append (Some v) Stored
 decision f (Rmw k i) NoEntry = Claim
 decision f (Rmw k i) NoValue = Prepare None i
 decision f (Rmw k i) (ReadOnly w) = Prepare (Some w) i
 decision f (Rmw k i) (Fuzzy w) = Wait
 decision f (Rmw k i) (Mutable w) = replaced f k i (f.next k w i)
-decision f (Rmw k i) (OnDisk b) = Load b
+decision f (Rmw k i) (OnDisk b c) = Load b c
 decision f (Delete k) NoEntry = Done Deleted
 decision f (Delete k) NoValue = Done Deleted
 decision f (Delete k) (ReadOnly w) = Append None Deleted
 decision f (Delete k) (Fuzzy w) = Append None Deleted
 decision f (Delete k) (Mutable w) = Replace None Deleted
-decision f (Delete k) (OnDisk b) = Append None Deleted
+decision f (Delete k) (OnDisk b c) = Append None Deleted

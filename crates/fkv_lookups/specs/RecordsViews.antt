@@ -1,12 +1,14 @@
 -- What a contract sees of the records of a partition.
-use Rattle.std.specs.Prelude.{◌≡◌, ◌+◌, ◌^◌, ◌<◌, ◌≤◌, ℕ, Bool, IsTrue, List, [], ◌∷◌, ◌++◌, Option, Some, None, option_map, false}
+use Rattle.std.specs.Prelude.{◌≡◌, ◌+◌, ◌^◌, ◌<◌, ◌≤◌, ℕ, Bool, IsTrue, List, [], ◌∷◌, ◌++◌, Option, Some, None, IsSome, option_map, false}
 use Rattle.std.specs.Prelude.{drop, replicate, map}
+use Rattle.std.specs.declared.cmp.Ordering.{Ordering}
 use Rattle.fkv_records.specs.Places.{page_at, offset_at, start_at}
 use Rattle.fkv_device.specs.Standing.{Standing}
 use Rattle.fkv_pages.specs.Views.{text_begin}
 use Rattle.fkv_texts.specs.declared.entries.Entry.{Entry}
 use Rattle.fkv_texts.specs.Places.{tail_after}
 use Rattle.fkv_texts.specs.Text.{changed, text_from}
+use Rattle.fkv_texts.specs.Text as text
 use Rattle.fkv_regions.specs.RegionsView.{RegionsView, fresh_regions, with_flushed}
 use Rattle.fkv_index.specs.declared.words.Word.{Word}
 use Rattle.fkv_index.specs.declared.places.Place.{Place}
@@ -19,9 +21,10 @@ use Rattle.fkv_operations.specs.declared.entries.IndexEntry.{IndexEntry}
 use Rattle.fkv_operations.specs.Classes.{class_at}
 use Rattle.fkv_operations.specs.KeptWords.{IndexedText}
 
--- the records of one of 2 ^ partition_bits partitions, whose classes have 2 ^ bucket_bits buckets: what a log is seen as,
--- with its text, its regions, its sessions and what each has seen of them, and its pages' receipts; and the words of an
--- index, bucket by bucket
+-- The records of one of 2 ^ partition_bits partitions, whose classes have 2 ^ bucket_bits buckets: what a log is seen as,
+-- with its regions, its sessions and what each has seen of them, and its pages' receipts; and the words of an index,
+-- bucket by bucket. `entries` are the records as pages spell them, `text` the same records, each with what its key has
+-- once it stands: a delta is joined with what the key had.
 pub record RecordsView (K V : Type 0) : Type 0 where
   pub partition_bits : ℕ
   pub bucket_bits : ℕ
@@ -34,6 +37,7 @@ pub record RecordsView (K V : Type 0) : Type 0 where
   pub regions : RegionsView
   pub receipts : List Standing
   pub waiting : List (List ℕ)
+  pub entries : List (Entry K V)
   pub text : List (Entry K V)
   pub words : List (List Word)
 
@@ -51,6 +55,7 @@ empty_records partition_bits bucket_bits page_bits record_size frames = record {
   regions = fresh_regions page_bits;
   receipts = [];
   waiting = [];
+  entries = [];
   text = [];
   words = replicate (2 ^ bucket_bits) (replicate 7 empty);
 }
@@ -93,17 +98,32 @@ pub record WasEntryOf {K V : Type 0} (v : RecordsView K V) (c : Class) (e : Inde
   pub final : IsTrue (is_final e.word)
   pub tag : tag_of e.word ≡ c.tag
 
--- with a record at the tail, behind the one to which the entry leads, and the entry moved to it
+-- the record of a value, or a tombstone, that is written for a key at the tail, behind the one to which the entry leads
+abbrev pub record_for : {K V : Type 0} → RecordsView K V → IndexEntry → K → Option V → Entry K V
+record_for v e key value =
+    record { address = v.tail; previous = address_of e.word; key = key; value = value; delta = false }
+
+-- with that record, and the entry moved to it
 abbrev pub with_record : {K V : Type 0} → RecordsView K V → IndexEntry → K → Option V → RecordsView K V
 with_record v e key value = record v {
-  text = v.text ++ record { address = v.tail; previous = address_of e.word; key = key; value = value; delta = false } ∷ [];
+  entries = v.entries ++ record_for v e key value ∷ [];
+  text = v.text ++ record_for v e key value ∷ [];
   tail = tail_after v.page_bits v.record_size v.tail;
   words = with_word v.words e.place (final_word (tag_of e.word) v.tail);
 }
 
--- with another value in the record at an address, or with a tombstone there
+-- the record at an address may have another value where it stands: it is the last of its key and has a value, and it is no
+-- delta
+pub record IsReplaceable {K V : Type 0} (cmp : K → K → Ordering) (v : RecordsView K V) (a : ℕ) : Type 0 where
+  pub entry : Entry K V
+  pub here : text.entry_at v.text a ≡ Some entry
+  pub last : text.last_of cmp v.text entry.key ≡ Some entry
+  pub some : IsSome entry.value
+  pub whole : entry.delta ≡ false
+
+-- with another value in the record at an address, which is the last of its key and no delta, or with a tombstone there
 abbrev pub with_value : {K V : Type 0} → RecordsView K V → ℕ → Option V → RecordsView K V
-with_value v a value = record v { text = changed v.text a value }
+with_value v a value = record v { entries = changed v.entries a value; text = changed v.text a value }
 
 -- with these regions
 abbrev pub with_regions : {K V : Type 0} → RecordsView K V → RegionsView → RecordsView K V
@@ -131,33 +151,38 @@ with_receipt v s = record v {
   regions = with_flushed v.regions (v.regions.flushed + 1);
 }
 
--- with these regions, by which more may be frozen and closed: more pages may wait to be flushed, and the text begins no
--- lower than where frames are closed, unless the device keeps
-abbrev pub moved : {K V : Type 0} → Bool → RecordsView K V → RegionsView → List (List ℕ) → RecordsView K V
-moved keeps v regions more = record v {
+-- with these regions, by which more may be frozen and closed: more pages may wait to be flushed, and the records begin no
+-- lower than where frames are closed, unless the device keeps; each is then in this text with what its key has
+abbrev pub moved : {K V : Type 0} → Bool → RecordsView K V → RegionsView → List (List ℕ) → List (Entry K V)
+    → RecordsView K V
+moved keeps v regions more text = record v {
   regions = regions;
   from = text_begin keeps v.begin regions.offsets.closed;
   waiting = v.waiting ++ more;
-  text = text_from (text_begin keeps v.begin regions.offsets.closed) v.text;
+  entries = text_from (text_begin keeps v.begin regions.offsets.closed) v.entries;
+  text = text;
 }
 
 -- the regions have become these, and the records followed; on a device that keeps, the text stays
 pub record IsMoved {K V : Type 0} (keeps : Bool) (regions : RegionsView) (old new : RecordsView K V) : Type 0 where
   pub more : List (List ℕ)
-  pub is : new ≡ moved keeps old regions more
+  pub is : new ≡ moved keeps old regions more new.text
   pub kept : IsTrue keeps → new.text ≡ old.text
+  pub entries : IsTrue keeps → new.entries ≡ old.entries
 
 -- when Begin may move to the start of a page: it rises, no higher than Head
 pub record IsTruncationDue {K V : Type 0} (v : RecordsView K V) (page : ℕ) : Type 0 where
   pub higher : v.begin < start_at v.page_bits page
   pub headed : start_at v.page_bits page ≤ v.regions.offsets.head
 
--- with the records below an address dropped, and the entries emptied that lead below it
-abbrev pub truncated : {K V : Type 0} → Bool → RecordsView K V → ℕ → RecordsView K V
-truncated keeps v begin = record v {
+-- with the records below an address dropped, and the entries emptied that lead below it; each record is then in this text
+-- with what its key has
+abbrev pub truncated : {K V : Type 0} → Bool → RecordsView K V → ℕ → List (Entry K V) → RecordsView K V
+truncated keeps v begin text = record v {
   begin = begin;
   from = text_begin keeps begin v.regions.offsets.closed;
-  text = text_from (text_begin keeps begin v.regions.offsets.closed) v.text;
+  entries = text_from (text_begin keeps begin v.regions.offsets.closed) v.entries;
+  text = text;
   words = map (map (swept begin)) v.words;
 }
 

@@ -6,7 +6,8 @@ use Rattle.fkv_records.specs.Places.{IsShape}
 use Rattle.fkv_records.specs.Records.{IsPrevious}
 use Rattle.fkv_texts.specs.Places.{IsLaidOut}
 use Rattle.fkv_texts.specs.Text.{IsRising, IsFrom, IsBelow}
-use Rattle.fkv_texts.specs.Deltas.{AreWhole}
+use Rattle.std.specs.declared.cmp.Ordering.{Ordering}
+use Rattle.fkv_texts.specs.Deltas.{IsAssociative, stood, AreValued}
 use Rattle.fkv_texts.specs.Chains.{last_of_class, Leads, IsChained}
 use Rattle.fkv_epoch.specs.Timely.{IsTimely}
 use Rattle.fkv_regions.specs.RegionsView.{RegionsView}
@@ -37,8 +38,6 @@ pub record IsTraced {K V : Type 0} (keeps : Bool) (code : K → ℕ) (v : Record
   pub rising : IsRising v.text
   pub from : IsFrom v.from v.text
   pub below : IsBelow v.tail v.text
-  -- no record is a delta
-  pub whole : AreWhole v.text
   pub regions : AreRegionsBelow v.page_bits v.begin v.tail v.regions
   -- each flushed page has its receipt
   pub flushed : v.regions.flushed ≡ length v.receipts
@@ -52,3 +51,10 @@ pub record IsTraced {K V : Type 0} (keeps : Bool) (code : K → ℕ) (v : Record
       → Leads v.from (last_of_class (class_in code v) same_class v.text c) (leads_to (entry_of v c))
   -- so it can be the previous address of the next record
   pub placed : (c : Class) → IsPrevious v.tail (leads_to (entry_of v c))
+
+-- the text has the records, each with what its key has once it stands, in this order of keys and by this join; a delta has a
+-- part, and parts may be joined first
+pub record IsStood {K V : Type 0} (cmp : K → K → Ordering) (join : V → V → V) (v : RecordsView K V) : Type 0 where
+  pub is : v.text ≡ stood cmp join v.entries
+  pub valued : AreValued v.entries
+  pub joins : IsAssociative join

@@ -10,11 +10,11 @@ ghost use Rattle.fkv_functions.specs.Plain.{Same, IsKeyOrder};
 ghost use Rattle.fkv_records.specs.Places.{IsRecordStart};
 ghost use Rattle.fkv_texts.specs.declared.entries.Entry.{Entry};
 ghost use Rattle.fkv_texts.specs.Places.{tail_after};
-ghost use Rattle.fkv_texts.specs.Text.{entry_at, value_of, last_of, live, text_from};
+ghost use Rattle.fkv_texts.specs.Text.{entry_at, value_of, newest, live, text_from};
 ghost use Rattle.fkv_operations.specs.declared.entries.IndexEntry.{IndexEntry};
-ghost use Rattle.fkv_texts.specs.Deltas.{IsSuperseded, IsCleared};
+ghost use Rattle.fkv_texts.specs.Deltas.{stood, IsCovered, IsSuperseded, IsCleared};
 ghost use Rattle.fkv_lookups.specs.RecordsViews.{RecordsView, with_record, with_value};
-ghost use Rattle.fkv_lookups.specs.Traced.{IsTraced};
+ghost use Rattle.fkv_lookups.specs.Traced.{IsTraced, IsStood};
 ghost use Rattle.fkv_lookups.specs.WrongCleared.{LastIsNotSuperseded, TombstoneIsSuperseded, ClearsNoLast};
 
 /// What is cleared stays so, whatever is done above; how it is cleared further; and what dropping it leaves.
@@ -23,51 +23,52 @@ pub fn cleared_stay<K, V>()
     ensures appended { (cmp : K → K → Ordering) (v : RecordsView K V) (entry : IndexEntry) (key : K) (value : Option V)
         (limit : ℕ)
         → limit ≤ v.tail
-        → IsCleared cmp v.text limit
-        → IsCleared cmp (with_record v entry key value).text limit }
+        → IsCleared cmp v.entries limit
+        → IsCleared cmp (with_record v entry key value).entries limit }
     // a record above gets another value, or becomes a tombstone
     ensures changed { (cmp : K → K → Ordering) (v : RecordsView K V) (a : ℕ) (value : Option V) (limit : ℕ)
         → limit ≤ a
-        → IsCleared cmp v.text limit
-        → IsCleared cmp (with_value v a value).text limit }
+        → IsCleared cmp v.entries limit
+        → IsCleared cmp (with_value v a value).entries limit }
     // records below an address are dropped
-    ensures dropped { (keeps : Bool) (cmp : K → K → Ordering) (code : K → ℕ) (v : RecordsView K V) (low limit : ℕ)
-        → IsTraced keeps code v
-        → IsCleared cmp v.text limit
-        → IsCleared cmp (text_from low v.text) limit }
+    ensures dropped { (cmp : K → K → Ordering) (v : RecordsView K V) (low limit : ℕ)
+        → IsCleared cmp v.entries limit
+        → IsCleared cmp (text_from low v.entries) limit }
     // where the record at the limit is superseded too, the limit goes on to the next place
-    ensures raised { (keeps : Bool) (cmp : K → K → Ordering) (code : K → ℕ) (v : RecordsView K V) (limit : ℕ)
-        → IsTraced keeps code v
+    ensures raised { (keeps : Bool) (cmp : K → K → Ordering) (join : V → V → V) (code : K → ℕ) (v : RecordsView K V)
+        (limit : ℕ)
+        → IsTraced keeps code v → IsStood cmp join v
         → IsRecordStart v.page_bits v.record_size limit
         → limit < v.tail
-        → IsCleared cmp v.text limit
-        → ((e : Entry K V) → entry_at v.text limit ≡ Some e → IsSuperseded cmp v.text e)
-        → IsCleared cmp v.text (tail_after v.page_bits v.record_size limit) }
-    // a record is superseded once its key and its value are appended again
-    ensures renewed { (keeps : Bool) (cmp : K → K → Ordering) (code : K → ℕ) (v : RecordsView K V) (entry : IndexEntry)
-        (limit : ℕ) (e : Entry K V)
-        → IsKeyOrder cmp
-        → IsTraced keeps code v
-        → entry_at v.text limit ≡ Some e
-        → IsSuperseded cmp (with_record v entry e.key e.value).text e }
+        → IsCleared cmp v.entries limit
+        → ((e : Entry K V) → entry_at v.entries limit ≡ Some e → IsSuperseded cmp v.entries e)
+        → IsCleared cmp v.entries (tail_after v.page_bits v.record_size limit) }
+    // a record is superseded once a value of its key is appended
+    ensures renewed { (keeps : Bool) (cmp : K → K → Ordering) (join : V → V → V) (code : K → ℕ) (v : RecordsView K V)
+        (entry : IndexEntry) (limit : ℕ) (e : Entry K V) (value : Option V)
+        → IsKeyOrder cmp → IsTraced keeps code v → IsStood cmp join v
+        → entry_at v.entries limit ≡ Some e
+        → IsSuperseded cmp (with_record v entry e.key value).entries e }
     // and where its key has that value, no key's value changes by that
     ensures kept { (cmp : K → K → Ordering) (v : RecordsView K V) (entry : IndexEntry) (key : K) (value : Option V)
         → IsKeyOrder cmp
         → live cmp v.text key ≡ value
         → Same (live cmp (with_record v entry key value).text) (live cmp v.text) }
+    // what a record says that is not superseded, where all below it are, is what its key has there
+    ensures lowest { (keeps : Bool) (cmp : K → K → Ordering) (join : V → V → V) (code : K → ℕ) (v : RecordsView K V)
+        (e : Entry K V)
+        → IsKeyOrder cmp → IsTraced keeps code v → IsStood cmp join v
+        → entry_at v.entries e.address ≡ Some e
+        → IsCleared cmp v.entries e.address
+        → (IsCovered cmp v.entries e → ⊥)
+        → value_of (newest cmp v.text e.key e.address) ≡ e.value }
     // no key's value goes with what is dropped where the text is cleared
-    ensures last { (keeps : Bool) (cmp : K → K → Ordering) (code : K → ℕ) (v : RecordsView K V) (low limit : ℕ) (k : K)
-        → IsKeyOrder cmp
-        → IsTraced keeps code v
-        → IsCleared cmp v.text limit
+    ensures lives { (keeps : Bool) (cmp : K → K → Ordering) (join : V → V → V) (code : K → ℕ) (v : RecordsView K V)
+        (low limit : ℕ)
+        → IsKeyOrder cmp → IsTraced keeps code v → IsStood cmp join v
+        → IsCleared cmp v.entries limit
         → low ≤ limit
-        → value_of (last_of cmp (text_from low v.text) k) ≡ value_of (last_of cmp v.text k) }
-    ensures lives { (keeps : Bool) (cmp : K → K → Ordering) (code : K → ℕ) (v : RecordsView K V) (low limit : ℕ)
-        → IsKeyOrder cmp
-        → IsTraced keeps code v
-        → IsCleared cmp v.text limit
-        → low ≤ limit
-        → Same (live cmp (text_from low v.text)) (live cmp v.text) }
+        → Same (live cmp (stood cmp join (text_from low v.entries))) (live cmp v.text) }
 {}
 
 /// What is superseded and cleared, and what is not, shown on small texts.

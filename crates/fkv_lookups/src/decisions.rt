@@ -1,7 +1,10 @@
 //! What an operation does for what it meets: the table of decisions.
-ghost use Rattle.std.specs.Prelude.{◌≡◌, ⊤};
+ghost use Rattle.std.specs.Prelude.{◌≡◌, ⊤, ℕ, Some, IfSome};
+ghost use Rattle.fkv_regions.specs.declared.offsets.View.{View};
+ghost use Rattle.fkv_texts.specs.declared.entries.ChainPosition.{ChainPosition};
 ghost use Rattle.fkv_lookups.specs.Decisions.{low_of, met_by, met_in, decision, held_of};
 
+use crate::gathered::{Gathered, joined_to};
 use fkv_functions::{Functions, Mergeable};
 use fkv_operations::plainly::shown;
 use fkv_operations::{Answer, KeyedOp, KeyedOpOf};
@@ -17,14 +20,15 @@ pub enum LookupResult<V> {
     NoEntry,
     /// There is an entry, and the key has no value: it has no record, or its last one is a tombstone.
     NoValue,
-    /// The last record of the key holds this value, and changes no more.
+    /// The key has this value, and its last record changes no more.
     ReadOnly(V),
     /// It holds this value, and sessions with an older view may still change it in place.
     Fuzzy(V),
     /// It holds this value, and may be changed in place.
     Mutable(V),
-    /// The records of the key's class lead to this address, whose page the session does not read in memory.
-    OnDisk(Address),
+    /// The records of the key's class lead to this address, whose page the session does not read in memory; the parts of
+    /// the key's deltas above, joined, or `None` where it has none.
+    OnDisk(Address, Option<V>),
 }
 
 impl<V: Copy> Clone for LookupResult<V> {
@@ -46,27 +50,33 @@ pub fn low_of(begin: Address, view: &View) -> Address
 
 /// What is met, by the address to which the key's entry leads, by Begin and the session's view, and by what the look-up
 /// came to.
-pub fn met_by<K, V: Copy>(
+pub fn met_by<F: Mergeable>(
+    functions: &F,
     entry: Option<Address>,
     begin: Address,
     view: &View,
-    reached: &ChainPosition<K, V>,
-) -> LookupResult<V>
-    ensures { result ≡ met_by entry begin view.now reached.now }
+    came: &Gathered<F::Key, F::Value>,
+) -> LookupResult<F::Value>
+    ensures { result ≡ met_by F.parts.joined entry begin view.now came.now }
 {
     let Some(_address) = entry else {
         return LookupResult::NoEntry;
     };
-    match reached {
-        ChainPosition::Found(last) => match last.value {
-            None => LookupResult::NoValue,
-            Some(value) => met_in(view.region(last.address), value),
+    match came.position {
+        ChainPosition::Found(last) => match came.parts {
+            None => match last.value {
+                None => LookupResult::NoValue,
+                Some(value) => met_in(view.region(last.address), value),
+            },
+            Some(part) => LookupResult::ReadOnly(joined_to(functions, last.value, part)),
         },
         ChainPosition::Below(address) => {
-            if *address < begin {
-                LookupResult::NoValue
-            } else {
-                LookupResult::OnDisk(*address)
+            if address >= begin {
+                return LookupResult::OnDisk(address, came.parts);
+            }
+            match came.parts {
+                None => LookupResult::NoValue,
+                Some(part) => LookupResult::ReadOnly(part),
             }
         }
     }
@@ -89,7 +99,7 @@ impl<V: Copy> LookupResult<V> {
         ensures { result ≡ held_of self.now }
     {
         match self {
-            LookupResult::NoEntry | LookupResult::NoValue | LookupResult::OnDisk(_) => None,
+            LookupResult::NoEntry | LookupResult::NoValue | LookupResult::OnDisk(_, _) => None,
             LookupResult::ReadOnly(value)
             | LookupResult::Fuzzy(value)
             | LookupResult::Mutable(value) => Some(*value),
@@ -112,8 +122,8 @@ pub enum Decision<V, I, O> {
     Prepare(Option<V>, I),
     /// It waits until every session has seen that the last record of its key changes no more.
     Wait,
-    /// It asks for the page of this address, where the records of its class go on.
-    Load(Address),
+    /// It asks for the page of this address, where the records of its class go on, with the parts that it collected.
+    Load(Address, Option<V>),
 }
 
 impl<V: Copy, I: Copy, O: Copy> Clone for Decision<V, I, O> {
@@ -143,7 +153,7 @@ pub fn decide<F: Mergeable>(
 {
     match op {
         KeyedOp::Read(key, input) => match met {
-            LookupResult::OnDisk(address) => Decision::Load(*address),
+            LookupResult::OnDisk(address, parts) => Decision::Load(*address, *parts),
             _ => Decision::Done(shown(functions, key, input, met.held())),
         },
         KeyedOp::Upsert(_, value) => match met {
@@ -157,13 +167,27 @@ pub fn decide<F: Mergeable>(
             LookupResult::ReadOnly(value) => Decision::Prepare(Some(*value), *input),
             LookupResult::Fuzzy(_) => Decision::Wait,
             LookupResult::Mutable(value) => update(functions, key, input, *value),
-            LookupResult::OnDisk(address) => Decision::Load(*address),
+            LookupResult::OnDisk(address, parts) => Decision::Load(*address, *parts),
         },
         KeyedOp::Delete(_) => match met {
             LookupResult::NoEntry | LookupResult::NoValue => Decision::Done(Answer::Deleted),
             LookupResult::Mutable(_) => Decision::Replace(None, Answer::Deleted),
             _ => Decision::Append(None, Answer::Deleted),
         },
+    }
+}
+
+/// What an operation that needs no value does where parts of deltas were collected, or more lie on disk: it appends.
+/// `None` for a read or an update, which need the value.
+pub fn blind<F: Mergeable>(op: &KeyedOpOf<F>) -> Option<DecisionOf<F>>
+    ensures some { IfSome result (λ d. (e : ℕ) (begin : ℕ) (view : View) (p : F.Value) (at : ChainPosition F.Key F.Value)
+        → d ≡ decision F.meaning op.now (met_by F.parts.joined (Some e) begin view
+        (record { parts = Some p; position = at }))) }
+{
+    match op {
+        KeyedOp::Read(_, _) | KeyedOp::Rmw(_, _) => None,
+        KeyedOp::Upsert(_, value) => Some(Decision::Append(Some(*value), Answer::Stored)),
+        KeyedOp::Delete(_) => Some(Decision::Append(None, Answer::Deleted)),
     }
 }
 

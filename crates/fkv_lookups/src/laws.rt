@@ -1,23 +1,26 @@
 //! What the records of a partition say of each key, and what an appended record changes of it.
 //! Each law is what a function without a body ensures.
-ghost use Rattle.std.specs.Prelude.{◌≡◌, ◌<◌, ◌≤◌, ◌⊎◌, ℕ, Bool, IsSome, IsTrue, Option, Some, None};
+ghost use Rattle.std.specs.Prelude.{◌≡◌, ◌<◌, ◌≤◌, ◌⊎◌, ℕ, Bool, true, IsTrue, Option, Some, None};
 ghost use Rattle.std.specs.declared.cmp.Ordering.{Ordering};
 ghost use Rattle.fkv_functions.specs.Plain.{Same, with_at, IsKeyOrder};
 ghost use Rattle.fkv_epoch.specs.Moves.{is_entered};
 ghost use Rattle.fkv_regions.specs.declared.offsets.Region.TheVariants as region;
 ghost use Rattle.fkv_regions.specs.Offsets.{view_at};
 ghost use Rattle.fkv_texts.specs.declared.entries.Entry.{Entry};
-ghost use Rattle.fkv_texts.specs.Text.{entry_at, value_at, value_of, last_of, newest, live};
+ghost use Rattle.fkv_texts.specs.Text.{entry_at, has_key, value_of, last_of, newest, live};
+ghost use Rattle.fkv_texts.specs.Chains.{IsIn};
+ghost use Rattle.fkv_texts.specs.Deltas.{onto};
 ghost use Rattle.fkv_index.specs.Words.{address_of};
 ghost use Rattle.fkv_operations.specs.declared.classes.Class.{Class};
 ghost use Rattle.fkv_operations.specs.declared.entries.IndexEntry.{IndexEntry};
 ghost use Rattle.fkv_operations.specs.KeptWords.{IsLed};
 ghost use Rattle.fkv_lookups.specs.declared.decisions.LookupResult.TheVariants.{NoValue, ReadOnly, Fuzzy, Mutable, OnDisk};
 ghost use Rattle.fkv_lookups.specs.Decisions.{IsHeld};
-ghost use Rattle.fkv_lookups.specs.Lookups.{looked_up, GoesOn};
+ghost use Rattle.fkv_lookups.specs.declared.gathered.Gathered.{Gathered};
+ghost use Rattle.fkv_lookups.specs.Lookups.{first_up, looked_up, IsOfClass, GoesOn, IsFirst, end_of, at_of};
 ghost use Rattle.fkv_lookups.specs.Meeting.{met_at, IsMetAt, IsWanted};
-ghost use Rattle.fkv_lookups.specs.RecordsViews.{RecordsView, class_in, indexed, entry_of, IsEntryOf, with_record, with_value};
-ghost use Rattle.fkv_lookups.specs.Traced.{IsTraced};
+ghost use Rattle.fkv_lookups.specs.RecordsViews.{RecordsView, class_in, indexed, entry_of, IsEntryOf, IsReplaceable, with_record, with_value};
+ghost use Rattle.fkv_lookups.specs.Traced.{IsTraced, IsStood};
 ghost use Rattle.fkv_operations.specs.Still.{IsStill};
 
 use fkv_regions::laws::by_region;
@@ -54,14 +57,15 @@ pub fn records_grow<K, V>()
     // what is frozen stays
     ensures frozen { (keeps : Bool) (code : K → ℕ) (v : RecordsView K V) (e : IndexEntry) (key : K) (value : Option V) (a : ℕ)
         → IsTraced keeps code v → a < v.regions.offsets.safe_read_only
-        → entry_at (with_record v e key value).text a ≡ entry_at v.text a }
+        → entry_at (with_record v e key value).entries a ≡ entry_at v.entries a }
 {}
 
-/// What changes once the record at an address, which has a value and is not frozen, has another value or is a tombstone.
+/// What changes once the record at an address, which has a value, is no delta and is not frozen, has another value or is a
+/// tombstone.
 pub fn records_change<K, V>()
     // the newest record of a key at or below an address stays where it is still
     ensures kept { (cmp : K → K → Ordering) (keeps : Bool) (code : K → ℕ) (v : RecordsView K V) (a : ℕ) (value : Option V) (k : K) (b : ℕ)
-        → IsTraced keeps code v → IsSome (value_at v.text a) → v.regions.offsets.safe_read_only ≤ a
+        → IsTraced keeps code v → IsReplaceable cmp v a → v.regions.offsets.safe_read_only ≤ a
         → IsStill v.regions.offsets.safe_read_only (newest cmp v.text k b)
         → newest cmp (with_value v a value).text k b ≡ newest cmp v.text k b }
     // where it is the last of its key, the key gets the value, or none
@@ -71,48 +75,72 @@ pub fn records_change<K, V>()
     // what is frozen stays
     ensures frozen { (v : RecordsView K V) (a : ℕ) (value : Option V) (b : ℕ)
         → v.regions.offsets.safe_read_only ≤ a → b < v.regions.offsets.safe_read_only
-        → entry_at (with_value v a value).text b ≡ entry_at v.text b }
+        → entry_at (with_value v a value).entries b ≡ entry_at v.entries b }
 {}
 
 /// What a look-up comes to, from the entry of the key's class down to an address at or above which the text has begun.
 pub fn lookups_tell<K, V>()
-    ensures { (keeps : Bool) (cmp : K → K → Ordering) (code : K → ℕ) (v : RecordsView K V) (k : K) (low a : ℕ)
-        → IsKeyOrder cmp → IsTraced keeps code v
+    ensures goes { (keeps : Bool) (cmp : K → K → Ordering) (join : V → V → V) (code : K → ℕ) (v : RecordsView K V) (k : K) (low a : ℕ)
+        → IsKeyOrder cmp → IsTraced keeps code v → IsStood cmp join v
         → v.from ≤ low
         → entry_of v (class_in code v k) ≡ Some a
-        → GoesOn cmp code v k low a (looked_up cmp code v low k a) }
+        → GoesOn cmp join code v k low a None (looked_up cmp join code v low k a) }
+    // what the key has at the address, joined with the parts from above, is what it has at the end, joined with all of them
+    ensures values { (keeps : Bool) (cmp : K → K → Ordering) (join : V → V → V) (code : K → ℕ) (v : RecordsView K V) (k : K) (low a : ℕ)
+        (parts : Option V) (r : Gathered K V)
+        → IsKeyOrder cmp → IsTraced keeps code v → IsStood cmp join v
+        → v.from ≤ low
+        → (v.from ≤ a → IsOfClass code v k a)
+        → GoesOn cmp join code v k low a parts r
+        → onto join (value_of (newest cmp v.text k a)) parts ≡ onto join (end_of cmp v k r.position) r.parts }
+    // the key's records on the way are deltas, but the one at the end
+    ensures between { (keeps : Bool) (cmp : K → K → Ordering) (join : V → V → V) (code : K → ℕ) (v : RecordsView K V) (k : K) (low a : ℕ)
+        (parts : Option V) (r : Gathered K V)
+        → IsKeyOrder cmp → IsTraced keeps code v → IsStood cmp join v
+        → v.from ≤ low
+        → (v.from ≤ a → IsOfClass code v k a)
+        → GoesOn cmp join code v k low a parts r
+        → (e : Entry K V) → IsIn v.entries e → has_key cmp k e ≡ true → e.address ≤ a
+        → (at_of r.position < e.address) → e.delta ≡ true }
+    // where the last record of the key that is read is no delta, it is what the look-up comes to; else parts are collected
+    ensures first { (keeps : Bool) (cmp : K → K → Ordering) (join : V → V → V) (code : K → ℕ) (v : RecordsView K V) (k : K) (low a : ℕ)
+        → IsKeyOrder cmp → IsTraced keeps code v → IsStood cmp join v
+        → entry_of v (class_in code v k) ≡ Some a
+        → v.from ≤ low
+        → IsFirst (first_up cmp code v low k a) (looked_up cmp join code v low k a) }
 {}
 
 /// What a session meets says of the last record of a key, however old the session's view.
 pub fn meetings_tell<K, V>()
     // what is met is what the key holds, unless a page has to be loaded
-    ensures held { (keeps : Bool) (cmp : K → K → Ordering) (code : K → ℕ) (v : RecordsView K V) (k : K) (slot : ℕ)
-        → IsKeyOrder cmp → IsTraced keeps code v → IsTrue (is_entered v.regions.epochs slot)
-        → IsHeld (met_at cmp code v (view_at v.regions.views slot) k) (value_of (last_of cmp v.text k)) }
+    ensures held { (keeps : Bool) (cmp : K → K → Ordering) (join : V → V → V) (code : K → ℕ) (v : RecordsView K V) (k : K) (slot : ℕ)
+        → IsKeyOrder cmp → IsTraced keeps code v → IsStood cmp join v → IsTrue (is_entered v.regions.epochs slot)
+        → IsHeld (met_at cmp join code v (view_at v.regions.views slot) k) (value_of (last_of cmp v.text k)) }
     // what is mutable is not frozen
-    ensures mutable { (keeps : Bool) (cmp : K → K → Ordering) (code : K → ℕ) (v : RecordsView K V) (k : K) (slot : ℕ) (w : V)
-        → IsKeyOrder cmp → IsTraced keeps code v → IsTrue (is_entered v.regions.epochs slot)
-        → met_at cmp code v (view_at v.regions.views slot) k ≡ Mutable w
-        → IsMetAt cmp code v (view_at v.regions.views slot) k w region.Mutable }
-    ensures unfrozen { (keeps : Bool) (cmp : K → K → Ordering) (code : K → ℕ) (v : RecordsView K V) (k : K) (slot : ℕ) (w : V)
-        → IsTraced keeps code v → IsTrue (is_entered v.regions.epochs slot)
-        → (m : IsMetAt cmp code v (view_at v.regions.views slot) k w region.Mutable)
+    ensures mutable { (keeps : Bool) (cmp : K → K → Ordering) (join : V → V → V) (code : K → ℕ) (v : RecordsView K V) (k : K) (slot : ℕ) (w : V)
+        → IsKeyOrder cmp → IsTraced keeps code v → IsStood cmp join v → IsTrue (is_entered v.regions.epochs slot)
+        → met_at cmp join code v (view_at v.regions.views slot) k ≡ Mutable w
+        → IsMetAt cmp join code v (view_at v.regions.views slot) k w region.Mutable }
+    ensures unfrozen { (keeps : Bool) (cmp : K → K → Ordering) (join : V → V → V) (code : K → ℕ) (v : RecordsView K V) (k : K) (slot : ℕ) (w : V)
+        → IsTraced keeps code v → IsStood cmp join v → IsTrue (is_entered v.regions.epochs slot)
+        → (m : IsMetAt cmp join code v (view_at v.regions.views slot) k w region.Mutable)
         → v.regions.offsets.safe_read_only ≤ m.entry.address }
-    ensures fuzzy { (keeps : Bool) (cmp : K → K → Ordering) (code : K → ℕ) (v : RecordsView K V) (k : K) (slot : ℕ) (w : V)
-        → IsKeyOrder cmp → IsTraced keeps code v → IsTrue (is_entered v.regions.epochs slot)
-        → met_at cmp code v (view_at v.regions.views slot) k ≡ Fuzzy w
-        → IsMetAt cmp code v (view_at v.regions.views slot) k w region.Fuzzy }
+    ensures fuzzy { (keeps : Bool) (cmp : K → K → Ordering) (join : V → V → V) (code : K → ℕ) (v : RecordsView K V) (k : K) (slot : ℕ) (w : V)
+        → IsKeyOrder cmp → IsTraced keeps code v → IsStood cmp join v → IsTrue (is_entered v.regions.epochs slot)
+        → met_at cmp join code v (view_at v.regions.views slot) k ≡ Fuzzy w
+        → IsMetAt cmp join code v (view_at v.regions.views slot) k w region.Fuzzy }
     // no value, or a read-only one, is still
-    ensures still { (keeps : Bool) (cmp : K → K → Ordering) (code : K → ℕ) (v : RecordsView K V) (k : K) (slot : ℕ)
-        → IsKeyOrder cmp → IsTraced keeps code v → IsTrue (is_entered v.regions.epochs slot)
-        → (met_at cmp code v (view_at v.regions.views slot) k ≡ NoValue)
-        ⊎ ((w : V) × (met_at cmp code v (view_at v.regions.views slot) k ≡ ReadOnly w))
+    ensures still { (keeps : Bool) (cmp : K → K → Ordering) (join : V → V → V) (code : K → ℕ) (v : RecordsView K V) (k : K) (slot : ℕ)
+        → IsKeyOrder cmp → IsTraced keeps code v → IsStood cmp join v → IsTrue (is_entered v.regions.epochs slot)
+        → (met_at cmp join code v (view_at v.regions.views slot) k ≡ NoValue)
+        ⊎ ((w : V) × (met_at cmp join code v (view_at v.regions.views slot) k ≡ ReadOnly w))
         → IsStill v.regions.offsets.safe_read_only (last_of cmp v.text k) }
     // what lies on disk is wanted from there
-    ensures wanted { (keeps : Bool) (cmp : K → K → Ordering) (code : K → ℕ) (v : RecordsView K V) (k : K) (slot b : ℕ)
-        → IsKeyOrder cmp → IsTraced keeps code v → IsTrue (is_entered v.regions.epochs slot)
-        → met_at cmp code v (view_at v.regions.views slot) k ≡ OnDisk b
-        → IsWanted cmp code v k b }
+    ensures wanted { (keeps : Bool) (cmp : K → K → Ordering) (join : V → V → V) (code : K → ℕ) (v : RecordsView K V) (k : K) (slot b : ℕ)
+        (parts : Option V)
+        → IsKeyOrder cmp → IsTraced keeps code v → IsStood cmp join v → IsTrue (is_entered v.regions.epochs slot)
+        → met_at cmp join code v (view_at v.regions.views slot) k ≡ OnDisk b parts
+        → IsWanted cmp join code v k b parts }
 {
     by_region();
 }

@@ -5,9 +5,11 @@
 pub mod clearing;
 pub mod decisions;
 mod entries;
+pub mod gathered;
 pub mod laws;
 mod maps;
 pub mod records;
 
 pub use decisions::{Decision, DecisionOf, LookupResult, decide, low_of, met_by};
+pub use gathered::Gathered;
 pub use records::Records;

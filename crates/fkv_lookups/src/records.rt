@@ -23,10 +23,11 @@ ghost use Rattle.fkv_operations.specs.declared.classes.Class.{Class};
 ghost use Rattle.fkv_operations.specs.Classes.{IsClass};
 ghost use Rattle.fkv_lookups.specs.RecordsViews.{empty_records, class_in, entry_of, found_in, IsEntryOf, with_record, Claims, confirmed, released, IsFull};
 ghost use Rattle.fkv_lookups.specs.RecordsViews.{ChangesAt};
-ghost use Rattle.fkv_lookups.specs.Traced.{IsTraced};
-ghost use Rattle.fkv_lookups.specs.Lookups.{looked_up};
+ghost use Rattle.fkv_lookups.specs.Traced.{IsTraced, IsStood};
+ghost use Rattle.fkv_lookups.specs.Lookups.{first_up, looked_up};
 
 use crate::entries::move_entry;
+use crate::gathered::{Gathered, delta_at, onto};
 use fkv_device::Receipt;
 use fkv_functions::{Fixed, Functions, Mergeable, Refused};
 use fkv_hybrid::Log;
@@ -62,10 +63,12 @@ impl<F: Mergeable, R: Receipt> Model for Records<F, R> {
 
     ghost Value = { RecordsView F.Key F.Value };
 
-    ghost view = { λ r. view_of r.partition_bits r.bucket_bits (size_of F.Key.SIZE F.Value.SIZE) r.log r.index };
+    ghost view = { λ r. view_of F.Key.cmp F.parts.joined r.partition_bits r.bucket_bits
+        (size_of F.Key.SIZE F.Value.SIZE) r.log r.index };
 
     ghost invariant = { λ r. IsTraced R.keeps F.code
-        (view_of r.partition_bits r.bucket_bits (size_of F.Key.SIZE F.Value.SIZE) r.log r.index) };
+        (view_of F.Key.cmp F.parts.joined r.partition_bits r.bucket_bits
+        (size_of F.Key.SIZE F.Value.SIZE) r.log r.index) };
 }
 
 impl<F: Mergeable, R: Receipt> Records<F, R> {
@@ -143,7 +146,7 @@ impl<F: Mergeable, R: Receipt> Records<F, R> {
     /// The last record of a key at or above an address, by the address to which the entry of its class leads and previous
     /// addresses from there on; or where those lead below, the key having no record above. Pages below that address are
     /// not looked at.
-    pub fn trace(
+    pub fn first(
         &self,
         entry: Address,
         key: &F::Key,
@@ -152,10 +155,35 @@ impl<F: Mergeable, R: Receipt> Records<F, R> {
         requires entry { entry_of self.now (class_in F.code self.now key.now) ≡ Some entry }
         requires in_frames { self.now.regions.offsets.closed ≤ low }
         requires begin { self.now.begin ≤ low }
-        ensures { result ≡ looked_up F.Key.cmp F.code self.now low key.now entry }
+        ensures { result ≡ first_up F.Key.cmp F.code self.now low key.now entry }
     {
         chains::<F::Key, F::Value, Class>();
         self.log.first_on_chain(key, entry, low)
+    }
+
+    /// What a look-up of a key comes to that reads no lower than an address: from its last record there
+    /// ([`Records::first`]), while its records are deltas, whose parts are joined, to the first that is none, or below.
+    pub fn gather(
+        &self,
+        functions: &F,
+        entry: Address,
+        first: ChainPosition<F::Key, F::Value>,
+        key: &F::Key,
+        low: Address,
+    ) -> Gathered<F::Key, F::Value>
+        requires entry { entry_of self.now (class_in F.code self.now key.now) ≡ Some entry }
+        requires first { first ≡ first_up F.Key.cmp F.code self.now low key.now entry }
+        requires in_frames { self.now.regions.offsets.closed ≤ low }
+        requires begin { self.now.begin ≤ low }
+        ensures { result ≡ looked_up F.Key.cmp F.parts.joined F.code self.now low key.now entry }
+    {
+        let mut parts = None;
+        let mut position = first;
+        while let Some(last) = delta_at(&position) {
+            parts = onto(functions, last.value, parts);
+            position = self.log.first_on_chain(key, last.previous, low);
+        }
+        Gathered { parts, position }
     }
 
     /// Makes a tentative entry for a class, at the first empty place of its bucket, and answers its place. Look-ups
@@ -234,7 +262,7 @@ impl<F: Mergeable, R: Receipt> Records<F, R> {
         chains::<F::Key, F::Value, Class>();
         self.log.known();
         let address = self.log.tail();
-        match self.log.append(entry.address(), key, value) {
+        match self.log.append(entry.address(), key, value, false) {
             Err(refused) => return Err(refused),
             Ok(None) => return Ok(None),
             Ok(Some(_address)) => (),
@@ -282,8 +310,10 @@ impl<F: Mergeable, R: Receipt> Records<F, R> {
 
     /// What holds of all records of a partition.
     pub fn known(&self)
-        ensures { IsTraced R.keeps F.code self.now }
+        ensures traced { IsTraced R.keeps F.code self.now }
+        // each record stands for what its key has once it stands
+        ensures stood { IsStood F.Key.cmp F.parts.joined self.now }
     {
-        let _bits = self.bucket_bits;
+        self.log.known();
     }
 }

@@ -11,13 +11,15 @@ use Rattle.fkv_index.specs.Places.{word_at}
 use Rattle.fkv_operations.specs.declared.classes.Class.{Class}
 use Rattle.fkv_operations.specs.declared.entries.IndexEntry.{IndexEntry}
 use Rattle.fkv_operations.specs.Still.{IsStill}
-use Rattle.fkv_operations.specs.KeptWords.{IndexedText, IsFound, IsLed, AreNext, after_last}
+use Rattle.fkv_operations.specs.KeptWords.{IndexedText, IsFound, IsLed, IsCut, AreNext, after_last}
+use Rattle.fkv_operations.specs.KeptWords.IsCut.{dropped, passed}
 
 -- what is still stays so while more is frozen
 pub still-raised : {K V : Type 0} (a b : ℕ) (o : Option (Entry K V)) → a ≤ b → IsStill a o → IsStill b o
 still-raised a b None up h = tt
 still-raised a b (Some e) up (inl none) = inl none
-still-raised a b (Some e) up (inr low) = inr (omega arith)
+still-raised a b (Some e) up (inr (inl part)) = inr (inl part)
+still-raised a b (Some e) up (inr (inr low)) = inr (inr (omega arith))
 
 module _ {K V : Type 0} (cmp : K → K → Ordering) (class : K → Class) where
   -- below Begin no key has a record
@@ -26,6 +28,11 @@ module _ {K V : Type 0} (cmp : K → K → Ordering) (class : K → Class) where
       let high : v.begin ≤ e.address = l.from i e h in
       let no : nat_le e.address a ≡ false = grind (arith, nat_tests) in
       rw no refl)
+
+  -- what is lost of a key's last record was a tombstone
+  cut-value : (v u : IndexedText K V) (k : K) (e : IndexEntry) → IsLed cmp class v → IsFound class v k e → IsCut cmp v u k (address_of e.word) → (newest cmp u.text k (address_of e.word) ≡ None) × (value_of (newest cmp v.text k (address_of e.word)) ≡ None)
+  cut-value v u k e l found (dropped d was none gone) = (gone, ap value_of was ∙ none)
+  cut-value v u k e l found (passed d was other) = absurd (other (sym (l.leads k e found) ∙ was))
 
   pub nowhere-none : (v : IndexedText K V) (k : K) (e : IndexEntry) → IsLed cmp class v → IsFound class v k e → address_of e.word < v.begin → last_of cmp v.text k ≡ None
   nowhere-none v k e l found low = sym (l.leads k e found) ∙ none-below v k (address_of e.word) l low
@@ -53,10 +60,7 @@ module _ {K V : Type 0} (cmp : K → K → Ordering) (class : K → Class) where
         let again : IsFound class u k e = record { bucket = found.bucket; place = n.places e.place found.place; word = there; final = found.final; tag = found.tag } in
         elim (n.records k (address_of e.word) low still) [
           | inl same ↦ stays u us m next again (subst (IsStill u.frozen) (sym same) (still-raised v.frozen u.frozen (newest cmp v.text k (address_of e.word)) n.frozen still)) here ∙ ap value_of same
-          | inr cut ↦ stays u us m next again (subst (IsStill u.frozen) (sym cut.gone) tt) here ∙ ap value_of cut.gone ∙ sym (ap value_of cut.was ∙ elim cut.superseded [
-            | inl none ↦ none
-            | inr other ↦ absurd (other (sym (l.leads k e found) ∙ cut.was))
-          ])
+          | inr cut ↦ (let lost = cut-value v u k e l found cut in stays u us m next again (subst (IsStill u.frozen) (sym lost.0) tt) here ∙ ap value_of lost.0 ∙ sym lost.1)
         ]
 
   pub kept-sound : (v : IndexedText K V) (vs : List (IndexedText K V)) (k : K) (e : IndexEntry) → IsLed cmp class v → AreNext cmp class v vs → IsFound class v k e → IsStill v.frozen (last_of cmp v.text k) → IsFound class (after_last v vs) k e → live cmp (after_last v vs).text k ≡ live cmp v.text k

@@ -36,13 +36,15 @@ pub record IsLed {K V : Type 0} (cmp : K → K → Ordering) (class : K → Clas
       → IsFound class v k e
       → newest cmp v.text k (address_of e.word) ≡ last_of cmp v.text k
 
--- the newest record of a key at or below an address lies below Begin now: it was a tombstone, or not the key's last
-pub record IsCut {K V : Type 0} (cmp : K → K → Ordering) (old new : IndexedText K V) (k : K) (a : ℕ) : Type 0 where
-  pub entry : Entry K V
-  pub was : newest cmp old.text k a ≡ Some entry
-  pub below : entry.address < new.begin
-  pub superseded : (entry.value ≡ None) ⊎ (last_of cmp old.text k ≢ Some entry)
-  pub gone : newest cmp new.text k a ≡ None
+-- what the newest record of a key at or below an address loses as the log's start is cut: a tombstone is gone; or it was
+-- not the key's last, and is gone or stands for less
+pub data IsCut {K V : Type 0} (cmp : K → K → Ordering) (old new : IndexedText K V) (k : K) (a : ℕ) : Type 0 where
+  dropped : (e : Entry K V)
+      → newest cmp old.text k a ≡ Some e
+      → e.value ≡ None
+      → newest cmp new.text k a ≡ None
+      → IsCut cmp old new k a
+  passed : (e : Entry K V) → newest cmp old.text k a ≡ Some e → last_of cmp old.text k ≢ Some e → IsCut cmp old new k a
 
 -- one event: what stood at addresses that were taken, and is not changed in place, stays or is cut; and an entry that is
 -- written leads nowhere, or to an address that was not taken

@@ -1,9 +1,9 @@
 -- Texts by what spells them, and bytes written into pages.
-use Rattle.std.proofs.Common.{◌≡◌, ◌+◌, ◌-◌, ◌^◌, ◌<◌, ◌≤◌, inl, inr, ℕ, List, ◌++◌, length, take, drop, Option, refl, sym, ◌∙◌, ap, arith, length-append, length-take, length-drop, append_assoc, false, Bool}
+use Rattle.std.proofs.Common.{◌≡◌, ◌+◌, ◌-◌, ◌^◌, ◌<◌, ◌≤◌, inl, inr, ℕ, List, ◌++◌, length, take, drop, Option, refl, sym, ◌∙◌, ap, arith, length-append, length-take, length-drop, append_assoc, Bool}
 use Rattle.std.proofs.lemmas.List.{take-append-drop, take-append-le, drop-append-le, drop-drop, drop-take}
 use Rattle.std.proofs.Math.Seq.{take-add, take-take}
 use Rattle.std.proofs.lemmas.Slice.{drop-append-drop}
-use Rattle.std.specs.Prelude.{slice_range, unwrap_or, IfSome, OnErr, Result, Ok, Err}
+use Rattle.std.specs.Prelude.{slice_range, unwrap_or, IfSome, IsSome, IsTrue, OnErr, Result, Ok, Err}
 use Rattle.std.specs.Coded.{Coded, Coded-set, coded_ℕ, coded_bool, coded_list, coded×, coded_option, code_by}
 use mathlib.Core.Logic.{∥∥₁_elim}
 use mathlib.Core.HLevel.{Σ_prop_path}
@@ -23,10 +23,10 @@ pub tail_is : (bits size a : ℕ) (o : Option ℕ) (b : ℕ) → b ≡ unwrap_or
 tail_is bits size a o b e f = e ∙ ap (λ (x : Option ℕ). unwrap_or x (2 ^ 48)) f
 
 -- a record that may stand at an address below 2^48
-pub sound_record : {K V : Type 0} (is_key : K → Type 0) (is_value : V → Type 0) (a p : ℕ) (k : K) (v : Option V) → a < 2 ^ 48 → IsPrevious a p → is_key k → IfSome v is_value
-    → IsRecord is_key is_value a (record { previous = p; key = k; value = v; delta = false })
-sound_record is_key is_value a p k v below previous key value =
-    record { previous = previous; fits = elim previous [ inl one ↦ omega arith | inr low ↦ omega arith ]; key = key; value = value; whole = λ d. absurd (cc) }
+pub sound_record : {K V : Type 0} (is_key : K → Type 0) (is_value : V → Type 0) (a p : ℕ) (k : K) (v : Option V) (d : Bool) → a < 2 ^ 48 → IsPrevious a p → is_key k → IfSome v is_value → (IsTrue d → IsSome v)
+    → IsRecord is_key is_value a (record { previous = p; key = k; value = v; delta = d })
+sound_record is_key is_value a p k v d below previous key value whole =
+    record { previous = previous; fits = elim previous [ inl one ↦ omega arith | inr low ↦ omega arith ]; key = key; value = value; whole = whole }
 
 -- ---- the one of which something holds
 entry_code : {K V : Type 0} → Coded K → Coded V → Coded (Entry K V)

@@ -1,6 +1,6 @@
 -- Entries that get another value, or become tombstones, where they stand.
-use Rattle.std.proofs.Common.{◌≡◌, ◌^◌, ◌≤◌, inl, inr, ℕ, Bool, List, length, Option, Some, IsSome, refl, sym, ◌∙◌, ap, subst, arith, false}
-use Rattle.std.specs.Prelude.{IfSome}
+use Rattle.std.proofs.Common.{◌≡◌, ◌^◌, ◌≤◌, inl, inr, ℕ, Bool, List, length, Option, Some, IsSome, refl, sym, ◌∙◌, ap, subst, arith}
+use Rattle.std.specs.Prelude.{IfSome, IsTrue}
 use Rattle.std.proofs.lemmas.Bool.{cases_eq, cases_lt}
 use Rattle.fkv_records.specs.Places.{page_at, offset_at}
 use Rattle.fkv_records.specs.Records.{size_of, Spells}
@@ -49,10 +49,10 @@ module _ {K V : Type 0} (key : K → List ℕ) (value : V → List ℕ) (is_key 
   pub edited : (keeps : Bool) (shape : Shape) (begin closed frozen tail : ℕ) (receipts : List Standing) (old new : Ring) (text : List (Entry K V)) (a : ℕ)
       (may : Record K V → Type 0) (v : Option V) (own : Entry K V) (page : List ℕ)
       → IsPages key value is_key is_value ksize vsize keeps shape begin closed frozen tail receipts old text
-      → frozen ≤ a → entry_at text a ≡ Some own → may (record_of own) → IfSome v is_value → held old (page_at shape.page_bits a) ≡ Some page → length page ≡ 2 ^ shape.page_bits
+      → frozen ≤ a → entry_at text a ≡ Some own → may (record_of own) → IfSome v is_value → (IsTrue own.delta → IsSome v) → held old (page_at shape.page_bits a) ≡ Some page → length page ≡ 2 ^ shape.page_bits
       → IsEdited key value ksize vsize may v old.bits a old new page
       → IsPages key value is_key is_value ksize vsize keeps shape begin closed frozen tail receipts new (changed text a v)
-  edited keeps shape begin closed frozen tail receipts old new text a may v own page log open_here own_is allowed known here page_sized r =
+  edited keeps shape begin closed frozen tail receipts old new text a may v own page log open_here own_is allowed known whole here page_sized r =
       let bits = shape.page_bits in
       let size = shape.record_size in
       let o = log.ordered in
@@ -87,7 +87,7 @@ module _ {K V : Type 0} (key : K → List ℕ) (value : V → List ℕ) (is_key 
                     let bits_part : Spells key value ksize vsize (part_of page (offset_at old.bits a) (size_of ksize vsize)) (record_of was.entry) =
                     subst (λ (b : ℕ). Spells key value ksize vsize (part_of page (offset_at b a) (size_of ksize vsize)) (record_of was.entry)) (sym log.ringed.bits_same) spells in
                     rw (set_at-here a v was.entry same) (put_spelled key value is_key is_value ksize vsize keeps shape begin closed frozen tail receipts old new r.bytes text a log st.place open_here p sized (record was.entry { value = v }) same
-                    (record { previous = h.sound.previous; fits = h.sound.fits; key = h.sound.key; value = known; whole = λ d. absurd (let no = h.whole in cc) }) h.whole (r.spells (record_of was.entry) ok bits_part)))
+                    (record { previous = h.sound.previous; fits = h.sound.fits; key = h.sound.key; value = known; whole = subst (λ (x : Entry K V). IsTrue x.delta → IsSome v) (sym one) whole }) (r.spells (record_of was.entry) ok bits_part)))
                 | inr ne ↦
                     (rw (set_at-other a v was.entry ne) (elim (cases_lt was.entry.address a) [
                       | inl less ↦
@@ -125,17 +125,17 @@ module _ {K V : Type 0} (key : K → List ℕ) (value : V → List ℕ) (is_key 
   pub edited_by : (keeps : Bool) (shape : Shape) (begin closed frozen tail : ℕ) (receipts : List Standing) (old new : Ring) (text : List (Entry K V)) (a : ℕ)
       (may : Record K V → Type 0) (v : Option V) (own : Entry K V) (page : List ℕ)
       → IsPages key value is_key is_value ksize vsize keeps shape begin closed frozen tail receipts old text
-      → frozen ≤ a → entry_at text a ≡ Some own → may (record_of own) → IfSome v is_value → held old (page_at shape.page_bits a) ≡ Some page → length page ≡ 2 ^ shape.page_bits
+      → frozen ≤ a → entry_at text a ≡ Some own → may (record_of own) → IfSome v is_value → (IsTrue own.delta → IsSome v) → held old (page_at shape.page_bits a) ≡ Some page → length page ≡ 2 ^ shape.page_bits
       → IfSome (held old (page_at old.bits a)) (IsEdited key value ksize vsize may v old.bits a old new)
       → IsPages key value is_key is_value ksize vsize keeps shape begin closed frozen tail receipts new (changed text a v)
       × (view_as keeps shape begin closed frozen tail receipts new (changed text a v) ≡ with_value (view_as keeps shape begin closed frozen tail receipts old text) a v)
-  edited_by keeps shape begin closed frozen tail receipts old new text a may v own page log open_here own_is allowed known here sized w =
+  edited_by keeps shape begin closed frozen tail receipts old new text a may v own page log open_here own_is allowed known whole here sized w =
       let there : held old (page_at old.bits a) ≡ Some page = ap (λ (b : ℕ). held old (page_at b a)) log.ringed.bits_same ∙ here in
       let r : IsEdited key value ksize vsize may v old.bits a old new page =
       subst (λ (o : Option (List ℕ)). IfSome o (IsEdited key value ksize vsize may v old.bits a old new)) there w in
       let p = edited_puts keeps shape begin closed frozen tail receipts old new text a may v page log open_here (rw own_is refl) here sized r in
       let waits = put_waiting key value is_key is_value ksize vsize keeps shape begin closed frozen tail receipts old new r.bytes text a log open_here p in (
-        edited keeps shape begin closed frozen tail receipts old new text a may v own page log open_here own_is allowed known here sized r,
+        edited keeps shape begin closed frozen tail receipts old new text a may v own page log open_here own_is allowed known whole here sized r,
         λ j. record {
           bits = shape.page_bits;
           frames = p.count_same j;
@@ -169,9 +169,9 @@ module _ {K V : Type 0} (key : K → List ℕ) (value : V → List ℕ) (is_key 
   pub edited_seen : (keeps : Bool) (shape : Shape) (begin closed frozen tail : ℕ) (receipts : List Standing) (old new : Ring) (text : List (Entry K V)) (a : ℕ)
       (may : Record K V → Type 0) (v : Option V) (seen : PagesView K V) → view_as keeps shape begin closed frozen tail receipts old text ≡ seen
       → IsPages key value is_key is_value ksize vsize keeps shape begin closed frozen tail receipts old text → seen.frozen ≤ a → (m : IsMutable shape old text a) → may (record_of m.entry)
-      → IfSome v is_value → IfSome (held old (page_at old.bits a)) (IsEdited key value ksize vsize may v old.bits a old new)
+      → IfSome v is_value → (IsTrue m.entry.delta → IsSome v) → IfSome (held old (page_at old.bits a)) (IsEdited key value ksize vsize may v old.bits a old new)
       → IsPages key value is_key is_value ksize vsize keeps shape begin closed frozen tail receipts new (changed text a v)
       × (view_as keeps shape begin closed frozen tail receipts new (changed text a v) ≡ with_value seen a v)
-  edited_seen keeps shape begin closed frozen tail receipts old new text a may v seen is log high m allowed known w =
-      let l = edited_by keeps shape begin closed frozen tail receipts old new text a may v m.entry m.here.page log (rw (← is) at high) m.is allowed known m.here.here m.here.sized w in
+  edited_seen keeps shape begin closed frozen tail receipts old new text a may v seen is log high m allowed known whole w =
+      let l = edited_by keeps shape begin closed frozen tail receipts old new text a may v m.entry m.here.page log (rw (← is) at high) m.is allowed known whole m.here.here m.here.sized w in
       (l.0, l.1 ∙ ap (λ (p : PagesView K V). with_value p a v) is)

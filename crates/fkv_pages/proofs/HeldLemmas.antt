@@ -1,5 +1,5 @@
 -- Entries of pages that are not closed.
-use Rattle.std.proofs.Common.{◌≡◌, ◌+◌, ◌^◌, ◌≤◌, ℕ, Bool, List, length, Some, refl, sym, ◌∙◌, ap, subst, arith, false}
+use Rattle.std.proofs.Common.{◌≡◌, ◌+◌, ◌^◌, ◌≤◌, ℕ, Bool, List, length, Some, refl, sym, ◌∙◌, ap, subst, arith}
 use Rattle.fkv_records.specs.Places.{page_at, offset_at, IsRecordStart}
 use Rattle.fkv_records.specs.Records.{size_of, IsRecord, Spells}
 use Rattle.fkv_records.specs.declared.shapes.Shape.{Shape}
@@ -27,7 +27,6 @@ module _ {K V : Type 0} (key : K → List ℕ) (value : V → List ℕ) (is_key 
     pub place : IsRecordStart shape.page_bits shape.record_size a
     pub below : a + shape.record_size ≤ 2 ^ 48
     pub sound : IsRecord is_key is_value a (record_of e)
-    pub whole : e.delta ≡ false
     pub spells : Spells key value ksize vsize (part_of page (offset_at shape.page_bits a) shape.record_size) (record_of e)
 
   pub entry_held : (keeps : Bool) (shape : Shape) (begin closed frozen tail : ℕ) (receipts : List Standing) (ring : Ring) (text : List (Entry K V)) (a : ℕ) (e : Entry K V)
@@ -60,7 +59,6 @@ module _ {K V : Type 0} (key : K → List ℕ) (value : V → List ℕ) (is_key 
         place = stands.place;
         below = (let m = o.most in omega arith);
         sound = subst (λ (b : ℕ). IsRecord is_key is_value b (record_of e)) found.1 t.sound;
-        whole = t.whole;
         spells = subst (λ (b : List ℕ). Spells key value ksize vsize b (record_of e)) part t.spells;
       }
 

@@ -46,7 +46,6 @@ module _ {K V : Type 0} (key : K → List ℕ) (value : V → List ℕ) (is_key 
                 page = t.page;
                 here = same_page keeps e.address log.flushed.kept first_rises high ∙ t.here;
                 sound = t.sound;
-                whole = t.whole;
                 spells = t.spells;
               };
         };

@@ -124,7 +124,7 @@ module _ {K V : Type 0} (key : K → List ℕ) (value : V → List ℕ) (is_key 
       → IsTextOf key value is_key is_value ksize vsize bits pages from tail text → IsTextOf key value is_key is_value ksize vsize bits others from tail text
   transfer bits pages others from tail text same t = record {
     laid_out = t.laid_out;
-    spelled = λ i e g. let s = t.spelled i e g in record { page = s.page; here = same i e g ∙ s.here; sound = s.sound; whole = s.whole; spells = s.spells };
+    spelled = λ i e g. let s = t.spelled i e g in record { page = s.page; here = same i e g ∙ s.here; sound = s.sound; spells = s.spells };
   }
 
   -- each place from where the text begins has an entry

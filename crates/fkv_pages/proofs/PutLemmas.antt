@@ -61,9 +61,9 @@ module _ {K V : Type 0} (key : K → List ℕ) (value : V → List ℕ) (is_key 
     put_here = page_in-high (page_at shape.page_bits closed) (page_at shape.page_bits a) receipts new puts.low ∙ puts.is
 
     -- an entry there is spelled where its bytes were put
-    pub put_spelled : (e : Entry K V) → e.address ≡ a → IsRecord is_key is_value a (record_of e) → e.delta ≡ false → Spells key value ksize vsize bytes (record_of e)
+    pub put_spelled : (e : Entry K V) → e.address ≡ a → IsRecord is_key is_value a (record_of e) → Spells key value ksize vsize bytes (record_of e)
         → IsSpelled key value is_key is_value ksize vsize shape.page_bits (page_in (page_at shape.page_bits closed) receipts new) e
-    put_spelled e at sound whole spells =
+    put_spelled e at sound spells =
         let bits = shape.page_bits in
         let page = written_at puts.page (offset_at bits a) bytes in
         let part : part_of page (offset_at bits e.address) (size_of ksize vsize) ≡ bytes =
@@ -74,7 +74,6 @@ module _ {K V : Type 0} (key : K → List ℕ) (value : V → List ℕ) (is_key 
           page = page;
           here = ap (λ (x : ℕ). page_in (page_at bits closed) receipts new (page_at bits x)) at ∙ put_here;
           sound = subst (λ (x : ℕ). IsRecord is_key is_value x (record_of e)) (sym at) sound;
-          whole = whole;
           spells = subst (λ (b : List ℕ). Spells key value ksize vsize b (record_of e)) (sym part) spells;
         }
 
@@ -101,12 +100,11 @@ module _ {K V : Type 0} (key : K → List ℕ) (value : V → List ℕ) (is_key 
                 page = written_at puts.page (offset_at bits a) bytes;
                 here = ap (λ (n : ℕ). page_in (page_at bits closed) receipts new n) same ∙ put_here;
                 sound = s.sound;
-                whole = s.whole;
                 spells = subst (λ (b : List ℕ). Spells key value ksize vsize b (record_of d))
                     (sym (written-below puts.page bytes (offset_at bits a) put_room (offset_at bits d.address) (size_of ksize vsize) under
                     ∙ ap (λ (q : List ℕ). part_of q (offset_at bits d.address) (size_of ksize vsize)) page_same)) s.spells;
               })
-          | inr ne ↦ record { page = s.page; here = put_page (page_at bits d.address) ne window ∙ s.here; sound = s.sound; whole = s.whole; spells = s.spells }
+          | inr ne ↦ record { page = s.page; here = put_page (page_at bits d.address) ne window ∙ s.here; sound = s.sound; spells = s.spells }
         ]
 
   -- and so does one that stands behind it
@@ -138,7 +136,6 @@ module _ {K V : Type 0} (key : K → List ℕ) (value : V → List ℕ) (is_key 
               here = ap (λ (n : ℕ). page_in (page_at bits closed) receipts new n) same
                   ∙ put_here keeps shape begin closed frozen tail receipts old new bytes text a log place frozen_below puts sized;
               sound = s.sound;
-              whole = s.whole;
               spells = subst (λ (b : List ℕ). Spells key value ksize vsize b (record_of d))
                   (sym (written-above puts.page bytes (offset_at bits a) (offset_at bits d.address) (size_of ksize vsize)
                   (put_room keeps shape begin closed frozen tail receipts old new bytes text a log place frozen_below puts sized) over
@@ -148,7 +145,6 @@ module _ {K V : Type 0} (key : K → List ℕ) (value : V → List ℕ) (is_key 
           page = s.page;
           here = put_page keeps shape begin closed frozen tail receipts old new bytes text a log place frozen_below puts sized (page_at bits d.address) ne window ∙ s.here;
           sound = s.sound;
-          whole = s.whole;
           spells = s.spells;
         }
       ]
@@ -157,9 +153,9 @@ module _ {K V : Type 0} (key : K → List ℕ) (value : V → List ℕ) (is_key 
   pub grown : (keeps : Bool) (shape : Shape) (begin closed frozen tail : ℕ) (receipts : List Standing) (old new : Ring) (bytes : List ℕ) (text : List (Entry K V)) (e : Entry K V)
       → IsPages key value is_key is_value ksize vsize keeps shape begin closed frozen tail receipts old text → tail < 2 ^ 48 → e.address ≡ tail
       → Puts shape.page_bits (page_at shape.page_bits closed) tail (page_at shape.page_bits tail) (offset_at shape.page_bits tail) bytes old new
-      → length bytes ≡ shape.record_size → IsRecord is_key is_value tail (record_of e) → e.delta ≡ false → Spells key value ksize vsize bytes (record_of e)
+      → length bytes ≡ shape.record_size → IsRecord is_key is_value tail (record_of e) → Spells key value ksize vsize bytes (record_of e)
       → IsPages key value is_key is_value ksize vsize keeps shape begin closed frozen (tail_after shape.page_bits shape.record_size tail) receipts new (text ++ e ∷ [])
-  grown keeps shape begin closed frozen tail receipts old new bytes text e log below at puts sized sound whole spells =
+  grown keeps shape begin closed frozen tail receipts old new bytes text e log below at puts sized sound spells =
       let bits = shape.page_bits in
       let size = shape.record_size in
       let o = log.ordered in
@@ -178,7 +174,7 @@ module _ {K V : Type 0} (key : K → List ℕ) (value : V → List ℕ) (is_key 
                 (let there = stands bits size shape.limits (text_begin keeps begin closed) tail text from_place o.most laid i d was in
                 put_below keeps shape begin closed frozen tail receipts old new bytes text tail log place o.frozen_tail puts sized d there there.high (log.spelled.spelled i d was))
             | inr last ↦ subst (λ (x : Entry K V). IsSpelled key value is_key is_value ksize vsize bits (page_in (page_at bits closed) receipts new) x) last.1
-                (put_spelled keeps shape begin closed frozen tail receipts old new bytes text tail log place o.frozen_tail puts sized e at sound whole spells)
+                (put_spelled keeps shape begin closed frozen tail receipts old new bytes text tail log place o.frozen_tail puts sized e at sound spells)
           ];
         };
         ordered = record {
@@ -277,14 +273,14 @@ module _ {K V : Type 0} (key : K → List ℕ) (value : V → List ℕ) (is_key 
   -- what a contract sees once an entry is appended
   pub view_at : (keeps : Bool) (shape : Shape) (begin closed frozen tail at size : ℕ) (receipts : List Standing) (was ring : Ring)
       (o : TheOne (λ t. IsTextOf key value is_key is_value ksize vsize shape.page_bits (page_in (page_at shape.page_bits closed) receipts ring) (text_begin keeps begin closed) at t))
-      (old : List (Entry K V)) (e : Entry K V) → e.address ≡ tail → e.delta ≡ false → shape.record_size ≡ size → at ≡ tail_after shape.page_bits shape.record_size tail → length ring.slots ≡ length was.slots
+      (old : List (Entry K V)) (e : Entry K V) → e.address ≡ tail → shape.record_size ≡ size → at ≡ tail_after shape.page_bits shape.record_size tail → length ring.slots ≡ length was.slots
       → pages_from ring (length receipts) (page_at shape.page_bits frozen - length receipts) ≡ pages_from was (length receipts) (page_at shape.page_bits frozen - length receipts)
       → IsPages key value is_key is_value ksize vsize keeps shape begin closed frozen (tail_after shape.page_bits shape.record_size tail) receipts ring (old ++ e ∷ [])
-      → view_as keeps shape begin closed frozen at receipts ring (o.0).0 ≡ with_entry size (view_as keeps shape begin closed frozen tail receipts was old) e.previous e.key e.value
-  view_at keeps shape begin closed frozen tail at size receipts was ring o old e here whole same is count waits l =
+      → view_as keeps shape begin closed frozen at receipts ring (o.0).0 ≡ with_entry size (view_as keeps shape begin closed frozen tail receipts was old) e.previous e.key e.value e.delta
+  view_at keeps shape begin closed frozen tail at size receipts was ring o old e here same is count waits l =
       let text = text_is key value is_key is_value ksize vsize shape.page_bits (page_in (page_at shape.page_bits closed) receipts ring) (text_begin keeps begin closed) at o (old ++ e ∷ [])
       (subst (λ (n : ℕ). IsTextOf key value is_key is_value ksize vsize shape.page_bits (page_in (page_at shape.page_bits closed) receipts ring) (text_begin keeps begin closed) n (old ++ e ∷ [])) (sym is) l.spelled)
-      ∙ (λ j. old ++ record { address = here j; previous = e.previous; key = e.key; value = e.value; delta = whole j } ∷ []) in
+      ∙ (λ j. old ++ record { address = here j; previous = e.previous; key = e.key; value = e.value; delta = e.delta } ∷ []) in
       let tail_same : at ≡ tail_after shape.page_bits size tail = is ∙ ap (λ (n : ℕ). tail_after shape.page_bits n tail) same in
       λ j. record {
         bits = shape.page_bits;

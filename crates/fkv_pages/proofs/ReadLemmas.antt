@@ -1,6 +1,6 @@
 -- Entries of a loaded page, and chains in it.
 use Rattle.std.proofs.Common.{◌≡◌, ◌<◌, ◌≤◌, ◌==◌, inl, inr, ℕ, Bool, true, false, List, Option, Some, None, is_none, slice_get, refl, sym, ◌∙◌, ap, subst, arith}
-use Rattle.std.specs.Prelude.{IsTrue, Result, Ok, Err}
+use Rattle.std.specs.Prelude.{IsTrue, IsSome, Result, Ok, Err}
 use Rattle.std.proofs.lemmas.Bool.{cases_lt, ne_eqb}
 use Rattle.fkv_records.specs.Places.{IsShape, page_at, offset_at, start_at, IsRecordStart}
 use Rattle.fkv_records.specs.Records.{size_of, IsRecord, Spells}
@@ -50,7 +50,6 @@ module _ {K V : Type 0} (key : K → List ℕ) (value : V → List ℕ) (is_key 
         stands = found.1;
         place = subst (λ (n : ℕ). IsRecordStart bits n a) log.size stands.place;
         sound = subst (λ (b : ℕ). IsRecord is_key is_value b (record_of e)) found.1 t.sound;
-        whole = t.whole;
         spells = subst (λ (b : List ℕ). Spells key value ksize vsize b (record_of e)) part t.spells;
       }
 
@@ -88,15 +87,15 @@ module _ {K V : Type 0} (key : K → List ℕ) (value : V → List ℕ) (is_key 
       λ i. record { address = at i; previous = (r i).previous; key = (r i).key; value = (r i).value; delta = (r i).delta }
 
   -- the entries of the text in a flushed page are those that its receipt's bytes spell
-  pub entries_in : (keeps : Bool) (shape : Shape) (begin closed frozen tail : ℕ) (receipts : List Standing) (ring : Ring) (text : List (Entry K V)) (from : ℕ) (s : Standing)
-      → IsPages key value is_key is_value ksize vsize keeps shape begin closed frozen tail receipts ring text → IsTrue keeps → slice_get receipts (page_at shape.page_bits from) ≡ Some s
-      → (b : ℕ) (e : Entry K V) → first_place shape.page_bits (page_at shape.page_bits from) ≤ b → b ≤ from → entry_at text b ≡ Some e
+  pub entries_in : (keeps : Bool) (shape : Shape) (begin closed frozen tail : ℕ) (receipts : List Standing) (ring : Ring) (text : List (Entry K V)) (from page : ℕ) (s : Standing)
+      → IsPages key value is_key is_value ksize vsize keeps shape begin closed frozen tail receipts ring text → IsTrue keeps → slice_get receipts page ≡ Some s → page_at shape.page_bits from ≤ page
+      → (b : ℕ) (e : Entry K V) → first_place shape.page_bits page ≤ b → b ≤ from → entry_at text b ≡ Some e
       → IsEntryIn key value is_key is_value ksize vsize shape.page_bits s.bytes b e
-  entries_in keeps shape begin closed frozen tail receipts ring text from s log h g b e low high is =
+  entries_in keeps shape begin closed frozen tail receipts ring text from page s log h g within b e low high is =
       let bits = shape.page_bits in
       let up = page_rises bits b from high in
-      let down = page_high bits (page_at bits from) b (omega arith) in
-      let same : page_at bits b ≡ page_at bits from = omega arith in
+      let down = page_high bits page b (omega arith) in
+      let same : page_at bits b ≡ page = omega arith in
       entry_in keeps shape begin closed frozen tail receipts ring text b s e log h (rw same g) is
 
 -- where a chain stands at an address: the entry there is reached, or what is reached from its previous address
@@ -134,19 +133,19 @@ pub low_later : (bits page low : ℕ) → (page ≡ 0 → ⊥) → low ≡ start
 low_later bits page low ne e = let no : (page == 0) ≡ false = ne_eqb page 0 ne in rw no (omega (arith, e))
 
 -- what is refused on the way down a page is damage of that page
-pub reached_refused : {K V : Type 0} (entry : ℕ → Entry K V → Type 0) (cmp : K → K → Ordering) (k : K) (bits page : ℕ) (why : Refused) (falls : (b : ℕ) (e : Entry K V) → entry b e → e.previous < b)
-    → (a : ℕ) (r : Result (ChainPosition K V) Refused) → page_at bits a ≤ page → IsReached entry cmp k bits (first_place bits page) a r → r ≡ Err why → why ≡ Damaged page
-reached_refused entry cmp k bits page why falls a r under (below less) is = absurd (cc)
-reached_refused entry cmp k bits page why falls a r under (none above nothing) is =
+pub reached_refused : {K V : Type 0} (entry : ℕ → Entry K V → Type 0) (cmp : K → K → Ordering) (k : K) (bits page low : ℕ) (why : Refused) (falls : (b : ℕ) (e : Entry K V) → entry b e → e.previous < b)
+    → first_place bits page ≤ low → (a : ℕ) (r : Result (ChainPosition K V) Refused) → page_at bits a ≤ page → IsReached entry cmp k bits low a r → r ≡ Err why → why ≡ Damaged page
+reached_refused entry cmp k bits page low why falls floor a r under (below less) is = absurd (cc)
+reached_refused entry cmp k bits page low why falls floor a r under (none above nothing) is =
     let up = page_high bits page a (omega arith) in
     let same : page_at bits a ≡ page = omega arith in
     let both : Damaged (page_at bits a) ≡ why = cc in
     sym both ∙ ap Damaged same
-reached_refused entry cmp k bits page why falls a r under (found above here own) is = absurd (cc)
-reached_refused entry cmp k bits page why falls a r under (on {e = e} above here other rest) is =
+reached_refused entry cmp k bits page low why falls floor a r under (found above here own) is = absurd (cc)
+reached_refused entry cmp k bits page low why falls floor a r under (on {e = e} above here other rest) is =
     let less = falls a e here in
     let lower = page_rises bits e.previous a (omega arith) in
-    reached_refused entry cmp k bits page why falls e.previous r (omega arith) rest is
+    reached_refused entry cmp k bits page low why falls floor e.previous r (omega arith) rest is
 
 -- a value that is not there, and one that is
 pub no_value : {V : Type 0} (o : Option V) → is_none o ≡ true → o ≡ None
@@ -156,6 +155,11 @@ no_value (Some v) h = absurd (cc)
 pub a_value : {V : Type 0} (o : Option V) → is_none o ≡ false → (v : V) × (o ≡ Some v)
 a_value None h = absurd (cc)
 a_value (Some v) h = (v, refl)
+
+-- a tombstone is no delta
+pub tombstone_whole : {V : Type 0} (d : Bool) (o : Option V) → o ≡ None → (IsTrue d → IsSome o) → d ≡ false
+tombstone_whole false o is whole = refl
+tombstone_whole true o is whole = absurd (let some = rw is at (whole refl) in cc)
 
 -- a test that does not pass fails
 pub not_true : (b : Bool) → (b ≡ true → ⊥) → b ≡ false

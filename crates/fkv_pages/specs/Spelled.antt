@@ -1,5 +1,5 @@
 -- The text that pages spell, whatever holds their bytes.
-use Rattle.std.specs.Prelude.{◌≡◌, ◌+◌, ◌^◌, ◌≤◌, ℕ, List, false, Option, Some, length, slice_get, slice_range}
+use Rattle.std.specs.Prelude.{◌≡◌, ◌+◌, ◌^◌, ◌≤◌, ℕ, List, Option, Some, length, slice_get, slice_range}
 use mathlib.Core.Equiv.{IsContr}
 use Rattle.fkv_records.specs.Places.{page_at, offset_at, IsRecordStart}
 use Rattle.fkv_records.specs.Records.{size_of, IsRecord, Spells}
@@ -15,14 +15,13 @@ record_of e = record { previous = e.previous; key = e.key; value = e.value; delt
 abbrev pub part_of : List ℕ → ℕ → ℕ → List ℕ
 part_of page offset size = slice_range page offset (offset + size)
 
--- the bytes at an entry's address are those of its record; no delta is written yet
+-- the bytes at an entry's address are those of its record
 pub record IsSpelled {K V : Type 0} (key : K → List ℕ) (value : V → List ℕ)
     (is_key : K → Type 0) (is_value : V → Type 0) (ksize vsize bits : ℕ)
     (pages : ℕ → Option (List ℕ)) (e : Entry K V) : Type 0 where
   pub page : List ℕ
   pub here : pages (page_at bits e.address) ≡ Some page
   pub sound : IsRecord is_key is_value e.address (record_of e)
-  pub whole : e.delta ≡ false
   pub spells :
       Spells key value ksize vsize (part_of page (offset_at bits e.address) (size_of ksize vsize)) (record_of e)
 
@@ -55,7 +54,6 @@ pub record IsEntryIn {K V : Type 0} (key : K → List ℕ) (value : V → List �
   pub stands : e.address ≡ address
   pub place : IsRecordStart bits (size_of ksize vsize) address
   pub sound : IsRecord is_key is_value address (record_of e)
-  pub whole : e.delta ≡ false
   pub spells :
       Spells key value ksize vsize (part_of bytes (offset_at bits address) (size_of ksize vsize)) (record_of e)
 
@@ -66,5 +64,4 @@ pub record IsIn {K V : Type 0} (key : K → List ℕ) (value : V → List ℕ)
   pub stands : e.address ≡ address
   pub first : 64 ≤ address
   pub sound : IsRecord is_key is_value address (record_of e)
-  pub whole : e.delta ≡ false
   pub spells : Spells key value ksize vsize bytes (record_of e)

@@ -1,5 +1,5 @@
 -- What a contract sees of pages.
-use Rattle.std.specs.Prelude.{◌≡◌, ◌+◌, ◌^◌, ◌<◌, ◌≤◌, ℕ, Bool, false, cond, List, [], ◌∷◌, ◌++◌, drop, Option, nat_le}
+use Rattle.std.specs.Prelude.{◌≡◌, ◌+◌, ◌^◌, ◌<◌, ◌≤◌, ℕ, Bool, cond, List, [], ◌∷◌, ◌++◌, drop, Option, nat_le}
 use Rattle.fkv_records.specs.Places.{page_at, offset_at}
 use Rattle.fkv_device.specs.Standing.{Standing}
 use Rattle.fkv_texts.specs.declared.entries.Entry.{Entry}
@@ -49,9 +49,9 @@ pub record IsFull {K V : Type 0} (pages : PagesView K V) : Type 0 where
   pub taken : page_at pages.bits pages.closed + pages.frames ≤ page_at pages.bits pages.tail
 
 -- one more entry, at the tail
-abbrev pub with_entry : {K V : Type 0} → ℕ → PagesView K V → ℕ → K → Option V → PagesView K V
-with_entry size pages previous key value = record pages {
-  text = pages.text ++ record { address = pages.tail; previous = previous; key = key; value = value; delta = false } ∷ [];
+abbrev pub with_entry : {K V : Type 0} → ℕ → PagesView K V → ℕ → K → Option V → Bool → PagesView K V
+with_entry size pages previous key value delta = record pages {
+  text = pages.text ++ record { address = pages.tail; previous = previous; key = key; value = value; delta = delta } ∷ [];
   tail = tail_after pages.bits size pages.tail;
 }
 

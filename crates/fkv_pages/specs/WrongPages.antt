@@ -1,5 +1,5 @@
 -- What the definitions refuse, on small pages: keys and values are numbers.
-use Rattle.std.specs.Prelude.{◌≡◌, ℕ, List, [], ◌∷◌, Option, Some, None, true, false}
+use Rattle.std.specs.Prelude.{◌≡◌, ℕ, Bool, List, [], ◌∷◌, Option, Some, None, true, false}
 use Rattle.fkv_functions.specs.declared.refusals.Refused.TheVariants.{NotDue, Stranger}
 use Rattle.fkv_functions.specs.declared.refusals.What.TheVariants.{Page, Bytes}
 use Rattle.fkv_records.specs.Records.{Spells}
@@ -17,8 +17,9 @@ receipt n bytes = record { number = n; page = n; length = 256; bytes = bytes; ma
 
 -- an appended entry is all that was handed in
 abbrev pub AppendsItWhole : Type 0
-AppendsItWhole = (p k : ℕ) (v : Option ℕ)
-    → with_entry 32 (empty_pages 8 2) p k v ≡ record (empty_pages 8 2) { tail = 96; text = entry 64 p k v ∷ [] }
+AppendsItWhole = (p k : ℕ) (v : Option ℕ) (d : Bool)
+    → with_entry 32 (empty_pages 8 2) p k v d
+    ≡ record (empty_pages 8 2) { tail = 96; text = record (entry 64 p k v) { delta = d } ∷ [] }
 
 -- an entry is spelled in the page of its address
 abbrev pub SpelledInItsPage : Type 0

@@ -50,8 +50,9 @@ impl<K: FixedKey, V: Fixed, R: Receipt> Pages<K, V, R> {
         }
         let header = link_of::<K, V>(bytes);
         if header.is_tombstone {
-            return Ok(entry_with(address, header.previous, key, None));
+            return Ok(entry_with(address, header.previous, key, None, false));
         }
-        Ok(entry_with(address, header.previous, key, value_of::<K, V>(bytes)))
+        let value = value_of::<K, V>(bytes);
+        Ok(entry_with(address, header.previous, key, value, header.is_delta))
     }
 }

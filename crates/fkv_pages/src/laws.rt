@@ -1,5 +1,5 @@
 //! What holds of any pages. Each law is what a function without a body ensures.
-ghost use Rattle.std.specs.Prelude.{◌≤◌, ℕ, List, Option};
+ghost use Rattle.std.specs.Prelude.{◌≤◌, ℕ, Bool, List, Option};
 ghost use Rattle.fkv_device.specs.Standing.{Standing};
 ghost use Rattle.fkv_pages.specs.Views.{PagesView, with_entry, with_value, with_frozen, with_receipt, FrozenStay};
 ghost use Rattle.fkv_pages.specs.WrongPages.{AppendsItWhole, SpelledInItsPage, TakesPagesInTurn, BeginsWhereKnown};
@@ -8,9 +8,9 @@ ghost use Rattle.fkv_pages.specs.WrongPages.{ClosesFrames, DiffersFirst, Refuses
 /// No change of pages changes what is frozen: an entry is appended at the tail, which is no lower, or gets another value
 /// at or above it, or pages are flushed and more is frozen, and the text stays.
 pub fn frozen_stay<K, V>()
-    ensures appended { (size : ℕ) (pages : PagesView K V) (p : ℕ) (k : K) (v : Option V)
+    ensures appended { (size : ℕ) (pages : PagesView K V) (p : ℕ) (k : K) (v : Option V) (d : Bool)
         → pages.frozen ≤ pages.tail
-        → FrozenStay pages (with_entry size pages p k v) }
+        → FrozenStay pages (with_entry size pages p k v d) }
     ensures changed { (pages : PagesView K V) (a : ℕ) (v : Option V)
         → pages.frozen ≤ a
         → FrozenStay pages (with_value pages a v) }

@@ -12,7 +12,7 @@ use fkv_records::{Address, Shape, read_record};
 use fkv_texts::entries::entry_of;
 use fkv_texts::{ChainPosition, Entry};
 
-/// The entry at an address, from the bytes of its page. Refused: `Damaged` where they spell none there, or a delta.
+/// The entry at an address, from the bytes of its page. Refused: `Damaged` where they spell none there.
 pub(crate) fn entry_in<K: Fixed, V: Fixed>(
     shape: Shape,
     page: &[u8],
@@ -37,12 +37,7 @@ pub(crate) fn entry_in<K: Fixed, V: Fixed>(
         page: shape.page_of(address),
     };
     match read_record::<K, V>(address, bytes) {
-        Ok(found) => {
-            if found.delta {
-                return Err(damaged);
-            }
-            Ok(entry_of(address, found))
-        }
+        Ok(found) => Ok(entry_of(address, found)),
         Err(_) => Err(damaged),
     }
 }

@@ -7,7 +7,7 @@ ghost use Rattle.fkv_records.specs.Records.{size_of, IsPrevious};
 ghost use Rattle.fkv_device.specs.Standing.{Standing};
 ghost use Rattle.fkv_texts.specs.Places.{IsLaidOut, tail_after};
 ghost use Rattle.fkv_texts.specs.Text.{entry_at, IsRising, IsFrom, IsBelow};
-ghost use Rattle.fkv_texts.specs.Deltas.{AreWhole};
+ghost use Rattle.fkv_texts.specs.Deltas.{AreValued};
 ghost use Rattle.fkv_pages.specs.Spelled.{TheOne, IsTextOf, IsPageOf, IsIn};
 ghost use Rattle.fkv_pages.specs.Pages.{page_in};
 ghost use Rattle.fkv_pages.specs.Views.{text_begin, IsFull, empty_pages, with_entry};
@@ -112,18 +112,20 @@ impl<K: Fixed, V: Fixed, R: Receipt> Pages<K, V, R> {
     }
 
     /// Appends a record and answers its address, or `None` where there is no room ([`Pages::is_full`]), and then
-    /// nothing changes. A page is begun by the first append in it. No memory is taken. Refused, and then nothing
-    /// changes: `Worn` where no address is left.
+    /// nothing changes. The value of a delta is a part, to be joined with what the key had before. A page is begun by
+    /// the first append in it. No memory is taken. Refused, and then nothing changes: `Worn` where no address is left.
     pub fn append(
         &mut self,
         previous: Address,
         key: K,
         value: Option<V>,
+        delta: bool,
     ) -> Result<Option<Address>, Refused>
         requires previous { IsPrevious self.old.tail previous }
+        requires whole { IsTrue delta → IsSome value }
         ensures address { IfOk result (λ o. IfSome o (λ address. address ≡ self.old.tail)) }
         ensures appended { IfOk result (λ o. IfSome o (λ _. self.new
-            ≡ with_entry (size_of K.SIZE V.SIZE) self.old previous key value)) }
+            ≡ with_entry (size_of K.SIZE V.SIZE) self.old previous key value delta)) }
         ensures room { (result ≡ Ok None) ↔ IsFull self.old }
         ensures full { result ≡ Ok None → self.new ≡ self.old }
         ensures worn { (result ≡ Err Refused.Worn) ↔ (self.old.tail ≡ 2 ^ 48) }
@@ -144,7 +146,7 @@ impl<K: Fixed, V: Fixed, R: Receipt> Pages<K, V, R> {
             previous,
             key,
             value,
-            delta: false,
+            delta,
         };
         put_record(&mut self.frames, is_new, page, address, size, &entry);
         self.tail = self.shape.next_place(address).unwrap_or(END);
@@ -219,8 +221,8 @@ impl<K: Fixed, V: Fixed, R: Receipt> Pages<K, V, R> {
         ensures rising { IsRising self.now.text }
         ensures low { IsFrom self.now.from self.now.text }
         ensures below { IsBelow self.now.tail self.now.text }
-        // no entry is a delta
-        ensures whole { AreWhole self.now.text }
+        // each delta has a part
+        ensures valued { AreValued self.now.text }
         // what is closed, or below Begin, is flushed, and what is flushed is frozen
         ensures begun { page_at self.now.bits self.now.begin ≤ length self.now.receipts }
         ensures kept { page_at self.now.bits self.now.closed ≤ length self.now.receipts }

@@ -15,7 +15,7 @@ use Rattle.fkv_operations.specs.declared.operations.KeyedOp.{KeyedOp}
 use Rattle.fkv_operations.specs.declared.operations.KeyedOp.TheVariants.{Read, Upsert, Rmw, Delete}
 use Rattle.fkv_texts.specs.Deltas.{IsSuperseded}
 use Rattle.fkv_lookups.specs.RecordsViews.{RecordsView, class_in, entry_of, IsEntryOf, with_record}
-use Rattle.fkv_lookups.specs.Traced.{IsTraced}
+use Rattle.fkv_lookups.specs.Traced.{IsTraced, IsStood}
 use Rattle.fkv_lookups.proofs.TracedLemmas.{entry-stands, traced-held}
 use Rattle.fkv_lookups.proofs.ClearedLemmas.{superseded-renewed, lives-renewed}
 use Rattle.fkv_core.specs.declared.contexts.Context.{Context}
@@ -59,30 +59,30 @@ freed-same xs i q none = elim (cases_eq q i) [
 ]
 
 -- ---- a moment passes
-moment-stage : {K V I : Type 0} (keeps : Bool) (cmp : K → K → Ordering) (code : K → ℕ) (v : CoreView K V I) (now place : ℕ) (stage : Stage K V) → StageStands keeps cmp code v place stage → StageStands keeps cmp code (record v { moment = now }) place stage
-moment-stage keeps cmp code v now place Fresh h = tt
-moment-stage keeps cmp code v now place (Reading begin) h = h
-moment-stage keeps cmp code v now place (Tracing entry l) h = h
-moment-stage keeps cmp code v now place (Ready entry kept) h = h
+moment-stage : {K V I : Type 0} (keeps : Bool) (cmp : K → K → Ordering) (join : V → V → V) (code : K → ℕ) (v : CoreView K V I) (now place : ℕ) (stage : Stage K V) → StageStands keeps cmp join code v place stage → StageStands keeps cmp join code (record v { moment = now }) place stage
+moment-stage keeps cmp join code v now place Fresh h = tt
+moment-stage keeps cmp join code v now place (Reading begin) h = h
+moment-stage keeps cmp join code v now place (Tracing entry l) h = h
+moment-stage keeps cmp join code v now place (Ready entry kept) h = h
 
-pub keep-moment : {K V I : Type 0} {keeps : Bool} {cmp : K → K → Ordering} {code : K → ℕ} (v : PartitionView K V I) → IsCompacting keeps cmp code v → (now : ℕ) → IsCompacting keeps cmp code (with_core v (record v.core { moment = now }))
-keep-moment {keeps = keeps} {cmp = cmp} {code = code} v s now = record {
+pub keep-moment : {K V I : Type 0} {keeps : Bool} {cmp : K → K → Ordering} {join : V → V → V} {code : K → ℕ} (v : PartitionView K V I) → IsCompacting keeps cmp join code v → (now : ℕ) → IsCompacting keeps cmp join code (with_core v (record v.core { moment = now }))
+keep-moment {keeps = keeps} {cmp = cmp} {join = join} {code = code} v s now = record {
   begun = s.begun;
   low = s.low;
   place = s.place;
   cleared = s.cleared;
   places = s.places;
-  stands = λ p x h. (let was = s.stands p x h in record { place = was.place; frozen = was.frozen; issued = was.issued; stage = moment-stage keeps cmp code v.core now x.target x.stage was.stage });
+  stands = λ p x h. (let was = s.stands p x h in record { place = was.place; frozen = was.frozen; issued = was.issued; stage = moment-stage keeps cmp join code v.core now x.target x.stage was.stage });
   alone = s.alone;
   housed = s.housed;
 }
 
 -- ---- what look-ups that wait for a page are to find
-module _ {K V : Type 0} (keeps : Bool) (cmp : K → K → Ordering) (code : K → ℕ) (r : RecordsView K V) (e : IndexEntry) (key : K) (value : Option V) where
-  kept-same : (k : K) (l : Loading) → IsLoading keeps cmp code r k l → newest cmp (with_record r e key value).text k (address_of l.kept.word) ≡ newest cmp r.text k (address_of l.kept.word)
+module _ {K V : Type 0} (keeps : Bool) (cmp : K → K → Ordering) (join : V → V → V) (code : K → ℕ) (r : RecordsView K V) (e : IndexEntry) (key : K) (value : Option V) where
+  kept-same : (k : K) (l : Loading V) → IsLoading keeps cmp join code r k l → newest cmp (with_record r e key value).text k (address_of l.kept.word) ≡ newest cmp r.text k (address_of l.kept.word)
   kept-same k l h = newest-below cmp r.text (record { address = r.tail; previous = address_of e.word; key = key; value = value; delta = false }) k (address_of l.kept.word) h.low
 
-  pending-same : {I : Type 0} (op : KeyedOp K V I) (p : Phase V) → StandsFor keeps cmp code r op p → pending_by cmp (with_record r e key value) op p ≡ pending_by cmp r op p
+  pending-same : {I : Type 0} (op : KeyedOp K V I) (p : Phase V) → StandsFor keeps cmp join code r op p → pending_by cmp (with_record r e key value) op p ≡ pending_by cmp r op p
   pending-same op phase.Fresh h = refl
   pending-same op (phase.Confirm q) h = refl
   pending-same op (phase.Prepared b s) h = refl
@@ -91,7 +91,7 @@ module _ {K V : Type 0} (keeps : Bool) (cmp : K → K → Ordering) (code : K �
   pending-same (Rmw k i) (phase.Load l) h = ap (λ o. cond (l.begin == r.begin) (Some (record { moment = l.looked; value = value_of o })) None) (kept-same k l h)
   pending-same (Delete k) (phase.Load l) h = absurd h
 
-module _ {K V I : Type 0} {keeps : Bool} (cmp : K → K → Ordering) (code : K → ℕ) (v : PartitionView K V I) (s : IsCompacting keeps cmp code v) (slot c now : ℕ) (x : Relocation K V) (h : relocation_at v slot c ≡ Some x) where
+module _ {K V I : Type 0} {keeps : Bool} (cmp : K → K → Ordering) (join : V → V → V) (code : K → ℕ) (v : PartitionView K V I) (s : IsCompacting keeps cmp join code v) (slot c now : ℕ) (x : Relocation K V) (h : relocation_at v slot c ≡ Some x) where
   -- no operation is open in the context of a relocation
   alone-here : joined (slice_get v.core.contexts (slot * 8 + c)) ≡ None
   alone-here = s.alone (slot * 8 + c) x (open-here v slot c x h).here
@@ -102,14 +102,14 @@ module _ {K V I : Type 0} {keeps : Bool} (cmp : K → K → Ordering) (code : K 
   contexts-same : (a d : ℕ) (e : IndexEntry) (key : K) (value : Option V) → context_at (with_appended v.core slot c e key value now) a d ≡ context_at v.core a d
   contexts-same a d e key value = ap (λ o. cond (is_session (slots_of v.core) a && nat_lt d 8) o None) (freed-same v.core.contexts (slot * 8 + c) (a * 8 + d) alone-here)
 
-  all-pend : IsSound keeps cmp code v.core → (e : IndexEntry) (key : K) (value : Option V) → AllPend cmp v.core (with_appended v.core slot c e key value now)
+  all-pend : IsSound keeps cmp join code v.core → (e : IndexEntry) (key : K) (value : Option V) → AllPend cmp v.core (with_appended v.core slot c e key value now)
   all-pend p e key value a d = ap (pending_of cmp (with_record v.core.records e key value)) (contexts-same a d e key value) ∙ by_context (context_at v.core a d) refl
     where
       by_context : (o : Option (Context K V I)) → context_at v.core a d ≡ o → pending_of cmp (with_record v.core.records e key value) o ≡ pending_of cmp v.core.records o
       by_context None g = refl
-      by_context (Some y) g = pending-same keeps cmp code v.core.records e key value y.op y.phase (stands-at cmp code v.core p a d y g)
+      by_context (Some y) g = pending-same keeps cmp join code v.core.records e key value y.op y.phase (stands-at cmp join code v.core p a d y g)
 
-  module _ (p : IsSound keeps cmp code v.core) (e : Entry K V) (kept : IndexEntry) (stands : StageStands keeps cmp code v.core x.target (Ready e kept)) (holds : word_at v.core.records.words kept.place ≡ kept.word) where
+  module _ (p : IsSound keeps cmp join code v.core) (e : Entry K V) (kept : IndexEntry) (stands : StageStands keeps cmp join code v.core x.target (Ready e kept)) (holds : word_at v.core.records.words kept.place ≡ kept.word) where
     -- the entry stands as that of the record's class
     entry-here : IsEntryOf v.core.records (class_in code v.core.records e.key) kept
     entry-here = let was = stands.1.is_kept.entry in record { bucket = was.bucket; place = was.place; word = holds; final = was.final; tag = was.tag }
@@ -128,22 +128,23 @@ module _ {K V I : Type 0} {keeps : Bool} (cmp : K → K → Ordering) (code : K 
 
     -- every compacted partition's facts hold of what is appended
     pub keep-again : IsTraced keeps code (with_appended v.core slot c kept e.key e.value now).records
-        → IsPreserved keeps cmp code v.core (with_appended v.core slot c kept e.key e.value now)
-        → IsCompacting keeps cmp code (with_core v (with_appended v.core slot c kept e.key e.value now))
-    keep-again t b = keep-event keeps cmp code v (with_appended v.core slot c kept e.key e.value now) s t b refl refl s.begun
+        → IsStood cmp join (with_appended v.core slot c kept e.key e.value now).records
+        → IsPreserved keeps cmp join code v.core (with_appended v.core slot c kept e.key e.value now)
+        → IsCompacting keeps cmp join code (with_core v (with_appended v.core slot c kept e.key e.value now))
+    keep-again t st b = keep-event keeps cmp join code v (with_appended v.core slot c kept e.key e.value now) s t st b refl refl s.begun
         (λ q y g none. freed-same v.core.contexts (slot * 8 + c) q alone-here ∙ none) (λ a d y low g inside. inside)
 
     -- the record of the place is superseded then
-    pub superseded-again : IsKeyOrder cmp → IsTrue keeps → (d : Entry K V) → entry_at (with_record v.core.records kept e.key e.value).text x.target ≡ Some d → IsSuperseded cmp (with_record v.core.records kept e.key e.value).text d
+    pub superseded-again : IsKeyOrder cmp → IsTrue keeps → (d : Entry K V) → entry_at (with_record v.core.records kept e.key e.value).entries x.target ≡ Some d → IsSuperseded cmp (with_record v.core.records kept e.key e.value).entries d
     superseded-again order yes_keeps d there =
         let r = v.core.records in
         let n : Entry K V = record { address = r.tail; previous = address_of kept.word; key = e.key; value = e.value; delta = false } in
         let frozen = (stands-here v slot c x h s).frozen in
         let o = p.traced.regions.agree.in_order in
         let low : x.target < r.tail = omega (arith, frozen, o.safe, p.traced.regions.read_only) in
-        let was : entry_at r.text x.target ≡ Some d = sym (entry_at-old r.text n x.target (λ same. omega arith)) ∙ there in
-        let at = eqb-true d.address x.target (last_where-found (λ y. y.address == x.target) r.text d was) in
-        superseded-renewed cmp r.text order n d (sym (stands.1.own yes_keeps d was)) refl (omega arith)
+        let was : entry_at r.entries x.target ≡ Some d = sym (entry_at-old r.entries n x.target (λ same. omega arith)) ∙ there in
+        let at = eqb-true d.address x.target (last_where-found (λ y. y.address == x.target) r.entries d was) in
+        superseded-renewed cmp r.entries order n d (sym (stands.1.own yes_keeps d was)) refl (omega arith)
 
     pub event-again : IsKeyOrder cmp → IsRelocating keeps cmp v (again_at v slot c x.target kept e now) slot c now
     event-again order = record {

@@ -27,10 +27,10 @@ use Rattle.fkv_partition.proofs.EffectLemmas.{key-issue, key-event, relocations-
 use Rattle.fkv_partition.proofs.KeepLemmas.{issues-told}
 
 -- a partition of which an operation was issued keeps what every one keeps
-pub sound-issued : {K V I : Type 0} (keeps : Bool) (cmp : K → K → Ordering) (code : K → ℕ) (v between : CoreView K V I) (slot c now : ℕ) (op : KeyedOp K V I)
-    → IsSound keeps cmp code v → slot < 16 → Issues code v between slot c op now (Ok tt) → IsSound keeps cmp code between
-sound-issued keeps cmp code v between slot c now op s few (Issues.stranger n is r) = absurd (cc)
-sound-issued keeps cmp code v between slot c now op s few (Issues.issues inside low free own is r) =
+pub sound-issued : {K V I : Type 0} (keeps : Bool) (cmp : K → K → Ordering) (join : V → V → V) (code : K → ℕ) (v between : CoreView K V I) (slot c now : ℕ) (op : KeyedOp K V I)
+    → IsSound keeps cmp join code v → slot < 16 → Issues code v between slot c op now (Ok tt) → IsSound keeps cmp join code between
+sound-issued keeps cmp join code v between slot c now op s few (Issues.stranger n is r) = absurd (cc)
+sound-issued keeps cmp join code v between slot c now op s few (Issues.issues inside low free own is r) =
     rw is
     (sound-context s slot c now (record { number = now; op = op; phase = Fresh })
     (ap (λ o. claim_of (joined o)) (free-here (slots_of v) v.contexts slot c s.places few low inside free)) refl
@@ -43,11 +43,11 @@ free-context v slot c inside low free = context-inside (slots_of v.core) v.core.
 pub free-relocation : {K V I : Type 0} (v : PartitionView K V I) (slot c : ℕ) → IsEntered v.core slot → c < 8 → IsFree v slot c → relocation_at v slot c ≡ None
 free-relocation v slot c inside low free = context-inside (slots_of v.core) v.relocations slot c inside low ∙ free.relocation
 
-module _ {K V I O R : Type 0} (stands : R → Standing) (cmp : K → K → Ordering) (f : Meanings K V I O) (code : K → ℕ) (v : PartitionView K V I) (new : CoreView K V I) (slot c : ℕ) (key : K) (input : I) (issued now : ℕ) where
+module _ {K V I O R : Type 0} (stands : R → Standing) (cmp : K → K → Ordering) (join : V → V → V) (f : Meanings K V I O) (code : K → ℕ) (v : PartitionView K V I) (new : CoreView K V I) (slot c : ℕ) (key : K) (input : I) (issued now : ℕ) where
   -- what the core does at once, its partition does
   pub done-at-once : IsEntered v.core slot → IsFirstFree v slot (Some c) → (shown : Option O)
-      → IfSome shown (λ s. key_update.IsDoneAtOnce stands cmp f code v.core new slot c key input issued now s)
-      → IfSome shown (λ s. IsDoneAtOnce stands cmp f code v (with_core v new) slot key input issued now s)
+      → IfSome shown (λ s. key_update.IsDoneAtOnce stands cmp join f code v.core new slot c key input issued now s)
+      → IfSome shown (λ s. IsDoneAtOnce stands cmp join f code v (with_core v new) slot key input issued now s)
   done-at-once inside first None h = tt
   done-at-once inside first (Some shown) h =
       let none = free-relocation v slot c inside first.0 first.1 in
@@ -63,18 +63,18 @@ module _ {K V I O R : Type 0} (stands : R → Standing) (cmp : K → K → Order
       }
 
   -- and it keeps what every partition keeps
-  pub kept-at-once : (keeps : Bool) → IsCompacting keeps cmp code v → (shown : Option O) → (shown ≡ None → new ≡ v.core)
-      → IfSome shown (λ s. key_update.IsDoneAtOnce stands cmp f code v.core new slot c key input issued now s)
-      → ((s : O) → key_update.IsDoneAtOnce stands cmp f code v.core new slot c key input issued now s → IsCompacting keeps cmp code (with_core v new))
-      → IsCompacting keeps cmp code (with_core v new)
+  pub kept-at-once : (keeps : Bool) → IsCompacting keeps cmp join code v → (shown : Option O) → (shown ≡ None → new ≡ v.core)
+      → IfSome shown (λ s. key_update.IsDoneAtOnce stands cmp join f code v.core new slot c key input issued now s)
+      → ((s : O) → key_update.IsDoneAtOnce stands cmp join f code v.core new slot c key input issued now s → IsCompacting keeps cmp join code (with_core v new))
+      → IsCompacting keeps cmp join code (with_core v new)
   kept-at-once keeps i None same h kept = rw (same refl) i
   kept-at-once keeps i (Some s) same h kept = kept s h
 
 -- where the core leaves an update to its issue, so does the partition
-pub left-at-once : {K V I O : Type 0} (cmp : K → K → Ordering) (f : Meanings K V I O) (code : K → ℕ) (v : PartitionView K V I) (slot : ℕ) (key : K) (input : I)
-    → ((held : V) → key_update.IsAtHand cmp code v.core slot key held → f.next key held input ≡ None)
-    → (held : V) → IsAtHand cmp code v slot key held → f.next key held input ≡ None
-left-at-once cmp f code v slot key input out held h = out held h.hand
+pub left-at-once : {K V I O : Type 0} (cmp : K → K → Ordering) (join : V → V → V) (f : Meanings K V I O) (code : K → ℕ) (v : PartitionView K V I) (slot : ℕ) (key : K) (input : I)
+    → ((held : V) → key_update.IsAtHand cmp join code v.core slot key held → f.next key held input ≡ None)
+    → (held : V) → IsAtHand cmp join code v slot key held → f.next key held input ≡ None
+left-at-once cmp join f code v slot key input out held h = out held h.hand
 
 -- what holds anyhow holds of what is told
 pub told-some : {A P : Type 0} (o : Option A) → P → IfSome o (λ x. P)

@@ -98,7 +98,7 @@ module _ {K V I : Type 0} (v : PartitionView K V I) (slot c : ℕ) where
       by_parts None None p q = let none = asked-none (ap (option_map key_effect.asked_by) p) q in let bad : None ≡ Some x = sym none ∙ h in absurd (cc)
 
   -- no operation on a key is open in the context of a relocation
-  module _ {keeps : Bool} {cmp : K → K → Ordering} {code : K → ℕ} (s : IsCompacting keeps cmp code v) (x : Relocation K V) (h : relocation_at v slot c ≡ Some x) where
+  module _ {keeps : Bool} {cmp : K → K → Ordering} {join : V → V → V} {code : K → ℕ} (s : IsCompacting keeps cmp join code v) (x : Relocation K V) (h : relocation_at v slot c ≡ Some x) where
     pub alone-asked : key_effect.asked v.core slot c ≡ None
     alone-asked =
         let o = open-here v slot c x h in
@@ -112,7 +112,7 @@ module _ {K V I : Type 0} (v : PartitionView K V I) (new : CoreView K V I) where
   pub relocations-same : new.records.regions ≡ v.core.records.regions → (s d : ℕ) → relocation_at (with_core v new) s d ≡ relocation_at v s d
   relocations-same same s d = ap (λ (r : RegionsView). context_in r.epochs.slots v.relocations s d) same
 
-  housed-none : {keeps : Bool} {cmp : K → K → Ordering} {code : K → ℕ} → IsCompacting keeps cmp code v → (s d : ℕ) → d < 8 → is_session (slots_of v.core) s ≡ false → joined (slice_get v.relocations (s * 8 + d)) ≡ None
+  housed-none : {keeps : Bool} {cmp : K → K → Ordering} {join : V → V → V} {code : K → ℕ} → IsCompacting keeps cmp join code v → (s d : ℕ) → d < 8 → is_session (slots_of v.core) s ≡ false → joined (slice_get v.relocations (s * 8 + d)) ≡ None
   housed-none i s d low out = by_get (slice_get v.relocations (s * 8 + d)) refl
     where
       by_get : (o : Option (Option (Relocation K V))) → slice_get v.relocations (s * 8 + d) ≡ o → joined (slice_get v.relocations (s * 8 + d)) ≡ None
@@ -121,7 +121,7 @@ module _ {K V I : Type 0} (v : PartitionView K V I) (new : CoreView K V I) where
       by_get (Some (Some x)) e = let yes = i.housed s d x low e in let bad : true ≡ false = sym yes ∙ out in absurd (cc)
 
   -- who is entered stays, unless he has no relocation
-  pub relocations-stay : {keeps : Bool} {cmp : K → K → Ordering} {code : K → ℕ} → IsCompacting keeps cmp code v
+  pub relocations-stay : {keeps : Bool} {cmp : K → K → Ordering} {join : V → V → V} {code : K → ℕ} → IsCompacting keeps cmp join code v
       → ((s : ℕ) → is_session (slots_of v.core) s ≡ true → (is_session (slots_of new) s ≡ true) ⊎ ((d : ℕ) → relocation_at v s d ≡ None))
       → (s d : ℕ) → relocation_at (with_core v new) s d ≡ relocation_at v s d
   relocations-stay i stay s d = by_cases (is_session (slots_of v.core) s) (is_session (slots_of new) s) (nat_lt d 8) refl refl refl
@@ -284,7 +284,7 @@ Proceeds {K} {V} x is now (Waits why) = (y : Relocation K V) × (is ≡ Some y) 
 Proceeds {K} {V} x is now (NeedsLoad r a) = (y : Relocation K V) × (is ≡ Some y) × (y.number ≡ x.number)
 Proceeds x is now (NeedsBuild ask) = ⊥
 
-module _ {K V I : Type 0} {keeps : Bool} {cmp : K → K → Ordering} {code : K → ℕ} (v new : PartitionView K V I) (s : IsCompacting keeps cmp code v) (slot c now : ℕ) (r : IsRelocating keeps cmp v new slot c now) where
+module _ {K V I : Type 0} {keeps : Bool} {cmp : K → K → Ordering} {join : V → V → V} {code : K → ℕ} (v new : PartitionView K V I) (s : IsCompacting keeps cmp join code v) (slot c now : ℕ) (r : IsRelocating keeps cmp v new slot c now) where
   pub relocating-frame : LeavesOthers v new slot c now
   relocating-frame = record {
     others = λ a d other. ap (λ o. asked_of o (relocation_at new a d)) (r.same a d) ∙ ap (asked_of (key_effect.asked v.core a d)) (r.others a d other);
@@ -343,7 +343,7 @@ module _ {K V I : Type 0} (v : PartitionView K V I) (slot c now : ℕ) (x : Relo
       context-inside (slots_of v.core) (slice_set v.relocations (slot * 8 + c) y) slot c o.inside o.low ∙ ap joined (get-set_same v.relocations (slot * 8 + c) (Some x) y o.here)
 
   -- it is given up
-  pub dropped-event : {keeps : Bool} {cmp : K → K → Ordering} {code : K → ℕ} → IsCompacting keeps cmp code v → IsRelocating keeps cmp v (with_relocation v slot c None now) slot c now
+  pub dropped-event : {keeps : Bool} {cmp : K → K → Ordering} {join : V → V → V} {code : K → ℕ} → IsCompacting keeps cmp join code v → IsRelocating keeps cmp v (with_relocation v slot c None now) slot c now
       → IsGiveUp v (with_relocation v slot c None now) slot c now
   dropped-event s r = record {
     question = record { number = x.number; op = Relocate };
@@ -355,7 +355,7 @@ module _ {K V I : Type 0} (v : PartitionView K V I) (slot c now : ℕ) (x : Relo
   }
 
 -- a relocation is issued in a context that is free
-pub issued-event : {K V I : Type 0} {keeps : Bool} {cmp : K → K → Ordering} {code : K → ℕ} (v : PartitionView K V I) (slot c now : ℕ) (y : Relocation K V) → IsCompacting keeps cmp code v
+pub issued-event : {K V I : Type 0} {keeps : Bool} {cmp : K → K → Ordering} {join : V → V → V} {code : K → ℕ} (v : PartitionView K V I) (slot c now : ℕ) (y : Relocation K V) → IsCompacting keeps cmp join code v
     → slot < 16 → c < 8 → is_session (slots_of v.core) slot ≡ true
     → joined (slice_get v.core.contexts (slot * 8 + c)) ≡ None → joined (slice_get v.relocations (slot * 8 + c)) ≡ None → y.number ≡ now
     → IsRelocating keeps cmp v (with_relocation v slot c (Some y) now) slot c now

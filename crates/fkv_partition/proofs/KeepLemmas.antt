@@ -1,7 +1,7 @@
 -- What the changes of a compacted partition keep.
-use Rattle.std.proofs.Common.{◌≡◌, ◌≢◌, Bool, true, false, ℕ, ◌+◌, ◌*◌, ◌^◌, ◌<◌, ◌≤◌, ◌⊎◌, inl, inr, ◌&&◌, ◌==◌, IsTrue, List, [], ◌∷◌, cond, nat_le, replicate, zero, suc, Option, Some, None, Result, Ok, Err, OnErr, slice_get, slice_set, refl, sym, ◌∙◌, ap, subst, arith}
+use Rattle.std.proofs.Common.{◌≡◌, ◌≢◌, Bool, true, false, ℕ, ◌+◌, ◌*◌, ◌^◌, ◌<◌, ◌≤◌, ◌⊎◌, inl, inr, ◌==◌, IsTrue, List, [], ◌∷◌, cond, nat_le, replicate, zero, suc, Option, Some, None, Result, Ok, Err, OnErr, slice_get, slice_set, refl, sym, ◌∙◌, ap, subst, arith}
 use Rattle.std.proofs.lemmas.List.{length-set}
-use Rattle.std.proofs.lemmas.Bool.{cases_lt, cases_eq, and_parts, leb-true, le-leb, eqb-true}
+use Rattle.std.proofs.lemmas.Bool.{cases_lt, cases_eq, eqb-true}
 use Rattle.std.proofs.lemmas.Bool.Decides.{nat_tests}
 use Rattle.std.specs.declared.cmp.Ordering.{Ordering}
 use Rattle.fkv_records.specs.Places.{IsShape, IsRecordStart, first}
@@ -10,16 +10,12 @@ use Rattle.fkv_regions.proofs.MoveLemmas.{mark-place}
 use Rattle.fkv_pages.specs.Views.{text_begin}
 use Rattle.fkv_texts.specs.declared.entries.Entry.{Entry}
 use Rattle.fkv_texts.specs.Places.{tail_after, IsLaidOut}
-use Rattle.fkv_texts.specs.Text.{has_key, newest}
-use Rattle.fkv_texts.specs.Chains.{IsIn}
-use Rattle.fkv_texts.proofs.LastWhere.{last_where-in, last_where-found, none-passes}
+use Rattle.fkv_texts.proofs.LastWhere.{last_where-in, last_where-found}
 use Rattle.fkv_texts.proofs.PlaceLemmas.{after, after-nearest}
 use Rattle.fkv_texts.specs.Deltas.{IsCleared}
 use Rattle.fkv_lookups.specs.RecordsViews.{RecordsView}
-use Rattle.fkv_lookups.specs.Traced.{IsTraced}
-use Rattle.fkv_lookups.proofs.TracedLemmas.{highest}
-use Rattle.fkv_index.specs.Words.{address_of}
-use Rattle.fkv_index.specs.Places.{word_at}
+use Rattle.fkv_lookups.specs.Traced.{IsTraced, IsStood}
+use Rattle.fkv_lookups.proofs.TracedLemmas.{traced-raw}
 use Rattle.fkv_operations.specs.declared.entries.IndexEntry.{IndexEntry}
 use Rattle.fkv_functions.specs.declared.refusals.Refused.{Refused}
 use Rattle.fkv_functions.proofs.ListLemmas.{get-set_cases}
@@ -27,7 +23,6 @@ use Rattle.fkv_operations.specs.After.{key_of}
 use Rattle.fkv_operations.specs.declared.operations.KeyedOp.{KeyedOp}
 use Rattle.fkv_core.specs.Beginning.{Issues}
 use Rattle.fkv_core.proofs.AskedLemmas.{context-inside}
-use Rattle.fkv_core.proofs.TruncateLemmas.{none-some}
 use Rattle.fkv_partition.specs.Beginning.{IssuesOnKey, IsFirstFree}
 use Rattle.fkv_core.specs.Contexts.{joined, is_session}
 use Rattle.fkv_core.specs.Views.{CoreView, slots_of, partition_of}
@@ -82,83 +77,45 @@ next-low v t a place low =
       | inr end ↦ (let most = next.most in omega arith)
     ]
 
-both : (a b : Bool) → a ≡ true → b ≡ true → (a && b) ≡ true
-both a b h k = rw h k
-
 none-in : {A : Type 0} (n p : ℕ) (x : A) → slice_get (replicate n None) p ≡ Some (Some x) → ⊥
 none-in zero p x e = cc
 none-in (suc n) zero x e = cc
 none-in (suc n) (suc p) x e = none-in n p x e
 
-module _ {K V I : Type 0} (keeps : Bool) (cmp : K → K → Ordering) (code : K → ℕ) where
+module _ {K V I : Type 0} (keeps : Bool) (cmp : K → K → Ordering) (join : V → V → V) (code : K → ℕ) where
   -- ---- an event of the partition
-  -- an entry that stands as it was kept stood so
-  word-stood : (old new : CoreView K V I) → IsPreserved keeps cmp code old new → (place : ℕ) (entry : Entry K V) (kept : IndexEntry) → IsReady keeps cmp code old.records place entry kept → IsTrue keeps
-      → word_at new.records.words kept.place ≡ kept.word → word_at old.records.words kept.place ≡ kept.word
-  word-stood old new b place entry kept h yes_keeps holds =
-      let n = b.next yes_keeps in
-      let low = h.is_kept.low in
-      elim (n.words kept.place kept.word h.is_kept.entry.final holds) [
-        | inl was ↦ was
-        | inr (inl none) ↦ absurd (none-some entry.value (h.is_kept.nowhere yes_keeps none) h.some)
-        | inr (inr fresh) ↦ absurd (let high : old.records.tail ≤ address_of kept.word = fresh in omega arith)
-      ]
-
   -- a relocation that is to append its record again
-  ready-kept : (old new : CoreView K V I) → IsTraced keeps code new.records → IsPreserved keeps cmp code old new → (place : ℕ) → place < old.records.regions.offsets.safe_read_only → (entry : Entry K V) (kept : IndexEntry)
-      → IsReady keeps cmp code old.records place entry kept → IsReady keeps cmp code new.records place entry kept
-  ready-kept old new t b place frozen entry kept h = record {
+  ready-kept : (old new : CoreView K V I) → IsTraced keeps code new.records → IsStood cmp join new.records → IsPreserved keeps cmp join code old new → (place : ℕ) → place < old.records.regions.offsets.safe_read_only → (entry : Entry K V) (kept : IndexEntry)
+      → IsReady keeps cmp join code old.records place entry kept → IsReady keeps cmp join code new.records place entry kept
+  ready-kept old new t st b place frozen entry kept h = record {
     here = h.here;
     some = h.some;
     is_kept = b.bears.kept entry.key kept entry.value h.is_kept;
-    between = λ yes_keeps holds d m key above under.
-        let n = b.next yes_keeps in
-        let was = word-stood old new b place entry kept h yes_keeps holds in
-        elim (n.records entry.key (address_of kept.word) h.is_kept.low (h.is_kept.still yes_keeps was)) [
-          | inl same ↦ by_newest yes_keeps was d m key above under (newest cmp new.records.text entry.key (address_of kept.word)) refl same
-          | inr cut ↦ (let no = none-passes passes new.records.text cut.gone m.place d m.here in let yes = passed d key under in cc)
-        ];
     own = λ yes_keeps d there.
-        let m = last_where-in (λ x. x.address == place) new.records.text d there in
-        let at = eqb-true d.address place (last_where-found (λ x. x.address == place) new.records.text d there) in
-        let low = t.from m.place d m.here in
+        let m = last_where-in (λ x. x.address == place) new.records.entries d there in
+        let at = eqb-true d.address place (last_where-found (λ x. x.address == place) new.records.entries d there) in
+        let low = (traced-raw t st).from m.place d m.here in
         h.own yes_keeps d (sym (b.grown.stay place (omega arith) frozen) ∙ there);
   }
-    where
-      passes : Entry K V → Bool
-      passes x = nat_le x.address (address_of kept.word) && has_key cmp entry.key x
-
-      passed : (d : Entry K V) → has_key cmp entry.key d ≡ true → d.address ≤ address_of kept.word → passes d ≡ true
-      passed d key under = both (nat_le d.address (address_of kept.word)) (has_key cmp entry.key d) (le-leb d.address (address_of kept.word) under) key
-
-      -- the newest at or below where the entry led stood there before
-      by_newest : IsTrue keeps → word_at old.records.words kept.place ≡ kept.word → (d : Entry K V) → IsIn new.records.text d → has_key cmp entry.key d ≡ true → place < d.address → d.address ≤ address_of kept.word
-          → (o : Option (Entry K V)) → newest cmp new.records.text entry.key (address_of kept.word) ≡ o → newest cmp new.records.text entry.key (address_of kept.word) ≡ newest cmp old.records.text entry.key (address_of kept.word) → ⊥
-      by_newest yes_keeps was d m key above under None is same = let no = none-passes passes new.records.text is m.place d m.here in let yes = passed d key under in cc
-      by_newest yes_keeps was d m key above under (Some z) is same =
-          let stood : newest cmp old.records.text entry.key (address_of kept.word) ≡ Some z = sym same ∙ is in
-          let up = highest passes new.records.text t.rising z is m.place d m.here (passed d key under) in
-          let found = and_parts (nat_le z.address (address_of kept.word)) (has_key cmp entry.key z) (last_where-found passes old.records.text z stood) in
-          let le = leb-true z.address (address_of kept.word) found.0 in
-          h.between yes_keeps was z (last_where-in passes old.records.text z stood) found.1 (omega arith) le
 
   -- a relocation stands for what it stood for
-  stage-kept : (old new : CoreView K V I) → new.number ≡ old.number → new.count ≡ old.count → IsTraced keeps code new.records → IsPreserved keeps cmp code old new
-      → (place : ℕ) → place < old.records.regions.offsets.safe_read_only → (stage : Stage K V) → StageStands keeps cmp code old place stage → StageStands keeps cmp code new place stage
-  stage-kept old new number count t b place frozen Fresh h = tt
-  stage-kept old new number count t b place frozen (Reading begin) h =
+  stage-kept : (old new : CoreView K V I) → new.number ≡ old.number → new.count ≡ old.count → IsTraced keeps code new.records → IsStood cmp join new.records → IsPreserved keeps cmp join code old new
+      → (place : ℕ) → place < old.records.regions.offsets.safe_read_only → (stage : Stage K V) → StageStands keeps cmp join code old place stage → StageStands keeps cmp join code new place stage
+  stage-kept old new number count t st b place frozen Fresh h = tt
+  stage-kept old new number count t st b place frozen (Reading begin) h =
       let up = b.grown.begin in
       let head = b.grown.raised.head in
       let past = h.past in
       let on_disk = h.on_disk in
       record { past = omega arith; begun = h.begun; on_disk = omega arith }
-  stage-kept old new number count t b place frozen (Tracing entry l) h = (
+  stage-kept old new number count t st b place frozen (Tracing entry l) h = (
     ap (λ n. partition_of n (code entry.key)) count ∙ h.0 ∙ sym number,
     record {
       here = h.1.here;
       some = h.1.some;
       begun = h.1.begun;
       above = h.1.above;
+      led = h.1.led;
       loading = b.bears.loading entry.key l h.1.loading;
       is = λ yes_keeps same.
           let past = h.1.loading.past in
@@ -169,22 +126,23 @@ module _ {K V I : Type 0} (keeps : Bool) (cmp : K → K → Ordering) (code : K 
           b.grown.stay place (omega (arith, from, begun, same)) frozen ∙ h.1.is yes_keeps stood;
     },
   )
-  stage-kept old new number count t b place frozen (Ready entry kept) h =
-      (ap (λ n. partition_of n (code entry.key)) count ∙ h.0 ∙ sym number, ready-kept old new t b place frozen entry kept h.1)
+  stage-kept old new number count t st b place frozen (Ready entry kept) h =
+      (ap (λ n. partition_of n (code entry.key)) count ∙ h.0 ∙ sym number, ready-kept old new t st b place frozen entry kept h.1)
 
   -- an event of the partition keeps what every compacted partition keeps, where no operation is opened beside a
   -- relocation, no session with one is left, and Begin passes nothing that is not cleared
   pub keep-event : (v : PartitionView K V I) (new : CoreView K V I)
-      → IsCompacting keeps cmp code v
+      → IsCompacting keeps cmp join code v
       → IsTraced keeps code new.records
-      → IsPreserved keeps cmp code v.core new
+      → IsStood cmp join new.records
+      → IsPreserved keeps cmp join code v.core new
       → new.number ≡ v.core.number
       → new.count ≡ v.core.count
       → new.records.begin ≤ v.cleared
       → ((p : ℕ) (x : Relocation K V) → slice_get v.relocations p ≡ Some (Some x) → joined (slice_get v.core.contexts p) ≡ None → joined (slice_get new.contexts p) ≡ None)
       → ((slot c : ℕ) (x : Relocation K V) → c < 8 → slice_get v.relocations (slot * 8 + c) ≡ Some (Some x) → is_session (slots_of v.core) slot ≡ true → is_session (slots_of new) slot ≡ true)
-      → IsCompacting keeps cmp code (with_core v new)
-  keep-event v new i t b number count begun opens stay =
+      → IsCompacting keeps cmp join code (with_core v new)
+  keep-event v new i t st b number count begun opens stay =
       let shape = b.grown.shape in
       record {
         begun = begun;
@@ -200,7 +158,7 @@ module _ {K V I : Type 0} (keeps : Bool) (cmp : K → K → Ordering) (code : K 
               place = rw (shape.page_bits, shape.record_size) was.place;
               frozen = omega arith;
               issued = was.issued;
-              stage = stage-kept v.core new number count t b x.target was.frozen x.stage was.stage;
+              stage = stage-kept v.core new number count t st b x.target was.frozen x.stage was.stage;
             };
         alone = λ p x h. opens p x h (i.alone p x h);
         housed = λ slot c x low h. stay slot c x low h (i.housed slot c x low h);
@@ -208,17 +166,18 @@ module _ {K V I : Type 0} (keeps : Bool) (cmp : K → K → Ordering) (code : K 
 
   -- so it is where no operation is opened, and no session left, and Begin stands
   pub keep-seated : (v : PartitionView K V I) (new : CoreView K V I)
-      → IsCompacting keeps cmp code v
+      → IsCompacting keeps cmp join code v
       → IsTraced keeps code new.records
-      → IsPreserved keeps cmp code v.core new
+      → IsStood cmp join new.records
+      → IsPreserved keeps cmp join code v.core new
       → IsSteady v.core new
       → NoneOpens v.core new × AllStay v.core new
-      → IsCompacting keeps cmp code (with_core v new)
-  keep-seated v new i t b steady seats =
-      keep-event v new i t b steady.number steady.count (let begun = i.begun in let begin = steady.begin in omega arith) (λ p x h none. seats.0 p none) (λ slot c x low h inside. seats.1 slot inside)
+      → IsCompacting keeps cmp join code (with_core v new)
+  keep-seated v new i t st b steady seats =
+      keep-event v new i t st b steady.number steady.count (let begun = i.begun in let begin = steady.begin in omega arith) (λ p x h none. seats.0 p none) (λ slot c x low h inside. seats.1 slot inside)
 
   -- ---- a relocation begins, goes on or ends
-  stage-moment : (v : CoreView K V I) (now place : ℕ) (stage : Stage K V) → StageStands keeps cmp code v place stage → StageStands keeps cmp code (record v { moment = now }) place stage
+  stage-moment : (v : CoreView K V I) (now place : ℕ) (stage : Stage K V) → StageStands keeps cmp join code v place stage → StageStands keeps cmp join code (record v { moment = now }) place stage
   stage-moment v now place Fresh h = tt
   stage-moment v now place (Reading begin) h = h
   stage-moment v now place (Tracing entry l) h = h
@@ -226,7 +185,7 @@ module _ {K V I : Type 0} (keeps : Bool) (cmp : K → K → Ordering) (code : K 
 
   -- a relocation that may stand at a place
   pub record Fits (v : PartitionView K V I) (cleared i : ℕ) (x : Relocation K V) : Type 0 where
-    pub stands : RelocationStands keeps cmp code v.core cleared x
+    pub stands : RelocationStands keeps cmp join code v.core cleared x
     pub alone : joined (slice_get v.core.contexts i) ≡ None
     pub housed : (slot c : ℕ) → c < 8 → slot * 8 + c ≡ i → is_session (slots_of v.core) slot ≡ true
 
@@ -235,13 +194,13 @@ module _ {K V I : Type 0} (keeps : Bool) (cmp : K → K → Ordering) (code : K 
     pub higher : v.cleared ≤ limit
     pub low : limit ≤ v.core.records.tail
     pub place : limit < 2 ^ 48 → IsRecordStart v.core.records.page_bits v.core.records.record_size limit
-    pub cleared : IsTrue keeps → IsCleared cmp v.core.records.text limit
+    pub cleared : IsTrue keeps → IsCleared cmp v.core.records.entries limit
 
   pub keep-changed : (v : PartitionView K V I) (i now cleared : ℕ) (y : Option (Relocation K V))
-      → IsCompacting keeps cmp code v
+      → IsCompacting keeps cmp join code v
       → Rises v cleared
       → ((x : Relocation K V) → y ≡ Some x → Fits v cleared i x)
-      → IsCompacting keeps cmp code (record { core = record v.core { moment = now }; cleared = cleared; relocations = slice_set v.relocations i y })
+      → IsCompacting keeps cmp join code (record { core = record v.core { moment = now }; cleared = cleared; relocations = slice_set v.relocations i y })
   keep-changed v i now cleared y s r fits = record {
     begun = (let up = r.higher in let begun = s.begun in omega arith);
     low = r.low;
@@ -262,23 +221,23 @@ module _ {K V I : Type 0} (keeps : Bool) (cmp : K → K → Ordering) (code : K 
     ];
   }
     where
-      at-moment : (x : Relocation K V) → RelocationStands keeps cmp code v.core cleared x → RelocationStands keeps cmp code (record v.core { moment = now }) cleared x
+      at-moment : (x : Relocation K V) → RelocationStands keeps cmp join code v.core cleared x → RelocationStands keeps cmp join code (record v.core { moment = now }) cleared x
       at-moment x h = record { place = h.place; frozen = h.frozen; issued = h.issued; stage = stage-moment v.core now x.target x.stage h.stage }
 
-      higher : (x : Relocation K V) → RelocationStands keeps cmp code v.core v.cleared x → RelocationStands keeps cmp code v.core cleared x
+      higher : (x : Relocation K V) → RelocationStands keeps cmp join code v.core v.cleared x → RelocationStands keeps cmp join code v.core cleared x
       higher x h = record { place = h.place; frozen = h.frozen; issued = (let up = r.higher in let issued = h.issued in omega arith); stage = h.stage }
 
   -- what is cleared stays
-  pub rises-not : (v : PartitionView K V I) → IsCompacting keeps cmp code v → Rises v v.cleared
+  pub rises-not : (v : PartitionView K V I) → IsCompacting keeps cmp join code v → Rises v v.cleared
   rises-not v s = record { higher = omega arith; low = s.low; place = s.place; cleared = s.cleared }
 
   -- a place is cleared
-  pub rises-past : (v : PartitionView K V I) (place : ℕ) → IsCompacting keeps cmp code v
+  pub rises-past : (v : PartitionView K V I) (place : ℕ) → IsCompacting keeps cmp join code v
       → IsTraced keeps code v.core.records
       → place ≤ v.cleared
       → IsRecordStart v.core.records.page_bits v.core.records.record_size place
       → place < v.core.records.tail
-      → (IsTrue keeps → IsCleared cmp v.core.records.text place → IsCleared cmp v.core.records.text (tail_after v.core.records.page_bits v.core.records.record_size place))
+      → (IsTrue keeps → IsCleared cmp v.core.records.entries place → IsCleared cmp v.core.records.entries (tail_after v.core.records.page_bits v.core.records.record_size place))
       → Rises v (cleared_past v place)
   rises-past v place s t issued at low raised = by_test (nat_le v.cleared place) refl
     where
@@ -296,16 +255,16 @@ module _ {K V I : Type 0} (keeps : Bool) (cmp : K → K → Ordering) (code : K 
             higher = omega arith;
             low = next-low r t place at low;
             place = next.place;
-            cleared = λ yes_keeps. raised yes_keeps (subst (IsCleared cmp r.text) same (s.cleared yes_keeps));
+            cleared = λ yes_keeps. raised yes_keeps (subst (IsCleared cmp r.entries) same (s.cleared yes_keeps));
           }
 
   -- ---- the beginning
-  pub compacting-empty : (p : CoreView K V I) → p.records.begin ≡ 64 → p.records.tail ≡ 64 → p.records.text ≡ [] → IsCompacting keeps cmp code (record { core = p; cleared = 64; relocations = replicate 128 None })
-  compacting-empty p begin tail text = record {
+  pub compacting-empty : (p : CoreView K V I) → p.records.begin ≡ 64 → p.records.tail ≡ 64 → p.records.entries ≡ [] → IsCompacting keeps cmp join code (record { core = p; cleared = 64; relocations = replicate 128 None })
+  compacting-empty p begin tail entries = record {
     begun = omega arith;
     low = omega arith;
     place = λ under. first;
-    cleared = λ yes_keeps. subst (λ t. IsCleared cmp t 64) (sym text) (λ e here low. absurd (cc));
+    cleared = λ yes_keeps. subst (λ t. IsCleared cmp t 64) (sym entries) (λ e here low. absurd (cc));
     places = refl;
     stands = λ i x h. absurd (none-in 128 i x h);
     alone = λ i x h. absurd (none-in 128 i x h);
@@ -343,18 +302,19 @@ pub none-at : {A : Type 0} (o : Option A) → ((x : A) → o ≡ Some x → ⊥)
 none-at None h = refl
 none-at (Some x) h = absurd (h x refl)
 
-module _ {K V I : Type 0} (keeps : Bool) (cmp : K → K → Ordering) (code : K → ℕ) where
+module _ {K V I : Type 0} (keeps : Bool) (cmp : K → K → Ordering) (join : V → V → V) (code : K → ℕ) where
   -- a session without relocations is left
   pub keep-left : (v : PartitionView K V I) (new : CoreView K V I) (slot : ℕ)
-      → IsCompacting keeps cmp code v
+      → IsCompacting keeps cmp join code v
       → IsTraced keeps code new.records
-      → IsPreserved keeps cmp code v.core new
+      → IsStood cmp join new.records
+      → IsPreserved keeps cmp join code v.core new
       → IsSteady v.core new
       → NoneOpens v.core new × ((s : ℕ) → s ≢ slot → is_session (slots_of v.core) s ≡ true → is_session (slots_of new) s ≡ true)
       → ((d : ℕ) (x : Relocation K V) → relocation_at v slot d ≡ Some x → ⊥)
-      → IsCompacting keeps cmp code (with_core v new)
-  keep-left v new slot i t b steady seats none =
-      keep-event keeps cmp code v new i t b steady.number steady.count (let begun = i.begun in let begin = steady.begin in omega arith)
+      → IsCompacting keeps cmp join code (with_core v new)
+  keep-left v new slot i t st b steady seats none =
+      keep-event keeps cmp join code v new i t st b steady.number steady.count (let begun = i.begun in let begin = steady.begin in omega arith)
       (λ p x h free. seats.0 p free)
       (λ s d x low h inside. elim (cases_eq s slot) [
         | inl same ↦ absurd (here s d x low h inside same)
@@ -367,15 +327,16 @@ module _ {K V I : Type 0} (keeps : Bool) (cmp : K → K → Ordering) (code : K 
 
   -- an operation is issued in a context without a relocation
   pub keep-issued : (v : PartitionView K V I) (new : CoreView K V I) (place : ℕ)
-      → IsCompacting keeps cmp code v
+      → IsCompacting keeps cmp join code v
       → IsTraced keeps code new.records
-      → IsPreserved keeps cmp code v.core new
+      → IsStood cmp join new.records
+      → IsPreserved keeps cmp join code v.core new
       → IsSteady v.core new
       → ((p : ℕ) → p ≢ place → joined (slice_get v.core.contexts p) ≡ None → joined (slice_get new.contexts p) ≡ None) × AllStay v.core new
       → joined (slice_get v.relocations place) ≡ None
-      → IsCompacting keeps cmp code (with_core v new)
-  keep-issued v new place i t b steady seats free =
-      keep-event keeps cmp code v new i t b steady.number steady.count (let begun = i.begun in let begin = steady.begin in omega arith)
+      → IsCompacting keeps cmp join code (with_core v new)
+  keep-issued v new place i t st b steady seats free =
+      keep-event keeps cmp join code v new i t st b steady.number steady.count (let begun = i.begun in let begin = steady.begin in omega arith)
       (λ p x h none. seats.0 p (λ same. taken p x h same) none)
       (λ s d x low h inside. seats.1 s inside)
     where
@@ -385,8 +346,8 @@ module _ {K V I : Type 0} (keeps : Bool) (cmp : K → K → Ordering) (code : K 
           cc
 
   -- the lowest place that is not cleared may be taken once it is frozen
-  pub may-relocate : (v : PartitionView K V I) → IsCompacting keeps cmp code v → IsTraced keeps code v.core.records → v.cleared < v.core.records.regions.offsets.safe_read_only → (now : ℕ)
-      → RelocationStands keeps cmp code v.core v.cleared (record { number = now; target = v.cleared; stage = Fresh })
+  pub may-relocate : (v : PartitionView K V I) → IsCompacting keeps cmp join code v → IsTraced keeps code v.core.records → v.cleared < v.core.records.regions.offsets.safe_read_only → (now : ℕ)
+      → RelocationStands keeps cmp join code v.core v.cleared (record { number = now; target = v.cleared; stage = Fresh })
   may-relocate v i t frozen now =
       let o = t.regions.agree.in_order in
       let safe = o.safe in

@@ -6,6 +6,7 @@ use Rattle.fkv_records.specs.Places.{page_at}
 use Rattle.fkv_texts.specs.declared.entries.Entry.{Entry}
 use Rattle.fkv_texts.specs.Text.{entry_at}
 use Rattle.fkv_texts.proofs.LastWhere.{last_where-found}
+use Rattle.fkv_lookups.proofs.TracedLemmas.{raw, traced-raw}
 use Rattle.fkv_core.specs.Sound.{IsSound}
 use Rattle.fkv_core.proofs.DecidedLemmas.{page_flushed}
 use Rattle.fkv_partition.specs.declared.relocations.Relocation.{Relocation}
@@ -20,14 +21,14 @@ use Rattle.fkv_partition.proofs.HeldLemmas.{place-held}
 pub address-at : {K V : Type 0} (text : List (Entry K V)) (a : ℕ) (e : Entry K V) → entry_at text a ≡ Some e → e.address ≡ a
 address-at text a e h = eqb-true e.address a (last_where-found (λ x. x.address == a) text e h)
 
-module _ {K V I : Type 0} {keeps : Bool} (cmp : K → K → Ordering) (code : K → ℕ) (v : PartitionView K V I) (s : IsCompacting keeps cmp code v) (p : IsSound keeps cmp code v.core) (slot c : ℕ) (x : Relocation K V) (h : relocation_at v slot c ≡ Some x) (uncleared : x.target ≡ v.cleared) where
+module _ {K V I : Type 0} {keeps : Bool} (cmp : K → K → Ordering) (join : V → V → V) (code : K → ℕ) (v : PartitionView K V I) (s : IsCompacting keeps cmp join code v) (p : IsSound keeps cmp join code v.core) (slot c : ℕ) (x : Relocation K V) (h : relocation_at v slot c ≡ Some x) (uncleared : x.target ≡ v.cleared) where
   begun-here : v.core.records.begin ≤ x.target
   begun-here = let le = s.begun in omega arith
 
   -- below what the session reads in memory it is on disk
   module _ (under : x.target < low_at v slot) where
     on-disk : x.target < v.core.records.regions.offsets.head
-    on-disk = low-disk cmp code v.core p slot (open-here v slot c x h).inside x.target under begun-here
+    on-disk = low-disk cmp join code v.core p slot (open-here v slot c x h).inside x.target under begun-here
 
     pub place-flushed : page_at v.core.records.page_bits x.target < length v.core.records.receipts
     place-flushed = page_flushed v.core.records x.target p.traced begun-here on-disk
@@ -37,10 +38,10 @@ module _ {K V I : Type 0} {keeps : Bool} (cmp : K → K → Ordering) (code : K 
 
   -- and else it stands in a frame
   module _ (over : low_at v slot ≤ x.target) where
-    pub place-there : IsSome (entry_at v.core.records.text x.target)
+    pub place-there : IsSome (entry_at v.core.records.entries x.target)
     place-there =
-        let from = low-begun cmp code v.core p slot (open-here v slot c x h).inside in
-        place-held v.core.records p.traced x.target (stands-here v slot c x h s).place (omega arith) (low-here v slot c x h s p.traced)
+        let from = low-begun cmp join code v.core p slot (open-here v slot c x h).inside in
+        place-held (raw v.core.records) (traced-raw p.traced p.stood) x.target (stands-here v slot c x h s).place (omega arith) (low-here v slot c x h s p.traced)
 
     pub place-open : v.core.records.regions.offsets.closed ≤ x.target
-    place-open = let closed = low-open cmp code v.core p slot (open-here v slot c x h).inside in omega arith
+    place-open = let closed = low-open cmp join code v.core p slot (open-here v slot c x h).inside in omega arith

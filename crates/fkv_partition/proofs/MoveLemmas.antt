@@ -61,11 +61,11 @@ module _ {K V I : Type 0} (v : PartitionView K V I) (slot c : ℕ) (x : Relocati
   pub open-here : IsOpenAt (slots_of v.core) v.relocations slot c x
   open-here = open_at (slots_of v.core) v.relocations slot c x h
 
-  pub stands-here : {keeps : Bool} {cmp : K → K → Ordering} {code : K → ℕ} → IsCompacting keeps cmp code v → RelocationStands keeps cmp code v.core v.cleared x
+  pub stands-here : {keeps : Bool} {cmp : K → K → Ordering} {join : V → V → V} {code : K → ℕ} → IsCompacting keeps cmp join code v → RelocationStands keeps cmp join code v.core v.cleared x
   stands-here s = s.stands (slot * 8 + c) x open-here.here
 
   -- its place lies below the tail
-  pub low-here : {keeps : Bool} {cmp : K → K → Ordering} {code : K → ℕ} → IsCompacting keeps cmp code v → IsTraced keeps code v.core.records → x.target < v.core.records.tail
+  pub low-here : {keeps : Bool} {cmp : K → K → Ordering} {join : V → V → V} {code : K → ℕ} → IsCompacting keeps cmp join code v → IsTraced keeps code v.core.records → x.target < v.core.records.tail
   low-here s t =
       let frozen = (stands-here s).frozen in
       let safe = t.regions.agree.in_order.safe in

@@ -68,7 +68,7 @@ issues-pend cmp code old new slot op now result law (IssuesOnKey.full a own none
 issues-pend cmp code old new slot op now result law (IssuesOnKey.issues c inside own free is h) =
     rw is (law old.core _ c (Ok tt) (beginning.Issues.issues inside free.0 (context-inside (slots_of old.core) old.core.contexts slot c inside free.0 ∙ free.1.operation) own refl refl))
 
-pub relocates-event : {K V I : Type 0} {keeps : Bool} {cmp : K → K → Ordering} (code : K → ℕ) (old new : PartitionView K V I) (slot now : ℕ) (op : Op K V I) (r : Result ℕ Refused) → op ≡ Relocate → IsCompacting keeps cmp code old
+pub relocates-event : {K V I : Type 0} {keeps : Bool} {cmp : K → K → Ordering} {join : V → V → V} (code : K → ℕ) (old new : PartitionView K V I) (slot now : ℕ) (op : Op K V I) (r : Result ℕ Refused) → op ≡ Relocate → IsCompacting keeps cmp join code old
     → IfOk r (λ c. (slot < 16) × (c < 8)) → Relocates old new slot now r → IfOk r (λ c. IsIssue code old new slot c op now)
 relocates-event {K} {V} {I} {keeps} {cmp} code old new slot now op r is s within does = subst (λ (p : Op K V I). IfOk r (λ c. IsIssue code old new slot c p now)) (sym is) (by_rule r within does)
   where
@@ -109,7 +109,7 @@ module _ {K V I O R : Type 0} (cmp : K → K → Ordering) (f : Meanings K V I O
     loads-event (Err e) h = tt
     loads-event (Ok p) h = IsLoad.on_key (subst (λ (w : PartitionView K V I). IsLoaded cmp f old w slot c now p) (sym rest) (key-load old new.core slot c now none cmp f p h))
 
-  module _ {keeps : Bool} {code : K → ℕ} (s : IsCompacting keeps cmp code old) (x : Relocation K V) (h : relocation_at old slot c ≡ Some x) where
+  module _ {keeps : Bool} {join : V → V → V} {code : K → ℕ} (s : IsCompacting keeps cmp join code old) (x : Relocation K V) (h : relocation_at old slot c ≡ Some x) where
     pub relocation-event : IsTrue keeps → (r : Result (Progress K V I O R) Refused) → IfOk r (λ p. IsRelocating keeps cmp old new slot c now) → ((p : Progress K V I O R) → r ≡ Ok p → Proceeds x (relocation_at new slot c) now p) → IfOk r (IsEvent cmp f old new slot c now)
     relocation-event yes_keeps (Err e) k told = tt
     relocation-event yes_keeps (Ok p) k told = relocating-event old new s slot c now k x h f yes_keeps p (told p refl)
@@ -132,7 +132,7 @@ same-pends {K} {V} {I} {A} cmp old new (Err e) same why is s d = ap (λ (w : Par
 same-pends cmp old new (Ok x) same why is s d = absurd (cc)
 
 -- ---- a relocation is given up
-pub drops-event : {K V I : Type 0} {keeps : Bool} {cmp : K → K → Ordering} {code : K → ℕ} (old new : PartitionView K V I) (s : IsCompacting keeps cmp code old) (slot c now : ℕ) (r : Result (Unit {0}) Refused) → Drops old new slot c now r → OnOk r (IsGiveUp old new slot c now)
+pub drops-event : {K V I : Type 0} {keeps : Bool} {cmp : K → K → Ordering} {join : V → V → V} {code : K → ℕ} (old new : PartitionView K V I) (s : IsCompacting keeps cmp join code old) (slot c now : ℕ) (r : Result (Unit {0}) Refused) → Drops old new slot c now r → OnOk r (IsGiveUp old new slot c now)
 drops-event old new s slot c now r (Drops.unknown none same told) = rw told tt
 drops-event {K} {V} {I} {keeps} {cmp} old new s slot c now r (Drops.drops x here is told) =
     rw told (subst (λ (w : PartitionView K V I). IsGiveUp old w slot c now) (sym is) (dropped-event old slot c now x here s (event-set keeps cmp old slot c now (open-here old slot c x here).low None)))

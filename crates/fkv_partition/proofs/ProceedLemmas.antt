@@ -15,7 +15,7 @@ use Rattle.fkv_core.specs.Views.{slots_of}
 use Rattle.fkv_partition.specs.declared.relocations.Relocation.{Relocation}
 use Rattle.fkv_partition.specs.declared.relocations.Stage.TheVariants.{Fresh}
 use Rattle.fkv_partition.specs.Effect.{IsGiveUp}
-use Rattle.fkv_partition.specs.Checking.{Ends, Asks, ChecksLiveness}
+use Rattle.fkv_partition.specs.Checking.{Ends, Asks, ChecksLiveness, renewed}
 use Rattle.fkv_partition.specs.Going.{GoesOn}
 use Rattle.fkv_partition.specs.Reading.{LoadsOn}
 use Rattle.fkv_partition.specs.Sound.{IsCompacting}
@@ -53,15 +53,15 @@ module _ {K V I : Type 0} (old new : PartitionView K V I) (slot c now : ℕ) (x 
     asks-proceeds stands y wanted same (Asks.asks q held is r) = proceeds-as x _ now progress (NeedsLoad q wanted) r (y, set-then (Some y) _ is refl refl, same)
     asks-proceeds stands y wanted same (Asks.unshared is r) = absurd (cc)
 
-    checks-proceeds : (stands : R → Standing) (cmp : K → K → Ordering) (code : K → ℕ) (entry : Entry K V) → ChecksLiveness stands cmp code old new slot c x entry now (Ok progress) → Proceeds x (relocation_at new slot c) now progress
-    checks-proceeds stands cmp code entry (ChecksLiveness.superseded d is r) = proceeds-as x _ now progress (Done Cleared now) r (set-then None _ is refl refl, refl, refl)
-    checks-proceeds stands cmp code entry (ChecksLiveness.last kept w ends) = ends-proceeds entry kept ends
-    checks-proceeds stands cmp code entry (ChecksLiveness.further kept b w asks) = asks-proceeds stands (at_stage x _) b refl asks
+    checks-proceeds : (stands : R → Standing) (cmp : K → K → Ordering) (join : V → V → V) (code : K → ℕ) (entry : Entry K V) → ChecksLiveness stands cmp join code old new slot c x entry now (Ok progress) → Proceeds x (relocation_at new slot c) now progress
+    checks-proceeds stands cmp join code entry (ChecksLiveness.superseded d is r) = proceeds-as x _ now progress (Done Cleared now) r (set-then None _ is refl refl, refl, refl)
+    checks-proceeds stands cmp join code entry (ChecksLiveness.last kept parts w ends) = ends-proceeds (renewed join entry parts) kept ends
+    checks-proceeds stands cmp join code entry (ChecksLiveness.further kept b parts w asks) = asks-proceeds stands (at_stage x _) b refl asks
 
 -- what a relocation's context holds after it went on
-pub goes_on-proceeds : {K V I O R : Type 0} (stands : R → Standing) (cmp : K → K → Ordering) (code : K → ℕ) (old new : PartitionView K V I) (slot c now : ℕ) (progress : Progress K V I O R) (x : Relocation K V)
-    → relocation_at old slot c ≡ Some x → GoesOn stands cmp code old new slot c now (Ok progress) → Proceeds x (relocation_at new slot c) now progress
-goes_on-proceeds {K} {V} {I} {O} {R} stands cmp code old new slot c now progress x h does = by_rule does
+pub goes_on-proceeds : {K V I O R : Type 0} (stands : R → Standing) (cmp : K → K → Ordering) (join : V → V → V) (code : K → ℕ) (old new : PartitionView K V I) (slot c now : ℕ) (progress : Progress K V I O R) (x : Relocation K V)
+    → relocation_at old slot c ≡ Some x → GoesOn stands cmp join code old new slot c now (Ok progress) → Proceeds x (relocation_at new slot c) now progress
+goes_on-proceeds {K} {V} {I} {O} {R} stands cmp join code old new slot c now progress x h does = by_rule does
   where
     same : (y : Relocation K V) → relocation_at old slot c ≡ Some y → y ≡ x
     same y k = let both : Some y ≡ Some x = sym k ∙ h in cc
@@ -69,18 +69,18 @@ goes_on-proceeds {K} {V} {I} {O} {R} stands cmp code old new slot c now progress
     told : (y : Relocation K V) → relocation_at old slot c ≡ Some y → Proceeds y (relocation_at new slot c) now progress → Proceeds x (relocation_at new slot c) now progress
     told y k p = subst (λ (z : Relocation K V). Proceeds z (relocation_at new slot c) now progress) (same y k) p
 
-    by_rule : GoesOn stands cmp code old new slot c now (Ok progress) → Proceeds x (relocation_at new slot c) now progress
+    by_rule : GoesOn stands cmp join code old new slot c now (Ok progress) → Proceeds x (relocation_at new slot c) now progress
     by_rule (GoesOn.unknown none is r) = absurd (cc)
     by_rule (GoesOn.not_ready y a k w is r) = absurd (cc)
     by_rule (GoesOn.again y entry kept k stage ends) = told y k (ends-proceeds old new slot c now y k progress entry kept ends)
     by_rule (GoesOn.passed y k stage low is r) = told y k (proceeds-as y _ now progress (Done Cleared now) r (set-then old new slot c now y k None _ is refl refl, refl, refl))
-    by_rule (GoesOn.checks y entry k stage at low here checks) = told y k (checks-proceeds old new slot c now y k progress stands cmp code entry checks)
+    by_rule (GoesOn.checks y entry k stage at low here checks) = told y k (checks-proceeds old new slot c now y k progress stands cmp join code entry checks)
     by_rule (GoesOn.reads y k stage at low asks) = told y k (asks-proceeds old new slot c now y k progress stands (at_stage y _) y.target refl asks)
 
 -- and after a page came for it
-pub loads_on-proceeds : {K V I O R : Type 0} (stands : R → Standing) (spells : ℕ → List ℕ → ℕ → Entry K V → Type 0) (cmp : K → K → Ordering) (code : K → ℕ) (old new : PartitionView K V I) (slot c now : ℕ) (came : Result (Joined R) Refused) (progress : Progress K V I O R) (x : Relocation K V)
-    → relocation_at old slot c ≡ Some x → LoadsOn stands spells cmp code old new slot c came now (Ok progress) → Proceeds x (relocation_at new slot c) now progress
-loads_on-proceeds {K} {V} {I} {O} {R} stands spells cmp code old new slot c now came progress x h does = by_rule does
+pub loads_on-proceeds : {K V I O R : Type 0} (stands : R → Standing) (spells : ℕ → List ℕ → ℕ → Entry K V → Type 0) (cmp : K → K → Ordering) (join : V → V → V) (code : K → ℕ) (old new : PartitionView K V I) (slot c now : ℕ) (came : Result (Joined R) Refused) (progress : Progress K V I O R) (x : Relocation K V)
+    → relocation_at old slot c ≡ Some x → LoadsOn stands spells cmp join code old new slot c came now (Ok progress) → Proceeds x (relocation_at new slot c) now progress
+loads_on-proceeds {K} {V} {I} {O} {R} stands spells cmp join code old new slot c now came progress x h does = by_rule does
   where
     same : (y : Relocation K V) → relocation_at old slot c ≡ Some y → y ≡ x
     same y k = let both : Some y ≡ Some x = sym k ∙ h in cc
@@ -88,20 +88,20 @@ loads_on-proceeds {K} {V} {I} {O} {R} stands spells cmp code old new slot c now 
     told : (y : Relocation K V) → relocation_at old slot c ≡ Some y → Proceeds y (relocation_at new slot c) now progress → Proceeds x (relocation_at new slot c) now progress
     told y k p = subst (λ (z : Relocation K V). Proceeds z (relocation_at new slot c) now progress) (same y k) p
 
-    by_rule : LoadsOn stands spells cmp code old new slot c came now (Ok progress) → Proceeds x (relocation_at new slot c) now progress
+    by_rule : LoadsOn stands spells cmp join code old new slot c came now (Ok progress) → Proceeds x (relocation_at new slot c) now progress
     by_rule (LoadsOn.unknown none is r) = absurd (cc)
     by_rule (LoadsOn.not_ready y k w is r) = absurd (cc)
     by_rule (LoadsOn.moved y a k w n is r) = told y k (proceeds-as y _ now progress Next r (at_stage y Fresh, set-then old new slot c now y k (Some (at_stage y Fresh)) _ is refl refl, refl))
     by_rule (LoadsOn.failed y wanted why a k n is r) = absurd (cc)
     by_rule (LoadsOn.unread y wanted a k is r) = absurd (cc)
     by_rule (LoadsOn.stranger y wanted p s a k at n is r) = absurd (cc)
-    by_rule (LoadsOn.checks y begin p e stage has k spelled checks) = told y has.awaits.here (checks-proceeds old new slot c now y has.awaits.here progress stands cmp code e checks)
+    by_rule (LoadsOn.checks y begin p e stage has k spelled checks) = told y has.awaits.here (checks-proceeds old new slot c now y has.awaits.here progress stands cmp join code e checks)
     by_rule (LoadsOn.damaged y begin p stage has k none is r) = absurd (cc)
     by_rule (LoadsOn.newer y e l p q stage has k traces j is r) = told y has.awaits.here (proceeds-as y _ now progress (Done Cleared now) r (set-then old new slot c now y has.awaits.here None _ is refl refl, refl, refl))
-    by_rule (LoadsOn.ends y e l p q stage has k traces j ends) = told y has.awaits.here (ends-proceeds old new slot c now y has.awaits.here progress e l.kept ends)
-    by_rule (LoadsOn.further y e l p b stage has k traces above place asks) = told y has.awaits.here (asks-proceeds old new slot c now y has.awaits.here progress stands (at_stage y _) b refl asks)
+    by_rule (LoadsOn.ends y e l p q parts stage has k traces j ends) = told y has.awaits.here (ends-proceeds old new slot c now y has.awaits.here progress (renewed join e parts) l.kept ends)
+    by_rule (LoadsOn.further y e l p b parts stage has k traces above place asks) = told y has.awaits.here (asks-proceeds old new slot c now y has.awaits.here progress stands (at_stage y _) b refl asks)
     by_rule (LoadsOn.bad_record y e l p why stage has k traces is r) = absurd (cc)
-    by_rule (LoadsOn.bad_link y e l p b stage has k traces above place is r) = absurd (cc)
+    by_rule (LoadsOn.bad_link y e l p b parts stage has k traces above place is r) = absurd (cc)
 
 -- ---- refusals
 module _ {K V I O R : Type 0} (old new : PartitionView K V I) (slot c now : ℕ) (why : Refused) (x : Relocation K V) where
@@ -115,35 +115,35 @@ module _ {K V I O R : Type 0} (old new : PartitionView K V I) (slot c now : ℕ)
   asks-same stands asking wanted (Asks.asks q held is r) = absurd (cc)
   asks-same stands asking wanted (Asks.unshared is r) = is
 
-  checks-same : (stands : R → Standing) (cmp : K → K → Ordering) (code : K → ℕ) (entry : Entry K V) → ChecksLiveness {O = O} stands cmp code old new slot c x entry now (Err why) → new ≡ old
-  checks-same stands cmp code entry (ChecksLiveness.superseded d is r) = absurd (cc)
-  checks-same stands cmp code entry (ChecksLiveness.last kept w ends) = ends-same entry kept ends
-  checks-same stands cmp code entry (ChecksLiveness.further kept b w asks) = asks-same stands _ b asks
+  checks-same : (stands : R → Standing) (cmp : K → K → Ordering) (join : V → V → V) (code : K → ℕ) (entry : Entry K V) → ChecksLiveness {O = O} stands cmp join code old new slot c x entry now (Err why) → new ≡ old
+  checks-same stands cmp join code entry (ChecksLiveness.superseded d is r) = absurd (cc)
+  checks-same stands cmp join code entry (ChecksLiveness.last kept parts w ends) = ends-same (renewed join entry parts) kept ends
+  checks-same stands cmp join code entry (ChecksLiveness.further kept b parts w asks) = asks-same stands _ b asks
 
 -- a refused load of a relocation changes nothing, or frees its context
-pub loads_on-ends : {K V I O R : Type 0} {cmp : K → K → Ordering} {code : K → ℕ} (stands : R → Standing) (spells : ℕ → List ℕ → ℕ → Entry K V → Type 0) (old new : PartitionView K V I) (slot c now : ℕ) (came : Result (Joined R) Refused) (why : Refused)
-    → LoadsOn {O = O} stands spells cmp code old new slot c came now (Err why) → (new ≡ old) ⊎ ((x : Relocation K V) × (relocation_at old slot c ≡ Some x) × (new ≡ with_relocation old slot c None now))
-loads_on-ends {K} {V} {I} {O} {R} {cmp} {code} stands spells old new slot c now came why does = by_rule does
+pub loads_on-ends : {K V I O R : Type 0} {cmp : K → K → Ordering} {join : V → V → V} {code : K → ℕ} (stands : R → Standing) (spells : ℕ → List ℕ → ℕ → Entry K V → Type 0) (old new : PartitionView K V I) (slot c now : ℕ) (came : Result (Joined R) Refused) (why : Refused)
+    → LoadsOn {O = O} stands spells cmp join code old new slot c came now (Err why) → (new ≡ old) ⊎ ((x : Relocation K V) × (relocation_at old slot c ≡ Some x) × (new ≡ with_relocation old slot c None now))
+loads_on-ends {K} {V} {I} {O} {R} {cmp} {join} {code} stands spells old new slot c now came why does = by_rule does
   where
-    by_rule : LoadsOn {O = O} stands spells cmp code old new slot c came now (Err why) → (new ≡ old) ⊎ ((x : Relocation K V) × (relocation_at old slot c ≡ Some x) × (new ≡ with_relocation old slot c None now))
+    by_rule : LoadsOn {O = O} stands spells cmp join code old new slot c came now (Err why) → (new ≡ old) ⊎ ((x : Relocation K V) × (relocation_at old slot c ≡ Some x) × (new ≡ with_relocation old slot c None now))
     by_rule (LoadsOn.unknown none is r) = inl is
     by_rule (LoadsOn.not_ready y k w is r) = inl is
     by_rule (LoadsOn.moved y a k w n is r) = absurd (cc)
     by_rule (LoadsOn.failed y wanted e a k n is r) = inr (y, a.here, is)
     by_rule (LoadsOn.unread y wanted a k is r) = inl is
     by_rule (LoadsOn.stranger y wanted p q a k at n is r) = inl is
-    by_rule (LoadsOn.checks y begin p e stage has k spelled checks) = inl (checks-same old new slot c now why y stands cmp code e checks)
+    by_rule (LoadsOn.checks y begin p e stage has k spelled checks) = inl (checks-same old new slot c now why y stands cmp join code e checks)
     by_rule (LoadsOn.damaged y begin p stage has k none is r) = inr (y, has.awaits.here, is)
     by_rule (LoadsOn.newer y e l p q stage has k traces j is r) = absurd (cc)
-    by_rule (LoadsOn.ends y e l p q stage has k traces j ends) = inl (ends-same {R = R} old new slot c now why y e l.kept ends)
-    by_rule (LoadsOn.further y e l p b stage has k traces above place asks) = inl (asks-same old new slot c now why y stands _ b asks)
+    by_rule (LoadsOn.ends y e l p q parts stage has k traces j ends) = inl (ends-same {R = R} old new slot c now why y (renewed join e parts) l.kept ends)
+    by_rule (LoadsOn.further y e l p b parts stage has k traces above place asks) = inl (asks-same old new slot c now why y stands _ b asks)
     by_rule (LoadsOn.bad_record y e l p q stage has k traces is r) = inr (y, has.awaits.here, is)
-    by_rule (LoadsOn.bad_link y e l p b stage has k traces above place is r) = inr (y, has.awaits.here, is)
+    by_rule (LoadsOn.bad_link y e l p b parts stage has k traces above place is r) = inr (y, has.awaits.here, is)
 
 module _ {K V I : Type 0} (old new : PartitionView K V I) (slot c now : ℕ) (ends : (new ≡ old) ⊎ ((x : Relocation K V) × (relocation_at old slot c ≡ Some x) × (new ≡ with_relocation old slot c None now))) where
   -- so it is given up
-  pub ended-event : {keeps : Bool} {cmp : K → K → Ordering} {code : K → ℕ} → IsCompacting keeps cmp code old → (new ≡ old) ⊎ IsGiveUp old new slot c now
-  ended-event {keeps} {cmp} {code} s = elim ends [
+  pub ended-event : {keeps : Bool} {cmp : K → K → Ordering} {join : V → V → V} {code : K → ℕ} → IsCompacting keeps cmp join code old → (new ≡ old) ⊎ IsGiveUp old new slot c now
+  ended-event {keeps} {cmp} {join} {code} s = elim ends [
     | inl same ↦ inl same
     | inr e ↦ inr (subst (λ (w : PartitionView K V I). IsGiveUp old w slot c now) (sym e.2) (dropped-event old slot c now e.0 e.1 s (event-set keeps cmp old slot c now (open-here old slot c e.0 e.1).low None)))
   ]

@@ -19,6 +19,7 @@ use Rattle.fkv_pages.specs.Views.{text_begin}
 use Rattle.fkv_pages.proofs.PageLemmas.{begin_place, begins_low}
 use Rattle.fkv_lookups.specs.RecordsViews.{RecordsView}
 use Rattle.fkv_lookups.specs.Traced.{IsTraced}
+use Rattle.fkv_lookups.proofs.TracedLemmas.{raw, traced-raw}
 use Rattle.fkv_core.specs.Sound.{IsSound}
 use Rattle.fkv_core.proofs.DecidedLemmas.{page_flushed}
 use Rattle.fkv_partition.specs.declared.relocations.Relocation.{Relocation}
@@ -113,9 +114,9 @@ module _ {K V I : Type 0} (v : PartitionView K V I) (slot c : ℕ) (x : Relocati
     awaits = subst (λ (n : ℕ). awaited x ≡ Some (record { begin = n; wanted = wanted })) same (awaits-some begin wanted h);
   }
 
-module _ {K V I : Type 0} {keeps : Bool} (cmp : K → K → Ordering) (code : K → ℕ) (v : PartitionView K V I) (sound : IsSound keeps cmp code v.core) (s : IsCompacting keeps cmp code v) (slot c : ℕ) (x : Relocation K V) (begin : ℕ) (at : x.stage ≡ Reading begin) where
+module _ {K V I : Type 0} {keeps : Bool} (cmp : K → K → Ordering) (join : V → V → V) (code : K → ℕ) (v : PartitionView K V I) (sound : IsSound keeps cmp join code v.core) (s : IsCompacting keeps cmp join code v) (slot c : ℕ) (x : Relocation K V) (begin : ℕ) (at : x.stage ≡ Reading begin) where
   reading : relocation_at v slot c ≡ Some x → IsReading v.core.records x.target begin
-  reading here = subst (λ (q : Stage K V). StageStands keeps cmp code v.core x.target q) at (stands-here v slot c x here s).stage
+  reading here = subst (λ (q : Stage K V). StageStands keeps cmp join code v.core x.target q) at (stands-here v slot c x here s).stage
 
   module _ (same : begin ≡ v.core.records.begin) (here : relocation_at v slot c ≡ Some x) where
     pub place-begun : v.core.records.begin ≤ x.target
@@ -125,13 +126,13 @@ module _ {K V I : Type 0} {keeps : Bool} (cmp : K → K → Ordering) (code : K 
     pub place-flushed : page_at v.core.records.page_bits x.target < length v.core.records.receipts
     place-flushed = page_flushed v.core.records x.target sound.traced place-begun (reading here).on_disk
 
-    -- what is read there is the text's
+    -- what is read there is the record that stands there
     pub place-read : {E : Type 0} (e : Entry K V) (result : Result (Entry K V) E) → result ≡ Ok e
-        → (IsTrue keeps → IfSome (entry_at v.core.records.text x.target) (λ y. result ≡ Ok y))
-        → IsTrue keeps → entry_at v.core.records.text x.target ≡ Some e
+        → (IsTrue keeps → IfSome (entry_at v.core.records.entries x.target) (λ y. result ≡ Ok y))
+        → IsTrue keeps → entry_at v.core.records.entries x.target ≡ Some e
     place-read {E} e result is kept yes_keeps =
         let st = stands-here v slot c x here s in
-        by_entry (entry_at v.core.records.text x.target) (frozen-held v.core.records sound.traced x.target st.place place-begun st.frozen yes_keeps) (kept yes_keeps)
+        by_entry (entry_at v.core.records.entries x.target) (frozen-held (raw v.core.records) (traced-raw sound.traced sound.stood) x.target st.place place-begun st.frozen yes_keeps) (kept yes_keeps)
       where
         by_entry : (o : Option (Entry K V)) → IsSome o → IfSome o (λ y. result ≡ Ok y) → o ≡ Some e
         by_entry None some h = absurd (cc)

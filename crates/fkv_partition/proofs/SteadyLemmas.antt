@@ -43,29 +43,29 @@ module _ {K V I : Type 0} (v new : CoreView K V I) where
 
   -- ---- by kind of event
   module _ (slot c now : ℕ) where
-    pub goes-steady : {O R : Type 0} (stands : R → Standing) (cmp : K → K → Ordering) (f : Meanings K V I O) (code : K → ℕ) (result : Result (Progress K V I O R) Refused)
-        → Goes stands cmp f code v new slot c now result
+    pub goes-steady : {O R : Type 0} (stands : R → Standing) (cmp : K → K → Ordering) (join : V → V → V) (f : Meanings K V I O) (code : K → ℕ) (result : Result (Progress K V I O R) Refused)
+        → Goes stands cmp join f code v new slot c now result
         → IsSteady v new
-    goes-steady stands cmp f code result (Goes.unknown h is r) = steady-by _ is (record { number = refl; count = refl; begin = refl })
-    goes-steady stands cmp f code result (Goes.asks x e ask h q is r) = steady-by _ is (record { number = refl; count = refl; begin = refl })
-    goes-steady stands cmp f code result (Goes.not_ready x l h phase is r) = steady-by _ is (record { number = refl; count = refl; begin = refl })
-    goes-steady stands cmp f code result (Goes.confirms x p h phase alone is r) = steady-by _ is (record { number = refl; count = refl; begin = refl })
-    goes-steady stands cmp f code result (Goes.backs_off x p h phase alone is r) = steady-by _ is (record { number = refl; count = refl; begin = refl })
-    goes-steady stands cmp f code result (Goes.done x t d is r) = steady-by _ is (record { number = refl; count = refl; begin = refl })
-    goes-steady stands cmp f code result (Goes.claims x d i r) = record {
+    goes-steady stands cmp join f code result (Goes.unknown h is r) = steady-by _ is (record { number = refl; count = refl; begin = refl })
+    goes-steady stands cmp join f code result (Goes.asks x e ask h q is r) = steady-by _ is (record { number = refl; count = refl; begin = refl })
+    goes-steady stands cmp join f code result (Goes.not_ready x l h phase is r) = steady-by _ is (record { number = refl; count = refl; begin = refl })
+    goes-steady stands cmp join f code result (Goes.confirms x p h phase alone is r) = steady-by _ is (record { number = refl; count = refl; begin = refl })
+    goes-steady stands cmp join f code result (Goes.backs_off x p h phase alone is r) = steady-by _ is (record { number = refl; count = refl; begin = refl })
+    goes-steady stands cmp join f code result (Goes.done x t d is r) = steady-by _ is (record { number = refl; count = refl; begin = refl })
+    goes-steady stands cmp join f code result (Goes.claims x d i r) = record {
       number = ap (λ (w : CoreView K V I). w.number) i.is;
       count = ap (λ (w : CoreView K V I). w.count) i.is;
       begin = ap (λ (w : CoreView K V I). w.records.begin) i.is ∙ ap (λ (w : RecordsView K V). w.begin) i.claims.is;
     }
-    goes-steady stands cmp f code result (Goes.unclaimed x d full is r) = steady-by _ is (record { number = refl; count = refl; begin = refl })
-    goes-steady stands cmp f code result (Goes.appends x value t e d entry room free is r) = steady-by _ is (record { number = refl; count = refl; begin = refl })
-    goes-steady stands cmp f code result (Goes.worn x value t d room is r) = steady-by _ is (record { number = refl; count = refl; begin = refl })
-    goes-steady stands cmp f code result (Goes.full x value t d room is r) = steady-by _ is (record { number = refl; count = refl; begin = refl })
-    goes-steady stands cmp f code result (Goes.replaces x value t e d last is r) = steady-by _ is (record { number = refl; count = refl; begin = refl })
-    goes-steady stands cmp f code result (Goes.waits x d is r) = steady-by _ is (record { number = refl; count = refl; begin = refl })
-    goes-steady stands cmp f code result (Goes.prepares x source i e d entry is r) = steady-by _ is (record { number = refl; count = refl; begin = refl })
-    goes-steady stands cmp f code result (Goes.asks_page x b e p d entry held is r) = steady-by _ is (record { number = refl; count = refl; begin = refl })
-    goes-steady stands cmp f code result (Goes.unshared x b d is r) = steady-by _ is (record { number = refl; count = refl; begin = refl })
+    goes-steady stands cmp join f code result (Goes.unclaimed x d full is r) = steady-by _ is (record { number = refl; count = refl; begin = refl })
+    goes-steady stands cmp join f code result (Goes.appends x value t e d entry room free is r) = steady-by _ is (record { number = refl; count = refl; begin = refl })
+    goes-steady stands cmp join f code result (Goes.worn x value t d room is r) = steady-by _ is (record { number = refl; count = refl; begin = refl })
+    goes-steady stands cmp join f code result (Goes.full x value t d room is r) = steady-by _ is (record { number = refl; count = refl; begin = refl })
+    goes-steady stands cmp join f code result (Goes.replaces x value t e d last is r) = steady-by _ is (record { number = refl; count = refl; begin = refl })
+    goes-steady stands cmp join f code result (Goes.waits x d is r) = steady-by _ is (record { number = refl; count = refl; begin = refl })
+    goes-steady stands cmp join f code result (Goes.prepares x source i e d entry is r) = steady-by _ is (record { number = refl; count = refl; begin = refl })
+    goes-steady stands cmp join f code result (Goes.asks_page x b parts e p d entry held is r) = steady-by _ is (record { number = refl; count = refl; begin = refl })
+    goes-steady stands cmp join f code result (Goes.unshared x b parts d is r) = steady-by _ is (record { number = refl; count = refl; begin = refl })
 
     pub installs-steady : {O R : Type 0} (cmp : K → K → Ordering) (f : Meanings K V I O) (code : K → ℕ) (ask : Ask K V I) (result : Result (Progress K V I O R) Refused)
         → Installs cmp f code v new slot c ask now result
@@ -79,21 +79,21 @@ module _ {K V I : Type 0} (v new : CoreView K V I) where
     installs-steady cmp f code ask result (Installs.full x e value h q n u room is r) = steady-by _ is (record { number = refl; count = refl; begin = refl })
     installs-steady cmp f code ask result (Installs.done x e value h q n u room free is r) = steady-by _ is (record { number = refl; count = refl; begin = refl })
 
-    pub loads-steady : {O R : Type 0} (stands : R → Standing) (entry : ℕ → List ℕ → ℕ → Entry K V → Type 0) (cmp : K → K → Ordering) (f : Meanings K V I O) (came : Result (Joined R) Refused) (result : Result (Progress K V I O R) Refused)
-        → Loads stands entry cmp f v new slot c came now result
+    pub loads-steady : {O R : Type 0} (stands : R → Standing) (entry : ℕ → List ℕ → ℕ → Entry K V → Type 0) (cmp : K → K → Ordering) (join : V → V → V) (f : Meanings K V I O) (came : Result (Joined R) Refused) (result : Result (Progress K V I O R) Refused)
+        → Loads stands entry cmp join f v new slot c came now result
         → IsSteady v new
-    loads-steady stands entry cmp f came result (Loads.unknown h is r) = steady-by _ is (record { number = refl; count = refl; begin = refl })
-    loads-steady stands entry cmp f came result (Loads.not_ready x h n is r) = steady-by _ is (record { number = refl; count = refl; begin = refl })
-    loads-steady stands entry cmp f came result (Loads.moved x l h phase n is r) = steady-by _ is (record { number = refl; count = refl; begin = refl })
-    loads-steady stands entry cmp f came result (Loads.failed x l why a q n is r) = steady-by _ is (record { number = refl; count = refl; begin = refl })
-    loads-steady stands entry cmp f came result (Loads.unread x l a q is r) = steady-by _ is (record { number = refl; count = refl; begin = refl })
-    loads-steady stands entry cmp f came result (Loads.stranger x l p st a q h n is r) = steady-by _ is (record { number = refl; count = refl; begin = refl })
-    loads-steady stands entry cmp f came result (Loads.damaged x l p why a q is r) = steady-by _ is (record { number = refl; count = refl; begin = refl })
-    loads-steady stands entry cmp f came result (Loads.bad_link x l p b a q high n is r) = steady-by _ is (record { number = refl; count = refl; begin = refl })
-    loads-steady stands entry cmp f came result (Loads.done x l p k i value a q op is r) = steady-by _ is (record { number = refl; count = refl; begin = refl })
-    loads-steady stands entry cmp f came result (Loads.prepares x l p k i value a q op is r) = steady-by _ is (record { number = refl; count = refl; begin = refl })
-    loads-steady stands entry cmp f came result (Loads.goes_on x l p b r a q high at held is t) = steady-by _ is (record { number = refl; count = refl; begin = refl })
-    loads-steady stands entry cmp f came result (Loads.unshared x l p b a q high at is r) = steady-by _ is (record { number = refl; count = refl; begin = refl })
+    loads-steady stands entry cmp join f came result (Loads.unknown h is r) = steady-by _ is (record { number = refl; count = refl; begin = refl })
+    loads-steady stands entry cmp join f came result (Loads.not_ready x h n is r) = steady-by _ is (record { number = refl; count = refl; begin = refl })
+    loads-steady stands entry cmp join f came result (Loads.moved x l h phase n is r) = steady-by _ is (record { number = refl; count = refl; begin = refl })
+    loads-steady stands entry cmp join f came result (Loads.failed x l why a q n is r) = steady-by _ is (record { number = refl; count = refl; begin = refl })
+    loads-steady stands entry cmp join f came result (Loads.unread x l a q is r) = steady-by _ is (record { number = refl; count = refl; begin = refl })
+    loads-steady stands entry cmp join f came result (Loads.stranger x l p st a q h n is r) = steady-by _ is (record { number = refl; count = refl; begin = refl })
+    loads-steady stands entry cmp join f came result (Loads.damaged x l p why a q is r) = steady-by _ is (record { number = refl; count = refl; begin = refl })
+    loads-steady stands entry cmp join f came result (Loads.bad_link x l p b parts a q high n is r) = steady-by _ is (record { number = refl; count = refl; begin = refl })
+    loads-steady stands entry cmp join f came result (Loads.done x l p k i value a q op is r) = steady-by _ is (record { number = refl; count = refl; begin = refl })
+    loads-steady stands entry cmp join f came result (Loads.prepares x l p k i value a q op is r) = steady-by _ is (record { number = refl; count = refl; begin = refl })
+    loads-steady stands entry cmp join f came result (Loads.goes_on x l p b parts r a q high at held is t) = steady-by _ is (record { number = refl; count = refl; begin = refl })
+    loads-steady stands entry cmp join f came result (Loads.unshared x l p b parts a q high at is r) = steady-by _ is (record { number = refl; count = refl; begin = refl })
 
     pub gives-up-steady : (result : Result (Unit {0}) Refused) → GivesUp v new slot c now result → IsSteady v new
     gives-up-steady result (GivesUp.unknown h is r) = steady-by _ is (record { number = refl; count = refl; begin = refl })

@@ -1,7 +1,7 @@
 -- What a page on the way from the entry of a record's class down to its place tells of the record.
-use Rattle.std.proofs.Common.{◌≡◌, ◌&&◌, nat_le, ◌<◌, ◌≤◌, ℕ, Bool, true, false, length, nat_lt, IsTrue, List, Some, refl, sym, ap, subst, ◌∙◌, arith}
+use Rattle.std.proofs.Common.{◌≡◌, ◌+◌, ◌<◌, ◌≤◌, ◌⊎◌, inl, inr, nat_le, ℕ, Bool, true, false, cond, length, nat_lt, IsTrue, List, Option, Some, refl, sym, ap, subst, ◌∙◌, arith}
 use Rattle.std.proofs.lemmas.Bool.Decides.{nat_tests}
-use Rattle.std.proofs.lemmas.Bool.{and_parts, leb-true, ltb-true}
+use Rattle.std.proofs.lemmas.Bool.{cases_lt, ltb-true}
 use Rattle.std.specs.Prelude.{Result, Ok}
 use Rattle.std.specs.declared.cmp.Ordering.{Ordering}
 use Rattle.fkv_functions.specs.Plain.{IsKeyOrder}
@@ -9,20 +9,26 @@ use Rattle.fkv_functions.specs.declared.refusals.Refused.{Refused}
 use Rattle.fkv_records.specs.Places.{page_at}
 use Rattle.fkv_device.specs.Standing.{Standing}
 use Rattle.fkv_texts.specs.declared.entries.Entry.{Entry}
-use Rattle.fkv_texts.specs.declared.entries.ChainPosition.{ChainPosition}
 use Rattle.fkv_texts.specs.declared.entries.ChainPosition.TheVariants.{Below}
-use Rattle.fkv_texts.specs.Text.{entry_at, has_key, newest}
-use Rattle.fkv_texts.proofs.LastWhere.{last_where-found}
-use Rattle.fkv_pages.specs.Loads.{IsHeldBy, IsReached, first_place}
+use Rattle.fkv_texts.specs.Text.{entry_at, has_key, newest, last_of, value_of}
+use Rattle.fkv_texts.specs.Chains.{IsIn}
+use Rattle.fkv_texts.specs.Deltas.{onto, IsSuperseded}
+use Rattle.fkv_texts.proofs.CoverLemmas.{cleared-lower}
+use Rattle.fkv_pages.specs.Loads.{IsHeldBy, first_place}
 use Rattle.fkv_pages.proofs.FrameLemmas.{page_rises}
 use Rattle.fkv_index.specs.Words.{address_of}
-use Rattle.fkv_texts.specs.Deltas.{IsSuperseded}
-use Rattle.fkv_lookups.specs.Lookups.{IsOfClass, GoesOn}
-use Rattle.fkv_lookups.specs.RecordsViews.{RecordsView}
+use Rattle.fkv_index.specs.Places.{word_at}
+use Rattle.fkv_lookups.specs.declared.gathered.Gathered.{Gathered}
+use Rattle.fkv_lookups.specs.Lookups.{IsOfClass, GoesOn, IsGathered, end_of, at_of}
+use Rattle.fkv_lookups.specs.RecordsViews.{RecordsView, class_in}
+use Rattle.fkv_lookups.proofs.TracedLemmas.{raw, traced-raw, traced-held, entry-stands}
+use Rattle.fkv_lookups.proofs.LookupLemmas.{raw-traced, values_tell, between_tells}
 use Rattle.fkv_core.specs.declared.contexts.Loading.{Loading}
 use Rattle.fkv_core.specs.Sound.{IsLoading, IsSound}
 use Rattle.fkv_core.specs.Views.{partition_of}
 use Rattle.fkv_core.proofs.DecidedLemmas.{page_flushed, lower_page}
+use Rattle.fkv_core.proofs.LoadLemmas.{left_of, gathered-low}
+use Rattle.fkv_core.proofs.StoodLemmas.{rises}
 use Rattle.fkv_partition.specs.declared.relocations.Relocation.{Relocation}
 use Rattle.fkv_partition.specs.declared.relocations.Liveness.TheVariants.{Superseded, Last, Further}
 use Rattle.fkv_partition.specs.declared.relocations.Stage.{Stage}
@@ -32,65 +38,47 @@ use Rattle.fkv_partition.specs.Reading.{AwaitsPage, HasPage, TracesTo}
 use Rattle.fkv_partition.specs.Sound.{IsCompacting}
 use Rattle.fkv_partition.specs.Stages.{IsTracing, RelocationStands, StageStands}
 use Rattle.fkv_partition.specs.Views.{PartitionView}
-use Rattle.fkv_partition.specs.Checking.{liveness}
+use Rattle.fkv_partition.specs.Checking.{liveness, higher_of, renewed}
 use Rattle.fkv_partition.proofs.MoveLemmas.{stands-here}
 use Rattle.fkv_partition.proofs.ReadLemmas.{kept-from, same-awaited}
-use Rattle.fkv_partition.proofs.CheckingLemmas.{met-dead, met-last, ready-by, liveness-further}
-
--- ---- a way out of a page ends below it
-abbrev out_of : {K V : Type 0} → ℕ → Result (ChainPosition K V) Refused
-out_of a = Ok (Below a)
-
-out-same : {K V : Type 0} (a b : ℕ) → out_of {K = K} {V = V} a ≡ out_of b → a ≡ b
-out-same a b h = cc
-
-reached-low : {K V : Type 0} (entry : ℕ → Entry K V → Type 0) (cmp : K → K → Ordering) (k : K) (bits low a b : ℕ) (r : Result (ChainPosition K V) Refused) → IsReached entry cmp k bits low a r → r ≡ Ok (Below b) → b < low
-reached-low {K} {V} entry cmp k bits low a b r (IsReached.below {a = c} under) is = subst (λ (n : ℕ). n < low) (out-same {K = K} {V = V} c b is) under
-reached-low entry cmp k bits low a b r (IsReached.none high none) is = absurd (cc)
-reached-low entry cmp k bits low a b r (IsReached.found high e passes) is = absurd (cc)
-reached-low entry cmp k bits low a b r (IsReached.on {e = e} high h no_key more) is = reached-low entry cmp k bits low e.previous b r more is
-
--- the newest record at or below an address stands no higher
-newest-under : {K V : Type 0} (cmp : K → K → Ordering) (text : List (Entry K V)) (k : K) (a : ℕ) (e : Entry K V) → newest cmp text k a ≡ Some e → e.address ≤ a
-newest-under cmp text k a e found =
-    leb-true e.address a (and_parts (nat_le e.address a) (has_key cmp k e) (last_where-found (λ d. nat_le d.address a && has_key cmp k d) text e found)).0
+use Rattle.fkv_partition.proofs.CheckingLemmas.{higher-left, higher-right, stands-in, found-in, way-class, met-dead, lands, place-value, ready-by, at-last, at-further}
 
 -- ---- what the page that came says
-pub record CameOf {K V : Type 0} (keeps : Bool) (entry : ℕ → List ℕ → ℕ → Entry K V → Type 0) (cmp : K → K → Ordering) (code : K → ℕ) (r : RecordsView K V) (key : K) (wanted : ℕ) (st : Standing) (bytes : List ℕ)
-    (result : Result (ChainPosition K V) Refused) : Type 0 where
-  pub own : IsHeldBy r.receipts (page_at r.page_bits wanted) st
-  pub reads : IsReached (entry r.page_bits bytes) cmp key r.page_bits (first_place r.page_bits (page_at r.page_bits wanted)) wanted result
+pub record CameOf {K V : Type 0} (keeps : Bool) (entry : ℕ → List ℕ → ℕ → Entry K V → Type 0) (cmp : K → K → Ordering) (join : V → V → V) (code : K → ℕ) (r : RecordsView K V) (place : ℕ) (key : K) (l : Loading V) (st : Standing) (bytes : List ℕ)
+    (result : Result (Gathered K V) Refused) : Type 0 where
+  pub own : IsHeldBy r.receipts (page_at r.page_bits l.wanted) st
+  pub reads : IsGathered join (entry r.page_bits bytes) cmp key r.page_bits (higher_of (place + 1) (first_place r.page_bits (page_at r.page_bits l.wanted))) l.wanted l.parts result
   pub kept : IsTrue keeps
-      → r.begin ≤ wanted
-      → IsOfClass code r key wanted
-      → (q : ChainPosition K V) × (result ≡ Ok q) × GoesOn cmp code r key (first_place r.page_bits (page_at r.page_bits wanted)) wanted q
+      → r.begin ≤ l.wanted
+      → IsOfClass code r key l.wanted
+      → (q : Gathered K V) × (result ≡ Ok q) × GoesOn cmp join code r key (higher_of (place + 1) (first_place r.page_bits (page_at r.page_bits l.wanted))) l.wanted l.parts q
 
-pub page-came : {K V : Type 0} (keeps : Bool) (entry : ℕ → List ℕ → ℕ → Entry K V → Type 0) (cmp : K → K → Ordering) (code : K → ℕ) (u v : RecordsView K V) (key : K) (page wanted : ℕ) (st : Standing) (bytes : List ℕ) (result : Result (ChainPosition K V) Refused)
+pub page-came : {K V : Type 0} (keeps : Bool) (entry : ℕ → List ℕ → ℕ → Entry K V → Type 0) (cmp : K → K → Ordering) (join : V → V → V) (code : K → ℕ) (u v : RecordsView K V) (place : ℕ) (key : K) (page low : ℕ) (l : Loading V) (st : Standing) (bytes : List ℕ) (result : Result (Gathered K V) Refused)
     → u ≡ v
-    → page ≡ page_at u.page_bits wanted
+    → page ≡ page_at u.page_bits l.wanted
+    → low ≡ higher_of (place + 1) (first_place u.page_bits page)
     → IsHeldBy u.receipts page st
-    → (IsHeldBy u.receipts (page_at u.page_bits wanted) st
-    → IsReached (entry u.page_bits bytes) cmp key u.page_bits (first_place u.page_bits (page_at u.page_bits wanted)) wanted result)
+    → IsGathered join (entry u.page_bits bytes) cmp key u.page_bits low l.wanted l.parts result
     → (IsTrue keeps
-    → IsHeldBy u.receipts (page_at u.page_bits wanted) st
-    → u.begin ≤ wanted
-    → IsOfClass code u key wanted
-    → (r : ChainPosition K V) × (result ≡ Ok r) × GoesOn cmp code u key (first_place u.page_bits (page_at u.page_bits wanted)) wanted r)
-    → CameOf keeps entry cmp code v key wanted st bytes result
-page-came keeps entry cmp code u v key page wanted st bytes result same page_is held reads kept =
+    → u.begin ≤ l.wanted
+    → IsOfClass code u key l.wanted
+    → (r : Gathered K V) × (result ≡ Ok r) × GoesOn cmp join code u key low l.wanted l.parts r)
+    → CameOf keeps entry cmp join code v place key l st bytes result
+page-came keeps entry cmp join code u v place key page low l st bytes result same page_is low_is held reads kept =
     let own = subst (λ (n : ℕ). IsHeldBy u.receipts n st) page_is held in
-    subst (λ (w : RecordsView _ _). CameOf keeps entry cmp code w key wanted st bytes result) same
-    (record { own = own; reads = reads own; kept = λ yes_keeps. kept yes_keeps own })
+    let floor : low ≡ higher_of (place + 1) (first_place u.page_bits (page_at u.page_bits l.wanted)) = low_is ∙ ap (λ n. higher_of (place + 1) (first_place u.page_bits n)) page_is in
+    subst (λ (w : RecordsView _ _). CameOf keeps entry cmp join code w place key l st bytes result) same
+    (record { own = own; reads = rw floor at reads; kept = rw floor at kept })
 
-module _ {K V I : Type 0} {keeps : Bool} (cmp : K → K → Ordering) (code : K → ℕ) (order : IsKeyOrder cmp) (v : PartitionView K V I) (sound : IsSound keeps cmp code v.core) (s : IsCompacting keeps cmp code v) (slot c : ℕ) (x : Relocation K V) (e : Entry K V) (l : Loading)
+module _ {K V I : Type 0} {keeps : Bool} (cmp : K → K → Ordering) (join : V → V → V) (code : K → ℕ) (order : IsKeyOrder cmp) (v : PartitionView K V I) (sound : IsSound keeps cmp join code v.core) (s : IsCompacting keeps cmp join code v) (slot c : ℕ) (x : Relocation K V) (e : Entry K V) (l : Loading V)
     (a : AwaitsPage v slot c x l.wanted) (at : x.stage ≡ Tracing e l) where
-  stands : RelocationStands keeps cmp code v.core v.cleared x
+  stands : RelocationStands keeps cmp join code v.core v.cleared x
   stands = stands-here v slot c x a.here s
 
-  staged : (partition_of v.core.count (code e.key) ≡ v.core.number) × IsTracing keeps cmp code v.core.records x.target e l
-  staged = subst (λ (q : Stage K V). StageStands keeps cmp code v.core x.target q) at stands.stage
+  staged : (partition_of v.core.count (code e.key) ≡ v.core.number) × IsTracing keeps cmp join code v.core.records x.target e l
+  staged = subst (λ (q : Stage K V). StageStands keeps cmp join code v.core x.target q) at stands.stage
 
-  tracing : IsTracing keeps cmp code v.core.records x.target e l
+  tracing : IsTracing keeps cmp join code v.core.records x.target e l
   tracing = staged.1
 
   begin-same : l.begin ≡ v.core.records.begin
@@ -107,61 +95,138 @@ module _ {K V I : Type 0} {keeps : Bool} (cmp : K → K → Ordering) (code : K 
   text-begins yes_keeps = let from = kept-from v.core.records sound.traced yes_keeps in let h = begun in omega arith
 
   -- on a device that keeps, while Begin stands, the record read is that of the place
-  pub is-own : IsTrue keeps → entry_at v.core.records.text x.target ≡ Some e
+  pub is-own : IsTrue keeps → entry_at v.core.records.entries x.target ≡ Some e
   is-own yes_keeps = tracing.is yes_keeps begin-same
 
-  module _ (entry : ℕ → List ℕ → ℕ → Entry K V → Type 0) (st : Standing) (bytes : List ℕ) (result : Result (ChainPosition K V) Refused) (came : CameOf keeps entry cmp code v.core.records e.key l.wanted st bytes result) where
+  -- the lowest address that is followed in the page
+  abbrev floor : ℕ
+  floor = higher_of (x.target + 1) (first_place v.core.records.page_bits (page_at v.core.records.page_bits l.wanted))
+
+  floor-above : x.target < floor
+  floor-above = let up = higher-left (x.target + 1) (first_place v.core.records.page_bits (page_at v.core.records.page_bits l.wanted)) in omega arith
+
+  floor-page : first_place v.core.records.page_bits (page_at v.core.records.page_bits l.wanted) ≤ floor
+  floor-page = higher-right (x.target + 1) (first_place v.core.records.page_bits (page_at v.core.records.page_bits l.wanted))
+
+  -- a way out that lies above the place leaves the page
+  floor-under : (b : ℕ) → b < floor → x.target < b → b < first_place v.core.records.page_bits (page_at v.core.records.page_bits l.wanted)
+  floor-under b under high = by_test (nat_le (x.target + 1) (first_place v.core.records.page_bits (page_at v.core.records.page_bits l.wanted))) refl under
+    where
+      by_test : (q : Bool) → nat_le (x.target + 1) (first_place v.core.records.page_bits (page_at v.core.records.page_bits l.wanted)) ≡ q → b < cond q (first_place v.core.records.page_bits (page_at v.core.records.page_bits l.wanted)) (x.target + 1) → b < first_place v.core.records.page_bits (page_at v.core.records.page_bits l.wanted)
+      by_test true h less = less
+      by_test false h less = absurd (omega (arith, less, high))
+
+  module _ (entry : ℕ → List ℕ → ℕ → Entry K V → Type 0) (st : Standing) (bytes : List ℕ) (result : Result (Gathered K V) Refused) (came : CameOf keeps entry cmp join code v.core.records x.target e.key l st bytes result) where
     pub has-page : HasPage v slot c x l.wanted st
     has-page = record { awaits = a; own = came.own }
 
-    pub traces-to : (r : Result (ChainPosition K V) Refused) → result ≡ r → TracesTo entry cmp v e.key l.wanted bytes r
-    traces-to r is = subst (λ q. TracesTo entry cmp v e.key l.wanted bytes q) is came.reads
+    pub traces-to : (r : Result (Gathered K V) Refused) → result ≡ r → TracesTo entry cmp join v x.target e.key l bytes r
+    traces-to r is = subst (λ q. TracesTo entry cmp join v x.target e.key l bytes q) is came.reads
 
-    goes : IsTrue keeps → (r : ChainPosition K V) → result ≡ Ok r → GoesOn cmp code v.core.records e.key (first_place v.core.records.page_bits (page_at v.core.records.page_bits l.wanted)) l.wanted r
+    goes : IsTrue keeps → (r : Gathered K V) → result ≡ Ok r → GoesOn cmp join code v.core.records e.key floor l.wanted l.parts r
     goes yes_keeps r is =
         let k = came.kept yes_keeps begun (tracing.loading.class yes_keeps begin-same (text-begins yes_keeps)) in
         let both : Ok k.0 ≡ Ok r = sym k.1 ∙ is in
         let same : k.0 ≡ r = cc in
-        subst (GoesOn cmp code v.core.records e.key (first_place v.core.records.page_bits (page_at v.core.records.page_bits l.wanted)) l.wanted) same k.2
+        subst (GoesOn cmp join code v.core.records e.key floor l.wanted l.parts) same k.2
 
-    -- a newer record of the key was met: the record of the place is superseded
-    pub way-dead : (r : ChainPosition K V) → result ≡ Ok r → liveness x.target r ≡ Superseded → IsTrue keeps → (y : Entry K V) → entry_at v.core.records.text x.target ≡ Some y → IsSuperseded cmp v.core.records.text y
+    -- a newer record of the key that is no delta was met: the record of the place is superseded
+    pub way-dead : (r : Gathered K V) → result ≡ Ok r → liveness x.target r ≡ Superseded → IsTrue keeps → (y : Entry K V) → entry_at v.core.records.entries x.target ≡ Some y → IsSuperseded cmp v.core.records.entries y
     way-dead r is j yes_keeps y here =
         let own = is-own yes_keeps in
         let both : Some e ≡ Some y = sym own ∙ here in
         let same : e ≡ y = cc in
-        subst (λ (d : Entry K V). IsSuperseded cmp v.core.records.text d) same
-        (met-dead cmp code order v.core.records sound.traced.rising x.target e sound.traced.whole own (first_place v.core.records.page_bits (page_at v.core.records.page_bits l.wanted)) l.wanted r (goes yes_keeps r is) j)
+        subst (λ (d : Entry K V). IsSuperseded cmp v.core.records.entries d) same
+        (met-dead cmp join code order v.core.records sound.traced sound.stood x.target e own floor l.wanted l.parts r (goes yes_keeps r is) j)
 
-    -- none was met above the place: its record is the newest from where the entry led
-    led-newest : (r : ChainPosition K V) → result ≡ Ok r → liveness x.target r ≡ Last → IsTrue keeps → newest cmp v.core.records.text e.key (address_of l.kept.word) ≡ Some e
-    led-newest r is j yes_keeps =
-        let up = tracing.above in
-        tracing.loading.newest yes_keeps begin-same ∙
-        met-last cmp code order v.core.records sound.traced.rising x.target e (is-own yes_keeps) (first_place v.core.records.page_bits (page_at v.core.records.page_bits l.wanted)) l.wanted r (goes yes_keeps r is) j (omega arith)
+    -- what its key has from where the entry led, by where the way stands
+    led-value : IsTrue keeps → (r : Gathered K V) → result ≡ Ok r → value_of (newest cmp v.core.records.text e.key (address_of l.kept.word)) ≡ onto join (end_of cmp v.core.records e.key r.position) r.parts
+    led-value yes_keeps r is =
+        tracing.loading.newest yes_keeps begin-same
+        ∙ values_tell cmp join code v.core.records e.key order sound.traced sound.stood floor l.wanted l.parts r (goes yes_keeps r is)
 
-    pub way-last : (r : ChainPosition K V) → result ≡ Ok r → liveness x.target r ≡ Last → StageStands keeps cmp code v.core x.target (Ready e l.kept)
-    way-last r is j = (
-      staged.0,
-      ready-by cmp code order v.core.records sound.traced x.target e l.kept tracing.here tracing.some stands.frozen tracing.loading.entry tracing.loading.low is-own (led-newest r is j),
-    )
+    -- the records of the key down to there are deltas
+    led-deltas : IsTrue keeps → (r : Gathered K V) → result ≡ Ok r → (d : Entry K V) → IsIn v.core.records.entries d → has_key cmp e.key d ≡ true → at_of r.position < d.address → d.address ≤ address_of l.kept.word → d.delta ≡ true
+    led-deltas yes_keeps r is d m own past low = elim (cases_lt l.wanted d.address) [
+      | inl high ↦ tracing.loading.between yes_keeps begin-same d m own high low
+      | inr within ↦ between_tells cmp code v.core.records e.key order (raw-traced cmp join v.core.records sound.stood.is sound.traced) join floor l.wanted l.parts r (goes yes_keeps r is) d m own within past
+    ]
+
+    -- none was met above the place: its record is appended, joined with the parts of the deltas
+    module _ (r : Gathered K V) (parts : Option V) (is : result ≡ Ok r) (j : liveness x.target r ≡ Last parts) where
+      ends-here : IsTrue keeps → (r.parts ≡ parts) × (r.position ≡ Below x.target)
+      ends-here yes_keeps =
+          let g = goes yes_keeps r is in
+          let l2 = at-last x.target r.parts parts r.position j in (
+            l2.0,
+            elim l2.1 [
+              | inl found ↦ absurd (let f = found-in cmp join code v.core.records e.key floor l.wanted l.parts r g found.0 found.1 in let up = floor-above in let high = f.3 in let low = found.2 in omega (arith, up, high, low))
+              | inr below ↦
+                  (let above = tracing.above in
+                  let up = lands cmp join code order v.core.records sound.traced sound.stood x.target e (is-own yes_keeps) floor l.wanted l.parts r floor-above (omega (arith, above)) g below.0 below.1 in
+                  let down = below.2 in
+                  below.1 ∙ ap Below (omega (arith, up, down)))
+            ],
+          )
+
+      led-last : IsTrue keeps → word_at v.core.records.words l.kept.place ≡ l.kept.word → newest cmp v.core.records.entries e.key (address_of l.kept.word) ≡ last_of cmp v.core.records.entries e.key
+      led-last yes_keeps holds =
+          let w = tracing.loading.entry in
+          let class = class_in code v.core.records e.key in
+          let raw_traced = traced-raw sound.traced sound.stood in
+          traced-held cmp code (raw v.core.records) e.key order raw_traced (address_of l.kept.word)
+          (entry-stands v.core.records.words class.bucket class.tag l.kept.place l.kept.word sound.traced.map (record { bucket = w.bucket; place = w.place; word = holds; final = w.final; tag = w.tag }))
+
+      last-value : IsTrue keeps → word_at v.core.records.words l.kept.place ≡ l.kept.word → value_of (newest cmp v.core.records.text e.key (address_of l.kept.word)) ≡ onto join e.value parts
+      last-value yes_keeps holds =
+          let ends = ends-here yes_keeps in
+          let issued = stands.issued in
+          place-value cmp join code order v.core.records sound.traced sound.stood x.target e (is-own yes_keeps) (address_of l.kept.word) parts (led-last yes_keeps holds)
+          (λ d m own above low. led-deltas yes_keeps r is d m own (subst (λ n. n < d.address) (sym (ap at_of ends.1)) above) low)
+          (cleared-lower cmp v.core.records.entries x.target v.cleared issued (s.cleared yes_keeps))
+          (led-value yes_keeps r is
+          ∙ ap (λ p. onto join (end_of cmp v.core.records e.key p) r.parts) ends.1
+          ∙ ap (onto join (value_of (newest cmp v.core.records.text e.key x.target))) ends.0)
+
+      pub way-last : StageStands keeps cmp join code v.core x.target (Ready (renewed join e parts) l.kept)
+      way-last = (
+        staged.0,
+        ready-by cmp join code order v.core.records sound.traced x.target e parts l.kept tracing.here tracing.some tracing.loading.entry tracing.loading.low is-own last-value
+            (λ yes_keeps holds. tracing.loading.still yes_keeps begin-same)
+            (λ yes_keeps none.
+            let st = stands-in cmp order v.core.records.entries (rises cmp join v.core.records sound.stood sound.traced) x.target e (is-own yes_keeps) in
+            let from = kept-from v.core.records sound.traced yes_keeps in
+            let least = sound.traced.first in
+            let low : v.core.records.from ≤ e.address = (traced-raw sound.traced sound.stood).from st.0.place e st.0.here in
+            let up = tracing.led yes_keeps in
+            omega (arith, st.1, from, least, low, up, none)),
+      )
 
     -- the way goes on above the place, in a lower page
-    module _ (r : ChainPosition K V) (b : ℕ) (is : result ≡ Ok r) (j : liveness x.target r ≡ Further b) where
-      is-below : result ≡ Ok (Below b)
-      is-below = is ∙ ap Ok (liveness-further x.target r b j).0
+    module _ (r : Gathered K V) (b : ℕ) (parts : Option V) (is : result ≡ Ok r) (j : liveness x.target r ≡ Further b parts) where
+      further : (r.position ≡ Below b) × (x.target < b) × (r.parts ≡ parts)
+      further = at-further x.target r.parts parts r.position b j
+
+      came-at : r ≡ record { parts = parts; position = Below b }
+      came-at = λ i. record { parts = further.2 i; position = further.0 i }
+
+      is-below : result ≡ Ok (record { parts = parts; position = Below b })
+      is-below = is ∙ ap Ok came-at
 
       pub above-place : x.target < b
-      above-place = (liveness-further x.target r b j).1
+      above-place = further.1
 
-      pub way-below : TracesTo entry cmp v e.key l.wanted bytes (Ok (Below b))
-      way-below = traces-to (Ok (Below b)) is-below
+      pub way-below : TracesTo entry cmp join v x.target e.key l bytes (Ok (record { parts = parts; position = Below b }))
+      way-below = traces-to (Ok (record { parts = parts; position = Below b })) is-below
 
       begins : v.core.records.begin ≤ b
       begins = let up = above-place in let h = tracing.begun in let same = begin-same in omega arith
 
+      out-low : b < floor
+      out-low = gathered-low join (entry v.core.records.page_bits bytes) cmp e.key v.core.records.page_bits floor l.wanted b l.parts result came.reads (ap left_of is-below)
+
       lower : page_at v.core.records.page_bits b < page_at v.core.records.page_bits l.wanted
-      lower = lower_page v.core.records b (page_at v.core.records.page_bits l.wanted) sound.traced begins (reached-low (entry v.core.records.page_bits bytes) cmp e.key v.core.records.page_bits (first_place v.core.records.page_bits (page_at v.core.records.page_bits l.wanted)) l.wanted b result came.reads is-below)
+      lower = lower_page v.core.records b (page_at v.core.records.page_bits l.wanted) sound.traced begins (floor-under b out-low above-place)
 
       below-wanted : (t : Bool) → nat_lt b l.wanted ≡ t → b < l.wanted
       below-wanted true h = ltb-true b l.wanted h
@@ -174,13 +239,7 @@ module _ {K V I : Type 0} {keeps : Bool} (cmp : K → K → Ordering) (code : K 
       pub lower-flushed : page_at v.core.records.page_bits b < length v.core.records.receipts
       lower-flushed = let low = lower in let top = way-flushed in omega arith
 
-      lower-newest : GoesOn cmp code v.core.records e.key (first_place v.core.records.page_bits (page_at v.core.records.page_bits l.wanted)) l.wanted (Below b) → newest cmp v.core.records.text e.key l.wanted ≡ newest cmp v.core.records.text e.key b
-      lower-newest (GoesOn.below low same class) = same
-
-      lower-class : GoesOn cmp code v.core.records e.key (first_place v.core.records.page_bits (page_at v.core.records.page_bits l.wanted)) l.wanted (Below b) → v.core.records.from ≤ b → IsOfClass code v.core.records e.key b
-      lower-class (GoesOn.below low same class) begins = class begins
-
-      loading-lower : IsLoading keeps cmp code v.core.records e.key (record l { wanted = b })
+      loading-lower : IsLoading keeps cmp join code v.core.records e.key (record l { wanted = b; parts = parts })
       loading-lower =
           let h = tracing.loading in
           let under = below-wanted (nat_lt b l.wanted) refl in
@@ -193,12 +252,16 @@ module _ {K V I : Type 0} {keeps : Bool} (cmp : K → K → Ordering) (code : K 
             begun = omega arith;
             past = h.past;
             on_disk = omega arith;
-            class = λ yes_keeps same begins. lower-class (goes yes_keeps (Below b) is-below) begins;
-            newest = λ yes_keeps same. h.newest yes_keeps same ∙ lower-newest (goes yes_keeps (Below b) is-below);
+            class = λ yes_keeps same begins. way-class cmp join code v.core.records e.key floor l.wanted l.parts r (goes yes_keeps r is) b further.0 begins;
+            newest = λ yes_keeps same.
+                led-value yes_keeps r is
+                ∙ ap (λ p. onto join (end_of cmp v.core.records e.key p) r.parts) further.0
+                ∙ ap (onto join (value_of (newest cmp v.core.records.text e.key b))) further.2;
             still = h.still;
+            between = λ yes_keeps same d m own past low. led-deltas yes_keeps r is d m own (subst (λ n. n < d.address) (sym (ap at_of further.0)) past) low;
           }
 
-      pub way-further : StageStands keeps cmp code v.core x.target (Tracing e (record l { wanted = b }))
+      pub way-further : StageStands keeps cmp join code v.core x.target (Tracing e (record l { wanted = b; parts = parts }))
       way-further = (
         staged.0,
         record {
@@ -206,6 +269,7 @@ module _ {K V I : Type 0} {keeps : Bool} (cmp : K → K → Ordering) (code : K 
           some = tracing.some;
           begun = tracing.begun;
           above = above-place;
+          led = tracing.led;
           loading = loading-lower;
           is = tracing.is;
         },

@@ -14,21 +14,21 @@ use Rattle.fkv_partition.specs.Events.{Issues, Goes}
 use Rattle.fkv_partition.specs.Effect.{IsIssue, IsEvent}
 
 -- an operation of this key would be issued here, and would meet this value where it may be changed in place
-pub record IsAtHand {K V I : Type 0} (cmp : K → K → Ordering) (code : K → ℕ) (v : PartitionView K V I) (slot : ℕ)
+pub record IsAtHand {K V I : Type 0} (cmp : K → K → Ordering) (join : V → V → V) (code : K → ℕ) (v : PartitionView K V I) (slot : ℕ)
     (key : K) (held : V) : Type 0 where
   pub entered : IsEntered v.core slot
   pub context : ℕ
   pub free : IsFirstFree v slot (Some context)
-  pub hand : key_update.IsAtHand cmp code v.core slot key held
+  pub hand : key_update.IsAtHand cmp join code v.core slot key held
 
 -- the update is issued at one moment, and done with this answer when it goes on at another: what stands between them is
 -- what the issue makes
-pub record IsDoneAtOnce {K V I O R : Type 0} (stands : R → Standing) (cmp : K → K → Ordering) (f : Meanings K V I O)
+pub record IsDoneAtOnce {K V I O R : Type 0} (stands : R → Standing) (cmp : K → K → Ordering) (join : V → V → V) (f : Meanings K V I O)
     (code : K → ℕ) (old new : PartitionView K V I) (slot : ℕ) (key : K) (input : I) (issued now : ℕ) (shown : O)
     : Type 0 where
   pub context : ℕ
   pub between : PartitionView K V I
   pub issues : Issues code old between slot (Rmw key input) issued (Ok context)
   pub issue : IsIssue code old between slot context (Rmw key input) issued
-  pub goes : Goes stands cmp f code between new slot context now (Ok (Done (Value shown) now))
+  pub goes : Goes stands cmp join f code between new slot context now (Ok (Done (Value shown) now))
   pub event : IsEvent {R = R} cmp f between new slot context now (Done (Value shown) now)

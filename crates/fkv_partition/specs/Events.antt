@@ -64,17 +64,18 @@ pub data Issues {K V I : Type 0} (code : K → ℕ) (old new : PartitionView K V
   relocation : op ≡ Relocate → Relocates old new slot now result → Issues code old new slot op now result
 
 -- what is open in a context goes on: a relocation, or else an operation on a key, if any
-pub data Goes {K V I O R : Type 0} (stands : R → Standing) (cmp : K → K → Ordering) (f : Meanings K V I O)
-    (code : K → ℕ) (old new : PartitionView K V I) (slot c now : ℕ) (result : Result (Progress K V I O R) Refused)
+pub data Goes {K V I O R : Type 0} (stands : R → Standing) (cmp : K → K → Ordering) (join : V → V → V)
+    (f : Meanings K V I O) (code : K → ℕ) (old new : PartitionView K V I) (slot c now : ℕ)
+    (result : Result (Progress K V I O R) Refused)
     : Type 0 where
   on_key : relocation_at old slot c ≡ None
-      → going.Goes stands cmp f code old.core new.core slot c now result
+      → going.Goes stands cmp join f code old.core new.core slot c now result
       → IsPassedOn old new
-      → Goes stands cmp f code old new slot c now result
+      → Goes stands cmp join f code old new slot c now result
   relocation : (x : Relocation K V)
       → relocation_at old slot c ≡ Some x
-      → GoesOn stands cmp code old new slot c now result
-      → Goes stands cmp f code old new slot c now result
+      → GoesOn stands cmp join code old new slot c now result
+      → Goes stands cmp join f code old new slot c now result
 
 -- what was built for an update is installed; a relocation asks for nothing to be built
 pub data Installs {K V I O R : Type 0} (cmp : K → K → Ordering) (f : Meanings K V I O) (code : K → ℕ)
@@ -92,16 +93,16 @@ pub data Installs {K V I O R : Type 0} (cmp : K → K → Ordering) (f : Meaning
 
 -- a page came for what is open in a context, or a refusal in its place
 pub data Loads {K V I O R : Type 0} (stands : R → Standing) (spells : ℕ → List ℕ → ℕ → Entry K V → Type 0)
-    (cmp : K → K → Ordering) (f : Meanings K V I O) (code : K → ℕ) (old new : PartitionView K V I) (slot c : ℕ)
-    (came : Result (Joined R) Refused) (now : ℕ) (result : Result (Progress K V I O R) Refused) : Type 0 where
+    (cmp : K → K → Ordering) (join : V → V → V) (f : Meanings K V I O) (code : K → ℕ)
+    (old new : PartitionView K V I) (slot c : ℕ) (came : Result (Joined R) Refused) (now : ℕ) (result : Result (Progress K V I O R) Refused) : Type 0 where
   on_key : relocation_at old slot c ≡ None
-      → loading.Loads stands spells cmp f old.core new.core slot c came now result
+      → loading.Loads stands spells cmp join f old.core new.core slot c came now result
       → IsPassedOn old new
-      → Loads stands spells cmp f code old new slot c came now result
+      → Loads stands spells cmp join f code old new slot c came now result
   relocation : (x : Relocation K V)
       → relocation_at old slot c ≡ Some x
-      → LoadsOn stands spells cmp code old new slot c came now result
-      → Loads stands spells cmp f code old new slot c came now result
+      → LoadsOn stands spells cmp join code old new slot c came now result
+      → Loads stands spells cmp join f code old new slot c came now result
 
 -- what is open in a context is given up
 pub data GivesUp {K V I : Type 0} (old new : PartitionView K V I) (slot c now : ℕ)

@@ -42,23 +42,23 @@ is_awaiting (Some x) = is_some (awaited x)
 abbrev pub low_at : {K V I : Type 0} → PartitionView K V I → ℕ → ℕ
 low_at v slot = low_of v.core.records.begin (seen_at v.core slot)
 
-pub data GoesOn {K V I O R : Type 0} (stands : R → Standing) (cmp : K → K → Ordering) (code : K → ℕ)
+pub data GoesOn {K V I O R : Type 0} (stands : R → Standing) (cmp : K → K → Ordering) (join : V → V → V) (code : K → ℕ)
     (old new : PartitionView K V I) (slot c now : ℕ) (result : Result (Progress K V I O R) Refused) : Type 0 where
   unknown : relocation_at old slot c ≡ None
       → new ≡ old
       → result ≡ Err Unknown
-      → GoesOn stands cmp code old new slot c now result
+      → GoesOn stands cmp join code old new slot c now result
   not_ready : (x : Relocation K V) (a : Awaited)
       → relocation_at old slot c ≡ Some x
       → awaited x ≡ Some a
       → new ≡ old
       → result ≡ Err NotReady
-      → GoesOn stands cmp code old new slot c now result
+      → GoesOn stands cmp join code old new slot c now result
   again : (x : Relocation K V) (entry : Entry K V) (kept : IndexEntry)
       → relocation_at old slot c ≡ Some x
       → x.stage ≡ Ready entry kept
       → Ends old new slot c x entry kept now result
-      → GoesOn stands cmp code old new slot c now result
+      → GoesOn stands cmp join code old new slot c now result
   -- another relocation has cleared its place
   passed : (x : Relocation K V)
       → relocation_at old slot c ≡ Some x
@@ -66,15 +66,15 @@ pub data GoesOn {K V I O R : Type 0} (stands : R → Standing) (cmp : K → K �
       → x.target < old.cleared
       → new ≡ with_relocation old slot c None now
       → result ≡ Ok (Done Cleared now)
-      → GoesOn stands cmp code old new slot c now result
+      → GoesOn stands cmp join code old new slot c now result
   checks : (x : Relocation K V) (entry : Entry K V)
       → relocation_at old slot c ≡ Some x
       → x.stage ≡ Fresh
       → x.target ≡ old.cleared
       → low_at old slot ≤ x.target
-      → entry_at old.core.records.text x.target ≡ Some entry
-      → ChecksLiveness stands cmp code old new slot c x entry now result
-      → GoesOn stands cmp code old new slot c now result
+      → entry_at old.core.records.entries x.target ≡ Some entry
+      → ChecksLiveness stands cmp join code old new slot c x entry now result
+      → GoesOn stands cmp join code old new slot c now result
   reads : (x : Relocation K V)
       → relocation_at old slot c ≡ Some x
       → x.stage ≡ Fresh
@@ -82,4 +82,4 @@ pub data GoesOn {K V I O R : Type 0} (stands : R → Standing) (cmp : K → K �
       → x.target < low_at old slot
       → Asks stands old new (with_relocation old slot c
       (Some (at_stage x (Reading old.core.records.begin))) now) x.target result
-      → GoesOn stands cmp code old new slot c now result
+      → GoesOn stands cmp join code old new slot c now result

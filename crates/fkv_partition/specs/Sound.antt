@@ -10,17 +10,17 @@ use Rattle.fkv_partition.specs.declared.relocations.Relocation.{Relocation}
 use Rattle.fkv_partition.specs.Views.{PartitionView}
 use Rattle.fkv_partition.specs.Stages.{RelocationStands}
 
-pub record IsCompacting {K V I : Type 0} (keeps : Bool) (cmp : K → K → Ordering) (code : K → ℕ) (v : PartitionView K V I)
+pub record IsCompacting {K V I : Type 0} (keeps : Bool) (cmp : K → K → Ordering) (join : V → V → V) (code : K → ℕ) (v : PartitionView K V I)
     : Type 0 where
   pub begun : v.core.records.begin ≤ v.cleared
   pub low : v.cleared ≤ v.core.records.tail
   pub place : v.cleared < 2 ^ 48 → IsRecordStart v.core.records.page_bits v.core.records.record_size v.cleared
-  -- on a device that keeps: each record below is a tombstone, or a later one of its key covers it
-  pub cleared : IsTrue keeps → IsCleared cmp v.core.records.text v.cleared
+  -- on a device that keeps: each record below is a tombstone, or a later value or tombstone of its key covers it
+  pub cleared : IsTrue keeps → IsCleared cmp v.core.records.entries v.cleared
   pub places : length v.relocations ≡ 128
   pub stands : (p : ℕ) (x : Relocation K V)
       → slice_get v.relocations p ≡ Some (Some x)
-      → RelocationStands keeps cmp code v.core v.cleared x
+      → RelocationStands keeps cmp join code v.core v.cleared x
   -- a context holds an operation or a relocation, not both
   pub alone : (p : ℕ) (x : Relocation K V)
       → slice_get v.relocations p ≡ Some (Some x)

@@ -2,11 +2,9 @@
 use Rattle.std.specs.Prelude.{◌≡◌, ◌<◌, ◌≤◌, ℕ, Bool, true, IsTrue, IsSome, Some}
 use Rattle.std.specs.declared.cmp.Ordering.{Ordering}
 use Rattle.fkv_records.specs.Places.{IsRecordStart}
-use Rattle.fkv_texts.specs.declared.entries.Entry.{Entry}
-use Rattle.fkv_texts.specs.Text.{entry_at, has_key}
-use Rattle.fkv_texts.specs.Chains.{IsIn}
 use Rattle.fkv_index.specs.Words.{address_of}
-use Rattle.fkv_index.specs.Places.{word_at}
+use Rattle.fkv_texts.specs.declared.entries.Entry.{Entry}
+use Rattle.fkv_texts.specs.Text.{entry_at}
 use Rattle.fkv_lookups.specs.RecordsViews.{RecordsView}
 use Rattle.fkv_operations.specs.declared.entries.IndexEntry.{IndexEntry}
 use Rattle.fkv_core.specs.declared.contexts.Loading.{Loading}
@@ -22,47 +20,41 @@ pub record IsReading {K V : Type 0} (r : RecordsView K V) (place begin : ℕ) : 
   pub begun : begin ≤ place
   pub on_disk : place < r.regions.offsets.head
 
--- its record was read, and the way from the entry of its class goes on at an address above its place, in a page on disk.
+-- its record was read, and the way from the entry of its class goes on at an address above its place, in a page on disk,
+-- with the parts of the key's deltas above.
 -- On a device that keeps, while Begin stands, the record read is that of the place
-pub record IsTracing {K V : Type 0} (keeps : Bool) (cmp : K → K → Ordering) (code : K → ℕ) (r : RecordsView K V)
-    (place : ℕ) (entry : Entry K V) (l : Loading) : Type 0 where
+pub record IsTracing {K V : Type 0} (keeps : Bool) (cmp : K → K → Ordering) (join : V → V → V) (code : K → ℕ) (r : RecordsView K V)
+    (place : ℕ) (entry : Entry K V) (l : Loading V) : Type 0 where
   pub here : entry.address ≡ place
   pub some : IsSome entry.value
   pub begun : l.begin ≤ place
   pub above : place < l.wanted
-  pub loading : IsLoading keeps cmp code r entry.key l
-  pub is : IsTrue keeps → l.begin ≡ r.begin → entry_at r.text place ≡ Some entry
+  pub led : IsTrue keeps → place ≤ address_of l.kept.word
+  pub loading : IsLoading keeps cmp join code r entry.key l
+  pub is : IsTrue keeps → l.begin ≡ r.begin → entry_at r.entries place ≡ Some entry
 
--- its record is to be appended again. On a device that keeps, its key has its value while the entry stands as it was kept,
--- and no record of the key stands between the place and where the entry led; and the record of the place has that key
-pub record IsReady {K V : Type 0} (keeps : Bool) (cmp : K → K → Ordering) (code : K → ℕ) (r : RecordsView K V)
+-- this record is to be appended. On a device that keeps, its key has its value while the entry stands as it was kept, and the
+-- record of the place has that key
+pub record IsReady {K V : Type 0} (keeps : Bool) (cmp : K → K → Ordering) (join : V → V → V) (code : K → ℕ) (r : RecordsView K V)
     (place : ℕ) (entry : Entry K V) (kept : IndexEntry) : Type 0 where
   pub here : entry.address ≡ place
   pub some : IsSome entry.value
   pub is_kept : IsKept keeps cmp code r entry.key kept entry.value
-  pub between : IsTrue keeps
-      → word_at r.words kept.place ≡ kept.word
-      → (d : Entry K V)
-      → IsIn r.text d
-      → has_key cmp entry.key d ≡ true
-      → place < d.address
-      → d.address ≤ address_of kept.word
-      → ⊥
-  pub own : IsTrue keeps → (d : Entry K V) → entry_at r.text place ≡ Some d → d.key ≡ entry.key
+  pub own : IsTrue keeps → (d : Entry K V) → entry_at r.entries place ≡ Some d → d.key ≡ entry.key
 
-abbrev pub StageStands : {K V I : Type 0} → Bool → (K → K → Ordering) → (K → ℕ) → CoreView K V I → ℕ → Stage K V
+abbrev pub StageStands : {K V I : Type 0} → Bool → (K → K → Ordering) → (V → V → V) → (K → ℕ) → CoreView K V I → ℕ → Stage K V
     → Type 0
-StageStands keeps cmp code v place Fresh = Unit {0}
-StageStands keeps cmp code v place (Reading begin) = IsReading v.records place begin
-StageStands keeps cmp code v place (Tracing entry l) =
-    (partition_of v.count (code entry.key) ≡ v.number) × IsTracing keeps cmp code v.records place entry l
-StageStands keeps cmp code v place (Ready entry kept) =
-    (partition_of v.count (code entry.key) ≡ v.number) × IsReady keeps cmp code v.records place entry kept
+StageStands keeps cmp join code v place Fresh = Unit {0}
+StageStands keeps cmp join code v place (Reading begin) = IsReading v.records place begin
+StageStands keeps cmp join code v place (Tracing entry l) =
+    (partition_of v.count (code entry.key) ≡ v.number) × IsTracing keeps cmp join code v.records place entry l
+StageStands keeps cmp join code v place (Ready entry kept) =
+    (partition_of v.count (code entry.key) ≡ v.number) × IsReady keeps cmp join code v.records place entry kept
 
 -- its place is that of a frozen record, and was not cleared when it was issued
-pub record RelocationStands {K V I : Type 0} (keeps : Bool) (cmp : K → K → Ordering) (code : K → ℕ)
+pub record RelocationStands {K V I : Type 0} (keeps : Bool) (cmp : K → K → Ordering) (join : V → V → V) (code : K → ℕ)
     (v : CoreView K V I) (cleared : ℕ) (x : Relocation K V) : Type 0 where
   pub place : IsRecordStart v.records.page_bits v.records.record_size x.target
   pub frozen : x.target < v.records.regions.offsets.safe_read_only
   pub issued : x.target ≤ cleared
-  pub stage : StageStands keeps cmp code v x.target x.stage
+  pub stage : StageStands keeps cmp join code v x.target x.stage

@@ -17,7 +17,7 @@ pub data Truncates {K V I : Type 0} (keeps : Bool) (old new : PartitionView K V 
   not_due : ¬ IsDue old page → new ≡ old → result ≡ Err NotDue → Truncates keeps old new page now result
   truncates : IsDue old page
       → new ≡ with_core old (record old.core {
-        records = truncated keeps old.core.records (start_at old.core.records.page_bits page);
+        records = truncated keeps old.core.records (start_at old.core.records.page_bits page) new.core.records.text;
         moment = now;
       })
       → result ≡ Ok tt

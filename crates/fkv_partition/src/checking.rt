@@ -9,7 +9,7 @@ ghost use Rattle.fkv_partition.specs.Relocating.{IsRelocating};
 ghost use Rattle.fkv_partition.specs.Checking.{ChecksLiveness};
 
 use crate::partitions::Partition;
-use crate::relocations::{EntryOf, Liveness, RelocationOf, Stage, liveness_of};
+use crate::relocations::{EntryOf, Liveness, RelocationOf, Stage, higher_of, liveness_of, renewed};
 use fkv_core::{Loading, Progress, ProgressOf};
 use fkv_device::Receipt;
 use fkv_functions::{Mergeable, Refused};
@@ -34,8 +34,8 @@ impl<F: Mergeable, R: Receipt> Partition<F, R> {
         requires here { relocation_at self.old slot context ≡ Some relocation.now }
         requires stands { entry.address ≡ relocation.now.target }
         requires begun { self.old.core.records.begin ≤ relocation.now.target }
-        requires is { IsTrue R.keeps → entry_at self.old.core.records.text relocation.now.target ≡ Some entry }
-        ensures effect { ChecksLiveness R.stands F.Key.cmp F.code self.old self.new slot context relocation.now entry now
+        requires is { IsTrue R.keeps → entry_at self.old.core.records.entries relocation.now.target ≡ Some entry }
+        ensures effect { ChecksLiveness R.stands F.Key.cmp F.parts.joined F.code self.old self.new slot context relocation.now entry now
             result }
         ensures event { IfOk result (λ _. IsRelocating R.keeps F.Key.cmp self.old self.new slot context now) }
         ensures cleared { result ≡ Ok (Progress.Done Answer.Cleared now) → relocation.now.target < self.new.cleared }
@@ -59,7 +59,7 @@ impl<F: Mergeable, R: Receipt> Partition<F, R> {
                 self.finish(slot, context, target, now);
                 Ok(Progress::Done(Answer::Cleared, now))
             }
-            Some(kept) => self.follow(slot, context, relocation, entry, kept, now),
+            Some(kept) => self.follow(slot, context, relocation, entry, kept, functions, now),
         }
     }
 
@@ -72,6 +72,7 @@ impl<F: Mergeable, R: Receipt> Partition<F, R> {
         relocation: &RelocationOf<F>,
         entry: EntryOf<F>,
         kept: IndexEntry,
+        functions: &F,
         now: u64,
     ) -> Result<ProgressOf<F, R>, Refused>
         requires later { self.old.core.moment < now }
@@ -80,14 +81,14 @@ impl<F: Mergeable, R: Receipt> Partition<F, R> {
         requires here { relocation_at self.old slot context ≡ Some relocation.now }
         requires stands { entry.address ≡ relocation.now.target }
         requires begun { self.old.core.records.begin ≤ relocation.now.target }
-        requires is { IsTrue R.keeps → entry_at self.old.core.records.text relocation.now.target ≡ Some entry }
+        requires is { IsTrue R.keeps → entry_at self.old.core.records.entries relocation.now.target ≡ Some entry }
         requires some { entry.value ≢ None }
         requires own { partition_of self.old.core.count (F.code entry.key) ≡ self.old.core.number }
         requires found { found_for F.code self.old.core entry.key ≡ Some kept }
         requires leads { entry_for F.code self.old.core entry.key ≡ Some (address_of kept.word) }
         requires entry_stands { IsEntryOf self.old.core.records
             (class_in F.code self.old.core.records entry.key) kept }
-        ensures effect { ChecksLiveness R.stands F.Key.cmp F.code self.old self.new slot context relocation.now entry now
+        ensures effect { ChecksLiveness R.stands F.Key.cmp F.parts.joined F.code self.old self.new slot context relocation.now entry now
             result }
         ensures event { IfOk result (λ _. IsRelocating R.keeps F.Key.cmp self.old self.new slot context now) }
         ensures cleared { result ≡ Ok (Progress.Done Answer.Cleared now) → relocation.now.target < self.new.cleared }
@@ -96,18 +97,25 @@ impl<F: Mergeable, R: Receipt> Partition<F, R> {
     {
         self.known();
         let target = relocation.target;
-        let reached = self.core.reach(slot, &entry.key, Some(kept.address()));
-        match liveness_of(target, &reached) {
+        let low = higher_of(target + 1, self.core.lowest(slot));
+        let came = self
+            .core
+            .reach(functions, slot, &entry.key, low, Some(kept.address()));
+        match liveness_of(target, &came) {
             Liveness::Superseded => {
                 self.finish(slot, context, target, now);
                 Ok(Progress::Done(Answer::Cleared, now))
             }
-            Liveness::Last => self.append_again(slot, context, relocation, entry, kept, now),
-            Liveness::Further(wanted) => {
+            Liveness::Last(parts) => {
+                let whole = renewed(functions, entry, parts);
+                self.append_again(slot, context, relocation, whole, kept, now)
+            }
+            Liveness::Further(wanted, parts) => {
                 let loading = Loading {
                     begin: self.core.records().begin(),
                     kept,
                     wanted,
+                    parts,
                     looked: now,
                 };
                 let stage = Stage::Tracing(entry, loading);

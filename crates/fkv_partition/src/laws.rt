@@ -14,7 +14,7 @@ pub fn contexts_tell<K, V, I>()
         → asked v slot c ≡ None → pending cmp v.core slot c ≡ None }
     ensures low { (v : PartitionView K V I) (slot c : ℕ) (x : Asked K V I) → asked v slot c ≡ Some x → c < 8 }
     // an operation on a key and a relocation are never open in one context, and a relocation waits for no look-up
-    ensures relocating { (keeps : Bool) (cmp : K → K → Ordering) (code : K → ℕ) (v : PartitionView K V I) (slot c : ℕ)
-        (x : Relocation K V) → IsCompacting keeps cmp code v → relocation_at v slot c ≡ Some x
+    ensures relocating { (keeps : Bool) (cmp : K → K → Ordering) (join : V → V → V) (code : K → ℕ) (v : PartitionView K V I) (slot c : ℕ)
+        (x : Relocation K V) → IsCompacting keeps cmp join code v → relocation_at v slot c ≡ Some x
         → (asked v slot c ≡ Some (record { number = x.number; op = Relocate })) × (pending cmp v.core slot c ≡ None) }
 {}

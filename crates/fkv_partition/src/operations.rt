@@ -77,7 +77,7 @@ impl<F: Mergeable, R: Receipt> Partition<F, R> {
         now: u64,
     ) -> Result<ProgressOf<F, R>, Refused>
         requires later { self.old.core.moment < now }
-        ensures effect { Goes R.stands F.Key.cmp F.meaning F.code self.old self.new slot context now result }
+        ensures effect { Goes R.stands F.Key.cmp F.parts.joined F.meaning F.code self.old self.new slot context now result }
         // of an operation on a key also where the device does not keep
         ensures on_key { relocation_at self.old slot context ≡ None → IfOk result (λ progress.
             key_effect.IsEvent F.Key.cmp F.meaning self.old.core self.new.core slot context now progress) }
@@ -160,7 +160,7 @@ impl<F: Mergeable, R: Receipt> Partition<F, R> {
     ) -> Result<ProgressOf<F, R>, Refused>
         requires later { self.old.core.moment < now }
         ensures effect { Loads R.stands (IsEntryIn F.Key.bytes_of F.Value.bytes_of F.Key.is_known F.Value.is_known
-            F.Key.SIZE F.Value.SIZE) F.Key.cmp F.meaning F.code self.old self.new slot context came now result }
+            F.Key.SIZE F.Value.SIZE) F.Key.cmp F.parts.joined F.meaning F.code self.old self.new slot context came now result }
         // on a device that keeps, what comes of it is what the look-up was to find
         ensures event { IsTrue R.keeps → IfOk result (λ progress.
             IsLoad F.Key.cmp F.meaning self.old self.new slot context now progress) }

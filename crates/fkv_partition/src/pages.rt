@@ -10,7 +10,7 @@ ghost use Rattle.fkv_functions.specs.Plain.{Same};
 ghost use Rattle.fkv_hybrid.specs.Scans.{IsScanRefusal, MayFail};
 ghost use Rattle.fkv_lookups.specs.Overlays.{with_text, HasFront};
 ghost use Rattle.fkv_core.specs.Pending.{AllPend};
-ghost use Rattle.fkv_core.specs.Views.{live_of, partition_of};
+ghost use Rattle.fkv_core.specs.Views.{live_of, partition_of, IsBare};
 ghost use Rattle.fkv_partition.specs.Views.{at_moment};
 ghost use Rattle.fkv_partition.specs.Effect.{IsQuiet, IsTruncation};
 ghost use Rattle.fkv_partition.specs.Events.{Shifts, Evicts, Flushes};
@@ -76,14 +76,14 @@ impl<F: Mergeable, R: Receipt> Partition<F, R> {
         ensures receipts { (n : ℕ) (s : Standing)
             → slice_get self.now.core.records.receipts n ≡ Some s
             → (s.page ≡ n) × (s.length ≡ 2 ^ self.now.core.records.page_bits) }
-        // the pages from the first that is not flushed to below that of SafeReadOnly wait, each with the text's entries
+        // the pages from the first that is not flushed to below that of SafeReadOnly wait, each with the records there
         ensures waiting { length self.now.core.records.waiting
             ≡ page_at self.now.core.records.page_bits self.now.core.records.regions.offsets.safe_read_only
             - length self.now.core.records.receipts }
         ensures spelled { (i : ℕ) (page : List ℕ)
             → slice_get self.now.core.records.waiting i ≡ Some page
             → IsPageOf F.Key.bytes_of F.Value.bytes_of F.Key.SIZE F.Value.SIZE self.now.core.records.page_bits
-            (length self.now.core.records.receipts + i) self.now.core.records.text page }
+            (length self.now.core.records.receipts + i) self.now.core.records.entries page }
     {
         self.core.pages_known();
     }
@@ -177,6 +177,7 @@ impl<F: Mergeable, R: Receipt> Partition<F, R> {
     /// The live map, as [`fkv_core::Core::live`] gives it, whose refusals it has.
     pub fn live<P: PageReader<Receipt = R>>(
         &self,
+        functions: &F,
         alloc: Global,
         reader: &mut P,
     ) -> Result<Vec<(F::Key, F::Value)>, Refused>
@@ -195,23 +196,25 @@ impl<F: Mergeable, R: Receipt> Partition<F, R> {
             × MayFail R.stands P.can_fail self.now.core.records.receipts
             self.now.core.records.page_bits page) }
     {
-        self.core.live(alloc, reader)
+        self.core.live(functions, alloc, reader)
     }
 
-    /// Puts the live map into a map, as [`fkv_core::Core::put_live`] does, whose refusals it has.
+    /// Puts the live map into a map in which no key of this partition has a value, as [`fkv_core::Core::put_live`] does,
+    /// whose refusals it has.
     pub fn put_live<P: PageReader<Receipt = R>>(
         &self,
+        functions: &F,
         reader: &mut P,
         map: &mut BTreeMap<F::Key, F::Value>,
     ) -> Result<(), Refused>
-        ensures map { IsTrue R.keeps → OnOk result (Same (get F.Key.cmp map.new)
-            (with_text F.Key.cmp (get F.Key.cmp map.old) self.now.core.records.text)) }
-        ensures live { IsTrue R.keeps → OnOk result ((k : F.Key) → get F.Key.cmp map.old k ≡ None
+        ensures map { IsTrue R.keeps → IsBare F.code self.now.core (get F.Key.cmp map.old)
+            → OnOk result (Same (get F.Key.cmp map.new) (with_text F.Key.cmp (get F.Key.cmp map.old) self.now.core.records.text)) }
+        ensures live { IsTrue R.keeps → IsBare F.code self.now.core (get F.Key.cmp map.old) → OnOk result ((k : F.Key) → get F.Key.cmp map.old k ≡ None
             → get F.Key.cmp map.new k ≡ live_of F.Key.cmp self.now.core k) }
-        ensures others { IsTrue R.keeps → OnOk result ((k : F.Key)
+        ensures others { IsTrue R.keeps → IsBare F.code self.now.core (get F.Key.cmp map.old) → OnOk result ((k : F.Key)
             → partition_of self.now.core.count (F.code k) ≢ self.now.core.number
             → get F.Key.cmp map.new k ≡ get F.Key.cmp map.old k) }
-        ensures front { IsTrue R.keeps → OnErr result
+        ensures front { IsTrue R.keeps → IsBare F.code self.now.core (get F.Key.cmp map.old) → OnErr result
             (HasFront F.Key.cmp (get F.Key.cmp map.old) (get F.Key.cmp map.new) self.now.core.records.text) }
         ensures steady { OnOk result (P.failures reader.new ≡ P.failures reader.old) }
         ensures refused { IfErr result (IsScanRefusal R.keeps
@@ -222,6 +225,6 @@ impl<F: Mergeable, R: Receipt> Partition<F, R> {
             × MayFail R.stands P.can_fail self.now.core.records.receipts
             self.now.core.records.page_bits page) }
     {
-        self.core.put_live(reader, map)
+        self.core.put_live(functions, reader, map)
     }
 }

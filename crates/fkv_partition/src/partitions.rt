@@ -42,7 +42,7 @@ impl<F: Mergeable, R: Receipt> Model for Partition<F, R> {
 
     ghost view = { λ c. view_of c.core c.cleared c.relocations.items };
 
-    ghost invariant = { λ c. IsCompacting R.keeps F.Key.cmp F.code
+    ghost invariant = { λ c. IsCompacting R.keeps F.Key.cmp F.parts.joined F.code
         (view_of c.core c.cleared c.relocations.items) };
 }
 
@@ -89,8 +89,8 @@ impl<F: Mergeable, R: Receipt> Partition<F, R> {
 
     /// What holds of every partition. It does nothing when it runs.
     pub fn known(&self)
-        ensures core { IsSound R.keeps F.Key.cmp F.code self.now.core }
-        ensures compacting { IsCompacting R.keeps F.Key.cmp F.code self.now }
+        ensures core { IsSound R.keeps F.Key.cmp F.parts.joined F.code self.now.core }
+        ensures compacting { IsCompacting R.keeps F.Key.cmp F.parts.joined F.code self.now }
     {
         self.core.known();
         let _cleared = self.cleared;

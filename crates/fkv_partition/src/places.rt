@@ -65,7 +65,7 @@ impl<F: Mergeable, R: Receipt> Partition<F, R> {
         requires context { context < 8 }
         requires entered { IsEntered self.old.core slot }
         requires free { IsFree self.old slot context }
-        requires stands { RelocationStands R.keeps F.Key.cmp F.code self.old.core self.old.cleared relocation }
+        requires stands { RelocationStands R.keeps F.Key.cmp F.parts.joined F.code self.old.core self.old.cleared relocation }
         ensures { self.new ≡ with_relocation self.old slot context (Some relocation) now }
     {
         self.core.pass(now);
@@ -84,7 +84,7 @@ impl<F: Mergeable, R: Receipt> Partition<F, R> {
         requires session { slot < 16 }
         requires context { context < 8 }
         requires here { relocation_at self.old slot context ≡ Some relocation.now }
-        requires stands { StageStands R.keeps F.Key.cmp F.code self.old.core relocation.now.target stage }
+        requires stands { StageStands R.keeps F.Key.cmp F.parts.joined F.code self.old.core relocation.now.target stage }
         ensures { self.new ≡ with_relocation self.old slot context (Some (at_stage relocation.now stage)) now }
     {
         self.core.pass(now);
@@ -110,8 +110,8 @@ impl<F: Mergeable, R: Receipt> Partition<F, R> {
         requires place { IsRecordStart self.old.core.records.page_bits self.old.core.records.record_size place }
         requires low { place < self.old.core.records.tail }
         requires superseded { IsTrue R.keeps → (e : Entry F.Key F.Value)
-            → entry_at self.old.core.records.text place ≡ Some e
-            → IsSuperseded F.Key.cmp self.old.core.records.text e }
+            → entry_at self.old.core.records.entries place ≡ Some e
+            → IsSuperseded F.Key.cmp self.old.core.records.entries e }
         ensures { self.new ≡ done_at self.old slot context place now }
     {
         cleared_stay::<F::Key, F::Value>();

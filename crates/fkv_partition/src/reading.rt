@@ -8,7 +8,9 @@ ghost use Rattle.fkv_partition.specs.Relocating.{IsRelocating};
 ghost use Rattle.fkv_partition.specs.Reading.{AwaitsPage, LoadsOn};
 
 use crate::partitions::Partition;
-use crate::relocations::{EntryOf, Liveness, RelocationOf, Stage, awaited, liveness_of};
+use crate::relocations::{
+    EntryOf, Liveness, RelocationOf, Stage, awaited, higher_of, liveness_of, renewed,
+};
 use fkv_core::loading::is_no_memory;
 use fkv_core::{Loading, Progress, ProgressOf};
 use fkv_device::{Loaded, Receipt};
@@ -36,7 +38,7 @@ impl<F: Mergeable, R: Receipt> Partition<F, R> {
     ) -> Result<ProgressOf<F, R>, Refused>
         requires later { self.old.core.moment < now }
         ensures effect { LoadsOn R.stands (IsEntryIn F.Key.bytes_of F.Value.bytes_of F.Key.is_known F.Value.is_known
-            F.Key.SIZE F.Value.SIZE) F.Key.cmp F.code self.old self.new slot context came now result }
+            F.Key.SIZE F.Value.SIZE) F.Key.cmp F.parts.joined F.code self.old self.new slot context came now result }
         ensures event { IfOk result (λ _. IsRelocating R.keeps F.Key.cmp self.old self.new slot context now) }
         ensures cleared { result ≡ Ok (Progress.Done Answer.Cleared now)
             → IfSome (relocation_at self.old slot context) (λ x. x.target < self.new.cleared) }
@@ -80,7 +82,7 @@ impl<F: Mergeable, R: Receipt> Partition<F, R> {
         requires context { context < 8 }
         requires awaits { (wanted : _) × AwaitsPage self.old slot context relocation.now wanted }
         ensures effect { LoadsOn R.stands (IsEntryIn F.Key.bytes_of F.Value.bytes_of F.Key.is_known F.Value.is_known
-            F.Key.SIZE F.Value.SIZE) F.Key.cmp F.code self.old self.new slot context (Ok loaded) now result }
+            F.Key.SIZE F.Value.SIZE) F.Key.cmp F.parts.joined F.code self.old self.new slot context (Ok loaded) now result }
         ensures event { IfOk result (λ _. IsRelocating R.keeps F.Key.cmp self.old self.new slot context now) }
         ensures cleared { result ≡ Ok (Progress.Done Answer.Cleared now) → relocation.now.target < self.new.cleared }
         ensures moment { self.new.core.moment ≤ now }
@@ -90,7 +92,9 @@ impl<F: Mergeable, R: Receipt> Partition<F, R> {
                 self.read_place(slot, context, relocation, &loaded, functions, now)
             }
             Stage::Tracing(entry, loading) => {
-                self.trace_on(slot, context, relocation, entry, loading, &loaded, now)
+                self.trace_on(
+                    slot, context, relocation, entry, loading, &loaded, functions, now,
+                )
             }
             Stage::Fresh | Stage::Ready(_, _) => unreachable!(),
         }
@@ -112,7 +116,7 @@ impl<F: Mergeable, R: Receipt> Partition<F, R> {
         requires awaits { AwaitsPage self.old slot context relocation.now relocation.now.target }
         requires reads { relocation.now.stage ≡ Reading self.old.core.records.begin }
         ensures effect { LoadsOn R.stands (IsEntryIn F.Key.bytes_of F.Value.bytes_of F.Key.is_known F.Value.is_known
-            F.Key.SIZE F.Value.SIZE) F.Key.cmp F.code self.old self.new slot context (Ok loaded.now) now result }
+            F.Key.SIZE F.Value.SIZE) F.Key.cmp F.parts.joined F.code self.old self.new slot context (Ok loaded.now) now result }
         ensures event { IfOk result (λ _. IsRelocating R.keeps F.Key.cmp self.old self.new slot context now) }
         ensures cleared { result ≡ Ok (Progress.Done Answer.Cleared now) → relocation.now.target < self.new.cleared }
         ensures moment { self.new.core.moment ≤ now }
@@ -139,8 +143,9 @@ impl<F: Mergeable, R: Receipt> Partition<F, R> {
         context: usize,
         relocation: &RelocationOf<F>,
         entry: EntryOf<F>,
-        loading: Loading,
+        loading: Loading<F::Value>,
         loaded: &Loaded<R>,
+        functions: &F,
         now: u64,
     ) -> Result<ProgressOf<F, R>, Refused>
         requires later { self.old.core.moment < now }
@@ -149,7 +154,7 @@ impl<F: Mergeable, R: Receipt> Partition<F, R> {
         requires awaits { AwaitsPage self.old slot context relocation.now loading.wanted }
         requires traces { relocation.now.stage ≡ Tracing entry loading }
         ensures effect { LoadsOn R.stands (IsEntryIn F.Key.bytes_of F.Value.bytes_of F.Key.is_known F.Value.is_known
-            F.Key.SIZE F.Value.SIZE) F.Key.cmp F.code self.old self.new slot context (Ok loaded.now) now result }
+            F.Key.SIZE F.Value.SIZE) F.Key.cmp F.parts.joined F.code self.old self.new slot context (Ok loaded.now) now result }
         ensures event { IfOk result (λ _. IsRelocating R.keeps F.Key.cmp self.old self.new slot context now) }
         ensures cleared { result ≡ Ok (Progress.Done Answer.Cleared now) → relocation.now.target < self.new.cleared }
         ensures moment { self.new.core.moment ≤ now }
@@ -160,26 +165,31 @@ impl<F: Mergeable, R: Receipt> Partition<F, R> {
         if let Err(refused) = self.core.records().is_own(loaded, page) {
             return Err(refused);
         }
-        let reached = match self
-            .core
-            .records()
-            .trace_in(loaded, &entry.key, loading.wanted)
-        {
+        let low = higher_of(target + 1, self.core.records().first_of(page));
+        let came = match self.core.records().trace_in(
+            functions,
+            loaded,
+            &entry.key,
+            loading.wanted,
+            low,
+            loading.parts,
+        ) {
             Err(_damaged) => {
                 self.end(slot, context, now);
                 return Err(Refused::Damaged { page });
             }
-            Ok(reached) => reached,
+            Ok(came) => came,
         };
-        match liveness_of(target, &reached) {
+        match liveness_of(target, &came) {
             Liveness::Superseded => {
                 self.finish(slot, context, target, now);
                 Ok(Progress::Done(Answer::Cleared, now))
             }
-            Liveness::Last => {
-                self.append_again(slot, context, relocation, entry, loading.kept, now)
+            Liveness::Last(parts) => {
+                let whole = renewed(functions, entry, parts);
+                self.append_again(slot, context, relocation, whole, loading.kept, now)
             }
-            Liveness::Further(address) => {
+            Liveness::Further(address, parts) => {
                 if !self.core.records().is_place(address) {
                     self.end(slot, context, now);
                     return Err(Refused::Damaged { page });
@@ -188,6 +198,7 @@ impl<F: Mergeable, R: Receipt> Partition<F, R> {
                     begin: loading.begin,
                     kept: loading.kept,
                     wanted: address,
+                    parts,
                     looked: loading.looked,
                 };
                 self.ask(

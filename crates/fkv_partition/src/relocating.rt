@@ -35,7 +35,7 @@ impl<F: Mergeable, R: Receipt> Partition<F, R> {
         now: u64,
     ) -> Result<ProgressOf<F, R>, Refused>
         requires later { self.old.core.moment < now }
-        ensures effect { GoesOn R.stands F.Key.cmp F.code self.old self.new slot context now result }
+        ensures effect { GoesOn R.stands F.Key.cmp F.parts.joined F.code self.old self.new slot context now result }
         ensures event { IfOk result (λ _. IsRelocating R.keeps F.Key.cmp self.old self.new slot context now) }
         ensures cleared { result ≡ Ok (Progress.Done Answer.Cleared now)
             → IfSome (relocation_at self.old slot context) (λ x. x.target < self.new.cleared) }
@@ -77,7 +77,7 @@ impl<F: Mergeable, R: Receipt> Partition<F, R> {
         requires here { relocation_at self.old slot context ≡ Some relocation.now }
         requires fresh { relocation.now.stage ≡ Fresh }
         requires uncleared { relocation.now.target ≡ self.old.cleared }
-        ensures effect { GoesOn R.stands F.Key.cmp F.code self.old self.new slot context now result }
+        ensures effect { GoesOn R.stands F.Key.cmp F.parts.joined F.code self.old self.new slot context now result }
         ensures event { IfOk result (λ _. IsRelocating R.keeps F.Key.cmp self.old self.new slot context now) }
         ensures cleared { result ≡ Ok (Progress.Done Answer.Cleared now) → relocation.now.target < self.new.cleared }
         ensures unchanged { OnErr result (self.new ≡ self.old) }
@@ -117,7 +117,7 @@ impl<F: Mergeable, R: Receipt> Partition<F, R> {
         requires later { self.old.core.moment < now }
         requires flushed { page_at self.old.core.records.page_bits wanted
             < length self.old.core.records.receipts }
-        requires stands { StageStands R.keeps F.Key.cmp F.code self.old.core relocation.now.target stage }
+        requires stands { StageStands R.keeps F.Key.cmp F.parts.joined F.code self.old.core relocation.now.target stage }
         ensures effect { Asks R.stands self.old self.new
             (with_relocation self.old slot context (Some (at_stage relocation.now stage)) now) wanted result }
         ensures event { IfOk result (λ _. IsRelocating R.keeps F.Key.cmp self.old self.new slot context now) }
@@ -150,7 +150,7 @@ impl<F: Mergeable, R: Receipt> Partition<F, R> {
         requires session { slot < 16 }
         requires context { context < 8 }
         requires here { relocation_at self.old slot context ≡ Some relocation.now }
-        requires stands { StageStands R.keeps F.Key.cmp F.code self.old.core relocation.now.target (Ready entry kept) }
+        requires stands { StageStands R.keeps F.Key.cmp F.parts.joined F.code self.old.core relocation.now.target (Ready entry kept) }
         ensures effect { Ends self.old self.new slot context relocation.now entry kept now result }
         ensures event { IfOk result (λ _. IsRelocating R.keeps F.Key.cmp self.old self.new slot context now) }
         ensures cleared { result ≡ Ok (Progress.Done Answer.Cleared now) → relocation.now.target < self.new.cleared }

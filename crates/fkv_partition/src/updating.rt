@@ -23,9 +23,9 @@ impl<F: Mergeable, R: Receipt> Partition<F, R> {
     ) -> Option<F::Output>
         requires later { self.old.core.moment < issued }
         requires after { issued < now }
-        ensures done { IfSome result (λ shown. IsDoneAtOnce R.stands F.Key.cmp F.meaning F.code self.old self.new
+        ensures done { IfSome result (λ shown. IsDoneAtOnce R.stands F.Key.cmp F.parts.joined F.meaning F.code self.old self.new
             slot key.now input.now issued now shown) }
-        ensures left { result ≡ None → (held : F.Value) → IsAtHand F.Key.cmp F.code self.old slot key.now held
+        ensures left { result ≡ None → (held : F.Value) → IsAtHand F.Key.cmp F.parts.joined F.code self.old slot key.now held
             → F.meaning.next key.now held input.now ≡ None }
         ensures none { result ≡ None → self.new ≡ self.old }
         ensures within { IfSome result (λ _. slot < 16) }

@@ -9,7 +9,7 @@ use Rattle.fkv_functions.specs.Meanings.{Meanings}
 use Rattle.std.specs.Int.{w64, w128, to_le_bytes}
 use Rattle.fkv_functions.specs.Names.{name_cmp, text_of}
 use Rattle.fkv_functions.specs.Integers.{signed_bytes, long_bytes}
-use Rattle.fkv_functions.specs.Sets.{counts, sums, maxima, capped_sums}
+use Rattle.fkv_functions.specs.Sets.{counts, sums, maxima, capped_sums, count_parts, sum_parts, max_parts}
 use Rattle.fkv_functions.specs.Hashes.{fnv_1a}
 use Rattle.fkv_functions.specs.declared.names.Name.{Name}
 use Rattle.fkv_functions.specs.declared.refusals.Refused.{Refused}
@@ -54,34 +54,34 @@ is_page other = false
 
 -- what follows an issue, and is told
 pub data FollowsIssue {V O R : Type 0} (stands : R → Standing) (entry : ℕ → List ℕ → ℕ → Entry Name V → Type 0)
-    (cmp : Name → Name → Ordering) (f : Meanings Name V ℤ O) (code : Name → ℕ) (p slot : ℕ)
+    (cmp : Name → Name → Ordering) (join : V → V → V) (f : Meanings Name V ℤ O) (code : Name → ℕ) (p slot : ℕ)
     (mid new : WorldView Name V ℤ O R) (told issued : Result (Outcome V O) Refused) : Type 0 where
   -- what was issued is finished
   finishes : (c : ℕ)
       → context_in issued ≡ Some c
-      → RunsUntil stands entry cmp f code until.Finish (record { partition = p; slot = slot; context = c }) new
+      → RunsUntil stands entry cmp join f code until.Finish (record { partition = p; slot = slot; context = c }) new
       (Some told) 10000
       (first_step mid.state.partitions until.Finish (record { partition = p; slot = slot; context = c })) mid
-      → FollowsIssue stands entry cmp f code p slot mid new told issued
+      → FollowsIssue stands entry cmp join f code p slot mid new told issued
   -- nothing was issued
   tells : context_in issued ≡ None
       → new ≡ mid
       → told ≡ issued
-      → FollowsIssue stands entry cmp f code p slot mid new told issued
+      → FollowsIssue stands entry cmp join f code p slot mid new told issued
 
 -- what follows a take, and is told
 pub data FollowsTake {V O R : Type 0} (stands : R → Standing) (entry : ℕ → List ℕ → ℕ → Entry Name V → Type 0)
-    (cmp : Name → Name → Ordering) (f : Meanings Name V ℤ O) (code : Name → ℕ) (p : ℕ) (access : Access)
-    (mid new : WorldView Name V ℤ O R) (told taken : Result (Outcome V O) Refused) : Type 0 where
+    (cmp : Name → Name → Ordering) (join : V → V → V) (f : Meanings Name V ℤ O) (code : Name → ℕ) (p : ℕ)
+    (access : Access) (mid new : WorldView Name V ℤ O R) (told taken : Result (Outcome V O) Refused) : Type 0 where
   -- the page that was taken is written
   writes : is_page taken ≡ true
-      → IsKept stands entry cmp f code mid new (step.Write p access) told
-      → FollowsTake stands entry cmp f code p access mid new told taken
+      → IsKept stands entry cmp join f code mid new (step.Write p access) told
+      → FollowsTake stands entry cmp join f code p access mid new told taken
   -- no page was taken
   tells : is_page taken ≡ false
       → new ≡ mid
       → told ≡ taken
-      → FollowsTake stands entry cmp f code p access mid new told taken
+      → FollowsTake stands entry cmp join f code p access mid new told taken
 
 -- the operation of a line, on values: an upsert writes the value of its amount
 abbrev pub op_of : {V : Type 0} → (ℤ → V) → KeyedOp Name ℤ ℤ → Op Name V ℤ
@@ -92,79 +92,79 @@ op_of written (on_key.Delete k) = Delete k
 
 -- what a line does, and tells: a step, or several, each of them kept; an amount is written as this value
 abbrev pub RunsLine : {V O R : Type 0} → (R → Standing) → (ℕ → List ℕ → ℕ → Entry Name V → Type 0)
-    → (Name → Name → Ordering) → Meanings Name V ℤ O → (Name → ℕ) → (ℤ → V) → WorldView Name V ℤ O R
+    → (Name → Name → Ordering) → (V → V → V) → Meanings Name V ℤ O → (Name → ℕ) → (ℤ → V) → WorldView Name V ℤ O R
     → WorldView Name V ℤ O R → Result (Outcome V O) Refused → Line → Type 0
-RunsLine stands entry cmp f code written old new told (line.Enter p) =
-    IsKept stands entry cmp f code old new (step.Enter p) told
-RunsLine stands entry cmp f code written old new told (line.Leave p slot) =
-    IsKept stands entry cmp f code old new (step.Leave p slot) told
-RunsLine stands entry cmp f code written old new told (line.Refresh p slot) =
-    IsKept stands entry cmp f code old new (step.Refresh p slot) told
-RunsLine stands entry cmp f code written old new told (line.ReadOnly p page) =
-    IsKept stands entry cmp f code old new (step.ReadOnly p page) told
-RunsLine stands entry cmp f code written old new told (line.Head p page) =
-    IsKept stands entry cmp f code old new (step.Head p page) told
-RunsLine {V} {O} {R} stands entry cmp f code written old new told (line.Flush p access) =
+RunsLine stands entry cmp join f code written old new told (line.Enter p) =
+    IsKept stands entry cmp join f code old new (step.Enter p) told
+RunsLine stands entry cmp join f code written old new told (line.Leave p slot) =
+    IsKept stands entry cmp join f code old new (step.Leave p slot) told
+RunsLine stands entry cmp join f code written old new told (line.Refresh p slot) =
+    IsKept stands entry cmp join f code old new (step.Refresh p slot) told
+RunsLine stands entry cmp join f code written old new told (line.ReadOnly p page) =
+    IsKept stands entry cmp join f code old new (step.ReadOnly p page) told
+RunsLine stands entry cmp join f code written old new told (line.Head p page) =
+    IsKept stands entry cmp join f code old new (step.Head p page) told
+RunsLine {V} {O} {R} stands entry cmp join f code written old new told (line.Flush p access) =
     (mid : WorldView Name V ℤ O R)
     × (taken : Result (Outcome V O) Refused)
-    × IsKept stands entry cmp f code old mid (step.Take p) taken
-    × FollowsTake stands entry cmp f code p access mid new told taken
-RunsLine stands entry cmp f code written old new told (line.Truncate p) =
-    IsKept stands entry cmp f code old new (step.Truncate p) told
-RunsLine stands entry cmp f code written old new told (line.Issue p slot op) =
-    IsKept stands entry cmp f code old new (step.Issue p slot (op_of written op)) told
-RunsLine {V} {O} {R} stands entry cmp f code written old new told (line.Do p slot op) =
+    × IsKept stands entry cmp join f code old mid (step.Take p) taken
+    × FollowsTake stands entry cmp join f code p access mid new told taken
+RunsLine stands entry cmp join f code written old new told (line.Truncate p) =
+    IsKept stands entry cmp join f code old new (step.Truncate p) told
+RunsLine stands entry cmp join f code written old new told (line.Issue p slot op) =
+    IsKept stands entry cmp join f code old new (step.Issue p slot (op_of written op)) told
+RunsLine {V} {O} {R} stands entry cmp join f code written old new told (line.Do p slot op) =
     (mid : WorldView Name V ℤ O R)
     × (issued : Result (Outcome V O) Refused)
-    × IsKept stands entry cmp f code old mid (step.Issue p slot (op_of written op)) issued
-    × FollowsIssue stands entry cmp f code p slot mid new told issued
-RunsLine {V} {O} {R} stands entry cmp f code written old new told (line.Compact p slot) =
+    × IsKept stands entry cmp join f code old mid (step.Issue p slot (op_of written op)) issued
+    × FollowsIssue stands entry cmp join f code p slot mid new told issued
+RunsLine {V} {O} {R} stands entry cmp join f code written old new told (line.Compact p slot) =
     (mid : WorldView Name V ℤ O R)
     × (issued : Result (Outcome V O) Refused)
-    × IsKept stands entry cmp f code old mid (step.Issue p slot Relocate) issued
-    × FollowsIssue stands entry cmp f code p slot mid new told issued
-RunsLine stands entry cmp f code written old new told (line.Go w) =
-    IsKept stands entry cmp f code old new (step.Go w) told
-RunsLine stands entry cmp f code written old new told (line.Install w) =
-    IsKept stands entry cmp f code old new (step.Install w) told
-RunsLine stands entry cmp f code written old new told (line.Load w access) =
-    IsKept stands entry cmp f code old new (step.Load w access) told
-RunsLine stands entry cmp f code written old new told (line.GiveUp w) =
-    IsKept stands entry cmp f code old new (step.GiveUp w) told
-RunsLine stands entry cmp f code written old new told (line.Ready w) =
-    RunsUntil stands entry cmp f code until.Ready w new (Some told) 10000
+    × IsKept stands entry cmp join f code old mid (step.Issue p slot Relocate) issued
+    × FollowsIssue stands entry cmp join f code p slot mid new told issued
+RunsLine stands entry cmp join f code written old new told (line.Go w) =
+    IsKept stands entry cmp join f code old new (step.Go w) told
+RunsLine stands entry cmp join f code written old new told (line.Install w) =
+    IsKept stands entry cmp join f code old new (step.Install w) told
+RunsLine stands entry cmp join f code written old new told (line.Load w access) =
+    IsKept stands entry cmp join f code old new (step.Load w access) told
+RunsLine stands entry cmp join f code written old new told (line.GiveUp w) =
+    IsKept stands entry cmp join f code old new (step.GiveUp w) told
+RunsLine stands entry cmp join f code written old new told (line.Ready w) =
+    RunsUntil stands entry cmp join f code until.Ready w new (Some told) 10000
     (first_step old.state.partitions until.Ready w) old
-RunsLine stands entry cmp f code written old new told (line.Finish w) =
-    RunsUntil stands entry cmp f code until.Finish w new (Some told) 10000
+RunsLine stands entry cmp join f code written old new told (line.Finish w) =
+    RunsUntil stands entry cmp join f code until.Finish w new (Some told) 10000
     (first_step old.state.partitions until.Finish w) old
 
 -- lines in turn, and what each of them tells
 abbrev pub RunLines : {V O R : Type 0} → (R → Standing) → (ℕ → List ℕ → ℕ → Entry Name V → Type 0)
-    → (Name → Name → Ordering) → Meanings Name V ℤ O → (Name → ℕ) → (ℤ → V) → WorldView Name V ℤ O R → List Line
-    → List (Result (Outcome V O) Refused) → WorldView Name V ℤ O R → Type 0
-RunLines stands entry cmp f code written v [] [] w = w ≡ v
-RunLines stands entry cmp f code written v [] (t ∷ ts) w = ⊥
-RunLines stands entry cmp f code written v (l ∷ ls) [] w = ⊥
-RunLines {V} {O} {R} stands entry cmp f code written v (l ∷ ls) (t ∷ ts) w =
+    → (Name → Name → Ordering) → (V → V → V) → Meanings Name V ℤ O → (Name → ℕ) → (ℤ → V) → WorldView Name V ℤ O R
+    → List Line → List (Result (Outcome V O) Refused) → WorldView Name V ℤ O R → Type 0
+RunLines stands entry cmp join f code written v [] [] w = w ≡ v
+RunLines stands entry cmp join f code written v [] (t ∷ ts) w = ⊥
+RunLines stands entry cmp join f code written v (l ∷ ls) [] w = ⊥
+RunLines {V} {O} {R} stands entry cmp join f code written v (l ∷ ls) (t ∷ ts) w =
     (u : WorldView Name V ℤ O R)
-    × RunsLine stands entry cmp f code written v u t l
-    × RunLines stands entry cmp f code written u ls ts w
+    × RunsLine stands entry cmp join f code written v u t l
+    × RunLines stands entry cmp join f code written u ls ts w
 
 -- the text that a script prints: what each line tells, and then each live key with its value, keys rising, in a world
 -- that keeps the headline
 pub record IsPrintedBy {V O R : Type 0} (stands : R → Standing) (entry : ℕ → List ℕ → ℕ → Entry Name V → Type 0)
-    (cmp : Name → Name → Ordering) (f : Meanings Name V ℤ O) (code : Name → ℕ)
+    (cmp : Name → Name → Ordering) (join : V → V → V) (f : Meanings Name V ℤ O) (code : Name → ℕ)
     (written : ℤ → V) (value : V → List ℕ) (shown : O → List ℕ) (config : Config) (record_size : ℕ) (lines : List Line)
     (text : List ℕ) : Type 0 where
   pub world : WorldView Name V ℤ O R
   pub told : List (Result (Outcome V O) Refused)
   pub pairs : List (Name × V)
-  pub ran : RunLines stands entry cmp f code written (empty_world config record_size) lines told world
+  pub ran : RunLines stands entry cmp join f code written (empty_world config record_size) lines told world
   pub headline : IsHeadline cmp f code world
   -- the steps that the lines asked for, each of them kept; the lives are those of their accepted issues, in order; and
   -- the answers that are printed are those that the steps told, no more and no fewer
   pub steps : List (Step Name V ℤ)
-  pub stepped : RunsTo stands entry cmp f code (empty_world config record_size) steps world
+  pub stepped : RunsTo stands entry cmp join f code (empty_world config record_size) steps world
   pub issued : map issue_of world.state.lives ≡ issues_in (backwards steps world.outcomes [])
   pub answers : answers_in told ≡ answers_in world.outcomes
   pub map : (k : Name) → lookup (is_at (cmp k)) pairs ≡ union_of cmp code world.state.partitions k
@@ -190,17 +190,17 @@ hash_of name = fnv_1a (text_of name)
 -- the text that a script prints with the functions that its first line names
 abbrev pub Prints : FunctionsName → Config → List Line → List ℕ → Type 0
 Prints Count config lines text =
-    IsPrintedBy standing_of (IsNamedEntry (to_le_bytes w64) (λ n. n < 2 ^ 64) 8) name_cmp counts hash_of count_of
-    decimal decimal config (record_size Count) lines text
+    IsPrintedBy standing_of (IsNamedEntry (to_le_bytes w64) (λ n. n < 2 ^ 64) 8) name_cmp (count_parts {K = Name}).joined
+    counts hash_of count_of decimal decimal config (record_size Count) lines text
 Prints Sum config lines text =
-    IsPrintedBy standing_of (IsNamedEntry long_bytes (FitsSigned w128) 16) name_cmp sums hash_of (λ n. n)
-    signed_decimal signed_decimal config (record_size Sum) lines text
+    IsPrintedBy standing_of (IsNamedEntry long_bytes (FitsSigned w128) 16) name_cmp (sum_parts {K = Name}).joined
+    sums hash_of (λ n. n) signed_decimal signed_decimal config (record_size Sum) lines text
 Prints Max config lines text =
-    IsPrintedBy standing_of (IsNamedEntry signed_bytes (FitsSigned w64) 8) name_cmp maxima hash_of (λ n. n)
-    signed_decimal signed_decimal config (record_size Max) lines text
+    IsPrintedBy standing_of (IsNamedEntry signed_bytes (FitsSigned w64) 8) name_cmp (max_parts {K = Name}).joined
+    maxima hash_of (λ n. n) signed_decimal signed_decimal config (record_size Max) lines text
 Prints Capped config lines text =
-    IsPrintedBy standing_of (IsNamedEntry long_bytes (FitsSigned w128) 16) name_cmp capped_sums hash_of (λ n. n)
-    signed_decimal signed_decimal config (record_size Capped) lines text
+    IsPrintedBy standing_of (IsNamedEntry long_bytes (FitsSigned w128) 16) name_cmp (λ v w. w)
+    capped_sums hash_of (λ n. n) signed_decimal signed_decimal config (record_size Capped) lines text
 
 -- the output of an input: it says a script of at most 1,000,000 lines, whose numbers are within the limits, and this is
 -- what the script prints

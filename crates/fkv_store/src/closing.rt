@@ -110,7 +110,12 @@ impl<F: Mergeable, D: Disk, H: Recorder<F>> Store<F, D, H> {
         if !self.knows_all(passes.as_slice()) {
             return Err(Refused::Mismatch);
         }
-        let Store { device, locks, .. } = self;
+        let Store {
+            functions,
+            device,
+            locks,
+            ..
+        } = self;
         let mut device = device.into_inner();
         let mut readers = match readers_of(alloc, &mut device, locks.len()) {
             Ok(readers) => readers,
@@ -126,6 +131,7 @@ impl<F: Mergeable, D: Disk, H: Recorder<F>> Store<F, D, H> {
         };
         let Kept { owns, shares } = kept;
         match close_parts::<F, D::Receipt, H, D::Reader>(
+            &functions,
             alloc,
             parts,
             readers.as_mut_slice(),

@@ -57,6 +57,8 @@ pub enum Turn {
     Clears,
     /// Gives the byte at this place plus 1.
     Raises(usize),
+    /// Gives the record at this place as a delta.
+    Parts(usize),
     /// Gives the page that it gave before, where that has as many bytes.
     Repeats,
 }
@@ -82,12 +84,19 @@ impl UnsureReader {
             return Err(Refused::NoMemory);
         };
         let given: &mut [u8] = &mut copy;
-        if let Turn::Raises(place) = self.turn {
-            if let Some(byte) = given.get_mut(place) {
-                *byte = byte.wrapping_add(1);
+        match self.turn {
+            Turn::Raises(place) => {
+                if let Some(byte) = given.get_mut(place) {
+                    *byte = byte.wrapping_add(1);
+                }
             }
-        } else {
-            given.fill(0);
+            Turn::Parts(place) => {
+                // bit 49 of the header's 64
+                if let Some(byte) = given.get_mut(place.saturating_add(6)) {
+                    *byte |= 2;
+                }
+            }
+            _ => given.fill(0),
         }
         Page::new(self.alloc, copy)
     }

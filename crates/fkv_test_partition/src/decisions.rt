@@ -1,7 +1,7 @@
 //! The table of decisions, row by row, for a sum, and what a session's view makes of what a look-up comes to.
 use crate::calls::on_name;
-use fkv_functions::SumFns;
-use fkv_lookups::{Decision, LookupResult, decide, low_of, met_by};
+use fkv_functions::{Name, SumFns};
+use fkv_lookups::{Decision, Gathered, LookupResult, decide, low_of, met_by};
 use fkv_operations::{Answer, KeyedOp};
 use fkv_records::Address;
 use fkv_regions::View;
@@ -21,7 +21,7 @@ const UPDATE: KeyedOp<u8, i128, i64> = KeyedOp::Rmw(b'a', 5);
 
 const DELETE: KeyedOp<u8, i128, i64> = KeyedOp::Delete(b'a');
 
-const ROWS: [Row; 24] = [
+const ROWS: [Row; 26] = [
     (READ, LookupResult::NoEntry, Decision::Done(Answer::Absent)),
     (READ, LookupResult::NoValue, Decision::Done(Answer::Absent)),
     (
@@ -39,7 +39,17 @@ const ROWS: [Row; 24] = [
         LookupResult::Mutable(3),
         Decision::Done(Answer::Value(3)),
     ),
-    (READ, LookupResult::OnDisk(64), Decision::Load(64)),
+    (
+        READ,
+        LookupResult::OnDisk(64, None),
+        Decision::Load(64, None),
+    ),
+    // the parts that were collected go with it
+    (
+        READ,
+        LookupResult::OnDisk(64, Some(5)),
+        Decision::Load(64, Some(5)),
+    ),
     (UPSERT, LookupResult::NoEntry, Decision::Claim),
     (
         UPSERT,
@@ -64,7 +74,7 @@ const ROWS: [Row; 24] = [
     // what is on disk is neither needed by an upsert nor by a delete
     (
         UPSERT,
-        LookupResult::OnDisk(64),
+        LookupResult::OnDisk(64, None),
         Decision::Append(Some(4), Answer::Stored),
     ),
     (UPDATE, LookupResult::NoEntry, Decision::Claim),
@@ -80,7 +90,16 @@ const ROWS: [Row; 24] = [
         LookupResult::Mutable(3),
         Decision::Replace(Some(8), Answer::Value(8)),
     ),
-    (UPDATE, LookupResult::OnDisk(64), Decision::Load(64)),
+    (
+        UPDATE,
+        LookupResult::OnDisk(64, None),
+        Decision::Load(64, None),
+    ),
+    (
+        UPDATE,
+        LookupResult::OnDisk(64, Some(5)),
+        Decision::Load(64, Some(5)),
+    ),
     (
         DELETE,
         LookupResult::NoEntry,
@@ -108,7 +127,7 @@ const ROWS: [Row; 24] = [
     ),
     (
         DELETE,
-        LookupResult::OnDisk(64),
+        LookupResult::OnDisk(64, None),
         Decision::Append(None, Answer::Deleted),
     ),
 ];
@@ -140,48 +159,71 @@ const SEEN: View = View {
 /// What a look-up comes to.
 #[derive(Clone, Copy)]
 enum Came {
-    /// The last record of key 7 stands at this address, with this value or none for a tombstone.
+    /// The first record of the key that is no delta stands at this address, with this value or none for a tombstone.
     Found(Address, Option<i128>),
     /// The records of the class lead to this address, below those that were read.
     Below(Address),
 }
 
-/// An entry's address, Begin, what the look-up comes to, and what is met.
-type Meeting = (Option<Address>, Address, Came, LookupResult<i128>);
+/// An entry's address, Begin, the parts of deltas that were collected, what the look-up comes to, and what is met.
+type Meeting = (
+    Option<Address>,
+    Address,
+    Option<i128>,
+    Came,
+    LookupResult<i128>,
+);
 
-const MEETINGS: [Meeting; 15] = [
-    (None, 64, Came::Below(1), LookupResult::NoEntry),
-    (None, 64, Came::Below(200), LookupResult::NoEntry),
-    (None, 64, Came::Found(512, Some(3)), LookupResult::NoEntry),
-    (Some(1), 64, Came::Below(1), LookupResult::NoValue),
-    (Some(64), 64, Came::Found(64, None), LookupResult::NoValue),
+const MEETINGS: [Meeting; 22] = [
+    (None, 64, None, Came::Below(1), LookupResult::NoEntry),
+    (None, 64, None, Came::Below(200), LookupResult::NoEntry),
+    (
+        None,
+        64,
+        None,
+        Came::Found(512, Some(3)),
+        LookupResult::NoEntry,
+    ),
+    (Some(1), 64, None, Came::Below(1), LookupResult::NoValue),
+    (
+        Some(64),
+        64,
+        None,
+        Came::Found(64, None),
+        LookupResult::NoValue,
+    ),
     (
         Some(600),
         64,
+        None,
         Came::Found(64, Some(3)),
         LookupResult::ReadOnly(3),
     ),
     (
         Some(600),
         64,
+        None,
         Came::Found(200, Some(3)),
         LookupResult::ReadOnly(3),
     ),
     (
         Some(600),
         64,
+        None,
         Came::Found(256, Some(3)),
         LookupResult::Fuzzy(3),
     ),
     (
         Some(600),
         64,
+        None,
         Came::Found(480, Some(3)),
         LookupResult::Fuzzy(3),
     ),
     (
         Some(600),
         64,
+        None,
         Came::Found(512, Some(3)),
         LookupResult::Mutable(3),
     ),
@@ -189,34 +231,114 @@ const MEETINGS: [Meeting; 15] = [
     (
         Some(600),
         8,
+        None,
         Came::Found(32, Some(3)),
         LookupResult::ReadOnly(3),
     ),
     // what lies at or above Begin is on disk, what lies below it is gone
-    (Some(600), 64, Came::Below(64), LookupResult::OnDisk(64)),
-    (Some(600), 64, Came::Below(200), LookupResult::OnDisk(200)),
-    (Some(600), 256, Came::Below(256), LookupResult::OnDisk(256)),
-    (Some(600), 256, Came::Below(255), LookupResult::NoValue),
+    (
+        Some(600),
+        64,
+        None,
+        Came::Below(64),
+        LookupResult::OnDisk(64, None),
+    ),
+    (
+        Some(600),
+        64,
+        None,
+        Came::Below(200),
+        LookupResult::OnDisk(200, None),
+    ),
+    (
+        Some(600),
+        256,
+        None,
+        Came::Below(256),
+        LookupResult::OnDisk(256, None),
+    ),
+    (
+        Some(600),
+        256,
+        None,
+        Came::Below(255),
+        LookupResult::NoValue,
+    ),
+    // a value with parts is not changed where it stands, wherever it is
+    (
+        Some(600),
+        64,
+        Some(5),
+        Came::Found(512, Some(3)),
+        LookupResult::ReadOnly(8),
+    ),
+    (
+        Some(600),
+        64,
+        Some(5),
+        Came::Found(256, Some(3)),
+        LookupResult::ReadOnly(8),
+    ),
+    // parts behind a tombstone, or behind what is gone, are the value
+    (
+        Some(600),
+        64,
+        Some(5),
+        Came::Found(64, None),
+        LookupResult::ReadOnly(5),
+    ),
+    (
+        Some(600),
+        64,
+        Some(5),
+        Came::Below(63),
+        LookupResult::ReadOnly(5),
+    ),
+    (
+        Some(600),
+        64,
+        Some(5),
+        Came::Below(64),
+        LookupResult::OnDisk(64, Some(5)),
+    ),
+    (
+        Some(600),
+        256,
+        Some(5),
+        Came::Below(255),
+        LookupResult::ReadOnly(5),
+    ),
+    (None, 64, Some(5), Came::Below(200), LookupResult::NoEntry),
 ];
 
-fn reached(came: Came) -> ChainPosition<u8, i128> {
-    match came {
+/// What the look-up of a key comes to, with these parts.
+fn gathered(key: Name, parts: Option<i128>, came: Came) -> Gathered<Name, i128> {
+    let position = match came {
         Came::Below(address) => ChainPosition::Below(address),
         Came::Found(address, value) => ChainPosition::Found(Entry {
             address,
             previous: 1,
-            key: 7,
+            key,
             value,
             delta: false,
         }),
-    }
+    };
+    Gathered { parts, position }
+}
+
+fn is_met(row: &Meeting) -> bool {
+    let (entry, begin, parts, came, wanted) = *row;
+    let Some(key) = Name::new(b"a") else {
+        return false;
+    };
+    let came = gathered(key, parts, came);
+    met_by(&SumFns, entry, begin, &SEEN, &came) == wanted
 }
 
 #[test]
 fn meetings(rt: HostRuntime) {
-    for (at, (entry, begin, came, wanted)) in MEETINGS.iter().enumerate() {
-        let met = met_by(*entry, *begin, &SEEN, &reached(*came));
-        assert!(rt; met == *wanted, "row {at}");
+    for (at, row) in MEETINGS.iter().enumerate() {
+        assert!(rt; is_met(row), "row {at}");
     }
 }
 

@@ -87,8 +87,8 @@ impl Driven {
 
     /// The live map, as a list, asked for again where memory is refused once.
     pub fn live(&mut self, alloc: Global) -> Result<Vec<(Name, i128)>, Refused> {
-        match self.compacted.live(alloc, &mut self.reader) {
-            Err(Refused::NoMemory) => self.compacted.live(alloc, &mut self.reader),
+        match self.compacted.live(&SumFns, alloc, &mut self.reader) {
+            Err(Refused::NoMemory) => self.compacted.live(&SumFns, alloc, &mut self.reader),
             live => live,
         }
     }

@@ -15,6 +15,8 @@ mod compactors;
 #[cfg(test)]
 mod decisions;
 #[cfg(test)]
+mod deltas;
+#[cfg(test)]
 mod driven;
 #[cfg(test)]
 mod faults;

@@ -118,12 +118,12 @@ type Lie = (&'static [Row], &'static [(u8, i128)], bool, u64, [u64; 4]);
 
 /// Of each record on the way 37 bytes tell damage: the previous address, the bits that are always 0, and the bytes of a name that
 /// are to be zero. A lie about the page of its place changes its value, of sixteen bytes, or makes it a tombstone or the record
-/// of another key.
+/// of another key. Where that page comes again, on the way, the record is not read again.
 const RELOCATIONS: [Lie; 4] = [
     (&TWELVE, &TWELVE_MAP, true, 0, [200, 3, 16, 37]),
     (&TWELVE, &TWELVE_MAP, true, 1, [108, 0, 0, 148]),
     (&TWELVE, &TWELVE_MAP, true, 2, [108, 0, 0, 148]),
-    (&TWELVE, &TWELVE_MAP, true, 3, [145, 0, 0, 111]),
+    (&TWELVE, &TWELVE_MAP, true, 3, [182, 0, 0, 74]),
 ];
 
 /// A lie that hides a newer record brings the older one back.

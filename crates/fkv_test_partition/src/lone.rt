@@ -184,8 +184,8 @@ impl Lone {
 
     /// Whether the live map, asked for again where memory is refused once, is this one.
     fn is_live(&mut self, alloc: Global, map: &[(u8, i128)]) -> bool {
-        let live = match self.partition.live(alloc, &mut self.reader) {
-            Err(Refused::NoMemory) => self.partition.live(alloc, &mut self.reader),
+        let live = match self.partition.live(&SumFns, alloc, &mut self.reader) {
+            Err(Refused::NoMemory) => self.partition.live(&SumFns, alloc, &mut self.reader),
             live => live,
         };
         match live {

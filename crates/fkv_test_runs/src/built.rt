@@ -148,7 +148,7 @@ fn first_wrong(alloc: Global, run: &Run) -> Result<Option<usize>, Refused> {
         }
     }
     let mut reader = MemoryDevice::new(alloc).reader(run.number)?;
-    let pairs = driven.partition.live(alloc, &mut reader)?;
+    let pairs = driven.partition.live(&SumFns, alloc, &mut reader)?;
     if is_map(pairs.as_slice(), run.map) {
         Ok(None)
     } else {

@@ -1,6 +1,6 @@
 -- What deltas stand for. A delta is an entry whose value is a part, to be joined with what its key had before.
 use Rattle.std.specs.Prelude.{◌≡◌, ℕ, ◌<◌, ◌&&◌, ◌⊎◌, Bool, true, false, cond, List, [], ◌∷◌, filter, reverse}
-use Rattle.std.specs.Prelude.{Option, Some, None, nat_le, nat_lt, slice_get}
+use Rattle.std.specs.Prelude.{Option, Some, None, IsSome, nat_le, nat_lt, slice_get}
 use Rattle.std.specs.declared.cmp.Ordering.{Ordering}
 use Rattle.fkv_functions.specs.Plain.{PlainMap, with_at}
 use Rattle.fkv_texts.specs.declared.entries.Entry.{Entry}
@@ -38,6 +38,10 @@ stood cmp join es = stood_on cmp join (λ k. None) es
 -- no entry is a delta
 abbrev pub AreWhole : {K V : Type 0} → List (Entry K V) → Type 0
 AreWhole {K} {V} es = (i : ℕ) (e : Entry K V) → slice_get es i ≡ Some e → e.delta ≡ false
+
+-- each delta has a part
+abbrev pub AreValued : {K V : Type 0} → List (Entry K V) → Type 0
+AreValued {K} {V} es = (i : ℕ) (e : Entry K V) → slice_get es i ≡ Some e → e.delta ≡ true → IsSome e.value
 
 -- a test that does not look at values
 abbrev pub IgnoresValues : {K V : Type 0} → (Entry K V → Bool) → Type 0

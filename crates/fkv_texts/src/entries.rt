@@ -1,5 +1,5 @@
 //! The entries of a text.
-ghost use Rattle.std.specs.Prelude.{◌≡◌, false};
+ghost use Rattle.std.specs.Prelude.{◌≡◌};
 
 use fkv_records::{Address, Record};
 
@@ -44,20 +44,21 @@ pub fn entry_of<K, V>(address: Address, found: Record<K, V>) -> Entry<K, V>
     }
 }
 
-/// An entry of a key in hand, which is no delta.
+/// An entry of a key in hand.
 pub fn entry_with<K: Copy, V>(
     address: Address,
     previous: Address,
     key: &K,
     value: Option<V>,
+    delta: bool,
 ) -> Entry<K, V>
-    ensures { result ≡ record { address = address; previous = previous; key = key.now; value = value; delta = false } }
+    ensures { result ≡ record { address = address; previous = previous; key = key.now; value = value; delta = delta } }
 {
     Entry {
         address,
         previous,
         key: *key,
         value,
-        delta: false,
+        delta,
     }
 }

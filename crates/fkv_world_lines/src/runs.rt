@@ -45,8 +45,8 @@ fn drive(alloc: Global, world: &mut World<SumFns>, calls: &[Call]) -> Result<Vec
 
 /// The report of a world, asked for again where memory is refused once.
 fn report(alloc: Global, world: &World<SumFns>) -> Result<ReportOf<SumFns>, Refused> {
-    match world.report(alloc) {
-        Err(Refused::NoMemory) => world.report(alloc),
+    match world.report(&SumFns, alloc) {
+        Err(Refused::NoMemory) => world.report(&SumFns, alloc),
         report => report,
     }
 }

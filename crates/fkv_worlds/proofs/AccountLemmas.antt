@@ -207,7 +207,7 @@ account-empty {K} {V} {I} {O} = record {
 }
 
 -- ---- each step keeps the account
-module _ {K V I O R : Type 0} (stands : R → Standing) (entry : ℕ → List ℕ → ℕ → Entry K V → Type 0) (cmp : K → K → Ordering) (f : Meanings K V I O) (code : K → ℕ) (s : StateView K V I O R) (state : IsState cmp f code s) (rs : List (Result (Outcome V O) Refused)) (account : IsAccount s.lives (taken rs) s.moment) where
+module _ {K V I O R : Type 0} (stands : R → Standing) (entry : ℕ → List ℕ → ℕ → Entry K V → Type 0) (cmp : K → K → Ordering) (join : V → V → V) (f : Meanings K V I O) (code : K → ℕ) (s : StateView K V I O R) (state : IsState cmp f code s) (rs : List (Result (Outcome V O) Refused)) (account : IsAccount s.lives (taken rs) s.moment) where
   past_done : (j : ℕ) (x : Life K V I O) (t : Finish O) → slice_get s.lives j ≡ Some x → finish_of x ≡ Some t → t.done ≤ s.moment
   past_done j x t h k = (state.world.placed.timely j x t h k).past
 
@@ -238,14 +238,14 @@ module _ {K V I O R : Type 0} (stands : R → Standing) (entry : ℕ → List �
   here-of : (w : ContextId) (v : PartitionView K V I) (step t : Step K V I) → step ≡ t → partition_in t ≡ w.partition → slice_get s.partitions (partition_in step) ≡ Some v → slice_get s.partitions w.partition ≡ Some v
   here-of w v step t a at h = ap (slice_get s.partitions) (sym at ∙ ap partition_in (sym a)) ∙ h
 
-  pub account-acts : (new : StateView K V I O R) (step : Step K V I) (r : Result (Outcome V O) Refused) → Acts stands entry cmp f code s new step r → IsAccount new.lives (taken (rs ++ r ∷ [])) new.moment
+  pub account-acts : (new : StateView K V I O R) (step : Step K V I) (r : Result (Outcome V O) Refused) → Acts stands entry cmp join f code s new step r → IsAccount new.lives (taken (rs ++ r ∷ [])) new.moment
   account-acts new step r (acts.no_partition a same is) = kept-state new r Unknown refl same is
   account-acts new step r (acts.unasked w v a b c d same is) = kept-state new r NotReady refl same is
   account-acts new step r (acts.unknown w v a b c d same is) = kept-state new r Unknown refl same is
   account-acts new step r (acts.no_flush_job p access a b c same is) = kept-state new r NotReady refl same is
   account-acts new step r (acts.worn a b c same is) = kept-state new r Worn refl same is
   account-acts new step r (acts.no_memory_for_life p slot op v a b same is) = kept-state new r NoMemory refl same is
-  account-acts new step r (acts.refuses v e due h same is) = kept-state new r e (refuses-no stands entry cmp f code s v (suc s.moment) e step h) same is
+  account-acts new step r (acts.refuses v e due h same is) = kept-state new r e (refuses-no stands entry cmp join f code s v (suc s.moment) e step h) same is
   account-acts new step r (acts.enters p slot n v v' a b c d low g to is) = silent new r (outcome.Entered slot) refl refl (ap (λ (z : StateView K V I O R). z.lives) to) (ap (λ (z : StateView K V I O R). z.moment) to) is
   account-acts new step r (acts.leaves p slot v v' a b c ev to is) = silent new r outcome.Left refl refl (ap (λ (z : StateView K V I O R). z.lives) to) (ap (λ (z : StateView K V I O R). z.moment) to) is
   account-acts new step r (acts.refreshes p slot v v' a b c ev to is) = silent new r outcome.Refreshed refl refl (ap (λ (z : StateView K V I O R). z.lives) to) (ap (λ (z : StateView K V I O R). z.moment) to) is

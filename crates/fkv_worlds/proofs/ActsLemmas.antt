@@ -33,7 +33,7 @@ use Rattle.fkv_worlds.specs.Acts as acts
 use Rattle.fkv_worlds.specs.Acts.{Acts, IsDue, begun_life, after_issue, lives_by, questions_by, receipts_by, told}
 use Rattle.fkv_lives.specs.Steps.{partition_in}
 
-module _ {K V I O R : Type 0} (stands : R → Standing) (entry : ℕ → List ℕ → ℕ → Entry K V → Type 0) (cmp : K → K → Ordering) (f : Meanings K V I O) (code : K → ℕ) (s : StateView K V I O R) (next : ℕ) (then : next ≡ s.moment + 1) (fits : next < 2 ^ 64) where
+module _ {K V I O R : Type 0} (stands : R → Standing) (entry : ℕ → List ℕ → ℕ → Entry K V → Type 0) (cmp : K → K → Ordering) (join : V → V → V) (f : Meanings K V I O) (code : K → ℕ) (s : StateView K V I O R) (next : ℕ) (then : next ≡ s.moment + 1) (fits : next < 2 ^ 64) where
   e : next ≡ suc s.moment
   e = omega arith
 
@@ -42,55 +42,55 @@ module _ {K V I O R : Type 0} (stands : R → Standing) (entry : ℕ → List �
 
   -- what the partition refuses
   pub acts-refused : (step : Step K V I) (old : PartitionView K V I) (r : Refused) → slice_get s.partitions (partition_in step) ≡ Some old → is_unasked s step ≡ false
-      → Refuses stands entry cmp f code s old next r step → Acts stands entry cmp f code s s step (Err r)
-  acts-refused step old r here asked refuses = acts.refuses old r (due step old here asked) (subst (λ m. Refuses stands entry cmp f code s old m r step) e refuses) refl refl
+      → Refuses stands entry cmp join f code s old next r step → Acts stands entry cmp join f code s s step (Err r)
+  acts-refused step old r here asked refuses = acts.refuses old r (due step old here asked) (subst (λ m. Refuses stands entry cmp join f code s old m r step) e refuses) refl refl
 
   module _ (p : ℕ) (old new : PartitionView K V I) (here : slice_get s.partitions p ≡ Some old) where
     pub acts-enter : (slot n : ℕ) → Enters old new next (Ok slot) → IsQuiet true old new next → slot < 16 → slice_get s.enters p ≡ Some n
-        → Acts stands entry cmp f code s (record s { partitions = slice_set s.partitions p new; enters = slice_set s.enters p (n + 1); seats = slice_set s.seats (seat_row p slot) (record { session = n + 1; issues = 0 }); moment = next }) (Enter p) (Ok (outcome.Entered slot))
+        → Acts stands entry cmp join f code s (record s { partitions = slice_set s.partitions p new; enters = slice_set s.enters p (n + 1); seats = slice_set s.seats (seat_row p slot) (record { session = n + 1; issues = 0 }); moment = next }) (Enter p) (Ok (outcome.Entered slot))
     acts-enter slot n does ev low count =
         let up : n + 1 ≡ suc n = omega arith in
         rw (e, up) (acts.enters p slot n old new refl (due (Enter p) old here refl) (subst (λ m. Enters old new m (Ok slot)) e does) (subst (λ m. IsQuiet true old new m) e ev) low count refl refl)
 
-    pub acts-leave : (slot : ℕ) → LeavesAll true old new slot next (Ok tt) → IsQuiet true old new next → Acts stands entry cmp f code s (record s { partitions = slice_set s.partitions p new; moment = next }) (Leave p slot) (Ok outcome.Left)
+    pub acts-leave : (slot : ℕ) → LeavesAll true old new slot next (Ok tt) → IsQuiet true old new next → Acts stands entry cmp join f code s (record s { partitions = slice_set s.partitions p new; moment = next }) (Leave p slot) (Ok outcome.Left)
     acts-leave slot does ev =
         rw e (acts.leaves p slot old new refl (due (Leave p slot) old here refl) (subst (λ m. LeavesAll true old new slot m (Ok tt)) e does) (subst (λ m. IsQuiet true old new m) e ev) refl refl)
 
-    pub acts-refresh : (slot : ℕ) → Refreshes true old new slot next (Ok tt) → IsQuiet true old new next → Acts stands entry cmp f code s (record s { partitions = slice_set s.partitions p new; moment = next }) (Refresh p slot) (Ok outcome.Refreshed)
+    pub acts-refresh : (slot : ℕ) → Refreshes true old new slot next (Ok tt) → IsQuiet true old new next → Acts stands entry cmp join f code s (record s { partitions = slice_set s.partitions p new; moment = next }) (Refresh p slot) (Ok outcome.Refreshed)
     acts-refresh slot does ev =
         rw e (acts.refreshes p slot old new refl (due (Refresh p slot) old here refl) (subst (λ m. Refreshes true old new slot m (Ok tt)) e does) (subst (λ m. IsQuiet true old new m) e ev) refl refl)
 
-    pub acts-shift : (page : ℕ) → Shifts true old new page next (Ok tt) → IsQuiet true old new next → Acts stands entry cmp f code s (record s { partitions = slice_set s.partitions p new; moment = next }) (ReadOnly p page) (Ok outcome.Shifted)
+    pub acts-shift : (page : ℕ) → Shifts true old new page next (Ok tt) → IsQuiet true old new next → Acts stands entry cmp join f code s (record s { partitions = slice_set s.partitions p new; moment = next }) (ReadOnly p page) (Ok outcome.Shifted)
     acts-shift page does ev =
         rw e (acts.shifts p page old new refl (due (ReadOnly p page) old here refl) (subst (λ m. Shifts true old new page m (Ok tt)) e does) (subst (λ m. IsQuiet true old new m) e ev) refl refl)
 
-    pub acts-evict : (page : ℕ) → Evicts true old new page next (Ok tt) → IsQuiet true old new next → Acts stands entry cmp f code s (record s { partitions = slice_set s.partitions p new; moment = next }) (Head p page) (Ok outcome.Shifted)
+    pub acts-evict : (page : ℕ) → Evicts true old new page next (Ok tt) → IsQuiet true old new next → Acts stands entry cmp join f code s (record s { partitions = slice_set s.partitions p new; moment = next }) (Head p page) (Ok outcome.Shifted)
     acts-evict page does ev =
         rw e (acts.evicts p page old new refl (due (Head p page) old here refl) (subst (λ m. Evicts true old new page m (Ok tt)) e does) (subst (λ m. IsQuiet true old new m) e ev) refl refl)
 
     pub acts-take : (job : FlushJob) → job.page ≡ length old.core.records.receipts → slice_get old.core.records.waiting 0 ≡ Some job.bytes → new ≡ at_moment old next
-        → Acts stands entry cmp f code s (record s { partitions = slice_set s.partitions p new; jobs = slice_set s.jobs p (Some job); moment = next }) (Take p) (Ok (outcome.Taken job.page))
+        → Acts stands entry cmp join f code s (record s { partitions = slice_set s.partitions p new; jobs = slice_set s.jobs p (Some job); moment = next }) (Take p) (Ok (outcome.Taken job.page))
     acts-take job page bytes is = rw (is, e) (acts.takes p old job refl (due (Take p) old here refl) page bytes refl refl)
 
     pub acts-spoil : (access : Access) (job : FlushJob) (r : Refused) → is_unasked s (Write p access) ≡ false → job_in s.jobs p ≡ Some job → Spoils old next job access r
-        → Acts stands entry cmp f code s (record s { jobs = slice_set s.jobs p None }) (Write p access) (Err r)
+        → Acts stands entry cmp join f code s (record s { jobs = slice_set s.jobs p None }) (Write p access) (Err r)
     acts-spoil access job r asked has spoils = acts.spoils p access old job r refl (due (Write p access) old here asked) has (subst (λ m. Spoils old m job access r) e spoils) refl refl
 
     pub acts-write : (access : Access) (job : FlushJob) → access ≡ Works → is_unasked s (Write p access) ≡ false → job_in s.jobs p ≡ Some job
         → Flushes old new (receipt_of job) job.bytes next (Ok tt) → IsQuiet true old new next
-        → Acts stands entry cmp f code s (record s { partitions = slice_set s.partitions p new; jobs = slice_set s.jobs p None; moment = next }) (Write p access) (Ok (outcome.Flushed job.page))
+        → Acts stands entry cmp join f code s (record s { partitions = slice_set s.partitions p new; jobs = slice_set s.jobs p None; moment = next }) (Write p access) (Ok (outcome.Flushed job.page))
     acts-write access job works asked has does ev =
         rw (e, works) (acts.writes p old new job refl (due (Write p Works) old here (ap (λ a. is_unasked s (Write p a)) (sym works) ∙ asked)) has
         (subst (λ m. Flushes old new (receipt_of job) job.bytes m (Ok tt)) e does) (subst (λ m. IsQuiet true old new m) e ev) refl refl)
 
     pub acts-truncate : Truncates true old new (page_at old.core.records.page_bits old.cleared) next (Ok tt) → IsTruncation true cmp old new (page_at old.core.records.page_bits old.cleared) next
-        → Acts stands entry cmp f code s (record s { partitions = slice_set s.partitions p new; moment = next }) (Truncate p) (Ok (outcome.Truncated new.core.records.begin))
+        → Acts stands entry cmp join f code s (record s { partitions = slice_set s.partitions p new; moment = next }) (Truncate p) (Ok (outcome.Truncated new.core.records.begin))
     acts-truncate does ev =
         rw e (acts.truncates p old new refl (due (Truncate p) old here refl) (subst (λ m. Truncates true old new (page_at old.core.records.page_bits old.cleared) m (Ok tt)) e does)
         (subst (λ m. IsTruncation true cmp old new (page_at old.core.records.page_bits old.cleared) m) e ev) refl refl)
 
     pub acts-issue : (slot c : ℕ) (op : Op K V I) (seat : Seat) → Issues code old new slot op next (Ok c) → IsIssue code old new slot c op next → slot < 16 → slice_get s.seats (seat_row p slot) ≡ Some seat
-        → Acts stands entry cmp f code s (record s {
+        → Acts stands entry cmp join f code s (record s {
           partitions = slice_set s.partitions p new;
           seats = slice_set s.seats (seat_row p slot) (after_issue seat);
           begun = slice_set s.begun (context_row (record { partition = p; slot = slot; context = c })) (length s.lives);
@@ -104,33 +104,33 @@ module _ {K V I O R : Type 0} (stands : R → Standing) (entry : ℕ → List �
 
   module _ (w : ContextId) (old new : PartitionView K V I) (here : slice_get s.partitions w.partition ≡ Some old) where
     pub acts-give_up : GivesUp old new w.slot w.context next (Ok tt) → IsGiveUp old new w.slot w.context next
-        → Acts stands entry cmp f code s (record s { partitions = slice_set s.partitions w.partition new; lives = ended_at s.lives (life_in s.begun w) GivenUp; moment = next }) (GiveUp w) (Ok outcome.GivenUp)
+        → Acts stands entry cmp join f code s (record s { partitions = slice_set s.partitions w.partition new; lives = ended_at s.lives (life_in s.begun w) GivenUp; moment = next }) (GiveUp w) (Ok outcome.GivenUp)
     acts-give_up does ev =
         rw e (acts.gives_up w old new refl (due (GiveUp w) old here refl) (subst (λ m. GivesUp old new w.slot w.context m (Ok tt)) e does) (subst (λ m. IsGiveUp old new w.slot w.context m) e ev) refl refl)
 
-    pub acts-go : (progress : Progress K V I O R) → Goes stands cmp f code old new w.slot w.context next (Ok progress) → IsEvent cmp f old new w.slot w.context next progress
-        → Acts stands entry cmp f code s (record s { partitions = slice_set s.partitions w.partition new; questions = questions_by s.questions (context_row w) progress; receipts = receipts_by s.receipts (context_row w) progress; lives = lives_by s.lives (life_in s.begun w) next progress; moment = next })
+    pub acts-go : (progress : Progress K V I O R) → Goes stands cmp join f code old new w.slot w.context next (Ok progress) → IsEvent cmp f old new w.slot w.context next progress
+        → Acts stands entry cmp join f code s (record s { partitions = slice_set s.partitions w.partition new; questions = questions_by s.questions (context_row w) progress; receipts = receipts_by s.receipts (context_row w) progress; lives = lives_by s.lives (life_in s.begun w) next progress; moment = next })
         (Go w) (Ok (told progress))
     acts-go progress does ev =
-        rw e (acts.goes w old new progress refl (due (Go w) old here refl) (subst (λ m. Goes stands cmp f code old new w.slot w.context m (Ok progress)) e does) (subst (λ m. IsEvent cmp f old new w.slot w.context m progress) e ev) refl refl)
+        rw e (acts.goes w old new progress refl (due (Go w) old here refl) (subst (λ m. Goes stands cmp join f code old new w.slot w.context m (Ok progress)) e does) (subst (λ m. IsEvent cmp f old new w.slot w.context m progress) e ev) refl refl)
 
     pub acts-install : (ask : Ask K V I) → question_in s.questions w ≡ Some ask → (progress : Progress K V I O R) → Installs cmp f code old new w.slot w.context ask next (Ok progress) → IsEvent cmp f old new w.slot w.context next progress
-        → Acts stands entry cmp f code s (record s { partitions = slice_set s.partitions w.partition new; questions = questions_by s.questions (context_row w) progress; receipts = receipts_by s.receipts (context_row w) progress; lives = lives_by s.lives (life_in s.begun w) next progress; moment = next })
+        → Acts stands entry cmp join f code s (record s { partitions = slice_set s.partitions w.partition new; questions = questions_by s.questions (context_row w) progress; receipts = receipts_by s.receipts (context_row w) progress; lives = lives_by s.lives (life_in s.begun w) next progress; moment = next })
         (Install w) (Ok (told progress))
     acts-install ask asks progress does ev =
         rw e (acts.installs w old new ask progress refl (due (Install w) old here (rw asks refl)) asks (subst (λ m. Installs cmp f code old new w.slot w.context ask m (Ok progress)) e does) (subst (λ m. IsEvent cmp f old new w.slot w.context m progress) e ev) refl refl)
 
     module _ (access : Access) (receipt : R) (came : Result (Joined R) Refused) (asks : receipt_in s.receipts w ≡ Some receipt) (comes : Comes stands receipt access came) where
-      pub acts-load : (progress : Progress K V I O R) → Loads stands entry cmp f code old new w.slot w.context came next (Ok progress) → IsLoad cmp f old new w.slot w.context next progress
-          → Acts stands entry cmp f code s (record s { partitions = slice_set s.partitions w.partition new; questions = questions_by s.questions (context_row w) progress; receipts = receipts_by s.receipts (context_row w) progress; lives = lives_by s.lives (life_in s.begun w) next progress; moment = next })
+      pub acts-load : (progress : Progress K V I O R) → Loads stands entry cmp join f code old new w.slot w.context came next (Ok progress) → IsLoad cmp f old new w.slot w.context next progress
+          → Acts stands entry cmp join f code s (record s { partitions = slice_set s.partitions w.partition new; questions = questions_by s.questions (context_row w) progress; receipts = receipts_by s.receipts (context_row w) progress; lives = lives_by s.lives (life_in s.begun w) next progress; moment = next })
           (Load w access) (Ok (told progress))
       acts-load progress does ev =
-          rw e (acts.loads w access old new receipt came progress refl (due (Load w access) old here (rw asks refl)) asks comes (subst (λ m. Loads stands entry cmp f code old new w.slot w.context came m (Ok progress)) e does) (subst (λ m. IsLoad cmp f old new w.slot w.context m progress) e ev) refl refl)
+          rw e (acts.loads w access old new receipt came progress refl (due (Load w access) old here (rw asks refl)) asks comes (subst (λ m. Loads stands entry cmp join f code old new w.slot w.context came m (Ok progress)) e does) (subst (λ m. IsLoad cmp f old new w.slot w.context m progress) e ev) refl refl)
 
-      pub acts-fail : (r : Refused) → Loads stands entry cmp f code old new w.slot w.context came next (Err r) → ends_operation r ≡ true → IsGiveUp old new w.slot w.context next
-          → Acts stands entry cmp f code s (record s { partitions = slice_set s.partitions w.partition new; lives = ended_at s.lives (life_in s.begun w) Failed; moment = next }) (Load w access) (Err r)
+      pub acts-fail : (r : Refused) → Loads stands entry cmp join f code old new w.slot w.context came next (Err r) → ends_operation r ≡ true → IsGiveUp old new w.slot w.context next
+          → Acts stands entry cmp join f code s (record s { partitions = slice_set s.partitions w.partition new; lives = ended_at s.lives (life_in s.begun w) Failed; moment = next }) (Load w access) (Err r)
       acts-fail r does ends ev =
-          rw e (acts.fails w access old new receipt came r refl (due (Load w access) old here (rw asks refl)) asks comes (subst (λ m. Loads stands entry cmp f code old new w.slot w.context came m (Err r)) e does) ends (subst (λ m. IsGiveUp old new w.slot w.context m) e ev) refl refl)
+          rw e (acts.fails w access old new receipt came r refl (due (Load w access) old here (rw asks refl)) asks comes (subst (λ m. Loads stands entry cmp join f code old new w.slot w.context came m (Err r)) e does) ends (subst (λ m. IsGiveUp old new w.slot w.context m) e ev) refl refl)
 
 -- the other steps answer nothing
 pub unasked-none : {K V I O R : Type 0} (s : StateView K V I O R) (step : Step K V I) → ((w : ContextId) → step ≡ Install w → ⊥) → ((w : ContextId) (access : Access) → step ≡ Load w access → ⊥) → ((p : ℕ) (access : Access) → step ≡ Write p access → ⊥) → is_unasked s step ≡ false
@@ -149,7 +149,7 @@ unasked-none s (GiveUp u) i l w = refl
 unasked-none s (Truncate p) i l w = refl
 
 -- a step that has no moment
-pub acts-untimely : {K V I O R : Type 0} (stands : R → Standing) (entry : ℕ → List ℕ → ℕ → Entry K V → Type 0) (cmp : K → K → Ordering) (f : Meanings K V I O) (code : K → ℕ) (s : StateView K V I O R) (step : Step K V I) (r : Refused)
-    → is_unasked s step ≡ false → IsUntimely s (partition_in step) r → Acts stands entry cmp f code s s step (Err r)
-acts-untimely stands entry cmp f code s step r asked (no_partition h e) = acts.no_partition h refl (ap Err e)
-acts-untimely stands entry cmp f code s step r asked (worn h m e) = acts.worn h asked m refl (ap Err e)
+pub acts-untimely : {K V I O R : Type 0} (stands : R → Standing) (entry : ℕ → List ℕ → ℕ → Entry K V → Type 0) (cmp : K → K → Ordering) (join : V → V → V) (f : Meanings K V I O) (code : K → ℕ) (s : StateView K V I O R) (step : Step K V I) (r : Refused)
+    → is_unasked s step ≡ false → IsUntimely s (partition_in step) r → Acts stands entry cmp join f code s s step (Err r)
+acts-untimely stands entry cmp join f code s step r asked (no_partition h e) = acts.no_partition h refl (ap Err e)
+acts-untimely stands entry cmp join f code s step r asked (worn h m e) = acts.worn h asked m refl (ap Err e)

@@ -118,9 +118,9 @@ module _ {K V I O R : Type 0} (cmp : K → K → Ordering) (f : Meanings K V I O
       issued-state slot c op ev pends low within = state-issue cmp o f code s state now due.next p slot c op (seat_at s.seats p slot) old new here ev pends low within (seated slot low)
 
 -- the step's rule
-module _ {K V I O R : Type 0} {stands : R → Standing} {entry : ℕ → List ℕ → ℕ → Entry K V → Type 0} (cmp : K → K → Ordering) (f : Meanings K V I O) (code : K → ℕ) (s : StateView K V I O R) (state : IsState cmp f code s) (p now : ℕ) (due : IsMomentIn s p now) where
+module _ {K V I O R : Type 0} {stands : R → Standing} {entry : ℕ → List ℕ → ℕ → Entry K V → Type 0} (cmp : K → K → Ordering) (join : V → V → V) (f : Meanings K V I O) (code : K → ℕ) (s : StateView K V I O R) (state : IsState cmp f code s) (p now : ℕ) (due : IsMomentIn s p now) where
   -- no memory is left for the life of an issue
-  pub no_memory_for_life-issue : (slot : ℕ) (op : Op K V I) → Acts stands entry cmp f code s s (Issue p slot op) (Err NoMemory)
+  pub no_memory_for_life-issue : (slot : ℕ) (op : Op K V I) → Acts stands entry cmp join f code s s (Issue p slot op) (Err NoMemory)
   no_memory_for_life-issue slot op =
       let held = some-at s.partitions p due.there in
       let next = due.next in
@@ -129,61 +129,61 @@ module _ {K V I O R : Type 0} {stands : R → Standing} {entry : ℕ → List �
 
   module _ (old : PartitionView K V I) (is : old ≡ slice_index_or s.partitions p old) (new : PartitionView K V I) where
     -- what the partition refuses
-    pub refused-step : (step : Step K V I) → partition_in step ≡ p → is_unasked s step ≡ false → (r : Refused) → new ≡ old → Refuses stands entry cmp f code s old now r step
-        → Acts stands entry cmp f code s (record s { partitions = slice_set s.partitions p new }) step (Err r)
+    pub refused-step : (step : Step K V I) → partition_in step ≡ p → is_unasked s step ≡ false → (r : Refused) → new ≡ old → Refuses stands entry cmp join f code s old now r step
+        → Acts stands entry cmp join f code s (record s { partitions = slice_set s.partitions p new }) step (Err r)
     refused-step step at asked r same refuses =
         rw (set-unchanged s.partitions p old new (here cmp f code s state p now due old is) same)
-        (acts-refused stands entry cmp f code s now due.next due.fits step old r (ap (slice_get s.partitions) at ∙ here cmp f code s state p now due old is) asked refuses)
+        (acts-refused stands entry cmp join f code s now due.next due.fits step old r (ap (slice_get s.partitions) at ∙ here cmp f code s state p now due old is) asked refuses)
 
-    pub refused-enter : (r : Refused) → new ≡ old → Enters old new now (Err r) → Acts stands entry cmp f code s (record s { partitions = slice_set s.partitions p new }) (Enter p) (Err r)
+    pub refused-enter : (r : Refused) → new ≡ old → Enters old new now (Err r) → Acts stands entry cmp join f code s (record s { partitions = slice_set s.partitions p new }) (Enter p) (Err r)
     refused-enter r same does = refused-step (Enter p) refl refl r same (refusing.enter p (subst (λ (v : PartitionView K V I). Enters old v now (Err r)) same does))
 
-    pub refused-leave : (slot : ℕ) (r : Refused) → new ≡ old → LeavesAll true old new slot now (Err r) → Acts stands entry cmp f code s (record s { partitions = slice_set s.partitions p new }) (Leave p slot) (Err r)
+    pub refused-leave : (slot : ℕ) (r : Refused) → new ≡ old → LeavesAll true old new slot now (Err r) → Acts stands entry cmp join f code s (record s { partitions = slice_set s.partitions p new }) (Leave p slot) (Err r)
     refused-leave slot r same does = refused-step (Leave p slot) refl refl r same (refusing.leave p slot (subst (λ (v : PartitionView K V I). LeavesAll true old v slot now (Err r)) same does))
 
-    pub refused-refresh : (slot : ℕ) (r : Refused) → new ≡ old → Refreshes true old new slot now (Err r) → Acts stands entry cmp f code s (record s { partitions = slice_set s.partitions p new }) (Refresh p slot) (Err r)
+    pub refused-refresh : (slot : ℕ) (r : Refused) → new ≡ old → Refreshes true old new slot now (Err r) → Acts stands entry cmp join f code s (record s { partitions = slice_set s.partitions p new }) (Refresh p slot) (Err r)
     refused-refresh slot r same does = refused-step (Refresh p slot) refl refl r same (refusing.refresh p slot (subst (λ (v : PartitionView K V I). Refreshes true old v slot now (Err r)) same does))
 
-    pub refused-shift : (page : ℕ) (r : Refused) → new ≡ old → Shifts true old new page now (Err r) → Acts stands entry cmp f code s (record s { partitions = slice_set s.partitions p new }) (ReadOnly p page) (Err r)
+    pub refused-shift : (page : ℕ) (r : Refused) → new ≡ old → Shifts true old new page now (Err r) → Acts stands entry cmp join f code s (record s { partitions = slice_set s.partitions p new }) (ReadOnly p page) (Err r)
     refused-shift page r same does = refused-step (ReadOnly p page) refl refl r same (refusing.shift p page (subst (λ (v : PartitionView K V I). Shifts true old v page now (Err r)) same does))
 
-    pub refused-evict : (page : ℕ) (r : Refused) → new ≡ old → Evicts true old new page now (Err r) → Acts stands entry cmp f code s (record s { partitions = slice_set s.partitions p new }) (Head p page) (Err r)
+    pub refused-evict : (page : ℕ) (r : Refused) → new ≡ old → Evicts true old new page now (Err r) → Acts stands entry cmp join f code s (record s { partitions = slice_set s.partitions p new }) (Head p page) (Err r)
     refused-evict page r same does = refused-step (Head p page) refl refl r same (refusing.evict p page (subst (λ (v : PartitionView K V I). Evicts true old v page now (Err r)) same does))
 
-    pub refused-issue : (slot : ℕ) (op : Op K V I) (r : Refused) → new ≡ old → Issues code old new slot op now (Err r) → Acts stands entry cmp f code s (record s { partitions = slice_set s.partitions p new }) (Issue p slot op) (Err r)
+    pub refused-issue : (slot : ℕ) (op : Op K V I) (r : Refused) → new ≡ old → Issues code old new slot op now (Err r) → Acts stands entry cmp join f code s (record s { partitions = slice_set s.partitions p new }) (Issue p slot op) (Err r)
     refused-issue slot op r same does = refused-step (Issue p slot op) refl refl r same (refusing.issue p slot op (subst (λ (v : PartitionView K V I). Issues code old v slot op now (Err r)) same does))
 
     pub does-enter : (slot : ℕ) → Enters old new now (Ok slot) → IsQuiet true old new now → slot < 16
-        → Acts stands entry cmp f code s (record s {
+        → Acts stands entry cmp join f code s (record s {
           partitions = slice_set s.partitions p new;
           enters = slice_set s.enters p (unwrap_or (slice_get s.enters p) 0 + 1);
           seats = slice_set s.seats (seat_row p slot) (record { session = unwrap_or (slice_get s.enters p) 0 + 1; issues = 0 });
           moment = now;
         }) (Enter p) (Ok (outcome.Entered slot))
-    does-enter slot does ev low = let n = entered cmp f code s state p now due in rw n.1 (acts-enter stands entry cmp f code s now due.next due.fits p old new (here cmp f code s state p now due old is) slot n.0 does ev low n.1)
+    does-enter slot does ev low = let n = entered cmp f code s state p now due in rw n.1 (acts-enter stands entry cmp join f code s now due.next due.fits p old new (here cmp f code s state p now due old is) slot n.0 does ev low n.1)
 
-    pub does-leave : (slot : ℕ) → LeavesAll true old new slot now (Ok tt) → IsQuiet true old new now → Acts stands entry cmp f code s (record s { partitions = slice_set s.partitions p new; moment = now }) (Leave p slot) (Ok outcome.Left)
-    does-leave slot does ev = acts-leave stands entry cmp f code s now due.next due.fits p old new (here cmp f code s state p now due old is) slot does ev
+    pub does-leave : (slot : ℕ) → LeavesAll true old new slot now (Ok tt) → IsQuiet true old new now → Acts stands entry cmp join f code s (record s { partitions = slice_set s.partitions p new; moment = now }) (Leave p slot) (Ok outcome.Left)
+    does-leave slot does ev = acts-leave stands entry cmp join f code s now due.next due.fits p old new (here cmp f code s state p now due old is) slot does ev
 
-    pub does-refresh : (slot : ℕ) → Refreshes true old new slot now (Ok tt) → IsQuiet true old new now → Acts stands entry cmp f code s (record s { partitions = slice_set s.partitions p new; moment = now }) (Refresh p slot) (Ok outcome.Refreshed)
-    does-refresh slot does ev = acts-refresh stands entry cmp f code s now due.next due.fits p old new (here cmp f code s state p now due old is) slot does ev
+    pub does-refresh : (slot : ℕ) → Refreshes true old new slot now (Ok tt) → IsQuiet true old new now → Acts stands entry cmp join f code s (record s { partitions = slice_set s.partitions p new; moment = now }) (Refresh p slot) (Ok outcome.Refreshed)
+    does-refresh slot does ev = acts-refresh stands entry cmp join f code s now due.next due.fits p old new (here cmp f code s state p now due old is) slot does ev
 
-    pub does-shift : (page : ℕ) → Shifts true old new page now (Ok tt) → IsQuiet true old new now → Acts stands entry cmp f code s (record s { partitions = slice_set s.partitions p new; moment = now }) (ReadOnly p page) (Ok outcome.Shifted)
-    does-shift page does ev = acts-shift stands entry cmp f code s now due.next due.fits p old new (here cmp f code s state p now due old is) page does ev
+    pub does-shift : (page : ℕ) → Shifts true old new page now (Ok tt) → IsQuiet true old new now → Acts stands entry cmp join f code s (record s { partitions = slice_set s.partitions p new; moment = now }) (ReadOnly p page) (Ok outcome.Shifted)
+    does-shift page does ev = acts-shift stands entry cmp join f code s now due.next due.fits p old new (here cmp f code s state p now due old is) page does ev
 
-    pub does-evict : (page : ℕ) → Evicts true old new page now (Ok tt) → IsQuiet true old new now → Acts stands entry cmp f code s (record s { partitions = slice_set s.partitions p new; moment = now }) (Head p page) (Ok outcome.Shifted)
-    does-evict page does ev = acts-evict stands entry cmp f code s now due.next due.fits p old new (here cmp f code s state p now due old is) page does ev
+    pub does-evict : (page : ℕ) → Evicts true old new page now (Ok tt) → IsQuiet true old new now → Acts stands entry cmp join f code s (record s { partitions = slice_set s.partitions p new; moment = now }) (Head p page) (Ok outcome.Shifted)
+    does-evict page does ev = acts-evict stands entry cmp join f code s now due.next due.fits p old new (here cmp f code s state p now due old is) page does ev
 
-    pub refused-truncate : (r : Refused) → new ≡ old → Truncates true old new (page_at old.core.records.page_bits old.cleared) now (Err r) → Acts stands entry cmp f code s (record s { partitions = slice_set s.partitions p new }) (Truncate p) (Err r)
+    pub refused-truncate : (r : Refused) → new ≡ old → Truncates true old new (page_at old.core.records.page_bits old.cleared) now (Err r) → Acts stands entry cmp join f code s (record s { partitions = slice_set s.partitions p new }) (Truncate p) (Err r)
     refused-truncate r same does = refused-step (Truncate p) refl refl r same (refusing.truncate p (subst (λ (v : PartitionView K V I). Truncates true old v (page_at old.core.records.page_bits old.cleared) now (Err r)) same does))
 
     pub does-truncate : (begin : ℕ) → begin ≡ new.core.records.begin → Truncates true old new (page_at old.core.records.page_bits old.cleared) now (Ok tt)
         → IsTruncation true cmp old new (page_at old.core.records.page_bits old.cleared) now
-        → Acts stands entry cmp f code s (record s { partitions = slice_set s.partitions p new; moment = now }) (Truncate p) (Ok (outcome.Truncated begin))
-    does-truncate begin at does ev = rw at (acts-truncate stands entry cmp f code s now due.next due.fits p old new (here cmp f code s state p now due old is) does ev)
+        → Acts stands entry cmp join f code s (record s { partitions = slice_set s.partitions p new; moment = now }) (Truncate p) (Ok (outcome.Truncated begin))
+    does-truncate begin at does ev = rw at (acts-truncate stands entry cmp join f code s now due.next due.fits p old new (here cmp f code s state p now due old is) does ev)
 
     pub does-issue : (slot c : ℕ) (op : Op K V I) → Issues code old new slot op now (Ok c) → IsIssue code old new slot c op now → slot < 16
-        → Acts stands entry cmp f code s (record s {
+        → Acts stands entry cmp join f code s (record s {
           partitions = slice_set s.partitions p new;
           seats = slice_set s.seats (seat_row p slot) (after_issue (seat_at s.seats p slot));
           begun = slice_set s.begun (context_row (record { partition = p; slot = slot; context = c })) (length s.lives);
@@ -192,7 +192,7 @@ module _ {K V I O R : Type 0} {stands : R → Standing} {entry : ℕ → List �
           lives = s.lives ++ begun_life p (seat_at s.seats p slot) op now ∷ [];
           moment = now;
         }) (Issue p slot op) (Ok (outcome.Issued c))
-    does-issue slot c op does ev low = acts-issue stands entry cmp f code s now due.next due.fits p old new (here cmp f code s state p now due old is) slot c op (seat_at s.seats p slot) does ev low (seated cmp f code s state p now due slot low)
+    does-issue slot c op does ev low = acts-issue stands entry cmp join f code s now due.next due.fits p old new (here cmp f code s state p now due old is) slot c op (seat_at s.seats p slot) does ev low (seated cmp f code s state p now due slot low)
 
 -- the same in a context of the partition
 module _ {K V I O R : Type 0} (cmp : K → K → Ordering) (f : Meanings K V I O) (code : K → ℕ) (s : StateView K V I O R) (state : IsState cmp f code s) (w : ContextId) (now : ℕ) (due : IsMomentIn s w.partition now) (old : PartitionView K V I) (is : old ≡ slice_index_or s.partitions w.partition old) where
@@ -215,37 +215,37 @@ module _ {K V I O R : Type 0} (cmp : K → K → Ordering) (f : Meanings K V I O
         → IsState cmp f code (record s { partitions = slice_set s.partitions w.partition new; questions = questions_by s.questions (context_row w) progress; receipts = receipts_by s.receipts (context_row w) progress; lives = lives_by s.lives (life_in s.begun w) now progress; moment = now })
     loaded-state progress ev = state-load cmp o f code s state now due.next w old new at others progress ev
 
-module _ {K V I O R : Type 0} {stands : R → Standing} {entry : ℕ → List ℕ → ℕ → Entry K V → Type 0} (cmp : K → K → Ordering) (f : Meanings K V I O) (code : K → ℕ) (s : StateView K V I O R) (state : IsState cmp f code s) (w : ContextId) (now : ℕ) (due : IsMomentIn s w.partition now) (old : PartitionView K V I) (is : old ≡ slice_index_or s.partitions w.partition old) (new : PartitionView K V I) where
-  pub refused-give_up : (r : Refused) → new ≡ old → GivesUp old new w.slot w.context now (Err r) → Acts stands entry cmp f code s (record s { partitions = slice_set s.partitions w.partition new }) (GiveUp w) (Err r)
-  refused-give_up r same does = refused-step cmp f code s state w.partition now due old is new (GiveUp w) refl refl r same (refusing.give_up w (subst (λ (v : PartitionView K V I). GivesUp old v w.slot w.context now (Err r)) same does))
+module _ {K V I O R : Type 0} {stands : R → Standing} {entry : ℕ → List ℕ → ℕ → Entry K V → Type 0} (cmp : K → K → Ordering) (join : V → V → V) (f : Meanings K V I O) (code : K → ℕ) (s : StateView K V I O R) (state : IsState cmp f code s) (w : ContextId) (now : ℕ) (due : IsMomentIn s w.partition now) (old : PartitionView K V I) (is : old ≡ slice_index_or s.partitions w.partition old) (new : PartitionView K V I) where
+  pub refused-give_up : (r : Refused) → new ≡ old → GivesUp old new w.slot w.context now (Err r) → Acts stands entry cmp join f code s (record s { partitions = slice_set s.partitions w.partition new }) (GiveUp w) (Err r)
+  refused-give_up r same does = refused-step cmp join f code s state w.partition now due old is new (GiveUp w) refl refl r same (refusing.give_up w (subst (λ (v : PartitionView K V I). GivesUp old v w.slot w.context now (Err r)) same does))
 
   pub does-give_up : GivesUp old new w.slot w.context now (Ok tt) → IsGiveUp old new w.slot w.context now
-      → Acts stands entry cmp f code s (record s { partitions = slice_set s.partitions w.partition new; lives = ended_at s.lives (life_in s.begun w) GivenUp; moment = now }) (GiveUp w) (Ok outcome.GivenUp)
-  does-give_up does ev = acts-give_up stands entry cmp f code s now due.next due.fits w old new (here cmp f code s state w.partition now due old is) does ev
+      → Acts stands entry cmp join f code s (record s { partitions = slice_set s.partitions w.partition new; lives = ended_at s.lives (life_in s.begun w) GivenUp; moment = now }) (GiveUp w) (Ok outcome.GivenUp)
+  does-give_up does ev = acts-give_up stands entry cmp join f code s now due.next due.fits w old new (here cmp f code s state w.partition now due old is) does ev
 
-  pub refused-go : (r : Refused) → new ≡ old → Goes stands cmp f code old new w.slot w.context now (Err r) → Acts stands entry cmp f code s (record s { partitions = slice_set s.partitions w.partition new }) (Go w) (Err r)
-  refused-go r same does = refused-step cmp f code s state w.partition now due old is new (Go w) refl refl r same (refusing.go w (subst (λ (v : PartitionView K V I). Goes stands cmp f code old v w.slot w.context now (Err r)) same does))
+  pub refused-go : (r : Refused) → new ≡ old → Goes stands cmp join f code old new w.slot w.context now (Err r) → Acts stands entry cmp join f code s (record s { partitions = slice_set s.partitions w.partition new }) (Go w) (Err r)
+  refused-go r same does = refused-step cmp join f code s state w.partition now due old is new (Go w) refl refl r same (refusing.go w (subst (λ (v : PartitionView K V I). Goes stands cmp join f code old v w.slot w.context now (Err r)) same does))
 
-  pub does-go : (progress : Progress K V I O R) → Goes stands cmp f code old new w.slot w.context now (Ok progress) → IsEvent cmp f old new w.slot w.context now progress
-      → Acts stands entry cmp f code s (record s { partitions = slice_set s.partitions w.partition new; questions = questions_by s.questions (context_row w) progress; receipts = receipts_by s.receipts (context_row w) progress; lives = lives_by s.lives (life_in s.begun w) now progress; moment = now }) (Go w) (Ok (told progress))
-  does-go progress does ev = acts-go stands entry cmp f code s now due.next due.fits w old new (here cmp f code s state w.partition now due old is) progress does ev
+  pub does-go : (progress : Progress K V I O R) → Goes stands cmp join f code old new w.slot w.context now (Ok progress) → IsEvent cmp f old new w.slot w.context now progress
+      → Acts stands entry cmp join f code s (record s { partitions = slice_set s.partitions w.partition new; questions = questions_by s.questions (context_row w) progress; receipts = receipts_by s.receipts (context_row w) progress; lives = lives_by s.lives (life_in s.begun w) now progress; moment = now }) (Go w) (Ok (told progress))
+  does-go progress does ev = acts-go stands entry cmp join f code s now due.next due.fits w old new (here cmp f code s state w.partition now due old is) progress does ev
 
   module _ (ask : Ask K V I) (asks : question_in s.questions w ≡ Some ask) where
-    pub refused-install : (r : Refused) → new ≡ old → Installs {R = R} cmp f code old new w.slot w.context ask now (Err r) → Acts stands entry cmp f code s (record s { partitions = slice_set s.partitions w.partition new }) (Install w) (Err r)
-    refused-install r same does = refused-step cmp f code s state w.partition now due old is new (Install w) refl (rw asks refl) r same (refusing.install w ask asks (subst (λ (v : PartitionView K V I). Installs {R = R} cmp f code old v w.slot w.context ask now (Err r)) same does))
+    pub refused-install : (r : Refused) → new ≡ old → Installs {R = R} cmp f code old new w.slot w.context ask now (Err r) → Acts stands entry cmp join f code s (record s { partitions = slice_set s.partitions w.partition new }) (Install w) (Err r)
+    refused-install r same does = refused-step cmp join f code s state w.partition now due old is new (Install w) refl (rw asks refl) r same (refusing.install w ask asks (subst (λ (v : PartitionView K V I). Installs {R = R} cmp f code old v w.slot w.context ask now (Err r)) same does))
 
     pub does-install : (progress : Progress K V I O R) → Installs cmp f code old new w.slot w.context ask now (Ok progress) → IsEvent cmp f old new w.slot w.context now progress
-        → Acts stands entry cmp f code s (record s { partitions = slice_set s.partitions w.partition new; questions = questions_by s.questions (context_row w) progress; receipts = receipts_by s.receipts (context_row w) progress; lives = lives_by s.lives (life_in s.begun w) now progress; moment = now }) (Install w) (Ok (told progress))
-    does-install progress does ev = acts-install stands entry cmp f code s now due.next due.fits w old new (here cmp f code s state w.partition now due old is) ask asks progress does ev
+        → Acts stands entry cmp join f code s (record s { partitions = slice_set s.partitions w.partition new; questions = questions_by s.questions (context_row w) progress; receipts = receipts_by s.receipts (context_row w) progress; lives = lives_by s.lives (life_in s.begun w) now progress; moment = now }) (Install w) (Ok (told progress))
+    does-install progress does ev = acts-install stands entry cmp join f code s now due.next due.fits w old new (here cmp f code s state w.partition now due old is) ask asks progress does ev
 
   module _ (access : Access) (receipt : R) (came : Result (Joined R) Refused) (asks : receipt_in s.receipts w ≡ Some receipt) (comes : Comes stands receipt access came) where
-    pub refused-load : (r : Refused) → new ≡ old → ends_operation r ≡ false → Loads stands entry cmp f code old new w.slot w.context came now (Err r) → Acts stands entry cmp f code s (record s { partitions = slice_set s.partitions w.partition new }) (Load w access) (Err r)
-    refused-load r same quiet does = refused-step cmp f code s state w.partition now due old is new (Load w access) refl (rw asks refl) r same (refusing.load w access receipt came asks comes (subst (λ (v : PartitionView K V I). Loads stands entry cmp f code old v w.slot w.context came now (Err r)) same does) quiet)
+    pub refused-load : (r : Refused) → new ≡ old → ends_operation r ≡ false → Loads stands entry cmp join f code old new w.slot w.context came now (Err r) → Acts stands entry cmp join f code s (record s { partitions = slice_set s.partitions w.partition new }) (Load w access) (Err r)
+    refused-load r same quiet does = refused-step cmp join f code s state w.partition now due old is new (Load w access) refl (rw asks refl) r same (refusing.load w access receipt came asks comes (subst (λ (v : PartitionView K V I). Loads stands entry cmp join f code old v w.slot w.context came now (Err r)) same does) quiet)
 
-    pub does-load : (progress : Progress K V I O R) → Loads stands entry cmp f code old new w.slot w.context came now (Ok progress) → IsLoad cmp f old new w.slot w.context now progress
-        → Acts stands entry cmp f code s (record s { partitions = slice_set s.partitions w.partition new; questions = questions_by s.questions (context_row w) progress; receipts = receipts_by s.receipts (context_row w) progress; lives = lives_by s.lives (life_in s.begun w) now progress; moment = now }) (Load w access) (Ok (told progress))
-    does-load progress does ev = acts-load stands entry cmp f code s now due.next due.fits w old new (here cmp f code s state w.partition now due old is) access receipt came asks comes progress does ev
+    pub does-load : (progress : Progress K V I O R) → Loads stands entry cmp join f code old new w.slot w.context came now (Ok progress) → IsLoad cmp f old new w.slot w.context now progress
+        → Acts stands entry cmp join f code s (record s { partitions = slice_set s.partitions w.partition new; questions = questions_by s.questions (context_row w) progress; receipts = receipts_by s.receipts (context_row w) progress; lives = lives_by s.lives (life_in s.begun w) now progress; moment = now }) (Load w access) (Ok (told progress))
+    does-load progress does ev = acts-load stands entry cmp join f code s now due.next due.fits w old new (here cmp f code s state w.partition now due old is) access receipt came asks comes progress does ev
 
-    pub does-fail : (r : Refused) → ends_operation r ≡ true → Loads stands entry cmp f code old new w.slot w.context came now (Err r) → IsGiveUp old new w.slot w.context now
-        → Acts stands entry cmp f code s (record s { partitions = slice_set s.partitions w.partition new; lives = ended_at s.lives (life_in s.begun w) Failed; moment = now }) (Load w access) (Err r)
-    does-fail r ends does ev = acts-fail stands entry cmp f code s now due.next due.fits w old new (here cmp f code s state w.partition now due old is) access receipt came asks comes r does ends ev
+    pub does-fail : (r : Refused) → ends_operation r ≡ true → Loads stands entry cmp join f code old new w.slot w.context came now (Err r) → IsGiveUp old new w.slot w.context now
+        → Acts stands entry cmp join f code s (record s { partitions = slice_set s.partitions w.partition new; lives = ended_at s.lives (life_in s.begun w) Failed; moment = now }) (Load w access) (Err r)
+    does-fail r ends does ev = acts-fail stands entry cmp join f code s now due.next due.fits w old new (here cmp f code s state w.partition now due old is) access receipt came asks comes r does ends ev

@@ -178,7 +178,7 @@ module _ {K V I O R : Type 0} (s : StateView K V I O R) (h : List (Event K V I O
       ]
 
 -- ---- each step adds itself
-module _ {K V I O R : Type 0} (stands : R → Standing) (entry : ℕ → List ℕ → ℕ → Entry K V → Type 0) (cmp : K → K → Ordering) (f : Meanings K V I O) (code : K → ℕ) (s : StateView K V I O R) (h : List (Event K V I O)) (history : HasHistory s h) where
+module _ {K V I O R : Type 0} (stands : R → Standing) (entry : ℕ → List ℕ → ℕ → Entry K V → Type 0) (cmp : K → K → Ordering) (join : V → V → V) (f : Meanings K V I O) (code : K → ℕ) (s : StateView K V I O R) (h : List (Event K V I O)) (history : HasHistory s h) where
   progressing : (new : StateView K V I O R) (t : Step K V I) (r : Result (Outcome V O) Refused) (j : ℕ) (p : Progress K V I O R)
       → entered_at (Ok (told p)) t ≡ None → issued_at (Ok (told p)) t ≡ None
       → new.moment ≡ suc s.moment → new.enters ≡ s.enters → new.seats ≡ s.seats → new.lives ≡ lives_by s.lives j (suc s.moment) p → r ≡ Ok (told p)
@@ -207,14 +207,14 @@ module _ {K V I O R : Type 0} (stands : R → Standing) (entry : ℕ → List �
   nobody_loads (NeedsLoad receipt address) w access = refl
   nobody_loads (Waits why) w access = refl
 
-  pub history-acts : (new : StateView K V I O R) (t : Step K V I) (r : Result (Outcome V O) Refused) → Acts stands entry cmp f code s new t r → HasHistory new (record { step = t; told = r } ∷ h)
+  pub history-acts : (new : StateView K V I O R) (t : Step K V I) (r : Result (Outcome V O) Refused) → Acts stands entry cmp join f code s new t r → HasHistory new (record { step = t; told = r } ∷ h)
   history-acts new t r (acts.no_partition a same is) = kept-state s h history new t r Unknown refl same is
   history-acts new t r (acts.unasked w v a b c d same is) = kept-state s h history new t r NotReady refl same is
   history-acts new t r (acts.unknown w v a b c d same is) = kept-state s h history new t r Unknown refl same is
   history-acts new t r (acts.no_flush_job p access a b c same is) = kept-state s h history new t r NotReady refl same is
   history-acts new t r (acts.worn a b c same is) = kept-state s h history new t r Worn refl same is
   history-acts new t r (acts.no_memory_for_life p slot op v a b same is) = kept-state s h history new t r NoMemory refl same is
-  history-acts new t r (acts.refuses v e due refused_by same is) = kept-state s h history new t r e (refuses-no stands entry cmp f code s v (suc s.moment) e t refused_by) same is
+  history-acts new t r (acts.refuses v e due refused_by same is) = kept-state s h history new t r e (refuses-no stands entry cmp join f code s v (suc s.moment) e t refused_by) same is
   history-acts new t r (acts.enters p slot n v v' a b c d low count to is) =
       rw (a, is) (entering s h history new p slot n low count (ap (λ (z : StateView K V I O R). z.moment) to) (ap (λ (z : StateView K V I O R). z.enters) to) (ap (λ (z : StateView K V I O R). z.seats) to) (ap (λ (z : StateView K V I O R). z.lives) to))
   history-acts new t r (acts.leaves p slot v v' a b c ev to is) =
@@ -253,12 +253,12 @@ pub record IsHistory {K V I O R : Type 0} (v w : WorldView K V I O R) (ss : List
   pub outcomes : w.outcomes ≡ v.outcomes ++ told
   pub history : HasHistory w.state (backwards ss told h)
 
-pub history-runs : {K V I O R : Type 0} (stands : R → Standing) (entry : ℕ → List ℕ → ℕ → Entry K V → Type 0) (cmp : K → K → Ordering) (f : Meanings K V I O) (code : K → ℕ) (v w : WorldView K V I O R) (ss : List (Step K V I)) (h : List (Event K V I O))
-    → HasHistory v.state h → RunsTo stands entry cmp f code v ss w → IsHistory v w ss h
-history-runs stands entry cmp f code v w [] h history run = record { told = []; outcomes = ap (λ (z : WorldView _ _ _ _ _). z.outcomes) run ∙ sym (append-nothing v.outcomes); history = subst (λ (z : WorldView _ _ _ _ _). HasHistory z.state h) (sym run) history }
-history-runs stands entry cmp f code v w (s ∷ ss) h history run =
-    let one = history-acts stands entry cmp f code v.state h history (run.0).state s run.1 run.2.acts in
-    let more = history-runs stands entry cmp f code run.0 w ss (record { step = s; told = run.1 } ∷ h) one run.3 in
+pub history-runs : {K V I O R : Type 0} (stands : R → Standing) (entry : ℕ → List ℕ → ℕ → Entry K V → Type 0) (cmp : K → K → Ordering) (join : V → V → V) (f : Meanings K V I O) (code : K → ℕ) (v w : WorldView K V I O R) (ss : List (Step K V I)) (h : List (Event K V I O))
+    → HasHistory v.state h → RunsTo stands entry cmp join f code v ss w → IsHistory v w ss h
+history-runs stands entry cmp join f code v w [] h history run = record { told = []; outcomes = ap (λ (z : WorldView _ _ _ _ _). z.outcomes) run ∙ sym (append-nothing v.outcomes); history = subst (λ (z : WorldView _ _ _ _ _). HasHistory z.state h) (sym run) history }
+history-runs stands entry cmp join f code v w (s ∷ ss) h history run =
+    let one = history-acts stands entry cmp join f code v.state h history (run.0).state s run.1 run.2.acts in
+    let more = history-runs stands entry cmp join f code run.0 w ss (record { step = s; told = run.1 } ∷ h) one run.3 in
     record {
       told = run.1 ∷ more.told;
       outcomes = more.outcomes ∙ ap (λ xs. xs ++ more.told) run.2.outcomes ∙ append-joined v.outcomes run.1 more.told;
@@ -275,8 +275,8 @@ history-empty config size = record {
 }
 
 -- the lives of a world that steps lead to from nothing are those of their accepted issues
-pub issued-runs : {K V I O R : Type 0} (stands : R → Standing) (entry : ℕ → List ℕ → ℕ → Entry K V → Type 0) (cmp : K → K → Ordering) (f : Meanings K V I O) (code : K → ℕ) (config : Config) (size : ℕ) (w : WorldView K V I O R) (ss : List (Step K V I))
-    → RunsTo stands entry cmp f code (empty_world config size) ss w → map issue_of w.state.lives ≡ issues_in (backwards ss w.outcomes [])
-issued-runs stands entry cmp f code config size w ss run =
-    let h = history-runs stands entry cmp f code (empty_world config size) w ss [] (history-empty config size) run in
+pub issued-runs : {K V I O R : Type 0} (stands : R → Standing) (entry : ℕ → List ℕ → ℕ → Entry K V → Type 0) (cmp : K → K → Ordering) (join : V → V → V) (f : Meanings K V I O) (code : K → ℕ) (config : Config) (size : ℕ) (w : WorldView K V I O R) (ss : List (Step K V I))
+    → RunsTo stands entry cmp join f code (empty_world config size) ss w → map issue_of w.state.lives ≡ issues_in (backwards ss w.outcomes [])
+issued-runs stands entry cmp join f code config size w ss run =
+    let h = history-runs stands entry cmp join f code (empty_world config size) w ss [] (history-empty config size) run in
     h.history.lives ∙ ap (λ ts. issues_in (backwards ss ts [])) (sym h.outcomes)

@@ -56,31 +56,31 @@ pub flush_slot-set : (flush_slots : List FlushSlot) (p : ℕ) (d : FlushSlot) (j
 flush_slot-set flush_slots p d job h = map-set (λ (e : FlushSlot). e.job) flush_slots p d ∙ ap (slice_set (map (λ (e : FlushSlot). e.job) flush_slots) p) h
 
 -- ---- the rules
-module _ {K V I O R : Type 0} {stands : R → Standing} {entry : ℕ → List ℕ → ℕ → Entry K V → Type 0} (cmp : K → K → Ordering) (f : Meanings K V I O) (code : K → ℕ) (s : StateView K V I O R) (state : IsState cmp f code s) (p now : ℕ) (due : IsMomentIn s p now) (old : PartitionView K V I) (is : old ≡ slice_index_or s.partitions p old) where
+module _ {K V I O R : Type 0} {stands : R → Standing} {entry : ℕ → List ℕ → ℕ → Entry K V → Type 0} (cmp : K → K → Ordering) (join : V → V → V) (f : Meanings K V I O) (code : K → ℕ) (s : StateView K V I O R) (state : IsState cmp f code s) (p now : ℕ) (due : IsMomentIn s p now) (old : PartitionView K V I) (is : old ≡ slice_index_or s.partitions p old) where
   pub does-take : (new : PartitionView K V I) (job : FlushJob) → job.page ≡ length old.core.records.receipts → slice_get old.core.records.waiting 0 ≡ Some job.bytes → new ≡ at_moment old now
-      → Acts stands entry cmp f code s (record s { partitions = slice_set s.partitions p new; jobs = slice_set s.jobs p (Some job); moment = now }) (Take p) (Ok (outcome.Taken job.page))
-  does-take new job page bytes at = acts-take stands entry cmp f code s now due.next due.fits p old new (here cmp f code s state p now due old is) job page bytes at
+      → Acts stands entry cmp join f code s (record s { partitions = slice_set s.partitions p new; jobs = slice_set s.jobs p (Some job); moment = now }) (Take p) (Ok (outcome.Taken job.page))
+  does-take new job page bytes at = acts-take stands entry cmp join f code s now due.next due.fits p old new (here cmp f code s state p now due old is) job page bytes at
 
-  pub refused-take : (new : PartitionView K V I) (r : Refused) → new ≡ old → (r ≡ NotDue) ⊎ (r ≡ NoMemory) → (r ≡ NotDue → old.core.records.waiting ≡ []) → (old.core.records.waiting ≡ [] → r ≡ NotDue) → Acts stands entry cmp f code s (record s { partitions = slice_set s.partitions p new }) (Take p) (Err r)
-  refused-take new r same only idle due_not = rw (set-unchanged s.partitions p old new (here cmp f code s state p now due old is) same) (acts-refused stands entry cmp f code s now due.next due.fits (Take p) old r (here cmp f code s state p now due old is) refl (elim only [
+  pub refused-take : (new : PartitionView K V I) (r : Refused) → new ≡ old → (r ≡ NotDue) ⊎ (r ≡ NoMemory) → (r ≡ NotDue → old.core.records.waiting ≡ []) → (old.core.records.waiting ≡ [] → r ≡ NotDue) → Acts stands entry cmp join f code s (record s { partitions = slice_set s.partitions p new }) (Take p) (Err r)
+  refused-take new r same only idle due_not = rw (set-unchanged s.partitions p old new (here cmp f code s state p now due old is) same) (acts-refused stands entry cmp join f code s now due.next due.fits (Take p) old r (here cmp f code s state p now due old is) refl (elim only [
     | inl e ↦ refusing.idle p (idle e) e
     | inr e ↦ refusing.untaken p (λ w. (let k = due_not w in absurd (cc))) e
   ]))
 
   module _ (access : Access) (job : FlushJob) (asked : is_unasked s (Write p access) ≡ false) (has : job_in s.jobs p ≡ Some job) where
-    pub spoils-unwritten : (r : Refused) → Unwritten job access r → Acts stands entry cmp f code s (record s { jobs = slice_set s.jobs p None }) (Write p access) (Err r)
-    spoils-unwritten r h = acts-spoil stands entry cmp f code s now due.next due.fits p old old (here cmp f code s state p now due old is) access job r asked has (Spoils.unwritten h)
+    pub spoils-unwritten : (r : Refused) → Unwritten job access r → Acts stands entry cmp join f code s (record s { jobs = slice_set s.jobs p None }) (Write p access) (Err r)
+    spoils-unwritten r h = acts-spoil stands entry cmp join f code s now due.next due.fits p old old (here cmp f code s state p now due old is) access job r asked has (Spoils.unwritten h)
 
     module _ (new : PartitionView K V I) (receipt : Standing) (bytes : List ℕ) (works : access ≡ Works) (of : receipt ≡ receipt_of job) (same_bytes : bytes ≡ job.bytes) where
-      pub spoils-strange : (r : Refused) → new ≡ old → Flushes old new receipt bytes now (Err r) → Acts stands entry cmp f code s (record s { partitions = slice_set s.partitions p new; jobs = slice_set s.jobs p None }) (Write p access) (Err r)
+      pub spoils-strange : (r : Refused) → new ≡ old → Flushes old new receipt bytes now (Err r) → Acts stands entry cmp join f code s (record s { partitions = slice_set s.partitions p new; jobs = slice_set s.jobs p None }) (Write p access) (Err r)
       spoils-strange r same does =
           rw (set-unchanged s.partitions p old new (here cmp f code s state p now due old is) same)
-          (acts-spoil stands entry cmp f code s now due.next due.fits p old old (here cmp f code s state p now due old is) access job r asked has
+          (acts-spoil stands entry cmp join f code s now due.next due.fits p old old (here cmp f code s state p now due old is) access job r asked has
           (Spoils.strange works (subst (λ b. Flushes old old (receipt_of job) b now (Err r)) same_bytes (subst (λ s. Flushes old old s bytes now (Err r)) of (subst (λ (v : PartitionView K V I). Flushes old v receipt bytes now (Err r)) same does)))))
 
       pub does-write : (page : ℕ) → page ≡ receipt.page → Flushes old new receipt bytes now (Ok tt) → IsQuiet true old new now
-          → Acts stands entry cmp f code s (record s { partitions = slice_set s.partitions p new; jobs = slice_set s.jobs p None; moment = now }) (Write p access) (Ok (outcome.Flushed page))
+          → Acts stands entry cmp join f code s (record s { partitions = slice_set s.partitions p new; jobs = slice_set s.jobs p None; moment = now }) (Write p access) (Ok (outcome.Flushed page))
       does-write page at does ev =
           rw (at ∙ ap (λ (s : Standing). s.page) of)
-          (acts-write stands entry cmp f code s now due.next due.fits p old new (here cmp f code s state p now due old is) access job works asked has
+          (acts-write stands entry cmp join f code s now due.next due.fits p old new (here cmp f code s state p now due old is) access job works asked has
           (subst (λ b. Flushes old new (receipt_of job) b now (Ok tt)) same_bytes (subst (λ s. Flushes old new s bytes now (Ok tt)) of does)) ev)

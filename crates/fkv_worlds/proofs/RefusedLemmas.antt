@@ -78,23 +78,23 @@ module _ {K V I : Type 0} (old new : CoreView K V I) (now : ℕ) (e : Refused) w
   evicts-no keeps page (core_looking.Evicts.full a b c h) = is e DrainFull (ok-err e _ h) refl
   evicts-no keeps page (core_looking.Evicts.evicts a b c h) = absurd (cc)
 
-  goes-no : {O R : Type 0} (stands : R → Standing) (cmp : K → K → Ordering) (f : Meanings K V I O) (code : K → ℕ) (slot c : ℕ) → core_going.Goes stands cmp f code old new slot c now (Err e) → ends_operation e ≡ false
-  goes-no stands cmp f code slot c (core_going.Goes.unknown a b h) = is e Unknown (ok-err e _ h) refl
-  goes-no stands cmp f code slot c (core_going.Goes.asks x k ask a q b h) = absurd (cc)
-  goes-no stands cmp f code slot c (core_going.Goes.not_ready x l a p b h) = is e NotReady (ok-err e _ h) refl
-  goes-no stands cmp f code slot c (core_going.Goes.confirms x p a q alone b h) = absurd (cc)
-  goes-no stands cmp f code slot c (core_going.Goes.backs_off x p a q alone b h) = absurd (cc)
-  goes-no stands cmp f code slot c (core_going.Goes.done x t d b h) = absurd (cc)
-  goes-no stands cmp f code slot c (core_going.Goes.claims x d b h) = absurd (cc)
-  goes-no stands cmp f code slot c (core_going.Goes.unclaimed x d full b h) = is e NoMemory (ok-err e _ h) refl
-  goes-no stands cmp f code slot c (core_going.Goes.appends x v t k d entry room free b h) = absurd (cc)
-  goes-no stands cmp f code slot c (core_going.Goes.worn x v t d room b h) = is e Worn (ok-err e _ h) refl
-  goes-no stands cmp f code slot c (core_going.Goes.full x v t d room b h) = absurd (cc)
-  goes-no stands cmp f code slot c (core_going.Goes.replaces x v t k d last b h) = absurd (cc)
-  goes-no stands cmp f code slot c (core_going.Goes.waits x d b h) = absurd (cc)
-  goes-no stands cmp f code slot c (core_going.Goes.prepares x source i k d entry b h) = absurd (cc)
-  goes-no stands cmp f code slot c (core_going.Goes.asks_page x a k p d entry held b h) = absurd (cc)
-  goes-no stands cmp f code slot c (core_going.Goes.unshared x a d b h) = is e NoMemory (ok-err e _ h) refl
+  goes-no : {O R : Type 0} (stands : R → Standing) (cmp : K → K → Ordering) (join : V → V → V) (f : Meanings K V I O) (code : K → ℕ) (slot c : ℕ) → core_going.Goes stands cmp join f code old new slot c now (Err e) → ends_operation e ≡ false
+  goes-no stands cmp join f code slot c (core_going.Goes.unknown a b h) = is e Unknown (ok-err e _ h) refl
+  goes-no stands cmp join f code slot c (core_going.Goes.asks x k ask a q b h) = absurd (cc)
+  goes-no stands cmp join f code slot c (core_going.Goes.not_ready x l a p b h) = is e NotReady (ok-err e _ h) refl
+  goes-no stands cmp join f code slot c (core_going.Goes.confirms x p a q alone b h) = absurd (cc)
+  goes-no stands cmp join f code slot c (core_going.Goes.backs_off x p a q alone b h) = absurd (cc)
+  goes-no stands cmp join f code slot c (core_going.Goes.done x t d b h) = absurd (cc)
+  goes-no stands cmp join f code slot c (core_going.Goes.claims x d b h) = absurd (cc)
+  goes-no stands cmp join f code slot c (core_going.Goes.unclaimed x d full b h) = is e NoMemory (ok-err e _ h) refl
+  goes-no stands cmp join f code slot c (core_going.Goes.appends x v t k d entry room free b h) = absurd (cc)
+  goes-no stands cmp join f code slot c (core_going.Goes.worn x v t d room b h) = is e Worn (ok-err e _ h) refl
+  goes-no stands cmp join f code slot c (core_going.Goes.full x v t d room b h) = absurd (cc)
+  goes-no stands cmp join f code slot c (core_going.Goes.replaces x v t k d last b h) = absurd (cc)
+  goes-no stands cmp join f code slot c (core_going.Goes.waits x d b h) = absurd (cc)
+  goes-no stands cmp join f code slot c (core_going.Goes.prepares x source i k d entry b h) = absurd (cc)
+  goes-no stands cmp join f code slot c (core_going.Goes.asks_page x a parts k p d entry held b h) = absurd (cc)
+  goes-no stands cmp join f code slot c (core_going.Goes.unshared x a parts d b h) = is e NoMemory (ok-err e _ h) refl
 
   installs-no : {O R : Type 0} (cmp : K → K → Ordering) (f : Meanings K V I O) (code : K → ℕ) (slot c : ℕ) (ask : Ask K V I) → core_installing.Installs {R = R} cmp f code old new slot c ask now (Err e) → ends_operation e ≡ false
   installs-no cmp f code slot c ask (core_installing.Installs.unknown a b h) = is e Unknown (ok-err e _ h) refl
@@ -156,22 +156,22 @@ module _ {K V I O R : Type 0} (old new : PartitionView K V I) (slot c now : ℕ)
   asks-no stands asking wanted (Asks.asks r a b h) = absurd (cc)
   asks-no stands asking wanted (Asks.unshared b h) = (b, is e NoMemory (ok-err e _ h) refl)
 
-  checks-no : (stands : R → Standing) (cmp : K → K → Ordering) (code : K → ℕ) (x : Relocation K V) (entry : Entry K V) → ChecksLiveness {O = O} stands cmp code old new slot c x entry now (Err e) → (new ≡ old) × (ends_operation e ≡ false)
-  checks-no stands cmp code x entry (ChecksLiveness.superseded a b h) = absurd (cc)
-  checks-no stands cmp code x entry (ChecksLiveness.last kept w h) = ends-worn x entry kept h
-  checks-no stands cmp code x entry (ChecksLiveness.further kept b w h) = asks-no stands _ b h
+  checks-no : (stands : R → Standing) (cmp : K → K → Ordering) (join : V → V → V) (code : K → ℕ) (x : Relocation K V) (entry : Entry K V) → ChecksLiveness {O = O} stands cmp join code old new slot c x entry now (Err e) → (new ≡ old) × (ends_operation e ≡ false)
+  checks-no stands cmp join code x entry (ChecksLiveness.superseded a b h) = absurd (cc)
+  checks-no stands cmp join code x entry (ChecksLiveness.last kept parts w h) = ends-worn x _ kept h
+  checks-no stands cmp join code x entry (ChecksLiveness.further kept b parts w h) = asks-no stands _ b h
 
-  goes_on-no : (stands : R → Standing) (cmp : K → K → Ordering) (code : K → ℕ) → GoesOn {O = O} stands cmp code old new slot c now (Err e) → ends_operation e ≡ false
-  goes_on-no stands cmp code (GoesOn.unknown a b h) = is e Unknown (ok-err e _ h) refl
-  goes_on-no stands cmp code (GoesOn.not_ready x a q w b h) = is e NotReady (ok-err e _ h) refl
-  goes_on-no stands cmp code (GoesOn.again x entry kept a b h) = (ends-worn x entry kept h).1
-  goes_on-no stands cmp code (GoesOn.passed x a b lo d h) = absurd (cc)
-  goes_on-no stands cmp code (GoesOn.checks x entry a b d lo f h) = (checks-no stands cmp code x entry h).1
-  goes_on-no stands cmp code (GoesOn.reads x a b d lo h) = (asks-no stands _ x.target h).1
+  goes_on-no : (stands : R → Standing) (cmp : K → K → Ordering) (join : V → V → V) (code : K → ℕ) → GoesOn {O = O} stands cmp join code old new slot c now (Err e) → ends_operation e ≡ false
+  goes_on-no stands cmp join code (GoesOn.unknown a b h) = is e Unknown (ok-err e _ h) refl
+  goes_on-no stands cmp join code (GoesOn.not_ready x a q w b h) = is e NotReady (ok-err e _ h) refl
+  goes_on-no stands cmp join code (GoesOn.again x entry kept a b h) = (ends-worn x entry kept h).1
+  goes_on-no stands cmp join code (GoesOn.passed x a b lo d h) = absurd (cc)
+  goes_on-no stands cmp join code (GoesOn.checks x entry a b d lo f h) = (checks-no stands cmp join code x entry h).1
+  goes_on-no stands cmp join code (GoesOn.reads x a b d lo h) = (asks-no stands _ x.target h).1
 
-  goes_all-no : (stands : R → Standing) (cmp : K → K → Ordering) (f : Meanings K V I O) (code : K → ℕ) → Goes stands cmp f code old new slot c now (Err e) → ends_operation e ≡ false
-  goes_all-no stands cmp f code (Goes.on_key n h r) = goes-no old.core new.core now e stands cmp f code slot c h
-  goes_all-no stands cmp f code (Goes.relocation x k h) = goes_on-no stands cmp code h
+  goes_all-no : (stands : R → Standing) (cmp : K → K → Ordering) (join : V → V → V) (f : Meanings K V I O) (code : K → ℕ) → Goes stands cmp join f code old new slot c now (Err e) → ends_operation e ≡ false
+  goes_all-no stands cmp join f code (Goes.on_key n h r) = goes-no old.core new.core now e stands cmp join f code slot c h
+  goes_all-no stands cmp join f code (Goes.relocation x k h) = goes_on-no stands cmp join code h
 
 -- why a page is not taken in
 strange-no : (o : Option (ℕ × ℕ)) (e : Refused) → option_map (λ d. Stranger Bytes d.0 d.1) o ≡ Some e → ends_operation e ≡ false
@@ -202,21 +202,21 @@ spoils-no {K} {V} {I} v now job access e (Spoils.strange a h) = by_rule h.does
     by_rule (core_flushing.Flushes.unkept r b h) = is e NoMemory (ok-err e _ h) refl
     by_rule (core_flushing.Flushes.keeps r b h) = absurd (cc)
 
-pub refuses-no : {K V I O R : Type 0} (stands : R → Standing) (entry : ℕ → List ℕ → ℕ → Entry K V → Type 0) (cmp : K → K → Ordering) (f : Meanings K V I O) (code : K → ℕ) (s : StateView K V I O R) (v : PartitionView K V I) (now : ℕ) (e : Refused) (t : Step K V I)
-    → Refuses stands entry cmp f code s v now e t → ends_operation e ≡ false
-refuses-no stands entry cmp f code s v now e t (refusing.enter p h) = enters-no v.core v.core now e h.does
-refuses-no stands entry cmp f code s v now e t (refusing.leave p slot h) = leaves_all-no v v now e true slot h
-refuses-no stands entry cmp f code s v now e t (refusing.refresh p slot h) = refreshes-no v.core v.core now e true slot h.does
-refuses-no stands entry cmp f code s v now e t (refusing.shift p page h) = shifts-no v.core v.core now e true page h.does
-refuses-no stands entry cmp f code s v now e t (refusing.evict p page h) = evicts-no v.core v.core now e true page h.does
-refuses-no stands entry cmp f code s v now e t (refusing.idle p w h) = is e NotDue h refl
-refuses-no stands entry cmp f code s v now e t (refusing.untaken p w h) = is e NoMemory h refl
-refuses-no stands entry cmp f code s v now e t (refusing.issue p slot op h) = issues-no v v now e code slot op h
-refuses-no stands entry cmp f code s v now e t (refusing.go w h) = goes_all-no v v w.slot w.context now e stands cmp f code h
-refuses-no {K} {V} {I} {O} {R} stands entry cmp f code s v now e t (refusing.install w ask q h) = installs_all-no v v now e {R = R} cmp f code w.slot w.context ask h
-refuses-no stands entry cmp f code s v now e t (refusing.load w access r came a c h n) = n
-refuses-no stands entry cmp f code s v now e t (refusing.give_up w h) = gives_up_all-no v v now e w.slot w.context h
-refuses-no stands entry cmp f code s v now e t (refusing.truncate p h) = truncates-no v v now e true (page_at v.core.records.page_bits v.cleared) h
+pub refuses-no : {K V I O R : Type 0} (stands : R → Standing) (entry : ℕ → List ℕ → ℕ → Entry K V → Type 0) (cmp : K → K → Ordering) (join : V → V → V) (f : Meanings K V I O) (code : K → ℕ) (s : StateView K V I O R) (v : PartitionView K V I) (now : ℕ) (e : Refused) (t : Step K V I)
+    → Refuses stands entry cmp join f code s v now e t → ends_operation e ≡ false
+refuses-no stands entry cmp join f code s v now e t (refusing.enter p h) = enters-no v.core v.core now e h.does
+refuses-no stands entry cmp join f code s v now e t (refusing.leave p slot h) = leaves_all-no v v now e true slot h
+refuses-no stands entry cmp join f code s v now e t (refusing.refresh p slot h) = refreshes-no v.core v.core now e true slot h.does
+refuses-no stands entry cmp join f code s v now e t (refusing.shift p page h) = shifts-no v.core v.core now e true page h.does
+refuses-no stands entry cmp join f code s v now e t (refusing.evict p page h) = evicts-no v.core v.core now e true page h.does
+refuses-no stands entry cmp join f code s v now e t (refusing.idle p w h) = is e NotDue h refl
+refuses-no stands entry cmp join f code s v now e t (refusing.untaken p w h) = is e NoMemory h refl
+refuses-no stands entry cmp join f code s v now e t (refusing.issue p slot op h) = issues-no v v now e code slot op h
+refuses-no stands entry cmp join f code s v now e t (refusing.go w h) = goes_all-no v v w.slot w.context now e stands cmp join f code h
+refuses-no {K} {V} {I} {O} {R} stands entry cmp join f code s v now e t (refusing.install w ask q h) = installs_all-no v v now e {R = R} cmp f code w.slot w.context ask h
+refuses-no stands entry cmp join f code s v now e t (refusing.load w access r came a c h n) = n
+refuses-no stands entry cmp join f code s v now e t (refusing.give_up w h) = gives_up_all-no v v now e w.slot w.context h
+refuses-no stands entry cmp join f code s v now e t (refusing.truncate p h) = truncates-no v v now e true (page_at v.core.records.page_bits v.cleared) h
 
 -- what comes in place of a page ends the operation, but for want of memory
 comes-cases : {R : Type 0} (stands : R → Standing) (r : R) (access : Access) (came : Result (Joined R) Refused) (e : Refused) → Comes stands r access came → came ≡ Err e → (e ≡ NoMemory) ⊎ (ends_operation e ≡ true)
@@ -229,15 +229,15 @@ moment-of : {K V I : Type 0} (v w : PartitionView K V I) (now : ℕ) → v ≡ w
 moment-of v w now same m = ap (λ (x : PartitionView _ _ _). x.core.moment) same ∙ m
 
 -- a refused load of an operation on a key
-loads_on_key-cases : {K V I O R : Type 0} (stands : R → Standing) (entry : ℕ → List ℕ → ℕ → Entry K V → Type 0) (cmp : K → K → Ordering) (f : Meanings K V I O) (old new : CoreView K V I) (slot c now : ℕ) (r : R) (access : Access) (came : Result (Joined R) Refused) (e : Refused)
-    → Comes stands r access came → core_loading.Loads stands entry cmp f old new slot c came now (Err e)
+loads_on_key-cases : {K V I O R : Type 0} (stands : R → Standing) (entry : ℕ → List ℕ → ℕ → Entry K V → Type 0) (cmp : K → K → Ordering) (join : V → V → V) (f : Meanings K V I O) (old new : CoreView K V I) (slot c now : ℕ) (r : R) (access : Access) (came : Result (Joined R) Refused) (e : Refused)
+    → Comes stands r access came → core_loading.Loads stands entry cmp join f old new slot c came now (Err e)
     → ((new ≡ old) × (ends_operation e ≡ false)) ⊎ ((new.moment ≡ now) × (ends_operation e ≡ true))
-loads_on_key-cases {K} {V} {I} {O} {R} stands entry cmp f old new slot c now r access came e comes does = by_rule does
+loads_on_key-cases {K} {V} {I} {O} {R} stands entry cmp join f old new slot c now r access came e comes does = by_rule does
   where
     then : (w : CoreView K V I) → new ≡ w → w.moment ≡ now → new.moment ≡ now
     then w same m = ap (λ (x : CoreView K V I). x.moment) same ∙ m
 
-    by_rule : core_loading.Loads stands entry cmp f old new slot c came now (Err e) → ((new ≡ old) × (ends_operation e ≡ false)) ⊎ ((new.moment ≡ now) × (ends_operation e ≡ true))
+    by_rule : core_loading.Loads stands entry cmp join f old new slot c came now (Err e) → ((new ≡ old) × (ends_operation e ≡ false)) ⊎ ((new.moment ≡ now) × (ends_operation e ≡ true))
     by_rule (core_loading.Loads.unknown a b h) = inl (b, is e Unknown (ok-err e _ h) refl)
     by_rule (core_loading.Loads.not_ready x a q b h) = inl (b, is e NotReady (ok-err e _ h) refl)
     by_rule (core_loading.Loads.moved x l a p m b h) = absurd (cc)
@@ -247,18 +247,18 @@ loads_on_key-cases {K} {V} {I} {O} {R} stands entry cmp f old new slot c now r a
     by_rule (core_loading.Loads.unread x l a k b h) = inl (b, is e NoMemory (ok-err e _ h) refl)
     by_rule (core_loading.Loads.stranger x l p s a k at n b h) = inl (b, is e (Stranger _ _ _) (ok-err e _ h) refl)
     by_rule (core_loading.Loads.damaged x l p why a k b h) = inr (then _ b refl, ap ends_operation (ok-err e _ h))
-    by_rule (core_loading.Loads.bad_link x l p d a k lo pl b h) = inr (then _ b refl, ap ends_operation (ok-err e _ h))
+    by_rule (core_loading.Loads.bad_link x l p d parts a k lo pl b h) = inr (then _ b refl, ap ends_operation (ok-err e _ h))
     by_rule (core_loading.Loads.done x l p k i value a m op b h) = absurd (cc)
     by_rule (core_loading.Loads.prepares x l p k i value a m op b h) = absurd (cc)
-    by_rule (core_loading.Loads.goes_on x l p d q a m lo pl held b h) = absurd (cc)
-    by_rule (core_loading.Loads.unshared x l p d a m lo pl b h) = inl (b, is e NoMemory (ok-err e _ h) refl)
+    by_rule (core_loading.Loads.goes_on x l p d parts q a m lo pl held b h) = absurd (cc)
+    by_rule (core_loading.Loads.unshared x l p d parts a m lo pl b h) = inl (b, is e NoMemory (ok-err e _ h) refl)
 
 -- and of a relocation
-loads_on-cases : {K V I O R : Type 0} (stands : R → Standing) (entry : ℕ → List ℕ → ℕ → Entry K V → Type 0) (cmp : K → K → Ordering) (code : K → ℕ) (old new : PartitionView K V I) (slot c now : ℕ) (r : R) (access : Access) (came : Result (Joined R) Refused) (e : Refused)
-    → Comes stands r access came → LoadsOn {O = O} stands entry cmp code old new slot c came now (Err e) → ((new ≡ old) × (ends_operation e ≡ false)) ⊎ ((new.core.moment ≡ now) × (ends_operation e ≡ true))
-loads_on-cases {K} {V} {I} {O} {R} stands entry cmp code old new slot c now r access came e comes does = by_rule does
+loads_on-cases : {K V I O R : Type 0} (stands : R → Standing) (entry : ℕ → List ℕ → ℕ → Entry K V → Type 0) (cmp : K → K → Ordering) (join : V → V → V) (code : K → ℕ) (old new : PartitionView K V I) (slot c now : ℕ) (r : R) (access : Access) (came : Result (Joined R) Refused) (e : Refused)
+    → Comes stands r access came → LoadsOn {O = O} stands entry cmp join code old new slot c came now (Err e) → ((new ≡ old) × (ends_operation e ≡ false)) ⊎ ((new.core.moment ≡ now) × (ends_operation e ≡ true))
+loads_on-cases {K} {V} {I} {O} {R} stands entry cmp join code old new slot c now r access came e comes does = by_rule does
   where
-    by_rule : LoadsOn {O = O} stands entry cmp code old new slot c came now (Err e) → ((new ≡ old) × (ends_operation e ≡ false)) ⊎ ((new.core.moment ≡ now) × (ends_operation e ≡ true))
+    by_rule : LoadsOn {O = O} stands entry cmp join code old new slot c came now (Err e) → ((new ≡ old) × (ends_operation e ≡ false)) ⊎ ((new.core.moment ≡ now) × (ends_operation e ≡ true))
     by_rule (LoadsOn.unknown a b h) = inl (b, is e Unknown (ok-err e _ h) refl)
     by_rule (LoadsOn.not_ready x a w b h) = inl (b, is e NotReady (ok-err e _ h) refl)
     by_rule (LoadsOn.moved x a p q n b h) = absurd (cc)
@@ -267,19 +267,19 @@ loads_on-cases {K} {V} {I} {O} {R} stands entry cmp code old new slot c now r ac
         inr (moment-of new _ now b refl, elim (comes-cases stands r access came why comes k) [ inl m ↦ absurd (n m) | inr t ↦ ap ends_operation w ∙ t ])
     by_rule (LoadsOn.unread x wanted a k b h) = inl (b, is e NoMemory (ok-err e _ h) refl)
     by_rule (LoadsOn.stranger x wanted p s a k at n b h) = inl (b, is e (Stranger _ _ _) (ok-err e _ h) refl)
-    by_rule (LoadsOn.checks x begin p entry a has k spells h) = inl (checks-no {O = O} old new slot c now e stands cmp code x entry h)
+    by_rule (LoadsOn.checks x begin p entry a has k spells h) = inl (checks-no {O = O} old new slot c now e stands cmp join code x entry h)
     by_rule (LoadsOn.damaged x begin p a has k spells b h) = inr (moment-of new _ now b refl, ap ends_operation (ok-err e _ h))
     by_rule (LoadsOn.newer x entry l p q a has k traces newer b h) = absurd (cc)
-    by_rule (LoadsOn.ends x entry l p q a has k traces last h) = inl (ends-worn {O = O} {R = R} old new slot c now e x entry l.kept h)
-    by_rule (LoadsOn.further x entry l p b a has k traces above place h) = inl (asks-no {O = O} old new slot c now e stands _ b h)
+    by_rule (LoadsOn.ends x entry l p q parts a has k traces last h) = inl (ends-worn {O = O} {R = R} old new slot c now e x _ l.kept h)
+    by_rule (LoadsOn.further x entry l p b parts a has k traces above place h) = inl (asks-no {O = O} old new slot c now e stands _ b h)
     by_rule (LoadsOn.bad_record x entry l p why a has k traces b h) = inr (moment-of new _ now b refl, ap ends_operation (ok-err e _ h))
-    by_rule (LoadsOn.bad_link x entry l p b a has k traces above place to h) = inr (moment-of new _ now to refl, ap ends_operation (ok-err e _ h))
+    by_rule (LoadsOn.bad_link x entry l p b parts a has k traces above place to h) = inr (moment-of new _ now to refl, ap ends_operation (ok-err e _ h))
 
 -- so a refused load leaves the partition, or ends the operation
-pub loads-cases : {K V I O R : Type 0} (stands : R → Standing) (entry : ℕ → List ℕ → ℕ → Entry K V → Type 0) (cmp : K → K → Ordering) (f : Meanings K V I O) (code : K → ℕ) (old new : PartitionView K V I) (slot c now : ℕ) (r : R) (access : Access) (came : Result (Joined R) Refused) (e : Refused)
-    → old.core.moment < now → Comes stands r access came → Loads stands entry cmp f code old new slot c came now (Err e) → (new ≡ old) ⊎ IsGiveUp old new slot c now
+pub loads-cases : {K V I O R : Type 0} (stands : R → Standing) (entry : ℕ → List ℕ → ℕ → Entry K V → Type 0) (cmp : K → K → Ordering) (join : V → V → V) (f : Meanings K V I O) (code : K → ℕ) (old new : PartitionView K V I) (slot c now : ℕ) (r : R) (access : Access) (came : Result (Joined R) Refused) (e : Refused)
+    → old.core.moment < now → Comes stands r access came → Loads stands entry cmp join f code old new slot c came now (Err e) → (new ≡ old) ⊎ IsGiveUp old new slot c now
     → ((new ≡ old) × (ends_operation e ≡ false)) ⊎ (IsGiveUp old new slot c now × (ends_operation e ≡ true))
-loads-cases {K} {V} {I} {O} {R} stands entry cmp f code old new slot c now r access came e later comes does or = elim (by_rule does) [
+loads-cases {K} {V} {I} {O} {R} stands entry cmp join f code old new slot c now r access came e later comes does or = elim (by_rule does) [
   | inl same ↦ inl same
   | inr passed ↦ (let m = passed.0 in elim or [
     | inl same ↦ (let was : new.core.moment ≡ old.core.moment = ap (λ (v : PartitionView K V I). v.core.moment) same in absurd (omega arith))
@@ -287,12 +287,12 @@ loads-cases {K} {V} {I} {O} {R} stands entry cmp f code old new slot c now r acc
   ])
 ]
   where
-    by_rule : Loads stands entry cmp f code old new slot c came now (Err e) → ((new ≡ old) × (ends_operation e ≡ false)) ⊎ ((new.core.moment ≡ now) × (ends_operation e ≡ true))
-    by_rule (Loads.on_key none h rest) = elim (loads_on_key-cases stands entry cmp f old.core new.core slot c now r access came e comes h) [
+    by_rule : Loads stands entry cmp join f code old new slot c came now (Err e) → ((new ≡ old) × (ends_operation e ≡ false)) ⊎ ((new.core.moment ≡ now) × (ends_operation e ≡ true))
+    by_rule (Loads.on_key none h rest) = elim (loads_on_key-cases stands entry cmp join f old.core new.core slot c now r access came e comes h) [
       | inl same ↦ inl (rest ∙ ap (with_core old) same.0, same.1)
       | inr passed ↦ inr passed
     ]
-    by_rule (Loads.relocation x k h) = loads_on-cases stands entry cmp code old new slot c now r access came e comes h
+    by_rule (Loads.relocation x k h) = loads_on-cases stands entry cmp join code old new slot c now r access came e comes h
 
 -- by whether it ends the operation
 pub leaves-it : {A B : Type 0} (e : Refused) → (A × (ends_operation e ≡ false)) ⊎ (B × (ends_operation e ≡ true)) → ends_operation e ≡ false → A

@@ -142,13 +142,13 @@ pub record IsDue {K V I O R : Type 0} (s : StateView K V I O R) (step : Step K V
   pub moment : s.moment < 2 ^ 64 - 1
 
 pub data Acts {K V I O R : Type 0} (stands : R → Standing) (entry : ℕ → List ℕ → ℕ → Entry K V → Type 0)
-    (cmp : K → K → Ordering) (f : Meanings K V I O) (code : K → ℕ) (old new : StateView K V I O R) (step : Step K V I)
-    (result : Result (Outcome V O) Refused) : Type 0 where
+    (cmp : K → K → Ordering) (join : V → V → V) (f : Meanings K V I O) (code : K → ℕ) (old new : StateView K V I O R)
+    (step : Step K V I) (result : Result (Outcome V O) Refused) : Type 0 where
   -- there is no such partition
   no_partition : length old.partitions ≤ partition_in step
       → new ≡ old
       → result ≡ Err Unknown
-      → Acts stands entry cmp f code old new step result
+      → Acts stands entry cmp join f code old new step result
   -- an answer to what was not asked: of an operation, or of none
   unasked : (w : ContextId) (v : PartitionView K V I)
       → answers_in step ≡ Some w
@@ -157,7 +157,7 @@ pub data Acts {K V I O R : Type 0} (stands : R → Standing) (entry : ℕ → Li
       → IsSome (asked v w.slot w.context)
       → new ≡ old
       → result ≡ Err NotReady
-      → Acts stands entry cmp f code old new step result
+      → Acts stands entry cmp join f code old new step result
   unknown : (w : ContextId) (v : PartitionView K V I)
       → answers_in step ≡ Some w
       → slice_get old.partitions w.partition ≡ Some v
@@ -165,7 +165,7 @@ pub data Acts {K V I O R : Type 0} (stands : R → Standing) (entry : ℕ → Li
       → asked v w.slot w.context ≡ None
       → new ≡ old
       → result ≡ Err Unknown
-      → Acts stands entry cmp f code old new step result
+      → Acts stands entry cmp join f code old new step result
   -- a write of no page
   no_flush_job : (p : ℕ) (access : Access)
       → step ≡ Write p access
@@ -173,29 +173,29 @@ pub data Acts {K V I O R : Type 0} (stands : R → Standing) (entry : ℕ → Li
       → is_unasked old step ≡ true
       → new ≡ old
       → result ≡ Err NotReady
-      → Acts stands entry cmp f code old new step result
+      → Acts stands entry cmp join f code old new step result
   -- no moment is left
   worn : partition_in step < length old.partitions
       → is_unasked old step ≡ false
       → old.moment ≡ 2 ^ 64 - 1
       → new ≡ old
       → result ≡ Err Worn
-      → Acts stands entry cmp f code old new step result
+      → Acts stands entry cmp join f code old new step result
   -- no memory is left for the life of an issue
   no_memory_for_life : (p slot : ℕ) (op : Op K V I) (v : PartitionView K V I)
       → step ≡ Issue p slot op
       → IsDue old step v
       → new ≡ old
       → result ≡ Err NoMemory
-      → Acts stands entry cmp f code old new step result
+      → Acts stands entry cmp join f code old new step result
   -- what the partition refuses is refused; what it does is done, at the next moment: its rule, and what its event
   -- changes
   refuses : (v : PartitionView K V I) (e : Refused)
       → IsDue old step v
-      → Refuses stands entry cmp f code old v (suc old.moment) e step
+      → Refuses stands entry cmp join f code old v (suc old.moment) e step
       → new ≡ old
       → result ≡ Err e
-      → Acts stands entry cmp f code old new step result
+      → Acts stands entry cmp join f code old new step result
   enters : (p slot n : ℕ) (v v' : PartitionView K V I)
       → step ≡ Enter p
       → IsDue old step v
@@ -205,7 +205,7 @@ pub data Acts {K V I O R : Type 0} (stands : R → Standing) (entry : ℕ → Li
       → slice_get old.enters p ≡ Some n
       → new ≡ with_session old p slot n v'
       → result ≡ Ok (outcome.Entered slot)
-      → Acts stands entry cmp f code old new step result
+      → Acts stands entry cmp join f code old new step result
   leaves : (p slot : ℕ) (v v' : PartitionView K V I)
       → step ≡ Leave p slot
       → IsDue old step v
@@ -213,7 +213,7 @@ pub data Acts {K V I O R : Type 0} (stands : R → Standing) (entry : ℕ → Li
       → IsQuiet true v v' (suc old.moment)
       → new ≡ with_partition old p v'
       → result ≡ Ok outcome.Left
-      → Acts stands entry cmp f code old new step result
+      → Acts stands entry cmp join f code old new step result
   refreshes : (p slot : ℕ) (v v' : PartitionView K V I)
       → step ≡ Refresh p slot
       → IsDue old step v
@@ -221,7 +221,7 @@ pub data Acts {K V I O R : Type 0} (stands : R → Standing) (entry : ℕ → Li
       → IsQuiet true v v' (suc old.moment)
       → new ≡ with_partition old p v'
       → result ≡ Ok outcome.Refreshed
-      → Acts stands entry cmp f code old new step result
+      → Acts stands entry cmp join f code old new step result
   shifts : (p page : ℕ) (v v' : PartitionView K V I)
       → step ≡ ReadOnly p page
       → IsDue old step v
@@ -229,7 +229,7 @@ pub data Acts {K V I O R : Type 0} (stands : R → Standing) (entry : ℕ → Li
       → IsQuiet true v v' (suc old.moment)
       → new ≡ with_partition old p v'
       → result ≡ Ok outcome.Shifted
-      → Acts stands entry cmp f code old new step result
+      → Acts stands entry cmp join f code old new step result
   evicts : (p page : ℕ) (v v' : PartitionView K V I)
       → step ≡ Head p page
       → IsDue old step v
@@ -237,7 +237,7 @@ pub data Acts {K V I O R : Type 0} (stands : R → Standing) (entry : ℕ → Li
       → IsQuiet true v v' (suc old.moment)
       → new ≡ with_partition old p v'
       → result ≡ Ok outcome.Shifted
-      → Acts stands entry cmp f code old new step result
+      → Acts stands entry cmp join f code old new step result
   -- the lowest page that is not flushed is taken, which changes nothing in the partition but its moment
   takes : (p : ℕ) (v : PartitionView K V I) (job : FlushJob)
       → step ≡ Take p
@@ -246,7 +246,7 @@ pub data Acts {K V I O R : Type 0} (stands : R → Standing) (entry : ℕ → Li
       → slice_get v.core.records.waiting 0 ≡ Some job.bytes
       → new ≡ with_job (with_partition old p (at_moment v (suc old.moment))) p (Some job)
       → result ≡ Ok (outcome.Taken job.page)
-      → Acts stands entry cmp f code old new step result
+      → Acts stands entry cmp join f code old new step result
   -- a write spends the page that was taken, whether it is flushed or not
   spoils : (p : ℕ) (access : Access) (v : PartitionView K V I) (job : FlushJob) (e : Refused)
       → step ≡ Write p access
@@ -255,7 +255,7 @@ pub data Acts {K V I O R : Type 0} (stands : R → Standing) (entry : ℕ → Li
       → Spoils v (suc old.moment) job access e
       → new ≡ with_job old p None
       → result ≡ Err e
-      → Acts stands entry cmp f code old new step result
+      → Acts stands entry cmp join f code old new step result
   writes : (p : ℕ) (v v' : PartitionView K V I) (job : FlushJob)
       → step ≡ Write p Works
       → IsDue old step v
@@ -264,7 +264,7 @@ pub data Acts {K V I O R : Type 0} (stands : R → Standing) (entry : ℕ → Li
       → IsQuiet true v v' (suc old.moment)
       → new ≡ with_job (with_partition old p v') p None
       → result ≡ Ok (outcome.Flushed job.page)
-      → Acts stands entry cmp f code old new step result
+      → Acts stands entry cmp join f code old new step result
   issues : (p slot c : ℕ) (op : Op K V I) (v v' : PartitionView K V I) (seat : Seat)
       → step ≡ Issue p slot op
       → IsDue old step v
@@ -274,15 +274,15 @@ pub data Acts {K V I O R : Type 0} (stands : R → Standing) (entry : ℕ → Li
       → slice_get old.seats (seat_row p slot) ≡ Some seat
       → new ≡ with_life old (record { partition = p; slot = slot; context = c }) seat op v'
       → result ≡ Ok (outcome.Issued c)
-      → Acts stands entry cmp f code old new step result
+      → Acts stands entry cmp join f code old new step result
   goes : (w : ContextId) (v v' : PartitionView K V I) (progress : Progress K V I O R)
       → step ≡ Go w
       → IsDue old step v
-      → Goes stands cmp f code v v' w.slot w.context (suc old.moment) (Ok progress)
+      → Goes stands cmp join f code v v' w.slot w.context (suc old.moment) (Ok progress)
       → IsEvent cmp f v v' w.slot w.context (suc old.moment) progress
       → new ≡ with_progress old w progress v'
       → result ≡ Ok (told progress)
-      → Acts stands entry cmp f code old new step result
+      → Acts stands entry cmp join f code old new step result
   installs : (w : ContextId) (v v' : PartitionView K V I) (ask : Ask K V I) (progress : Progress K V I O R)
       → step ≡ Install w
       → IsDue old step v
@@ -291,18 +291,18 @@ pub data Acts {K V I O R : Type 0} (stands : R → Standing) (entry : ℕ → Li
       → IsEvent cmp f v v' w.slot w.context (suc old.moment) progress
       → new ≡ with_progress old w progress v'
       → result ≡ Ok (told progress)
-      → Acts stands entry cmp f code old new step result
+      → Acts stands entry cmp join f code old new step result
   loads : (w : ContextId) (access : Access) (v v' : PartitionView K V I) (receipt : R) (came : Result (Joined R) Refused)
       (progress : Progress K V I O R)
       → step ≡ Load w access
       → IsDue old step v
       → receipt_in old.receipts w ≡ Some receipt
       → Comes stands receipt access came
-      → Loads stands entry cmp f code v v' w.slot w.context came (suc old.moment) (Ok progress)
+      → Loads stands entry cmp join f code v v' w.slot w.context came (suc old.moment) (Ok progress)
       → IsLoad cmp f v v' w.slot w.context (suc old.moment) progress
       → new ≡ with_progress old w progress v'
       → result ≡ Ok (told progress)
-      → Acts stands entry cmp f code old new step result
+      → Acts stands entry cmp join f code old new step result
   -- a page that could not be read, or is damaged, ends the operation that asked for it: that step is refused, and takes
   -- its moment
   fails : (w : ContextId) (access : Access) (v v' : PartitionView K V I) (receipt : R) (came : Result (Joined R) Refused)
@@ -311,12 +311,12 @@ pub data Acts {K V I O R : Type 0} (stands : R → Standing) (entry : ℕ → Li
       → IsDue old step v
       → receipt_in old.receipts w ≡ Some receipt
       → Comes stands receipt access came
-      → Loads stands entry cmp f code v v' w.slot w.context came (suc old.moment) (Err e)
+      → Loads stands entry cmp join f code v v' w.slot w.context came (suc old.moment) (Err e)
       → ends_operation e ≡ true
       → IsGiveUp v v' w.slot w.context (suc old.moment)
       → new ≡ with_end old w Failed v'
       → result ≡ Err e
-      → Acts stands entry cmp f code old new step result
+      → Acts stands entry cmp join f code old new step result
   gives_up : (w : ContextId) (v v' : PartitionView K V I)
       → step ≡ GiveUp w
       → IsDue old step v
@@ -324,7 +324,7 @@ pub data Acts {K V I O R : Type 0} (stands : R → Standing) (entry : ℕ → Li
       → IsGiveUp v v' w.slot w.context (suc old.moment)
       → new ≡ with_end old w GivenUp v'
       → result ≡ Ok outcome.GivenUp
-      → Acts stands entry cmp f code old new step result
+      → Acts stands entry cmp join f code old new step result
   -- Begin moves to the start of the page up to which all is cleared
   truncates : (p : ℕ) (v v' : PartitionView K V I)
       → step ≡ Truncate p
@@ -333,14 +333,14 @@ pub data Acts {K V I O R : Type 0} (stands : R → Standing) (entry : ℕ → Li
       → IsTruncation true cmp v v' (page_at v.core.records.page_bits v.cleared) (suc old.moment)
       → new ≡ with_partition old p v'
       → result ≡ Ok (outcome.Truncated v'.core.records.begin)
-      → Acts stands entry cmp f code old new step result
+      → Acts stands entry cmp join f code old new step result
 
 -- a step of a world: its outcome is kept, after those of the steps before it; where there is no memory to keep it,
 -- nothing is done
 pub data Steps {K V I O R : Type 0} (stands : R → Standing) (entry : ℕ → List ℕ → ℕ → Entry K V → Type 0)
-    (cmp : K → K → Ordering) (f : Meanings K V I O) (code : K → ℕ) (old new : WorldView K V I O R) (step : Step K V I)
-    (result : Result (Outcome V O) Refused) : Type 0 where
-  unkept : new ≡ old → result ≡ Err NoMemory → Steps stands entry cmp f code old new step result
-  kept : Acts stands entry cmp f code old.state new.state step result
+    (cmp : K → K → Ordering) (join : V → V → V) (f : Meanings K V I O) (code : K → ℕ) (old new : WorldView K V I O R)
+    (step : Step K V I) (result : Result (Outcome V O) Refused) : Type 0 where
+  unkept : new ≡ old → result ≡ Err NoMemory → Steps stands entry cmp join f code old new step result
+  kept : Acts stands entry cmp join f code old.state new.state step result
       → new.outcomes ≡ old.outcomes ++ result ∷ []
-      → Steps stands entry cmp f code old new step result
+      → Steps stands entry cmp join f code old new step result

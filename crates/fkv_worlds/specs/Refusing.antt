@@ -22,42 +22,50 @@ use Rattle.fkv_worlds.specs.States.{StateView, question_in, receipt_in}
 use Rattle.fkv_lives.specs.Told.{ends_operation}
 
 pub data Refuses {K V I O R : Type 0} (stands : R → Standing) (entry : ℕ → List ℕ → ℕ → Entry K V → Type 0)
-    (cmp : K → K → Ordering) (f : Meanings K V I O) (code : K → ℕ) (s : StateView K V I O R) (v : PartitionView K V I)
-    (now : ℕ) (e : Refused) : Step K V I → Type 0 where
-  enter : (p : ℕ) → Enters v v now (Err e) → Refuses stands entry cmp f code s v now e (step.Enter p)
-  leave : (p slot : ℕ) → LeavesAll true v v slot now (Err e) → Refuses stands entry cmp f code s v now e (step.Leave p slot)
+    (cmp : K → K → Ordering) (join : V → V → V) (f : Meanings K V I O) (code : K → ℕ) (s : StateView K V I O R)
+    (v : PartitionView K V I) (now : ℕ) (e : Refused) : Step K V I → Type 0 where
+  enter : (p : ℕ) → Enters v v now (Err e) → Refuses stands entry cmp join f code s v now e (step.Enter p)
+  leave : (p slot : ℕ)
+      → LeavesAll true v v slot now (Err e)
+      → Refuses stands entry cmp join f code s v now e (step.Leave p slot)
   refresh : (p slot : ℕ)
       → Refreshes true v v slot now (Err e)
-      → Refuses stands entry cmp f code s v now e (step.Refresh p slot)
+      → Refuses stands entry cmp join f code s v now e (step.Refresh p slot)
   shift : (p page : ℕ)
       → Shifts true v v page now (Err e)
-      → Refuses stands entry cmp f code s v now e (step.ReadOnly p page)
+      → Refuses stands entry cmp join f code s v now e (step.ReadOnly p page)
   evict : (p page : ℕ)
       → Evicts true v v page now (Err e)
-      → Refuses stands entry cmp f code s v now e (step.Head p page)
+      → Refuses stands entry cmp join f code s v now e (step.Head p page)
   -- no page waits to be written, or there is no memory for its copy
-  idle : (p : ℕ) → v.core.records.waiting ≡ [] → e ≡ NotDue → Refuses stands entry cmp f code s v now e (step.Take p)
-  untaken : (p : ℕ) → v.core.records.waiting ≢ [] → e ≡ NoMemory → Refuses stands entry cmp f code s v now e (step.Take p)
+  idle : (p : ℕ)
+      → v.core.records.waiting ≡ []
+      → e ≡ NotDue
+      → Refuses stands entry cmp join f code s v now e (step.Take p)
+  untaken : (p : ℕ)
+      → v.core.records.waiting ≢ []
+      → e ≡ NoMemory
+      → Refuses stands entry cmp join f code s v now e (step.Take p)
   issue : (p slot : ℕ) (op : Op K V I)
       → Issues code v v slot op now (Err e)
-      → Refuses stands entry cmp f code s v now e (step.Issue p slot op)
+      → Refuses stands entry cmp join f code s v now e (step.Issue p slot op)
   go : (w : ContextId)
-      → Goes stands cmp f code v v w.slot w.context now (Err e)
-      → Refuses stands entry cmp f code s v now e (step.Go w)
+      → Goes stands cmp join f code v v w.slot w.context now (Err e)
+      → Refuses stands entry cmp join f code s v now e (step.Go w)
   install : (w : ContextId) (ask : Ask K V I)
       → question_in s.questions w ≡ Some ask
       → Installs {R = R} cmp f code v v w.slot w.context ask now (Err e)
-      → Refuses stands entry cmp f code s v now e (step.Install w)
+      → Refuses stands entry cmp join f code s v now e (step.Install w)
   -- a load that ends nothing
   load : (w : ContextId) (access : Access) (receipt : R) (came : Result (Joined R) Refused)
       → receipt_in s.receipts w ≡ Some receipt
       → Comes stands receipt access came
-      → Loads stands entry cmp f code v v w.slot w.context came now (Err e)
+      → Loads stands entry cmp join f code v v w.slot w.context came now (Err e)
       → ends_operation e ≡ false
-      → Refuses stands entry cmp f code s v now e (step.Load w access)
+      → Refuses stands entry cmp join f code s v now e (step.Load w access)
   give_up : (w : ContextId)
       → GivesUp v v w.slot w.context now (Err e)
-      → Refuses stands entry cmp f code s v now e (step.GiveUp w)
+      → Refuses stands entry cmp join f code s v now e (step.GiveUp w)
   truncate : (p : ℕ)
       → Truncates true v v (page_at v.core.records.page_bits v.cleared) now (Err e)
-      → Refuses stands entry cmp f code s v now e (step.Truncate p)
+      → Refuses stands entry cmp join f code s v now e (step.Truncate p)

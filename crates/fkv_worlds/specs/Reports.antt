@@ -38,27 +38,28 @@ pub record IsReport {K V I O R : Type 0} (cmp : K → K → Ordering) (code : K 
 
 -- a step that was done, or refused, and kept
 pub record IsKept {K V I O R : Type 0} (stands : R → Standing) (entry : ℕ → List ℕ → ℕ → Entry K V → Type 0)
-    (cmp : K → K → Ordering) (f : Meanings K V I O) (code : K → ℕ) (old new : WorldView K V I O R) (step : Step K V I)
-    (r : Result (Outcome V O) Refused) : Type 0 where
-  pub acts : Acts stands entry cmp f code old.state new.state step r
+    (cmp : K → K → Ordering) (join : V → V → V) (f : Meanings K V I O) (code : K → ℕ) (old new : WorldView K V I O R)
+    (step : Step K V I) (r : Result (Outcome V O) Refused) : Type 0 where
+  pub acts : Acts stands entry cmp join f code old.state new.state step r
   pub outcomes : new.outcomes ≡ old.outcomes ++ r ∷ []
 
 -- the steps of a list, in turn, each of them kept
 abbrev pub RunsTo : {K V I O R : Type 0} → (R → Standing) → (ℕ → List ℕ → ℕ → Entry K V → Type 0) → (K → K → Ordering)
-    → Meanings K V I O → (K → ℕ) → WorldView K V I O R → List (Step K V I) → WorldView K V I O R → Type 0
-RunsTo stands entry cmp f code v [] w = w ≡ v
-RunsTo {K} {V} {I} {O} {R} stands entry cmp f code v (s ∷ ss) w =
+    → (V → V → V) → Meanings K V I O → (K → ℕ) → WorldView K V I O R → List (Step K V I) → WorldView K V I O R → Type 0
+RunsTo stands entry cmp join f code v [] w = w ≡ v
+RunsTo {K} {V} {I} {O} {R} stands entry cmp join f code v (s ∷ ss) w =
     (u : WorldView K V I O R)
     × (r : Result (Outcome V O) Refused)
-    × IsKept stands entry cmp f code v u s r
-    × RunsTo stands entry cmp f code u ss w
+    × IsKept stands entry cmp join f code v u s r
+    × RunsTo stands entry cmp join f code u ss w
 
 -- a replay: the steps in turn from a world with nothing in it, and the report of the world which they lead to
 pub record IsReplay {K V I O R : Type 0} (stands : R → Standing) (entry : ℕ → List ℕ → ℕ → Entry K V → Type 0)
-    (cmp : K → K → Ordering) (f : Meanings K V I O) (code : K → ℕ) (config : Config) (record_size : ℕ) (steps : List (Step K V I)) (told : List (Result (Outcome V O) Refused))
+    (cmp : K → K → Ordering) (join : V → V → V) (f : Meanings K V I O) (code : K → ℕ) (config : Config)
+    (record_size : ℕ) (steps : List (Step K V I)) (told : List (Result (Outcome V O) Refused))
     (lived : List (Life K V I O)) (pairs : List (K × V)) : Type 0 where
   pub world : WorldView K V I O R
-  pub ran : RunsTo stands entry cmp f code (empty_world config record_size) steps world
+  pub ran : RunsTo stands entry cmp join f code (empty_world config record_size) steps world
   pub headline : IsHeadline cmp f code world
   pub report : IsReport cmp code world told lived pairs
   -- the lives are those of the accepted issues of the steps, in order
@@ -102,33 +103,33 @@ first_step views Finish place =
 -- leads to; where another would follow the last of them, the run is Stalled. It answers what its last step told,
 -- and nothing where there was no memory to keep a step's outcome: that step was not done.
 pub data RunsUntil {K V I O R : Type 0} (stands : R → Standing) (entry : ℕ → List ℕ → ℕ → Entry K V → Type 0)
-    (cmp : K → K → Ordering) (f : Meanings K V I O) (code : K → ℕ) (until : Until) (place : ContextId)
-    (new : WorldView K V I O R) (result : Option (Result (Outcome V O) Refused))
+    (cmp : K → K → Ordering) (join : V → V → V) (f : Meanings K V I O) (code : K → ℕ) (until : Until)
+    (place : ContextId) (new : WorldView K V I O R) (result : Option (Result (Outcome V O) Refused))
     : ℕ → Step K V I → WorldView K V I O R → Type 0 where
   unkept : (n : ℕ) (s : Step K V I) (v : WorldView K V I O R)
       → new ≡ v
       → result ≡ None
-      → RunsUntil stands entry cmp f code until place new result (suc n) s v
+      → RunsUntil stands entry cmp join f code until place new result (suc n) s v
   stalls : (s : Step K V I) (v : WorldView K V I O R)
       → new ≡ v
       → result ≡ Some (Err Stalled)
-      → RunsUntil stands entry cmp f code until place new result zero s v
+      → RunsUntil stands entry cmp join f code until place new result zero s v
   ends : (n : ℕ) (s : Step K V I) (v : WorldView K V I O R) (x : Result (Outcome V O) Refused)
-      → IsKept stands entry cmp f code v new s x
+      → IsKept stands entry cmp join f code v new s x
       → follows {K = K} {I = I} until place x ≡ None
       → result ≡ Some x
-      → RunsUntil stands entry cmp f code until place new result (suc n) s v
+      → RunsUntil stands entry cmp join f code until place new result (suc n) s v
   goes_on : (n : ℕ) (s t : Step K V I) (v u : WorldView K V I O R) (x : Result (Outcome V O) Refused)
-      → IsKept stands entry cmp f code v u s x
+      → IsKept stands entry cmp join f code v u s x
       → follows until place x ≡ Some t
-      → RunsUntil stands entry cmp f code until place new result n t u
-      → RunsUntil stands entry cmp f code until place new result (suc n) s v
+      → RunsUntil stands entry cmp join f code until place new result n t u
+      → RunsUntil stands entry cmp join f code until place new result (suc n) s v
 
 -- a run of at most 10,000 steps, and what it answers: NoMemory where an outcome could not be kept
 pub record IsRunUntil {K V I O R : Type 0} (stands : R → Standing) (entry : ℕ → List ℕ → ℕ → Entry K V → Type 0)
-    (cmp : K → K → Ordering) (f : Meanings K V I O) (code : K → ℕ) (until : Until) (place : ContextId)
-    (old new : WorldView K V I O R) (result : Result (Outcome V O) Refused) : Type 0 where
+    (cmp : K → K → Ordering) (join : V → V → V) (f : Meanings K V I O) (code : K → ℕ) (until : Until)
+    (place : ContextId) (old new : WorldView K V I O R) (result : Result (Outcome V O) Refused) : Type 0 where
   pub kept : Option (Result (Outcome V O) Refused)
-  pub runs : RunsUntil stands entry cmp f code until place new kept 10000
+  pub runs : RunsUntil stands entry cmp join f code until place new kept 10000
       (first_step old.state.partitions until place) old
   pub answers : result ≡ unwrap_or kept (Err NoMemory)

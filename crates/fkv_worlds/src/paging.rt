@@ -54,7 +54,8 @@ impl<F: Mergeable> State<F> {
     pub(crate) fn take_at(&mut self, partition: usize, now: u64) -> Result<OutcomeOf<F>, Refused>
         requires due { IsMomentIn self.old partition now }
         ensures effect { Acts ⟦<MemoryReceipt as Receipt>⟧.stands (IsEntryIn F.Key.bytes_of F.Value.bytes_of F.Key.is_known F.Value.is_known
-            F.Key.SIZE F.Value.SIZE) F.Key.cmp F.meaning F.code self.old self.new (Take partition) result }
+            F.Key.SIZE F.Value.SIZE) F.Key.cmp F.parts.joined F.meaning F.code
+            self.old self.new (Take partition) result }
     {
         match self.partitions[partition].flush_take(self.alloc, now) {
             Ok(job) => {
@@ -74,7 +75,8 @@ impl<F: Mergeable> State<F> {
         access: Access,
     ) -> Result<OutcomeOf<F>, Refused>
         ensures effect { Acts ⟦<MemoryReceipt as Receipt>⟧.stands (IsEntryIn F.Key.bytes_of F.Value.bytes_of F.Key.is_known F.Value.is_known
-            F.Key.SIZE F.Value.SIZE) F.Key.cmp F.meaning F.code self.old self.new (Write partition access) result }
+            F.Key.SIZE F.Value.SIZE) F.Key.cmp F.parts.joined F.meaning F.code
+            self.old self.new (Write partition access) result }
     {
         if partition >= self.partitions.len() {
             return Err(Refused::Unknown);
@@ -97,7 +99,8 @@ impl<F: Mergeable> State<F> {
         requires due { IsMomentIn self.old partition now }
         requires asked { is_unasked self.old (Write partition access) ≡ false }
         ensures effect { Acts ⟦<MemoryReceipt as Receipt>⟧.stands (IsEntryIn F.Key.bytes_of F.Value.bytes_of F.Key.is_known F.Value.is_known
-            F.Key.SIZE F.Value.SIZE) F.Key.cmp F.meaning F.code self.old self.new (Write partition access) result }
+            F.Key.SIZE F.Value.SIZE) F.Key.cmp F.parts.joined F.meaning F.code
+            self.old self.new (Write partition access) result }
     {
         match self.flush_slots[partition].write(self.alloc, access) {
             Ok(written) => {
@@ -122,7 +125,8 @@ impl<F: Mergeable> State<F> {
         access: Access,
     ) -> Result<OutcomeOf<F>, Refused>
         ensures effect { Acts ⟦<MemoryReceipt as Receipt>⟧.stands (IsEntryIn F.Key.bytes_of F.Value.bytes_of F.Key.is_known F.Value.is_known
-            F.Key.SIZE F.Value.SIZE) F.Key.cmp F.meaning F.code self.old self.new (Load place access) result }
+            F.Key.SIZE F.Value.SIZE) F.Key.cmp F.parts.joined F.meaning F.code
+            self.old self.new (Load place access) result }
     {
         if place.partition >= self.partitions.len() {
             return Err(Refused::Unknown);
@@ -146,7 +150,8 @@ impl<F: Mergeable> State<F> {
         requires due { IsMomentIn self.old place.partition now }
         requires asked { is_unasked self.old (Load place access) ≡ false }
         ensures effect { Acts ⟦<MemoryReceipt as Receipt>⟧.stands (IsEntryIn F.Key.bytes_of F.Value.bytes_of F.Key.is_known F.Value.is_known
-            F.Key.SIZE F.Value.SIZE) F.Key.cmp F.meaning F.code self.old self.new (Load place access) result }
+            F.Key.SIZE F.Value.SIZE) F.Key.cmp F.parts.joined F.meaning F.code
+            self.old self.new (Load place access) result }
     {
         let came = read_asked(self.alloc, &self.tables.receipts, place, access);
         let partition = &mut self.partitions[place.partition];

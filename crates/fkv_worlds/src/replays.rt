@@ -21,7 +21,7 @@ fn step_all<F: Mergeable>(
     steps: &[StepOf<F>],
 ) -> Result<(), Refused>
     ensures ok { OnOk result (RunsTo ⟦<MemoryReceipt as Receipt>⟧.stands (IsEntryIn F.Key.bytes_of F.Value.bytes_of F.Key.is_known F.Value.is_known
-        F.Key.SIZE F.Value.SIZE) F.Key.cmp F.meaning F.code world.old steps.now world.new) }
+        F.Key.SIZE F.Value.SIZE) F.Key.cmp F.parts.joined F.meaning F.code world.old steps.now world.new) }
     ensures only { IfErr result (λ refused. refused ≡ Refused.NoMemory) }
 {
     for step in steps {
@@ -40,7 +40,7 @@ fn run<F: Mergeable>(
     steps: &[StepOf<F>],
 ) -> Result<ReportOf<F>, Refused>
     ensures ok { IfOk result (λ r. RunsTo ⟦<MemoryReceipt as Receipt>⟧.stands (IsEntryIn F.Key.bytes_of F.Value.bytes_of F.Key.is_known F.Value.is_known
-        F.Key.SIZE F.Value.SIZE) F.Key.cmp F.meaning F.code world.old steps.now world.new
+        F.Key.SIZE F.Value.SIZE) F.Key.cmp F.parts.joined F.meaning F.code world.old steps.now world.new
         × IsReport F.Key.cmp F.code world.new r.outcomes.items r.lives.items r.map.items) }
     ensures headline { IsHeadline F.Key.cmp F.meaning F.code world.new }
     ensures only { IfErr result (λ refused. refused ≡ Refused.NoMemory) }
@@ -48,7 +48,7 @@ fn run<F: Mergeable>(
     let done = step_all(world, functions, steps);
     world.headline();
     match done {
-        Ok(()) => world.report(alloc),
+        Ok(()) => world.report(functions, alloc),
         Err(refused) => Err(refused),
     }
 }
@@ -63,7 +63,7 @@ pub fn replay<F: Mergeable>(
     steps: &[StepOf<F>],
 ) -> Result<ReportOf<F>, Refused>
     ensures ok { IfOk result (λ r. IsReplay ⟦<MemoryReceipt as Receipt>⟧.stands (IsEntryIn F.Key.bytes_of F.Value.bytes_of F.Key.is_known F.Value.is_known
-        F.Key.SIZE F.Value.SIZE) F.Key.cmp F.meaning F.code config.now (size_of F.Key.SIZE F.Value.SIZE)
+        F.Key.SIZE F.Value.SIZE) F.Key.cmp F.parts.joined F.meaning F.code config.now (size_of F.Key.SIZE F.Value.SIZE)
         steps.now
         r.outcomes.items r.lives.items r.map.items) }
     ensures good { result ≢ Err Refused.BadConfig → IsWithinLimits config.now (size_of F.Key.SIZE F.Value.SIZE) }

@@ -73,14 +73,14 @@ fn report_of<K: Copy + Drop, V: Copy + Drop, I: Copy, O: Copy>(
 
 impl<F: Mergeable> State<F> {
     /// Each live key of all partitions with its value, keys rising. Refused: `NoMemory`.
-    pub fn live(&self, alloc: Global) -> Result<Vec<(F::Key, F::Value)>, Refused>
+    pub fn live(&self, functions: &F, alloc: Global) -> Result<Vec<(F::Key, F::Value)>, Refused>
         ensures map { IfOk result (λ pairs. (k : F.Key)
             → lookup (is_at (F.Key.cmp k)) pairs.items ≡ union_of F.Key.cmp F.code self.now.partitions k) }
         ensures rising { IfOk result (λ pairs. IsStrictlySortedBy F.Key.cmp (keys_of pairs.items)) }
         ensures only { IfErr result (λ refused. refused ≡ Refused.NoMemory) }
     {
         let mut map = BTreeMap::new(alloc);
-        match self.gather(&mut map, alloc) {
+        match self.gather(functions, &mut map, alloc) {
             Ok(()) => {
                 let _ordered = map.len();
                 pairs_of(alloc, &map)
@@ -90,7 +90,12 @@ impl<F: Mergeable> State<F> {
     }
 
     /// Puts each live key of all partitions with its value into an empty map. Refused: `NoMemory`.
-    fn gather(&self, map: &mut BTreeMap<F::Key, F::Value>, alloc: Global) -> Result<(), Refused>
+    fn gather(
+        &self,
+        functions: &F,
+        map: &mut BTreeMap<F::Key, F::Value>,
+        alloc: Global,
+    ) -> Result<(), Refused>
         requires { map.old.entries ≡ [] }
         ensures ok { OnOk result
             (Same (get F.Key.cmp map.new) (union_of F.Key.cmp F.code self.now.partitions)) }
@@ -98,7 +103,7 @@ impl<F: Mergeable> State<F> {
     {
         for partition in &self.partitions {
             // a device in memory refuses no page of the partition's size: what is refused is memory
-            match partition.put_live(&mut reader(alloc), map) {
+            match partition.put_live(functions, &mut reader(alloc), map) {
                 Ok(()) => (),
                 Err(refused) => return Err(refused),
             }
@@ -109,21 +114,21 @@ impl<F: Mergeable> State<F> {
 
 impl<F: Mergeable> World<F> {
     /// Each live key of all partitions with its value, keys rising. Refused: `NoMemory`.
-    pub fn live(&self, alloc: Global) -> Result<Vec<(F::Key, F::Value)>, Refused>
+    pub fn live(&self, functions: &F, alloc: Global) -> Result<Vec<(F::Key, F::Value)>, Refused>
         ensures map { IfOk result (λ pairs. (k : F.Key)
             → lookup (is_at (F.Key.cmp k)) pairs.items ≡ union_of F.Key.cmp F.code self.now.state.partitions k) }
         ensures rising { IfOk result (λ pairs. IsStrictlySortedBy F.Key.cmp (keys_of pairs.items)) }
         ensures only { IfErr result (λ refused. refused ≡ Refused.NoMemory) }
     {
-        self.state.live(alloc)
+        self.state.live(functions, alloc)
     }
 
     /// The report of the world as it is. Refused: `NoMemory`.
-    pub fn report(&self, alloc: Global) -> Result<ReportOf<F>, Refused>
+    pub fn report(&self, functions: &F, alloc: Global) -> Result<ReportOf<F>, Refused>
         ensures ok { IfOk result (λ r. IsReport F.Key.cmp F.code self.now r.outcomes.items r.lives.items r.map.items) }
         ensures only { IfErr result (λ refused. refused ≡ Refused.NoMemory) }
     {
-        match self.state.live(alloc) {
+        match self.state.live(functions, alloc) {
             Ok(map) => report_of(alloc, &self.outcomes, self.state.lives(), map),
             Err(refused) => Err(refused),
         }

@@ -183,7 +183,8 @@ impl<F: Mergeable> State<F> {
     fn enter_at(&mut self, partition: usize, now: u64) -> Result<OutcomeOf<F>, Refused>
         requires due { IsMomentIn self.old partition now }
         ensures effect { Acts ⟦<MemoryReceipt as Receipt>⟧.stands (IsEntryIn F.Key.bytes_of F.Value.bytes_of F.Key.is_known F.Value.is_known
-            F.Key.SIZE F.Value.SIZE) F.Key.cmp F.meaning F.code self.old self.new (Enter partition) result }
+            F.Key.SIZE F.Value.SIZE) F.Key.cmp F.parts.joined F.meaning F.code
+            self.old self.new (Enter partition) result }
     {
         match self.partitions[partition].enter(now) {
             Ok(slot) => {
@@ -203,7 +204,8 @@ impl<F: Mergeable> State<F> {
     fn leave_at(&mut self, partition: usize, slot: usize, now: u64) -> Result<OutcomeOf<F>, Refused>
         requires due { IsMomentIn self.old partition now }
         ensures effect { Acts ⟦<MemoryReceipt as Receipt>⟧.stands (IsEntryIn F.Key.bytes_of F.Value.bytes_of F.Key.is_known F.Value.is_known
-            F.Key.SIZE F.Value.SIZE) F.Key.cmp F.meaning F.code self.old self.new (Leave partition slot) result }
+            F.Key.SIZE F.Value.SIZE) F.Key.cmp F.parts.joined F.meaning F.code
+            self.old self.new (Leave partition slot) result }
     {
         match self.partitions[partition].leave(slot, now) {
             Ok(()) => {
@@ -222,7 +224,8 @@ impl<F: Mergeable> State<F> {
     ) -> Result<OutcomeOf<F>, Refused>
         requires due { IsMomentIn self.old partition now }
         ensures effect { Acts ⟦<MemoryReceipt as Receipt>⟧.stands (IsEntryIn F.Key.bytes_of F.Value.bytes_of F.Key.is_known F.Value.is_known
-            F.Key.SIZE F.Value.SIZE) F.Key.cmp F.meaning F.code self.old self.new (Refresh partition slot) result }
+            F.Key.SIZE F.Value.SIZE) F.Key.cmp F.parts.joined F.meaning F.code
+            self.old self.new (Refresh partition slot) result }
     {
         match self.partitions[partition].refresh(slot, now) {
             Ok(()) => {
@@ -236,7 +239,8 @@ impl<F: Mergeable> State<F> {
     fn shift_at(&mut self, partition: usize, page: u64, now: u64) -> Result<OutcomeOf<F>, Refused>
         requires due { IsMomentIn self.old partition now }
         ensures effect { Acts ⟦<MemoryReceipt as Receipt>⟧.stands (IsEntryIn F.Key.bytes_of F.Value.bytes_of F.Key.is_known F.Value.is_known
-            F.Key.SIZE F.Value.SIZE) F.Key.cmp F.meaning F.code self.old self.new (ReadOnly partition page) result }
+            F.Key.SIZE F.Value.SIZE) F.Key.cmp F.parts.joined F.meaning F.code
+            self.old self.new (ReadOnly partition page) result }
     {
         match self.partitions[partition].shift_read_only(page, now) {
             Ok(()) => {
@@ -250,7 +254,8 @@ impl<F: Mergeable> State<F> {
     fn evict_at(&mut self, partition: usize, page: u64, now: u64) -> Result<OutcomeOf<F>, Refused>
         requires due { IsMomentIn self.old partition now }
         ensures effect { Acts ⟦<MemoryReceipt as Receipt>⟧.stands (IsEntryIn F.Key.bytes_of F.Value.bytes_of F.Key.is_known F.Value.is_known
-            F.Key.SIZE F.Value.SIZE) F.Key.cmp F.meaning F.code self.old self.new (Head partition page) result }
+            F.Key.SIZE F.Value.SIZE) F.Key.cmp F.parts.joined F.meaning F.code
+            self.old self.new (Head partition page) result }
     {
         match self.partitions[partition].shift_head(page, now) {
             Ok(()) => {
@@ -271,7 +276,8 @@ impl<F: Mergeable> State<F> {
     ) -> Result<OutcomeOf<F>, Refused>
         requires due { IsMomentIn self.old partition now }
         ensures effect { Acts ⟦<MemoryReceipt as Receipt>⟧.stands (IsEntryIn F.Key.bytes_of F.Value.bytes_of F.Key.is_known F.Value.is_known
-            F.Key.SIZE F.Value.SIZE) F.Key.cmp F.meaning F.code self.old self.new (Issue partition slot op) result }
+            F.Key.SIZE F.Value.SIZE) F.Key.cmp F.parts.joined F.meaning F.code
+            self.old self.new (Issue partition slot op) result }
     {
         let Ok(()) = self.lives.try_reserve(1) else {
             return Err(Refused::NoMemory);
@@ -294,7 +300,7 @@ impl<F: Mergeable> State<F> {
     fn go_at(&mut self, functions: &F, place: ContextId, now: u64) -> Result<OutcomeOf<F>, Refused>
         requires due { IsMomentIn self.old place.partition now }
         ensures effect { Acts ⟦<MemoryReceipt as Receipt>⟧.stands (IsEntryIn F.Key.bytes_of F.Value.bytes_of F.Key.is_known F.Value.is_known
-            F.Key.SIZE F.Value.SIZE) F.Key.cmp F.meaning F.code self.old self.new (Go place) result }
+            F.Key.SIZE F.Value.SIZE) F.Key.cmp F.parts.joined F.meaning F.code self.old self.new (Go place) result }
     {
         let partition = &mut self.partitions[place.partition];
         match partition.go(place.slot, place.context, functions, now) {
@@ -309,7 +315,8 @@ impl<F: Mergeable> State<F> {
     /// Installs what an operation asked for last.
     fn install(&mut self, functions: &F, place: ContextId) -> Result<OutcomeOf<F>, Refused>
         ensures effect { Acts ⟦<MemoryReceipt as Receipt>⟧.stands (IsEntryIn F.Key.bytes_of F.Value.bytes_of F.Key.is_known F.Value.is_known
-            F.Key.SIZE F.Value.SIZE) F.Key.cmp F.meaning F.code self.old self.new (Install place) result }
+            F.Key.SIZE F.Value.SIZE) F.Key.cmp F.parts.joined F.meaning F.code
+            self.old self.new (Install place) result }
     {
         match self.asked(place) {
             Ok((ask, now)) => self.install_at(functions, place, ask, now),
@@ -323,7 +330,8 @@ impl<F: Mergeable> State<F> {
             × IsMomentIn self.now place.partition due.1) }
         ensures refused { IfErr result
             (λ refused. Acts ⟦<MemoryReceipt as Receipt>⟧.stands (IsEntryIn F.Key.bytes_of F.Value.bytes_of F.Key.is_known F.Value.is_known
-            F.Key.SIZE F.Value.SIZE) F.Key.cmp F.meaning F.code self.now self.now (Install place) (Err refused)) }
+            F.Key.SIZE F.Value.SIZE) F.Key.cmp F.parts.joined F.meaning F.code self.now self.now (Install place)
+            (Err refused)) }
     {
         if place.partition >= self.partitions.len() {
             return Err(Refused::Unknown);
@@ -343,7 +351,7 @@ impl<F: Mergeable> State<F> {
         requires there { place.partition < length self.now.partitions }
         requires unasked { is_unasked self.now step ≡ true }
         ensures { Acts ⟦<MemoryReceipt as Receipt>⟧.stands (IsEntryIn F.Key.bytes_of F.Value.bytes_of F.Key.is_known F.Value.is_known
-            F.Key.SIZE F.Value.SIZE) F.Key.cmp F.meaning F.code self.now self.now step (Err result) }
+            F.Key.SIZE F.Value.SIZE) F.Key.cmp F.parts.joined F.meaning F.code self.now self.now step (Err result) }
     {
         match self.partitions[place.partition].asked(place.slot, place.context) {
             Ok(_) => Refused::NotReady,
@@ -361,7 +369,8 @@ impl<F: Mergeable> State<F> {
         requires moment { IsMomentIn self.old place.partition now }
         requires asked { question_in self.old.questions place ≡ Some ask }
         ensures effect { Acts ⟦<MemoryReceipt as Receipt>⟧.stands (IsEntryIn F.Key.bytes_of F.Value.bytes_of F.Key.is_known F.Value.is_known
-            F.Key.SIZE F.Value.SIZE) F.Key.cmp F.meaning F.code self.old self.new (Install place) result }
+            F.Key.SIZE F.Value.SIZE) F.Key.cmp F.parts.joined F.meaning F.code
+            self.old self.new (Install place) result }
     {
         let built = Built::make(functions, ask);
         let partition = &mut self.partitions[place.partition];
@@ -377,7 +386,7 @@ impl<F: Mergeable> State<F> {
     fn give_up_at(&mut self, place: ContextId, now: u64) -> Result<OutcomeOf<F>, Refused>
         requires due { IsMomentIn self.old place.partition now }
         ensures effect { Acts ⟦<MemoryReceipt as Receipt>⟧.stands (IsEntryIn F.Key.bytes_of F.Value.bytes_of F.Key.is_known F.Value.is_known
-            F.Key.SIZE F.Value.SIZE) F.Key.cmp F.meaning F.code self.old self.new (GiveUp place) result }
+            F.Key.SIZE F.Value.SIZE) F.Key.cmp F.parts.joined F.meaning F.code self.old self.new (GiveUp place) result }
     {
         let partition = &mut self.partitions[place.partition];
         match partition.give_up(place.slot, place.context, now) {
@@ -399,7 +408,8 @@ impl<F: Mergeable> State<F> {
     ) -> Result<OutcomeOf<F>, Refused>
         requires due { IsMomentIn self.old partition now }
         ensures effect { Acts ⟦<MemoryReceipt as Receipt>⟧.stands (IsEntryIn F.Key.bytes_of F.Value.bytes_of F.Key.is_known F.Value.is_known
-            F.Key.SIZE F.Value.SIZE) F.Key.cmp F.meaning F.code self.old self.new (Truncate partition) result }
+            F.Key.SIZE F.Value.SIZE) F.Key.cmp F.parts.joined F.meaning F.code
+            self.old self.new (Truncate partition) result }
     {
         match self.partitions[partition].truncate_cleared(now) {
             Ok(begin) => {
@@ -413,7 +423,7 @@ impl<F: Mergeable> State<F> {
     /// Does a step.
     pub fn act(&mut self, functions: &F, step: StepOf<F>) -> Result<OutcomeOf<F>, Refused>
         ensures effect { Acts ⟦<MemoryReceipt as Receipt>⟧.stands (IsEntryIn F.Key.bytes_of F.Value.bytes_of F.Key.is_known F.Value.is_known
-            F.Key.SIZE F.Value.SIZE) F.Key.cmp F.meaning F.code self.old self.new step result }
+            F.Key.SIZE F.Value.SIZE) F.Key.cmp F.parts.joined F.meaning F.code self.old self.new step result }
     {
         // whether what a step answers was asked comes before whether there is a moment
         match step {
@@ -431,7 +441,7 @@ impl<F: Mergeable> State<F> {
     fn act_at(&mut self, functions: &F, step: StepOf<F>, now: u64) -> Result<OutcomeOf<F>, Refused>
         requires due { IsMomentIn self.old (partition_in step) now }
         ensures effect { Acts ⟦<MemoryReceipt as Receipt>⟧.stands (IsEntryIn F.Key.bytes_of F.Value.bytes_of F.Key.is_known F.Value.is_known
-            F.Key.SIZE F.Value.SIZE) F.Key.cmp F.meaning F.code self.old self.new step result }
+            F.Key.SIZE F.Value.SIZE) F.Key.cmp F.parts.joined F.meaning F.code self.old self.new step result }
     {
         match step {
             Step::Enter(partition) => self.enter_at(partition, now),

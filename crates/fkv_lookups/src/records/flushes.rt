@@ -26,13 +26,13 @@ impl<F: Mergeable, R: Receipt> Records<F, R> {
         ensures receipts { (n : ℕ) (s : Standing)
             → slice_get self.now.receipts n ≡ Some s
             → (s.page ≡ n) × (s.length ≡ 2 ^ self.now.page_bits) }
-        // the pages from the first that is not flushed to below that of SafeReadOnly wait, each with the text's entries
+        // the pages from the first that is not flushed to below that of SafeReadOnly wait, each with the records there
         ensures waiting { length self.now.waiting
             ≡ page_at self.now.page_bits self.now.regions.offsets.safe_read_only - length self.now.receipts }
         ensures spelled { (i : ℕ) (page : List ℕ)
             → slice_get self.now.waiting i ≡ Some page
             → IsPageOf F.Key.bytes_of F.Value.bytes_of F.Key.SIZE F.Value.SIZE self.now.page_bits
-            (length self.now.receipts + i) self.now.text page }
+            (length self.now.receipts + i) self.now.entries page }
     {
         self.log.known();
     }

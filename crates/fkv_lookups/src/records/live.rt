@@ -4,8 +4,9 @@ ghost use Rattle.std.specs.BTreeMap.{get};
 ghost use Rattle.fkv_functions.specs.Plain.{Same};
 ghost use Rattle.fkv_records.specs.Places.{page_at};
 ghost use Rattle.fkv_hybrid.specs.Scans.{IsScanRefusal, MayFail};
-ghost use Rattle.fkv_lookups.specs.Overlays.{with_text, HasFront};
+ghost use Rattle.fkv_lookups.specs.Overlays.{IsApart, with_text, HasFront};
 
+use crate::gathered::onto;
 use crate::maps::put;
 use crate::records::Records;
 use fkv_device::{PageReader, Receipt};
@@ -14,18 +15,19 @@ use std::collections::BTreeMap;
 
 impl<F: Mergeable, R: Receipt> Records<F, R> {
     /// Puts what all records from Begin on say in turn into a map: those of flushed pages are read from the device, each
-    /// page once, the others from their frames. On a device that keeps, a key of a record gets the value of its last one,
-    /// none where that is a tombstone, and the others stay. Refused: `NoMemory`, or as the device refuses a flushed page;
+    /// page once, the others from their frames. On a device that keeps, where no key of a record was in the map, such a key
+    /// gets its value, none where its last record is a tombstone, and the others stay. Refused: `NoMemory`, or as the device refuses a flushed page;
     /// `Damaged` where a page's bytes spell no record at a place; on a device that keeps, the map then has what the first
     /// of the records say.
     pub fn put_live<P: PageReader<Receipt = R>>(
         &self,
+        functions: &F,
         reader: &mut P,
         map: &mut BTreeMap<F::Key, F::Value>,
     ) -> Result<(), Refused>
-        ensures ok { IsTrue R.keeps → OnOk result (Same (get F.Key.cmp map.new)
+        ensures ok { IsTrue R.keeps → IsApart F.Key.cmp (get F.Key.cmp map.old) self.now.text → OnOk result (Same (get F.Key.cmp map.new)
             (with_text F.Key.cmp (get F.Key.cmp map.old) self.now.text)) }
-        ensures front { IsTrue R.keeps
+        ensures front { IsTrue R.keeps → IsApart F.Key.cmp (get F.Key.cmp map.old) self.now.text
             → OnErr result (HasFront F.Key.cmp (get F.Key.cmp map.old) (get F.Key.cmp map.new) self.now.text) }
         ensures steady { OnOk result (P.failures reader.new ≡ P.failures reader.old) }
         ensures refused { IfErr result (IsScanRefusal R.keeps (page_at self.now.page_bits self.now.begin)
@@ -40,7 +42,13 @@ impl<F: Mergeable, R: Receipt> Records<F, R> {
                 Ok(entry) => entry,
                 Err(refused) => return Err(refused),
             };
-            match put(map, entry.key, entry.value) {
+            let value = if entry.delta {
+                let held = map.get(&entry.key).copied();
+                onto(functions, held, entry.value)
+            } else {
+                entry.value
+            };
+            match put(map, entry.key, value) {
                 Ok(()) => (),
                 Err(refused) => return Err(refused),
             }

@@ -4,12 +4,13 @@ ghost use Rattle.std.specs.Prelude.{slice_get};
 ghost use Rattle.fkv_functions.specs.declared.refusals.What.TheVariants as what;
 ghost use Rattle.fkv_records.specs.Places.{page_at, IsRecordStart};
 ghost use Rattle.fkv_texts.specs.declared.entries.Entry.{Entry};
-ghost use Rattle.fkv_texts.specs.declared.entries.ChainPosition.{ChainPosition};
 ghost use Rattle.fkv_texts.specs.Text.{entry_at};
 ghost use Rattle.fkv_pages.specs.Spelled.{IsEntryIn};
-ghost use Rattle.fkv_pages.specs.Loads.{IsHeldBy, IsReached, first_place};
-ghost use Rattle.fkv_lookups.specs.Lookups.{IsOfClass, GoesOn};
+ghost use Rattle.fkv_pages.specs.Loads.{IsHeldBy, first_place};
+ghost use Rattle.fkv_lookups.specs.declared.gathered.Gathered.{Gathered};
+ghost use Rattle.fkv_lookups.specs.Lookups.{IsOfClass, IsGathered, GoesOn};
 
+use crate::gathered::{Gathered, delta_at, onto};
 use crate::records::Records;
 use fkv_device::{Loaded, Receipt};
 use fkv_functions::{Mergeable, Refused};
@@ -44,7 +45,7 @@ impl<F: Mergeable, R: Receipt> Records<F, R> {
     }
 
     /// The record at an address of a flushed page, from the page as a device gave it by the receipt that is kept of it
-    /// ([`Records::is_own`]). On a device that keeps it is the text's. Refused: `Damaged` where its bytes spell no
+    /// ([`Records::is_own`]). On a device that keeps it is the log's. Refused: `Damaged` where its bytes spell no
     /// record there.
     pub fn own_record_in(
         &self,
@@ -60,44 +61,62 @@ impl<F: Mergeable, R: Receipt> Records<F, R> {
             F.Key.SIZE F.Value.SIZE self.now.page_bits loaded.now.bytes address e
             → result ≡ Ok e }
         ensures damaged { IfErr result (λ refused. refused ≡ Refused.Damaged (page_at self.now.page_bits address)) }
-        ensures kept { IsTrue R.keeps → IfSome (entry_at self.now.text address) (λ e. result ≡ Ok e) }
+        ensures kept { IsTrue R.keeps → IfSome (entry_at self.now.entries address) (λ e. result ≡ Ok e) }
     {
         self.log.own_record_in(loaded, address)
     }
 
-    /// Goes from an address of a flushed page along previous addresses, in the page as a device gave it, to the first
-    /// record of a key, or out of the page. On a device that keeps, from a record of the key's class, it is the newest
-    /// record of the key there or below, or the way goes on below the page. Refused: `Stranger` where the page was
-    /// read by another receipt than the one that is kept of it, `Damaged` where its bytes spell no record on the way.
+    /// Where the first record of a flushed page stands.
+    pub fn first_of(&self, page: u64) -> Address
+        requires { page < length self.now.receipts }
+        ensures { result ≡ first_place self.now.page_bits page }
+    {
+        self.log.first_of(page)
+    }
+
+    /// Goes from an address of a flushed page along previous addresses, in the page as a device gave it by the receipt that
+    /// is kept of it ([`Records::is_own`]): to the first record of a key that is no delta, joining the parts of deltas before
+    /// those that are handed in, or below an address of the page. On a device that keeps, from a record of the key's class,
+    /// these are the newest records of the key there and below. Refused: `Damaged` where the page's bytes spell no record on
+    /// the way.
     pub fn trace_in(
         &self,
+        functions: &F,
         loaded: &Loaded<R>,
         key: &F::Key,
         from: Address,
-    ) -> Result<ChainPosition<F::Key, F::Value>, Refused>
-        requires flushed { page_at self.now.page_bits from < length self.now.receipts }
-        // who is answered, or told of damage, knows that the page is the one that is kept
-        ensures own { OnOk result (IsHeldBy self.now.receipts (page_at self.now.page_bits from)
-            (R.stands loaded.now.receipt)) }
-        ensures refused { IfErr result (λ refused.
-            ((IsHeldBy self.now.receipts (page_at self.now.page_bits from) (R.stands loaded.now.receipt) → ⊥)
-            × IfSome (slice_get self.now.receipts (page_at self.now.page_bits from)) (λ s.
-            refused ≡ Refused.Stranger what.Receipt s.number (R.stands loaded.now.receipt).number))
-            ⊎ (IsHeldBy self.now.receipts (page_at self.now.page_bits from) (R.stands loaded.now.receipt)
-            × (refused ≡ Refused.Damaged (page_at self.now.page_bits from)))) }
-        ensures read { IsHeldBy self.now.receipts (page_at self.now.page_bits from) (R.stands loaded.now.receipt)
-            → IsReached (IsEntryIn F.Key.bytes_of F.Value.bytes_of F.Key.is_known F.Value.is_known
-            F.Key.SIZE F.Value.SIZE self.now.page_bits loaded.now.bytes) F.Key.cmp key.now self.now.page_bits
-            (first_place self.now.page_bits (page_at self.now.page_bits from)) from result }
+        low: Address,
+        parts: Option<F::Value>,
+    ) -> Result<Gathered<F::Key, F::Value>, Refused>
+        requires own { IsHeldBy self.now.receipts (page_at self.now.page_bits from) (R.stands loaded.now.receipt) }
+        requires floor { first_place self.now.page_bits (page_at self.now.page_bits from) ≤ low }
+        ensures damaged { IfErr result (λ refused. refused ≡ Refused.Damaged (page_at self.now.page_bits from)) }
+        ensures read { IsGathered F.parts.joined (IsEntryIn F.Key.bytes_of F.Value.bytes_of F.Key.is_known F.Value.is_known
+            F.Key.SIZE F.Value.SIZE self.now.page_bits loaded.now.bytes) F.Key.cmp key.now self.now.page_bits low
+            from parts result }
         ensures kept { IsTrue R.keeps
-            → IsHeldBy self.now.receipts (page_at self.now.page_bits from) (R.stands loaded.now.receipt)
             → self.now.begin ≤ from
             → IsOfClass F.code self.now key.now from
-            → (r : ChainPosition F.Key F.Value)
+            → (r : Gathered F.Key F.Value)
             × (result ≡ Ok r)
-            × GoesOn F.Key.cmp F.code self.now key.now
-            (first_place self.now.page_bits (page_at self.now.page_bits from)) from r }
+            × GoesOn F.Key.cmp F.parts.joined F.code self.now key.now low from parts r }
     {
-        self.log.first_in_page(loaded, key, from)
+        let page = self.page_of(from);
+        let mut parts = parts;
+        let mut position = match self.log.own_first_in_page(loaded, key, from, page, low) {
+            Ok(position) => position,
+            Err(refused) => return Err(refused),
+        };
+        while let Some(last) = delta_at(&position) {
+            parts = onto(functions, last.value, parts);
+            position = match self
+                .log
+                .own_first_in_page(loaded, key, last.previous, page, low)
+            {
+                Ok(position) => position,
+                Err(refused) => return Err(refused),
+            };
+        }
+        Ok(Gathered { parts, position })
     }
 }

@@ -13,9 +13,9 @@ use fkv_texts::Entry;
 impl<F: Mergeable, R: Receipt> Records<F, R> {
     /// The record at an address whose frame is not closed, where one stands.
     pub fn record_at(&self, address: Address) -> Entry<F::Key, F::Value>
-        requires there { IsSome (entry_at self.now.text address) }
+        requires there { IsSome (entry_at self.now.entries address) }
         requires in_frame { self.now.regions.offsets.closed ≤ address }
-        ensures entry { entry_at self.now.text address ≡ Some result }
+        ensures entry { entry_at self.now.entries address ≡ Some result }
         // so the way along previous addresses falls
         ensures previous { IsPrevious address result.previous }
         ensures falls { result.previous < address }

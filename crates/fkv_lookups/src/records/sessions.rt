@@ -7,8 +7,7 @@ ghost use Rattle.fkv_regions.specs.Offsets.{view_at};
 ghost use Rattle.fkv_regions.specs.RegionsView.{IsReadOnlyDue, IsHeadDue, IsRoomy, entered, refreshed, left};
 ghost use Rattle.fkv_regions.specs.RegionsView.{with_read_only, with_head};
 ghost use Rattle.fkv_regions.specs.Agree.{IsRaised, ViewAgrees};
-ghost use Rattle.fkv_texts.specs.Text.{value_at};
-ghost use Rattle.fkv_lookups.specs.RecordsViews.{with_regions, with_value, IsMoved};
+ghost use Rattle.fkv_lookups.specs.RecordsViews.{with_regions, with_value, IsReplaceable, IsMoved};
 
 use crate::records::Records;
 use fkv_device::Receipt;
@@ -115,10 +114,10 @@ impl<F: Mergeable, R: Receipt> Records<F, R> {
         moved
     }
 
-    /// Gives the record at an address, which has a value, another one where it stands, or makes it a tombstone.
-    /// Nothing else changes.
+    /// Gives the record at an address, which is the last of its key and has a value, another one where it stands, or makes
+    /// it a tombstone. Nothing else changes.
     pub fn replace(&mut self, address: Address, value: Option<F::Value>)
-        requires value { IsSome (value_at self.old.text address) }
+        requires last { IsReplaceable F.Key.cmp self.old address }
         requires mutable { self.old.regions.offsets.safe_read_only ≤ address }
         ensures { self.new ≡ with_value self.old address value }
     {

@@ -13,7 +13,8 @@ impl<F: Mergeable, R: Receipt> Records<F, R> {
     /// Refused, and then nothing changes: `NotDue` where Begin would not rise, or would pass Head.
     pub fn truncate(&mut self, page: u64) -> Result<(), Refused>
         ensures ok { IsOk result ↔ IsTruncationDue self.old page }
-        ensures effect { OnOk result (self.new ≡ truncated R.keeps self.old (start_at self.old.page_bits page)) }
+        ensures effect { OnOk result (self.new
+            ≡ truncated R.keeps self.old (start_at self.old.page_bits page) self.new.text) }
         ensures sweeps { OnOk result (Sweeps (start_at self.old.page_bits page) self.old.words self.new.words) }
         ensures tentative { OnOk result (SameTentative self.old.words self.new.words) }
         ensures only { IfErr result (λ refused. refused ≡ Refused.NotDue) }

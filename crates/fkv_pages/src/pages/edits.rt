@@ -1,5 +1,6 @@
 //! Entries that change where they stand: their value, or whether they are tombstones.
-ghost use Rattle.std.specs.Prelude.{◌≡◌, ◌≤◌, Some, None, IsSome};
+ghost use Rattle.std.specs.Prelude.{◌≡◌, ◌≤◌, false, Some, None, IsSome};
+ghost use Rattle.fkv_texts.specs.declared.entries.Entry.{Entry};
 ghost use Rattle.fkv_texts.specs.Text.{entry_at, value_at};
 ghost use Rattle.fkv_pages.specs.Views.{with_value};
 
@@ -19,9 +20,10 @@ impl<K: Fixed, V: Fixed, R: Receipt> Pages<K, V, R> {
         put_value::<K, V>(&mut self.frames, self.shape, address, &value);
     }
 
-    /// Makes the entry at an address that is not frozen a tombstone. Nothing else changes.
+    /// Makes the entry at an address that is not frozen, which is no delta, a tombstone. Nothing else changes.
     pub fn set_tombstone(&mut self, address: Address)
         requires entry { IsSome (entry_at self.old.text address) }
+        requires whole { (e : Entry K V) → entry_at self.old.text address ≡ Some e → e.delta ≡ false }
         requires mutable { self.old.frozen ≤ address }
         ensures { self.new ≡ with_value self.old address None }
     {

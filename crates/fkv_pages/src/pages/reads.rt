@@ -1,5 +1,5 @@
 //! Entries of flushed pages, read from what a device gave.
-ghost use Rattle.std.specs.Prelude.{◌≡◌, ◌≢◌, ◌<◌, ◌↔◌, ◌⊎◌, ℕ, List, Ok, Err, IsOk, IfOk, IfErr, IfSome, OnOk, IsTrue};
+ghost use Rattle.std.specs.Prelude.{◌≡◌, ◌≢◌, ◌<◌, ◌≤◌, ◌↔◌, ℕ, List, Ok, Err, IsOk, IfOk, IfErr, IfSome, OnOk, IsTrue};
 ghost use Rattle.std.specs.Prelude.{find, length, slice_get};
 ghost use Rattle.fkv_records.specs.Places.{page_at};
 ghost use Rattle.fkv_texts.specs.Text.{entry_at, has_key};
@@ -95,47 +95,42 @@ impl<K: Fixed, V: Fixed, R: Receipt> Pages<K, V, R> {
 }
 
 impl<K: FixedKey, V: Fixed, R: Receipt> Pages<K, V, R> {
-    /// Goes from an address of a flushed page along previous addresses, in the page as a device gave it, to the first
-    /// entry of a key, or out of the page. Refused as [`Pages::record_in`].
-    pub fn first_in_page(
+    /// Goes from an address along previous addresses, in a flushed page as a device gave it by the receipt that is kept
+    /// of it, to the first entry of a key, or to below the page: receipts are not compared. The address is at most in
+    /// the page, and may lie below it. Refused: `Damaged` where the page's bytes spell no entry there.
+    pub fn own_first_in_page(
         &self,
         loaded: &Loaded<R>,
         key: &K,
         from: Address,
+        page: u64,
+        low: Address,
     ) -> Result<ChainPosition<K, V>, Refused>
-        requires flushed { page_at self.now.bits from < length self.now.receipts }
-        ensures stranger { IfSome (slice_get self.now.receipts (page_at self.now.bits from)) (λ s.
-            s ≢ R.stands loaded.now.receipt
-            → result ≡ Err (Refused.Stranger What.Receipt s.number (R.stands loaded.now.receipt).number)) }
-        // who is answered, or told of damage, knows that the page is the one that is kept
-        ensures own { OnOk result (IsHeldBy self.now.receipts (page_at self.now.bits from)
-            (R.stands loaded.now.receipt)) }
-        ensures refused { IfErr result (λ refused.
-            ((IsHeldBy self.now.receipts (page_at self.now.bits from) (R.stands loaded.now.receipt) → ⊥)
-            × IfSome (slice_get self.now.receipts (page_at self.now.bits from)) (λ s.
-            refused ≡ Refused.Stranger What.Receipt s.number (R.stands loaded.now.receipt).number))
-            ⊎ (IsHeldBy self.now.receipts (page_at self.now.bits from) (R.stands loaded.now.receipt)
-            × (refused ≡ Refused.Damaged (page_at self.now.bits from)))) }
-        ensures read { IsHeldBy self.now.receipts (page_at self.now.bits from) (R.stands loaded.now.receipt)
-            → IsReached (IsEntryIn K.bytes_of V.bytes_of K.is_known V.is_known K.SIZE V.SIZE self.now.bits
-            loaded.now.bytes) K.cmp key.now self.now.bits (first_place self.now.bits (page_at self.now.bits from))
-            from result }
+        requires own { IsHeldBy self.now.receipts page (R.stands loaded.now.receipt) }
+        requires within { page_at self.now.bits from ≤ page }
+        requires floor { first_place self.now.bits page ≤ low }
+        ensures damaged { IfErr result (λ refused. refused ≡ Refused.Damaged page) }
+        ensures read { IsReached (IsEntryIn K.bytes_of V.bytes_of K.is_known V.is_known K.SIZE V.SIZE self.now.bits
+            loaded.now.bytes) K.cmp key.now self.now.bits low from result }
         // on a device that keeps, it is the text's chain
         ensures kept { IsTrue R.keeps
-            → IsHeldBy self.now.receipts (page_at self.now.bits from) (R.stands loaded.now.receipt)
             → (es : List (Entry K V))
-            → IsChainFrom (first_place self.now.bits (page_at self.now.bits from)) self.now.text from es
+            → IsChainFrom low self.now.text from es
             → result ≡ Ok (reached (find (has_key K.cmp key.now) es) (leads_to from es)) }
     {
-        let page = self.shape.page_of(from);
-        if let Err(refused) = self.is_own(loaded, page) {
-            return Err(refused);
-        }
-        let low = if page == 0 {
+        let _receipt = loaded.receipt();
+        let _page = page;
+        reached_in(self.shape, loaded.bytes(), key, from, low)
+    }
+    /// Where the first entry of a flushed page stands.
+    pub fn first_of(&self, page: u64) -> Address
+        requires { page < length self.now.receipts }
+        ensures { result ≡ first_place self.now.bits page }
+    {
+        if page == 0 {
             FIRST
         } else {
             self.shape.start(page)
-        };
-        reached_in(self.shape, loaded.bytes(), key, from, low)
+        }
     }
 }

@@ -48,7 +48,7 @@ fn run_line<F: Mergeable<Key = Name, Input = i64>>(
 where
     F::Value: Written,
     ensures { IfSome result (λ told. RunsLine standing_of (IsNamedEntry F.Value.bytes_of F.Value.is_known F.Value.SIZE)
-        name_cmp F.meaning F.code F.Value.written world.old world.new told line.now) }
+        name_cmp F.parts.joined F.meaning F.code F.Value.written world.old world.new told line.now) }
 {
     let step = match *line {
         Line::Enter { partition } => Step::Enter(partition as usize),
@@ -114,7 +114,7 @@ fn do_operation<F: Mergeable<Key = Name, Input = i64>>(
 where
     F::Value: Written,
     ensures { IfSome result (λ told. RunsLine standing_of (IsNamedEntry F.Value.bytes_of F.Value.is_known F.Value.SIZE)
-        name_cmp F.meaning F.code F.Value.written world.old world.new told (Line.Do partition slot op)) }
+        name_cmp F.parts.joined F.meaning F.code F.Value.written world.old world.new told (Line.Do partition slot op)) }
 {
     let Some(issued) = world.try_step(functions, Step::Issue(partition, slot, on_values(op))) else {
         return None;
@@ -132,7 +132,8 @@ fn compact<F: Mergeable<Key = Name, Input = i64>>(
 where
     F::Value: Written,
     ensures { IfSome result (λ told. RunsLine standing_of (IsNamedEntry F.Value.bytes_of F.Value.is_known F.Value.SIZE)
-        name_cmp F.meaning F.code F.Value.written world.old world.new told (Line.Compact partition slot)) }
+        name_cmp F.parts.joined F.meaning F.code F.Value.written
+        world.old world.new told (Line.Compact partition slot)) }
 {
     let Some(issued) = world.try_step(functions, Step::Issue(partition, slot, Op::Relocate)) else {
         return None;
@@ -149,7 +150,8 @@ fn finish_issued<F: Mergeable<Key = Name, Input = i64>>(
     issued: Result<OutcomeOf<F>, Refused>,
 ) -> Option<Result<OutcomeOf<F>, Refused>>
     ensures { IfSome result (λ told. FollowsIssue standing_of
-        (IsNamedEntry F.Value.bytes_of F.Value.is_known F.Value.SIZE) name_cmp F.meaning F.code partition slot
+        (IsNamedEntry F.Value.bytes_of F.Value.is_known F.Value.SIZE) name_cmp F.parts.joined F.meaning F.code
+        partition slot
         world.old world.new told issued) }
 {
     let Some(context) = context_in(&issued) else {
@@ -174,7 +176,8 @@ fn flush<F: Mergeable<Key = Name, Input = i64>>(
 where
     F::Value: Written,
     ensures { IfSome result (λ told. RunsLine standing_of (IsNamedEntry F.Value.bytes_of F.Value.is_known F.Value.SIZE)
-        name_cmp F.meaning F.code F.Value.written world.old world.new told (Line.Flush partition access)) }
+        name_cmp F.parts.joined F.meaning F.code F.Value.written
+        world.old world.new told (Line.Flush partition access)) }
 {
     let Some(taken) = world.try_step(functions, Step::Take(partition)) else {
         return None;
@@ -195,7 +198,7 @@ fn run_lines<F: Mergeable<Key = Name, Input = i64>>(
 where
     F::Value: Written,
     ensures ok { IfOk result (λ told. RunLines standing_of (IsNamedEntry F.Value.bytes_of F.Value.is_known F.Value.SIZE)
-        name_cmp F.meaning F.code F.Value.written world.old lines.now told.items world.new) }
+        name_cmp F.parts.joined F.meaning F.code F.Value.written world.old lines.now told.items world.new) }
     ensures only { IfErr result (λ refused. refused ≡ Refused.NoMemory) }
 {
     let mut told = Vec::new(alloc);
@@ -222,7 +225,8 @@ where
     F::Value: Written + Printed,
     F::Output: Printed,
     ensures ok { IfOk result (λ text. IsPrintedBy standing_of
-        (IsNamedEntry F.Value.bytes_of F.Value.is_known F.Value.SIZE) name_cmp F.meaning F.code F.Value.written
+        (IsNamedEntry F.Value.bytes_of F.Value.is_known F.Value.SIZE) name_cmp F.parts.joined F.meaning F.code
+        F.Value.written
         F.Value.text F.Output.text config.now (size_of 32 F.Value.SIZE) lines.now text.items) }
     ensures good { result ≢ Err Refused.BadConfig → IsWithinLimits config.now (size_of 32 F.Value.SIZE) }
     ensures bad { result ≡ Err Refused.BadConfig → ¬ IsWithinLimits config.now (size_of 32 F.Value.SIZE) }
@@ -246,7 +250,8 @@ where
     F::Output: Printed,
     // Of whatever configuration the world is, with nothing in it.
     ensures ok { IfOk result (λ text. (config : Config) (size : ℕ) → world.old ≡ empty_world config size
-        → IsPrintedBy standing_of (IsNamedEntry F.Value.bytes_of F.Value.is_known F.Value.SIZE) name_cmp F.meaning
+        → IsPrintedBy standing_of (IsNamedEntry F.Value.bytes_of F.Value.is_known F.Value.SIZE) name_cmp
+        F.parts.joined F.meaning
         F.code F.Value.written F.Value.text F.Output.text config size lines.now text.items) }
     ensures only { IfErr result (λ refused. refused ≡ Refused.NoMemory) }
 {
@@ -255,7 +260,7 @@ where
         Err(refused) => return Err(refused),
     };
     world.headline();
-    match world.live(alloc) {
+    match world.live(functions, alloc) {
         Ok(pairs) => text_of(alloc, told.as_slice(), pairs.as_slice()),
         Err(refused) => Err(refused),
     }

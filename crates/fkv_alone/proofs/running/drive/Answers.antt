@@ -16,7 +16,7 @@ returns-in-Err-clause-drives g c = λ op old started h.
     let last = c.tick.ensures.worn.0 (c.in-Err.is ∙ ap Err c.in-Err.ensures.only) in
     let below = c.loop-turn-test.true in
     Drives.exhausted
-    (come-halted g.R.Receipt.keeps g.R.Receipt.stands g.F.Key.Ord.cmp g.F.Functions.meaning g.F.Functions.code op old c.args.slot c.args.context started c.loop-turn.partition.core c.loop-turn.told (i.comes op old started h).0 i.on)
+    (come-halted g.R.Receipt.keeps g.R.Receipt.stands g.F.Key.Ord.cmp g.F.Mergeable.parts.joined g.F.Functions.meaning g.F.Functions.code op old c.args.slot c.args.context started c.loop-turn.partition.core c.loop-turn.told (i.comes op old started h).0 i.on)
     (same ∙ last) (let k = i.taken in omega arith) (i.comes op old started h).1 (ap Err c.in-Err.ensures.only)
 
 pub returns-in-Err-step-clause-drives : goal.returns-in-Err-step-clause-drives
@@ -28,7 +28,7 @@ returns-in-Err-step-clause-drives g c = λ op old started h.
     let come = (i.comes op old started h).0 in
     let e = c.in-Err-step.ensures.advances op old started come in
     Drives.refused c.in-Err-step.refused
-    (stop-halted g.R.Receipt.keeps g.R.Receipt.stands g.F.Key.Ord.cmp g.F.Functions.meaning g.F.Functions.code op old c.args.slot c.args.context started c.loop-turn.partition.core c.step.new.partition.core c.loop-turn.told come i.on e.1)
+    (stop-halted g.R.Receipt.keeps g.R.Receipt.stands g.F.Key.Ord.cmp g.F.Mergeable.parts.joined g.F.Functions.meaning g.F.Functions.code op old c.args.slot c.args.context started c.loop-turn.partition.core c.step.new.partition.core c.loop-turn.told come i.on e.1)
     (let k = i.taken in omega arith)
     (subst (λ n. IsStop old.records.tail n (g.P.PageReader.failures c.step.new.reader) c.in-Err-step.refused) (i.comes op old started h).1 e.0)
     refl
@@ -72,7 +72,7 @@ pub returns-clause-drives : goal.returns-clause-drives
 returns-clause-drives g c = λ op old started h.
     let i = c.loop-turn.invariant in
     Drives.stalled
-    (come-halted g.R.Receipt.keeps g.R.Receipt.stands g.F.Key.Ord.cmp g.F.Functions.meaning g.F.Functions.code op old c.args.slot c.args.context started c.loop-turn.partition.core c.loop-turn.told (i.comes op old started h).0 i.on)
+    (come-halted g.R.Receipt.keeps g.R.Receipt.stands g.F.Key.Ord.cmp g.F.Mergeable.parts.joined g.F.Functions.meaning g.F.Functions.code op old c.args.slot c.args.context started c.loop-turn.partition.core c.loop-turn.told (i.comes op old started h).0 i.on)
     (let k = i.taken in let d = c.loop-turn-test.false in let u = c.loop-turn.auto in omega arith) (i.comes op old started h).1 refl
 
 pub returns-in-Err-clause-bound : goal.returns-in-Err-clause-bound

@@ -13,7 +13,7 @@ abbrev pub invariant-loop-turn : goal.invariant-loop-turn
 invariant-loop-turn g l = record {
   comes : (op : KeyedOp g.row.F-Key.Denot g.row.F-Value.Denot g.row.F-Input.Denot) (old : CoreView g.row.F-Key.Denot g.row.F-Value.Denot g.row.F-Input.Denot) (started : ℕ)
       → IsReady op old l.fn.partition.core l.slot l.context started
-      → HasCome g.R.Receipt.keeps g.R.Receipt.stands g.F.Key.Ord.cmp g.F.Functions.meaning g.F.Functions.code op old l.partition.core l.slot l.context started l.told
+      → HasCome g.R.Receipt.keeps g.R.Receipt.stands g.F.Key.Ord.cmp g.F.Mergeable.parts.joined g.F.Functions.meaning g.F.Functions.code op old l.partition.core l.slot l.context started l.told
       × (g.P.PageReader.failures l.reader ≡ g.P.PageReader.failures l.fn.reader);
   near : (n : ℕ) → IsTrue g.R.Receipt.keeps → IsNear {O = g.row.F-Output.Denot} {R = g.row.R.Denot} g.F.Functions.code l.fn.partition.core l.slot l.context Next n
       → (m : ℕ) × (l._turn + m ≤ n) × IsNear g.F.Functions.code l.partition.core l.slot l.context l.told m;

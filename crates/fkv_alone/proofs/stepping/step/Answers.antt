@@ -9,8 +9,8 @@ pub returns-in-Next-clause-advances : goal.returns-in-Next-clause-advances
 returns-in-Next-clause-advances g c = λ op old started h.
     let v = c.args.partition.now in
     let w = c.go.new.self in
-    let on = goes-on-key v w c.args.slot c.args.context c.args.now c.requires.none g.R.Receipt.stands g.F.Key.Ord.cmp g.F.Functions.meaning g.F.Functions.code c.go.result c.go.ensures.effect in
-    goes-advances g.R.Receipt.keeps g.R.Receipt.stands g.F.Key.Ord.cmp g.F.Functions.meaning g.F.Functions.code op old v.core w.core c.args.slot c.args.context started c.args.now c.requires.later (rw c.in-Next.is at h) (g.P.PageReader.failures c.args.reader.now) c.go.result on.0
+    let on = goes-on-key v w c.args.slot c.args.context c.args.now c.requires.none g.R.Receipt.stands g.F.Key.Ord.cmp g.F.Mergeable.parts.joined g.F.Functions.meaning g.F.Functions.code c.go.result c.go.ensures.effect in
+    goes-advances g.R.Receipt.keeps g.R.Receipt.stands g.F.Key.Ord.cmp g.F.Mergeable.parts.joined g.F.Functions.meaning g.F.Functions.code op old v.core w.core c.args.slot c.args.context started c.args.now c.requires.later (rw c.in-Next.is at h) (g.P.PageReader.failures c.args.reader.now) c.go.result on.0
     (c.go.ensures.on_key (none-here v w c.args.slot c.args.context c.args.now c.requires.none))
     (λ kept. IfOk-weaker c.go.result _ _ (λ p finds. finds-asks v w c.args.slot c.args.context c.args.now g.F.Key.Ord.cmp p finds) (c.go.ensures.finds kept))
     (core-same v w c.go.result c.go.ensures.unchanged)
@@ -20,7 +20,7 @@ returns-in-NeedsBuild-clause-advances g c = λ op old started h.
     let v = c.args.partition.now in
     let w = c.install.new.self in
     let on = installs-on-key v w c.args.slot c.args.context c.args.now c.requires.none g.F.Key.Ord.cmp g.F.Functions.meaning g.F.Functions.code c.in-NeedsBuild.ask c.install.result (rw c.make-built.ensures at c.install.ensures.effect) in
-    installs-advances g.R.Receipt.keeps g.R.Receipt.stands g.F.Key.Ord.cmp g.F.Functions.meaning g.F.Functions.code op old v.core w.core c.args.slot c.args.context started c.args.now c.requires.later c.in-NeedsBuild.ask (rw c.in-NeedsBuild.is at h) (g.P.PageReader.failures c.args.reader.now) c.install.result on.0
+    installs-advances g.R.Receipt.keeps g.R.Receipt.stands g.F.Key.Ord.cmp g.F.Mergeable.parts.joined g.F.Functions.meaning g.F.Functions.code op old v.core w.core c.args.slot c.args.context started c.args.now c.requires.later c.in-NeedsBuild.ask (rw c.in-NeedsBuild.is at h) (g.P.PageReader.failures c.args.reader.now) c.install.result on.0
     (λ kept. IfOk-weaker c.install.result _ _ (λ p event. event-finishes v w c.args.slot c.args.context c.args.now g.F.Key.Ord.cmp g.F.Functions.meaning p event) (c.install.ensures.event kept))
     (core-same v w c.install.result c.install.ensures.unchanged)
 
@@ -28,22 +28,22 @@ pub returns-in-Next-clause-nearer : goal.returns-in-Next-clause-nearer
 returns-in-Next-clause-nearer g c = λ n kept near.
     let v = c.args.partition.now in
     let w = c.go.new.self in
-    let on = goes-on-key v w c.args.slot c.args.context c.args.now c.requires.none g.R.Receipt.stands g.F.Key.Ord.cmp g.F.Functions.meaning g.F.Functions.code c.go.result c.go.ensures.effect in
-    goes-nearer g.R.Receipt.keeps g.F.Key.Ord.cmp g.F.Functions.code v.core c.args.slot c.args.context n c.known.ensures.core g.R.Receipt.stands g.F.Functions.meaning w.core c.args.now (rw c.in-Next.is at near) c.go.result on.0
+    let on = goes-on-key v w c.args.slot c.args.context c.args.now c.requires.none g.R.Receipt.stands g.F.Key.Ord.cmp g.F.Mergeable.parts.joined g.F.Functions.meaning g.F.Functions.code c.go.result c.go.ensures.effect in
+    goes-nearer g.R.Receipt.keeps g.F.Key.Ord.cmp g.F.Mergeable.parts.joined g.F.Functions.code v.core c.args.slot c.args.context n c.known.ensures.core g.R.Receipt.stands g.F.Functions.meaning w.core c.args.now (rw c.in-Next.is at near) c.go.result on.0
 
 pub returns-in-NeedsBuild-clause-nearer : goal.returns-in-NeedsBuild-clause-nearer
 returns-in-NeedsBuild-clause-nearer g c = λ n kept near.
     let v = c.args.partition.now in
     let w = c.install.new.self in
     let on = installs-on-key v w c.args.slot c.args.context c.args.now c.requires.none g.F.Key.Ord.cmp g.F.Functions.meaning g.F.Functions.code c.in-NeedsBuild.ask c.install.result (rw c.make-built.ensures at c.install.ensures.effect) in
-    installs-nearer g.R.Receipt.keeps g.F.Key.Ord.cmp g.F.Functions.code v.core c.args.slot c.args.context n c.known.ensures.core g.R.Receipt.stands g.F.Functions.meaning w.core c.args.now c.in-NeedsBuild.ask (rw c.in-NeedsBuild.is at near) c.install.result on.0
+    installs-nearer g.R.Receipt.keeps g.F.Key.Ord.cmp g.F.Mergeable.parts.joined g.F.Functions.code v.core c.args.slot c.args.context n c.known.ensures.core g.R.Receipt.stands g.F.Functions.meaning w.core c.args.now c.in-NeedsBuild.ask (rw c.in-NeedsBuild.is at near) c.install.result on.0
 
 pub returns-in-NeedsLoad-clause-nearer : goal.returns-in-NeedsLoad-clause-nearer
 returns-in-NeedsLoad-clause-nearer g c = λ n kept near. c.load.ensures.nearer n c.in-NeedsLoad._address kept (rw c.in-NeedsLoad.is at near)
 
 pub returns-in-Next-clause-rest : goal.returns-in-Next-clause-rest
 returns-in-Next-clause-rest g c =
-    (goes-on-key c.args.partition.now c.go.new.self c.args.slot c.args.context c.args.now c.requires.none g.R.Receipt.stands g.F.Key.Ord.cmp g.F.Functions.meaning g.F.Functions.code c.go.result c.go.ensures.effect).1
+    (goes-on-key c.args.partition.now c.go.new.self c.args.slot c.args.context c.args.now c.requires.none g.R.Receipt.stands g.F.Key.Ord.cmp g.F.Mergeable.parts.joined g.F.Functions.meaning g.F.Functions.code c.go.result c.go.ensures.effect).1
 
 pub returns-in-NeedsBuild-clause-rest : goal.returns-in-NeedsBuild-clause-rest
 returns-in-NeedsBuild-clause-rest g c =

@@ -3,6 +3,6 @@ use Rattle.fkv_core.proofs.laws.loads_end.Goals as goal
 
 pub returns : goal.returns
 returns g c = record {
-  loads = λ old new slot at came now result h. loads-others _ _ _ _ old new slot at now came result h;
-  fails = λ old new slot at came now why h. fails-whole _ _ _ _ old new slot at now came why h;
+  loads = λ old new slot at came now result h. loads-others _ _ _ _ _ old new slot at now came result h;
+  fails = λ old new slot at came now why h. fails-whole _ _ _ _ _ old new slot at now came why h;
 }

@@ -6,13 +6,13 @@ use Rattle.fkv_core.proofs.KeptWordLemmas.{indexed_all, indexed-last, led-at, ar
 use Rattle.fkv_core.proofs.preserving.kept_words_stay_sound.Goals as goal
 
 pub returns : goal.returns
-returns g c = λ keeps cmp code v vs k e yes_keeps order s borne found still again.
+returns g c = λ keeps cmp join code v vs k e yes_keeps order s borne found still again.
     let p = v.records.partition_bits in
     let b = v.records.bucket_bits in
     let last = indexed-last v vs in
     ap (λ (u : IndexedText _ _). live cmp u.text k) (sym last)
     ∙ c.kept_words_are_sound.ensures.kept cmp (class_in code v.records) (indexed v.records) (indexed_all vs) k e
-    (led-at cmp code order yes_keeps p b v s refl refl)
-    (are-next cmp code order yes_keeps p b v vs refl refl borne)
+    (led-at cmp join code order yes_keeps p b v s refl refl)
+    (are-next cmp join code order yes_keeps p b v vs refl refl borne)
     found still
     (subst (λ u. IsFound (class_in code v.records) u k e) (sym last) again)

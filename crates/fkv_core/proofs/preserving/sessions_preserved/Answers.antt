@@ -3,8 +3,8 @@ use Rattle.fkv_core.proofs.preserving.sessions_preserved.Goals as goal
 
 pub returns : goal.returns
 returns g c = record {
-  goes = λ stands cmp f code old new slot at now result h. goes-seats old new slot at now stands cmp f code result h;
-  installs = λ cmp f code old new slot at ask now result h. installs-seats old new slot at now cmp f code ask result h;
+  goes = λ stands cmp join f code old new slot at now result h. goes-seats old new slot at now stands cmp join f code result h;
+  installs = λ cmp join f code old new slot at ask now result h. installs-seats old new slot at now cmp join f code ask result h;
   gives_up = λ old new slot at now result h. gives-up-seats old new slot at now result h;
   issues = λ code old new slot at op now result h. issues-seats old new slot at now code op result h;
   enters = λ old new now result h. enters-seats old new now result h;

@@ -3,7 +3,7 @@ use Rattle.std.proofs.lemmas.List.{length-set}
 use Rattle.std.proofs.lemmas.Option.{slice_get-get_or}
 use Rattle.std.specs.BTreeMap.{get}
 use Rattle.fkv_partition.specs.CoreViews.{partition_of}
-use Rattle.fkv_feeds.proofs.RunLemmas.{view-get, view-same, view-set}
+use Rattle.fkv_feeds.proofs.RunLemmas.{view-get, view-same, view-set, bare_before}
 use Rattle.fkv_partition.proofs.UnionLemmas.{live-more}
 use Rattle.fkv_feeds.proofs.gathering.gather.Goals as goal
 
@@ -22,13 +22,13 @@ loop-index-preserved g c =
       views = view-same (λ shard. shard.partition) items i x _ here refl ∙ old.views;
       counts = view-same (λ shard. g.D.Reader.PageReader.failures shard.reader) items i x _ here c.in-Ok.ensures.steady ∙ old.counts;
       sized = length-set items i _ ∙ old.sized;
-      so_far = λ keeps q.
+      so_far = λ keeps q. (let bare = bare_before g.F.Key.Ord.cmp g.F.Functions.code views i x.partition (get g.F.Key.Ord.cmp c.loop-index.tree) (idle.numbered i x.partition there) (idle.counted i x.partition there) (old.so_far keeps) in
           live-more g.F.Key.Ord.cmp g.F.Functions.code views i x.partition (get g.F.Key.Ord.cmp c.loop-index.tree) _ there
-          (c.in-Ok.ensures.live keeps)
+          (c.in-Ok.ensures.live keeps bare)
           (subst (λ n. (q : g.row.F-Key.Denot) → partition_of n (g.F.Functions.code q) ≢ i → get g.F.Key.Ord.cmp c.put_live.new.map q ≡ get g.F.Key.Ord.cmp c.loop-index.tree q) (idle.counted i x.partition there)
           (subst (λ p. (q : g.row.F-Key.Denot) → partition_of x.partition.core.count (g.F.Functions.code q) ≢ p → get g.F.Key.Ord.cmp c.put_live.new.map q ≡ get g.F.Key.Ord.cmp c.loop-index.tree q) (idle.numbered i x.partition there)
-          (c.in-Ok.ensures.others keeps)))
-          (old.so_far keeps) q;
+          (c.in-Ok.ensures.others keeps bare)))
+          (old.so_far keeps) q);
     }
 
 pub returns-in-Err-clause-told : goal.returns-in-Err-clause-told

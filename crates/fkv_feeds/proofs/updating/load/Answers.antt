@@ -12,14 +12,14 @@ pub install-requires-clause-open : goal.install-requires-clause-open
 install-requires-clause-open g c =
     let op = c.requires.open.0 in (
       op,
-      (loads-leads g.D.Receipt.Receipt.stands c.args.shard.now.partition c.load.new.self c.args.terms.now.slot c.args.context op _ g.F.Key.Ord.cmp g.F.Functions.meaning g.F.Functions.code c.in-Ok-tick.now c.in-Ok.loaded (g.D.Receipt.Receipt.stands c.args.receipt) (Ok (NeedsBuild _)) c.requires.open.1 c.in-Ok.ensures.receipt
+      (loads-leads g.D.Receipt.Receipt.stands c.args.shard.now.partition c.load.new.self c.args.terms.now.slot c.args.context op _ g.F.Key.Ord.cmp g.F.Mergeable.parts.joined g.F.Functions.meaning g.F.Functions.code c.in-Ok-tick.now c.in-Ok.loaded (g.D.Receipt.Receipt.stands c.args.receipt) (Ok (NeedsBuild _)) c.requires.open.1 c.in-Ok.ensures.receipt
           (rw c.in-Ok-NeedsBuild.field-0-is at c.in-Ok-NeedsBuild.ensures.effect)).1.0,
     )
 
 pub install-requires-clause-asking : goal.install-requires-clause-asking
 install-requires-clause-asking g c =
     let op = c.requires.open.0 in
-    (loads-leads g.D.Receipt.Receipt.stands c.args.shard.now.partition c.load.new.self c.args.terms.now.slot c.args.context op _ g.F.Key.Ord.cmp g.F.Functions.meaning g.F.Functions.code c.in-Ok-tick.now c.in-Ok.loaded (g.D.Receipt.Receipt.stands c.args.receipt) (Ok (NeedsBuild _)) c.requires.open.1 c.in-Ok.ensures.receipt
+    (loads-leads g.D.Receipt.Receipt.stands c.args.shard.now.partition c.load.new.self c.args.terms.now.slot c.args.context op _ g.F.Key.Ord.cmp g.F.Mergeable.parts.joined g.F.Functions.meaning g.F.Functions.code c.in-Ok-tick.now c.in-Ok.loaded (g.D.Receipt.Receipt.stands c.args.receipt) (Ok (NeedsBuild _)) c.requires.open.1 c.in-Ok.ensures.receipt
     (rw c.in-Ok-NeedsBuild.field-0-is at c.in-Ok-NeedsBuild.ensures.effect)).1.1
 
 pub returns-in-Ok-NeedsBuild-clause-ok : goal.returns-in-Ok-NeedsBuild-clause-ok
@@ -28,7 +28,7 @@ returns-in-Ok-NeedsBuild-clause-ok g c =
     let w = c.load.new.self in
     let slot = c.args.terms.now.slot in
     IfOk-weaker c.install.result _ _
-    (λ t h op o. (let l = loads-leads g.D.Receipt.Receipt.stands v w slot c.args.context op _ g.F.Key.Ord.cmp g.F.Functions.meaning g.F.Functions.code c.in-Ok-tick.now c.in-Ok.loaded (g.D.Receipt.Receipt.stands c.args.receipt) (Ok (NeedsBuild _)) o c.in-Ok.ensures.receipt
+    (λ t h op o. (let l = loads-leads g.D.Receipt.Receipt.stands v w slot c.args.context op _ g.F.Key.Ord.cmp g.F.Mergeable.parts.joined g.F.Functions.meaning g.F.Functions.code c.in-Ok-tick.now c.in-Ok.loaded (g.D.Receipt.Receipt.stands c.args.receipt) (Ok (NeedsBuild _)) o c.in-Ok.ensures.receipt
     (rw c.in-Ok-NeedsBuild.field-0-is at c.in-Ok-NeedsBuild.ensures.effect) in
     tries-then g.D.Receipt.Receipt.stands v w slot c.args.context op g.D.Receipt.Receipt.keeps g.F.Key.Ord.cmp g.F.Functions.meaning c.install.new.shard.partition t l.0
     (λ keeps. load-stays g.D.Receipt.Receipt.stands v w slot c.args.context op g.F.Key.Ord.cmp g.F.Functions.meaning c.in-Ok-tick.now (NeedsBuild _) (rw c.in-Ok-NeedsBuild.field-0-is at c.in-Ok-NeedsBuild.ensures.event keeps))
@@ -40,7 +40,7 @@ returns-in-Ok-NeedsLoad-clause-ok g c =
     let v = c.args.shard.now.partition in
     let w = c.load.new.self in
     let slot = c.args.terms.now.slot in
-    λ op o. (let l = loads-leads g.D.Receipt.Receipt.stands v w slot c.args.context op _ g.F.Key.Ord.cmp g.F.Functions.meaning g.F.Functions.code c.in-Ok-tick.now c.in-Ok.loaded (g.D.Receipt.Receipt.stands c.args.receipt) (Ok (NeedsLoad _ _)) o c.in-Ok.ensures.receipt
+    λ op o. (let l = loads-leads g.D.Receipt.Receipt.stands v w slot c.args.context op _ g.F.Key.Ord.cmp g.F.Mergeable.parts.joined g.F.Functions.meaning g.F.Functions.code c.in-Ok-tick.now c.in-Ok.loaded (g.D.Receipt.Receipt.stands c.args.receipt) (Ok (NeedsLoad _ _)) o c.in-Ok.ensures.receipt
     (rw c.in-Ok-NeedsLoad.field-0-is at c.in-Ok-NeedsLoad.ensures.effect) in
     tried g.D.Receipt.Receipt.stands v w slot c.args.context op g.D.Receipt.Receipt.keeps g.F.Key.Ord.cmp g.F.Functions.meaning (Some c.in-Ok-NeedsLoad.further) l.0 l.1
     (λ keeps. load-stays g.D.Receipt.Receipt.stands v w slot c.args.context op g.F.Key.Ord.cmp g.F.Functions.meaning c.in-Ok-tick.now (NeedsLoad _ _) (rw c.in-Ok-NeedsLoad.field-0-is at c.in-Ok-NeedsLoad.ensures.event keeps)))
@@ -50,14 +50,14 @@ returns-in-Ok-Next-clause-ok g c =
     let v = c.args.shard.now.partition in
     let w = c.load.new.self in
     let slot = c.args.terms.now.slot in
-    λ op o. (let l = loads-leads g.D.Receipt.Receipt.stands v w slot c.args.context op _ g.F.Key.Ord.cmp g.F.Functions.meaning g.F.Functions.code c.in-Ok-tick.now c.in-Ok.loaded (g.D.Receipt.Receipt.stands c.args.receipt) (Ok Next) o c.in-Ok.ensures.receipt
+    λ op o. (let l = loads-leads g.D.Receipt.Receipt.stands v w slot c.args.context op _ g.F.Key.Ord.cmp g.F.Mergeable.parts.joined g.F.Functions.meaning g.F.Functions.code c.in-Ok-tick.now c.in-Ok.loaded (g.D.Receipt.Receipt.stands c.args.receipt) (Ok Next) o c.in-Ok.ensures.receipt
     (rw c.in-Ok-Next.field-0-is at c.in-Ok-Next.ensures.effect) in
     tried g.D.Receipt.Receipt.stands v w slot c.args.context op g.D.Receipt.Receipt.keeps g.F.Key.Ord.cmp g.F.Functions.meaning None l.0 l.1
     (λ keeps. load-stays g.D.Receipt.Receipt.stands v w slot c.args.context op g.F.Key.Ord.cmp g.F.Functions.meaning c.in-Ok-tick.now Next (rw c.in-Ok-Next.field-0-is at c.in-Ok-Next.ensures.event keeps)))
 
 pub returns-clause-told : goal.returns-clause-told
 returns-clause-told g c =
-    elim (loads-leads g.D.Receipt.Receipt.stands c.args.shard.now.partition c.load.new.self c.args.terms.now.slot c.args.context c.requires.open.0 _ g.F.Key.Ord.cmp g.F.Functions.meaning g.F.Functions.code c.in-Ok-tick.now c.in-Ok.loaded (g.D.Receipt.Receipt.stands c.args.receipt) (Err _) c.requires.open.1 c.in-Ok.ensures.receipt c.in-Err-load.ensures.effect) [
+    elim (loads-leads g.D.Receipt.Receipt.stands c.args.shard.now.partition c.load.new.self c.args.terms.now.slot c.args.context c.requires.open.0 _ g.F.Key.Ord.cmp g.F.Mergeable.parts.joined g.F.Functions.meaning g.F.Functions.code c.in-Ok-tick.now c.in-Ok.loaded (g.D.Receipt.Receipt.stands c.args.receipt) (Err _) c.requires.open.1 c.in-Ok.ensures.receipt c.in-Err-load.ensures.effect) [
       | inl a ↦ inr (inl a)
       | inr b ↦ inr (inr (IsFault.spoilt b.0 b.1 b.2 refl c.in-Ok.ensures.steady))
     ]

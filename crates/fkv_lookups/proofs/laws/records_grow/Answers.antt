@@ -12,5 +12,5 @@ returns g c = record {
   frozen = λ keeps code v e key value a t low.
       let most = t.regions.read_only in
       let safe = t.regions.agree.in_order.safe in
-      entry_at-old v.text (record { address = v.tail; previous = address_of e.word; key = key; value = value; delta = false }) a (λ same. omega arith);
+      entry_at-old v.entries (record { address = v.tail; previous = address_of e.word; key = key; value = value; delta = false }) a (λ same. omega arith);
 }

@@ -1,11 +1,11 @@
-use Rattle.std.proofs.Common.{◌≡◌, ◌∙◌, Ok, sym, refl, ap, true, false}
+use Rattle.std.proofs.Common.{◌≡◌, ◌∙◌, Ok, sym, refl, ap}
 use Rattle.fkv_records.specs.Places.{offset_at}
 use Rattle.fkv_records.specs.Records.{size_of}
 use Rattle.fkv_pages.specs.Spelled.{record_of, part_of}
 use Rattle.fkv_pages.proofs.loads.entry_in.Goals as goal
 
-pub returns-else-found-clause-found : goal.returns-else-found-clause-found
-returns-else-found-clause-found g c = λ e h.
+pub returns-in-Ok-clause-found : goal.returns-in-Ok-clause-found
+returns-in-Ok-clause-found g c = λ e h.
     let bytes : c.part-bytes.result.now ≡ part_of c.args.page.now (offset_at c.args.shape.page_bits c.args.address) (size_of g.K.Fixed.SIZE g.V.Fixed.SIZE) =
     c.part-bytes.ensures ∙ rw (c.offset_of.ensures.value, c.requires.size) refl in
     let r = c.read_record.ensures.only (record_of e) h.sound (rw bytes h.spells) in
@@ -18,13 +18,3 @@ returns-in-Err-clause-found g c = λ e h.
     c.part-bytes.ensures ∙ rw (c.offset_of.ensures.value, c.requires.size) refl in
     let r = c.read_record.ensures.only (record_of e) h.sound (rw bytes h.spells) in
     absurd (cc (r, c.in-Err.is))
-
-pub returns-then-found-clause-found : goal.returns-then-found-clause-found
-returns-then-found-clause-found g c = λ e h.
-    let bytes : c.part-bytes.result.now ≡ part_of c.args.page.now (offset_at c.args.shape.page_bits c.args.address) (size_of g.K.Fixed.SIZE g.V.Fixed.SIZE) =
-    c.part-bytes.ensures ∙ rw (c.offset_of.ensures.value, c.requires.size) refl in
-    let r = c.read_record.ensures.only (record_of e) h.sound (rw bytes h.spells) in
-    let same : c.in-Ok.found ≡ record_of e = cc (r, c.in-Ok.is) in
-    let whole : c.in-Ok.found.delta ≡ false = ap (λ x. x.delta) same ∙ h.whole in
-    let both : true ≡ false = sym c.if-found.true ∙ whole in
-    absurd (cc)

@@ -32,7 +32,8 @@ invariant_of-self-in-Ok-Some g c =
     (sound-appended c.self.invariant c.args.slot c.args.context c.args.now w.entry w.key w.value
     (rw (← c.self.view_is) at c.requires.unclaimed)
     (rw (← c.self.view_is) at c.requires.write.entry)
-    (rw made at c.known.ensures)
+    (rw made at c.known.ensures.traced)
+    (rw made at c.known.ensures.stood)
     (rw made at changes)
     (rw made at tentative)
     (rw (← c.self.view_is) at c.requires.write.own))

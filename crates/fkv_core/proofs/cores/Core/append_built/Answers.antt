@@ -28,11 +28,11 @@ returns-in_default-clause-event g c = λ keeps.
     let v = c.args.self.now in
     let ask = c.args.built in
     let kept = c.args.kept in
-    let entry = kept-entry g.F.Key.Ord.cmp g.F.Functions.code v c.known.ensures c.args.slot c.args.context a.operation kept ask a.here a.question c.requires.stands in
+    let entry = kept-entry g.F.Key.Ord.cmp g.F.Mergeable.parts.joined g.F.Functions.code v c.known.ensures c.args.slot c.args.context a.operation kept ask a.here a.question c.requires.stands in
     let leads = c.entries_lead.ensures.found g.R.Receipt.keeps g.F.Functions.code v.records (class_in g.F.Functions.code v.records ask.key) kept c.known.ensures.traced entry in
     let newest = c.entries_lead.ensures.held g.F.Key.Ord.cmp g.R.Receipt.keeps g.F.Functions.code v.records ask.key (address_of kept.word) order c.known.ensures.traced leads in
     rw c.free.ensures
-    (event-declined g.F.Key.Ord.cmp g.F.Functions.meaning g.F.Functions.code v c.args.slot c.args.context c.args.now a.operation a.here keeps c.known.ensures kept ask a.question c.requires.stands newest (sym c.in_default.ensures))
+    (event-declined g.F.Key.Ord.cmp g.F.Mergeable.parts.joined g.F.Functions.meaning g.F.Functions.code v c.args.slot c.args.context c.args.now a.operation a.here keeps c.known.ensures kept ask a.question c.requires.stands newest (sym c.in_default.ensures))
 
 pub append-requires-clause-unclaimed : goal.append-requires-clause-unclaimed
 append-requires-clause-unclaimed g c =
@@ -46,8 +46,8 @@ append-requires-clause-write g c =
     let asked = question-of x.number x.op x.phase c.args.kept c.args.built a.question in
     let v = c.args.self.now in
     rw c.ask-ask.ensures (record {
-      own = ap (λ k. partition_of v.count (g.F.Functions.code k)) (ap key_of (sym asked.op_is)) ∙ own-at g.F.Key.Ord.cmp g.F.Functions.code v c.known.ensures c.args.slot c.args.context x a.here;
-      entry = kept-entry g.F.Key.Ord.cmp g.F.Functions.code v c.known.ensures c.args.slot c.args.context x c.args.kept c.args.built a.here a.question c.requires.stands;
+      own = ap (λ k. partition_of v.count (g.F.Functions.code k)) (ap key_of (sym asked.op_is)) ∙ own-at g.F.Key.Ord.cmp g.F.Mergeable.parts.joined g.F.Functions.code v c.known.ensures c.args.slot c.args.context x a.here;
+      entry = kept-entry g.F.Key.Ord.cmp g.F.Mergeable.parts.joined g.F.Functions.code v c.known.ensures c.args.slot c.args.context x c.args.kept c.args.built a.here a.question c.requires.stands;
     })
 
 pub returns-in-Err-clause-effect : goal.returns-in-Err-clause-effect
@@ -66,7 +66,7 @@ pub returns-in-Ok-None-clause-event : goal.returns-in-Ok-None-clause-event
 returns-in-Ok-None-clause-event g c = λ keeps.
     let a = c.requires.asks in
     let is = ap Ok c.in-Ok-None.field-0-is in
-    rw (c.in-Ok-None.ensures.full is) (event-waits g.F.Key.Ord.cmp g.F.Functions.meaning g.F.Functions.code c.args.self.now c.args.slot c.args.context c.args.now a.operation a.here Full)
+    rw (c.in-Ok-None.ensures.full is) (event-waits g.F.Key.Ord.cmp g.F.Mergeable.parts.joined g.F.Functions.meaning g.F.Functions.code c.args.self.now c.args.slot c.args.context c.args.now a.operation a.here Full)
 
 pub returns-in-Ok-Some-clause-effect : goal.returns-in-Ok-Some-clause-effect
 returns-in-Ok-Some-clause-effect g c =
@@ -86,9 +86,9 @@ returns-in-Ok-Some-clause-event g c = λ keeps.
     let ask = c.args.built in
     let kept = c.args.kept in
     let made = rw c.in-Ok-Some.field-0-is at c.in-Ok-Some.ensures.ok in
-    let entry = kept-entry g.F.Key.Ord.cmp g.F.Functions.code v c.known.ensures c.args.slot c.args.context a.operation kept ask a.here a.question c.requires.stands in
+    let entry = kept-entry g.F.Key.Ord.cmp g.F.Mergeable.parts.joined g.F.Functions.code v c.known.ensures c.args.slot c.args.context a.operation kept ask a.here a.question c.requires.stands in
     let leads = c.entries_lead.ensures.found g.R.Receipt.keeps g.F.Functions.code v.records (class_in g.F.Functions.code v.records ask.key) kept c.known.ensures.traced entry in
     let newest = c.entries_lead.ensures.held g.F.Key.Ord.cmp g.R.Receipt.keeps g.F.Functions.code v.records ask.key (address_of kept.word) order c.known.ensures.traced leads in
     rw (made, c.read-shown.ensures, c.ask-ask.ensures)
-    (event-done g.F.Key.Ord.cmp g.F.Functions.meaning g.F.Functions.code v c.args.slot c.args.context c.args.now a.operation a.here keeps c.known.ensures kept ask c.in-Some.value a.question c.requires.stands newest (sym c.in-Some.ensures)
+    (event-done g.F.Key.Ord.cmp g.F.Mergeable.parts.joined g.F.Functions.meaning g.F.Functions.code v c.args.slot c.args.context c.args.now a.operation a.here keeps c.known.ensures kept ask c.in-Some.value a.question c.requires.stands newest (sym c.in-Some.ensures)
     (c.records_grow.ensures.lives g.F.Key.Ord.cmp v.records kept ask.key))

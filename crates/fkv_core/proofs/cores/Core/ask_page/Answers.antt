@@ -23,8 +23,8 @@ receipt-requires g c =
     let x = c.args.operation.now in
     let d = c.requires.decided in
     let inside = (open_at (slots_of v) v.contexts c.args.slot c.args.context x d.here).inside in
-    let met = load-met g.F.Functions.meaning x.op (met_at g.F.Key.Ord.cmp g.F.Functions.code v c.args.slot (key_of x.op)) c.args.wanted d.decided in
-    let w = c.meetings_tell.ensures.wanted g.R.Receipt.keeps g.F.Key.Ord.cmp g.F.Functions.code v.records (key_of x.op) c.args.slot c.args.wanted order c.known.ensures.traced inside met in
+    let met = load-met g.F.Functions.meaning x.op (met_at g.F.Key.Ord.cmp g.F.Mergeable.parts.joined g.F.Functions.code v c.args.slot (key_of x.op)) c.args.wanted c.args.parts d.decided in
+    let w = c.meetings_tell.ensures.wanted g.R.Receipt.keeps g.F.Key.Ord.cmp g.F.Mergeable.parts.joined g.F.Functions.code v.records (key_of x.op) c.args.slot c.args.wanted c.args.parts order c.known.ensures.traced c.known.ensures.stood inside met in
     rw c.page_of-page.ensures (subst (λ u. page_at u.records.page_bits c.args.wanted < length u.records.receipts) (sym c.self.view_is) (page_flushed v.records c.args.wanted c.known.ensures.traced w.begun w.low))
 
 pub set_phase-requires-clause-unclaimed : goal.set_phase-requires-clause-unclaimed
@@ -42,26 +42,26 @@ set_phase-requires-clause-stands g c =
     let a = address_of c.args.kept.word in
     let inside = (open_at (slots_of v) v.contexts c.args.slot c.args.context x d.here).inside in
     let leads = c.entries_lead.ensures.found g.R.Receipt.keeps g.F.Functions.code v.records class c.args.kept c.known.ensures.traced c.requires.stands in
-    let met = load-met g.F.Functions.meaning x.op (met_at g.F.Key.Ord.cmp g.F.Functions.code v c.args.slot (key_of x.op)) c.args.wanted d.decided in
+    let met = load-met g.F.Functions.meaning x.op (met_at g.F.Key.Ord.cmp g.F.Mergeable.parts.joined g.F.Functions.code v c.args.slot (key_of x.op)) c.args.wanted c.args.parts d.decided in
     let begins : c.begin.result ≡ v.records.begin = c.begin.ensures ∙ ap (λ u. u.records.begin) c.self.view_is in
-    rw begins (loading-stands g.F.Key.Ord.cmp g.F.Functions.meaning g.F.Functions.code v c.args.slot c.args.context c.args.now x d.here g.R.Receipt.keeps c.args.kept c.args.wanted
+    rw begins (loading-stands g.F.Key.Ord.cmp g.F.Mergeable.parts.joined g.F.Functions.meaning g.F.Functions.code v c.args.slot c.args.context c.args.now x d.here g.R.Receipt.keeps c.args.kept c.args.wanted c.args.parts
     c.requires.stands
     (c.entries_lead.ensures.low g.R.Receipt.keeps g.F.Functions.code v.records class a c.known.ensures.traced leads)
     (c.entries_lead.ensures.held g.F.Key.Ord.cmp g.R.Receipt.keeps g.F.Functions.code v.records (key_of x.op) a order c.known.ensures.traced leads)
-    (c.meetings_tell.ensures.wanted g.R.Receipt.keeps g.F.Key.Ord.cmp g.F.Functions.code v.records (key_of x.op) c.args.slot c.args.wanted order c.known.ensures.traced inside met)
+    (c.meetings_tell.ensures.wanted g.R.Receipt.keeps g.F.Key.Ord.cmp g.F.Mergeable.parts.joined g.F.Functions.code v.records (key_of x.op) c.args.slot c.args.wanted c.args.parts order c.known.ensures.traced c.known.ensures.stood inside met)
     d.decided c.known.ensures.traced)
 
 pub returns-in-Err-clause-effect : goal.returns-in-Err-clause-effect
-returns-in-Err-clause-effect g c = unshared c.args.operation.now c.args.wanted c.requires.decided refl (ap Err c.in-Err.ensures.memory)
+returns-in-Err-clause-effect g c = unshared c.args.operation.now c.args.wanted c.args.parts c.requires.decided refl (ap Err c.in-Err.ensures.memory)
 
 pub returns-clause-effect : goal.returns-clause-effect
 returns-clause-effect g c =
     let v = c.args.self.now in
     let begins : c.begin.result ≡ v.records.begin = c.begin.ensures ∙ ap (λ u. u.records.begin) c.self.view_is in
     let held = subst (λ u. IsHeldBy u.records.receipts (page_at u.records.page_bits c.args.wanted) (g.R.Receipt.stands c.in-Ok.receipt)) c.self.view_is (rw c.page_of-page.ensures at c.in-Ok.ensures.stands) in
-    rw (c.set_phase.ensures, begins) (asks_page c.args.operation.now c.args.wanted c.args.kept c.in-Ok.receipt c.requires.decided c.requires.kept held refl refl)
+    rw (c.set_phase.ensures, begins) (asks_page c.args.operation.now c.args.wanted c.args.parts c.args.kept c.in-Ok.receipt c.requires.decided c.requires.kept held refl refl)
 
 pub returns-clause-event : goal.returns-clause-event
 returns-clause-event g c =
     rw c.set_phase.ensures
-    (event-loads g.F.Key.Ord.cmp g.F.Functions.meaning g.F.Functions.code c.args.self.now c.args.slot c.args.context c.args.now c.args.operation.now c.requires.decided.here _ c.in-Ok.receipt c.args.wanted)
+    (event-loads g.F.Key.Ord.cmp g.F.Mergeable.parts.joined g.F.Functions.meaning g.F.Functions.code c.args.self.now c.args.slot c.args.context c.args.now c.args.operation.now c.requires.decided.here _ c.in-Ok.receipt c.args.wanted)

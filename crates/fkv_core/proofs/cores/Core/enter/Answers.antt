@@ -15,7 +15,7 @@ pub invariant_of-self-2 : goal.invariant_of-self-2
 invariant_of-self-2 g c =
     let was = c.self.inside.records.regions in
     rw c.in-Ok.ensures.effect
-    (sound-regions c.self.invariant (entered was c.in-Ok.slot) c.args.now (rw c.in-Ok.ensures.effect at c.known.ensures) (record { closed = omega arith; head = omega arith; safe = omega arith; read_only = omega arith })
+    (sound-regions c.self.invariant (entered was c.in-Ok.slot) c.args.now (rw c.in-Ok.ensures.effect at c.known.ensures.traced) (rw c.in-Ok.ensures.effect at c.known.ensures.stood) (record { closed = omega arith; head = omega arith; safe = omega arith; read_only = omega arith })
     (λ t d x low here. renewed-stays was.epochs.slots c.in-Ok.slot t was.epochs.epoch (c.self.invariant.housed t d x low here)))
 
 pub returns-clause-effect : goal.returns-clause-effect
@@ -25,4 +25,4 @@ returns-clause-effect g c =
 pub returns-clause-event : goal.returns-clause-event
 returns-clause-event g c =
     rw (c.in-Ok.ensures.effect, ← c.self.view_is)
-    (event-enter g.F.Key.Ord.cmp g.F.Functions.code _ c.self.invariant c.in-Ok.slot c.args.now (slot-some _ c.in-Ok.slot c.in-Ok.ensures.slot))
+    (event-enter g.F.Key.Ord.cmp g.F.Mergeable.parts.joined g.F.Functions.code _ c.self.invariant c.in-Ok.slot c.args.now (slot-some _ c.in-Ok.slot c.in-Ok.ensures.slot))

@@ -11,7 +11,7 @@ returns-in-Err-clause-effect g c =
 pub invariant_of-self-2 : goal.invariant_of-self-2
 invariant_of-self-2 g c =
     let made = c.in-Ok.ensures in
-    rw made.done (sound-flushed c.self.invariant _ c.args.now (rw made.done at c.known.ensures))
+    rw made.done (sound-flushed c.self.invariant _ c.args.now (rw made.done at c.known.ensures.traced) (rw made.done at c.known.ensures.stood))
 
 pub returns-clause-effect : goal.returns-clause-effect
 returns-clause-effect g c =

@@ -12,7 +12,7 @@ pub returns-in-Some-question_of-clause-event : goal.returns-in-Some-question_of-
 returns-in-Some-question_of-clause-event g c =
     let q = c.in-Some-question_of.question in
     rw c.pass.ensures
-    (event-asks g.F.Key.Ord.cmp g.F.Functions.meaning g.F.Functions.code c.args.self.now c.args.slot c.args.context c.args.now c.in-Some.open (sym c.in-Some.ensures.value) q.0 q.1 (sym c.in-Some-question_of.ensures))
+    (event-asks g.F.Key.Ord.cmp g.F.Mergeable.parts.joined g.F.Functions.meaning g.F.Functions.code c.args.self.now c.args.slot c.args.context c.args.now c.in-Some.open (sym c.in-Some.ensures.value) q.0 q.1 (sym c.in-Some-question_of.ensures))
 
 pub returns-in-Some-loading_of-clause-effect : goal.returns-in-Some-loading_of-clause-effect
 returns-in-Some-loading_of-clause-effect g c =

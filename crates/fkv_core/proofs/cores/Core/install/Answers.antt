@@ -20,7 +20,7 @@ pub holds-requires : goal.holds-requires
 holds-requires g c =
     let q = c.in-Some-question_of.question in
     let at : context_in c.self.inside.records.regions.epochs.slots c.self.inside.contexts.items c.args.slot c.args.context ≡ Some c.in-Some.open = rw (← c.self.view_is) at (sym c.in-Some.ensures.value) in
-    (kept-at g.F.Key.Ord.cmp g.F.Functions.code (view_of c.self.inside.number c.self.inside.count c.self.inside.records c.self.inside.contexts.items c.self.inside.moment) c.self.invariant c.args.slot c.args.context c.in-Some.open q.0 q.1 at (sym c.in-Some-question_of.ensures)).entry.place
+    (kept-at g.F.Key.Ord.cmp g.F.Mergeable.parts.joined g.F.Functions.code (view_of c.self.inside.number c.self.inside.count c.self.inside.records c.self.inside.contexts.items c.self.inside.moment) c.self.invariant c.args.slot c.args.context c.in-Some.open q.0 q.1 at (sym c.in-Some-question_of.ensures)).entry.place
 
 pub set_phase-requires-clause-unclaimed : goal.set_phase-requires-clause-unclaimed
 set_phase-requires-clause-unclaimed g c =
@@ -38,7 +38,7 @@ pub returns-then-not-holds-clause-event : goal.returns-then-not-holds-clause-eve
 returns-then-not-holds-clause-event g c = λ keeps.
     let v = c.args.self.now in
     rw c.set_phase.ensures
-    (event-next g.F.Key.Ord.cmp g.F.Functions.meaning g.F.Functions.code v c.args.slot c.args.context c.args.now c.in-Some.open (sym c.in-Some.ensures.value) Fresh v.records refl refl refl)
+    (event-next g.F.Key.Ord.cmp g.F.Mergeable.parts.joined g.F.Functions.meaning g.F.Functions.code v c.args.slot c.args.context c.args.now c.in-Some.open (sym c.in-Some.ensures.value) Fresh v.records refl refl refl)
 
 pub append_built-requires-clause-asks : goal.append_built-requires-clause-asks
 append_built-requires-clause-asks g c =

@@ -1,12 +1,14 @@
-use Rattle.std.proofs.Common.{◌≡◌, ◌<◌, ◌≤◌, true, false, None, Ok, Err, length, refl, sym, ap, subst, ◌∙◌, arith}
+use Rattle.std.proofs.Common.{◌≡◌, ◌<◌, ◌≤◌, true, false, Ok, Err, length, refl, sym, ap, subst, ◌∙◌, arith}
 use Rattle.fkv_functions.proofs.KeyOrder.{key_order}
 use Rattle.fkv_records.specs.Places.{page_at, IsRecordStart}
 use Rattle.fkv_texts.specs.declared.entries.ChainPosition.TheVariants.{Found, Below}
+use Rattle.fkv_texts.specs.Deltas.{onto}
 use Rattle.fkv_pages.specs.Spelled.{IsEntryIn}
+use Rattle.fkv_pages.specs.Loads.{IsHeldBy}
 use Rattle.fkv_operations.specs.After.{key_of}
 use Rattle.fkv_core.specs.Contexts.{claim_by}
 use Rattle.fkv_core.specs.Inside.{view_of}
-use Rattle.fkv_core.specs.Loading.{Loads, found, ended}
+use Rattle.fkv_core.specs.Loading.{Tells, Loads, found, ended}
 use Rattle.fkv_core.proofs.EventLemmas.{claims-none}
 use Rattle.fkv_core.proofs.LoadLemmas.{came-of, stranger-kept, told-done, further-done, may-load, wanted-flushed, reads-on, kept-told, further-flushed, further-stands, newest-told}
 use Rattle.fkv_core.proofs.PendingLemmas.{load-told, further-load}
@@ -22,7 +24,7 @@ is_own-requires g c =
     let l = c.args.loading in
     let a = c.requires.awaits in
     let p = c.args.loaded in
-    let there = wanted-flushed g.F.Key.Ord.cmp g.F.Functions.code order v c.known.ensures c.args.slot c.args.context x l a in
+    let there = wanted-flushed g.F.Key.Ord.cmp g.F.Mergeable.parts.joined g.F.Functions.code order v c.known.ensures c.args.slot c.args.context x l a in
     rw c.page_of-page.ensures (subst (λ u. page_at u.records.page_bits l.wanted < length u.records.receipts) (sym c.self.view_is) there)
 
 pub returns-in-Err-clause-effect : goal.returns-in-Err-clause-effect
@@ -35,12 +37,12 @@ returns-in-Err-clause-effect g c =
     let l = c.args.loading in
     let a = c.requires.awaits in
     let p = c.args.loaded in
-    let there = wanted-flushed g.F.Key.Ord.cmp g.F.Functions.code order v c.known.ensures c.args.slot c.args.context x l a in
+    let there = wanted-flushed g.F.Key.Ord.cmp g.F.Mergeable.parts.joined g.F.Functions.code order v c.known.ensures c.args.slot c.args.context x l a in
     let s = stranger-kept (view_of c.self.inside.number c.self.inside.count c.self.inside.records c.self.inside.contexts.items c.self.inside.moment) v c.page_of-page.result l.wanted (g.R.Receipt.stands p.receipt) c.in-Err.refused c.self.view_is c.page_of-page.ensures there c.in-Err.ensures.stranger in
     Loads.stranger x l p s.0 a refl s.1 s.2 refl (ap Err s.3)
 
-pub trace_in-requires : goal.trace_in-requires
-trace_in-requires g c =
+pub first_of-low-requires : goal.first_of-low-requires
+first_of-low-requires g c =
     let ord = g.met.F.Key.Ord in
     let known = g.met.F.Key.FixedKey in
     let order = key_order g.F.Key.PartialEq.eq g.F.Key.Ord.cmp ord.matches_eq known.exact ord.total in
@@ -49,8 +51,21 @@ trace_in-requires g c =
     let l = c.args.loading in
     let a = c.requires.awaits in
     let p = c.args.loaded in
-    let there = wanted-flushed g.F.Key.Ord.cmp g.F.Functions.code order v c.known.ensures c.args.slot c.args.context x l a in
-    record { flushed = subst (λ u. page_at u.records.page_bits l.wanted < length u.records.receipts) (sym c.self.view_is) there }
+    let there = wanted-flushed g.F.Key.Ord.cmp g.F.Mergeable.parts.joined g.F.Functions.code order v c.known.ensures c.args.slot c.args.context x l a in
+    rw c.page_of-page.ensures (subst (λ u. page_at u.records.page_bits l.wanted < length u.records.receipts) (sym c.self.view_is) there)
+
+pub trace_in-requires-clause-own : goal.trace_in-requires-clause-own
+trace_in-requires-clause-own g c =
+    let v = c.args.self.now in
+    let x = c.args.operation.now in
+    let l = c.args.loading in
+    let a = c.requires.awaits in
+    let p = c.args.loaded in
+    subst (λ n. IsHeldBy c.self.inside.records.receipts n (g.R.Receipt.stands p.receipt)) c.page_of-page.ensures (c.in_default.ensures.own.0 refl)
+
+pub trace_in-requires-clause-floor : goal.trace_in-requires-clause-floor
+trace_in-requires-clause-floor g c =
+    rw (c.first_of-low.ensures, c.page_of-page.ensures) (omega arith)
 
 pub free-requires-clause-unclaimed : goal.free-requires-clause-unclaimed
 free-requires-clause-unclaimed g c =
@@ -71,9 +86,9 @@ returns-in-Err-trace_in-clause-effect g c =
     let l = c.args.loading in
     let a = c.requires.awaits in
     let p = c.args.loaded in
-    let came = came-of g.R.Receipt.keeps (IsEntryIn g.F.Key.Fixed.bytes_of g.F.Value.Fixed.bytes_of g.F.Key.Known.is_known g.F.Value.Known.is_known g.F.Key.Fixed.SIZE g.F.Value.Fixed.SIZE) g.F.Key.Ord.cmp g.F.Functions.code (view_of c.self.inside.number c.self.inside.count c.self.inside.records c.self.inside.contexts.items c.self.inside.moment) v c.key-key.result (key_of x.op) c.page_of-page.result l.wanted (g.R.Receipt.stands p.receipt) p.bytes c.trace_in.result c.self.view_is c.key-key.ensures c.page_of-page.ensures (c.in_default.ensures.own.0 refl) c.trace_in.ensures.read c.trace_in.ensures.kept in
+    let came = came-of g.R.Receipt.keeps (IsEntryIn g.F.Key.Fixed.bytes_of g.F.Value.Fixed.bytes_of g.F.Key.Known.is_known g.F.Value.Known.is_known g.F.Key.Fixed.SIZE g.F.Value.Fixed.SIZE) g.F.Key.Ord.cmp g.F.Mergeable.parts.joined g.F.Functions.code (view_of c.self.inside.number c.self.inside.count c.self.inside.records c.self.inside.contexts.items c.self.inside.moment) v c.key-key.result (key_of x.op) c.page_of-page.result c.first_of-low.result l.wanted l.parts (g.R.Receipt.stands p.receipt) p.bytes c.trace_in.result c.self.view_is c.key-key.ensures c.page_of-page.ensures c.first_of-low.ensures (c.in_default.ensures.own.0 refl) c.trace_in.ensures.read c.trace_in.ensures.kept in
     let page : c.page_of-page.result ≡ page_at v.records.page_bits l.wanted = c.page_of-page.ensures ∙ ap (λ u. page_at u.records.page_bits l.wanted) c.self.view_is in
-    rw (c.free.ensures, page) (Loads.damaged x l p c.in-Err-trace_in._damaged (reads-on g.F.Key.Ord.cmp g.F.Functions.code order v c.known.ensures c.args.slot c.args.context x l a (IsEntryIn g.F.Key.Fixed.bytes_of g.F.Value.Fixed.bytes_of g.F.Key.Known.is_known g.F.Value.Known.is_known g.F.Key.Fixed.SIZE g.F.Value.Fixed.SIZE) (g.R.Receipt.stands p.receipt) p.bytes c.trace_in.result came (Err c.in-Err-trace_in._damaged) c.in-Err-trace_in.is) refl refl refl)
+    rw (c.free.ensures, page) (Loads.damaged x l p c.in-Err-trace_in._damaged (reads-on g.F.Key.Ord.cmp g.F.Mergeable.parts.joined g.F.Functions.code order v c.known.ensures c.args.slot c.args.context x l a (IsEntryIn g.F.Key.Fixed.bytes_of g.F.Value.Fixed.bytes_of g.F.Key.Known.is_known g.F.Value.Known.is_known g.F.Key.Fixed.SIZE g.F.Value.Fixed.SIZE) (g.R.Receipt.stands p.receipt) p.bytes c.trace_in.result came (Err c.in-Err-trace_in._damaged) c.in-Err-trace_in.is) refl refl refl)
 
 pub tell-requires-clause-asks : goal.tell-requires-clause-asks
 tell-requires-clause-asks g c =
@@ -85,7 +100,7 @@ tell-requires-clause-asks g c =
     let l = c.args.loading in
     let a = c.requires.awaits in
     let p = c.args.loaded in
-    may-load g.F.Key.Ord.cmp g.F.Functions.code order v c.known.ensures c.args.slot c.args.context x l a
+    may-load g.F.Key.Ord.cmp g.F.Mergeable.parts.joined g.F.Functions.code order v c.known.ensures c.args.slot c.args.context x l a
 
 pub tell-requires-clause-kept : goal.tell-requires-clause-kept
 tell-requires-clause-kept g c =
@@ -97,11 +112,13 @@ tell-requires-clause-kept g c =
     let l = c.args.loading in
     let a = c.requires.awaits in
     let p = c.args.loaded in
-    let came = came-of g.R.Receipt.keeps (IsEntryIn g.F.Key.Fixed.bytes_of g.F.Value.Fixed.bytes_of g.F.Key.Known.is_known g.F.Value.Known.is_known g.F.Key.Fixed.SIZE g.F.Value.Fixed.SIZE) g.F.Key.Ord.cmp g.F.Functions.code (view_of c.self.inside.number c.self.inside.count c.self.inside.records c.self.inside.contexts.items c.self.inside.moment) v c.key-key.result (key_of x.op) c.page_of-page.result l.wanted (g.R.Receipt.stands p.receipt) p.bytes c.trace_in.result c.self.view_is c.key-key.ensures c.page_of-page.ensures (c.in_default.ensures.own.0 refl) c.trace_in.ensures.read c.trace_in.ensures.kept in
-    kept-told g.F.Key.Ord.cmp g.F.Functions.code order v c.known.ensures c.args.slot c.args.context x l a (IsEntryIn g.F.Key.Fixed.bytes_of g.F.Value.Fixed.bytes_of g.F.Key.Known.is_known g.F.Value.Known.is_known g.F.Key.Fixed.SIZE g.F.Value.Fixed.SIZE) (g.R.Receipt.stands p.receipt) p.bytes c.trace_in.result came (Found c.in-Ok-Found.last) c.in-Ok-Found.last.value (c.in-Ok-Found.is ∙ ap Ok c.in-Ok-Found.field-0-is) (found c.in-Ok-Found.last)
+    let came = came-of g.R.Receipt.keeps (IsEntryIn g.F.Key.Fixed.bytes_of g.F.Value.Fixed.bytes_of g.F.Key.Known.is_known g.F.Value.Known.is_known g.F.Key.Fixed.SIZE g.F.Value.Fixed.SIZE) g.F.Key.Ord.cmp g.F.Mergeable.parts.joined g.F.Functions.code (view_of c.self.inside.number c.self.inside.count c.self.inside.records c.self.inside.contexts.items c.self.inside.moment) v c.key-key.result (key_of x.op) c.page_of-page.result c.first_of-low.result l.wanted l.parts (g.R.Receipt.stands p.receipt) p.bytes c.trace_in.result c.self.view_is c.key-key.ensures c.page_of-page.ensures c.first_of-low.ensures (c.in_default.ensures.own.0 refl) c.trace_in.ensures.read c.trace_in.ensures.kept in
+    let parts = c.in-Ok.came.parts in
+    let is = c.in-Ok.is ∙ ap (λ q. Ok (record { parts = parts; position = q })) c.in-Found.is in
+    rw (c.onto-value.ensures, c.in-Found.last-is) (kept-told g.F.Key.Ord.cmp g.F.Mergeable.parts.joined g.F.Functions.code order v c.known.ensures c.args.slot c.args.context x l a (IsEntryIn g.F.Key.Fixed.bytes_of g.F.Value.Fixed.bytes_of g.F.Key.Known.is_known g.F.Value.Known.is_known g.F.Key.Fixed.SIZE g.F.Value.Fixed.SIZE) (g.R.Receipt.stands p.receipt) p.bytes c.trace_in.result came (record { parts = parts; position = Found c.in-Found.last }) (onto g.F.Mergeable.parts.joined c.in-Found.last.value parts) is (found c.in-Found.last parts))
 
-pub returns-in-Ok-Found-clause-effect : goal.returns-in-Ok-Found-clause-effect
-returns-in-Ok-Found-clause-effect g c =
+pub returns-in-Found-clause-effect : goal.returns-in-Found-clause-effect
+returns-in-Found-clause-effect g c =
     let ord = g.met.F.Key.Ord in
     let known = g.met.F.Key.FixedKey in
     let order = key_order g.F.Key.PartialEq.eq g.F.Key.Ord.cmp ord.matches_eq known.exact ord.total in
@@ -110,10 +127,12 @@ returns-in-Ok-Found-clause-effect g c =
     let l = c.args.loading in
     let a = c.requires.awaits in
     let p = c.args.loaded in
-    let came = came-of g.R.Receipt.keeps (IsEntryIn g.F.Key.Fixed.bytes_of g.F.Value.Fixed.bytes_of g.F.Key.Known.is_known g.F.Value.Known.is_known g.F.Key.Fixed.SIZE g.F.Value.Fixed.SIZE) g.F.Key.Ord.cmp g.F.Functions.code (view_of c.self.inside.number c.self.inside.count c.self.inside.records c.self.inside.contexts.items c.self.inside.moment) v c.key-key.result (key_of x.op) c.page_of-page.result l.wanted (g.R.Receipt.stands p.receipt) p.bytes c.trace_in.result c.self.view_is c.key-key.ensures c.page_of-page.ensures (c.in_default.ensures.own.0 refl) c.trace_in.ensures.read c.trace_in.ensures.kept in
-    let is = c.in-Ok-Found.is ∙ ap Ok c.in-Ok-Found.field-0-is in
-    told-done g.R.Receipt.stands (IsEntryIn g.F.Key.Fixed.bytes_of g.F.Value.Fixed.bytes_of g.F.Key.Known.is_known g.F.Value.Known.is_known g.F.Key.Fixed.SIZE g.F.Value.Fixed.SIZE) g.F.Key.Ord.cmp g.F.Functions.meaning v c.tell.new.self c.args.slot c.args.context c.args.now x l p c.in-Ok-Found.last.value c.tell.result (may-load g.F.Key.Ord.cmp g.F.Functions.code order v c.known.ensures c.args.slot c.args.context x l a)
-    (record { reached = Found c.in-Ok-Found.last; reads = reads-on g.F.Key.Ord.cmp g.F.Functions.code order v c.known.ensures c.args.slot c.args.context x l a (IsEntryIn g.F.Key.Fixed.bytes_of g.F.Value.Fixed.bytes_of g.F.Key.Known.is_known g.F.Value.Known.is_known g.F.Key.Fixed.SIZE g.F.Value.Fixed.SIZE) (g.R.Receipt.stands p.receipt) p.bytes c.trace_in.result came (Ok (Found c.in-Ok-Found.last)) is; tells = found c.in-Ok-Found.last })
+    let came = came-of g.R.Receipt.keeps (IsEntryIn g.F.Key.Fixed.bytes_of g.F.Value.Fixed.bytes_of g.F.Key.Known.is_known g.F.Value.Known.is_known g.F.Key.Fixed.SIZE g.F.Value.Fixed.SIZE) g.F.Key.Ord.cmp g.F.Mergeable.parts.joined g.F.Functions.code (view_of c.self.inside.number c.self.inside.count c.self.inside.records c.self.inside.contexts.items c.self.inside.moment) v c.key-key.result (key_of x.op) c.page_of-page.result c.first_of-low.result l.wanted l.parts (g.R.Receipt.stands p.receipt) p.bytes c.trace_in.result c.self.view_is c.key-key.ensures c.page_of-page.ensures c.first_of-low.ensures (c.in_default.ensures.own.0 refl) c.trace_in.ensures.read c.trace_in.ensures.kept in
+    let parts = c.in-Ok.came.parts in
+    let is = c.in-Ok.is ∙ ap (λ q. Ok (record { parts = parts; position = q })) c.in-Found.is in
+    let tells : Tells g.F.Mergeable.parts.joined v.records.begin (record { parts = parts; position = Found c.in-Found.last }) c.onto-value.result = rw (c.onto-value.ensures, c.in-Found.last-is) (found c.in-Found.last parts) in
+    told-done g.R.Receipt.stands (IsEntryIn g.F.Key.Fixed.bytes_of g.F.Value.Fixed.bytes_of g.F.Key.Known.is_known g.F.Value.Known.is_known g.F.Key.Fixed.SIZE g.F.Value.Fixed.SIZE) g.F.Key.Ord.cmp g.F.Mergeable.parts.joined g.F.Functions.meaning v c.tell.new.self c.args.slot c.args.context c.args.now x l p c.onto-value.result c.tell.result (may-load g.F.Key.Ord.cmp g.F.Mergeable.parts.joined g.F.Functions.code order v c.known.ensures c.args.slot c.args.context x l a)
+    (record { reached = (record { parts = parts; position = Found c.in-Found.last }); reads = reads-on g.F.Key.Ord.cmp g.F.Mergeable.parts.joined g.F.Functions.code order v c.known.ensures c.args.slot c.args.context x l a (IsEntryIn g.F.Key.Fixed.bytes_of g.F.Value.Fixed.bytes_of g.F.Key.Known.is_known g.F.Value.Known.is_known g.F.Key.Fixed.SIZE g.F.Value.Fixed.SIZE) (g.R.Receipt.stands p.receipt) p.bytes c.trace_in.result came (Ok (record { parts = parts; position = Found c.in-Found.last })) is; tells = tells })
     c.tell.ensures.read c.tell.ensures.update
 
 pub tell-requires-then-address-begin-clause-asks : goal.tell-requires-then-address-begin-clause-asks
@@ -126,7 +145,7 @@ tell-requires-then-address-begin-clause-asks g c =
     let l = c.args.loading in
     let a = c.requires.awaits in
     let p = c.args.loaded in
-    may-load g.F.Key.Ord.cmp g.F.Functions.code order v c.known.ensures c.args.slot c.args.context x l a
+    may-load g.F.Key.Ord.cmp g.F.Mergeable.parts.joined g.F.Functions.code order v c.known.ensures c.args.slot c.args.context x l a
 
 pub tell-requires-then-address-begin-clause-kept : goal.tell-requires-then-address-begin-clause-kept
 tell-requires-then-address-begin-clause-kept g c =
@@ -138,12 +157,13 @@ tell-requires-then-address-begin-clause-kept g c =
     let l = c.args.loading in
     let a = c.requires.awaits in
     let p = c.args.loaded in
-    let came = came-of g.R.Receipt.keeps (IsEntryIn g.F.Key.Fixed.bytes_of g.F.Value.Fixed.bytes_of g.F.Key.Known.is_known g.F.Value.Known.is_known g.F.Key.Fixed.SIZE g.F.Value.Fixed.SIZE) g.F.Key.Ord.cmp g.F.Functions.code (view_of c.self.inside.number c.self.inside.count c.self.inside.records c.self.inside.contexts.items c.self.inside.moment) v c.key-key.result (key_of x.op) c.page_of-page.result l.wanted (g.R.Receipt.stands p.receipt) p.bytes c.trace_in.result c.self.view_is c.key-key.ensures c.page_of-page.ensures (c.in_default.ensures.own.0 refl) c.trace_in.ensures.read c.trace_in.ensures.kept in
-    let is = c.in-Ok-Below.is ∙ ap Ok c.in-Ok-Below.field-0-is in
-    let b = c.in-Ok-Below.address in
+    let came = came-of g.R.Receipt.keeps (IsEntryIn g.F.Key.Fixed.bytes_of g.F.Value.Fixed.bytes_of g.F.Key.Known.is_known g.F.Value.Known.is_known g.F.Key.Fixed.SIZE g.F.Value.Fixed.SIZE) g.F.Key.Ord.cmp g.F.Mergeable.parts.joined g.F.Functions.code (view_of c.self.inside.number c.self.inside.count c.self.inside.records c.self.inside.contexts.items c.self.inside.moment) v c.key-key.result (key_of x.op) c.page_of-page.result c.first_of-low.result l.wanted l.parts (g.R.Receipt.stands p.receipt) p.bytes c.trace_in.result c.self.view_is c.key-key.ensures c.page_of-page.ensures c.first_of-low.ensures (c.in_default.ensures.own.0 refl) c.trace_in.ensures.read c.trace_in.ensures.kept in
+    let parts = c.in-Ok.came.parts in
+    let b = c.in-Below.address in
+    let is = c.in-Ok.is ∙ ap (λ q. Ok (record { parts = parts; position = q })) c.in-Below.is in
     let begins : c.begin.result ≡ v.records.begin = c.begin.ensures ∙ ap (λ u. u.records.begin) c.self.view_is in
     let under : b < v.records.begin = omega (arith, c.if-address-begin.true, begins) in
-    kept-told g.F.Key.Ord.cmp g.F.Functions.code order v c.known.ensures c.args.slot c.args.context x l a (IsEntryIn g.F.Key.Fixed.bytes_of g.F.Value.Fixed.bytes_of g.F.Key.Known.is_known g.F.Value.Known.is_known g.F.Key.Fixed.SIZE g.F.Value.Fixed.SIZE) (g.R.Receipt.stands p.receipt) p.bytes c.trace_in.result came (Below b) None is (ended b under)
+    kept-told g.F.Key.Ord.cmp g.F.Mergeable.parts.joined g.F.Functions.code order v c.known.ensures c.args.slot c.args.context x l a (IsEntryIn g.F.Key.Fixed.bytes_of g.F.Value.Fixed.bytes_of g.F.Key.Known.is_known g.F.Value.Known.is_known g.F.Key.Fixed.SIZE g.F.Value.Fixed.SIZE) (g.R.Receipt.stands p.receipt) p.bytes c.trace_in.result came (record { parts = parts; position = Below b }) parts is (ended b parts under)
 
 pub returns-then-address-begin-clause-effect : goal.returns-then-address-begin-clause-effect
 returns-then-address-begin-clause-effect g c =
@@ -155,13 +175,14 @@ returns-then-address-begin-clause-effect g c =
     let l = c.args.loading in
     let a = c.requires.awaits in
     let p = c.args.loaded in
-    let came = came-of g.R.Receipt.keeps (IsEntryIn g.F.Key.Fixed.bytes_of g.F.Value.Fixed.bytes_of g.F.Key.Known.is_known g.F.Value.Known.is_known g.F.Key.Fixed.SIZE g.F.Value.Fixed.SIZE) g.F.Key.Ord.cmp g.F.Functions.code (view_of c.self.inside.number c.self.inside.count c.self.inside.records c.self.inside.contexts.items c.self.inside.moment) v c.key-key.result (key_of x.op) c.page_of-page.result l.wanted (g.R.Receipt.stands p.receipt) p.bytes c.trace_in.result c.self.view_is c.key-key.ensures c.page_of-page.ensures (c.in_default.ensures.own.0 refl) c.trace_in.ensures.read c.trace_in.ensures.kept in
-    let is = c.in-Ok-Below.is ∙ ap Ok c.in-Ok-Below.field-0-is in
-    let b = c.in-Ok-Below.address in
+    let came = came-of g.R.Receipt.keeps (IsEntryIn g.F.Key.Fixed.bytes_of g.F.Value.Fixed.bytes_of g.F.Key.Known.is_known g.F.Value.Known.is_known g.F.Key.Fixed.SIZE g.F.Value.Fixed.SIZE) g.F.Key.Ord.cmp g.F.Mergeable.parts.joined g.F.Functions.code (view_of c.self.inside.number c.self.inside.count c.self.inside.records c.self.inside.contexts.items c.self.inside.moment) v c.key-key.result (key_of x.op) c.page_of-page.result c.first_of-low.result l.wanted l.parts (g.R.Receipt.stands p.receipt) p.bytes c.trace_in.result c.self.view_is c.key-key.ensures c.page_of-page.ensures c.first_of-low.ensures (c.in_default.ensures.own.0 refl) c.trace_in.ensures.read c.trace_in.ensures.kept in
+    let parts = c.in-Ok.came.parts in
+    let b = c.in-Below.address in
+    let is = c.in-Ok.is ∙ ap (λ q. Ok (record { parts = parts; position = q })) c.in-Below.is in
     let begins : c.begin.result ≡ v.records.begin = c.begin.ensures ∙ ap (λ u. u.records.begin) c.self.view_is in
     let under : b < v.records.begin = omega (arith, c.if-address-begin.true, begins) in
-    told-done g.R.Receipt.stands (IsEntryIn g.F.Key.Fixed.bytes_of g.F.Value.Fixed.bytes_of g.F.Key.Known.is_known g.F.Value.Known.is_known g.F.Key.Fixed.SIZE g.F.Value.Fixed.SIZE) g.F.Key.Ord.cmp g.F.Functions.meaning v c.tell-then-address-begin.new.self c.args.slot c.args.context c.args.now x l p None c.tell-then-address-begin.result (may-load g.F.Key.Ord.cmp g.F.Functions.code order v c.known.ensures c.args.slot c.args.context x l a)
-    (record { reached = Below b; reads = reads-on g.F.Key.Ord.cmp g.F.Functions.code order v c.known.ensures c.args.slot c.args.context x l a (IsEntryIn g.F.Key.Fixed.bytes_of g.F.Value.Fixed.bytes_of g.F.Key.Known.is_known g.F.Value.Known.is_known g.F.Key.Fixed.SIZE g.F.Value.Fixed.SIZE) (g.R.Receipt.stands p.receipt) p.bytes c.trace_in.result came (Ok (Below b)) is; tells = ended b under })
+    told-done g.R.Receipt.stands (IsEntryIn g.F.Key.Fixed.bytes_of g.F.Value.Fixed.bytes_of g.F.Key.Known.is_known g.F.Value.Known.is_known g.F.Key.Fixed.SIZE g.F.Value.Fixed.SIZE) g.F.Key.Ord.cmp g.F.Mergeable.parts.joined g.F.Functions.meaning v c.tell-then-address-begin.new.self c.args.slot c.args.context c.args.now x l p parts c.tell-then-address-begin.result (may-load g.F.Key.Ord.cmp g.F.Mergeable.parts.joined g.F.Functions.code order v c.known.ensures c.args.slot c.args.context x l a)
+    (record { reached = (record { parts = parts; position = Below b }); reads = reads-on g.F.Key.Ord.cmp g.F.Mergeable.parts.joined g.F.Functions.code order v c.known.ensures c.args.slot c.args.context x l a (IsEntryIn g.F.Key.Fixed.bytes_of g.F.Value.Fixed.bytes_of g.F.Key.Known.is_known g.F.Value.Known.is_known g.F.Key.Fixed.SIZE g.F.Value.Fixed.SIZE) (g.R.Receipt.stands p.receipt) p.bytes c.trace_in.result came (Ok (record { parts = parts; position = Below b })) is; tells = ended b parts under })
     c.tell-then-address-begin.ensures.read c.tell-then-address-begin.ensures.update
 
 pub free-requires-then-not-is_place-clause-unclaimed : goal.free-requires-then-not-is_place-clause-unclaimed
@@ -183,14 +204,15 @@ returns-then-not-is_place-clause-effect g c =
     let l = c.args.loading in
     let a = c.requires.awaits in
     let p = c.args.loaded in
-    let came = came-of g.R.Receipt.keeps (IsEntryIn g.F.Key.Fixed.bytes_of g.F.Value.Fixed.bytes_of g.F.Key.Known.is_known g.F.Value.Known.is_known g.F.Key.Fixed.SIZE g.F.Value.Fixed.SIZE) g.F.Key.Ord.cmp g.F.Functions.code (view_of c.self.inside.number c.self.inside.count c.self.inside.records c.self.inside.contexts.items c.self.inside.moment) v c.key-key.result (key_of x.op) c.page_of-page.result l.wanted (g.R.Receipt.stands p.receipt) p.bytes c.trace_in.result c.self.view_is c.key-key.ensures c.page_of-page.ensures (c.in_default.ensures.own.0 refl) c.trace_in.ensures.read c.trace_in.ensures.kept in
+    let came = came-of g.R.Receipt.keeps (IsEntryIn g.F.Key.Fixed.bytes_of g.F.Value.Fixed.bytes_of g.F.Key.Known.is_known g.F.Value.Known.is_known g.F.Key.Fixed.SIZE g.F.Value.Fixed.SIZE) g.F.Key.Ord.cmp g.F.Mergeable.parts.joined g.F.Functions.code (view_of c.self.inside.number c.self.inside.count c.self.inside.records c.self.inside.contexts.items c.self.inside.moment) v c.key-key.result (key_of x.op) c.page_of-page.result c.first_of-low.result l.wanted l.parts (g.R.Receipt.stands p.receipt) p.bytes c.trace_in.result c.self.view_is c.key-key.ensures c.page_of-page.ensures c.first_of-low.ensures (c.in_default.ensures.own.0 refl) c.trace_in.ensures.read c.trace_in.ensures.kept in
     let page : c.page_of-page.result ≡ page_at v.records.page_bits l.wanted = c.page_of-page.ensures ∙ ap (λ u. page_at u.records.page_bits l.wanted) c.self.view_is in
-    let is = c.in-Ok-Below.is ∙ ap Ok c.in-Ok-Below.field-0-is in
-    let b = c.in-Ok-Below.address in
+    let parts = c.in-Ok.came.parts in
+    let b = c.in-Below.address in
+    let is = c.in-Ok.is ∙ ap (λ q. Ok (record { parts = parts; position = q })) c.in-Below.is in
     let begins : c.begin.result ≡ v.records.begin = c.begin.ensures ∙ ap (λ u. u.records.begin) c.self.view_is in
     let high : v.records.begin ≤ b = omega (arith, c.if-address-begin.false, begins) in
     let bad_link : ¬ IsRecordStart v.records.page_bits v.records.record_size b = (λ h. let yes_place = c.is_place.ensures.1 (subst (λ u. IsRecordStart u.records.page_bits u.records.record_size b) (sym c.self.view_is) h) in let bad : false ≡ true = sym c.if-not-is_place.true ∙ yes_place in cc) in
-    rw (c.free-then-not-is_place.ensures, page) (Loads.bad_link x l p b (reads-on g.F.Key.Ord.cmp g.F.Functions.code order v c.known.ensures c.args.slot c.args.context x l a (IsEntryIn g.F.Key.Fixed.bytes_of g.F.Value.Fixed.bytes_of g.F.Key.Known.is_known g.F.Value.Known.is_known g.F.Key.Fixed.SIZE g.F.Value.Fixed.SIZE) (g.R.Receipt.stands p.receipt) p.bytes c.trace_in.result came (Ok (Below b)) is) refl high bad_link refl refl)
+    rw (c.free-then-not-is_place.ensures, page) (Loads.bad_link x l p b parts (reads-on g.F.Key.Ord.cmp g.F.Mergeable.parts.joined g.F.Functions.code order v c.known.ensures c.args.slot c.args.context x l a (IsEntryIn g.F.Key.Fixed.bytes_of g.F.Value.Fixed.bytes_of g.F.Key.Known.is_known g.F.Value.Known.is_known g.F.Key.Fixed.SIZE g.F.Value.Fixed.SIZE) (g.R.Receipt.stands p.receipt) p.bytes c.trace_in.result came (Ok (record { parts = parts; position = Below b })) is) refl high bad_link refl refl)
 
 pub look_further-requires-clause-asks : goal.look_further-requires-clause-asks
 look_further-requires-clause-asks g c =
@@ -202,7 +224,7 @@ look_further-requires-clause-asks g c =
     let l = c.args.loading in
     let a = c.requires.awaits in
     let p = c.args.loaded in
-    may-load g.F.Key.Ord.cmp g.F.Functions.code order v c.known.ensures c.args.slot c.args.context x l a
+    may-load g.F.Key.Ord.cmp g.F.Mergeable.parts.joined g.F.Functions.code order v c.known.ensures c.args.slot c.args.context x l a
 
 pub look_further-requires-clause-flushed : goal.look_further-requires-clause-flushed
 look_further-requires-clause-flushed g c =
@@ -214,12 +236,13 @@ look_further-requires-clause-flushed g c =
     let l = c.args.loading in
     let a = c.requires.awaits in
     let p = c.args.loaded in
-    let came = came-of g.R.Receipt.keeps (IsEntryIn g.F.Key.Fixed.bytes_of g.F.Value.Fixed.bytes_of g.F.Key.Known.is_known g.F.Value.Known.is_known g.F.Key.Fixed.SIZE g.F.Value.Fixed.SIZE) g.F.Key.Ord.cmp g.F.Functions.code (view_of c.self.inside.number c.self.inside.count c.self.inside.records c.self.inside.contexts.items c.self.inside.moment) v c.key-key.result (key_of x.op) c.page_of-page.result l.wanted (g.R.Receipt.stands p.receipt) p.bytes c.trace_in.result c.self.view_is c.key-key.ensures c.page_of-page.ensures (c.in_default.ensures.own.0 refl) c.trace_in.ensures.read c.trace_in.ensures.kept in
-    let is = c.in-Ok-Below.is ∙ ap Ok c.in-Ok-Below.field-0-is in
-    let b = c.in-Ok-Below.address in
+    let came = came-of g.R.Receipt.keeps (IsEntryIn g.F.Key.Fixed.bytes_of g.F.Value.Fixed.bytes_of g.F.Key.Known.is_known g.F.Value.Known.is_known g.F.Key.Fixed.SIZE g.F.Value.Fixed.SIZE) g.F.Key.Ord.cmp g.F.Mergeable.parts.joined g.F.Functions.code (view_of c.self.inside.number c.self.inside.count c.self.inside.records c.self.inside.contexts.items c.self.inside.moment) v c.key-key.result (key_of x.op) c.page_of-page.result c.first_of-low.result l.wanted l.parts (g.R.Receipt.stands p.receipt) p.bytes c.trace_in.result c.self.view_is c.key-key.ensures c.page_of-page.ensures c.first_of-low.ensures (c.in_default.ensures.own.0 refl) c.trace_in.ensures.read c.trace_in.ensures.kept in
+    let parts = c.in-Ok.came.parts in
+    let b = c.in-Below.address in
+    let is = c.in-Ok.is ∙ ap (λ q. Ok (record { parts = parts; position = q })) c.in-Below.is in
     let begins : c.begin.result ≡ v.records.begin = c.begin.ensures ∙ ap (λ u. u.records.begin) c.self.view_is in
     let high : v.records.begin ≤ b = omega (arith, c.if-address-begin.false, begins) in
-    further-flushed g.F.Key.Ord.cmp g.F.Functions.code order v c.known.ensures c.args.slot c.args.context x l a (IsEntryIn g.F.Key.Fixed.bytes_of g.F.Value.Fixed.bytes_of g.F.Key.Known.is_known g.F.Value.Known.is_known g.F.Key.Fixed.SIZE g.F.Value.Fixed.SIZE) (g.R.Receipt.stands p.receipt) p.bytes c.trace_in.result came b is high
+    further-flushed g.F.Key.Ord.cmp g.F.Mergeable.parts.joined g.F.Functions.code order v c.known.ensures c.args.slot c.args.context x l a (IsEntryIn g.F.Key.Fixed.bytes_of g.F.Value.Fixed.bytes_of g.F.Key.Known.is_known g.F.Value.Known.is_known g.F.Key.Fixed.SIZE g.F.Value.Fixed.SIZE) (g.R.Receipt.stands p.receipt) p.bytes c.trace_in.result came b parts is high
 
 pub look_further-requires-clause-stands : goal.look_further-requires-clause-stands
 look_further-requires-clause-stands g c =
@@ -231,12 +254,13 @@ look_further-requires-clause-stands g c =
     let l = c.args.loading in
     let a = c.requires.awaits in
     let p = c.args.loaded in
-    let came = came-of g.R.Receipt.keeps (IsEntryIn g.F.Key.Fixed.bytes_of g.F.Value.Fixed.bytes_of g.F.Key.Known.is_known g.F.Value.Known.is_known g.F.Key.Fixed.SIZE g.F.Value.Fixed.SIZE) g.F.Key.Ord.cmp g.F.Functions.code (view_of c.self.inside.number c.self.inside.count c.self.inside.records c.self.inside.contexts.items c.self.inside.moment) v c.key-key.result (key_of x.op) c.page_of-page.result l.wanted (g.R.Receipt.stands p.receipt) p.bytes c.trace_in.result c.self.view_is c.key-key.ensures c.page_of-page.ensures (c.in_default.ensures.own.0 refl) c.trace_in.ensures.read c.trace_in.ensures.kept in
-    let is = c.in-Ok-Below.is ∙ ap Ok c.in-Ok-Below.field-0-is in
-    let b = c.in-Ok-Below.address in
+    let came = came-of g.R.Receipt.keeps (IsEntryIn g.F.Key.Fixed.bytes_of g.F.Value.Fixed.bytes_of g.F.Key.Known.is_known g.F.Value.Known.is_known g.F.Key.Fixed.SIZE g.F.Value.Fixed.SIZE) g.F.Key.Ord.cmp g.F.Mergeable.parts.joined g.F.Functions.code (view_of c.self.inside.number c.self.inside.count c.self.inside.records c.self.inside.contexts.items c.self.inside.moment) v c.key-key.result (key_of x.op) c.page_of-page.result c.first_of-low.result l.wanted l.parts (g.R.Receipt.stands p.receipt) p.bytes c.trace_in.result c.self.view_is c.key-key.ensures c.page_of-page.ensures c.first_of-low.ensures (c.in_default.ensures.own.0 refl) c.trace_in.ensures.read c.trace_in.ensures.kept in
+    let parts = c.in-Ok.came.parts in
+    let b = c.in-Below.address in
+    let is = c.in-Ok.is ∙ ap (λ q. Ok (record { parts = parts; position = q })) c.in-Below.is in
     let begins : c.begin.result ≡ v.records.begin = c.begin.ensures ∙ ap (λ u. u.records.begin) c.self.view_is in
     let high : v.records.begin ≤ b = omega (arith, c.if-address-begin.false, begins) in
-    further-stands g.F.Key.Ord.cmp g.F.Functions.code order v c.known.ensures c.args.slot c.args.context x l a (IsEntryIn g.F.Key.Fixed.bytes_of g.F.Value.Fixed.bytes_of g.F.Key.Known.is_known g.F.Value.Known.is_known g.F.Key.Fixed.SIZE g.F.Value.Fixed.SIZE) (g.R.Receipt.stands p.receipt) p.bytes c.trace_in.result came b is high
+    further-stands g.F.Key.Ord.cmp g.F.Mergeable.parts.joined g.F.Functions.code order v c.known.ensures c.args.slot c.args.context x l a (IsEntryIn g.F.Key.Fixed.bytes_of g.F.Value.Fixed.bytes_of g.F.Key.Known.is_known g.F.Value.Known.is_known g.F.Key.Fixed.SIZE g.F.Value.Fixed.SIZE) (g.R.Receipt.stands p.receipt) p.bytes c.trace_in.result came b parts is high
 
 pub returns-clause-effect : goal.returns-clause-effect
 returns-clause-effect g c =
@@ -248,16 +272,17 @@ returns-clause-effect g c =
     let l = c.args.loading in
     let a = c.requires.awaits in
     let p = c.args.loaded in
-    let came = came-of g.R.Receipt.keeps (IsEntryIn g.F.Key.Fixed.bytes_of g.F.Value.Fixed.bytes_of g.F.Key.Known.is_known g.F.Value.Known.is_known g.F.Key.Fixed.SIZE g.F.Value.Fixed.SIZE) g.F.Key.Ord.cmp g.F.Functions.code (view_of c.self.inside.number c.self.inside.count c.self.inside.records c.self.inside.contexts.items c.self.inside.moment) v c.key-key.result (key_of x.op) c.page_of-page.result l.wanted (g.R.Receipt.stands p.receipt) p.bytes c.trace_in.result c.self.view_is c.key-key.ensures c.page_of-page.ensures (c.in_default.ensures.own.0 refl) c.trace_in.ensures.read c.trace_in.ensures.kept in
-    let is = c.in-Ok-Below.is ∙ ap Ok c.in-Ok-Below.field-0-is in
-    let b = c.in-Ok-Below.address in
+    let came = came-of g.R.Receipt.keeps (IsEntryIn g.F.Key.Fixed.bytes_of g.F.Value.Fixed.bytes_of g.F.Key.Known.is_known g.F.Value.Known.is_known g.F.Key.Fixed.SIZE g.F.Value.Fixed.SIZE) g.F.Key.Ord.cmp g.F.Mergeable.parts.joined g.F.Functions.code (view_of c.self.inside.number c.self.inside.count c.self.inside.records c.self.inside.contexts.items c.self.inside.moment) v c.key-key.result (key_of x.op) c.page_of-page.result c.first_of-low.result l.wanted l.parts (g.R.Receipt.stands p.receipt) p.bytes c.trace_in.result c.self.view_is c.key-key.ensures c.page_of-page.ensures c.first_of-low.ensures (c.in_default.ensures.own.0 refl) c.trace_in.ensures.read c.trace_in.ensures.kept in
+    let parts = c.in-Ok.came.parts in
+    let b = c.in-Below.address in
+    let is = c.in-Ok.is ∙ ap (λ q. Ok (record { parts = parts; position = q })) c.in-Below.is in
     let begins : c.begin.result ≡ v.records.begin = c.begin.ensures ∙ ap (λ u. u.records.begin) c.self.view_is in
     let high : v.records.begin ≤ b = omega (arith, c.if-address-begin.false, begins) in
     let place = subst (λ u. IsRecordStart u.records.page_bits u.records.record_size b) c.self.view_is (c.is_place.ensures.0 c.if-not-is_place.false) in
-    further-done g.R.Receipt.stands (IsEntryIn g.F.Key.Fixed.bytes_of g.F.Value.Fixed.bytes_of g.F.Key.Known.is_known g.F.Value.Known.is_known g.F.Key.Fixed.SIZE g.F.Value.Fixed.SIZE) g.F.Key.Ord.cmp g.F.Functions.meaning v c.look_further.new.self c.args.slot c.args.context c.args.now x l p b (reads-on g.F.Key.Ord.cmp g.F.Functions.code order v c.known.ensures c.args.slot c.args.context x l a (IsEntryIn g.F.Key.Fixed.bytes_of g.F.Value.Fixed.bytes_of g.F.Key.Known.is_known g.F.Value.Known.is_known g.F.Key.Fixed.SIZE g.F.Value.Fixed.SIZE) (g.R.Receipt.stands p.receipt) p.bytes c.trace_in.result came (Ok (Below b)) is) high place c.look_further.result c.look_further.ensures.asked c.look_further.ensures.effect c.look_further.ensures.only c.look_further.ensures.unchanged
+    further-done g.R.Receipt.stands (IsEntryIn g.F.Key.Fixed.bytes_of g.F.Value.Fixed.bytes_of g.F.Key.Known.is_known g.F.Value.Known.is_known g.F.Key.Fixed.SIZE g.F.Value.Fixed.SIZE) g.F.Key.Ord.cmp g.F.Mergeable.parts.joined g.F.Functions.meaning v c.look_further.new.self c.args.slot c.args.context c.args.now x l p b parts (reads-on g.F.Key.Ord.cmp g.F.Mergeable.parts.joined g.F.Functions.code order v c.known.ensures c.args.slot c.args.context x l a (IsEntryIn g.F.Key.Fixed.bytes_of g.F.Value.Fixed.bytes_of g.F.Key.Known.is_known g.F.Value.Known.is_known g.F.Key.Fixed.SIZE g.F.Value.Fixed.SIZE) (g.R.Receipt.stands p.receipt) p.bytes c.trace_in.result came (Ok (record { parts = parts; position = Below b })) is) high place c.look_further.result c.look_further.ensures.asked c.look_further.ensures.effect c.look_further.ensures.only c.look_further.ensures.unchanged
 
-pub returns-in-Ok-Found-clause-event : goal.returns-in-Ok-Found-clause-event
-returns-in-Ok-Found-clause-event g c = λ keeps.
+pub returns-in-Found-clause-event : goal.returns-in-Found-clause-event
+returns-in-Found-clause-event g c = λ keeps.
     let ord = g.met.F.Key.Ord in
     let known = g.met.F.Key.FixedKey in
     let order = key_order g.F.Key.PartialEq.eq g.F.Key.Ord.cmp ord.matches_eq known.exact ord.total in
@@ -266,9 +291,11 @@ returns-in-Ok-Found-clause-event g c = λ keeps.
     let l = c.args.loading in
     let a = c.requires.awaits in
     let p = c.args.loaded in
-    let came = came-of g.R.Receipt.keeps (IsEntryIn g.F.Key.Fixed.bytes_of g.F.Value.Fixed.bytes_of g.F.Key.Known.is_known g.F.Value.Known.is_known g.F.Key.Fixed.SIZE g.F.Value.Fixed.SIZE) g.F.Key.Ord.cmp g.F.Functions.code (view_of c.self.inside.number c.self.inside.count c.self.inside.records c.self.inside.contexts.items c.self.inside.moment) v c.key-key.result (key_of x.op) c.page_of-page.result l.wanted (g.R.Receipt.stands p.receipt) p.bytes c.trace_in.result c.self.view_is c.key-key.ensures c.page_of-page.ensures (c.in_default.ensures.own.0 refl) c.trace_in.ensures.read c.trace_in.ensures.kept in
-    let is = c.in-Ok-Found.is ∙ ap Ok c.in-Ok-Found.field-0-is in
-    load-told g.F.Key.Ord.cmp v c.args.slot c.args.context c.args.now x a.here g.F.Functions.meaning l a c.in-Ok-Found.last.value (newest-told g.F.Key.Ord.cmp g.F.Functions.code order v c.known.ensures c.args.slot c.args.context x l a (IsEntryIn g.F.Key.Fixed.bytes_of g.F.Value.Fixed.bytes_of g.F.Key.Known.is_known g.F.Value.Known.is_known g.F.Key.Fixed.SIZE g.F.Value.Fixed.SIZE) (g.R.Receipt.stands p.receipt) p.bytes c.trace_in.result came keeps (Found c.in-Ok-Found.last) c.in-Ok-Found.last.value is (found c.in-Ok-Found.last)) (may-load g.F.Key.Ord.cmp g.F.Functions.code order v c.known.ensures c.args.slot c.args.context x l a) c.tell.new.self c.tell.result c.tell.ensures.read c.tell.ensures.update
+    let came = came-of g.R.Receipt.keeps (IsEntryIn g.F.Key.Fixed.bytes_of g.F.Value.Fixed.bytes_of g.F.Key.Known.is_known g.F.Value.Known.is_known g.F.Key.Fixed.SIZE g.F.Value.Fixed.SIZE) g.F.Key.Ord.cmp g.F.Mergeable.parts.joined g.F.Functions.code (view_of c.self.inside.number c.self.inside.count c.self.inside.records c.self.inside.contexts.items c.self.inside.moment) v c.key-key.result (key_of x.op) c.page_of-page.result c.first_of-low.result l.wanted l.parts (g.R.Receipt.stands p.receipt) p.bytes c.trace_in.result c.self.view_is c.key-key.ensures c.page_of-page.ensures c.first_of-low.ensures (c.in_default.ensures.own.0 refl) c.trace_in.ensures.read c.trace_in.ensures.kept in
+    let parts = c.in-Ok.came.parts in
+    let is = c.in-Ok.is ∙ ap (λ q. Ok (record { parts = parts; position = q })) c.in-Found.is in
+    let tells : Tells g.F.Mergeable.parts.joined v.records.begin (record { parts = parts; position = Found c.in-Found.last }) c.onto-value.result = rw (c.onto-value.ensures, c.in-Found.last-is) (found c.in-Found.last parts) in
+    load-told g.F.Key.Ord.cmp v c.args.slot c.args.context c.args.now x a.here g.F.Functions.meaning l a c.onto-value.result (newest-told g.F.Key.Ord.cmp g.F.Mergeable.parts.joined g.F.Functions.code order v c.known.ensures c.args.slot c.args.context x l a (IsEntryIn g.F.Key.Fixed.bytes_of g.F.Value.Fixed.bytes_of g.F.Key.Known.is_known g.F.Value.Known.is_known g.F.Key.Fixed.SIZE g.F.Value.Fixed.SIZE) (g.R.Receipt.stands p.receipt) p.bytes c.trace_in.result came keeps (record { parts = parts; position = Found c.in-Found.last }) c.onto-value.result is tells) (may-load g.F.Key.Ord.cmp g.F.Mergeable.parts.joined g.F.Functions.code order v c.known.ensures c.args.slot c.args.context x l a) c.tell.new.self c.tell.result c.tell.ensures.read c.tell.ensures.update
 
 pub returns-then-address-begin-clause-event : goal.returns-then-address-begin-clause-event
 returns-then-address-begin-clause-event g c = λ keeps.
@@ -280,14 +307,15 @@ returns-then-address-begin-clause-event g c = λ keeps.
     let l = c.args.loading in
     let a = c.requires.awaits in
     let p = c.args.loaded in
-    let came = came-of g.R.Receipt.keeps (IsEntryIn g.F.Key.Fixed.bytes_of g.F.Value.Fixed.bytes_of g.F.Key.Known.is_known g.F.Value.Known.is_known g.F.Key.Fixed.SIZE g.F.Value.Fixed.SIZE) g.F.Key.Ord.cmp g.F.Functions.code (view_of c.self.inside.number c.self.inside.count c.self.inside.records c.self.inside.contexts.items c.self.inside.moment) v c.key-key.result (key_of x.op) c.page_of-page.result l.wanted (g.R.Receipt.stands p.receipt) p.bytes c.trace_in.result c.self.view_is c.key-key.ensures c.page_of-page.ensures (c.in_default.ensures.own.0 refl) c.trace_in.ensures.read c.trace_in.ensures.kept in
-    let is = c.in-Ok-Below.is ∙ ap Ok c.in-Ok-Below.field-0-is in
-    let b = c.in-Ok-Below.address in
+    let came = came-of g.R.Receipt.keeps (IsEntryIn g.F.Key.Fixed.bytes_of g.F.Value.Fixed.bytes_of g.F.Key.Known.is_known g.F.Value.Known.is_known g.F.Key.Fixed.SIZE g.F.Value.Fixed.SIZE) g.F.Key.Ord.cmp g.F.Mergeable.parts.joined g.F.Functions.code (view_of c.self.inside.number c.self.inside.count c.self.inside.records c.self.inside.contexts.items c.self.inside.moment) v c.key-key.result (key_of x.op) c.page_of-page.result c.first_of-low.result l.wanted l.parts (g.R.Receipt.stands p.receipt) p.bytes c.trace_in.result c.self.view_is c.key-key.ensures c.page_of-page.ensures c.first_of-low.ensures (c.in_default.ensures.own.0 refl) c.trace_in.ensures.read c.trace_in.ensures.kept in
+    let parts = c.in-Ok.came.parts in
+    let b = c.in-Below.address in
+    let is = c.in-Ok.is ∙ ap (λ q. Ok (record { parts = parts; position = q })) c.in-Below.is in
     let begins : c.begin.result ≡ v.records.begin = c.begin.ensures ∙ ap (λ u. u.records.begin) c.self.view_is in
     let under : b < v.records.begin = omega (arith, c.if-address-begin.true, begins) in
-    load-told g.F.Key.Ord.cmp v c.args.slot c.args.context c.args.now x a.here g.F.Functions.meaning l a None (newest-told g.F.Key.Ord.cmp g.F.Functions.code order v c.known.ensures c.args.slot c.args.context x l a (IsEntryIn g.F.Key.Fixed.bytes_of g.F.Value.Fixed.bytes_of g.F.Key.Known.is_known g.F.Value.Known.is_known g.F.Key.Fixed.SIZE g.F.Value.Fixed.SIZE) (g.R.Receipt.stands p.receipt) p.bytes c.trace_in.result came keeps (Below b) None is (ended b under)) (may-load g.F.Key.Ord.cmp g.F.Functions.code order v c.known.ensures c.args.slot c.args.context x l a) c.tell-then-address-begin.new.self c.tell-then-address-begin.result c.tell-then-address-begin.ensures.read c.tell-then-address-begin.ensures.update
+    load-told g.F.Key.Ord.cmp v c.args.slot c.args.context c.args.now x a.here g.F.Functions.meaning l a parts (newest-told g.F.Key.Ord.cmp g.F.Mergeable.parts.joined g.F.Functions.code order v c.known.ensures c.args.slot c.args.context x l a (IsEntryIn g.F.Key.Fixed.bytes_of g.F.Value.Fixed.bytes_of g.F.Key.Known.is_known g.F.Value.Known.is_known g.F.Key.Fixed.SIZE g.F.Value.Fixed.SIZE) (g.R.Receipt.stands p.receipt) p.bytes c.trace_in.result came keeps (record { parts = parts; position = Below b }) parts is (ended b parts under)) (may-load g.F.Key.Ord.cmp g.F.Mergeable.parts.joined g.F.Functions.code order v c.known.ensures c.args.slot c.args.context x l a) c.tell-then-address-begin.new.self c.tell-then-address-begin.result c.tell-then-address-begin.ensures.read c.tell-then-address-begin.ensures.update
 
 pub returns-clause-event : goal.returns-clause-event
 returns-clause-event g c = λ keeps.
     let a = c.requires.awaits in
-    further-load g.F.Key.Ord.cmp c.args.self.now c.args.slot c.args.context c.args.now c.args.operation.now a.here g.F.Functions.meaning c.args.loading a c.in-Ok-Below.address c.look_further.new.self c.look_further.result g.R.Receipt.stands c.look_further.ensures.asked c.look_further.ensures.effect
+    further-load g.F.Key.Ord.cmp c.args.self.now c.args.slot c.args.context c.args.now c.args.operation.now a.here g.F.Functions.meaning c.args.loading a c.in-Below.address c.in-Ok.came.parts c.look_further.new.self c.look_further.result g.R.Receipt.stands c.look_further.ensures.asked c.look_further.ensures.effect

@@ -27,13 +27,13 @@ set_phase-requires-clause-stands g c =
     let a = address_of c.args.kept.word in
     let inside = (open_at (slots_of v) v.contexts c.args.slot c.args.context x d.here).inside in
     let leads = c.entries_lead.ensures.found g.R.Receipt.keeps g.F.Functions.code v.records class c.args.kept c.known.ensures.traced c.requires.stands in
-    let held = c.meetings_tell.ensures.held g.R.Receipt.keeps g.F.Key.Ord.cmp g.F.Functions.code v.records (key_of x.op) c.args.slot order c.known.ensures.traced inside in
-    prepared-stands g.F.Key.Ord.cmp g.F.Functions.meaning g.F.Functions.code v c.args.slot c.args.context c.args.now x d.here g.R.Receipt.keeps c.args.kept c.args.ask.source c.args.ask.input
+    let held = c.meetings_tell.ensures.held g.R.Receipt.keeps g.F.Key.Ord.cmp g.F.Mergeable.parts.joined g.F.Functions.code v.records (key_of x.op) c.args.slot order c.known.ensures.traced c.known.ensures.stood inside in
+    prepared-stands g.F.Key.Ord.cmp g.F.Mergeable.parts.joined g.F.Functions.meaning g.F.Functions.code v c.args.slot c.args.context c.args.now x d.here g.R.Receipt.keeps c.args.kept c.args.ask.source c.args.ask.input
     c.requires.stands
     (c.entries_lead.ensures.low g.R.Receipt.keeps g.F.Functions.code v.records class a c.known.ensures.traced leads)
     (c.entries_lead.ensures.held g.F.Key.Ord.cmp g.R.Receipt.keeps g.F.Functions.code v.records (key_of x.op) a order c.known.ensures.traced leads)
-    (c.meetings_tell.ensures.still g.R.Receipt.keeps g.F.Key.Ord.cmp g.F.Functions.code v.records (key_of x.op) c.args.slot order c.known.ensures.traced inside
-    (prepare-met g.F.Functions.meaning x.op (met_at g.F.Key.Ord.cmp g.F.Functions.code v c.args.slot (key_of x.op)) c.args.ask.source c.args.ask.input d.decided))
+    (c.meetings_tell.ensures.still g.R.Receipt.keeps g.F.Key.Ord.cmp g.F.Mergeable.parts.joined g.F.Functions.code v.records (key_of x.op) c.args.slot order c.known.ensures.traced c.known.ensures.stood inside
+    (prepare-met g.F.Functions.meaning x.op (met_at g.F.Key.Ord.cmp g.F.Mergeable.parts.joined g.F.Functions.code v c.args.slot (key_of x.op)) c.args.ask.source c.args.ask.input d.decided))
     held
     d.decided
     c.known.ensures.traced
@@ -49,6 +49,6 @@ returns-clause-event g c =
     let a = c.args.ask in
     let v = c.args.self.now in
     let d = c.requires.decided in
-    let asks = asks-rmw g.F.Key.Ord.cmp g.F.Functions.meaning g.F.Functions.code v c.args.slot c.args.context c.args.now x d.here a.source a.input d.decided in
+    let asks = asks-rmw g.F.Key.Ord.cmp g.F.Mergeable.parts.joined g.F.Functions.meaning g.F.Functions.code v c.args.slot c.args.context c.args.now x d.here a.source a.input d.decided in
     rw c.set_phase.ensures
-    (event-prepares g.F.Key.Ord.cmp g.F.Functions.meaning g.F.Functions.code v c.args.slot c.args.context c.args.now x d.here _ a c.requires.number (asks ∙ ap (λ k. Rmw k a.input) (sym c.requires.key)))
+    (event-prepares g.F.Key.Ord.cmp g.F.Mergeable.parts.joined g.F.Functions.meaning g.F.Functions.code v c.args.slot c.args.context c.args.now x d.here _ a c.requires.number (asks ∙ ap (λ k. Rmw k a.input) (sym c.requires.key)))

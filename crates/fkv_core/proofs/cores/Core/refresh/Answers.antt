@@ -15,7 +15,7 @@ pub invariant_of-self-2 : goal.invariant_of-self-2
 invariant_of-self-2 g c =
     let was = c.self.inside.records.regions in
     let made = c.in-Ok.ensures in
-    sound-moved c.self.invariant c.refresh.new.self _ c.args.now c.known.ensures made.effect made.raised
+    sound-moved c.self.invariant c.refresh.new.self _ c.args.now c.known.ensures.traced c.known.ensures.stood made.effect made.raised
     (λ t d x low here. slots-moved c.self.inside.records c.refresh.new.self _ t made.effect (renewed-stays was.epochs.slots c.args.slot t was.epochs.epoch (c.self.invariant.housed t d x low here)))
 
 pub returns-clause-effect : goal.returns-clause-effect

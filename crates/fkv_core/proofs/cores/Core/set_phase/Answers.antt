@@ -16,7 +16,7 @@ invariant_of-self g c =
     (claims-none (view_of c.self.inside.number c.self.inside.count c.self.inside.records c.self.inside.contexts.items c.self.inside.moment) c.args.slot c.args.context x at c.requires.unclaimed) c.requires.claims_nothing
     (record {
       stands = rw (← c.self.view_is) at c.requires.stands;
-      own = own-at g.F.Key.Ord.cmp g.F.Functions.code (view_of c.self.inside.number c.self.inside.count c.self.inside.records c.self.inside.contexts.items c.self.inside.moment) c.self.invariant c.args.slot c.args.context x at;
+      own = own-at g.F.Key.Ord.cmp g.F.Mergeable.parts.joined g.F.Functions.code (view_of c.self.inside.number c.self.inside.count c.self.inside.records c.self.inside.contexts.items c.self.inside.moment) c.self.invariant c.args.slot c.args.context x at;
       inside = here.inside;
       low = here.low;
     }))

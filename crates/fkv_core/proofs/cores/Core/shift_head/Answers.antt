@@ -13,7 +13,7 @@ returns-in-Err-clause-effect g c =
 pub invariant_of-self-2 : goal.invariant_of-self-2
 invariant_of-self-2 g c =
     let made = c.in-Ok.ensures in
-    sound-moved c.self.invariant c.shift_head.new.self _ c.args.now c.known.ensures made.effect made.raised
+    sound-moved c.self.invariant c.shift_head.new.self _ c.args.now c.known.ensures.traced c.known.ensures.stood made.effect made.raised
     (λ t d x low here. slots-moved c.self.inside.records c.shift_head.new.self _ t made.effect (c.self.invariant.housed t d x low here))
 
 pub returns-clause-effect : goal.returns-clause-effect

@@ -29,7 +29,7 @@ pub returns-in-Ok-None-clause-event : goal.returns-in-Ok-None-clause-event
 returns-in-Ok-None-clause-event g c =
     let d = c.requires.decided in
     let is = ap Ok c.in-Ok-None.field-0-is in
-    rw (c.in-Ok-None.ensures.full is) (event-waits g.F.Key.Ord.cmp g.F.Functions.meaning g.F.Functions.code c.args.self.now c.args.slot c.args.context c.args.now d.operation d.decides.here Full)
+    rw (c.in-Ok-None.ensures.full is) (event-waits g.F.Key.Ord.cmp g.F.Mergeable.parts.joined g.F.Functions.meaning g.F.Functions.code c.args.self.now c.args.slot c.args.context c.args.now d.operation d.decides.here Full)
 
 pub returns-in-Ok-Some-clause-effect : goal.returns-in-Ok-Some-clause-effect
 returns-in-Ok-Some-clause-effect g c =
@@ -47,5 +47,5 @@ returns-in-Ok-Some-clause-event g c =
     let v = c.args.self.now in
     let made = rw c.in-Ok-Some.field-0-is at c.in-Ok-Some.ensures.ok in
     rw (made, ← d.key_is)
-    (event-appends g.F.Key.Ord.cmp g.F.Functions.meaning g.F.Functions.code v c.args.slot c.args.context c.args.now d.operation d.decides.here w.entry w.value c.args.answer
+    (event-appends g.F.Key.Ord.cmp g.F.Mergeable.parts.joined g.F.Functions.meaning g.F.Functions.code v c.args.slot c.args.context c.args.now d.operation d.decides.here w.entry w.value c.args.answer
     (c.records_grow.ensures.lives g.F.Key.Ord.cmp v.records w.entry (key_of d.operation.op) w.value) d.decides.decided)

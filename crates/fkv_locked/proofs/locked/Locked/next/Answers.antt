@@ -27,4 +27,4 @@ returns-in-Ok-clause-cleared g c = rw (← c.self.view_is, ← c.in-Some.ensures
 pub returns-in-Ok-clause-tells : goal.returns-in-Ok-clause-tells
 returns-in-Ok-clause-tells g c =
     rw (← c.self.view_is, ← c.in-Some.ensures.some)
-    (next_tells g.R.Receipt.stands g.F.Key.Ord.cmp g.F.Functions.meaning g.F.Functions.code c.self.inside.partition c.next.new.partition c.args.compactor.now c.in-Some.now _ c.in-Ok.ensures.effect)
+    (next_tells g.R.Receipt.stands g.F.Key.Ord.cmp g.F.Mergeable.parts.joined g.F.Functions.meaning g.F.Functions.code c.self.inside.partition c.next.new.partition c.args.compactor.now c.in-Some.now _ c.in-Ok.ensures.effect)

@@ -21,6 +21,7 @@ invariant_of-self-2 g c =
           let known = g.met.F.Key.FixedKey in
           let order = key_order g.F.Key.PartialEq.eq g.F.Key.Ord.cmp ord.matches_eq known.exact ord.total in
           let cmp = g.F.Key.Ord.cmp in
+          let join = g.F.Mergeable.parts.joined in
           let f = g.F.Functions.meaning in
           let stands = g.R.Receipt.stands in
           let code = g.F.Functions.code in
@@ -33,10 +34,10 @@ invariant_of-self-2 g c =
           let done = c.in-Some-update_at_once.ensures.done in
           let count = c.updates-at.ensures ∙ g.met.H.Recorder.counted c.self.inside.history k in
           rw (c.add.ensures.entries k, c.in-Ok.ensures.entries)
-          (at_once_keeps cmp f stands code c.self.inside.partition c.update_at_once.new.self slot c.args.key.now c.args.input.now issued now shown done keeps c.known.ensures.core
+          (at_once_keeps cmp join f stands code c.self.inside.partition c.update_at_once.new.self slot c.args.key.now c.args.input.now issued now shown done keeps c.known.ensures.core
           c.in-Some-update_at_once.ensures.within (omega arith) (omega arith)
-          (λ p q h. c.pendings_stay.ensures.issues cmp code p q slot done.context op issued (Ok tt) h)
-          (λ p q s h. c.pendings_stay.ensures.goes keeps stands cmp f code p q slot done.context now (Ok (Done (Value shown) now)) held order s h)
+          (λ p q h. c.pendings_stay.ensures.issues cmp join code p q slot done.context op issued (Ok tt) h)
+          (λ p q s h. c.pendings_stay.ensures.goes keeps stands cmp join f code p q slot done.context now (Ok (Done (Value shown) now)) held order s h)
           (g.H.Recorder.entries c.self.inside.history) c.self.inside.lows.items c.self.inside.looks.items c.self.inside.book (c.self.invariant.3 k held) c.self.invariant.1
           (record { session = c.args.seat.session; number = issued; op = op; answer = Value shown; low = c.updates-at.result; at = c.updates-at.result; high = c.updates-at.result })
           refl refl count count count),

@@ -8,4 +8,4 @@ pub returns-clause-receipts : goal.returns-clause-receipts
 returns-clause-receipts g c = subst (λ (v : RecordsView _ _). (n : ℕ) (s : Standing) → slice_get v.receipts n ≡ Some s → (s.page ≡ n) × (s.length ≡ 2 ^ v.page_bits)) c.self.view_is c.known.ensures.receipts
 
 pub returns-clause-spelled : goal.returns-clause-spelled
-returns-clause-spelled g c = subst (λ (v : RecordsView _ _). (i : ℕ) (page : List ℕ) → slice_get v.waiting i ≡ Some page → IsPageOf {K = g.row.F-Key.Denot} {V = g.row.F-Value.Denot} g.F.Key.Fixed.bytes_of g.F.Value.Fixed.bytes_of g.F.Key.Fixed.SIZE g.F.Value.Fixed.SIZE v.page_bits (length v.receipts + i) v.text page) c.self.view_is c.known.ensures.spelled
+returns-clause-spelled g c = subst (λ (v : RecordsView _ _). (i : ℕ) (page : List ℕ) → slice_get v.waiting i ≡ Some page → IsPageOf {K = g.row.F-Key.Denot} {V = g.row.F-Value.Denot} g.F.Key.Fixed.bytes_of g.F.Value.Fixed.bytes_of g.F.Key.Fixed.SIZE g.F.Value.Fixed.SIZE v.page_bits (length v.receipts + i) v.entries page) c.self.view_is c.known.ensures.spelled

@@ -24,10 +24,10 @@ invariant_of-self-inside g c =
     let free : c.offset_of-is_new.result ≡ 0 → page_at i.shape.page_bits i.closed + length i.frames.slots ≤ c.page_of-page.result → ⊥ =
     (λ z more. let yes = c.is_full.ensures.1 (rw (← c.self.view_is) (record { more = below; begins = sym offset ∙ z; taken = rw page at more })) in
     let bad : true ≡ false = sym yes ∙ c.if-is_full.false in cc) in
-    let sound = sound_record g.K.Known.is_known g.V.Known.is_known i.tail c.args.previous c.args.key c.args.value below (rw (← c.self.view_is) at c.requires.previous) c.put_record.ensures.key c.put_record.ensures.value in
-    let e : Entry g.row.K.Denot g.row.V.Denot = record { address = i.tail; previous = c.args.previous; key = c.args.key; value = c.args.value; delta = false } in
+    let sound = sound_record g.K.Known.is_known g.V.Known.is_known i.tail c.args.previous c.args.key c.args.value c.args.delta below (rw (← c.self.view_is) at c.requires.previous) c.put_record.ensures.key c.put_record.ensures.value c.requires.whole in
+    let e : Entry g.row.K.Denot g.row.V.Denot = record { address = i.tail; previous = c.args.previous; key = c.args.key; value = c.args.value; delta = c.args.delta } in
     let p = append_puts g.K.Fixed.bytes_of g.V.Fixed.bytes_of g.K.Known.is_known g.V.Known.is_known g.K.Fixed.SIZE g.V.Fixed.SIZE g.R.Receipt.keeps i.shape i.begin i.closed i.frozen i.tail _ i.frames c.put_record.new.frames _ i.text.0.0 _ _ c.self.invariant page offset free c.put_record.ensures.written in
-    let l = grown g.K.Fixed.bytes_of g.V.Fixed.bytes_of g.K.Known.is_known g.V.Known.is_known g.K.Fixed.SIZE g.V.Fixed.SIZE g.R.Receipt.keeps i.shape i.begin i.closed i.frozen i.tail _ i.frames c.put_record.new.frames _ i.text.0.0 e c.self.invariant below refl p c.put_record.ensures.sized sound refl c.put_record.ensures.spells in
+    let l = grown g.K.Fixed.bytes_of g.V.Fixed.bytes_of g.K.Known.is_known g.V.Known.is_known g.K.Fixed.SIZE g.V.Fixed.SIZE g.R.Receipt.keeps i.shape i.begin i.closed i.frozen i.tail _ i.frames c.put_record.new.frames _ i.text.0.0 e c.self.invariant below refl p c.put_record.ensures.sized sound c.put_record.ensures.spells in
     let tail = tail_is i.shape.page_bits i.shape.record_size i.tail _ _ c.unwrap_or-self-inside.ensures c.next_place.ensures.value in
     rw tail (the_text g.K.Fixed.bytes_of g.V.Fixed.bytes_of g.K.Known.is_known g.V.Known.is_known g.K.Fixed.SIZE g.V.Fixed.SIZE k.readable v.readable _ _ g.row.K.coded g.row.V.coded _ _ _ l.spelled, tt)
 
@@ -40,10 +40,10 @@ invariant_of-self g c =
     let free : c.offset_of-is_new.result ≡ 0 → page_at i.shape.page_bits i.closed + length i.frames.slots ≤ c.page_of-page.result → ⊥ =
     (λ z more. let yes = c.is_full.ensures.1 (rw (← c.self.view_is) (record { more = below; begins = sym offset ∙ z; taken = rw page at more })) in
     let bad : true ≡ false = sym yes ∙ c.if-is_full.false in cc) in
-    let sound = sound_record g.K.Known.is_known g.V.Known.is_known i.tail c.args.previous c.args.key c.args.value below (rw (← c.self.view_is) at c.requires.previous) c.put_record.ensures.key c.put_record.ensures.value in
-    let e : Entry g.row.K.Denot g.row.V.Denot = record { address = i.tail; previous = c.args.previous; key = c.args.key; value = c.args.value; delta = false } in
+    let sound = sound_record g.K.Known.is_known g.V.Known.is_known i.tail c.args.previous c.args.key c.args.value c.args.delta below (rw (← c.self.view_is) at c.requires.previous) c.put_record.ensures.key c.put_record.ensures.value c.requires.whole in
+    let e : Entry g.row.K.Denot g.row.V.Denot = record { address = i.tail; previous = c.args.previous; key = c.args.key; value = c.args.value; delta = c.args.delta } in
     let p = append_puts g.K.Fixed.bytes_of g.V.Fixed.bytes_of g.K.Known.is_known g.V.Known.is_known g.K.Fixed.SIZE g.V.Fixed.SIZE g.R.Receipt.keeps i.shape i.begin i.closed i.frozen i.tail _ i.frames c.put_record.new.frames _ i.text.0.0 _ _ c.self.invariant page offset free c.put_record.ensures.written in
-    let l = grown g.K.Fixed.bytes_of g.V.Fixed.bytes_of g.K.Known.is_known g.V.Known.is_known g.K.Fixed.SIZE g.V.Fixed.SIZE g.R.Receipt.keeps i.shape i.begin i.closed i.frozen i.tail _ i.frames c.put_record.new.frames _ i.text.0.0 e c.self.invariant below refl p c.put_record.ensures.sized sound refl c.put_record.ensures.spells in
+    let l = grown g.K.Fixed.bytes_of g.V.Fixed.bytes_of g.K.Known.is_known g.V.Known.is_known g.K.Fixed.SIZE g.V.Fixed.SIZE g.R.Receipt.keeps i.shape i.begin i.closed i.frozen i.tail _ i.frames c.put_record.new.frames _ i.text.0.0 e c.self.invariant below refl p c.put_record.ensures.sized sound c.put_record.ensures.spells in
     let tail = tail_is i.shape.page_bits i.shape.record_size i.tail _ _ c.unwrap_or-self-inside.ensures c.next_place.ensures.value in
     log_at g.K.Fixed.bytes_of g.V.Fixed.bytes_of g.K.Known.is_known g.V.Known.is_known g.K.Fixed.SIZE g.V.Fixed.SIZE g.R.Receipt.keeps i.shape i.begin i.closed i.frozen _ _ _ c.put_record.new.frames c.self-1.given.0 (i.text.0.0 ++ e ∷ []) tail l
 
@@ -56,11 +56,11 @@ returns-clause-appended g c =
     let free : c.offset_of-is_new.result ≡ 0 → page_at i.shape.page_bits i.closed + length i.frames.slots ≤ c.page_of-page.result → ⊥ =
     (λ z more. let yes = c.is_full.ensures.1 (rw (← c.self.view_is) (record { more = below; begins = sym offset ∙ z; taken = rw page at more })) in
     let bad : true ≡ false = sym yes ∙ c.if-is_full.false in cc) in
-    let sound = sound_record g.K.Known.is_known g.V.Known.is_known i.tail c.args.previous c.args.key c.args.value below (rw (← c.self.view_is) at c.requires.previous) c.put_record.ensures.key c.put_record.ensures.value in
-    let e : Entry g.row.K.Denot g.row.V.Denot = record { address = i.tail; previous = c.args.previous; key = c.args.key; value = c.args.value; delta = false } in
+    let sound = sound_record g.K.Known.is_known g.V.Known.is_known i.tail c.args.previous c.args.key c.args.value c.args.delta below (rw (← c.self.view_is) at c.requires.previous) c.put_record.ensures.key c.put_record.ensures.value c.requires.whole in
+    let e : Entry g.row.K.Denot g.row.V.Denot = record { address = i.tail; previous = c.args.previous; key = c.args.key; value = c.args.value; delta = c.args.delta } in
     let p = append_puts g.K.Fixed.bytes_of g.V.Fixed.bytes_of g.K.Known.is_known g.V.Known.is_known g.K.Fixed.SIZE g.V.Fixed.SIZE g.R.Receipt.keeps i.shape i.begin i.closed i.frozen i.tail _ i.frames c.put_record.new.frames _ i.text.0.0 _ _ c.self.invariant page offset free c.put_record.ensures.written in
-    let l = grown g.K.Fixed.bytes_of g.V.Fixed.bytes_of g.K.Known.is_known g.V.Known.is_known g.K.Fixed.SIZE g.V.Fixed.SIZE g.R.Receipt.keeps i.shape i.begin i.closed i.frozen i.tail _ i.frames c.put_record.new.frames _ i.text.0.0 e c.self.invariant below refl p c.put_record.ensures.sized sound refl c.put_record.ensures.spells in
+    let l = grown g.K.Fixed.bytes_of g.V.Fixed.bytes_of g.K.Known.is_known g.V.Known.is_known g.K.Fixed.SIZE g.V.Fixed.SIZE g.R.Receipt.keeps i.shape i.begin i.closed i.frozen i.tail _ i.frames c.put_record.new.frames _ i.text.0.0 e c.self.invariant below refl p c.put_record.ensures.sized sound c.put_record.ensures.spells in
     let tail = tail_is i.shape.page_bits i.shape.record_size i.tail _ _ c.unwrap_or-self-inside.ensures c.next_place.ensures.value in
     let waits = put_waiting g.K.Fixed.bytes_of g.V.Fixed.bytes_of g.K.Known.is_known g.V.Known.is_known g.K.Fixed.SIZE g.V.Fixed.SIZE g.R.Receipt.keeps i.shape i.begin i.closed i.frozen i.tail _ i.frames c.put_record.new.frames _ i.text.0.0 i.tail c.self.invariant c.self.invariant.ordered.frozen_tail p in
-    rw (← c.self.view_is) (view_at g.K.Fixed.bytes_of g.V.Fixed.bytes_of g.K.Known.is_known g.V.Known.is_known g.K.Fixed.SIZE g.V.Fixed.SIZE g.R.Receipt.keeps i.shape i.begin i.closed i.frozen i.tail _ _ _ i.frames c.put_record.new.frames c.self-1.given.0 i.text.0.0 e refl refl
+    rw (← c.self.view_is) (view_at g.K.Fixed.bytes_of g.V.Fixed.bytes_of g.K.Known.is_known g.V.Known.is_known g.K.Fixed.SIZE g.V.Fixed.SIZE g.R.Receipt.keeps i.shape i.begin i.closed i.frozen i.tail _ _ _ i.frames c.put_record.new.frames c.self-1.given.0 i.text.0.0 e refl
     c.self.invariant.size tail p.count_same waits l)

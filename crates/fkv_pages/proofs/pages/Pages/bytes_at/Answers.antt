@@ -41,6 +41,5 @@ returns-clause-spelled g c =
       stands = h.stands;
       first = place_low i.shape.page_bits i.shape.record_size i.shape.limits c.args.address h.place;
       sound = h.sound;
-      whole = h.whole;
       spells = rw (c.part.ensures, page, c.offset_of-offset.ensures.value) h.spells;
     }))

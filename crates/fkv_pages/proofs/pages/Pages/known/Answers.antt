@@ -25,8 +25,8 @@ returns-clause-below g c =
     let some = i.shape.limits.some in
     rw (← c.self.view_is) (λ n e h. let s = text_stands g.K.Fixed.bytes_of g.V.Fixed.bytes_of g.K.Known.is_known g.V.Known.is_known g.K.Fixed.SIZE g.V.Fixed.SIZE g.R.Receipt.keeps i.shape i.begin i.closed i.frozen i.tail _ i.frames i.text.0.0 c.self.invariant n e h in let high = s.high in omega arith)
 
-pub returns-clause-whole : goal.returns-clause-whole
-returns-clause-whole g c = rw (← c.self.view_is) (λ n e h. let s = c.self.invariant.spelled.spelled n e h in s.whole)
+pub returns-clause-valued : goal.returns-clause-valued
+returns-clause-valued g c = rw (← c.self.view_is) (λ n e h. let s = c.self.invariant.spelled.spelled n e h in s.sound.whole)
 
 pub returns-clause-first : goal.returns-clause-first
 returns-clause-first g c =

@@ -2,7 +2,7 @@ use Rattle.std.proofs.Common.{◌≡◌, ◌∙◌, inl, inr, true, false, Some,
 use Rattle.fkv_texts.specs.Text.{entry_at}
 use Rattle.fkv_pages.specs.Spelled.{record_of, IsIn}
 use Rattle.fkv_pages.proofs.PageLemmas.{some_is, if_is}
-use Rattle.fkv_pages.proofs.ReadLemmas.{no_value, a_value}
+use Rattle.fkv_pages.proofs.ReadLemmas.{no_value, a_value, tombstone_whole}
 use Rattle.fkv_pages.proofs.pages.Pages.look_at.Goals as goal
 
 pub returns-then-not-is_of-clause-passed : goal.returns-then-not-is_of-clause-passed
@@ -31,8 +31,9 @@ returns-then-header-clause-met g c =
     let link = c.link_of-header.ensures (record_of f.0) h.sound.fits h.spells in
     let key = (c.is_of.ensures (record_of f.0) h.sound.key h.spells).0 c.if-not-is_of.false in
     let none = no_value f.0.value (sym (ap (λ x. x.is_tombstone) link) ∙ c.if-header.true) in
+    let no_delta : f.0.delta ≡ false = tombstone_whole f.0.delta f.0.value none h.sound.whole in
     rw c.entry_with.ensures (
-      f.1 ∙ ap Some (λ j. record { address = h.stands j; previous = sym (ap (λ x. x.previous) link) j; key = key j; value = none j; delta = h.whole j }),
+      f.1 ∙ ap Some (λ j. record { address = h.stands j; previous = sym (ap (λ x. x.previous) link) j; key = key j; value = none j; delta = no_delta j }),
       refl,
     )
 
@@ -44,8 +45,8 @@ returns-clause-met g c =
     let key = (c.is_of.ensures (record_of f.0) h.sound.key h.spells).0 c.if-not-is_of.false in
     let some = a_value f.0.value (sym (ap (λ x. x.is_tombstone) link) ∙ c.if-header.false) in
     let known : g.V.Known.is_known some.0 = if_is f.0.value g.V.Known.is_known some.0 h.sound.value some.1 in
-    let value = some.1 ∙ sym (c.value_of.ensures (record_of f.0) some.0 some.1 known h.spells) in
+    let value = some.1 ∙ sym (c.value_of-value.ensures (record_of f.0) some.0 some.1 known h.spells) in
     rw c.entry_with-2.ensures (
-      f.1 ∙ ap Some (λ j. record { address = h.stands j; previous = sym (ap (λ x. x.previous) link) j; key = key j; value = value j; delta = h.whole j }),
+      f.1 ∙ ap Some (λ j. record { address = h.stands j; previous = sym (ap (λ x. x.previous) link) j; key = key j; value = value j; delta = sym (ap (λ x. x.is_delta) link) j }),
       refl,
     )

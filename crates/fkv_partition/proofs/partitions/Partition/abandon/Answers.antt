@@ -8,8 +8,8 @@ pub invariant_of-self : goal.invariant_of-self
 invariant_of-self g c =
     let v = view_of c.self.inside.core c.self.inside.cleared c.self.inside.relocations.items in
     let does = c.abandon-given.ensures.effect in
-    keep-seated g.R.Receipt.keeps g.F.Key.Ord.cmp g.F.Functions.code v c.abandon-given.new.self c.self.invariant c.known-2.ensures.traced
-    (c.events_preserve.ensures.gives_up g.R.Receipt.keeps g.F.Key.Ord.cmp g.F.Functions.code v.core c.abandon-given.new.self c.args.slot c.args.context v.core.moment c.abandon-given.result c.known.ensures does)
+    keep-seated g.R.Receipt.keeps g.F.Key.Ord.cmp g.F.Mergeable.parts.joined g.F.Functions.code v c.abandon-given.new.self c.self.invariant c.known-2.ensures.traced c.known-2.ensures.stood
+    (c.events_preserve.ensures.gives_up g.R.Receipt.keeps g.F.Key.Ord.cmp g.F.Mergeable.parts.joined g.F.Functions.code v.core c.abandon-given.new.self c.args.slot c.args.context v.core.moment c.abandon-given.result c.known.ensures does)
     (gives-up-steady v.core c.abandon-given.new.self c.args.slot c.args.context v.core.moment c.abandon-given.result does)
     (c.sessions_preserved.ensures.gives_up v.core c.abandon-given.new.self c.args.slot c.args.context v.core.moment c.abandon-given.result does)
 

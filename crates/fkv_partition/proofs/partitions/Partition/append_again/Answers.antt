@@ -29,7 +29,7 @@ returns-then-not-holds-clause-event g c = rw c.set_stage.ensures (event-set g.R.
 pub append-requires-clause-unclaimed : goal.append-requires-clause-unclaimed
 append-requires-clause-unclaimed g c =
     subst (λ u. claim_at u.core.contexts (c.args.slot * 8 + c.args.context) ≡ None) (sym c.self.view_is)
-    (unclaimed g.F.Key.Ord.cmp g.F.Functions.code c.args.self.now c.known.ensures.compacting c.args.slot c.args.context c.args.now c.args.relocation.now c.requires.here)
+    (unclaimed g.F.Key.Ord.cmp g.F.Mergeable.parts.joined g.F.Functions.code c.args.self.now c.known.ensures.compacting c.args.slot c.args.context c.args.now c.args.relocation.now c.requires.here)
 
 pub append-requires-clause-write : goal.append-requires-clause-write
 append-requires-clause-write g c =
@@ -37,7 +37,7 @@ append-requires-clause-write g c =
     let v = c.args.self.now in
     let holds = ap (λ u. word_at u.core.records.words c.args.kept.place) (sym c.self.view_is) ∙ told.0 c.if-not-holds.false in
     subst (λ u. IsWrite g.F.Functions.code u.core (record { entry = c.args.kept; key = c.args.entry.key; value = c.args.entry.value })) (sym c.self.view_is)
-    (writes-again g.F.Key.Ord.cmp g.F.Functions.code v c.known.ensures.compacting c.args.slot c.args.context c.args.now c.args.relocation.now c.requires.here c.known.ensures.core c.args.entry c.args.kept c.requires.stands holds)
+    (writes-again g.F.Key.Ord.cmp g.F.Mergeable.parts.joined g.F.Functions.code v c.known.ensures.compacting c.args.slot c.args.context c.args.now c.args.relocation.now c.requires.here c.known.ensures.core c.args.entry c.args.kept c.requires.stands holds)
 
 pub invariant_of-self-in-Ok-None : goal.invariant_of-self-in-Ok-None
 invariant_of-self-in-Ok-None g c =
@@ -52,7 +52,7 @@ set_stage-requires-in-Ok-None-clause-here g c =
 pub set_stage-requires-in-Ok-None-clause-stands : goal.set_stage-requires-in-Ok-None-clause-stands
 set_stage-requires-in-Ok-None-clause-stands g c =
     let same = c.in-Ok-None.ensures.full (ap Ok c.in-Ok-None.field-0-is) in
-    subst (λ q. StageStands g.R.Receipt.keeps g.F.Key.Ord.cmp g.F.Functions.code q c.args.relocation.now.target (Ready c.args.entry c.args.kept)) (sym same) (rw (← c.self.view_is) at c.requires.stands)
+    subst (λ q. StageStands g.R.Receipt.keeps g.F.Key.Ord.cmp g.F.Mergeable.parts.joined g.F.Functions.code q c.args.relocation.now.target (Ready c.args.entry c.args.kept)) (sym same) (rw (← c.self.view_is) at c.requires.stands)
 
 pub invariant_of-self-in-Ok-Some : goal.invariant_of-self-in-Ok-Some
 invariant_of-self-in-Ok-Some g c =
@@ -66,9 +66,9 @@ invariant_of-self-in-Ok-Some g c =
     let told = rw c.records.ensures at c.holds.ensures in
     let holds = told.0 c.if-not-holds.false in
     let made = rw c.in-Ok-Some.field-0-is at c.in-Ok-Some.ensures.ok in
-    let args = writes-again g.F.Key.Ord.cmp g.F.Functions.code ins c.self.invariant c.args.slot c.args.context c.args.now x here sound e kept stands holds in
-    let borne = c.events_preserve.ensures.appends g.R.Receipt.keeps g.F.Key.Ord.cmp g.F.Functions.code ins.core c.args.slot c.args.context c.args.now (record { entry = kept; key = e.key; value = e.value }) sound args in
-    rw made (keep-again g.F.Key.Ord.cmp g.F.Functions.code ins c.self.invariant c.args.slot c.args.context c.args.now x here sound e kept stands holds (rw made at c.known-in-Ok-Some.ensures.traced) borne)
+    let args = writes-again g.F.Key.Ord.cmp g.F.Mergeable.parts.joined g.F.Functions.code ins c.self.invariant c.args.slot c.args.context c.args.now x here sound e kept stands holds in
+    let borne = c.events_preserve.ensures.appends g.R.Receipt.keeps g.F.Key.Ord.cmp g.F.Mergeable.parts.joined g.F.Functions.code ins.core c.args.slot c.args.context c.args.now (record { entry = kept; key = e.key; value = e.value }) sound args in
+    rw made (keep-again g.F.Key.Ord.cmp g.F.Mergeable.parts.joined g.F.Functions.code ins c.self.invariant c.args.slot c.args.context c.args.now x here sound e kept stands holds (rw made at c.known-in-Ok-Some.ensures.traced) (rw made at c.known-in-Ok-Some.ensures.stood) borne)
 
 pub finish-requires-clause-issued : goal.finish-requires-clause-issued
 finish-requires-clause-issued g c =
@@ -115,8 +115,8 @@ finish-requires-clause-superseded g c =
     let told = rw c.records.ensures at c.holds.ensures in
     let holds = told.0 c.if-not-holds.false in
     let made = rw c.in-Ok-Some.field-0-is at c.in-Ok-Some.ensures.ok in
-    subst (λ q. IsTrue g.R.Receipt.keeps → (d : Entry _ _) → entry_at q.records.text x.target ≡ Some d → IsSuperseded g.F.Key.Ord.cmp q.records.text d) (sym made)
-    (superseded-again g.F.Key.Ord.cmp g.F.Functions.code ins c.self.invariant c.args.slot c.args.context c.args.now x here sound e kept stands holds order)
+    subst (λ q. IsTrue g.R.Receipt.keeps → (d : Entry _ _) → entry_at q.records.entries x.target ≡ Some d → IsSuperseded g.F.Key.Ord.cmp q.records.entries d) (sym made)
+    (superseded-again g.F.Key.Ord.cmp g.F.Mergeable.parts.joined g.F.Functions.code ins c.self.invariant c.args.slot c.args.context c.args.now x here sound e kept stands holds order)
 
 pub returns-in-Err-clause-effect : goal.returns-in-Err-clause-effect
 returns-in-Err-clause-effect g c =
@@ -193,7 +193,7 @@ returns-in-Ok-Some-clause-event g c =
     let new = c.finish.ensures
     ∙ ap (λ q. done_at (view_of q c.self.inside.cleared c.self.inside.relocations.items) c.args.slot c.args.context x.target c.args.now) made
     ∙ ap (λ u. again_at u c.args.slot c.args.context x.target kept e c.args.now) c.self.view_is in
-    rw new (event-again g.F.Key.Ord.cmp g.F.Functions.code v c.known.ensures.compacting c.args.slot c.args.context c.args.now x c.requires.here c.known.ensures.core e kept c.requires.stands holds order)
+    rw new (event-again g.F.Key.Ord.cmp g.F.Mergeable.parts.joined g.F.Functions.code v c.known.ensures.compacting c.args.slot c.args.context c.args.now x c.requires.here c.known.ensures.core e kept c.requires.stands holds order)
 
 pub returns-in-Ok-Some-clause-cleared : goal.returns-in-Ok-Some-clause-cleared
 returns-in-Ok-Some-clause-cleared g c =

@@ -7,4 +7,4 @@ pub invariant_of-self : goal.invariant_of-self
 invariant_of-self g c =
     let v = view_of c.self.inside.core c.self.inside.cleared c.self.inside.relocations.items in
     rw (c.pass.ensures, c.set_context.ensures)
-    (keep-changed g.R.Receipt.keeps g.F.Key.Ord.cmp g.F.Functions.code v (c.args.slot * 8 + c.args.context) c.args.now c.self.inside.cleared None c.self.invariant (rises-not g.R.Receipt.keeps g.F.Key.Ord.cmp g.F.Functions.code v c.self.invariant) (λ x e. absurd (cc)))
+    (keep-changed g.R.Receipt.keeps g.F.Key.Ord.cmp g.F.Mergeable.parts.joined g.F.Functions.code v (c.args.slot * 8 + c.args.context) c.args.now c.self.inside.cleared None c.self.invariant (rises-not g.R.Receipt.keeps g.F.Key.Ord.cmp g.F.Mergeable.parts.joined g.F.Functions.code v c.self.invariant) (λ x e. absurd (cc)))

@@ -9,8 +9,8 @@ pub invariant_of-self : goal.invariant_of-self
 invariant_of-self g c =
     let v = view_of c.self.inside.core c.self.inside.cleared c.self.inside.relocations.items in
     let does = c.enter-entered.ensures.effect in
-    keep-seated g.R.Receipt.keeps g.F.Key.Ord.cmp g.F.Functions.code v c.enter-entered.new.self c.self.invariant c.known-2.ensures.traced
-    (c.events_preserve.ensures.enters g.R.Receipt.keeps g.F.Key.Ord.cmp g.F.Functions.code v.core c.enter-entered.new.self c.args.now c.enter-entered.result c.known.ensures does)
+    keep-seated g.R.Receipt.keeps g.F.Key.Ord.cmp g.F.Mergeable.parts.joined g.F.Functions.code v c.enter-entered.new.self c.self.invariant c.known-2.ensures.traced c.known-2.ensures.stood
+    (c.events_preserve.ensures.enters g.R.Receipt.keeps g.F.Key.Ord.cmp g.F.Mergeable.parts.joined g.F.Functions.code v.core c.enter-entered.new.self c.args.now c.enter-entered.result c.known.ensures does)
     (enters-steady v.core c.enter-entered.new.self c.args.now c.enter-entered.result does)
     (c.sessions_preserved.ensures.enters v.core c.enter-entered.new.self c.args.now c.enter-entered.result does)
 
@@ -29,4 +29,4 @@ returns-clause-event g c =
     rw (← c.self.view_is) (if-ok c.enter-entered.result (λ slot q. quiet-event v new c.args.now (relocations-stay v new c.self.invariant (all-stay v new seats.1)) q) c.enter-entered.ensures.event)
 
 pub returns-clause-pends : goal.returns-clause-pends
-returns-clause-pends g c = rw (← c.self.view_is) (c.pendings_stay.ensures.enters g.R.Receipt.keeps g.F.Key.Ord.cmp g.F.Functions.code c.self.inside.core c.enter-entered.new.self c.args.now c.enter-entered.result c.known.ensures c.enter-entered.ensures.effect)
+returns-clause-pends g c = rw (← c.self.view_is) (c.pendings_stay.ensures.enters g.R.Receipt.keeps g.F.Key.Ord.cmp g.F.Mergeable.parts.joined g.F.Functions.code c.self.inside.core c.enter-entered.new.self c.args.now c.enter-entered.result c.known.ensures c.enter-entered.ensures.effect)

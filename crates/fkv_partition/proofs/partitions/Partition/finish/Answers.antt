@@ -20,10 +20,10 @@ invariant_of-self g c =
       | else-self-place w ↦ done-is v c.args.slot c.args.context c.args.place c.args.now _ _ _ (rw w.self-inside-is c.pass.ensures) (rw w.self-inside-is at c.set_context.ensures) (inr (w.if-self-place.false, rw w.self-inside-is refl))
     ] in
     rw is
-    (keep-changed g.R.Receipt.keeps g.F.Key.Ord.cmp g.F.Functions.code v (c.args.slot * 8 + c.args.context) c.args.now (cleared_past v c.args.place) None c.self.invariant
-    (rises-past g.R.Receipt.keeps g.F.Key.Ord.cmp g.F.Functions.code v c.args.place c.self.invariant c.known.ensures.traced
+    (keep-changed g.R.Receipt.keeps g.F.Key.Ord.cmp g.F.Mergeable.parts.joined g.F.Functions.code v (c.args.slot * 8 + c.args.context) c.args.now (cleared_past v c.args.place) None c.self.invariant
+    (rises-past g.R.Receipt.keeps g.F.Key.Ord.cmp g.F.Mergeable.parts.joined g.F.Functions.code v c.args.place c.self.invariant c.known.ensures.traced
     (rw (← c.self.view_is) at c.requires.issued) (rw (← c.self.view_is) at c.requires.place) (rw (← c.self.view_is) at c.requires.low)
-    (λ yes_keeps clear. c.cleared_stay.ensures.raised g.R.Receipt.keeps g.F.Key.Ord.cmp g.F.Functions.code r c.args.place c.known.ensures.traced (rw (← c.self.view_is) at c.requires.place) (rw (← c.self.view_is) at c.requires.low) clear ((rw (← c.self.view_is) at c.requires.superseded) yes_keeps)))
+    (λ yes_keeps clear. c.cleared_stay.ensures.raised g.R.Receipt.keeps g.F.Key.Ord.cmp g.F.Mergeable.parts.joined g.F.Functions.code r c.args.place c.known.ensures.traced c.known.ensures.stood (rw (← c.self.view_is) at c.requires.place) (rw (← c.self.view_is) at c.requires.low) clear ((rw (← c.self.view_is) at c.requires.superseded) yes_keeps)))
     (λ x e. absurd (cc)))
 
 pub returns : goal.returns

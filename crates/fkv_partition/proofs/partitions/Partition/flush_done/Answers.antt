@@ -9,8 +9,8 @@ pub invariant_of-self : goal.invariant_of-self
 invariant_of-self g c =
     let v = view_of c.self.inside.core c.self.inside.cleared c.self.inside.relocations.items in
     let does = c.flush_done-done.ensures.effect in
-    keep-seated g.R.Receipt.keeps g.F.Key.Ord.cmp g.F.Functions.code v c.flush_done-done.new.self c.self.invariant c.known-2.ensures.traced
-    (c.events_preserve.ensures.flushes g.R.Receipt.keeps g.F.Key.Ord.cmp g.F.Functions.code v.core c.flush_done-done.new.self _ _ c.args.now c.flush_done-done.result c.known.ensures does)
+    keep-seated g.R.Receipt.keeps g.F.Key.Ord.cmp g.F.Mergeable.parts.joined g.F.Functions.code v c.flush_done-done.new.self c.self.invariant c.known-2.ensures.traced c.known-2.ensures.stood
+    (c.events_preserve.ensures.flushes g.R.Receipt.keeps g.F.Key.Ord.cmp g.F.Mergeable.parts.joined g.F.Functions.code v.core c.flush_done-done.new.self _ _ c.args.now c.flush_done-done.result c.known.ensures does)
     (flushes-steady v.core c.flush_done-done.new.self _ _ c.args.now c.flush_done-done.result does)
     (c.sessions_preserved.ensures.flushes v.core c.flush_done-done.new.self _ _ c.args.now c.flush_done-done.result does)
 

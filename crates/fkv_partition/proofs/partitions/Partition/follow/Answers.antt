@@ -1,20 +1,42 @@
-use Rattle.std.proofs.Common.{◌≡◌, sym, ap, subst, ◌∙◌}
+use Rattle.std.proofs.Common.{◌≡◌, ◌+◌, Some, sym, ap, subst, ◌∙◌, arith}
 use Rattle.fkv_functions.proofs.KeyOrder.{key_order}
+use Rattle.fkv_texts.proofs.CoverLemmas.{cleared-lower}
 use Rattle.fkv_core.specs.Beginning.{IsEntered}
 use Rattle.fkv_core.specs.Views.{reached_from, entry_for}
 use Rattle.fkv_core.proofs.DecidedLemmas.{page_flushed}
 use Rattle.fkv_partition.specs.declared.relocations.Liveness.TheVariants.{Superseded, Last, Further}
-use Rattle.fkv_partition.specs.Checking.{liveness, ChecksLiveness}
+use Rattle.fkv_partition.specs.Checking.{liveness, higher_of, above, told_above, ChecksLiveness}
 use Rattle.fkv_partition.proofs.MoveLemmas.{event-done, past-place, open-here, stands-here, low-here}
-use Rattle.fkv_partition.proofs.CheckingLemmas.{superseded-one, superseded-newer, ready, further-disk, tracing}
+use Rattle.fkv_partition.proofs.CheckingLemmas.{higher-right, superseded-one, superseded-newer, ready, further-disk, tracing}
 use Rattle.fkv_partition.proofs.partitions.Partition.follow.Goals as goal
 
-pub reach-reached-requires-clause-entered : goal.reach-reached-requires-clause-entered
-reach-reached-requires-clause-entered g c =
+pub lowest-requires : goal.lowest-requires
+lowest-requires g c =
     let v = c.args.self.now in
     let x = c.args.relocation.now in
-    let e = c.args.entry in
     subst (λ u. IsEntered u.core c.args.slot) (sym c.self.view_is) (open-here v c.args.slot c.args.context x c.requires.here).inside
+
+pub reach-came-requires-clause-begin : goal.reach-came-requires-clause-begin
+reach-came-requires-clause-begin g c =
+    let v = c.args.self.now in
+    let x = c.args.relocation.now in
+    let up = higher-right (x.target + 1) c.lowest.result in
+    let low = c.lowest.ensures.begin in
+    let is = c.higher_of-low.ensures.value in
+    omega (arith, up, low, is)
+
+pub reach-came-requires-clause-closed : goal.reach-came-requires-clause-closed
+reach-came-requires-clause-closed g c =
+    let v = c.args.self.now in
+    let x = c.args.relocation.now in
+    let up = higher-right (x.target + 1) c.lowest.result in
+    let low = c.lowest.ensures.closed in
+    let is = c.higher_of-low.ensures.value in
+    omega (arith, up, low, is)
+
+pub reach-came-requires-clause-entry : goal.reach-came-requires-clause-entry
+reach-came-requires-clause-entry g c =
+    ap Some c.address.ensures ∙ sym c.requires.leads ∙ ap (λ u. entry_for g.F.Functions.code u.core c.args.entry.key) (sym c.self.view_is)
 
 pub finish-requires-clause-issued : goal.finish-requires-clause-issued
 finish-requires-clause-issued g c =
@@ -45,9 +67,11 @@ finish-requires-clause-superseded g c =
     let v = c.args.self.now in
     let x = c.args.relocation.now in
     let e = c.args.entry in
-    let told = sym (ap (liveness x.target) c.reach-reached.ensures) ∙ sym c.liveness_of.ensures ∙ c.in-Superseded.is in
-    let so = subst (λ u. liveness x.target (reached_from g.F.Key.Ord.cmp g.F.Functions.code u.core c.args.slot e.key (entry_for g.F.Functions.code u.core e.key)) ≡ Superseded) c.self.view_is told in
-    superseded-one g.F.Key.Ord.cmp v.core.records.text x.target e c.requires.is (superseded-newer g.F.Key.Ord.cmp g.F.Functions.code order v.core c.known.ensures.core c.args.slot (open-here v c.args.slot c.args.context x c.requires.here).inside x.target e c.requires.stands c.requires.is c.args.kept c.requires.entry_stands c.requires.leads so)
+    let told = sym (ap (liveness x.target) c.reach-came.ensures) ∙ sym c.liveness_of.ensures ∙ c.in-Superseded.is in
+    let low = c.higher_of-low.ensures.value ∙ ap (higher_of (x.target + 1)) c.lowest.ensures.value ∙ ap (λ u. above u.core c.args.slot x.target) c.self.view_is in
+    let so : told_above g.F.Key.Ord.cmp g.F.Mergeable.parts.joined g.F.Functions.code v.core c.args.slot x.target e.key ≡ Superseded =
+    sym (ap (λ n. liveness x.target (reached_from g.F.Key.Ord.cmp g.F.Mergeable.parts.joined g.F.Functions.code v.core c.args.slot e.key n (entry_for g.F.Functions.code v.core e.key))) low) ∙ subst (λ u. liveness x.target (reached_from g.F.Key.Ord.cmp g.F.Mergeable.parts.joined g.F.Functions.code u.core c.args.slot e.key c.higher_of-low.result (entry_for g.F.Functions.code u.core e.key)) ≡ Superseded) c.self.view_is told in
+    superseded-one g.F.Key.Ord.cmp v.core.records.entries x.target e c.requires.is (superseded-newer g.F.Key.Ord.cmp g.F.Mergeable.parts.joined g.F.Functions.code order v.core c.known.ensures.core c.args.slot (open-here v c.args.slot c.args.context x c.requires.here).inside x.target e c.requires.stands c.requires.is c.args.kept c.requires.entry_stands c.requires.leads so)
 
 pub append_again-requires-clause-stands : goal.append_again-requires-clause-stands
 append_again-requires-clause-stands g c =
@@ -57,9 +81,11 @@ append_again-requires-clause-stands g c =
     let v = c.args.self.now in
     let x = c.args.relocation.now in
     let e = c.args.entry in
-    let told = sym (ap (liveness x.target) c.reach-reached.ensures) ∙ sym c.liveness_of.ensures ∙ c.in-Last.is in
-    let so = subst (λ u. liveness x.target (reached_from g.F.Key.Ord.cmp g.F.Functions.code u.core c.args.slot e.key (entry_for g.F.Functions.code u.core e.key)) ≡ Last) c.self.view_is told in
-    (c.requires.own, ready g.F.Key.Ord.cmp g.F.Functions.code order v.core c.known.ensures.core c.args.slot (open-here v c.args.slot c.args.context x c.requires.here).inside x.target e c.requires.stands c.requires.is c.args.kept c.requires.entry_stands c.requires.leads c.requires.begun (stands-here v c.args.slot c.args.context x c.requires.here c.known.ensures.compacting).frozen c.requires.some so)
+    let told = sym (ap (liveness x.target) c.reach-came.ensures) ∙ sym c.liveness_of.ensures ∙ c.in-Last.is in
+    let low = c.higher_of-low.ensures.value ∙ ap (higher_of (x.target + 1)) c.lowest.ensures.value ∙ ap (λ u. above u.core c.args.slot x.target) c.self.view_is in
+    let so : told_above g.F.Key.Ord.cmp g.F.Mergeable.parts.joined g.F.Functions.code v.core c.args.slot x.target e.key ≡ Last c.in-Last.parts =
+    sym (ap (λ n. liveness x.target (reached_from g.F.Key.Ord.cmp g.F.Mergeable.parts.joined g.F.Functions.code v.core c.args.slot e.key n (entry_for g.F.Functions.code v.core e.key))) low) ∙ subst (λ u. liveness x.target (reached_from g.F.Key.Ord.cmp g.F.Mergeable.parts.joined g.F.Functions.code u.core c.args.slot e.key c.higher_of-low.result (entry_for g.F.Functions.code u.core e.key)) ≡ Last c.in-Last.parts) c.self.view_is told in
+    rw c.renewed-whole.ensures (c.requires.own, ready g.F.Key.Ord.cmp g.F.Mergeable.parts.joined g.F.Functions.code order v.core c.known.ensures.core c.args.slot (open-here v c.args.slot c.args.context x c.requires.here).inside x.target e c.requires.stands c.requires.is c.args.kept c.requires.entry_stands c.requires.leads c.in-Last.parts so c.requires.begun (stands-here v c.args.slot c.args.context x c.requires.here c.known.ensures.compacting).frozen c.requires.some (λ yes_keeps. cleared-lower g.F.Key.Ord.cmp v.core.records.entries x.target v.cleared (stands-here v c.args.slot c.args.context x c.requires.here c.known.ensures.compacting).issued (c.known.ensures.compacting.cleared yes_keeps)))
 
 pub ask-requires-clause-flushed : goal.ask-requires-clause-flushed
 ask-requires-clause-flushed g c =
@@ -69,9 +95,11 @@ ask-requires-clause-flushed g c =
     let v = c.args.self.now in
     let x = c.args.relocation.now in
     let e = c.args.entry in
-    let told = sym (ap (liveness x.target) c.reach-reached.ensures) ∙ sym c.liveness_of.ensures ∙ c.in-Further.is in
-    let so = subst (λ u. liveness x.target (reached_from g.F.Key.Ord.cmp g.F.Functions.code u.core c.args.slot e.key (entry_for g.F.Functions.code u.core e.key)) ≡ Further c.in-Further.wanted) c.self.view_is told in
-    let disk = further-disk g.F.Key.Ord.cmp g.F.Functions.code order v.core c.known.ensures.core c.args.slot (open-here v c.args.slot c.args.context x c.requires.here).inside x.target e c.requires.stands c.requires.is c.args.kept c.requires.entry_stands c.requires.leads c.in-Further.wanted c.requires.begun so in
+    let told = sym (ap (liveness x.target) c.reach-came.ensures) ∙ sym c.liveness_of.ensures ∙ c.in-Further.is in
+    let low = c.higher_of-low.ensures.value ∙ ap (higher_of (x.target + 1)) c.lowest.ensures.value ∙ ap (λ u. above u.core c.args.slot x.target) c.self.view_is in
+    let so : told_above g.F.Key.Ord.cmp g.F.Mergeable.parts.joined g.F.Functions.code v.core c.args.slot x.target e.key ≡ Further c.in-Further.wanted c.in-Further.parts =
+    sym (ap (λ n. liveness x.target (reached_from g.F.Key.Ord.cmp g.F.Mergeable.parts.joined g.F.Functions.code v.core c.args.slot e.key n (entry_for g.F.Functions.code v.core e.key))) low) ∙ subst (λ u. liveness x.target (reached_from g.F.Key.Ord.cmp g.F.Mergeable.parts.joined g.F.Functions.code u.core c.args.slot e.key c.higher_of-low.result (entry_for g.F.Functions.code u.core e.key)) ≡ Further c.in-Further.wanted c.in-Further.parts) c.self.view_is told in
+    let disk = further-disk g.F.Key.Ord.cmp g.F.Mergeable.parts.joined g.F.Functions.code order v.core c.known.ensures.core c.args.slot (open-here v c.args.slot c.args.context x c.requires.here).inside x.target e c.requires.stands c.requires.is c.args.kept c.requires.entry_stands c.requires.leads c.in-Further.wanted c.in-Further.parts c.requires.begun so in
     page_flushed v.core.records c.in-Further.wanted c.known.ensures.core.traced disk.0 disk.1
 
 pub ask-requires-clause-stands : goal.ask-requires-clause-stands
@@ -82,10 +110,12 @@ ask-requires-clause-stands g c =
     let v = c.args.self.now in
     let x = c.args.relocation.now in
     let e = c.args.entry in
-    let told = sym (ap (liveness x.target) c.reach-reached.ensures) ∙ sym c.liveness_of.ensures ∙ c.in-Further.is in
-    let so = subst (λ u. liveness x.target (reached_from g.F.Key.Ord.cmp g.F.Functions.code u.core c.args.slot e.key (entry_for g.F.Functions.code u.core e.key)) ≡ Further c.in-Further.wanted) c.self.view_is told in
+    let told = sym (ap (liveness x.target) c.reach-came.ensures) ∙ sym c.liveness_of.ensures ∙ c.in-Further.is in
+    let low = c.higher_of-low.ensures.value ∙ ap (higher_of (x.target + 1)) c.lowest.ensures.value ∙ ap (λ u. above u.core c.args.slot x.target) c.self.view_is in
+    let so : told_above g.F.Key.Ord.cmp g.F.Mergeable.parts.joined g.F.Functions.code v.core c.args.slot x.target e.key ≡ Further c.in-Further.wanted c.in-Further.parts =
+    sym (ap (λ n. liveness x.target (reached_from g.F.Key.Ord.cmp g.F.Mergeable.parts.joined g.F.Functions.code v.core c.args.slot e.key n (entry_for g.F.Functions.code v.core e.key))) low) ∙ subst (λ u. liveness x.target (reached_from g.F.Key.Ord.cmp g.F.Mergeable.parts.joined g.F.Functions.code u.core c.args.slot e.key c.higher_of-low.result (entry_for g.F.Functions.code u.core e.key)) ≡ Further c.in-Further.wanted c.in-Further.parts) c.self.view_is told in
     let begins = c.begin.ensures ∙ ap (λ r. r.begin) c.records.ensures ∙ ap (λ u. u.core.records.begin) c.self.view_is in
-    rw begins (c.requires.own, tracing g.F.Key.Ord.cmp g.F.Functions.code order v.core c.known.ensures.core c.args.slot (open-here v c.args.slot c.args.context x c.requires.here).inside x.target e c.requires.stands c.requires.is c.args.kept c.requires.entry_stands c.requires.leads c.in-Further.wanted c.requires.begun so c.args.now c.requires.some)
+    rw begins (c.requires.own, tracing g.F.Key.Ord.cmp g.F.Mergeable.parts.joined g.F.Functions.code order v.core c.known.ensures.core c.args.slot (open-here v c.args.slot c.args.context x c.requires.here).inside x.target e c.requires.stands c.requires.is c.args.kept c.requires.entry_stands c.requires.leads c.in-Further.wanted c.in-Further.parts c.requires.begun so c.args.now c.requires.some)
 
 pub returns-in-Superseded-clause-event : goal.returns-in-Superseded-clause-event
 returns-in-Superseded-clause-event g c =
@@ -106,16 +136,28 @@ returns-in-Last-clause-effect g c =
     let v = c.args.self.now in
     let x = c.args.relocation.now in
     let e = c.args.entry in
-    let told = sym (ap (liveness x.target) c.reach-reached.ensures) ∙ sym c.liveness_of.ensures ∙ c.in-Last.is in
-    let so = subst (λ u. liveness x.target (reached_from g.F.Key.Ord.cmp g.F.Functions.code u.core c.args.slot e.key (entry_for g.F.Functions.code u.core e.key)) ≡ Last) c.self.view_is told in
-    ChecksLiveness.last c.args.kept (record { some = c.requires.some; own = c.requires.own; leads = c.requires.found; outcome_is = so }) c.append_again.ensures.effect
+    let told = sym (ap (liveness x.target) c.reach-came.ensures) ∙ sym c.liveness_of.ensures ∙ c.in-Last.is in
+    let low = c.higher_of-low.ensures.value ∙ ap (higher_of (x.target + 1)) c.lowest.ensures.value ∙ ap (λ u. above u.core c.args.slot x.target) c.self.view_is in
+    let so : told_above g.F.Key.Ord.cmp g.F.Mergeable.parts.joined g.F.Functions.code v.core c.args.slot x.target e.key ≡ Last c.in-Last.parts =
+    sym (ap (λ n. liveness x.target (reached_from g.F.Key.Ord.cmp g.F.Mergeable.parts.joined g.F.Functions.code v.core c.args.slot e.key n (entry_for g.F.Functions.code v.core e.key))) low) ∙ subst (λ u. liveness x.target (reached_from g.F.Key.Ord.cmp g.F.Mergeable.parts.joined g.F.Functions.code u.core c.args.slot e.key c.higher_of-low.result (entry_for g.F.Functions.code u.core e.key)) ≡ Last c.in-Last.parts) c.self.view_is told in
+    ChecksLiveness.last c.args.kept c.in-Last.parts (record { some = c.requires.some; own = c.requires.own; leads = c.requires.found; outcome_is = so }) (rw c.renewed-whole.ensures at c.append_again.ensures.effect)
 
 pub returns-in-Further-clause-effect : goal.returns-in-Further-clause-effect
 returns-in-Further-clause-effect g c =
     let v = c.args.self.now in
     let x = c.args.relocation.now in
     let e = c.args.entry in
-    let told = sym (ap (liveness x.target) c.reach-reached.ensures) ∙ sym c.liveness_of.ensures ∙ c.in-Further.is in
-    let so = subst (λ u. liveness x.target (reached_from g.F.Key.Ord.cmp g.F.Functions.code u.core c.args.slot e.key (entry_for g.F.Functions.code u.core e.key)) ≡ Further c.in-Further.wanted) c.self.view_is told in
+    let told = sym (ap (liveness x.target) c.reach-came.ensures) ∙ sym c.liveness_of.ensures ∙ c.in-Further.is in
+    let low = c.higher_of-low.ensures.value ∙ ap (higher_of (x.target + 1)) c.lowest.ensures.value ∙ ap (λ u. above u.core c.args.slot x.target) c.self.view_is in
+    let so : told_above g.F.Key.Ord.cmp g.F.Mergeable.parts.joined g.F.Functions.code v.core c.args.slot x.target e.key ≡ Further c.in-Further.wanted c.in-Further.parts =
+    sym (ap (λ n. liveness x.target (reached_from g.F.Key.Ord.cmp g.F.Mergeable.parts.joined g.F.Functions.code v.core c.args.slot e.key n (entry_for g.F.Functions.code v.core e.key))) low) ∙ subst (λ u. liveness x.target (reached_from g.F.Key.Ord.cmp g.F.Mergeable.parts.joined g.F.Functions.code u.core c.args.slot e.key c.higher_of-low.result (entry_for g.F.Functions.code u.core e.key)) ≡ Further c.in-Further.wanted c.in-Further.parts) c.self.view_is told in
     let begins = c.begin.ensures ∙ ap (λ r. r.begin) c.records.ensures ∙ ap (λ u. u.core.records.begin) c.self.view_is in
-    ChecksLiveness.further c.args.kept c.in-Further.wanted (record { some = c.requires.some; own = c.requires.own; leads = c.requires.found; outcome_is = so }) (rw begins at c.ask.ensures.effect)
+    ChecksLiveness.further c.args.kept c.in-Further.wanted c.in-Further.parts (record { some = c.requires.some; own = c.requires.own; leads = c.requires.found; outcome_is = so }) (rw begins at c.ask.ensures.effect)
+
+pub overflow_add-target : goal.overflow_add-target
+overflow_add-target g c =
+    let frozen = (stands-here c.args.self.now c.args.slot c.args.context c.args.relocation.now c.requires.here c.known.ensures.compacting).frozen in
+    let regions = c.known.ensures.core.traced.regions.agree in
+    let safe = regions.in_order.safe in
+    let most = regions.in_order.most in
+    omega (arith, frozen, safe, most)

@@ -17,7 +17,7 @@ returns-in-None-clause-others g c = λ yes_keeps.
     let ord = g.met.F.Key.Ord in
     let known = g.met.F.Key.FixedKey in
     let order = key_order g.F.Key.PartialEq.eq g.F.Key.Ord.cmp ord.matches_eq known.exact ord.total in
-    c.pendings_stay.ensures.goes g.R.Receipt.keeps g.R.Receipt.stands g.F.Key.Ord.cmp g.F.Functions.meaning g.F.Functions.code c.args.self.now.core c.go_on_key.new.self.core c.args.slot c.args.context c.args.now c.go_on_key.result yes_keeps order c.known.ensures.core c.go_on_key.ensures.effect
+    c.pendings_stay.ensures.goes g.R.Receipt.keeps g.R.Receipt.stands g.F.Key.Ord.cmp g.F.Mergeable.parts.joined g.F.Functions.meaning g.F.Functions.code c.args.self.now.core c.go_on_key.new.self.core c.args.slot c.args.context c.args.now c.go_on_key.result yes_keeps order c.known.ensures.core c.go_on_key.ensures.effect
 
 pub returns-in-None-clause-finds : goal.returns-in-None-clause-finds
 returns-in-None-clause-finds g c = λ yes_keeps.
@@ -25,7 +25,7 @@ returns-in-None-clause-finds g c = λ yes_keeps.
     let known = g.met.F.Key.FixedKey in
     let order = key_order g.F.Key.PartialEq.eq g.F.Key.Ord.cmp ord.matches_eq known.exact ord.total in
     goes-finds g.F.Key.Ord.cmp g.F.Functions.meaning c.args.self.now c.go_on_key.new.self c.args.slot c.args.context c.args.now (sym c.relocation.ensures.value ∙ c.in-None.is) c.go_on_key.ensures.rest c.go_on_key.result
-    (λ p e. c.pendings_stay.ensures.finds g.R.Receipt.keeps g.R.Receipt.stands g.F.Key.Ord.cmp g.F.Functions.meaning g.F.Functions.code c.args.self.now.core c.go_on_key.new.self.core c.args.slot c.args.context c.args.now p order c.known.ensures.core (rw e at c.go_on_key.ensures.effect))
+    (λ p e. c.pendings_stay.ensures.finds g.R.Receipt.keeps g.R.Receipt.stands g.F.Key.Ord.cmp g.F.Mergeable.parts.joined g.F.Functions.meaning g.F.Functions.code c.args.self.now.core c.go_on_key.new.self.core c.args.slot c.args.context c.args.now p order c.known.ensures.core (rw e at c.go_on_key.ensures.effect))
 
 pub returns-in-None-clause-cleared : goal.returns-in-None-clause-cleared
 returns-in-None-clause-cleared g c = λ told. rw (sym c.relocation.ensures.value ∙ c.in-None.is) tt
@@ -40,7 +40,7 @@ pub returns-in-Some-clause-event : goal.returns-in-Some-clause-event
 returns-in-Some-clause-event g c = λ yes_keeps.
     let here = sym c.relocation.ensures.value ∙ c.in-Some.is in
     relocation-event g.F.Key.Ord.cmp g.F.Functions.meaning c.args.self.now c.go_on.new.self c.args.slot c.args.context c.args.now c.known.ensures.compacting c.in-Some._relocation here yes_keeps c.go_on.result c.go_on.ensures.event
-    (λ p e. goes_on-proceeds g.R.Receipt.stands g.F.Key.Ord.cmp g.F.Functions.code c.args.self.now c.go_on.new.self c.args.slot c.args.context c.args.now p c.in-Some._relocation here (rw e at c.go_on.ensures.effect))
+    (λ p e. goes_on-proceeds g.R.Receipt.stands g.F.Key.Ord.cmp g.F.Mergeable.parts.joined g.F.Functions.code c.args.self.now c.go_on.new.self c.args.slot c.args.context c.args.now p c.in-Some._relocation here (rw e at c.go_on.ensures.effect))
 
 pub returns-in-Some-clause-others : goal.returns-in-Some-clause-others
 returns-in-Some-clause-others g c = λ yes_keeps.

@@ -12,10 +12,10 @@ invariant_of-self g c =
     let order = key_order g.F.Key.PartialEq.eq g.F.Key.Ord.cmp ord.matches_eq known.exact ord.total in
     let v = view_of c.self.inside.core c.self.inside.cleared c.self.inside.relocations.items in
     let does = c.go-gone.ensures.effect in
-    keep-seated g.R.Receipt.keeps g.F.Key.Ord.cmp g.F.Functions.code v c.go-gone.new.self c.self.invariant c.known-2.ensures.traced
-    (c.events_preserve.ensures.goes g.R.Receipt.keeps g.R.Receipt.stands g.F.Key.Ord.cmp g.F.Functions.meaning g.F.Functions.code v.core c.go-gone.new.self c.args.slot c.args.context c.args.now c.go-gone.result order c.known.ensures does)
-    (goes-steady v.core c.go-gone.new.self c.args.slot c.args.context c.args.now g.R.Receipt.stands g.F.Key.Ord.cmp g.F.Functions.meaning g.F.Functions.code c.go-gone.result does)
-    (c.sessions_preserved.ensures.goes g.R.Receipt.stands g.F.Key.Ord.cmp g.F.Functions.meaning g.F.Functions.code v.core c.go-gone.new.self c.args.slot c.args.context c.args.now c.go-gone.result does)
+    keep-seated g.R.Receipt.keeps g.F.Key.Ord.cmp g.F.Mergeable.parts.joined g.F.Functions.code v c.go-gone.new.self c.self.invariant c.known-2.ensures.traced c.known-2.ensures.stood
+    (c.events_preserve.ensures.goes g.R.Receipt.keeps g.R.Receipt.stands g.F.Key.Ord.cmp g.F.Mergeable.parts.joined g.F.Functions.meaning g.F.Functions.code v.core c.go-gone.new.self c.args.slot c.args.context c.args.now c.go-gone.result order c.known.ensures does)
+    (goes-steady v.core c.go-gone.new.self c.args.slot c.args.context c.args.now g.R.Receipt.stands g.F.Key.Ord.cmp g.F.Mergeable.parts.joined g.F.Functions.meaning g.F.Functions.code c.go-gone.result does)
+    (c.sessions_preserved.ensures.goes g.R.Receipt.stands g.F.Key.Ord.cmp g.F.Mergeable.parts.joined g.F.Functions.meaning g.F.Functions.code v.core c.go-gone.new.self c.args.slot c.args.context c.args.now c.go-gone.result does)
 
 pub returns-clause-effect : goal.returns-clause-effect
 returns-clause-effect g c = rw (← c.self.view_is) c.go-gone.ensures.effect

@@ -43,8 +43,8 @@ invariant_of-self-2 g c =
     let new = c.issue.new.self in
     let does = c.in-Ok.ensures.effect in
     let first = rw (← c.self.view_is) at c.in-Some.ensures.value in
-    keep-issued g.R.Receipt.keeps g.F.Key.Ord.cmp g.F.Functions.code v new (c.args.slot * 8 + c.in-Some.context) c.self.invariant c.known-2.ensures.traced
-    (c.events_preserve.ensures.issues g.R.Receipt.keeps g.F.Key.Ord.cmp g.F.Functions.code v.core new c.args.slot c.in-Some.context c.args.op c.args.now _ c.known.ensures does)
+    keep-issued g.R.Receipt.keeps g.F.Key.Ord.cmp g.F.Mergeable.parts.joined g.F.Functions.code v new (c.args.slot * 8 + c.in-Some.context) c.self.invariant c.known-2.ensures.traced c.known-2.ensures.stood
+    (c.events_preserve.ensures.issues g.R.Receipt.keeps g.F.Key.Ord.cmp g.F.Mergeable.parts.joined g.F.Functions.code v.core new c.args.slot c.in-Some.context c.args.op c.args.now _ c.known.ensures does)
     (issues-steady v.core new c.args.slot c.in-Some.context c.args.now g.F.Functions.code c.args.op _ does)
     (c.sessions_preserved.ensures.issues g.F.Functions.code v.core new c.args.slot c.in-Some.context c.args.op c.args.now _ does)
     first.1.relocation

@@ -18,8 +18,8 @@ invariant_of-self g c =
     let new = c.leave-left.new.self in
     let does = c.leave-left.ensures.effect in
     let has = rw (← c.self.view_is) at c.has_relocation.ensures in
-    keep-left g.R.Receipt.keeps g.F.Key.Ord.cmp g.F.Functions.code v new c.args.slot c.self.invariant c.known-2.ensures.traced
-    (c.events_preserve.ensures.leaves g.R.Receipt.keeps g.F.Key.Ord.cmp g.F.Functions.code v.core new c.args.slot c.args.now c.leave-left.result c.known.ensures does)
+    keep-left g.R.Receipt.keeps g.F.Key.Ord.cmp g.F.Mergeable.parts.joined g.F.Functions.code v new c.args.slot c.self.invariant c.known-2.ensures.traced c.known-2.ensures.stood
+    (c.events_preserve.ensures.leaves g.R.Receipt.keeps g.F.Key.Ord.cmp g.F.Mergeable.parts.joined g.F.Functions.code v.core new c.args.slot c.args.now c.leave-left.result c.known.ensures does)
     (leaves-steady v.core new g.R.Receipt.keeps c.args.slot c.args.now c.leave-left.result does)
     (c.sessions_preserved.ensures.leaves g.R.Receipt.keeps v.core new c.args.slot c.args.now c.leave-left.result does)
     (λ d x e. (let told = has.1 (d, x, e) in let bad : false ≡ true = sym c.if-has_relocation.false ∙ told in cc))

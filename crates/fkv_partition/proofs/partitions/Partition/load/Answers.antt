@@ -31,7 +31,7 @@ pub returns-in-Some-clause-event : goal.returns-in-Some-clause-event
 returns-in-Some-clause-event g c = λ yes_keeps.
     let here = sym c.relocation.ensures.value ∙ c.in-Some.is in
     relocation-load g.F.Key.Ord.cmp g.F.Functions.meaning c.args.self.now c.load_on.new.self c.args.slot c.args.context c.args.now c.known.ensures.compacting c.in-Some._relocation here yes_keeps c.load_on.result c.load_on.ensures.event
-    (λ p e. loads_on-proceeds g.R.Receipt.stands _ g.F.Key.Ord.cmp g.F.Functions.code c.args.self.now c.load_on.new.self c.args.slot c.args.context c.args.now c.args.came p c.in-Some._relocation here (rw e at c.load_on.ensures.effect))
+    (λ p e. loads_on-proceeds g.R.Receipt.stands _ g.F.Key.Ord.cmp g.F.Mergeable.parts.joined g.F.Functions.code c.args.self.now c.load_on.new.self c.args.slot c.args.context c.args.now c.args.came p c.in-Some._relocation here (rw e at c.load_on.ensures.effect))
 
 pub returns-in-Some-clause-fails : goal.returns-in-Some-clause-fails
 returns-in-Some-clause-fails g c =

@@ -7,10 +7,13 @@ pub invariant_of-self : goal.invariant_of-self
 invariant_of-self g c =
     let v = view_of c.self.inside.core c.self.inside.cleared c.self.inside.relocations.items in
     let does = c.load-loaded.ensures.effect in
-    keep-seated g.R.Receipt.keeps g.F.Key.Ord.cmp g.F.Functions.code v c.load-loaded.new.self c.self.invariant c.known-2.ensures.traced
+    keep-seated g.R.Receipt.keeps g.F.Key.Ord.cmp g.F.Mergeable.parts.joined g.F.Functions.code v c.load-loaded.new.self c.self.invariant c.known-2.ensures.traced c.known-2.ensures.stood
     (c.loads_preserve.ensures g.R.Receipt.keeps g.F.Functions.code v.core c.load-loaded.new.self c.args.slot c.args.context c.args.came c.args.now c.load-loaded.result c.known.ensures does)
-    (loads-steady v.core c.load-loaded.new.self c.args.slot c.args.context c.args.now _ _ g.F.Key.Ord.cmp g.F.Functions.meaning c.args.came c.load-loaded.result does)
+    (loads-steady v.core c.load-loaded.new.self c.args.slot c.args.context c.args.now _ _ g.F.Key.Ord.cmp g.F.Mergeable.parts.joined g.F.Functions.meaning c.args.came c.load-loaded.result does)
     (c.loads_preserve_sessions.ensures v.core c.load-loaded.new.self c.args.slot c.args.context c.args.came c.args.now c.load-loaded.result does)
 
 pub returns-clause-effect : goal.returns-clause-effect
 returns-clause-effect g c = rw (← c.self.view_is) c.load-loaded.ensures.effect
+
+pub returns-clause-event : goal.returns-clause-event
+returns-clause-event g c = rw (← c.self.view_is) c.load-loaded.ensures.event

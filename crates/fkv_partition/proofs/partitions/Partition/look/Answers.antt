@@ -23,7 +23,7 @@ ask-requires-clause-flushed g c =
     ∙ ap (λ w. low_of c.self.inside.core.records.begin w) (c.view-view.ensures.value ∙ ap (λ r. view_at r.regions.views c.args.slot) c.records.ensures)
     ∙ ap (λ u. low_at u c.args.slot) c.self.view_is in
     let under = subst (λ n. x.target < n) low c.if-target-low_of.true in
-    place-flushed g.F.Key.Ord.cmp g.F.Functions.code v c.known.ensures.compacting c.known.ensures.core c.args.slot c.args.context x c.requires.here c.requires.uncleared under
+    place-flushed g.F.Key.Ord.cmp g.F.Mergeable.parts.joined g.F.Functions.code v c.known.ensures.compacting c.known.ensures.core c.args.slot c.args.context x c.requires.here c.requires.uncleared under
 
 pub ask-requires-clause-stands : goal.ask-requires-clause-stands
 ask-requires-clause-stands g c =
@@ -35,7 +35,7 @@ ask-requires-clause-stands g c =
     ∙ ap (λ u. low_at u c.args.slot) c.self.view_is in
     let under = subst (λ n. x.target < n) low c.if-target-low_of.true in
     let begins = c.begin-begin.ensures ∙ ap (λ r. r.begin) c.records-2.ensures ∙ ap (λ u. u.core.records.begin) c.self.view_is in
-    rw begins (place-reading g.F.Key.Ord.cmp g.F.Functions.code v c.known.ensures.compacting c.known.ensures.core c.args.slot c.args.context x c.requires.here c.requires.uncleared under)
+    rw begins (place-reading g.F.Key.Ord.cmp g.F.Mergeable.parts.joined g.F.Functions.code v c.known.ensures.compacting c.known.ensures.core c.args.slot c.args.context x c.requires.here c.requires.uncleared under)
 
 pub returns-then-target-low_of-clause-effect : goal.returns-then-target-low_of-clause-effect
 returns-then-target-low_of-clause-effect g c =
@@ -58,7 +58,7 @@ record_at-entry-requires-clause-there g c =
     ∙ ap (λ w. low_of c.self.inside.core.records.begin w) (c.view-view.ensures.value ∙ ap (λ r. view_at r.regions.views c.args.slot) c.records.ensures)
     ∙ ap (λ u. low_at u c.args.slot) c.self.view_is in
     let over = subst (λ n. n ≤ x.target) low c.if-target-low_of.false in
-    rw c.records-3.ensures (subst (λ u. IsSome (entry_at u.core.records.text x.target)) (sym c.self.view_is) (place-there g.F.Key.Ord.cmp g.F.Functions.code v c.known.ensures.compacting c.known.ensures.core c.args.slot c.args.context x c.requires.here c.requires.uncleared over))
+    rw c.records-3.ensures (subst (λ u. IsSome (entry_at u.core.records.entries x.target)) (sym c.self.view_is) (place-there g.F.Key.Ord.cmp g.F.Mergeable.parts.joined g.F.Functions.code v c.known.ensures.compacting c.known.ensures.core c.args.slot c.args.context x c.requires.here c.requires.uncleared over))
 
 pub record_at-entry-requires-clause-in_frame : goal.record_at-entry-requires-clause-in_frame
 record_at-entry-requires-clause-in_frame g c =
@@ -69,11 +69,11 @@ record_at-entry-requires-clause-in_frame g c =
     ∙ ap (λ w. low_of c.self.inside.core.records.begin w) (c.view-view.ensures.value ∙ ap (λ r. view_at r.regions.views c.args.slot) c.records.ensures)
     ∙ ap (λ u. low_at u c.args.slot) c.self.view_is in
     let over = subst (λ n. n ≤ x.target) low c.if-target-low_of.false in
-    rw c.records-3.ensures (subst (λ u. u.core.records.regions.offsets.closed ≤ x.target) (sym c.self.view_is) (place-open g.F.Key.Ord.cmp g.F.Functions.code v c.known.ensures.compacting c.known.ensures.core c.args.slot c.args.context x c.requires.here c.requires.uncleared over))
+    rw c.records-3.ensures (subst (λ u. u.core.records.regions.offsets.closed ≤ x.target) (sym c.self.view_is) (place-open g.F.Key.Ord.cmp g.F.Mergeable.parts.joined g.F.Functions.code v c.known.ensures.compacting c.known.ensures.core c.args.slot c.args.context x c.requires.here c.requires.uncleared over))
 
 pub check_liveness-requires-clause-stands : goal.check_liveness-requires-clause-stands
 check_liveness-requires-clause-stands g c =
-    address-at c.records-3.result.now.text c.args.relocation.now.target c.record_at-entry.result c.record_at-entry.ensures.entry
+    address-at c.records-3.result.now.entries c.args.relocation.now.target c.record_at-entry.result c.record_at-entry.ensures.entry
 
 pub returns-clause-effect : goal.returns-clause-effect
 returns-clause-effect g c =
@@ -84,5 +84,5 @@ returns-clause-effect g c =
     ∙ ap (λ w. low_of c.self.inside.core.records.begin w) (c.view-view.ensures.value ∙ ap (λ r. view_at r.regions.views c.args.slot) c.records.ensures)
     ∙ ap (λ u. low_at u c.args.slot) c.self.view_is in
     let over = subst (λ n. n ≤ x.target) low c.if-target-low_of.false in
-    let there = subst (λ u. entry_at u.core.records.text x.target ≡ Some c.record_at-entry.result) c.self.view_is (rw c.records-3.ensures at c.record_at-entry.ensures.entry) in
+    let there = subst (λ u. entry_at u.core.records.entries x.target ≡ Some c.record_at-entry.result) c.self.view_is (rw c.records-3.ensures at c.record_at-entry.ensures.entry) in
     GoesOn.checks x c.record_at-entry.result c.requires.here c.requires.fresh c.requires.uncleared over there c.check_liveness.ensures.effect

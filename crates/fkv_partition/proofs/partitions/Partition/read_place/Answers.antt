@@ -18,7 +18,7 @@ is_own-requires g c =
     let sound = c.known.ensures.core in
     let s = c.known.ensures.compacting in
     let at = c.requires.reads in
-    let there = place-flushed g.F.Key.Ord.cmp g.F.Functions.code v sound s c.args.slot c.args.context x v.core.records.begin at refl a.here in
+    let there = place-flushed g.F.Key.Ord.cmp g.F.Mergeable.parts.joined g.F.Functions.code v sound s c.args.slot c.args.context x v.core.records.begin at refl a.here in
     let held = subst (λ u. page_at u.core.records.page_bits x.target < length u.core.records.receipts) (sym c.self.view_is) there in
     rw (c.page_of-page.ensures, c.records.ensures, c.records-2.ensures) held
 
@@ -31,7 +31,7 @@ returns-in-Err-clause-effect g c =
     let sound = c.known.ensures.core in
     let s = c.known.ensures.compacting in
     let at = c.requires.reads in
-    let there = place-flushed g.F.Key.Ord.cmp g.F.Functions.code v sound s c.args.slot c.args.context x v.core.records.begin at refl a.here in
+    let there = place-flushed g.F.Key.Ord.cmp g.F.Mergeable.parts.joined g.F.Functions.code v sound s c.args.slot c.args.context x v.core.records.begin at refl a.here in
     let held = subst (λ u. page_at u.core.records.page_bits x.target < length u.core.records.receipts) (sym c.self.view_is) there in
     let z = stranger-held c.self.inside.core.records v.core.records c.page_of-page.result x.target (g.R.Receipt.stands p.receipt) c.in-Err.refused (ap (λ u. u.core.records) c.self.view_is) (rw c.records.ensures at c.page_of-page.ensures) there (rw c.records-2.ensures at c.in-Err.ensures.stranger) in
     LoadsOn.stranger x x.target p z.0 a refl z.1 z.2 refl (ap Err z.3)
@@ -45,7 +45,7 @@ check_liveness-requires-clause-begun g c =
     let sound = c.known.ensures.core in
     let s = c.known.ensures.compacting in
     let at = c.requires.reads in
-    place-begun g.F.Key.Ord.cmp g.F.Functions.code v sound s c.args.slot c.args.context x v.core.records.begin at refl a.here
+    place-begun g.F.Key.Ord.cmp g.F.Mergeable.parts.joined g.F.Functions.code v sound s c.args.slot c.args.context x v.core.records.begin at refl a.here
 
 pub check_liveness-requires-clause-is : goal.check_liveness-requires-clause-is
 check_liveness-requires-clause-is g c =
@@ -56,8 +56,8 @@ check_liveness-requires-clause-is g c =
     let sound = c.known.ensures.core in
     let s = c.known.ensures.compacting in
     let at = c.requires.reads in
-    let kept = subst (λ u. IsTrue g.R.Receipt.keeps → IfSome (entry_at u.core.records.text x.target) (λ y. c.own_record_in.result ≡ Ok y)) c.self.view_is (rw c.records-3.ensures at c.own_record_in.ensures.kept) in
-    place-read g.F.Key.Ord.cmp g.F.Functions.code v sound s c.args.slot c.args.context x v.core.records.begin at refl a.here c.in-Ok.entry c.own_record_in.result c.in-Ok.is kept
+    let kept = subst (λ u. IsTrue g.R.Receipt.keeps → IfSome (entry_at u.core.records.entries x.target) (λ y. c.own_record_in.result ≡ Ok y)) c.self.view_is (rw c.records-3.ensures at c.own_record_in.ensures.kept) in
+    place-read g.F.Key.Ord.cmp g.F.Mergeable.parts.joined g.F.Functions.code v sound s c.args.slot c.args.context x v.core.records.begin at refl a.here c.in-Ok.entry c.own_record_in.result c.in-Ok.is kept
 
 pub returns-in-Err-own_record_in-clause-effect : goal.returns-in-Err-own_record_in-clause-effect
 returns-in-Err-own_record_in-clause-effect g c =

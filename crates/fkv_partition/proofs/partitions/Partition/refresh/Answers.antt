@@ -9,8 +9,8 @@ pub invariant_of-self : goal.invariant_of-self
 invariant_of-self g c =
     let v = view_of c.self.inside.core c.self.inside.cleared c.self.inside.relocations.items in
     let does = c.refresh-refreshed.ensures.effect in
-    keep-seated g.R.Receipt.keeps g.F.Key.Ord.cmp g.F.Functions.code v c.refresh-refreshed.new.self c.self.invariant c.known-2.ensures.traced
-    (c.events_preserve.ensures.refreshes g.R.Receipt.keeps g.F.Key.Ord.cmp g.F.Functions.code v.core c.refresh-refreshed.new.self c.args.slot c.args.now c.refresh-refreshed.result c.known.ensures does)
+    keep-seated g.R.Receipt.keeps g.F.Key.Ord.cmp g.F.Mergeable.parts.joined g.F.Functions.code v c.refresh-refreshed.new.self c.self.invariant c.known-2.ensures.traced c.known-2.ensures.stood
+    (c.events_preserve.ensures.refreshes g.R.Receipt.keeps g.F.Key.Ord.cmp g.F.Mergeable.parts.joined g.F.Functions.code v.core c.refresh-refreshed.new.self c.args.slot c.args.now c.refresh-refreshed.result c.known.ensures does)
     (refreshes-steady v.core c.refresh-refreshed.new.self g.R.Receipt.keeps c.args.slot c.args.now c.refresh-refreshed.result does)
     (c.sessions_preserved.ensures.refreshes g.R.Receipt.keeps v.core c.refresh-refreshed.new.self c.args.slot c.args.now c.refresh-refreshed.result does)
 

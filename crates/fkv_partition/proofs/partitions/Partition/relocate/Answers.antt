@@ -28,7 +28,7 @@ begin_relocation-requires-clause-stands g c =
     let agrees = rw c.records.ensures at c.view-view.ensures.agrees in
     let safe = agrees.safe in
     let low = c.if-target-view.false in
-    rw (← c.self.view_is) (may-relocate g.R.Receipt.keeps g.F.Key.Ord.cmp g.F.Functions.code v c.self.invariant c.known.ensures.traced (omega (arith, safe, low)) c.args.now)
+    rw (← c.self.view_is) (may-relocate g.R.Receipt.keeps g.F.Key.Ord.cmp g.F.Mergeable.parts.joined g.F.Functions.code v c.self.invariant c.known.ensures.traced (omega (arith, safe, low)) c.args.now)
 
 pub returns-clause-effect : goal.returns-clause-effect
 returns-clause-effect g c =

@@ -15,9 +15,9 @@ invariant_of-self g c =
     let stage = rw (← c.self.view_is) at c.requires.stands in
     let stood = c.self.invariant.stands (c.args.slot * 8 + c.args.context) was here.here in
     rw (c.pass.ensures, c.set_context.ensures, c.in_stage-moved.ensures)
-    (keep-changed g.R.Receipt.keeps g.F.Key.Ord.cmp g.F.Functions.code v (c.args.slot * 8 + c.args.context) c.args.now c.self.inside.cleared (Some (at_stage was c.args.stage)) c.self.invariant (rises-not g.R.Receipt.keeps g.F.Key.Ord.cmp g.F.Functions.code v c.self.invariant)
+    (keep-changed g.R.Receipt.keeps g.F.Key.Ord.cmp g.F.Mergeable.parts.joined g.F.Functions.code v (c.args.slot * 8 + c.args.context) c.args.now c.self.inside.cleared (Some (at_stage was c.args.stage)) c.self.invariant (rises-not g.R.Receipt.keeps g.F.Key.Ord.cmp g.F.Mergeable.parts.joined g.F.Functions.code v c.self.invariant)
     (λ x e. (let same : at_stage was c.args.stage ≡ x = cc in
-    subst (Fits g.R.Receipt.keeps g.F.Key.Ord.cmp g.F.Functions.code v c.self.inside.cleared (c.args.slot * 8 + c.args.context)) same (record {
+    subst (Fits g.R.Receipt.keeps g.F.Key.Ord.cmp g.F.Mergeable.parts.joined g.F.Functions.code v c.self.inside.cleared (c.args.slot * 8 + c.args.context)) same (record {
       stands = record { place = stood.place; frozen = stood.frozen; issued = stood.issued; stage = stage };
       alone = c.self.invariant.alone (c.args.slot * 8 + c.args.context) was here.here;
       housed = λ s d low p. seat-of (slots_of v.core) c.args.slot c.args.context here.low here.inside s d low p;

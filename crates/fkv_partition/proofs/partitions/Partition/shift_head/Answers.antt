@@ -9,8 +9,8 @@ pub invariant_of-self : goal.invariant_of-self
 invariant_of-self g c =
     let v = view_of c.self.inside.core c.self.inside.cleared c.self.inside.relocations.items in
     let does = c.shift_head-shifted.ensures.effect in
-    keep-seated g.R.Receipt.keeps g.F.Key.Ord.cmp g.F.Functions.code v c.shift_head-shifted.new.self c.self.invariant c.known-2.ensures.traced
-    (c.events_preserve.ensures.evicts g.R.Receipt.keeps g.F.Key.Ord.cmp g.F.Functions.code v.core c.shift_head-shifted.new.self c.args.page c.args.now c.shift_head-shifted.result c.known.ensures does)
+    keep-seated g.R.Receipt.keeps g.F.Key.Ord.cmp g.F.Mergeable.parts.joined g.F.Functions.code v c.shift_head-shifted.new.self c.self.invariant c.known-2.ensures.traced c.known-2.ensures.stood
+    (c.events_preserve.ensures.evicts g.R.Receipt.keeps g.F.Key.Ord.cmp g.F.Mergeable.parts.joined g.F.Functions.code v.core c.shift_head-shifted.new.self c.args.page c.args.now c.shift_head-shifted.result c.known.ensures does)
     (evicts-steady v.core c.shift_head-shifted.new.self g.R.Receipt.keeps c.args.page c.args.now c.shift_head-shifted.result does)
     (c.sessions_preserved.ensures.evicts g.R.Receipt.keeps v.core c.shift_head-shifted.new.self c.args.page c.args.now c.shift_head-shifted.result does)
 

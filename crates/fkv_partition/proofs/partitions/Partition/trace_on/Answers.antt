@@ -1,9 +1,12 @@
-use Rattle.std.proofs.Common.{◌≡◌, ◌<◌, true, false, Ok, Err, length, refl, sym, ap, subst, ◌∙◌, arith}
+use Rattle.std.proofs.Common.{◌≡◌, ◌+◌, ◌<◌, ◌≤◌, true, false, Ok, Err, length, refl, sym, ap, subst, ◌∙◌, arith}
 use Rattle.fkv_functions.proofs.KeyOrder.{key_order}
 use Rattle.fkv_records.specs.Places.{page_at, IsRecordStart}
 use Rattle.fkv_pages.specs.Spelled.{IsEntryIn}
+use Rattle.fkv_pages.specs.Loads.{IsHeldBy, first_place}
+use Rattle.fkv_partition.specs.Checking.{higher_of}
 use Rattle.fkv_partition.specs.Reading.{LoadsOn}
 use Rattle.fkv_partition.proofs.MoveLemmas.{event-done, past-place, stands-here}
+use Rattle.fkv_partition.proofs.CheckingLemmas.{higher-right}
 use Rattle.fkv_partition.proofs.ReadLemmas.{stranger-held}
 use Rattle.fkv_partition.proofs.TraceLemmas.{page-came, way-flushed, has-page, traces-to, way-dead, way-last, above-place, way-below, lower-flushed, way-further}
 use Rattle.fkv_partition.proofs.partitions.Partition.trace_on.Goals as goal
@@ -22,7 +25,7 @@ is_own-requires g c =
     let e = c.args.entry in
     let l = c.args.loading in
     let at = c.requires.traces in
-    let there = way-flushed g.F.Key.Ord.cmp g.F.Functions.code order v sound s c.args.slot c.args.context x e l a at in
+    let there = way-flushed g.F.Key.Ord.cmp g.F.Mergeable.parts.joined g.F.Functions.code order v sound s c.args.slot c.args.context x e l a at in
     let held = subst (λ u. page_at u.core.records.page_bits l.wanted < length u.core.records.receipts) (sym c.self.view_is) there in
     rw (c.page_of-page.ensures, c.records.ensures, c.records-2.ensures) held
 
@@ -40,13 +43,13 @@ returns-in-Err-clause-effect g c =
     let e = c.args.entry in
     let l = c.args.loading in
     let at = c.requires.traces in
-    let there = way-flushed g.F.Key.Ord.cmp g.F.Functions.code order v sound s c.args.slot c.args.context x e l a at in
+    let there = way-flushed g.F.Key.Ord.cmp g.F.Mergeable.parts.joined g.F.Functions.code order v sound s c.args.slot c.args.context x e l a at in
     let held = subst (λ u. page_at u.core.records.page_bits l.wanted < length u.core.records.receipts) (sym c.self.view_is) there in
     let z = stranger-held c.self.inside.core.records v.core.records c.page_of-page.result l.wanted (g.R.Receipt.stands p.receipt) c.in-Err.refused (ap (λ u. u.core.records) c.self.view_is) (rw c.records.ensures at c.page_of-page.ensures) there (rw c.records-2.ensures at c.in-Err.ensures.stranger) in
     LoadsOn.stranger x l.wanted p z.0 a refl z.1 z.2 refl (ap Err z.3)
 
-pub trace_in-requires : goal.trace_in-requires
-trace_in-requires g c =
+pub first_of-requires : goal.first_of-requires
+first_of-requires g c =
     let ord = g.met.F.Key.Ord in
     let known = g.met.F.Key.FixedKey in
     let order = key_order g.F.Key.PartialEq.eq g.F.Key.Ord.cmp ord.matches_eq known.exact ord.total in
@@ -59,9 +62,24 @@ trace_in-requires g c =
     let e = c.args.entry in
     let l = c.args.loading in
     let at = c.requires.traces in
-    let there = way-flushed g.F.Key.Ord.cmp g.F.Functions.code order v sound s c.args.slot c.args.context x e l a at in
+    let there = way-flushed g.F.Key.Ord.cmp g.F.Mergeable.parts.joined g.F.Functions.code order v sound s c.args.slot c.args.context x e l a at in
     let held = subst (λ u. page_at u.core.records.page_bits l.wanted < length u.core.records.receipts) (sym c.self.view_is) there in
-    record { flushed = rw c.records-3.ensures held }
+    rw (c.page_of-page.ensures, c.records.ensures, c.records-3.ensures) held
+
+pub trace_in-requires-clause-own : goal.trace_in-requires-clause-own
+trace_in-requires-clause-own g c =
+    let held = rw c.records-2.ensures at (c.in_default.ensures.own.0 refl) in
+    let page = rw c.records.ensures at c.page_of-page.ensures in
+    rw c.records-4.ensures (subst (λ n. IsHeldBy c.self.inside.core.records.receipts n (g.R.Receipt.stands c.args.loaded.now.receipt)) page held)
+
+pub trace_in-requires-clause-floor : goal.trace_in-requires-clause-floor
+trace_in-requires-clause-floor g c =
+    let page = rw c.records.ensures at c.page_of-page.ensures in
+    let first = rw c.records-3.ensures at c.first_of.ensures in
+    let up = higher-right (c.args.relocation.now.target + 1) c.first_of.result in
+    let is = c.higher_of-low.ensures.value in
+    let low : c.first_of.result ≤ c.higher_of-low.result = omega (arith, up, is) in
+    rw c.records-4.ensures (subst (λ n. n ≤ c.higher_of-low.result) (first ∙ ap (first_place c.self.inside.core.records.page_bits) page) low)
 
 pub returns-in-Err-trace_in-clause-effect : goal.returns-in-Err-trace_in-clause-effect
 returns-in-Err-trace_in-clause-effect g c =
@@ -78,10 +96,10 @@ returns-in-Err-trace_in-clause-effect g c =
     let l = c.args.loading in
     let at = c.requires.traces in
     let held = rw c.records-2.ensures at (c.in_default.ensures.own.0 refl) in
-    let came = page-came g.R.Receipt.keeps (IsEntryIn g.F.Key.Fixed.bytes_of g.F.Value.Fixed.bytes_of g.F.Key.Known.is_known g.F.Value.Known.is_known g.F.Key.Fixed.SIZE g.F.Value.Fixed.SIZE) g.F.Key.Ord.cmp g.F.Functions.code c.self.inside.core.records v.core.records e.key c.page_of-page.result l.wanted (g.R.Receipt.stands p.receipt) p.bytes c.trace_in.result (ap (λ u. u.core.records) c.self.view_is) (rw c.records.ensures at c.page_of-page.ensures) held (rw c.records-3.ensures at c.trace_in.ensures.read) (rw c.records-3.ensures at c.trace_in.ensures.kept) in
+    let came = page-came g.R.Receipt.keeps (IsEntryIn g.F.Key.Fixed.bytes_of g.F.Value.Fixed.bytes_of g.F.Key.Known.is_known g.F.Value.Known.is_known g.F.Key.Fixed.SIZE g.F.Value.Fixed.SIZE) g.F.Key.Ord.cmp g.F.Mergeable.parts.joined g.F.Functions.code c.self.inside.core.records v.core.records x.target e.key c.page_of-page.result c.higher_of-low.result l (g.R.Receipt.stands p.receipt) p.bytes c.trace_in.result (ap (λ u. u.core.records) c.self.view_is) (rw c.records.ensures at c.page_of-page.ensures) (c.higher_of-low.ensures.value ∙ ap (higher_of (x.target + 1)) (rw c.records-3.ensures at c.first_of.ensures)) held (rw c.records-4.ensures at c.trace_in.ensures.read) (rw c.records-4.ensures at c.trace_in.ensures.kept) in
     let page : c.page_of-page.result ≡ page_at v.core.records.page_bits l.wanted = rw c.records.ensures at c.page_of-page.ensures ∙ ap (λ u. page_at u.core.records.page_bits l.wanted) c.self.view_is in
     let is = c.in-Err-trace_in.is in
-    rw (c.end.ensures, page) (LoadsOn.bad_record x e l p c.in-Err-trace_in._damaged at (has-page g.F.Key.Ord.cmp g.F.Functions.code order v sound s c.args.slot c.args.context x e l a at (IsEntryIn g.F.Key.Fixed.bytes_of g.F.Value.Fixed.bytes_of g.F.Key.Known.is_known g.F.Value.Known.is_known g.F.Key.Fixed.SIZE g.F.Value.Fixed.SIZE) (g.R.Receipt.stands p.receipt) p.bytes c.trace_in.result came) refl (traces-to g.F.Key.Ord.cmp g.F.Functions.code order v sound s c.args.slot c.args.context x e l a at (IsEntryIn g.F.Key.Fixed.bytes_of g.F.Value.Fixed.bytes_of g.F.Key.Known.is_known g.F.Value.Known.is_known g.F.Key.Fixed.SIZE g.F.Value.Fixed.SIZE) (g.R.Receipt.stands p.receipt) p.bytes c.trace_in.result came (Err c.in-Err-trace_in._damaged) is) refl refl)
+    rw (c.end.ensures, page) (LoadsOn.bad_record x e l p c.in-Err-trace_in._damaged at (has-page g.F.Key.Ord.cmp g.F.Mergeable.parts.joined g.F.Functions.code order v sound s c.args.slot c.args.context x e l a at (IsEntryIn g.F.Key.Fixed.bytes_of g.F.Value.Fixed.bytes_of g.F.Key.Known.is_known g.F.Value.Known.is_known g.F.Key.Fixed.SIZE g.F.Value.Fixed.SIZE) (g.R.Receipt.stands p.receipt) p.bytes c.trace_in.result came) refl (traces-to g.F.Key.Ord.cmp g.F.Mergeable.parts.joined g.F.Functions.code order v sound s c.args.slot c.args.context x e l a at (IsEntryIn g.F.Key.Fixed.bytes_of g.F.Value.Fixed.bytes_of g.F.Key.Known.is_known g.F.Value.Known.is_known g.F.Key.Fixed.SIZE g.F.Value.Fixed.SIZE) (g.R.Receipt.stands p.receipt) p.bytes c.trace_in.result came (Err c.in-Err-trace_in._damaged) is) refl refl)
 
 pub finish-requires-clause-issued : goal.finish-requires-clause-issued
 finish-requires-clause-issued g c =
@@ -138,11 +156,11 @@ finish-requires-clause-superseded g c =
     let l = c.args.loading in
     let at = c.requires.traces in
     let held = rw c.records-2.ensures at (c.in_default.ensures.own.0 refl) in
-    let came = page-came g.R.Receipt.keeps (IsEntryIn g.F.Key.Fixed.bytes_of g.F.Value.Fixed.bytes_of g.F.Key.Known.is_known g.F.Value.Known.is_known g.F.Key.Fixed.SIZE g.F.Value.Fixed.SIZE) g.F.Key.Ord.cmp g.F.Functions.code c.self.inside.core.records v.core.records e.key c.page_of-page.result l.wanted (g.R.Receipt.stands p.receipt) p.bytes c.trace_in.result (ap (λ u. u.core.records) c.self.view_is) (rw c.records.ensures at c.page_of-page.ensures) held (rw c.records-3.ensures at c.trace_in.ensures.read) (rw c.records-3.ensures at c.trace_in.ensures.kept) in
-    let r = c.in-Ok.reached in
+    let came = page-came g.R.Receipt.keeps (IsEntryIn g.F.Key.Fixed.bytes_of g.F.Value.Fixed.bytes_of g.F.Key.Known.is_known g.F.Value.Known.is_known g.F.Key.Fixed.SIZE g.F.Value.Fixed.SIZE) g.F.Key.Ord.cmp g.F.Mergeable.parts.joined g.F.Functions.code c.self.inside.core.records v.core.records x.target e.key c.page_of-page.result c.higher_of-low.result l (g.R.Receipt.stands p.receipt) p.bytes c.trace_in.result (ap (λ u. u.core.records) c.self.view_is) (rw c.records.ensures at c.page_of-page.ensures) (c.higher_of-low.ensures.value ∙ ap (higher_of (x.target + 1)) (rw c.records-3.ensures at c.first_of.ensures)) held (rw c.records-4.ensures at c.trace_in.ensures.read) (rw c.records-4.ensures at c.trace_in.ensures.kept) in
+    let r = c.in-Ok.came in
     let is = c.in-Ok.is in
     let j = sym c.liveness_of.ensures ∙ c.in-Superseded.is in
-    way-dead g.F.Key.Ord.cmp g.F.Functions.code order v sound s c.args.slot c.args.context x e l a at (IsEntryIn g.F.Key.Fixed.bytes_of g.F.Value.Fixed.bytes_of g.F.Key.Known.is_known g.F.Value.Known.is_known g.F.Key.Fixed.SIZE g.F.Value.Fixed.SIZE) (g.R.Receipt.stands p.receipt) p.bytes c.trace_in.result came r is j
+    way-dead g.F.Key.Ord.cmp g.F.Mergeable.parts.joined g.F.Functions.code order v sound s c.args.slot c.args.context x e l a at (IsEntryIn g.F.Key.Fixed.bytes_of g.F.Value.Fixed.bytes_of g.F.Key.Known.is_known g.F.Value.Known.is_known g.F.Key.Fixed.SIZE g.F.Value.Fixed.SIZE) (g.R.Receipt.stands p.receipt) p.bytes c.trace_in.result came r is j
 
 pub append_again-requires-clause-stands : goal.append_again-requires-clause-stands
 append_again-requires-clause-stands g c =
@@ -159,11 +177,11 @@ append_again-requires-clause-stands g c =
     let l = c.args.loading in
     let at = c.requires.traces in
     let held = rw c.records-2.ensures at (c.in_default.ensures.own.0 refl) in
-    let came = page-came g.R.Receipt.keeps (IsEntryIn g.F.Key.Fixed.bytes_of g.F.Value.Fixed.bytes_of g.F.Key.Known.is_known g.F.Value.Known.is_known g.F.Key.Fixed.SIZE g.F.Value.Fixed.SIZE) g.F.Key.Ord.cmp g.F.Functions.code c.self.inside.core.records v.core.records e.key c.page_of-page.result l.wanted (g.R.Receipt.stands p.receipt) p.bytes c.trace_in.result (ap (λ u. u.core.records) c.self.view_is) (rw c.records.ensures at c.page_of-page.ensures) held (rw c.records-3.ensures at c.trace_in.ensures.read) (rw c.records-3.ensures at c.trace_in.ensures.kept) in
-    let r = c.in-Ok.reached in
+    let came = page-came g.R.Receipt.keeps (IsEntryIn g.F.Key.Fixed.bytes_of g.F.Value.Fixed.bytes_of g.F.Key.Known.is_known g.F.Value.Known.is_known g.F.Key.Fixed.SIZE g.F.Value.Fixed.SIZE) g.F.Key.Ord.cmp g.F.Mergeable.parts.joined g.F.Functions.code c.self.inside.core.records v.core.records x.target e.key c.page_of-page.result c.higher_of-low.result l (g.R.Receipt.stands p.receipt) p.bytes c.trace_in.result (ap (λ u. u.core.records) c.self.view_is) (rw c.records.ensures at c.page_of-page.ensures) (c.higher_of-low.ensures.value ∙ ap (higher_of (x.target + 1)) (rw c.records-3.ensures at c.first_of.ensures)) held (rw c.records-4.ensures at c.trace_in.ensures.read) (rw c.records-4.ensures at c.trace_in.ensures.kept) in
+    let r = c.in-Ok.came in
     let is = c.in-Ok.is in
     let j = sym c.liveness_of.ensures ∙ c.in-Last.is in
-    way-last g.F.Key.Ord.cmp g.F.Functions.code order v sound s c.args.slot c.args.context x e l a at (IsEntryIn g.F.Key.Fixed.bytes_of g.F.Value.Fixed.bytes_of g.F.Key.Known.is_known g.F.Value.Known.is_known g.F.Key.Fixed.SIZE g.F.Value.Fixed.SIZE) (g.R.Receipt.stands p.receipt) p.bytes c.trace_in.result came r is j
+    rw c.renewed-whole.ensures (way-last g.F.Key.Ord.cmp g.F.Mergeable.parts.joined g.F.Functions.code order v sound s c.args.slot c.args.context x e l a at (IsEntryIn g.F.Key.Fixed.bytes_of g.F.Value.Fixed.bytes_of g.F.Key.Known.is_known g.F.Value.Known.is_known g.F.Key.Fixed.SIZE g.F.Value.Fixed.SIZE) (g.R.Receipt.stands p.receipt) p.bytes c.trace_in.result came r c.in-Last.parts is j)
 
 pub returns-then-not-is_place-clause-effect : goal.returns-then-not-is_place-clause-effect
 returns-then-not-is_place-clause-effect g c =
@@ -180,14 +198,14 @@ returns-then-not-is_place-clause-effect g c =
     let l = c.args.loading in
     let at = c.requires.traces in
     let held = rw c.records-2.ensures at (c.in_default.ensures.own.0 refl) in
-    let came = page-came g.R.Receipt.keeps (IsEntryIn g.F.Key.Fixed.bytes_of g.F.Value.Fixed.bytes_of g.F.Key.Known.is_known g.F.Value.Known.is_known g.F.Key.Fixed.SIZE g.F.Value.Fixed.SIZE) g.F.Key.Ord.cmp g.F.Functions.code c.self.inside.core.records v.core.records e.key c.page_of-page.result l.wanted (g.R.Receipt.stands p.receipt) p.bytes c.trace_in.result (ap (λ u. u.core.records) c.self.view_is) (rw c.records.ensures at c.page_of-page.ensures) held (rw c.records-3.ensures at c.trace_in.ensures.read) (rw c.records-3.ensures at c.trace_in.ensures.kept) in
+    let came = page-came g.R.Receipt.keeps (IsEntryIn g.F.Key.Fixed.bytes_of g.F.Value.Fixed.bytes_of g.F.Key.Known.is_known g.F.Value.Known.is_known g.F.Key.Fixed.SIZE g.F.Value.Fixed.SIZE) g.F.Key.Ord.cmp g.F.Mergeable.parts.joined g.F.Functions.code c.self.inside.core.records v.core.records x.target e.key c.page_of-page.result c.higher_of-low.result l (g.R.Receipt.stands p.receipt) p.bytes c.trace_in.result (ap (λ u. u.core.records) c.self.view_is) (rw c.records.ensures at c.page_of-page.ensures) (c.higher_of-low.ensures.value ∙ ap (higher_of (x.target + 1)) (rw c.records-3.ensures at c.first_of.ensures)) held (rw c.records-4.ensures at c.trace_in.ensures.read) (rw c.records-4.ensures at c.trace_in.ensures.kept) in
     let page : c.page_of-page.result ≡ page_at v.core.records.page_bits l.wanted = rw c.records.ensures at c.page_of-page.ensures ∙ ap (λ u. page_at u.core.records.page_bits l.wanted) c.self.view_is in
-    let r = c.in-Ok.reached in
+    let r = c.in-Ok.came in
     let is = c.in-Ok.is in
     let b = c.in-Further.address in
     let j = sym c.liveness_of.ensures ∙ c.in-Further.is in
     let no = rw c.records-in-Further.ensures at c.is_place.ensures in
-    rw (c.end-then-not-is_place.ensures, page) (LoadsOn.bad_link x e l p b at (has-page g.F.Key.Ord.cmp g.F.Functions.code order v sound s c.args.slot c.args.context x e l a at (IsEntryIn g.F.Key.Fixed.bytes_of g.F.Value.Fixed.bytes_of g.F.Key.Known.is_known g.F.Value.Known.is_known g.F.Key.Fixed.SIZE g.F.Value.Fixed.SIZE) (g.R.Receipt.stands p.receipt) p.bytes c.trace_in.result came) refl (way-below g.F.Key.Ord.cmp g.F.Functions.code order v sound s c.args.slot c.args.context x e l a at (IsEntryIn g.F.Key.Fixed.bytes_of g.F.Value.Fixed.bytes_of g.F.Key.Known.is_known g.F.Value.Known.is_known g.F.Key.Fixed.SIZE g.F.Value.Fixed.SIZE) (g.R.Receipt.stands p.receipt) p.bytes c.trace_in.result came r b is j) (above-place g.F.Key.Ord.cmp g.F.Functions.code order v sound s c.args.slot c.args.context x e l a at (IsEntryIn g.F.Key.Fixed.bytes_of g.F.Value.Fixed.bytes_of g.F.Key.Known.is_known g.F.Value.Known.is_known g.F.Key.Fixed.SIZE g.F.Value.Fixed.SIZE) (g.R.Receipt.stands p.receipt) p.bytes c.trace_in.result came r b is j)
+    rw (c.end-then-not-is_place.ensures, page) (LoadsOn.bad_link x e l p b c.in-Further.parts at (has-page g.F.Key.Ord.cmp g.F.Mergeable.parts.joined g.F.Functions.code order v sound s c.args.slot c.args.context x e l a at (IsEntryIn g.F.Key.Fixed.bytes_of g.F.Value.Fixed.bytes_of g.F.Key.Known.is_known g.F.Value.Known.is_known g.F.Key.Fixed.SIZE g.F.Value.Fixed.SIZE) (g.R.Receipt.stands p.receipt) p.bytes c.trace_in.result came) refl (way-below g.F.Key.Ord.cmp g.F.Mergeable.parts.joined g.F.Functions.code order v sound s c.args.slot c.args.context x e l a at (IsEntryIn g.F.Key.Fixed.bytes_of g.F.Value.Fixed.bytes_of g.F.Key.Known.is_known g.F.Value.Known.is_known g.F.Key.Fixed.SIZE g.F.Value.Fixed.SIZE) (g.R.Receipt.stands p.receipt) p.bytes c.trace_in.result came r b c.in-Further.parts is j) (above-place g.F.Key.Ord.cmp g.F.Mergeable.parts.joined g.F.Functions.code order v sound s c.args.slot c.args.context x e l a at (IsEntryIn g.F.Key.Fixed.bytes_of g.F.Value.Fixed.bytes_of g.F.Key.Known.is_known g.F.Value.Known.is_known g.F.Key.Fixed.SIZE g.F.Value.Fixed.SIZE) (g.R.Receipt.stands p.receipt) p.bytes c.trace_in.result came r b c.in-Further.parts is j)
     (λ place. let yes = no.1 (subst (λ u. IsRecordStart u.core.records.page_bits u.core.records.record_size b) (sym c.self.view_is) place) in let bad : false ≡ true = sym c.if-not-is_place.true ∙ yes in cc) refl refl)
 
 pub ask-requires-clause-flushed : goal.ask-requires-clause-flushed
@@ -205,12 +223,12 @@ ask-requires-clause-flushed g c =
     let l = c.args.loading in
     let at = c.requires.traces in
     let held = rw c.records-2.ensures at (c.in_default.ensures.own.0 refl) in
-    let came = page-came g.R.Receipt.keeps (IsEntryIn g.F.Key.Fixed.bytes_of g.F.Value.Fixed.bytes_of g.F.Key.Known.is_known g.F.Value.Known.is_known g.F.Key.Fixed.SIZE g.F.Value.Fixed.SIZE) g.F.Key.Ord.cmp g.F.Functions.code c.self.inside.core.records v.core.records e.key c.page_of-page.result l.wanted (g.R.Receipt.stands p.receipt) p.bytes c.trace_in.result (ap (λ u. u.core.records) c.self.view_is) (rw c.records.ensures at c.page_of-page.ensures) held (rw c.records-3.ensures at c.trace_in.ensures.read) (rw c.records-3.ensures at c.trace_in.ensures.kept) in
-    let r = c.in-Ok.reached in
+    let came = page-came g.R.Receipt.keeps (IsEntryIn g.F.Key.Fixed.bytes_of g.F.Value.Fixed.bytes_of g.F.Key.Known.is_known g.F.Value.Known.is_known g.F.Key.Fixed.SIZE g.F.Value.Fixed.SIZE) g.F.Key.Ord.cmp g.F.Mergeable.parts.joined g.F.Functions.code c.self.inside.core.records v.core.records x.target e.key c.page_of-page.result c.higher_of-low.result l (g.R.Receipt.stands p.receipt) p.bytes c.trace_in.result (ap (λ u. u.core.records) c.self.view_is) (rw c.records.ensures at c.page_of-page.ensures) (c.higher_of-low.ensures.value ∙ ap (higher_of (x.target + 1)) (rw c.records-3.ensures at c.first_of.ensures)) held (rw c.records-4.ensures at c.trace_in.ensures.read) (rw c.records-4.ensures at c.trace_in.ensures.kept) in
+    let r = c.in-Ok.came in
     let is = c.in-Ok.is in
     let b = c.in-Further.address in
     let j = sym c.liveness_of.ensures ∙ c.in-Further.is in
-    lower-flushed g.F.Key.Ord.cmp g.F.Functions.code order v sound s c.args.slot c.args.context x e l a at (IsEntryIn g.F.Key.Fixed.bytes_of g.F.Value.Fixed.bytes_of g.F.Key.Known.is_known g.F.Value.Known.is_known g.F.Key.Fixed.SIZE g.F.Value.Fixed.SIZE) (g.R.Receipt.stands p.receipt) p.bytes c.trace_in.result came r b is j
+    lower-flushed g.F.Key.Ord.cmp g.F.Mergeable.parts.joined g.F.Functions.code order v sound s c.args.slot c.args.context x e l a at (IsEntryIn g.F.Key.Fixed.bytes_of g.F.Value.Fixed.bytes_of g.F.Key.Known.is_known g.F.Value.Known.is_known g.F.Key.Fixed.SIZE g.F.Value.Fixed.SIZE) (g.R.Receipt.stands p.receipt) p.bytes c.trace_in.result came r b c.in-Further.parts is j
 
 pub ask-requires-clause-stands : goal.ask-requires-clause-stands
 ask-requires-clause-stands g c =
@@ -227,12 +245,12 @@ ask-requires-clause-stands g c =
     let l = c.args.loading in
     let at = c.requires.traces in
     let held = rw c.records-2.ensures at (c.in_default.ensures.own.0 refl) in
-    let came = page-came g.R.Receipt.keeps (IsEntryIn g.F.Key.Fixed.bytes_of g.F.Value.Fixed.bytes_of g.F.Key.Known.is_known g.F.Value.Known.is_known g.F.Key.Fixed.SIZE g.F.Value.Fixed.SIZE) g.F.Key.Ord.cmp g.F.Functions.code c.self.inside.core.records v.core.records e.key c.page_of-page.result l.wanted (g.R.Receipt.stands p.receipt) p.bytes c.trace_in.result (ap (λ u. u.core.records) c.self.view_is) (rw c.records.ensures at c.page_of-page.ensures) held (rw c.records-3.ensures at c.trace_in.ensures.read) (rw c.records-3.ensures at c.trace_in.ensures.kept) in
-    let r = c.in-Ok.reached in
+    let came = page-came g.R.Receipt.keeps (IsEntryIn g.F.Key.Fixed.bytes_of g.F.Value.Fixed.bytes_of g.F.Key.Known.is_known g.F.Value.Known.is_known g.F.Key.Fixed.SIZE g.F.Value.Fixed.SIZE) g.F.Key.Ord.cmp g.F.Mergeable.parts.joined g.F.Functions.code c.self.inside.core.records v.core.records x.target e.key c.page_of-page.result c.higher_of-low.result l (g.R.Receipt.stands p.receipt) p.bytes c.trace_in.result (ap (λ u. u.core.records) c.self.view_is) (rw c.records.ensures at c.page_of-page.ensures) (c.higher_of-low.ensures.value ∙ ap (higher_of (x.target + 1)) (rw c.records-3.ensures at c.first_of.ensures)) held (rw c.records-4.ensures at c.trace_in.ensures.read) (rw c.records-4.ensures at c.trace_in.ensures.kept) in
+    let r = c.in-Ok.came in
     let is = c.in-Ok.is in
     let b = c.in-Further.address in
     let j = sym c.liveness_of.ensures ∙ c.in-Further.is in
-    way-further g.F.Key.Ord.cmp g.F.Functions.code order v sound s c.args.slot c.args.context x e l a at (IsEntryIn g.F.Key.Fixed.bytes_of g.F.Value.Fixed.bytes_of g.F.Key.Known.is_known g.F.Value.Known.is_known g.F.Key.Fixed.SIZE g.F.Value.Fixed.SIZE) (g.R.Receipt.stands p.receipt) p.bytes c.trace_in.result came r b is j
+    way-further g.F.Key.Ord.cmp g.F.Mergeable.parts.joined g.F.Functions.code order v sound s c.args.slot c.args.context x e l a at (IsEntryIn g.F.Key.Fixed.bytes_of g.F.Value.Fixed.bytes_of g.F.Key.Known.is_known g.F.Value.Known.is_known g.F.Key.Fixed.SIZE g.F.Value.Fixed.SIZE) (g.R.Receipt.stands p.receipt) p.bytes c.trace_in.result came r b c.in-Further.parts is j
 
 pub returns-in-Superseded-clause-effect : goal.returns-in-Superseded-clause-effect
 returns-in-Superseded-clause-effect g c =
@@ -249,11 +267,11 @@ returns-in-Superseded-clause-effect g c =
     let l = c.args.loading in
     let at = c.requires.traces in
     let held = rw c.records-2.ensures at (c.in_default.ensures.own.0 refl) in
-    let came = page-came g.R.Receipt.keeps (IsEntryIn g.F.Key.Fixed.bytes_of g.F.Value.Fixed.bytes_of g.F.Key.Known.is_known g.F.Value.Known.is_known g.F.Key.Fixed.SIZE g.F.Value.Fixed.SIZE) g.F.Key.Ord.cmp g.F.Functions.code c.self.inside.core.records v.core.records e.key c.page_of-page.result l.wanted (g.R.Receipt.stands p.receipt) p.bytes c.trace_in.result (ap (λ u. u.core.records) c.self.view_is) (rw c.records.ensures at c.page_of-page.ensures) held (rw c.records-3.ensures at c.trace_in.ensures.read) (rw c.records-3.ensures at c.trace_in.ensures.kept) in
-    let r = c.in-Ok.reached in
+    let came = page-came g.R.Receipt.keeps (IsEntryIn g.F.Key.Fixed.bytes_of g.F.Value.Fixed.bytes_of g.F.Key.Known.is_known g.F.Value.Known.is_known g.F.Key.Fixed.SIZE g.F.Value.Fixed.SIZE) g.F.Key.Ord.cmp g.F.Mergeable.parts.joined g.F.Functions.code c.self.inside.core.records v.core.records x.target e.key c.page_of-page.result c.higher_of-low.result l (g.R.Receipt.stands p.receipt) p.bytes c.trace_in.result (ap (λ u. u.core.records) c.self.view_is) (rw c.records.ensures at c.page_of-page.ensures) (c.higher_of-low.ensures.value ∙ ap (higher_of (x.target + 1)) (rw c.records-3.ensures at c.first_of.ensures)) held (rw c.records-4.ensures at c.trace_in.ensures.read) (rw c.records-4.ensures at c.trace_in.ensures.kept) in
+    let r = c.in-Ok.came in
     let is = c.in-Ok.is in
     let j = sym c.liveness_of.ensures ∙ c.in-Superseded.is in
-    rw c.finish.ensures (LoadsOn.newer x e l p r at (has-page g.F.Key.Ord.cmp g.F.Functions.code order v sound s c.args.slot c.args.context x e l a at (IsEntryIn g.F.Key.Fixed.bytes_of g.F.Value.Fixed.bytes_of g.F.Key.Known.is_known g.F.Value.Known.is_known g.F.Key.Fixed.SIZE g.F.Value.Fixed.SIZE) (g.R.Receipt.stands p.receipt) p.bytes c.trace_in.result came) refl (traces-to g.F.Key.Ord.cmp g.F.Functions.code order v sound s c.args.slot c.args.context x e l a at (IsEntryIn g.F.Key.Fixed.bytes_of g.F.Value.Fixed.bytes_of g.F.Key.Known.is_known g.F.Value.Known.is_known g.F.Key.Fixed.SIZE g.F.Value.Fixed.SIZE) (g.R.Receipt.stands p.receipt) p.bytes c.trace_in.result came (Ok r) is) j refl refl)
+    rw c.finish.ensures (LoadsOn.newer x e l p r at (has-page g.F.Key.Ord.cmp g.F.Mergeable.parts.joined g.F.Functions.code order v sound s c.args.slot c.args.context x e l a at (IsEntryIn g.F.Key.Fixed.bytes_of g.F.Value.Fixed.bytes_of g.F.Key.Known.is_known g.F.Value.Known.is_known g.F.Key.Fixed.SIZE g.F.Value.Fixed.SIZE) (g.R.Receipt.stands p.receipt) p.bytes c.trace_in.result came) refl (traces-to g.F.Key.Ord.cmp g.F.Mergeable.parts.joined g.F.Functions.code order v sound s c.args.slot c.args.context x e l a at (IsEntryIn g.F.Key.Fixed.bytes_of g.F.Value.Fixed.bytes_of g.F.Key.Known.is_known g.F.Value.Known.is_known g.F.Key.Fixed.SIZE g.F.Value.Fixed.SIZE) (g.R.Receipt.stands p.receipt) p.bytes c.trace_in.result came (Ok r) is) j refl refl)
 
 pub returns-in-Superseded-clause-event : goal.returns-in-Superseded-clause-event
 returns-in-Superseded-clause-event g c =
@@ -298,11 +316,11 @@ returns-in-Last-clause-effect g c =
     let l = c.args.loading in
     let at = c.requires.traces in
     let held = rw c.records-2.ensures at (c.in_default.ensures.own.0 refl) in
-    let came = page-came g.R.Receipt.keeps (IsEntryIn g.F.Key.Fixed.bytes_of g.F.Value.Fixed.bytes_of g.F.Key.Known.is_known g.F.Value.Known.is_known g.F.Key.Fixed.SIZE g.F.Value.Fixed.SIZE) g.F.Key.Ord.cmp g.F.Functions.code c.self.inside.core.records v.core.records e.key c.page_of-page.result l.wanted (g.R.Receipt.stands p.receipt) p.bytes c.trace_in.result (ap (λ u. u.core.records) c.self.view_is) (rw c.records.ensures at c.page_of-page.ensures) held (rw c.records-3.ensures at c.trace_in.ensures.read) (rw c.records-3.ensures at c.trace_in.ensures.kept) in
-    let r = c.in-Ok.reached in
+    let came = page-came g.R.Receipt.keeps (IsEntryIn g.F.Key.Fixed.bytes_of g.F.Value.Fixed.bytes_of g.F.Key.Known.is_known g.F.Value.Known.is_known g.F.Key.Fixed.SIZE g.F.Value.Fixed.SIZE) g.F.Key.Ord.cmp g.F.Mergeable.parts.joined g.F.Functions.code c.self.inside.core.records v.core.records x.target e.key c.page_of-page.result c.higher_of-low.result l (g.R.Receipt.stands p.receipt) p.bytes c.trace_in.result (ap (λ u. u.core.records) c.self.view_is) (rw c.records.ensures at c.page_of-page.ensures) (c.higher_of-low.ensures.value ∙ ap (higher_of (x.target + 1)) (rw c.records-3.ensures at c.first_of.ensures)) held (rw c.records-4.ensures at c.trace_in.ensures.read) (rw c.records-4.ensures at c.trace_in.ensures.kept) in
+    let r = c.in-Ok.came in
     let is = c.in-Ok.is in
     let j = sym c.liveness_of.ensures ∙ c.in-Last.is in
-    LoadsOn.ends x e l p r at (has-page g.F.Key.Ord.cmp g.F.Functions.code order v sound s c.args.slot c.args.context x e l a at (IsEntryIn g.F.Key.Fixed.bytes_of g.F.Value.Fixed.bytes_of g.F.Key.Known.is_known g.F.Value.Known.is_known g.F.Key.Fixed.SIZE g.F.Value.Fixed.SIZE) (g.R.Receipt.stands p.receipt) p.bytes c.trace_in.result came) refl (traces-to g.F.Key.Ord.cmp g.F.Functions.code order v sound s c.args.slot c.args.context x e l a at (IsEntryIn g.F.Key.Fixed.bytes_of g.F.Value.Fixed.bytes_of g.F.Key.Known.is_known g.F.Value.Known.is_known g.F.Key.Fixed.SIZE g.F.Value.Fixed.SIZE) (g.R.Receipt.stands p.receipt) p.bytes c.trace_in.result came (Ok r) is) j c.append_again.ensures.effect
+    LoadsOn.ends x e l p r c.in-Last.parts at (has-page g.F.Key.Ord.cmp g.F.Mergeable.parts.joined g.F.Functions.code order v sound s c.args.slot c.args.context x e l a at (IsEntryIn g.F.Key.Fixed.bytes_of g.F.Value.Fixed.bytes_of g.F.Key.Known.is_known g.F.Value.Known.is_known g.F.Key.Fixed.SIZE g.F.Value.Fixed.SIZE) (g.R.Receipt.stands p.receipt) p.bytes c.trace_in.result came) refl (traces-to g.F.Key.Ord.cmp g.F.Mergeable.parts.joined g.F.Functions.code order v sound s c.args.slot c.args.context x e l a at (IsEntryIn g.F.Key.Fixed.bytes_of g.F.Value.Fixed.bytes_of g.F.Key.Known.is_known g.F.Value.Known.is_known g.F.Key.Fixed.SIZE g.F.Value.Fixed.SIZE) (g.R.Receipt.stands p.receipt) p.bytes c.trace_in.result came (Ok r) is) j (rw c.renewed-whole.ensures at c.append_again.ensures.effect)
 
 pub returns-else-not-is_place-clause-effect : goal.returns-else-not-is_place-clause-effect
 returns-else-not-is_place-clause-effect g c =
@@ -319,10 +337,18 @@ returns-else-not-is_place-clause-effect g c =
     let l = c.args.loading in
     let at = c.requires.traces in
     let held = rw c.records-2.ensures at (c.in_default.ensures.own.0 refl) in
-    let came = page-came g.R.Receipt.keeps (IsEntryIn g.F.Key.Fixed.bytes_of g.F.Value.Fixed.bytes_of g.F.Key.Known.is_known g.F.Value.Known.is_known g.F.Key.Fixed.SIZE g.F.Value.Fixed.SIZE) g.F.Key.Ord.cmp g.F.Functions.code c.self.inside.core.records v.core.records e.key c.page_of-page.result l.wanted (g.R.Receipt.stands p.receipt) p.bytes c.trace_in.result (ap (λ u. u.core.records) c.self.view_is) (rw c.records.ensures at c.page_of-page.ensures) held (rw c.records-3.ensures at c.trace_in.ensures.read) (rw c.records-3.ensures at c.trace_in.ensures.kept) in
-    let r = c.in-Ok.reached in
+    let came = page-came g.R.Receipt.keeps (IsEntryIn g.F.Key.Fixed.bytes_of g.F.Value.Fixed.bytes_of g.F.Key.Known.is_known g.F.Value.Known.is_known g.F.Key.Fixed.SIZE g.F.Value.Fixed.SIZE) g.F.Key.Ord.cmp g.F.Mergeable.parts.joined g.F.Functions.code c.self.inside.core.records v.core.records x.target e.key c.page_of-page.result c.higher_of-low.result l (g.R.Receipt.stands p.receipt) p.bytes c.trace_in.result (ap (λ u. u.core.records) c.self.view_is) (rw c.records.ensures at c.page_of-page.ensures) (c.higher_of-low.ensures.value ∙ ap (higher_of (x.target + 1)) (rw c.records-3.ensures at c.first_of.ensures)) held (rw c.records-4.ensures at c.trace_in.ensures.read) (rw c.records-4.ensures at c.trace_in.ensures.kept) in
+    let r = c.in-Ok.came in
     let is = c.in-Ok.is in
     let b = c.in-Further.address in
     let j = sym c.liveness_of.ensures ∙ c.in-Further.is in
     let place = subst (λ u. IsRecordStart u.core.records.page_bits u.core.records.record_size b) c.self.view_is ((rw c.records-in-Further.ensures at c.is_place.ensures).0 c.if-not-is_place.false) in
-    LoadsOn.further x e l p b at (has-page g.F.Key.Ord.cmp g.F.Functions.code order v sound s c.args.slot c.args.context x e l a at (IsEntryIn g.F.Key.Fixed.bytes_of g.F.Value.Fixed.bytes_of g.F.Key.Known.is_known g.F.Value.Known.is_known g.F.Key.Fixed.SIZE g.F.Value.Fixed.SIZE) (g.R.Receipt.stands p.receipt) p.bytes c.trace_in.result came) refl (way-below g.F.Key.Ord.cmp g.F.Functions.code order v sound s c.args.slot c.args.context x e l a at (IsEntryIn g.F.Key.Fixed.bytes_of g.F.Value.Fixed.bytes_of g.F.Key.Known.is_known g.F.Value.Known.is_known g.F.Key.Fixed.SIZE g.F.Value.Fixed.SIZE) (g.R.Receipt.stands p.receipt) p.bytes c.trace_in.result came r b is j) (above-place g.F.Key.Ord.cmp g.F.Functions.code order v sound s c.args.slot c.args.context x e l a at (IsEntryIn g.F.Key.Fixed.bytes_of g.F.Value.Fixed.bytes_of g.F.Key.Known.is_known g.F.Value.Known.is_known g.F.Key.Fixed.SIZE g.F.Value.Fixed.SIZE) (g.R.Receipt.stands p.receipt) p.bytes c.trace_in.result came r b is j) place c.ask.ensures.effect
+    LoadsOn.further x e l p b c.in-Further.parts at (has-page g.F.Key.Ord.cmp g.F.Mergeable.parts.joined g.F.Functions.code order v sound s c.args.slot c.args.context x e l a at (IsEntryIn g.F.Key.Fixed.bytes_of g.F.Value.Fixed.bytes_of g.F.Key.Known.is_known g.F.Value.Known.is_known g.F.Key.Fixed.SIZE g.F.Value.Fixed.SIZE) (g.R.Receipt.stands p.receipt) p.bytes c.trace_in.result came) refl (way-below g.F.Key.Ord.cmp g.F.Mergeable.parts.joined g.F.Functions.code order v sound s c.args.slot c.args.context x e l a at (IsEntryIn g.F.Key.Fixed.bytes_of g.F.Value.Fixed.bytes_of g.F.Key.Known.is_known g.F.Value.Known.is_known g.F.Key.Fixed.SIZE g.F.Value.Fixed.SIZE) (g.R.Receipt.stands p.receipt) p.bytes c.trace_in.result came r b c.in-Further.parts is j) (above-place g.F.Key.Ord.cmp g.F.Mergeable.parts.joined g.F.Functions.code order v sound s c.args.slot c.args.context x e l a at (IsEntryIn g.F.Key.Fixed.bytes_of g.F.Value.Fixed.bytes_of g.F.Key.Known.is_known g.F.Value.Known.is_known g.F.Key.Fixed.SIZE g.F.Value.Fixed.SIZE) (g.R.Receipt.stands p.receipt) p.bytes c.trace_in.result came r b c.in-Further.parts is j) place c.ask.ensures.effect
+
+pub overflow_add-target : goal.overflow_add-target
+overflow_add-target g c =
+    let frozen = (stands-here c.args.self.now c.args.slot c.args.context c.args.relocation.now c.requires.awaits.here c.known.ensures.compacting).frozen in
+    let regions = c.known.ensures.core.traced.regions.agree in
+    let safe = regions.in_order.safe in
+    let most = regions.in_order.most in
+    omega (arith, frozen, safe, most)

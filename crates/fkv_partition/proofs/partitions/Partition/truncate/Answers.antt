@@ -17,7 +17,7 @@ pub truncate-truncated-requires-clause-cleared : goal.truncate-truncated-require
 truncate-truncated-requires-clause-cleared g c =
     let r = c.self.inside.core.records in
     let low = page-low r.page_bits c.args.page c.self.inside.cleared (rw (c.page_of.ensures, c.records.ensures) at c.if-page-page_of.false) in
-    λ yes_keeps due. cleared-below g.F.Key.Ord.cmp r.text (start_at r.page_bits c.args.page) c.self.inside.cleared low (c.self.invariant.cleared yes_keeps)
+    λ yes_keeps due. cleared-below g.F.Key.Ord.cmp r.entries (start_at r.page_bits c.args.page) c.self.inside.cleared low (c.self.invariant.cleared yes_keeps)
 
 pub invariant_of-self : goal.invariant_of-self
 invariant_of-self g c =
@@ -31,9 +31,9 @@ invariant_of-self g c =
     let does = c.truncate-truncated.ensures.effect in
     let cut = truncates-cut g.R.Receipt.keeps v.core new c.args.page c.args.now c.self.inside.cleared c.truncate-truncated.result c.self.invariant.begun low does in
     let seats = c.sessions_preserved.ensures.truncates g.R.Receipt.keeps v.core new c.args.page c.args.now c.truncate-truncated.result does in
-    keep-event g.R.Receipt.keeps g.F.Key.Ord.cmp g.F.Functions.code v new c.self.invariant c.known-2.ensures.traced
-    (c.events_preserve.ensures.truncates g.R.Receipt.keeps g.F.Key.Ord.cmp g.F.Functions.code v.core new c.args.page c.args.now c.truncate-truncated.result order c.known.ensures
-    (λ yes_keeps due. cleared-below g.F.Key.Ord.cmp r.text (start_at r.page_bits c.args.page) c.self.inside.cleared low (c.self.invariant.cleared yes_keeps)) does)
+    keep-event g.R.Receipt.keeps g.F.Key.Ord.cmp g.F.Mergeable.parts.joined g.F.Functions.code v new c.self.invariant c.known-2.ensures.traced c.known-2.ensures.stood
+    (c.events_preserve.ensures.truncates g.R.Receipt.keeps g.F.Key.Ord.cmp g.F.Mergeable.parts.joined g.F.Functions.code v.core new c.args.page c.args.now c.truncate-truncated.result order c.known.ensures
+    (λ yes_keeps due. cleared-below g.F.Key.Ord.cmp r.entries (start_at r.page_bits c.args.page) c.self.inside.cleared low (c.self.invariant.cleared yes_keeps)) does c.known-2.ensures)
     cut.number cut.count cut.begun (λ p x h none. seats.0 p none) (λ s d x under h inside. seats.1 s inside)
 
 pub returns-clause-effect : goal.returns-clause-effect

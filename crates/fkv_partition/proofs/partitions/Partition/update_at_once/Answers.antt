@@ -20,24 +20,25 @@ invariant_of-self g c =
     let k = c.in-Some.context in
     let keeps = g.R.Receipt.keeps in
     let cmp = g.F.Key.Ord.cmp in
+    let join = g.F.Mergeable.parts.joined in
     let code = g.F.Functions.code in
     let few = c.is_session.ensures.within c.if-not-is_session.false in
     let first = rw (← c.self.view_is) at c.in-Some.ensures.value in
-    kept-at-once g.R.Receipt.stands cmp g.F.Functions.meaning code v new c.args.slot k c.args.key.now c.args.input.now c.args.issued c.args.now keeps c.self.invariant
+    kept-at-once g.R.Receipt.stands cmp join g.F.Functions.meaning code v new c.args.slot k c.args.key.now c.args.input.now c.args.issued c.args.now keeps c.self.invariant
     c.update_at_once-shown.result c.update_at_once-shown.ensures.none c.update_at_once-shown.ensures.done
     (λ shown d.
     let op = Rmw c.args.key.now c.args.input.now in
     let between = d.between in
-    let mid = sound-issued keeps cmp code v.core between c.args.slot k c.args.issued op c.known.ensures few d.issues in
-    let one = keep-issued keeps cmp code v between (c.args.slot * 8 + k) c.self.invariant mid.traced
-    (c.events_preserve.ensures.issues keeps cmp code v.core between c.args.slot k op c.args.issued (Ok tt) c.known.ensures d.issues)
+    let mid = sound-issued keeps cmp join code v.core between c.args.slot k c.args.issued op c.known.ensures few d.issues in
+    let one = keep-issued keeps cmp join code v between (c.args.slot * 8 + k) c.self.invariant mid.traced mid.stood
+    (c.events_preserve.ensures.issues keeps cmp join code v.core between c.args.slot k op c.args.issued (Ok tt) c.known.ensures d.issues)
     (issues-steady v.core between c.args.slot k c.args.issued code op (Ok tt) d.issues)
     (c.sessions_preserved.ensures.issues code v.core between c.args.slot k op c.args.issued (Ok tt) d.issues)
     first.1.relocation in
-    keep-seated keeps cmp code (with_core v between) new one c.known-2.ensures.traced
-    (c.events_preserve.ensures.goes keeps g.R.Receipt.stands cmp g.F.Functions.meaning code between new c.args.slot k c.args.now (Ok (Done (Value shown) c.args.now)) order mid d.goes)
-    (goes-steady between new c.args.slot k c.args.now g.R.Receipt.stands cmp g.F.Functions.meaning code (Ok (Done (Value shown) c.args.now)) d.goes)
-    (c.sessions_preserved.ensures.goes g.R.Receipt.stands cmp g.F.Functions.meaning code between new c.args.slot k c.args.now (Ok (Done (Value shown) c.args.now)) d.goes))
+    keep-seated keeps cmp join code (with_core v between) new one c.known-2.ensures.traced c.known-2.ensures.stood
+    (c.events_preserve.ensures.goes keeps g.R.Receipt.stands cmp join g.F.Functions.meaning code between new c.args.slot k c.args.now (Ok (Done (Value shown) c.args.now)) order mid d.goes)
+    (goes-steady between new c.args.slot k c.args.now g.R.Receipt.stands cmp join g.F.Functions.meaning code (Ok (Done (Value shown) c.args.now)) d.goes)
+    (c.sessions_preserved.ensures.goes g.R.Receipt.stands cmp join g.F.Functions.meaning code between new c.args.slot k c.args.now (Ok (Done (Value shown) c.args.now)) d.goes))
 
 pub returns-clause-done : goal.returns-clause-done
 returns-clause-done g c =
@@ -45,13 +46,13 @@ returns-clause-done g c =
     let inside = sym c.is_session.ensures.value ∙ c.if-not-is_session.false in
     let first = rw (← c.self.view_is) at c.in-Some.ensures.value in
     rw (← c.self.view_is)
-    (done-at-once g.R.Receipt.stands g.F.Key.Ord.cmp g.F.Functions.meaning g.F.Functions.code v c.update_at_once-shown.new.self c.args.slot c.in-Some.context c.args.key.now c.args.input.now c.args.issued c.args.now
+    (done-at-once g.R.Receipt.stands g.F.Key.Ord.cmp g.F.Mergeable.parts.joined g.F.Functions.meaning g.F.Functions.code v c.update_at_once-shown.new.self c.args.slot c.in-Some.context c.args.key.now c.args.input.now c.args.issued c.args.now
     inside first c.update_at_once-shown.result c.update_at_once-shown.ensures.done)
 
 pub returns-clause-left : goal.returns-clause-left
 returns-clause-left g c =
     let v = view_of c.self.inside.core c.self.inside.cleared c.self.inside.relocations.items in
-    rw (← c.self.view_is) (λ none. left-at-once g.F.Key.Ord.cmp g.F.Functions.meaning g.F.Functions.code v c.args.slot c.args.key.now c.args.input.now (c.update_at_once-shown.ensures.left none))
+    rw (← c.self.view_is) (λ none. left-at-once g.F.Key.Ord.cmp g.F.Mergeable.parts.joined g.F.Functions.meaning g.F.Functions.code v c.args.slot c.args.key.now c.args.input.now (c.update_at_once-shown.ensures.left none))
 
 pub returns-clause-within : goal.returns-clause-within
 returns-clause-within g c = told-some c.update_at_once-shown.result (c.is_session.ensures.within c.if-not-is_session.false)

@@ -2,7 +2,7 @@ use Rattle.fkv_worlds.proofs.ActsLemmas.{acts-untimely, unasked-none}
 use Rattle.fkv_worlds.proofs.states.State.act.Goals as goal
 
 pub returns-in-Err : goal.returns-in-Err
-returns-in-Err g c = record { effect = acts-untimely _ _ g.F.Key.Ord.cmp g.F.Functions.meaning g.F.Functions.code c.args.self.now c.args.step c.in-Err.refused (unasked-none c.args.self.now c.args.step c.in_default.not-Install c.in_default.not-Load c.in_default.not-Write) (rw c.partition.ensures at c.in-Err.ensures.refused) }
+returns-in-Err g c = record { effect = acts-untimely _ _ g.F.Key.Ord.cmp g.F.Mergeable.parts.joined g.F.Functions.meaning g.F.Functions.code c.args.self.now c.args.step c.in-Err.refused (unasked-none c.args.self.now c.args.step c.in_default.not-Install c.in_default.not-Load c.in_default.not-Write) (rw c.partition.ensures at c.in-Err.ensures.refused) }
 
 pub act_at-requires : goal.act_at-requires
 act_at-requires g c = record { due = rw c.partition.ensures at c.in-Ok.ensures.ok }

@@ -10,7 +10,7 @@ returns-in-Ok-clause-ok g c = (rw (← c.self.view_is) (ap (λ xs. question_in x
 pub returns-in-Err-clause-refused : goal.returns-in-Err-clause-refused
 returns-in-Err-clause-refused g c =
     let asks : question_in c.args.self.now.questions c.args.place ≡ Some c.in-Some.ask = rw (← c.self.view_is) (ap (λ xs. question_in xs c.args.place) (sym c.deref.ensures.value) ∙ sym c.in-Some.ensures) in
-    acts-untimely _ _ g.F.Key.Ord.cmp g.F.Functions.meaning g.F.Functions.code c.args.self.now (Install c.args.place) c.in-Err.refused (rw asks refl) c.in-Err.ensures.refused
+    acts-untimely _ _ g.F.Key.Ord.cmp g.F.Mergeable.parts.joined g.F.Functions.meaning g.F.Functions.code c.args.self.now (Install c.args.place) c.in-Err.refused (rw asks refl) c.in-Err.ensures.refused
 
 pub returns-in_default-clause-ok : goal.returns-in_default-clause-ok
 returns-in_default-clause-ok g c = tt

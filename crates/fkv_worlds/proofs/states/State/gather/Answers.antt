@@ -9,7 +9,7 @@ use Rattle.fkv_functions.specs.Plain.{Same}
 use Rattle.fkv_device.specs.declared.memory.MemoryReceipt.{MemoryReceipt}
 use Rattle.fkv_worlds.specs.States.{StateView}
 use Rattle.fkv_worlds.proofs.StateLemmas.{at-index}
-use Rattle.fkv_worlds.proofs.ReportLemmas.{memory-only}
+use Rattle.fkv_worlds.proofs.ReportLemmas.{memory-only, bare_before}
 use Rattle.fkv_worlds.proofs.states.State.gather.Goals as goal
 
 pub loop-partition-init : goal.loop-partition-init
@@ -25,12 +25,16 @@ loop-partition-preserved g c =
     let here : slice_get c.self.inside.partitions.items i ≡ Some c.partition-item.result =
     ap (λ xs. slice_get xs i) (sym c.deref-partition-items.ensures.value)
     ∙ at-index c.deref-partition-items.result.now i c.partition-item.result c.loop-partition-test.true c.partition-item.is in
+    let numbered = c.self.invariant.world.housed.numbered i x here in
+    let counted = c.self.invariant.world.housed.counted i x here in
+    let so_far = subst (λ (v : StateView g.row.F-Key.Denot g.row.F-Value.Denot g.row.F-Input.Denot g.row.F-Output.Denot MemoryReceipt). Same m (λ q. cond (nat_lt (partition_of (length v.partitions) (g.F.Functions.code q)) i) (union_of g.F.Key.Ord.cmp g.F.Functions.code v.partitions q) None)) (sym c.self.view_is) c.loop-partition.invariant in
+    let bare = bare_before g.F.Key.Ord.cmp g.F.Functions.code views i x m numbered counted so_far in
     rw (← c.self.view_is) (λ q. live-more g.F.Key.Ord.cmp g.F.Functions.code views i x m new here
-    (c.in-Ok.ensures.live refl)
-    (subst (λ n. (q : g.row.F-Key.Denot) → partition_of n (g.F.Functions.code q) ≢ i → new q ≡ m q) (c.self.invariant.world.housed.counted i x here)
-    (subst (λ p. (q : g.row.F-Key.Denot) → partition_of x.core.count (g.F.Functions.code q) ≢ p → new q ≡ m q) (c.self.invariant.world.housed.numbered i x here)
-    (c.in-Ok.ensures.others refl)))
-    (subst (λ (v : StateView g.row.F-Key.Denot g.row.F-Value.Denot g.row.F-Input.Denot g.row.F-Output.Denot MemoryReceipt). Same m (λ q. cond (nat_lt (partition_of (length v.partitions) (g.F.Functions.code q)) i) (union_of g.F.Key.Ord.cmp g.F.Functions.code v.partitions q) None)) (sym c.self.view_is) c.loop-partition.invariant) q)
+    (c.in-Ok.ensures.live refl bare)
+    (subst (λ n. (q : g.row.F-Key.Denot) → partition_of n (g.F.Functions.code q) ≢ i → new q ≡ m q) counted
+    (subst (λ p. (q : g.row.F-Key.Denot) → partition_of x.core.count (g.F.Functions.code q) ≢ p → new q ≡ m q) numbered
+    (c.in-Ok.ensures.others refl bare)))
+    so_far q)
 
 pub returns-clause-ok : goal.returns-clause-ok
 returns-clause-ok g c =

@@ -17,7 +17,7 @@ invariant_of-self-in-Err g c =
 pub returns-in-Err : goal.returns-in-Err
 returns-in-Err g c =
     let due = rw (← c.self.view_is) at c.requires.due in
-    rw (← c.self.view_is) (record { effect = refused-give_up g.F.Key.Ord.cmp g.F.Functions.meaning g.F.Functions.code _ c.self.invariant c.args.place c.args.now due c.index_mut-partition.result.now c.index_mut-partition.ensures.value c.give_up.new.self c.in-Err.refused c.in-Err.ensures.unchanged c.in-Err.ensures.effect })
+    rw (← c.self.view_is) (record { effect = refused-give_up g.F.Key.Ord.cmp g.F.Mergeable.parts.joined g.F.Functions.meaning g.F.Functions.code _ c.self.invariant c.args.place c.args.now due c.index_mut-partition.result.now c.index_mut-partition.ensures.value c.give_up.new.self c.in-Err.refused c.in-Err.ensures.unchanged c.in-Err.ensures.effect })
 
 pub life_at-life-requires-clause-partition : goal.life_at-life-requires-clause-partition
 life_at-life-requires-clause-partition g c =
@@ -58,4 +58,4 @@ returns-in-Ok g c =
     let due = rw (← c.self.view_is) at c.requires.due in
     let life = c.life_at-life.ensures ∙ ap (λ xs. life_in xs c.args.place) c.deref.ensures.value in
     rw (← c.self.view_is, c.end_life.ensures, life)
-    (record { effect = does-give_up g.F.Key.Ord.cmp g.F.Functions.meaning g.F.Functions.code _ c.self.invariant c.args.place c.args.now due c.index_mut-partition.result.now c.index_mut-partition.ensures.value c.give_up.new.self c.in-Ok.ensures.effect c.in-Ok.ensures.event })
+    (record { effect = does-give_up g.F.Key.Ord.cmp g.F.Mergeable.parts.joined g.F.Functions.meaning g.F.Functions.code _ c.self.invariant c.args.place c.args.now due c.index_mut-partition.result.now c.index_mut-partition.ensures.value c.give_up.new.self c.in-Ok.ensures.effect c.in-Ok.ensures.event })

@@ -17,7 +17,7 @@ pub returns-in-Err : goal.returns-in-Err
 returns-in-Err g c =
     let due = rw (← c.self.view_is) at c.requires.moment in
     let asks = rw (← c.self.view_is) at c.requires.asked ∙ ap Some (sym c.make-built.ensures) in
-    rw (← c.self.view_is) (record { effect = refused-install g.F.Key.Ord.cmp g.F.Functions.meaning g.F.Functions.code _ c.self.invariant c.args.place c.args.now due c.index_mut-partition.result.now c.index_mut-partition.ensures.value c.install.new.self c.make-built.result asks c.in-Err.refused c.in-Err.ensures.unchanged c.in-Err.ensures.effect })
+    rw (← c.self.view_is) (record { effect = refused-install g.F.Key.Ord.cmp g.F.Mergeable.parts.joined g.F.Functions.meaning g.F.Functions.code _ c.self.invariant c.args.place c.args.now due c.index_mut-partition.result.now c.index_mut-partition.ensures.value c.install.new.self c.make-built.result asks c.in-Err.refused c.in-Err.ensures.unchanged c.in-Err.ensures.effect })
 
 pub note_progress-requires-clause-partition : goal.note_progress-requires-clause-partition
 note_progress-requires-clause-partition g c =
@@ -67,4 +67,4 @@ returns-in-Ok g c =
     let due = rw (← c.self.view_is) at c.requires.moment in
     let asks = rw (← c.self.view_is) at c.requires.asked ∙ ap Some (sym c.make-built.ensures) in
     rw (← c.self.view_is, c.note_progress.ensures.lives, c.note_progress.ensures.questions, c.note_progress.ensures.receipts, c.note_progress.ensures.begun, c.note_progress.ensures.seats, c.note_progress.ensures.enters, c.note_progress.ensures.told)
-    (record { effect = does-install g.F.Key.Ord.cmp g.F.Functions.meaning g.F.Functions.code _ c.self.invariant c.args.place c.args.now due c.index_mut-partition.result.now c.index_mut-partition.ensures.value c.install.new.self c.make-built.result asks c.in-Ok.installed c.in-Ok.ensures.effect (c.in-Ok.ensures.event refl) })
+    (record { effect = does-install g.F.Key.Ord.cmp g.F.Mergeable.parts.joined g.F.Functions.meaning g.F.Functions.code _ c.self.invariant c.args.place c.args.now due c.index_mut-partition.result.now c.index_mut-partition.ensures.value c.install.new.self c.make-built.result asks c.in-Ok.installed c.in-Ok.ensures.effect (c.in-Ok.ensures.event refl) })

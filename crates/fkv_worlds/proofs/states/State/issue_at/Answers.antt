@@ -11,7 +11,7 @@ issue-requires g c =
 pub returns-in_default : goal.returns-in_default
 returns-in_default g c =
     let due = rw (← c.self.view_is) at c.requires.due in
-    rw (← c.self.view_is, c.try_reserve.ensures.items) (record { effect = no_memory_for_life-issue g.F.Key.Ord.cmp g.F.Functions.meaning g.F.Functions.code _ c.self.invariant c.args.partition c.args.now due c.args.slot c.args.op })
+    rw (← c.self.view_is, c.try_reserve.ensures.items) (record { effect = no_memory_for_life-issue g.F.Key.Ord.cmp g.F.Mergeable.parts.joined g.F.Functions.meaning g.F.Functions.code _ c.self.invariant c.args.partition c.args.now due c.args.slot c.args.op })
 
 pub begin_life-requires-clause-partition : goal.begin_life-requires-clause-partition
 begin_life-requires-clause-partition g c =
@@ -59,7 +59,7 @@ invariant_of-self-in-Err g c =
 pub returns-in-Err : goal.returns-in-Err
 returns-in-Err g c =
     let due = rw (← c.self.view_is) at c.requires.due in
-    rw (← c.self.view_is, c.try_reserve.ensures.items) (record { effect = refused-issue g.F.Key.Ord.cmp g.F.Functions.meaning g.F.Functions.code _ c.self.invariant c.args.partition c.args.now due c.index_mut.result.now c.index_mut.ensures.value c.issue.new.self c.args.slot c.args.op c.in-Err.refused c.in-Err.ensures.unchanged c.in-Err.ensures.effect })
+    rw (← c.self.view_is, c.try_reserve.ensures.items) (record { effect = refused-issue g.F.Key.Ord.cmp g.F.Mergeable.parts.joined g.F.Functions.meaning g.F.Functions.code _ c.self.invariant c.args.partition c.args.now due c.index_mut.result.now c.index_mut.ensures.value c.issue.new.self c.args.slot c.args.op c.in-Err.refused c.in-Err.ensures.unchanged c.in-Err.ensures.effect })
 
 pub invariant_of-self-in-Ok-issue : goal.invariant_of-self-in-Ok-issue
 invariant_of-self-in-Ok-issue g c =
@@ -75,4 +75,4 @@ pub returns-in-Ok-issue : goal.returns-in-Ok-issue
 returns-in-Ok-issue g c =
     let due = rw (← c.self.view_is) at c.requires.due in
     rw (← c.self.view_is, c.begin_life.ensures.lives, c.begin_life.ensures.seats, c.begin_life.ensures.begun, c.begin_life.ensures.questions, c.begin_life.ensures.receipts, c.begin_life.ensures.enters, c.try_reserve.ensures.items)
-    (record { effect = does-issue g.F.Key.Ord.cmp g.F.Functions.meaning g.F.Functions.code _ c.self.invariant c.args.partition c.args.now due c.index_mut.result.now c.index_mut.ensures.value c.issue.new.self c.args.slot c.in-Ok-issue.context c.args.op c.in-Ok-issue.ensures.effect c.in-Ok-issue.ensures.event c.in-Ok-issue.ensures.within.0 })
+    (record { effect = does-issue g.F.Key.Ord.cmp g.F.Mergeable.parts.joined g.F.Functions.meaning g.F.Functions.code _ c.self.invariant c.args.partition c.args.now due c.index_mut.result.now c.index_mut.ensures.value c.issue.new.self c.args.slot c.in-Ok-issue.context c.args.op c.in-Ok-issue.ensures.effect c.in-Ok-issue.ensures.event c.in-Ok-issue.ensures.within.0 })

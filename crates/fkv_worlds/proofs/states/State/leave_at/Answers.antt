@@ -16,7 +16,7 @@ invariant_of-self-in-Err g c =
 pub returns-in-Err : goal.returns-in-Err
 returns-in-Err g c =
     let due = rw (← c.self.view_is) at c.requires.due in
-    rw (← c.self.view_is) (record { effect = refused-leave g.F.Key.Ord.cmp g.F.Functions.meaning g.F.Functions.code _ c.self.invariant c.args.partition c.args.now due c.index_mut.result.now c.index_mut.ensures.value c.leave.new.self c.args.slot c.in-Err.refused c.in-Err.ensures.unchanged c.in-Err.ensures.effect })
+    rw (← c.self.view_is) (record { effect = refused-leave g.F.Key.Ord.cmp g.F.Mergeable.parts.joined g.F.Functions.meaning g.F.Functions.code _ c.self.invariant c.args.partition c.args.now due c.index_mut.result.now c.index_mut.ensures.value c.leave.new.self c.args.slot c.in-Err.refused c.in-Err.ensures.unchanged c.in-Err.ensures.effect })
 
 pub invariant_of-self : goal.invariant_of-self
 invariant_of-self g c =
@@ -29,4 +29,4 @@ invariant_of-self g c =
 pub returns-in-Ok : goal.returns-in-Ok
 returns-in-Ok g c =
     let due = rw (← c.self.view_is) at c.requires.due in
-    rw (← c.self.view_is) (record { effect = does-leave g.F.Key.Ord.cmp g.F.Functions.meaning g.F.Functions.code _ c.self.invariant c.args.partition c.args.now due c.index_mut.result.now c.index_mut.ensures.value c.leave.new.self c.args.slot c.in-Ok.ensures.effect c.in-Ok.ensures.event })
+    rw (← c.self.view_is) (record { effect = does-leave g.F.Key.Ord.cmp g.F.Mergeable.parts.joined g.F.Functions.meaning g.F.Functions.code _ c.self.invariant c.args.partition c.args.now due c.index_mut.result.now c.index_mut.ensures.value c.leave.new.self c.args.slot c.in-Ok.ensures.effect c.in-Ok.ensures.event })

@@ -38,7 +38,7 @@ returns-in-Ok g c =
     let receipt = some_of _ asked in
     let comes = c.read_asked-came.ensures.came receipt.0 (rw c.deref.ensures.value receipt.1) in
     rw (← c.self.view_is, c.note_progress.ensures.lives, c.note_progress.ensures.questions, c.note_progress.ensures.receipts, c.note_progress.ensures.begun, c.note_progress.ensures.seats, c.note_progress.ensures.enters, c.note_progress.ensures.told)
-    (record { effect = does-load g.F.Key.Ord.cmp g.F.Functions.meaning g.F.Functions.code _ c.self.invariant c.args.place c.args.now due c.index_mut-partition.result.now c.index_mut-partition.ensures.value c.load.new.self c.args.access receipt.0 c.read_asked-came.result receipt.1 comes c.in-Ok.progress c.in-Ok.ensures.effect (c.in-Ok.ensures.event refl) })
+    (record { effect = does-load g.F.Key.Ord.cmp g.F.Mergeable.parts.joined g.F.Functions.meaning g.F.Functions.code _ c.self.invariant c.args.place c.args.now due c.index_mut-partition.result.now c.index_mut-partition.ensures.value c.load.new.self c.args.access receipt.0 c.read_asked-came.result receipt.1 comes c.in-Ok.progress c.in-Ok.ensures.effect (c.in-Ok.ensures.event refl) })
 
 pub invariant_of-self-then-not-ends_operation : goal.invariant_of-self-then-not-ends_operation
 invariant_of-self-then-not-ends_operation g c =
@@ -46,7 +46,7 @@ invariant_of-self-then-not-ends_operation g c =
     let asked = rw (← c.self.view_is) at c.requires.asked in
     let receipt = some_of _ asked in
     let comes = c.read_asked-came.ensures.came receipt.0 (rw c.deref.ensures.value receipt.1) in
-    let cases = loads-cases _ _ g.F.Key.Ord.cmp g.F.Functions.meaning g.F.Functions.code _ c.load.new.self c.args.place.slot c.args.place.context c.args.now receipt.0 c.args.access c.read_asked-came.result c.in-Err.refused (event-later g.F.Key.Ord.cmp g.F.Functions.meaning g.F.Functions.code _ c.self.invariant c.args.place.partition c.args.now due c.index_mut-partition.result.now c.index_mut-partition.ensures.value) comes c.in-Err.ensures.effect c.in-Err.ensures.fails in
+    let cases = loads-cases _ _ g.F.Key.Ord.cmp g.F.Mergeable.parts.joined g.F.Functions.meaning g.F.Functions.code _ c.load.new.self c.args.place.slot c.args.place.context c.args.now receipt.0 c.args.access c.read_asked-came.result c.in-Err.refused (event-later g.F.Key.Ord.cmp g.F.Functions.meaning g.F.Functions.code _ c.self.invariant c.args.place.partition c.args.now due c.index_mut-partition.result.now c.index_mut-partition.ensures.value) comes c.in-Err.ensures.effect c.in-Err.ensures.fails in
     let same = leaves-it c.in-Err.refused cases (sym c.ends_operation.ensures ∙ c.if-not-ends_operation.true) in
     refused-state g.F.Key.Ord.cmp g.F.Functions.meaning g.F.Functions.code _ c.self.invariant c.args.place.partition c.args.now due c.index_mut-partition.result.now c.index_mut-partition.ensures.value c.load.new.self same
 
@@ -56,9 +56,9 @@ returns-then-not-ends_operation g c =
     let asked = rw (← c.self.view_is) at c.requires.asked in
     let receipt = some_of _ asked in
     let comes = c.read_asked-came.ensures.came receipt.0 (rw c.deref.ensures.value receipt.1) in
-    let cases = loads-cases _ _ g.F.Key.Ord.cmp g.F.Functions.meaning g.F.Functions.code _ c.load.new.self c.args.place.slot c.args.place.context c.args.now receipt.0 c.args.access c.read_asked-came.result c.in-Err.refused (event-later g.F.Key.Ord.cmp g.F.Functions.meaning g.F.Functions.code _ c.self.invariant c.args.place.partition c.args.now due c.index_mut-partition.result.now c.index_mut-partition.ensures.value) comes c.in-Err.ensures.effect c.in-Err.ensures.fails in
+    let cases = loads-cases _ _ g.F.Key.Ord.cmp g.F.Mergeable.parts.joined g.F.Functions.meaning g.F.Functions.code _ c.load.new.self c.args.place.slot c.args.place.context c.args.now receipt.0 c.args.access c.read_asked-came.result c.in-Err.refused (event-later g.F.Key.Ord.cmp g.F.Functions.meaning g.F.Functions.code _ c.self.invariant c.args.place.partition c.args.now due c.index_mut-partition.result.now c.index_mut-partition.ensures.value) comes c.in-Err.ensures.effect c.in-Err.ensures.fails in
     let quiet = sym c.ends_operation.ensures ∙ c.if-not-ends_operation.true in
-    rw (← c.self.view_is) (record { effect = refused-load g.F.Key.Ord.cmp g.F.Functions.meaning g.F.Functions.code _ c.self.invariant c.args.place c.args.now due c.index_mut-partition.result.now c.index_mut-partition.ensures.value c.load.new.self c.args.access receipt.0 c.read_asked-came.result receipt.1 comes c.in-Err.refused (leaves-it c.in-Err.refused cases quiet) quiet c.in-Err.ensures.effect })
+    rw (← c.self.view_is) (record { effect = refused-load g.F.Key.Ord.cmp g.F.Mergeable.parts.joined g.F.Functions.meaning g.F.Functions.code _ c.self.invariant c.args.place c.args.now due c.index_mut-partition.result.now c.index_mut-partition.ensures.value c.load.new.self c.args.access receipt.0 c.read_asked-came.result receipt.1 comes c.in-Err.refused (leaves-it c.in-Err.refused cases quiet) quiet c.in-Err.ensures.effect })
 
 pub end_life-requires : goal.end_life-requires
 end_life-requires g c =
@@ -66,7 +66,7 @@ end_life-requires g c =
     let asked = rw (← c.self.view_is) at c.requires.asked in
     let receipt = some_of _ asked in
     let comes = c.read_asked-came.ensures.came receipt.0 (rw c.deref.ensures.value receipt.1) in
-    let cases = loads-cases _ _ g.F.Key.Ord.cmp g.F.Functions.meaning g.F.Functions.code _ c.load.new.self c.args.place.slot c.args.place.context c.args.now receipt.0 c.args.access c.read_asked-came.result c.in-Err.refused (event-later g.F.Key.Ord.cmp g.F.Functions.meaning g.F.Functions.code _ c.self.invariant c.args.place.partition c.args.now due c.index_mut-partition.result.now c.index_mut-partition.ensures.value) comes c.in-Err.ensures.effect c.in-Err.ensures.fails in
+    let cases = loads-cases _ _ g.F.Key.Ord.cmp g.F.Mergeable.parts.joined g.F.Functions.meaning g.F.Functions.code _ c.load.new.self c.args.place.slot c.args.place.context c.args.now receipt.0 c.args.access c.read_asked-came.result c.in-Err.refused (event-later g.F.Key.Ord.cmp g.F.Functions.meaning g.F.Functions.code _ c.self.invariant c.args.place.partition c.args.now due c.index_mut-partition.result.now c.index_mut-partition.ensures.value) comes c.in-Err.ensures.effect c.in-Err.ensures.fails in
     let ev = ends-it c.in-Err.refused cases (sym c.ends_operation.ensures ∙ c.if-not-ends_operation.false) in
     let life = c.life_at-life.ensures ∙ ap (λ xs. life_in xs c.args.place) c.deref-in-Err.ensures.value in
     rw life (life-there g.F.Key.Ord.cmp g.F.Functions.meaning g.F.Functions.code _ c.self.invariant c.args.place c.args.now due c.index_mut-partition.result.now c.index_mut-partition.ensures.value ev.question ev.was)
@@ -80,7 +80,7 @@ invariant_of-self-in-Err g c =
     let asked = rw (← c.self.view_is) at c.requires.asked in
     let receipt = some_of _ asked in
     let comes = c.read_asked-came.ensures.came receipt.0 (rw c.deref.ensures.value receipt.1) in
-    let cases = loads-cases _ _ g.F.Key.Ord.cmp g.F.Functions.meaning g.F.Functions.code _ c.load.new.self c.args.place.slot c.args.place.context c.args.now receipt.0 c.args.access c.read_asked-came.result c.in-Err.refused (event-later g.F.Key.Ord.cmp g.F.Functions.meaning g.F.Functions.code _ c.self.invariant c.args.place.partition c.args.now due c.index_mut-partition.result.now c.index_mut-partition.ensures.value) comes c.in-Err.ensures.effect c.in-Err.ensures.fails in
+    let cases = loads-cases _ _ g.F.Key.Ord.cmp g.F.Mergeable.parts.joined g.F.Functions.meaning g.F.Functions.code _ c.load.new.self c.args.place.slot c.args.place.context c.args.now receipt.0 c.args.access c.read_asked-came.result c.in-Err.refused (event-later g.F.Key.Ord.cmp g.F.Functions.meaning g.F.Functions.code _ c.self.invariant c.args.place.partition c.args.now due c.index_mut-partition.result.now c.index_mut-partition.ensures.value) comes c.in-Err.ensures.effect c.in-Err.ensures.fails in
     let ev = ends-it c.in-Err.refused cases (sym c.ends_operation.ensures ∙ c.if-not-ends_operation.false) in
     let life = c.life_at-life.ensures ∙ ap (λ xs. life_in xs c.args.place) c.deref-in-Err.ensures.value in
     rw (c.end_life.ensures, life) (ended-state g.F.Key.Ord.cmp g.F.Functions.meaning g.F.Functions.code _ c.self.invariant c.args.place c.args.now due c.index_mut-partition.result.now c.index_mut-partition.ensures.value c.load.new.self order (c.load.ensures.others refl) _ refl ev)
@@ -91,8 +91,8 @@ returns-else-not-ends_operation g c =
     let asked = rw (← c.self.view_is) at c.requires.asked in
     let receipt = some_of _ asked in
     let comes = c.read_asked-came.ensures.came receipt.0 (rw c.deref.ensures.value receipt.1) in
-    let cases = loads-cases _ _ g.F.Key.Ord.cmp g.F.Functions.meaning g.F.Functions.code _ c.load.new.self c.args.place.slot c.args.place.context c.args.now receipt.0 c.args.access c.read_asked-came.result c.in-Err.refused (event-later g.F.Key.Ord.cmp g.F.Functions.meaning g.F.Functions.code _ c.self.invariant c.args.place.partition c.args.now due c.index_mut-partition.result.now c.index_mut-partition.ensures.value) comes c.in-Err.ensures.effect c.in-Err.ensures.fails in
+    let cases = loads-cases _ _ g.F.Key.Ord.cmp g.F.Mergeable.parts.joined g.F.Functions.meaning g.F.Functions.code _ c.load.new.self c.args.place.slot c.args.place.context c.args.now receipt.0 c.args.access c.read_asked-came.result c.in-Err.refused (event-later g.F.Key.Ord.cmp g.F.Functions.meaning g.F.Functions.code _ c.self.invariant c.args.place.partition c.args.now due c.index_mut-partition.result.now c.index_mut-partition.ensures.value) comes c.in-Err.ensures.effect c.in-Err.ensures.fails in
     let ends = sym c.ends_operation.ensures ∙ c.if-not-ends_operation.false in
     let life = c.life_at-life.ensures ∙ ap (λ xs. life_in xs c.args.place) c.deref-in-Err.ensures.value in
     rw (← c.self.view_is, c.end_life.ensures, life)
-    (record { effect = does-fail g.F.Key.Ord.cmp g.F.Functions.meaning g.F.Functions.code _ c.self.invariant c.args.place c.args.now due c.index_mut-partition.result.now c.index_mut-partition.ensures.value c.load.new.self c.args.access receipt.0 c.read_asked-came.result receipt.1 comes c.in-Err.refused ends c.in-Err.ensures.effect (ends-it c.in-Err.refused cases ends) })
+    (record { effect = does-fail g.F.Key.Ord.cmp g.F.Mergeable.parts.joined g.F.Functions.meaning g.F.Functions.code _ c.self.invariant c.args.place c.args.now due c.index_mut-partition.result.now c.index_mut-partition.ensures.value c.load.new.self c.args.access receipt.0 c.read_asked-came.result receipt.1 comes c.in-Err.refused ends c.in-Err.ensures.effect (ends-it c.in-Err.refused cases ends) })

@@ -20,7 +20,7 @@ returns-in-Err g c =
     let due = rw (← c.self.view_is) at c.requires.due in
     rw (← c.self.view_is)
     (record {
-      effect = refused-take g.F.Key.Ord.cmp g.F.Functions.meaning g.F.Functions.code _ c.self.invariant c.args.partition c.args.now due c.index_mut.result.now c.index_mut.ensures.value c.flush_take.new.self c.in-Err.refused c.in-Err.ensures.unchanged c.in-Err.ensures.only
+      effect = refused-take g.F.Key.Ord.cmp g.F.Mergeable.parts.joined g.F.Functions.meaning g.F.Functions.code _ c.self.invariant c.args.partition c.args.now due c.index_mut.result.now c.index_mut.ensures.value c.flush_take.new.self c.in-Err.refused c.in-Err.ensures.unchanged c.in-Err.ensures.only
           (λ e. c.in-Err.ensures.due.0 (ap Err e)) (λ w. (let k = c.in-Err.ensures.due.1 w in cc));
     })
 
@@ -38,4 +38,4 @@ pub returns-in-Ok : goal.returns-in-Ok
 returns-in-Ok g c =
     let due = rw (← c.self.view_is) at c.requires.due in
     rw (← c.self.view_is, flush_slot-set c.self.inside.flush_slots.items c.args.partition (record { job = Some c.in-Ok.job }) (Some c.in-Ok.job) refl)
-    (record { effect = does-take g.F.Key.Ord.cmp g.F.Functions.meaning g.F.Functions.code _ c.self.invariant c.args.partition c.args.now due c.index_mut.result.now c.index_mut.ensures.value c.flush_take.new.self c.in-Ok.job c.in-Ok.ensures.page c.in-Ok.ensures.bytes c.in-Ok.ensures.passes })
+    (record { effect = does-take g.F.Key.Ord.cmp g.F.Mergeable.parts.joined g.F.Functions.meaning g.F.Functions.code _ c.self.invariant c.args.partition c.args.now due c.index_mut.result.now c.index_mut.ensures.value c.flush_take.new.self c.in-Ok.job c.in-Ok.ensures.page c.in-Ok.ensures.bytes c.in-Ok.ensures.passes })

@@ -21,4 +21,4 @@ pub returns-in-Err : goal.returns-in-Err
 returns-in-Err g c =
     let there : c.args.partition < length c.self.inside.partitions.items = (let t = c.if-partition-len.false in let l = c.len.ensures in omega arith) in
     let low : c.args.partition < length (map (λ (e : FlushSlot). e.job) c.self.inside.flush_slots.items) = (let l = c.self.invariant.tables.jobs in omega arith) in
-    record { effect = acts-untimely _ _ g.F.Key.Ord.cmp g.F.Functions.meaning g.F.Functions.code c.args.self.now _ c.in-Err.refused (rw (← c.self.view_is) (flush_slot-busy c.self.inside.flush_slots.items c.args.partition c.index.result.now low c.index.ensures c.if-is_none.ensures)) c.in-Err.ensures.refused }
+    record { effect = acts-untimely _ _ g.F.Key.Ord.cmp g.F.Mergeable.parts.joined g.F.Functions.meaning g.F.Functions.code c.args.self.now _ c.in-Err.refused (rw (← c.self.view_is) (flush_slot-busy c.self.inside.flush_slots.items c.args.partition c.index.result.now low c.index.ensures c.if-is_none.ensures)) c.in-Err.ensures.refused }

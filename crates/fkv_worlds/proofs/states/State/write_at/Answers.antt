@@ -47,7 +47,7 @@ returns-in-Ok-flush_done g c =
     let w = c.in-Ok.ensures.written job.0 mine in
     rw (← c.self.view_is, flush_slot-set c.self.inside.flush_slots.items c.args.partition c.write.new.self None c.write.ensures.used)
     (record {
-      effect = does-write g.F.Key.Ord.cmp g.F.Functions.meaning g.F.Functions.code _ c.self.invariant c.args.partition c.args.now due c.index_mut-in-Ok.result.now c.index_mut-in-Ok.ensures.value c.args.access job.0 asked job.1
+      effect = does-write g.F.Key.Ord.cmp g.F.Mergeable.parts.joined g.F.Functions.meaning g.F.Functions.code _ c.self.invariant c.args.partition c.args.now due c.index_mut-in-Ok.result.now c.index_mut-in-Ok.ensures.value c.args.access job.0 asked job.1
           c.flush_done.new.self _ _ w.0 w.1 w.2 c.page-page.result c.page-page.ensures c.in-Ok-flush_done.ensures.effect c.in-Ok-flush_done.ensures.event;
     })
 
@@ -61,7 +61,7 @@ returns-in-Err-flush_done g c =
     let w = c.in-Ok.ensures.written job.0 mine in
     rw (← c.self.view_is, flush_slot-set c.self.inside.flush_slots.items c.args.partition c.write.new.self None c.write.ensures.used)
     (record {
-      effect = spoils-strange g.F.Key.Ord.cmp g.F.Functions.meaning g.F.Functions.code _ c.self.invariant c.args.partition c.args.now due c.index_mut-in-Ok.result.now c.index_mut-in-Ok.ensures.value c.args.access job.0 asked job.1
+      effect = spoils-strange g.F.Key.Ord.cmp g.F.Mergeable.parts.joined g.F.Functions.meaning g.F.Functions.code _ c.self.invariant c.args.partition c.args.now due c.index_mut-in-Ok.result.now c.index_mut-in-Ok.ensures.value c.args.access job.0 asked job.1
           c.flush_done.new.self _ _ w.0 w.1 w.2 c.in-Err-flush_done.refused c.in-Err-flush_done.ensures.unchanged c.in-Err-flush_done.ensures.effect;
     })
 
@@ -74,4 +74,4 @@ returns-in-Err g c =
     let mine = sym has ∙ job.1 in
     let held = some-at c.self.inside.partitions.items c.args.partition due.there in
     rw (← c.self.view_is, flush_slot-set c.self.inside.flush_slots.items c.args.partition c.write.new.self None c.write.ensures.used)
-    (record { effect = spoils-unwritten g.F.Key.Ord.cmp g.F.Functions.meaning g.F.Functions.code _ c.self.invariant c.args.partition c.args.now due held.0 (index-of c.self.inside.partitions.items c.args.partition held.0 held.1) c.args.access job.0 asked job.1 c.in-Err.refused (c.in-Err.ensures.unwritten job.0 mine) })
+    (record { effect = spoils-unwritten g.F.Key.Ord.cmp g.F.Mergeable.parts.joined g.F.Functions.meaning g.F.Functions.code _ c.self.invariant c.args.partition c.args.now due held.0 (index-of c.self.inside.partitions.items c.args.partition held.0 held.1) c.args.access job.0 asked job.1 c.in-Err.refused (c.in-Err.ensures.unwritten job.0 mine) })

@@ -6,13 +6,13 @@ use Rattle.fkv_texts.proofs.CutLemmas.{cut-rising, cut-from, cut-leads, cut-chai
 use Rattle.fkv_operations.specs.Classes.{class_at, same_class}
 use Rattle.fkv_operations.proofs.ClassLemmas.{class_test}
 use Rattle.fkv_lookups.proofs.TracedLemmas.{leads_of}
-use Rattle.fkv_lookups.proofs.LookupLemmas.{chain_of_all, begun}
-use Rattle.fkv_lookups.proofs.records.Records.trace.Goals as goal
+use Rattle.fkv_lookups.proofs.LookupLemmas.{chain_of_all, begun, raw-traced}
+use Rattle.fkv_lookups.proofs.records.Records.first.Goals as goal
 
 pub first_on_chain-requires-clause-chain : goal.first_on_chain-requires-clause-chain
 first_on_chain-requires-clause-chain g c =
     let i = c.self.inside in
-    let t = c.self.invariant in
+    let t = raw-traced _ _ _ refl c.self.invariant in
     let low = c.args.low in
     let class = λ (k : _). class_at i.partition_bits i.bucket_bits (g.F.Functions.code k) in
     let own = class c.args.key.now in
@@ -30,7 +30,7 @@ returns g c =
     let known = g.met.F.Key.FixedKey in
     let order = key_order g.F.Key.PartialEq.eq g.F.Key.Ord.cmp ord.matches_eq known.exact ord.total in
     let i = c.self.inside in
-    let t = c.self.invariant in
+    let t = raw-traced _ _ _ refl c.self.invariant in
     let low = c.args.low in
     let class = λ (k : _). class_at i.partition_bits i.bucket_bits (g.F.Functions.code k) in
     let own = class c.args.key.now in
