@@ -28,13 +28,13 @@ use Rattle.fkv_operations.specs.declared.classes.Class.{Class}
 use Rattle.fkv_operations.specs.declared.entries.IndexEntry.{IndexEntry}
 use Rattle.fkv_operations.specs.declared.operations.Answer.TheVariants as answered
 use Rattle.fkv_operations.specs.declared.operations.KeyedOp.{KeyedOp}
-use Rattle.fkv_operations.specs.declared.operations.KeyedOp.TheVariants.{Read, Upsert, Rmw, Delete}
+use Rattle.fkv_operations.specs.declared.operations.KeyedOp.TheVariants.{Read, Upsert, Rmw, Delete, Merge}
 use Rattle.fkv_lookups.specs.RecordsViews.{RecordsView, class_in, entry_of, found_in, confirmed}
 use Rattle.fkv_lookups.specs.declared.gathered.Gathered.{Gathered}
 use Rattle.fkv_lookups.specs.Lookups.{looked_up, IsGathered}
 use Rattle.fkv_lookups.specs.Meeting.{met_from}
 use Rattle.fkv_lookups.specs.Decisions.{low_of}
-use Rattle.fkv_lookups.specs.DecisionLaws.{claim-met, none-met, prepare-op}
+use Rattle.fkv_lookups.specs.DecisionLaws.{load-op, claim-met, none-met, prepare-op}
 use Rattle.fkv_lookups.specs.declared.decisions.LookupResult.TheVariants.{NoEntry}
 use Rattle.fkv_lookups.specs.declared.decisions.Decision.TheVariants.{Claim}
 use Rattle.fkv_partition.specs.Context.{Context}
@@ -53,7 +53,7 @@ use Rattle.fkv_partition.specs.CoreSound.{IsSound, StandsFor, IsLoading}
 use Rattle.fkv_partition.specs.CoreViews.{CoreView, slots_of, seen_at, context_at, with_context}
 use Rattle.fkv_alone.specs.Stages.{IsReady}
 use Rattle.fkv_alone.specs.Ending.{IsOn}
-use Rattle.fkv_alone.specs.Bound.{is_evicted, evicted, evicted_to, NoneClaims, IsMade, IsNear, IsNearer}
+use Rattle.fkv_alone.specs.Bound.{is_evicted, evicted, evicted_to, rest_of, NoneClaims, IsMade, IsNear, IsNearer}
 use Rattle.fkv_alone.proofs.OpenLemmas.{open_at, set-here}
 use Rattle.fkv_alone.proofs.StageLemmas.{some-same, question-rmw}
 use Rattle.fkv_alone.proofs.IndexLemmas.{tentative-tag, tentative-is, tentative-place, confirmed-final, confirmed-tag, alone-made}
@@ -114,6 +114,13 @@ page-low bits a h = by (page_at bits a == 0) refl
 class-self : (c : Class) → same_class c c ≡ true
 class-self c = and_from (c.bucket == c.bucket) (c.tag == c.tag) (eq-eqb c.bucket c.bucket refl) (eq-eqb c.tag c.tag refl)
 
+-- what an operation that asks may take, which is no merge
+rest-read : {K V I : Type 0} (code : K → ℕ) (r : RecordsView K V) (op : KeyedOp K V I) (k : K) (i : I) → op ≡ Read k i → rest_of code r op ≡ 1 + evicted code r (key_of op)
+rest-read code r op k i is = rw is refl
+
+rest-update : {K V I : Type 0} (code : K → ℕ) (r : RecordsView K V) (op : KeyedOp K V I) (k : K) (i : I) → op ≡ Rmw k i → rest_of code r op ≡ 1 + evicted code r (key_of op)
+rest-update code r op k i is = rw is refl
+
 class-small : {K V : Type 0} (code : K → ℕ) (r : RecordsView K V) (k : K) → code k < 2 ^ 64 → (class_in code r k).tag < 2 ^ 15
 class-small code r k h = omega arith
 
@@ -126,6 +133,7 @@ module _ {K V I : Type 0} (keeps : Bool) (cmp : K → K → Ordering) (join : V 
   loading-stands (Upsert k u) l h = absurd h
   loading-stands (Rmw k i) l h = h
   loading-stands (Delete k) l h = absurd h
+  loading-stands (Merge k i) l h = absurd h
 
   -- fewer records than up to a wanted address are those that pass a narrower test, which fails there
   fewer-below : IsTrue keeps → (x : Context K V I) (l : Loading V) → AwaitsPage v slot c x l → (q : Entry K V → Bool)
@@ -160,7 +168,7 @@ module _ {K V I : Type 0} (keeps : Bool) (cmp : K → K → Ordering) (join : V 
     off p q e on stop = absurd (stop (subst IsOn e on))
 
     -- ---- a look-up
-    fresh-near : (x : Context K V I) → context_at v slot c ≡ Some x → x.phase ≡ Fresh → 2 + evicted code v.records (key_of x.op) ≤ n
+    fresh-near : (x : Context K V I) → context_at v slot c ≡ Some x → x.phase ≡ Fresh → 1 + rest_of code v.records x.op ≤ n
         → ((y : Context K V I) → x ≡ y → Decides cmp join f code v slot c y Claim → IsClaimed code v w slot c y now → IsNearer {O = O} {R = R} code w slot c Next n)
         → (p : Progress K V I O R) → Goes stands cmp join f code v w slot c now (Ok p) → IsOn p → IsNearer code w slot c p n
     fresh-near x h fresh le claims p (Goes.unknown here is r) on = absurd (cc)
@@ -191,6 +199,9 @@ module _ {K V I : Type 0} (keeps : Bool) (cmp : K → K → Ordering) (join : V 
         let ask : Ask K V I = record { number = y.number; key = key_of y.op; source = source; input = i } in
         let t : p ≡ NeedsBuild ask = cc in
         let z = at_phase y (Prepared e source) in
+        let same : x ≡ y = some-same x y (context_at v slot c) h d.here in
+        let update = rest-update code v.records y.op (key_of y.op) i (prepare-op f y.op _ source i d.decided) in
+        let rest : rest_of code v.records x.op ≡ 1 + evicted code v.records (key_of y.op) = ap (λ (u : Context K V I). rest_of code v.records u.op) same ∙ update in
         near-as p (NeedsBuild ask) t (rw is (record {
           left = 1;
           fewer = omega arith;
@@ -199,7 +210,12 @@ module _ {K V I : Type 0} (keeps : Bool) (cmp : K → K → Ordering) (join : V 
     fresh-near x h fresh le claims p (Goes.asks_page y b parts e receipt d found held is r) on =
         let t : p ≡ NeedsLoad receipt b = cc in
         let same : x ≡ y = some-same x y (context_at v slot c) h d.here in
-        let key : evicted code v.records (key_of x.op) ≡ evicted code v.records (key_of y.op) = ap (λ (z : Context K V I). evicted code v.records (key_of z.op)) same in
+        let asked = load-op f y.op _ b parts d.decided in
+        let update : rest_of code v.records y.op ≡ 1 + evicted code v.records (key_of y.op) = elim asked.1 [
+          | inl is ↦ rest-read code v.records y.op (key_of y.op) asked.0 is
+          | inr is ↦ rest-update code v.records y.op (key_of y.op) asked.0 is
+        ] in
+        let rest : rest_of code v.records x.op ≡ 1 + evicted code v.records (key_of y.op) = ap (λ (u : Context K V I). rest_of code v.records u.op) same ∙ update in
         let l : Loading V = record { begin = v.records.begin; kept = e; wanted = b; parts = parts; looked = now } in
         let z = at_phase y (Load l) in
         let less : evicted_to code v.records (key_of y.op) b ≤ evicted code v.records (key_of y.op) = count-fewer (is_evicted code v.records (key_of y.op)) (λ u. nat_le u.address b && is_evicted code v.records (key_of y.op) u) (λ u k. (and_parts _ _ k).1) v.records.entries in
@@ -229,22 +245,22 @@ module _ {K V I : Type 0} (keeps : Bool) (cmp : K → K → Ordering) (join : V 
         let bad : Some (address_of (word_at v.records.words p)) ≡ None = sym here ∙ claim-none y d in
         absurd (cc)
 
-    claimed-near : (y : Context K V I) → ((q : Place) → is_tentative (word_at v.records.words q) ≡ true → ⊥) → code (key_of y.op) < 2 ^ 64 → 4 + evicted code v.records (key_of y.op) ≤ n
+    claimed-near : (y : Context K V I) → ((q : Place) → is_tentative (word_at v.records.words q) ≡ true → ⊥) → code (key_of y.op) < 2 ^ 64 → 3 + rest_of code v.records y.op ≤ n
         → Decides cmp join f code v slot c y Claim → IsClaimed code v w slot c y now → IsNearer {O = O} {R = R} code w slot c Next n
     claimed-near y clear range le d k =
         let kind = class_in code v.records (key_of y.op) in
         let z = at_phase y (Confirm k.place) in
         let alone = alone-made v.records.words k.claims.probed kind.bucket kind.tag k.place k.claims.probes (class-small code v.records (key_of y.op) range) s.traced.map (claim-none y d) clear in
-        let count : evicted code k.records (key_of y.op) ≡ evicted code v.records (key_of y.op) = ap (λ (r : RecordsView K V). evicted code r (key_of y.op)) k.claims.is in
+        let count : rest_of code k.records y.op ≡ rest_of code v.records y.op = ap (λ (r : RecordsView K V). rest_of code r y.op) k.claims.is in
         rw k.is (record {
-          left = 3 + evicted code v.records (key_of y.op);
+          left = 2 + rest_of code v.records y.op;
           fewer = omega arith;
           near = IsNear.confirms z k.place (set-here v slot c now y d.here (Some z) k.records (ap (λ (r : RecordsView K V). r.regions) k.claims.is)) refl
               (subst (λ (words : List (List Word)). IsAlone words k.place) (sym (ap (λ (r : RecordsView K V). r.words) k.claims.is)) alone) range refl (omega arith);
         })
 
     -- ---- a tentative entry is confirmed
-    confirm-near : (x : Context K V I) (place : Place) → context_at v slot c ≡ Some x → x.phase ≡ Confirm place → IsAlone v.records.words place → code (key_of x.op) < 2 ^ 64 → 3 + evicted code v.records (key_of x.op) ≤ n
+    confirm-near : (x : Context K V I) (place : Place) → context_at v slot c ≡ Some x → x.phase ≡ Confirm place → IsAlone v.records.words place → code (key_of x.op) < 2 ^ 64 → 2 + rest_of code v.records x.op ≤ n
         → (p : Progress K V I O R) → Goes stands cmp join f code v w slot c now (Ok p) → IsOn p → IsNearer code w slot c p n
     confirm-near x place h phase alone range le p goes on = by p goes on
       where
@@ -280,8 +296,8 @@ module _ {K V I : Type 0} (keeps : Bool) (cmp : K → K → Ordering) (join : V 
             let same : x ≡ y = some-same x y (context_at v slot c) h here in
             let key : key_of x.op ≡ key_of y.op = ap (λ (u : Context K V I). key_of u.op) same in
             near-as p Next t (rw is (record {
-              left = 2 + evicted code v.records (key_of y.op);
-              fewer = (let count : evicted code v.records (key_of x.op) ≡ evicted code v.records (key_of y.op) = ap (evicted code v.records) key in omega arith);
+              left = 1 + rest_of code v.records y.op;
+              fewer = (let count : rest_of code v.records x.op ≡ rest_of code v.records y.op = ap (λ (u : Context K V I). rest_of code v.records u.op) same in omega arith);
               near = IsNear.looks z q (set-here v slot c now y here (Some z) (confirmed v.records q) refl) refl (subst (λ (k : K). IsMade (confirmed v.records q) (class_in code v.records k) q) key (made y q here confirms)) refl (omega arith);
             }))
         by p (Goes.backs_off y q here confirms other is r) on =
@@ -303,7 +319,7 @@ module _ {K V I : Type 0} (keeps : Bool) (cmp : K → K → Ordering) (join : V 
 
     goes-near : (p : Progress K V I O R) → IsNear {O = O} {R = R} code v slot c Next n → Goes stands cmp join f code v w slot c now (Ok p) → IsOn p → IsNearer code w slot c p n
     goes-near p (IsNear.begins x h fresh clear range told le) goes on =
-        fresh-near x h fresh (omega arith) (λ y same d k. claimed-near y (unclaimed clear) (subst (λ (z : Context K V I). code (key_of z.op) < 2 ^ 64) same range) (subst (λ (z : Context K V I). 4 + evicted code v.records (key_of z.op) ≤ n) same le) d k) p goes on
+        fresh-near x h fresh (omega arith) (λ y same d k. claimed-near y (unclaimed clear) (subst (λ (z : Context K V I). code (key_of z.op) < 2 ^ 64) same range) (subst (λ (z : Context K V I). 3 + rest_of code v.records z.op ≤ n) same le) d k) p goes on
     goes-near p (IsNear.confirms x place h phase alone range told le) goes on = confirm-near x place h phase alone range le p goes on
     goes-near p (IsNear.looks x place h fresh made told le) goes on =
         fresh-near x h fresh le (λ y same d k. absurd (made-met y place (subst (λ (z : Context K V I). IsMade v.records (class_in code v.records (key_of z.op)) place) same made) d)) p goes on
@@ -436,10 +452,10 @@ fresh-slot {K} {V} {I} cs x i p fresh none = at (slice_get (slice_set cs i (Some
 
 -- an operation that was issued, where no other holds a tentative entry
 pub issue-near : {K V I O R : Type 0} (code : K → ℕ) (old new : CoreView K V I) (slot c now : ℕ) (op : KeyedOp K V I) → new ≡ with_context old slot c (Some (record { number = now; op = op; phase = Fresh })) now → (ready : IsReady op old new slot c now) → ready.operation.phase ≡ Fresh → NoneClaims old → code (key_of op) < 2 ^ 64
-    → IsNear {O = O} {R = R} code new slot c Next (4 + evicted code old.records (key_of op))
+    → IsNear {O = O} {R = R} code new slot c Next (3 + rest_of code old.records op)
 issue-near {K} {V} {I} {O} {R} code old new slot c now op is ready fresh clear range =
     let clear_now : NoneClaims new = rw is (λ p. fresh-slot old.contexts (record { number = now; op = op; phase = Fresh }) (slot * 8 + c) p refl clear) in
     let x = ready.operation in
     let key : key_of x.op ≡ key_of op = ap key_of ready.open_is.op_is in
-    let count : evicted code new.records (key_of x.op) ≡ evicted code old.records (key_of op) = ap (evicted code new.records) key ∙ ap (λ (u : CoreView K V I). evicted code u.records (key_of op)) is in
+    let count : rest_of code new.records x.op ≡ rest_of code old.records op = ap (rest_of code new.records) ready.open_is.op_is ∙ ap (λ (u : CoreView K V I). rest_of code u.records op) is in
     IsNear.begins x ready.open_is.here fresh clear_now (subst (λ k. code k < 2 ^ 64) (sym key) range) refl (omega arith)

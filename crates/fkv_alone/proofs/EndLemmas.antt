@@ -32,8 +32,9 @@ pub record HasIssued {K V I : Type 0} (code : K → ℕ) (old new : PartitionVie
 pub issue-told : {K V I : Type 0} (code : K → ℕ) (old new : PartitionView K V I) (slot c now : ℕ) (op : KeyedOp K V I) → IssuesOnKey code old new slot op now (Ok c) → HasIssued code old new slot c now op
 issue-told code old new slot c now op (IssuesOnKey.unknown a is r) = absurd (cc)
 issue-told code old new slot c now op (IssuesOnKey.stranger a b is r) = absurd (cc)
-issue-told code old new slot c now op (IssuesOnKey.full a b d is r) = absurd (cc)
-issue-told code old new slot c now op (IssuesOnKey.issues d a b free is r) =
+issue-told code old new slot c now op (IssuesOnKey.unmerged a b merge lacks is r) = absurd (cc)
+issue-told code old new slot c now op (IssuesOnKey.full a b merges d is r) = absurd (cc)
+issue-told code old new slot c now op (IssuesOnKey.issues d a b merges free is r) =
     let same : d ≡ c = cc in
     record {
       opens = record { entered = a; own = b; free = subst (λ n. IsFirstFree old slot (Some n)) same free };
@@ -43,8 +44,9 @@ issue-told code old new slot c now op (IssuesOnKey.issues d a b free is r) =
 pub issue-stalled : {K V I : Type 0} (code : K → ℕ) (old new : PartitionView K V I) (slot now : ℕ) (op : KeyedOp K V I) (why : Refused) → IssuesOnKey code old new slot op now (Err why) → why ≡ Stalled → ⊥
 issue-stalled code old new slot now op why (IssuesOnKey.unknown a is q) t = absurd (cc)
 issue-stalled code old new slot now op why (IssuesOnKey.stranger a b is q) t = absurd (cc)
-issue-stalled code old new slot now op why (IssuesOnKey.full a b d is q) t = absurd (cc)
-issue-stalled code old new slot now op why (IssuesOnKey.issues d a b free is q) t = absurd (cc)
+issue-stalled code old new slot now op why (IssuesOnKey.unmerged a b merge lacks is q) t = absurd (cc)
+issue-stalled code old new slot now op why (IssuesOnKey.full a b merges d is q) t = absurd (cc)
+issue-stalled code old new slot now op why (IssuesOnKey.issues d a b merges free is q) t = absurd (cc)
 
 pub stop-stalled : (tail before after : ℕ) (why : Refused) → IsStop tail before after why → why ≡ Stalled → ⊥
 stop-stalled tail before after why (IsStop.memory m g) t = absurd (cc)

@@ -36,12 +36,14 @@ not-relocate (on_key.Read k i) h = absurd (cc)
 not-relocate (on_key.Upsert k v) h = absurd (cc)
 not-relocate (on_key.Rmw k i) h = absurd (cc)
 not-relocate (on_key.Delete k) h = absurd (cc)
+not-relocate (on_key.Merge k i) h = absurd (cc)
 
 read-op : {K V I : Type 0} (o : KeyedOp K V I) (k : K) (i : I) → op_of o ≡ Read k i → o ≡ on_key.Read k i
 read-op (on_key.Read q j) k i h = cc
 read-op (on_key.Upsert q v) k i h = absurd (cc)
 read-op (on_key.Rmw q j) k i h = absurd (cc)
 read-op (on_key.Delete q) k i h = absurd (cc)
+read-op (on_key.Merge q j) k i h = absurd (cc)
 
 abbrev nothing : (A : Type 0) → Option A
 nothing A = None

@@ -1,12 +1,13 @@
 -- How many events an operation may still take that is driven alone.
-use Rattle.std.specs.Prelude.{◌≡◌, ◌+◌, ◌^◌, ◌<◌, ◌≤◌, ◌&&◌, ℕ, Bool, IsTrue, Some, None, length, filter, nat_le, nat_lt}
+use Rattle.std.specs.Prelude.{◌≡◌, ◌+◌, ◌^◌, ◌<◌, ◌≤◌, ◌&&◌, ℕ, Bool, cond, IsTrue, Some, None, length, filter, nat_le, nat_lt}
 use Rattle.fkv_index.specs.declared.places.Place.{Place}
 use Rattle.fkv_index.specs.Words.{is_final, tag_of}
 use Rattle.fkv_index.specs.Places.{word_at}
 use Rattle.fkv_index.specs.Entries.{IsAlone}
 use Rattle.fkv_functions.specs.declared.asks.Ask.{Ask}
 use Rattle.fkv_texts.specs.declared.entries.Entry.{Entry}
-use Rattle.fkv_operations.specs.After.{key_of}
+use Rattle.fkv_operations.specs.After.{key_of, is_merge}
+use Rattle.fkv_operations.specs.declared.operations.KeyedOp.{KeyedOp}
 use Rattle.fkv_operations.specs.Classes.{same_class}
 use Rattle.fkv_operations.specs.declared.classes.Class.{Class}
 use Rattle.fkv_operations.specs.declared.entries.IndexEntry.{IndexEntry}
@@ -31,6 +32,10 @@ evicted code r k = length (filter (is_evicted code r k) r.entries)
 abbrev pub evicted_to : {K V : Type 0} → (K → ℕ) → RecordsView K V → K → ℕ → ℕ
 evicted_to code r k a = length (filter (λ e. nat_le e.address a && is_evicted code r k e) r.entries)
 
+-- how many events may follow the look-up of an operation: loads, and what is built. A merge asks for neither
+abbrev pub rest_of : {K V I : Type 0} → (K → ℕ) → RecordsView K V → KeyedOp K V I → ℕ
+rest_of code r op = cond (is_merge op) 0 (1 + evicted code r (key_of op))
+
 -- no open operation holds a tentative entry
 abbrev pub NoneClaims : {K V I : Type 0} → CoreView K V I → Type 0
 NoneClaims {K} {V} {I} v = (p : ℕ) → claim_at v.contexts p ≡ None
@@ -51,7 +56,7 @@ pub data IsNear {K V I O R : Type 0} (code : K → ℕ) (v : CoreView K V I) (sl
       → NoneClaims v
       → code (key_of x.op) < 2 ^ 64
       → told ≡ Next
-      → 4 + evicted code v.records (key_of x.op) ≤ n
+      → 3 + rest_of code v.records x.op ≤ n
       → IsNear code v slot c told n
   confirms : (x : Context K V I) (p : Place)
       → context_at v slot c ≡ Some x
@@ -59,7 +64,7 @@ pub data IsNear {K V I O R : Type 0} (code : K → ℕ) (v : CoreView K V I) (sl
       → IsAlone v.records.words p
       → code (key_of x.op) < 2 ^ 64
       → told ≡ Next
-      → 3 + evicted code v.records (key_of x.op) ≤ n
+      → 2 + rest_of code v.records x.op ≤ n
       → IsNear code v slot c told n
   -- an entry stands: a look-up, loads, and what is built
   looks : (x : Context K V I) (p : Place)
@@ -67,7 +72,7 @@ pub data IsNear {K V I O R : Type 0} (code : K → ℕ) (v : CoreView K V I) (sl
       → x.phase ≡ Fresh
       → IsMade v.records (class_in code v.records (key_of x.op)) p
       → told ≡ Next
-      → 2 + evicted code v.records (key_of x.op) ≤ n
+      → 1 + rest_of code v.records x.op ≤ n
       → IsNear code v slot c told n
   -- the entry that it kept stands: each page brings it to another record of the class
   fetches : (x : Context K V I) (l : Loading V) (r : R) (a : ℕ)

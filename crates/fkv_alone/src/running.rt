@@ -7,8 +7,7 @@ ghost use Rattle.fkv_partition.specs.CoreContexts.{joined};
 ghost use Rattle.fkv_partition.specs.Views.{with_core};
 ghost use Rattle.fkv_operations.specs.declared.operations.KeyedOp.{KeyedOp};
 ghost use Rattle.fkv_alone.specs.Stages.{IsReady};
-ghost use Rattle.fkv_operations.specs.After.{key_of};
-ghost use Rattle.fkv_alone.specs.Bound.{IsNear, NoneClaims, evicted};
+ghost use Rattle.fkv_alone.specs.Bound.{IsNear, NoneClaims, rest_of};
 ghost use Rattle.fkv_alone.specs.Ending.{Ends, IsOn, Drives};
 
 use crate::outcomes::{Alone, AloneOf};
@@ -109,9 +108,9 @@ fn attempt<F: Mergeable, R: Receipt, P: PageReader<Receipt = R>>(
         → (s ≢ slot) ⊎ ¬ IsFirstFree partition.old slot (Some c)
         → pending F.Key.cmp partition.new.core s c ≡ pending F.Key.cmp partition.old.core s c }
     ensures bound { IsTrue R.keeps → NoneClaims partition.old.core
-        → clock.new ≤ clock.old + (5 + evicted F.code partition.old.core.records (key_of op)) }
+        → clock.new ≤ clock.old + (4 + rest_of F.code partition.old.core.records op) }
     ensures enough { IsTrue R.keeps → NoneClaims partition.old.core
-        → 5 + evicted F.code partition.old.core.records (key_of op) ≤ limit
+        → 4 + rest_of F.code partition.old.core.records op ≤ limit
         → result ≢ Err Refused.Stalled }
     ensures within { clock.new ≤ clock.old + limit }
     ensures rest { partition.new ≡ with_core partition.old partition.new.core }
@@ -177,11 +176,12 @@ pub fn run_alone<F: Mergeable, R: Receipt, P: PageReader<Receipt = R>>(
     ensures others { IsTrue R.keeps → (s c : ℕ)
         → (s ≢ slot) ⊎ ¬ IsFirstFree partition.old slot (Some c)
         → pending F.Key.cmp partition.new.core s c ≡ pending F.Key.cmp partition.old.core s c }
-    // the issue, a claim, its confirmation, a look-up, a load for each record of the class below Head, and the install
+    // the issue, a claim, its confirmation and a look-up; and, of all but a merge, a load for each record of the class below
+    // Head, and the install
     ensures bound { IsTrue R.keeps → NoneClaims partition.old.core
-        → result.events ≤ 5 + evicted F.code partition.old.core.records (key_of op) }
+        → result.events ≤ 4 + rest_of F.code partition.old.core.records op }
     ensures enough { IsTrue R.keeps → NoneClaims partition.old.core
-        → 5 + evicted F.code partition.old.core.records (key_of op) ≤ limit
+        → 4 + rest_of F.code partition.old.core.records op ≤ limit
         → result.progress ≢ Err Refused.Stalled }
     // relocations stay, and what is cleared
     ensures rest { partition.new ≡ with_core partition.old partition.new.core }

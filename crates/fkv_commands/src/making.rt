@@ -1,22 +1,33 @@
 //! Making tables over a device, by one worker or by several.
-ghost use Rattle.std.specs.Prelude.{◌≡◌, ◌≢◌, ◌∷◌, [], true, map, IfOk, IfErr, IsTrue, OnOk};
+ghost use Rattle.std.specs.Prelude.{◌≡◌, ◌≢◌, ◌↔◌, ◌∷◌, [], true, map, IfOk, IfErr, IsTrue, OnOk};
 ghost use Rattle.fkv_feeds.specs.Tables.{IsTableOf};
 
 use crate::opening::{Feed, FeedOf, all_opened, read_whole};
 use fkv_device::Disk;
-use fkv_feeds::{Run, run_alone, run_one};
+use fkv_feeds::{RowMode, Run, run_alone_by, run_one_by};
 use fkv_functions::{Mergeable, Name, OrderFree, Refused};
 use fkv_histories::{Audited, Plain, Recorder};
 use fkv_meters::Progress;
 use fkv_requests::TableRequest;
 use fkv_store::Open;
 use fkv_streams::{CountedReader, Source};
-use fkv_workers::run_feeds;
+use fkv_workers::run_feeds_by;
 use std::alloc::Global;
 use std::fs::Files;
 use std::rt::Clock;
 use std::sync::Wait;
 use std::thread::Threads;
+
+/// How each row of a table is made an update of the store.
+fn mode_of(table: &TableRequest) -> RowMode
+    ensures { (result ≡ RowMode.Merge) ↔ IsTrue table.now.merge }
+{
+    if table.merge {
+        RowMode::Merge
+    } else {
+        RowMode::Update
+    }
+}
 
 /// How many workers have a feed to read, where so many are asked for: none reads another's.
 fn workers_for(asked: u64, feeds: usize) -> usize {
@@ -53,7 +64,10 @@ where
 {
     let workers = workers_for(table.workers, feeds.len());
     let config = &table.config;
-    run_feeds::<S, F, D, H, Open, T>(rt, alloc, feeds, workers, functions, config, device, &Open)
+    let mode = mode_of(table);
+    run_feeds_by::<S, F, D, H, Open, T>(
+        rt, alloc, feeds, workers, functions, config, device, &Open, mode,
+    )
 }
 
 /// A run over a reader's bytes. An audited one reads them whole before it starts threads, since the reader stays where it
@@ -87,7 +101,8 @@ where
     ensures only { IfErr result (λ e. e ≢ Refused.Unwritable) }
 {
     if !table.audit {
-        return run_alone(alloc, reader, &functions, &table.config, device);
+        let mode = mode_of(table);
+        return run_alone_by(alloc, reader, &functions, &table.config, device, mode);
     }
     let bytes = match read_whole(alloc, reader) {
         Ok(bytes) => bytes,
@@ -136,5 +151,13 @@ where
         return shared::<_, F, Plain, D, H>(rt, alloc, table, functions, feeds, device);
     }
     let config = &table.config;
-    run_one(alloc, feeds.as_mut_slice(), &functions, config, device)
+    let mode = mode_of(table);
+    run_one_by(
+        alloc,
+        feeds.as_mut_slice(),
+        &functions,
+        config,
+        device,
+        mode,
+    )
 }

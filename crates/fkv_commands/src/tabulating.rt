@@ -162,7 +162,7 @@ where
     }
 }
 
-/// Makes the table that is asked for, and writes it. Refused as `fkv_feeds::run_one`, `fkv_workers::run_feeds` and
+/// Makes the table that is asked for, and writes it. Refused as `fkv_feeds::run_one_by`, `fkv_workers::run_feeds_by` and
 /// `fkv_feeds::write_table` are; `Unreadable` too with the number of the first feed that can not be opened. Answers what the
 /// run did.
 pub fn tabulate<R: Source, W: Sink, H: Files + Threads + Wait + Clock + Sync, P: Progress + Sync>(

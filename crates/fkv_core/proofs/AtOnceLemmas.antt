@@ -66,10 +66,10 @@ module _ {K V I O : Type 0} (cmp : K → K → Ordering) (join : V → V → V) 
     pub done-at_once : {R : Type 0} (stands : R → Standing) → IsDoneAtOnce stands cmp join f code v after slot c key input issued now (f.shown key input value)
     done-at_once {R} stands = record {
       between = between;
-      issues = Issues.issues inside low closed own refl refl;
+      issues = Issues.issues inside low closed own (λ m. absurd (cc)) refl refl;
       issue = event-issue code v slot c issued (Rmw key input) inside free low own;
       goes = replaces operation (Some value) (Value (f.shown key input value)) last
           (record { here = here; fresh = refl; decided = decided }) at_once-last (sym is-after) refl;
       event = subst (λ w. IsEvent {R = R} cmp f between w slot c now (Done (Value (f.shown key input value)) now)) is-after
-          (event-replaces cmp join f code between slot c now operation here last.address (Some value) (Value (f.shown key input value)) holds lives decided);
+          (event-replaces cmp join f code between slot c now operation here (record { delta = λ k i. value; joined = join }) (λ m. absurd (cc)) last.address (Some value) (Value (f.shown key input value)) holds lives decided);
     }

@@ -119,7 +119,7 @@ module _ {K V I : Type 0} {keeps : Bool} (cmp : K → K → Ordering) (join : V 
       (ap (λ (w : RecordsView K V). w.regions) reworded)
       (ap (λ (w : RecordsView K V). w.entries) reworded)
       was is o.here quiet
-      (record { stands = subst (λ d. IsClaimOf r d q) same claimed; own = own-at cmp join code v s slot c x h; inside = o.inside; low = o.low })
+      (record { stands = subst (λ d. IsClaimOf r d q) same claimed; own = own-at cmp join code v s slot c x h; merging = s.merging (slot * 8 + c) x o.here; inside = o.inside; low = o.low })
 
   -- it is confirmed or taken back, and the operation is to look again
   pub sound-settles : (r : RecordsView K V) (q : Place)
@@ -133,7 +133,7 @@ module _ {K V I : Type 0} {keeps : Bool} (cmp : K → K → Ordering) (join : V 
       → IsSound keeps cmp join code (record (with_context v slot c (Some (at_phase x Fresh)) now) { records = r })
   sound-settles r q phase reworded words freed made traced stood =
       let o = open_at (slots_of v) v.contexts slot c x h in
-      let fits : Fits s r slot c (at_phase x Fresh) = record { stands = tt; own = own-at cmp join code v s slot c x h; inside = o.inside; low = o.low } in
+      let fits : Fits s r slot c (at_phase x Fresh) = record { stands = tt; own = own-at cmp join code v s slot c x h; merging = s.merging (slot * 8 + c) x o.here; inside = o.inside; low = o.low } in
       sound-settled s r slot c now x q (Some (at_phase x Fresh)) traced stood (grown-words keeps cmp join code q v.records r reworded words made) words
       (ap (λ (w : RecordsView K V). w.partition_bits) reworded)
       (ap (λ (w : RecordsView K V). w.regions) reworded)

@@ -6,10 +6,10 @@ use Rattle.std.proofs.lemmas.Bool.{OnTrue_at, OnFalse_at, cases_eq}
 use Rattle.std.specs.Bool.{OnTrue, OnFalse}
 use Rattle.std.specs.declared.cmp.Ordering.{Ordering}
 use Rattle.std.specs.Option.{option_flatten, ok_or}
-use Rattle.fkv_functions.specs.Meanings.{Meanings, updated}
+use Rattle.fkv_functions.specs.Meanings.{Meanings, Parts, Merges, updated}
 use Rattle.fkv_functions.specs.declared.asks.Ask.{Ask}
 use Rattle.fkv_functions.specs.Plain.{PlainMap, Same, IsKeyOrder, with_at}
-use Rattle.fkv_operations.specs.After.{key_of, after, after_update, answer, told_of}
+use Rattle.fkv_operations.specs.After.{key_of, is_merge, after, after_update, answer, told_of}
 use Rattle.fkv_lookups.specs.Decisions.{held_of, IsHeld, decision}
 use Rattle.fkv_lookups.specs.Meeting.{IsWanted}
 use Rattle.fkv_device.specs.Standing.{Standing}
@@ -18,7 +18,7 @@ use Rattle.fkv_lookups.specs.DecisionLaws.{quiet-does, append-does, replace-does
 use Rattle.fkv_lookups.specs.declared.decisions.Decision.{Decision}
 use Rattle.fkv_lookups.specs.declared.decisions.Decision.TheVariants.{Append, Replace, Prepare}
 use Rattle.fkv_operations.specs.declared.operations.KeyedOp.{KeyedOp}
-use Rattle.fkv_operations.specs.declared.operations.KeyedOp.TheVariants.{Read, Upsert, Rmw, Delete}
+use Rattle.fkv_operations.specs.declared.operations.KeyedOp.TheVariants.{Read, Upsert, Rmw, Delete, Merge}
 use Rattle.fkv_operations.specs.declared.operations.Answer.{Answer}
 use Rattle.fkv_operations.specs.declared.operations.Answer.TheVariants.{Value, Declined}
 use Rattle.fkv_texts.specs.Text.{last_of, newest, value_of, live}
@@ -28,8 +28,10 @@ use Rattle.fkv_index.specs.Places.{word_at}
 use Rattle.fkv_index.specs.Entries.{IsAlone}
 use Rattle.fkv_operations.specs.declared.entries.IndexEntry.{IndexEntry}
 use Rattle.fkv_regions.specs.RegionsView.{RegionsView, IsReadOnlyDue, IsHeadDue, entered, refreshed, left}
-use Rattle.fkv_lookups.specs.RecordsViews.{RecordsView, class_in, IsEntryOf, with_record, with_value, with_receipt, confirmed, released, IsMoved}
+use Rattle.fkv_lookups.specs.RecordsViews.{RecordsView, class_in, IsEntryOf, with_record, with_written, with_value, with_receipt, confirmed, released, IsMoved}
 use Rattle.fkv_operations.specs.Still.{IsStill}
+use Rattle.fkv_lookups.specs.declared.payloads.Payload.{Payload}
+use Rattle.fkv_lookups.specs.Payloads.{standing}
 use Rattle.fkv_core.specs.declared.contexts.Context.{Context}
 use Rattle.fkv_core.specs.declared.contexts.Phase.{Phase}
 use Rattle.fkv_core.specs.declared.contexts.Phase.TheVariants.{Fresh, Confirm, Prepared, Load}
@@ -37,7 +39,7 @@ use Rattle.fkv_core.specs.declared.contexts.Loading.{Loading}
 use Rattle.fkv_core.specs.declared.contexts.Progress.TheVariants.{Done, Next, NeedsBuild, NeedsLoad, Waits}
 use Rattle.fkv_core.specs.declared.contexts.Wait.{Wait}
 use Rattle.fkv_core.specs.Contexts.{is_session, question_in, question_by, joined, context_in, at_phase, claim_by, claim_of, claim_at, loading_by}
-use Rattle.fkv_core.specs.Views.{CoreView, slots_of, in_regions, with_replaced, partition_of, met_at, context_at, with_context, with_appended, live_of, free_slot, open_context}
+use Rattle.fkv_core.specs.Views.{CoreView, slots_of, in_regions, with_replaced, partition_of, met_at, context_at, with_context, with_appended, with_payload, live_of, free_slot, open_context}
 use Rattle.fkv_core.specs.Effect.{asked, asked_by, LeavesOthers, IsQuiet, IsIssue, IsEvent, IsGiveUp}
 use Rattle.fkv_core.specs.Claiming.{IsClaimed}
 use Rattle.fkv_core.specs.Looking.{Shifts, Evicts}
@@ -59,6 +61,7 @@ fresh-by n op (Confirm p) keeps cmp join code r s h q l = absurd (cc)
 fresh-by n (Read k i) (Prepared e source) keeps cmp join code r s h q l = absurd s
 fresh-by n (Upsert k v) (Prepared e source) keeps cmp join code r s h q l = absurd s
 fresh-by n (Delete k) (Prepared e source) keeps cmp join code r s h q l = absurd s
+fresh-by n (Merge k i) (Prepared e source) keeps cmp join code r s h q l = absurd s
 fresh-by n (Rmw k i) (Prepared e source) keeps cmp join code r s h q l = absurd (cc)
 fresh-by n op (Load m) keeps cmp join code r s h q l = absurd (cc)
 
@@ -89,6 +92,7 @@ question-of n op (Load l) e ask h = absurd (cc)
 question-of n (Read k i) (Prepared b s) e ask h = absurd (cc)
 question-of n (Upsert k v) (Prepared b s) e ask h = absurd (cc)
 question-of n (Delete k) (Prepared b s) e ask h = absurd (cc)
+question-of n (Merge k i) (Prepared b s) e ask h = absurd (cc)
 question-of {K} {V} {I} n (Rmw k i) (Prepared b s) e ask h =
     let pair : (b, record { number = n; key = k; source = s; input = i }) ≡ (e, ask) = cc in
     let asks : record { number = n; key = k; source = s; input = i } ≡ ask = ap (λ (p : IndexEntry × Ask K V I). p.1) pair in
@@ -269,8 +273,8 @@ module _ {K V I O : Type 0} (cmp : K → K → Ordering) (join : V → V → V) 
     decides-at s q n l d e is same = record { here = h; fresh = fresh-at cmp join code v s slot c x h q n l; decided = sym is ∙ same }
 
     -- an operation is done without a write
-    pub event-quiet : {R : Type 0} → IsKeyOrder cmp → IsHeld (met_at cmp join code v slot (key_of x.op)) (live_of cmp v (key_of x.op)) → (a : Answer O) → decision f x.op (met_at cmp join code v slot (key_of x.op)) ≡ Decision.Done a → IsEvent {R = R} cmp f v (with_context v slot c None now) slot c now (Done a now)
-    event-quiet order held a d = let quiet = quiet-does cmp f (live_of cmp v) order x.op (met_at cmp join code v slot (key_of x.op)) a held d in record {
+    pub event-quiet : {R : Type 0} (p : Parts K V I) → (is_merge x.op ≡ true → Merges f p) → IsKeyOrder cmp → IsHeld (met_at cmp join code v slot (key_of x.op)) (live_of cmp v (key_of x.op)) → (a : Answer O) → decision f x.op (met_at cmp join code v slot (key_of x.op)) ≡ Decision.Done a → IsEvent {R = R} cmp f v (with_context v slot c None now) slot c now (Done a now)
+    event-quiet p merges order held a d = let quiet = quiet-does cmp f p (live_of cmp v) order x.op (met_at cmp join code v slot (key_of x.op)) a merges held d in record {
       question = asked_by x;
       was = was-asked;
       effect = (
@@ -283,11 +287,14 @@ module _ {K V I O : Type 0} (cmp : K → K → Ordering) (join : V → V → V) 
     }
 
     -- or appends a record
-    pub event-appends : {R : Type 0} (e : IndexEntry) (value : Option V) (a : Answer O) → Same (live cmp (with_record v.records e (key_of x.op) value).text) (with_at cmp (live_of cmp v) (key_of x.op) value) → decision f x.op (met_at cmp join code v slot (key_of x.op)) ≡ Append value a
-        → IsEvent {R = R} cmp f v (with_appended v slot c e (key_of x.op) value now) slot c now (Done a now)
-    event-appends e value a lives d =
+    pub event-appends : {R : Type 0} (p : Parts K V I) → (is_merge x.op ≡ true → Merges f p)
+        → (e : IndexEntry) (payload : Payload V) (a : Answer O)
+        → Same (live cmp (with_written v.records e (key_of x.op) payload (standing p.joined (live_of cmp v (key_of x.op)) payload)).text) (with_at cmp (live_of cmp v) (key_of x.op) (standing p.joined (live_of cmp v (key_of x.op)) payload))
+        → decision f x.op (met_at cmp join code v slot (key_of x.op)) ≡ Append payload a
+        → IsEvent {R = R} cmp f v (with_payload v slot c e (key_of x.op) payload (standing p.joined (live_of cmp v (key_of x.op)) payload) now) slot c now (Done a now)
+    event-appends p merges e payload a lives d =
         let l = leaves None in
-        let does = append-does cmp f (live_of cmp v) x.op (met_at cmp join code v slot (key_of x.op)) value a d in
+        let does = append-does cmp f p (live_of cmp v) x.op (met_at cmp join code v slot (key_of x.op)) payload a merges d in
         record {
           question = asked_by x;
           was = was-asked;
@@ -302,10 +309,10 @@ module _ {K V I O : Type 0} (cmp : K → K → Ordering) (join : V → V → V) 
         }
 
     -- or gives the last record of its key another value where it stands, or makes it a tombstone
-    pub event-replaces : {R : Type 0} (at : ℕ) (value : Option V) (a : Answer O) → IsHeld (met_at cmp join code v slot (key_of x.op)) (live_of cmp v (key_of x.op))
+    pub event-replaces : {R : Type 0} (p : Parts K V I) → (is_merge x.op ≡ true → Merges f p) → (at : ℕ) (value : Option V) (a : Answer O) → IsHeld (met_at cmp join code v slot (key_of x.op)) (live_of cmp v (key_of x.op))
         → Same (live cmp (with_value v.records at value).text) (with_at cmp (live_of cmp v) (key_of x.op) value) → decision f x.op (met_at cmp join code v slot (key_of x.op)) ≡ Replace value a
         → IsEvent {R = R} cmp f v (with_replaced v slot c at value now) slot c now (Done a now)
-    event-replaces at value a held lives d = let does = replace-does cmp f (live_of cmp v) x.op (met_at cmp join code v slot (key_of x.op)) value a held d in record {
+    event-replaces p merges at value a held lives d = let does = replace-does cmp f p (live_of cmp v) x.op (met_at cmp join code v slot (key_of x.op)) value a merges held d in record {
       question = asked_by x;
       was = was-asked;
       effect = (
@@ -493,6 +500,18 @@ event-give_up v slot c now x records h text begin regions = record {
     moment = refl;
   };
 }
+
+-- a merge is open only where the functions merge
+pub merging-at : {K V I : Type 0} {keeps : Bool} {join : V → V → V} {cmp : K → K → Ordering} {code : K → ℕ} (v : CoreView K V I) (merges : Bool) (slot c : ℕ) (x : Context K V I)
+    → IsSound keeps cmp join code v
+    → merges ≡ v.merges
+    → context_at v slot c ≡ Some x
+    → is_merge x.op ≡ true
+    → IsTrue merges
+merging-at v merges slot c x s same h merge =
+    let place = open_at (slots_of v) v.contexts slot c x h in
+    let is = s.merging (slot * 8 + c) x place.here merge in
+    same ∙ is
 
 -- a context that is open and claims nothing
 pub claims-none : {K V I : Type 0} (v : CoreView K V I) (slot c : ℕ) (x : Context K V I) → context_at v slot c ≡ Some x → claim_by x.phase ≡ None → claim_at v.contexts (slot * 8 + c) ≡ None

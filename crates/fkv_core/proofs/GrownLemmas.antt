@@ -34,12 +34,15 @@ use Rattle.fkv_operations.specs.Still.{IsStill}
 use Rattle.fkv_operations.specs.KeptWords.{IsNext}
 use Rattle.fkv_operations.specs.declared.entries.IndexEntry.{IndexEntry}
 use Rattle.fkv_operations.specs.declared.operations.KeyedOp.{KeyedOp}
-use Rattle.fkv_operations.specs.declared.operations.KeyedOp.TheVariants.{Read, Upsert, Rmw, Delete}
+use Rattle.fkv_operations.specs.declared.operations.KeyedOp.TheVariants.{Read, Upsert, Rmw, Delete, Merge}
 use Rattle.fkv_operations.proofs.KeptLemmas.{still-raised}
 use Rattle.fkv_lookups.specs.Lookups.{IsOfClass}
-use Rattle.fkv_lookups.specs.RecordsViews.{RecordsView, class_in, indexed, WasEntryOf, with_record, with_value, with_regions, with_receipt, IsMoved}
+use Rattle.fkv_lookups.specs.RecordsViews.{RecordsView, class_in, indexed, WasEntryOf, with_written, with_value, with_regions, with_receipt, IsMoved}
 use Rattle.fkv_lookups.specs.Traced.{IsTraced}
 use Rattle.fkv_lookups.proofs.TracedLemmas.{begin_rises, from_first}
+use Rattle.fkv_lookups.specs.declared.payloads.Payload.{Payload}
+use Rattle.fkv_lookups.specs.declared.payloads.Payload.TheVariants.{Whole}
+use Rattle.fkv_lookups.specs.Payloads.{value_in, is_part, standing}
 use Rattle.fkv_core.specs.declared.contexts.Phase.{Phase}
 use Rattle.fkv_core.specs.declared.contexts.Phase.TheVariants.{Fresh, Confirm, Prepared, Load}
 use Rattle.fkv_core.specs.declared.contexts.Loading.{Loading}
@@ -197,10 +200,12 @@ stands-grown keeps cmp join code old new (Read k i) (Prepared e s) t g n h = h
 stands-grown keeps cmp join code old new (Upsert k v) (Prepared e s) t g n h = h
 stands-grown keeps cmp join code old new (Rmw k i) (Prepared e s) t g n h = kept-grown keeps cmp join code old new k e s t g h
 stands-grown keeps cmp join code old new (Delete k) (Prepared e s) t g n h = h
+stands-grown keeps cmp join code old new (Merge k i) (Prepared e s) t g n h = h
 stands-grown keeps cmp join code old new (Read k i) (Load l) t g n h = loading-grown keeps cmp join code old new k l t g h
 stands-grown keeps cmp join code old new (Upsert k v) (Load l) t g n h = h
 stands-grown keeps cmp join code old new (Rmw k i) (Load l) t g n h = loading-grown keeps cmp join code old new k l t g h
 stands-grown keeps cmp join code old new (Delete k) (Load l) t g n h = h
+stands-grown keeps cmp join code old new (Merge k i) (Load l) t g n h = h
 
 -- ---- the tail, and the entry that is moved there
 after-most : (bits size a : ℕ) → tail_after bits size a ≤ 2 ^ 48
@@ -345,8 +350,8 @@ module _ {K V : Type 0} {keeps : Bool} (cmp : K → K → Ordering) (join : V �
   frozen-low a low = let o = t.regions.agree.in_order in omega (arith, low, o.safe, t.regions.read_only)
 
   -- a record at the tail
-  pub grown-appended : (e : IndexEntry) (k : K) (value : Option V) → IsPlace v.words e.place → Grows keeps cmp join code v (with_record v e k value)
-  grown-appended e k value place = record {
+  pub grown-appended : (e : IndexEntry) (k : K) (payload : Payload V) (has : Option V) → IsPlace v.words e.place → Grows keeps cmp join code v (with_written v e k payload has)
+  grown-appended e k payload has place = record {
     class = λ q. refl;
     safe = omega arith;
     head = omega arith;
@@ -358,21 +363,24 @@ module _ {K V : Type 0} {keeps : Bool} (cmp : K → K → Ordering) (join : V �
       | inr new ↦ absurd (let at : v.tail ≡ x.address = ap (λ (y : Entry K V). y.address) new.1 in omega arith)
     ];
     tail = tail-up v.page_bits v.record_size v.tail (tail-most v t);
-    kept = λ keeps q a low still. newest-below cmp v.text last q a low;
+    kept = λ keeps q a low still. newest-below cmp v.text stands q a low;
     places = λ p h. (written.places p).1 h;
     held = λ p w f low h. elim (place-or p e.place) [
       | inl here ↦ elim (appended-leads v.words e.place (tag_of e.word) v.tail place (tail-most v t)) [
-        | inl leads ↦ absurd (let same : address_of w ≡ v.tail = ap address_of (sym h ∙ ap (word_at (with_record v e k value).words) here) ∙ leads in omega arith)
-        | inr none ↦ inr (subst (λ u. address_of u < 64) (sym (ap (word_at (with_record v e k value).words) here) ∙ h) none)
+        | inl leads ↦ absurd (let same : address_of w ≡ v.tail = ap address_of (sym h ∙ ap (word_at (with_written v e k payload has).words) here) ∙ leads in omega arith)
+        | inr none ↦ inr (subst (λ u. address_of u < 64) (sym (ap (word_at (with_written v e k payload has).words) here) ∙ h) none)
       ]
       | inr other ↦ inl (sym (written.elsewhere p other) ∙ h)
     ];
   }
     where
       last : Entry K V
-      last = record { address = v.tail; previous = address_of e.word; key = k; value = value; delta = false }
+      last = record { address = v.tail; previous = address_of e.word; key = k; value = value_in payload; delta = is_part payload }
 
-      written : Writes e.place (final_word (tag_of e.word) v.tail) v.words (with_record v e k value).words
+      stands : Entry K V
+      stands = record { address = v.tail; previous = address_of e.word; key = k; value = has; delta = is_part payload }
+
+      written : Writes e.place (final_word (tag_of e.word) v.tail) v.words (with_written v e k payload has).words
       written = writes v.words e.place (final_word (tag_of e.word) v.tail) place
 
   -- a record gets another value where it stands, or becomes a tombstone

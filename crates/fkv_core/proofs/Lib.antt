@@ -16,3 +16,4 @@ pub mod PreservedLemmas
 pub mod SeatLemmas
 pub mod KeptWordLemmas
 mod AtOnceLemmas
+mod MergeLemmas

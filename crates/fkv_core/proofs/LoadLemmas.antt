@@ -23,7 +23,7 @@ use Rattle.fkv_pages.specs.Loads.{IsHeldBy, IsReached, first_place}
 use Rattle.fkv_pages.proofs.FrameLemmas.{page_rises}
 use Rattle.fkv_operations.specs.After.{key_of, shown_of}
 use Rattle.fkv_operations.specs.declared.operations.KeyedOp.{KeyedOp}
-use Rattle.fkv_operations.specs.declared.operations.KeyedOp.TheVariants.{Read, Upsert, Rmw, Delete}
+use Rattle.fkv_operations.specs.declared.operations.KeyedOp.TheVariants.{Read, Upsert, Rmw, Delete, Merge}
 use Rattle.fkv_lookups.specs.RecordsViews.{RecordsView}
 use Rattle.fkv_lookups.specs.Lookups.{IsOfClass, GoesOn, IsGathered, end_of}
 use Rattle.fkv_lookups.proofs.TracedLemmas.{from_first}
@@ -50,6 +50,7 @@ loading-by keeps cmp join code r (Read k i) l h = ((i, inl refl), h)
 loading-by keeps cmp join code r (Upsert k u) l h = absurd h
 loading-by keeps cmp join code r (Rmw k i) l h = ((i, inr refl), h)
 loading-by keeps cmp join code r (Delete k) l h = absurd h
+loading-by keeps cmp join code r (Merge k i) l h = absurd h
 
 -- where the way goes on, a record of the key's class stands
 way-class : {K V : Type 0} (cmp : K → K → Ordering) (join : V → V → V) (code : K → ℕ) (v : RecordsView K V) (k : K) (low a : ℕ) (parts : Option V) (r : Gathered K V) → GoesOn cmp join code v k low a parts r → (b : ℕ) → r.position ≡ Below b → v.from ≤ b → IsOfClass code v k b

@@ -38,9 +38,12 @@ use Rattle.fkv_operations.specs.declared.entries.IndexEntry.{IndexEntry}
 use Rattle.fkv_operations.specs.declared.operations.KeyedOp.{KeyedOp}
 use Rattle.fkv_operations.specs.declared.operations.Answer.{Answer}
 use Rattle.fkv_lookups.specs.declared.decisions.Decision.TheVariants.{Replace}
-use Rattle.fkv_lookups.specs.RecordsViews.{RecordsView, class_in, indexed, with_record, with_value, with_regions, with_receipt, confirmed, released, moved, truncated, ChangesAt, IsReplaceable, IsTruncationDue}
+use Rattle.fkv_lookups.specs.RecordsViews.{RecordsView, class_in, indexed, with_written, with_value, with_regions, with_receipt, confirmed, released, moved, truncated, ChangesAt, IsReplaceable, IsTruncationDue}
 use Rattle.fkv_lookups.specs.Traced.{IsTraced, IsStood}
 use Rattle.fkv_texts.specs.Deltas.{IsCleared}
+use Rattle.fkv_lookups.specs.declared.payloads.Payload.{Payload}
+use Rattle.fkv_lookups.specs.declared.payloads.Payload.TheVariants.{Whole}
+use Rattle.fkv_lookups.specs.Payloads.{value_in, is_part, standing}
 use Rattle.fkv_core.specs.declared.changes.Write.{Write}
 use Rattle.fkv_core.specs.declared.contexts.Context.{Context}
 use Rattle.fkv_core.specs.declared.contexts.Phase.TheVariants.{Confirm}
@@ -56,7 +59,7 @@ use Rattle.fkv_core.specs.Loading.{Loads}
 use Rattle.fkv_core.specs.Looking.{Refreshes, Shifts, Evicts}
 use Rattle.fkv_core.specs.Sound.{IsSound}
 use Rattle.fkv_core.specs.Truncating.{Truncates}
-use Rattle.fkv_core.specs.Views.{CoreView, context_at, with_appended, MovesTo}
+use Rattle.fkv_core.specs.Views.{CoreView, context_at, with_payload, live_of, MovesTo}
 use Rattle.fkv_core.specs.Writes.{IsWrite}
 use Rattle.fkv_core.proofs.AskedLemmas.{position-found}
 use Rattle.fkv_core.proofs.EventLemmas.{kept-entry}
@@ -107,17 +110,17 @@ module _ {K V : Type 0} {keeps : Bool} (cmp : K → K → Ordering) (join : V �
     places = λ p h. h;
   }
 
-  know-record : (e : IndexEntry) (k : K) (value : Option V) → IsPlace v.words e.place
-      → ((limit : ℕ) → limit ≤ v.tail → IsCleared cmp v.entries limit → IsCleared cmp (with_record v e k value).entries limit)
-      → IsGrown keeps cmp v (with_record v e k value)
-  know-record e k value place clears = record {
+  know-record : (e : IndexEntry) (k : K) (payload : Payload V) (has : Option V) → IsPlace v.words e.place
+      → ((limit : ℕ) → limit ≤ v.tail → IsCleared cmp v.entries limit → IsCleared cmp (with_written v e k payload has).entries limit)
+      → IsGrown keeps cmp v (with_written v e k payload has)
+  know-record e k payload has place clears = record {
     shape = record { partition_bits = refl; bucket_bits = refl; page_bits = refl; record_size = refl; frames = refl };
     begin = omega arith;
     tail = tail-up v.page_bits v.record_size v.tail (tail-most v t);
     raised = raised-self v.regions.offsets;
     receipts = λ page s h. h;
     stay = λ a begun low. (let o = t.regions.agree.in_order in let safe = o.safe in let top = t.regions.read_only in
-        entry_at-old v.entries (record { address = v.tail; previous = _; key = k; value = value; delta = false }) a (λ same. omega arith));
+        entry_at-old v.entries (record { address = v.tail; previous = _; key = k; value = value_in payload; delta = is_part payload }) a (λ same. omega arith));
     clear = λ limit low yes_keeps c. clears limit low c;
     places = λ p h. ((writes v.words e.place (final_word (tag_of e.word) v.tail) place).places p).1 h;
   }
@@ -232,10 +235,10 @@ module _ {K V I : Type 0} {keeps : Bool} (cmp : K → K → Ordering) (join : V 
       (tentative-made (word_at (with_word probed i.place w) i.place) (ap is_tentative there ∙ tentative-is (class_in code v.records (key_of x.op)).tag))
       (ap (λ (u : CoreView K V I). u.records) i.is ∙ i.claims.is)
 
-  borne-record : (e : IndexEntry) (k : K) (value : Option V) → IsPlace v.records.words e.place
-      → ((limit : ℕ) → limit ≤ v.records.tail → IsCleared cmp v.records.entries limit → IsCleared cmp (with_record v.records e k value).entries limit)
-      → new.records ≡ with_record v.records e k value → IsPreserved keeps cmp join code v new
-  borne-record e k value at clears is = borne-by (with_record v.records e k value) is (grown-appended cmp join code v.records s.traced e k value at) (know-record cmp join code v.records s.traced e k value at clears)
+  borne-record : (e : IndexEntry) (k : K) (payload : Payload V) (has : Option V) → IsPlace v.records.words e.place
+      → ((limit : ℕ) → limit ≤ v.records.tail → IsCleared cmp v.records.entries limit → IsCleared cmp (with_written v.records e k payload has).entries limit)
+      → new.records ≡ with_written v.records e k payload has → IsPreserved keeps cmp join code v new
+  borne-record e k payload has at clears is = borne-by (with_written v.records e k payload has) is (grown-appended cmp join code v.records s.traced e k payload has at) (know-record cmp join code v.records s.traced e k payload has at clears)
 
   borne-value : (a : ℕ) (value : Option V) → v.records.regions.offsets.safe_read_only ≤ a
       → ((q : K) (b : ℕ) → IsStill v.records.regions.offsets.safe_read_only (newest cmp v.records.text q b) → newest cmp (with_value v.records a value).text q b ≡ newest cmp v.records.text q b)
@@ -259,7 +262,7 @@ module _ {K V I : Type 0} {keeps : Bool} (cmp : K → K → Ordering) (join : V 
   module _ (slot c now : ℕ) where
     pub goes-bear : {O R : Type 0} (stands : R → Standing) (f : Meanings K V I O) (result : Result (Progress K V I O R) Refused)
         → IsKeyOrder cmp
-        → ((e : IndexEntry) (key : K) (value : Option V) (limit : ℕ) → limit ≤ v.records.tail → IsCleared cmp v.records.entries limit → IsCleared cmp (with_record v.records e key value).entries limit)
+        → ((e : IndexEntry) (key : K) (payload : Payload V) (has : Option V) (limit : ℕ) → limit ≤ v.records.tail → IsCleared cmp v.records.entries limit → IsCleared cmp (with_written v.records e key payload has).entries limit)
         → ((x : Context K V I) (value : Option V) (told : Answer O) (e : Entry K V) → Decides cmp join f code v slot c x (Replace value told) → last_of cmp v.records.text (key_of x.op) ≡ Some e
         → IsReplaceable cmp v.records e.address × (v.records.regions.offsets.safe_read_only ≤ e.address))
         → ((a : ℕ) (value : Option V) → IsReplaceable cmp v.records a → v.records.regions.offsets.safe_read_only ≤ a → (q : K) (b : ℕ) → IsStill v.records.regions.offsets.safe_read_only (newest cmp v.records.text q b)
@@ -277,7 +280,7 @@ module _ {K V I : Type 0} {keeps : Bool} (cmp : K → K → Ordering) (join : V 
     goes-bear stands f result order grows met kept clears (Goes.unclaimed x d full is r) = borne-same (ap (λ (u : CoreView K V I). u.records) is)
     goes-bear stands f result order grows met kept clears (Goes.appends x value t e d entry room free is r) =
         let class = class_in code v.records (key_of x.op) in
-        borne-record e (key_of x.op) value (found-place v.records.words class.bucket class.tag e entry) (grows e (key_of x.op) value) (ap (λ (u : CoreView K V I). u.records) is)
+        borne-record e (key_of x.op) value (standing join (live_of cmp v (key_of x.op)) value) (found-place v.records.words class.bucket class.tag e entry) (grows e (key_of x.op) value (standing join (live_of cmp v (key_of x.op)) value)) (ap (λ (u : CoreView K V I). u.records) is)
     goes-bear stands f result order grows met kept clears (Goes.worn x value t d room is r) = borne-same (ap (λ (u : CoreView K V I). u.records) is)
     goes-bear stands f result order grows met kept clears (Goes.full x value t d room is r) = borne-same (ap (λ (u : CoreView K V I). u.records) is)
     goes-bear stands f result order grows met kept clears (Goes.replaces x value t e d last is r) =
@@ -291,7 +294,7 @@ module _ {K V I : Type 0} {keeps : Bool} (cmp : K → K → Ordering) (join : V 
     goes-bear stands f result order grows met kept clears (Goes.unshared x b parts d is r) = borne-same (ap (λ (u : CoreView K V I). u.records) is)
 
     pub installs-bear : {O R : Type 0} (f : Meanings K V I O) (ask : Ask K V I) (result : Result (Progress K V I O R) Refused)
-        → ((e : IndexEntry) (key : K) (value : Option V) (limit : ℕ) → limit ≤ v.records.tail → IsCleared cmp v.records.entries limit → IsCleared cmp (with_record v.records e key value).entries limit)
+        → ((e : IndexEntry) (key : K) (payload : Payload V) (has : Option V) (limit : ℕ) → limit ≤ v.records.tail → IsCleared cmp v.records.entries limit → IsCleared cmp (with_written v.records e key payload has).entries limit)
         → Installs cmp f code v new slot c ask now result
         → IsPreserved keeps cmp join code v new
     installs-bear f ask result grows (Installs.unknown h is r) = borne-same (ap (λ (u : CoreView K V I). u.records) is)
@@ -302,7 +305,7 @@ module _ {K V I : Type 0} {keeps : Bool} (cmp : K → K → Ordering) (join : V 
     installs-bear f ask result grows (Installs.worn x e value h q n u room is r) = borne-same (ap (λ (u : CoreView K V I). u.records) is)
     installs-bear f ask result grows (Installs.full x e value h q n u room is r) = borne-same (ap (λ (u : CoreView K V I). u.records) is)
     installs-bear f ask result grows (Installs.done x e value h q n u room free is r) =
-        borne-record e ask.key _ (kept-entry cmp join code v s slot c x e ask h q n).place (grows e ask.key _) (ap (λ (u : CoreView K V I). u.records) is)
+        borne-record e ask.key (Whole (Some value)) (Some value) (kept-entry cmp join code v s slot c x e ask h q n).place (grows e ask.key (Whole (Some value)) (Some value)) (ap (λ (u : CoreView K V I). u.records) is)
 
     pub loads-bear : {O R : Type 0} (stands : R → Standing) (entry : ℕ → List ℕ → ℕ → Entry K V → Type 0) (f : Meanings K V I O) (came : Result (Joined R) Refused) (result : Result (Progress K V I O R) Refused)
         → Loads stands entry cmp join f v new slot c came now result
@@ -327,7 +330,8 @@ module _ {K V I : Type 0} {keeps : Bool} (cmp : K → K → Ordering) (join : V 
 
   pub issues-bear : (slot c : ℕ) (op : KeyedOp K V I) (now : ℕ) (result : Result (Unit {0}) Refused) → Issues code v new slot c op now result → IsPreserved keeps cmp join code v new
   issues-bear slot c op now result (Issues.stranger n is r) = borne-same (ap (λ (u : CoreView K V I). u.records) is)
-  issues-bear slot c op now result (Issues.issues h low free n is r) = borne-same (ap (λ (u : CoreView K V I). u.records) is)
+  issues-bear slot c op now result (Issues.unmerged own merge lacks is r) = borne-same (ap (λ (u : CoreView K V I). u.records) is)
+  issues-bear slot c op now result (Issues.issues h low free n merges is r) = borne-same (ap (λ (u : CoreView K V I). u.records) is)
 
   pub enters-bear : (now : ℕ) (result : Result ℕ Refused) → Enters v new now result → IsPreserved keeps cmp join code v new
   enters-bear now result (Enters.full h is r) = borne-same (ap (λ (u : CoreView K V I). u.records) is)
@@ -388,9 +392,9 @@ module _ {K V I : Type 0} {keeps : Bool} (cmp : K → K → Ordering) (join : V 
       }
 
 -- a record is appended behind the entry of its class
-pub appends-bear : {K V I : Type 0} {keeps : Bool} (cmp : K → K → Ordering) (join : V → V → V) (code : K → ℕ) (v : CoreView K V I) (s : IsSound keeps cmp join code v) (slot c now : ℕ) (write : Write K V)
-    → ((e : IndexEntry) (key : K) (value : Option V) (limit : ℕ) → limit ≤ v.records.tail → IsCleared cmp v.records.entries limit → IsCleared cmp (with_record v.records e key value).entries limit)
+pub appends-bear : {K V I : Type 0} {keeps : Bool} (cmp : K → K → Ordering) (join : V → V → V) (code : K → ℕ) (v : CoreView K V I) (s : IsSound keeps cmp join code v) (slot c now : ℕ) (write : Write K V) (has : Option V)
+    → ((e : IndexEntry) (key : K) (payload : Payload V) (has : Option V) (limit : ℕ) → limit ≤ v.records.tail → IsCleared cmp v.records.entries limit → IsCleared cmp (with_written v.records e key payload has).entries limit)
     → IsWrite code v write
-    → IsPreserved keeps cmp join code v (with_appended v slot c write.entry write.key write.value now)
-appends-bear cmp join code v s slot c now write grows w =
-    borne-record cmp join code v s (with_appended v slot c write.entry write.key write.value now) write.entry write.key write.value w.entry.place (grows write.entry write.key write.value) refl
+    → IsPreserved keeps cmp join code v (with_payload v slot c write.entry write.key write.payload has now)
+appends-bear cmp join code v s slot c now write has grows w =
+    borne-record cmp join code v s (with_payload v slot c write.entry write.key write.payload has now) write.entry write.key write.payload has w.entry.place (grows write.entry write.key write.payload has) refl

@@ -25,7 +25,7 @@ use Rattle.fkv_core.specs.Flushing.{Flushes}
 use Rattle.fkv_core.specs.Loading.{Loads}
 use Rattle.fkv_core.specs.Truncating.{Truncates}
 use Rattle.fkv_core.specs.Grown.{NoneOpens, AllStay}
-use Rattle.fkv_core.specs.Views.{CoreView, slots_of, context_at, with_appended, MovesTo}
+use Rattle.fkv_core.specs.Views.{CoreView, slots_of, context_at, with_payload, MovesTo}
 use Rattle.fkv_core.proofs.AskedLemmas.{open_at, renewed-stays}
 
 -- ---- lists of places
@@ -143,7 +143,8 @@ module _ {K V I : Type 0} (v new : CoreView K V I) where
     pub issues-seats : (code : K → ℕ) (op : KeyedOp K V I) (result : Result (Unit {0}) Refused) → Issues code v new slot c op now result
         → ((p : ℕ) → p ≢ slot * 8 + c → joined (slice_get v.contexts p) ≡ None → joined (slice_get new.contexts p) ≡ None) × AllStay v new
     issues-seats code op result (Issues.stranger n is r) = (λ p other. (seats-as is).0 p, (seats-as is).1)
-    issues-seats code op result (Issues.issues h low free n is r) = (
+    issues-seats code op result (Issues.unmerged own merge lacks is r) = (λ p other. (seats-as is).0 p, (seats-as is).1)
+    issues-seats code op result (Issues.issues h low free n merges is r) = (
       λ p other none. ap (λ (u : CoreView K V I). joined (slice_get u.contexts p)) is ∙ none-other v.contexts (slot * 8 + c) p _ other none,
       all-stay (ap (λ (u : CoreView K V I). slots_of u) is),
     )
@@ -189,5 +190,5 @@ module _ {K V I : Type 0} (v new : CoreView K V I) where
   truncates-seats keeps page now result (Truncates.truncates due is r) = seats-same (ap (λ (u : CoreView K V I). u.contexts) is) (ap (λ (u : CoreView K V I). slots_of u) is)
 
 -- a record is appended, and the context is freed
-pub appends-seats : {K V I : Type 0} (v : CoreView K V I) (slot c now : ℕ) (write : Write K V) → Seats v (with_appended v slot c write.entry write.key write.value now)
-appends-seats v slot c now write = seats-freed v (with_appended v slot c write.entry write.key write.value now) slot c refl refl
+pub appends-seats : {K V I : Type 0} (v : CoreView K V I) (slot c now : ℕ) (write : Write K V) (has : Option V) → Seats v (with_payload v slot c write.entry write.key write.payload has now)
+appends-seats v slot c now write has = seats-freed v (with_payload v slot c write.entry write.key write.payload has now) slot c refl refl

@@ -18,9 +18,11 @@ use Rattle.fkv_index.specs.Words.{address_of, is_tentative, is_final}
 use Rattle.fkv_index.specs.Places.{word_at}
 use Rattle.fkv_index.specs.Changes.{SameTentative}
 use Rattle.fkv_index.proofs.WordFacts.{final_not_tentative}
-use Rattle.fkv_operations.specs.After.{key_of}
-use Rattle.fkv_lookups.specs.RecordsViews.{RecordsView, class_in, IsEntryOf, with_record, with_value, with_regions, with_receipt, IsMoved}
+use Rattle.fkv_operations.specs.After.{key_of, is_merge}
+use Rattle.fkv_lookups.specs.RecordsViews.{RecordsView, class_in, IsEntryOf, with_written, with_value, with_regions, with_receipt, IsMoved}
 use Rattle.fkv_lookups.specs.RecordsViews.{ChangesAt}
+use Rattle.fkv_lookups.specs.declared.payloads.Payload.{Payload}
+use Rattle.fkv_lookups.specs.Payloads.{value_in, is_part}
 use Rattle.fkv_lookups.specs.Traced.{IsTraced, IsStood}
 use Rattle.fkv_operations.specs.Still.{IsStill}
 use Rattle.fkv_operations.specs.declared.entries.IndexEntry.{IndexEntry}
@@ -29,7 +31,7 @@ use Rattle.fkv_core.specs.declared.contexts.Context.{Context}
 use Rattle.fkv_core.specs.declared.contexts.Phase.TheVariants.{Confirm}
 use Rattle.fkv_core.specs.Contexts.{joined, is_session, at_phase, claim_by, claim_of, claim_at}
 use Rattle.fkv_core.specs.Claiming.{AreOwned}
-use Rattle.fkv_core.specs.Views.{CoreView, slots_of, empty_core, partition_of, with_context, with_appended, with_replaced, in_regions}
+use Rattle.fkv_core.specs.Views.{CoreView, slots_of, empty_core, partition_of, with_context, with_payload, with_replaced, in_regions}
 use Rattle.fkv_core.specs.Sound.{StandsFor, IsSound}
 use Rattle.fkv_functions.proofs.ListLemmas.{get-set_cases, get-set_same, get-set_other, get-append_cases}
 use Rattle.fkv_texts.proofs.ChangeLemmas.{was_at, set_at-key}
@@ -41,10 +43,10 @@ set-at xs i y x was is = let set : slice_get (slice_set xs i y) i ≡ Some y = g
 
 -- ---- whole partitions
 module _ {K V I : Type 0} {keeps : Bool} {cmp : K → K → Ordering} {join : V → V → V} {code : K → ℕ} where
-  pub sound-empty : (config : Config) (size number : ℕ) → number < 2 ^ config.partition_bits → IsTraced {V = V} keeps code (empty_core {I = I} config size number).records
-      → IsStood cmp join (empty_core {I = I} config size number).records
-      → ((q : Place) → is_tentative (word_at (empty_core {K = K} {V = V} {I = I} config size number).records.words q) ≡ false) → IsSound {V = V} {I = I} keeps cmp join code (empty_core config size number)
-  sound-empty config size number h traced stood quiet = record {
+  pub sound-empty : (merges : Bool) (config : Config) (size number : ℕ) → number < 2 ^ config.partition_bits → IsTraced {V = V} keeps code (empty_core {I = I} merges config size number).records
+      → IsStood cmp join (empty_core {I = I} merges config size number).records
+      → ((q : Place) → is_tentative (word_at (empty_core {K = K} {V = V} {I = I} merges config size number).records.words q) ≡ false) → IsSound {V = V} {I = I} keeps cmp join code (empty_core merges config size number)
+  sound-empty merges config size number h traced stood quiet = record {
     own = h;
     counted = refl;
     places = refl;
@@ -58,6 +60,7 @@ module _ {K V I : Type 0} {keeps : Bool} {cmp : K → K → Ordering} {join : V 
     };
     routed = λ i e k. absurd (cc);
     asked = λ p x e. absurd (none_in 128 p x e);
+    merging = λ p x e. absurd (none_in 128 p x e);
     housed = λ slot c x h e. absurd (none_in 128 (slot * 8 + c) x e);
   }
     where
@@ -73,7 +76,7 @@ module _ {K V I : Type 0} {keeps : Bool} {cmp : K → K → Ordering} {join : V 
 
   module _ {v : CoreView K V I} (s : IsSound keeps cmp join code v) where
     pub sound-moment : (now : ℕ) → IsSound keeps cmp join code (record v { moment = now })
-    sound-moment now = record { own = s.own; counted = s.counted; places = s.places; traced = s.traced; stood = s.stood; stands = s.stands; owned = s.owned; routed = s.routed; asked = s.asked; housed = s.housed }
+    sound-moment now = record { own = s.own; counted = s.counted; places = s.places; traced = s.traced; stood = s.stood; stands = s.stands; owned = s.owned; routed = s.routed; asked = s.asked; merging = s.merging; housed = s.housed }
 
     -- the regions move, sessions come and go, and none with an open operation goes
     pub sound-regions : (regions : RegionsView) (now : ℕ)
@@ -92,6 +95,7 @@ module _ {K V I : Type 0} {keeps : Bool} {cmp : K → K → Ordering} {join : V 
       owned = s.owned;
       routed = s.routed;
       asked = s.asked;
+      merging = s.merging;
       housed = housed;
     }
 
@@ -115,6 +119,7 @@ module _ {K V I : Type 0} {keeps : Bool} {cmp : K → K → Ordering} {join : V 
           let was = filter-in (λ (d : Entry K V). nat_le low d.address) v.records.entries i e (ap (λ (w : RecordsView K V). slice_get w.entries i) (sym m.is) ∙ h) in
           s.routed was.0.place e was.0.here;
       asked = s.asked;
+      merging = s.merging;
       housed = housed;
     }
       where
@@ -133,6 +138,7 @@ module _ {K V I : Type 0} {keeps : Bool} {cmp : K → K → Ordering} {join : V 
       owned = s.owned;
       routed = s.routed;
       asked = s.asked;
+      merging = s.merging;
       housed = s.housed;
     }
 
@@ -140,6 +146,7 @@ module _ {K V I : Type 0} {keeps : Bool} {cmp : K → K → Ordering} {join : V 
     pub record Fits (r : RecordsView K V) (slot c : ℕ) (x : Context K V I) : Type 0 where
       pub stands : StandsFor keeps cmp join code r x.op x.phase
       pub own : partition_of v.count (code (key_of x.op)) ≡ v.number
+      pub merging : is_merge x.op ≡ true → v.merges ≡ true
       pub inside : is_session (slots_of v) slot ≡ true
       pub low : c < 8
 
@@ -171,6 +178,10 @@ module _ {K V I : Type 0} {keeps : Bool} {cmp : K → K → Ordering} {join : V 
       asked = λ p x h. elim (get-set_cases v.contexts (slot * 8 + c) p y (Some x) h) [
         | inl e ↦ (fits x e.1).own
         | inr o ↦ s.asked p x o
+      ];
+      merging = λ p x h. elim (get-set_cases v.contexts (slot * 8 + c) p y (Some x) h) [
+        | inl e ↦ (fits x e.1).merging
+        | inr o ↦ s.merging p x o
       ];
       housed = λ t d x h e. elim (get-set_cases v.contexts (slot * 8 + c) (t * 8 + d) y (Some x) e) [
         | inl p ↦ (let f = fits x p.1 in
@@ -269,17 +280,17 @@ module _ {K V I : Type 0} {keeps : Bool} {cmp : K → K → Ordering} {join : V 
         }) fits
 
     -- a record at the tail, of a key that belongs here
-    pub sound-appended : (slot c now : ℕ) (e : IndexEntry) (k : K) (value : Option V)
+    pub sound-appended : (slot c now : ℕ) (e : IndexEntry) (k : K) (payload : Payload V) (has : Option V)
         → claim_at v.contexts (slot * 8 + c) ≡ None
         → IsEntryOf v.records (class_in code v.records k) e
-        → IsTraced keeps code (with_record v.records e k value)
-        → IsStood cmp join (with_record v.records e k value)
-        → ChangesAt e.place v.records.words (with_record v.records e k value).words
-        → SameTentative v.records.words (with_record v.records e k value).words
+        → IsTraced keeps code (with_written v.records e k payload has)
+        → IsStood cmp join (with_written v.records e k payload has)
+        → ChangesAt e.place v.records.words (with_written v.records e k payload has).words
+        → SameTentative v.records.words (with_written v.records e k payload has).words
         → partition_of v.count (code k) ≡ v.number
-        → IsSound keeps cmp join code (with_appended v slot c e k value now)
-    sound-appended slot c now e k value old entry traced stood words same own =
-        sound-changed (with_record v.records e k value) slot c now None (record {
+        → IsSound keeps cmp join code (with_payload v slot c e k payload has now)
+    sound-appended slot c now e k payload has old entry traced stood words same own =
+        sound-changed (with_written v.records e k payload has) slot c now None (record {
           traced = traced;
           stood = stood;
           bits = refl;
@@ -288,13 +299,13 @@ module _ {K V I : Type 0} {keeps : Bool} {cmp : K → K → Ordering} {join : V 
             | inl was ↦ s.routed i x was
             | inr new ↦ subst (λ (y : Entry K V). partition_of v.count (code y.key) ≡ v.number) new.1 own
           ];
-          others = others-stand (with_record v.records e k value) slot c e.place (grown-appended cmp join code v.records s.traced e k value entry.place) words
+          others = others-stand (with_written v.records e k payload has) slot c e.place (grown-appended cmp join code v.records s.traced e k payload has entry.place) words
               (λ p n h. (let no = sym (final_not_tentative (word_at v.records.words e.place) (ap is_final entry.word ∙ entry.final)) ∙ s.owned.tentative p e.place h in absurd (cc)));
-          owned = owned-quiet v.records.words (with_record v.records e k value).words v.contexts (slot * 8 + c) None s.owned same old refl;
+          owned = owned-quiet v.records.words (with_written v.records e k payload has).words v.contexts (slot * 8 + c) None s.owned same old refl;
         }) (λ y h. absurd (cc))
       where
         last : Entry K V
-        last = record { address = v.records.tail; previous = address_of e.word; key = k; value = value; delta = false }
+        last = record { address = v.records.tail; previous = address_of e.word; key = k; value = value_in payload; delta = is_part payload }
 
     -- a record gets another value where it stands, or becomes a tombstone
     pub sound-replaced : (slot c now a : ℕ) (value : Option V)

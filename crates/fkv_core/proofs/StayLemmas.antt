@@ -15,17 +15,20 @@ use Rattle.fkv_operations.specs.After.{key_of}
 use Rattle.fkv_operations.specs.Still.{IsStill}
 use Rattle.fkv_operations.specs.declared.entries.IndexEntry.{IndexEntry}
 use Rattle.fkv_operations.specs.declared.operations.KeyedOp.{KeyedOp}
-use Rattle.fkv_operations.specs.declared.operations.KeyedOp.TheVariants.{Read, Upsert, Rmw, Delete}
+use Rattle.fkv_operations.specs.declared.operations.KeyedOp.TheVariants.{Read, Upsert, Rmw, Delete, Merge}
 use Rattle.fkv_operations.specs.declared.operations.Answer.{Answer}
-use Rattle.fkv_lookups.specs.RecordsViews.{RecordsView, with_record, with_value, with_receipt, released}
+use Rattle.fkv_lookups.specs.RecordsViews.{RecordsView, with_written, with_value, with_receipt, released}
 use Rattle.fkv_lookups.specs.declared.decisions.Decision.TheVariants as decided
+use Rattle.fkv_lookups.specs.declared.payloads.Payload.{Payload}
+use Rattle.fkv_lookups.specs.declared.payloads.Payload.TheVariants.{Whole}
+use Rattle.fkv_lookups.specs.Payloads.{value_in, is_part, standing}
 use Rattle.fkv_core.specs.declared.contexts.Context.{Context}
 use Rattle.fkv_core.specs.declared.contexts.Loading.{Loading}
 use Rattle.fkv_core.specs.declared.contexts.Phase.{Phase}
 use Rattle.fkv_core.specs.declared.contexts.Phase.TheVariants.{Fresh, Confirm, Prepared, Load}
 use Rattle.fkv_core.specs.declared.contexts.Progress.{Progress}
 use Rattle.fkv_core.specs.Contexts.{joined, context_in}
-use Rattle.fkv_core.specs.Views.{CoreView, slots_of, context_at, with_context, in_regions, MovesTo}
+use Rattle.fkv_core.specs.Views.{CoreView, slots_of, context_at, with_context, in_regions, live_of, MovesTo}
 use Rattle.fkv_core.specs.Sound.{IsLoading, StandsFor, IsSound}
 use Rattle.fkv_core.specs.Beginning.{Enters, Issues}
 use Rattle.fkv_core.specs.Ending.{Leaves, GivesUp}
@@ -80,6 +83,7 @@ pending-kept cmp join code r s (Read k i) (Load l) yes_keeps begin kept h = load
 pending-kept cmp join code r s (Upsert k u) (Load l) yes_keeps begin kept h = absurd h
 pending-kept cmp join code r s (Rmw k i) (Load l) yes_keeps begin kept h = loads-same cmp join code r s (Rmw k i) l yes_keeps begin kept h
 pending-kept cmp join code r s (Delete k) (Load l) yes_keeps begin kept h = absurd h
+pending-kept cmp join code r s (Merge k i) (Load l) yes_keeps begin kept h = absurd h
 
 module _ {K V I : Type 0} {keeps : Bool} (cmp : K → K → Ordering) (join : V → V → V) (code : K → ℕ) (v : CoreView K V I) (s : IsSound keeps cmp join code v) (yes_keeps : IsTrue keeps) where
   all-kept : (r : RecordsView K V) → r.begin ≡ v.records.begin → KeepsStill cmp v.records r → (t d : ℕ) → pending_of cmp r (context_at v t d) ≡ pending_of cmp v.records (context_at v t d)
@@ -111,7 +115,7 @@ module _ {K V I : Type 0} {keeps : Bool} (cmp : K → K → Ordering) (join : V 
     reworded x h y r words is = as-others new _ slot c is (changed-others slot c now x h y r (ap (λ (w : RecordsView K V). w.begin) words) (ap (λ (w : RecordsView K V). w.regions) words) (λ k a low still. ap (λ (w : RecordsView K V). newest cmp w.text k a) words))
 
     pub goes-others : {O R : Type 0} (stands : R → Standing) (f : Meanings K V I O) (result : Result (Progress K V I O R) Refused)
-        → ((e : IndexEntry) (key : K) (value : Option V) (k : K) (a : ℕ) → a < v.records.tail → newest cmp (with_record v.records e key value).text k a ≡ newest cmp v.records.text k a)
+        → ((e : IndexEntry) (key : K) (payload : Payload V) (has : Option V) (k : K) (a : ℕ) → a < v.records.tail → newest cmp (with_written v.records e key payload has).text k a ≡ newest cmp v.records.text k a)
         → ((x : Context K V I) (value : Option V) (told : Answer O) (e : Entry K V) → Decides cmp join f code v slot c x (decided.Replace value told) → last_of cmp v.records.text (key_of x.op) ≡ Some e → KeepsStill cmp v.records (with_value v.records e.address value))
         → Goes stands cmp join f code v new slot c now result
         → OthersPend cmp v new slot c
@@ -123,7 +127,7 @@ module _ {K V I : Type 0} {keeps : Bool} (cmp : K → K → Ordering) (join : V 
     goes-others stands f result grows changes (Goes.done x t d is r) = set x d.here None is
     goes-others stands f result grows changes (Goes.claims x d is r) = reworded x d.here _ is.records (is.claims.is ∙ ap (λ (w : RecordsView K V). record v.records { words = w.words }) (sym is.claims.is)) is.is
     goes-others stands f result grows changes (Goes.unclaimed x d full is r) = as-others new v slot c is (λ t d o. refl)
-    goes-others stands f result grows changes (Goes.appends x value t e d entry room free is r) = as-others new _ slot c is (changed-others slot c now x d.here None (with_record v.records e (key_of x.op) value) refl refl (λ k a low still. grows e (key_of x.op) value k a low))
+    goes-others stands f result grows changes (Goes.appends x value t e d entry room free is r) = as-others new _ slot c is (changed-others slot c now x d.here None (with_written v.records e (key_of x.op) value (standing join (live_of cmp v (key_of x.op)) value)) refl refl (λ k a low still. grows e (key_of x.op) value (standing join (live_of cmp v (key_of x.op)) value) k a low))
     goes-others stands f result grows changes (Goes.worn x value t d room is r) = as-others new v slot c is (λ t d o. refl)
     goes-others stands f result grows changes (Goes.full x value t d room is r) = as-others new _ slot c is (λ t d o. refl)
     goes-others stands f result grows changes (Goes.replaces x value t e d last is r) = as-others new _ slot c is (changed-others slot c now x d.here None (with_value v.records e.address value) refl refl (changes x value t e d last))
@@ -133,7 +137,7 @@ module _ {K V I : Type 0} {keeps : Bool} (cmp : K → K → Ordering) (join : V 
     goes-others stands f result grows changes (Goes.unshared x b parts d is r) = as-others new v slot c is (λ t d o. refl)
 
     pub installs-others : {O R : Type 0} (f : Meanings K V I O) (ask : Ask K V I) (result : Result (Progress K V I O R) Refused)
-        → ((e : IndexEntry) (key : K) (value : Option V) (k : K) (a : ℕ) → a < v.records.tail → newest cmp (with_record v.records e key value).text k a ≡ newest cmp v.records.text k a)
+        → ((e : IndexEntry) (key : K) (payload : Payload V) (has : Option V) (k : K) (a : ℕ) → a < v.records.tail → newest cmp (with_written v.records e key payload has).text k a ≡ newest cmp v.records.text k a)
         → Installs cmp f code v new slot c ask now result
         → OthersPend cmp v new slot c
     installs-others f ask result grows (Installs.unknown h is r) = as-others new v slot c is (λ t d o. refl)
@@ -143,7 +147,7 @@ module _ {K V I : Type 0} {keeps : Bool} (cmp : K → K → Ordering) (join : V 
     installs-others f ask result grows (Installs.declined x e h q n u is r) = set x h _ is
     installs-others f ask result grows (Installs.worn x e value h q n u room is r) = as-others new v slot c is (λ t d o. refl)
     installs-others f ask result grows (Installs.full x e value h q n u room is r) = as-others new _ slot c is (λ t d o. refl)
-    installs-others f ask result grows (Installs.done x e value h q n u room free is r) = as-others new _ slot c is (changed-others slot c now x h None (with_record v.records e ask.key _) refl refl (λ k a low still. grows e ask.key _ k a low))
+    installs-others f ask result grows (Installs.done x e value h q n u room free is r) = as-others new _ slot c is (changed-others slot c now x h None (with_written v.records e ask.key (Whole (Some value)) (Some value)) refl refl (λ k a low still. grows e ask.key (Whole (Some value)) (Some value) k a low))
 
 -- ---- pages move
 pub moved-all : {K V I : Type 0} (keeps : Bool) (cmp : K → K → Ordering) (regions : RegionsView) (old new : CoreView K V I) (now : ℕ) → IsTrue keeps → MovesTo keeps regions old new now
@@ -201,7 +205,8 @@ enters-all cmp join code old new now result s (Enters.enters slot h is r) = λ t
 -- a context that was free holds an operation that has not begun
 pub issues-all : {K V I : Type 0} (cmp : K → K → Ordering) (join : V → V → V) (code : K → ℕ) (old new : CoreView K V I) (slot c : ℕ) (op : KeyedOp K V I) (now : ℕ) (result : Result (Unit {0}) Refused) → Issues code old new slot c op now result → AllPend cmp old new
 issues-all cmp join code old new slot c op now result (Issues.stranger n is r) = as-all cmp old new is
-issues-all {K} {V} {I} cmp join code old new slot c op now result (Issues.issues h low free n is r) = λ t d. ap (λ (w : CoreView K V I). pending cmp w t d) is ∙ elim (same_or t slot) [
+issues-all cmp join code old new slot c op now result (Issues.unmerged own merge lacks is r) = as-all cmp old new is
+issues-all {K} {V} {I} cmp join code old new slot c op now result (Issues.issues h low free n merges is r) = λ t d. ap (λ (w : CoreView K V I). pending cmp w t d) is ∙ elim (same_or t slot) [
   | inl e ↦ elim (same_or d c) [
     | inl f ↦ rw (e, f) (by_context (context_at (with_context old slot c fresh now) slot c) refl ∙ sym (ap (pending_of cmp old.records) free))
     | inr m ↦ ap (pending_of cmp old.records) (context-other (slots_of old) old.contexts slot c t d fresh low (inr m))
@@ -274,7 +279,7 @@ as-frozen old new u is h = λ a low. ap (λ (w : CoreView _ _ _). entry_at w.rec
 
 module _ {K V I : Type 0} (cmp : K → K → Ordering) (join : V → V → V) (code : K → ℕ) (old new : CoreView K V I) (slot c now : ℕ) where
   pub goes-frozen : {O R : Type 0} (stands : R → Standing) (f : Meanings K V I O) (result : Result (Progress K V I O R) Refused)
-      → ((e : IndexEntry) (key : K) (value : Option V) (a : ℕ) → a < old.records.regions.offsets.safe_read_only → entry_at (with_record old.records e key value).entries a ≡ entry_at old.records.entries a)
+      → ((e : IndexEntry) (key : K) (payload : Payload V) (has : Option V) (a : ℕ) → a < old.records.regions.offsets.safe_read_only → entry_at (with_written old.records e key payload has).entries a ≡ entry_at old.records.entries a)
       → ((x : Context K V I) (value : Option V) (told : Answer O) (e : Entry K V) → Decides cmp join f code old slot c x (decided.Replace value told) → last_of cmp old.records.text (key_of x.op) ≡ Some e
       → (a : ℕ) → a < old.records.regions.offsets.safe_read_only → entry_at (with_value old.records e.address value).entries a ≡ entry_at old.records.entries a)
       → Goes stands cmp join f code old new slot c now result
@@ -287,7 +292,7 @@ module _ {K V I : Type 0} (cmp : K → K → Ordering) (join : V → V → V) (c
   goes-frozen stands f result grows changes (Goes.done x t d is r) = as-frozen old new _ is (λ a low. refl)
   goes-frozen stands f result grows changes (Goes.claims x d is r) = as-frozen old new _ is.is (λ a low. ap (λ (w : RecordsView K V). entry_at w.entries a) is.claims.is)
   goes-frozen stands f result grows changes (Goes.unclaimed x d full is r) = as-frozen old new _ is (λ a low. refl)
-  goes-frozen stands f result grows changes (Goes.appends x value t e d entry room free is r) = as-frozen old new _ is (λ a low. grows e (key_of x.op) value a low)
+  goes-frozen stands f result grows changes (Goes.appends x value t e d entry room free is r) = as-frozen old new _ is (λ a low. grows e (key_of x.op) value (standing join (live_of cmp old (key_of x.op)) value) a low)
   goes-frozen stands f result grows changes (Goes.worn x value t d room is r) = as-frozen old new _ is (λ a low. refl)
   goes-frozen stands f result grows changes (Goes.full x value t d room is r) = as-frozen old new _ is (λ a low. refl)
   goes-frozen stands f result grows changes (Goes.replaces x value t e d last is r) = as-frozen old new _ is (λ a low. changes x value t e d last a low)
@@ -297,7 +302,7 @@ module _ {K V I : Type 0} (cmp : K → K → Ordering) (join : V → V → V) (c
   goes-frozen stands f result grows changes (Goes.unshared x b parts d is r) = as-frozen old new _ is (λ a low. refl)
 
   pub installs-frozen : {O R : Type 0} (f : Meanings K V I O) (ask : Ask K V I) (result : Result (Progress K V I O R) Refused)
-      → ((e : IndexEntry) (key : K) (value : Option V) (a : ℕ) → a < old.records.regions.offsets.safe_read_only → entry_at (with_record old.records e key value).entries a ≡ entry_at old.records.entries a)
+      → ((e : IndexEntry) (key : K) (payload : Payload V) (has : Option V) (a : ℕ) → a < old.records.regions.offsets.safe_read_only → entry_at (with_written old.records e key payload has).entries a ≡ entry_at old.records.entries a)
       → Installs cmp f code old new slot c ask now result
       → FrozenStay old new
   installs-frozen f ask result grows (Installs.unknown h is r) = as-frozen old new _ is (λ a low. refl)
@@ -307,4 +312,4 @@ module _ {K V I : Type 0} (cmp : K → K → Ordering) (join : V → V → V) (c
   installs-frozen f ask result grows (Installs.declined x e h q n u is r) = as-frozen old new _ is (λ a low. refl)
   installs-frozen f ask result grows (Installs.worn x e value h q n u room is r) = as-frozen old new _ is (λ a low. refl)
   installs-frozen f ask result grows (Installs.full x e value h q n u room is r) = as-frozen old new _ is (λ a low. refl)
-  installs-frozen f ask result grows (Installs.done x e value h q n u room free is r) = as-frozen old new _ is (λ a low. grows e ask.key _ a low)
+  installs-frozen f ask result grows (Installs.done x e value h q n u room free is r) = as-frozen old new _ is (λ a low. grows e ask.key (Whole (Some value)) (Some value) a low)

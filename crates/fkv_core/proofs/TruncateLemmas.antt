@@ -27,7 +27,7 @@ use Rattle.fkv_operations.specs.KeptWords.{IsCut, IsNext}
 use Rattle.fkv_operations.specs.KeptWords.IsCut.{dropped, passed}
 use Rattle.fkv_operations.specs.declared.entries.IndexEntry.{IndexEntry}
 use Rattle.fkv_operations.specs.declared.operations.KeyedOp.{KeyedOp}
-use Rattle.fkv_operations.specs.declared.operations.KeyedOp.TheVariants.{Read, Upsert, Rmw, Delete}
+use Rattle.fkv_operations.specs.declared.operations.KeyedOp.TheVariants.{Read, Upsert, Rmw, Delete, Merge}
 use Rattle.fkv_lookups.specs.RecordsViews.{RecordsView, class_in, indexed, IsEntryOf, WasEntryOf, truncated}
 use Rattle.fkv_lookups.specs.Traced.{IsTraced, IsStood}
 use Rattle.fkv_texts.specs.Deltas.{having, stood, AreValued, IgnoresValues, IsCovered, IsCleared}
@@ -330,10 +330,12 @@ module _ {K V : Type 0} {keeps : Bool} (cmp : K → K → Ordering) (join : V �
   stands-cut (Upsert k u) (Prepared e s) h = h
   stands-cut (Rmw k i) (Prepared e s) h = kept-cut k e s h
   stands-cut (Delete k) (Prepared e s) h = h
+  stands-cut (Merge k i) (Prepared e s) h = h
   stands-cut (Read k i) (Load l) h = loading-cut k l h
   stands-cut (Upsert k u) (Load l) h = h
   stands-cut (Rmw k i) (Load l) h = loading-cut k l h
   stands-cut (Delete k) (Load l) h = h
+  stands-cut (Merge k i) (Load l) h = h
 
 -- ---- a whole partition
 module _ {K V I : Type 0} {keeps : Bool} (cmp : K → K → Ordering) (join : V → V → V) (code : K → ℕ) (order : IsKeyOrder cmp) (v : CoreView K V I) (s : IsSound keeps cmp join code v) (low now : ℕ) (up : v.records.begin < low) (clear : IsTrue keeps → IsCleared cmp v.records.entries low) (text : List (Entry K V)) (cut : IsTraced keeps code (truncated keeps v.records low text)) (cut_stood : IsStood cmp join (truncated keeps v.records low text)) where
@@ -354,6 +356,7 @@ module _ {K V I : Type 0} {keeps : Bool} (cmp : K → K → Ordering) (join : V 
         let was = filter-in (λ (d : Entry K V). nat_le (text_begin keeps low v.records.regions.offsets.closed) d.address) v.records.entries i e h in
         s.routed was.0.place e was.0.here;
     asked = s.asked;
+    merging = s.merging;
     housed = s.housed;
   }
     where
@@ -376,6 +379,7 @@ module _ {K V I : Type 0} {keeps : Bool} (cmp : K → K → Ordering) (join : V 
   none-pends (Rmw k i) (Load l) h = none-waits (Rmw k i) l h.past
   none-pends (Upsert k u) (Load l) h = absurd h
   none-pends (Delete k) (Load l) h = absurd h
+  none-pends (Merge k i) (Load l) h = absurd h
 
   pub none-pending : (t d : ℕ) → pending_of cmp (truncated keeps v.records low text) (context_at v t d) ≡ None
   none-pending t d = by_context (context_at v t d) refl

@@ -1,10 +1,10 @@
--- What `enter`, `issue` and `issue` do: a rule for each case, in the order of the tests.
-use Rattle.std.specs.Prelude.{◌≡◌, ◌≢◌, ◌<◌, true, ℕ, Some, None, Result, Ok, Err}
+-- What `enter` and `issue` do: a rule for each case, in the order of the tests.
+use Rattle.std.specs.Prelude.{◌≡◌, ◌≢◌, ◌<◌, true, false, ℕ, Some, None, Result, Ok, Err}
 use Rattle.fkv_functions.specs.declared.refusals.Refused.{Refused}
-use Rattle.fkv_functions.specs.declared.refusals.Refused.TheVariants.{NoSlot, Stranger}
+use Rattle.fkv_functions.specs.declared.refusals.Refused.TheVariants.{NoSlot, Stranger, NoMerge}
 use Rattle.fkv_functions.specs.declared.refusals.What.TheVariants.{Partition}
 use Rattle.fkv_regions.specs.RegionsView.{entered}
-use Rattle.fkv_operations.specs.After.{key_of}
+use Rattle.fkv_operations.specs.After.{key_of, is_merge}
 use Rattle.fkv_operations.specs.declared.operations.KeyedOp.{KeyedOp}
 use Rattle.fkv_core.specs.declared.contexts.Phase.TheVariants.{Fresh}
 use Rattle.fkv_core.specs.Contexts.{is_session}
@@ -30,10 +30,17 @@ pub data Issues {K V I : Type 0} (code : K → ℕ) (old new : CoreView K V I) (
       → new ≡ old
       → result ≡ Err (Stranger Partition old.number (partition_of old.count (code (key_of op))))
       → Issues code old new slot c op now result
+  unmerged : partition_of old.count (code (key_of op)) ≡ old.number
+      → is_merge op ≡ true
+      → old.merges ≡ false
+      → new ≡ old
+      → result ≡ Err NoMerge
+      → Issues code old new slot c op now result
   issues : IsEntered old slot
       → c < 8
       → context_at old slot c ≡ None
       → partition_of old.count (code (key_of op)) ≡ old.number
+      → (is_merge op ≡ true → old.merges ≡ true)
       → new ≡ with_context old slot c (Some (record { number = now; op = op; phase = Fresh })) now
       → result ≡ Ok tt
       → Issues code old new slot c op now result

@@ -5,7 +5,7 @@ use Rattle.fkv_functions.specs.declared.asks.Ask.{Ask}
 use Rattle.fkv_index.specs.declared.places.Place.{Place}
 use Rattle.fkv_operations.specs.declared.entries.IndexEntry.{IndexEntry}
 use Rattle.fkv_operations.specs.declared.operations.KeyedOp.{KeyedOp}
-use Rattle.fkv_operations.specs.declared.operations.KeyedOp.TheVariants.{Read, Upsert, Rmw, Delete}
+use Rattle.fkv_operations.specs.declared.operations.KeyedOp.TheVariants.{Read, Upsert, Rmw, Delete, Merge}
 use Rattle.fkv_core.specs.declared.contexts.Context.{Context}
 use Rattle.fkv_core.specs.declared.contexts.Phase.{Phase}
 use Rattle.fkv_core.specs.declared.contexts.Phase.TheVariants.{Fresh, Confirm, Prepared, Load}
@@ -37,6 +37,7 @@ question_by n op (Load l) = None
 question_by n (Read k i) (Prepared e s) = None
 question_by n (Upsert k v) (Prepared e s) = None
 question_by n (Delete k) (Prepared e s) = None
+question_by n (Merge k i) (Prepared e s) = None
 question_by n (Rmw k i) (Prepared e s) = Some (e, record { number = n; key = k; source = s; input = i })
 
 abbrev pub question_in : {K V I : Type 0} → Context K V I → Option (IndexEntry × Ask K V I)

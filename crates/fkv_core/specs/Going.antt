@@ -22,6 +22,8 @@ use Rattle.fkv_operations.specs.declared.operations.Answer.{Answer}
 use Rattle.fkv_lookups.specs.declared.decisions.Decision.{Decision}
 use Rattle.fkv_lookups.specs.declared.decisions.Decision.TheVariants.{Claim, Append, Replace, Prepare, Wait}
 use Rattle.fkv_lookups.specs.declared.decisions.Decision.TheVariants as decided
+use Rattle.fkv_lookups.specs.declared.payloads.Payload.{Payload}
+use Rattle.fkv_lookups.specs.Payloads.{standing}
 use Rattle.fkv_core.specs.declared.contexts.Context.{Context}
 use Rattle.fkv_core.specs.declared.contexts.Phase.TheVariants.{Fresh, Confirm, Prepared, Load}
 use Rattle.fkv_core.specs.declared.contexts.Loading.{Loading}
@@ -32,7 +34,7 @@ use Rattle.fkv_core.specs.Contexts.{question_in, at_phase}
 use Rattle.fkv_core.specs.Claiming.{IsClaimed}
 use Rattle.fkv_texts.specs.declared.entries.Entry.{Entry}
 use Rattle.fkv_texts.specs.Text.{last_of}
-use Rattle.fkv_core.specs.Views.{CoreView, found_for, met_at, context_at, with_context, with_appended, with_replaced}
+use Rattle.fkv_core.specs.Views.{CoreView, found_for, met_at, context_at, with_context, with_payload, with_replaced, live_of}
 
 -- an operation that looks its key up in a context, and what it then does
 pub record Decides {K V I O : Type 0} (cmp : K → K → Ordering) (join : V → V → V) (f : Meanings K V I O) (code : K → ℕ)
@@ -102,22 +104,22 @@ pub data Goes {K V I O R : Type 0} (stands : R → Standing) (cmp : K → K → 
       → Goes stands cmp join f code old new slot c now result
   -- a record is appended, the entry moves to it, and the operation is done; or there is no room for a record, and it
   -- waits; or no address is left
-  appends : (x : Context K V I) (value : Option V) (a : Answer O) (e : IndexEntry)
-      → Decides cmp join f code old slot c x (Append value a)
+  appends : (x : Context K V I) (payload : Payload V) (a : Answer O) (e : IndexEntry)
+      → Decides cmp join f code old slot c x (Append payload a)
       → found_for code old (key_of x.op) ≡ Some e
       → old.records.tail ≢ 2 ^ 48
       → (IsFull old.records → ⊥)
-      → new ≡ with_appended old slot c e (key_of x.op) value now
+      → new ≡ with_payload old slot c e (key_of x.op) payload (standing join (live_of cmp old (key_of x.op)) payload) now
       → result ≡ Ok (Done a now)
       → Goes stands cmp join f code old new slot c now result
-  worn : (x : Context K V I) (value : Option V) (a : Answer O)
-      → Decides cmp join f code old slot c x (Append value a)
+  worn : (x : Context K V I) (payload : Payload V) (a : Answer O)
+      → Decides cmp join f code old slot c x (Append payload a)
       → old.records.tail ≡ 2 ^ 48
       → new ≡ old
       → result ≡ Err Worn
       → Goes stands cmp join f code old new slot c now result
-  full : (x : Context K V I) (value : Option V) (a : Answer O)
-      → Decides cmp join f code old slot c x (Append value a)
+  full : (x : Context K V I) (payload : Payload V) (a : Answer O)
+      → Decides cmp join f code old slot c x (Append payload a)
       → IsFull old.records
       → new ≡ record old { moment = now }
       → result ≡ Ok (Waits Full)

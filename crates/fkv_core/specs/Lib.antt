@@ -5,6 +5,7 @@ pub mod Inside
 pub mod Writes
 pub mod Effect
 pub mod Going
+pub mod Asking
 pub mod Installing
 pub mod Claiming
 pub mod Sound

@@ -10,14 +10,14 @@ use Rattle.fkv_texts.specs.Chains.{IsIn}
 use Rattle.fkv_texts.specs.Deltas.{onto}
 use Rattle.fkv_index.specs.Words.{address_of}
 use Rattle.fkv_index.specs.Places.{word_at}
-use Rattle.fkv_operations.specs.After.{key_of}
+use Rattle.fkv_operations.specs.After.{key_of, is_merge}
 use Rattle.fkv_lookups.specs.RecordsViews.{RecordsView, class_in, WasEntryOf}
 use Rattle.fkv_lookups.specs.Traced.{IsTraced, IsStood}
 use Rattle.fkv_operations.specs.Still.{IsStill}
 use Rattle.fkv_lookups.specs.Lookups.{IsOfClass}
 use Rattle.fkv_operations.specs.declared.entries.IndexEntry.{IndexEntry}
 use Rattle.fkv_operations.specs.declared.operations.KeyedOp.{KeyedOp}
-use Rattle.fkv_operations.specs.declared.operations.KeyedOp.TheVariants.{Read, Upsert, Rmw, Delete}
+use Rattle.fkv_operations.specs.declared.operations.KeyedOp.TheVariants.{Read, Upsert, Rmw, Delete, Merge}
 use Rattle.fkv_core.specs.declared.contexts.Context.{Context}
 use Rattle.fkv_core.specs.declared.contexts.Phase.{Phase}
 use Rattle.fkv_core.specs.declared.contexts.Phase.TheVariants.{Fresh, Confirm, Prepared, Load}
@@ -78,10 +78,12 @@ StandsFor keeps cmp join code r (Read k i) (Prepared e s) = ⊥
 StandsFor keeps cmp join code r (Upsert k v) (Prepared e s) = ⊥
 StandsFor keeps cmp join code r (Rmw k i) (Prepared e s) = IsKept keeps cmp code r k e s
 StandsFor keeps cmp join code r (Delete k) (Prepared e s) = ⊥
+StandsFor keeps cmp join code r (Merge k i) (Prepared e s) = ⊥
 StandsFor keeps cmp join code r (Read k i) (Load l) = IsLoading keeps cmp join code r k l
 StandsFor keeps cmp join code r (Upsert k v) (Load l) = ⊥
 StandsFor keeps cmp join code r (Rmw k i) (Load l) = IsLoading keeps cmp join code r k l
 StandsFor keeps cmp join code r (Delete k) (Load l) = ⊥
+StandsFor keeps cmp join code r (Merge k i) (Load l) = ⊥
 
 pub record IsSound {K V I : Type 0} (keeps : Bool) (cmp : K → K → Ordering) (join : V → V → V) (code : K → ℕ)
     (v : CoreView K V I) : Type 0 where
@@ -103,6 +105,11 @@ pub record IsSound {K V I : Type 0} (keeps : Bool) (cmp : K → K → Ordering) 
   pub asked : (p : ℕ) (x : Context K V I)
       → slice_get v.contexts p ≡ Some (Some x)
       → partition_of v.count (code (key_of x.op)) ≡ v.number
+  -- a merge is open only where the functions merge
+  pub merging : (p : ℕ) (x : Context K V I)
+      → slice_get v.contexts p ≡ Some (Some x)
+      → is_merge x.op ≡ true
+      → v.merges ≡ true
   pub housed : (slot c : ℕ) (x : Context K V I)
       → c < 8
       → slice_get v.contexts (slot * 8 + c) ≡ Some (Some x)

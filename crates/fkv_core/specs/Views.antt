@@ -1,5 +1,5 @@
 -- What a contract sees of a partition.
-use Rattle.std.specs.Prelude.{◌≡◌, Bool, ◌+◌, ◌*◌, ◌%◌, ◌^◌, ℕ, List, Option, Some, None, replicate, slice_set, slice_range, position, is_some}
+use Rattle.std.specs.Prelude.{◌≡◌, Bool, true, ◌+◌, ◌*◌, ◌%◌, ◌^◌, ℕ, List, Option, Some, None, replicate, slice_set, slice_range, position, is_some}
 use Rattle.std.specs.declared.cmp.Ordering.{Ordering}
 use Rattle.fkv_functions.specs.Plain.{PlainMap}
 use Rattle.fkv_epoch.specs.Moves as epochs
@@ -7,33 +7,38 @@ use Rattle.fkv_regions.specs.declared.offsets.View.{View}
 use Rattle.fkv_regions.specs.Offsets.{view_at}
 use Rattle.fkv_regions.specs.RegionsView.{RegionsView}
 use Rattle.fkv_texts.specs.Text.{live}
+use Rattle.fkv_texts.specs.declared.entries.Entry.{Entry}
 use Rattle.fkv_operations.specs.declared.entries.IndexEntry.{IndexEntry}
 use Rattle.fkv_lookups.specs.RecordsViews.{RecordsView, empty_records, class_in, entry_of, found_in}
-use Rattle.fkv_lookups.specs.RecordsViews.{with_record, with_value, with_regions, IsMoved}
+use Rattle.fkv_lookups.specs.RecordsViews.{with_written, with_value, with_regions, IsMoved}
+use Rattle.fkv_lookups.specs.declared.payloads.Payload.{Payload}
+use Rattle.fkv_lookups.specs.declared.payloads.Payload.TheVariants.{Whole}
 use Rattle.fkv_lookups.specs.Meeting as meeting
 use Rattle.fkv_lookups.specs.Lookups.{first_up, looked_up}
 use Rattle.fkv_lookups.specs.Decisions.{low_of}
 use Rattle.fkv_texts.specs.declared.entries.ChainPosition.{ChainPosition}
-use Rattle.fkv_texts.specs.declared.entries.ChainPosition.TheVariants.{Below}
+use Rattle.fkv_texts.specs.declared.entries.ChainPosition.TheVariants.{Found, Below}
 use Rattle.fkv_lookups.specs.declared.gathered.Gathered.{Gathered}
 use Rattle.fkv_lookups.specs.declared.decisions.LookupResult.{LookupResult}
 use Rattle.fkv_core.specs.declared.contexts.Context.{Context}
 use Rattle.fkv_core.specs.declared.contexts.Loading.{Loading}
 use Rattle.fkv_core.specs.declared.limits.Config.{Config}
-use Rattle.fkv_core.specs.Contexts.{context_in, loading_of}
+use Rattle.fkv_core.specs.Contexts.{context_in, loading_of, is_session}
 
--- a partition: its number among how many; its records with the entries of their classes, the regions of their log and
+-- a partition: whether its functions merge; its number among how many; its records with the entries of their classes, the regions of their log and
 -- its sessions; the open operations of these; and its last moment
 pub record CoreView (K V I : Type 0) : Type 0 where
+  pub merges : Bool
   pub number : ℕ
   pub count : ℕ
   pub records : RecordsView K V
   pub contexts : List (Option (Context K V I))
   pub moment : ℕ
 
--- a partition with nothing in it, before the first moment, for records of this size
-abbrev pub empty_core : {K V I : Type 0} → Config → ℕ → ℕ → CoreView K V I
-empty_core config record_size number = record {
+-- a partition with nothing in it, before the first moment, of functions that merge or not, for records of this size
+abbrev pub empty_core : {K V I : Type 0} → Bool → Config → ℕ → ℕ → CoreView K V I
+empty_core merges config record_size number = record {
+  merges = merges;
   number = number;
   count = 2 ^ config.partition_bits;
   records = empty_records config.partition_bits config.bucket_bits config.page_bits record_size config.frames;
@@ -78,6 +83,13 @@ abbrev pub first_from : {K V I : Type 0} → (K → K → Ordering) → (K → �
 first_from cmp code v slot k None = Below 1
 first_from cmp code v slot k (Some a) = first_up cmp code v.records (low_of v.records.begin (seen_at v slot)) k a
 
+-- a session is entered at the slot, and the last record of the key that it reads in memory is a delta
+pub record IsAtDelta {K V I : Type 0} (cmp : K → K → Ordering) (code : K → ℕ) (v : CoreView K V I) (slot : ℕ) (k : K) : Type 0 where
+  pub entered : is_session (slots_of v) slot ≡ true
+  pub entry : Entry K V
+  pub first : first_from cmp code v slot k (entry_for code v k) ≡ Found entry
+  pub delta : entry.delta ≡ true
+
 -- what its look-up comes to in memory, no lower than an address
 abbrev pub reached_from : {K V I : Type 0} → (K → K → Ordering) → (V → V → V) → (K → ℕ) → CoreView K V I → ℕ → K → ℕ
     → Option ℕ → Gathered K V
@@ -97,13 +109,18 @@ abbrev pub with_context : {K V I : Type 0} → CoreView K V I → ℕ → ℕ �
     → CoreView K V I
 with_context v slot c x now = record v { contexts = slice_set v.contexts (slot * 8 + c) x; moment = now }
 
--- the view after a record of this key was appended, behind the one to which its class's entry led, and the entry was
--- moved to it, and the context was freed
+-- the view after a record of this key with this payload, by which the key has this value, or none, was appended, behind
+-- the one to which its class's entry led, and the entry was moved to it, and the context was freed
+abbrev pub with_payload : {K V I : Type 0} → CoreView K V I → ℕ → ℕ → IndexEntry → K → Payload V → Option V → ℕ
+    → CoreView K V I
+with_payload v slot c e k payload has now = record (with_context v slot c None now) {
+  records = with_written v.records e k payload has;
+}
+
+-- the same of a value, or a tombstone
 abbrev pub with_appended : {K V I : Type 0} → CoreView K V I → ℕ → ℕ → IndexEntry → K → Option V → ℕ
     → CoreView K V I
-with_appended v slot c e k value now = record (with_context v slot c None now) {
-  records = with_record v.records e k value;
-}
+with_appended v slot c e k value now = with_payload v slot c e k (Whole value) value now
 
 -- the view after the record at an address got another value, or became a tombstone, and the context was freed
 abbrev pub with_replaced : {K V I : Type 0} → CoreView K V I → ℕ → ℕ → ℕ → Option V → ℕ → CoreView K V I

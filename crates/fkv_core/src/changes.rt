@@ -1,17 +1,18 @@
 //! What events change of a partition. Each change keeps what every partition keeps, and says what it leaves.
-ghost use Rattle.std.specs.Prelude.{◌≡◌, ⊤, ◌+◌, ◌*◌, ◌^◌, ◌<◌, ◌≤◌, ◌↔◌, false, IsSome, IsTrue, Some, None, Ok, Err, IfSome, IfOk, IfErr, OnOk, OnErr};
+ghost use Rattle.std.specs.Prelude.{◌≡◌, ⊤, ◌+◌, ◌*◌, ◌^◌, ◌<◌, ◌≤◌, ◌↔◌, true, false, IsSome, IsTrue, Some, None, Ok, Err, IfSome, IfOk, IfErr, OnOk, OnErr};
 ghost use Rattle.std.specs.List.{list_any};
 ghost use Rattle.std.specs.Bool.{OnTrue, OnFalse};
 ghost use Rattle.fkv_index.specs.Words.{is_empty};
 ghost use Rattle.fkv_index.specs.Places.{words_of};
 ghost use Rattle.fkv_index.specs.Entries.{IsAlone};
-ghost use Rattle.fkv_operations.specs.After.{key_of};
+ghost use Rattle.fkv_operations.specs.After.{key_of, is_merge};
 ghost use Rattle.fkv_operations.specs.Classes.{IsClass};
 ghost use Rattle.fkv_lookups.specs.RecordsViews.{class_in, confirmed, released, with_value, IsFull, IsReplaceable};
+ghost use Rattle.fkv_lookups.specs.Payloads.{standing};
 ghost use Rattle.fkv_core.specs.Contexts.{at_phase, claim_by, claim_at};
 ghost use Rattle.fkv_core.specs.Claiming.{IsClaimed};
 ghost use Rattle.fkv_regions.specs.RegionsView.{left};
-ghost use Rattle.fkv_core.specs.Views.{context_at, open_context, MovesTo, partition_of, with_context, with_appended, with_replaced};
+ghost use Rattle.fkv_core.specs.Views.{context_at, open_context, MovesTo, partition_of, with_context, with_payload, with_replaced, live_of};
 ghost use Rattle.fkv_core.specs.Sound.{StandsFor};
 ghost use Rattle.fkv_core.specs.Beginning.{IsEntered};
 ghost use Rattle.fkv_core.specs.Writes.{IsWrite};
@@ -21,6 +22,7 @@ use crate::cores::Core;
 use fkv_device::Receipt;
 use fkv_functions::{Mergeable, Refused};
 use fkv_index::Place;
+use fkv_lookups::Payload;
 use fkv_lookups::laws::{records_change, records_grow};
 use fkv_operations::{Class, IndexEntry, KeyedOpOf};
 use fkv_records::Address;
@@ -32,8 +34,7 @@ pub struct Write<K, V> {
     /// The entry of the key's class, as it stands.
     pub entry: IndexEntry,
     pub key: K,
-    /// None for a tombstone.
-    pub value: Option<V>,
+    pub payload: Payload<V>,
 }
 
 impl<K: Copy, V: Copy> Clone for Write<K, V> {
@@ -72,6 +73,7 @@ impl<F: Mergeable, R: Receipt> Core<F, R> {
         requires context { context < 8 }
         requires unclaimed { claim_at self.old.contexts (slot * 8 + context) ≡ None }
         requires own { partition_of self.old.count (F.code (key_of op)) ≡ self.old.number }
+        requires merging { is_merge op ≡ true → self.old.merges ≡ true }
         ensures { self.new ≡ with_context self.old slot context
             (Some (record { number = now; op = op; phase = Phase.Fresh })) now }
     {
@@ -252,7 +254,8 @@ impl<F: Mergeable, R: Receipt> Core<F, R> {
         requires unclaimed { claim_at self.old.contexts (slot * 8 + context) ≡ None }
         requires write { IsWrite F.code self.old write }
         ensures ok { IfOk result (λ o. IfSome o (λ _.
-            self.new ≡ with_appended self.old slot context write.entry write.key write.value now)) }
+            self.new ≡ with_payload self.old slot context write.entry write.key write.payload
+            (standing F.parts.joined (live_of F.Key.cmp self.old write.key) write.payload) now)) }
         ensures room { (result ≡ Ok None) ↔ IsFull self.old.records }
         ensures full { result ≡ Ok None → self.new ≡ record self.old { moment = now } }
         ensures worn { (result ≡ Err Refused.Worn) ↔ (self.old.records.tail ≡ 2 ^ 48) }
@@ -260,7 +263,7 @@ impl<F: Mergeable, R: Receipt> Core<F, R> {
         ensures unchanged { OnErr result (self.new ≡ self.old) }
     {
         records_grow::<F::Key, F::Value>();
-        match self.records.append(write.entry, write.key, write.value) {
+        match self.records.append(write.entry, write.key, write.payload) {
             Err(refused) => return Err(refused),
             Ok(None) => {
                 self.moment = now;

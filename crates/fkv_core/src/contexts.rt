@@ -224,7 +224,10 @@ pub fn question_of<K: Copy, V: Copy, I: Copy>(
     match phase {
         Phase::Fresh | Phase::Confirm { .. } | Phase::Load(_) => None,
         Phase::Prepared { kept, source } => match op {
-            KeyedOp::Read(_, _) | KeyedOp::Upsert(_, _) | KeyedOp::Delete(_) => None,
+            KeyedOp::Read(_, _)
+            | KeyedOp::Upsert(_, _)
+            | KeyedOp::Delete(_)
+            | KeyedOp::Merge(_, _) => None,
             KeyedOp::Rmw(key, input) => Some((
                 kept,
                 Ask {

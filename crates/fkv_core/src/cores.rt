@@ -37,10 +37,10 @@ impl<F: Mergeable, R: Receipt> Model for Core<F, R> {
     ghost use Rattle.fkv_core.specs.Inside.{view_of};
     ghost use Rattle.fkv_core.specs.Sound.{IsSound};
 
-    ghost view = { λ p. view_of p.number p.count p.records p.contexts.items p.moment };
+    ghost view = { λ p. view_of F.MERGES p.number p.count p.records p.contexts.items p.moment };
 
     ghost invariant = { λ p. IsSound R.keeps F.Key.cmp F.parts.joined F.code
-        (view_of p.number p.count p.records p.contexts.items p.moment) };
+        (view_of F.MERGES p.number p.count p.records p.contexts.items p.moment) };
 }
 
 /// Places that hold nothing. Refused: `NoMemory`.
@@ -62,7 +62,7 @@ impl<F: Mergeable, R: Receipt> Core<F, R> {
     /// number of the configuration is outside its limits, a record is too large, or there is no partition
     /// of this number, `NoMemory`.
     pub fn new(alloc: Global, config: &Config, number: u64) -> Result<Self, Refused>
-        ensures ok { IfOk result (λ p. p ≡ empty_core config.now (size_of F.Key.SIZE F.Value.SIZE) number) }
+        ensures ok { IfOk result (λ p. p ≡ empty_core F.MERGES config.now (size_of F.Key.SIZE F.Value.SIZE) number) }
         ensures good { result ≢ Err Refused.BadConfig
             → IsPartitionOf config.now (size_of F.Key.SIZE F.Value.SIZE) number }
         ensures bad { result ≡ Err Refused.BadConfig
@@ -114,7 +114,8 @@ impl<F: Mergeable, R: Receipt> Core<F, R> {
     }
 
     /// Issues an operation in a context of a session, one that the caller has chosen and in which nothing is open.
-    /// Refused, and then nothing changes: `Stranger` where the operation's key belongs to another partition.
+    /// Refused, in this order, and then nothing changes: `Stranger` where the operation's key belongs to another partition,
+    /// `NoMerge` where it is a merge and the functions don't merge.
     pub fn issue(
         &mut self,
         slot: usize,
@@ -142,6 +143,9 @@ impl<F: Mergeable, R: Receipt> Core<F, R> {
                 held: self.number,
                 came: home,
             });
+        }
+        if self.lacks_merges(&op) {
+            return Err(Refused::NoMerge);
         }
         self.start(slot, context, op, now);
         Ok(())

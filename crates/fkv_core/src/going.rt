@@ -31,6 +31,7 @@ impl<F: Mergeable, R: Receipt> Core<F, R> {
     /// bucket, and answers `Next` too. Where there is an entry, the region of the key's last record by the session's view
     /// decides. Where that is a delta, the parts of the key's deltas are joined with what it had before, for a read or an
     /// update. A mutable value is changed where it stands, by an upsert, an update or a delete, which is finished.
+    /// A merge joins its part to a mutable value where that stands, and appends it as a delta else, whatever the key has.
     /// Else an upsert, and a delete of a value, append a record and are finished; and an update keeps the entry and the
     /// key's value and asks for the new one, the same again until it is installed, but over a fuzzy value it answers
     /// `Waits`. Where the records of the key's class go on below what the session reads in memory, a read and an update
@@ -113,6 +114,7 @@ impl<F: Mergeable, R: Receipt> Core<F, R> {
         ensures moment { self.new.moment ≤ now }
     {
         self.known();
+        let _merges = self.merges();
         entries_lead::<F::Key, F::Value>();
         lookups_tell::<F::Key, F::Value>();
         meetings_tell::<F::Key, F::Value>();
@@ -131,9 +133,13 @@ impl<F: Mergeable, R: Receipt> Core<F, R> {
                 };
                 Ok(Progress::Next)
             }
-            Decision::Append(value, answer) => {
+            Decision::Append(payload, answer) => {
                 let Some(entry) = entry else { unreachable!() };
-                let write = Write { entry, key, value };
+                let write = Write {
+                    entry,
+                    key,
+                    payload,
+                };
                 self.write(slot, context, write, answer, now)
             }
             Decision::Replace(value, answer) => {
@@ -179,13 +185,15 @@ impl<F: Mergeable, R: Receipt> Core<F, R> {
         requires write { IsWrite F.code self.old write }
         requires entry { found_for F.code self.old write.key ≡ Some write.entry }
         requires decided { IsDecided F.Key.cmp F.parts.joined F.meaning F.code self.old slot context
-            write.key (Decision.Append write.value answer) }
+            write.key (Decision.Append write.payload answer) }
         ensures effect { Goes R.stands F.Key.cmp F.parts.joined F.meaning F.code self.old self.new slot context now result }
         ensures event { IfOk result
             (λ progress. IsEvent F.Key.cmp F.meaning self.old self.new slot context now progress) }
         ensures unchanged { OnErr result (self.new ≡ self.old) }
         ensures moment { self.new.moment ≤ now }
     {
+        self.known();
+        let _merges = self.merges();
         records_grow::<F::Key, F::Value>();
         match self.append(slot, context, write, now) {
             Err(refused) => Err(refused),
@@ -217,6 +225,7 @@ impl<F: Mergeable, R: Receipt> Core<F, R> {
         ensures moment { self.new.moment ≤ now }
     {
         self.known();
+        let _merges = self.merges();
         entries_lead::<F::Key, F::Value>();
         records_change::<F::Key, F::Value>();
         meetings_tell::<F::Key, F::Value>();

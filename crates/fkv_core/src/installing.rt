@@ -11,6 +11,7 @@ use crate::contexts::{Phase, Progress, ProgressOf, Wait, question_of};
 use crate::cores::Core;
 use fkv_device::Receipt;
 use fkv_functions::{Built, Functions, Mergeable, Refused, What};
+use fkv_lookups::Payload;
 use fkv_lookups::laws::{entries_lead, records_grow};
 use fkv_operations::{Answer, IndexEntry};
 
@@ -94,7 +95,7 @@ impl<F: Mergeable, R: Receipt> Core<F, R> {
         let write = Write {
             entry: kept,
             key: ask.key,
-            value: Some(value),
+            payload: Payload::Whole(Some(value)),
         };
         match self.append(slot, context, write, now) {
             Err(refused) => Err(refused),

@@ -1,6 +1,6 @@
 //! What every event leaves of the look-ups that wait for a page, and of the records that are frozen. Each law is what a
 //! function without a body ensures.
-ghost use Rattle.std.specs.Prelude.{◌≡◌, ◌⊎◌, ℕ, Bool, IsTrue, List, Result, Ok, Err};
+ghost use Rattle.std.specs.Prelude.{◌≡◌, ◌⊎◌, ℕ, Bool, true, IsTrue, List, Some, Result, Ok, Err};
 ghost use Rattle.std.specs.declared.cmp.Ordering.{Ordering};
 ghost use Rattle.fkv_functions.specs.Meanings.{Meanings};
 ghost use Rattle.fkv_functions.specs.Plain.{IsKeyOrder};
@@ -8,13 +8,15 @@ ghost use Rattle.fkv_functions.specs.declared.asks.Ask.{Ask};
 ghost use Rattle.fkv_functions.specs.declared.refusals.Refused.{Refused};
 ghost use Rattle.fkv_device.specs.Standing.{Standing, Joined};
 ghost use Rattle.fkv_pages.specs.Spelled.{IsEntryIn};
-ghost use Rattle.fkv_operations.specs.After.{key_of};
+ghost use Rattle.fkv_operations.specs.After.{key_of, is_merge};
 ghost use Rattle.fkv_core.specs.declared.contexts.Progress.{Progress};
-ghost use Rattle.fkv_core.specs.Views.{CoreView};
+ghost use Rattle.fkv_core.specs.Views.{CoreView, context_at};
 ghost use Rattle.fkv_operations.specs.declared.operations.KeyedOp.{KeyedOp};
 ghost use Rattle.fkv_core.specs.Beginning.{Enters, Issues};
 ghost use Rattle.fkv_core.specs.Ending.{Leaves, GivesUp};
 ghost use Rattle.fkv_core.specs.Going.{Goes};
+ghost use Rattle.fkv_core.specs.Asking.{AsksNothing};
+ghost use Rattle.fkv_core.specs.declared.contexts.Context.{Context};
 ghost use Rattle.fkv_core.specs.Installing.{Installs};
 ghost use Rattle.fkv_core.specs.Looking.{Refreshes, Shifts, Evicts};
 ghost use Rattle.fkv_core.specs.Flushing.{Flushes};
@@ -118,3 +120,33 @@ pub fn frozen_stay<K, V, I, O, R>()
     records_change::<K, V>();
     meetings_tell::<K, V>();
 }
+
+/// A merge asks for nothing: no event of it asks for a page or for a built value, nor waits until sessions with an older view
+/// are refreshed, and it takes no value.
+pub fn merges_ask_nothing<K, V, I, O, R>()
+    ensures goes { (keeps : Bool) (stands : R → Standing) (cmp : K → K → Ordering) (join : V → V → V) (f : Meanings K V I O) (code : K → ℕ)
+        (old new : CoreView K V I) (slot c now : ℕ) (x : Context K V I) (progress : Progress K V I O R)
+        → IsSound keeps cmp join code old
+        → context_at old slot c ≡ Some x → is_merge x.op ≡ true
+        → Goes stands cmp join f code old new slot c now (Ok progress)
+        → AsksNothing progress }
+    ensures installs { (keeps : Bool) (cmp : K → K → Ordering) (join : V → V → V) (f : Meanings K V I O) (code : K → ℕ)
+        (old new : CoreView K V I) (slot c : ℕ) (ask : Ask K V I) (now : ℕ) (x : Context K V I)
+        (result : Result (Progress K V I O R) Refused)
+        → IsSound keeps cmp join code old
+        → context_at old slot c ≡ Some x → is_merge x.op ≡ true
+        → Installs cmp f code old new slot c ask now result
+        → result ≡ Err Refused.NotReady }
+{}
+
+/// A merge takes no page: it waits for none.
+pub fn merges_take_no_page<F: Mergeable, R: Receipt>()
+    ensures { (keeps : Bool) (join : F.Value → F.Value → F.Value) (code : F.Key → ℕ) (old new : CoreView F.Key F.Value F.Input)
+        (slot c : ℕ) (came : Result (Joined R) Refused) (now : ℕ) (x : Context F.Key F.Value F.Input)
+        (result : Result (Progress F.Key F.Value F.Input F.Output R) Refused)
+        → IsSound keeps F.Key.cmp join code old
+        → context_at old slot c ≡ Some x → is_merge x.op ≡ true
+        → Loads R.stands (IsEntryIn F.Key.bytes_of F.Value.bytes_of F.Key.is_known F.Value.is_known
+        F.Key.SIZE F.Value.SIZE) F.Key.cmp join F.meaning old new slot c came now result
+        → result ≡ Err Refused.NotReady }
+{}

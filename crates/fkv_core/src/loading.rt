@@ -193,7 +193,7 @@ impl<F: Mergeable, R: Receipt> Core<F, R> {
                 self.set_phase(slot, context, operation, prepared, now);
                 Progress::NeedsBuild(ask)
             }
-            KeyedOp::Upsert(_, _) | KeyedOp::Delete(_) => unreachable!(),
+            KeyedOp::Upsert(_, _) | KeyedOp::Delete(_) | KeyedOp::Merge(_, _) => unreachable!(),
         }
     }
 

@@ -1,14 +1,15 @@
 //! What events look at in a partition. None of these changes it.
-ghost use Rattle.std.specs.Prelude.{◌≡◌, ◌+◌, ◌*◌, ◌<◌, ◌≤◌, ◌↔◌, Some, None, true, IsTrue, IfSome, option_map, slice_get};
+ghost use Rattle.std.specs.Prelude.{◌≡◌, ◌+◌, ◌*◌, ◌<◌, ◌≤◌, ◌↔◌, Some, None, true, false, IsTrue, IfSome, option_map, slice_get};
+ghost use Rattle.std.specs.Bool.{OnTrue, OnFalse};
 ghost use Rattle.fkv_index.specs.Words.{address_of};
-ghost use Rattle.fkv_operations.specs.After.{key_of};
+ghost use Rattle.fkv_operations.specs.After.{key_of, is_merge};
 ghost use Rattle.fkv_texts.specs.declared.entries.Entry.{Entry};
 ghost use Rattle.fkv_lookups.specs.Decisions.{decision, low_of};
 ghost use Rattle.fkv_operations.specs.Classes.{IsClass};
 ghost use Rattle.fkv_lookups.specs.RecordsViews.{class_in, IsEntryOf};
 ghost use Rattle.fkv_core.specs.Contexts.{is_session, joined};
 ghost use Rattle.fkv_core.specs.Beginning.{IsEntered};
-ghost use Rattle.fkv_core.specs.Views.{context_at, entry_for, found_for, first_from, met_at, open_context, partition_of, reached_from, seen_at, slots_of};
+ghost use Rattle.fkv_core.specs.Views.{IsAtDelta, context_at, entry_for, found_for, first_from, met_at, open_context, partition_of, reached_from, seen_at, slots_of};
 ghost use Rattle.fkv_core.specs.Sound.{IsSound};
 
 use crate::contexts::{ContextOf, is_vacant, open_at, open_context};
@@ -41,6 +42,24 @@ impl<F: Mergeable, R: Receipt> Core<F, R> {
         ensures { IsSound R.keeps F.Key.cmp F.parts.joined F.code self.now }
     {
         let _moment = self.moment;
+    }
+
+    /// Whether the functions merge.
+    pub fn merges(&self) -> bool
+        ensures value { result ≡ self.now.merges }
+        ensures functions { result ≡ F.MERGES }
+    {
+        let _moment = self.moment;
+        F::MERGES
+    }
+
+    /// Whether an operation is a merge, and the functions don't merge.
+    pub fn lacks_merges(&self, op: &KeyedOpOf<F>) -> bool
+        ensures lacks { OnTrue result ((is_merge op.now ≡ true) × (self.now.merges ≡ false)) }
+        ensures merges { OnFalse result (is_merge op.now ≡ true → self.now.merges ≡ true) }
+    {
+        let merges = self.merges();
+        op.is_merge() && !merges
     }
 
     /// The operation that is open in a context.
@@ -132,6 +151,18 @@ impl<F: Mergeable, R: Receipt> Core<F, R> {
         }
     }
 
+    /// Whether a session is entered at a slot and the last record of a key that it reads in memory is a delta. Then an update of
+    /// the key would collect its parts, down to a page on the device, it may be.
+    pub fn is_at_delta(&self, slot: usize, functions: &F, key: &F::Key) -> bool
+        ensures { IsTrue result ↔ IsAtDelta F.Key.cmp F.code self.now slot key.now }
+    {
+        if !self.is_session(slot) {
+            return false;
+        }
+        let entry = self.leads(functions, key);
+        is_delta(&self.first(slot, key, entry))
+    }
+
     /// The lowest address that the session at a slot reads in memory.
     pub fn lowest(&self, slot: usize) -> Address
         requires { IsEntered self.now slot }
@@ -209,6 +240,7 @@ impl<F: Mergeable, R: Receipt> Core<F, R> {
         first: &ChainPosition<F::Key, F::Value>,
     ) -> DecisionOf<F>
         requires entered { IsEntered self.now slot }
+        requires merging { is_merge op.now ≡ true → self.now.merges ≡ true }
         requires entry { entry ≡ entry_for F.code self.now (key_of op.now) }
         requires first { first.now ≡ first_from F.Key.cmp F.code self.now slot (key_of op.now)
             (entry_for F.code self.now (key_of op.now)) }
@@ -216,9 +248,10 @@ impl<F: Mergeable, R: Receipt> Core<F, R> {
             (met_at F.Key.cmp F.parts.joined F.code self.now slot (key_of op.now)) }
     {
         self.known();
+        let _merges = self.merges();
         lookups_tell::<F::Key, F::Value>();
         if is_delta(first) {
-            if let Some(decision) = blind::<F>(op) {
+            if let Some(decision) = blind(functions, op) {
                 return decision;
             }
         }

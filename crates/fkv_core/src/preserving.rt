@@ -1,6 +1,6 @@
 //! What every event leaves to a layer above that keeps operations and addresses of its own. Each law is what a function
 //! without a body ensures.
-ghost use Rattle.std.specs.Prelude.{◌≡◌, ◌≢◌, ◌+◌, ◌*◌, ◌<◌, ℕ, Bool, true, IsTrue, List, None, slice_get, Result};
+ghost use Rattle.std.specs.Prelude.{◌≡◌, ◌≢◌, ◌+◌, ◌*◌, ◌<◌, ℕ, Bool, true, IsTrue, List, Option, None, slice_get, Result};
 ghost use Rattle.std.specs.declared.cmp.Ordering.{Ordering};
 ghost use Rattle.fkv_functions.specs.Meanings.{Meanings};
 ghost use Rattle.fkv_functions.specs.Plain.{IsKeyOrder};
@@ -19,7 +19,7 @@ ghost use Rattle.fkv_texts.specs.Deltas.{IsCleared};
 ghost use Rattle.fkv_core.specs.declared.changes.Write.{Write};
 ghost use Rattle.fkv_core.specs.declared.contexts.Progress.{Progress};
 ghost use Rattle.fkv_core.specs.Contexts.{joined, is_session};
-ghost use Rattle.fkv_core.specs.Views.{CoreView, slots_of, live_of, with_appended};
+ghost use Rattle.fkv_core.specs.Views.{CoreView, slots_of, live_of, with_payload};
 ghost use Rattle.fkv_core.specs.Beginning.{Enters, Issues};
 ghost use Rattle.fkv_core.specs.Ending.{Leaves, GivesUp};
 ghost use Rattle.fkv_core.specs.Going.{Goes};
@@ -87,9 +87,9 @@ pub fn events_preserve<K, V, I, O, R>()
         → IsPreserved keeps cmp join code old new }
     // a record is appended behind the entry of its class
     ensures appends { (keeps : Bool) (cmp : K → K → Ordering) (join : V → V → V) (code : K → ℕ) (v : CoreView K V I) (slot c now : ℕ)
-        (write : Write K V)
+        (write : Write K V) (has : Option V)
         → IsSound keeps cmp join code v → IsWrite code v write
-        → IsPreserved keeps cmp join code v (with_appended v slot c write.entry write.key write.value now) }
+        → IsPreserved keeps cmp join code v (with_payload v slot c write.entry write.key write.payload has now) }
 {
     cleared_stay::<K, V>();
     records_change::<K, V>();
@@ -160,9 +160,9 @@ pub fn sessions_preserved<K, V, I, O, R>()
         (result : Result (Unit {0}) Refused)
         → Truncates keeps old new page now result → NoneOpens old new × AllStay old new }
     // a record is appended, and the context of its operation is freed
-    ensures appends { (v : CoreView K V I) (slot c now : ℕ) (write : Write K V)
-        → NoneOpens v (with_appended v slot c write.entry write.key write.value now)
-        × AllStay v (with_appended v slot c write.entry write.key write.value now) }
+    ensures appends { (v : CoreView K V I) (slot c now : ℕ) (write : Write K V) (has : Option V)
+        → NoneOpens v (with_payload v slot c write.entry write.key write.payload has now)
+        × AllStay v (with_payload v slot c write.entry write.key write.payload has now) }
 {}
 
 /// So it is where a page comes.

@@ -1,5 +1,5 @@
 -- What an update in one call leaves of a session that had nothing open.
-use Rattle.std.proofs.Common.{◌≡◌, ℕ, Ok, length, None, ◌∙◌, subst}
+use Rattle.std.proofs.Common.{◌≡◌, ℕ, Ok, length, None, refl, ◌∙◌, subst}
 use Rattle.std.specs.declared.cmp.Ordering.{Ordering}
 use Rattle.fkv_functions.specs.Meanings.{Meanings}
 use Rattle.fkv_functions.specs.Plain.{Same}
@@ -25,7 +25,7 @@ pub updated-at_once : {K V I O R : Type 0} (stands : R → Standing) (cmp : K �
     → IsIdle v slot → length v.core.contexts ≡ 128 → IsDoneAtOnce stands cmp join f code v w slot key input issued now shown → IsUpdated cmp f v w slot key input
 updated-at_once stands cmp join f code v w slot key input issued now shown idle places d =
     let op = Rmw key input in
-    let opened = issue-opens code v d.between slot d.context issued key input idle places d.issues in
+    let opened = issue-opens code v d.between slot d.context issued op idle places refl d.issues in
     let leads = goes-leads stands d.between w slot d.context op cmp join f code now (Ok (Done (Value shown) now)) opened.seat d.goes in
     let effect = effect-of stands d.between w slot d.context op cmp f now None (Done (Value shown) now) opened.seat d.event in
     record {

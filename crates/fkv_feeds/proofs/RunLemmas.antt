@@ -50,15 +50,15 @@ unopened {A = A} slots slot c = ap (λ o. cond (is_session slots slot && nat_lt 
     either true = refl
     either false = refl
 
-module _ {K V I : Type 0} (cmp : K → K → Ordering) (config : Config) (size number now : ℕ) where
-  core-enters : (w : CoreView K V I) (e : Refused) → beginning.Enters (empty_core config size number) w now (Err e) → ⊥
+module _ {K V I : Type 0} (cmp : K → K → Ordering) (merges : Bool) (config : Config) (size number now : ℕ) where
+  core-enters : (w : CoreView K V I) (e : Refused) → beginning.Enters (empty_core merges config size number) w now (Err e) → ⊥
   core-enters w e (beginning.Enters.full f n r) = absurd (cc)
   core-enters w e (beginning.Enters.enters slot f n r) = absurd (cc)
 
-  pub enters-always : (w : PartitionView K V I) (e : Refused) → Enters (empty_partition config size number) w now (Err e) → ⊥
+  pub enters-always : (w : PartitionView K V I) (e : Refused) → Enters (empty_partition merges config size number) w now (Err e) → ⊥
   enters-always w e h = core-enters w.core e h.does
 
-  seated-in : (w : PartitionView K V I) (slot : ℕ) → now ≡ number + 1 → w.core.moment ≤ now → w.relocations ≡ replicate 128 None → beginning.Enters (empty_core config size number) w.core now (Ok slot) → IsSeatedIn cmp config number w
+  seated-in : (w : PartitionView K V I) (slot : ℕ) → now ≡ number + 1 → w.core.moment ≤ now → w.relocations ≡ replicate 128 None → beginning.Enters (empty_core merges config size number) w.core now (Ok slot) → IsSeatedIn cmp config number w
   seated-in w slot e past none (beginning.Enters.full f n r) = absurd (cc)
   seated-in w slot e past none (beginning.Enters.enters s f n r) =
       let zero_slot : 0 ≡ s = cc in
@@ -77,7 +77,7 @@ module _ {K V I : Type 0} (cmp : K → K → Ordering) (config : Config) (size n
         empty = λ k. ap (λ (u : CoreView K V I). live_of cmp u k) n;
       }
 
-  pub seated-new : (w : PartitionView K V I) (slot : ℕ) → now ≡ number + 1 → w.core.moment ≤ now → Enters (empty_partition config size number) w now (Ok slot) → IsSeatedIn cmp config number w
+  pub seated-new : (w : PartitionView K V I) (slot : ℕ) → now ≡ number + 1 → w.core.moment ≤ now → Enters (empty_partition merges config size number) w now (Ok slot) → IsSeatedIn cmp config number w
   seated-new w slot e past h = seated-in w slot e past (ap (λ (u : PartitionView K V I). u.relocations) h.rest) h.does
 
   pub new-none : AreNew {K = K} {V = V} {I = I} cmp config [] 0

@@ -12,16 +12,13 @@ use Rattle.fkv_functions.proofs.ListLemmas.{get-set_same, get-set_other}
 use Rattle.fkv_records.specs.Places.{page_at}
 use Rattle.fkv_device.specs.Standing.{Standing, Joined}
 use Rattle.fkv_pages.specs.Loads.{IsHeldBy}
-use Rattle.fkv_operations.specs.After.{after, key_of}
+use Rattle.fkv_operations.specs.After.{after, key_of, is_update}
 use Rattle.fkv_operations.specs.AfterLaws.{same_map}
 use Rattle.fkv_operations.specs.declared.entries.IndexEntry.{IndexEntry}
 use Rattle.fkv_operations.specs.declared.operations.KeyedOp.{KeyedOp}
-use Rattle.fkv_operations.specs.declared.operations.KeyedOp.TheVariants.{Read, Rmw}
+use Rattle.fkv_operations.specs.declared.operations.KeyedOp.TheVariants.{Read, Rmw, Merge}
 use Rattle.fkv_lookups.specs.RecordsViews.{RecordsView}
 use Rattle.fkv_lookups.specs.DecisionLaws.{prepare-op}
-use Rattle.fkv_lookups.specs.Decisions.{decision}
-use Rattle.fkv_lookups.specs.declared.decisions.Decision.TheVariants.{Prepare}
-use Rattle.fkv_lookups.specs.declared.decisions.LookupResult.{LookupResult}
 use Rattle.fkv_operations.specs.declared.operations.Answer.{Answer}
 use Rattle.fkv_partition.specs.Context.{Context}
 use Rattle.fkv_partition.specs.Loading.{Loading}
@@ -31,9 +28,11 @@ use Rattle.fkv_partition.specs.Progress.{Progress}
 use Rattle.fkv_partition.specs.Progress.TheVariants.{Done, Next, NeedsBuild, NeedsLoad, Waits}
 use Rattle.fkv_partition.specs.Wait.{Wait}
 use Rattle.fkv_partition.specs.CoreContexts.{joined, is_session, context_in, question_in, loading_by, at_phase}
+use Rattle.fkv_partition.specs.CoreEnding.{GivesUp}
 use Rattle.fkv_partition.specs.CoreGoing.{Goes}
 use Rattle.fkv_partition.specs.CoreInstalling.{Installs}
 use Rattle.fkv_partition.specs.CoreLoading.{Loads}
+use Rattle.fkv_partition.specs.CoreSound.{IsSound, StandsFor}
 use Rattle.fkv_partition.specs.CoreViews.{CoreView, slots_of, context_at, live_of, met_at}
 use Rattle.fkv_feeds.specs.Faults.{Spelling, IsSpoilt}
 use Rattle.fkv_feeds.specs.Seats.{IsIdle, IsOpen, IsAsking, IsTidied, WaitsFor, Leaves, HasDone, Tries}
@@ -142,13 +141,24 @@ module _ {K V I : Type 0} where
   none-open v slot c op page o h = let bad : Some o.operation ≡ None = sym o.here ∙ h in absurd (cc)
 
 -- ---- what the events of an open update leave
-prepared-input : {K V I O : Type 0} (f : Meanings K V I O) (op : KeyedOp K V I) (m : LookupResult V) (k : K) (j : I) (source : Option V) (i : I) → op ≡ Rmw k j → decision f op m ≡ Prepare source i → i ≡ j
-prepared-input f op m k j source i is d = let same : Rmw (key_of op) i ≡ Rmw k j = sym (prepare-op f op m source i d) ∙ is in cc
-
 module _ {K V I : Type 0} where
   pub record IsMoved (v w : CoreView K V I) : Type 0 where
     pub number : w.number ≡ v.number
     pub count : w.count ≡ v.count
+
+  -- a session whose update was given up, and what else is as it was
+  pub record IsGivenUp (v w : CoreView K V I) (slot : ℕ) : Type 0 where
+    pub number : w.number ≡ v.number
+    pub count : w.count ≡ v.count
+    pub idle : IsIdle w slot
+    pub text : w.records.text ≡ v.records.text
+
+  -- no merge waits for a page
+  pub merges-wait-not : (keeps : Bool) (cmp : K → K → Ordering) (join : V → V → V) (code : K → ℕ) (v : CoreView K V I) (slot c : ℕ) (k : K) (i : I) (s : Standing) → IsSound keeps cmp join code v → IsOpen v slot c (Merge k i) (Some s) → ⊥
+  merges-wait-not keeps cmp join code v slot c k i s sound o =
+      subst (λ p. StandsFor keeps cmp join code v.records (Merge k i) p) o.waits.1
+      (subst (λ t. StandsFor keeps cmp join code v.records t o.operation.phase) o.is
+      (sound.stands (slot * 8 + c) o.operation (within v slot c o.operation o.here).there))
 
 module _ {K V I : Type 0} (v w : CoreView K V I) (slot c : ℕ) (op : KeyedOp K V I) where
   -- one context is set
@@ -173,6 +183,9 @@ module _ {K V I : Type 0} (v w : CoreView K V I) (slot c : ℕ) (op : KeyedOp K 
   op-of : (page : Option Standing) (x : Context K V I) → IsOpen v slot c op page → context_at v slot c ≡ Some x → x.op ≡ op
   op-of page x o h = ap (λ (t : Context K V I). t.op) (sym (found v slot c op page x o h)) ∙ o.is
 
+  given-up : (page : Option Standing) → IsOpen v slot c op page → IsSet v w slot c None → w.records.text ≡ v.records.text → IsGivenUp v w slot
+  given-up page o s text = record { number = s.number; count = s.count; idle = idle-set v w slot c op page o s; text = text }
+
   -- it is over, or stays open in another phase
   over : (page : Option Standing) → IsOpen v slot c op page → IsSet v w slot c None → IsMoved v w × IsIdle w slot
   over page o s = (moved-set None s, idle-set v w slot c op page o s)
@@ -189,6 +202,12 @@ module _ {K V I : Type 0} (v w : CoreView K V I) (slot c : ℕ) (op : KeyedOp K 
     here = set-here v w slot c x (Some (at_phase x (Prepared e source))) h s;
     question = rw is refl;
   }
+
+  -- ---- an update is given up
+  pub gives-up : (page : Option Standing) (now : ℕ) (r : Result (Unit {0}) Refused) → IsOpen v slot c op page → GivesUp v w slot c now r → IsGivenUp v w slot
+  gives-up page now r o (GivesUp.unknown a e b) = absurd (none-open v slot c op page o a)
+  gives-up page now r o (GivesUp.gives_up x h n e b) = given-up page o (set-by _ now None e refl refl refl refl) (ap (λ (t : CoreView K V I). t.records.text) e)
+  gives-up page now r o (GivesUp.cancels x p h q e b) = given-up page o (set-by _ now None e refl refl refl refl) (ap (λ (t : CoreView K V I). t.records.text) e)
 
 -- a page that came by the receipt that is kept of it is refused
 abbrev pub IsLoadRefusal : {K V : Type 0} → Spelling K V → (K → K → Ordering) → Refused → Type 0
@@ -227,10 +246,8 @@ module _ {K V I O R : Type 0} (stands : R → Standing) where
     goes-leads cmp join f code now r o (Goes.prepares x s i k d h e b) =
         let set = set-by v w slot c op _ now (Some (at_phase x (Prepared k s))) e refl refl refl refl in
         let t = turns v w slot c op None x (Prepared k s) o d.here refl set in
-        let rmw = op-of v w slot c op None x o d.here ∙ o.update.1 in
-        let input : i ≡ o.update.0 = prepared-input f x.op (met_at cmp join code v slot (key_of x.op)) (key_of op) o.update.0 s i rmw d.decided in
-        let key : key_of x.op ≡ key_of op = ap key_of (op-of v w slot c op None x o d.here) in
-        rw b (t.0, (t.1, asks-now v w slot c op x k s None (key_of x.op) i o d.here (rw (key, input) rmw) set))
+        let rmw = prepare-op f x.op (met_at cmp join code v slot (key_of x.op)) s i d.decided in
+        rw b (t.0, (t.1, asks-now v w slot c op x k s None (key_of x.op) i o d.here rmw set))
     goes-leads cmp join f code now r o (Goes.asks_page x p parts k m d h held e b) =
         let l : Loading V = record { begin = v.records.begin; kept = k; wanted = p; parts = parts; looked = now } in
         let set = set-by v w slot c op _ now (Some (at_phase x (Load l))) e refl refl refl refl in
@@ -270,7 +287,7 @@ module _ {K V I O R : Type 0} (stands : R → Standing) where
         rw b (inr (page_at v.records.page_bits l.wanted, IsSpoilt.unspelled join v.records.page_bits l.wanted q.bytes (key_of x.op) l.parts why refl d.reads, refl))
     loads-leads entry cmp join f now p s r o own (Loads.bad_link x l q t parts d g high n e b) =
         rw b (inr (page_at v.records.page_bits l.wanted, IsSpoilt.bad_link join v.records.page_bits v.records.record_size l.wanted t q.bytes (key_of x.op) l.parts parts refl d.reads n, refl))
-    loads-leads entry cmp join f now p s r o own (Loads.done x l q k i value t g is e b) = absurd (let h = t.reads.awaits.here in let bad : Read k i ≡ Rmw (key_of op) o.update.0 = sym is ∙ op-of v w slot c op (Some s) x o h ∙ o.update.1 in cc)
+    loads-leads entry cmp join f now p s r o own (Loads.done x l q k i value t g is e b) = absurd (let bad : false ≡ true = ap is_update (sym is ∙ op-of v w slot c op (Some s) x o t.reads.awaits.here) ∙ o.update in cc)
     loads-leads entry cmp join f now p s r o own (Loads.prepares x l q k i value t g is e b) =
         let h = t.reads.awaits.here in
         let set = set-by v w slot c op _ now (Some (at_phase x (Prepared l.kept value))) e refl refl refl refl in
@@ -311,7 +328,7 @@ module _ {K V I O R : Type 0} (stands : R → Standing) where
     no-done entry cmp join f now at a p s o (Loads.stranger x l q t h g m n e b) = absurd (cc)
     no-done entry cmp join f now at a p s o (Loads.damaged x l q t d g e b) = absurd (cc)
     no-done entry cmp join f now at a p s o (Loads.bad_link x l q t parts d g high n e b) = absurd (cc)
-    no-done entry cmp join f now at a p s o (Loads.done x l q k i value t g is e b) = absurd (let bad : Read k i ≡ Rmw (key_of op) o.update.0 = sym is ∙ op-of v w slot c op (Some s) x o t.reads.awaits.here ∙ o.update.1 in cc)
+    no-done entry cmp join f now at a p s o (Loads.done x l q k i value t g is e b) = absurd (let bad : false ≡ true = ap is_update (sym is ∙ op-of v w slot c op (Some s) x o t.reads.awaits.here) ∙ o.update in cc)
     no-done entry cmp join f now at a p s o (Loads.prepares x l q k i value t g is e b) = absurd (cc)
     no-done entry cmp join f now at a p s o (Loads.goes_on x l q t parts m d g high place held e b) = absurd (cc)
     no-done entry cmp join f now at a p s o (Loads.unshared x l q t parts d g high place e b) = absurd (cc)

@@ -10,18 +10,17 @@ use Rattle.fkv_functions.specs.declared.refusals.Refused.{Refused}
 use Rattle.fkv_functions.specs.declared.refusals.Refused.TheVariants.{NoMemory, Worn}
 use Rattle.fkv_functions.proofs.ListLemmas.{get-set_same}
 use Rattle.fkv_device.specs.Standing.{Standing, Joined}
-use Rattle.fkv_operations.specs.After.{after, key_of}
-use Rattle.fkv_operations.specs.Operations.{op_of, map_after, after_keyed}
+use Rattle.fkv_operations.specs.After.{after, key_of, is_merge, is_update}
+use Rattle.fkv_operations.specs.Operations.{keyed, op_of, map_after, after_keyed}
 use Rattle.fkv_operations.specs.declared.operations.Answer.{Answer}
 use Rattle.fkv_operations.specs.declared.operations.KeyedOp.{KeyedOp}
-use Rattle.fkv_operations.specs.declared.operations.KeyedOp.TheVariants as on_key
-use Rattle.fkv_operations.specs.declared.operations.Op.TheVariants.{Rmw}
 use Rattle.fkv_partition.specs.Context.{Context}
 use Rattle.fkv_partition.specs.Phase.TheVariants.{Fresh}
 use Rattle.fkv_partition.specs.Progress.{Progress}
 use Rattle.fkv_partition.specs.Progress.TheVariants.{Done, Next, NeedsBuild, NeedsLoad, Waits}
 use Rattle.fkv_partition.specs.Wait.{Wait}
 use Rattle.fkv_partition.specs.CoreContexts.{joined, is_session}
+use Rattle.fkv_partition.specs.CoreEnding.{GivesUp}
 use Rattle.fkv_partition.specs.CoreEffect as key_effect
 use Rattle.fkv_partition.specs.CoreViews.{slots_of, live_of, with_context, partition_of}
 use Rattle.fkv_partition.specs.Beginning.{IsFirstFree, IssuesOnKey}
@@ -78,17 +77,18 @@ module _ {K V I : Type 0} where
     relocation = sym (inside (slots_of v.core) v.relocations slot 0 i.seat.entered (omega arith)) ∙ i.relocations 0;
   })
 
-  key-issued-always : (code : K → ℕ) (v w : PartitionView K V I) (slot now : ℕ) (op : KeyedOp K V I) (e : Refused) → IsIdle v slot → partition_of v.core.count (code (key_of op)) ≡ v.core.number → IssuesOnKey code v w slot op now (Err e) → ⊥
-  key-issued-always code v w slot now op e i own (IssuesOnKey.unknown a b r) = let bad : false ≡ true = sym a ∙ i.seat.entered in absurd (cc)
-  key-issued-always code v w slot now op e i own (IssuesOnKey.stranger a b d r) = b own
-  key-issued-always code v w slot now op e i own (IssuesOnKey.full a b d g r) = idle-free v slot i d
-  key-issued-always code v w slot now op e i own (IssuesOnKey.issues c a b d g r) = absurd (cc)
+  key-issued-always : (code : K → ℕ) (v w : PartitionView K V I) (slot now : ℕ) (op : KeyedOp K V I) (e : Refused) → IsIdle v slot → partition_of v.core.count (code (key_of op)) ≡ v.core.number → (is_merge op ≡ true → v.core.merges ≡ true) → IssuesOnKey code v w slot op now (Err e) → ⊥
+  key-issued-always code v w slot now op e i own merges (IssuesOnKey.unknown a b r) = let bad : false ≡ true = sym a ∙ i.seat.entered in absurd (cc)
+  key-issued-always code v w slot now op e i own merges (IssuesOnKey.stranger a b d r) = b own
+  key-issued-always code v w slot now op e i own merges (IssuesOnKey.unmerged a b d n g r) = let bad : false ≡ true = sym n ∙ merges d in absurd (cc)
+  key-issued-always code v w slot now op e i own merges (IssuesOnKey.full a b m d g r) = idle-free v slot i d
+  key-issued-always code v w slot now op e i own merges (IssuesOnKey.issues c a b m d g r) = absurd (cc)
 
-  pub issued-always : (code : K → ℕ) (v w : PartitionView K V I) (slot now : ℕ) (key : K) (input : I) (e : Refused) → IsIdle v slot → partition_of v.core.count (code key) ≡ v.core.number → Issues code v w slot (Rmw key input) now (Err e) → ⊥
-  issued-always code v w slot now key input e i own (Issues.on_key o h does) =
-      let same : on_key.Rmw key input ≡ o = same_Some (on_key.Rmw key input) o h in
-      key-issued-always code v w slot now (on_key.Rmw key input) e i own (subst (λ t. IssuesOnKey code v w slot t now (Err e)) (sym same) does)
-  issued-always code v w slot now key input e i own (Issues.relocation h does) = absurd (cc)
+  pub issued-always : (code : K → ℕ) (v w : PartitionView K V I) (slot now : ℕ) (op : KeyedOp K V I) (e : Refused) → IsIdle v slot → partition_of v.core.count (code (key_of op)) ≡ v.core.number → (is_merge op ≡ true → v.core.merges ≡ true) → Issues code v w slot (op_of op) now (Err e) → ⊥
+  issued-always code v w slot now op e i own merges (Issues.on_key o h does) =
+      let same : op ≡ o = same_Some op o (sym (keyed-op op) ∙ h) in
+      key-issued-always code v w slot now op e i own merges (subst (λ t. IssuesOnKey code v w slot t now (Err e)) (sym same) does)
+  issued-always code v w slot now op e i own merges (Issues.relocation h does) = absurd (let bad : Some op ≡ None = sym (keyed-op op) ∙ ap keyed h in cc)
 
   -- a session whose update was issued, and what else is as it was
   pub record IsIssued (v w : PartitionView K V I) (slot c : ℕ) (op : KeyedOp K V I) : Type 0 where
@@ -97,11 +97,12 @@ module _ {K V I : Type 0} where
     pub seat : IsOpen w slot c op None
     pub text : w.core.records.text ≡ v.core.records.text
 
-  key-issue-opens : (code : K → ℕ) (v w : PartitionView K V I) (slot c now : ℕ) (op : KeyedOp K V I) → IsIdle v slot → length v.core.contexts ≡ 128 → (i : I) × (op ≡ on_key.Rmw (key_of op) i) → IssuesOnKey code v w slot op now (Ok c) → IsIssued v w slot c op
-  key-issue-opens code v w slot c now op i places rmw (IssuesOnKey.unknown a b r) = absurd (cc)
-  key-issue-opens code v w slot c now op i places rmw (IssuesOnKey.stranger a b d r) = absurd (cc)
-  key-issue-opens code v w slot c now op i places rmw (IssuesOnKey.full a b d g r) = absurd (cc)
-  key-issue-opens code v w slot c now op i places rmw (IssuesOnKey.issues q a b d e r) =
+  key-issue-opens : (code : K → ℕ) (v w : PartitionView K V I) (slot c now : ℕ) (op : KeyedOp K V I) → IsIdle v slot → length v.core.contexts ≡ 128 → is_update op ≡ true → IssuesOnKey code v w slot op now (Ok c) → IsIssued v w slot c op
+  key-issue-opens code v w slot c now op i places update (IssuesOnKey.unknown a b r) = absurd (cc)
+  key-issue-opens code v w slot c now op i places update (IssuesOnKey.stranger a b d r) = absurd (cc)
+  key-issue-opens code v w slot c now op i places update (IssuesOnKey.unmerged a b d n g r) = absurd (cc)
+  key-issue-opens code v w slot c now op i places update (IssuesOnKey.full a b m d g r) = absurd (cc)
+  key-issue-opens code v w slot c now op i places update (IssuesOnKey.issues q a b m d e r) =
       let same : c ≡ q = cc in
       let x : Context K V I = record { number = now; op = op; phase = Fresh } in
       let is : w ≡ with_core v (with_context v.core slot c (Some x) now) = e ∙ ap (λ t. with_core v (with_context v.core slot t (Some x) now)) (sym same) in
@@ -123,7 +124,7 @@ module _ {K V I : Type 0} where
             here = at-set v.core w.core slot c c (Some x) s ∙ inside (slots_of v.core) (slice_set v.core.contexts (slot * 8 + c) (Some x)) slot c i.seat.entered low
                 ∙ ap joined (get-set_same v.core.contexts (slot * 8 + c) (get_or v.core.contexts (slot * 8 + c) None) (Some x) (slice_get-get_or v.core.contexts (slot * 8 + c) None within));
             is = refl;
-            update = rmw;
+            update = update;
             others = λ t n. set-other v.core w.core slot c t (Some x) n s ∙ i.seat.free t;
             small = small;
             waits = refl;
@@ -133,11 +134,28 @@ module _ {K V I : Type 0} where
         text = ap (λ (u : PartitionView K V I). u.core.records.text) is;
       }
 
-  pub issue-opens : (code : K → ℕ) (v w : PartitionView K V I) (slot c now : ℕ) (key : K) (input : I) → IsIdle v slot → length v.core.contexts ≡ 128 → Issues code v w slot (Rmw key input) now (Ok c) → IsIssued v w slot c (on_key.Rmw key input)
-  issue-opens code v w slot c now key input i places (Issues.on_key o h does) =
-      let same : on_key.Rmw key input ≡ o = same_Some (on_key.Rmw key input) o h in
-      key-issue-opens code v w slot c now (on_key.Rmw key input) i places (input, refl) (subst (λ t. IssuesOnKey code v w slot t now (Ok c)) (sym same) does)
-  issue-opens code v w slot c now key input i places (Issues.relocation h does) = absurd (cc)
+  pub issue-opens : (code : K → ℕ) (v w : PartitionView K V I) (slot c now : ℕ) (op : KeyedOp K V I) → IsIdle v slot → length v.core.contexts ≡ 128 → is_update op ≡ true → Issues code v w slot (op_of op) now (Ok c) → IsIssued v w slot c op
+  issue-opens code v w slot c now op i places update (Issues.on_key o h does) =
+      let same : op ≡ o = same_Some op o (sym (keyed-op op) ∙ h) in
+      key-issue-opens code v w slot c now op i places update (subst (λ t. IssuesOnKey code v w slot t now (Ok c)) (sym same) does)
+  issue-opens code v w slot c now op i places update (Issues.relocation h does) = absurd (let bad : Some op ≡ None = sym (keyed-op op) ∙ ap keyed h in cc)
+
+  -- ---- an update is given up
+  pub record IsGivenUp (v w : PartitionView K V I) (slot : ℕ) : Type 0 where
+    pub number : w.core.number ≡ v.core.number
+    pub count : w.core.count ≡ v.core.count
+    pub idle : IsIdle w slot
+    pub text : w.core.records.text ≡ v.core.records.text
+
+  pub gives-up : (v w : PartitionView K V I) (slot c : ℕ) (op : KeyedOp K V I) (page : Option Standing) (now : ℕ) (r : Result (Unit {0}) Refused) → IsOpen v slot c op page → GivesUp v.core w.core slot c now r → w ≡ with_core v w.core → IsGivenUp v w slot
+  gives-up v w slot c op page now r o g rest =
+      let given = seat.gives-up v.core w.core slot c op page now r o.seat g in
+      record {
+        number = given.number;
+        count = given.count;
+        idle = record { seat = given.idle; relocations = after-key v w slot c op page o rest };
+        text = given.text;
+      }
 
 -- ---- what the events of an open update leave
 module _ {K V I O R : Type 0} (stands : R → Standing) where

@@ -1,5 +1,5 @@
 -- The operations on keys of a session, before an update and in one.
-use Rattle.std.specs.Prelude.{◌≡◌, ◌≢◌, ◌<◌, ℕ, Bool, IsTrue, Option, Some, None, option_map}
+use Rattle.std.specs.Prelude.{◌≡◌, ◌≢◌, ◌<◌, ℕ, Bool, IsTrue, true, Option, Some, None, option_map}
 use Rattle.std.specs.declared.cmp.Ordering.{Ordering}
 use Rattle.fkv_functions.specs.Meanings.{Meanings}
 use Rattle.fkv_functions.specs.Plain.{Same}
@@ -8,10 +8,9 @@ use Rattle.fkv_records.specs.Places.{page_at}
 use Rattle.fkv_device.specs.Standing.{Standing}
 use Rattle.fkv_pages.specs.Loads.{IsHeldBy}
 use Rattle.fkv_regions.specs.Offsets.{view_of}
-use Rattle.fkv_operations.specs.After.{after, key_of}
+use Rattle.fkv_operations.specs.After.{after, is_update}
 use Rattle.fkv_operations.specs.declared.entries.IndexEntry.{IndexEntry}
 use Rattle.fkv_operations.specs.declared.operations.KeyedOp.{KeyedOp}
-use Rattle.fkv_operations.specs.declared.operations.KeyedOp.TheVariants.{Rmw}
 use Rattle.fkv_partition.specs.Context.{Context}
 use Rattle.fkv_partition.specs.Loading.{Loading}
 use Rattle.fkv_partition.specs.Phase.{Phase}
@@ -46,7 +45,7 @@ pub record IsOpen {K V I : Type 0} (v : CoreView K V I) (slot c : ℕ) (op : Key
   pub operation : Context K V I
   pub here : context_at v slot c ≡ Some operation
   pub is : operation.op ≡ op
-  pub update : (i : I) × (op ≡ Rmw (key_of op) i)
+  pub update : is_update op ≡ true
   pub others : (d : ℕ) → d ≢ c → context_at v slot d ≡ None
   pub small : slot < 16
   pub waits : WaitsFor v operation.phase page

@@ -3,6 +3,7 @@
 
 pub mod counting;
 pub mod gathering;
+pub mod modes;
 pub mod reading;
 pub mod running;
 pub mod shards;
@@ -12,6 +13,7 @@ pub mod updating;
 pub mod writing;
 
 pub use counting::{Counts, Run};
-pub use running::{LIMIT, run_alone, run_one};
+pub use modes::RowMode;
+pub use running::{LIMIT, run_alone, run_alone_by, run_one, run_one_by};
 pub use tables::Table;
 pub use writing::write_table;

@@ -14,6 +14,7 @@ ghost use Rattle.fkv_feeds.specs.Runs.{StandFor};
 
 use crate::counting::{Counts, Run, appended};
 use crate::gathering::live;
+use crate::modes::RowMode;
 use crate::reading::read_feed;
 use crate::shards::Shards;
 use crate::tables::Table;
@@ -112,7 +113,35 @@ pub fn run_one<S: Source, F: Mergeable<Key = Name, Input = i64>, D: Disk>(
     feeds: &mut [S],
     functions: &F,
     config: &Config,
+    device: D,
+) -> Result<Run<F::Value>, Refused>
+    ensures ok { IsTrue D.Receipt.keeps
+        → IfOk result (λ run. IsTableOf F.meaning (map S.remaining feeds.old) run.table) }
+    ensures counted { IfOk result (λ run. HaveRows (map S.remaining feeds.old) run.counts.rows) }
+    ensures steady { OnOk result (map S.failures feeds.new ≡ map S.failures feeds.old) }
+    ensures good { result ≢ Err Refused.BadConfig
+        → IsRunnable config.now (size_of 32 F.Value.SIZE) (length feeds.old) }
+    ensures told { IfErr result (TellsWhyNone (IsRunFault D.Receipt.keeps D.failures D.Writer.failures
+        D.Reader.failures F.Value.bytes_of F.Value.is_known F.Value.SIZE)
+        config.now (size_of 32 F.Value.SIZE) (map S.remaining feeds.old)
+        (map S.failures feeds.old) (map S.failures feeds.new)) }
+{
+    run_one_by(alloc, feeds, functions, config, device, RowMode::Update)
+}
+
+/// The table of these feeds, as [`run_one`] makes it, with each row made an update of the store in this mode. Where rows
+/// are made merges the pages that are read are those of the list of the table's keys, at the end.
+///
+/// # Errors
+///
+/// As [`run_one`]'s.
+pub fn run_one_by<S: Source, F: Mergeable<Key = Name, Input = i64>, D: Disk>(
+    alloc: Global,
+    feeds: &mut [S],
+    functions: &F,
+    config: &Config,
     mut device: D,
+    mode: RowMode,
 ) -> Result<Run<F::Value>, Refused>
     ensures ok { IsTrue D.Receipt.keeps
         → IfOk result (λ run. IsTableOf F.meaning (map S.remaining feeds.old) run.table) }
@@ -129,7 +158,7 @@ pub fn run_one<S: Source, F: Mergeable<Key = Name, Input = i64>, D: Disk>(
     if !is_within || feeds.is_empty() || feeds.len() > MOST {
         return Err(Refused::BadConfig);
     }
-    let mut shards = match Shards::open(alloc, functions, config, &mut device) {
+    let mut shards = match Shards::open(alloc, functions, config, &mut device, mode) {
         Ok(shards) => shards,
         Err(refused) => return Err(refused),
     };
@@ -149,7 +178,33 @@ pub fn run_alone<S: Source, F: Mergeable<Key = Name, Input = i64>, D: Disk>(
     feed: &mut S,
     functions: &F,
     config: &Config,
+    device: D,
+) -> Result<Run<F::Value>, Refused>
+    ensures ok { IsTrue D.Receipt.keeps
+        → IfOk result (λ run. IsTableOf F.meaning (S.remaining feed.old ∷ []) run.table) }
+    ensures counted { IfOk result (λ run. HaveRows (S.remaining feed.old ∷ []) run.counts.rows) }
+    ensures steady { OnOk result (S.failures feed.new ≡ S.failures feed.old) }
+    ensures good { result ≢ Err Refused.BadConfig → IsRunnable config.now (size_of 32 F.Value.SIZE) 1 }
+    ensures told { IfErr result (TellsWhyNone (IsRunFault D.Receipt.keeps D.failures D.Writer.failures
+        D.Reader.failures F.Value.bytes_of F.Value.is_known F.Value.SIZE)
+        config.now (size_of 32 F.Value.SIZE) (S.remaining feed.old ∷ [])
+        (S.failures feed.old ∷ []) (S.failures feed.new ∷ [])) }
+{
+    run_alone_by(alloc, feed, functions, config, device, RowMode::Update)
+}
+
+/// The run over one feed, as [`run_one_by`] makes it.
+///
+/// # Errors
+///
+/// As [`run_one`]'s.
+pub fn run_alone_by<S: Source, F: Mergeable<Key = Name, Input = i64>, D: Disk>(
+    alloc: Global,
+    feed: &mut S,
+    functions: &F,
+    config: &Config,
     mut device: D,
+    mode: RowMode,
 ) -> Result<Run<F::Value>, Refused>
     ensures ok { IsTrue D.Receipt.keeps
         → IfOk result (λ run. IsTableOf F.meaning (S.remaining feed.old ∷ []) run.table) }
@@ -165,7 +220,7 @@ pub fn run_alone<S: Source, F: Mergeable<Key = Name, Input = i64>, D: Disk>(
     if !is_within {
         return Err(Refused::BadConfig);
     }
-    let mut shards = match Shards::open(alloc, functions, config, &mut device) {
+    let mut shards = match Shards::open(alloc, functions, config, &mut device, mode) {
         Ok(shards) => shards,
         Err(refused) => return Err(refused),
     };

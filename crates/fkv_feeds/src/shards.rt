@@ -1,5 +1,5 @@
 //! The partitions of a run, with a session in each, and what moves their pages to a device and back.
-ghost use Rattle.std.specs.Prelude.{◌≡◌, ◌<◌, ◌+◌, ◌%◌, ◌^◌, ◌⊎◌, ℕ, ℤ, List, [], ◌∷◌, ◌++◌, length, map, Err, IfOk, IfErr, OnOk};
+ghost use Rattle.std.specs.Prelude.{◌≡◌, ◌<◌, ◌+◌, ◌%◌, ◌^◌, ◌⊎◌, ◌↔◌, ℕ, ℤ, List, [], ◌∷◌, ◌++◌, length, map, IsTrue, Err, IfOk, IfErr, OnOk};
 ghost use Rattle.fkv_functions.specs.Names.{name_cmp};
 ghost use Rattle.fkv_functions.specs.declared.names.Name.{Name};
 ghost use Rattle.fkv_records.specs.Records.{size_of};
@@ -10,6 +10,7 @@ ghost use Rattle.fkv_feeds.specs.Faults.{IsRunFault};
 ghost use Rattle.fkv_feeds.specs.Runs.{IsSeatedIn, AreNew, StandFor};
 ghost use Rattle.fkv_feeds.specs.Exhausted.{IsOneExhausted};
 
+use crate::modes::RowMode;
 use crate::tidying::tidy_at_times;
 use crate::updating::update;
 use fkv_device::Disk;
@@ -30,6 +31,9 @@ pub struct Terms<'a, F: Mergeable> {
     pub frames: u64,
     /// How often an update may be tried: one more than it may take turns.
     pub tries: u64,
+    /// Whether a row for which a page would have to be read is made a merge.
+    pub merges: bool,
+    pub ghost merging: { IsTrue merges → IsTrue F.MERGES },
 }
 
 /// One partition of a run, with what writes its pages to the device and what reads them back.
@@ -153,12 +157,14 @@ impl<'a, F: Mergeable, D: Disk> Shards<'a, F, D> {
         functions: &'a F,
         config: &Config,
         device: &mut D,
+        mode: RowMode,
     ) -> Result<Shards<'a, F, D>, Refused>
         requires { IsWithinLimits config.now (size_of F.Key.SIZE F.Value.SIZE) }
         ensures ok { IfOk result (λ s. StandFor D.Receipt.keeps F.Key.cmp F.meaning F.code
             (map (λ shard. shard.partition) s.shards.items) s.terms.slot s.clock []) }
         // the first try is no turn
         ensures tries { IfOk result (λ s. s.terms.tries ≡ config.now.turns + 1) }
+        ensures merges { IfOk result (λ s. IsTrue s.terms.merges ↔ ((mode ≡ RowMode.Merge) × IsTrue F.MERGES)) }
         ensures told { IfErr result (FailsOnlyBy 1 0 (D.failures device.old) (D.failures device.new)) }
     {
         let count = config.partitions();
@@ -170,6 +176,7 @@ impl<'a, F: Mergeable, D: Disk> Shards<'a, F, D> {
                     slot: 0,
                     frames: config.frames,
                     tries: config.turns.saturating_add(1),
+                    merges: mode.merges::<F>(),
                 },
                 shards,
                 clock: Clock::starting(count),
@@ -191,7 +198,8 @@ impl<'a, F: Mergeable, D: Disk> Shards<'a, F, D> {
     }
 }
 
-/// Makes a row one update of its key's partition, and moves that partition's pages at times. Refused: `NoMemory`,
+/// Makes a row one update of its key's partition, and moves that partition's pages at times. Where rows are made merges
+/// no page is read. Refused: `NoMemory`,
 /// `Worn`, `Stalled`, and as the device refuses a page; then the store stands for no rows.
 pub fn add_row<F: Mergeable<Key = Name, Input = i64>, D: Disk>(
     shards: &mut Shards<'_, F, D>,
@@ -217,6 +225,9 @@ pub fn add_row<F: Mergeable<Key = Name, Input = i64>, D: Disk>(
         × (map (λ shard. D.Reader.failures shard.reader) shards.new.shards.items
         ≡ map (λ shard. D.Reader.failures shard.reader) shards.old.shards.items) }
     ensures tried { result ≡ Err Refused.Stalled → shards.new.tries ≡ shards.old.terms.tries }
+    // no row reads a page, where rows are made merges
+    ensures unread { IsTrue shards.old.terms.merges → map (λ shard. shard.reader) shards.new.shards.items
+        ≡ map (λ shard. shard.reader) shards.old.shards.items }
 {
     // which says that their number is a power of two
     shards.shards[0].partition.known();

@@ -1,5 +1,6 @@
 //! One row: an update of a partition, through its own events.
 ghost use Rattle.std.specs.Prelude.{◌≡◌, ◌+◌, ◌^◌, ◌<◌, ◌≤◌, ◌⊎◌, ◌↔◌, ℕ, IsTrue, Some, None, Ok, Err, OnOk, IfOk, IfErr, option_map, true, false};
+ghost use Rattle.std.specs.Bool.{OnTrue, OnFalse};
 ghost use Rattle.fkv_functions.specs.Plain.{Same};
 ghost use Rattle.fkv_operations.specs.After.{after};
 ghost use Rattle.fkv_operations.specs.declared.operations.KeyedOp.{KeyedOp};
@@ -56,6 +57,7 @@ fn wait<F: Mergeable, D: Disk>(
     ensures memory { result ≡ Err Refused.NoMemory
         → (D.Writer.failures shard.new.writer ≡ D.Writer.failures shard.old.writer)
         × (D.Reader.failures shard.new.reader ≡ D.Reader.failures shard.old.reader) }
+    ensures same_reader { shard.new.reader ≡ shard.old.reader }
 {
     match tidy(terms, shard, clock) {
         Ok(()) => Ok(Turn::On(None)),
@@ -90,6 +92,7 @@ fn install<F: Mergeable, D: Disk>(
     ensures memory { result ≡ Err Refused.NoMemory
         → (D.Writer.failures shard.new.writer ≡ D.Writer.failures shard.old.writer)
         × (D.Reader.failures shard.new.reader ≡ D.Reader.failures shard.old.reader) }
+    ensures same_reader { shard.new.reader ≡ shard.old.reader }
 {
     let now = match clock.tick() {
         Ok(now) => now,
@@ -133,6 +136,7 @@ fn go_on<F: Mergeable, D: Disk>(
     ensures memory { result ≡ Err Refused.NoMemory
         → (D.Writer.failures shard.new.writer ≡ D.Writer.failures shard.old.writer)
         × (D.Reader.failures shard.new.reader ≡ D.Reader.failures shard.old.reader) }
+    ensures same_reader { shard.new.reader ≡ shard.old.reader }
 {
     let now = match clock.tick() {
         Ok(now) => now,
@@ -232,6 +236,7 @@ fn attempt<F: Mergeable, D: Disk>(
     ensures memory { result ≡ Err Refused.NoMemory
         → (D.Writer.failures shard.new.writer ≡ D.Writer.failures shard.old.writer)
         × (D.Reader.failures shard.new.reader ≡ D.Reader.failures shard.old.reader) }
+    ensures unread { page ≡ None → shard.new.reader ≡ shard.old.reader }
 {
     *tries += 1;
     match page {
@@ -278,7 +283,96 @@ fn done_at_once<F: Mergeable, D: Disk>(
     }
 }
 
-/// Makes an update as [`update`] does, turn by turn, and counts its tries from none.
+/// Makes a row a merge in a session that has no operation open, turn by turn, and counts its tries on from those that are
+/// counted. It reads no page. Refused as [`update`] is, but by no page that is read.
+fn merge_by_turns<F: Mergeable, D: Disk>(
+    terms: &Terms<'_, F>,
+    shard: &mut Shard<F, D>,
+    key: &F::Key,
+    input: &F::Input,
+    clock: &mut Clock,
+    tries: &mut u64,
+) -> Result<(), Refused>
+    requires idle { IsIdle shard.old.partition terms.now.slot }
+    requires own { partition_of shard.old.partition.core.count (F.code key.now) ≡ shard.old.partition.core.number }
+    requires past { shard.old.partition.core.moment ≤ clock.old }
+    requires merges { IsTrue terms.now.merges }
+    requires few { tries.old ≤ terms.now.tries }
+    ensures idle { OnOk result (IsIdle shard.new.partition terms.now.slot) }
+    ensures done { OnOk result (IsTrue D.Receipt.keeps → Same (live_of F.Key.cmp shard.new.partition.core)
+        (after F.Key.cmp F.meaning (live_of F.Key.cmp shard.old.partition.core) (Rmw key.now input.now))) }
+    ensures number { OnOk result (shard.new.partition.core.number ≡ shard.old.partition.core.number) }
+    ensures count { OnOk result (shard.new.partition.core.count ≡ shard.old.partition.core.count) }
+    ensures past { OnOk result (shard.new.partition.core.moment ≤ clock.new) }
+    ensures later { OnOk result (clock.old < clock.new) }
+    ensures steady { OnOk result ((D.Writer.failures shard.new.writer ≡ D.Writer.failures shard.old.writer)
+        × (D.Reader.failures shard.new.reader ≡ D.Reader.failures shard.old.reader)) }
+    ensures told { IfErr result (λ e. (e ≡ Refused.NoMemory) ⊎ (e ≡ Refused.Worn) ⊎ (e ≡ Refused.Stalled)
+        ⊎ IsFault (IsEntryIn F.Key.bytes_of F.Value.bytes_of F.Key.is_known F.Value.is_known F.Key.SIZE F.Value.SIZE)
+        F.Key.cmp (D.Writer.failures shard.old.writer) (D.Writer.failures shard.new.writer)
+        (D.Reader.failures shard.old.reader) (D.Reader.failures shard.new.reader) e) }
+    ensures worn { result ≡ Err Refused.Worn → IsExhausted 1 shard.new.partition.core.records.tail clock.new }
+    ensures memory { result ≡ Err Refused.NoMemory
+        → (D.Writer.failures shard.new.writer ≡ D.Writer.failures shard.old.writer)
+        × (D.Reader.failures shard.new.reader ≡ D.Reader.failures shard.old.reader) }
+    ensures tried { result ≡ Err Refused.Stalled → tries.new ≡ terms.now.tries }
+    // so many moments have passed at least
+    ensures stalled { result ≡ Err Refused.Stalled → clock.old + terms.now.tries < clock.new + tries.old }
+    // no page is read
+    ensures same_reader { shard.new.reader ≡ shard.old.reader }
+{
+    let now = match clock.tick() {
+        Ok(now) => now,
+        Err(refused) => return Err(refused),
+    };
+    shard.partition.known();
+    // which says that the functions' merges are the partition's
+    let _merges = shard.partition.merges();
+    let op = Op::Merge(*key, *input);
+    let context = match shard.partition.issue(terms.slot, op, terms.functions, now) {
+        Ok(context) => context,
+        Err(refused) => return Err(refused),
+    };
+    for _turn in *tries..terms.tries {
+        match attempt(terms, shard, context, None, clock, tries) {
+            Ok(Turn::Done) => return Ok(()),
+            Ok(Turn::On(None)) => {}
+            Ok(Turn::On(Some(_page))) => {
+                // which says that no merge waits for a page
+                shard.partition.known();
+                unreachable!()
+            }
+            Err(refused) => return Err(refused),
+        }
+    }
+    Err(Refused::Stalled)
+}
+
+/// Whether an update that waits for this page, or for none, is made a merge.
+fn is_merged<F: Mergeable, R>(terms: &Terms<'_, F>, page: &Option<R>) -> bool
+    ensures merges { OnTrue result (IsTrue terms.now.merges) }
+    ensures kept { OnFalse result (IsTrue terms.now.merges → page.now ≡ None) }
+{
+    terms.merges && page.is_some()
+}
+
+/// Whether an update is made a merge with no look at what its key has: where rows are made merges and the key's last record in
+/// memory is a delta, since a page was to be read when that was appended. So a row never walks the deltas of its key.
+fn is_merged_at_once<F: Mergeable, D: Disk>(
+    terms: &Terms<'_, F>,
+    shard: &Shard<F, D>,
+    key: &F::Key,
+) -> bool
+    ensures { OnTrue result (IsTrue terms.now.merges) }
+{
+    terms.merges
+        && shard
+            .partition
+            .is_at_delta(terms.slot, terms.functions, key)
+}
+
+/// Makes an update as [`update`] does, turn by turn, and counts its tries from none. Where a page would have to be read and
+/// rows are made merges, it gives the update up and makes it a merge.
 fn update_by_turns<F: Mergeable, D: Disk>(
     terms: &Terms<'_, F>,
     shard: &mut Shard<F, D>,
@@ -310,6 +404,8 @@ fn update_by_turns<F: Mergeable, D: Disk>(
     ensures tried { result ≡ Err Refused.Stalled → tries.new ≡ terms.now.tries }
     // so many moments have passed at least
     ensures stalled { result ≡ Err Refused.Stalled → clock.old + terms.now.tries < clock.new }
+    // no page is read, where the update is made a merge for which one would have to be
+    ensures unread { IsTrue terms.now.merges → shard.new.reader ≡ shard.old.reader }
 {
     let now = match clock.tick() {
         Ok(now) => now,
@@ -326,7 +422,13 @@ fn update_by_turns<F: Mergeable, D: Disk>(
     for _turn in 0..terms.tries {
         match attempt(terms, shard, context, page, clock, tries) {
             Ok(Turn::Done) => return Ok(()),
-            Ok(Turn::On(next)) => page = next,
+            Ok(Turn::On(next)) => {
+                if is_merged(terms, &next) {
+                    let _given_up = shard.partition.abandon(terms.slot, context);
+                    return merge_by_turns(terms, shard, key, input, clock, tries);
+                }
+                page = next;
+            }
             Err(refused) => return Err(refused),
         }
     }
@@ -335,7 +437,8 @@ fn update_by_turns<F: Mergeable, D: Disk>(
 
 /// Makes an update in a session that has no operation open, by the events of its partition, at moments that follow
 /// those that the clock gave. Where it can't go on yet the partition's pages move on, and where its key's last record
-/// is not in memory that record's page is read. Refused: `Worn` where no address is left, or not two moments, `NoMemory`,
+/// is not in memory that record's page is read, or, where rows are made merges, it is made a merge, which reads none.
+/// Refused: `Worn` where no address is left, or not two moments, `NoMemory`,
 /// as the device refuses a page, `Damaged` where a page's bytes spell no record on the way, and `Stalled` where it is not
 /// done at one of so many tries, which are counted from none where it is not done at once.
 pub fn update<F: Mergeable, D: Disk>(
@@ -369,10 +472,17 @@ pub fn update<F: Mergeable, D: Disk>(
     ensures tried { result ≡ Err Refused.Stalled → tries.new ≡ terms.now.tries }
     // so many moments have passed at least
     ensures stalled { result ≡ Err Refused.Stalled → clock.old + terms.now.tries < clock.new }
+    ensures unread { IsTrue terms.now.merges → shard.new.reader ≡ shard.old.reader }
 {
     match done_at_once(terms, shard, key, input, clock) {
         Ok(true) => Ok(()),
-        Ok(false) => update_by_turns(terms, shard, key, input, clock, tries),
+        Ok(false) => {
+            if is_merged_at_once(terms, shard, key) {
+                *tries = 0;
+                return merge_by_turns(terms, shard, key, input, clock, tries);
+            }
+            update_by_turns(terms, shard, key, input, clock, tries)
+        }
         Err(refused) => Err(refused),
     }
 }

@@ -21,6 +21,7 @@ refuses_invented f k i v a = (
   λ l. (l.placed 0 (entry 1 (Upsert k v) a 0 0 0) (omega arith)).answers,
   λ l. (l.placed 0 (entry 1 (Upsert k v) a 0 0 0) (omega arith)).answers,
   λ l. (l.placed 0 (entry 1 (Upsert k v) a 0 0 0) (omega arith)).answers,
+  λ l. (l.placed 0 (entry 1 (Upsert k v) a 0 0 0) (omega arith)).answers,
 )
 
 pub refuses_misplaced : RefusesMisplaced

@@ -4,7 +4,7 @@ use Rattle.std.specs.Ordering.{nat_cmp}
 use Rattle.fkv_functions.specs.Meanings.{Meanings}
 use Rattle.fkv_operations.specs.After.{told_of}
 use Rattle.fkv_operations.specs.declared.operations.KeyedOp.{KeyedOp}
-use Rattle.fkv_operations.specs.declared.operations.KeyedOp.TheVariants.{Read, Upsert, Rmw, Delete}
+use Rattle.fkv_operations.specs.declared.operations.KeyedOp.TheVariants.{Read, Upsert, Rmw, Delete, Merge}
 use Rattle.fkv_operations.specs.declared.operations.Answer.{Answer}
 use Rattle.fkv_operations.specs.declared.operations.Answer.TheVariants.{Value, Absent, Stored, Deleted}
 use Rattle.fkv_histories.specs.declared.entries.Entry.{Entry}
@@ -25,13 +25,14 @@ entry session op a low at high =
     record { session = session; number = 1; op = op; answer = a; low = low; at = at; high = high }
 
 -- an answer that nobody gave: a read of no value is Absent, a first update shows the first value or is Declined, a blind
--- write is Stored and a delete is Deleted
+-- write or a merge is Stored and a delete is Deleted
 abbrev pub RefusesInvented : Type 0
 RefusesInvented = (f : Numbers) (k i v : ℕ) (a : Answer ℕ)
     → (IsLegal nat_cmp f (entry 1 (Read k i) a 0 0 0 ∷ []) → a ≡ Absent)
     × (IsLegal nat_cmp f (entry 1 (Rmw k i) a 0 0 0 ∷ []) → a ≡ told_of f k i (f.first k i))
     × (IsLegal nat_cmp f (entry 1 (Upsert k v) a 0 0 0 ∷ []) → a ≡ Stored)
     × (IsLegal nat_cmp f (entry 1 (Delete k) a 0 0 0 ∷ []) → a ≡ Deleted)
+    × (IsLegal nat_cmp f (entry 1 (Merge k i) a 0 0 0 ∷ []) → a ≡ Stored)
 
 -- an answer of another place: a read that was completed after a blind write is Absent where it stands before that, and shows
 -- what was written where it stands behind it

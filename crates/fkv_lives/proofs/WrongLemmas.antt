@@ -15,11 +15,12 @@ once k None = refl
 once k (Some v) = ap (λ t. cond t (Some v) None) (itself k)
 
 pub refuses_invented : RefusesInvented
-refuses_invented f k i v now a = (λ p. p.answers 0 _ _ refl refl, λ p. p.answers 0 _ _ refl refl, λ p. p.answers 0 _ _ refl refl, λ p. p.answers 0 _ _ refl refl, λ p. p.answers 0 _ _ refl refl)
+refuses_invented f k i v now a = (λ p. p.answers 0 _ _ refl refl, λ p. p.answers 0 _ _ refl refl, λ p. p.answers 0 _ _ refl refl, λ p. p.answers 0 _ _ refl refl, λ p. p.answers 0 _ _ refl refl, λ p. p.answers 0 _ _ refl refl)
 
 pub counts_once : CountsOnce
 counts_once f k i v a b = (
   refl,
+  once k (f.first k i),
   once k (f.first k i),
   once k (f.first k i),
   refl,

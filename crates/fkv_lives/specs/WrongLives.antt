@@ -4,7 +4,7 @@ use Rattle.std.specs.Prelude.{◌≡◌, ◌≤◌, ◌<◌, true, ℕ, [], ◌�
 use Rattle.std.specs.Ordering.{nat_cmp}
 use Rattle.fkv_functions.specs.Meanings.{Meanings}
 use Rattle.fkv_operations.specs.declared.operations.Op.{Op}
-use Rattle.fkv_operations.specs.declared.operations.Op.TheVariants.{Read, Upsert, Rmw, Delete, Relocate}
+use Rattle.fkv_operations.specs.declared.operations.Op.TheVariants.{Read, Upsert, Rmw, Delete, Merge, Relocate}
 use Rattle.fkv_operations.specs.declared.operations.Answer.{Answer}
 use Rattle.fkv_operations.specs.declared.operations.Answer.TheVariants.{Absent, Stored, Deleted, Cleared}
 use Rattle.fkv_lives.specs.declared.lives.Life.{Life}
@@ -38,22 +38,24 @@ abbrev pub opened : Op ℕ ℕ ℕ → ℕ → Life ℕ ℕ ℕ ℕ
 opened op issue = record { partition = 0; session = 1; number = 1; op = op; issue = issue; end = Open }
 
 -- an answer that nobody gave: a read of no value is Absent, a first update shows the first value or is Declined, a blind
--- write is Stored, a delete is Deleted and a relocation is Cleared
+-- write or a merge is Stored, a delete is Deleted and a relocation is Cleared
 abbrev pub RefusesInvented : Type 0
 RefusesInvented = (f : Numbers) (k i v now : ℕ) (a : Answer ℕ)
     → (IsPlaced nat_cmp f (finished (Read k i) 1 2 2 a ∷ []) now → a ≡ Absent)
     × (IsPlaced nat_cmp f (finished (Rmw k i) 1 2 2 a ∷ []) now → a ≡ told_of f k i (f.first k i))
     × (IsPlaced nat_cmp f (finished (Upsert k v) 1 2 2 a ∷ []) now → a ≡ Stored)
     × (IsPlaced nat_cmp f (finished (Delete k) 1 2 2 a ∷ []) now → a ≡ Deleted)
+    × (IsPlaced nat_cmp f (finished (Merge k i) 1 2 2 a ∷ []) now → a ≡ Stored)
     × (IsPlaced nat_cmp f (finished Relocate 1 2 2 a ∷ []) now → a ≡ Cleared)
 
--- an update that is left out, or counted twice; one that is open counts nothing, and neither does one that is declined; a
--- delete after a blind write leaves nothing
+-- an update or a merge that is left out, or counted twice; one that is open counts nothing, and neither does one that is
+-- declined; a delete after a blind write leaves nothing
 abbrev pub CountsOnce : Type 0
 CountsOnce = (f : Numbers) (k i v : ℕ) (a b : Answer ℕ)
     → (map_before nat_cmp f (finished (Rmw k i) 1 2 2 a ∷ []) 2 k ≡ None)
     × (map_before nat_cmp f (finished (Rmw k i) 1 2 2 a ∷ []) 3 k ≡ f.first k i)
     × (map_before nat_cmp f (finished (Rmw k i) 1 2 2 a ∷ []) 4 k ≡ f.first k i)
+    × (map_before nat_cmp f (finished (Merge k i) 1 2 2 a ∷ []) 3 k ≡ f.first k i)
     × (map_before nat_cmp f (opened (Rmw k i) 1 ∷ []) 4 k ≡ None)
     × (map_before nat_cmp f (finished (Upsert k v) 1 2 2 a ∷ finished (Delete k) 1 4 4 b ∷ []) 4 k ≡ Some v)
     × (map_before nat_cmp f (finished (Upsert k v) 1 2 2 a ∷ finished (Delete k) 1 4 4 b ∷ []) 5 k ≡ None)

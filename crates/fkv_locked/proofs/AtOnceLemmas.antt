@@ -39,12 +39,13 @@ module _ {K V I : Type 0} (code : K → ℕ) (old between : PartitionView K V I)
   begun_on_key : IssuesOnKey code old between slot (on_key.Rmw key input) issued (Ok c) → Begun
   begun_on_key (IssuesOnKey.unknown a b h) = absurd (cc)
   begun_on_key (IssuesOnKey.stranger a n b h) = absurd (cc)
-  begun_on_key (IssuesOnKey.full a own none b h) = absurd (cc)
-  begun_on_key (IssuesOnKey.issues b inside own free is h) =
+  begun_on_key (IssuesOnKey.unmerged a own m f b h) = absurd (cc)
+  begun_on_key (IssuesOnKey.full a own m none b h) = absurd (cc)
+  begun_on_key (IssuesOnKey.issues b inside own m free is h) =
       let same : c ≡ b = cc in
       rw (is, same)
       (record {
-        issues = beginning.Issues.issues inside free.0 (free-context old slot b inside free.0 free.1) own refl refl;
+        issues = beginning.Issues.issues inside free.0 (free-context old slot b inside free.0 free.1) own m refl refl;
         none = free-relocation old slot b inside free.0 free.1;
       })
 

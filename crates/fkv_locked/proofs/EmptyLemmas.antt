@@ -1,5 +1,5 @@
 -- What is kept under the lock of a partition with nothing in it.
-use Rattle.std.proofs.Common.{◌≡◌, ◌≤◌, ℕ, zero, suc, false, List, [], Some, None, replicate, slice_index, refl, sym, ◌∙◌, arith}
+use Rattle.std.proofs.Common.{◌≡◌, ◌≤◌, Bool, ℕ, zero, suc, false, List, [], Some, None, replicate, slice_index, refl, sym, ◌∙◌, arith}
 use Rattle.std.specs.declared.cmp.Ordering.{Ordering}
 use Rattle.fkv_functions.specs.Meanings.{Meanings}
 use Rattle.fkv_partition.specs.Config.{Config}
@@ -21,22 +21,22 @@ no-marks zero i = refl
 no-marks (suc n) zero = refl
 no-marks (suc n) (suc i) = no-marks n i
 
-pub kept_empty : {K V I O : Type 0} (cmp : K → K → Ordering) (f : Meanings K V I O) (config : Config) (size number : ℕ) (v : PartitionView K V I) (es : List (Entry K V I O)) (lows looks : List ℕ)
-    → v ≡ empty_partition config size number
+pub kept_empty : {K V I O : Type 0} (cmp : K → K → Ordering) (f : Meanings K V I O) (merges : Bool) (config : Config) (size number : ℕ) (v : PartitionView K V I) (es : List (Entry K V I O)) (lows looks : List ℕ)
+    → v ≡ empty_partition merges config size number
     → es ≡ []
     → lows ≡ replicate 128 0
     → IsKept cmp f (seen cmp v) es lows looks 0
-kept_empty {K} {V} {I} cmp f config size number v es lows looks v_is es_is lows_is = rw (v_is, es_is, lows_is) (record {
+kept_empty {K} {V} {I} cmp f merges config size number v es lows looks v_is es_is lows_is = rw (v_is, es_is, lows_is) (record {
   legal = legal_empty cmp f;
   live = λ q. refl;
   issued = λ i. (let none = no-marks 128 i in omega arith);
   past = λ slot c p h.
       let out : is_session (replicate 16 None) slot ≡ false = no-session 16 slot in
-      let none : asked (empty_partition {K = K} {V = V} {I = I} config size number) slot c ≡ None = rw out refl in
-      let bad : None ≡ Some p = sym (closed-pending (empty_partition config size number) slot c cmp none) ∙ h in
+      let none : asked (empty_partition {K = K} {V = V} {I = I} merges config size number) slot c ≡ None = rw out refl in
+      let bad : None ≡ Some p = sym (closed-pending (empty_partition merges config size number) slot c cmp none) ∙ h in
       absurd (cc);
   counted = refl;
 })
 
-pub early_empty : {K V I : Type 0} (config : Config) (size number clock : ℕ) (v : PartitionView K V I) → v ≡ empty_partition config size number → v.core.moment ≤ clock
-early_empty config size number clock v v_is = rw v_is (omega arith)
+pub early_empty : {K V I : Type 0} (merges : Bool) (config : Config) (size number clock : ℕ) (v : PartitionView K V I) → v ≡ empty_partition merges config size number → v.core.moment ≤ clock
+early_empty merges config size number clock v v_is = rw v_is (omega arith)

@@ -20,7 +20,7 @@ impl<F: Mergeable, R: Receipt, H: Recorder<F>> Locked<F, R, H> {
     /// `NoMemory`.
     pub fn new(alloc: Global, config: &Config, number: u64) -> Result<Self, Refused>
         ensures ok { IfOk result (λ l. l
-            ≡ fresh_lock (empty_partition config.now (size_of F.Key.SIZE F.Value.SIZE) number)) }
+            ≡ fresh_lock (empty_partition F.MERGES config.now (size_of F.Key.SIZE F.Value.SIZE) number)) }
         ensures good { result ≢ Err Refused.BadConfig
             → IsPartitionOf config.now (size_of F.Key.SIZE F.Value.SIZE) number }
         ensures bad { result ≡ Err Refused.BadConfig

@@ -1,5 +1,5 @@
 -- What the records of a partition keep, over each change, and what an entry says of a key.
-use Rattle.std.proofs.Common.{◌≡◌, Bool, true, false, cond, ℕ, zero, suc, ◌<◌, ◌≤◌, ◌^◌, inl, inr, List, [], ◌∷◌, ◌++◌, length, replicate, Option, Some, None, slice_get, nat_le, refl, sym, ◌∙◌, ap, subst, arith, lit<}
+use Rattle.std.proofs.Common.{◌≡◌, IsTrue, IsSome, Bool, true, false, cond, ℕ, zero, suc, ◌<◌, ◌≤◌, ◌^◌, inl, inr, List, [], ◌∷◌, ◌++◌, length, replicate, Option, Some, None, slice_get, nat_le, refl, sym, ◌∙◌, ap, subst, arith, lit<}
 use Rattle.std.proofs.lemmas.Bool.Decides.{nat_tests}
 use Rattle.std.proofs.lemmas.List.{length-replicate}
 use Rattle.std.specs.Bool.{OnTrue, OnFalse}
@@ -8,8 +8,8 @@ use Rattle.fkv_functions.specs.Plain.{IsKeyOrder}
 use Rattle.fkv_records.specs.Records.{IsPrevious}
 use Rattle.fkv_texts.specs.declared.entries.Entry.{Entry}
 use Rattle.fkv_texts.specs.Places.{IsLaidOut}
-use Rattle.fkv_texts.specs.Text.{last_where, has_key, last_of, newest, AllAbove, IsRising, IsFrom, IsBelow}
-use Rattle.fkv_texts.specs.Deltas.{stood}
+use Rattle.fkv_texts.specs.Text.{last_where, has_key, last_of, newest, live, AllAbove, IsRising, IsFrom, IsBelow}
+use Rattle.fkv_texts.specs.Deltas.{stood, risen}
 use Rattle.fkv_texts.specs.Chains.{has_class, last_of_class, Leads, IsChained, IsIn}
 use Rattle.fkv_functions.proofs.ListLemmas.{get-append_last}
 use Rattle.fkv_regions.specs.RegionsView.{RegionsView}
@@ -27,8 +27,11 @@ use Rattle.fkv_operations.specs.declared.classes.Class.{Class}
 use Rattle.fkv_operations.specs.declared.entries.IndexEntry.{IndexEntry}
 use Rattle.fkv_operations.specs.Classes.{same_class}
 use Rattle.fkv_operations.specs.KeptWords.{IsLed}
-use Rattle.fkv_lookups.specs.RecordsViews.{RecordsView, class_in, indexed, entry_of, leads_to, with_record, with_value, moved}
+use Rattle.fkv_lookups.specs.RecordsViews.{RecordsView, class_in, indexed, entry_of, leads_to, with_written, with_value, moved}
 use Rattle.fkv_lookups.specs.RecordsViews.{ChangesAt}
+use Rattle.fkv_lookups.specs.declared.payloads.Payload.{Payload}
+use Rattle.fkv_lookups.specs.declared.payloads.Payload.TheVariants.{Whole, Part}
+use Rattle.fkv_lookups.specs.Payloads.{value_in, is_part, standing}
 use Rattle.fkv_lookups.specs.Traced.{AreRegionsBelow, IsTraced, IsStood}
 use Rattle.fkv_operations.proofs.ClassLemmas.{class_test, entry-set}
 use Rattle.std.specs.Prelude.{Result, Ok, Err, OnOk, OnErr}
@@ -333,40 +336,57 @@ pub record IsTextOf {K V : Type 0} (code : K → ℕ) (w : RecordsView K V) : Ty
   pub below : IsBelow w.tail w.text
   pub chained : IsChained (class_in code w) same_class w.from w.text
 
--- a record that is no delta stands for its own value
-pub whole-append : {K V : Type 0} (cmp : K → K → Ordering) (join : V → V → V) (es : List (Entry K V)) (x : Entry K V) → x.delta ≡ false
-    → stood cmp join (es ++ x ∷ []) ≡ stood cmp join es ++ x ∷ []
-whole-append cmp join es x whole =
-    stood-append cmp join es x ∙ ap (λ v. stood cmp join es ++ record x { value = v } ∷ []) (rw whole refl)
+-- what a record that is written stands for: a value for itself, and a part joined with what the key had
+rises-to : {K V : Type 0} (join : V → V → V) (held : Option V) (a previous : ℕ) (key : K) (payload : Payload V)
+    → risen join held (record { address = a; previous = previous; key = key; value = value_in payload; delta = is_part payload }) ≡ standing join held payload
+rises-to join held a previous key (Whole o) = refl
+rises-to join held a previous key (Part part) = refl
 
-pub records-appended : {K V : Type 0} (cmp : K → K → Ordering) (join : V → V → V) (p k size : ℕ) (old new : LogView K V) (words made : List (List Word)) (e : IndexEntry) (key : K) (value : Option V)
-    → new ≡ log.with_entry size old (address_of e.word) key value false
-    → made ≡ with_word words e.place (final_word (tag_of e.word) old.tail)
-    → view_of cmp join p k size new made ≡ with_record (view_of cmp join p k size old words) e key value
-records-appended {K} {V} cmp join p k size old new words made e key value is word =
-    let x : Entry K V = record { address = old.tail; previous = address_of e.word; key = key; value = value; delta = false } in
-    let w : RecordsView K V = with_record (view_of cmp join p k size old words) e key value in
-    ap (λ (l : LogView K V). view_of cmp join p k size l made) is
-    ∙ ap (λ (text : List (Entry K V)). record w { text = text; words = made }) (whole-append cmp join old.text x refl)
-    ∙ ap (λ (ws : List (List Word)). record w { words = ws }) word
+-- a part is there
+pub part-some : {V : Type 0} (payload : Payload V) → IsTrue (is_part payload) → IsSome (value_in payload)
+part-some (Whole o) h = absurd (cc)
+part-some (Part part) h = refl
 
-pub text_then : {K V : Type 0} {keeps : Bool} {code : K → ℕ} (cmp : K → K → Ordering) (join : V → V → V) (p k size : ℕ) (words : List (List Word)) (e : IndexEntry) (key : K) (value : Option V) (old new : LogView K V)
-    → new ≡ log.with_entry size old (address_of e.word) key value false
-    → IsLogOf keeps size new
-    → IsChained (class_in code (view_of cmp join p k size old words)) same_class old.from (old.text ++ record { address = old.tail; previous = address_of e.word; key = key; value = value; delta = false } ∷ [])
-    → IsTextOf code (with_record (view_of cmp join p k size old words) e key value)
-text_then {K} {V} {keeps} {code} cmp join p k size words e key value old new is known chained =
-    let l : IsLogOf keeps size (log.with_entry size old (address_of e.word) key value false) = subst (IsLogOf keeps size) is known in
-    let x : Entry K V = record { address = old.tail; previous = address_of e.word; key = key; value = value; delta = false } in
-    let w : RecordsView K V = with_record (view_of cmp join p k size old words) e key value in
-    let same : AreAlike (old.text ++ x ∷ []) w.text = rw (← whole-append cmp join old.text x refl) (alike cmp join (old.text ++ x ∷ [])) in
-    record {
-      laid_out = alike-laid_out w.page_bits w.record_size w.from w.tail (old.text ++ x ∷ []) w.text same l.laid_out;
-      rising = alike-rising (old.text ++ x ∷ []) w.text same l.rising;
-      from = alike-from w.from (old.text ++ x ∷ []) w.text same l.from;
-      below = alike-below w.tail (old.text ++ x ∷ []) w.text same l.below;
-      chained = alike-chained (class_in code w) same_class w.from (old.text ++ x ∷ []) w.text same chained;
-    }
+module _ {K V : Type 0} (cmp : K → K → Ordering) (join : V → V → V) (p k size : ℕ) (e : IndexEntry) (key : K) (payload : Payload V) (old new : LogView K V) where
+  -- the record as a page spells it, what its key has once it stands, and the record as it then stands
+  abbrev written : Entry K V
+  written = record { address = old.tail; previous = address_of e.word; key = key; value = value_in payload; delta = is_part payload }
+
+  abbrev has : Option V
+  has = standing join (live cmp (stood cmp join old.text) key) payload
+
+  abbrev stands : Entry K V
+  stands = record { address = old.tail; previous = address_of e.word; key = key; value = has; delta = is_part payload }
+
+  written-append : stood cmp join (old.text ++ written ∷ []) ≡ stood cmp join old.text ++ stands ∷ []
+  written-append =
+      stood-append cmp join old.text written
+      ∙ ap (λ v. stood cmp join old.text ++ record written { value = v } ∷ []) (rises-to join (live cmp (stood cmp join old.text) key) old.tail (address_of e.word) key payload)
+
+  module _ (words : List (List Word)) (is : new ≡ log.with_entry size old (address_of e.word) key (value_in payload) (is_part payload)) where
+    pub records-appended : (made : List (List Word)) → made ≡ with_word words e.place (final_word (tag_of e.word) old.tail)
+        → view_of cmp join p k size new made ≡ with_written (view_of cmp join p k size old words) e key payload has
+    records-appended made word =
+        let w : RecordsView K V = with_written (view_of cmp join p k size old words) e key payload has in
+        ap (λ (l : LogView K V). view_of cmp join p k size l made) is
+        ∙ ap (λ (text : List (Entry K V)). record w { text = text; words = made }) written-append
+        ∙ ap (λ (ws : List (List Word)). record w { words = ws }) word
+
+    pub text_then : {keeps : Bool} {code : K → ℕ}
+        → IsLogOf keeps size new
+        → IsChained (class_in code (view_of cmp join p k size old words)) same_class old.from (old.text ++ written ∷ [])
+        → IsTextOf code (with_written (view_of cmp join p k size old words) e key payload has)
+    text_then {keeps} {code} known chained =
+        let l : IsLogOf keeps size (log.with_entry size old (address_of e.word) key (value_in payload) (is_part payload)) = subst (IsLogOf keeps size) is known in
+        let w : RecordsView K V = with_written (view_of cmp join p k size old words) e key payload has in
+        let same : AreAlike (old.text ++ written ∷ []) w.text = rw (← written-append) (alike cmp join (old.text ++ written ∷ [])) in
+        record {
+          laid_out = alike-laid_out w.page_bits w.record_size w.from w.tail (old.text ++ written ∷ []) w.text same l.laid_out;
+          rising = alike-rising (old.text ++ written ∷ []) w.text same l.rising;
+          from = alike-from w.from (old.text ++ written ∷ []) w.text same l.from;
+          below = alike-below w.tail (old.text ++ written ∷ []) w.text same l.below;
+          chained = alike-chained (class_in code w) same_class w.from (old.text ++ written ∷ []) w.text same chained;
+        }
 
 -- and what an index says of its words once an entry has moved
 pub record AreMoved (c : Class) (a : ℕ) (old new : List (List Word)) : Type 0 where
@@ -387,15 +407,15 @@ moved-there c p w a old new bucket tag sets map buckets = record {
   buckets = buckets;
 }
 
-pub traced-record : {K V : Type 0} {keeps : Bool} {code : K → ℕ} (v : RecordsView K V) (e : IndexEntry) (key : K) (value : Option V)
+pub traced-record : {K V : Type 0} {keeps : Bool} {code : K → ℕ} (v : RecordsView K V) (e : IndexEntry) (key : K) (payload : Payload V) (has : Option V)
     → IsTraced keeps code v
-    → IsTextOf code (with_record v e key value)
-    → AreMoved (class_in code v key) v.tail v.words (with_record v e key value).words
-    → IsTraced keeps code (with_record v e key value)
-traced-record {K} {V} {keeps} {code} v e key value t new moved =
+    → IsTextOf code (with_written v e key payload has)
+    → AreMoved (class_in code v key) v.tail v.words (with_written v e key payload has).words
+    → IsTraced keeps code (with_written v e key payload has)
+traced-record {K} {V} {keeps} {code} v e key payload has t new moved =
     let c : Class = class_in code v key in
-    let w : RecordsView K V = with_record v e key value in
-    let x : Entry K V = record { address = v.tail; previous = address_of e.word; key = key; value = value; delta = false } in
+    let w : RecordsView K V = with_written v e key payload has in
+    let x : Entry K V = record { address = v.tail; previous = address_of e.word; key = key; value = has; delta = is_part payload } in
     let rises = new.below (length v.text) x (get-append_last v.text x) in
     let entry = entry-set v.words w.words c v.tail moved.sets in
     record {

@@ -4,7 +4,7 @@ use Rattle.std.proofs.lemmas.Bool.Decides.{nat_tests}
 use Rattle.std.specs.declared.cmp.Ordering.{Ordering}
 use Rattle.std.specs.BTreeMap.{is_at}
 use Rattle.std.proofs.Common.{refl, sym, ap, ◌∙◌, inl, inr, subst, arith}
-use Rattle.fkv_functions.specs.Meanings.{Meanings, updated}
+use Rattle.fkv_functions.specs.Meanings.{Meanings, Parts, Merges, updated}
 use Rattle.fkv_functions.specs.Plain.{PlainMap, Same, IsKeyOrder, with_at}
 use Rattle.fkv_texts.specs.declared.entries.Entry.{Entry}
 use Rattle.fkv_texts.specs.declared.entries.ChainPosition.{ChainPosition}
@@ -13,12 +13,15 @@ use Rattle.fkv_regions.specs.declared.offsets.View.{View}
 use Rattle.fkv_regions.specs.declared.offsets.Region.{Region}
 use Rattle.fkv_regions.specs.declared.offsets.Region.TheVariants as region
 use Rattle.fkv_regions.specs.Offsets.{region_of}
-use Rattle.fkv_operations.specs.After.{key_of, after, after_update, answer, shown_of, told_of}
+use Rattle.fkv_operations.specs.After.{key_of, is_merge, after, after_update, answer, shown_of, told_of}
 use Rattle.fkv_texts.specs.Deltas.{onto}
 use Rattle.fkv_lookups.specs.declared.gathered.Gathered.{Gathered}
-use Rattle.fkv_lookups.specs.Decisions.{met_in, met_last, met_on, met_by, joined_to, held_of, IsHeld, replaced, decision}
+use Rattle.fkv_lookups.specs.declared.payloads.Payload.{Payload}
+use Rattle.fkv_lookups.specs.declared.payloads.Payload.TheVariants.{Whole, Part}
+use Rattle.fkv_lookups.specs.Payloads.{standing}
+use Rattle.fkv_lookups.specs.Decisions.{met_in, met_last, met_on, met_by, joined_to, held_of, IsHeld, replaced, parted, merged, decision}
 use Rattle.fkv_operations.specs.declared.operations.KeyedOp.{KeyedOp}
-use Rattle.fkv_operations.specs.declared.operations.KeyedOp.TheVariants.{Read, Upsert, Rmw, Delete}
+use Rattle.fkv_operations.specs.declared.operations.KeyedOp.TheVariants.{Read, Upsert, Rmw, Delete, Merge}
 use Rattle.fkv_operations.specs.declared.operations.Answer.{Answer}
 use Rattle.fkv_lookups.specs.declared.decisions.LookupResult.{LookupResult}
 use Rattle.fkv_lookups.specs.declared.decisions.LookupResult.TheVariants.{NoEntry, NoValue, ReadOnly, Fuzzy, Mutable, OnDisk}
@@ -30,37 +33,63 @@ removed : {V : Type 0} (b : Bool) (l : Option V) → (b ≡ true → l ≡ None)
 removed true l h = h refl
 removed false l h = refl
 
-module _ {K V I O : Type 0} (cmp : K → K → Ordering) (f : Meanings K V I O) (m : PlainMap K V) where
+-- where functions merge, an update of a key is what it had with the input's part joined
+pub joined-update : {K V I O : Type 0} (f : Meanings K V I O) (p : Parts K V I) → Merges f p
+    → (k : K) (i : I) (part : V)
+    → f.first k i ≡ Some part
+    → (held : Option V)
+    → updated f k i held ≡ onto p.joined held (Some part)
+joined-update f p merges k i part first None = first
+joined-update f p merges k i part first (Some v) =
+    let same : p.delta k i ≡ part = (let both : Some (p.delta k i) ≡ Some part = sym (merges.first k i) ∙ first in cc) in
+    merges.next k v i ∙ ap (λ d. Some (p.joined v d)) same
+
+joined-some : {K V : Type 0} (cmp : K → K → Ordering) (join : V → V → V) (m : PlainMap K V) (k : K) (held : Option V) (part : V)
+    → after_update cmp m k (onto join held (Some part)) ≡ with_at cmp m k (onto join held (Some part))
+joined-some cmp join m k None part = refl
+joined-some cmp join m k (Some v) part = refl
+
+module _ {K V I O : Type 0} (cmp : K → K → Ordering) (f : Meanings K V I O) (p : Parts K V I) (m : PlainMap K V) where
   -- what a decision comes to on the map: one that writes nothing leaves it, one that appends or replaces does to it what its
   -- record does, and each answers as the map does
   abbrev Does : KeyedOp K V I → LookupResult V → Decision V I O → Type 0
   Does op met (Done a) = IsKeyOrder cmp → IsHeld met (m (key_of op)) → Same (after cmp f m op) m × (a ≡ answer f m op)
   Does op met Claim = Unit {0}
-  Does op met (Append v a) = (after cmp f m op ≡ with_at cmp m (key_of op) v) × (a ≡ answer f m op)
+  Does op met (Append w a) = (after cmp f m op ≡ with_at cmp m (key_of op) (standing p.joined (m (key_of op)) w)) × (a ≡ answer f m op)
   Does op met (Replace v a) = IsHeld met (m (key_of op)) → (after cmp f m op ≡ with_at cmp m (key_of op) v) × (a ≡ answer f m op)
   Does op met (Prepare s i) = Unit {0}
   Does op met Wait = Unit {0}
   Does op met (Load b c) = Unit {0}
 
+  -- a merge appends the part of its input, or replaces a value by the next one
+  does-part : Merges f p → (k : K) (i : I) (met : LookupResult V) (o : Option V) → f.first k i ≡ o → Does (Merge k i) met (parted o)
+  does-part merges k i met None e = absurd (let no : Some (p.delta k i) ≡ None = sym (merges.first k i) ∙ e in cc)
+  does-part merges k i met (Some part) e =
+      (ap (after_update cmp m k) (joined-update f p merges k i part e (m k)) ∙ joined-some cmp p.joined m k (m k) part, refl)
+
+  does-next : Merges f p → (k : K) (i : I) (w : V) (o : Option V) → f.next k w i ≡ o → Does (Merge k i) (Mutable w) (merged o)
+  does-next merges k i w None e = absurd (let no : Some (p.joined w (p.delta k i)) ≡ None = sym (merges.next k w i) ∙ e in cc)
+  does-next merges k i w (Some v) e = λ h. (ap (after_update cmp m k) (ap (updated f k i) h ∙ e), refl)
+
   -- the table, row by row
-  does : (op : KeyedOp K V I) (met : LookupResult V) → Does op met (decision f op met)
-  does (Read k i) NoEntry = λ order h. ((λ q. refl), ap (shown_of f k i) (sym h))
-  does (Read k i) NoValue = λ order h. ((λ q. refl), ap (shown_of f k i) (sym h))
-  does (Read k i) (ReadOnly w) = λ order h. ((λ q. refl), ap (shown_of f k i) (sym h))
-  does (Read k i) (Fuzzy w) = λ order h. ((λ q. refl), ap (shown_of f k i) (sym h))
-  does (Read k i) (Mutable w) = λ order h. ((λ q. refl), ap (shown_of f k i) (sym h))
-  does (Read k i) (OnDisk b c) = tt
-  does (Upsert k u) NoEntry = tt
-  does (Upsert k u) NoValue = (refl, refl)
-  does (Upsert k u) (ReadOnly w) = (refl, refl)
-  does (Upsert k u) (Fuzzy w) = (refl, refl)
-  does (Upsert k u) (Mutable w) = λ h. (refl, refl)
-  does (Upsert k u) (OnDisk b c) = (refl, refl)
-  does (Rmw k i) NoEntry = tt
-  does (Rmw k i) NoValue = tt
-  does (Rmw k i) (ReadOnly w) = tt
-  does (Rmw k i) (Fuzzy w) = tt
-  does (Rmw k i) (Mutable w) = by_next (f.next k w i) refl
+  does : (op : KeyedOp K V I) (met : LookupResult V) → (is_merge op ≡ true → Merges f p) → Does op met (decision f op met)
+  does (Read k i) NoEntry merges = λ order h. ((λ q. refl), ap (shown_of f k i) (sym h))
+  does (Read k i) NoValue merges = λ order h. ((λ q. refl), ap (shown_of f k i) (sym h))
+  does (Read k i) (ReadOnly w) merges = λ order h. ((λ q. refl), ap (shown_of f k i) (sym h))
+  does (Read k i) (Fuzzy w) merges = λ order h. ((λ q. refl), ap (shown_of f k i) (sym h))
+  does (Read k i) (Mutable w) merges = λ order h. ((λ q. refl), ap (shown_of f k i) (sym h))
+  does (Read k i) (OnDisk b c) merges = tt
+  does (Upsert k u) NoEntry merges = tt
+  does (Upsert k u) NoValue merges = (refl, refl)
+  does (Upsert k u) (ReadOnly w) merges = (refl, refl)
+  does (Upsert k u) (Fuzzy w) merges = (refl, refl)
+  does (Upsert k u) (Mutable w) merges = λ h. (refl, refl)
+  does (Upsert k u) (OnDisk b c) merges = (refl, refl)
+  does (Rmw k i) NoEntry merges = tt
+  does (Rmw k i) NoValue merges = tt
+  does (Rmw k i) (ReadOnly w) merges = tt
+  does (Rmw k i) (Fuzzy w) merges = tt
+  does (Rmw k i) (Mutable w) merges = by_next (f.next k w i) refl
     where
       came : (o : Option V) → f.next k w i ≡ o → m k ≡ Some w → updated f k i (m k) ≡ o
       came o e h = ap (updated f k i) h ∙ e
@@ -68,34 +97,43 @@ module _ {K V I O : Type 0} (cmp : K → K → Ordering) (f : Meanings K V I O) 
       by_next : (o : Option V) → f.next k w i ≡ o → Does (Rmw k i) (Mutable w) (replaced f k i o)
       by_next None e = λ order h. ((λ q. ap (λ (o : Option V). after_update cmp m k o q) (came None e h)), sym (ap (told_of f k i) (came None e h)))
       by_next (Some v) e = λ h. (ap (after_update cmp m k) (came (Some v) e h), sym (ap (told_of f k i) (came (Some v) e h)))
-  does (Rmw k i) (OnDisk b c) = tt
-  does (Delete k) NoEntry = λ order h. ((λ q. sym (removed (is_at (cmp k) q) (m q) (λ t. ap m (sym (order.same k q t)) ∙ h))), refl)
-  does (Delete k) NoValue = λ order h. ((λ q. sym (removed (is_at (cmp k) q) (m q) (λ t. ap m (sym (order.same k q t)) ∙ h))), refl)
-  does (Delete k) (ReadOnly w) = (refl, refl)
-  does (Delete k) (Fuzzy w) = (refl, refl)
-  does (Delete k) (Mutable w) = λ h. (refl, refl)
-  does (Delete k) (OnDisk b c) = (refl, refl)
+  does (Rmw k i) (OnDisk b c) merges = tt
+  does (Delete k) NoEntry merges = λ order h. ((λ q. sym (removed (is_at (cmp k) q) (m q) (λ t. ap m (sym (order.same k q t)) ∙ h))), refl)
+  does (Delete k) NoValue merges = λ order h. ((λ q. sym (removed (is_at (cmp k) q) (m q) (λ t. ap m (sym (order.same k q t)) ∙ h))), refl)
+  does (Delete k) (ReadOnly w) merges = (refl, refl)
+  does (Delete k) (Fuzzy w) merges = (refl, refl)
+  does (Delete k) (Mutable w) merges = λ h. (refl, refl)
+  does (Delete k) (OnDisk b c) merges = (refl, refl)
+  does (Merge k i) NoEntry merges = tt
+  does (Merge k i) NoValue merges = does-part (merges refl) k i NoValue (f.first k i) refl
+  does (Merge k i) (ReadOnly w) merges = does-part (merges refl) k i (ReadOnly w) (f.first k i) refl
+  does (Merge k i) (Fuzzy w) merges = does-part (merges refl) k i (Fuzzy w) (f.first k i) refl
+  does (Merge k i) (Mutable w) merges = does-next (merges refl) k i w (f.next k w i) refl
+  does (Merge k i) (OnDisk b c) merges = does-part (merges refl) k i (OnDisk b c) (f.first k i) refl
 
   -- an operation that is done without a write leaves the map as it is, and answers as the map does
   pub quiet-does : IsKeyOrder cmp
       → (op : KeyedOp K V I) (met : LookupResult V) (a : Answer O)
+      → (is_merge op ≡ true → Merges f p)
       → IsHeld met (m (key_of op))
       → decision f op met ≡ Done a
       → Same (after cmp f m op) m × (a ≡ answer f m op)
-  quiet-does order op met a held d = subst (Does op met) d (does op met) order held
+  quiet-does order op met a merges held d = subst (Does op met) d (does op met merges) order held
 
   -- one that appends does to the map what its record does, and answers as the map does
-  pub append-does : (op : KeyedOp K V I) (met : LookupResult V) (v : Option V) (a : Answer O)
-      → decision f op met ≡ Append v a
-      → (after cmp f m op ≡ with_at cmp m (key_of op) v) × (a ≡ answer f m op)
-  append-does op met v a d = subst (Does op met) d (does op met)
+  pub append-does : (op : KeyedOp K V I) (met : LookupResult V) (w : Payload V) (a : Answer O)
+      → (is_merge op ≡ true → Merges f p)
+      → decision f op met ≡ Append w a
+      → (after cmp f m op ≡ with_at cmp m (key_of op) (standing p.joined (m (key_of op)) w)) × (a ≡ answer f m op)
+  append-does op met w a merges d = subst (Does op met) d (does op met merges)
 
   -- and so does one that changes the last record of its key in place
   pub replace-does : (op : KeyedOp K V I) (met : LookupResult V) (v : Option V) (a : Answer O)
+      → (is_merge op ≡ true → Merges f p)
       → IsHeld met (m (key_of op))
       → decision f op met ≡ Replace v a
       → (after cmp f m op ≡ with_at cmp m (key_of op) v) × (a ≡ answer f m op)
-  replace-does op met v a held d = subst (Does op met) d (does op met) held
+  replace-does op met v a merges held d = subst (Does op met) d (does op met merges) held
 
 module _ {K V I O : Type 0} (f : Meanings K V I O) where
   -- what a decision says of its operation and of what was met
@@ -138,6 +176,32 @@ module _ {K V I O : Type 0} (f : Meanings K V I O) where
   is-decided (Delete k) (Fuzzy w) = λ e. cc
   is-decided (Delete k) (Mutable w) = (w, refl)
   is-decided (Delete k) (OnDisk b c) = λ e. cc
+  is-decided (Merge k i) NoEntry = refl
+  is-decided (Merge k i) NoValue = by_first (f.first k i)
+    where
+      by_first : (o : Option V) → IsDecided (Merge k i) NoValue (parted o)
+      by_first None = tt
+      by_first (Some part) = λ e. cc
+  is-decided (Merge k i) (ReadOnly w) = by_first (f.first k i)
+    where
+      by_first : (o : Option V) → IsDecided (Merge k i) (ReadOnly w) (parted o)
+      by_first None = tt
+      by_first (Some part) = λ e. cc
+  is-decided (Merge k i) (Fuzzy w) = by_first (f.first k i)
+    where
+      by_first : (o : Option V) → IsDecided (Merge k i) (Fuzzy w) (parted o)
+      by_first None = tt
+      by_first (Some part) = λ e. cc
+  is-decided (Merge k i) (Mutable w) = by_next (f.next k w i)
+    where
+      by_next : (o : Option V) → IsDecided (Merge k i) (Mutable w) (merged o)
+      by_next None = tt
+      by_next (Some v) = (w, refl)
+  is-decided (Merge k i) (OnDisk b c) = by_first (f.first k i)
+    where
+      by_first : (o : Option V) → IsDecided (Merge k i) (OnDisk b c) (parted o)
+      by_first None = tt
+      by_first (Some part) = λ e. cc
 
   -- one that asks for a value is an update by an input, and its source is what was met: none, or a value that changes no
   -- more
@@ -174,7 +238,7 @@ module _ {K V I O : Type 0} (f : Meanings K V I O) where
   wait-met op met d = (subst (IsDecided op met) d (is-decided op met)).1
 
   -- without an entry nothing is written but an entry
-  pub append-entry : (op : KeyedOp K V I) (join : V → V → V) (entry : Option ℕ) (begin : ℕ) (view : View) (came : Gathered K V) (v : Option V) (a : Answer O)
+  pub append-entry : (op : KeyedOp K V I) (join : V → V → V) (entry : Option ℕ) (begin : ℕ) (view : View) (came : Gathered K V) (v : Payload V) (a : Answer O)
       → decision f op (met_by join entry begin view came) ≡ Append v a
       → IsSome entry
   append-entry op join None begin view came v a d = absurd (subst (IsDecided op NoEntry) d (is-decided op NoEntry) refl)

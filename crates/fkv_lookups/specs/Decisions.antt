@@ -9,9 +9,10 @@ use Rattle.fkv_regions.specs.declared.offsets.Region.TheVariants as region
 use Rattle.fkv_regions.specs.Offsets.{region_of}
 use Rattle.fkv_operations.specs.After.{shown_of}
 use Rattle.fkv_operations.specs.declared.operations.KeyedOp.{KeyedOp}
-use Rattle.fkv_operations.specs.declared.operations.KeyedOp.TheVariants.{Read, Upsert, Rmw, Delete}
+use Rattle.fkv_operations.specs.declared.operations.KeyedOp.TheVariants.{Read, Upsert, Rmw, Delete, Merge}
 use Rattle.fkv_operations.specs.declared.operations.Answer.TheVariants.{Value, Stored, Deleted, Declined}
 use Rattle.fkv_lookups.specs.declared.gathered.Gathered.{Gathered}
+use Rattle.fkv_lookups.specs.declared.payloads.Payload.TheVariants.{Whole, Part}
 use Rattle.fkv_lookups.specs.declared.decisions.LookupResult.{LookupResult}
 use Rattle.fkv_lookups.specs.declared.decisions.LookupResult.TheVariants.{NoEntry, NoValue, ReadOnly, Fuzzy, Mutable, OnDisk}
 use Rattle.fkv_lookups.specs.declared.decisions.Decision.{Decision}
@@ -77,6 +78,16 @@ abbrev pub replaced : {K V I O : Type 0} → Meanings K V I O → K → I → Op
 replaced f k i None = Done Declined
 replaced f k i (Some v) = Replace (Some v) (Value (f.shown k i v))
 
+-- what a merge does: it appends the part that its input is, which is the first value that the input gives; or, over a value
+-- that may be changed in place, it replaces that by the next one. Functions that merge never decline
+abbrev pub parted : {V I O : Type 0} → Option V → Decision V I O
+parted None = Done Declined
+parted (Some p) = Append (Part p) Stored
+
+abbrev pub merged : {V I O : Type 0} → Option V → Decision V I O
+merged None = Done Declined
+merged (Some v) = Replace (Some v) Stored
+
 -- the table: what an operation does for what it met
 abbrev pub decision : {K V I O : Type 0} → Meanings K V I O → KeyedOp K V I → LookupResult V → Decision V I O
 decision f (Read k i) NoEntry = Done (shown_of f k i None)
@@ -86,11 +97,11 @@ decision f (Read k i) (Fuzzy w) = Done (shown_of f k i (Some w))
 decision f (Read k i) (Mutable w) = Done (shown_of f k i (Some w))
 decision f (Read k i) (OnDisk b c) = Load b c
 decision f (Upsert k v) NoEntry = Claim
-decision f (Upsert k v) NoValue = Append (Some v) Stored
-decision f (Upsert k v) (ReadOnly w) = Append (Some v) Stored
-decision f (Upsert k v) (Fuzzy w) = Append (Some v) Stored
+decision f (Upsert k v) NoValue = Append (Whole (Some v)) Stored
+decision f (Upsert k v) (ReadOnly w) = Append (Whole (Some v)) Stored
+decision f (Upsert k v) (Fuzzy w) = Append (Whole (Some v)) Stored
 decision f (Upsert k v) (Mutable w) = Replace (Some v) Stored
-decision f (Upsert k v) (OnDisk b c) = Append (Some v) Stored
+decision f (Upsert k v) (OnDisk b c) = Append (Whole (Some v)) Stored
 decision f (Rmw k i) NoEntry = Claim
 decision f (Rmw k i) NoValue = Prepare None i
 decision f (Rmw k i) (ReadOnly w) = Prepare (Some w) i
@@ -99,7 +110,13 @@ decision f (Rmw k i) (Mutable w) = replaced f k i (f.next k w i)
 decision f (Rmw k i) (OnDisk b c) = Load b c
 decision f (Delete k) NoEntry = Done Deleted
 decision f (Delete k) NoValue = Done Deleted
-decision f (Delete k) (ReadOnly w) = Append None Deleted
-decision f (Delete k) (Fuzzy w) = Append None Deleted
+decision f (Delete k) (ReadOnly w) = Append (Whole None) Deleted
+decision f (Delete k) (Fuzzy w) = Append (Whole None) Deleted
 decision f (Delete k) (Mutable w) = Replace None Deleted
-decision f (Delete k) (OnDisk b c) = Append None Deleted
+decision f (Delete k) (OnDisk b c) = Append (Whole None) Deleted
+decision f (Merge k i) NoEntry = Claim
+decision f (Merge k i) NoValue = parted (f.first k i)
+decision f (Merge k i) (ReadOnly w) = parted (f.first k i)
+decision f (Merge k i) (Fuzzy w) = parted (f.first k i)
+decision f (Merge k i) (Mutable w) = merged (f.next k w i)
+decision f (Merge k i) (OnDisk b c) = parted (f.first k i)

@@ -8,3 +8,4 @@ pub mod DecisionLaws
 pub mod Meeting
 pub mod WrongCleared
 pub mod Overlays
+pub mod Payloads

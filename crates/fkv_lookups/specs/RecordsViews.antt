@@ -16,6 +16,9 @@ use Rattle.fkv_index.specs.Words.{empty, final_word, tentative_word, address_of,
 use Rattle.fkv_index.specs.Places.{word_at, IsPlace, with_word}
 use Rattle.fkv_index.specs.Entries.{entry_at, place_of, StandsAt}
 use Rattle.fkv_index.specs.Changes.{Probes}
+use Rattle.fkv_lookups.specs.declared.payloads.Payload.{Payload}
+use Rattle.fkv_lookups.specs.declared.payloads.Payload.TheVariants.{Whole}
+use Rattle.fkv_lookups.specs.Payloads.{value_in, is_part}
 use Rattle.fkv_operations.specs.declared.classes.Class.{Class}
 use Rattle.fkv_operations.specs.declared.entries.IndexEntry.{IndexEntry}
 use Rattle.fkv_operations.specs.Classes.{class_at}
@@ -98,19 +101,24 @@ pub record WasEntryOf {K V : Type 0} (v : RecordsView K V) (c : Class) (e : Inde
   pub final : IsTrue (is_final e.word)
   pub tag : tag_of e.word ≡ c.tag
 
--- the record of a value, or a tombstone, that is written for a key at the tail, behind the one to which the entry leads
-abbrev pub record_for : {K V : Type 0} → RecordsView K V → IndexEntry → K → Option V → Entry K V
-record_for v e key value =
-    record { address = v.tail; previous = address_of e.word; key = key; value = value; delta = false }
+-- the record that is written for a key at the tail, behind the one to which the entry leads: with this value, or a
+-- tombstone, and whether it is a delta
+abbrev pub record_for : {K V : Type 0} → RecordsView K V → IndexEntry → K → Option V → Bool → Entry K V
+record_for v e key value delta =
+    record { address = v.tail; previous = address_of e.word; key = key; value = value; delta = delta }
 
--- with that record, and the entry moved to it
-abbrev pub with_record : {K V : Type 0} → RecordsView K V → IndexEntry → K → Option V → RecordsView K V
-with_record v e key value = record v {
-  entries = v.entries ++ record_for v e key value ∷ [];
-  text = v.text ++ record_for v e key value ∷ [];
+-- with a record of this payload, by which its key has this value, or none, and the entry moved to it
+abbrev pub with_written : {K V : Type 0} → RecordsView K V → IndexEntry → K → Payload V → Option V → RecordsView K V
+with_written v e key payload has = record v {
+  entries = v.entries ++ record_for v e key (value_in payload) (is_part payload) ∷ [];
+  text = v.text ++ record_for v e key has (is_part payload) ∷ [];
   tail = tail_after v.page_bits v.record_size v.tail;
   words = with_word v.words e.place (final_word (tag_of e.word) v.tail);
 }
+
+-- with a record of a value, or a tombstone
+abbrev pub with_record : {K V : Type 0} → RecordsView K V → IndexEntry → K → Option V → RecordsView K V
+with_record v e key value = with_written v e key (Whole value) value
 
 -- the record at an address may have another value where it stands: it is the last of its key and has a value, and it is no
 -- delta

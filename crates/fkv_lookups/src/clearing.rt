@@ -13,18 +13,19 @@ ghost use Rattle.fkv_texts.specs.Places.{tail_after};
 ghost use Rattle.fkv_texts.specs.Text.{entry_at, value_of, newest, live, text_from};
 ghost use Rattle.fkv_operations.specs.declared.entries.IndexEntry.{IndexEntry};
 ghost use Rattle.fkv_texts.specs.Deltas.{stood, IsCovered, IsSuperseded, IsCleared};
-ghost use Rattle.fkv_lookups.specs.RecordsViews.{RecordsView, with_record, with_value};
+ghost use Rattle.fkv_lookups.specs.RecordsViews.{RecordsView, with_record, with_value, with_written};
+ghost use Rattle.fkv_lookups.specs.declared.payloads.Payload.{Payload};
 ghost use Rattle.fkv_lookups.specs.Traced.{IsTraced, IsStood};
 ghost use Rattle.fkv_lookups.specs.WrongCleared.{LastIsNotSuperseded, TombstoneIsSuperseded, ClearsNoLast};
 
 /// What is cleared stays so, whatever is done above; how it is cleared further; and what dropping it leaves.
 pub fn cleared_stay<K, V>()
     // a record is appended
-    ensures appended { (cmp : K → K → Ordering) (v : RecordsView K V) (entry : IndexEntry) (key : K) (value : Option V)
-        (limit : ℕ)
+    ensures appended { (cmp : K → K → Ordering) (v : RecordsView K V) (entry : IndexEntry) (key : K) (payload : Payload V)
+        (has : Option V) (limit : ℕ)
         → limit ≤ v.tail
         → IsCleared cmp v.entries limit
-        → IsCleared cmp (with_record v entry key value).entries limit }
+        → IsCleared cmp (with_written v entry key payload has).entries limit }
     // a record above gets another value, or becomes a tombstone
     ensures changed { (cmp : K → K → Ordering) (v : RecordsView K V) (a : ℕ) (value : Option V) (limit : ℕ)
         → limit ≤ a

@@ -1,10 +1,12 @@
 //! What an operation does for what it meets: the table of decisions.
-ghost use Rattle.std.specs.Prelude.{◌≡◌, ⊤, ℕ, Some, IfSome};
+ghost use Rattle.std.specs.Prelude.{◌≡◌, ⊤, ℕ, true, IsTrue, Some, IfSome};
 ghost use Rattle.fkv_regions.specs.declared.offsets.View.{View};
 ghost use Rattle.fkv_texts.specs.declared.entries.ChainPosition.{ChainPosition};
+ghost use Rattle.fkv_operations.specs.After.{is_merge};
 ghost use Rattle.fkv_lookups.specs.Decisions.{low_of, met_by, met_in, decision, held_of};
 
 use crate::gathered::{Gathered, joined_to};
+use crate::payloads::Payload;
 use fkv_functions::{Functions, Mergeable};
 use fkv_operations::plainly::shown;
 use fkv_operations::{Answer, KeyedOp, KeyedOpOf};
@@ -114,8 +116,8 @@ pub enum Decision<V, I, O> {
     Done(Answer<O>),
     /// It makes an entry for its key, and looks again.
     Claim,
-    /// It appends this value, or a tombstone, and is done.
-    Append(Option<V>, Answer<O>),
+    /// It appends this value, a tombstone or a part, and is done.
+    Append(Payload<V>, Answer<O>),
     /// It gives the last record of its key this value where it stands, or makes it a tombstone, and is done.
     Replace(Option<V>, Answer<O>),
     /// It asks for the new value, which this input makes of this source.
@@ -149,6 +151,7 @@ pub fn decide<F: Mergeable>(
     op: &KeyedOpOf<F>,
     met: &LookupResult<F::Value>,
 ) -> DecisionOf<F>
+    requires merging { is_merge op.now ≡ true → IsTrue F.MERGES }
     ensures { result ≡ decision F.meaning op.now met.now }
 {
     match op {
@@ -159,7 +162,7 @@ pub fn decide<F: Mergeable>(
         KeyedOp::Upsert(_, value) => match met {
             LookupResult::NoEntry => Decision::Claim,
             LookupResult::Mutable(_) => Decision::Replace(Some(*value), Answer::Stored),
-            _ => Decision::Append(Some(*value), Answer::Stored),
+            _ => Decision::Append(Payload::Whole(Some(*value)), Answer::Stored),
         },
         KeyedOp::Rmw(key, input) => match met {
             LookupResult::NoEntry => Decision::Claim,
@@ -172,22 +175,52 @@ pub fn decide<F: Mergeable>(
         KeyedOp::Delete(_) => match met {
             LookupResult::NoEntry | LookupResult::NoValue => Decision::Done(Answer::Deleted),
             LookupResult::Mutable(_) => Decision::Replace(None, Answer::Deleted),
-            _ => Decision::Append(None, Answer::Deleted),
+            _ => Decision::Append(Payload::Whole(None), Answer::Deleted),
         },
+        KeyedOp::Merge(key, input) => merge(functions, key, input, met),
+    }
+}
+
+/// What a merge does for what it met: it joins the input's part to a value that may be changed in place, and appends it
+/// else, without a look at what the key has.
+fn merge<F: Mergeable>(
+    functions: &F,
+    key: &F::Key,
+    input: &F::Input,
+    met: &LookupResult<F::Value>,
+) -> DecisionOf<F>
+    requires { IsTrue F.MERGES }
+    ensures { result ≡ decision F.meaning (KeyedOp.Merge key.now input.now) met.now }
+{
+    match met {
+        LookupResult::NoEntry => Decision::Claim,
+        LookupResult::Mutable(value) => {
+            let part = functions.delta(key, input);
+            Decision::Replace(Some(functions.join(value, &part)), Answer::Stored)
+        }
+        _ => Decision::Append(Payload::Part(functions.delta(key, input)), Answer::Stored),
     }
 }
 
 /// What an operation that needs no value does where parts of deltas were collected, or more lie on disk: it appends.
 /// `None` for a read or an update, which need the value.
-pub fn blind<F: Mergeable>(op: &KeyedOpOf<F>) -> Option<DecisionOf<F>>
+pub fn blind<F: Mergeable>(functions: &F, op: &KeyedOpOf<F>) -> Option<DecisionOf<F>>
+    requires merging { is_merge op.now ≡ true → IsTrue F.MERGES }
     ensures some { IfSome result (λ d. (e : ℕ) (begin : ℕ) (view : View) (p : F.Value) (at : ChainPosition F.Key F.Value)
         → d ≡ decision F.meaning op.now (met_by F.parts.joined (Some e) begin view
         (record { parts = Some p; position = at }))) }
 {
     match op {
         KeyedOp::Read(_, _) | KeyedOp::Rmw(_, _) => None,
-        KeyedOp::Upsert(_, value) => Some(Decision::Append(Some(*value), Answer::Stored)),
-        KeyedOp::Delete(_) => Some(Decision::Append(None, Answer::Deleted)),
+        KeyedOp::Upsert(_, value) => {
+            let written = Payload::Whole(Some(*value));
+            Some(Decision::Append(written, Answer::Stored))
+        }
+        KeyedOp::Delete(_) => Some(Decision::Append(Payload::Whole(None), Answer::Deleted)),
+        KeyedOp::Merge(key, input) => {
+            let part = Payload::Part(functions.delta(key, input));
+            Some(Decision::Append(part, Answer::Stored))
+        }
     }
 }
 

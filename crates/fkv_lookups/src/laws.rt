@@ -17,9 +17,10 @@ ghost use Rattle.fkv_operations.specs.KeptWords.{IsLed};
 ghost use Rattle.fkv_lookups.specs.declared.decisions.LookupResult.TheVariants.{NoValue, ReadOnly, Fuzzy, Mutable, OnDisk};
 ghost use Rattle.fkv_lookups.specs.Decisions.{IsHeld};
 ghost use Rattle.fkv_lookups.specs.declared.gathered.Gathered.{Gathered};
+ghost use Rattle.fkv_lookups.specs.declared.payloads.Payload.{Payload};
 ghost use Rattle.fkv_lookups.specs.Lookups.{first_up, looked_up, IsOfClass, GoesOn, IsFirst, end_of, at_of};
 ghost use Rattle.fkv_lookups.specs.Meeting.{met_at, IsMetAt, IsWanted};
-ghost use Rattle.fkv_lookups.specs.RecordsViews.{RecordsView, class_in, indexed, entry_of, IsEntryOf, IsReplaceable, with_record, with_value};
+ghost use Rattle.fkv_lookups.specs.RecordsViews.{RecordsView, class_in, indexed, entry_of, IsEntryOf, IsReplaceable, with_value, with_written};
 ghost use Rattle.fkv_lookups.specs.Traced.{IsTraced, IsStood};
 ghost use Rattle.fkv_operations.specs.Still.{IsStill};
 
@@ -45,19 +46,20 @@ pub fn entries_lead<K, V>()
         → IsKeyOrder cmp → IsTraced keeps code v → IsLed cmp (class_in code v) (indexed v) }
 {}
 
-/// What changes once a record is appended.
+/// What changes once a record is appended, by which its key has this value, or none.
 pub fn records_grow<K, V>()
     // what is newest at or below an address that is taken stays
-    ensures kept { (cmp : K → K → Ordering) (v : RecordsView K V) (e : IndexEntry) (key : K) (value : Option V)
+    ensures kept { (cmp : K → K → Ordering) (v : RecordsView K V) (e : IndexEntry) (key : K) (payload : Payload V) (has : Option V)
         (k : K) (a : ℕ) → a < v.tail
-        → newest cmp (with_record v e key value).text k a ≡ newest cmp v.text k a }
+        → newest cmp (with_written v e key payload has).text k a ≡ newest cmp v.text k a }
     // the key gets its value, or none
-    ensures lives { (cmp : K → K → Ordering) (v : RecordsView K V) (e : IndexEntry) (key : K) (value : Option V)
-        → Same (live cmp (with_record v e key value).text) (with_at cmp (live cmp v.text) key value) }
+    ensures lives { (cmp : K → K → Ordering) (v : RecordsView K V) (e : IndexEntry) (key : K) (payload : Payload V) (has : Option V)
+        → Same (live cmp (with_written v e key payload has).text) (with_at cmp (live cmp v.text) key has) }
     // what is frozen stays
-    ensures frozen { (keeps : Bool) (code : K → ℕ) (v : RecordsView K V) (e : IndexEntry) (key : K) (value : Option V) (a : ℕ)
+    ensures frozen { (keeps : Bool) (code : K → ℕ) (v : RecordsView K V) (e : IndexEntry) (key : K) (payload : Payload V)
+        (has : Option V) (a : ℕ)
         → IsTraced keeps code v → a < v.regions.offsets.safe_read_only
-        → entry_at (with_record v e key value).entries a ≡ entry_at v.entries a }
+        → entry_at (with_written v e key payload has).entries a ≡ entry_at v.entries a }
 {}
 
 /// What changes once the record at an address, which has a value, is no delta and is not frozen, has another value or is a

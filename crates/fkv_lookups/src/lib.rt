@@ -8,8 +8,10 @@ mod entries;
 pub mod gathered;
 pub mod laws;
 mod maps;
+pub mod payloads;
 pub mod records;
 
 pub use decisions::{Decision, DecisionOf, LookupResult, decide, low_of, met_by};
 pub use gathered::Gathered;
+pub use payloads::Payload;
 pub use records::Records;

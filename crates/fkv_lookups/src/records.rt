@@ -21,13 +21,16 @@ ghost use Rattle.fkv_index.specs.Entries.{IsAlone};
 ghost use Rattle.fkv_index.specs.Changes.{SameEntries, SameTentative, SetsEntry};
 ghost use Rattle.fkv_operations.specs.declared.classes.Class.{Class};
 ghost use Rattle.fkv_operations.specs.Classes.{IsClass};
-ghost use Rattle.fkv_lookups.specs.RecordsViews.{empty_records, class_in, entry_of, found_in, IsEntryOf, with_record, Claims, confirmed, released, IsFull};
+ghost use Rattle.fkv_lookups.specs.RecordsViews.{empty_records, class_in, entry_of, found_in, IsEntryOf, with_written, Claims, confirmed, released, IsFull};
 ghost use Rattle.fkv_lookups.specs.RecordsViews.{ChangesAt};
 ghost use Rattle.fkv_lookups.specs.Traced.{IsTraced, IsStood};
 ghost use Rattle.fkv_lookups.specs.Lookups.{first_up, looked_up};
+ghost use Rattle.fkv_lookups.specs.Payloads.{standing};
+ghost use Rattle.fkv_texts.specs.Text.{live};
 
 use crate::entries::move_entry;
 use crate::gathered::{Gathered, delta_at, onto};
+use crate::payloads::Payload;
 use fkv_device::Receipt;
 use fkv_functions::{Fixed, Functions, Mergeable, Refused};
 use fkv_hybrid::Log;
@@ -146,6 +149,7 @@ impl<F: Mergeable, R: Receipt> Records<F, R> {
     /// The last record of a key at or above an address, by the address to which the entry of its class leads and previous
     /// addresses from there on; or where those lead below, the key having no record above. Pages below that address are
     /// not looked at.
+    #[inline(always)]
     pub fn first(
         &self,
         entry: Address,
@@ -237,18 +241,21 @@ impl<F: Mergeable, R: Receipt> Records<F, R> {
         self.index.cancel(place);
     }
 
-    /// Appends a record of a key, behind the last of the key's class, and moves the class's entry to it. Answers its
+    /// Appends a record of a key, behind the last of the key's class, and moves the class's entry to it: a value, a
+    /// tombstone, or a part, which is joined with what the key has. Answers the record's
     /// address, or `None` where there is no room for one ([`Records::is_full`]), and then nothing changes. No memory is
     /// taken. Refused, and then nothing changes: `Worn` where no address is left.
     pub fn append(
         &mut self,
         entry: IndexEntry,
         key: F::Key,
-        value: Option<F::Value>,
+        payload: Payload<F::Value>,
     ) -> Result<Option<Address>, Refused>
         requires { IsEntryOf self.old (class_in F.code self.old key) entry }
         ensures ok { IfOk result (λ o. IfSome o (λ address. address ≡ self.old.tail)) }
-        ensures appended { IfOk result (λ o. IfSome o (λ _. self.new ≡ with_record self.old entry key value)) }
+        ensures appended { IfOk result (λ o. IfSome o (λ _.
+            self.new ≡ with_written self.old entry key payload
+            (standing F.parts.joined (live F.Key.cmp self.old.text key) payload))) }
         ensures entries { IfOk result (λ o. IfSome o (λ _.
             SetsEntry entry.place.bucket (tag_of entry.word) self.old.tail self.old.words self.new.words)) }
         ensures changes { IfOk result (λ o. IfSome o (λ _. ChangesAt entry.place self.old.words self.new.words)) }
@@ -262,7 +269,10 @@ impl<F: Mergeable, R: Receipt> Records<F, R> {
         chains::<F::Key, F::Value, Class>();
         self.log.known();
         let address = self.log.tail();
-        match self.log.append(entry.address(), key, value, false) {
+        match self
+            .log
+            .append(entry.address(), key, payload.value(), payload.is_part())
+        {
             Err(refused) => return Err(refused),
             Ok(None) => return Ok(None),
             Ok(Some(_address)) => (),

@@ -4,7 +4,7 @@ use Rattle.std.specs.declared.cmp.Ordering.{Ordering}
 use Rattle.fkv_functions.specs.Meanings.{Meanings, updated}
 use Rattle.fkv_functions.specs.Plain.{PlainMap, with_at}
 use Rattle.fkv_operations.specs.declared.operations.KeyedOp.{KeyedOp}
-use Rattle.fkv_operations.specs.declared.operations.KeyedOp.TheVariants.{Read, Upsert, Rmw, Delete}
+use Rattle.fkv_operations.specs.declared.operations.KeyedOp.TheVariants.{Read, Upsert, Rmw, Delete, Merge}
 use Rattle.fkv_operations.specs.declared.operations.Answer.{Answer}
 use Rattle.fkv_operations.specs.declared.operations.Answer.TheVariants.{Value, Absent, Stored, Deleted, Declined}
 
@@ -14,6 +14,7 @@ key_of (Read k i) = k
 key_of (Upsert k v) = k
 key_of (Rmw k i) = k
 key_of (Delete k) = k
+key_of (Merge k i) = k
 
 -- whether an operation may change the map
 abbrev pub is_update : {K V I : Type 0} → KeyedOp K V I → Bool
@@ -21,18 +22,28 @@ is_update (Read k i) = false
 is_update (Upsert k v) = true
 is_update (Rmw k i) = true
 is_update (Delete k) = true
+is_update (Merge k i) = true
+
+-- whether only functions that merge have it
+abbrev pub is_merge : {K V I : Type 0} → KeyedOp K V I → Bool
+is_merge (Read k i) = false
+is_merge (Upsert k v) = false
+is_merge (Rmw k i) = false
+is_merge (Delete k) = false
+is_merge (Merge k i) = true
 
 -- the map after an update of a key that came to this value: a declined one leaves it
 abbrev pub after_update : {K V : Type 0} → (K → K → Ordering) → PlainMap K V → K → Option V → PlainMap K V
 after_update cmp m k None = m
 after_update cmp m k (Some v) = with_at cmp m k (Some v)
 
--- the map after an operation
+-- the map after an operation; a merge does what an update does
 abbrev pub after : {K V I O : Type 0} → (K → K → Ordering) → Meanings K V I O → PlainMap K V → KeyedOp K V I → PlainMap K V
 after cmp f m (Read k i) = m
 after cmp f m (Upsert k v) = with_at cmp m k (Some v)
 after cmp f m (Rmw k i) = after_update cmp m k (updated f k i (m k))
 after cmp f m (Delete k) = with_at cmp m k None
+after cmp f m (Merge k i) = after_update cmp m k (updated f k i (m k))
 
 -- what a read shows where the key has this value, or none
 abbrev pub shown_of : {K V I O : Type 0} → Meanings K V I O → K → I → Option V → Answer O
@@ -50,6 +61,7 @@ answer f m (Read k i) = shown_of f k i (m k)
 answer f m (Upsert k v) = Stored
 answer f m (Rmw k i) = told_of f k i (updated f k i (m k))
 answer f m (Delete k) = Deleted
+answer f m (Merge k i) = Stored
 
 -- the map after a list of operations
 abbrev pub after_all : {K V I O : Type 0} → (K → K → Ordering) → Meanings K V I O → PlainMap K V → List (KeyedOp K V I)

@@ -5,7 +5,7 @@ use Rattle.std.proofs.Common.{refl, ap}
 use Rattle.fkv_functions.specs.Meanings.{Meanings}
 use Rattle.fkv_functions.specs.Plain.{PlainMap, Same}
 use Rattle.fkv_operations.specs.declared.operations.KeyedOp.{KeyedOp}
-use Rattle.fkv_operations.specs.declared.operations.KeyedOp.TheVariants.{Read, Upsert, Rmw, Delete}
+use Rattle.fkv_operations.specs.declared.operations.KeyedOp.TheVariants.{Read, Upsert, Rmw, Delete, Merge}
 use Rattle.fkv_operations.specs.After.{is_update, after, answer, after_all, answers}
 
 -- maps that agree at each key are one map
@@ -20,6 +20,7 @@ after-quiet cmp f m (Read k i) h = refl
 after-quiet cmp f m (Upsert k v) h = absurd (cc)
 after-quiet cmp f m (Rmw k i) h = absurd (cc)
 after-quiet cmp f m (Delete k) h = absurd (cc)
+after-quiet cmp f m (Merge k i) h = absurd (cc)
 
 module _ {K V I O : Type 0} (cmp : K → K → Ordering) (f : Meanings K V I O) where
   -- maps that agree at each key agree after each operation, and answer alike

@@ -6,7 +6,7 @@ use Rattle.fkv_functions.specs.Plain.{PlainMap}
 use Rattle.fkv_operations.specs.declared.operations.KeyedOp.{KeyedOp}
 use Rattle.fkv_operations.specs.declared.operations.KeyedOp.TheVariants as on_key
 use Rattle.fkv_operations.specs.declared.operations.Op.{Op}
-use Rattle.fkv_operations.specs.declared.operations.Op.TheVariants.{Read, Upsert, Rmw, Delete, Relocate}
+use Rattle.fkv_operations.specs.declared.operations.Op.TheVariants.{Read, Upsert, Rmw, Delete, Merge, Relocate}
 use Rattle.fkv_operations.specs.declared.operations.Answer.{Answer}
 use Rattle.fkv_operations.specs.declared.operations.Answer.TheVariants.{Cleared}
 use Rattle.fkv_operations.specs.After.{after, answer}
@@ -17,6 +17,7 @@ keyed (Read k i) = Some (on_key.Read k i)
 keyed (Upsert k v) = Some (on_key.Upsert k v)
 keyed (Rmw k i) = Some (on_key.Rmw k i)
 keyed (Delete k) = Some (on_key.Delete k)
+keyed (Merge k i) = Some (on_key.Merge k i)
 keyed Relocate = None
 
 -- an operation on a key, among all operations
@@ -25,6 +26,7 @@ op_of (on_key.Read k i) = Read k i
 op_of (on_key.Upsert k v) = Upsert k v
 op_of (on_key.Rmw k i) = Rmw k i
 op_of (on_key.Delete k) = Delete k
+op_of (on_key.Merge k i) = Merge k i
 
 -- whether an operation may change the map
 abbrev pub may_update : {K V I : Type 0} → Op K V I → Bool
@@ -32,6 +34,7 @@ may_update (Read k i) = false
 may_update (Upsert k v) = true
 may_update (Rmw k i) = true
 may_update (Delete k) = true
+may_update (Merge k i) = true
 may_update Relocate = false
 
 -- the map after an operation on a key, if there is one

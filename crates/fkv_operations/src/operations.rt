@@ -15,10 +15,12 @@ pub enum KeyedOp<K, V, I> {
     Rmw(K, I),
     /// Removes the key.
     Delete(K),
+    /// Changes the key's value as an update by this input does, and shows nothing. Of functions that merge alone.
+    Merge(K, I),
 }
 
 impl<K: Copy, V: Copy, I: Copy> KeyedOp<K, V, I> {
-    ghost use Rattle.fkv_operations.specs.After.{key_of};
+    ghost use Rattle.fkv_operations.specs.After.{key_of, is_merge};
     ghost use Rattle.fkv_operations.specs.Operations.{op_of};
 
     /// The operation's key.
@@ -30,6 +32,18 @@ impl<K: Copy, V: Copy, I: Copy> KeyedOp<K, V, I> {
             KeyedOp::Upsert(key, _) => *key,
             KeyedOp::Rmw(key, _) => *key,
             KeyedOp::Delete(key) => *key,
+            KeyedOp::Merge(key, _) => *key,
+        }
+    }
+
+    /// Whether only functions that merge have it.
+    pub fn is_merge(&self) -> bool
+        ensures { result ≡ is_merge self.now }
+    {
+        match self {
+            KeyedOp::Merge(_, _) => true,
+            KeyedOp::Read(_, _) | KeyedOp::Upsert(_, _) | KeyedOp::Rmw(_, _) | KeyedOp::Delete(_) =>
+                false,
         }
     }
 
@@ -42,6 +56,7 @@ impl<K: Copy, V: Copy, I: Copy> KeyedOp<K, V, I> {
             KeyedOp::Upsert(key, value) => Op::Upsert(*key, *value),
             KeyedOp::Rmw(key, input) => Op::Rmw(*key, *input),
             KeyedOp::Delete(key) => Op::Delete(*key),
+            KeyedOp::Merge(key, input) => Op::Merge(*key, *input),
         }
     }
 }
@@ -64,6 +79,8 @@ pub enum Op<K, V, I> {
     Rmw(K, I),
     /// Removes the key.
     Delete(K),
+    /// Changes the key's value as an update by this input does, and shows nothing. Of functions that merge alone.
+    Merge(K, I),
     /// Clears the lowest place of the log that is not cleared: its record is appended again, unless it is superseded.
     Relocate,
 }
@@ -92,6 +109,7 @@ impl<K: Copy, V: Copy, I: Copy> Op<K, V, I> {
             Op::Upsert(key, value) => Some(KeyedOp::Upsert(*key, *value)),
             Op::Rmw(key, input) => Some(KeyedOp::Rmw(*key, *input)),
             Op::Delete(key) => Some(KeyedOp::Delete(*key)),
+            Op::Merge(key, input) => Some(KeyedOp::Merge(*key, *input)),
             Op::Relocate => None,
         }
     }
@@ -102,7 +120,7 @@ impl<K: Copy, V: Copy, I: Copy> Op<K, V, I> {
     {
         match self {
             Op::Read(_, _) | Op::Relocate => false,
-            Op::Upsert(_, _) | Op::Rmw(_, _) | Op::Delete(_) => true,
+            Op::Upsert(_, _) | Op::Rmw(_, _) | Op::Delete(_) | Op::Merge(_, _) => true,
         }
     }
 }
@@ -119,6 +137,7 @@ pub fn is_same_op<F: Mergeable>(left: &OpOf<F>, right: &OpOf<F>) -> bool
         (Op::Upsert(key, value), Op::Upsert(other, came)) => key.is(&other) && value.is(&came),
         (Op::Rmw(key, input), Op::Rmw(other, came)) => key.is(&other) && input.is(&came),
         (Op::Delete(key), Op::Delete(other)) => key.is(&other),
+        (Op::Merge(key, input), Op::Merge(other, came)) => key.is(&other) && input.is(&came),
         (Op::Relocate, Op::Relocate) => true,
         _ => false,
     }

@@ -53,6 +53,10 @@ pub fn apply_plainly<F: Mergeable>(
             Ok(shown(functions, &key, &input, held))
         }
         KeyedOp::Rmw(key, input) => update_plainly(functions, map, key, input),
+        KeyedOp::Merge(key, input) => match update_plainly(functions, map, key, input) {
+            Err(refused) => Err(refused),
+            Ok(_answer) => Ok(Answer::Stored),
+        },
         KeyedOp::Upsert(key, written) => match give(map, key, written) {
             Err(refused) => Err(refused),
             Ok(()) => Ok(Answer::Stored),

@@ -15,6 +15,7 @@ use fkv_texts::{ChainPosition, Entry};
 impl<K: FixedKey, V: Fixed, R: Receipt> Pages<K, V, R> {
     /// The first entry of a key on the chain from an address down to another, below which it does not look, or where the
     /// chain leads from there.
+    #[inline(always)]
     pub fn first_on_chain(&self, key: &K, from: Address, head: Address) -> ChainPosition<K, V>
         requires in_frames { self.now.closed ≤ head }
         requires chain { (es : List (Entry K V)) × IsChainFrom head self.now.text from es }
@@ -35,6 +36,7 @@ impl<K: FixedKey, V: Fixed, R: Receipt> Pages<K, V, R> {
 
     /// The entry at an address that is not closed, where it is one of this key, else its previous address. Of an entry
     /// that is passed the key's bytes are compared where they stand, and nothing is read but its previous address.
+    #[inline(always)]
     fn look_at(&self, address: Address, key: &K) -> Result<Entry<K, V>, Address>
         requires there { IsSome (entry_at self.now.text address) }
         requires in_frame { self.now.closed ≤ address }

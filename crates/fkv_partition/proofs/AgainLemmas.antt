@@ -12,9 +12,10 @@ use Rattle.fkv_index.specs.Words.{address_of}
 use Rattle.fkv_index.specs.Places.{word_at}
 use Rattle.fkv_operations.specs.declared.entries.IndexEntry.{IndexEntry}
 use Rattle.fkv_operations.specs.declared.operations.KeyedOp.{KeyedOp}
-use Rattle.fkv_operations.specs.declared.operations.KeyedOp.TheVariants.{Read, Upsert, Rmw, Delete}
+use Rattle.fkv_operations.specs.declared.operations.KeyedOp.TheVariants.{Read, Upsert, Rmw, Delete, Merge}
 use Rattle.fkv_texts.specs.Deltas.{IsSuperseded}
 use Rattle.fkv_lookups.specs.RecordsViews.{RecordsView, class_in, entry_of, IsEntryOf, with_record}
+use Rattle.fkv_lookups.specs.declared.payloads.Payload.TheVariants.{Whole}
 use Rattle.fkv_lookups.specs.Traced.{IsTraced, IsStood}
 use Rattle.fkv_lookups.proofs.TracedLemmas.{entry-stands, traced-held}
 use Rattle.fkv_lookups.proofs.ClearedLemmas.{superseded-renewed, lives-renewed}
@@ -90,6 +91,7 @@ module _ {K V : Type 0} (keeps : Bool) (cmp : K → K → Ordering) (join : V �
   pending-same (Upsert k u) (phase.Load l) h = absurd h
   pending-same (Rmw k i) (phase.Load l) h = ap (λ o. cond (l.begin == r.begin) (Some (record { moment = l.looked; value = value_of o })) None) (kept-same k l h)
   pending-same (Delete k) (phase.Load l) h = absurd h
+  pending-same (Merge k i) (phase.Load l) h = absurd h
 
 module _ {K V I : Type 0} {keeps : Bool} (cmp : K → K → Ordering) (join : V → V → V) (code : K → ℕ) (v : PartitionView K V I) (s : IsCompacting keeps cmp join code v) (slot c now : ℕ) (x : Relocation K V) (h : relocation_at v slot c ≡ Some x) where
   -- no operation is open in the context of a relocation
@@ -114,7 +116,7 @@ module _ {K V I : Type 0} {keeps : Bool} (cmp : K → K → Ordering) (join : V 
     entry-here : IsEntryOf v.core.records (class_in code v.core.records e.key) kept
     entry-here = let was = stands.1.is_kept.entry in record { bucket = was.bucket; place = was.place; word = holds; final = was.final; tag = was.tag }
 
-    pub writes-again : IsWrite code v.core (record { entry = kept; key = e.key; value = e.value })
+    pub writes-again : IsWrite code v.core (record { entry = kept; key = e.key; payload = Whole e.value })
     writes-again = record { own = stands.0; entry = entry-here }
 
     leads : entry_of v.core.records (class_in code v.core.records e.key) ≡ Some (address_of kept.word)

@@ -13,7 +13,7 @@ use Rattle.fkv_operations.specs.After.{after, answer, key_of}
 use Rattle.fkv_operations.specs.Operations.{keyed, op_of, after_keyed, answer_keyed, map_after, answer_to}
 use Rattle.fkv_operations.specs.declared.operations.Answer.TheVariants.{Cleared}
 use Rattle.fkv_operations.specs.declared.operations.KeyedOp.{KeyedOp}
-use Rattle.fkv_operations.specs.declared.operations.KeyedOp.TheVariants.{Read, Upsert, Rmw, Delete}
+use Rattle.fkv_operations.specs.declared.operations.KeyedOp.TheVariants.{Read, Upsert, Rmw, Delete, Merge}
 use Rattle.fkv_operations.specs.declared.operations.Op.{Op}
 use Rattle.fkv_operations.specs.declared.operations.Op.TheVariants.{Relocate}
 use Rattle.fkv_core.specs.declared.contexts.Context.{Context}
@@ -40,6 +40,7 @@ keyed-op (Read k i) = refl
 keyed-op (Upsert k v) = refl
 keyed-op (Rmw k i) = refl
 keyed-op (Delete k) = refl
+keyed-op (Merge k i) = refl
 
 -- ---- what is told of a result that is Ok
 pub if-ok : {A : Type 0} {P Q : A → Type 0} (r : Result A Refused) → ((x : A) → P x → Q x) → IfOk r P → IfOk r Q

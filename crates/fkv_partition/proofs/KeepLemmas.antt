@@ -19,7 +19,7 @@ use Rattle.fkv_lookups.proofs.TracedLemmas.{traced-raw}
 use Rattle.fkv_operations.specs.declared.entries.IndexEntry.{IndexEntry}
 use Rattle.fkv_functions.specs.declared.refusals.Refused.{Refused}
 use Rattle.fkv_functions.proofs.ListLemmas.{get-set_cases}
-use Rattle.fkv_operations.specs.After.{key_of}
+use Rattle.fkv_operations.specs.After.{key_of, is_merge}
 use Rattle.fkv_operations.specs.declared.operations.KeyedOp.{KeyedOp}
 use Rattle.fkv_core.specs.Beginning.{Issues}
 use Rattle.fkv_core.proofs.AskedLemmas.{context-inside}
@@ -359,8 +359,10 @@ module _ {K V I : Type 0} (code : K → ℕ) where
   pub issues-told : (v : PartitionView K V I) (new : CoreView K V I) (slot c : ℕ) (op : KeyedOp K V I) (now : ℕ) → IsFirstFree v slot (Some c) → Issues code v.core new slot c op now (Ok tt)
       → IssuesOnKey code v (with_core v new) slot op now (Ok c)
   issues-told v new slot c op now lowest (Issues.stranger n is r) = absurd (cc)
-  issues-told v new slot c op now lowest (Issues.issues h low free n is r) = IssuesOnKey.issues c h n lowest (ap (with_core v) is) refl
+  issues-told v new slot c op now lowest (Issues.unmerged own merge lacks is r) = absurd (cc)
+  issues-told v new slot c op now lowest (Issues.issues h low free n merges is r) = IssuesOnKey.issues c h n merges lowest (ap (with_core v) is) refl
 
-  pub issues-err : (old new : CoreView K V I) (slot c : ℕ) (op : KeyedOp K V I) (now : ℕ) (why : Refused) → partition_of old.count (code (key_of op)) ≡ old.number → Issues code old new slot c op now (Err why) → ⊥
-  issues-err old new slot c op now why own (Issues.stranger n is r) = n own
-  issues-err old new slot c op now why own (Issues.issues h low free n is r) = cc
+  pub issues-err : (old new : CoreView K V I) (slot c : ℕ) (op : KeyedOp K V I) (now : ℕ) (why : Refused) → partition_of old.count (code (key_of op)) ≡ old.number → (is_merge op ≡ true → old.merges ≡ true) → Issues code old new slot c op now (Err why) → ⊥
+  issues-err old new slot c op now why own merges (Issues.stranger n is r) = n own
+  issues-err old new slot c op now why own merges (Issues.unmerged here merge lacks is r) = let both = sym (merges merge) ∙ lacks in cc
+  issues-err old new slot c op now why own merges (Issues.issues h low free n may is r) = cc

@@ -14,3 +14,4 @@ pub mod ProceedLemmas
 pub mod OperationLemmas
 pub mod UnionLemmas
 pub mod AtOnceLemmas
+pub mod MergeLemmas

@@ -7,7 +7,7 @@ use Rattle.fkv_operations.specs.Operations.{keyed, op_of}
 use Rattle.fkv_operations.specs.declared.operations.KeyedOp.{KeyedOp}
 use Rattle.fkv_operations.specs.declared.operations.KeyedOp.TheVariants as on_key
 use Rattle.fkv_operations.specs.declared.operations.Op.{Op}
-use Rattle.fkv_operations.specs.declared.operations.Op.TheVariants.{Read, Upsert, Rmw, Delete, Relocate}
+use Rattle.fkv_operations.specs.declared.operations.Op.TheVariants.{Read, Upsert, Rmw, Delete, Merge, Relocate}
 use Rattle.fkv_core.specs.declared.contexts.Progress.{Progress}
 use Rattle.fkv_core.specs.Beginning as beginning
 use Rattle.fkv_core.specs.Effect as key_effect
@@ -39,6 +39,7 @@ keyed-is {K} {V} {I} (Read k i) o h = let same : on_key.Read k i ≡ o = cc in a
 keyed-is (Upsert k v) o h = let same : on_key.Upsert k v ≡ o = cc in ap op_of (sym same)
 keyed-is (Rmw k i) o h = let same : on_key.Rmw k i ≡ o = cc in ap op_of (sym same)
 keyed-is (Delete k) o h = let same : on_key.Delete k ≡ o = cc in ap op_of (sym same)
+keyed-is (Merge k i) o h = let same : on_key.Merge k i ≡ o = cc in ap op_of (sym same)
 keyed-is Relocate o h = absurd (cc)
 
 pub keyed-not : {K V I : Type 0} (op : Op K V I) → keyed op ≡ None → op ≡ Relocate
@@ -46,6 +47,7 @@ keyed-not (Read k i) h = absurd (cc)
 keyed-not (Upsert k v) h = absurd (cc)
 keyed-not (Rmw k i) h = absurd (cc)
 keyed-not (Delete k) h = absurd (cc)
+keyed-not (Merge k i) h = absurd (cc)
 keyed-not Relocate h = refl
 
 pub keyed-some : {K V I : Type 0} (op : Op K V I) (o : KeyedOp K V I) → keyed op ≡ Some o → op ≡ Relocate → ⊥
@@ -64,9 +66,10 @@ pub issues-pend : {K V I : Type 0} (cmp : K → K → Ordering) (code : K → �
     → IssuesOnKey code old new slot op now result → AllPend cmp old.core new.core
 issues-pend cmp code old new slot op now result law (IssuesOnKey.unknown a b h) = rw b (λ s d. refl)
 issues-pend cmp code old new slot op now result law (IssuesOnKey.stranger a n b h) = rw b (λ s d. refl)
-issues-pend cmp code old new slot op now result law (IssuesOnKey.full a own none b h) = rw b (λ s d. refl)
-issues-pend cmp code old new slot op now result law (IssuesOnKey.issues c inside own free is h) =
-    rw is (law old.core _ c (Ok tt) (beginning.Issues.issues inside free.0 (context-inside (slots_of old.core) old.core.contexts slot c inside free.0 ∙ free.1.operation) own refl refl))
+issues-pend cmp code old new slot op now result law (IssuesOnKey.unmerged a own merge lacks b h) = rw b (λ s d. refl)
+issues-pend cmp code old new slot op now result law (IssuesOnKey.full a own merges none b h) = rw b (λ s d. refl)
+issues-pend cmp code old new slot op now result law (IssuesOnKey.issues c inside own merges free is h) =
+    rw is (law old.core _ c (Ok tt) (beginning.Issues.issues inside free.0 (context-inside (slots_of old.core) old.core.contexts slot c inside free.0 ∙ free.1.operation) own merges refl refl))
 
 pub relocates-event : {K V I : Type 0} {keeps : Bool} {cmp : K → K → Ordering} {join : V → V → V} (code : K → ℕ) (old new : PartitionView K V I) (slot now : ℕ) (op : Op K V I) (r : Result ℕ Refused) → op ≡ Relocate → IsCompacting keeps cmp join code old
     → IfOk r (λ c. (slot < 16) × (c < 8)) → Relocates old new slot now r → IfOk r (λ c. IsIssue code old new slot c op now)

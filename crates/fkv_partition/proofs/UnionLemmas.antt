@@ -13,7 +13,7 @@ use Rattle.fkv_operations.specs.After.{after, after_update, answer, key_of, show
 use Rattle.fkv_operations.specs.Operations.{keyed, after_keyed, answer_keyed, map_after, answer_to}
 use Rattle.fkv_operations.specs.declared.operations.Op.{Op}
 use Rattle.fkv_operations.specs.declared.operations.KeyedOp.{KeyedOp}
-use Rattle.fkv_operations.specs.declared.operations.KeyedOp.TheVariants.{Read, Upsert, Rmw, Delete}
+use Rattle.fkv_operations.specs.declared.operations.KeyedOp.TheVariants.{Read, Upsert, Rmw, Delete, Merge}
 use Rattle.fkv_core.specs.Views.{live_of, partition_of}
 use Rattle.fkv_partition.specs.Unions.{live_at, union_of}
 use Rattle.fkv_partition.specs.Views.{PartitionView}
@@ -53,11 +53,11 @@ module _ {K V I O : Type 0} (cmp : K → K → Ordering) (o : IsKeyOrder cmp) (f
       off true t n = absurd (n t)
       off false t n = rw t refl
 
-  -- an operation with its key here does to the union what it does to the partition
-  pub live-after : (op : KeyedOp K V I) → partition_of (length views) (code (key_of op)) ≡ p → Same (live_of cmp new.core) (after cmp f (live_of cmp old.core) op) → Same (union_of cmp code (slice_set views p new)) (after cmp f (union_of cmp code views) op)
-  live-after (Read k i) r h = live-quiet h
-  live-after (Upsert k v) r h = live-with_at k (Some v) r h
-  live-after (Rmw k i) r h = by_update (updated f k i (live_of cmp old.core k)) refl h
+  -- an update of a key that belongs here
+  live-updated : (k : K) (i : I) → partition_of (length views) (code k) ≡ p
+      → Same (live_of cmp new.core) (after_update cmp (live_of cmp old.core) k (updated f k i (live_of cmp old.core k)))
+      → Same (union_of cmp code (slice_set views p new)) (after_update cmp (union_of cmp code views) k (updated f k i (union_of cmp code views k)))
+  live-updated k i r h = by_update (updated f k i (live_of cmp old.core k)) refl h
     where
       came : (o : Option V) → updated f k i (live_of cmp old.core k) ≡ o → o ≡ updated f k i (union_of cmp code views k)
       came o e = sym e ∙ ap (updated f k i) (sym (live-here k r))
@@ -66,7 +66,14 @@ module _ {K V I O : Type 0} (cmp : K → K → Ordering) (o : IsKeyOrder cmp) (f
           → Same (union_of cmp code (slice_set views p new)) (after_update cmp (union_of cmp code views) k (updated f k i (union_of cmp code views k)))
       by_update None e d q = live-quiet d q ∙ ap (λ (o : Option V). after_update cmp (union_of cmp code views) k o q) (came None e)
       by_update (Some v) e d q = live-with_at k (Some v) r d q ∙ ap (λ (o : Option V). after_update cmp (union_of cmp code views) k o q) (came (Some v) e)
+
+  -- an operation with its key here does to the union what it does to the partition
+  pub live-after : (op : KeyedOp K V I) → partition_of (length views) (code (key_of op)) ≡ p → Same (live_of cmp new.core) (after cmp f (live_of cmp old.core) op) → Same (union_of cmp code (slice_set views p new)) (after cmp f (union_of cmp code views) op)
+  live-after (Read k i) r h = live-quiet h
+  live-after (Upsert k v) r h = live-with_at k (Some v) r h
+  live-after (Rmw k i) r h = live-updated k i r h
   live-after (Delete k) r h = live-with_at k None r h
+  live-after (Merge k i) r h = live-updated k i r h
 
   -- and is answered the same
   pub answer-here : (op : KeyedOp K V I) → partition_of (length views) (code (key_of op)) ≡ p → answer f (live_of cmp old.core) op ≡ answer f (union_of cmp code views) op
@@ -74,6 +81,7 @@ module _ {K V I O : Type 0} (cmp : K → K → Ordering) (o : IsKeyOrder cmp) (f
   answer-here (Upsert k v) r = refl
   answer-here (Rmw k i) r = ap (λ (m : Option V). answer f (λ q. m) (Rmw k i)) (sym (live-here k r))
   answer-here (Delete k) r = refl
+  answer-here (Merge k i) r = refl
 
   -- so it is with every operation: one on no key changes nothing, and is answered the same everywhere
   pub live-after_op : (op : Op K V I) → ((o : KeyedOp K V I) → keyed op ≡ Some o → partition_of (length views) (code (key_of o)) ≡ p) → Same (live_of cmp new.core) (map_after cmp f (live_of cmp old.core) op) → Same (union_of cmp code (slice_set views p new)) (map_after cmp f (union_of cmp code views) op)

@@ -1,10 +1,10 @@
 -- What the issue of an operation on a key and that of a relocation do, what leaving a session does, and giving up a
 -- relocation: a rule for each case, in the order of the tests.
-use Rattle.std.specs.Prelude.{◌≡◌, ◌≢◌, ◌+◌, ◌*◌, ◌<◌, ◌≤◌, ℕ, Bool, false, IsSome, Option, Some, None, Result, Ok, Err, slice_get}
+use Rattle.std.specs.Prelude.{◌≡◌, ◌≢◌, ◌+◌, ◌*◌, ◌<◌, ◌≤◌, ℕ, Bool, true, false, IsSome, Option, Some, None, Result, Ok, Err, slice_get}
 use Rattle.fkv_functions.specs.declared.refusals.Refused.{Refused}
-use Rattle.fkv_functions.specs.declared.refusals.Refused.TheVariants.{Unknown, Busy, Stranger, NotDue, NoContext}
+use Rattle.fkv_functions.specs.declared.refusals.Refused.TheVariants.{Unknown, Busy, Stranger, NoMerge, NotDue, NoContext}
 use Rattle.fkv_functions.specs.declared.refusals.What.TheVariants.{Partition}
-use Rattle.fkv_operations.specs.After.{key_of}
+use Rattle.fkv_operations.specs.After.{key_of, is_merge}
 use Rattle.fkv_operations.specs.declared.operations.KeyedOp.{KeyedOp}
 use Rattle.fkv_core.specs.declared.contexts.Phase.TheVariants as phase
 use Rattle.fkv_core.specs.Contexts.{is_session, joined}
@@ -42,8 +42,16 @@ pub data IssuesOnKey {K V I : Type 0} (code : K → ℕ) (old new : PartitionVie
       → new ≡ old
       → result ≡ Err (Stranger Partition old.core.number (partition_of old.core.count (code (key_of op))))
       → IssuesOnKey code old new slot op now result
+  unmerged : IsEntered old.core slot
+      → partition_of old.core.count (code (key_of op)) ≡ old.core.number
+      → is_merge op ≡ true
+      → old.core.merges ≡ false
+      → new ≡ old
+      → result ≡ Err NoMerge
+      → IssuesOnKey code old new slot op now result
   full : IsEntered old.core slot
       → partition_of old.core.count (code (key_of op)) ≡ old.core.number
+      → (is_merge op ≡ true → old.core.merges ≡ true)
       → IsFirstFree old slot None
       → new ≡ old
       → result ≡ Err NoContext
@@ -51,6 +59,7 @@ pub data IssuesOnKey {K V I : Type 0} (code : K → ℕ) (old new : PartitionVie
   issues : (c : ℕ)
       → IsEntered old.core slot
       → partition_of old.core.count (code (key_of op)) ≡ old.core.number
+      → (is_merge op ≡ true → old.core.merges ≡ true)
       → IsFirstFree old slot (Some c)
       → new ≡ with_core old (with_context old.core slot c
       (Some (record { number = now; op = op; phase = phase.Fresh })) now)

@@ -1,5 +1,5 @@
 -- What a contract sees of a partition.
-use Rattle.std.specs.Prelude.{◌+◌, ◌*◌, ℕ, cond, nat_le, List, Option, None, replicate, slice_set}
+use Rattle.std.specs.Prelude.{◌+◌, ◌*◌, ℕ, Bool, cond, nat_le, List, Option, None, replicate, slice_set}
 use Rattle.fkv_texts.specs.declared.entries.Entry.{Entry}
 use Rattle.fkv_texts.specs.Places.{tail_after}
 use Rattle.fkv_operations.specs.declared.entries.IndexEntry.{IndexEntry}
@@ -16,9 +16,9 @@ pub record PartitionView (K V I : Type 0) : Type 0 where
   pub cleared : ℕ
   pub relocations : List (Option (Relocation K V))
 
-abbrev pub empty_partition : {K V I : Type 0} → Config → ℕ → ℕ → PartitionView K V I
-empty_partition config record_size number = record {
-  core = empty_core config record_size number;
+abbrev pub empty_partition : {K V I : Type 0} → Bool → Config → ℕ → ℕ → PartitionView K V I
+empty_partition merges config record_size number = record {
+  core = empty_core merges config record_size number;
   cleared = 64;
   relocations = replicate 128 None;
 }

@@ -22,7 +22,7 @@ use fkv_operations::KeyedOpOf;
 impl<F: Mergeable, R: Receipt> Partition<F, R> {
     /// Issues an operation on a key in a session and answers its context, the lowest free one. Refused, in this order, and
     /// then nothing changes: `Unknown` where the slot is that of no session, `Stranger` where the key belongs to another
-    /// partition, `NoContext`.
+    /// partition, `NoMerge` where it is a merge and the functions don't merge, `NoContext`.
     pub(crate) fn issue_on_key(
         &mut self,
         slot: usize,
@@ -54,6 +54,9 @@ impl<F: Mergeable, R: Receipt> Partition<F, R> {
                 held,
                 came,
             });
+        }
+        if self.core.lacks_merges(&op) {
+            return Err(Refused::NoMerge);
         }
         let Some(context) = self.first_free(slot) else {
             return Err(Refused::NoContext);

@@ -22,8 +22,9 @@ use fkv_operations::OpOf;
 impl<F: Mergeable, R: Receipt> Partition<F, R> {
     /// Issues an operation in a session and answers its context, the lowest free one. A relocation takes the lowest address
     /// that is not cleared. Refused, in this order, and then nothing changes: `Unknown` where the slot is that of no
-    /// session, `Stranger` where the operation's key belongs to another partition, `NotDue` where a relocation's address
-    /// does not lie below what the session sees as safely read-only, `NoContext`.
+    /// session, `Stranger` where the operation's key belongs to another partition, `NoMerge` where it is a merge and the
+    /// functions don't merge, `NotDue` where a relocation's address does not lie below what the session sees as safely
+    /// read-only, `NoContext`.
     pub fn issue(
         &mut self,
         slot: usize,
@@ -55,8 +56,9 @@ impl<F: Mergeable, R: Receipt> Partition<F, R> {
     /// of a key without a value. A write of a class without an entry makes a tentative one and answers `Next`; the next
     /// call confirms it, or takes it back where another entry of its tag stands in the bucket, and answers `Next` too.
     /// Where there is an entry, the region of the key's last record by the session's view decides. A mutable value is
-    /// changed where it stands, by an upsert, an update or a delete, which is finished. Else an upsert, and a delete of a
-    /// value, append a record and are finished; and an update keeps the entry and the key's value and asks for the new one,
+    /// changed where it stands, by an upsert, an update, a merge or a delete, which is finished. Else a merge appends its
+    /// part as a delta, whatever the key has, and is finished; an upsert, and a delete of a value, append a record and are
+    /// finished; and an update keeps the entry and the key's value and asks for the new one,
     /// the same again until it is installed, but over a fuzzy value it answers `Waits`. Where the records of the key's
     /// class go on below what the session reads in memory, a read and an update ask for the page there. Where a record is
     /// to be appended and there is no room, the answer is `Waits` too.

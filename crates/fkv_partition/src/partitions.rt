@@ -1,11 +1,11 @@
 //! A partition: the core of its operations on keys, its relocations, and how much of its log is cleared.
-ghost use Rattle.std.specs.Prelude.{◌≡◌, ◌≢◌, ◌<◌, ◌≤◌, ◌⊎◌, ◌+◌, ◌*◌, ◌^◌, ◌||◌, Option, Some, None, Err, IsTrue, IfOk, IfErr, IfSome, is_some, length, replicate, slice_get};
+ghost use Rattle.std.specs.Prelude.{◌≡◌, ◌≢◌, ◌<◌, ◌≤◌, ◌⊎◌, ◌+◌, ◌*◌, ◌^◌, ◌||◌, Option, Some, None, Err, IsTrue, ◌↔◌, IfOk, IfErr, IfSome, is_some, length, replicate, slice_get};
 ghost use Rattle.fkv_records.specs.Records.{size_of};
 ghost use Rattle.fkv_core.specs.Contexts.{joined};
 ghost use Rattle.fkv_core.specs.Limits.{IsPartitionOf};
 ghost use Rattle.fkv_partition.specs.Effect.{asked};
 ghost use Rattle.fkv_core.specs.Beginning.{IsEntered};
-ghost use Rattle.fkv_core.specs.Views.{loading_at};
+ghost use Rattle.fkv_core.specs.Views.{IsAtDelta, loading_at};
 ghost use Rattle.fkv_core.specs.Sound.{IsSound};
 ghost use Rattle.fkv_partition.specs.Views.{empty_partition, relocation_at};
 ghost use Rattle.fkv_partition.specs.Going.{is_awaiting};
@@ -64,7 +64,7 @@ impl<F: Mergeable, R: Receipt> Partition<F, R> {
     /// The partition of this number, with nothing in it. Refused, in this order: `BadConfig` where a number of the
     /// configuration is outside its limits, a record is too large, or there is no partition of this number, `NoMemory`.
     pub fn new(alloc: Global, config: &Config, number: u64) -> Result<Self, Refused>
-        ensures ok { IfOk result (λ c. c ≡ empty_partition config.now (size_of F.Key.SIZE F.Value.SIZE) number) }
+        ensures ok { IfOk result (λ c. c ≡ empty_partition F.MERGES config.now (size_of F.Key.SIZE F.Value.SIZE) number) }
         ensures good { result ≢ Err Refused.BadConfig
             → IsPartitionOf config.now (size_of F.Key.SIZE F.Value.SIZE) number }
         ensures bad { result ≡ Err Refused.BadConfig
@@ -94,6 +94,21 @@ impl<F: Mergeable, R: Receipt> Partition<F, R> {
     {
         self.core.known();
         let _cleared = self.cleared;
+    }
+
+    /// Whether a session is entered at a slot and the last record of a key that it reads in memory is a delta.
+    pub fn is_at_delta(&self, slot: usize, functions: &F, key: &F::Key) -> bool
+        ensures { IsTrue result ↔ IsAtDelta F.Key.cmp F.code self.now.core slot key.now }
+    {
+        self.core.is_at_delta(slot, functions, key)
+    }
+
+    /// Whether the functions merge.
+    pub fn merges(&self) -> bool
+        ensures value { result ≡ self.now.core.merges }
+        ensures functions { result ≡ F.MERGES }
+    {
+        self.core.merges()
     }
 
     /// Where the records begin that are not cleared: on a device that keeps, each record below is a tombstone, or not the

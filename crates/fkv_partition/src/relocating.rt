@@ -14,7 +14,7 @@ use fkv_core::preserving::events_preserve;
 use fkv_core::{Progress, ProgressOf, Wait, Write};
 use fkv_device::Receipt;
 use fkv_functions::{Mergeable, Refused};
-use fkv_lookups::low_of;
+use fkv_lookups::{Payload, low_of};
 use fkv_operations::{Answer, IndexEntry};
 use fkv_records::Address;
 
@@ -166,7 +166,7 @@ impl<F: Mergeable, R: Receipt> Partition<F, R> {
         let write = Write {
             entry: kept,
             key: entry.key,
-            value: entry.value,
+            payload: Payload::Whole(entry.value),
         };
         match self.core.append(slot, context, write, now) {
             Err(refused) => Err(refused),

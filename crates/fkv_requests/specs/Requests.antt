@@ -62,9 +62,12 @@ numbered_app name =
     (free_number_rule (codes "page-bits") 8 20))
     (free_number_rule (codes "frames") 2 1024)
 
--- the same, with how threads share its work
+-- the same, with how its rows reach the store, and how threads share its work
 abbrev pub shared_app : App → App
-shared_app app = with_rule (with_rule app (number_rule (codes "workers") 1 14 (codes "1"))) (flag_rule (codes "audit"))
+shared_app app =
+    with_rule
+    (with_rule (with_rule app (flag_rule (codes "merge"))) (number_rule (codes "workers") 1 14 (codes "1")))
+    (flag_rule (codes "audit"))
 
 -- the same, with what it tells of its work
 abbrev pub told_app : App → App
@@ -163,6 +166,10 @@ is_set (Some text) = bytes_eq text (codes "true")
 abbrev pub workers_of : List Row → ℕ
 workers_of rows = number_of (first_of (codes "workers") rows)
 
+-- whether a row is made a merge where it would read a page
+abbrev pub merge_of : List Row → Bool
+merge_of rows = is_set (first_of (codes "merge") rows)
+
 -- whether its histories are kept
 abbrev pub audit_of : List Row → Bool
 audit_of rows = is_set (first_of (codes "audit") rows)
@@ -185,6 +192,7 @@ IsTableBy memory rows table =
     (table.config ≡ config_of memory rows)
     × (option_map string_bytes table.folder ≡ folder_of rows)
     × (table.workers ≡ workers_of rows)
+    × (table.merge ≡ merge_of rows)
     × (table.audit ≡ audit_of rows)
     × (table.stats ≡ stats_of rows)
     × (table.progress ≡ progress_of rows)

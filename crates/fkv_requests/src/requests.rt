@@ -29,6 +29,7 @@ ghost use Rattle.fkv_requests.specs.Requests.{
   flag_rule,
   is_set,
   workers_of,
+  merge_of,
   audit_of,
   stats_of,
   progress_of,
@@ -75,6 +76,8 @@ pub struct TableRequest {
     pub folder: Option<String>,
     /// How many workers read the feeds, each in a thread of its own: 1 to 14.
     pub workers: u64,
+    /// Whether a row is made a merge where it would read a page.
+    pub merge: bool,
     /// Whether the history of each partition is kept, and compared at the end with what the workers were answered.
     pub audit: bool,
     /// Whether what the run did is told at its end.
@@ -195,6 +198,7 @@ fn table_by(
             config,
             folder,
             workers: number_by(options, "workers"),
+            merge: flag_by(options, "merge"),
             audit: flag_by(options, "audit"),
             stats: flag_by(options, "stats"),
             progress: flag_by(options, "progress"),
@@ -446,17 +450,24 @@ fn numbered<'a>(
         ))
 }
 
-/// A subcommand, with how threads share its work.
+/// A subcommand, with how its rows reach the store, and how threads share its work.
 fn shared<'a>(alloc: Global, command: Command<'a>) -> Result<Command<'a>, AllocError>
     requires { (out-Command command).has_globals ≡ false }
     ensures { IfOk result (λ more. (app_of more ≡ shared_app (app_of command.entry))
         × ((out-Command more).has_globals ≡ false)) }
 {
-    command.arg(workers(alloc))?.arg(flag(
-        alloc,
-        "audit",
-        "Keep every update, and compare them at the end with what the workers were answered",
-    ))
+    command
+        .arg(flag(
+            alloc,
+            "merge",
+            "Make a row a merge where it would read a page",
+        ))?
+        .arg(workers(alloc))?
+        .arg(flag(
+            alloc,
+            "audit",
+            "Keep every update, and compare them at the end with what the workers were answered",
+        ))
 }
 
 /// A subcommand, with what it tells of its work.

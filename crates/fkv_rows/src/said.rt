@@ -11,6 +11,7 @@ fn write_operation<W: Write>(op: &KeyedOp<Name, i64, i64>, writer: &mut W) -> io
         KeyedOp::Upsert(_, value) => write!(writer, " Upsert {value} ")?,
         KeyedOp::Rmw(_, input) => write!(writer, " Rmw {input} ")?,
         KeyedOp::Delete(_) => write!(writer, " Delete ")?,
+        KeyedOp::Merge(_, input) => write!(writer, " Merge {input} ")?,
     }
     writer.write_all(op.key().bytes())?;
     writeln!(writer)

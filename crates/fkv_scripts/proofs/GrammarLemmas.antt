@@ -6,7 +6,7 @@ use Rattle.std.proofs.lemmas.Slice.Eq.{bytes_eq-Decides}
 use Rattle.std.proofs.lemmas.Option.{same_Some}
 use Rattle.fkv_functions.specs.declared.names.Name.{Name}
 use Rattle.fkv_operations.specs.declared.operations.KeyedOp.{KeyedOp}
-use Rattle.fkv_operations.specs.declared.operations.KeyedOp.TheVariants.{Read, Upsert, Rmw, Delete}
+use Rattle.fkv_operations.specs.declared.operations.KeyedOp.TheVariants.{Read, Upsert, Rmw, Delete, Merge}
 use Rattle.fkv_scripts.specs.Words.{number_of, amount_of}
 use Rattle.fkv_scripts.specs.Grammar.{Token, word, number, key, amount, Spells, SpellAll, Spelled, HasText, ReadsWithZero, place, access_word, verb, operands, tokens, opening, functions_name}
 use Rattle.fkv_scripts.specs.Reading.{◌>>=◌, first_as, end_of, key_of, key_alone, key_and_amount, place_of, alone_of, pair_of, access_of, flush_of, load_of, operation_of, issue_of, do_of, served_of, line_of, functions_of, store_of, opening_of}
@@ -90,6 +90,7 @@ operation_only (Read k i) v ws z e s = rw (e, key_alone_only k ws s, z) refl
 operation_only (Upsert k n) v ws z e s = rw (e, key_and_amount_only k n ws s) refl
 operation_only (Rmw k n) v ws z e s = rw (e, key_and_amount_only k n ws s) refl
 operation_only (Delete k) v ws z e s = rw (e, key_alone_only k ws s) refl
+operation_only (Merge k n) v ws z e s = rw (e, key_and_amount_only k n ws s) refl
 
 issue_only : (p s : ℕ) (o : KeyedOp Name ℤ ℤ) (v : List ℕ) (ws : List (List ℕ)) → ReadsWithZero o → Spells v (verb o) → SpellAll ws (number p ∷ number s ∷ operands o) → issue_of v ws ≡ Some (Issue p s o)
 unfolding issue_of
@@ -134,6 +135,7 @@ only (Issue p s o) (v ∷ ws) h = issued o h.1 h.0.0 h.0.1
     issued (Upsert k n) z e f = rw e (issue_only p s (Upsert k n) (codes "upsert") ws z refl f)
     issued (Rmw k n) z e f = rw e (issue_only p s (Rmw k n) (codes "rmw") ws z refl f)
     issued (Delete k) z e f = rw e (issue_only p s (Delete k) (codes "delete") ws z refl f)
+    issued (Merge k n) z e f = rw e (issue_only p s (Merge k n) (codes "merge") ws z refl f)
 only (Enter p) [] h = absurd h.0
 only (Leave p s) [] h = absurd h.0
 only (Refresh p s) [] h = absurd h.0
@@ -313,7 +315,9 @@ operation_found v ws o e =
     (λ t g. let a = mapped (key_and_amount ws) (λ p. Rmw p.0 p.1) o g in rw (← a.2) (same_text v (codes "rmw") t, key_and_amount_found ws a.0 a.1, tt))
     (λ f. chosen (bytes_eq v (codes "delete")) _ _ (Some o) f
     (λ t g. let a = mapped (key_alone ws) Delete o g in rw (← a.2) (same_text v (codes "delete") t, key_alone_found ws a.0 a.1, tt))
-    (λ g. absurd (let bad : None ≡ Some o = g in cc)))))
+    (λ f. chosen (bytes_eq v (codes "merge")) _ _ (Some o) f
+    (λ t g. let a = mapped (key_and_amount ws) (λ p. Merge p.0 p.1) o g in rw (← a.2) (same_text v (codes "merge") t, key_and_amount_found ws a.0 a.1, tt))
+    (λ g. absurd (let bad : None ≡ Some o = g in cc))))))
 
 issue_found : (v : List ℕ) (ws : List (List ℕ)) (l : Line) → issue_of v ws ≡ Some l → Spelled (v ∷ ws) l
 unfolding issue_of

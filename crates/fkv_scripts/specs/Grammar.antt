@@ -3,7 +3,7 @@ use Rattle.std.specs.Prelude.{◌≡◌, true, ℕ, ℤ, pos, List, [], ◌∷�
 use Rattle.fkv_functions.specs.Names.{text_of}
 use Rattle.fkv_functions.specs.declared.names.Name.{Name}
 use Rattle.fkv_operations.specs.declared.operations.KeyedOp.{KeyedOp}
-use Rattle.fkv_operations.specs.declared.operations.KeyedOp.TheVariants.{Read, Upsert, Rmw, Delete}
+use Rattle.fkv_operations.specs.declared.operations.KeyedOp.TheVariants.{Read, Upsert, Rmw, Delete, Merge}
 use Rattle.fkv_scripts.specs.Words.{words_of, number_of, amount_of, is_key}
 use Rattle.fkv_scripts.specs.declared.lines.FunctionsName.{FunctionsName}
 use Rattle.fkv_scripts.specs.declared.lines.FunctionsName.TheVariants.{Count, Sum, Max, Capped}
@@ -49,12 +49,14 @@ verb (Read k i) = word (codes "read")
 verb (Upsert k n) = word (codes "upsert")
 verb (Rmw k n) = word (codes "rmw")
 verb (Delete k) = word (codes "delete")
+verb (Merge k n) = word (codes "merge")
 
 abbrev pub operands : KeyedOp Name ℤ ℤ → List Token
 operands (Read k i) = key k ∷ []
 operands (Upsert k n) = key k ∷ amount n ∷ []
 operands (Rmw k n) = key k ∷ amount n ∷ []
 operands (Delete k) = key k ∷ []
+operands (Merge k n) = key k ∷ amount n ∷ []
 
 -- how each line but the first is written
 abbrev pub tokens : Line → List Token

@@ -8,7 +8,7 @@ use Rattle.fkv_functions.specs.Hashes.{fnv_1a}
 use Rattle.fkv_functions.specs.Names.{room_by, padded_by, hashed_by}
 use Rattle.fkv_functions.specs.declared.names.Name.{Name}
 use Rattle.fkv_operations.specs.declared.operations.KeyedOp.{KeyedOp}
-use Rattle.fkv_operations.specs.declared.operations.KeyedOp.TheVariants.{Read, Upsert, Rmw, Delete}
+use Rattle.fkv_operations.specs.declared.operations.KeyedOp.TheVariants.{Read, Upsert, Rmw, Delete, Merge}
 use Rattle.fkv_scripts.specs.Words.{number_of, amount_of, is_key, is_key_byte}
 use Rattle.fkv_scripts.specs.declared.lines.FunctionsName.{FunctionsName}
 use Rattle.fkv_scripts.specs.declared.lines.FunctionsName.TheVariants.{Count, Sum, Max, Capped}
@@ -132,7 +132,8 @@ operation_of verb ws =
     else (if bytes_eq verb (codes "upsert") then option_map (λ p. Upsert p.0 p.1) (key_and_amount ws)
     else (if bytes_eq verb (codes "rmw") then option_map (λ p. Rmw p.0 p.1) (key_and_amount ws)
     else (if bytes_eq verb (codes "delete") then option_map Delete (key_alone ws)
-    else None)))
+    else (if bytes_eq verb (codes "merge") then option_map (λ p. Merge p.0 p.1) (key_and_amount ws)
+    else None))))
 
 unfoldable pub issue_of : List ℕ → List (List ℕ) → Option Line
 issue_of verb ws = do

@@ -293,6 +293,10 @@ fn operation(verb: &[u8], words: &mut Words<'_>) -> Option<KeyedOp<Name, i64, i6
     if is(verb, "delete") {
         return Some(KeyedOp::Delete(key_alone(words)?));
     }
+    if is(verb, "merge") {
+        let (key, amount) = key_and_amount(words)?;
+        return Some(KeyedOp::Merge(key, amount));
+    }
     None
 }
 

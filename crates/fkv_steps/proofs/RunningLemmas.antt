@@ -1,5 +1,5 @@
 -- Lines of a script in turn.
-use Rattle.std.proofs.Common.{◌≡◌, ℕ, ℤ, List, [], ◌∷◌, ◌++◌, Option, Some, None, Result, Ok, Err, refl, sym, ◌∙◌, ap, subst}
+use Rattle.std.proofs.Common.{◌≡◌, Bool, ℕ, ℤ, List, [], ◌∷◌, ◌++◌, Option, Some, None, Result, Ok, Err, refl, sym, ◌∙◌, ap, subst}
 use Rattle.std.specs.declared.cmp.Ordering.{Ordering}
 use Rattle.fkv_device.specs.Standing.{Standing}
 use Rattle.fkv_texts.specs.declared.entries.Entry.{Entry}
@@ -242,17 +242,17 @@ if-ok P Q (Err e) f h = tt
 
 module _ {V O R : Type 0} (stands : R → Standing) (entry : ℕ → List ℕ → ℕ → Entry Name V → Type 0) (join : V → V → V) (f : Meanings Name V ℤ O) (code : Name → ℕ) (written : ℤ → V) (value : V → List ℕ) (shown : O → List ℕ) where
   -- lines that were run in a world with nothing in it, and the text of what they told and of the live map
-  pub prints : (config : Config) (size : ℕ) (lines : List Line) (text : List ℕ) (v w : WorldView Name V ℤ O R) (told : List (Result (Outcome V O) Refused)) (pairs : List (Name × V))
-      → v ≡ empty_world config size
+  pub prints : (merges : Bool) (config : Config) (size : ℕ) (lines : List Line) (text : List ℕ) (v w : WorldView Name V ℤ O R) (told : List (Result (Outcome V O) Refused)) (pairs : List (Name × V))
+      → v ≡ empty_world merges config size
       → RunLines stands entry name_cmp join f code written v lines told w
       → IsHeadline name_cmp f code w
       → ((k : Name) → lookup (is_at (name_cmp k)) pairs ≡ union_of name_cmp code w.state.partitions k)
       → IsStrictlySortedBy name_cmp (keys_of pairs)
       → text ≡ steps_text value shown told ++ map_text value pairs
-      → IsPrintedBy stands entry name_cmp join f code written value shown config size lines text
-  prints config size lines text v w told pairs empty ran headline map rising printed =
-      let ran_there : RunLines stands entry name_cmp join f code written (empty_world config size) lines told w = rw empty at ran in
-      let run = run-lines stands entry name_cmp join f code written (empty_world config size) w lines told ran_there in
+      → IsPrintedBy stands entry name_cmp join f code written value shown merges config size lines text
+  prints merges config size lines text v w told pairs empty ran headline map rising printed =
+      let ran_there : RunLines stands entry name_cmp join f code written (empty_world merges config size) lines told w = rw empty at ran in
+      let run = run-lines stands entry name_cmp join f code written (empty_world merges config size) w lines told ran_there in
       record {
         world = w;
         told = told;
@@ -261,7 +261,7 @@ module _ {V O R : Type 0} (stands : R → Standing) (entry : ℕ → List ℕ �
         headline = headline;
         steps = run.steps;
         stepped = run.ran;
-        issued = issued-runs stands entry name_cmp join f code config size w run.steps run.ran;
+        issued = issued-runs stands entry name_cmp join f code merges config size w run.steps run.ran;
         answers = sym run.answers;
         map = map;
         rising = rising;

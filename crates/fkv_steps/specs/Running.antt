@@ -18,7 +18,7 @@ use Rattle.fkv_texts.specs.declared.entries.Entry.{Entry}
 use Rattle.fkv_operations.specs.declared.operations.KeyedOp.{KeyedOp}
 use Rattle.fkv_operations.specs.declared.operations.KeyedOp.TheVariants as on_key
 use Rattle.fkv_operations.specs.declared.operations.Op.{Op}
-use Rattle.fkv_operations.specs.declared.operations.Op.TheVariants.{Read, Upsert, Rmw, Delete, Relocate}
+use Rattle.fkv_operations.specs.declared.operations.Op.TheVariants.{Read, Upsert, Rmw, Delete, Merge, Relocate}
 use Rattle.fkv_partition.specs.Config.{Config}
 use Rattle.fkv_partition.specs.Limits.{IsWithinLimits}
 use Rattle.fkv_lives.specs.declared.outcomes.Outcome.{Outcome}
@@ -89,6 +89,7 @@ op_of written (on_key.Read k i) = Read k i
 op_of written (on_key.Upsert k n) = Upsert k (written n)
 op_of written (on_key.Rmw k n) = Rmw k n
 op_of written (on_key.Delete k) = Delete k
+op_of written (on_key.Merge k n) = Merge k n
 
 -- what a line does, and tells: a step, or several, each of them kept; an amount is written as this value
 abbrev pub RunsLine : {V O R : Type 0} → (R → Standing) → (ℕ → List ℕ → ℕ → Entry Name V → Type 0)
@@ -154,17 +155,17 @@ RunLines {V} {O} {R} stands entry cmp join f code written v (l ∷ ls) (t ∷ ts
 -- that keeps the headline
 pub record IsPrintedBy {V O R : Type 0} (stands : R → Standing) (entry : ℕ → List ℕ → ℕ → Entry Name V → Type 0)
     (cmp : Name → Name → Ordering) (join : V → V → V) (f : Meanings Name V ℤ O) (code : Name → ℕ)
-    (written : ℤ → V) (value : V → List ℕ) (shown : O → List ℕ) (config : Config) (record_size : ℕ) (lines : List Line)
+    (written : ℤ → V) (value : V → List ℕ) (shown : O → List ℕ) (merges : Bool) (config : Config) (record_size : ℕ) (lines : List Line)
     (text : List ℕ) : Type 0 where
   pub world : WorldView Name V ℤ O R
   pub told : List (Result (Outcome V O) Refused)
   pub pairs : List (Name × V)
-  pub ran : RunLines stands entry cmp join f code written (empty_world config record_size) lines told world
+  pub ran : RunLines stands entry cmp join f code written (empty_world merges config record_size) lines told world
   pub headline : IsHeadline cmp f code world
   -- the steps that the lines asked for, each of them kept; the lives are those of their accepted issues, in order; and
   -- the answers that are printed are those that the steps told, no more and no fewer
   pub steps : List (Step Name V ℤ)
-  pub stepped : RunsTo stands entry cmp join f code (empty_world config record_size) steps world
+  pub stepped : RunsTo stands entry cmp join f code (empty_world merges config record_size) steps world
   pub issued : map issue_of world.state.lives ≡ issues_in (backwards steps world.outcomes [])
   pub answers : answers_in told ≡ answers_in world.outcomes
   pub map : (k : Name) → lookup (is_at (cmp k)) pairs ≡ union_of cmp code world.state.partitions k
@@ -191,16 +192,16 @@ hash_of name = fnv_1a (text_of name)
 abbrev pub Prints : FunctionsName → Config → List Line → List ℕ → Type 0
 Prints Count config lines text =
     IsPrintedBy standing_of (IsNamedEntry (to_le_bytes w64) (λ n. n < 2 ^ 64) 8) name_cmp (count_parts {K = Name}).joined
-    counts hash_of count_of decimal decimal config (record_size Count) lines text
+    counts hash_of count_of decimal decimal true config (record_size Count) lines text
 Prints Sum config lines text =
     IsPrintedBy standing_of (IsNamedEntry long_bytes (FitsSigned w128) 16) name_cmp (sum_parts {K = Name}).joined
-    sums hash_of (λ n. n) signed_decimal signed_decimal config (record_size Sum) lines text
+    sums hash_of (λ n. n) signed_decimal signed_decimal true config (record_size Sum) lines text
 Prints Max config lines text =
     IsPrintedBy standing_of (IsNamedEntry signed_bytes (FitsSigned w64) 8) name_cmp (max_parts {K = Name}).joined
-    maxima hash_of (λ n. n) signed_decimal signed_decimal config (record_size Max) lines text
+    maxima hash_of (λ n. n) signed_decimal signed_decimal true config (record_size Max) lines text
 Prints Capped config lines text =
     IsPrintedBy standing_of (IsNamedEntry long_bytes (FitsSigned w128) 16) name_cmp (λ v w. w)
-    capped_sums hash_of (λ n. n) signed_decimal signed_decimal config (record_size Capped) lines text
+    capped_sums hash_of (λ n. n) signed_decimal signed_decimal false config (record_size Capped) lines text
 
 -- the output of an input: it says a script of at most 1,000,000 lines, whose numbers are within the limits, and this is
 -- what the script prints

@@ -1,3 +1,5 @@
 pub mod ClosingLemmas
 pub mod ListLemmas
+pub mod PassLemmas
+mod RunLemmas
 pub mod TurnLemmas

@@ -4,6 +4,7 @@ use Rattle.fkv_functions.specs.declared.refusals.Refused.{Refused}
 use Rattle.fkv_functions.specs.declared.refusals.Refused.TheVariants.{Stranger}
 use Rattle.fkv_functions.specs.declared.refusals.What.TheVariants as what
 use Rattle.fkv_operations.specs.declared.operations.KeyedOp.{KeyedOp}
+use Rattle.fkv_operations.specs.declared.operations.KeyedOp.TheVariants.{Rmw, Merge}
 use Rattle.fkv_operations.specs.declared.operations.Answer.{Answer}
 use Rattle.fkv_histories.specs.declared.entries.Entry.{Entry}
 use Rattle.fkv_histories.specs.Histories.{is_update_entry}
@@ -16,6 +17,10 @@ pub record PassView (K V I O : Type 0) : Type 0 where
   pub own : List (List (Entry K V I O))
   pub told : List ℕ
   pub share : ℕ
+
+-- an update of a key by an input, or a merge, which does the same to the map
+abbrev pub IsUpdateBy : {K V I : Type 0} → K → I → KeyedOp K V I → Type 0
+IsUpdateBy key input op = (op ≡ Rmw key input) ⊎ (op ≡ Merge key input)
 
 module _ {K V I O : Type 0} where
   -- a pass is of a store where it has the store's number, and as many partitions
@@ -42,6 +47,11 @@ module _ {K V I O : Type 0} where
 
   abbrev pub Runs : Bool → PassView K V I O → PassView K V I O → ℕ → KeyedOp K V I → Answer O → Type 0
   Runs keeps old new partition op answer = (e : Entry K V I O) × Answers keeps old new partition op answer e
+
+  -- an update of a key by this input was answered, or a merge
+  abbrev pub Updates : Bool → PassView K V I O → PassView K V I O → ℕ → K → I → Type 0
+  Updates keeps old new partition key input = (e : Entry K V I O) × IsUpdateBy key input e.op
+      × Answers keeps old new partition e.op e.answer e
 
   -- a pass of another store is refused with the two stores' numbers, or, where these agree, with their numbers of partitions
   abbrev pub IsStrange : StoreView → PassView K V I O → Refused → Type 0

@@ -1,7 +1,9 @@
 -- What a contract sees of a store, and what it refuses.
-use Rattle.std.specs.Prelude.{◌≡◌, ◌⊎◌, ℕ, ⊤}
+use Rattle.std.specs.Prelude.{◌≡◌, ◌⊎◌, ℕ, Bool, true, false, ⊤}
 use Rattle.fkv_functions.specs.declared.refusals.Refused.{Refused}
-use Rattle.fkv_functions.specs.declared.refusals.Refused.TheVariants.{NoMemory, NoSlot, Unknown, Stranger, Worn, Device, Damaged, Stalled, Mismatch}
+use Rattle.fkv_functions.specs.declared.refusals.Refused.TheVariants.{NoMemory, NoSlot, Unknown, Stranger, Worn, Device, Damaged, Stalled, Mismatch, NoMerge}
+use Rattle.fkv_operations.specs.After.{is_merge}
+use Rattle.fkv_operations.specs.declared.operations.KeyedOp.{KeyedOp}
 
 -- its own number, how many partitions it has, and how many turns an operation may take
 pub record StoreView : Type 0 where
@@ -20,6 +22,10 @@ IsTold (Device code page) = ⊤
 IsTold (Damaged page) = ⊤
 IsTold Stalled = ⊤
 IsTold other = ⊥
+
+-- what an operation may be refused by: by what any call may be, or as a merge of functions that do not merge
+abbrev pub IsUnrun : {K V I : Type 0} → Bool → KeyedOp K V I → Refused → Type 0
+IsUnrun merges op refused = IsTold refused ⊎ ((refused ≡ NoMerge) × (is_merge op ≡ true) × (merges ≡ false))
 
 -- a device does not open a partition's pages, or there is no memory
 abbrev pub IsUnopened : Refused → Type 0

@@ -1,20 +1,22 @@
 //! Passes: what a caller has of a store.
 ghost use Rattle.std.specs.Prelude.{◌≡◌, ◌≢◌, ◌+◌, ◌-◌, ◌^◌, ◌<◌, ◌≤◌, ◌⊎◌, ℕ, true, List, [], ◌∷◌, ◌++◌, length, slice_index, Err, Some, None, IfOk, IfErr, OnOk, OnErr};
 ghost use Rattle.fkv_partition.specs.CoreViews.{partition_of};
-ghost use Rattle.fkv_operations.specs.After.{key_of};
-ghost use Rattle.fkv_store.specs.Stores.{IsTold};
-ghost use Rattle.fkv_store.specs.Passes.{IsPassOf, IsStrange, Runs, told_after};
+ghost use Rattle.fkv_operations.specs.After.{key_of, is_merge};
+ghost use Rattle.fkv_operations.specs.declared.operations.KeyedOp.{KeyedOp};
+ghost use Rattle.fkv_store.specs.Stores.{IsTold, IsUnrun};
+ghost use Rattle.fkv_store.specs.Passes.{IsPassOf, IsStrange, Runs, Updates, told_after};
+ghost use Rattle.fkv_store.specs.Runs.{IsRunAs};
 
 use crate::gates::{Gate, Open, Place};
 use crate::holds::{At, enter, leave};
 use crate::lists::{add_at, room_at};
-use crate::running::{Run, refresh_all, refresh_moved, run_in};
+use crate::running::{Loads, Run, refresh_all, refresh_moved, run_in};
 use crate::stores::Store;
 use fkv_device::Disk;
 use fkv_functions::{Mergeable, Refused, What};
 use fkv_histories::{EntryOf, Recorder};
 use fkv_locked::Seat;
-use fkv_operations::{AnswerOf, KeyedOpOf};
+use fkv_operations::{AnswerOf, KeyedOp, KeyedOpOf};
 use std::alloc::Global;
 use std::marker::{Model, PhantomData};
 use std::sync::Wait;
@@ -164,7 +166,8 @@ impl<F: Mergeable, D: Disk, H: Recorder<F>> Pass<F, D, H> {
     ///
     /// In this order: `Stranger` where the pass is not of this store, with the two stores' numbers, or their numbers of
     /// partitions; `Worn` where the pass's share has no next number. Then, in the course of the operation: `NoMemory`;
-    /// `NoSlot` where sixteen sessions are entered; `Stranger` where fewer updates stand than the pass was told of; `Worn`
+    /// `NoSlot` where sixteen sessions are entered; `NoMerge` where it is a merge and the functions do not merge; `Stranger`
+    /// where fewer updates stand than the pass was told of; `Worn`
     /// where a number of the store has no next one; `Device` with code 2 where a page can't be written, 3 where one can't be
     /// read; `Damaged` where a page came back with other bytes, or spells no record; `Stalled` where the operation took as
     /// many turns as the configuration says; `Unknown` where another caller took the pass's sessions for its own.
@@ -177,10 +180,65 @@ impl<F: Mergeable, D: Disk, H: Recorder<F>> Pass<F, D, H> {
         gate: &G,
     ) -> Result<AnswerOf<F>, Refused>
         ensures ok { IfOk result (Runs H.keeps self.old self.new (partition_of store.now.count (F.code (key_of op))) op) }
+        ensures merging { OnOk result (is_merge op ≡ true → F.MERGES ≡ true) }
+        ensures foreign { ¬ IsPassOf store.now self.old → IfErr result (IsStrange store.now self.old) }
+        ensures own { OnOk result (IsPassOf store.now self.old) }
+        ensures worn { OnOk result (self.old.share < 2 ^ 64 - 1) }
+        ensures only { IfErr result (IsUnrun F.MERGES op) }
+        ensures unchanged { OnErr result (self.new ≡ self.old) }
+    {
+        self.run_as(rt, alloc, store, op, Loads::Read, gate)
+    }
+
+    /// Updates a key by an input as [`Pass::run`] does, but where the functions merge it reads no page: where the update
+    /// would read one it is given up, without effect, and a merge of the key by the same input runs in its place. Either takes
+    /// at most the turns of the configuration.
+    ///
+    /// # Errors
+    ///
+    /// Those of [`Pass::run`] for an update.
+    pub fn update_or_merge<G: Gate>(
+        &mut self,
+        rt: &impl Wait,
+        alloc: Global,
+        store: &Store<F, D, H>,
+        key: F::Key,
+        input: F::Input,
+        gate: &G,
+    ) -> Result<(), Refused>
+        ensures ok { OnOk result
+            (Updates H.keeps self.old self.new (partition_of store.now.count (F.code key)) key input) }
         ensures foreign { ¬ IsPassOf store.now self.old → IfErr result (IsStrange store.now self.old) }
         ensures own { OnOk result (IsPassOf store.now self.old) }
         ensures worn { OnOk result (self.old.share < 2 ^ 64 - 1) }
         ensures only { IfErr result IsTold }
+        ensures unchanged { OnErr result (self.new ≡ self.old) }
+    {
+        let op = KeyedOp::Rmw(key, input);
+        match self.run_as(rt, alloc, store, op, Loads::Merge, gate) {
+            Ok(_answer) => Ok(()),
+            Err(refused) => Err(refused),
+        }
+    }
+
+    /// Runs an operation as [`Pass::run`] does, or where pages are not to be read an update as a merge.
+    #[inline(always)]
+    fn run_as<G: Gate>(
+        &mut self,
+        rt: &impl Wait,
+        alloc: Global,
+        store: &Store<F, D, H>,
+        op: KeyedOpOf<F>,
+        loads: Loads,
+        gate: &G,
+    ) -> Result<AnswerOf<F>, Refused>
+        ensures ok { IfOk result (λ answer. (ran : KeyedOp F.Key F.Value F.Input) × IsRunAs loads op ran
+            × Runs H.keeps self.old self.new (partition_of store.now.count (F.code (key_of op))) ran answer) }
+        ensures merging { OnOk result (is_merge op ≡ true → F.MERGES ≡ true) }
+        ensures foreign { ¬ IsPassOf store.now self.old → IfErr result (IsStrange store.now self.old) }
+        ensures own { OnOk result (IsPassOf store.now self.old) }
+        ensures worn { OnOk result (self.old.share < 2 ^ 64 - 1) }
+        ensures only { IfErr result (IsUnrun F.MERGES op) }
         ensures unchanged { OnErr result (self.new ≡ self.old) }
     {
         match self.known_to(store) {
@@ -224,7 +282,7 @@ impl<F: Mergeable, D: Disk, H: Recorder<F>> Pass<F, D, H> {
             seat,
             known,
         };
-        let entry = match run_in(rt, store, &run, &mut self.readers, op, gate) {
+        let entry = match run_in(rt, store, &run, &mut self.readers, op, loads, gate) {
             Ok(entry) => entry,
             Err(refused) => return Err(refused),
         };

@@ -1,7 +1,9 @@
 //! How an operation of a pass runs, from its issue to its end: in one hold, or one event a hold, and what is done between holds.
-ghost use Rattle.std.specs.Prelude.{◌≡◌, ◌<◌, ◌≤◌, ◌-◌, ◌^◌, length, IfOk, IfErr, IfSome};
+ghost use Rattle.std.specs.Prelude.{◌≡◌, ◌<◌, ◌≤◌, ◌-◌, ◌^◌, true, false, length, IsTrue, IfOk, IfErr, IfSome, OnOk, IsSome};
+ghost use Rattle.fkv_operations.specs.After.{is_merge};
 ghost use Rattle.fkv_locked.specs.Turns.{IsOf, IsTurnOf};
-ghost use Rattle.fkv_store.specs.Stores.{IsTold};
+ghost use Rattle.fkv_store.specs.Stores.{IsTold, IsUnrun};
+ghost use Rattle.fkv_store.specs.Runs.{IsRunAs, IsEntryOf};
 
 use crate::gates::{Gate, Place};
 use crate::holds::{At, Hand, give_up, issue, refresh, turn, update_at_once};
@@ -14,6 +16,16 @@ use fkv_operations::{KeyedOp, KeyedOpOf};
 use std::alloc::Global;
 use std::sync::Wait;
 use std::thread;
+
+/// What is done where an operation needs a page from the device.
+#[derive(Clone, Copy, PartialEq, Eq, Debug)]
+pub(crate) enum Loads {
+    /// The page is read, and the operation goes on.
+    Read,
+    /// An update is given up, and a merge by the same input runs in its place, where the functions merge. For any other
+    /// operation the page is read.
+    Merge,
+}
 
 /// What a pass hands to the run of one operation: where it runs, and in which of its sessions; and of how many updates of the
 /// partition it was told.
@@ -133,18 +145,20 @@ fn wait<F: Mergeable, D: Disk, H: Recorder<F>, G: Gate>(
 }
 
 /// Goes on with an operation until it is finished, or has taken all its turns: each event that lets it go on, asks for a page
-/// or waits is a turn.
+/// or waits is a turn. Answers its entry, or `None` where it needs a page that is not to be read: then it is still open.
 fn run_on<F: Mergeable, D: Disk, H: Recorder<F>, G: Gate>(
     rt: &impl Wait,
     store: &Store<F, D, H>,
     run: &Run<'_>,
     reader: &mut D::Reader,
     mine: &MineOf<F>,
+    reads: bool,
     gate: &G,
-) -> Result<EntryOf<F>, Refused>
+) -> Result<Option<EntryOf<F>>, Refused>
     requires within { run.now.at.partition < store.now.count }
     requires seats { length run.now.seats.now ≡ store.now.count }
-    ensures of { IfOk result (IsOf mine.now) }
+    ensures of { IfOk result (λ done. IfSome done (IsOf mine.now)) }
+    ensures read { IsTrue reads → IfOk result IsSome }
     ensures only { IfErr result IsTold }
 {
     let mut hand = Hand::Nothing;
@@ -156,10 +170,13 @@ fn run_on<F: Mergeable, D: Disk, H: Recorder<F>, G: Gate>(
             Err(refused) => return Err(refused),
         };
         match turned {
-            Turn::Done(entry) => return Ok(entry),
+            Turn::Done(entry) => return Ok(Some(entry)),
             // an install asks nothing
             Turn::Next | Turn::NeedsBuild(_) => {}
             Turn::NeedsLoad(receipt, _) => {
+                if !reads {
+                    return Ok(None);
+                }
                 gate.pass(run.at.worker, Place::Load);
                 hand = Hand::Came(Loaded::fetch(reader, &receipt, store.page_size));
             }
@@ -182,15 +199,60 @@ fn try_at_once<F: Mergeable, D: Disk, H: Recorder<F>, G: Gate>(
     gate: &G,
 ) -> Result<Option<EntryOf<F>>, Refused>
     requires { run.now.at.partition < store.now.count }
-    ensures op { IfOk result (λ done. IfSome done (λ e. e.op ≡ op)) }
-    ensures fresh { IfOk result (λ done. IfSome done (λ e. run.now.known ≤ e.at)) }
-    ensures room { IfOk result (λ done. IfSome done (λ e. e.at < 2 ^ 64 - 1)) }
+    ensures of { IfOk result (λ done. IfSome done (IsEntryOf op run.now.known)) }
+    ensures update { IfOk result (λ done. IfSome done (λ _. is_merge op ≡ false)) }
     ensures only { IfErr result IsTold }
 {
     let KeyedOp::Rmw(key, input) = op else {
         return Ok(None);
     };
     update_at_once(rt, store, run.at, run.seat, &key, &input, run.known, gate)
+}
+
+/// Issues an operation and runs it to its end. Answers its entry, or `None` where it needs a page that is not to be read. Where
+/// it is not finished it is given up, without effect.
+fn run_out<F: Mergeable, D: Disk, H: Recorder<F>, G: Gate>(
+    rt: &impl Wait,
+    store: &Store<F, D, H>,
+    run: &Run<'_>,
+    reader: &mut D::Reader,
+    op: KeyedOpOf<F>,
+    reads: bool,
+    gate: &G,
+) -> Result<Option<EntryOf<F>>, Refused>
+    requires within { run.now.at.partition < store.now.count }
+    requires seats { length run.now.seats.now ≡ store.now.count }
+    ensures of { IfOk result (λ done. IfSome done (IsEntryOf op run.now.known)) }
+    ensures read { IsTrue reads → IfOk result IsSome }
+    ensures only { IfErr result IsTold }
+{
+    let mine = match issue(rt, store, run.at, run.seat, op, run.known, gate) {
+        Ok(mine) => mine,
+        Err(refused) => return Err(refused),
+    };
+    match run_on(rt, store, run, reader, &mine, reads, gate) {
+        Ok(Some(entry)) => Ok(Some(entry)),
+        Ok(None) => {
+            give_up(rt, store, run.at, &mine, gate);
+            Ok(None)
+        }
+        Err(refused) => {
+            give_up(rt, store, run.at, &mine, gate);
+            Err(refused)
+        }
+    }
+}
+
+/// The merge that runs in place of an operation where that would need a page, if one does.
+fn merge_for<F: Mergeable>(op: &KeyedOpOf<F>, loads: Loads) -> Option<KeyedOpOf<F>>
+    ensures some { IfSome result (IsRunAs loads op.now) }
+{
+    match op {
+        KeyedOp::Rmw(key, input) if F::MERGES && loads == Loads::Merge => {
+            Some(KeyedOp::Merge(*key, *input))
+        }
+        _ => None,
+    }
 }
 
 /// Runs an operation in a session of a pass. Where it is refused it is over, without effect.
@@ -200,32 +262,38 @@ pub(crate) fn run_in<F: Mergeable, D: Disk, H: Recorder<F>, G: Gate>(
     run: &Run<'_>,
     readers: &mut Vec<D::Reader>,
     op: KeyedOpOf<F>,
+    loads: Loads,
     gate: &G,
 ) -> Result<EntryOf<F>, Refused>
     requires within { run.now.at.partition < store.now.count }
     requires seats { length run.now.seats.now ≡ store.now.count }
     requires readers { length readers.old.items ≡ store.now.count }
     ensures readers { length readers.new.items ≡ length readers.old.items }
-    ensures op { IfOk result (λ e. e.op ≡ op) }
+    ensures op { IfOk result (λ e. IsRunAs loads op e.op) }
     ensures fresh { IfOk result (λ e. run.now.known ≤ e.at) }
     ensures room { IfOk result (λ e. e.at < 2 ^ 64 - 1) }
-    ensures only { IfErr result IsTold }
+    ensures merging { OnOk result (is_merge op ≡ true → F.MERGES ≡ true) }
+    ensures only { IfErr result (IsUnrun F.MERGES op) }
 {
     match try_at_once(rt, store, run, op, gate) {
         Ok(Some(entry)) => return Ok(entry),
         Ok(None) => {}
         Err(refused) => return Err(refused),
     }
-    let mine = match issue(rt, store, run.at, run.seat, op, run.known, gate) {
-        Ok(mine) => mine,
-        Err(refused) => return Err(refused),
-    };
+    if !F::MERGES && op.is_merge() {
+        return Err(Refused::NoMerge);
+    }
     let reader = &mut readers[run.at.partition];
-    match run_on(rt, store, run, reader, &mine, gate) {
-        Ok(entry) => Ok(entry),
-        Err(refused) => {
-            give_up(rt, store, run.at, &mine, gate);
-            Err(refused)
-        }
+    let merge = merge_for::<F>(&op, loads);
+    match run_out(rt, store, run, reader, op, merge.is_none(), gate) {
+        Ok(Some(entry)) => return Ok(entry),
+        Ok(None) => {}
+        Err(refused) => return Err(refused),
+    }
+    let Some(merge) = merge else { unreachable!() };
+    match run_out(rt, store, run, reader, merge, true, gate) {
+        Ok(Some(entry)) => Ok(entry),
+        Ok(None) => unreachable!(),
+        Err(refused) => Err(refused),
     }
 }

@@ -6,6 +6,8 @@ mod counts;
 #[cfg(test)]
 mod devices;
 #[cfg(test)]
+mod merging;
+#[cfg(test)]
 mod random;
 #[cfg(test)]
 mod rising;

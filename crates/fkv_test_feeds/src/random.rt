@@ -1,6 +1,6 @@
 //! Random feeds beside a plain fold.
 use fkv_device::MemoryDevice;
-use fkv_feeds::{run_alone, write_table};
+use fkv_feeds::{RowMode, run_alone_by, write_table};
 use fkv_functions::{Refused, SumFns};
 use fkv_partition::Config;
 use fkv_streams::{CountedReader, CountedWriter};
@@ -11,7 +11,7 @@ use std::collections::BTreeMap;
 use std::io::Write;
 
 /// Few buckets and small pages, so that classes have many keys and pages fill.
-const CONFIG: Config = Config {
+pub(crate) const CONFIG: Config = Config {
     id: 1,
     partition_bits: 2,
     bucket_bits: 1,
@@ -21,7 +21,12 @@ const CONFIG: Config = Config {
 };
 
 /// A feed of so many rows over so many keys, and the text of their sums.
-fn made(alloc: Global, seed: u64, rows: u64, keys: u64) -> Result<(Vec<u8>, Vec<u8>), Refused> {
+pub(crate) fn made(
+    alloc: Global,
+    seed: u64,
+    rows: u64,
+    keys: u64,
+) -> Result<(Vec<u8>, Vec<u8>), Refused> {
     let mut words = Xoshiro256PlusPlus::seed_from_u64(seed);
     let mut feed = Vec::new(alloc);
     let mut sums = BTreeMap::new(alloc);
@@ -47,14 +52,14 @@ fn made(alloc: Global, seed: u64, rows: u64, keys: u64) -> Result<(Vec<u8>, Vec<
     Ok((feed, text))
 }
 
-/// Whether a random feed comes to the plain fold's sums.
-fn is_folded(alloc: Global, seed: u64, rows: u64, keys: u64) -> bool {
+/// Whether a random feed comes to the plain fold's sums, with its rows in this mode.
+fn is_folded(alloc: Global, seed: u64, rows: u64, keys: u64, mode: RowMode) -> bool {
     let Ok((feed, wanted)) = made(alloc, seed, rows, keys) else {
         return false;
     };
     let mut reader = CountedReader::new(feed.as_slice());
     let device = MemoryDevice::new(alloc);
-    let Ok(run) = run_alone(alloc, &mut reader, &SumFns, &CONFIG, device) else {
+    let Ok(run) = run_alone_by(alloc, &mut reader, &SumFns, &CONFIG, device, mode) else {
         return false;
     };
     let mut text = Vec::new(alloc);
@@ -62,14 +67,16 @@ fn is_folded(alloc: Global, seed: u64, rows: u64, keys: u64) -> bool {
 }
 
 /// Rows, and the keys that they are drawn from.
-const FEEDS: [(u64, u64); 5] = [(0, 1), (1, 1), (100, 3), (2_000, 50), (3_000, 9_000)];
+pub(crate) const FEEDS: [(u64, u64); 5] = [(0, 1), (1, 1), (100, 3), (2_000, 50), (3_000, 9_000)];
 
 #[test]
 fn random_feeds(rt: HostRuntime) {
     for (rows, keys) in FEEDS {
-        assert!(rt;
-            is_folded(rt.alloc(), rows + keys, rows, keys),
-            "{rows} {keys}"
-        );
+        for mode in [RowMode::Update, RowMode::Merge] {
+            assert!(rt;
+                is_folded(rt.alloc(), rows + keys, rows, keys, mode),
+                "{rows} {keys} {mode:?}"
+            );
+        }
     }
 }

@@ -111,7 +111,7 @@ const TWELVE: [Row; 23] = [
     (Step::Refresh(1), Told::Ok, 0),
 ];
 
-const A_NEW_PARTITION: [Row; 3] = [
+const A_NEW_PARTITION: [Row; 5] = [
     (Step::Enter, Told::At(0), 0),
     // the issue, a claim, its confirmation, a look-up, and what was built
     (
@@ -125,9 +125,20 @@ const A_NEW_PARTITION: [Row; 3] = [
         Told::Done(Answer::Value(6)),
         2,
     ),
+    // a merge: the issue, a claim, its confirmation and a look-up; and over a mutable value
+    (
+        Step::Alone(0, Op::Merge(b'b', 5), 9),
+        Told::Done(Answer::Stored),
+        4,
+    ),
+    (
+        Step::Alone(0, Op::Merge(b'a', 5), 9),
+        Told::Done(Answer::Stored),
+        2,
+    ),
 ];
 
-const AN_EVICTED_KEY: [Row; 3] = [
+const AN_EVICTED_KEY: [Row; 5] = [
     // the issue, a look-up, its page, and what was built
     (
         Step::Alone(0, Op::Rmw(b'a', 1), 9),
@@ -143,6 +154,17 @@ const AN_EVICTED_KEY: [Row; 3] = [
         Step::Alone(1, Op::Delete(b'c'), 9),
         Told::Done(Answer::Deleted),
         2,
+    ),
+    // a merge reads no page, and its key has the sum
+    (
+        Step::Alone(1, Op::Merge(b'b', 5), 9),
+        Told::Done(Answer::Stored),
+        2,
+    ),
+    (
+        Step::Alone(1, Op::Read(b'b', 0), 9),
+        Told::Done(Answer::Value(6)),
+        3,
     ),
 ];
 

@@ -149,6 +149,7 @@ pub fn on_name(op: LetterOp) -> Option<OpOf<SumFns>> {
         KeyedOp::Upsert(_, value) => Op::Upsert(key, value),
         KeyedOp::Rmw(_, input) => Op::Rmw(key, input),
         KeyedOp::Delete(_) => Op::Delete(key),
+        KeyedOp::Merge(_, input) => Op::Merge(key, input),
     })
 }
 

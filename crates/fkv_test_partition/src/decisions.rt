@@ -1,7 +1,7 @@
 //! The table of decisions, row by row, for a sum, and what a session's view makes of what a look-up comes to.
 use crate::calls::on_name;
 use fkv_functions::{Name, SumFns};
-use fkv_lookups::{Decision, Gathered, LookupResult, decide, low_of, met_by};
+use fkv_lookups::{Decision, Gathered, LookupResult, Payload, decide, low_of, met_by};
 use fkv_operations::{Answer, KeyedOp};
 use fkv_records::Address;
 use fkv_regions::View;
@@ -21,7 +21,9 @@ const UPDATE: KeyedOp<u8, i128, i64> = KeyedOp::Rmw(b'a', 5);
 
 const DELETE: KeyedOp<u8, i128, i64> = KeyedOp::Delete(b'a');
 
-const ROWS: [Row; 26] = [
+const MERGE: KeyedOp<u8, i128, i64> = KeyedOp::Merge(b'a', 5);
+
+const ROWS: [Row; 32] = [
     (READ, LookupResult::NoEntry, Decision::Done(Answer::Absent)),
     (READ, LookupResult::NoValue, Decision::Done(Answer::Absent)),
     (
@@ -54,17 +56,17 @@ const ROWS: [Row; 26] = [
     (
         UPSERT,
         LookupResult::NoValue,
-        Decision::Append(Some(4), Answer::Stored),
+        Decision::Append(Payload::Whole(Some(4)), Answer::Stored),
     ),
     (
         UPSERT,
         LookupResult::ReadOnly(3),
-        Decision::Append(Some(4), Answer::Stored),
+        Decision::Append(Payload::Whole(Some(4)), Answer::Stored),
     ),
     (
         UPSERT,
         LookupResult::Fuzzy(3),
-        Decision::Append(Some(4), Answer::Stored),
+        Decision::Append(Payload::Whole(Some(4)), Answer::Stored),
     ),
     (
         UPSERT,
@@ -75,7 +77,7 @@ const ROWS: [Row; 26] = [
     (
         UPSERT,
         LookupResult::OnDisk(64, None),
-        Decision::Append(Some(4), Answer::Stored),
+        Decision::Append(Payload::Whole(Some(4)), Answer::Stored),
     ),
     (UPDATE, LookupResult::NoEntry, Decision::Claim),
     (UPDATE, LookupResult::NoValue, Decision::Prepare(None, 5)),
@@ -113,12 +115,12 @@ const ROWS: [Row; 26] = [
     (
         DELETE,
         LookupResult::ReadOnly(3),
-        Decision::Append(None, Answer::Deleted),
+        Decision::Append(Payload::Whole(None), Answer::Deleted),
     ),
     (
         DELETE,
         LookupResult::Fuzzy(3),
-        Decision::Append(None, Answer::Deleted),
+        Decision::Append(Payload::Whole(None), Answer::Deleted),
     ),
     (
         DELETE,
@@ -128,7 +130,33 @@ const ROWS: [Row; 26] = [
     (
         DELETE,
         LookupResult::OnDisk(64, None),
-        Decision::Append(None, Answer::Deleted),
+        Decision::Append(Payload::Whole(None), Answer::Deleted),
+    ),
+    (MERGE, LookupResult::NoEntry, Decision::Claim),
+    (
+        MERGE,
+        LookupResult::NoValue,
+        Decision::Append(Payload::Part(5), Answer::Stored),
+    ),
+    (
+        MERGE,
+        LookupResult::ReadOnly(3),
+        Decision::Append(Payload::Part(5), Answer::Stored),
+    ),
+    (
+        MERGE,
+        LookupResult::Fuzzy(3),
+        Decision::Append(Payload::Part(5), Answer::Stored),
+    ),
+    (
+        MERGE,
+        LookupResult::Mutable(3),
+        Decision::Replace(Some(8), Answer::Stored),
+    ),
+    (
+        MERGE,
+        LookupResult::OnDisk(64, Some(5)),
+        Decision::Append(Payload::Part(5), Answer::Stored),
     ),
 ];
 

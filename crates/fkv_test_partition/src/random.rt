@@ -26,6 +26,7 @@ struct Counts {
     /// Reads that were answered later than they took effect.
     late_reads: u64,
     writes: u64,
+    merges: u64,
     cleared: u64,
     truncations: u64,
 }
@@ -34,6 +35,7 @@ const NONE: Counts = Counts {
     reads: 0,
     late_reads: 0,
     writes: 0,
+    merges: 0,
     cleared: 0,
     truncations: 0,
 };
@@ -60,6 +62,7 @@ fn random_op(word: u64) -> LetterOp {
         0 | 1 => Op::Read(key, input),
         2 => Op::Upsert(key, i128::from(input)),
         3 => Op::Delete(key),
+        6 | 7 => Op::Merge(key, input),
         _ => Op::Rmw(key, input),
     }
 }
@@ -166,6 +169,8 @@ impl Beside {
             };
         }
         self.counts.writes = self.counts.writes.saturating_add(1);
+        let merge = if op.is_merge() { 1 } else { 0 };
+        self.counts.merges = self.counts.merges.saturating_add(merge);
         let told = apply_plainly(&SumFns, &mut self.plain, op);
         let value = self.plain.get(&key).copied();
         let change = Change {
@@ -302,7 +307,12 @@ fn run(alloc: Global, config: &Config, seed: u64, calls: u64) -> Option<Counts> 
 fn is_lively(counts: Option<Counts>) -> bool {
     match counts {
         Some(c) => {
-            c.reads > 10 && c.late_reads > 0 && c.writes > 30 && c.cleared > 30 && c.truncations > 2
+            c.reads > 10
+                && c.late_reads > 0
+                && c.writes > 30
+                && c.merges > 10
+                && c.cleared > 30
+                && c.truncations > 2
         }
         None => false,
     }

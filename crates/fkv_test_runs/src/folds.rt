@@ -24,6 +24,14 @@ impl Fold {
         Fold { sums: [None; 256] }
     }
 
+    /// The sum of a letter once this amount is added, which it now has.
+    fn added(&mut self, key: &Name, amount: i64) -> i128 {
+        let old = self.sums[place(key)].unwrap_or(0);
+        let sum = old.wrapping_add(i128::from(amount));
+        self.sums[place(key)] = Some(sum);
+        sum
+    }
+
     /// Does an operation, and answers it. A relocation changes no sum.
     pub fn answer(&mut self, op: &Op<Name, i128, i64>) -> Answer<i128> {
         match op {
@@ -35,15 +43,14 @@ impl Fold {
                 self.sums[place(key)] = Some(*sum);
                 Answer::Stored
             }
-            Op::Rmw(key, amount) => {
-                let old = self.sums[place(key)].unwrap_or(0);
-                let sum = old.wrapping_add(i128::from(*amount));
-                self.sums[place(key)] = Some(sum);
-                Answer::Value(sum)
-            }
+            Op::Rmw(key, amount) => Answer::Value(self.added(key, *amount)),
             Op::Delete(key) => {
                 self.sums[place(key)] = None;
                 Answer::Deleted
+            }
+            Op::Merge(key, amount) => {
+                let _ = self.added(key, *amount);
+                Answer::Stored
             }
             Op::Relocate => Answer::Cleared,
         }

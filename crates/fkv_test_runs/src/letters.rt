@@ -27,6 +27,7 @@ where
         KeyedOp::Upsert(_, value) => KeyedOp::Upsert(key, value),
         KeyedOp::Rmw(_, input) => KeyedOp::Rmw(key, input),
         KeyedOp::Delete(_) => KeyedOp::Delete(key),
+        KeyedOp::Merge(_, input) => KeyedOp::Merge(key, input),
     })
 }
 

@@ -82,6 +82,16 @@ const BLIND_WRITES_AND_DELETES: [Row<i128, i128>; 9] = [
     (KeyedOp::Upsert(b'b', 7), Answer::Stored),
 ];
 
+/// A merge does what an update does, and shows nothing.
+const MERGES: [Row<i128, i128>; 6] = [
+    (KeyedOp::Merge(b'a', 5), Answer::Stored),
+    (KeyedOp::Merge(b'a', -2), Answer::Stored),
+    (KeyedOp::Read(b'a', 0), Answer::Value(3)),
+    (KeyedOp::Rmw(b'a', 4), Answer::Value(7)),
+    (KeyedOp::Delete(b'a'), Answer::Deleted),
+    (KeyedOp::Merge(b'a', 1), Answer::Stored),
+];
+
 /// Sums go round at the ends of their range.
 const ROUND: [Row<i128, i128>; 4] = [
     (KeyedOp::Upsert(b'a', i128::MAX), Answer::Stored),
@@ -95,7 +105,7 @@ const ROUND: [Row<i128, i128>; 4] = [
 
 #[test]
 fn sums(rt: HostRuntime) {
-    let all: [(&[Row<i128, i128>], &[(u8, Option<i128>)]); 5] = [
+    let all: [(&[Row<i128, i128>], &[(u8, Option<i128>)]); 6] = [
         (&[], &[(b'a', None)]),
         (&THIN_PATH, &[(b'a', Some(3)), (b'b', None)]),
         (&TWO_UPDATES, &[(b'a', Some(3))]),
@@ -103,6 +113,7 @@ fn sums(rt: HostRuntime) {
             &BLIND_WRITES_AND_DELETES,
             &[(b'a', Some(2)), (b'b', Some(7))],
         ),
+        (&MERGES, &[(b'a', Some(1)), (b'b', None)]),
         (&ROUND, &[(b'a', Some(i128::MAX)), (b'c', None)]),
     ];
     for (at, (rows, map)) in all.iter().enumerate() {

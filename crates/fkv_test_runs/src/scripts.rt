@@ -36,6 +36,7 @@ fn on_sums(op: &KeyedOp<Name, i64, i64>) -> Asked {
         KeyedOp::Upsert(key, sum) => Op::Upsert(*key, i128::from(*sum)),
         KeyedOp::Rmw(key, amount) => Op::Rmw(*key, *amount),
         KeyedOp::Delete(key) => Op::Delete(*key),
+        KeyedOp::Merge(key, amount) => Op::Merge(*key, *amount),
     }
 }
 
@@ -295,7 +296,60 @@ flush 0 ok
 do 0 0 read a
 ";
 
-const SCRIPTS: [&str; 4] = [THIN_PATH, ONE_CLASS, TRUNCATION_UNDER_A_PENDING_READ, FULL];
+const MERGE_BESIDE_A_PREPARED_UPDATE: &str = "store sum 0 8 8 2
+enter 0
+enter 0
+do 0 0 upsert a 10
+do 0 0 upsert b 1
+do 0 0 upsert c 1
+readonly 0 1
+refresh 0 0
+refresh 0 1
+flush 0 ok
+head 0 1
+refresh 0 0
+refresh 0 1
+do 0 0 merge a 5
+rmw 0 0 a 1
+ready 0 0 0
+load 0 0 0 ok
+do 0 1 merge a 2
+install 0 0 0
+finish 0 0 0
+";
+
+const RELOCATION_JOINS: &str = "store sum 0 8 8 2
+enter 0
+enter 0
+do 0 0 upsert a 10
+do 0 0 upsert b 1
+do 0 0 upsert c 1
+readonly 0 1
+refresh 0 0
+refresh 0 1
+flush 0 ok
+head 0 1
+refresh 0 0
+refresh 0 1
+do 0 0 merge a 5
+compact 0 1
+compact 0 1
+compact 0 1
+truncate 0
+do 0 0 read a
+merge 0 0 d 4
+finish 0 0 0
+do 0 0 read d
+";
+
+const SCRIPTS: [&str; 6] = [
+    THIN_PATH,
+    ONE_CLASS,
+    TRUNCATION_UNDER_A_PENDING_READ,
+    FULL,
+    MERGE_BESIDE_A_PREPARED_UPDATE,
+    RELOCATION_JOINS,
+];
 
 #[test]
 fn refused_growths_of_scripts(rt: HostRuntime) {

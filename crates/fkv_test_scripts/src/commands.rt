@@ -145,7 +145,7 @@ const BAD_SIZE: &str =
 const NO_FOLDER: &str = "fkv_cli: device fault 1 on page 0\n";
 
 /// Command lines, inputs, statuses, what is printed, and what is told beside it; of a mistake its first line.
-const RUNS: [(&str, &str, u8, &str, &str); 59] = [
+const RUNS: [(&str, &str, u8, &str, &str); 62] = [
     ("fkv_cli", THIN_PATH, 0, THIN_PATH_TOLD, ""),
     ("fkv_cli replay", THIN_PATH, 0, THIN_PATH_TOLD, ""),
     ("fkv_cli --", THIN_PATH, 0, THIN_PATH_TOLD, ""),
@@ -296,6 +296,28 @@ const RUNS: [(&str, &str, u8, &str, &str); 59] = [
         "",
     ),
     ("fkv_cli sum --audit", "", 0, "", ""),
+    // rows that are made merges come to the same table
+    (
+        "fkv_cli count --merge --partition-bits 0 --bucket-bits 0 --page-bits 8 --frames 2",
+        LETTERS,
+        0,
+        LETTERS_TOLD,
+        "",
+    ),
+    (
+        "fkv_cli count --merge --audit --partition-bits 0 --bucket-bits 0 --page-bits 8 --frames 2",
+        LETTERS,
+        0,
+        LETTERS_TOLD,
+        "",
+    ),
+    (
+        "fkv_cli sum --merge=1",
+        "a,1\n",
+        2,
+        "",
+        "error: unexpected value '1' for '--merge' found; no more were expected\n",
+    ),
     ("fkv_cli sum --audit", "a,5\na,5x\n", 1, "", BAD_ROW),
     (
         "fkv_cli sum --audit --dir /dev/null/pages",

@@ -48,7 +48,10 @@ pub enum Call {
     /// Operations on a key of one letter.
     Upsert(usize, u8, i128),
     Update(usize, u8, i64),
+    Merge(usize, u8, i64),
     Read(usize, u8),
+    /// An update of a key of one letter, or a merge where that would read a page.
+    UpdateOrMerge(usize, u8, i64),
     Refresh(usize),
     Rest(usize),
     /// Moves the pages of this partition.
@@ -95,6 +98,9 @@ fn asked(call: Call) -> Option<(usize, KeyedOp<Name, i128, i64>)> {
         Call::Update(pass, letter, amount) => {
             Some((pass, KeyedOp::Rmw(Name::new(&[letter])?, amount)))
         }
+        Call::Merge(pass, letter, amount) => {
+            Some((pass, KeyedOp::Merge(Name::new(&[letter])?, amount)))
+        }
         Call::Read(pass, letter) => Some((pass, KeyedOp::Read(Name::new(&[letter])?, 0))),
         _ => None,
     }
@@ -132,6 +138,17 @@ impl<D: Disk, H: Recorder<SumFns>> Called<D, H> {
             };
         }
         match call {
+            Call::UpdateOrMerge(pass, letter, amount) if pass < self.passes.len() => {
+                let Some(key) = Name::new(&[letter]) else {
+                    return Told::Refused(Refused::Unknown);
+                };
+                let Called {
+                    store,
+                    passes,
+                    loads,
+                } = self;
+                done_told(passes[pass].update_or_merge(rt, alloc, store, key, amount, loads))
+            }
             Call::Refresh(pass) if pass < self.passes.len() => {
                 done_told(self.passes[pass].refresh(rt, &self.store))
             }

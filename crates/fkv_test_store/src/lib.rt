@@ -11,6 +11,8 @@ mod faults;
 #[cfg(test)]
 mod growths;
 #[cfg(test)]
+mod merging;
+#[cfg(test)]
 mod sharing;
 #[cfg(test)]
 mod threads;

@@ -6,4 +6,6 @@ mod faults;
 #[cfg(test)]
 mod gated;
 #[cfg(test)]
+mod merging;
+#[cfg(test)]
 mod tables;

@@ -1,12 +1,12 @@
 //! Tables of several workers.
 use fkv_device::{Disk, FileDevice, MemoryDevice};
-use fkv_feeds::write_table;
+use fkv_feeds::{RowMode, write_table};
 use fkv_functions::{Refused, SumFns};
 use fkv_histories::{Audited, Plain, Recorder};
 use fkv_partition::Config;
 use fkv_store::{Gate, Open};
 use fkv_streams::{CountedReader, CountedWriter};
-use fkv_workers::run_feeds;
+use fkv_workers::run_feeds_by;
 use std::alloc::Global;
 use std::fs;
 use std::io::Write;
@@ -36,7 +36,45 @@ pub const LETTERS_TABLE: &[u8] =
 /// Room for the text of any table here.
 const ROOM: usize = 4096;
 
-/// The text of the table of sums of these feeds, by so many workers, over this device.
+/// The text of the table of sums of these feeds, by so many workers, over this device, where rows are made updates so.
+pub fn summed_by<
+    H: Recorder<SumFns> + Send,
+    D: Disk + Send,
+    G: Gate + Sync,
+    T: Threads + Wait + Clock + Sync,
+>(
+    rt: &T,
+    alloc: Global,
+    feeds: &[&[u8]],
+    workers: usize,
+    config: &Config,
+    device: D,
+    gate: &G,
+    mode: RowMode,
+) -> Result<Vec<u8>, Refused>
+where
+    D::Receipt: Send,
+    D::Writer: Send,
+    D::Reader: Send,
+{
+    let mut sources = Vec::new(alloc);
+    for feed in feeds {
+        let Ok(()) = sources.push(CountedReader::new(*feed)) else {
+            return Err(Refused::NoMemory);
+        };
+    }
+    let run = run_feeds_by::<_, _, _, H, _, _>(
+        rt, alloc, sources, workers, SumFns, config, device, gate, mode,
+    )?;
+    // what it is written to takes no more memory
+    let Ok(mut text) = Vec::with_capacity(alloc, ROOM) else {
+        return Err(Refused::NoMemory);
+    };
+    write_table(alloc, &run.table, &mut CountedWriter::new(&mut text))?;
+    Ok(text)
+}
+
+/// The same, where each row is an update.
 pub fn summed_over<
     H: Recorder<SumFns> + Send,
     D: Disk + Send,
@@ -56,21 +94,8 @@ where
     D::Writer: Send,
     D::Reader: Send,
 {
-    let mut sources = Vec::new(alloc);
-    for feed in feeds {
-        let Ok(()) = sources.push(CountedReader::new(*feed)) else {
-            return Err(Refused::NoMemory);
-        };
-    }
-    let run = run_feeds::<_, _, _, H, _, _>(
-        rt, alloc, sources, workers, SumFns, config, device, gate,
-    )?;
-    // what it is written to takes no more memory
-    let Ok(mut text) = Vec::with_capacity(alloc, ROOM) else {
-        return Err(Refused::NoMemory);
-    };
-    write_table(alloc, &run.table, &mut CountedWriter::new(&mut text))?;
-    Ok(text)
+    let mode = RowMode::Update;
+    summed_by::<H, _, _, _>(rt, alloc, feeds, workers, config, device, gate, mode)
 }
 
 /// The same over memory.

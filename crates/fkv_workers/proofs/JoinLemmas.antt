@@ -1,5 +1,5 @@
 -- What the histories of workers' updates come to.
-use Rattle.std.proofs.Common.{map, ◌≡◌, ◌<◌, ◌==◌, ℕ, ℤ, zero, suc, true, List, [], ◌∷◌, length, fold, get_or, Option, None, IfSome, refl, sym, ap, ◌∙◌, arith}
+use Rattle.std.proofs.Common.{map, ◌≡◌, ◌<◌, ◌==◌, inl, inr, ℕ, ℤ, zero, suc, true, List, [], ◌∷◌, length, fold, get_or, Option, None, IfSome, refl, sym, ap, ◌∙◌, arith}
 use Rattle.std.specs.Prelude.{FitsSigned}
 use Rattle.std.specs.Int.{w64}
 use Rattle.std.specs.List.{All, AllZip}
@@ -12,16 +12,17 @@ use Rattle.fkv_functions.specs.Meanings.{Meanings, updated}
 use Rattle.fkv_functions.specs.Names.{name_cmp}
 use Rattle.fkv_functions.specs.Plain.{IsKeyOrder}
 use Rattle.fkv_functions.specs.declared.names.Name.{Name}
+use Rattle.fkv_operations.specs.After.{is_update}
 use Rattle.fkv_operations.specs.declared.operations.KeyedOp.{KeyedOp}
-use Rattle.fkv_operations.specs.declared.operations.KeyedOp.TheVariants.{Rmw}
 use Rattle.fkv_histories.specs.declared.entries.Entry.{Entry}
 use Rattle.fkv_histories.specs.Histories.{updates, is_update_entry, ops_of, map_of}
 use Rattle.fkv_histories.specs.Merges.{Told, told, IsShuffle}
 use Rattle.fkv_partition.specs.CoreViews.{partition_of}
+use Rattle.fkv_store.specs.Passes.{IsUpdateBy}
 use Rattle.fkv_feeds.specs.Tables.{AreFeeds, amounts_of, folded}
 use Rattle.fkv_workers.specs.Shares.{rows_at, HasRows, HasShare, AreFed, AreShuffled, value_by}
 use Rattle.fkv_workers.proofs.FoldLemmas.{AllR, AllR-filter, filter-all, joined}
-use Rattle.fkv_workers.proofs.KeyLemmas.{on_key, by_row, fold_ops, after_all_here, fold_at, fold_amounts, row_stays, rows_commute}
+use Rattle.fkv_workers.proofs.KeyLemmas.{on_key, by_row, row_here, fold_rows, after_all_here, fold_at, fold_amounts, row_stays, rows_commute}
 use Rattle.fkv_workers.proofs.OwnerLemmas.{part, all_told, by_lists}
 use Rattle.fkv_workers.proofs.DealLemmas.{all_rows}
 
@@ -55,23 +56,27 @@ joined_alike f g c ps qs zero h = refl
 joined_alike f g c ps qs (suc n) h =
     h n (omega arith) (joined f c ps n) ∙ ap (λ d. fold g d (qs n)) (joined_alike f g c ps qs n (λ i lt. h i (omega (arith, lt))))
 
+updating : {K V I : Type 0} (key : K) (input : I) (op : KeyedOp K V I) → IsUpdateBy key input op → is_update op ≡ true
+updating key input op (inl is) = rw is refl
+updating key input op (inr is) = rw is refl
+
 module _ {K V I O : Type 0} where
   fold_told : {C : Type 0} (f : C → KeyedOp K V I → C) (c : C) (es : List (Entry K V I O)) → fold f c (ops_of es) ≡ fold (λ d (t : Told K V I O). f d t.op) c (told es)
   fold_told f c [] = refl
   fold_told f c (e ∷ es) = fold_told f (f c e.op) es
 
-  -- one update of a row with this property
+  -- one update or merge of a row with this property
   abbrev IsRowed : (K × I → Type 0) → Told K V I O → Type 0
-  IsRowed P t = (r : K × I) × (t.op ≡ Rmw r.0 r.1) × P r
+  IsRowed P t = (r : K × I) × IsUpdateBy r.0 r.1 t.op × P r
 
   rowed : (P : K × I → Type 0) (own : List (Entry K V I O)) (rows : List (K × I)) → HasRows own rows → AllR P rows → AllR (IsRowed P) (told own)
   rowed P [] rows has all = tt
-  rowed P (e ∷ own) [] has all = absurd (cc)
-  rowed P (e ∷ own) (r ∷ rows) has all = (let here : e.op ≡ Rmw r.0 r.1 = cc in let rest : HasRows own rows = cc in ((r, here, all.0), rowed P own rows rest all.1))
+  rowed P (e ∷ own) [] has all = absurd has
+  rowed P (e ∷ own) (r ∷ rows) has all = ((r, has.0, all.0), rowed P own rows has.1 all.1)
 
   all_updates : (P : K × I → Type 0) (es : List (Entry K V I O)) → AllR (IsRowed P) (told es) → AllR (λ e. is_update_entry e ≡ true) es
   all_updates P [] all = tt
-  all_updates P (e ∷ es) all = (rw all.0.1 refl, all_updates P es all.1)
+  all_updates P (e ∷ es) all = (updating all.0.0.0 all.0.0.1 e.op all.0.1, all_updates P es all.1)
 
 module _ {V O : Type 0} (f : Meanings Name V ℤ O) (code : Name → ℕ) (order : IsKeyOrder name_cmp)
     (KK : Name → Type 0) (VK : V → Type 0) (IK : ℤ → Type 0)
@@ -96,11 +101,15 @@ module _ {V O : Type 0} (f : Meanings Name V ℤ O) (code : Name → ℕ) (order
   by_told k held t = on_key name_cmp f k held t.op
 
   told_stays : (k : Name) (held : Option V) (t : Told Name V ℤ O) → IsHeld held → IsRowed IsKnown t → IsHeld (by_told k held t)
-  told_stays k held t known (r, is, row) = rw is (stays k held r known row)
+  told_stays k held t known (r, is, row) = rw (row_here name_cmp f k held r t.op is) (stays k held r known row)
 
   told_commute : (k : Name) (held : Option V) (t u : Told Name V ℤ O) → IsHeld held → IsRowed IsKnown t → IsRowed IsKnown u
       → by_told k (by_told k held t) u ≡ by_told k (by_told k held u) t
-  told_commute k held t u known (r, is, row) (s, too, other) = rw (is, too) (commute k held r s known row other)
+  told_commute k held t u known (r, is, row) (s, too, other) =
+      ap (λ h. by_told k h u) (row_here name_cmp f k held r t.op is)
+      ∙ (row_here name_cmp f k (by_row name_cmp f k held r) s u.op too
+      ∙ (commute k held r s known row other
+      ∙ sym (ap (λ h. by_told k h t) (row_here name_cmp f k held s u.op too) ∙ row_here name_cmp f k (by_row name_cmp f k held s) r t.op is)))
 
   module _ (shares : List (List (Name × ℤ))) (small : (w : ℕ) → w < length shares → All (λ r. FitsSigned w64 r.1) (get_or shares w [])) where
     -- the share of a worker
@@ -134,9 +143,8 @@ module _ {V O : Type 0} (f : Meanings Name V ℤ O) (code : Name → ℕ) (order
       own_alike : (w : ℕ) → w < length owns → (held : Option V) → fold (by_told k) held (part history owns shuffle w) ≡ fold (by_row name_cmp f k) held (share w)
       own_alike w lt held =
           sym (fold_told (on_key name_cmp f k) held (get_or owns w []))
-          ∙ (ap (fold (on_key name_cmp f k) held) (own_has w lt)
-          ∙ (fold_ops name_cmp f k held (rows_at code count p (share w))
-          ∙ fold_at name_cmp f order code count k held (share w)))
+          ∙ (fold_rows name_cmp f k held (get_or owns w []) (rows_at code count p (share w)) (own_has w lt)
+          ∙ fold_at name_cmp f order code count k held (share w))
 
       all_are_updates : updates history ≡ history
       all_are_updates = filter-all is_update_entry history (all_updates IsKnown history (all_told history owns shuffle (IsRowed IsKnown) own_rowed))

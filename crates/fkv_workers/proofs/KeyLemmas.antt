@@ -1,5 +1,5 @@
 -- What operations come to at one key.
-use Rattle.std.proofs.Common.{◌≡◌, ◌==◌, ℕ, Bool, true, false, cond, List, [], ◌∷◌, map, fold, Option, Some, None, IfSome, refl, sym, ap, ◌∙◌}
+use Rattle.std.proofs.Common.{◌≡◌, ◌==◌, ℕ, Bool, true, false, cond, inl, inr, List, [], ◌∷◌, fold, Option, Some, None, IfSome, refl, sym, ap, ◌∙◌}
 use Rattle.std.specs.Option.{option_or, IsSomeAnd}
 use Rattle.std.specs.BTreeMap.{is_at}
 use Rattle.std.specs.declared.cmp.Ordering.{Ordering}
@@ -8,10 +8,13 @@ use Rattle.fkv_functions.specs.Meanings.{Meanings, updated}
 use Rattle.fkv_functions.specs.Plain.{PlainMap, IsKeyOrder}
 use Rattle.fkv_operations.specs.After.{after, after_update, after_all}
 use Rattle.fkv_operations.specs.declared.operations.KeyedOp.{KeyedOp}
-use Rattle.fkv_operations.specs.declared.operations.KeyedOp.TheVariants.{Read, Upsert, Rmw, Delete}
+use Rattle.fkv_operations.specs.declared.operations.KeyedOp.TheVariants.{Read, Upsert, Rmw, Delete, Merge}
 use Rattle.fkv_partition.specs.CoreViews.{partition_of}
 use Rattle.fkv_feeds.specs.Tables.{amounts_of, folded_on}
-use Rattle.fkv_workers.specs.Shares.{rows_at}
+use Rattle.fkv_histories.specs.declared.entries.Entry.{Entry}
+use Rattle.fkv_histories.specs.Histories.{ops_of}
+use Rattle.fkv_store.specs.Passes.{IsUpdateBy}
+use Rattle.fkv_workers.specs.Shares.{rows_at, HasRows}
 
 module _ {K V I O : Type 0} (cmp : K → K → Ordering) (f : Meanings K V I O) where
   -- what a key has after an operation, from what it had
@@ -20,14 +23,23 @@ module _ {K V I O : Type 0} (cmp : K → K → Ordering) (f : Meanings K V I O) 
   on_key k held (Upsert l v) = cond (is_at (cmp l) k) (Some v) held
   on_key k held (Rmw l i) = cond (is_at (cmp l) k) (folded_on f l held i) held
   on_key k held (Delete l) = cond (is_at (cmp l) k) None held
+  on_key k held (Merge l i) = cond (is_at (cmp l) k) (folded_on f l held i) held
 
   -- the same of a row
   abbrev pub by_row : K → Option V → K × I → Option V
   by_row k held r = cond (is_at (cmp r.0) k) (folded_on f r.0 held r.1) held
 
-  pub fold_ops : (k : K) (held : Option V) (rows : List (K × I)) → fold (on_key k) held (map (λ r. Rmw r.0 r.1) rows) ≡ fold (by_row k) held rows
-  fold_ops k held [] = refl
-  fold_ops k held (r ∷ rows) = fold_ops k (by_row k held r) rows
+  -- an update of a row does this, and so does a merge
+  pub row_here : (k : K) (held : Option V) (r : K × I) (op : KeyedOp K V I) → IsUpdateBy r.0 r.1 op → on_key k held op ≡ by_row k held r
+  row_here k held r op (inl is) = rw is refl
+  row_here k held r op (inr is) = rw is refl
+
+  pub fold_rows : (k : K) (held : Option V) (own : List (Entry K V I O)) (rows : List (K × I)) → HasRows own rows → fold (on_key k) held (ops_of own) ≡ fold (by_row k) held rows
+  fold_rows k held [] [] has = refl
+  fold_rows k held [] (r ∷ rows) has = absurd has
+  fold_rows k held (e ∷ own) [] has = absurd has
+  fold_rows k held (e ∷ own) (r ∷ rows) has =
+      fold_rows k (on_key k held e.op) own rows has.1 ∙ ap (λ h. fold (by_row k) h rows) (row_here k held r e.op has.0)
 
   module _ (order : IsKeyOrder cmp) where
     update_here : (m : PlainMap K V) (l k : K) (o : Option V) → after_update cmp m l o k ≡ cond (is_at (cmp l) k) (option_or o (m k)) (m k)
@@ -50,6 +62,7 @@ module _ {K V I O : Type 0} (cmp : K → K → Ordering) (f : Meanings K V I O) 
     after_here m (Upsert l v) k = refl
     after_here m (Rmw l i) k = rmw_here m l k i
     after_here m (Delete l) k = refl
+    after_here m (Merge l i) k = rmw_here m l k i
 
     -- a key has what the operations come to there
     pub after_all_here : (m : PlainMap K V) (ops : List (KeyedOp K V I)) (k : K) → after_all cmp f m ops k ≡ fold (on_key k) (m k) ops

@@ -3,14 +3,13 @@ use Rattle.std.proofs.Common.{◌≡◌, ◌<◌, ◌==◌, inl, inr, ℕ, ℤ, 
 use Rattle.std.specs.Prelude.{slice_index_or, FitsSigned}
 use Rattle.std.specs.Int.{w64}
 use Rattle.std.proofs.lemmas.Bool.{eq-eqb, ne_eqb, cases_eq}
-use Rattle.std.proofs.lemmas.List.{append-nil, map-append, length-set, get_or-set_same, get_or-set_other}
+use Rattle.std.proofs.lemmas.List.{append-nil, length-set, get_or-set_same, get_or-set_other}
 use Rattle.std.proofs.lemmas.List.Elements.{filter-append, All-push}
 use Rattle.std.proofs.Math.Nat.{mod-lt}
 use Rattle.fkv_functions.specs.declared.names.Name.{Name}
-use Rattle.fkv_operations.specs.declared.operations.KeyedOp.TheVariants.{Rmw}
 use Rattle.fkv_partition.specs.CoreViews.{partition_of}
 use Rattle.fkv_histories.specs.declared.entries.Entry.{Entry}
-use Rattle.fkv_histories.specs.Histories.{ops_of}
+use Rattle.fkv_store.specs.Passes.{IsUpdateBy}
 use Rattle.fkv_workers.specs.Shares.{rows_at, HasRows, HasShare}
 
 module _ (code : Name → ℕ) (count : ℕ) where
@@ -22,16 +21,19 @@ module _ (code : Name → ℕ) (count : ℕ) where
 
 module _ {V O : Type 0} (code : Name → ℕ) (count : ℕ) where
   pub share_none : (own : List (List (Entry Name V ℤ O))) → length own ≡ count → ((p : ℕ) → p < count → slice_index_or own p [] ≡ []) → HasShare code count own []
-  share_none own sized empty = record { sized = sized; lists = λ p lt. ap ops_of (empty p lt); small = λ k d lt. absurd (omega (arith, lt)) }
+  share_none own sized empty = record { sized = sized; lists = λ p lt. rw (empty p lt) tt; small = λ k d lt. absurd (omega (arith, lt)) }
 
-  has_one : (own : List (Entry Name V ℤ O)) (rows : List (Name × ℤ)) (e : Entry Name V ℤ O) (r : Name × ℤ) → HasRows own rows → e.op ≡ Rmw r.0 r.1 → HasRows (own ++ e ∷ []) (rows ++ r ∷ [])
-  has_one own rows e r has is = map-append (λ (x : Entry Name V ℤ O). x.op) own (e ∷ []) ∙ (rw (has, is) (sym (map-append (λ (x : Name × ℤ). Rmw x.0 x.1) rows (r ∷ []))))
+  has_one : (own : List (Entry Name V ℤ O)) (rows : List (Name × ℤ)) (e : Entry Name V ℤ O) (r : Name × ℤ) → HasRows own rows → IsUpdateBy r.0 r.1 e.op → HasRows (own ++ e ∷ []) (rows ++ r ∷ [])
+  has_one [] [] e r has is = (is, tt)
+  has_one [] (q ∷ rows) e r has is = absurd has
+  has_one (x ∷ own) [] e r has is = absurd has
+  has_one (x ∷ own) (q ∷ rows) e r has is = (has.0, has_one own rows e r has.1 is)
 
   pub share_more : (p : ℕ) (own : List (List (Entry Name V ℤ O))) (rows : List (Name × ℤ)) (e : Entry Name V ℤ O) (key : Name) (amount : ℤ)
       → HasShare code count own rows
       → 0 < count
       → p ≡ partition_of count (code key)
-      → e.op ≡ Rmw key amount
+      → IsUpdateBy key amount e.op
       → FitsSigned w64 amount
       → HasShare code count (slice_set own p (slice_index_or own p [] ++ e ∷ [])) (rows ++ (key, amount) ∷ [])
   share_more p own rows e key amount h some home is fits = record {

@@ -8,9 +8,7 @@ use Rattle.std.proofs.lemmas.List.{append-nil, length-set, length-replicate, get
 use Rattle.std.proofs.lemmas.List.Elements.{filter-append, All-push, All-nil, All-head, All-tail}
 use Rattle.fkv_functions.specs.declared.names.Name.{Name}
 use Rattle.fkv_partition.specs.CoreViews.{partition_of}
-use Rattle.fkv_operations.specs.declared.operations.Answer.{Answer}
-use Rattle.fkv_operations.specs.declared.operations.KeyedOp.TheVariants.{Rmw}
-use Rattle.fkv_store.specs.Passes.{PassView, Runs}
+use Rattle.fkv_store.specs.Passes.{PassView, Updates}
 use Rattle.fkv_workers.specs.Shares.{rows_at}
 use Rattle.fkv_workers.specs.Works.{StandsFor, AreSplit}
 use Rattle.fkv_workers.proofs.ShareLemmas.{rows_one, rows_none, share_more}
@@ -150,18 +148,18 @@ lists_more f xs i x d y lt d_is x_is =
     map-set f xs i x
     ∙ ap (λ l. slice_set (map f xs) i l) (x_is ∙ ap (λ l. l ++ y ∷ []) (ap f d_is ∙ sym (get_or-map f xs i d [] lt)))
 
--- a pass that ran an update of a row has one row more
-pub stands_more : {V O : Type 0} (keeps : Bool) (code : Name → ℕ) (old new : PassView Name V ℤ O) (count : ℕ) (key : Name) (amount : ℤ) (a : Answer O) (rows : List (Name × ℤ))
+-- a pass that ran an update of a row, or a merge, has one row more
+pub stands_more : {V O : Type 0} (keeps : Bool) (code : Name → ℕ) (old new : PassView Name V ℤ O) (count : ℕ) (key : Name) (amount : ℤ) (rows : List (Name × ℤ))
     → length old.told ≡ count
     → FitsSigned w64 amount
-    → Runs keeps old new (partition_of count (code key)) (Rmw key amount) a
+    → Updates keeps old new (partition_of count (code key)) key amount
     → StandsFor keeps code old rows
     → StandsFor keeps code new (rows ++ (key, amount) ∷ [])
-stands_more keeps code old new count key amount a rows sized fits ran s =
-    let long = ap length ran.1.told_is ∙ length-set _ _ _ in
+stands_more keeps code old new count key amount rows sized fits ran s =
+    let long = ap length ran.2.told_is ∙ length-set _ _ _ in
     record {
       some = rw long s.some;
       share = λ k.
-          rw (long, ran.1.own_is k)
-          (share_more code (length old.told) (partition_of count (code key)) old.own rows ran.0 key amount (s.share k) s.some (ap (λ n. partition_of n (code key)) (sym sized)) ran.1.op_is fits);
+          rw (long, ran.2.own_is k)
+          (share_more code (length old.told) (partition_of count (code key)) old.own rows ran.0 key amount (s.share k) s.some (ap (λ n. partition_of n (code key)) (sym sized)) ran.1 fits);
     }

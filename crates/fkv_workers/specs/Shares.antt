@@ -1,16 +1,16 @@
 -- Rows that workers share out among them, and the histories that they make of them.
 use Rattle.std.specs.Prelude.{◌≡◌, ◌<◌, ◌==◌, ◌%◌, ℕ, ℤ, List, [], length, map, slice_get, slice_index_or, Option, Some, FitsSigned}
-use Rattle.std.specs.List.{All, filter, enumerate_from}
+use Rattle.std.specs.List.{All, AllZip, filter, enumerate_from}
 use Rattle.std.specs.Int.{w64}
 use Rattle.std.specs.declared.cmp.Ordering.{Ordering}
 use Rattle.fkv_functions.specs.Meanings.{Meanings}
 use Rattle.fkv_functions.specs.Plain.{PlainMap}
 use Rattle.fkv_functions.specs.declared.names.Name.{Name}
-use Rattle.fkv_operations.specs.declared.operations.KeyedOp.TheVariants.{Rmw}
 use Rattle.fkv_histories.specs.declared.entries.Entry.{Entry}
-use Rattle.fkv_histories.specs.Histories.{updates, ops_of, map_of}
+use Rattle.fkv_histories.specs.Histories.{updates, map_of}
 use Rattle.fkv_histories.specs.Merges.{IsShuffle}
 use Rattle.fkv_partition.specs.CoreViews.{partition_of}
+use Rattle.fkv_store.specs.Passes.{IsUpdateBy}
 use Rattle.fkv_feeds.specs.Tables.{AreFeeds}
 
 -- what worker w takes of these items, with their places, where so many workers take one in turn
@@ -30,9 +30,9 @@ feeds_of workers w feeds = map (λ item. item.1) (dealt workers w feeds)
 abbrev pub rows_at : {K I : Type 0} → (K → ℕ) → ℕ → ℕ → List (K × I) → List (K × I)
 rows_at code count p rows = filter (λ r. partition_of count (code r.0) == p) rows
 
--- an own list has one update for each of these rows, in their order, and nothing else
+-- an own list has one update or merge for each of these rows, in their order, and nothing else
 abbrev pub HasRows : {K V I O : Type 0} → List (Entry K V I O) → List (K × I) → Type 0
-HasRows own rows = ops_of own ≡ map (λ r. Rmw r.0 r.1) rows
+HasRows own rows = AllZip (λ e r. IsUpdateBy r.0 r.1 e.op) own rows
 
 -- each worker has the rows of its feeds, of which there are no more than `limit` a feed
 pub record AreFed (limit : ℕ) (feeds : List (Option (List ℕ))) (shares : List (List (Name × ℤ))) : Type 0 where

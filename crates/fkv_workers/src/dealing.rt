@@ -8,6 +8,7 @@ ghost use Rattle.fkv_workers.specs.Works.{StandsFor, IsFirstFault};
 use crate::deals::Hand;
 use crate::working::{Work, Worked};
 use fkv_device::Disk;
+use fkv_feeds::RowMode;
 use fkv_functions::{Mergeable, Name, Refused};
 use fkv_histories::Recorder;
 use fkv_store::{Pass, Store};
@@ -28,6 +29,7 @@ pub(crate) fn works<
     alloc: Global,
     store: &'a Store<F, D, H>,
     gate: &'a G,
+    mode: RowMode,
     hands: Vec<Hand<S>>,
 ) -> Result<Vec<Work<'a, S, F, D, H, G>>, Refused>
     requires { 0 < store.now.count }
@@ -48,6 +50,7 @@ pub(crate) fn works<
             alloc,
             store,
             gate,
+            mode,
             pass,
             feeds,
         };

@@ -7,16 +7,16 @@ ghost use Rattle.std.specs.List.Sorted.{IsStrictlySortedBy};
 ghost use Rattle.std.specs.Map.{lookup, keys_of};
 ghost use Rattle.fkv_functions.specs.Names.{name_cmp};
 ghost use Rattle.fkv_functions.specs.declared.names.Name.{Name};
-ghost use Rattle.fkv_operations.specs.declared.operations.KeyedOp.TheVariants.{Rmw};
 ghost use Rattle.fkv_histories.specs.declared.entries.Entry.{Entry};
 ghost use Rattle.fkv_partition.specs.CoreViews.{partition_of};
+ghost use Rattle.fkv_store.specs.Passes.{IsUpdateBy};
 ghost use Rattle.fkv_feeds.specs.Tables.{AreFeeds, IsTableOf, amounts_of, folded, most_rows};
 ghost use Rattle.fkv_workers.specs.Shares.{AreFed, AreShuffled, HasShare, value_by};
 
 use fkv_functions::{Mergeable, Name, OrderFree};
 
 /// A worker's own lists have no rows while they are empty (`none`), and one row more where the list of its key's partition has
-/// an update of it at its end (`more`).
+/// an update of it, or a merge, at its end (`more`).
 pub fn shares_grow<V, O>()
     ensures none { (code : Name → ℕ) (count : ℕ) (own : List (List (Entry Name V ℤ O)))
         → length own ≡ count
@@ -27,13 +27,13 @@ pub fn shares_grow<V, O>()
         → HasShare code count own rows
         → 0 < count
         → p ≡ partition_of count (code key)
-        → e.op ≡ Rmw key amount
+        → IsUpdateBy key amount e.op
         → FitsSigned w64 amount
         → HasShare code count (slice_set own p (slice_index_or own p [] ++ e ∷ [])) (rows ++ (key, amount) ∷ []) }
 {}
 
 /// Where functions take inputs in any order, several workers make the table of one. Each has the rows of its feeds, and own
-/// lists of its updates of them, of which the partitions' histories are shuffles. Then each key has, by the history of its
+/// lists of its updates and merges of them, of which the partitions' histories are shuffles. Then each key has, by the history of its
 /// partition, what its amounts come to in the order of the feeds (`values`); so what the histories make of the empty map is
 /// the table of the feeds (`table`).
 pub fn tables_join<F: Mergeable + OrderFree<Key = Name, Input = i64>>()

@@ -1,7 +1,7 @@
 //! What a run over feeds by several workers stands on: how feeds are dealt out to workers ([`deals`]), and the law that
 //! their table is that of one worker ([`laws`]).
 //!
-//! Each worker reads its feeds, one after the other, and makes each row an update of a store that all share. So a
+//! Each worker reads its feeds, one after the other, and makes each row an update of a store that all share, or a merge. So a
 //! partition's history is a shuffle of the workers' own lists (`specs/Shares.antt`), and functions that take inputs in any
 //! order come to the same.
 #![tactic(auto)]
@@ -14,4 +14,4 @@ pub mod running;
 pub(crate) mod waiting;
 pub(crate) mod working;
 
-pub use running::{MOST_FEEDS, MOST_WORKERS, run_feeds};
+pub use running::{MOST_FEEDS, MOST_WORKERS, run_feeds, run_feeds_by};

@@ -13,7 +13,7 @@ use crate::keeping::{StoreKeeper, fresh_heads, span_of};
 use crate::laws::tables_join;
 use crate::working::Worked;
 use fkv_device::Disk;
-use fkv_feeds::{Counts, Run, Table};
+use fkv_feeds::{Counts, RowMode, Run, Table};
 use fkv_functions::{Fixed, Mergeable, Name, OrderFree, Refused};
 use fkv_histories::Recorder;
 use fkv_jobs::{Ran, run_jobs};
@@ -78,6 +78,7 @@ fn worked<
     store: &Store<F, D, H>,
     page_bits: u64,
     gate: &G,
+    mode: RowMode,
 ) -> Result<Vec<Pass<F, D, H>>, Refused>
 where
     F::Value: Send,
@@ -96,7 +97,7 @@ where
         Ok(hands) => hands,
         Err(refused) => return Err(refused),
     };
-    let works = match works(rt, alloc, store, gate, hands) {
+    let works = match works(rt, alloc, store, gate, mode, hands) {
         Ok(works) => works,
         Err(refused) => return Err(refused),
     };
@@ -163,6 +164,56 @@ where
     ensures refused { IfErr result (IsUnmade S.remaining S.failures
         (IsRunnable config.now (size_of 32 F.Value.SIZE) workers (length feeds.items)) workers feeds.items) }
 {
+    run_feeds_by::<S, F, D, H, G, T>(
+        rt,
+        alloc,
+        feeds,
+        workers,
+        functions,
+        config,
+        device,
+        gate,
+        RowMode::Update,
+    )
+}
+
+/// The same, where the mode says how each row is made an update: as [`run_feeds`] makes it, or so that no row reads a page,
+/// where the functions merge. The table is the same.
+///
+/// # Errors
+///
+/// As [`run_feeds`]'s.
+pub fn run_feeds_by<
+    S: Source + Drop + Send,
+    F: Mergeable + OrderFree<Key = Name, Input = i64> + Send + Sync,
+    D: Disk + Send,
+    H: Recorder<F> + Send,
+    G: Gate + Sync,
+    T: Threads + Wait + Clock + Sync,
+>(
+    rt: &T,
+    alloc: Global,
+    feeds: Vec<S>,
+    workers: usize,
+    functions: F,
+    config: &Config,
+    device: D,
+    gate: &G,
+    mode: RowMode,
+) -> Result<Run<F::Value>, Refused>
+where
+    F::Value: Send,
+    F::Output: Send,
+    D::Receipt: Send,
+    D::Writer: Send,
+    D::Reader: Send,
+    ensures ok { H.keeps ≡ true → IsTrue D.Receipt.keeps
+        → IfOk result (λ run. IsTableOf F.meaning (map S.remaining feeds.items) run.table) }
+    ensures good { result ≢ Err Refused.BadConfig
+        → IsRunnable config.now (size_of 32 F.Value.SIZE) workers (length feeds.items) }
+    ensures refused { IfErr result (IsUnmade S.remaining S.failures
+        (IsRunnable config.now (size_of 32 F.Value.SIZE) workers (length feeds.items)) workers feeds.items) }
+{
     if !is_runnable::<F::Value>(config, workers, feeds.len()) {
         return Err(Refused::BadConfig);
     }
@@ -170,7 +221,8 @@ where
         Ok(store) => store,
         Err(refused) => return Err(refused),
     };
-    let passes = match worked(rt, alloc, feeds, workers, &store, config.page_bits, gate) {
+    let bits = config.page_bits;
+    let passes = match worked(rt, alloc, feeds, workers, &store, bits, gate, mode) {
         Ok(passes) => passes,
         Err(refused) => return Err(refused),
     };

@@ -1,15 +1,17 @@
-//! What one worker does: it reads its feeds, one after the other, and makes each row an update.
+//! What one worker does: it reads its feeds, one after the other, and makes each row an update, or a merge.
 ghost use Rattle.std.specs.Prelude.{◌≡◌, ◌<◌, ◌⊎◌, ◌++◌, ◌∷◌, [], ℤ, List, length, map, slice_set, vec_len, IfSome, IfNone, IfErr, OnOk};
 ghost use Rattle.fkv_functions.specs.declared.names.Name.{Name};
 ghost use Rattle.fkv_feeds.specs.Tables.{AreFeeds, most_rows};
+ghost use Rattle.fkv_partition.specs.CoreViews.{partition_of};
 ghost use Rattle.fkv_store.specs.Stores.{IsTold};
+ghost use Rattle.fkv_store.specs.Passes.{IsPassOf, Updates};
 ghost use Rattle.fkv_workers.specs.Works.{StandsFor, AreSplit, IsUnreadOf, HasDone, IsStop};
 
 use crate::deals::Hand;
 use crate::waiting::{Waiting, clear, none_wait, put, rows_of};
 use fkv_device::Disk;
 use fkv_feed_rows::{RowSink, read_feed};
-use fkv_feeds::LIMIT;
+use fkv_feeds::{LIMIT, RowMode};
 use fkv_functions::{Mergeable, Name, Refused};
 use fkv_histories::Recorder;
 use fkv_jobs::Job;
@@ -26,11 +28,40 @@ struct Rows<'a, W, F: Mergeable, D: Disk, H: Recorder<F>, G> {
     alloc: Global,
     store: &'a Store<F, D, H>,
     gate: &'a G,
+    mode: RowMode,
     pass: Pass<F, D, H>,
     waiting: Waiting,
 }
 
-/// Makes rows updates by a pass, in order. Refused as the pass refuses an update.
+/// Makes a row an update by a pass, or, as the mode says, where that would read a page a merge. Refused as the pass refuses an
+/// update.
+fn update<F: Mergeable<Key = Name, Input = i64>, D: Disk, H: Recorder<F>, G: Gate>(
+    rt: &impl Wait,
+    alloc: Global,
+    store: &Store<F, D, H>,
+    gate: &G,
+    pass: &mut Pass<F, D, H>,
+    key: Name,
+    amount: i64,
+    mode: RowMode,
+) -> Result<(), Refused>
+    ensures ok { OnOk result
+        (Updates H.keeps pass.old pass.new (partition_of store.now.count (F.code key)) key amount) }
+    ensures own { OnOk result (IsPassOf store.now pass.old) }
+    ensures told { IfErr result IsTold }
+{
+    match mode {
+        RowMode::Update => {
+            match pass.run(rt, alloc, store, KeyedOp::Rmw(key, amount), gate) {
+                Ok(_answer) => Ok(()),
+                Err(refused) => Err(refused),
+            }
+        }
+        RowMode::Merge => pass.update_or_merge(rt, alloc, store, key, amount, gate),
+    }
+}
+
+/// Makes rows updates by a pass, in order, as [`update`] does, whose refusals it has.
 fn update_all<F: Mergeable<Key = Name, Input = i64>, D: Disk, H: Recorder<F>, G: Gate>(
     rt: &impl Wait,
     alloc: Global,
@@ -38,6 +69,7 @@ fn update_all<F: Mergeable<Key = Name, Input = i64>, D: Disk, H: Recorder<F>, G:
     gate: &G,
     pass: &mut Pass<F, D, H>,
     rows: &[(Name, i64)],
+    mode: RowMode,
 ) -> Result<(), Refused>
     ensures ok { OnOk result ((before : List (Name × ℤ)) → StandsFor H.keeps F.code pass.old before
         → StandsFor H.keeps F.code pass.new (before ++ rows.now)) }
@@ -46,8 +78,8 @@ fn update_all<F: Mergeable<Key = Name, Input = i64>, D: Disk, H: Recorder<F>, G:
 {
     for row in rows {
         let (key, amount) = *row;
-        match pass.run(rt, alloc, store, KeyedOp::Rmw(key, amount), gate) {
-            Ok(_answer) => {}
+        match update(rt, alloc, store, gate, pass, key, amount, mode) {
+            Ok(()) => {}
             Err(refused) => return Err(refused),
         }
     }
@@ -82,6 +114,7 @@ impl<'a, W: Wait, F: Mergeable<Key = Name, Input = i64>, D: Disk, H: Recorder<F>
             self.gate,
             &mut self.pass,
             rows,
+            self.mode,
         ) {
             Ok(()) => {}
             Err(refused) => return Err(refused),
@@ -134,6 +167,7 @@ pub(crate) struct Work<'a, S: Source + Drop, F: Mergeable, D: Disk, H: Recorder<
     pub alloc: Global,
     pub store: &'a Store<F, D, H>,
     pub gate: &'a G,
+    pub mode: RowMode,
     pub pass: Pass<F, D, H>,
     pub feeds: Hand<S>,
 }
@@ -213,6 +247,7 @@ fn run_work<
         alloc,
         store,
         gate,
+        mode,
         pass,
         feeds,
     } = asked;
@@ -230,6 +265,7 @@ fn run_work<
         alloc,
         store,
         gate,
+        mode,
         pass,
         waiting,
     };

@@ -60,6 +60,7 @@ fn on_sums(op: KeyedOp<Name, i64, i64>) -> OpOf<SumFns> {
         KeyedOp::Upsert(key, amount) => Op::Upsert(key, amount as i128),
         KeyedOp::Rmw(key, amount) => Op::Rmw(key, amount),
         KeyedOp::Delete(key) => Op::Delete(key),
+        KeyedOp::Merge(key, amount) => Op::Merge(key, amount),
     }
 }
 

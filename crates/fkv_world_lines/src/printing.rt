@@ -25,6 +25,7 @@ fn add_operation(text: &mut Vec<u8>, op: &OpOf<SumFns>) -> io::Result<()> {
         Op::Upsert(key, value) => write!(text, "upsert {} {value}", text_of(key)),
         Op::Rmw(key, input) => write!(text, "rmw {} {input}", text_of(key)),
         Op::Delete(key) => write!(text, "delete {}", text_of(key)),
+        Op::Merge(key, input) => write!(text, "merge {} {input}", text_of(key)),
         Op::Relocate => write!(text, "relocate"),
     }
 }

@@ -44,53 +44,53 @@ made-some f None v h = absurd (cc)
 made-some f (Some i) v h = let same : f i ≡ v = cc in (i, refl, sym same)
 
 -- empty partitions
-abbrev plains : {K V I : Type 0} → Config → ℕ → ℕ → List (PartitionView K V I)
-plains config size n = map (empty_partition config size) (range_with_len 0 n)
+abbrev plains : {K V I : Type 0} → Bool → Config → ℕ → ℕ → List (PartitionView K V I)
+plains merges config size n = map (empty_partition merges config size) (range_with_len 0 n)
 
-pub empty-at : {K V I : Type 0} (config : Config) (size n p : ℕ) (v : PartitionView K V I) → slice_get (plains config size n) p ≡ Some v → v ≡ empty_partition config size p
-empty-at config size n p v h =
-    let m = made-some (empty_partition config size) (slice_get (range_with_len 0 n) p) v (sym (slice_get-map (empty_partition config size) (range_with_len 0 n) p) ∙ h) in
+pub empty-at : {K V I : Type 0} (merges : Bool) (config : Config) (size n p : ℕ) (v : PartitionView K V I) → slice_get (plains merges config size n) p ≡ Some v → v ≡ empty_partition merges config size p
+empty-at merges config size n p v h =
+    let m = made-some (empty_partition merges config size) (slice_get (range_with_len 0 n) p) v (sym (slice_get-map (empty_partition merges config size) (range_with_len 0 n) p) ∙ h) in
     let at = range-at 0 n p m.0 m.1 in
     let same : m.0 ≡ p = omega arith in
-    m.2 ∙ ap (empty_partition config size) same
+    m.2 ∙ ap (empty_partition merges config size) same
 
 -- one partition more
-pub partitions-more : {K V I : Type 0} (config : Config) (size n : ℕ) (xs ys : List (PartitionView K V I)) → xs ≡ empty_partitions config size n → ys ≡ xs ++ empty_partition config size n ∷ [] → ys ≡ empty_partitions config size (n + 1)
-partitions-more config size n xs ys before one =
-    one ∙ ap (λ zs. zs ++ empty_partition config size n ∷ []) before ∙ sym (map-range_with_len_more (empty_partition config size) 0 n n (omega arith))
+pub partitions-more : {K V I : Type 0} (merges : Bool) (config : Config) (size n : ℕ) (xs ys : List (PartitionView K V I)) → xs ≡ empty_partitions merges config size n → ys ≡ xs ++ empty_partition merges config size n ∷ [] → ys ≡ empty_partitions merges config size (n + 1)
+partitions-more merges config size n xs ys before one =
+    one ∙ ap (λ zs. zs ++ empty_partition merges config size n ∷ []) before ∙ sym (map-range_with_len_more (empty_partition merges config size) 0 n n (omega arith))
 
 pub small : (n : ℕ) → n ≤ 6 → (1 ≤ 2 ^ n) × (2 ^ n ≤ 64)
 small n h = let most : 2 ^ n ≤ 2 ^ 6 = pow_mono h in let least : 0 < 2 ^ n = pow_pos n in (omega arith, omega arith)
 
-module _ {K V I O : Type 0} (R : Type 0) (cmp : K → K → Ordering) (f : Meanings K V I O) (code : K → ℕ) (config : Config) (size : ℕ) (within : IsWithinLimits config size) where
-  sized : length (plains {K = K} {V = V} {I = I} config size (2 ^ config.partition_bits)) ≡ 2 ^ config.partition_bits
-  sized = length-map-range_with_len (empty_partition config size) 0 (2 ^ config.partition_bits)
+module _ {K V I O : Type 0} (R : Type 0) (cmp : K → K → Ordering) (f : Meanings K V I O) (code : K → ℕ) (merges : Bool) (config : Config) (size : ℕ) (within : IsWithinLimits config size) where
+  sized : length (plains {K = K} {V = V} {I = I} merges config size (2 ^ config.partition_bits)) ≡ 2 ^ config.partition_bits
+  sized = length-map-range_with_len (empty_partition merges config size) 0 (2 ^ config.partition_bits)
 
-  made : length (empty_partitions {K = K} {V = V} {I = I} config size (2 ^ config.partition_bits)) ≡ 2 ^ config.partition_bits
-  made = length-map-range_with_len (empty_partition config size) 0 (2 ^ config.partition_bits)
+  made : length (empty_partitions {K = K} {V = V} {I = I} merges config size (2 ^ config.partition_bits)) ≡ 2 ^ config.partition_bits
+  made = length-map-range_with_len (empty_partition merges config size) 0 (2 ^ config.partition_bits)
 
   -- nothing is open in one
-  unasked : (p slot c : ℕ) (x : Asked K V I) → asked (empty_partition {K = K} {V = V} {I = I} config size p) slot c ≡ Some x → ⊥
+  unasked : (p slot c : ℕ) (x : Asked K V I) → asked (empty_partition {K = K} {V = V} {I = I} merges config size p) slot c ≡ Some x → ⊥
   unasked p slot c x h =
       let out : is_session (replicate 16 None) slot ≡ false = replicate-none 16 slot in
-      let none : asked (empty_partition {K = K} {V = V} {I = I} config size p) slot c ≡ None = rw out refl in
+      let none : asked (empty_partition {K = K} {V = V} {I = I} merges config size p) slot c ≡ None = rw out refl in
       let bad : None ≡ Some x = sym none ∙ h in
       absurd (cc)
 
-  none-live : (o : Option (PartitionView K V I)) (k : K) → ((v : PartitionView K V I) → o ≡ Some v → (p : ℕ) × (v ≡ empty_partition config size p)) → live_at cmp o k ≡ None
+  none-live : (o : Option (PartitionView K V I)) (k : K) → ((v : PartitionView K V I) → o ≡ Some v → (p : ℕ) × (v ≡ empty_partition merges config size p)) → live_at cmp o k ≡ None
   none-live None k h = refl
   none-live (Some v) k h = let e = h v refl in ap (λ w. live_at cmp (Some w) k) e.1
 
-  none-asked : (o : Option (PartitionView K V I)) (slot c : ℕ) (x : Asked K V I) → ((v : PartitionView K V I) → o ≡ Some v → (p : ℕ) × (v ≡ empty_partition config size p)) → asked_at o slot c ≡ Some x → ⊥
+  none-asked : (o : Option (PartitionView K V I)) (slot c : ℕ) (x : Asked K V I) → ((v : PartitionView K V I) → o ≡ Some v → (p : ℕ) × (v ≡ empty_partition merges config size p)) → asked_at o slot c ≡ Some x → ⊥
   none-asked None slot c x h k = absurd (cc)
   none-asked (Some v) slot c x h k = let e = h v refl in unasked e.0 slot c x (ap (λ w. asked w slot c) (sym e.1) ∙ k)
 
-  none-pending : (w : ContextId) (q : Pending V) → pending_in cmp (plains {K = K} {V = V} {I = I} config size (2 ^ config.partition_bits)) w ≡ Some q → ⊥
+  none-pending : (w : ContextId) (q : Pending V) → pending_in cmp (plains {K = K} {V = V} {I = I} merges config size (2 ^ config.partition_bits)) w ≡ Some q → ⊥
   none-pending w q h =
-      let a = waiting-at cmp (plains config size (2 ^ config.partition_bits)) w q h in
-      none-asked (slice_get (plains config size (2 ^ config.partition_bits)) w.partition) w.slot w.context a.0 (λ v k. (w.partition, empty-at config size (2 ^ config.partition_bits) w.partition v k)) a.1
+      let a = waiting-at cmp (plains merges config size (2 ^ config.partition_bits)) w q h in
+      none-asked (slice_get (plains merges config size (2 ^ config.partition_bits)) w.partition) w.slot w.context a.0 (λ v k. (w.partition, empty-at merges config size (2 ^ config.partition_bits) w.partition v k)) a.1
 
-  pub state-empty : IsState {R = R} cmp f code (empty_state config size)
+  pub state-empty : IsState {R = R} cmp f code (empty_state merges config size)
   state-empty = let b = small config.partition_bits within.partition_bits in record {
     tables = record {
       most = rw made b.1;
@@ -110,17 +110,17 @@ module _ {K V I O : Type 0} (R : Type 0) (cmp : K → K → Ordering) (f : Meani
         alone = λ i j x y t u h k a b d. absurd (cc);
         answers = λ j x t h k. absurd (cc);
       };
-      denotes = λ k. (let p = partition_of (length (plains {K = K} {V = V} {I = I} config size (2 ^ config.partition_bits))) (code k) in none-live (slice_get (plains config size (2 ^ config.partition_bits)) p) k (λ v h. (p, empty-at config size (2 ^ config.partition_bits) p v h)));
+      denotes = λ k. (let p = partition_of (length (plains {K = K} {V = V} {I = I} merges config size (2 ^ config.partition_bits))) (code k) in none-live (slice_get (plains merges config size (2 ^ config.partition_bits)) p) k (λ v h. (p, empty-at merges config size (2 ^ config.partition_bits) p v h)));
       linked = record {
-        linked = λ w x h. absurd (none-asked (slice_get (plains config size (2 ^ config.partition_bits)) w.partition) w.slot w.context x (λ v k. (w.partition, empty-at config size (2 ^ config.partition_bits) w.partition v k)) h);
-        apart = λ w u x y h k e. absurd (none-asked (slice_get (plains config size (2 ^ config.partition_bits)) w.partition) w.slot w.context x (λ v q. (w.partition, empty-at config size (2 ^ config.partition_bits) w.partition v q)) h);
+        linked = λ w x h. absurd (none-asked (slice_get (plains merges config size (2 ^ config.partition_bits)) w.partition) w.slot w.context x (λ v k. (w.partition, empty-at merges config size (2 ^ config.partition_bits) w.partition v k)) h);
+        apart = λ w u x y h k e. absurd (none-asked (slice_get (plains merges config size (2 ^ config.partition_bits)) w.partition) w.slot w.context x (λ v q. (w.partition, empty-at merges config size (2 ^ config.partition_bits) w.partition v q)) h);
       };
       housed = record {
         some = rw sized b.0;
-        numbered = λ p v h. ap (λ (z : PartitionView K V I). z.core.number) (empty-at config size (2 ^ config.partition_bits) p v h);
-        counted = λ p v h. ap (λ (z : PartitionView K V I). z.core.count) (empty-at config size (2 ^ config.partition_bits) p v h) ∙ sym sized;
-        past = λ p v h. (let e = ap (λ (z : PartitionView K V I). z.core.moment) (empty-at config size (2 ^ config.partition_bits) p v h) in omega arith);
-        routed = λ w x q h k. absurd (none-asked (slice_get (plains config size (2 ^ config.partition_bits)) w.partition) w.slot w.context x (λ v r. (w.partition, empty-at config size (2 ^ config.partition_bits) w.partition v r)) h);
+        numbered = λ p v h. ap (λ (z : PartitionView K V I). z.core.number) (empty-at merges config size (2 ^ config.partition_bits) p v h);
+        counted = λ p v h. ap (λ (z : PartitionView K V I). z.core.count) (empty-at merges config size (2 ^ config.partition_bits) p v h) ∙ sym sized;
+        past = λ p v h. (let e = ap (λ (z : PartitionView K V I). z.core.moment) (empty-at merges config size (2 ^ config.partition_bits) p v h) in omega arith);
+        routed = λ w x q h k. absurd (none-asked (slice_get (plains merges config size (2 ^ config.partition_bits)) w.partition) w.slot w.context x (λ v r. (w.partition, empty-at merges config size (2 ^ config.partition_bits) w.partition v r)) h);
       };
       held = record {
         held = λ w q h. absurd (none-pending w q h);

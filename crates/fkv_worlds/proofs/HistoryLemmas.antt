@@ -266,8 +266,8 @@ history-runs stands entry cmp join f code v w (s ∷ ss) h history run =
     }
 
 -- a world before its first step has no history
-pub history-empty : {K V I O R : Type 0} (config : Config) (size : ℕ) → HasHistory {K = K} {V = V} {I = I} {O = O} {R = R} (empty_state config size) []
-history-empty config size = record {
+pub history-empty : {K V I O R : Type 0} (merges : Bool) (config : Config) (size : ℕ) → HasHistory {K = K} {V = V} {I = I} {O = O} {R = R} (empty_state merges config size) []
+history-empty merges config size = record {
   moment = refl;
   enters = λ p n k. replicate-at (2 ^ config.partition_bits) 0 n p k;
   seats = λ p slot x low k. ap (λ (z : Seat). z.session) (replicate-at (2 ^ config.partition_bits * 16) (record { session = 0; issues = 0 }) x (seat_row p slot) k);
@@ -275,8 +275,8 @@ history-empty config size = record {
 }
 
 -- the lives of a world that steps lead to from nothing are those of their accepted issues
-pub issued-runs : {K V I O R : Type 0} (stands : R → Standing) (entry : ℕ → List ℕ → ℕ → Entry K V → Type 0) (cmp : K → K → Ordering) (join : V → V → V) (f : Meanings K V I O) (code : K → ℕ) (config : Config) (size : ℕ) (w : WorldView K V I O R) (ss : List (Step K V I))
-    → RunsTo stands entry cmp join f code (empty_world config size) ss w → map issue_of w.state.lives ≡ issues_in (backwards ss w.outcomes [])
-issued-runs stands entry cmp join f code config size w ss run =
-    let h = history-runs stands entry cmp join f code (empty_world config size) w ss [] (history-empty config size) run in
+pub issued-runs : {K V I O R : Type 0} (stands : R → Standing) (entry : ℕ → List ℕ → ℕ → Entry K V → Type 0) (cmp : K → K → Ordering) (join : V → V → V) (f : Meanings K V I O) (code : K → ℕ) (merges : Bool) (config : Config) (size : ℕ) (w : WorldView K V I O R) (ss : List (Step K V I))
+    → RunsTo stands entry cmp join f code (empty_world merges config size) ss w → map issue_of w.state.lives ≡ issues_in (backwards ss w.outcomes [])
+issued-runs stands entry cmp join f code merges config size w ss run =
+    let h = history-runs stands entry cmp join f code (empty_world merges config size) w ss [] (history-empty merges config size) run in
     h.history.lives ∙ ap (λ ts. issues_in (backwards ss ts [])) (sym h.outcomes)

@@ -7,7 +7,7 @@ use Rattle.fkv_functions.specs.Plain.{PlainMap}
 use Rattle.fkv_operations.specs.After.{shown_of}
 use Rattle.fkv_operations.specs.Operations.{may_update, map_after, answer_to}
 use Rattle.fkv_operations.specs.declared.operations.Op.{Op}
-use Rattle.fkv_operations.specs.declared.operations.Op.TheVariants.{Read, Upsert, Rmw, Delete, Relocate}
+use Rattle.fkv_operations.specs.declared.operations.Op.TheVariants.{Read, Upsert, Rmw, Delete, Merge, Relocate}
 use Rattle.fkv_operations.specs.declared.operations.Answer.{Answer}
 use Rattle.fkv_lives.specs.declared.lives.Finish.{Finish}
 use Rattle.fkv_lives.specs.declared.lives.Life.{Life}
@@ -24,6 +24,7 @@ after-quiet cmp f m (Read k i) h = refl
 after-quiet cmp f m (Upsert k v) h = absurd (cc)
 after-quiet cmp f m (Rmw k i) h = absurd (cc)
 after-quiet cmp f m (Delete k) h = absurd (cc)
+after-quiet cmp f m (Merge k i) h = absurd (cc)
 after-quiet cmp f m Relocate h = refl
 
 module _ {K V I O : Type 0} (cmp : K → K → Ordering) (f : Meanings K V I O) (lives : List (Life K V I O)) (now next : ℕ) (e : next ≡ suc now) (p : IsPlaced cmp f lives now) where

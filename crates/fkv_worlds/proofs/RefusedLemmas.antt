@@ -4,7 +4,7 @@ use Rattle.std.specs.declared.cmp.Ordering.{Ordering}
 use Rattle.fkv_functions.specs.Meanings.{Meanings}
 use Rattle.fkv_functions.specs.declared.asks.Ask.{Ask}
 use Rattle.fkv_functions.specs.declared.refusals.Refused.{Refused}
-use Rattle.fkv_functions.specs.declared.refusals.Refused.TheVariants.{NoMemory, NoSlot, NoContext, Unknown, Busy, NotDue, DrainFull, Stranger, Worn, Device, NotReady}
+use Rattle.fkv_functions.specs.declared.refusals.Refused.TheVariants.{NoMemory, NoSlot, NoContext, Unknown, Busy, NotDue, DrainFull, Stranger, Worn, Device, NotReady, NoMerge}
 use Rattle.fkv_functions.specs.declared.refusals.What.TheVariants.{Page, Bytes}
 use Rattle.fkv_device.specs.Standing.{Standing, Joined}
 use Rattle.fkv_device.specs.declared.messages.FlushJob.{FlushJob}
@@ -111,8 +111,9 @@ module _ {K V I : Type 0} (old new : PartitionView K V I) (now : ℕ) (e : Refus
   issues_on_key-no : (code : K → ℕ) (slot : ℕ) (op : KeyedOp K V I) → IssuesOnKey code old new slot op now (Err e) → ends_operation e ≡ false
   issues_on_key-no code slot op (IssuesOnKey.unknown a b h) = is e Unknown (ok-err e _ h) refl
   issues_on_key-no code slot op (IssuesOnKey.stranger a b c h) = is e (Stranger _ _ _) (ok-err e _ h) refl
-  issues_on_key-no code slot op (IssuesOnKey.full a b c d h) = is e NoContext (ok-err e _ h) refl
-  issues_on_key-no code slot op (IssuesOnKey.issues c a b d f h) = absurd (cc)
+  issues_on_key-no code slot op (IssuesOnKey.unmerged a b m f c h) = is e NoMerge (ok-err e _ h) refl
+  issues_on_key-no code slot op (IssuesOnKey.full a b m c d h) = is e NoContext (ok-err e _ h) refl
+  issues_on_key-no code slot op (IssuesOnKey.issues c a b m d f h) = absurd (cc)
 
   leaves_all-no : (keeps : Bool) (slot : ℕ) → LeavesAll keeps old new slot now (Err e) → ends_operation e ≡ false
   leaves_all-no keeps slot (LeavesAll.busy c x a b h) = is e Busy (ok-err e _ h) refl

@@ -55,11 +55,11 @@ RunsTo {K} {V} {I} {O} {R} stands entry cmp join f code v (s ∷ ss) w =
 
 -- a replay: the steps in turn from a world with nothing in it, and the report of the world which they lead to
 pub record IsReplay {K V I O R : Type 0} (stands : R → Standing) (entry : ℕ → List ℕ → ℕ → Entry K V → Type 0)
-    (cmp : K → K → Ordering) (join : V → V → V) (f : Meanings K V I O) (code : K → ℕ) (config : Config)
+    (cmp : K → K → Ordering) (join : V → V → V) (f : Meanings K V I O) (code : K → ℕ) (merges : Bool) (config : Config)
     (record_size : ℕ) (steps : List (Step K V I)) (told : List (Result (Outcome V O) Refused))
     (lived : List (Life K V I O)) (pairs : List (K × V)) : Type 0 where
   pub world : WorldView K V I O R
-  pub ran : RunsTo stands entry cmp join f code (empty_world config record_size) steps world
+  pub ran : RunsTo stands entry cmp join f code (empty_world merges config record_size) steps world
   pub headline : IsHeadline cmp f code world
   pub report : IsReport cmp code world told lived pairs
   -- the lives are those of the accepted issues of the steps, in order

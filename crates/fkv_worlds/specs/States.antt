@@ -108,13 +108,13 @@ pub record IsBlank {K V I R : Type 0} (partitions : ℕ) (places : List ℕ) (as
   pub enters : counts ≡ replicate partitions 0
 
 -- partitions with nothing in them, for records of this size
-abbrev pub empty_partitions : {K V I : Type 0} → Config → ℕ → ℕ → List (PartitionView K V I)
-empty_partitions config record_size n = map (empty_partition config record_size) (range_with_len 0 n)
+abbrev pub empty_partitions : {K V I : Type 0} → Bool → Config → ℕ → ℕ → List (PartitionView K V I)
+empty_partitions merges config record_size n = map (empty_partition merges config record_size) (range_with_len 0 n)
 
 -- the world before its first step
-abbrev pub empty_state : {K V I O R : Type 0} → Config → ℕ → StateView K V I O R
-empty_state config record_size = record {
-  partitions = empty_partitions config record_size (2 ^ config.partition_bits);
+abbrev pub empty_state : {K V I O R : Type 0} → Bool → Config → ℕ → StateView K V I O R
+empty_state merges config record_size = record {
+  partitions = empty_partitions merges config record_size (2 ^ config.partition_bits);
   begun = replicate (2 ^ config.partition_bits * 128) 0;
   questions = replicate (2 ^ config.partition_bits * 128) None;
   receipts = replicate (2 ^ config.partition_bits * 128) None;
@@ -125,5 +125,5 @@ empty_state config record_size = record {
   moment = 0;
 }
 
-abbrev pub empty_world : {K V I O R : Type 0} → Config → ℕ → WorldView K V I O R
-empty_world config record_size = record { state = empty_state config record_size; outcomes = [] }
+abbrev pub empty_world : {K V I O R : Type 0} → Bool → Config → ℕ → WorldView K V I O R
+empty_world merges config record_size = record { state = empty_state merges config record_size; outcomes = [] }

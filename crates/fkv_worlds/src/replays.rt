@@ -63,7 +63,7 @@ pub fn replay<F: Mergeable>(
     steps: &[StepOf<F>],
 ) -> Result<ReportOf<F>, Refused>
     ensures ok { IfOk result (λ r. IsReplay ⟦<MemoryReceipt as Receipt>⟧.stands (IsEntryIn F.Key.bytes_of F.Value.bytes_of F.Key.is_known F.Value.is_known
-        F.Key.SIZE F.Value.SIZE) F.Key.cmp F.parts.joined F.meaning F.code config.now (size_of F.Key.SIZE F.Value.SIZE)
+        F.Key.SIZE F.Value.SIZE) F.Key.cmp F.parts.joined F.meaning F.code F.MERGES config.now (size_of F.Key.SIZE F.Value.SIZE)
         steps.now
         r.outcomes.items r.lives.items r.map.items) }
     ensures good { result ≢ Err Refused.BadConfig → IsWithinLimits config.now (size_of F.Key.SIZE F.Value.SIZE) }

@@ -84,7 +84,7 @@ fn add_empty<F: Mergeable>(
     number: u64,
 ) -> Result<(), Refused>
     ensures ok { OnOk result (partitions.new.items ≡ partitions.old.items
-        ++ empty_partition config.now (size_of F.Key.SIZE F.Value.SIZE) number ∷ []) }
+        ++ empty_partition F.MERGES config.now (size_of F.Key.SIZE F.Value.SIZE) number ∷ []) }
     ensures only { IfErr result (λ refused. refused ≡ Refused.NoMemory) }
 {
     match Partition::new(alloc, config, number) {
@@ -100,7 +100,7 @@ fn empty_partitions<F: Mergeable>(
     count: u64,
 ) -> Result<Vec<Partition<F, MemoryReceipt>>, Refused>
     ensures ok { IfOk result (λ partitions. partitions.items
-        ≡ empty_partitions config.now (size_of F.Key.SIZE F.Value.SIZE) count) }
+        ≡ empty_partitions F.MERGES config.now (size_of F.Key.SIZE F.Value.SIZE) count) }
     ensures only { IfErr result (λ refused. refused ≡ Refused.NoMemory) }
 {
     let mut partitions = Vec::new(alloc);
@@ -130,7 +130,7 @@ impl<F: Mergeable> State<F> {
     /// The state before the first step. Refused, in this order: `BadConfig` where a number of the
     /// configuration is outside its limits, `NoMemory`.
     pub fn new(alloc: Global, config: &Config) -> Result<Self, Refused>
-        ensures ok { IfOk result (λ state. state ≡ empty_state config.now (size_of F.Key.SIZE F.Value.SIZE)) }
+        ensures ok { IfOk result (λ state. state ≡ empty_state F.MERGES config.now (size_of F.Key.SIZE F.Value.SIZE)) }
         ensures good { result ≢ Err Refused.BadConfig → IsWithinLimits config.now (size_of F.Key.SIZE F.Value.SIZE) }
         ensures bad { result ≡ Err Refused.BadConfig → ¬ IsWithinLimits config.now (size_of F.Key.SIZE F.Value.SIZE) }
         ensures only { IfErr result (λ refused. (refused ≡ Refused.BadConfig) ⊎ (refused ≡ Refused.NoMemory)) }
@@ -144,7 +144,7 @@ impl<F: Mergeable> State<F> {
     /// The state before the first step, of a configuration within its limits. Refused: `NoMemory`.
     fn empty(alloc: Global, config: &Config) -> Result<Self, Refused>
         requires { IsWithinLimits config.now (size_of F.Key.SIZE F.Value.SIZE) }
-        ensures ok { IfOk result (λ state. state ≡ empty_state config.now (size_of F.Key.SIZE F.Value.SIZE)) }
+        ensures ok { IfOk result (λ state. state ≡ empty_state F.MERGES config.now (size_of F.Key.SIZE F.Value.SIZE)) }
         ensures only { IfErr result (λ refused. refused ≡ Refused.NoMemory) }
     {
         let count = config.partitions();

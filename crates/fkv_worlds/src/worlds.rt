@@ -42,7 +42,7 @@ impl<F: Mergeable> World<F> {
     /// A world before its first step. Refused, in this order: `BadConfig` where a number of the
     /// configuration is outside its limits, `NoMemory`.
     pub fn new(alloc: Global, config: &Config) -> Result<Self, Refused>
-        ensures ok { IfOk result (λ world. world ≡ empty_world config.now (size_of F.Key.SIZE F.Value.SIZE)) }
+        ensures ok { IfOk result (λ world. world ≡ empty_world F.MERGES config.now (size_of F.Key.SIZE F.Value.SIZE)) }
         ensures good { result ≢ Err Refused.BadConfig → IsWithinLimits config.now (size_of F.Key.SIZE F.Value.SIZE) }
         ensures bad { result ≡ Err Refused.BadConfig → ¬ IsWithinLimits config.now (size_of F.Key.SIZE F.Value.SIZE) }
         ensures only { IfErr result (λ refused. (refused ≡ Refused.BadConfig) ⊎ (refused ≡ Refused.NoMemory)) }

@@ -36,6 +36,7 @@ impl<K: Fixed, V: Fixed, R: Receipt> Log<K, V, R> {
 impl<K: FixedKey, V: Fixed, R: Receipt> Log<K, V, R> {
     /// The first entry of a key on the chain from an address down to another, below which it does not look, or where
     /// the chain leads from there.
+    #[inline(always)]
     pub fn first_on_chain(&self, key: &K, from: Address, low: Address) -> ChainPosition<K, V>
         requires in_frames { self.now.regions.offsets.closed ≤ low }
         requires chain { (es : List (Entry K V)) × IsChainFrom low self.now.text from es }

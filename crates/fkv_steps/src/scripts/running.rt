@@ -35,6 +35,7 @@ fn on_values<V: Written>(op: KeyedOp<Name, i64, i64>) -> Op<Name, V, i64>
         KeyedOp::Upsert(key, amount) => Op::Upsert(key, V::from_amount(amount)),
         KeyedOp::Rmw(key, amount) => Op::Rmw(key, amount),
         KeyedOp::Delete(key) => Op::Delete(key),
+        KeyedOp::Merge(key, amount) => Op::Merge(key, amount),
     }
 }
 
@@ -227,7 +228,7 @@ where
     ensures ok { IfOk result (λ text. IsPrintedBy standing_of
         (IsNamedEntry F.Value.bytes_of F.Value.is_known F.Value.SIZE) name_cmp F.parts.joined F.meaning F.code
         F.Value.written
-        F.Value.text F.Output.text config.now (size_of 32 F.Value.SIZE) lines.now text.items) }
+        F.Value.text F.Output.text F.MERGES config.now (size_of 32 F.Value.SIZE) lines.now text.items) }
     ensures good { result ≢ Err Refused.BadConfig → IsWithinLimits config.now (size_of 32 F.Value.SIZE) }
     ensures bad { result ≡ Err Refused.BadConfig → ¬ IsWithinLimits config.now (size_of 32 F.Value.SIZE) }
     ensures only { IfErr result (λ refused. (refused ≡ Refused.BadConfig) ⊎ (refused ≡ Refused.NoMemory)) }
@@ -249,10 +250,10 @@ where
     F::Value: Written + Printed,
     F::Output: Printed,
     // Of whatever configuration the world is, with nothing in it.
-    ensures ok { IfOk result (λ text. (config : Config) (size : ℕ) → world.old ≡ empty_world config size
+    ensures ok { IfOk result (λ text. (config : Config) (size : ℕ) → world.old ≡ empty_world F.MERGES config size
         → IsPrintedBy standing_of (IsNamedEntry F.Value.bytes_of F.Value.is_known F.Value.SIZE) name_cmp
         F.parts.joined F.meaning
-        F.code F.Value.written F.Value.text F.Output.text config size lines.now text.items) }
+        F.code F.Value.written F.Value.text F.Output.text F.MERGES config size lines.now text.items) }
     ensures only { IfErr result (λ refused. refused ≡ Refused.NoMemory) }
 {
     let told = match run_lines(alloc, world, functions, lines) {

@@ -2,7 +2,7 @@ use Rattle.std.proofs.Common.{◌≡◌, ◌+◌, ◌<◌, ◌^◌, inl, inr, Ok
 use Rattle.fkv_operations.specs.After.{key_of}
 use Rattle.fkv_partition.specs.Beginning.{IssuesOnKey}
 use Rattle.fkv_partition.specs.Views.{PartitionView}
-use Rattle.fkv_alone.specs.Bound.{evicted}
+use Rattle.fkv_alone.specs.Bound.{rest_of}
 use Rattle.fkv_alone.specs.Ending.{Ends}
 use Rattle.fkv_alone.proofs.BoundLemmas.{issue-near}
 use Rattle.fkv_alone.proofs.DriveLemmas.{pend-then, pend-free, given-over, given-others}
@@ -66,7 +66,7 @@ returns-in-Ok-drive-clause-bound g c = λ kept clear.
     let fits = c.hash-hash.type_inv in
     let range : g.F.Functions.code (key_of c.args.op) < 2 ^ 64 = subst (λ h. h < 2 ^ 64) hashed fits in
     let near = issue-near g.F.Functions.code v.core w.core c.args.slot k c.in-Ok.now c.args.op (ap (λ (u : PartitionView _ _ _). u.core) issued.is) begun.ready begun.fresh clear range in
-    let bound = c.in-Ok-drive.ensures.bound (4 + evicted g.F.Functions.code v.core.records (key_of c.args.op)) kept near in
+    let bound = c.in-Ok-drive.ensures.bound (3 + rest_of g.F.Functions.code v.core.records c.args.op) kept near in
     let start = first.1 in
     let now = first.0 in
     omega arith
@@ -83,7 +83,7 @@ returns-in-Err-drive-clause-bound g c = λ kept clear.
     let fits = c.hash-hash.type_inv in
     let range : g.F.Functions.code (key_of c.args.op) < 2 ^ 64 = subst (λ h. h < 2 ^ 64) hashed fits in
     let near = issue-near g.F.Functions.code v.core w.core c.args.slot k c.in-Ok.now c.args.op (ap (λ (u : PartitionView _ _ _). u.core) issued.is) begun.ready begun.fresh clear range in
-    let bound = c.in-Err-drive.ensures.bound (4 + evicted g.F.Functions.code v.core.records (key_of c.args.op)) kept near in
+    let bound = c.in-Err-drive.ensures.bound (3 + rest_of g.F.Functions.code v.core.records c.args.op) kept near in
     let start = first.1 in
     let now = first.0 in
     omega arith
@@ -115,7 +115,7 @@ returns-in-Err-drive-clause-enough g c = λ kept clear low e.
     let fits = c.hash-hash.type_inv in
     let range : g.F.Functions.code (key_of c.args.op) < 2 ^ 64 = subst (λ h. h < 2 ^ 64) hashed fits in
     let near = issue-near g.F.Functions.code v.core w.core c.args.slot k c.in-Ok.now c.args.op (ap (λ (u : PartitionView _ _ _). u.core) issued.is) begun.ready begun.fresh clear range in
-    c.in-Err-drive.ensures.enough c.args.op v.core c.in-Ok.now (4 + evicted g.F.Functions.code v.core.records (key_of c.args.op)) begun.ready kept near (omega arith) e)
+    c.in-Err-drive.ensures.enough c.args.op v.core c.in-Ok.now (3 + rest_of g.F.Functions.code v.core.records c.args.op) begun.ready kept near (omega arith) e)
 
 pub returns-in-Ok-drive-clause-others : goal.returns-in-Ok-drive-clause-others
 returns-in-Ok-drive-clause-others g c = λ kept s e other.

@@ -7,7 +7,7 @@ pub returns : goal.returns
 returns g c = record {
   goes = λ keeps stands cmp join f code old new slot at now result yes_keeps order s goes.
       goes-others cmp join code old s yes_keeps new slot at now stands f result
-      (λ e key value k a low. c.records_grow.ensures.kept cmp old.records e key value k a low)
+      (λ e key payload has k a low. c.records_grow.ensures.kept cmp old.records e key payload has k a low)
       (λ x value told e d last k a low still.
       c.records_change.ensures.kept cmp keeps code old.records e.address value k a s.traced
       (replaced-some cmp join f code old slot at x value told e order s
@@ -21,7 +21,7 @@ returns g c = record {
       goes-find cmp join f code old new slot at now stands order s progress goes;
   installs = λ keeps cmp join f code old new slot at ask now result yes_keeps s installs.
       installs-others cmp join code old s yes_keeps new slot at now f ask result
-      (λ e key value k a low. c.records_grow.ensures.kept cmp old.records e key value k a low)
+      (λ e key payload has k a low. c.records_grow.ensures.kept cmp old.records e key payload has k a low)
       installs;
   built = λ cmp join f code old new slot at ask now progress installs. installs-find cmp join f code old new slot at now ask progress installs;
   refreshes = λ keeps cmp old new slot now result yes_keeps h. refreshes-all keeps cmp old new slot now result yes_keeps h;

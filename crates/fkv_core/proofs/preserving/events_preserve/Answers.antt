@@ -33,7 +33,7 @@ returns g c = record {
   truncates = λ keeps cmp join code old new page now result order s clear h then.
       truncates-bear cmp join code old s new page now result order clear
       (λ low limit cleared. c.cleared_stay.ensures.dropped cmp old.records low limit cleared) then.traced then.stood h;
-  appends = λ keeps cmp join code v slot at now write s w.
-      appends-bear cmp join code v s slot at now write
-      (λ e key value limit low cleared. c.cleared_stay.ensures.appended cmp v.records e key value limit low cleared) w;
+  appends = λ keeps cmp join code v slot at now write has s w.
+      appends-bear cmp join code v s slot at now write has
+      (λ e key payload now_has limit low cleared. c.cleared_stay.ensures.appended cmp v.records e key payload now_has limit low cleared) w;
 }

@@ -14,5 +14,5 @@ returns g c = record {
   evicts = λ keeps old new page now result h. evicts-seats old new keeps page now result h;
   flushes = λ old new st bytes now result h. flushes-seats old new st bytes now result h;
   truncates = λ keeps old new page now result h. truncates-seats old new keeps page now result h;
-  appends = λ v slot at now write. appends-seats v slot at now write;
+  appends = λ v slot at now write has. appends-seats v slot at now write has;
 }

@@ -135,3 +135,21 @@ returns-in-Ok-clause-tried g c = λ e. absurd (elim (rw e at c.tidy_at_times.ens
     | inr f ↦ elim f.1 [ inl m ↦ (let n = m.0 in cc) | inr m ↦ (let n = m.0 in cc) ]
   ]
 ])
+
+pub returns-in-Ok-clause-unread : goal.returns-in-Ok-clause-unread
+returns-in-Ok-clause-unread g c =
+    let items = c.args.shards.now.shards.items in
+    let home = c.home-home.result in
+    let old = c.index_mut-shard.result.now in
+    let here = slice_get_read items (length items) home old refl c.home-home.ensures.within c.index_mut-shard.ensures.value in
+    let new = c.tidy_at_times.new.shard in
+    λ merges. view-same (λ shard. shard.reader) items home old new here (c.tidy_at_times.ensures.same_reader ∙ c.in-Ok.ensures.unread merges)
+
+pub returns-in-Err-clause-unread : goal.returns-in-Err-clause-unread
+returns-in-Err-clause-unread g c =
+    let items = c.args.shards.now.shards.items in
+    let home = c.home-home.result in
+    let old = c.index_mut-shard.result.now in
+    let here = slice_get_read items (length items) home old refl c.home-home.ensures.within c.index_mut-shard.ensures.value in
+    let new = c.update.new.shard in
+    λ merges. view-same (λ shard. shard.reader) items home old new here (c.in-Err.ensures.unread merges)

@@ -5,5 +5,5 @@ use Rattle.fkv_feeds.proofs.shards.seated.Goals as goal
 
 pub returns-in-Ok-enter-clause-ok : goal.returns-in-Ok-enter-clause-ok
 returns-in-Ok-enter-clause-ok g c =
-    seated-new g.F.Key.Ord.cmp c.args.config.now (size_of g.F.Key.Fixed.SIZE g.F.Value.Fixed.SIZE) c.args.number (c.args.number + 1) c.enter.new.self c.in-Ok-enter.field-0
+    seated-new g.F.Key.Ord.cmp g.F.Mergeable.MERGES c.args.config.now (size_of g.F.Key.Fixed.SIZE g.F.Value.Fixed.SIZE) c.args.number (c.args.number + 1) c.enter.new.self c.in-Ok-enter.field-0
     refl c.in-Ok-enter.ensures.moment (rw c.in-Ok.ensures.ok at c.in-Ok-enter.ensures.effect)

@@ -5,8 +5,3 @@ pub update_by_turns-requires-clause-idle : goal.update_by_turns-requires-clause-
 update_by_turns-requires-clause-idle g c =
     let same : c.done_at_once.new.shard.partition ≡ c.args.shard.now.partition = c.done_at_once.ensures.same (c.in-Ok-false.is ∙ ap Ok c.in-Ok-false.field-0-test) in
     rw same c.requires.idle
-
-pub returns-in-Ok-false-clause-done : goal.returns-in-Ok-false-clause-done
-returns-in-Ok-false-clause-done g c =
-    let same : c.done_at_once.new.shard.partition ≡ c.args.shard.now.partition = c.done_at_once.ensures.same (c.in-Ok-false.is ∙ ap Ok c.in-Ok-false.field-0-test) in
-    rw same at c.update_by_turns.ensures.done

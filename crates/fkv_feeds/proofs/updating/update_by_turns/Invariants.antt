@@ -1,4 +1,4 @@
-use Rattle.std.proofs.Common.{◌≡◌, ◌+◌, ◌≤◌, ◌<◌, IsTrue, option_map}
+use Rattle.std.proofs.Common.{◌≡◌, ◌+◌, ◌≤◌, ◌<◌, IsTrue, None, option_map}
 use Rattle.fkv_functions.specs.Plain.{Same}
 use Rattle.fkv_operations.specs.declared.operations.KeyedOp.TheVariants.{Rmw}
 use Rattle.fkv_partition.specs.CoreViews.{live_of}
@@ -15,5 +15,7 @@ invariant-loop-turn g l = record {
   later : l.fn.clock + l._turn < l.clock;
   tried : l.tries ≡ l._turn;
   writer : g.D.Writer.PageWriter.failures l.shard.writer ≡ g.D.Writer.PageWriter.failures l.fn.shard.writer;
+  unpaged : IsTrue l.terms.merges → l.page ≡ None;
+  unread : IsTrue l.terms.merges → l.shard.reader ≡ l.fn.shard.reader;
   reader : g.D.Reader.PageReader.failures l.shard.reader ≡ g.D.Reader.PageReader.failures l.fn.shard.reader;
 }

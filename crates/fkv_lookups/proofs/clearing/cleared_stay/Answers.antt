@@ -3,13 +3,14 @@ use Rattle.fkv_index.specs.Words.{address_of}
 use Rattle.fkv_texts.specs.Text.{live, newest, value_of}
 use Rattle.fkv_texts.proofs.BaseLemmas.{lowest-value}
 use Rattle.fkv_texts.proofs.CoverLemmas.{cleared-append, cleared-changed, cleared-lower, cut-cleared, cut-lives}
+use Rattle.fkv_lookups.specs.Payloads.{value_in, is_part}
 use Rattle.fkv_lookups.proofs.TracedLemmas.{raw, traced-raw}
 use Rattle.fkv_lookups.proofs.ClearedLemmas.{cleared-raised, record-low, superseded-renewed, lives-renewed}
 use Rattle.fkv_lookups.proofs.clearing.cleared_stay.Goals as goal
 
 pub returns-clause-appended : goal.returns-clause-appended
-returns-clause-appended g c = λ cmp v entry key value limit le h.
-    cleared-append cmp v.entries (record { address = v.tail; previous = address_of entry.word; key = key; value = value; delta = false }) limit le h
+returns-clause-appended g c = λ cmp v entry key payload has limit le h.
+    cleared-append cmp v.entries (record { address = v.tail; previous = address_of entry.word; key = key; value = value_in payload; delta = is_part payload }) limit le h
 
 pub returns-clause-changed : goal.returns-clause-changed
 returns-clause-changed g c = λ cmp v a value limit le h. cleared-changed cmp v.entries a value limit le h

@@ -15,9 +15,10 @@ returns-in-Ok-paths_by-clause-ok c =
         c.config_by-config.ensures,
         c.in-Ok.ensures.ok,
         c.number_by.ensures ∙ ap number_of (first_value-rows found (codes "workers")),
-        c.flag_by.ensures ∙ ap is_set (first_value-rows found (codes "audit")),
-        c.flag_by-in-Ok-paths_by.ensures ∙ ap is_set (first_value-rows found (codes "stats")),
-        c.flag_by-in-Ok-paths_by-2.ensures ∙ ap is_set (first_value-rows found (codes "progress")),
+        c.flag_by.ensures ∙ ap is_set (first_value-rows found (codes "merge")),
+        c.flag_by-in-Ok-paths_by.ensures ∙ ap is_set (first_value-rows found (codes "audit")),
+        c.flag_by-in-Ok-paths_by-2.ensures ∙ ap is_set (first_value-rows found (codes "stats")),
+        c.flag_by-in-Ok-paths_by-3.ensures ∙ ap is_set (first_value-rows found (codes "progress")),
         c.in-Ok-paths_by.ensures.ok,
       ),
     )

@@ -29,7 +29,7 @@ invariant_of-self-in-Ok-Some g c =
     let changes = rw is at c.in-Ok-Some.ensures.changes in
     let tentative = rw is at c.in-Ok-Some.ensures.tentative in
     rw (made, c.set_context.ensures)
-    (sound-appended c.self.invariant c.args.slot c.args.context c.args.now w.entry w.key w.value
+    (sound-appended c.self.invariant c.args.slot c.args.context c.args.now w.entry w.key w.payload _
     (rw (← c.self.view_is) at c.requires.unclaimed)
     (rw (← c.self.view_is) at c.requires.write.entry)
     (rw made at c.known.ensures.traced)

@@ -3,6 +3,7 @@ use Rattle.fkv_functions.proofs.KeyOrder.{key_order}
 use Rattle.fkv_index.specs.Words.{address_of}
 use Rattle.fkv_operations.specs.After.{key_of}
 use Rattle.fkv_lookups.specs.RecordsViews.{class_in}
+use Rattle.fkv_lookups.specs.declared.payloads.Payload.TheVariants.{Whole}
 use Rattle.fkv_core.specs.Views.{partition_of}
 use Rattle.fkv_core.specs.declared.contexts.Wait.TheVariants.{Full}
 use Rattle.fkv_core.specs.Installing.{declined, worn, full, done}
@@ -91,4 +92,4 @@ returns-in-Ok-Some-clause-event g c = λ keeps.
     let newest = c.entries_lead.ensures.held g.F.Key.Ord.cmp g.R.Receipt.keeps g.F.Functions.code v.records ask.key (address_of kept.word) order c.known.ensures.traced leads in
     rw (made, c.read-shown.ensures, c.ask-ask.ensures)
     (event-done g.F.Key.Ord.cmp g.F.Mergeable.parts.joined g.F.Functions.meaning g.F.Functions.code v c.args.slot c.args.context c.args.now a.operation a.here keeps c.known.ensures kept ask c.in-Some.value a.question c.requires.stands newest (sym c.in-Some.ensures)
-    (c.records_grow.ensures.lives g.F.Key.Ord.cmp v.records kept ask.key))
+    (λ value. c.records_grow.ensures.lives g.F.Key.Ord.cmp v.records kept ask.key (Whole value) value))

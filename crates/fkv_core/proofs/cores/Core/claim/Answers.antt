@@ -13,7 +13,7 @@ invariant_of-self-2 g c =
     let at : context_in c.self.inside.records.regions.epochs.slots c.self.inside.contexts.items c.args.slot c.args.context ≡ Some x = rw (← c.self.view_is) at c.requires.here in
     let made = c.in-Ok.ensures in
     rw (c.move_on.ensures)
-    (sound-claims g.F.Key.Ord.cmp g.F.Mergeable.parts.joined g.F.Functions.code (view_of c.self.inside.number c.self.inside.count c.self.inside.records c.self.inside.contexts.items c.self.inside.moment) c.self.invariant c.args.slot c.args.context c.args.now x at
+    (sound-claims g.F.Key.Ord.cmp g.F.Mergeable.parts.joined g.F.Functions.code (view_of g.F.Mergeable.MERGES c.self.inside.number c.self.inside.count c.self.inside.records c.self.inside.contexts.items c.self.inside.moment) c.self.invariant c.args.slot c.args.context c.args.now x at
     c.claim.new.self c.args.class c.in-Ok.place c.requires.unclaimed (rw (← c.self.view_is) at c.requires.class) made.ok made.changes made.free made.bucket made.word made.taken c.known.ensures.traced c.known.ensures.stood)
 
 pub returns-clause-ok : goal.returns-clause-ok

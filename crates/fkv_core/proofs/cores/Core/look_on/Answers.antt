@@ -38,7 +38,7 @@ returns-in-Err-clause-effect g c =
     let a = c.requires.awaits in
     let p = c.args.loaded in
     let there = wanted-flushed g.F.Key.Ord.cmp g.F.Mergeable.parts.joined g.F.Functions.code order v c.known.ensures c.args.slot c.args.context x l a in
-    let s = stranger-kept (view_of c.self.inside.number c.self.inside.count c.self.inside.records c.self.inside.contexts.items c.self.inside.moment) v c.page_of-page.result l.wanted (g.R.Receipt.stands p.receipt) c.in-Err.refused c.self.view_is c.page_of-page.ensures there c.in-Err.ensures.stranger in
+    let s = stranger-kept (view_of g.F.Mergeable.MERGES c.self.inside.number c.self.inside.count c.self.inside.records c.self.inside.contexts.items c.self.inside.moment) v c.page_of-page.result l.wanted (g.R.Receipt.stands p.receipt) c.in-Err.refused c.self.view_is c.page_of-page.ensures there c.in-Err.ensures.stranger in
     Loads.stranger x l p s.0 a refl s.1 s.2 refl (ap Err s.3)
 
 pub first_of-low-requires : goal.first_of-low-requires
@@ -86,7 +86,7 @@ returns-in-Err-trace_in-clause-effect g c =
     let l = c.args.loading in
     let a = c.requires.awaits in
     let p = c.args.loaded in
-    let came = came-of g.R.Receipt.keeps (IsEntryIn g.F.Key.Fixed.bytes_of g.F.Value.Fixed.bytes_of g.F.Key.Known.is_known g.F.Value.Known.is_known g.F.Key.Fixed.SIZE g.F.Value.Fixed.SIZE) g.F.Key.Ord.cmp g.F.Mergeable.parts.joined g.F.Functions.code (view_of c.self.inside.number c.self.inside.count c.self.inside.records c.self.inside.contexts.items c.self.inside.moment) v c.key-key.result (key_of x.op) c.page_of-page.result c.first_of-low.result l.wanted l.parts (g.R.Receipt.stands p.receipt) p.bytes c.trace_in.result c.self.view_is c.key-key.ensures c.page_of-page.ensures c.first_of-low.ensures (c.in_default.ensures.own.0 refl) c.trace_in.ensures.read c.trace_in.ensures.kept in
+    let came = came-of g.R.Receipt.keeps (IsEntryIn g.F.Key.Fixed.bytes_of g.F.Value.Fixed.bytes_of g.F.Key.Known.is_known g.F.Value.Known.is_known g.F.Key.Fixed.SIZE g.F.Value.Fixed.SIZE) g.F.Key.Ord.cmp g.F.Mergeable.parts.joined g.F.Functions.code (view_of g.F.Mergeable.MERGES c.self.inside.number c.self.inside.count c.self.inside.records c.self.inside.contexts.items c.self.inside.moment) v c.key-key.result (key_of x.op) c.page_of-page.result c.first_of-low.result l.wanted l.parts (g.R.Receipt.stands p.receipt) p.bytes c.trace_in.result c.self.view_is c.key-key.ensures c.page_of-page.ensures c.first_of-low.ensures (c.in_default.ensures.own.0 refl) c.trace_in.ensures.read c.trace_in.ensures.kept in
     let page : c.page_of-page.result ≡ page_at v.records.page_bits l.wanted = c.page_of-page.ensures ∙ ap (λ u. page_at u.records.page_bits l.wanted) c.self.view_is in
     rw (c.free.ensures, page) (Loads.damaged x l p c.in-Err-trace_in._damaged (reads-on g.F.Key.Ord.cmp g.F.Mergeable.parts.joined g.F.Functions.code order v c.known.ensures c.args.slot c.args.context x l a (IsEntryIn g.F.Key.Fixed.bytes_of g.F.Value.Fixed.bytes_of g.F.Key.Known.is_known g.F.Value.Known.is_known g.F.Key.Fixed.SIZE g.F.Value.Fixed.SIZE) (g.R.Receipt.stands p.receipt) p.bytes c.trace_in.result came (Err c.in-Err-trace_in._damaged) c.in-Err-trace_in.is) refl refl refl)
 
@@ -112,7 +112,7 @@ tell-requires-clause-kept g c =
     let l = c.args.loading in
     let a = c.requires.awaits in
     let p = c.args.loaded in
-    let came = came-of g.R.Receipt.keeps (IsEntryIn g.F.Key.Fixed.bytes_of g.F.Value.Fixed.bytes_of g.F.Key.Known.is_known g.F.Value.Known.is_known g.F.Key.Fixed.SIZE g.F.Value.Fixed.SIZE) g.F.Key.Ord.cmp g.F.Mergeable.parts.joined g.F.Functions.code (view_of c.self.inside.number c.self.inside.count c.self.inside.records c.self.inside.contexts.items c.self.inside.moment) v c.key-key.result (key_of x.op) c.page_of-page.result c.first_of-low.result l.wanted l.parts (g.R.Receipt.stands p.receipt) p.bytes c.trace_in.result c.self.view_is c.key-key.ensures c.page_of-page.ensures c.first_of-low.ensures (c.in_default.ensures.own.0 refl) c.trace_in.ensures.read c.trace_in.ensures.kept in
+    let came = came-of g.R.Receipt.keeps (IsEntryIn g.F.Key.Fixed.bytes_of g.F.Value.Fixed.bytes_of g.F.Key.Known.is_known g.F.Value.Known.is_known g.F.Key.Fixed.SIZE g.F.Value.Fixed.SIZE) g.F.Key.Ord.cmp g.F.Mergeable.parts.joined g.F.Functions.code (view_of g.F.Mergeable.MERGES c.self.inside.number c.self.inside.count c.self.inside.records c.self.inside.contexts.items c.self.inside.moment) v c.key-key.result (key_of x.op) c.page_of-page.result c.first_of-low.result l.wanted l.parts (g.R.Receipt.stands p.receipt) p.bytes c.trace_in.result c.self.view_is c.key-key.ensures c.page_of-page.ensures c.first_of-low.ensures (c.in_default.ensures.own.0 refl) c.trace_in.ensures.read c.trace_in.ensures.kept in
     let parts = c.in-Ok.came.parts in
     let is = c.in-Ok.is ∙ ap (λ q. Ok (record { parts = parts; position = q })) c.in-Found.is in
     rw (c.onto-value.ensures, c.in-Found.last-is) (kept-told g.F.Key.Ord.cmp g.F.Mergeable.parts.joined g.F.Functions.code order v c.known.ensures c.args.slot c.args.context x l a (IsEntryIn g.F.Key.Fixed.bytes_of g.F.Value.Fixed.bytes_of g.F.Key.Known.is_known g.F.Value.Known.is_known g.F.Key.Fixed.SIZE g.F.Value.Fixed.SIZE) (g.R.Receipt.stands p.receipt) p.bytes c.trace_in.result came (record { parts = parts; position = Found c.in-Found.last }) (onto g.F.Mergeable.parts.joined c.in-Found.last.value parts) is (found c.in-Found.last parts))
@@ -127,7 +127,7 @@ returns-in-Found-clause-effect g c =
     let l = c.args.loading in
     let a = c.requires.awaits in
     let p = c.args.loaded in
-    let came = came-of g.R.Receipt.keeps (IsEntryIn g.F.Key.Fixed.bytes_of g.F.Value.Fixed.bytes_of g.F.Key.Known.is_known g.F.Value.Known.is_known g.F.Key.Fixed.SIZE g.F.Value.Fixed.SIZE) g.F.Key.Ord.cmp g.F.Mergeable.parts.joined g.F.Functions.code (view_of c.self.inside.number c.self.inside.count c.self.inside.records c.self.inside.contexts.items c.self.inside.moment) v c.key-key.result (key_of x.op) c.page_of-page.result c.first_of-low.result l.wanted l.parts (g.R.Receipt.stands p.receipt) p.bytes c.trace_in.result c.self.view_is c.key-key.ensures c.page_of-page.ensures c.first_of-low.ensures (c.in_default.ensures.own.0 refl) c.trace_in.ensures.read c.trace_in.ensures.kept in
+    let came = came-of g.R.Receipt.keeps (IsEntryIn g.F.Key.Fixed.bytes_of g.F.Value.Fixed.bytes_of g.F.Key.Known.is_known g.F.Value.Known.is_known g.F.Key.Fixed.SIZE g.F.Value.Fixed.SIZE) g.F.Key.Ord.cmp g.F.Mergeable.parts.joined g.F.Functions.code (view_of g.F.Mergeable.MERGES c.self.inside.number c.self.inside.count c.self.inside.records c.self.inside.contexts.items c.self.inside.moment) v c.key-key.result (key_of x.op) c.page_of-page.result c.first_of-low.result l.wanted l.parts (g.R.Receipt.stands p.receipt) p.bytes c.trace_in.result c.self.view_is c.key-key.ensures c.page_of-page.ensures c.first_of-low.ensures (c.in_default.ensures.own.0 refl) c.trace_in.ensures.read c.trace_in.ensures.kept in
     let parts = c.in-Ok.came.parts in
     let is = c.in-Ok.is ∙ ap (λ q. Ok (record { parts = parts; position = q })) c.in-Found.is in
     let tells : Tells g.F.Mergeable.parts.joined v.records.begin (record { parts = parts; position = Found c.in-Found.last }) c.onto-value.result = rw (c.onto-value.ensures, c.in-Found.last-is) (found c.in-Found.last parts) in
@@ -157,7 +157,7 @@ tell-requires-then-address-begin-clause-kept g c =
     let l = c.args.loading in
     let a = c.requires.awaits in
     let p = c.args.loaded in
-    let came = came-of g.R.Receipt.keeps (IsEntryIn g.F.Key.Fixed.bytes_of g.F.Value.Fixed.bytes_of g.F.Key.Known.is_known g.F.Value.Known.is_known g.F.Key.Fixed.SIZE g.F.Value.Fixed.SIZE) g.F.Key.Ord.cmp g.F.Mergeable.parts.joined g.F.Functions.code (view_of c.self.inside.number c.self.inside.count c.self.inside.records c.self.inside.contexts.items c.self.inside.moment) v c.key-key.result (key_of x.op) c.page_of-page.result c.first_of-low.result l.wanted l.parts (g.R.Receipt.stands p.receipt) p.bytes c.trace_in.result c.self.view_is c.key-key.ensures c.page_of-page.ensures c.first_of-low.ensures (c.in_default.ensures.own.0 refl) c.trace_in.ensures.read c.trace_in.ensures.kept in
+    let came = came-of g.R.Receipt.keeps (IsEntryIn g.F.Key.Fixed.bytes_of g.F.Value.Fixed.bytes_of g.F.Key.Known.is_known g.F.Value.Known.is_known g.F.Key.Fixed.SIZE g.F.Value.Fixed.SIZE) g.F.Key.Ord.cmp g.F.Mergeable.parts.joined g.F.Functions.code (view_of g.F.Mergeable.MERGES c.self.inside.number c.self.inside.count c.self.inside.records c.self.inside.contexts.items c.self.inside.moment) v c.key-key.result (key_of x.op) c.page_of-page.result c.first_of-low.result l.wanted l.parts (g.R.Receipt.stands p.receipt) p.bytes c.trace_in.result c.self.view_is c.key-key.ensures c.page_of-page.ensures c.first_of-low.ensures (c.in_default.ensures.own.0 refl) c.trace_in.ensures.read c.trace_in.ensures.kept in
     let parts = c.in-Ok.came.parts in
     let b = c.in-Below.address in
     let is = c.in-Ok.is ∙ ap (λ q. Ok (record { parts = parts; position = q })) c.in-Below.is in
@@ -175,7 +175,7 @@ returns-then-address-begin-clause-effect g c =
     let l = c.args.loading in
     let a = c.requires.awaits in
     let p = c.args.loaded in
-    let came = came-of g.R.Receipt.keeps (IsEntryIn g.F.Key.Fixed.bytes_of g.F.Value.Fixed.bytes_of g.F.Key.Known.is_known g.F.Value.Known.is_known g.F.Key.Fixed.SIZE g.F.Value.Fixed.SIZE) g.F.Key.Ord.cmp g.F.Mergeable.parts.joined g.F.Functions.code (view_of c.self.inside.number c.self.inside.count c.self.inside.records c.self.inside.contexts.items c.self.inside.moment) v c.key-key.result (key_of x.op) c.page_of-page.result c.first_of-low.result l.wanted l.parts (g.R.Receipt.stands p.receipt) p.bytes c.trace_in.result c.self.view_is c.key-key.ensures c.page_of-page.ensures c.first_of-low.ensures (c.in_default.ensures.own.0 refl) c.trace_in.ensures.read c.trace_in.ensures.kept in
+    let came = came-of g.R.Receipt.keeps (IsEntryIn g.F.Key.Fixed.bytes_of g.F.Value.Fixed.bytes_of g.F.Key.Known.is_known g.F.Value.Known.is_known g.F.Key.Fixed.SIZE g.F.Value.Fixed.SIZE) g.F.Key.Ord.cmp g.F.Mergeable.parts.joined g.F.Functions.code (view_of g.F.Mergeable.MERGES c.self.inside.number c.self.inside.count c.self.inside.records c.self.inside.contexts.items c.self.inside.moment) v c.key-key.result (key_of x.op) c.page_of-page.result c.first_of-low.result l.wanted l.parts (g.R.Receipt.stands p.receipt) p.bytes c.trace_in.result c.self.view_is c.key-key.ensures c.page_of-page.ensures c.first_of-low.ensures (c.in_default.ensures.own.0 refl) c.trace_in.ensures.read c.trace_in.ensures.kept in
     let parts = c.in-Ok.came.parts in
     let b = c.in-Below.address in
     let is = c.in-Ok.is ∙ ap (λ q. Ok (record { parts = parts; position = q })) c.in-Below.is in
@@ -204,7 +204,7 @@ returns-then-not-is_place-clause-effect g c =
     let l = c.args.loading in
     let a = c.requires.awaits in
     let p = c.args.loaded in
-    let came = came-of g.R.Receipt.keeps (IsEntryIn g.F.Key.Fixed.bytes_of g.F.Value.Fixed.bytes_of g.F.Key.Known.is_known g.F.Value.Known.is_known g.F.Key.Fixed.SIZE g.F.Value.Fixed.SIZE) g.F.Key.Ord.cmp g.F.Mergeable.parts.joined g.F.Functions.code (view_of c.self.inside.number c.self.inside.count c.self.inside.records c.self.inside.contexts.items c.self.inside.moment) v c.key-key.result (key_of x.op) c.page_of-page.result c.first_of-low.result l.wanted l.parts (g.R.Receipt.stands p.receipt) p.bytes c.trace_in.result c.self.view_is c.key-key.ensures c.page_of-page.ensures c.first_of-low.ensures (c.in_default.ensures.own.0 refl) c.trace_in.ensures.read c.trace_in.ensures.kept in
+    let came = came-of g.R.Receipt.keeps (IsEntryIn g.F.Key.Fixed.bytes_of g.F.Value.Fixed.bytes_of g.F.Key.Known.is_known g.F.Value.Known.is_known g.F.Key.Fixed.SIZE g.F.Value.Fixed.SIZE) g.F.Key.Ord.cmp g.F.Mergeable.parts.joined g.F.Functions.code (view_of g.F.Mergeable.MERGES c.self.inside.number c.self.inside.count c.self.inside.records c.self.inside.contexts.items c.self.inside.moment) v c.key-key.result (key_of x.op) c.page_of-page.result c.first_of-low.result l.wanted l.parts (g.R.Receipt.stands p.receipt) p.bytes c.trace_in.result c.self.view_is c.key-key.ensures c.page_of-page.ensures c.first_of-low.ensures (c.in_default.ensures.own.0 refl) c.trace_in.ensures.read c.trace_in.ensures.kept in
     let page : c.page_of-page.result ≡ page_at v.records.page_bits l.wanted = c.page_of-page.ensures ∙ ap (λ u. page_at u.records.page_bits l.wanted) c.self.view_is in
     let parts = c.in-Ok.came.parts in
     let b = c.in-Below.address in
@@ -236,7 +236,7 @@ look_further-requires-clause-flushed g c =
     let l = c.args.loading in
     let a = c.requires.awaits in
     let p = c.args.loaded in
-    let came = came-of g.R.Receipt.keeps (IsEntryIn g.F.Key.Fixed.bytes_of g.F.Value.Fixed.bytes_of g.F.Key.Known.is_known g.F.Value.Known.is_known g.F.Key.Fixed.SIZE g.F.Value.Fixed.SIZE) g.F.Key.Ord.cmp g.F.Mergeable.parts.joined g.F.Functions.code (view_of c.self.inside.number c.self.inside.count c.self.inside.records c.self.inside.contexts.items c.self.inside.moment) v c.key-key.result (key_of x.op) c.page_of-page.result c.first_of-low.result l.wanted l.parts (g.R.Receipt.stands p.receipt) p.bytes c.trace_in.result c.self.view_is c.key-key.ensures c.page_of-page.ensures c.first_of-low.ensures (c.in_default.ensures.own.0 refl) c.trace_in.ensures.read c.trace_in.ensures.kept in
+    let came = came-of g.R.Receipt.keeps (IsEntryIn g.F.Key.Fixed.bytes_of g.F.Value.Fixed.bytes_of g.F.Key.Known.is_known g.F.Value.Known.is_known g.F.Key.Fixed.SIZE g.F.Value.Fixed.SIZE) g.F.Key.Ord.cmp g.F.Mergeable.parts.joined g.F.Functions.code (view_of g.F.Mergeable.MERGES c.self.inside.number c.self.inside.count c.self.inside.records c.self.inside.contexts.items c.self.inside.moment) v c.key-key.result (key_of x.op) c.page_of-page.result c.first_of-low.result l.wanted l.parts (g.R.Receipt.stands p.receipt) p.bytes c.trace_in.result c.self.view_is c.key-key.ensures c.page_of-page.ensures c.first_of-low.ensures (c.in_default.ensures.own.0 refl) c.trace_in.ensures.read c.trace_in.ensures.kept in
     let parts = c.in-Ok.came.parts in
     let b = c.in-Below.address in
     let is = c.in-Ok.is ∙ ap (λ q. Ok (record { parts = parts; position = q })) c.in-Below.is in
@@ -254,7 +254,7 @@ look_further-requires-clause-stands g c =
     let l = c.args.loading in
     let a = c.requires.awaits in
     let p = c.args.loaded in
-    let came = came-of g.R.Receipt.keeps (IsEntryIn g.F.Key.Fixed.bytes_of g.F.Value.Fixed.bytes_of g.F.Key.Known.is_known g.F.Value.Known.is_known g.F.Key.Fixed.SIZE g.F.Value.Fixed.SIZE) g.F.Key.Ord.cmp g.F.Mergeable.parts.joined g.F.Functions.code (view_of c.self.inside.number c.self.inside.count c.self.inside.records c.self.inside.contexts.items c.self.inside.moment) v c.key-key.result (key_of x.op) c.page_of-page.result c.first_of-low.result l.wanted l.parts (g.R.Receipt.stands p.receipt) p.bytes c.trace_in.result c.self.view_is c.key-key.ensures c.page_of-page.ensures c.first_of-low.ensures (c.in_default.ensures.own.0 refl) c.trace_in.ensures.read c.trace_in.ensures.kept in
+    let came = came-of g.R.Receipt.keeps (IsEntryIn g.F.Key.Fixed.bytes_of g.F.Value.Fixed.bytes_of g.F.Key.Known.is_known g.F.Value.Known.is_known g.F.Key.Fixed.SIZE g.F.Value.Fixed.SIZE) g.F.Key.Ord.cmp g.F.Mergeable.parts.joined g.F.Functions.code (view_of g.F.Mergeable.MERGES c.self.inside.number c.self.inside.count c.self.inside.records c.self.inside.contexts.items c.self.inside.moment) v c.key-key.result (key_of x.op) c.page_of-page.result c.first_of-low.result l.wanted l.parts (g.R.Receipt.stands p.receipt) p.bytes c.trace_in.result c.self.view_is c.key-key.ensures c.page_of-page.ensures c.first_of-low.ensures (c.in_default.ensures.own.0 refl) c.trace_in.ensures.read c.trace_in.ensures.kept in
     let parts = c.in-Ok.came.parts in
     let b = c.in-Below.address in
     let is = c.in-Ok.is ∙ ap (λ q. Ok (record { parts = parts; position = q })) c.in-Below.is in
@@ -272,7 +272,7 @@ returns-clause-effect g c =
     let l = c.args.loading in
     let a = c.requires.awaits in
     let p = c.args.loaded in
-    let came = came-of g.R.Receipt.keeps (IsEntryIn g.F.Key.Fixed.bytes_of g.F.Value.Fixed.bytes_of g.F.Key.Known.is_known g.F.Value.Known.is_known g.F.Key.Fixed.SIZE g.F.Value.Fixed.SIZE) g.F.Key.Ord.cmp g.F.Mergeable.parts.joined g.F.Functions.code (view_of c.self.inside.number c.self.inside.count c.self.inside.records c.self.inside.contexts.items c.self.inside.moment) v c.key-key.result (key_of x.op) c.page_of-page.result c.first_of-low.result l.wanted l.parts (g.R.Receipt.stands p.receipt) p.bytes c.trace_in.result c.self.view_is c.key-key.ensures c.page_of-page.ensures c.first_of-low.ensures (c.in_default.ensures.own.0 refl) c.trace_in.ensures.read c.trace_in.ensures.kept in
+    let came = came-of g.R.Receipt.keeps (IsEntryIn g.F.Key.Fixed.bytes_of g.F.Value.Fixed.bytes_of g.F.Key.Known.is_known g.F.Value.Known.is_known g.F.Key.Fixed.SIZE g.F.Value.Fixed.SIZE) g.F.Key.Ord.cmp g.F.Mergeable.parts.joined g.F.Functions.code (view_of g.F.Mergeable.MERGES c.self.inside.number c.self.inside.count c.self.inside.records c.self.inside.contexts.items c.self.inside.moment) v c.key-key.result (key_of x.op) c.page_of-page.result c.first_of-low.result l.wanted l.parts (g.R.Receipt.stands p.receipt) p.bytes c.trace_in.result c.self.view_is c.key-key.ensures c.page_of-page.ensures c.first_of-low.ensures (c.in_default.ensures.own.0 refl) c.trace_in.ensures.read c.trace_in.ensures.kept in
     let parts = c.in-Ok.came.parts in
     let b = c.in-Below.address in
     let is = c.in-Ok.is ∙ ap (λ q. Ok (record { parts = parts; position = q })) c.in-Below.is in
@@ -291,7 +291,7 @@ returns-in-Found-clause-event g c = λ keeps.
     let l = c.args.loading in
     let a = c.requires.awaits in
     let p = c.args.loaded in
-    let came = came-of g.R.Receipt.keeps (IsEntryIn g.F.Key.Fixed.bytes_of g.F.Value.Fixed.bytes_of g.F.Key.Known.is_known g.F.Value.Known.is_known g.F.Key.Fixed.SIZE g.F.Value.Fixed.SIZE) g.F.Key.Ord.cmp g.F.Mergeable.parts.joined g.F.Functions.code (view_of c.self.inside.number c.self.inside.count c.self.inside.records c.self.inside.contexts.items c.self.inside.moment) v c.key-key.result (key_of x.op) c.page_of-page.result c.first_of-low.result l.wanted l.parts (g.R.Receipt.stands p.receipt) p.bytes c.trace_in.result c.self.view_is c.key-key.ensures c.page_of-page.ensures c.first_of-low.ensures (c.in_default.ensures.own.0 refl) c.trace_in.ensures.read c.trace_in.ensures.kept in
+    let came = came-of g.R.Receipt.keeps (IsEntryIn g.F.Key.Fixed.bytes_of g.F.Value.Fixed.bytes_of g.F.Key.Known.is_known g.F.Value.Known.is_known g.F.Key.Fixed.SIZE g.F.Value.Fixed.SIZE) g.F.Key.Ord.cmp g.F.Mergeable.parts.joined g.F.Functions.code (view_of g.F.Mergeable.MERGES c.self.inside.number c.self.inside.count c.self.inside.records c.self.inside.contexts.items c.self.inside.moment) v c.key-key.result (key_of x.op) c.page_of-page.result c.first_of-low.result l.wanted l.parts (g.R.Receipt.stands p.receipt) p.bytes c.trace_in.result c.self.view_is c.key-key.ensures c.page_of-page.ensures c.first_of-low.ensures (c.in_default.ensures.own.0 refl) c.trace_in.ensures.read c.trace_in.ensures.kept in
     let parts = c.in-Ok.came.parts in
     let is = c.in-Ok.is ∙ ap (λ q. Ok (record { parts = parts; position = q })) c.in-Found.is in
     let tells : Tells g.F.Mergeable.parts.joined v.records.begin (record { parts = parts; position = Found c.in-Found.last }) c.onto-value.result = rw (c.onto-value.ensures, c.in-Found.last-is) (found c.in-Found.last parts) in
@@ -307,7 +307,7 @@ returns-then-address-begin-clause-event g c = λ keeps.
     let l = c.args.loading in
     let a = c.requires.awaits in
     let p = c.args.loaded in
-    let came = came-of g.R.Receipt.keeps (IsEntryIn g.F.Key.Fixed.bytes_of g.F.Value.Fixed.bytes_of g.F.Key.Known.is_known g.F.Value.Known.is_known g.F.Key.Fixed.SIZE g.F.Value.Fixed.SIZE) g.F.Key.Ord.cmp g.F.Mergeable.parts.joined g.F.Functions.code (view_of c.self.inside.number c.self.inside.count c.self.inside.records c.self.inside.contexts.items c.self.inside.moment) v c.key-key.result (key_of x.op) c.page_of-page.result c.first_of-low.result l.wanted l.parts (g.R.Receipt.stands p.receipt) p.bytes c.trace_in.result c.self.view_is c.key-key.ensures c.page_of-page.ensures c.first_of-low.ensures (c.in_default.ensures.own.0 refl) c.trace_in.ensures.read c.trace_in.ensures.kept in
+    let came = came-of g.R.Receipt.keeps (IsEntryIn g.F.Key.Fixed.bytes_of g.F.Value.Fixed.bytes_of g.F.Key.Known.is_known g.F.Value.Known.is_known g.F.Key.Fixed.SIZE g.F.Value.Fixed.SIZE) g.F.Key.Ord.cmp g.F.Mergeable.parts.joined g.F.Functions.code (view_of g.F.Mergeable.MERGES c.self.inside.number c.self.inside.count c.self.inside.records c.self.inside.contexts.items c.self.inside.moment) v c.key-key.result (key_of x.op) c.page_of-page.result c.first_of-low.result l.wanted l.parts (g.R.Receipt.stands p.receipt) p.bytes c.trace_in.result c.self.view_is c.key-key.ensures c.page_of-page.ensures c.first_of-low.ensures (c.in_default.ensures.own.0 refl) c.trace_in.ensures.read c.trace_in.ensures.kept in
     let parts = c.in-Ok.came.parts in
     let b = c.in-Below.address in
     let is = c.in-Ok.is ∙ ap (λ q. Ok (record { parts = parts; position = q })) c.in-Below.is in

@@ -9,7 +9,7 @@ use Rattle.fkv_core.specs.Going.{done, claims, unclaimed, waits}
 use Rattle.fkv_core.specs.Views.{slots_of, seen_at, met_at}
 use Rattle.fkv_core.proofs.AskedLemmas.{open_at}
 use Rattle.fkv_core.proofs.DecidedLemmas.{replaced-at, seen-begun, first-met, met-first}
-use Rattle.fkv_core.proofs.EventLemmas.{decides-at, event-quiet, event-claims, event-waits, claims-none}
+use Rattle.fkv_core.proofs.EventLemmas.{decides-at, event-quiet, event-claims, event-waits, claims-none, merging-at}
 use Rattle.fkv_core.proofs.cores.Core.look_up.Goals as goal
 
 pub free-requires-clause-unclaimed : goal.free-requires-clause-unclaimed
@@ -29,7 +29,8 @@ returns-in-Done-clause-event g c =
     let v = c.args.self.now in
     let x = c.args.operation.now in
     rw c.free.ensures
-    (event-quiet g.F.Key.Ord.cmp g.F.Mergeable.parts.joined g.F.Functions.meaning g.F.Functions.code v c.args.slot c.args.context c.args.now x c.requires.here order
+    (event-quiet g.F.Key.Ord.cmp g.F.Mergeable.parts.joined g.F.Functions.meaning g.F.Functions.code v c.args.slot c.args.context c.args.now x c.requires.here g.F.Mergeable.parts
+    (λ m. g.met.F.Mergeable.merges (merging-at v g.F.Mergeable.MERGES c.args.slot c.args.context x c.known.ensures (sym c.merges-merges.ensures.functions ∙ c.merges-merges.ensures.value) c.requires.here m)) order
     (c.meetings_tell.ensures.held g.R.Receipt.keeps g.F.Key.Ord.cmp g.F.Mergeable.parts.joined g.F.Functions.code v.records (key_of x.op) c.args.slot order c.known.ensures.traced c.known.ensures.stood (open_at (slots_of v) v.contexts c.args.slot c.args.context x c.requires.here).inside) c.in-Done.answer (sym c.decided.ensures ∙ c.in-Done.is))
 
 pub claim-requires-clause-class : goal.claim-requires-clause-class

@@ -9,7 +9,7 @@ invariant_of-result g c =
     let at = c.args.config.now in
     let empty = c.in_ok-records.ensures.ok ∙ ap (λ b. empty_records at.partition_bits at.bucket_bits b c.in-Some.shape.record_size at.frames) shape.0 ∙ ap (λ r. empty_records at.partition_bits at.bucket_bits at.page_bits r at.frames) shape.1 in
     rw (c.partitions-count.ensures.count, empty, c.in_ok-contexts.ensures.ok)
-    (sound-empty c.args.config.now _ c.args.number (omega (arith, c.partitions-count.ensures.count, c.if-number-count.false)) (rw empty at c.known.ensures.traced) (rw empty at c.known.ensures.stood)
+    (sound-empty g.F.Mergeable.MERGES c.args.config.now _ c.args.number (omega (arith, c.partitions-count.ensures.count, c.if-number-count.false)) (rw empty at c.known.ensures.traced) (rw empty at c.known.ensures.stood)
     (rw empty at c.in_ok-records.ensures.tentative))
 
 pub returns-clause-good : goal.returns-clause-good

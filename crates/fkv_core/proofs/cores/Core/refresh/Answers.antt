@@ -23,5 +23,5 @@ returns-clause-effect g c = rw (← c.self.view_is) (refreshes (c.in-Ok.ensures.
 
 pub returns-clause-event : goal.returns-clause-event
 returns-clause-event g c =
-    let v = (view_of c.self.inside.number c.self.inside.count c.self.inside.records c.self.inside.contexts.items c.self.inside.moment) in
+    let v = (view_of g.F.Mergeable.MERGES c.self.inside.number c.self.inside.count c.self.inside.records c.self.inside.contexts.items c.self.inside.moment) in
     rw (← c.self.view_is) (event-moved g.R.Receipt.keeps v c.refresh.new.self _ c.args.now c.in-Ok.ensures.effect (refreshed-same v c.args.slot (c.in-Ok.ensures.unknown.0 refl)))

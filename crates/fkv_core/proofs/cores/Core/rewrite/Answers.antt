@@ -1,4 +1,4 @@
-use Rattle.std.proofs.Common.{refl, ap}
+use Rattle.std.proofs.Common.{refl, sym, ◌∙◌, ap}
 use Rattle.fkv_functions.proofs.KeyOrder.{key_order}
 use Rattle.fkv_regions.specs.declared.offsets.Region.TheVariants as region
 use Rattle.fkv_operations.specs.After.{key_of}
@@ -6,7 +6,7 @@ use Rattle.fkv_core.specs.Contexts.{claim_by}
 use Rattle.fkv_core.specs.Views.{slots_of, seen_at}
 use Rattle.fkv_core.specs.Going.{replaces}
 use Rattle.fkv_core.proofs.AskedLemmas.{open_at}
-use Rattle.fkv_core.proofs.EventLemmas.{event-replaces, claims-none, last-is}
+use Rattle.fkv_core.proofs.EventLemmas.{event-replaces, claims-none, last-is, merging-at}
 use Rattle.fkv_core.proofs.DecidedLemmas.{replaced-at, met-replaceable}
 use Rattle.fkv_core.proofs.cores.Core.rewrite.Goals as goal
 
@@ -54,6 +54,8 @@ returns-clause-event g c =
     let d = c.requires.decided in
     let inside = (open_at (slots_of v) v.contexts c.args.slot c.args.context x d.here).inside in
     rw c.replace.ensures
-    (event-replaces g.F.Key.Ord.cmp g.F.Mergeable.parts.joined g.F.Functions.meaning g.F.Functions.code v c.args.slot c.args.context c.args.now x d.here c.args.last.address c.args.value c.args.answer
+    (event-replaces g.F.Key.Ord.cmp g.F.Mergeable.parts.joined g.F.Functions.meaning g.F.Functions.code v c.args.slot c.args.context c.args.now x d.here g.F.Mergeable.parts
+    (λ m. g.met.F.Mergeable.merges (merging-at v g.F.Mergeable.MERGES c.args.slot c.args.context x c.known.ensures (sym c.merges-merges.ensures.functions ∙ c.merges-merges.ensures.value) d.here m))
+    c.args.last.address c.args.value c.args.answer
     (c.meetings_tell.ensures.held g.R.Receipt.keeps g.F.Key.Ord.cmp g.F.Mergeable.parts.joined g.F.Functions.code v.records (key_of x.op) c.args.slot order c.known.ensures.traced c.known.ensures.stood inside)
     (c.records_change.ensures.lives g.F.Key.Ord.cmp g.R.Receipt.keeps g.F.Functions.code v.records c.args.value (key_of x.op) c.args.last order c.known.ensures.traced c.requires.last) d.decided)

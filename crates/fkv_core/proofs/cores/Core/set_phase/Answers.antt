@@ -1,4 +1,4 @@
-use Rattle.std.proofs.Common.{◌≡◌, Some}
+use Rattle.std.proofs.Common.{◌≡◌, ◌+◌, ◌*◌, Some}
 use Rattle.fkv_core.specs.Contexts.{context_in, at_phase}
 use Rattle.fkv_core.specs.Inside.{view_of}
 use Rattle.fkv_core.proofs.SoundLemmas.{sound-context}
@@ -13,10 +13,11 @@ invariant_of-self g c =
     let here = open_at c.self.inside.records.regions.epochs.slots c.self.inside.contexts.items c.args.slot c.args.context x at in
     rw (c.move_on.ensures)
     (sound-context c.self.invariant c.args.slot c.args.context c.args.now (at_phase x c.args.phase)
-    (claims-none (view_of c.self.inside.number c.self.inside.count c.self.inside.records c.self.inside.contexts.items c.self.inside.moment) c.args.slot c.args.context x at c.requires.unclaimed) c.requires.claims_nothing
+    (claims-none (view_of g.F.Mergeable.MERGES c.self.inside.number c.self.inside.count c.self.inside.records c.self.inside.contexts.items c.self.inside.moment) c.args.slot c.args.context x at c.requires.unclaimed) c.requires.claims_nothing
     (record {
       stands = rw (← c.self.view_is) at c.requires.stands;
-      own = own-at g.F.Key.Ord.cmp g.F.Mergeable.parts.joined g.F.Functions.code (view_of c.self.inside.number c.self.inside.count c.self.inside.records c.self.inside.contexts.items c.self.inside.moment) c.self.invariant c.args.slot c.args.context x at;
+      own = own-at g.F.Key.Ord.cmp g.F.Mergeable.parts.joined g.F.Functions.code (view_of g.F.Mergeable.MERGES c.self.inside.number c.self.inside.count c.self.inside.records c.self.inside.contexts.items c.self.inside.moment) c.self.invariant c.args.slot c.args.context x at;
+      merging = c.self.invariant.merging (c.args.slot * 8 + c.args.context) x here.here;
       inside = here.inside;
       low = here.low;
     }))

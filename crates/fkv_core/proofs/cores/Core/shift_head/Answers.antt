@@ -23,4 +23,4 @@ returns-clause-effect g c =
 
 pub returns-clause-event : goal.returns-clause-event
 returns-clause-event g c =
-    rw (← c.self.view_is) (event-moved g.R.Receipt.keeps (view_of c.self.inside.number c.self.inside.count c.self.inside.records c.self.inside.contexts.items c.self.inside.moment) c.shift_head.new.self _ c.args.now c.in-Ok.ensures.effect (λ t d. refl))
+    rw (← c.self.view_is) (event-moved g.R.Receipt.keeps (view_of g.F.Mergeable.MERGES c.self.inside.number c.self.inside.count c.self.inside.records c.self.inside.contexts.items c.self.inside.moment) c.shift_head.new.self _ c.args.now c.in-Ok.ensures.effect (λ t d. refl))

@@ -18,7 +18,7 @@ invariant_of-self-2 g c =
     let join = g.F.Mergeable.parts.joined in
     let order = key_order g.F.Key.PartialEq.eq cmp ord.matches_eq known.exact ord.total in
     let r = c.self.inside.records in
-    let v = view_of c.self.inside.number c.self.inside.count r c.self.inside.contexts.items c.self.inside.moment in
+    let v = view_of g.F.Mergeable.MERGES c.self.inside.number c.self.inside.count r c.self.inside.contexts.items c.self.inside.moment in
     let low = start_at r.page_bits c.args.page in
     let made = c.in-Ok.ensures in
     let due : IsTruncationDue r c.args.page = made.ok.0 refl in
@@ -33,7 +33,7 @@ pub returns-clause-effect : goal.returns-clause-effect
 returns-clause-effect g c =
     let made = c.in-Ok.ensures in
     let r = c.self.inside.records in
-    let v = view_of c.self.inside.number c.self.inside.count r c.self.inside.contexts.items c.self.inside.moment in
+    let v = view_of g.F.Mergeable.MERGES c.self.inside.number c.self.inside.count r c.self.inside.contexts.items c.self.inside.moment in
     rw (← c.self.view_is) (truncates (made.ok.0 refl) (ap (λ (w : RecordsView _ _). record v { records = w; moment = c.args.now }) made.effect) refl)
 
 pub returns-clause-event : goal.returns-clause-event
@@ -44,7 +44,7 @@ returns-clause-event g c =
     let join = g.F.Mergeable.parts.joined in
     let order = key_order g.F.Key.PartialEq.eq cmp ord.matches_eq known.exact ord.total in
     let r = c.self.inside.records in
-    let v = view_of c.self.inside.number c.self.inside.count r c.self.inside.contexts.items c.self.inside.moment in
+    let v = view_of g.F.Mergeable.MERGES c.self.inside.number c.self.inside.count r c.self.inside.contexts.items c.self.inside.moment in
     let low = start_at r.page_bits c.args.page in
     let made = c.in-Ok.ensures in
     let due : IsTruncationDue r c.args.page = made.ok.0 refl in

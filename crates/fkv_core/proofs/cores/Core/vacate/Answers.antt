@@ -10,7 +10,7 @@ invariant_of-self g c =
     let effect = ok-on c.leave-left.result (made.unknown.1 (rw (← c.self.view_is) at c.requires.entered)) made.effect in
     let idle = rw (← c.self.view_is) at c.requires.idle in
     sound-moved c.self.invariant c.leave-left.new.self _ c.args.now c.known.ensures.traced c.known.ensures.stood effect made.raised
-    (λ t d x low here. slots-moved c.self.inside.records c.leave-left.new.self _ t effect (idle-other (view_of c.self.inside.number c.self.inside.count c.self.inside.records c.self.inside.contexts.items c.self.inside.moment) c.args.slot t d x idle low here (c.self.invariant.housed t d x low here)))
+    (λ t d x low here. slots-moved c.self.inside.records c.leave-left.new.self _ t effect (idle-other (view_of g.F.Mergeable.MERGES c.self.inside.number c.self.inside.count c.self.inside.records c.self.inside.contexts.items c.self.inside.moment) c.args.slot t d x idle low here (c.self.invariant.housed t d x low here)))
 
 pub returns : goal.returns
 returns g c =

@@ -5,6 +5,7 @@ use Rattle.fkv_texts.specs.declared.entries.Entry.{Entry}
 use Rattle.fkv_texts.specs.Text.{entry_at}
 use Rattle.fkv_index.specs.Places.{word_at}
 use Rattle.fkv_texts.specs.Deltas.{IsSuperseded}
+use Rattle.fkv_lookups.specs.declared.payloads.Payload.TheVariants.{Whole}
 use Rattle.fkv_lookups.specs.RecordsViews.{IsFull}
 use Rattle.fkv_core.specs.Contexts.{claim_at}
 use Rattle.fkv_core.specs.Writes.{IsWrite}
@@ -36,7 +37,7 @@ append-requires-clause-write g c =
     let told = rw c.records.ensures at c.holds.ensures in
     let v = c.args.self.now in
     let holds = ap (λ u. word_at u.core.records.words c.args.kept.place) (sym c.self.view_is) ∙ told.0 c.if-not-holds.false in
-    subst (λ u. IsWrite g.F.Functions.code u.core (record { entry = c.args.kept; key = c.args.entry.key; value = c.args.entry.value })) (sym c.self.view_is)
+    subst (λ u. IsWrite g.F.Functions.code u.core (record { entry = c.args.kept; key = c.args.entry.key; payload = Whole c.args.entry.value })) (sym c.self.view_is)
     (writes-again g.F.Key.Ord.cmp g.F.Mergeable.parts.joined g.F.Functions.code v c.known.ensures.compacting c.args.slot c.args.context c.args.now c.args.relocation.now c.requires.here c.known.ensures.core c.args.entry c.args.kept c.requires.stands holds)
 
 pub invariant_of-self-in-Ok-None : goal.invariant_of-self-in-Ok-None
@@ -67,7 +68,7 @@ invariant_of-self-in-Ok-Some g c =
     let holds = told.0 c.if-not-holds.false in
     let made = rw c.in-Ok-Some.field-0-is at c.in-Ok-Some.ensures.ok in
     let args = writes-again g.F.Key.Ord.cmp g.F.Mergeable.parts.joined g.F.Functions.code ins c.self.invariant c.args.slot c.args.context c.args.now x here sound e kept stands holds in
-    let borne = c.events_preserve.ensures.appends g.R.Receipt.keeps g.F.Key.Ord.cmp g.F.Mergeable.parts.joined g.F.Functions.code ins.core c.args.slot c.args.context c.args.now (record { entry = kept; key = e.key; value = e.value }) sound args in
+    let borne = c.events_preserve.ensures.appends g.R.Receipt.keeps g.F.Key.Ord.cmp g.F.Mergeable.parts.joined g.F.Functions.code ins.core c.args.slot c.args.context c.args.now (record { entry = kept; key = e.key; payload = Whole e.value }) e.value sound args in
     rw made (keep-again g.F.Key.Ord.cmp g.F.Mergeable.parts.joined g.F.Functions.code ins c.self.invariant c.args.slot c.args.context c.args.now x here sound e kept stands holds (rw made at c.known-in-Ok-Some.ensures.traced) (rw made at c.known-in-Ok-Some.ensures.stood) borne)
 
 pub finish-requires-clause-issued : goal.finish-requires-clause-issued

@@ -1,4 +1,5 @@
 use Rattle.std.proofs.Common.{◌≡◌, ◌∙◌, ◌+◌, ◌*◌, refl, sym, ap}
+use Rattle.std.proofs.lemmas.Bool.{OnTrue_at, OnFalse_at}
 use Rattle.fkv_operations.specs.After.{key_of}
 use Rattle.fkv_core.specs.Views.{partition_of}
 use Rattle.fkv_partition.specs.Inside.{view_of}
@@ -17,6 +18,15 @@ returns-then-came-held-clause-effect g c =
     let inside = sym c.is_session.ensures.value ∙ c.if-not-is_session.false in
     rw (← c.self.view_is, number, came) (IssuesOnKey.stranger inside (λ e. c.if-came-held.true (came ∙ e ∙ sym number)) refl refl)
 
+pub returns-then-lacks_merges-clause-effect : goal.returns-then-lacks_merges-clause-effect
+returns-then-lacks_merges-clause-effect g c =
+    let number = c.number-held.ensures in
+    let came : c.home-came.result ≡ partition_of c.self.inside.core.count (g.F.Functions.code (key_of c.args.op)) = c.home-came.ensures ∙ ap (λ k. partition_of c.self.inside.core.count (g.F.Functions.code k)) c.key.ensures in
+    let inside = sym c.is_session.ensures.value ∙ c.if-not-is_session.false in
+    let own = sym came ∙ c.if-came-held.false ∙ number in
+    let lacks = OnTrue_at c.if-lacks_merges.true c.lacks_merges.ensures.lacks in
+    rw (← c.self.view_is) (IssuesOnKey.unmerged inside own lacks.0 lacks.1 refl refl)
+
 pub returns-in_default-clause-effect : goal.returns-in_default-clause-effect
 returns-in_default-clause-effect g c =
     let number = c.number-held.ensures in
@@ -24,7 +34,7 @@ returns-in_default-clause-effect g c =
     let inside = sym c.is_session.ensures.value ∙ c.if-not-is_session.false in
     let own = sym came ∙ c.if-came-held.false ∙ number in
     let none = rw (← c.self.view_is) at c.in_default.ensures.value in
-    rw (← c.self.view_is) (IssuesOnKey.full inside own none refl refl)
+    rw (← c.self.view_is) (IssuesOnKey.full inside own (OnFalse_at c.if-lacks_merges.false c.lacks_merges.ensures.merges) none refl refl)
 
 pub invariant_of-self : goal.invariant_of-self
 invariant_of-self g c = rw c.in-Err.ensures.unchanged c.self.invariant
@@ -35,7 +45,7 @@ returns-in-Err-clause-effect g c =
     let came : c.home-came.result ≡ partition_of c.self.inside.core.count (g.F.Functions.code (key_of c.args.op)) = c.home-came.ensures ∙ ap (λ k. partition_of c.self.inside.core.count (g.F.Functions.code k)) c.key.ensures in
     let inside = sym c.is_session.ensures.value ∙ c.if-not-is_session.false in
     let own = sym came ∙ c.if-came-held.false ∙ number in
-    absurd (issues-err g.F.Functions.code c.self.inside.core c.issue.new.self c.args.slot c.in-Some.context c.args.op c.args.now c.in-Err.refused own c.in-Err.ensures.effect)
+    absurd (issues-err g.F.Functions.code c.self.inside.core c.issue.new.self c.args.slot c.in-Some.context c.args.op c.args.now c.in-Err.refused own (OnFalse_at c.if-lacks_merges.false c.lacks_merges.ensures.merges) c.in-Err.ensures.effect)
 
 pub invariant_of-self-2 : goal.invariant_of-self-2
 invariant_of-self-2 g c =

@@ -8,4 +8,4 @@ new-requires g c = let b = small c.args.config.now.partition_bits c.requires.par
 pub invariant_of-result : goal.invariant_of-result
 invariant_of-result g c =
     rw (c.in-Ok-empty_partitions.ensures.ok, c.in-Ok.ensures.ok.begun, c.in-Ok.ensures.ok.questions, c.in-Ok.ensures.ok.receipts, c.in-Ok-empty_flush_slots.ensures.ok, c.in-Ok.ensures.ok.seats, c.in-Ok.ensures.ok.enters, c.partitions-count.ensures.count, c.new-2.ensures.items)
-    (state-empty _ g.F.Key.Ord.cmp g.F.Functions.meaning g.F.Functions.code c.args.config.now _ c.requires)
+    (state-empty _ g.F.Key.Ord.cmp g.F.Functions.meaning g.F.Functions.code g.F.Mergeable.MERGES c.args.config.now _ c.requires)

@@ -5,7 +5,7 @@ use Rattle.fkv_records.specs.Records.{size_of}
 use Rattle.fkv_workers.specs.Shares.{HasShare}
 use Rattle.fkv_workers.specs.Works.{IsRunnable, IsUnmade}
 use Rattle.fkv_workers.proofs.WorkedLemmas.{counted}
-use Rattle.fkv_workers.proofs.running.run_feeds.Goals as goal
+use Rattle.fkv_workers.proofs.running.run_feeds_by.Goals as goal
 
 pub returns-clause-ok : goal.returns-clause-ok
 returns-clause-ok g c keeps held =

@@ -3,7 +3,7 @@ use Rattle.std.proofs.lemmas.Result.{IfOk-weaker}
 use Rattle.fkv_feeds.specs.Faults.{IsRunFault, IsDeviceFault}
 use Rattle.fkv_feeds.specs.Tables.{IsTableOf}
 use Rattle.fkv_feeds.proofs.FeedsLemmas.{both_ok, devices-by, stopped-by, why_none, err_weaker}
-use Rattle.fkv_feeds.proofs.running.run_one.Goals as goal
+use Rattle.fkv_feeds.proofs.running.run_one_by.Goals as goal
 
 pub finish-requires : goal.finish-requires
 finish-requires g c = record { stands = let found = c.in-Ok-read_feeds.ensures.ok in (found.0, found.2) }

@@ -4,7 +4,7 @@ use Rattle.std.proofs.lemmas.Result.{IfOk-weaker}
 use Rattle.fkv_feeds.specs.Faults.{IsRunFault, IsDeviceFault}
 use Rattle.fkv_feeds.specs.Tables.{IsTableOf}
 use Rattle.fkv_feeds.proofs.FeedsLemmas.{stopped, devices-by, stopped-by, why_none, both_ok, err_weaker}
-use Rattle.fkv_feeds.proofs.running.run_alone.Goals as goal
+use Rattle.fkv_feeds.proofs.running.run_alone_by.Goals as goal
 
 pub finish-requires : goal.finish-requires
 finish-requires g c = record { stands = let found = c.in-Ok-read_feed.ensures.ok [] c.in-Ok.ensures.ok in (found.0, found.2) }

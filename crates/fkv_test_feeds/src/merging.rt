@@ -1,0 +1,83 @@
+//! Rows that merge: they come to the table of rows that update, and read no page.
+use crate::random::{CONFIG, FEEDS, made};
+use fkv_device::MemoryDevice;
+use fkv_feeds::reading::read_feed;
+use fkv_feeds::shards::Shards;
+use fkv_feeds::{LIMIT, RowMode, run_alone_by, write_table};
+use fkv_functions::{CountFns, MaxFns, Mergeable, Name, Refused, SumFns};
+use fkv_meters::{MeteredDevice, Meters};
+use fkv_streams::{CountedReader, CountedWriter};
+use itoa::Integer;
+use std::alloc::Global;
+
+/// The text of the table of a feed, with its rows in this mode.
+fn text_by<F: Mergeable<Key = Name, Input = i64>>(
+    alloc: Global,
+    feed: &[u8],
+    functions: &F,
+    mode: RowMode,
+) -> Result<Vec<u8>, Refused>
+where
+    F::Value: Integer,
+{
+    let mut reader = CountedReader::new(feed);
+    let device = MemoryDevice::new(alloc);
+    let run = run_alone_by(alloc, &mut reader, functions, &CONFIG, device, mode)?;
+    let mut text = Vec::new(alloc);
+    write_table(alloc, &run.table, &mut CountedWriter::new(&mut text))?;
+    Ok(text)
+}
+
+/// Whether a feed comes to one table in both modes.
+fn is_one_table<F: Mergeable<Key = Name, Input = i64>>(
+    alloc: Global,
+    feed: &[u8],
+    functions: &F,
+) -> Result<bool, Refused>
+where
+    F::Value: Integer,
+{
+    let updated = text_by(alloc, feed, functions, RowMode::Update)?;
+    let merged = text_by(alloc, feed, functions, RowMode::Merge)?;
+    Ok(updated == merged)
+}
+
+/// How many pages the rows of a feed write, and how many they read, before the keys of the table are listed.
+fn pages_of(alloc: Global, feed: &[u8], mode: RowMode) -> Result<(u64, u64), Refused> {
+    if !CONFIG.is_within_limits::<Name, i64>() {
+        return Err(Refused::BadConfig);
+    }
+    let meters = Meters::new();
+    let mut device = MeteredDevice::new(MemoryDevice::new(alloc), &meters);
+    let mut shards = Shards::open(alloc, &SumFns, &CONFIG, &mut device, mode)?;
+    let mut reader = CountedReader::new(feed);
+    let _rows = read_feed(alloc, &mut reader, 1, LIMIT, &mut shards)?;
+    let seen = meters.seen();
+    Ok((seen.pages_written, seen.pages_read))
+}
+
+#[test]
+fn one_table(rt: HostRuntime) -> Result<(), Refused> {
+    let alloc = rt.alloc();
+    for (rows, keys) in FEEDS {
+        let (feed, _sums) = made(alloc, rows + keys, rows, keys)?;
+        assert!(rt;
+            is_one_table(alloc, &feed, &CountFns)?,
+            "count {rows} {keys}"
+        );
+        assert!(rt; is_one_table(alloc, &feed, &SumFns)?, "sum {rows} {keys}");
+        assert!(rt; is_one_table(alloc, &feed, &MaxFns)?, "max {rows} {keys}");
+    }
+    Ok(())
+}
+
+/// Both modes write pages. Rows that update read some, since few of the keys are in memory; rows that merge read none.
+#[test]
+fn pages_that_rows_read(rt: HostRuntime) -> Result<(), Refused> {
+    let (feed, _sums) = made(rt.alloc(), 1, 3_000, 500)?;
+    let (written, read) = pages_of(rt.alloc(), &feed, RowMode::Update)?;
+    assert!(rt; written > 100 && read > 100, "{written} {read}");
+    let (written, read) = pages_of(rt.alloc(), &feed, RowMode::Merge)?;
+    assert!(rt; written > 100 && read == 0, "{written} {read}");
+    Ok(())
+}

@@ -1,0 +1,155 @@
+//! Merges beside updates and reads, and updates that are merges where they would read a page.
+use crate::calls::{Call, Called, IMPATIENT, Row, SMALL, Told};
+use fkv_device::MemoryDevice;
+use fkv_functions::{CappedSumFns, Name, Refused, SumFns};
+use fkv_histories::{Audited, Plain, Recorder};
+use fkv_operations::{Answer, KeyedOp};
+use fkv_partition::Config;
+use fkv_store::{Open, Store};
+use std::alloc::Global;
+use std::sync::Wait;
+use std::test::Fail;
+
+fn stored(call: Call) -> Row {
+    (call, Told::Done(Answer::Stored))
+}
+
+fn value(call: Call, value: i128) -> Row {
+    (call, Told::Done(Answer::Value(value)))
+}
+
+/// What a store comes to after these calls, each of which has to tell what its row says: what key a has, how many keys there
+/// are, and how many operations were finished.
+fn closed<H: Recorder<SumFns>>(
+    rt: &impl Wait,
+    alloc: Global,
+    config: &Config,
+    rows: &[Row],
+) -> Result<(Option<i128>, usize, u64), Fail> {
+    let mut called = Called::<MemoryDevice, H>::new(rt, alloc, config, MemoryDevice::new(alloc))?;
+    let other = called.first_other(rt, alloc, rows);
+    if other.is_some() {
+        return Ok((None, other.unwrap_or(0), 0));
+    }
+    Ok(called.closed(alloc, 2)?)
+}
+
+/// Whether a store of each recorder comes to this.
+fn come_to(
+    rt: &impl Wait,
+    alloc: Global,
+    config: &Config,
+    rows: &[Row],
+    end: (Option<i128>, usize, u64),
+) -> Result<bool, Fail> {
+    Ok(
+        closed::<Audited<SumFns>>(rt, alloc, config, rows)? == end
+            && closed::<Plain>(rt, alloc, config, rows)? == end,
+    )
+}
+
+/// Two passes merge, update, write, delete and read one key; none of it reads a page.
+fn in_memory() -> [Row; 13] {
+    [
+        stored(Call::Merge(0, b'a', 5)),
+        value(Call::Read(1, b'a'), 5),
+        value(Call::Update(1, b'a', 2), 7),
+        stored(Call::Merge(0, b'a', -3)),
+        stored(Call::Merge(1, b'a', 1)),
+        value(Call::Read(0, b'a'), 5),
+        stored(Call::Upsert(1, b'b', 10)),
+        stored(Call::Merge(0, b'b', 10)),
+        value(Call::Update(1, b'b', 1), 21),
+        (Call::UpdateOrMerge(0, b'b', 4), Told::Ok),
+        (Call::UpdateOrMerge(1, b'c', 6), Told::Ok),
+        value(Call::Read(1, b'b'), 25),
+        (Call::Loads, Told::Count(0)),
+    ]
+}
+
+#[test]
+fn merges_in_memory(rt: HostRuntime) -> Result<(), Fail> {
+    let end = (Some(5), 3, 12);
+    assert!(rt; come_to(&rt, rt.alloc(), &SMALL, &in_memory(), end)?);
+    Ok(())
+}
+
+/// A key whose value is on the device: merges and updates that may be merges leave the page there, a read joins all parts, and
+/// an update reads the page.
+fn on_the_device() -> [Row; 19] {
+    [
+        stored(Call::Upsert(0, b'a', 10)),
+        stored(Call::Upsert(0, b'b', 1)),
+        stored(Call::Upsert(0, b'c', 1)),
+        (Call::Tidy(0), Told::Count(64)),
+        (Call::Refresh(0), Told::Ok),
+        (Call::Tidy(0), Told::Count(256)),
+        (Call::Refresh(0), Told::Ok),
+        stored(Call::Merge(0, b'a', 5)),
+        (Call::UpdateOrMerge(1, b'a', 7), Told::Ok),
+        (Call::UpdateOrMerge(0, b'b', 2), Told::Ok),
+        (Call::Loads, Told::Count(0)),
+        value(Call::Read(0, b'a'), 22),
+        value(Call::Read(1, b'b'), 3),
+        (Call::Rest(1), Told::Ok),
+        (Call::Compact(0), Told::Ok),
+        value(Call::Read(0, b'a'), 22),
+        value(Call::Update(0, b'a', 1), 23),
+        (Call::UpdateOrMerge(0, b'a', 1), Told::Ok),
+        value(Call::Read(0, b'a'), 24),
+    ]
+}
+
+#[test]
+fn merges_beside_a_device(rt: HostRuntime) -> Result<(), Fail> {
+    let end = (Some(24), 3, 12);
+    assert!(rt; come_to(&rt, rt.alloc(), &SMALL, &on_the_device(), end)?);
+    Ok(())
+}
+
+/// A merge never waits for the session of another pass, where an update does.
+fn fuzzy() -> [Row; 10] {
+    [
+        stored(Call::Upsert(1, b'a', 10)),
+        stored(Call::Upsert(0, b'b', 1)),
+        stored(Call::Upsert(0, b'c', 1)),
+        (Call::Tidy(0), Told::Count(64)),
+        (Call::Refresh(0), Told::Ok),
+        (Call::Update(0, b'a', 1), Told::Refused(Refused::Stalled)),
+        stored(Call::Merge(0, b'a', 1)),
+        value(Call::Read(0, b'a'), 11),
+        (Call::Rest(1), Told::Ok),
+        value(Call::Update(0, b'a', 1), 12),
+    ]
+}
+
+#[test]
+fn merges_wait_for_no_session(rt: HostRuntime) -> Result<(), Fail> {
+    let end = (Some(12), 3, 6);
+    assert!(rt; come_to(&rt, rt.alloc(), &IMPATIENT, &fuzzy(), end)?);
+    Ok(())
+}
+
+/// What a store of functions that don't merge comes to: a merge is refused, and an update that may be one is an update.
+fn capped<H: Recorder<CappedSumFns>>(rt: &impl Wait, alloc: Global) -> Result<u64, Fail> {
+    let device = MemoryDevice::new(alloc);
+    let store = Store::<CappedSumFns, MemoryDevice, H>::open(alloc, &SMALL, CappedSumFns, device)?;
+    let Some(key) = Name::new(b"a") else {
+        return Ok(0);
+    };
+    let mut pass = store.pass(rt, alloc, 0)?;
+    pass.update_or_merge(rt, alloc, &store, key, 3, &Open)?;
+    let merged = pass.run(rt, alloc, &store, KeyedOp::Merge(key, 4), &Open);
+    let read = pass.run(rt, alloc, &store, KeyedOp::Read(key, 0), &Open);
+    if merged != Err(Refused::NoMerge) || read != Ok(Answer::Value(3)) {
+        return Ok(1);
+    }
+    Ok(store.close(alloc, vec![in alloc; pass]?)?.finished)
+}
+
+#[test]
+fn functions_that_do_not_merge(rt: HostRuntime) -> Result<(), Fail> {
+    assert!(rt; capped::<Audited<CappedSumFns>>(&rt, rt.alloc())? == 2);
+    assert!(rt; capped::<Plain>(&rt, rt.alloc())? == 2);
+    Ok(())
+}
