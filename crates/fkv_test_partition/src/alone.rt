@@ -433,14 +433,14 @@ const RUNS: [Run; 7] = [
         config: SMALL,
         opening: &[],
         rows: &A_NEW_PARTITION,
-        map: &[(b'a', 6)],
+        map: &[(b'a', 11), (b'b', 5)],
     },
     Run {
         name: "an evicted key",
         config: SMALL,
         opening: &EVICTED,
         rows: &AN_EVICTED_KEY,
-        map: &[(b'a', 11), (b'b', 1)],
+        map: &[(b'a', 11), (b'b', 6)],
     },
     Run {
         name: "stalled",
