@@ -83,7 +83,7 @@ const TIGHT: Config = Config {
 fn fifth(alloc: Global, first: u64, amount: i64) -> Result<Vec<u8>, Fail> {
     let mut text = Vec::new(alloc);
     for row in 0..500u64 {
-        writeln!(text, "k{},{amount}", (first + row) % 100)?;
+        writeln!(text, "k{},{amount}", first.saturating_add(row) % 100)?;
     }
     Ok(text)
 }
