@@ -13,12 +13,11 @@ use Rattle.fkv_texts.proofs.StoodLemmas.{alike-get, alike_back}
 use Rattle.fkv_texts.proofs.ValueLemmas.{stood-append}
 use Rattle.fkv_lookups.specs.Overlays.{said_over, with_text, IsApart, HasFront}
 
--- what is put for an entry: a delta is joined with what the map holds
-pub put-delta : {K V : Type 0} (join : V → V → V) (e : Entry K V) (held : Option V) {value made got copied : Option V} → e.delta ≡ true → value ≡ made → made ≡ onto join got e.value → got ≡ copied → copied ≡ held → value ≡ risen join held e
-put-delta join e held delta is joins copies holds = rw delta (is ∙ joins ∙ ap (λ v. onto join v e.value) (copies ∙ holds))
-
-pub put-whole : {K V : Type 0} (join : V → V → V) (e : Entry K V) (held : Option V) {value : Option V} → e.delta ≡ false → value ≡ e.value → value ≡ risen join held e
-put-whole join e held whole is = rw whole is
+-- no part joins nothing
+pub onto-none : {V : Type 0} (join : V → V → V) (held part : Option V) → ((v : V) → part ≡ Some v → ⊥) → onto join held part ≡ held
+onto-none join held (Some v) none = absurd (none v refl)
+onto-none join None None none = refl
+onto-none join (Some w) None none = refl
 
 -- the entries below an address are done: the map is the first one with what their keys have
 pub record IsScanned {K V : Type 0} (cmp : K → K → Ordering) (join : V → V → V) (first : PlainMap K V) (bits size tail : ℕ) (text : List (Entry K V)) (address : ℕ) (map : PlainMap K V) : Type 0 where

@@ -17,7 +17,6 @@ use Rattle.fkv_operations.specs.After.{key_of, is_merge, after, after_update, an
 use Rattle.fkv_texts.specs.Deltas.{onto}
 use Rattle.fkv_lookups.specs.declared.gathered.Gathered.{Gathered}
 use Rattle.fkv_lookups.specs.declared.payloads.Payload.{Payload}
-use Rattle.fkv_lookups.specs.declared.payloads.Payload.TheVariants.{Whole, Part}
 use Rattle.fkv_lookups.specs.Payloads.{standing}
 use Rattle.fkv_lookups.specs.Decisions.{met_in, met_last, met_on, met_by, joined_to, held_of, IsHeld, replaced, parted, merged, decision}
 use Rattle.fkv_operations.specs.declared.operations.KeyedOp.{KeyedOp}

@@ -1,5 +1,5 @@
 -- What a record carries that is written: a value, none, or a part of a value.
-use Rattle.std.specs.Prelude.{Bool, true, false, Option, Some, None}
+use Rattle.std.specs.Prelude.{Bool, true, false, Option, Some}
 use Rattle.fkv_texts.specs.Deltas.{onto}
 use Rattle.fkv_lookups.specs.declared.payloads.Payload.{Payload}
 use Rattle.fkv_lookups.specs.declared.payloads.Payload.TheVariants.{Whole, Part}

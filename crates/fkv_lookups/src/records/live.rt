@@ -6,8 +6,7 @@ ghost use Rattle.fkv_records.specs.Places.{page_at};
 ghost use Rattle.fkv_hybrid.specs.Scans.{IsScanRefusal, MayFail};
 ghost use Rattle.fkv_lookups.specs.Overlays.{IsApart, with_text, HasFront};
 
-use crate::gathered::onto;
-use crate::maps::put;
+use crate::maps::put_entry;
 use crate::records::Records;
 use fkv_device::{PageReader, Receipt};
 use fkv_functions::{Mergeable, Refused};
@@ -42,13 +41,7 @@ impl<F: Mergeable, R: Receipt> Records<F, R> {
                 Ok(entry) => entry,
                 Err(refused) => return Err(refused),
             };
-            let value = if entry.delta {
-                let held = map.get(&entry.key).copied();
-                onto(functions, held, entry.value)
-            } else {
-                entry.value
-            };
-            match put(map, entry.key, value) {
+            match put_entry(functions, map, &entry) {
                 Ok(()) => (),
                 Err(refused) => return Err(refused),
             }

@@ -5,7 +5,7 @@ use Rattle.std.specs.Map.{lookup}
 use Rattle.fkv_partition.specs.CoreViews.{partition_of}
 use Rattle.fkv_partition.proofs.UnionLemmas.{live-more}
 use Rattle.fkv_closing.proofs.PlaceLemmas.{here, at_place, written_same}
-use Rattle.fkv_closing.proofs.UnionLemmas.{union_none, union_all, bare_before}
+use Rattle.fkv_closing.proofs.UnionLemmas.{union_none, union_all, inserted-more}
 use Rattle.fkv_closing.proofs.gathering.gather.Goals as goal
 
 pub loop-place-init : goal.loop-place-init
@@ -27,13 +27,13 @@ loop-place-preserved g c =
     record {
       sized = length-set c.loop-place.readers i c.put_live.new.reader ∙ old.sized;
       steady = written_same g.P.PageReader.failures c.loop-place.readers i c.index-readers-place.result c.put_live.new.reader low c.in-Ok.ensures.steady ∙ old.steady;
-      so_far = λ keeps q. (let bare = bare_before g.F.Key.Ord.cmp g.F.Functions.code views i v (get g.F.Key.Ord.cmp c.loop-place.tree) (c.requires.numbered.numbered i v there) (c.requires.numbered.counted i v there) (old.so_far keeps) in
-          live-more g.F.Key.Ord.cmp g.F.Functions.code views i v (get g.F.Key.Ord.cmp c.loop-place.tree) (get g.F.Key.Ord.cmp c.put_live.new.map) there
-          (c.in-Ok.ensures.live keeps bare)
-          (subst (λ n. (q : g.row.F-Key.Denot) → partition_of n (g.F.Functions.code q) ≢ i → get g.F.Key.Ord.cmp c.put_live.new.map q ≡ get g.F.Key.Ord.cmp c.loop-place.tree q) (c.requires.numbered.counted i v there)
-          (subst (λ p. (q : g.row.F-Key.Denot) → partition_of v.core.count (g.F.Functions.code q) ≢ p → get g.F.Key.Ord.cmp c.put_live.new.map q ≡ get g.F.Key.Ord.cmp c.loop-place.tree q) (c.requires.numbered.numbered i v there)
-          (c.in-Ok.ensures.others keeps bare)))
-          (old.so_far keeps) q);
+      so_far = λ keeps. (let none = λ q. ap (lookup (is_at (g.F.Key.Ord.cmp q))) c.new-own.ensures.empty in
+          inserted-more g.F.Key.Ord.cmp g.met.F.Key.Ord.total g.F.Functions.code views i v c.loop-place.tree c.put_live.new.map c.append.new.self
+          there (c.requires.numbered.numbered i v there) (c.requires.numbered.counted i v there)
+          c.append.ensures.other_was_ordered c.in-Ok-append.ensures.inserts_all
+          (λ q. c.in-Ok.ensures.live keeps (λ k b. none k) q (none q))
+          (λ q other. c.in-Ok.ensures.others keeps (λ k b. none k) q other ∙ none q)
+          (old.so_far keeps));
     }
 
 pub returns-in-Err-clause-unread : goal.returns-in-Err-clause-unread

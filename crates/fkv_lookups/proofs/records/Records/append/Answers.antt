@@ -1,4 +1,4 @@
-use Rattle.std.proofs.Common.{IsTrue, IsSome, ◌≢◌, ◌^◌, subst, sym, ◌∙◌, arith, false}
+use Rattle.std.proofs.Common.{IsTrue, IsSome, ◌≢◌, ◌^◌, subst, sym, ◌∙◌, arith}
 use Rattle.fkv_records.specs.Records.{size_of, IsPrevious}
 use Rattle.fkv_index.specs.Words.{address_of}
 use Rattle.fkv_operations.specs.Classes.{class_at, same_class}

@@ -1,12 +1,10 @@
-use Rattle.std.proofs.Common.{◌≡◌, ◌<◌, ◌≤◌, Some, refl, sym, ap, subst, arith, ◌∙◌}
+use Rattle.std.proofs.Common.{◌<◌, ◌≤◌, refl, arith, ◌∙◌}
 use Rattle.std.specs.BTreeMap.{get}
-use Rattle.fkv_texts.specs.Deltas.{risen}
 use Rattle.fkv_functions.proofs.KeyOrder.{key_order}
-use Rattle.fkv_lookups.proofs.ScanLemmas.{put-delta, put-whole, ended, goes_on, has_front, front_stays}
+use Rattle.fkv_lookups.proofs.ScanLemmas.{ended, goes_on, has_front, front_stays}
 use Rattle.fkv_hybrid.specs.Scans.{memory}
 use Rattle.fkv_lookups.proofs.LiveLemmas.{scan_begins, scan_rises, scan_refused}
 use Rattle.fkv_lookups.proofs.records.Records.put_live.Goals as goal
-use Rattle.fkv_lookups.proofs.records.Records.put_live.Goals.{then-entry, else-entry}
 
 pub loop-self-init : goal.loop-self-init
 loop-self-init g c = record {
@@ -22,23 +20,12 @@ loop-self-preserved g c =
     let ord = g.met.F.Key.Ord in
     let known = g.met.F.Key.FixedKey in
     let order = key_order g.F.Key.PartialEq.eq g.F.Key.Ord.cmp ord.matches_eq known.exact ord.total in
-    let entry : c.if-entry.entry ≡ c.in-Ok.entry = elim c.if-entry.branch [
-      | then-entry w ↦ w.entry-is
-      | else-entry w ↦ w.entry-is
-    ] in
     let join = g.F.Mergeable.parts.joined in
-    let held = get g.F.Key.Ord.cmp c.loop-self.map in
-    let before = held c.in-Ok.entry.key in
-    let value : c.if-entry.value ≡ risen join before c.in-Ok.entry = elim c.if-entry.branch [
-      | then-entry w ↦ put-delta join c.in-Ok.entry before w.if-entry.true w.value-is w.onto-value.ensures w.copied-held.ensures w.get.ensures.value
-      | else-entry w ↦ put-whole join c.in-Ok.entry before w.if-entry.false w.value-is
-    ] in
     record {
       scan = c.step.ensures.scan;
       scanned = λ keeps apart. rw c.in-Ok.ensures.goes
           (goes_on g.F.Key.Ord.cmp join _ _ _ _ _ _ _ (c.loop-self.invariant.scanned keeps apart) order apart l.rising low
-          c.if-entry.entry (c.in-Ok.ensures.kept keeps ∙ ap Some (sym entry)) c.if-entry.value (subst (λ e. c.if-entry.value ≡ risen join (held e.key) e) (sym entry) value)
-          (get g.F.Key.Ord.cmp c.put.new.map) c.in-Ok-put.ensures.ok);
+          c.in-Ok.entry (c.in-Ok.ensures.kept keeps) _ refl (get g.F.Key.Ord.cmp c.put_entry.new.map) c.in-Ok-put_entry.ensures.ok);
       steady = c.in-Ok.ensures.steady ∙ c.loop-self.invariant.steady;
     }
 
@@ -60,16 +47,16 @@ returns-in-Err-clause-refused g c =
     rw (← c.self.view_is) (scan_refused g.R.Receipt.keeps _ c.self.inside.log c.known.ensures.log c.loop-self.scan c.loop-self.invariant.scan low
     c.step.result _ _ _ _ c.in-Err.is c.loop-self.invariant.steady (λ high. (c.step.ensures.unread high).0) c.in-Err.ensures.refused)
 
-pub returns-in-Err-put-clause-refused : goal.returns-in-Err-put-clause-refused
-returns-in-Err-put-clause-refused g c = memory c.in-Err-put.ensures.only (c.in-Ok.ensures.steady ∙ c.loop-self.invariant.steady)
+pub returns-in-Err-put_entry-clause-refused : goal.returns-in-Err-put_entry-clause-refused
+returns-in-Err-put_entry-clause-refused g c = memory c.in-Err-put_entry.ensures.only (c.in-Ok.ensures.steady ∙ c.loop-self.invariant.steady)
 
 pub returns-in-Err-clause-front : goal.returns-in-Err-clause-front
 returns-in-Err-clause-front g c = λ keeps apart.
     rw (← c.self.view_is) (has_front g.F.Key.Ord.cmp g.F.Mergeable.parts.joined _ _ _ _ _ _ _ (c.loop-self.invariant.scanned keeps (rw (← c.self.view_is) at apart)))
 
-pub returns-in-Err-put-clause-front : goal.returns-in-Err-put-clause-front
-returns-in-Err-put-clause-front g c = λ keeps apart.
-    rw (← c.self.view_is) (front_stays g.F.Key.Ord.cmp g.F.Mergeable.parts.joined _ _ _ _ _ _ _ (c.loop-self.invariant.scanned keeps (rw (← c.self.view_is) at apart)) _ c.in-Err-put.ensures.unchanged)
+pub returns-in-Err-put_entry-clause-front : goal.returns-in-Err-put_entry-clause-front
+returns-in-Err-put_entry-clause-front g c = λ keeps apart.
+    rw (← c.self.view_is) (front_stays g.F.Key.Ord.cmp g.F.Mergeable.parts.joined _ _ _ _ _ _ _ (c.loop-self.invariant.scanned keeps (rw (← c.self.view_is) at apart)) _ c.in-Err-put_entry.ensures.unchanged)
 
 pub returns-in-Err-clause-caused : goal.returns-in-Err-clause-caused
 returns-in-Err-clause-caused g c = λ keeps wanted. rw (← c.self.view_is) (_, c.in-Err.ensures.caused keeps wanted)
