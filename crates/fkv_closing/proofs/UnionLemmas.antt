@@ -3,7 +3,7 @@ use Rattle.std.proofs.Common.{◌≡◌, false, cond, ℕ, List, [], ◌∷◌, 
 use Rattle.std.proofs.lemmas.Bool.Decides.{nat_tests}
 use Rattle.std.specs.declared.cmp.Ordering.{Ordering}
 use Rattle.fkv_functions.specs.Plain.{PlainMap, Same}
-use Rattle.fkv_partition.specs.CoreViews.{partition_of, IsBare}
+use Rattle.fkv_partition.specs.CoreViews.{partition_of}
 use Rattle.fkv_partition.specs.Unions.{union_of}
 use Rattle.fkv_partition.specs.Views.{PartitionView}
 use Rattle.fkv_partition.proofs.UnionLemmas as unions
@@ -23,12 +23,3 @@ module _ {K V I : Type 0} (cmp : K → K → Ordering) (code : K → ℕ) where
       h q ∙ ap (λ b. cond b None None) low
   union_all (v ∷ views) m i end h q = unions.live-all cmp code (v ∷ views) m (omega arith)
       (subst (λ n. Same m (λ q. cond (nat_lt (partition_of (length (v ∷ views)) (code q)) n) (union_of cmp code (v ∷ views) q) None)) (sym end) h) q
-
-  -- no key of a partition has a value in the map of those before it
-  pub bare_before : (views : List (PartitionView K V I)) (i : ℕ) (v : PartitionView K V I) (m : PlainMap K V) → v.core.number ≡ i → v.core.count ≡ length views
-      → Same m (λ q. cond (nat_lt (partition_of (length views) (code q)) i) (union_of cmp code views q) None)
-      → IsBare code v.core m
-  bare_before views i v m numbered counted before k own =
-      let here : partition_of (length views) (code k) ≡ i = ap (λ n. partition_of n (code k)) (sym counted) ∙ own ∙ numbered in
-      let low : nat_lt (partition_of (length views) (code k)) i ≡ false = grind (arith, nat_tests) in
-      before k ∙ ap (λ b. cond b (union_of cmp code views k) None) low

@@ -1,5 +1,5 @@
 -- What partitions stand for, before the first row and after one more.
-use Rattle.std.proofs.Common.{◌≡◌, Bool, true, false, cond, ℕ, zero, suc, ◌+◌, ◌*◌, ◌^◌, ◌<◌, ◌≤◌, ◌≢◌, inl, inr, List, [], ◌∷◌, ◌++◌, length, replicate, map, Option, Some, None, Ok, Err, IsTrue, slice_get, slice_set, nat_lt, ◌&&◌, refl, sym, ◌∙◌, ap, subst, arith, length-append}
+use Rattle.std.proofs.Common.{◌≡◌, Bool, true, false, cond, ℕ, zero, suc, ◌+◌, ◌*◌, ◌^◌, ◌<◌, ◌≤◌, inl, inr, List, [], ◌∷◌, ◌++◌, length, replicate, map, Option, Some, None, Ok, Err, IsTrue, slice_get, slice_set, nat_lt, ◌&&◌, refl, sym, ◌∙◌, ap, subst, arith, length-append}
 use Rattle.std.proofs.lemmas.List.{length-set, map-append, append-nil}
 use Rattle.std.proofs.lemmas.Option.{slice_get_within}
 use Rattle.std.proofs.lemmas.List.Elements.{filter-append}
@@ -9,12 +9,7 @@ use Rattle.std.proofs.lemmas.Nat.{pow_pos}
 use Rattle.std.specs.List.{filter}
 use Rattle.std.specs.Option.{option_or}
 use Rattle.std.specs.declared.cmp.Ordering.{Ordering}
-use Rattle.std.specs.BTreeMap.{BTreeMap}
-use Rattle.std.specs.BTreeMap.{is_at, get, keys, IsOrdered, InsertsAll}
-use Rattle.std.specs.Ordering.{eq_by_cmp}
-use Rattle.std.specs.Cmp.{IsTotalOrder, eq_by_cmp_equiv}
-use Rattle.std.proofs.lemmas.Map.Made.{update_all_distinct}
-use Rattle.std.proofs.lemmas.Map.Keys.{IsDistinct-from_sorted}
+use Rattle.std.specs.BTreeMap.{is_at}
 use Rattle.fkv_functions.specs.Meanings.{Meanings, updated}
 use Rattle.fkv_functions.specs.Plain.{PlainMap, Same, IsKeyOrder}
 use Rattle.fkv_functions.specs.declared.refusals.Refused.{Refused}
@@ -35,7 +30,7 @@ use Rattle.fkv_feeds.specs.Runs.{IsSeatedIn, AreNew, StandFor}
 use Rattle.fkv_feeds.specs.Listing.{IsListRefusal}
 use Rattle.fkv_hybrid.specs.Scans.{IsScanRefusal}
 use Rattle.fkv_records.specs.Places.{page_at}
-use Rattle.fkv_partition.proofs.UnionLemmas.{live-after, live-more, is_at-turned}
+use Rattle.fkv_partition.proofs.UnionLemmas.{live-after, is_at-turned}
 
 -- ---- a partition with nothing in it but a session
 nothing-entered : (n slot : ℕ) → is_session (replicate n None) slot ≡ false
@@ -225,24 +220,3 @@ list-refused part reader reads keeps items i x y views counts why here parted co
   is = view-set (λ s. reads (reader s)) items i y ∙ ap (λ cs. slice_set cs i (reads (reader y))) counted;
   refused = refused;
 }
-
--- the live map of one more partition, inserted into that of those before it
-pub inserted-more : {K V I : Type 0} (cmp : K → K → Ordering) (order : IsTotalOrder cmp) (code : K → ℕ) (views : List (PartitionView K V I)) (i : ℕ) (v : PartitionView K V I) (m own new : BTreeMap K V)
-    → slice_get views i ≡ Some v → v.core.number ≡ i → v.core.count ≡ length views
-    → IsOrdered cmp own → InsertsAll cmp m own.entries new
-    → ((q : K) → get cmp own q ≡ live_of cmp v.core q)
-    → ((q : K) → partition_of v.core.count (code q) ≢ v.core.number → get cmp own q ≡ None)
-    → Same (get cmp m) (λ q. cond (nat_lt (partition_of (length views) (code q)) i) (union_of cmp code views q) None)
-    → Same (get cmp new) (λ q. cond (nat_lt (partition_of (length views) (code q)) (i + 1)) (union_of cmp code views q) None)
-inserted-more {K} {V} cmp order code views i v m own new here numbered counted ordered inserts live others before =
-    live-more cmp code views i v (get cmp m) (get cmp new) here
-    (λ q none. over q ∙ ap (option_or (get cmp own q)) none ∙ no-other (get cmp own q) ∙ live q)
-    (λ q other. over q ∙ ap (λ o. option_or o (get cmp m q)) (others q (λ same. other (ap (λ n. partition_of n (code q)) (sym counted) ∙ same ∙ numbered))))
-    before
-  where
-    no-other : (o : Option V) → option_or o None ≡ o
-    no-other None = refl
-    no-other (Some x) = refl
-
-    over : (q : K) → get cmp new q ≡ option_or (get cmp own q) (get cmp m q)
-    over q = inserts.0 q ∙ update_all_distinct (eq_by_cmp_equiv order) (eq_by_cmp cmp) (λ x y. refl) (get cmp m) own.entries q (IsDistinct-from_sorted cmp (keys own) ordered)

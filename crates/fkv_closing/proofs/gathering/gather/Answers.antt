@@ -3,9 +3,9 @@ use Rattle.std.proofs.lemmas.List.{length-set, length-map, map-set}
 use Rattle.std.specs.BTreeMap.{get, is_at}
 use Rattle.std.specs.Map.{lookup}
 use Rattle.fkv_partition.specs.CoreViews.{partition_of}
-use Rattle.fkv_partition.proofs.UnionLemmas.{live-more}
+use Rattle.fkv_partition.proofs.UnionLemmas.{inserted-more}
 use Rattle.fkv_closing.proofs.PlaceLemmas.{here, at_place, written_same}
-use Rattle.fkv_closing.proofs.UnionLemmas.{union_none, union_all, inserted-more}
+use Rattle.fkv_closing.proofs.UnionLemmas.{union_none, union_all}
 use Rattle.fkv_closing.proofs.gathering.gather.Goals as goal
 
 pub loop-place-init : goal.loop-place-init
@@ -27,7 +27,7 @@ loop-place-preserved g c =
     record {
       sized = length-set c.loop-place.readers i c.put_live.new.reader ∙ old.sized;
       steady = written_same g.P.PageReader.failures c.loop-place.readers i c.index-readers-place.result c.put_live.new.reader low c.in-Ok.ensures.steady ∙ old.steady;
-      so_far = λ keeps. (let none = λ q. ap (lookup (is_at (g.F.Key.Ord.cmp q))) c.new-own.ensures.empty in
+      so_far = λ keeps. (let none : (q : g.row.F-Key.Denot) → get g.F.Key.Ord.cmp c.new-own.result q ≡ None = λ q. ap (lookup (is_at (g.F.Key.Ord.cmp q))) c.new-own.ensures.empty in
           inserted-more g.F.Key.Ord.cmp g.met.F.Key.Ord.total g.F.Functions.code views i v c.loop-place.tree c.put_live.new.map c.append.new.self
           there (c.requires.numbered.numbered i v there) (c.requires.numbered.counted i v there)
           c.append.ensures.other_was_ordered c.in-Ok-append.ensures.inserts_all

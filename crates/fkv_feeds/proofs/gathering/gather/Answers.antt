@@ -3,7 +3,8 @@ use Rattle.std.proofs.lemmas.List.{length-set}
 use Rattle.std.proofs.lemmas.Option.{slice_get-get_or}
 use Rattle.std.specs.BTreeMap.{is_at, get}
 use Rattle.std.specs.Map.{lookup}
-use Rattle.fkv_feeds.proofs.RunLemmas.{view-get, view-same, list-refused, inserted-more}
+use Rattle.fkv_partition.proofs.UnionLemmas.{inserted-more}
+use Rattle.fkv_feeds.proofs.RunLemmas.{view-get, view-same, list-refused}
 use Rattle.fkv_hybrid.specs.Scans.{memory}
 use Rattle.fkv_feeds.proofs.gathering.gather.Goals as goal
 
