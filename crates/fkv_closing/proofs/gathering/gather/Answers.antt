@@ -1,9 +1,9 @@
-use Rattle.std.proofs.Common.{◌≡◌, ◌≢◌, ◌<◌, ◌∙◌, length, map, get_or, slice_set, slice_get, Some, refl, sym, ap, subst, arith}
+use Rattle.std.proofs.Common.{◌≡◌, ◌<◌, ◌∙◌, length, map, get_or, slice_set, slice_get, Some, None, refl, sym, ap, arith}
 use Rattle.std.proofs.lemmas.List.{length-set, length-map, map-set}
 use Rattle.std.specs.BTreeMap.{get, is_at}
 use Rattle.std.specs.Map.{lookup}
-use Rattle.fkv_partition.specs.CoreViews.{partition_of}
 use Rattle.fkv_partition.proofs.UnionLemmas.{inserted-more}
+use Rattle.fkv_hybrid.specs.Scans.{memory}
 use Rattle.fkv_closing.proofs.PlaceLemmas.{here, at_place, written_same}
 use Rattle.fkv_closing.proofs.UnionLemmas.{union_none, union_all}
 use Rattle.fkv_closing.proofs.gathering.gather.Goals as goal
@@ -49,6 +49,21 @@ returns-in-Err-clause-unread g c =
       failures = g.P.PageReader.failures c.put_live.new.reader;
       counts = map-set g.P.PageReader.failures c.loop-place.readers i c.put_live.new.reader ∙ ap (λ fs. slice_set fs i (g.P.PageReader.failures c.put_live.new.reader)) old.steady;
       scan = rw was c.in-Err.ensures.refused;
+    }
+
+pub returns-in-Err-append-clause-unread : goal.returns-in-Err-append-clause-unread
+returns-in-Err-append-clause-unread g c =
+    let old = c.loop-place.invariant in
+    let i = c.loop-place.place in
+    let low : i < length c.loop-place.readers = omega (arith, c.loop-place-test.true, c.requires.read, old.sized) in
+    let was = ap (λ fs. get_or fs i 0) (sym old.steady) ∙ at_place g.P.PageReader.failures c.loop-place.readers i c.index-readers-place.result c.put_live.new.reader low 0 in
+    record {
+      partition = i;
+      view = c.index-parts-place.result.partition;
+      here = here (λ part. part.partition) c.args.parts.now i c.index-parts-place.result c.loop-place-test.true c.index-parts-place.is;
+      failures = g.P.PageReader.failures c.put_live.new.reader;
+      counts = map-set g.P.PageReader.failures c.loop-place.readers i c.put_live.new.reader ∙ ap (λ fs. slice_set fs i (g.P.PageReader.failures c.put_live.new.reader)) old.steady;
+      scan = rw was (memory refl c.in-Ok.ensures.steady);
     }
 
 pub returns-in-Err-clause-caused : goal.returns-in-Err-clause-caused
