@@ -1,7 +1,7 @@
-use Rattle.std.proofs.Common.{◌≡◌, ◌<◌, ◌≤◌, ℕ, Bool, IsTrue, IsSome, true, false, Option, Some, None, option_map, refl, sym, ap, subst, ◌∙◌}
+use Rattle.std.proofs.Common.{◌≡◌, ◌≤◌, ℕ, Bool, IsTrue, IsSome, true, false, Option, Some, None, option_map, refl, sym, ap, subst, ◌∙◌}
 use Rattle.std.specs.Prelude.{IfSome}
 use Rattle.std.specs.declared.cmp.Ordering.{Ordering}
-use Rattle.std.proofs.Math.Nat.{le_of_lt}
+use Rattle.std.proofs.Math.Nat.{le_of_lt, le_refl}
 use Rattle.fkv_functions.specs.Meanings.{Meanings}
 use Rattle.fkv_functions.specs.Plain.{IsKeyOrder}
 use Rattle.fkv_functions.proofs.KeyOrder.{key_order}
@@ -323,3 +323,63 @@ returns-in-Some-entry-2-clause-unchanged g c = c.ask_page.ensures.unchanged
 
 pub returns-in-Some-entry-2-clause-moment : goal.returns-in-Some-entry-2-clause-moment
 returns-in-Some-entry-2-clause-moment g c = c.ask_page.ensures.moment
+
+pub free-requires-clause-session : goal.free-requires-clause-session
+free-requires-clause-session g c = c.requires.session
+
+pub free-requires-clause-context : goal.free-requires-clause-context
+free-requires-clause-context g c = c.requires.context
+
+pub claim-requires-clause-session : goal.claim-requires-clause-session
+claim-requires-clause-session g c = c.requires.session
+
+pub claim-requires-clause-context : goal.claim-requires-clause-context
+claim-requires-clause-context g c = c.requires.context
+
+pub write-requires-clause-session : goal.write-requires-clause-session
+write-requires-clause-session g c = c.requires.session
+
+pub write-requires-clause-context : goal.write-requires-clause-context
+write-requires-clause-context g c = c.requires.context
+
+pub rewrite-requires-clause-session : goal.rewrite-requires-clause-session
+rewrite-requires-clause-session g c = c.requires.session
+
+pub rewrite-requires-clause-context : goal.rewrite-requires-clause-context
+rewrite-requires-clause-context g c = c.requires.context
+
+pub prepare-requires-clause-session : goal.prepare-requires-clause-session
+prepare-requires-clause-session g c = c.requires.session
+
+pub prepare-requires-clause-context : goal.prepare-requires-clause-context
+prepare-requires-clause-context g c = c.requires.context
+
+pub ask_page-requires-clause-session : goal.ask_page-requires-clause-session
+ask_page-requires-clause-session g c = c.requires.session
+
+pub ask_page-requires-clause-context : goal.ask_page-requires-clause-context
+ask_page-requires-clause-context g c = c.requires.context
+
+pub write-requires-clause-later : goal.write-requires-clause-later
+write-requires-clause-later g c = c.requires.later
+
+pub ask_page-requires-clause-later : goal.ask_page-requires-clause-later
+ask_page-requires-clause-later g c = c.requires.later
+
+pub claim-requires-clause-here : goal.claim-requires-clause-here
+claim-requires-clause-here g c = c.requires.here
+
+pub claim-requires-clause-unclaimed : goal.claim-requires-clause-unclaimed
+claim-requires-clause-unclaimed g c = c.requires.unclaimed
+
+pub prepare-requires-clause-number : goal.prepare-requires-clause-number
+prepare-requires-clause-number g c = refl
+
+pub returns-in-Done-clause-moment : goal.returns-in-Done-clause-moment
+returns-in-Done-clause-moment g c = rw c.free.ensures (le_refl c.args.now)
+
+pub returns-in-Wait-clause-moment : goal.returns-in-Wait-clause-moment
+returns-in-Wait-clause-moment g c = rw c.pass.ensures (le_refl c.args.now)
+
+pub returns-in-Ok-clause-moment : goal.returns-in-Ok-clause-moment
+returns-in-Ok-clause-moment g c = rw c.in-Ok.ensures.ok.is (le_refl c.args.now)
