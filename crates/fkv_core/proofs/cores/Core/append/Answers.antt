@@ -2,7 +2,7 @@ use Rattle.std.proofs.Common.{◌≡◌, ◌↔◌, ◌^◌, None, Ok, Err, refl
 use Rattle.fkv_functions.specs.declared.refusals.Refused.TheVariants.{Worn}
 use Rattle.fkv_lookups.specs.RecordsViews.{class_in, IsEntryOf, IsFull}
 use Rattle.fkv_core.specs.Inside.{view_of}
-use Rattle.fkv_core.proofs.AppendedLemmas.{ok-err, some-none, appended-of, full-is, appended-is, appended-sound, not-full, not-worn}
+use Rattle.fkv_core.proofs.AppendedLemmas.{ok-err, some-none, appended-of, full-is, appended-is, appended-sound, not-full}
 use Rattle.fkv_core.proofs.SoundLemmas.{sound-moment}
 use Rattle.fkv_core.proofs.cores.Core.append.Goals as goal
 

@@ -1,4 +1,4 @@
-use Rattle.std.proofs.Common.{◌≡◌, Bool, true, false, cond, ◌&&◌, ℕ, ◌+◌, ◌*◌, List, Option, None, length, nat_lt, slice_get, refl, sym, ap, ◌∙◌}
+use Rattle.std.proofs.Common.{◌≡◌, true, false, cond, ℕ, ◌+◌, ◌*◌, List, Option, None, length, nat_lt, slice_get, refl, sym, ap, ◌∙◌}
 use Rattle.fkv_core.specs.Contexts.{context_in, is_session, joined}
 use Rattle.fkv_core.specs.Views.{context_at, slots_of}
 use Rattle.fkv_core.proofs.EventLemmas.{some-all}
