@@ -1,13 +1,10 @@
 use Rattle.std.proofs.Common.{◌≡◌, ◌↔◌, ◌^◌, None, Ok, Err, refl, sym, ap, subst, ◌∙◌}
 use Rattle.fkv_functions.specs.declared.refusals.Refused.TheVariants.{Worn}
-use Rattle.fkv_lookups.specs.RecordsViews.{class_in, IsEntryOf, IsFull}
+use Rattle.fkv_lookups.specs.RecordsViews.{IsFull}
 use Rattle.fkv_core.specs.Inside.{view_of}
 use Rattle.fkv_core.proofs.AppendedLemmas.{ok-err, some-none, appended-of, full-is, appended-is, appended-sound, not-full}
 use Rattle.fkv_core.proofs.SoundLemmas.{sound-moment}
 use Rattle.fkv_core.proofs.cores.Core.append.Goals as goal
-
-pub append-requires : goal.append-requires
-append-requires g c = subst (λ u. IsEntryOf u.records (class_in g.F.Functions.code u.records c.args.write.key) c.args.write.entry) (sym c.self.view_is) c.requires.write.entry
 
 pub invariant_of-self-in-Ok-None : goal.invariant_of-self-in-Ok-None
 invariant_of-self-in-Ok-None g c =

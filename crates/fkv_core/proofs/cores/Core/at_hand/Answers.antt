@@ -84,9 +84,6 @@ returns-in_default-value-clause-none g c = λ none.
     let order = key_order g.F.Key.PartialEq.eq g.F.Key.Ord.cmp ord.matches_eq known.exact ord.total in
     none-value g.F.Key.Ord.cmp g.F.Mergeable.parts.joined g.F.Functions.code c.args.self.now c.args.slot c.args.key.now c.first.result order c.known.ensures c.requires c.first.ensures c.lookups_tell.ensures.first c.in-Found.last c.in-Found.is c.in_default-value.is
 
-pub view-requires : goal.view-requires
-view-requires g c = ap (λ u. is_session (slots_of u) c.args.slot) c.self.view_is ∙ c.requires
-
 pub returns-then-not-is_mutable-clause-none : goal.returns-then-not-is_mutable-clause-none
 returns-then-not-is_mutable-clause-none g c = λ none.
     let ord = g.met.F.Key.Ord in

@@ -2,7 +2,6 @@ use Rattle.std.proofs.Common.{◌≡◌, Some, refl, sym, ap, subst, ◌∙◌}
 use Rattle.std.specs.List.{list_any}
 use Rattle.fkv_index.specs.Words.{is_empty}
 use Rattle.fkv_index.specs.Places.{words_of}
-use Rattle.fkv_operations.specs.Classes.{IsClass}
 use Rattle.fkv_operations.specs.declared.classes.Class.{Class}
 use Rattle.fkv_lookups.specs.RecordsViews.{Claims}
 use Rattle.fkv_core.specs.Contexts.{context_in}
@@ -33,9 +32,6 @@ pub move_on-requires-clause-here : goal.move_on-requires-clause-here
 move_on-requires-clause-here g c =
     let at : context_in c.self.inside.records.regions.epochs.slots c.self.inside.contexts.items c.args.slot c.args.context ≡ Some c.args.operation.now = rw (← c.self.view_is) at c.requires.here in
     (open_at c.self.inside.records.regions.epochs.slots c.self.inside.contexts.items c.args.slot c.args.context c.args.operation.now at).here
-
-pub claim-requires : goal.claim-requires
-claim-requires g c = subst (λ u. IsClass u.records.bucket_bits c.args.class) (sym c.self.view_is) c.requires.range
 
 pub invariant_of-self : goal.invariant_of-self
 invariant_of-self g c = rw c.in-Err.ensures.unchanged c.self.invariant

@@ -7,8 +7,7 @@ use Rattle.fkv_lookups.specs.declared.gathered.Gathered.{Gathered}
 use Rattle.fkv_lookups.specs.Decisions.{low_of, met_by}
 use Rattle.fkv_lookups.specs.Lookups.{first_up, looked_up}
 use Rattle.fkv_lookups.specs.Meeting.{met_from}
-use Rattle.fkv_core.specs.Contexts.{is_session}
-use Rattle.fkv_core.specs.Views.{CoreView, entry_for, first_from, met_at, seen_at, slots_of}
+use Rattle.fkv_core.specs.Views.{CoreView, entry_for, first_from, met_at, seen_at}
 use Rattle.fkv_core.proofs.cores.Core.met.Goals as goal
 
 -- what the parts of a partition say of it
@@ -31,9 +30,6 @@ module _ {K V I : Type 0} (cmp : K → K → Ordering) (join : V → V → V) (c
       ∙ ap (λ (u : CoreView K V I). looked_up cmp join code u.records low k a) same
       ∙ ap (λ n. looked_up cmp join code v.records n k a) lowest)
       ∙ ap (met_from cmp join code v.records (seen_at v slot) k) (sym leads)
-
-pub view-view-requires : goal.view-view-requires
-view-view-requires g c = ap (λ u. is_session (slots_of u) c.args.slot) c.self.view_is ∙ c.requires.entered
 
 pub returns-in_default : goal.returns-in_default
 returns-in_default g c =

@@ -31,9 +31,6 @@ returns-in_default-clause-bad g c = λ bad p. false-true (c.in_default.ensures.r
 pub returns-in_default-clause-only : goal.returns-in_default-clause-only
 returns-in_default-clause-only g c = inl refl
 
-pub partitions-count-requires : goal.partitions-count-requires
-partitions-count-requires g c = (c.in-Some.ensures.range.0 refl).partition_bits
-
 pub returns-then-number-count-clause-good : goal.returns-then-number-count-clause-good
 returns-then-number-count-clause-good g c = λ h. absurd (h refl)
 
