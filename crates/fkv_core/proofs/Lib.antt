@@ -13,6 +13,7 @@ pub mod ListingLemmas
 pub mod StoodLemmas
 pub mod TruncateLemmas
 pub mod PreservedLemmas
+pub mod AppendedLemmas
 pub mod SeatLemmas
 pub mod KeptWordLemmas
 mod AtOnceLemmas

@@ -1,4 +1,7 @@
-use Rattle.std.proofs.Common.{◌≡◌, Some, refl, subst}
+use Rattle.std.proofs.Common.{◌≡◌, Some, refl, sym, ap, subst, ◌∙◌}
+use Rattle.std.specs.List.{list_any}
+use Rattle.fkv_index.specs.Words.{is_empty}
+use Rattle.fkv_index.specs.Places.{words_of}
 use Rattle.fkv_operations.specs.declared.classes.Class.{Class}
 use Rattle.fkv_lookups.specs.RecordsViews.{Claims}
 use Rattle.fkv_core.specs.Contexts.{context_in}
@@ -29,3 +32,15 @@ pub move_on-requires-clause-here : goal.move_on-requires-clause-here
 move_on-requires-clause-here g c =
     let at : context_in c.self.inside.records.regions.epochs.slots c.self.inside.contexts.items c.args.slot c.args.context ≡ Some c.args.operation.now = rw (← c.self.view_is) at c.requires.here in
     (open_at c.self.inside.records.regions.epochs.slots c.self.inside.contexts.items c.args.slot c.args.context c.args.operation.now at).here
+
+pub invariant_of-self : goal.invariant_of-self
+invariant_of-self g c = rw c.in-Err.ensures.unchanged c.self.invariant
+
+pub returns-in-Err-clause-full : goal.returns-in-Err-clause-full
+returns-in-Err-clause-full g c = ap (λ u. list_any is_empty (words_of u.records.words c.args.class.bucket)) (sym c.self.view_is) ∙ c.in-Err.ensures.full
+
+pub returns-in-Err-clause-only : goal.returns-in-Err-clause-only
+returns-in-Err-clause-only g c = c.in-Err.ensures.only
+
+pub returns-in-Err-clause-unchanged : goal.returns-in-Err-clause-unchanged
+returns-in-Err-clause-unchanged g c = ap (λ r. view_of g.F.Mergeable.MERGES c.self.inside.number c.self.inside.count r c.self.inside.contexts.items c.self.inside.moment) c.in-Err.ensures.unchanged ∙ c.self.view_is

@@ -1,5 +1,7 @@
-use Rattle.std.proofs.Common.{Err, refl, ap, arith}
+use Rattle.std.proofs.Common.{◌<◌, Err, refl, sym, ap, subst, ◌∙◌, arith}
+use Rattle.std.proofs.Math.Nat.{le_of_lt, le_refl}
 use Rattle.fkv_regions.specs.RegionsView.{entered}
+use Rattle.fkv_core.specs.Inside.{view_of}
 use Rattle.fkv_core.specs.Beginning.{full, enters}
 use Rattle.fkv_core.proofs.AskedLemmas.{renewed-stays}
 use Rattle.fkv_core.proofs.SoundLemmas.{sound-regions}
@@ -26,3 +28,15 @@ pub returns-clause-event : goal.returns-clause-event
 returns-clause-event g c =
     rw (c.in-Ok.ensures.effect, ← c.self.view_is)
     (event-enter g.F.Key.Ord.cmp g.F.Mergeable.parts.joined g.F.Functions.code _ c.self.invariant c.in-Ok.slot c.args.now (slot-some _ c.in-Ok.slot c.in-Ok.ensures.slot))
+
+pub invariant_of-self : goal.invariant_of-self
+invariant_of-self g c = rw c.in-Err.ensures.unchanged c.self.invariant
+
+pub returns-in-Err-clause-unchanged : goal.returns-in-Err-clause-unchanged
+returns-in-Err-clause-unchanged g c = ap (λ r. view_of g.F.Mergeable.MERGES c.self.inside.number c.self.inside.count r c.self.inside.contexts.items c.self.inside.moment) c.in-Err.ensures.unchanged ∙ c.self.view_is
+
+pub returns-in-Err-clause-moment : goal.returns-in-Err-clause-moment
+returns-in-Err-clause-moment g c = le_of_lt (subst (λ u. u.moment < c.args.now) (sym c.self.view_is) c.requires.later)
+
+pub returns-clause-moment : goal.returns-clause-moment
+returns-clause-moment g c = le_refl c.args.now

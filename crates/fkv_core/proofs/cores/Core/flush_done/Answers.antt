@@ -1,4 +1,6 @@
-use Rattle.std.proofs.Common.{refl}
+use Rattle.std.proofs.Common.{◌<◌, refl, sym, ap, subst, ◌∙◌}
+use Rattle.std.proofs.Math.Nat.{le_of_lt, le_refl}
+use Rattle.fkv_core.specs.Inside.{view_of}
 use Rattle.fkv_core.proofs.SoundLemmas.{sound-flushed}
 use Rattle.fkv_core.proofs.EventLemmas.{event-flushed, flush-refused, flush-taken}
 use Rattle.fkv_core.proofs.cores.Core.flush_done.Goals as goal
@@ -22,3 +24,15 @@ pub returns-clause-event : goal.returns-clause-event
 returns-clause-event g c =
     let made = c.in-Ok.ensures in
     rw (made.done, ← c.self.view_is) (event-flushed g.R.Receipt.keeps _ _ c.args.now)
+
+pub invariant_of-self : goal.invariant_of-self
+invariant_of-self g c = rw c.in-Err.ensures.unchanged c.self.invariant
+
+pub returns-in-Err-clause-unchanged : goal.returns-in-Err-clause-unchanged
+returns-in-Err-clause-unchanged g c = ap (λ r. view_of g.F.Mergeable.MERGES c.self.inside.number c.self.inside.count r c.self.inside.contexts.items c.self.inside.moment) c.in-Err.ensures.unchanged ∙ c.self.view_is
+
+pub returns-in-Err-clause-moment : goal.returns-in-Err-clause-moment
+returns-in-Err-clause-moment g c = le_of_lt (subst (λ u. u.moment < c.args.now) (sym c.self.view_is) c.requires.later)
+
+pub returns-clause-moment : goal.returns-clause-moment
+returns-clause-moment g c = le_refl c.args.now

@@ -1,9 +1,10 @@
 use Rattle.std.proofs.Common.{◌≡◌, true, false, Some, refl, sym, ap, ◌∙◌}
+use Rattle.std.proofs.Math.Nat.{le_of_lt, le_refl}
 use Rattle.fkv_index.specs.Places.{word_at}
 use Rattle.fkv_core.specs.declared.contexts.Phase.TheVariants.{Fresh}
 use Rattle.fkv_core.specs.Contexts.{context_in, question_in}
 use Rattle.fkv_core.specs.Inside.{view_of}
-use Rattle.fkv_core.specs.Installing.{not_ready, stranger, moved}
+use Rattle.fkv_core.specs.Installing.{unknown, not_ready, stranger, moved}
 use Rattle.fkv_core.proofs.EventLemmas.{event-next, kept-at, question-quiet, if-all}
 use Rattle.fkv_core.proofs.cores.Core.install.Goals as goal
 
@@ -56,3 +57,51 @@ append_built-requires-clause-stands g c =
 
 pub returns-clause-within : goal.returns-clause-within
 returns-clause-within g c = if-all c.append_built.result (c.in-Some.ensures.session, c.in-Some.ensures.context)
+
+pub returns-in_default-clause-effect : goal.returns-in_default-clause-effect
+returns-in_default-clause-effect g c = unknown (sym c.in_default.ensures.value) refl refl
+
+pub returns-in_default-clause-moment : goal.returns-in_default-clause-moment
+returns-in_default-clause-moment g c = le_of_lt c.requires.later
+
+pub returns-in_default-question_of-clause-moment : goal.returns-in_default-question_of-clause-moment
+returns-in_default-question_of-clause-moment g c = le_of_lt c.requires.later
+
+pub returns-then-not-is-clause-moment : goal.returns-then-not-is-clause-moment
+returns-then-not-is-clause-moment g c = le_of_lt c.requires.later
+
+pub set_phase-requires-clause-session : goal.set_phase-requires-clause-session
+set_phase-requires-clause-session g c = c.in-Some.ensures.session
+
+pub set_phase-requires-clause-context : goal.set_phase-requires-clause-context
+set_phase-requires-clause-context g c = c.in-Some.ensures.context
+
+pub set_phase-requires-clause-here : goal.set_phase-requires-clause-here
+set_phase-requires-clause-here g c = sym c.in-Some.ensures.value
+
+pub set_phase-requires-clause-claims_nothing : goal.set_phase-requires-clause-claims_nothing
+set_phase-requires-clause-claims_nothing g c = refl
+
+pub returns-then-not-holds-clause-within : goal.returns-then-not-holds-clause-within
+returns-then-not-holds-clause-within g c = (c.in-Some.ensures.session, c.in-Some.ensures.context)
+
+pub returns-then-not-holds-clause-moment : goal.returns-then-not-holds-clause-moment
+returns-then-not-holds-clause-moment g c = rw c.set_phase.ensures (le_refl c.args.now)
+
+pub append_built-requires-clause-session : goal.append_built-requires-clause-session
+append_built-requires-clause-session g c = c.in-Some.ensures.session
+
+pub append_built-requires-clause-context : goal.append_built-requires-clause-context
+append_built-requires-clause-context g c = c.in-Some.ensures.context
+
+pub returns-clause-effect : goal.returns-clause-effect
+returns-clause-effect g c = c.append_built.ensures.effect
+
+pub returns-clause-event : goal.returns-clause-event
+returns-clause-event g c = c.append_built.ensures.event
+
+pub returns-clause-unchanged : goal.returns-clause-unchanged
+returns-clause-unchanged g c = c.append_built.ensures.unchanged
+
+pub returns-clause-moment : goal.returns-clause-moment
+returns-clause-moment g c = c.append_built.ensures.moment

@@ -1,4 +1,5 @@
 use Rattle.std.proofs.Common.{◌≡◌, Err, true, false, refl, sym, ap, ◌∙◌}
+use Rattle.std.proofs.Math.Nat.{le_of_lt, le_refl}
 use Rattle.fkv_core.specs.Contexts.{claim_by}
 use Rattle.fkv_core.specs.Loading.{AwaitsPage, Loads}
 use Rattle.fkv_core.proofs.EventLemmas.{loading-is, claims-none, if-all}
@@ -55,3 +56,57 @@ returns-then-loading-begin-clause-event g c = λ keeps.
     let l = c.in-Some-loading_of.loading in
     let begins : c.begin.result ≡ c.args.self.now.records.begin = c.begin.ensures ∙ ap (λ u. u.records.begin) c.self.view_is in
     rw c.set_phase.ensures (load-moved g.F.Key.Ord.cmp c.args.self.now c.args.slot c.args.context c.args.now c.in-Some.open (sym c.in-Some.ensures.value) g.F.Functions.meaning l (loading-is c.in-Some.open.phase l (sym c.in-Some-loading_of.ensures)) (λ e. c.if-loading-begin.true (e ∙ sym begins)))
+
+pub returns-in_default-clause-effect : goal.returns-in_default-clause-effect
+returns-in_default-clause-effect g c = Loads.unknown (sym c.in_default.ensures.value) refl refl
+
+pub returns-in_default-clause-moment : goal.returns-in_default-clause-moment
+returns-in_default-clause-moment g c = le_of_lt c.requires.later
+
+pub returns-in_default-loading_of-clause-moment : goal.returns-in_default-loading_of-clause-moment
+returns-in_default-loading_of-clause-moment g c = le_of_lt c.requires.later
+
+pub set_phase-requires-clause-session : goal.set_phase-requires-clause-session
+set_phase-requires-clause-session g c = c.in-Some.ensures.session
+
+pub set_phase-requires-clause-context : goal.set_phase-requires-clause-context
+set_phase-requires-clause-context g c = c.in-Some.ensures.context
+
+pub set_phase-requires-clause-here : goal.set_phase-requires-clause-here
+set_phase-requires-clause-here g c = sym c.in-Some.ensures.value
+
+pub set_phase-requires-clause-unclaimed : goal.set_phase-requires-clause-unclaimed
+set_phase-requires-clause-unclaimed g c = ap claim_by (loading-is c.in-Some.open.phase c.in-Some-loading_of.loading (sym c.in-Some-loading_of.ensures))
+
+pub set_phase-requires-clause-claims_nothing : goal.set_phase-requires-clause-claims_nothing
+set_phase-requires-clause-claims_nothing g c = refl
+
+pub returns-then-loading-begin-clause-within : goal.returns-then-loading-begin-clause-within
+returns-then-loading-begin-clause-within g c = (c.in-Some.ensures.session, c.in-Some.ensures.context)
+
+pub returns-then-loading-begin-clause-moment : goal.returns-then-loading-begin-clause-moment
+returns-then-loading-begin-clause-moment g c = rw c.set_phase.ensures (le_refl c.args.now)
+
+pub returns-then-is_no_memory-clause-moment : goal.returns-then-is_no_memory-clause-moment
+returns-then-is_no_memory-clause-moment g c = le_of_lt c.requires.later
+
+pub free-requires-clause-session : goal.free-requires-clause-session
+free-requires-clause-session g c = c.in-Some.ensures.session
+
+pub free-requires-clause-context : goal.free-requires-clause-context
+free-requires-clause-context g c = c.in-Some.ensures.context
+
+pub look_on-requires-clause-session : goal.look_on-requires-clause-session
+look_on-requires-clause-session g c = c.in-Some.ensures.session
+
+pub look_on-requires-clause-context : goal.look_on-requires-clause-context
+look_on-requires-clause-context g c = c.in-Some.ensures.context
+
+pub returns-else-is_no_memory-clause-moment : goal.returns-else-is_no_memory-clause-moment
+returns-else-is_no_memory-clause-moment g c = rw c.free.ensures (le_refl c.args.now)
+
+pub returns-in-Ok-clause-event : goal.returns-in-Ok-clause-event
+returns-in-Ok-clause-event g c = c.look_on.ensures.event
+
+pub returns-in-Ok-clause-moment : goal.returns-in-Ok-clause-moment
+returns-in-Ok-clause-moment g c = c.look_on.ensures.moment

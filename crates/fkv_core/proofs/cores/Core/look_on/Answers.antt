@@ -1,4 +1,5 @@
 use Rattle.std.proofs.Common.{◌≡◌, ◌<◌, ◌≤◌, true, false, Ok, Err, length, refl, sym, ap, subst, ◌∙◌, arith}
+use Rattle.std.proofs.Math.Nat.{le_of_lt, le_refl}
 use Rattle.fkv_functions.proofs.KeyOrder.{key_order}
 use Rattle.fkv_records.specs.Places.{page_at, IsRecordStart}
 use Rattle.fkv_texts.specs.declared.entries.ChainPosition.TheVariants.{Found, Below}
@@ -319,3 +320,69 @@ pub returns-clause-event : goal.returns-clause-event
 returns-clause-event g c = λ keeps.
     let a = c.requires.awaits in
     further-load g.F.Key.Ord.cmp c.args.self.now c.args.slot c.args.context c.args.now c.args.operation.now a.here g.F.Functions.meaning c.args.loading a c.in-Below.address c.in-Ok.came.parts c.look_further.new.self c.look_further.result g.R.Receipt.stands c.look_further.ensures.asked c.look_further.ensures.effect
+
+pub returns-in-Err-clause-moment : goal.returns-in-Err-clause-moment
+returns-in-Err-clause-moment g c = le_of_lt c.requires.later
+
+pub returns-in-Err-trace_in-clause-moment : goal.returns-in-Err-trace_in-clause-moment
+returns-in-Err-trace_in-clause-moment g c = rw c.free.ensures (le_refl c.args.now)
+
+pub tell-requires-clause-awaits : goal.tell-requires-clause-awaits
+tell-requires-clause-awaits g c = c.requires.awaits
+
+pub returns-in-Found-clause-moment : goal.returns-in-Found-clause-moment
+returns-in-Found-clause-moment g c = c.tell.ensures.moment
+
+pub tell-requires-then-address-begin-clause-awaits : goal.tell-requires-then-address-begin-clause-awaits
+tell-requires-then-address-begin-clause-awaits g c = c.requires.awaits
+
+pub returns-then-address-begin-clause-moment : goal.returns-then-address-begin-clause-moment
+returns-then-address-begin-clause-moment g c = c.tell-then-address-begin.ensures.moment
+
+pub returns-then-not-is_place-clause-moment : goal.returns-then-not-is_place-clause-moment
+returns-then-not-is_place-clause-moment g c = rw c.free-then-not-is_place.ensures (le_refl c.args.now)
+
+pub look_further-requires-clause-awaits : goal.look_further-requires-clause-awaits
+look_further-requires-clause-awaits g c = c.requires.awaits
+
+pub returns-clause-moment : goal.returns-clause-moment
+returns-clause-moment g c = c.look_further.ensures.moment
+
+pub free-requires-clause-session : goal.free-requires-clause-session
+free-requires-clause-session g c = c.requires.session
+
+pub free-requires-clause-context : goal.free-requires-clause-context
+free-requires-clause-context g c = c.requires.context
+
+pub tell-requires-clause-session : goal.tell-requires-clause-session
+tell-requires-clause-session g c = c.requires.session
+
+pub tell-requires-clause-context : goal.tell-requires-clause-context
+tell-requires-clause-context g c = c.requires.context
+
+pub tell-requires-then-address-begin-clause-session : goal.tell-requires-then-address-begin-clause-session
+tell-requires-then-address-begin-clause-session g c = c.requires.session
+
+pub tell-requires-then-address-begin-clause-context : goal.tell-requires-then-address-begin-clause-context
+tell-requires-then-address-begin-clause-context g c = c.requires.context
+
+pub free-requires-then-not-is_place-clause-session : goal.free-requires-then-not-is_place-clause-session
+free-requires-then-not-is_place-clause-session g c = c.requires.session
+
+pub free-requires-then-not-is_place-clause-context : goal.free-requires-then-not-is_place-clause-context
+free-requires-then-not-is_place-clause-context g c = c.requires.context
+
+pub look_further-requires-clause-session : goal.look_further-requires-clause-session
+look_further-requires-clause-session g c = c.requires.session
+
+pub look_further-requires-clause-context : goal.look_further-requires-clause-context
+look_further-requires-clause-context g c = c.requires.context
+
+pub tell-requires-clause-later : goal.tell-requires-clause-later
+tell-requires-clause-later g c = c.requires.later
+
+pub tell-requires-then-address-begin-clause-later : goal.tell-requires-then-address-begin-clause-later
+tell-requires-then-address-begin-clause-later g c = c.requires.later
+
+pub look_further-requires-clause-later : goal.look_further-requires-clause-later
+look_further-requires-clause-later g c = c.requires.later
