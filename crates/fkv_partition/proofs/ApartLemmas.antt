@@ -1,0 +1,49 @@
+-- Results that are told apart, and moments that have come.
+use Rattle.std.proofs.Common.{◌≡◌, ◌≢◌, ◌<◌, ◌≤◌, ℕ, Bool, true, false, not, Option, Some, None, is_some, refl, subst, sym, arith}
+use Rattle.std.specs.Prelude.{Result, Ok, Err, IfSome}
+use Rattle.fkv_operations.specs.declared.operations.Answer.{Answer}
+use Rattle.fkv_core.specs.declared.contexts.Progress.{Progress}
+use Rattle.fkv_core.specs.declared.contexts.Progress.TheVariants.{Done, Next, Waits}
+use Rattle.fkv_core.specs.declared.contexts.Wait.{Wait}
+use Rattle.fkv_partition.specs.Views.{PartitionView}
+
+-- a refusal is no answer, and one answer is not another
+pub err-ok : {T E P : Type 0} {why : E} {x : T} → Err why ≡ Ok x → P
+err-ok h = absurd (cc)
+
+pub none-some : {A E P : Type 0} {x : A} → ◌≡◌ {A = Result (Option A) E} (Ok None) (Ok (Some x)) → P
+none-some h = absurd (cc)
+
+pub next-done : {K V I O R E P : Type 0} {a : Answer O} {now : ℕ} → ◌≡◌ {A = Result (Progress K V I O R) E} (Ok Next) (Ok (Done a now)) → P
+next-done h = absurd (cc)
+
+pub waits-done : {K V I O R E P : Type 0} {w : Wait} {a : Answer O} {now : ℕ} → ◌≡◌ {A = Result (Progress K V I O R) E} (Ok (Waits w)) (Ok (Done a now)) → P
+waits-done h = absurd (cc)
+
+-- what is said of something that is there
+pub some-at : {A P : Type 0} {o : Option A} {x : A} → o ≡ Some x → IfSome o (λ _. P) → P
+some-at {P = P} is h = subst (λ o. IfSome o (λ _. P)) is h
+
+pub some-all : {A P : Type 0} (o : Option A) → P → IfSome o (λ _. P)
+some-all None p = tt
+some-all (Some x) p = p
+
+-- whether there is nothing
+pub none-by : {A : Type 0} (o : Option A) {b : Bool} → is_some o ≡ not b → b ≡ true → o ≡ None
+none-by None is t = refl
+none-by (Some x) is t = absurd (cc)
+
+pub some-by : {A : Type 0} (o : Option A) {b : Bool} → is_some o ≡ not b → b ≡ false → o ≢ None
+some-by None is t none = cc
+some-by (Some x) is t none = cc
+
+-- what lies before a moment is no later than it
+pub no-later : {a b : ℕ} → a < b → a ≤ b
+no-later h = omega arith
+
+-- a partition that is as one at this moment, or as one before
+pub has-come : {K V I : Type 0} {now : ℕ} {new old : PartitionView K V I} → new ≡ old → old.core.moment ≡ now → new.core.moment ≤ now
+has-come {K} {V} {I} {now = now} {old = old} is m = subst (λ (u : PartitionView K V I). u.core.moment ≤ now) (sym is) (omega arith)
+
+pub is-before : {K V I : Type 0} {now : ℕ} {new old : PartitionView K V I} → new ≡ old → old.core.moment < now → new.core.moment ≤ now
+is-before {K} {V} {I} {now = now} is before = subst (λ (u : PartitionView K V I). u.core.moment ≤ now) (sym is) (no-later before)
