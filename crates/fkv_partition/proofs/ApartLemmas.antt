@@ -1,9 +1,9 @@
 -- Results that are told apart, and moments that have come.
 use Rattle.std.proofs.Common.{◌≡◌, ◌≢◌, ◌<◌, ◌≤◌, ℕ, Bool, true, false, not, Option, Some, None, is_some, refl, subst, sym, arith}
-use Rattle.std.specs.Prelude.{Result, Ok, Err, IfSome}
+use Rattle.std.specs.Prelude.{Result, Ok, Err, IfOk, IfSome}
 use Rattle.fkv_operations.specs.declared.operations.Answer.{Answer}
 use Rattle.fkv_core.specs.declared.contexts.Progress.{Progress}
-use Rattle.fkv_core.specs.declared.contexts.Progress.TheVariants.{Done, Next, Waits}
+use Rattle.fkv_core.specs.declared.contexts.Progress.TheVariants.{Done, Next, NeedsLoad, Waits}
 use Rattle.fkv_core.specs.declared.contexts.Wait.{Wait}
 use Rattle.fkv_partition.specs.Views.{PartitionView}
 
@@ -20,6 +20,9 @@ next-done h = absurd (cc)
 pub waits-done : {K V I O R E P : Type 0} {w : Wait} {a : Answer O} {now : ℕ} → ◌≡◌ {A = Result (Progress K V I O R) E} (Ok (Waits w)) (Ok (Done a now)) → P
 waits-done h = absurd (cc)
 
+pub loads-done : {K V I O R E P : Type 0} {r : R} {wanted : ℕ} {a : Answer O} {now : ℕ} → ◌≡◌ {A = Result (Progress K V I O R) E} (Ok (NeedsLoad r wanted)) (Ok (Done a now)) → P
+loads-done h = absurd (cc)
+
 -- what is said of something that is there
 pub some-at : {A P : Type 0} {o : Option A} {x : A} → o ≡ Some x → IfSome o (λ _. P) → P
 some-at {P = P} is h = subst (λ o. IfSome o (λ _. P)) is h
@@ -27,6 +30,10 @@ some-at {P = P} is h = subst (λ o. IfSome o (λ _. P)) is h
 pub some-all : {A P : Type 0} (o : Option A) → P → IfSome o (λ _. P)
 some-all None p = tt
 some-all (Some x) p = p
+
+pub ok-all : {T E P : Type 0} (r : Result T E) → P → IfOk r (λ _. P)
+ok-all (Ok x) p = p
+ok-all (Err e) p = tt
 
 -- whether there is nothing
 pub none-by : {A : Type 0} (o : Option A) {b : Bool} → is_some o ≡ not b → b ≡ true → o ≡ None

@@ -6,7 +6,7 @@ use Rattle.fkv_records.specs.Places.{IsRecordStart}
 use Rattle.fkv_texts.proofs.PlaceLemmas.{after}
 use Rattle.fkv_lookups.specs.RecordsViews.{RecordsView}
 use Rattle.fkv_lookups.specs.Traced.{IsTraced}
-use Rattle.fkv_core.specs.Contexts.{joined, is_session}
+use Rattle.fkv_core.specs.Contexts.{joined, is_session, context_in}
 use Rattle.fkv_core.specs.Views.{slots_of}
 use Rattle.fkv_core.proofs.AskedLemmas.{open_at, IsOpenAt, context-other}
 use Rattle.fkv_partition.specs.declared.relocations.Relocation.{Relocation}
@@ -73,8 +73,16 @@ module _ {K V I : Type 0} (v : PartitionView K V I) (slot c : ℕ) where
       ∙ ap (λ (ys : List (Option (Relocation K V))). cond (nat_lt c 8) (joined (slice_get ys (slot * 8 + c))) None) same
       ∙ ap (λ b. cond (b && nat_lt c 8) (joined (slice_get v.relocations (slot * 8 + c))) None) (sym inside)
 
-  pub none-outside : is_session (slots_of v.core) slot ≡ false → None ≡ relocation_at v slot c
-  none-outside outside = ap (λ b. cond (b && nat_lt c 8) (joined (slice_get v.relocations (slot * 8 + c))) None) (sym outside)
+  pub closed-outside : is_session (slots_of v.core) slot ≡ false → None ≡ relocation_at v slot c
+  closed-outside outside = ap (λ b. cond (b && nat_lt c 8) (joined (slice_get v.relocations (slot * 8 + c))) None) (sym outside)
+
+-- nothing is open in a free context
+pub open-free : {A : Type 0} (slots : List (Option ℕ)) (contexts : List (Option A)) (slot c : ℕ) → joined (slice_get contexts (slot * 8 + c)) ≡ None → context_in slots contexts slot c ≡ None
+open-free slots contexts slot c none = by_test (is_session slots slot && nat_lt c 8)
+  where
+    by_test : (b : Bool) → cond b (joined (slice_get contexts (slot * 8 + c))) None ≡ None
+    by_test true = none
+    by_test false = refl
 
 -- an open relocation stands for what its stage says
 module _ {K V I : Type 0} (v : PartitionView K V I) (slot c : ℕ) (x : Relocation K V) (h : relocation_at v slot c ≡ Some x) where

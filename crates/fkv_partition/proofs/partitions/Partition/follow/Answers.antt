@@ -1,4 +1,4 @@
-use Rattle.std.proofs.Common.{◌≡◌, ◌+◌, Some, sym, ap, subst, ◌∙◌, arith}
+use Rattle.std.proofs.Common.{◌≡◌, ◌+◌, Some, refl, sym, ap, subst, ◌∙◌, arith}
 use Rattle.fkv_functions.proofs.KeyOrder.{key_order}
 use Rattle.fkv_texts.proofs.CoverLemmas.{cleared-lower}
 use Rattle.fkv_core.specs.Beginning.{IsEntered}
@@ -8,6 +8,8 @@ use Rattle.fkv_partition.specs.declared.relocations.Liveness.TheVariants.{Supers
 use Rattle.fkv_partition.specs.Checking.{liveness, higher_of, above, told_above, ChecksLiveness}
 use Rattle.fkv_partition.proofs.MoveLemmas.{event-done, past-place, open-here, stands-here, low-here}
 use Rattle.fkv_partition.proofs.CheckingLemmas.{higher-right, superseded-one, superseded-newer, ready, further-disk, tracing}
+use Rattle.fkv_partition.specs.Checking.{NeedsNoCopy}
+use Rattle.fkv_partition.proofs.ApartLemmas.{has-come}
 use Rattle.fkv_partition.proofs.partitions.Partition.follow.Goals as goal
 
 pub lowest-requires : goal.lowest-requires
@@ -161,3 +163,71 @@ overflow_add-target g c =
     let safe = regions.in_order.safe in
     let most = regions.in_order.most in
     omega (arith, frozen, safe, most)
+
+pub returns-in-Superseded-clause-effect : goal.returns-in-Superseded-clause-effect
+returns-in-Superseded-clause-effect g c = 
+    let v = c.args.self.now in
+    let x = c.args.relocation.now in
+    let e = c.args.entry in
+    let told = sym (ap (liveness x.target) c.reach-came.ensures) ∙ sym c.liveness_of.ensures ∙ c.in-Superseded.is in
+    let low = c.higher_of-low.ensures.value ∙ ap (higher_of (x.target + 1)) c.lowest.ensures.value ∙ ap (λ u. above u.core c.args.slot x.target) c.self.view_is in
+    let so : told_above g.F.Key.Ord.cmp g.F.Mergeable.parts.joined g.F.Functions.code v.core c.args.slot x.target e.key ≡ Superseded =
+    sym (ap (λ n. liveness x.target (reached_from g.F.Key.Ord.cmp g.F.Mergeable.parts.joined g.F.Functions.code v.core c.args.slot e.key n (entry_for g.F.Functions.code v.core e.key))) low) ∙ subst (λ u. liveness x.target (reached_from g.F.Key.Ord.cmp g.F.Mergeable.parts.joined g.F.Functions.code u.core c.args.slot e.key c.higher_of-low.result (entry_for g.F.Functions.code u.core e.key)) ≡ Superseded) c.self.view_is told in
+    ChecksLiveness.superseded (NeedsNoCopy.newer so) c.finish.ensures refl
+
+pub returns-in-Superseded-clause-moment : goal.returns-in-Superseded-clause-moment
+returns-in-Superseded-clause-moment g c = has-come c.finish.ensures refl
+
+pub returns-in-Further-clause-cleared : goal.returns-in-Further-clause-cleared
+returns-in-Further-clause-cleared g c = λ is. absurd (c.ask.ensures.uncleared is)
+
+pub returns-in-Last-clause-event : goal.returns-in-Last-clause-event
+returns-in-Last-clause-event g c = c.append_again.ensures.event
+
+pub returns-in-Last-clause-cleared : goal.returns-in-Last-clause-cleared
+returns-in-Last-clause-cleared g c = c.append_again.ensures.cleared
+
+pub returns-in-Last-clause-unchanged : goal.returns-in-Last-clause-unchanged
+returns-in-Last-clause-unchanged g c = c.append_again.ensures.unchanged
+
+pub returns-in-Last-clause-moment : goal.returns-in-Last-clause-moment
+returns-in-Last-clause-moment g c = c.append_again.ensures.moment
+
+pub returns-in-Further-clause-event : goal.returns-in-Further-clause-event
+returns-in-Further-clause-event g c = c.ask.ensures.event
+
+pub returns-in-Further-clause-unchanged : goal.returns-in-Further-clause-unchanged
+returns-in-Further-clause-unchanged g c = c.ask.ensures.unchanged
+
+pub returns-in-Further-clause-moment : goal.returns-in-Further-clause-moment
+returns-in-Further-clause-moment g c = c.ask.ensures.moment
+
+pub finish-requires-clause-session : goal.finish-requires-clause-session
+finish-requires-clause-session g c = c.requires.session
+
+pub finish-requires-clause-context : goal.finish-requires-clause-context
+finish-requires-clause-context g c = c.requires.context
+
+pub append_again-requires-clause-later : goal.append_again-requires-clause-later
+append_again-requires-clause-later g c = c.requires.later
+
+pub append_again-requires-clause-session : goal.append_again-requires-clause-session
+append_again-requires-clause-session g c = c.requires.session
+
+pub append_again-requires-clause-context : goal.append_again-requires-clause-context
+append_again-requires-clause-context g c = c.requires.context
+
+pub append_again-requires-clause-here : goal.append_again-requires-clause-here
+append_again-requires-clause-here g c = c.requires.here
+
+pub ask-requires-clause-later : goal.ask-requires-clause-later
+ask-requires-clause-later g c = c.requires.later
+
+pub ask-requires-clause-session : goal.ask-requires-clause-session
+ask-requires-clause-session g c = c.requires.session
+
+pub ask-requires-clause-context : goal.ask-requires-clause-context
+ask-requires-clause-context g c = c.requires.context
+
+pub ask-requires-clause-here : goal.ask-requires-clause-here
+ask-requires-clause-here g c = c.requires.here

@@ -2,13 +2,13 @@ use Rattle.std.proofs.Common.{◌≡◌, ◌∙◌, length, sym, ap, subst}
 use Rattle.fkv_partition.specs.Inside.{view_of}
 use Rattle.fkv_partition.specs.Views.{relocation_at}
 use Rattle.fkv_partition.proofs.ApartLemmas.{some-all}
-use Rattle.fkv_partition.proofs.MoveLemmas.{open-inside, none-outside}
+use Rattle.fkv_partition.proofs.MoveLemmas.{open-inside, closed-outside}
 use Rattle.fkv_partition.proofs.partitions.Partition.relocation.Goals as goal
 
 pub returns-then-not-is_session-clause-value : goal.returns-then-not-is_session-clause-value
 returns-then-not-is_session-clause-value g c =
     let v = view_of c.self.inside.core c.self.inside.cleared c.self.inside.relocations.items in
-    none-outside v c.args.slot c.args.context (sym c.is_session.ensures.value ∙ c.if-not-is_session.true) ∙ ap (λ u. relocation_at u c.args.slot c.args.context) c.self.view_is
+    closed-outside v c.args.slot c.args.context (sym c.is_session.ensures.value ∙ c.if-not-is_session.true) ∙ ap (λ u. relocation_at u c.args.slot c.args.context) c.self.view_is
 
 pub open_at-requires-clause-session : goal.open_at-requires-clause-session
 open_at-requires-clause-session g c = c.is_session.ensures.within c.if-not-is_session.false

@@ -367,3 +367,60 @@ returns-in-Superseded-clause-moment g c = has-come c.finish.ensures refl
 
 pub returns-else-not-is_place-clause-cleared : goal.returns-else-not-is_place-clause-cleared
 returns-else-not-is_place-clause-cleared g c = λ is. absurd (c.ask.ensures.uncleared is)
+
+pub returns-in-Last-clause-event : goal.returns-in-Last-clause-event
+returns-in-Last-clause-event g c = c.append_again.ensures.event
+
+pub returns-in-Last-clause-cleared : goal.returns-in-Last-clause-cleared
+returns-in-Last-clause-cleared g c = c.append_again.ensures.cleared
+
+pub returns-in-Last-clause-moment : goal.returns-in-Last-clause-moment
+returns-in-Last-clause-moment g c = c.append_again.ensures.moment
+
+pub returns-else-not-is_place-clause-event : goal.returns-else-not-is_place-clause-event
+returns-else-not-is_place-clause-event g c = c.ask.ensures.event
+
+pub returns-else-not-is_place-clause-moment : goal.returns-else-not-is_place-clause-moment
+returns-else-not-is_place-clause-moment g c = c.ask.ensures.moment
+
+pub finish-requires-clause-session : goal.finish-requires-clause-session
+finish-requires-clause-session g c = c.requires.session
+
+pub finish-requires-clause-context : goal.finish-requires-clause-context
+finish-requires-clause-context g c = c.requires.context
+
+pub end-requires-clause-session : goal.end-requires-clause-session
+end-requires-clause-session g c = c.requires.session
+
+pub end-requires-clause-context : goal.end-requires-clause-context
+end-requires-clause-context g c = c.requires.context
+
+pub end-requires-then-not-is_place-clause-session : goal.end-requires-then-not-is_place-clause-session
+end-requires-then-not-is_place-clause-session g c = c.requires.session
+
+pub end-requires-then-not-is_place-clause-context : goal.end-requires-then-not-is_place-clause-context
+end-requires-then-not-is_place-clause-context g c = c.requires.context
+
+pub append_again-requires-clause-later : goal.append_again-requires-clause-later
+append_again-requires-clause-later g c = c.requires.later
+
+pub append_again-requires-clause-session : goal.append_again-requires-clause-session
+append_again-requires-clause-session g c = c.requires.session
+
+pub append_again-requires-clause-context : goal.append_again-requires-clause-context
+append_again-requires-clause-context g c = c.requires.context
+
+pub append_again-requires-clause-here : goal.append_again-requires-clause-here
+append_again-requires-clause-here g c = c.requires.awaits.here
+
+pub ask-requires-clause-later : goal.ask-requires-clause-later
+ask-requires-clause-later g c = c.requires.later
+
+pub ask-requires-clause-session : goal.ask-requires-clause-session
+ask-requires-clause-session g c = c.requires.session
+
+pub ask-requires-clause-context : goal.ask-requires-clause-context
+ask-requires-clause-context g c = c.requires.context
+
+pub ask-requires-clause-here : goal.ask-requires-clause-here
+ask-requires-clause-here g c = c.requires.awaits.here
