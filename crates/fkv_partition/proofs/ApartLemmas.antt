@@ -1,5 +1,5 @@
 -- Results that are told apart, and moments that have come.
-use Rattle.std.proofs.Common.{◌≡◌, ◌≢◌, ◌<◌, ◌≤◌, ℕ, Bool, true, false, not, Option, Some, None, is_some, refl, subst, sym, arith}
+use Rattle.std.proofs.Common.{◌≡◌, ◌≢◌, ◌<◌, ◌≤◌, ℕ, Bool, true, false, not, Option, Some, None, is_some, refl, ap, subst, sym, arith}
 use Rattle.std.specs.Prelude.{Result, Ok, Err, IfOk, IfSome}
 use Rattle.fkv_operations.specs.declared.operations.Answer.{Answer}
 use Rattle.fkv_core.specs.declared.contexts.Progress.{Progress}
@@ -22,6 +22,9 @@ waits-done h = absurd (cc)
 
 pub loads-done : {K V I O R E P : Type 0} {r : R} {wanted : ℕ} {a : Answer O} {now : ℕ} → ◌≡◌ {A = Result (Progress K V I O R) E} (Ok (NeedsLoad r wanted)) (Ok (Done a now)) → P
 loads-done h = absurd (cc)
+
+pub err-as : {A B E : Type 0} {x y : E} → ◌≡◌ {A = Result A E} (Err x) (Err y) → ◌≡◌ {A = Result B E} (Err x) (Err y)
+err-as {x = x} {y = y} h = let same : x ≡ y = cc in ap Err same
 
 -- what is said of something that is there
 pub some-at : {A P : Type 0} {o : Option A} {x : A} → o ≡ Some x → IfSome o (λ _. P) → P
@@ -47,6 +50,9 @@ some-by (Some x) is t none = cc
 -- what lies before a moment is no later than it
 pub no-later : {a b : ℕ} → a < b → a ≤ b
 no-later h = omega arith
+
+pub later-still : {a b c : ℕ} → a < b → b < c → a ≤ c
+later-still h k = omega arith
 
 -- a partition that is as one at this moment, or as one before
 pub has-come : {K V I : Type 0} {now : ℕ} {new old : PartitionView K V I} → new ≡ old → old.core.moment ≡ now → new.core.moment ≤ now

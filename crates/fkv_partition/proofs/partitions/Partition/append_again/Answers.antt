@@ -4,7 +4,7 @@ use Rattle.fkv_functions.proofs.KeyOrder.{key_order}
 use Rattle.fkv_records.specs.Places.{IsRecordStart}
 use Rattle.fkv_texts.specs.declared.entries.Entry.{Entry}
 use Rattle.fkv_texts.specs.Text.{entry_at}
-use Rattle.fkv_index.specs.Places.{word_at, IsPlace}
+use Rattle.fkv_index.specs.Places.{word_at}
 use Rattle.fkv_texts.specs.Deltas.{IsSuperseded}
 use Rattle.fkv_lookups.specs.Traced.{IsTraced, IsStood}
 use Rattle.fkv_lookups.specs.declared.payloads.Payload.TheVariants.{Whole}
@@ -23,11 +23,6 @@ use Rattle.fkv_partition.proofs.ApartLemmas.{err-ok, none-some, next-done, waits
 use Rattle.fkv_partition.proofs.MoveLemmas.{is-set, past-place, stands-here, frozen-low}
 use Rattle.fkv_partition.proofs.AgainLemmas.{keep-moment, unclaimed, writes-again, keep-again, superseded-again, event-again}
 use Rattle.fkv_partition.proofs.partitions.Partition.append_again.Goals as goal
-
-pub holds-requires : goal.holds-requires
-holds-requires g c =
-    let at = c.records.ensures ∙ ap (λ u. u.core.records) c.self.view_is in
-    subst (λ r. IsPlace r.words c.args.kept.place) (sym at) c.requires.stands.1.is_kept.entry.place
 
 pub returns-then-not-holds-clause-effect : goal.returns-then-not-holds-clause-effect
 returns-then-not-holds-clause-effect g c =

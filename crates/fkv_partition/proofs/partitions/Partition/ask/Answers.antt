@@ -1,10 +1,9 @@
-use Rattle.std.proofs.Common.{refl, ap, subst, ◌∙◌}
+use Rattle.std.proofs.Common.{refl, subst}
 use Rattle.fkv_records.specs.Places.{page_at}
 use Rattle.fkv_pages.specs.Loads.{IsHeldBy}
 use Rattle.fkv_partition.specs.Checking.{asks}
 use Rattle.fkv_partition.proofs.MoveLemmas.{event-set}
 use Rattle.fkv_partition.proofs.ApartLemmas.{err-ok, loads-done, no-later, has-come}
-use Rattle.fkv_partition.proofs.ReadLemmas.{page-within}
 use Rattle.fkv_partition.proofs.partitions.Partition.ask.Goals as goal
 
 pub returns-clause-effect : goal.returns-clause-effect
@@ -14,11 +13,6 @@ returns-clause-effect g c =
 
 pub returns-clause-event : goal.returns-clause-event
 returns-clause-event g c = rw c.set_stage.ensures (event-set g.R.Receipt.keeps g.F.Key.Ord.cmp c.args.self.now c.args.slot c.args.context c.args.now c.requires.context _)
-
-pub receipt-requires : goal.receipt-requires
-receipt-requires g c = 
-    let moved = ap (λ u. u.core.records) c.self.view_is in
-    page-within c.args.wanted c.page_of-page.ensures (c.records.ensures ∙ moved) (c.records-2.ensures ∙ moved) c.requires.flushed
 
 pub returns-in-Err-clause-uncleared : goal.returns-in-Err-clause-uncleared
 returns-in-Err-clause-uncleared g c = err-ok
