@@ -1,5 +1,5 @@
 -- Results that are told apart, and moments that have come.
-use Rattle.std.proofs.Common.{◌≡◌, ◌≢◌, ◌<◌, ◌≤◌, ℕ, Bool, true, false, not, Option, Some, None, is_some, refl, ap, subst, sym, arith}
+use Rattle.std.proofs.Common.{◌≡◌, ◌≢◌, ◌<◌, ◌≤◌, ℕ, Bool, true, false, not, Option, Some, None, is_some, IsSome, refl, ap, subst, sym, arith}
 use Rattle.std.specs.Prelude.{Result, Ok, Err, IfOk, IfSome}
 use Rattle.fkv_operations.specs.declared.operations.Answer.{Answer}
 use Rattle.fkv_core.specs.declared.contexts.Progress.{Progress}
@@ -13,6 +13,9 @@ err-ok h = absurd (cc)
 
 pub none-some : {A E P : Type 0} {x : A} → ◌≡◌ {A = Result (Option A) E} (Ok None) (Ok (Some x)) → P
 none-some h = absurd (cc)
+
+pub nothing-some : {A P : Type 0} {x : A} → None ≡ Some x → P
+nothing-some h = absurd (cc)
 
 pub next-done : {K V I O R E P : Type 0} {a : Answer O} {now : ℕ} → ◌≡◌ {A = Result (Progress K V I O R) E} (Ok Next) (Ok (Done a now)) → P
 next-done h = absurd (cc)
@@ -30,13 +33,14 @@ err-as {x = x} {y = y} h = let same : x ≡ y = cc in ap Err same
 pub some-at : {A P : Type 0} {o : Option A} {x : A} → o ≡ Some x → IfSome o (λ _. P) → P
 some-at {P = P} is h = subst (λ o. IfSome o (λ _. P)) is h
 
-pub some-all : {A P : Type 0} (o : Option A) → P → IfSome o (λ _. P)
-some-all None p = tt
-some-all (Some x) p = p
-
 pub ok-all : {T E P : Type 0} (r : Result T E) → P → IfOk r (λ _. P)
 ok-all (Ok x) p = p
 ok-all (Err e) p = tt
+
+-- nothing is there
+pub none-held : {A P : Type 0} (o : Option A) → o ≡ None → IsSome o → P
+none-held None is some = absurd (cc)
+none-held (Some x) is some = absurd (cc)
 
 -- whether there is nothing
 pub none-by : {A : Type 0} (o : Option A) {b : Bool} → is_some o ≡ not b → b ≡ true → o ≡ None

@@ -1,5 +1,5 @@
 -- What the calls of operations come to: those on keys, and those of relocations.
-use Rattle.std.proofs.Common.{◌≡◌, ◌≢◌, ◌↔◌, [], Bool, true, ℕ, ◌+◌, ◌*◌, ◌<◌, ◌⊎◌, inl, inr, IsTrue, List, Option, Some, None, Result, Ok, Err, IfOk, IfErr, OnOk, OnErr, subst, refl, sym, ◌∙◌, ap}
+use Rattle.std.proofs.Common.{◌≡◌, ◌↔◌, [], Bool, ℕ, ◌<◌, ◌⊎◌, inl, inr, IsTrue, Some, None, Result, Ok, Err, IfOk, OnOk, OnErr, subst, refl, sym, ◌∙◌, ap}
 use Rattle.std.specs.declared.cmp.Ordering.{Ordering}
 use Rattle.fkv_functions.specs.Meanings.{Meanings}
 use Rattle.fkv_functions.specs.declared.refusals.Refused.{Refused}
@@ -18,7 +18,7 @@ use Rattle.fkv_core.proofs.AskedLemmas.{context-inside}
 use Rattle.fkv_partition.specs.declared.relocations.Relocation.{Relocation}
 use Rattle.fkv_partition.specs.declared.relocations.Stage.TheVariants.{Fresh}
 use Rattle.fkv_partition.specs.Beginning.{IssuesOnKey, Relocates, Drops}
-use Rattle.fkv_partition.specs.Effect.{IsQuiet, IsIssue, IsEvent, IsLoad, IsLoaded, IsGiveUp, Finds, asked_of}
+use Rattle.fkv_partition.specs.Effect.{IsQuiet, IsIssue, IsEvent, IsLoad, IsLoaded, IsGiveUp, Finds}
 use Rattle.fkv_partition.specs.Relocating.{IsRelocating}
 use Rattle.fkv_partition.specs.Sound.{IsCompacting}
 use Rattle.fkv_partition.specs.Views.{PartitionView, with_core, at_moment, relocation_at, with_relocation}
