@@ -1,4 +1,4 @@
-use Rattle.std.proofs.Common.{◌≡◌, ◌≤◌, ℕ, ◌++◌, [], ◌∷◌, replicate, None, sym, ap, ◌∙◌, arith}
+use Rattle.std.proofs.Common.{◌≡◌, ◌≤◌, ℕ, ◌++◌, [], ◌∷◌, replicate, None, ap, ◌∙◌, arith}
 use Rattle.std.proofs.lemmas.List.{replicate_more}
 use Rattle.fkv_partition.proofs.partitions.free_places.Goals as goal
 
