@@ -58,6 +58,9 @@ no-later h = omega arith
 pub later-still : {a b c : ℕ} → a < b → b < c → a ≤ c
 later-still h k = omega arith
 
+pub no-higher : {a b c : ℕ} → a ≤ b → b ≤ c → a ≤ c
+no-higher h k = omega arith
+
 -- a partition that is as one at this moment, or as one before
 pub has-come : {K V I : Type 0} {now : ℕ} {new old : PartitionView K V I} → new ≡ old → old.core.moment ≡ now → new.core.moment ≤ now
 has-come {K} {V} {I} {now = now} {old = old} is m = subst (λ (u : PartitionView K V I). u.core.moment ≤ now) (sym is) (omega arith)

@@ -1,8 +1,8 @@
 use Rattle.std.proofs.Common.{ap}
 use Rattle.fkv_partition.specs.Inside.{view_of}
+use Rattle.fkv_partition.specs.Views.{with_core}
 use Rattle.fkv_partition.proofs.SteadyLemmas.{gives-up-steady}
 use Rattle.fkv_partition.proofs.KeepLemmas.{keep-seated, on-err}
-use Rattle.fkv_partition.specs.Views.{with_core}
 use Rattle.fkv_partition.proofs.partitions.Partition.abandon.Goals as goal
 
 pub invariant_of-self : goal.invariant_of-self

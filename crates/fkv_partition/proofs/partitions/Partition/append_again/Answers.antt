@@ -6,19 +6,19 @@ use Rattle.fkv_texts.specs.declared.entries.Entry.{Entry}
 use Rattle.fkv_texts.specs.Text.{entry_at}
 use Rattle.fkv_index.specs.Places.{word_at}
 use Rattle.fkv_texts.specs.Deltas.{IsSuperseded}
-use Rattle.fkv_lookups.specs.Traced.{IsTraced, IsStood}
 use Rattle.fkv_lookups.specs.declared.payloads.Payload.TheVariants.{Whole}
 use Rattle.fkv_lookups.specs.RecordsViews.{IsFull}
+use Rattle.fkv_lookups.specs.Traced.{IsTraced, IsStood}
 use Rattle.fkv_core.specs.Contexts.{claim_at}
-use Rattle.fkv_core.specs.Sound.{IsSound}
 use Rattle.fkv_core.specs.Writes.{IsWrite}
+use Rattle.fkv_core.specs.Sound.{IsSound}
 use Rattle.fkv_partition.specs.declared.relocations.Stage.TheVariants.{Fresh, Ready}
 use Rattle.fkv_partition.specs.Inside.{view_of}
 use Rattle.fkv_partition.specs.Views.{relocation_at, at_stage, with_relocation, done_at, again_at}
-use Rattle.fkv_partition.specs.Relocating.{IsRelocating}
-use Rattle.fkv_partition.specs.Sound.{IsCompacting}
 use Rattle.fkv_partition.specs.Stages.{StageStands}
 use Rattle.fkv_partition.specs.Checking.{Ends}
+use Rattle.fkv_partition.specs.Relocating.{IsRelocating}
+use Rattle.fkv_partition.specs.Sound.{IsCompacting}
 use Rattle.fkv_partition.proofs.ApartLemmas.{err-ok, none-some, next-done, waits-done, some-at, has-come, is-before}
 use Rattle.fkv_partition.proofs.MoveLemmas.{is-set, past-place, stands-here, frozen-low}
 use Rattle.fkv_partition.proofs.AgainLemmas.{keep-moment, unclaimed, writes-again, keep-again, superseded-again, event-again}

@@ -2,8 +2,8 @@ use Rattle.std.proofs.Common.{refl, subst}
 use Rattle.fkv_records.specs.Places.{page_at}
 use Rattle.fkv_pages.specs.Loads.{IsHeldBy}
 use Rattle.fkv_partition.specs.Checking.{asks}
-use Rattle.fkv_partition.proofs.MoveLemmas.{event-set}
 use Rattle.fkv_partition.proofs.ApartLemmas.{err-ok, loads-done, no-later, has-come}
+use Rattle.fkv_partition.proofs.MoveLemmas.{event-set}
 use Rattle.fkv_partition.proofs.partitions.Partition.ask.Goals as goal
 
 pub returns-clause-effect : goal.returns-clause-effect

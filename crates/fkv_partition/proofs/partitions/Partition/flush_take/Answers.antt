@@ -1,6 +1,6 @@
 use Rattle.std.proofs.Common.{◌≡◌, ◌∙◌, Some, length, slice_get, refl, ap, subst}
-use Rattle.fkv_partition.proofs.OperationLemmas.{passed-event, passed-pends, due-same}
 use Rattle.fkv_partition.proofs.ApartLemmas.{no-later, has-come}
+use Rattle.fkv_partition.proofs.OperationLemmas.{passed-event, passed-pends, due-same}
 use Rattle.fkv_partition.proofs.partitions.Partition.flush_take.Goals as goal
 
 pub returns-clause-event : goal.returns-clause-event

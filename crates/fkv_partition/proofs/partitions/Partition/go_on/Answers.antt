@@ -3,8 +3,8 @@ use Rattle.std.specs.Prelude.{IfSome}
 use Rattle.fkv_partition.specs.Stages.{StageStands}
 use Rattle.fkv_partition.specs.Sound.{IsCompacting}
 use Rattle.fkv_partition.specs.Going.{awaited_by, GoesOn}
-use Rattle.fkv_partition.proofs.MoveLemmas.{is-set, stands-here}
 use Rattle.fkv_partition.proofs.ApartLemmas.{err-ok, ok-all, no-later, has-come}
+use Rattle.fkv_partition.proofs.MoveLemmas.{is-set, stands-here}
 use Rattle.fkv_partition.proofs.partitions.Partition.go_on.Goals as goal
 
 pub append_again-requires-clause-stands : goal.append_again-requires-clause-stands

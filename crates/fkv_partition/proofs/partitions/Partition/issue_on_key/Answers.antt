@@ -2,14 +2,14 @@ use Rattle.std.proofs.Common.{◌≡◌, ◌∙◌, ◌+◌, ◌*◌, ◌<◌, N
 use Rattle.std.proofs.lemmas.Bool.{OnTrue_at, OnFalse_at}
 use Rattle.fkv_operations.specs.After.{key_of}
 use Rattle.fkv_core.specs.Views.{partition_of, slots_of, context_at}
-use Rattle.fkv_partition.specs.Inside.{view_of}
-use Rattle.fkv_partition.specs.Beginning.{IssuesOnKey}
-use Rattle.fkv_partition.proofs.SteadyLemmas.{issues-steady}
-use Rattle.fkv_partition.proofs.KeepLemmas.{keep-issued, issues-told, issues-err}
 use Rattle.fkv_core.specs.Beginning.{IsEntered}
 use Rattle.fkv_core.specs.Effect.{IsIssue}
+use Rattle.fkv_partition.specs.Inside.{view_of}
+use Rattle.fkv_partition.specs.Beginning.{IssuesOnKey}
 use Rattle.fkv_partition.specs.Views.{with_core}
 use Rattle.fkv_partition.proofs.ApartLemmas.{no-later, is-before}
+use Rattle.fkv_partition.proofs.SteadyLemmas.{issues-steady}
+use Rattle.fkv_partition.proofs.KeepLemmas.{keep-issued, issues-told, issues-err}
 use Rattle.fkv_partition.proofs.MoveLemmas.{open-free}
 use Rattle.fkv_partition.proofs.partitions.Partition.issue_on_key.Goals as goal
 

@@ -1,11 +1,11 @@
 use Rattle.std.proofs.Common.{◌<◌, Err, refl, sym, ap, subst, ◌∙◌}
-use Rattle.std.specs.Prelude.{IfSome}
 use Rattle.std.proofs.lemmas.Bool.{false≢true}
+use Rattle.std.specs.Prelude.{IfSome}
 use Rattle.fkv_pages.specs.Spelled.{IsEntryIn}
 use Rattle.fkv_partition.specs.Reading.{LoadsOn}
+use Rattle.fkv_partition.proofs.ApartLemmas.{err-ok, next-done, ok-all, no-later, has-come}
 use Rattle.fkv_partition.proofs.MoveLemmas.{is-set}
 use Rattle.fkv_partition.proofs.ReadLemmas.{awaits-none, awaits-some, awaits-page}
-use Rattle.fkv_partition.proofs.ApartLemmas.{err-ok, next-done, ok-all, no-later, has-come}
 use Rattle.fkv_partition.proofs.partitions.Partition.load_on.Goals as goal
 
 pub returns-in_default-awaited-clause-effect : goal.returns-in_default-awaited-clause-effect

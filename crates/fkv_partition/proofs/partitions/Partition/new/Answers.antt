@@ -1,6 +1,6 @@
 use Rattle.std.proofs.Common.{inr, refl, sym}
-use Rattle.fkv_partition.proofs.KeepLemmas.{compacting-empty}
 use Rattle.fkv_partition.proofs.ApartLemmas.{err-ok, err-as}
+use Rattle.fkv_partition.proofs.KeepLemmas.{compacting-empty}
 use Rattle.fkv_partition.proofs.partitions.Partition.new.Goals as goal
 
 pub invariant_of-result : goal.invariant_of-result

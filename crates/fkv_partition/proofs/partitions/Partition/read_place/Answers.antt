@@ -1,14 +1,14 @@
 use Rattle.std.proofs.Common.{◌≡◌, IsTrue, Ok, Err, refl, sym, ap, subst, ◌∙◌}
 use Rattle.std.specs.Prelude.{IfSome}
+use Rattle.fkv_functions.specs.declared.refusals.Refused.TheVariants.{Damaged}
 use Rattle.fkv_records.specs.Places.{page_at}
 use Rattle.fkv_texts.specs.declared.entries.Entry.{Entry}
 use Rattle.fkv_texts.specs.Text.{entry_at}
 use Rattle.fkv_pages.specs.Loads.{IsHeldBy}
 use Rattle.fkv_pages.specs.Spelled.{IsEntryIn}
 use Rattle.fkv_partition.specs.Reading.{LoadsOn, HasPage}
-use Rattle.fkv_partition.proofs.ReadLemmas.{page-within, stranger-held, place-begun, place-flushed, place-read}
 use Rattle.fkv_partition.proofs.ApartLemmas.{err-ok, no-later, has-come}
-use Rattle.fkv_functions.specs.declared.refusals.Refused.TheVariants.{Damaged}
+use Rattle.fkv_partition.proofs.ReadLemmas.{page-within, stranger-held, place-begun, place-flushed, place-read}
 use Rattle.fkv_partition.proofs.partitions.Partition.read_place.Goals as goal
 
 pub is_own-requires : goal.is_own-requires

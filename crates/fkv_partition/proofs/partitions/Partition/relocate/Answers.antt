@@ -1,12 +1,12 @@
 use Rattle.std.proofs.Common.{◌∙◌, Some, refl, sym, subst, arith}
+use Rattle.fkv_core.specs.Beginning.{IsEntered}
+use Rattle.fkv_core.specs.Views.{slots_of}
 use Rattle.fkv_partition.specs.Inside.{view_of}
 use Rattle.fkv_partition.specs.Beginning.{Relocates}
+use Rattle.fkv_partition.proofs.ApartLemmas.{no-later, has-come}
 use Rattle.fkv_partition.proofs.KeepLemmas.{may-relocate}
 use Rattle.fkv_partition.proofs.TruncateLemmas.{relocating-set}
-use Rattle.fkv_core.specs.Beginning.{IsEntered}
-use Rattle.fkv_partition.proofs.ApartLemmas.{no-later, has-come}
 use Rattle.fkv_partition.proofs.MoveLemmas.{open-free}
-use Rattle.fkv_core.specs.Views.{slots_of}
 use Rattle.fkv_partition.proofs.partitions.Partition.relocate.Goals as goal
 
 pub returns-then-not-is_session-clause-effect : goal.returns-then-not-is_session-clause-effect

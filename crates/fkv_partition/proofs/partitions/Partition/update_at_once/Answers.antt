@@ -4,15 +4,15 @@ use Rattle.fkv_functions.proofs.KeyOrder.{key_order}
 use Rattle.fkv_operations.specs.declared.operations.KeyedOp.TheVariants.{Rmw}
 use Rattle.fkv_operations.specs.declared.operations.Answer.TheVariants.{Value}
 use Rattle.fkv_core.specs.declared.contexts.Progress.TheVariants.{Done}
-use Rattle.fkv_partition.specs.Inside.{view_of}
-use Rattle.fkv_partition.specs.Views.{with_core}
-use Rattle.fkv_partition.proofs.AtOnceLemmas.{done-at-once, kept-at-once, left-at-once, sound-issued, told-some}
-use Rattle.fkv_partition.proofs.SteadyLemmas.{goes-steady, issues-steady}
-use Rattle.fkv_partition.proofs.KeepLemmas.{keep-seated, keep-issued}
 use Rattle.fkv_core.specs.Contexts.{is_session}
 use Rattle.fkv_core.specs.Beginning.{IsEntered}
 use Rattle.fkv_core.specs.Views.{slots_of, context_at}
+use Rattle.fkv_partition.specs.Inside.{view_of}
+use Rattle.fkv_partition.specs.Views.{with_core}
 use Rattle.fkv_partition.proofs.ApartLemmas.{later-still}
+use Rattle.fkv_partition.proofs.AtOnceLemmas.{done-at-once, kept-at-once, left-at-once, sound-issued, told-some}
+use Rattle.fkv_partition.proofs.SteadyLemmas.{goes-steady, issues-steady}
+use Rattle.fkv_partition.proofs.KeepLemmas.{keep-seated, keep-issued}
 use Rattle.fkv_partition.proofs.MoveLemmas.{open-free}
 use Rattle.fkv_partition.proofs.partitions.Partition.update_at_once.Goals as goal
 
