@@ -36,7 +36,9 @@ use Rattle.fkv_core.specs.Sound.{IsSound}
 use Rattle.fkv_core.specs.Views.{CoreView, partition_of, slots_of, seen_at, entry_for, reached_from}
 use Rattle.fkv_partition.specs.declared.relocations.Liveness.TheVariants.{Superseded, Last, Further}
 use Rattle.fkv_partition.specs.Stages.{IsTracing, IsReady}
-use Rattle.fkv_partition.specs.Checking.{higher_of, liveness_at, liveness, above, renewed}
+use Rattle.fkv_partition.specs.Checking.{higher_of, liveness_at, liveness, above, told_above, renewed}
+use Rattle.fkv_partition.specs.declared.relocations.Liveness.{Liveness}
+use Rattle.fkv_partition.specs.Views.{PartitionView}
 
 -- the higher of two addresses is no lower than either
 pub higher-left : (a b : ℕ) → a ≤ higher_of a b
@@ -113,6 +115,22 @@ superseded-one cmp text place e is superseded yes_keeps d there =
     let both : Some e ≡ Some d = sym (is yes_keeps) ∙ there in
     let same : e ≡ d = cc in
     subst (IsSuperseded cmp text) same (superseded yes_keeps)
+
+-- what a look-up in memory came to, down to the lowest address that is followed, tells this of the record of a place
+pub told-so : {K V I : Type 0} (cmp : K → K → Ordering) (join : V → V → V) (code : K → ℕ) {u v : PartitionView K V I} (same : u ≡ v) (slot place : ℕ) (key : K) {lowest low : ℕ} {came : Gathered K V} {told outcome : Liveness V}
+    → lowest ≡ low_of u.core.records.begin (seen_at u.core slot)
+    → low ≡ higher_of (place + 1) lowest
+    → came ≡ reached_from cmp join code u.core slot key low (entry_for code u.core key)
+    → told ≡ liveness place came
+    → told ≡ outcome
+    → told_above cmp join code v.core slot place key ≡ outcome
+told-so {K} {V} {I} cmp join code {u = u} same slot place key {outcome = outcome} lowest_is low_is came_is told_is is =
+    let floor = low_is ∙ ap (higher_of (place + 1)) lowest_is in
+    subst (λ (w : PartitionView K V I). told_above cmp join code w.core slot place key ≡ outcome) same
+    (sym (ap (λ n. liveness place (reached_from cmp join code u.core slot key n (entry_for code u.core key))) floor)
+    ∙ sym (ap (liveness place) came_is)
+    ∙ sym told_is
+    ∙ is)
 
 -- ---- what the way tells
 module _ {K V : Type 0} (place : ℕ) where

@@ -1,14 +1,14 @@
 -- What is told of contexts in which neither an operation nor a relocation stands.
 use Rattle.std.proofs.Common.{◌≡◌, ◌↔◌, Bool, true, false, not, cond, nat_lt, ℕ, zero, suc, ◌+◌, ◌-◌, ◌*◌, ◌<◌, IsTrue, IsSome, List, [], ◌∷◌, length, Option, Some, None, is_some, slice_get, slice_range, take, drop, position, zero-add, subst, refl, sym, ◌∙◌, ap, arith}
+use Rattle.std.proofs.lemmas.Bool.{false≢true}
 use Rattle.std.specs.List.{position_or_len}
-use Rattle.std.proofs.lemmas.Bool.Decides.{nat_tests}
-use Rattle.fkv_core.specs.declared.contexts.Context.{Context}
 use Rattle.fkv_core.specs.Contexts.{joined, is_session}
-use Rattle.fkv_core.specs.Views.{slots_of, context_at}
+use Rattle.fkv_core.specs.Views.{slots_of}
 use Rattle.fkv_core.proofs.AskedLemmas.{open_at, context-inside, position-found, position-none}
 use Rattle.fkv_partition.specs.declared.relocations.Relocation.{Relocation}
 use Rattle.fkv_partition.specs.Views.{PartitionView, relocation_at}
-use Rattle.fkv_partition.specs.Beginning.{IsFree, IsFirstOpen}
+use Rattle.fkv_partition.specs.Beginning.{IsFirstOpen}
+use Rattle.fkv_partition.proofs.MoveLemmas.{closed-outside}
 
 some-of : {A : Type 0} (o : Option A) → is_some o ≡ true → (x : A) × (o ≡ Some x)
 some-of None h = absurd (cc)
@@ -66,6 +66,13 @@ has-told {K} {V} {I} v slot inside o is b told = subst (λ t. IsTrue t ↔ ((c :
     by_found : (o : Option ℕ) → o ≡ position is_some (slice_range v.relocations (slot * 8) (slot * 8 + 8)) → IsTrue (is_some o) ↔ ((c : ℕ) × (x : Relocation K V) × (relocation_at v slot c ≡ Some x))
     by_found None e = (λ yes. absurd (cc), λ h. absurd (none-open e h.0 h.1 h.2))
     by_found (Some c) e = (λ yes. one-open c e, λ h. refl)
+
+pub has-outside : {K V I : Type 0} (v : PartitionView K V I) (slot : ℕ) → is_session (slots_of v.core) slot ≡ false
+    → (b : Bool) → b ≡ false → IsTrue b ↔ ((c : ℕ) × (x : Relocation K V) × (relocation_at v slot c ≡ Some x))
+has-outside {K} {V} v slot out b is = (λ yes. absurd (false≢true (sym is ∙ yes)), λ h. absurd (closed h.0 h.1 h.2))
+  where
+    closed : (c : ℕ) (x : Relocation K V) → relocation_at v slot c ≡ Some x → ⊥
+    closed c x at = let none : None ≡ Some x = closed-outside v slot c out ∙ at in cc
 
 -- what stands before the lowest that is found
 before : {A : Type 0} (p : A → Bool) (xs : List A) (d : ℕ) (x : A) → d < position_or_len p xs → slice_get xs d ≡ Some x → p x ≡ false

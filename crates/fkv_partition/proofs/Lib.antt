@@ -2,6 +2,7 @@ pub mod SteadyLemmas
 pub mod KeepLemmas
 pub mod FreeLemmas
 pub mod TruncateLemmas
+pub mod ApartLemmas
 pub mod MoveLemmas
 pub mod CheckingLemmas
 pub mod AgainLemmas

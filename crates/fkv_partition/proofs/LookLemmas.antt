@@ -22,7 +22,7 @@ pub address-at : {K V : Type 0} (text : List (Entry K V)) (a : ℕ) (e : Entry K
 address-at text a e h = eqb-true e.address a (last_where-found (λ x. x.address == a) text e h)
 
 module _ {K V I : Type 0} {keeps : Bool} (cmp : K → K → Ordering) (join : V → V → V) (code : K → ℕ) (v : PartitionView K V I) (s : IsCompacting keeps cmp join code v) (p : IsSound keeps cmp join code v.core) (slot c : ℕ) (x : Relocation K V) (h : relocation_at v slot c ≡ Some x) (uncleared : x.target ≡ v.cleared) where
-  begun-here : v.core.records.begin ≤ x.target
+  pub begun-here : v.core.records.begin ≤ x.target
   begun-here = let le = s.begun in omega arith
 
   -- below what the session reads in memory it is on disk

@@ -1,5 +1,5 @@
 -- What the calls of operations come to: those on keys, and those of relocations.
-use Rattle.std.proofs.Common.{◌≡◌, ◌≢◌, Bool, true, ℕ, ◌+◌, ◌*◌, ◌<◌, ◌⊎◌, inl, inr, IsTrue, List, Option, Some, None, Result, Ok, Err, IfOk, IfErr, OnOk, OnErr, subst, refl, sym, ◌∙◌, ap}
+use Rattle.std.proofs.Common.{◌≡◌, ◌↔◌, [], Bool, ℕ, ◌<◌, ◌⊎◌, inl, inr, IsTrue, Some, None, Result, Ok, Err, IfOk, OnOk, OnErr, subst, refl, sym, ◌∙◌, ap}
 use Rattle.std.specs.declared.cmp.Ordering.{Ordering}
 use Rattle.fkv_functions.specs.Meanings.{Meanings}
 use Rattle.fkv_functions.specs.declared.refusals.Refused.{Refused}
@@ -18,7 +18,7 @@ use Rattle.fkv_core.proofs.AskedLemmas.{context-inside}
 use Rattle.fkv_partition.specs.declared.relocations.Relocation.{Relocation}
 use Rattle.fkv_partition.specs.declared.relocations.Stage.TheVariants.{Fresh}
 use Rattle.fkv_partition.specs.Beginning.{IssuesOnKey, Relocates, Drops}
-use Rattle.fkv_partition.specs.Effect.{IsQuiet, IsIssue, IsEvent, IsLoad, IsLoaded, IsGiveUp, Finds, asked_of}
+use Rattle.fkv_partition.specs.Effect.{IsQuiet, IsIssue, IsEvent, IsLoad, IsLoaded, IsGiveUp, Finds}
 use Rattle.fkv_partition.specs.Relocating.{IsRelocating}
 use Rattle.fkv_partition.specs.Sound.{IsCompacting}
 use Rattle.fkv_partition.specs.Views.{PartitionView, with_core, at_moment, relocation_at, with_relocation}
@@ -143,3 +143,7 @@ drops-event {K} {V} {I} {keeps} {cmp} old new s slot c now r (Drops.drops x here
 pub drops-pend : {K V I : Type 0} (cmp : K → K → Ordering) (old new : PartitionView K V I) (slot c now : ℕ) (r : Result (Unit {0}) Refused) → Drops old new slot c now r → AllPend cmp old.core new.core
 drops-pend cmp old new slot c now r (Drops.unknown none same told) = rw same (λ s d. refl)
 drops-pend cmp old new slot c now r (Drops.drops x here is told) = rw is (λ s d. refl)
+
+-- whether a page waits to be written is the same of a partition that is the same
+pub due-same : {K V I P : Type 0} {u v : PartitionView K V I} → u ≡ v → P ↔ (u.core.records.waiting ≡ []) → P ↔ (v.core.records.waiting ≡ [])
+due-same {K} {V} {I} {P = P} same h = subst (λ (w : PartitionView K V I). P ↔ (w.core.records.waiting ≡ [])) same h

@@ -138,6 +138,11 @@ module _ {K V I : Type 0} {keeps : Bool} (cmp : K → K → Ordering) (join : V 
         by_entry None some h = absurd (cc)
         by_entry (Some y) some h = let both : Ok y ≡ Ok e = sym h ∙ is in let same : y ≡ e = cc in ap Some same
 
+-- the page of an address is one of those that were flushed
+pub page-within : {K V : Type 0} {u w v : RecordsView K V} {page : ℕ} (wanted : ℕ) → page ≡ page_at u.page_bits wanted → u ≡ v → w ≡ v → page_at v.page_bits wanted < length v.receipts → page < length w.receipts
+page-within {K} {V} {w = w} {v = v} {page = page} wanted is u_is w_is there =
+    subst (λ (r : RecordsView K V). page < length r.receipts) (sym w_is) (subst (λ n. n < length v.receipts) (sym (is ∙ ap (λ (r : RecordsView K V). page_at r.page_bits wanted) u_is)) there)
+
 -- the receipt that is kept of a page that was read by another
 pub stranger-held : {K V : Type 0} (u v : RecordsView K V) (page wanted : ℕ) (st : Standing) (why : Refused)
     → u ≡ v

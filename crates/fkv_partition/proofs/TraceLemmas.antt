@@ -1,5 +1,5 @@
 -- What a page on the way from the entry of a record's class down to its place tells of the record.
-use Rattle.std.proofs.Common.{◌≡◌, ◌+◌, ◌<◌, ◌≤◌, ◌⊎◌, inl, inr, nat_le, ℕ, Bool, true, false, cond, length, nat_lt, IsTrue, List, Option, Some, refl, sym, ap, subst, ◌∙◌, arith}
+use Rattle.std.proofs.Common.{◌≡◌, ◌+◌, ◌<◌, ◌≤◌, inl, inr, nat_le, ℕ, Bool, true, false, cond, length, nat_lt, IsTrue, List, Option, Some, refl, sym, ap, subst, ◌∙◌, arith}
 use Rattle.std.proofs.lemmas.Bool.Decides.{nat_tests}
 use Rattle.std.proofs.lemmas.Bool.{cases_lt, ltb-true}
 use Rattle.std.specs.Prelude.{Result, Ok}
@@ -53,22 +53,29 @@ pub record CameOf {K V : Type 0} (keeps : Bool) (entry : ℕ → List ℕ → �
       → IsOfClass code r key l.wanted
       → (q : Gathered K V) × (result ≡ Ok q) × GoesOn cmp join code r key (higher_of (place + 1) (first_place r.page_bits (page_at r.page_bits l.wanted))) l.wanted l.parts q
 
-pub page-came : {K V : Type 0} (keeps : Bool) (entry : ℕ → List ℕ → ℕ → Entry K V → Type 0) (cmp : K → K → Ordering) (join : V → V → V) (code : K → ℕ) (u v : RecordsView K V) (place : ℕ) (key : K) (page low : ℕ) (l : Loading V) (st : Standing) (bytes : List ℕ) (result : Result (Gathered K V) Refused)
+pub page-came : {K V : Type 0} (keeps : Bool) (entry : ℕ → List ℕ → ℕ → Entry K V → Type 0) (cmp : K → K → Ordering) (join : V → V → V) (code : K → ℕ) (a b d u v : RecordsView K V) (place : ℕ) (key : K) (page low : ℕ) (l : Loading V) (st : Standing) (bytes : List ℕ) (result : Result (Gathered K V) Refused)
+    → a ≡ v
+    → b ≡ v
+    → d ≡ v
     → u ≡ v
-    → page ≡ page_at u.page_bits l.wanted
-    → low ≡ higher_of (place + 1) (first_place u.page_bits page)
-    → IsHeldBy u.receipts page st
+    → page ≡ page_at a.page_bits l.wanted
+    → low ≡ higher_of (place + 1) (first_place d.page_bits page)
+    → IsHeldBy b.receipts page st
     → IsGathered join (entry u.page_bits bytes) cmp key u.page_bits low l.wanted l.parts result
     → (IsTrue keeps
     → u.begin ≤ l.wanted
     → IsOfClass code u key l.wanted
     → (r : Gathered K V) × (result ≡ Ok r) × GoesOn cmp join code u key low l.wanted l.parts r)
     → CameOf keeps entry cmp join code v place key l st bytes result
-page-came keeps entry cmp join code u v place key page low l st bytes result same page_is low_is held reads kept =
-    let own = subst (λ (n : ℕ). IsHeldBy u.receipts n st) page_is held in
-    let floor : low ≡ higher_of (place + 1) (first_place u.page_bits (page_at u.page_bits l.wanted)) = low_is ∙ ap (λ n. higher_of (place + 1) (first_place u.page_bits n)) page_is in
-    subst (λ (w : RecordsView _ _). CameOf keeps entry cmp join code w place key l st bytes result) same
-    (record { own = own; reads = rw floor at reads; kept = rw floor at kept })
+page-came {K} {V} keeps entry cmp join code a b d u v place key page low l st bytes result a_is b_is d_is u_is page_is low_is held reads kept =
+    let at : page ≡ page_at v.page_bits l.wanted = page_is ∙ ap (λ (w : RecordsView K V). page_at w.page_bits l.wanted) a_is in
+    let floor : low ≡ higher_of (place + 1) (first_place v.page_bits (page_at v.page_bits l.wanted)) =
+    low_is ∙ ap (λ (w : RecordsView K V). higher_of (place + 1) (first_place w.page_bits page)) d_is ∙ ap (λ n. higher_of (place + 1) (first_place v.page_bits n)) at in
+    record {
+      own = subst (λ (n : ℕ). IsHeldBy v.receipts n st) at (subst (λ (w : RecordsView K V). IsHeldBy w.receipts page st) b_is held);
+      reads = rw floor at (subst (λ (w : RecordsView K V). IsGathered join (entry w.page_bits bytes) cmp key w.page_bits low l.wanted l.parts result) u_is reads);
+      kept = rw floor at (subst (λ (w : RecordsView K V). IsTrue keeps → w.begin ≤ l.wanted → IsOfClass code w key l.wanted → (r : Gathered K V) × (result ≡ Ok r) × GoesOn cmp join code w key low l.wanted l.parts r) u_is kept);
+    }
 
 module _ {K V I : Type 0} {keeps : Bool} (cmp : K → K → Ordering) (join : V → V → V) (code : K → ℕ) (order : IsKeyOrder cmp) (v : PartitionView K V I) (sound : IsSound keeps cmp join code v.core) (s : IsCompacting keeps cmp join code v) (slot c : ℕ) (x : Relocation K V) (e : Entry K V) (l : Loading V)
     (a : AwaitsPage v slot c x l.wanted) (at : x.stage ≡ Tracing e l) where

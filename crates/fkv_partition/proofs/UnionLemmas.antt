@@ -19,7 +19,7 @@ use Rattle.fkv_operations.specs.Operations.{keyed, after_keyed, answer_keyed, ma
 use Rattle.fkv_operations.specs.declared.operations.Op.{Op}
 use Rattle.fkv_operations.specs.declared.operations.KeyedOp.{KeyedOp}
 use Rattle.fkv_operations.specs.declared.operations.KeyedOp.TheVariants.{Read, Upsert, Rmw, Delete, Merge}
-use Rattle.fkv_core.specs.Views.{live_of, partition_of}
+use Rattle.fkv_core.specs.Views.{live_of, partition_of, IsBare}
 use Rattle.fkv_partition.specs.Unions.{live_at, union_of}
 use Rattle.fkv_partition.specs.Views.{PartitionView}
 
@@ -140,6 +140,15 @@ module _ {K V I : Type 0} (cmp : K → K → Ordering) (code : K → ℕ) (views
   live-all m some h q = let low : partition_of (length views) (code q) < length views = mod-lt (code q) some in
       let t : nat_lt (partition_of (length views) (code q)) (length views) ≡ true = grind (arith, nat_tests) in
       h q ∙ ap (λ b. cond b (union_of cmp code views q) None) t
+
+  -- no key of a partition has a value in the map of those before it
+  pub bare_before : (i : ℕ) (v : PartitionView K V I) (m : PlainMap K V) → v.core.number ≡ i → v.core.count ≡ length views
+      → Same m (λ q. cond (nat_lt (partition_of (length views) (code q)) i) (union_of cmp code views q) None)
+      → IsBare code v.core m
+  bare_before i v m numbered counted before k own =
+      let here : partition_of (length views) (code k) ≡ i = ap (λ n. partition_of n (code k)) (sym counted) ∙ own ∙ numbered in
+      let low : nat_lt (partition_of (length views) (code k)) i ≡ false = grind (arith, nat_tests) in
+      before k ∙ ap (λ b. cond b (union_of cmp code views k) None) low
 
 -- ---- and of one more, that has a map of its own
 module _ {K V I : Type 0} (cmp : K → K → Ordering) (order : IsTotalOrder cmp) (code : K → ℕ) (views : List (PartitionView K V I)) where

@@ -1,18 +1,13 @@
 -- Reports and replays.
-use Rattle.std.proofs.Common.{◌≡◌, ◌≢◌, ℕ, zero, suc, ◌≤◌, true, false, cond, nat_lt, inl, inr, take, List, [], ◌∷◌, ◌++◌, length, None, Result, refl, sym, ◌∙◌, ap, subst, arith}
-use Rattle.std.proofs.lemmas.Bool.Decides.{nat_tests}
+use Rattle.std.proofs.Common.{◌≡◌, ◌≢◌, ℕ, zero, suc, ◌≤◌, true, inl, inr, take, List, [], ◌∷◌, ◌++◌, length, Result, refl, ap, subst, arith}
 use Rattle.std.specs.declared.cmp.Ordering.{Ordering}
 use Rattle.fkv_functions.specs.Meanings.{Meanings}
-use Rattle.fkv_functions.specs.Plain.{PlainMap, Same}
 use Rattle.fkv_functions.specs.declared.refusals.Refused.{Refused}
 use Rattle.fkv_functions.specs.declared.refusals.Refused.TheVariants.{NoMemory, Device, Damaged}
 use Rattle.fkv_device.specs.Standing.{Standing}
 use Rattle.fkv_device.specs.Failing.{ReadFailsBy}
 use Rattle.fkv_texts.specs.declared.entries.Entry.{Entry}
 use Rattle.fkv_hybrid.specs.Scans.{MayFail, IsScanRefusal}
-use Rattle.fkv_partition.specs.CoreViews.{partition_of, IsBare}
-use Rattle.fkv_partition.specs.Unions.{union_of}
-use Rattle.fkv_partition.specs.Views.{PartitionView}
 use Rattle.fkv_lives.specs.declared.outcomes.Outcome.{Outcome}
 use Rattle.fkv_lives.specs.declared.steps.Step.{Step}
 use Rattle.fkv_worlds.specs.States.{WorldView}
@@ -47,12 +42,3 @@ module _ {R : Type 0} (stands : R → Standing) (can_fail : R → ℕ → Type 0
     | inl r ↦ reads-never page old new e r caused
     | inr s ↦ absurd (s.0 refl)
   ]
-
--- no key of a partition has a value in the map of those before it
-pub bare_before : {K V I : Type 0} (cmp : K → K → Ordering) (code : K → ℕ) (views : List (PartitionView K V I)) (i : ℕ) (v : PartitionView K V I) (m : PlainMap K V) → v.core.number ≡ i → v.core.count ≡ length views
-    → Same m (λ q. cond (nat_lt (partition_of (length views) (code q)) i) (union_of cmp code views q) None)
-    → IsBare code v.core m
-bare_before cmp code views i v m numbered counted before k own =
-    let here : partition_of (length views) (code k) ≡ i = ap (λ n. partition_of n (code k)) (sym counted) ∙ own ∙ numbered in
-    let low : nat_lt (partition_of (length views) (code k)) i ≡ false = grind (arith, nat_tests) in
-    before k ∙ ap (λ b. cond b (union_of cmp code views k) None) low

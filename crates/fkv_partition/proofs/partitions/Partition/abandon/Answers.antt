@@ -1,5 +1,6 @@
 use Rattle.std.proofs.Common.{ap}
 use Rattle.fkv_partition.specs.Inside.{view_of}
+use Rattle.fkv_partition.specs.Views.{with_core}
 use Rattle.fkv_partition.proofs.SteadyLemmas.{gives-up-steady}
 use Rattle.fkv_partition.proofs.KeepLemmas.{keep-seated, on-err}
 use Rattle.fkv_partition.proofs.partitions.Partition.abandon.Goals as goal
@@ -18,3 +19,6 @@ returns-clause-effect g c = rw (← c.self.view_is) c.abandon-given.ensures.effe
 
 pub returns-clause-unchanged : goal.returns-clause-unchanged
 returns-clause-unchanged g c = rw (← c.self.view_is) (on-err c.abandon-given.result (λ same. ap (λ p. view_of p c.self.inside.cleared c.self.inside.relocations.items) same) c.abandon-given.ensures.unchanged)
+
+pub returns-clause-rest : goal.returns-clause-rest
+returns-clause-rest g c = ap (λ u. with_core u c.abandon-given.new.self) c.self.view_is

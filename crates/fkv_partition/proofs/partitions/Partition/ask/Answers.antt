@@ -2,6 +2,7 @@ use Rattle.std.proofs.Common.{refl, subst}
 use Rattle.fkv_records.specs.Places.{page_at}
 use Rattle.fkv_pages.specs.Loads.{IsHeldBy}
 use Rattle.fkv_partition.specs.Checking.{asks}
+use Rattle.fkv_partition.proofs.ApartLemmas.{err-ok, loads-done, no-later, has-come}
 use Rattle.fkv_partition.proofs.MoveLemmas.{event-set}
 use Rattle.fkv_partition.proofs.partitions.Partition.ask.Goals as goal
 
@@ -12,3 +13,18 @@ returns-clause-effect g c =
 
 pub returns-clause-event : goal.returns-clause-event
 returns-clause-event g c = rw c.set_stage.ensures (event-set g.R.Receipt.keeps g.F.Key.Ord.cmp c.args.self.now c.args.slot c.args.context c.args.now c.requires.context _)
+
+pub returns-in-Err-clause-uncleared : goal.returns-in-Err-clause-uncleared
+returns-in-Err-clause-uncleared g c = err-ok
+
+pub returns-in-Err-clause-unchanged : goal.returns-in-Err-clause-unchanged
+returns-in-Err-clause-unchanged g c = refl
+
+pub returns-in-Err-clause-moment : goal.returns-in-Err-clause-moment
+returns-in-Err-clause-moment g c = no-later c.requires.later
+
+pub returns-clause-uncleared : goal.returns-clause-uncleared
+returns-clause-uncleared g c = loads-done
+
+pub returns-clause-moment : goal.returns-clause-moment
+returns-clause-moment g c = has-come c.set_stage.ensures refl

@@ -1,8 +1,12 @@
-use Rattle.std.proofs.Common.{◌≡◌, ◌≢◌, None, option_map, sym, ap, subst, ◌∙◌}
+use Rattle.std.proofs.Common.{◌≡◌, ◌≢◌, inl, Some, None, option_map, refl, sym, ap, subst, ◌∙◌}
+use Rattle.std.specs.Prelude.{IfSome}
 use Rattle.fkv_functions.proofs.KeyOrder.{key_order}
 use Rattle.fkv_index.specs.Words.{address_of}
 use Rattle.fkv_operations.specs.declared.entries.IndexEntry.{IndexEntry}
-use Rattle.fkv_core.specs.Views.{partition_of, entry_for}
+use Rattle.fkv_lookups.specs.RecordsViews.{class_in, IsEntryOf}
+use Rattle.fkv_core.specs.Views.{partition_of, found_for, entry_for}
+use Rattle.fkv_partition.specs.Checking.{NeedsNoCopy, ChecksLiveness}
+use Rattle.fkv_partition.proofs.ApartLemmas.{none-by, some-by, has-come}
 use Rattle.fkv_partition.proofs.MoveLemmas.{event-done, past-place, open-here, stands-here, low-here}
 use Rattle.fkv_partition.proofs.CheckingLemmas.{superseded-one, superseded-foreign, superseded-nowhere}
 use Rattle.fkv_partition.proofs.partitions.Partition.check_liveness.Goals as goal
@@ -118,3 +122,64 @@ returns-in-None-clause-cleared g c =
     let v = c.args.self.now in
     let x = c.args.relocation.now in
     λ is. rw c.finish-in-None.ensures (past-place v x.target c.known.ensures.core.traced (stands-here v c.args.slot c.args.context x c.requires.here c.known.ensures.compacting).place).1
+
+pub finish-requires-clause-superseded : goal.finish-requires-clause-superseded
+finish-requires-clause-superseded g c = 
+    superseded-one g.F.Key.Ord.cmp c.args.self.now.core.records.entries c.args.relocation.now.target c.args.entry c.requires.is (λ _. inl (none-by c.args.entry.value c.is_none.ensures c.if-is_none.true))
+
+pub returns-then-is_none-clause-effect : goal.returns-then-is_none-clause-effect
+returns-then-is_none-clause-effect g c = ChecksLiveness.superseded (NeedsNoCopy.tombstone (none-by c.args.entry.value c.is_none.ensures c.if-is_none.true)) c.finish.ensures refl
+
+pub returns-then-is_none-clause-moment : goal.returns-then-is_none-clause-moment
+returns-then-is_none-clause-moment g c = has-come c.finish.ensures refl
+
+pub returns-then-home-number-clause-effect : goal.returns-then-home-number-clause-effect
+returns-then-home-number-clause-effect g c = 
+    let other = subst (λ u. partition_of u.core.count (g.F.Functions.code c.args.entry.key) ≢ u.core.number) c.self.view_is (λ q. c.if-home-number.true (c.home-home.ensures ∙ q ∙ sym c.number.ensures)) in
+    ChecksLiveness.superseded (NeedsNoCopy.foreign other) c.finish-then-home-number.ensures refl
+
+pub returns-then-home-number-clause-moment : goal.returns-then-home-number-clause-moment
+returns-then-home-number-clause-moment g c = has-come c.finish-then-home-number.ensures refl
+
+pub returns-in-None-clause-effect : goal.returns-in-None-clause-effect
+returns-in-None-clause-effect g c = 
+    let none = subst (λ u. found_for g.F.Functions.code u.core c.args.entry.key ≡ None) c.self.view_is (sym c.find-found.ensures.entry ∙ c.in-None.is) in
+    ChecksLiveness.superseded (NeedsNoCopy.nowhere none) c.finish-in-None.ensures refl
+
+pub returns-in-None-clause-moment : goal.returns-in-None-clause-moment
+returns-in-None-clause-moment g c = has-come c.finish-in-None.ensures refl
+
+pub follow-requires-clause-some : goal.follow-requires-clause-some
+follow-requires-clause-some g c = some-by c.args.entry.value c.is_none.ensures c.if-is_none.false
+
+pub follow-requires-clause-own : goal.follow-requires-clause-own
+follow-requires-clause-own g c = 
+    subst (λ u. partition_of u.core.count (g.F.Functions.code c.args.entry.key) ≡ u.core.number) c.self.view_is (sym c.home-home.ensures ∙ c.if-home-number.false ∙ c.number.ensures)
+
+pub follow-requires-clause-found : goal.follow-requires-clause-found
+follow-requires-clause-found g c = 
+    subst (λ u. found_for g.F.Functions.code u.core c.args.entry.key ≡ Some c.in-Some.kept) c.self.view_is (sym c.find-found.ensures.entry ∙ c.in-Some.is)
+
+pub follow-requires-clause-leads : goal.follow-requires-clause-leads
+follow-requires-clause-leads g c = 
+    subst (λ u. entry_for g.F.Functions.code u.core c.args.entry.key ≡ Some (address_of c.in-Some.kept.word)) c.self.view_is (sym c.find-found.ensures.address ∙ ap (option_map (λ (q : IndexEntry). address_of q.word)) c.in-Some.is)
+
+pub follow-requires-clause-entry_stands : goal.follow-requires-clause-entry_stands
+follow-requires-clause-entry_stands g c = 
+    let held = subst (λ o. IfSome o (λ q. IsEntryOf c.self.inside.core.records (class_in g.F.Functions.code c.self.inside.core.records c.args.entry.key) q)) c.in-Some.is c.find-found.ensures.stands in
+    subst (λ u. IsEntryOf u.core.records (class_in g.F.Functions.code u.core.records c.args.entry.key) c.in-Some.kept) c.self.view_is held
+
+pub returns-in-Some-clause-effect : goal.returns-in-Some-clause-effect
+returns-in-Some-clause-effect g c = c.follow.ensures.effect
+
+pub returns-in-Some-clause-event : goal.returns-in-Some-clause-event
+returns-in-Some-clause-event g c = c.follow.ensures.event
+
+pub returns-in-Some-clause-cleared : goal.returns-in-Some-clause-cleared
+returns-in-Some-clause-cleared g c = c.follow.ensures.cleared
+
+pub returns-in-Some-clause-unchanged : goal.returns-in-Some-clause-unchanged
+returns-in-Some-clause-unchanged g c = c.follow.ensures.unchanged
+
+pub returns-in-Some-clause-moment : goal.returns-in-Some-clause-moment
+returns-in-Some-clause-moment g c = c.follow.ensures.moment

@@ -1,6 +1,7 @@
 use Rattle.std.proofs.Common.{◌≡◌, ◌+◌, ◌*◌, inl, inr, None, refl}
 use Rattle.fkv_partition.specs.Inside.{view_of}
 use Rattle.fkv_partition.specs.Views.{done_at, cleared_past}
+use Rattle.fkv_partition.proofs.ApartLemmas.{nothing-some}
 use Rattle.fkv_partition.proofs.KeepLemmas.{keep-changed, rises-past, done-is}
 use Rattle.fkv_partition.proofs.partitions.Partition.finish.Goals.{then-self-place, else-self-place}
 use Rattle.fkv_partition.proofs.partitions.Partition.finish.Goals as goal
@@ -24,7 +25,7 @@ invariant_of-self g c =
     (rises-past g.R.Receipt.keeps g.F.Key.Ord.cmp g.F.Mergeable.parts.joined g.F.Functions.code v c.args.place c.self.invariant c.known.ensures.traced
     (rw (← c.self.view_is) at c.requires.issued) (rw (← c.self.view_is) at c.requires.place) (rw (← c.self.view_is) at c.requires.low)
     (λ yes_keeps clear. c.cleared_stay.ensures.raised g.R.Receipt.keeps g.F.Key.Ord.cmp g.F.Mergeable.parts.joined g.F.Functions.code r c.args.place c.known.ensures.traced c.known.ensures.stood (rw (← c.self.view_is) at c.requires.place) (rw (← c.self.view_is) at c.requires.low) clear ((rw (← c.self.view_is) at c.requires.superseded) yes_keeps)))
-    (λ x e. absurd (cc)))
+    (λ x e. nothing-some e))
 
 pub returns : goal.returns
 returns g c =

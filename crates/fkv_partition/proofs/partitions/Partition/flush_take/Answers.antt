@@ -1,4 +1,6 @@
-use Rattle.fkv_partition.proofs.OperationLemmas.{passed-event, passed-pends}
+use Rattle.std.proofs.Common.{◌≡◌, ◌∙◌, Some, length, slice_get, refl, ap, subst}
+use Rattle.fkv_partition.proofs.ApartLemmas.{no-later, has-come}
+use Rattle.fkv_partition.proofs.OperationLemmas.{passed-event, passed-pends, due-same}
 use Rattle.fkv_partition.proofs.partitions.Partition.flush_take.Goals as goal
 
 pub returns-clause-event : goal.returns-clause-event
@@ -6,3 +8,30 @@ returns-clause-event g c = rw c.pass.ensures (passed-event g.R.Receipt.keeps c.a
 
 pub returns-clause-pends : goal.returns-clause-pends
 returns-clause-pends g c = rw c.pass.ensures (passed-pends g.F.Key.Ord.cmp c.args.self.now c.args.now)
+
+pub returns-in-Err-clause-due : goal.returns-in-Err-clause-due
+returns-in-Err-clause-due g c = due-same c.self.view_is c.in-Err.ensures.due
+
+pub returns-in-Err-clause-only : goal.returns-in-Err-clause-only
+returns-in-Err-clause-only g c = c.in-Err.ensures.only
+
+pub returns-in-Err-clause-pends : goal.returns-in-Err-clause-pends
+returns-in-Err-clause-pends g c = λ s d. refl
+
+pub returns-in-Err-clause-moment : goal.returns-in-Err-clause-moment
+returns-in-Err-clause-moment g c = no-later c.requires.later
+
+pub returns-clause-page : goal.returns-clause-page
+returns-clause-page g c = c.in-Ok.ensures.page ∙ ap (λ u. length u.core.records.receipts) c.self.view_is
+
+pub returns-clause-bytes : goal.returns-clause-bytes
+returns-clause-bytes g c = subst (λ u. slice_get u.core.records.waiting 0 ≡ Some c.in-Ok.job.bytes) c.self.view_is c.in-Ok.ensures.bytes
+
+pub returns-clause-due : goal.returns-clause-due
+returns-clause-due g c = due-same c.self.view_is c.in-Ok.ensures.due
+
+pub returns-clause-passes : goal.returns-clause-passes
+returns-clause-passes g c = c.pass.ensures
+
+pub returns-clause-moment : goal.returns-clause-moment
+returns-clause-moment g c = has-come c.pass.ensures refl

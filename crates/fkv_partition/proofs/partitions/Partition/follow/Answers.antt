@@ -1,13 +1,14 @@
-use Rattle.std.proofs.Common.{◌≡◌, ◌+◌, Some, sym, ap, subst, ◌∙◌, arith}
+use Rattle.std.proofs.Common.{Some, refl, sym, ap, subst, ◌∙◌, arith}
 use Rattle.fkv_functions.proofs.KeyOrder.{key_order}
 use Rattle.fkv_texts.proofs.CoverLemmas.{cleared-lower}
 use Rattle.fkv_core.specs.Beginning.{IsEntered}
-use Rattle.fkv_core.specs.Views.{reached_from, entry_for}
+use Rattle.fkv_core.specs.Views.{entry_for}
 use Rattle.fkv_core.proofs.DecidedLemmas.{page_flushed}
-use Rattle.fkv_partition.specs.declared.relocations.Liveness.TheVariants.{Superseded, Last, Further}
-use Rattle.fkv_partition.specs.Checking.{liveness, higher_of, above, told_above, ChecksLiveness}
+use Rattle.fkv_partition.specs.Checking.{ChecksLiveness}
 use Rattle.fkv_partition.proofs.MoveLemmas.{event-done, past-place, open-here, stands-here, low-here}
-use Rattle.fkv_partition.proofs.CheckingLemmas.{higher-right, superseded-one, superseded-newer, ready, further-disk, tracing}
+use Rattle.fkv_partition.proofs.CheckingLemmas.{told-so, superseded-one, superseded-newer, ready, further-disk, tracing}
+use Rattle.fkv_partition.specs.Checking.{NeedsNoCopy}
+use Rattle.fkv_partition.proofs.ApartLemmas.{no-higher, has-come}
 use Rattle.fkv_partition.proofs.partitions.Partition.follow.Goals as goal
 
 pub lowest-requires : goal.lowest-requires
@@ -17,22 +18,10 @@ lowest-requires g c =
     subst (λ u. IsEntered u.core c.args.slot) (sym c.self.view_is) (open-here v c.args.slot c.args.context x c.requires.here).inside
 
 pub reach-came-requires-clause-begin : goal.reach-came-requires-clause-begin
-reach-came-requires-clause-begin g c =
-    let v = c.args.self.now in
-    let x = c.args.relocation.now in
-    let up = higher-right (x.target + 1) c.lowest.result in
-    let low = c.lowest.ensures.begin in
-    let is = c.higher_of-low.ensures.value in
-    omega (arith, up, low, is)
+reach-came-requires-clause-begin g c = no-higher c.lowest.ensures.begin c.higher_of-low.ensures.right
 
 pub reach-came-requires-clause-closed : goal.reach-came-requires-clause-closed
-reach-came-requires-clause-closed g c =
-    let v = c.args.self.now in
-    let x = c.args.relocation.now in
-    let up = higher-right (x.target + 1) c.lowest.result in
-    let low = c.lowest.ensures.closed in
-    let is = c.higher_of-low.ensures.value in
-    omega (arith, up, low, is)
+reach-came-requires-clause-closed g c = no-higher c.lowest.ensures.closed c.higher_of-low.ensures.right
 
 pub reach-came-requires-clause-entry : goal.reach-came-requires-clause-entry
 reach-came-requires-clause-entry g c =
@@ -67,10 +56,7 @@ finish-requires-clause-superseded g c =
     let v = c.args.self.now in
     let x = c.args.relocation.now in
     let e = c.args.entry in
-    let told = sym (ap (liveness x.target) c.reach-came.ensures) ∙ sym c.liveness_of.ensures ∙ c.in-Superseded.is in
-    let low = c.higher_of-low.ensures.value ∙ ap (higher_of (x.target + 1)) c.lowest.ensures.value ∙ ap (λ u. above u.core c.args.slot x.target) c.self.view_is in
-    let so : told_above g.F.Key.Ord.cmp g.F.Mergeable.parts.joined g.F.Functions.code v.core c.args.slot x.target e.key ≡ Superseded =
-    sym (ap (λ n. liveness x.target (reached_from g.F.Key.Ord.cmp g.F.Mergeable.parts.joined g.F.Functions.code v.core c.args.slot e.key n (entry_for g.F.Functions.code v.core e.key))) low) ∙ subst (λ u. liveness x.target (reached_from g.F.Key.Ord.cmp g.F.Mergeable.parts.joined g.F.Functions.code u.core c.args.slot e.key c.higher_of-low.result (entry_for g.F.Functions.code u.core e.key)) ≡ Superseded) c.self.view_is told in
+    let so = told-so g.F.Key.Ord.cmp g.F.Mergeable.parts.joined g.F.Functions.code c.self.view_is c.args.slot x.target e.key c.lowest.ensures.value c.higher_of-low.ensures.value c.reach-came.ensures c.liveness_of.ensures c.in-Superseded.is in
     superseded-one g.F.Key.Ord.cmp v.core.records.entries x.target e c.requires.is (superseded-newer g.F.Key.Ord.cmp g.F.Mergeable.parts.joined g.F.Functions.code order v.core c.known.ensures.core c.args.slot (open-here v c.args.slot c.args.context x c.requires.here).inside x.target e c.requires.stands c.requires.is c.args.kept c.requires.entry_stands c.requires.leads so)
 
 pub append_again-requires-clause-stands : goal.append_again-requires-clause-stands
@@ -81,10 +67,7 @@ append_again-requires-clause-stands g c =
     let v = c.args.self.now in
     let x = c.args.relocation.now in
     let e = c.args.entry in
-    let told = sym (ap (liveness x.target) c.reach-came.ensures) ∙ sym c.liveness_of.ensures ∙ c.in-Last.is in
-    let low = c.higher_of-low.ensures.value ∙ ap (higher_of (x.target + 1)) c.lowest.ensures.value ∙ ap (λ u. above u.core c.args.slot x.target) c.self.view_is in
-    let so : told_above g.F.Key.Ord.cmp g.F.Mergeable.parts.joined g.F.Functions.code v.core c.args.slot x.target e.key ≡ Last c.in-Last.parts =
-    sym (ap (λ n. liveness x.target (reached_from g.F.Key.Ord.cmp g.F.Mergeable.parts.joined g.F.Functions.code v.core c.args.slot e.key n (entry_for g.F.Functions.code v.core e.key))) low) ∙ subst (λ u. liveness x.target (reached_from g.F.Key.Ord.cmp g.F.Mergeable.parts.joined g.F.Functions.code u.core c.args.slot e.key c.higher_of-low.result (entry_for g.F.Functions.code u.core e.key)) ≡ Last c.in-Last.parts) c.self.view_is told in
+    let so = told-so g.F.Key.Ord.cmp g.F.Mergeable.parts.joined g.F.Functions.code c.self.view_is c.args.slot x.target e.key c.lowest.ensures.value c.higher_of-low.ensures.value c.reach-came.ensures c.liveness_of.ensures c.in-Last.is in
     rw c.renewed-whole.ensures (c.requires.own, ready g.F.Key.Ord.cmp g.F.Mergeable.parts.joined g.F.Functions.code order v.core c.known.ensures.core c.args.slot (open-here v c.args.slot c.args.context x c.requires.here).inside x.target e c.requires.stands c.requires.is c.args.kept c.requires.entry_stands c.requires.leads c.in-Last.parts so c.requires.begun (stands-here v c.args.slot c.args.context x c.requires.here c.known.ensures.compacting).frozen c.requires.some (λ yes_keeps. cleared-lower g.F.Key.Ord.cmp v.core.records.entries x.target v.cleared (stands-here v c.args.slot c.args.context x c.requires.here c.known.ensures.compacting).issued (c.known.ensures.compacting.cleared yes_keeps)))
 
 pub ask-requires-clause-flushed : goal.ask-requires-clause-flushed
@@ -95,10 +78,7 @@ ask-requires-clause-flushed g c =
     let v = c.args.self.now in
     let x = c.args.relocation.now in
     let e = c.args.entry in
-    let told = sym (ap (liveness x.target) c.reach-came.ensures) ∙ sym c.liveness_of.ensures ∙ c.in-Further.is in
-    let low = c.higher_of-low.ensures.value ∙ ap (higher_of (x.target + 1)) c.lowest.ensures.value ∙ ap (λ u. above u.core c.args.slot x.target) c.self.view_is in
-    let so : told_above g.F.Key.Ord.cmp g.F.Mergeable.parts.joined g.F.Functions.code v.core c.args.slot x.target e.key ≡ Further c.in-Further.wanted c.in-Further.parts =
-    sym (ap (λ n. liveness x.target (reached_from g.F.Key.Ord.cmp g.F.Mergeable.parts.joined g.F.Functions.code v.core c.args.slot e.key n (entry_for g.F.Functions.code v.core e.key))) low) ∙ subst (λ u. liveness x.target (reached_from g.F.Key.Ord.cmp g.F.Mergeable.parts.joined g.F.Functions.code u.core c.args.slot e.key c.higher_of-low.result (entry_for g.F.Functions.code u.core e.key)) ≡ Further c.in-Further.wanted c.in-Further.parts) c.self.view_is told in
+    let so = told-so g.F.Key.Ord.cmp g.F.Mergeable.parts.joined g.F.Functions.code c.self.view_is c.args.slot x.target e.key c.lowest.ensures.value c.higher_of-low.ensures.value c.reach-came.ensures c.liveness_of.ensures c.in-Further.is in
     let disk = further-disk g.F.Key.Ord.cmp g.F.Mergeable.parts.joined g.F.Functions.code order v.core c.known.ensures.core c.args.slot (open-here v c.args.slot c.args.context x c.requires.here).inside x.target e c.requires.stands c.requires.is c.args.kept c.requires.entry_stands c.requires.leads c.in-Further.wanted c.in-Further.parts c.requires.begun so in
     page_flushed v.core.records c.in-Further.wanted c.known.ensures.core.traced disk.0 disk.1
 
@@ -110,10 +90,7 @@ ask-requires-clause-stands g c =
     let v = c.args.self.now in
     let x = c.args.relocation.now in
     let e = c.args.entry in
-    let told = sym (ap (liveness x.target) c.reach-came.ensures) ∙ sym c.liveness_of.ensures ∙ c.in-Further.is in
-    let low = c.higher_of-low.ensures.value ∙ ap (higher_of (x.target + 1)) c.lowest.ensures.value ∙ ap (λ u. above u.core c.args.slot x.target) c.self.view_is in
-    let so : told_above g.F.Key.Ord.cmp g.F.Mergeable.parts.joined g.F.Functions.code v.core c.args.slot x.target e.key ≡ Further c.in-Further.wanted c.in-Further.parts =
-    sym (ap (λ n. liveness x.target (reached_from g.F.Key.Ord.cmp g.F.Mergeable.parts.joined g.F.Functions.code v.core c.args.slot e.key n (entry_for g.F.Functions.code v.core e.key))) low) ∙ subst (λ u. liveness x.target (reached_from g.F.Key.Ord.cmp g.F.Mergeable.parts.joined g.F.Functions.code u.core c.args.slot e.key c.higher_of-low.result (entry_for g.F.Functions.code u.core e.key)) ≡ Further c.in-Further.wanted c.in-Further.parts) c.self.view_is told in
+    let so = told-so g.F.Key.Ord.cmp g.F.Mergeable.parts.joined g.F.Functions.code c.self.view_is c.args.slot x.target e.key c.lowest.ensures.value c.higher_of-low.ensures.value c.reach-came.ensures c.liveness_of.ensures c.in-Further.is in
     let begins = c.begin.ensures ∙ ap (λ r. r.begin) c.records.ensures ∙ ap (λ u. u.core.records.begin) c.self.view_is in
     rw begins (c.requires.own, tracing g.F.Key.Ord.cmp g.F.Mergeable.parts.joined g.F.Functions.code order v.core c.known.ensures.core c.args.slot (open-here v c.args.slot c.args.context x c.requires.here).inside x.target e c.requires.stands c.requires.is c.args.kept c.requires.entry_stands c.requires.leads c.in-Further.wanted c.in-Further.parts c.requires.begun so c.args.now c.requires.some)
 
@@ -136,10 +113,7 @@ returns-in-Last-clause-effect g c =
     let v = c.args.self.now in
     let x = c.args.relocation.now in
     let e = c.args.entry in
-    let told = sym (ap (liveness x.target) c.reach-came.ensures) ∙ sym c.liveness_of.ensures ∙ c.in-Last.is in
-    let low = c.higher_of-low.ensures.value ∙ ap (higher_of (x.target + 1)) c.lowest.ensures.value ∙ ap (λ u. above u.core c.args.slot x.target) c.self.view_is in
-    let so : told_above g.F.Key.Ord.cmp g.F.Mergeable.parts.joined g.F.Functions.code v.core c.args.slot x.target e.key ≡ Last c.in-Last.parts =
-    sym (ap (λ n. liveness x.target (reached_from g.F.Key.Ord.cmp g.F.Mergeable.parts.joined g.F.Functions.code v.core c.args.slot e.key n (entry_for g.F.Functions.code v.core e.key))) low) ∙ subst (λ u. liveness x.target (reached_from g.F.Key.Ord.cmp g.F.Mergeable.parts.joined g.F.Functions.code u.core c.args.slot e.key c.higher_of-low.result (entry_for g.F.Functions.code u.core e.key)) ≡ Last c.in-Last.parts) c.self.view_is told in
+    let so = told-so g.F.Key.Ord.cmp g.F.Mergeable.parts.joined g.F.Functions.code c.self.view_is c.args.slot x.target e.key c.lowest.ensures.value c.higher_of-low.ensures.value c.reach-came.ensures c.liveness_of.ensures c.in-Last.is in
     ChecksLiveness.last c.args.kept c.in-Last.parts (record { some = c.requires.some; own = c.requires.own; leads = c.requires.found; outcome_is = so }) (rw c.renewed-whole.ensures at c.append_again.ensures.effect)
 
 pub returns-in-Further-clause-effect : goal.returns-in-Further-clause-effect
@@ -147,10 +121,7 @@ returns-in-Further-clause-effect g c =
     let v = c.args.self.now in
     let x = c.args.relocation.now in
     let e = c.args.entry in
-    let told = sym (ap (liveness x.target) c.reach-came.ensures) ∙ sym c.liveness_of.ensures ∙ c.in-Further.is in
-    let low = c.higher_of-low.ensures.value ∙ ap (higher_of (x.target + 1)) c.lowest.ensures.value ∙ ap (λ u. above u.core c.args.slot x.target) c.self.view_is in
-    let so : told_above g.F.Key.Ord.cmp g.F.Mergeable.parts.joined g.F.Functions.code v.core c.args.slot x.target e.key ≡ Further c.in-Further.wanted c.in-Further.parts =
-    sym (ap (λ n. liveness x.target (reached_from g.F.Key.Ord.cmp g.F.Mergeable.parts.joined g.F.Functions.code v.core c.args.slot e.key n (entry_for g.F.Functions.code v.core e.key))) low) ∙ subst (λ u. liveness x.target (reached_from g.F.Key.Ord.cmp g.F.Mergeable.parts.joined g.F.Functions.code u.core c.args.slot e.key c.higher_of-low.result (entry_for g.F.Functions.code u.core e.key)) ≡ Further c.in-Further.wanted c.in-Further.parts) c.self.view_is told in
+    let so = told-so g.F.Key.Ord.cmp g.F.Mergeable.parts.joined g.F.Functions.code c.self.view_is c.args.slot x.target e.key c.lowest.ensures.value c.higher_of-low.ensures.value c.reach-came.ensures c.liveness_of.ensures c.in-Further.is in
     let begins = c.begin.ensures ∙ ap (λ r. r.begin) c.records.ensures ∙ ap (λ u. u.core.records.begin) c.self.view_is in
     ChecksLiveness.further c.args.kept c.in-Further.wanted c.in-Further.parts (record { some = c.requires.some; own = c.requires.own; leads = c.requires.found; outcome_is = so }) (rw begins at c.ask.ensures.effect)
 
@@ -161,3 +132,68 @@ overflow_add-target g c =
     let safe = regions.in_order.safe in
     let most = regions.in_order.most in
     omega (arith, frozen, safe, most)
+
+pub returns-in-Superseded-clause-effect : goal.returns-in-Superseded-clause-effect
+returns-in-Superseded-clause-effect g c = 
+    let v = c.args.self.now in
+    let x = c.args.relocation.now in
+    let e = c.args.entry in
+    let so = told-so g.F.Key.Ord.cmp g.F.Mergeable.parts.joined g.F.Functions.code c.self.view_is c.args.slot x.target e.key c.lowest.ensures.value c.higher_of-low.ensures.value c.reach-came.ensures c.liveness_of.ensures c.in-Superseded.is in
+    ChecksLiveness.superseded (NeedsNoCopy.newer so) c.finish.ensures refl
+
+pub returns-in-Superseded-clause-moment : goal.returns-in-Superseded-clause-moment
+returns-in-Superseded-clause-moment g c = has-come c.finish.ensures refl
+
+pub returns-in-Further-clause-cleared : goal.returns-in-Further-clause-cleared
+returns-in-Further-clause-cleared g c = λ is. absurd (c.ask.ensures.uncleared is)
+
+pub returns-in-Last-clause-event : goal.returns-in-Last-clause-event
+returns-in-Last-clause-event g c = c.append_again.ensures.event
+
+pub returns-in-Last-clause-cleared : goal.returns-in-Last-clause-cleared
+returns-in-Last-clause-cleared g c = c.append_again.ensures.cleared
+
+pub returns-in-Last-clause-unchanged : goal.returns-in-Last-clause-unchanged
+returns-in-Last-clause-unchanged g c = c.append_again.ensures.unchanged
+
+pub returns-in-Last-clause-moment : goal.returns-in-Last-clause-moment
+returns-in-Last-clause-moment g c = c.append_again.ensures.moment
+
+pub returns-in-Further-clause-event : goal.returns-in-Further-clause-event
+returns-in-Further-clause-event g c = c.ask.ensures.event
+
+pub returns-in-Further-clause-unchanged : goal.returns-in-Further-clause-unchanged
+returns-in-Further-clause-unchanged g c = c.ask.ensures.unchanged
+
+pub returns-in-Further-clause-moment : goal.returns-in-Further-clause-moment
+returns-in-Further-clause-moment g c = c.ask.ensures.moment
+
+pub finish-requires-clause-session : goal.finish-requires-clause-session
+finish-requires-clause-session g c = c.requires.session
+
+pub finish-requires-clause-context : goal.finish-requires-clause-context
+finish-requires-clause-context g c = c.requires.context
+
+pub append_again-requires-clause-later : goal.append_again-requires-clause-later
+append_again-requires-clause-later g c = c.requires.later
+
+pub append_again-requires-clause-session : goal.append_again-requires-clause-session
+append_again-requires-clause-session g c = c.requires.session
+
+pub append_again-requires-clause-context : goal.append_again-requires-clause-context
+append_again-requires-clause-context g c = c.requires.context
+
+pub append_again-requires-clause-here : goal.append_again-requires-clause-here
+append_again-requires-clause-here g c = c.requires.here
+
+pub ask-requires-clause-later : goal.ask-requires-clause-later
+ask-requires-clause-later g c = c.requires.later
+
+pub ask-requires-clause-session : goal.ask-requires-clause-session
+ask-requires-clause-session g c = c.requires.session
+
+pub ask-requires-clause-context : goal.ask-requires-clause-context
+ask-requires-clause-context g c = c.requires.context
+
+pub ask-requires-clause-here : goal.ask-requires-clause-here
+ask-requires-clause-here g c = c.requires.here

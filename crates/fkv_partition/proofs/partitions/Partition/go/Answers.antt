@@ -1,6 +1,7 @@
-use Rattle.std.proofs.Common.{◌≡◌, Ok, None, Some, sym, ◌∙◌}
+use Rattle.std.proofs.Common.{sym, ◌∙◌}
 use Rattle.fkv_functions.proofs.KeyOrder.{key_order}
 use Rattle.fkv_partition.specs.Events.{Goes}
+use Rattle.fkv_partition.proofs.ApartLemmas.{nothing-some, none-held}
 use Rattle.fkv_partition.proofs.ProceedLemmas.{goes_on-proceeds}
 use Rattle.fkv_partition.proofs.OperationLemmas.{goes-event, goes-finds, relocation-event, relocation-finds, relocation-others, same-pends}
 use Rattle.fkv_partition.proofs.partitions.Partition.go.Goals as goal
@@ -34,7 +35,7 @@ pub returns-in-Some-clause-effect : goal.returns-in-Some-clause-effect
 returns-in-Some-clause-effect g c = Goes.relocation c.in-Some._relocation (sym c.relocation.ensures.value ∙ c.in-Some.is) c.go_on.ensures.effect
 
 pub returns-in-Some-clause-on_key : goal.returns-in-Some-clause-on_key
-returns-in-Some-clause-on_key g c = λ none. absurd (let bad : None ≡ Some c.in-Some._relocation = sym none ∙ sym c.relocation.ensures.value ∙ c.in-Some.is in cc)
+returns-in-Some-clause-on_key g c = λ none. nothing-some (sym none ∙ sym c.relocation.ensures.value ∙ c.in-Some.is)
 
 pub returns-in-Some-clause-event : goal.returns-in-Some-clause-event
 returns-in-Some-clause-event g c = λ yes_keeps.
@@ -52,7 +53,7 @@ returns-in-Some-clause-finds g c = λ yes_keeps.
     relocation-finds g.F.Key.Ord.cmp g.F.Functions.meaning c.args.self.now c.go_on.new.self c.args.slot c.args.context c.args.now c.known.ensures.compacting c.in-Some._relocation (sym c.relocation.ensures.value ∙ c.in-Some.is) c.go_on.result c.go_on.ensures.event
 
 pub returns-in-None-clause-relocating : goal.returns-in-None-clause-relocating
-returns-in-None-clause-relocating g c = λ some. absurd (let bad = rw (sym c.relocation.ensures.value ∙ c.in-None.is) at some in cc)
+returns-in-None-clause-relocating g c = none-held _ (sym c.relocation.ensures.value ∙ c.in-None.is)
 
 pub returns-in-Some-clause-relocating : goal.returns-in-Some-clause-relocating
 returns-in-Some-clause-relocating g c = λ some. c.go_on.ensures.event

@@ -1,11 +1,16 @@
-use Rattle.std.proofs.Common.{◌≡◌, ◌∙◌, ◌+◌, ◌*◌, refl, sym, ap}
+use Rattle.std.proofs.Common.{◌≡◌, ◌∙◌, ◌+◌, ◌*◌, ◌<◌, None, subst, refl, sym, ap}
 use Rattle.std.proofs.lemmas.Bool.{OnTrue_at, OnFalse_at}
 use Rattle.fkv_operations.specs.After.{key_of}
-use Rattle.fkv_core.specs.Views.{partition_of}
+use Rattle.fkv_core.specs.Views.{partition_of, slots_of, context_at}
+use Rattle.fkv_core.specs.Beginning.{IsEntered}
+use Rattle.fkv_core.specs.Effect.{IsIssue}
 use Rattle.fkv_partition.specs.Inside.{view_of}
 use Rattle.fkv_partition.specs.Beginning.{IssuesOnKey}
+use Rattle.fkv_partition.specs.Views.{with_core}
+use Rattle.fkv_partition.proofs.ApartLemmas.{no-later, is-before}
 use Rattle.fkv_partition.proofs.SteadyLemmas.{issues-steady}
 use Rattle.fkv_partition.proofs.KeepLemmas.{keep-issued, issues-told, issues-err}
+use Rattle.fkv_partition.proofs.MoveLemmas.{open-free}
 use Rattle.fkv_partition.proofs.partitions.Partition.issue_on_key.Goals as goal
 
 pub returns-then-not-is_session-clause-effect : goal.returns-then-not-is_session-clause-effect
@@ -64,3 +69,83 @@ returns-clause-effect g c =
     let v = view_of c.self.inside.core c.self.inside.cleared c.self.inside.relocations.items in
     let first = rw (← c.self.view_is) at c.in-Some.ensures.value in
     rw (← c.self.view_is) (issues-told g.F.Functions.code v c.issue.new.self c.args.slot c.in-Some.context c.args.op c.args.now first c.in-Ok.ensures.effect)
+
+pub returns-then-not-is_session-clause-moment : goal.returns-then-not-is_session-clause-moment
+returns-then-not-is_session-clause-moment g c = no-later c.requires.later
+
+pub returns-then-came-held-clause-moment : goal.returns-then-came-held-clause-moment
+returns-then-came-held-clause-moment g c = no-later c.requires.later
+
+pub returns-then-lacks_merges-clause-moment : goal.returns-then-lacks_merges-clause-moment
+returns-then-lacks_merges-clause-moment g c = no-later c.requires.later
+
+pub returns-in_default-clause-moment : goal.returns-in_default-clause-moment
+returns-in_default-clause-moment g c = no-later c.requires.later
+
+pub first_free-requires-clause-session : goal.first_free-requires-clause-session
+first_free-requires-clause-session g c = c.is_session.ensures.within c.if-not-is_session.false
+
+pub first_free-requires-clause-entered : goal.first_free-requires-clause-entered
+first_free-requires-clause-entered g c = subst (λ u. IsEntered u.core c.args.slot) c.self.view_is (sym c.is_session.ensures.value ∙ c.if-not-is_session.false)
+
+pub issue-requires-clause-later : goal.issue-requires-clause-later
+issue-requires-clause-later g c = subst (λ u. u.core.moment < c.args.now) (sym c.self.view_is) c.requires.later
+
+pub issue-requires-clause-entered : goal.issue-requires-clause-entered
+issue-requires-clause-entered g c = sym c.is_session.ensures.value ∙ c.if-not-is_session.false
+
+pub issue-requires-clause-context : goal.issue-requires-clause-context
+issue-requires-clause-context g c = c.in-Some.ensures.within
+
+pub returns-in-Err-clause-rest : goal.returns-in-Err-clause-rest
+returns-in-Err-clause-rest g c = ap (λ u. with_core u c.issue.new.self) c.self.view_is
+
+pub returns-in-Err-clause-unchanged : goal.returns-in-Err-clause-unchanged
+returns-in-Err-clause-unchanged g c = ap (λ p. view_of p c.self.inside.cleared c.self.inside.relocations.items) c.in-Err.ensures.unchanged ∙ c.self.view_is
+
+pub returns-in-Err-clause-moment : goal.returns-in-Err-clause-moment
+returns-in-Err-clause-moment g c = is-before (ap (λ p. view_of p c.self.inside.cleared c.self.inside.relocations.items) c.in-Err.ensures.unchanged ∙ c.self.view_is) c.requires.later
+
+pub returns-clause-rest : goal.returns-clause-rest
+returns-clause-rest g c = ap (λ u. with_core u c.issue.new.self) c.self.view_is
+
+pub returns-clause-event : goal.returns-clause-event
+returns-clause-event g c = subst (λ u. IsIssue g.F.Functions.code u.core c.issue.new.self c.args.slot c.in-Some.context c.args.op c.args.now) c.self.view_is c.in-Ok.ensures.event
+
+pub returns-clause-closed : goal.returns-clause-closed
+returns-clause-closed g c = open-free (slots_of c.args.self.now.core) c.args.self.now.relocations c.args.slot c.in-Some.context c.in-Some.ensures.value.1.relocation
+
+pub returns-clause-within : goal.returns-clause-within
+returns-clause-within g c = (c.is_session.ensures.within c.if-not-is_session.false, c.in-Some.ensures.within)
+
+pub returns-clause-moment : goal.returns-clause-moment
+returns-clause-moment g c = c.issue.ensures.moment
+
+pub returns-then-not-is_session-clause-rest : goal.returns-then-not-is_session-clause-rest
+returns-then-not-is_session-clause-rest g c = refl
+
+pub returns-then-not-is_session-clause-unchanged : goal.returns-then-not-is_session-clause-unchanged
+returns-then-not-is_session-clause-unchanged g c = refl
+
+pub returns-then-came-held-clause-rest : goal.returns-then-came-held-clause-rest
+returns-then-came-held-clause-rest g c = refl
+
+pub returns-then-came-held-clause-unchanged : goal.returns-then-came-held-clause-unchanged
+returns-then-came-held-clause-unchanged g c = refl
+
+pub returns-then-lacks_merges-clause-rest : goal.returns-then-lacks_merges-clause-rest
+returns-then-lacks_merges-clause-rest g c = refl
+
+pub returns-then-lacks_merges-clause-unchanged : goal.returns-then-lacks_merges-clause-unchanged
+returns-then-lacks_merges-clause-unchanged g c = refl
+
+pub returns-in_default-clause-rest : goal.returns-in_default-clause-rest
+returns-in_default-clause-rest g c = refl
+
+pub returns-in_default-clause-unchanged : goal.returns-in_default-clause-unchanged
+returns-in_default-clause-unchanged g c = refl
+
+pub issue-requires-clause-free : goal.issue-requires-clause-free
+issue-requires-clause-free g c = 
+    let v = c.args.self.now in
+    subst (λ u. context_at u.core c.args.slot c.in-Some.context ≡ None) (sym c.self.view_is) (open-free (slots_of v.core) v.core.contexts c.args.slot c.in-Some.context c.in-Some.ensures.value.1.operation)

@@ -1,4 +1,5 @@
-use Rattle.std.proofs.Common.{◌≡◌, ◌∙◌, true, false, refl, sym, ap}
+use Rattle.std.proofs.Common.{◌≡◌, ◌∙◌, Some, refl, sym, ap, subst}
+use Rattle.std.proofs.lemmas.Bool.{false≢true}
 use Rattle.fkv_partition.specs.Inside.{view_of}
 use Rattle.fkv_partition.specs.Views.{relocation_at}
 use Rattle.fkv_partition.specs.Beginning.{LeavesAll}
@@ -17,19 +18,17 @@ invariant_of-self g c =
     let v = view_of c.self.inside.core c.self.inside.cleared c.self.inside.relocations.items in
     let new = c.leave-left.new.self in
     let does = c.leave-left.ensures.effect in
-    let has = rw (← c.self.view_is) at c.has_relocation.ensures in
     keep-left g.R.Receipt.keeps g.F.Key.Ord.cmp g.F.Mergeable.parts.joined g.F.Functions.code v new c.args.slot c.self.invariant c.known-2.ensures.traced c.known-2.ensures.stood
     (c.events_preserve.ensures.leaves g.R.Receipt.keeps g.F.Key.Ord.cmp g.F.Mergeable.parts.joined g.F.Functions.code v.core new c.args.slot c.args.now c.leave-left.result c.known.ensures does)
     (leaves-steady v.core new g.R.Receipt.keeps c.args.slot c.args.now c.leave-left.result does)
     (c.sessions_preserved.ensures.leaves g.R.Receipt.keeps v.core new c.args.slot c.args.now c.leave-left.result does)
-    (λ d x e. (let told = has.1 (d, x, e) in let bad : false ≡ true = sym c.if-has_relocation.false ∙ told in cc))
+    (λ d x e. false≢true (sym c.if-has_relocation.false ∙ c.has_relocation.ensures.1 (d, x, subst (λ u. relocation_at u c.args.slot d ≡ Some x) c.self.view_is e)))
 
 pub returns-clause-effect : goal.returns-clause-effect
 returns-clause-effect g c =
     let v = view_of c.self.inside.core c.self.inside.cleared c.self.inside.relocations.items in
-    let has = rw (← c.self.view_is) at c.has_relocation.ensures in
     rw (← c.self.view_is)
-    (LeavesAll.leaves (λ d. none-at (relocation_at v c.args.slot d) (λ x e. (let told = has.1 (d, x, e) in let bad : false ≡ true = sym c.if-has_relocation.false ∙ told in cc))) c.leave-left.ensures.effect refl)
+    (LeavesAll.leaves (λ d. none-at (relocation_at v c.args.slot d) (λ x e. false≢true (sym c.if-has_relocation.false ∙ c.has_relocation.ensures.1 (d, x, subst (λ u. relocation_at u c.args.slot d ≡ Some x) c.self.view_is e)))) c.leave-left.ensures.effect refl)
 
 pub returns-clause-unchanged : goal.returns-clause-unchanged
 returns-clause-unchanged g c = rw (← c.self.view_is) (on-err c.leave-left.result (λ same. ap (λ p. view_of p c.self.inside.cleared c.self.inside.relocations.items) same) c.leave-left.ensures.unchanged)
@@ -39,9 +38,8 @@ returns-clause-event g c =
     let v = view_of c.self.inside.core c.self.inside.cleared c.self.inside.relocations.items in
     let new = c.leave-left.new.self in
     let does = c.leave-left.ensures.effect in
-    let has = rw (← c.self.view_is) at c.has_relocation.ensures in
     let seats = c.sessions_preserved.ensures.leaves g.R.Receipt.keeps v.core new c.args.slot c.args.now c.leave-left.result does in
-    let stay = left-stay v new c.args.slot seats.1 (λ d x e. (let told = has.1 (d, x, e) in let bad : false ≡ true = sym c.if-has_relocation.false ∙ told in cc)) in
+    let stay = left-stay v new c.args.slot seats.1 (λ d x e. false≢true (sym c.if-has_relocation.false ∙ c.has_relocation.ensures.1 (d, x, subst (λ u. relocation_at u c.args.slot d ≡ Some x) c.self.view_is e))) in
     rw (← c.self.view_is) (on-ok c.leave-left.result (λ q. quiet-event v new c.args.now (relocations-stay v new c.self.invariant stay) q) c.leave-left.ensures.event)
 
 pub returns-clause-pends : goal.returns-clause-pends

@@ -1,5 +1,6 @@
 use Rattle.std.proofs.Common.{sym, ◌∙◌}
 use Rattle.fkv_partition.specs.Events.{Loads}
+use Rattle.fkv_partition.proofs.ApartLemmas.{none-held}
 use Rattle.fkv_partition.proofs.ProceedLemmas.{loads_on-proceeds, loads_on-ends, ended-event, ended-pends}
 use Rattle.fkv_partition.proofs.EffectLemmas.{if-err}
 use Rattle.fkv_partition.proofs.OperationLemmas.{loads-event, ends-key, relocation-load, relocation-others}
@@ -45,7 +46,7 @@ returns-in-Some-clause-others g c = λ yes_keeps.
     (loads_on-ends g.R.Receipt.stands _ c.args.self.now c.load_on.new.self c.args.slot c.args.context c.args.now c.args.came why (rw e at c.load_on.ensures.effect)) g.F.Key.Ord.cmp)
 
 pub returns-in-None-clause-relocating : goal.returns-in-None-clause-relocating
-returns-in-None-clause-relocating g c = λ some. absurd (let bad = rw (sym c.relocation.ensures.value ∙ c.in-None.is) at some in cc)
+returns-in-None-clause-relocating g c = none-held _ (sym c.relocation.ensures.value ∙ c.in-None.is)
 
 pub returns-in-Some-clause-relocating : goal.returns-in-Some-clause-relocating
 returns-in-Some-clause-relocating g c = λ some. c.load_on.ensures.event

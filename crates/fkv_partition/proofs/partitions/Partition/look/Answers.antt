@@ -5,7 +5,7 @@ use Rattle.fkv_lookups.specs.Decisions.{low_of}
 use Rattle.fkv_core.specs.Beginning.{IsEntered}
 use Rattle.fkv_partition.specs.Going.{low_at, GoesOn}
 use Rattle.fkv_partition.proofs.MoveLemmas.{open-here}
-use Rattle.fkv_partition.proofs.LookLemmas.{address-at, place-flushed, place-reading, place-there, place-open}
+use Rattle.fkv_partition.proofs.LookLemmas.{address-at, begun-here, place-flushed, place-reading, place-there, place-open}
 use Rattle.fkv_partition.proofs.partitions.Partition.look.Goals as goal
 
 pub view-view-requires : goal.view-view-requires
@@ -84,5 +84,61 @@ returns-clause-effect g c =
     ∙ ap (λ w. low_of c.self.inside.core.records.begin w) (c.view-view.ensures.value ∙ ap (λ r. view_at r.regions.views c.args.slot) c.records.ensures)
     ∙ ap (λ u. low_at u c.args.slot) c.self.view_is in
     let over = subst (λ n. n ≤ x.target) low c.if-target-low_of.false in
-    let there = subst (λ u. entry_at u.core.records.entries x.target ≡ Some c.record_at-entry.result) c.self.view_is (rw c.records-3.ensures at c.record_at-entry.ensures.entry) in
+    let there = subst (λ u. entry_at u.core.records.entries x.target ≡ Some c.record_at-entry.result) c.self.view_is (subst (λ r. entry_at r.entries x.target ≡ Some c.record_at-entry.result) c.records-3.ensures c.record_at-entry.ensures.entry) in
     GoesOn.checks x c.record_at-entry.result c.requires.here c.requires.fresh c.requires.uncleared over there c.check_liveness.ensures.effect
+
+pub returns-then-target-low_of-clause-cleared : goal.returns-then-target-low_of-clause-cleared
+returns-then-target-low_of-clause-cleared g c = λ is. absurd (c.ask.ensures.uncleared is)
+
+pub check_liveness-requires-clause-begun : goal.check_liveness-requires-clause-begun
+check_liveness-requires-clause-begun g c = begun-here g.F.Key.Ord.cmp g.F.Mergeable.parts.joined g.F.Functions.code c.args.self.now c.known.ensures.compacting c.known.ensures.core c.args.slot c.args.context c.args.relocation.now c.requires.here c.requires.uncleared
+
+pub check_liveness-requires-clause-is : goal.check_liveness-requires-clause-is
+check_liveness-requires-clause-is g c = 
+    let there = subst (λ r. entry_at r.entries c.args.relocation.now.target ≡ Some c.record_at-entry.result) (c.records-3.ensures ∙ ap (λ u. u.core.records) c.self.view_is) c.record_at-entry.ensures.entry in
+    λ _. there
+
+pub returns-then-target-low_of-clause-event : goal.returns-then-target-low_of-clause-event
+returns-then-target-low_of-clause-event g c = c.ask.ensures.event
+
+pub returns-then-target-low_of-clause-unchanged : goal.returns-then-target-low_of-clause-unchanged
+returns-then-target-low_of-clause-unchanged g c = c.ask.ensures.unchanged
+
+pub returns-then-target-low_of-clause-moment : goal.returns-then-target-low_of-clause-moment
+returns-then-target-low_of-clause-moment g c = c.ask.ensures.moment
+
+pub returns-clause-event : goal.returns-clause-event
+returns-clause-event g c = c.check_liveness.ensures.event
+
+pub returns-clause-cleared : goal.returns-clause-cleared
+returns-clause-cleared g c = c.check_liveness.ensures.cleared
+
+pub returns-clause-unchanged : goal.returns-clause-unchanged
+returns-clause-unchanged g c = c.check_liveness.ensures.unchanged
+
+pub returns-clause-moment : goal.returns-clause-moment
+returns-clause-moment g c = c.check_liveness.ensures.moment
+
+pub ask-requires-clause-later : goal.ask-requires-clause-later
+ask-requires-clause-later g c = c.requires.later
+
+pub ask-requires-clause-session : goal.ask-requires-clause-session
+ask-requires-clause-session g c = c.requires.session
+
+pub ask-requires-clause-context : goal.ask-requires-clause-context
+ask-requires-clause-context g c = c.requires.context
+
+pub ask-requires-clause-here : goal.ask-requires-clause-here
+ask-requires-clause-here g c = c.requires.here
+
+pub check_liveness-requires-clause-later : goal.check_liveness-requires-clause-later
+check_liveness-requires-clause-later g c = c.requires.later
+
+pub check_liveness-requires-clause-session : goal.check_liveness-requires-clause-session
+check_liveness-requires-clause-session g c = c.requires.session
+
+pub check_liveness-requires-clause-context : goal.check_liveness-requires-clause-context
+check_liveness-requires-clause-context g c = c.requires.context
+
+pub check_liveness-requires-clause-here : goal.check_liveness-requires-clause-here
+check_liveness-requires-clause-here g c = c.requires.here

@@ -1,12 +1,14 @@
-use Rattle.std.proofs.Common.{◌≡◌, ◌<◌, IsTrue, Ok, Err, length, refl, sym, ap, subst, ◌∙◌}
+use Rattle.std.proofs.Common.{◌≡◌, IsTrue, Ok, Err, refl, sym, ap, subst, ◌∙◌}
 use Rattle.std.specs.Prelude.{IfSome}
+use Rattle.fkv_functions.specs.declared.refusals.Refused.TheVariants.{Damaged}
 use Rattle.fkv_records.specs.Places.{page_at}
 use Rattle.fkv_texts.specs.declared.entries.Entry.{Entry}
 use Rattle.fkv_texts.specs.Text.{entry_at}
 use Rattle.fkv_pages.specs.Loads.{IsHeldBy}
 use Rattle.fkv_pages.specs.Spelled.{IsEntryIn}
 use Rattle.fkv_partition.specs.Reading.{LoadsOn, HasPage}
-use Rattle.fkv_partition.proofs.ReadLemmas.{stranger-held, place-begun, place-flushed, place-read}
+use Rattle.fkv_partition.proofs.ApartLemmas.{err-ok, no-later, has-come}
+use Rattle.fkv_partition.proofs.ReadLemmas.{page-within, stranger-held, place-begun, place-flushed, place-read}
 use Rattle.fkv_partition.proofs.partitions.Partition.read_place.Goals as goal
 
 pub is_own-requires : goal.is_own-requires
@@ -19,8 +21,8 @@ is_own-requires g c =
     let s = c.known.ensures.compacting in
     let at = c.requires.reads in
     let there = place-flushed g.F.Key.Ord.cmp g.F.Mergeable.parts.joined g.F.Functions.code v sound s c.args.slot c.args.context x v.core.records.begin at refl a.here in
-    let held = subst (λ u. page_at u.core.records.page_bits x.target < length u.core.records.receipts) (sym c.self.view_is) there in
-    rw (c.page_of-page.ensures, c.records.ensures, c.records-2.ensures) held
+    let moved = ap (λ u. u.core.records) c.self.view_is in
+    page-within x.target c.page_of-page.ensures (c.records.ensures ∙ moved) (c.records-2.ensures ∙ moved) there
 
 pub returns-in-Err-clause-effect : goal.returns-in-Err-clause-effect
 returns-in-Err-clause-effect g c =
@@ -32,8 +34,9 @@ returns-in-Err-clause-effect g c =
     let s = c.known.ensures.compacting in
     let at = c.requires.reads in
     let there = place-flushed g.F.Key.Ord.cmp g.F.Mergeable.parts.joined g.F.Functions.code v sound s c.args.slot c.args.context x v.core.records.begin at refl a.here in
-    let held = subst (λ u. page_at u.core.records.page_bits x.target < length u.core.records.receipts) (sym c.self.view_is) there in
-    let z = stranger-held c.self.inside.core.records v.core.records c.page_of-page.result x.target (g.R.Receipt.stands p.receipt) c.in-Err.refused (ap (λ u. u.core.records) c.self.view_is) (rw c.records.ensures at c.page_of-page.ensures) there (rw c.records-2.ensures at c.in-Err.ensures.stranger) in
+    let moved = ap (λ u. u.core.records) c.self.view_is in
+    let page = c.page_of-page.ensures ∙ ap (λ r. page_at r.page_bits x.target) (c.records.ensures ∙ sym c.records-2.ensures) in
+    let z = stranger-held c.records-2.result.now v.core.records c.page_of-page.result x.target (g.R.Receipt.stands p.receipt) c.in-Err.refused (c.records-2.ensures ∙ moved) page there c.in-Err.ensures.stranger in
     LoadsOn.stranger x x.target p z.0 a refl z.1 z.2 refl (ap Err z.3)
 
 pub check_liveness-requires-clause-begun : goal.check_liveness-requires-clause-begun
@@ -56,7 +59,7 @@ check_liveness-requires-clause-is g c =
     let sound = c.known.ensures.core in
     let s = c.known.ensures.compacting in
     let at = c.requires.reads in
-    let kept = subst (λ u. IsTrue g.R.Receipt.keeps → IfSome (entry_at u.core.records.entries x.target) (λ y. c.own_record_in.result ≡ Ok y)) c.self.view_is (rw c.records-3.ensures at c.own_record_in.ensures.kept) in
+    let kept = subst (λ u. IsTrue g.R.Receipt.keeps → IfSome (entry_at u.core.records.entries x.target) (λ y. c.own_record_in.result ≡ Ok y)) c.self.view_is (subst (λ r. IsTrue g.R.Receipt.keeps → IfSome (entry_at r.entries x.target) (λ y. c.own_record_in.result ≡ Ok y)) c.records-3.ensures c.own_record_in.ensures.kept) in
     place-read g.F.Key.Ord.cmp g.F.Mergeable.parts.joined g.F.Functions.code v sound s c.args.slot c.args.context x v.core.records.begin at refl a.here c.in-Ok.entry c.own_record_in.result c.in-Ok.is kept
 
 pub returns-in-Err-own_record_in-clause-effect : goal.returns-in-Err-own_record_in-clause-effect
@@ -68,12 +71,12 @@ returns-in-Err-own_record_in-clause-effect g c =
     let sound = c.known.ensures.core in
     let s = c.known.ensures.compacting in
     let at = c.requires.reads in
-    let own = subst (λ u. IsHeldBy u.core.records.receipts (page_at u.core.records.page_bits x.target) (g.R.Receipt.stands p.receipt)) c.self.view_is
-    (subst (λ n. IsHeldBy c.self.inside.core.records.receipts n (g.R.Receipt.stands p.receipt)) (rw c.records.ensures at c.page_of-page.ensures) (rw c.records-2.ensures at (c.in_default.ensures.own.0 refl))) in
+    let moved = ap (λ u. u.core.records) c.self.view_is in
+    let page = c.page_of-page.ensures ∙ ap (λ r. page_at r.page_bits x.target) (c.records.ensures ∙ moved) in
+    let own = subst (λ n. IsHeldBy v.core.records.receipts n (g.R.Receipt.stands p.receipt)) page (subst (λ r. IsHeldBy r.receipts c.page_of-page.result (g.R.Receipt.stands p.receipt)) (c.records-2.ensures ∙ moved) (c.in_default.ensures.own.0 refl)) in
     let has : HasPage v c.args.slot c.args.context x x.target (g.R.Receipt.stands p.receipt) = record { awaits = a; own = own } in
-    let page : c.page_of-page.result ≡ page_at v.core.records.page_bits x.target = rw c.records.ensures at c.page_of-page.ensures ∙ ap (λ u. page_at u.core.records.page_bits x.target) c.self.view_is in
-    let found = subst (λ u. (y : Entry _ _) → (IsEntryIn g.F.Key.Fixed.bytes_of g.F.Value.Fixed.bytes_of g.F.Key.Known.is_known g.F.Value.Known.is_known g.F.Key.Fixed.SIZE g.F.Value.Fixed.SIZE) u.core.records.page_bits p.bytes x.target y → c.own_record_in.result ≡ Ok y) c.self.view_is (rw c.records-3.ensures at c.own_record_in.ensures.found) in
-    rw (c.end.ensures, page) (LoadsOn.damaged x v.core.records.begin p at has refl (λ y spelled. let bad = sym c.in-Err-own_record_in.is ∙ found y spelled in cc) refl refl)
+    let found = subst (λ r. (y : Entry _ _) → IsEntryIn g.F.Key.Fixed.bytes_of g.F.Value.Fixed.bytes_of g.F.Key.Known.is_known g.F.Value.Known.is_known g.F.Key.Fixed.SIZE g.F.Value.Fixed.SIZE r.page_bits p.bytes x.target y → c.own_record_in.result ≡ Ok y) (c.records-3.ensures ∙ moved) c.own_record_in.ensures.found in
+    LoadsOn.damaged x v.core.records.begin p at has refl (λ y spelled. err-ok (sym c.in-Err-own_record_in.is ∙ found y spelled)) c.end.ensures (ap (λ n. Err (Damaged n)) page)
 
 pub returns-in-Ok-clause-effect : goal.returns-in-Ok-clause-effect
 returns-in-Ok-clause-effect g c =
@@ -84,8 +87,48 @@ returns-in-Ok-clause-effect g c =
     let sound = c.known.ensures.core in
     let s = c.known.ensures.compacting in
     let at = c.requires.reads in
-    let own = subst (λ u. IsHeldBy u.core.records.receipts (page_at u.core.records.page_bits x.target) (g.R.Receipt.stands p.receipt)) c.self.view_is
-    (subst (λ n. IsHeldBy c.self.inside.core.records.receipts n (g.R.Receipt.stands p.receipt)) (rw c.records.ensures at c.page_of-page.ensures) (rw c.records-2.ensures at (c.in_default.ensures.own.0 refl))) in
+    let moved = ap (λ u. u.core.records) c.self.view_is in
+    let page = c.page_of-page.ensures ∙ ap (λ r. page_at r.page_bits x.target) (c.records.ensures ∙ moved) in
+    let own = subst (λ n. IsHeldBy v.core.records.receipts n (g.R.Receipt.stands p.receipt)) page (subst (λ r. IsHeldBy r.receipts c.page_of-page.result (g.R.Receipt.stands p.receipt)) (c.records-2.ensures ∙ moved) (c.in_default.ensures.own.0 refl)) in
     let has : HasPage v c.args.slot c.args.context x x.target (g.R.Receipt.stands p.receipt) = record { awaits = a; own = own } in
     let spelled = subst (λ u. (IsEntryIn g.F.Key.Fixed.bytes_of g.F.Value.Fixed.bytes_of g.F.Key.Known.is_known g.F.Value.Known.is_known g.F.Key.Fixed.SIZE g.F.Value.Fixed.SIZE) u.core.records.page_bits p.bytes x.target c.in-Ok.entry) c.self.view_is (rw (c.records-3.ensures, c.in-Ok.is) at c.own_record_in.ensures.only) in
     LoadsOn.checks x v.core.records.begin p c.in-Ok.entry at has refl spelled c.check_liveness.ensures.effect
+
+pub returns-in-Err-clause-cleared : goal.returns-in-Err-clause-cleared
+returns-in-Err-clause-cleared g c = err-ok
+
+pub returns-in-Err-clause-moment : goal.returns-in-Err-clause-moment
+returns-in-Err-clause-moment g c = no-later c.requires.later
+
+pub returns-in-Err-own_record_in-clause-cleared : goal.returns-in-Err-own_record_in-clause-cleared
+returns-in-Err-own_record_in-clause-cleared g c = err-ok
+
+pub returns-in-Err-own_record_in-clause-moment : goal.returns-in-Err-own_record_in-clause-moment
+returns-in-Err-own_record_in-clause-moment g c = has-come c.end.ensures refl
+
+pub end-requires-clause-session : goal.end-requires-clause-session
+end-requires-clause-session g c = c.requires.session
+
+pub end-requires-clause-context : goal.end-requires-clause-context
+end-requires-clause-context g c = c.requires.context
+
+pub check_liveness-requires-clause-later : goal.check_liveness-requires-clause-later
+check_liveness-requires-clause-later g c = c.requires.later
+
+pub check_liveness-requires-clause-session : goal.check_liveness-requires-clause-session
+check_liveness-requires-clause-session g c = c.requires.session
+
+pub check_liveness-requires-clause-context : goal.check_liveness-requires-clause-context
+check_liveness-requires-clause-context g c = c.requires.context
+
+pub check_liveness-requires-clause-here : goal.check_liveness-requires-clause-here
+check_liveness-requires-clause-here g c = c.requires.awaits.here
+
+pub returns-in-Ok-clause-event : goal.returns-in-Ok-clause-event
+returns-in-Ok-clause-event g c = c.check_liveness.ensures.event
+
+pub returns-in-Ok-clause-cleared : goal.returns-in-Ok-clause-cleared
+returns-in-Ok-clause-cleared g c = c.check_liveness.ensures.cleared
+
+pub returns-in-Ok-clause-moment : goal.returns-in-Ok-clause-moment
+returns-in-Ok-clause-moment g c = c.check_liveness.ensures.moment

@@ -1,8 +1,12 @@
-use Rattle.std.proofs.Common.{◌∙◌, Some, refl, sym, arith}
+use Rattle.std.proofs.Common.{◌∙◌, Some, refl, sym, subst, arith}
+use Rattle.fkv_core.specs.Beginning.{IsEntered}
+use Rattle.fkv_core.specs.Views.{slots_of}
 use Rattle.fkv_partition.specs.Inside.{view_of}
 use Rattle.fkv_partition.specs.Beginning.{Relocates}
+use Rattle.fkv_partition.proofs.ApartLemmas.{no-later, has-come}
 use Rattle.fkv_partition.proofs.KeepLemmas.{may-relocate}
 use Rattle.fkv_partition.proofs.TruncateLemmas.{relocating-set}
+use Rattle.fkv_partition.proofs.MoveLemmas.{open-free}
 use Rattle.fkv_partition.proofs.partitions.Partition.relocate.Goals as goal
 
 pub returns-then-not-is_session-clause-effect : goal.returns-then-not-is_session-clause-effect
@@ -38,3 +42,42 @@ returns-clause-effect g c =
 
 pub returns-clause-event : goal.returns-clause-event
 returns-clause-event g c = rw c.begin_relocation.ensures (relocating-set g.R.Receipt.keeps g.F.Key.Ord.cmp c.args.self.now c.args.slot c.in-Some.context c.args.now (Some _) c.in-Some.ensures.within)
+
+pub returns-then-not-is_session-clause-moment : goal.returns-then-not-is_session-clause-moment
+returns-then-not-is_session-clause-moment g c = no-later c.requires.later
+
+pub returns-then-target-view-clause-moment : goal.returns-then-target-view-clause-moment
+returns-then-target-view-clause-moment g c = no-later c.requires.later
+
+pub first_free-requires-clause-session : goal.first_free-requires-clause-session
+first_free-requires-clause-session g c = c.is_session.ensures.within c.if-not-is_session.false
+
+pub first_free-requires-clause-entered : goal.first_free-requires-clause-entered
+first_free-requires-clause-entered g c = subst (λ u. IsEntered u.core c.args.slot) c.self.view_is (sym c.is_session.ensures.value ∙ c.if-not-is_session.false)
+
+pub returns-in_default-clause-moment : goal.returns-in_default-clause-moment
+returns-in_default-clause-moment g c = no-later c.requires.later
+
+pub begin_relocation-requires-clause-session : goal.begin_relocation-requires-clause-session
+begin_relocation-requires-clause-session g c = c.is_session.ensures.within c.if-not-is_session.false
+
+pub begin_relocation-requires-clause-entered : goal.begin_relocation-requires-clause-entered
+begin_relocation-requires-clause-entered g c = subst (λ u. IsEntered u.core c.args.slot) c.self.view_is (sym c.is_session.ensures.value ∙ c.if-not-is_session.false)
+
+pub returns-clause-within : goal.returns-clause-within
+returns-clause-within g c = (c.is_session.ensures.within c.if-not-is_session.false, c.in-Some.ensures.within)
+
+pub returns-clause-closed : goal.returns-clause-closed
+returns-clause-closed g c = open-free (slots_of c.args.self.now.core) c.args.self.now.relocations c.args.slot c.in-Some.context c.in-Some.ensures.value.1.relocation
+
+pub returns-clause-moment : goal.returns-clause-moment
+returns-clause-moment g c = has-come c.begin_relocation.ensures refl
+
+pub returns-then-not-is_session-clause-unchanged : goal.returns-then-not-is_session-clause-unchanged
+returns-then-not-is_session-clause-unchanged g c = refl
+
+pub returns-then-target-view-clause-unchanged : goal.returns-then-target-view-clause-unchanged
+returns-then-target-view-clause-unchanged g c = refl
+
+pub returns-in_default-clause-unchanged : goal.returns-in_default-clause-unchanged
+returns-in_default-clause-unchanged g c = refl

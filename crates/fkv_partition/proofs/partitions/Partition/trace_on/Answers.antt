@@ -1,13 +1,17 @@
-use Rattle.std.proofs.Common.{◌≡◌, ◌+◌, ◌<◌, ◌≤◌, true, false, Ok, Err, length, refl, sym, ap, subst, ◌∙◌, arith}
+use Rattle.std.proofs.Common.{◌+◌, ◌<◌, ◌≤◌, Ok, Err, refl, sym, ap, subst, ◌∙◌, arith}
+use Rattle.std.proofs.lemmas.Bool.{false≢true}
 use Rattle.fkv_functions.proofs.KeyOrder.{key_order}
+use Rattle.fkv_functions.specs.declared.refusals.Refused.TheVariants.{Damaged}
 use Rattle.fkv_records.specs.Places.{page_at, IsRecordStart}
 use Rattle.fkv_pages.specs.Spelled.{IsEntryIn}
 use Rattle.fkv_pages.specs.Loads.{IsHeldBy, first_place}
-use Rattle.fkv_partition.specs.Checking.{higher_of}
+use Rattle.fkv_partition.specs.Checking.{higher_of, Ends}
 use Rattle.fkv_partition.specs.Reading.{LoadsOn}
-use Rattle.fkv_partition.proofs.MoveLemmas.{event-done, past-place, stands-here}
-use Rattle.fkv_partition.proofs.CheckingLemmas.{higher-right}
-use Rattle.fkv_partition.proofs.ReadLemmas.{stranger-held}
+use Rattle.fkv_partition.specs.declared.relocations.Stage.TheVariants.{Ready}
+use Rattle.fkv_partition.specs.Stages.{StageStands}
+use Rattle.fkv_partition.proofs.ApartLemmas.{err-ok, no-later, has-come}
+use Rattle.fkv_partition.proofs.MoveLemmas.{is-done, past-place, stands-here, frozen-low}
+use Rattle.fkv_partition.proofs.ReadLemmas.{page-within, stranger-held}
 use Rattle.fkv_partition.proofs.TraceLemmas.{page-came, way-flushed, has-page, traces-to, way-dead, way-last, above-place, way-below, lower-flushed, way-further}
 use Rattle.fkv_partition.proofs.partitions.Partition.trace_on.Goals as goal
 
@@ -26,8 +30,8 @@ is_own-requires g c =
     let l = c.args.loading in
     let at = c.requires.traces in
     let there = way-flushed g.F.Key.Ord.cmp g.F.Mergeable.parts.joined g.F.Functions.code order v sound s c.args.slot c.args.context x e l a at in
-    let held = subst (λ u. page_at u.core.records.page_bits l.wanted < length u.core.records.receipts) (sym c.self.view_is) there in
-    rw (c.page_of-page.ensures, c.records.ensures, c.records-2.ensures) held
+    let moved = ap (λ u. u.core.records) c.self.view_is in
+    page-within l.wanted c.page_of-page.ensures (c.records.ensures ∙ moved) (c.records-2.ensures ∙ moved) there
 
 pub returns-in-Err-clause-effect : goal.returns-in-Err-clause-effect
 returns-in-Err-clause-effect g c =
@@ -44,8 +48,9 @@ returns-in-Err-clause-effect g c =
     let l = c.args.loading in
     let at = c.requires.traces in
     let there = way-flushed g.F.Key.Ord.cmp g.F.Mergeable.parts.joined g.F.Functions.code order v sound s c.args.slot c.args.context x e l a at in
-    let held = subst (λ u. page_at u.core.records.page_bits l.wanted < length u.core.records.receipts) (sym c.self.view_is) there in
-    let z = stranger-held c.self.inside.core.records v.core.records c.page_of-page.result l.wanted (g.R.Receipt.stands p.receipt) c.in-Err.refused (ap (λ u. u.core.records) c.self.view_is) (rw c.records.ensures at c.page_of-page.ensures) there (rw c.records-2.ensures at c.in-Err.ensures.stranger) in
+    let moved = ap (λ u. u.core.records) c.self.view_is in
+    let page = c.page_of-page.ensures ∙ ap (λ r. page_at r.page_bits l.wanted) (c.records.ensures ∙ sym c.records-2.ensures) in
+    let z = stranger-held c.records-2.result.now v.core.records c.page_of-page.result l.wanted (g.R.Receipt.stands p.receipt) c.in-Err.refused (c.records-2.ensures ∙ moved) page there c.in-Err.ensures.stranger in
     LoadsOn.stranger x l.wanted p z.0 a refl z.1 z.2 refl (ap Err z.3)
 
 pub first_of-requires : goal.first_of-requires
@@ -63,23 +68,20 @@ first_of-requires g c =
     let l = c.args.loading in
     let at = c.requires.traces in
     let there = way-flushed g.F.Key.Ord.cmp g.F.Mergeable.parts.joined g.F.Functions.code order v sound s c.args.slot c.args.context x e l a at in
-    let held = subst (λ u. page_at u.core.records.page_bits l.wanted < length u.core.records.receipts) (sym c.self.view_is) there in
-    rw (c.page_of-page.ensures, c.records.ensures, c.records-3.ensures) held
+    let moved = ap (λ u. u.core.records) c.self.view_is in
+    page-within l.wanted c.page_of-page.ensures (c.records.ensures ∙ moved) (c.records-3.ensures ∙ moved) there
 
 pub trace_in-requires-clause-own : goal.trace_in-requires-clause-own
 trace_in-requires-clause-own g c =
-    let held = rw c.records-2.ensures at (c.in_default.ensures.own.0 refl) in
-    let page = rw c.records.ensures at c.page_of-page.ensures in
-    rw c.records-4.ensures (subst (λ n. IsHeldBy c.self.inside.core.records.receipts n (g.R.Receipt.stands c.args.loaded.now.receipt)) page held)
+    let page = c.page_of-page.ensures ∙ ap (λ r. page_at r.page_bits c.args.loading.wanted) (c.records.ensures ∙ sym c.records-4.ensures) in
+    let held = subst (λ r. IsHeldBy r.receipts c.page_of-page.result (g.R.Receipt.stands c.args.loaded.now.receipt)) (c.records-2.ensures ∙ sym c.records-4.ensures) (c.in_default.ensures.own.0 refl) in
+    subst (λ n. IsHeldBy c.records-4.result.now.receipts n (g.R.Receipt.stands c.args.loaded.now.receipt)) page held
 
 pub trace_in-requires-clause-floor : goal.trace_in-requires-clause-floor
 trace_in-requires-clause-floor g c =
-    let page = rw c.records.ensures at c.page_of-page.ensures in
-    let first = rw c.records-3.ensures at c.first_of.ensures in
-    let up = higher-right (c.args.relocation.now.target + 1) c.first_of.result in
-    let is = c.higher_of-low.ensures.value in
-    let low : c.first_of.result ≤ c.higher_of-low.result = omega (arith, up, is) in
-    rw c.records-4.ensures (subst (λ n. n ≤ c.higher_of-low.result) (first ∙ ap (first_place c.self.inside.core.records.page_bits) page) low)
+    let page = c.page_of-page.ensures ∙ ap (λ r. page_at r.page_bits c.args.loading.wanted) (c.records.ensures ∙ sym c.records-4.ensures) in
+    let first = c.first_of.ensures ∙ ap (λ r. first_place r.page_bits c.page_of-page.result) (c.records-3.ensures ∙ sym c.records-4.ensures) ∙ ap (first_place c.records-4.result.now.page_bits) page in
+    subst (λ n. n ≤ c.higher_of-low.result) first c.higher_of-low.ensures.right
 
 pub returns-in-Err-trace_in-clause-effect : goal.returns-in-Err-trace_in-clause-effect
 returns-in-Err-trace_in-clause-effect g c =
@@ -95,23 +97,18 @@ returns-in-Err-trace_in-clause-effect g c =
     let e = c.args.entry in
     let l = c.args.loading in
     let at = c.requires.traces in
-    let held = rw c.records-2.ensures at (c.in_default.ensures.own.0 refl) in
-    let came = page-came g.R.Receipt.keeps (IsEntryIn g.F.Key.Fixed.bytes_of g.F.Value.Fixed.bytes_of g.F.Key.Known.is_known g.F.Value.Known.is_known g.F.Key.Fixed.SIZE g.F.Value.Fixed.SIZE) g.F.Key.Ord.cmp g.F.Mergeable.parts.joined g.F.Functions.code c.self.inside.core.records v.core.records x.target e.key c.page_of-page.result c.higher_of-low.result l (g.R.Receipt.stands p.receipt) p.bytes c.trace_in.result (ap (λ u. u.core.records) c.self.view_is) (rw c.records.ensures at c.page_of-page.ensures) (c.higher_of-low.ensures.value ∙ ap (higher_of (x.target + 1)) (rw c.records-3.ensures at c.first_of.ensures)) held (rw c.records-4.ensures at c.trace_in.ensures.read) (rw c.records-4.ensures at c.trace_in.ensures.kept) in
-    let page : c.page_of-page.result ≡ page_at v.core.records.page_bits l.wanted = rw c.records.ensures at c.page_of-page.ensures ∙ ap (λ u. page_at u.core.records.page_bits l.wanted) c.self.view_is in
+    let moved = ap (λ u. u.core.records) c.self.view_is in
+    let came = page-came g.R.Receipt.keeps (IsEntryIn g.F.Key.Fixed.bytes_of g.F.Value.Fixed.bytes_of g.F.Key.Known.is_known g.F.Value.Known.is_known g.F.Key.Fixed.SIZE g.F.Value.Fixed.SIZE) g.F.Key.Ord.cmp g.F.Mergeable.parts.joined g.F.Functions.code c.records.result.now c.records-2.result.now c.records-3.result.now c.records-4.result.now v.core.records x.target e.key c.page_of-page.result c.higher_of-low.result l (g.R.Receipt.stands p.receipt) p.bytes c.trace_in.result (c.records.ensures ∙ moved) (c.records-2.ensures ∙ moved) (c.records-3.ensures ∙ moved) (c.records-4.ensures ∙ moved) c.page_of-page.ensures (c.higher_of-low.ensures.value ∙ ap (higher_of (x.target + 1)) c.first_of.ensures) (c.in_default.ensures.own.0 refl) c.trace_in.ensures.read c.trace_in.ensures.kept in
+    let page = c.page_of-page.ensures ∙ ap (λ r. page_at r.page_bits l.wanted) (c.records.ensures ∙ moved) in
     let is = c.in-Err-trace_in.is in
-    rw (c.end.ensures, page) (LoadsOn.bad_record x e l p c.in-Err-trace_in._damaged at (has-page g.F.Key.Ord.cmp g.F.Mergeable.parts.joined g.F.Functions.code order v sound s c.args.slot c.args.context x e l a at (IsEntryIn g.F.Key.Fixed.bytes_of g.F.Value.Fixed.bytes_of g.F.Key.Known.is_known g.F.Value.Known.is_known g.F.Key.Fixed.SIZE g.F.Value.Fixed.SIZE) (g.R.Receipt.stands p.receipt) p.bytes c.trace_in.result came) refl (traces-to g.F.Key.Ord.cmp g.F.Mergeable.parts.joined g.F.Functions.code order v sound s c.args.slot c.args.context x e l a at (IsEntryIn g.F.Key.Fixed.bytes_of g.F.Value.Fixed.bytes_of g.F.Key.Known.is_known g.F.Value.Known.is_known g.F.Key.Fixed.SIZE g.F.Value.Fixed.SIZE) (g.R.Receipt.stands p.receipt) p.bytes c.trace_in.result came (Err c.in-Err-trace_in._damaged) is) refl refl)
+    LoadsOn.bad_record x e l p c.in-Err-trace_in._damaged at (has-page g.F.Key.Ord.cmp g.F.Mergeable.parts.joined g.F.Functions.code order v sound s c.args.slot c.args.context x e l a at (IsEntryIn g.F.Key.Fixed.bytes_of g.F.Value.Fixed.bytes_of g.F.Key.Known.is_known g.F.Value.Known.is_known g.F.Key.Fixed.SIZE g.F.Value.Fixed.SIZE) (g.R.Receipt.stands p.receipt) p.bytes c.trace_in.result came) refl (traces-to g.F.Key.Ord.cmp g.F.Mergeable.parts.joined g.F.Functions.code order v sound s c.args.slot c.args.context x e l a at (IsEntryIn g.F.Key.Fixed.bytes_of g.F.Value.Fixed.bytes_of g.F.Key.Known.is_known g.F.Value.Known.is_known g.F.Key.Fixed.SIZE g.F.Value.Fixed.SIZE) (g.R.Receipt.stands p.receipt) p.bytes c.trace_in.result came (Err c.in-Err-trace_in._damaged) is) c.end.ensures (ap (λ n. Err (Damaged n)) page)
 
 pub finish-requires-clause-issued : goal.finish-requires-clause-issued
 finish-requires-clause-issued g c =
     let v = c.args.self.now in
     let x = c.args.relocation.now in
     let a = c.requires.awaits in
-    let p = c.args.loaded.now in
-    let sound = c.known.ensures.core in
     let s = c.known.ensures.compacting in
-    let e = c.args.entry in
-    let l = c.args.loading in
-    let at = c.requires.traces in
     (stands-here v c.args.slot c.args.context x a.here s).issued
 
 pub finish-requires-clause-place : goal.finish-requires-clause-place
@@ -119,12 +116,7 @@ finish-requires-clause-place g c =
     let v = c.args.self.now in
     let x = c.args.relocation.now in
     let a = c.requires.awaits in
-    let p = c.args.loaded.now in
-    let sound = c.known.ensures.core in
     let s = c.known.ensures.compacting in
-    let e = c.args.entry in
-    let l = c.args.loading in
-    let at = c.requires.traces in
     (stands-here v c.args.slot c.args.context x a.here s).place
 
 pub finish-requires-clause-low : goal.finish-requires-clause-low
@@ -138,8 +130,7 @@ finish-requires-clause-low g c =
     let e = c.args.entry in
     let l = c.args.loading in
     let at = c.requires.traces in
-    let low : x.target < v.core.records.tail = (let st = stands-here v c.args.slot c.args.context x a.here s in let o = sound.traced.regions.agree.in_order in omega (arith, st.frozen, o.safe, sound.traced.regions.read_only)) in
-    low
+    frozen-low v.core.records x.target sound.traced (stands-here v c.args.slot c.args.context x a.here s).frozen
 
 pub finish-requires-clause-superseded : goal.finish-requires-clause-superseded
 finish-requires-clause-superseded g c =
@@ -155,8 +146,8 @@ finish-requires-clause-superseded g c =
     let e = c.args.entry in
     let l = c.args.loading in
     let at = c.requires.traces in
-    let held = rw c.records-2.ensures at (c.in_default.ensures.own.0 refl) in
-    let came = page-came g.R.Receipt.keeps (IsEntryIn g.F.Key.Fixed.bytes_of g.F.Value.Fixed.bytes_of g.F.Key.Known.is_known g.F.Value.Known.is_known g.F.Key.Fixed.SIZE g.F.Value.Fixed.SIZE) g.F.Key.Ord.cmp g.F.Mergeable.parts.joined g.F.Functions.code c.self.inside.core.records v.core.records x.target e.key c.page_of-page.result c.higher_of-low.result l (g.R.Receipt.stands p.receipt) p.bytes c.trace_in.result (ap (λ u. u.core.records) c.self.view_is) (rw c.records.ensures at c.page_of-page.ensures) (c.higher_of-low.ensures.value ∙ ap (higher_of (x.target + 1)) (rw c.records-3.ensures at c.first_of.ensures)) held (rw c.records-4.ensures at c.trace_in.ensures.read) (rw c.records-4.ensures at c.trace_in.ensures.kept) in
+    let moved = ap (λ u. u.core.records) c.self.view_is in
+    let came = page-came g.R.Receipt.keeps (IsEntryIn g.F.Key.Fixed.bytes_of g.F.Value.Fixed.bytes_of g.F.Key.Known.is_known g.F.Value.Known.is_known g.F.Key.Fixed.SIZE g.F.Value.Fixed.SIZE) g.F.Key.Ord.cmp g.F.Mergeable.parts.joined g.F.Functions.code c.records.result.now c.records-2.result.now c.records-3.result.now c.records-4.result.now v.core.records x.target e.key c.page_of-page.result c.higher_of-low.result l (g.R.Receipt.stands p.receipt) p.bytes c.trace_in.result (c.records.ensures ∙ moved) (c.records-2.ensures ∙ moved) (c.records-3.ensures ∙ moved) (c.records-4.ensures ∙ moved) c.page_of-page.ensures (c.higher_of-low.ensures.value ∙ ap (higher_of (x.target + 1)) c.first_of.ensures) (c.in_default.ensures.own.0 refl) c.trace_in.ensures.read c.trace_in.ensures.kept in
     let r = c.in-Ok.came in
     let is = c.in-Ok.is in
     let j = sym c.liveness_of.ensures ∙ c.in-Superseded.is in
@@ -176,12 +167,13 @@ append_again-requires-clause-stands g c =
     let e = c.args.entry in
     let l = c.args.loading in
     let at = c.requires.traces in
-    let held = rw c.records-2.ensures at (c.in_default.ensures.own.0 refl) in
-    let came = page-came g.R.Receipt.keeps (IsEntryIn g.F.Key.Fixed.bytes_of g.F.Value.Fixed.bytes_of g.F.Key.Known.is_known g.F.Value.Known.is_known g.F.Key.Fixed.SIZE g.F.Value.Fixed.SIZE) g.F.Key.Ord.cmp g.F.Mergeable.parts.joined g.F.Functions.code c.self.inside.core.records v.core.records x.target e.key c.page_of-page.result c.higher_of-low.result l (g.R.Receipt.stands p.receipt) p.bytes c.trace_in.result (ap (λ u. u.core.records) c.self.view_is) (rw c.records.ensures at c.page_of-page.ensures) (c.higher_of-low.ensures.value ∙ ap (higher_of (x.target + 1)) (rw c.records-3.ensures at c.first_of.ensures)) held (rw c.records-4.ensures at c.trace_in.ensures.read) (rw c.records-4.ensures at c.trace_in.ensures.kept) in
+    let moved = ap (λ u. u.core.records) c.self.view_is in
+    let came = page-came g.R.Receipt.keeps (IsEntryIn g.F.Key.Fixed.bytes_of g.F.Value.Fixed.bytes_of g.F.Key.Known.is_known g.F.Value.Known.is_known g.F.Key.Fixed.SIZE g.F.Value.Fixed.SIZE) g.F.Key.Ord.cmp g.F.Mergeable.parts.joined g.F.Functions.code c.records.result.now c.records-2.result.now c.records-3.result.now c.records-4.result.now v.core.records x.target e.key c.page_of-page.result c.higher_of-low.result l (g.R.Receipt.stands p.receipt) p.bytes c.trace_in.result (c.records.ensures ∙ moved) (c.records-2.ensures ∙ moved) (c.records-3.ensures ∙ moved) (c.records-4.ensures ∙ moved) c.page_of-page.ensures (c.higher_of-low.ensures.value ∙ ap (higher_of (x.target + 1)) c.first_of.ensures) (c.in_default.ensures.own.0 refl) c.trace_in.ensures.read c.trace_in.ensures.kept in
     let r = c.in-Ok.came in
     let is = c.in-Ok.is in
     let j = sym c.liveness_of.ensures ∙ c.in-Last.is in
-    rw c.renewed-whole.ensures (way-last g.F.Key.Ord.cmp g.F.Mergeable.parts.joined g.F.Functions.code order v sound s c.args.slot c.args.context x e l a at (IsEntryIn g.F.Key.Fixed.bytes_of g.F.Value.Fixed.bytes_of g.F.Key.Known.is_known g.F.Value.Known.is_known g.F.Key.Fixed.SIZE g.F.Value.Fixed.SIZE) (g.R.Receipt.stands p.receipt) p.bytes c.trace_in.result came r c.in-Last.parts is j)
+    subst (λ q. StageStands g.R.Receipt.keeps g.F.Key.Ord.cmp g.F.Mergeable.parts.joined g.F.Functions.code v.core x.target (Ready q l.kept)) (sym c.renewed-whole.ensures)
+    (way-last g.F.Key.Ord.cmp g.F.Mergeable.parts.joined g.F.Functions.code order v sound s c.args.slot c.args.context x e l a at (IsEntryIn g.F.Key.Fixed.bytes_of g.F.Value.Fixed.bytes_of g.F.Key.Known.is_known g.F.Value.Known.is_known g.F.Key.Fixed.SIZE g.F.Value.Fixed.SIZE) (g.R.Receipt.stands p.receipt) p.bytes c.trace_in.result came r c.in-Last.parts is j)
 
 pub returns-then-not-is_place-clause-effect : goal.returns-then-not-is_place-clause-effect
 returns-then-not-is_place-clause-effect g c =
@@ -197,16 +189,15 @@ returns-then-not-is_place-clause-effect g c =
     let e = c.args.entry in
     let l = c.args.loading in
     let at = c.requires.traces in
-    let held = rw c.records-2.ensures at (c.in_default.ensures.own.0 refl) in
-    let came = page-came g.R.Receipt.keeps (IsEntryIn g.F.Key.Fixed.bytes_of g.F.Value.Fixed.bytes_of g.F.Key.Known.is_known g.F.Value.Known.is_known g.F.Key.Fixed.SIZE g.F.Value.Fixed.SIZE) g.F.Key.Ord.cmp g.F.Mergeable.parts.joined g.F.Functions.code c.self.inside.core.records v.core.records x.target e.key c.page_of-page.result c.higher_of-low.result l (g.R.Receipt.stands p.receipt) p.bytes c.trace_in.result (ap (λ u. u.core.records) c.self.view_is) (rw c.records.ensures at c.page_of-page.ensures) (c.higher_of-low.ensures.value ∙ ap (higher_of (x.target + 1)) (rw c.records-3.ensures at c.first_of.ensures)) held (rw c.records-4.ensures at c.trace_in.ensures.read) (rw c.records-4.ensures at c.trace_in.ensures.kept) in
-    let page : c.page_of-page.result ≡ page_at v.core.records.page_bits l.wanted = rw c.records.ensures at c.page_of-page.ensures ∙ ap (λ u. page_at u.core.records.page_bits l.wanted) c.self.view_is in
+    let moved = ap (λ u. u.core.records) c.self.view_is in
+    let came = page-came g.R.Receipt.keeps (IsEntryIn g.F.Key.Fixed.bytes_of g.F.Value.Fixed.bytes_of g.F.Key.Known.is_known g.F.Value.Known.is_known g.F.Key.Fixed.SIZE g.F.Value.Fixed.SIZE) g.F.Key.Ord.cmp g.F.Mergeable.parts.joined g.F.Functions.code c.records.result.now c.records-2.result.now c.records-3.result.now c.records-4.result.now v.core.records x.target e.key c.page_of-page.result c.higher_of-low.result l (g.R.Receipt.stands p.receipt) p.bytes c.trace_in.result (c.records.ensures ∙ moved) (c.records-2.ensures ∙ moved) (c.records-3.ensures ∙ moved) (c.records-4.ensures ∙ moved) c.page_of-page.ensures (c.higher_of-low.ensures.value ∙ ap (higher_of (x.target + 1)) c.first_of.ensures) (c.in_default.ensures.own.0 refl) c.trace_in.ensures.read c.trace_in.ensures.kept in
+    let page = c.page_of-page.ensures ∙ ap (λ r. page_at r.page_bits l.wanted) (c.records.ensures ∙ moved) in
     let r = c.in-Ok.came in
     let is = c.in-Ok.is in
     let b = c.in-Further.address in
     let j = sym c.liveness_of.ensures ∙ c.in-Further.is in
-    let no = rw c.records-in-Further.ensures at c.is_place.ensures in
-    rw (c.end-then-not-is_place.ensures, page) (LoadsOn.bad_link x e l p b c.in-Further.parts at (has-page g.F.Key.Ord.cmp g.F.Mergeable.parts.joined g.F.Functions.code order v sound s c.args.slot c.args.context x e l a at (IsEntryIn g.F.Key.Fixed.bytes_of g.F.Value.Fixed.bytes_of g.F.Key.Known.is_known g.F.Value.Known.is_known g.F.Key.Fixed.SIZE g.F.Value.Fixed.SIZE) (g.R.Receipt.stands p.receipt) p.bytes c.trace_in.result came) refl (way-below g.F.Key.Ord.cmp g.F.Mergeable.parts.joined g.F.Functions.code order v sound s c.args.slot c.args.context x e l a at (IsEntryIn g.F.Key.Fixed.bytes_of g.F.Value.Fixed.bytes_of g.F.Key.Known.is_known g.F.Value.Known.is_known g.F.Key.Fixed.SIZE g.F.Value.Fixed.SIZE) (g.R.Receipt.stands p.receipt) p.bytes c.trace_in.result came r b c.in-Further.parts is j) (above-place g.F.Key.Ord.cmp g.F.Mergeable.parts.joined g.F.Functions.code order v sound s c.args.slot c.args.context x e l a at (IsEntryIn g.F.Key.Fixed.bytes_of g.F.Value.Fixed.bytes_of g.F.Key.Known.is_known g.F.Value.Known.is_known g.F.Key.Fixed.SIZE g.F.Value.Fixed.SIZE) (g.R.Receipt.stands p.receipt) p.bytes c.trace_in.result came r b c.in-Further.parts is j)
-    (λ place. let yes = no.1 (subst (λ u. IsRecordStart u.core.records.page_bits u.core.records.record_size b) (sym c.self.view_is) place) in let bad : false ≡ true = sym c.if-not-is_place.true ∙ yes in cc) refl refl)
+    LoadsOn.bad_link x e l p b c.in-Further.parts at (has-page g.F.Key.Ord.cmp g.F.Mergeable.parts.joined g.F.Functions.code order v sound s c.args.slot c.args.context x e l a at (IsEntryIn g.F.Key.Fixed.bytes_of g.F.Value.Fixed.bytes_of g.F.Key.Known.is_known g.F.Value.Known.is_known g.F.Key.Fixed.SIZE g.F.Value.Fixed.SIZE) (g.R.Receipt.stands p.receipt) p.bytes c.trace_in.result came) refl (way-below g.F.Key.Ord.cmp g.F.Mergeable.parts.joined g.F.Functions.code order v sound s c.args.slot c.args.context x e l a at (IsEntryIn g.F.Key.Fixed.bytes_of g.F.Value.Fixed.bytes_of g.F.Key.Known.is_known g.F.Value.Known.is_known g.F.Key.Fixed.SIZE g.F.Value.Fixed.SIZE) (g.R.Receipt.stands p.receipt) p.bytes c.trace_in.result came r b c.in-Further.parts is j) (above-place g.F.Key.Ord.cmp g.F.Mergeable.parts.joined g.F.Functions.code order v sound s c.args.slot c.args.context x e l a at (IsEntryIn g.F.Key.Fixed.bytes_of g.F.Value.Fixed.bytes_of g.F.Key.Known.is_known g.F.Value.Known.is_known g.F.Key.Fixed.SIZE g.F.Value.Fixed.SIZE) (g.R.Receipt.stands p.receipt) p.bytes c.trace_in.result came r b c.in-Further.parts is j)
+    (λ place. false≢true (sym c.if-not-is_place.true ∙ c.is_place.ensures.1 (subst (λ r. IsRecordStart r.page_bits r.record_size b) (sym (c.records-in-Further.ensures ∙ moved)) place))) c.end-then-not-is_place.ensures (ap (λ n. Err (Damaged n)) page)
 
 pub ask-requires-clause-flushed : goal.ask-requires-clause-flushed
 ask-requires-clause-flushed g c =
@@ -222,8 +213,8 @@ ask-requires-clause-flushed g c =
     let e = c.args.entry in
     let l = c.args.loading in
     let at = c.requires.traces in
-    let held = rw c.records-2.ensures at (c.in_default.ensures.own.0 refl) in
-    let came = page-came g.R.Receipt.keeps (IsEntryIn g.F.Key.Fixed.bytes_of g.F.Value.Fixed.bytes_of g.F.Key.Known.is_known g.F.Value.Known.is_known g.F.Key.Fixed.SIZE g.F.Value.Fixed.SIZE) g.F.Key.Ord.cmp g.F.Mergeable.parts.joined g.F.Functions.code c.self.inside.core.records v.core.records x.target e.key c.page_of-page.result c.higher_of-low.result l (g.R.Receipt.stands p.receipt) p.bytes c.trace_in.result (ap (λ u. u.core.records) c.self.view_is) (rw c.records.ensures at c.page_of-page.ensures) (c.higher_of-low.ensures.value ∙ ap (higher_of (x.target + 1)) (rw c.records-3.ensures at c.first_of.ensures)) held (rw c.records-4.ensures at c.trace_in.ensures.read) (rw c.records-4.ensures at c.trace_in.ensures.kept) in
+    let moved = ap (λ u. u.core.records) c.self.view_is in
+    let came = page-came g.R.Receipt.keeps (IsEntryIn g.F.Key.Fixed.bytes_of g.F.Value.Fixed.bytes_of g.F.Key.Known.is_known g.F.Value.Known.is_known g.F.Key.Fixed.SIZE g.F.Value.Fixed.SIZE) g.F.Key.Ord.cmp g.F.Mergeable.parts.joined g.F.Functions.code c.records.result.now c.records-2.result.now c.records-3.result.now c.records-4.result.now v.core.records x.target e.key c.page_of-page.result c.higher_of-low.result l (g.R.Receipt.stands p.receipt) p.bytes c.trace_in.result (c.records.ensures ∙ moved) (c.records-2.ensures ∙ moved) (c.records-3.ensures ∙ moved) (c.records-4.ensures ∙ moved) c.page_of-page.ensures (c.higher_of-low.ensures.value ∙ ap (higher_of (x.target + 1)) c.first_of.ensures) (c.in_default.ensures.own.0 refl) c.trace_in.ensures.read c.trace_in.ensures.kept in
     let r = c.in-Ok.came in
     let is = c.in-Ok.is in
     let b = c.in-Further.address in
@@ -244,8 +235,8 @@ ask-requires-clause-stands g c =
     let e = c.args.entry in
     let l = c.args.loading in
     let at = c.requires.traces in
-    let held = rw c.records-2.ensures at (c.in_default.ensures.own.0 refl) in
-    let came = page-came g.R.Receipt.keeps (IsEntryIn g.F.Key.Fixed.bytes_of g.F.Value.Fixed.bytes_of g.F.Key.Known.is_known g.F.Value.Known.is_known g.F.Key.Fixed.SIZE g.F.Value.Fixed.SIZE) g.F.Key.Ord.cmp g.F.Mergeable.parts.joined g.F.Functions.code c.self.inside.core.records v.core.records x.target e.key c.page_of-page.result c.higher_of-low.result l (g.R.Receipt.stands p.receipt) p.bytes c.trace_in.result (ap (λ u. u.core.records) c.self.view_is) (rw c.records.ensures at c.page_of-page.ensures) (c.higher_of-low.ensures.value ∙ ap (higher_of (x.target + 1)) (rw c.records-3.ensures at c.first_of.ensures)) held (rw c.records-4.ensures at c.trace_in.ensures.read) (rw c.records-4.ensures at c.trace_in.ensures.kept) in
+    let moved = ap (λ u. u.core.records) c.self.view_is in
+    let came = page-came g.R.Receipt.keeps (IsEntryIn g.F.Key.Fixed.bytes_of g.F.Value.Fixed.bytes_of g.F.Key.Known.is_known g.F.Value.Known.is_known g.F.Key.Fixed.SIZE g.F.Value.Fixed.SIZE) g.F.Key.Ord.cmp g.F.Mergeable.parts.joined g.F.Functions.code c.records.result.now c.records-2.result.now c.records-3.result.now c.records-4.result.now v.core.records x.target e.key c.page_of-page.result c.higher_of-low.result l (g.R.Receipt.stands p.receipt) p.bytes c.trace_in.result (c.records.ensures ∙ moved) (c.records-2.ensures ∙ moved) (c.records-3.ensures ∙ moved) (c.records-4.ensures ∙ moved) c.page_of-page.ensures (c.higher_of-low.ensures.value ∙ ap (higher_of (x.target + 1)) c.first_of.ensures) (c.in_default.ensures.own.0 refl) c.trace_in.ensures.read c.trace_in.ensures.kept in
     let r = c.in-Ok.came in
     let is = c.in-Ok.is in
     let b = c.in-Further.address in
@@ -266,12 +257,12 @@ returns-in-Superseded-clause-effect g c =
     let e = c.args.entry in
     let l = c.args.loading in
     let at = c.requires.traces in
-    let held = rw c.records-2.ensures at (c.in_default.ensures.own.0 refl) in
-    let came = page-came g.R.Receipt.keeps (IsEntryIn g.F.Key.Fixed.bytes_of g.F.Value.Fixed.bytes_of g.F.Key.Known.is_known g.F.Value.Known.is_known g.F.Key.Fixed.SIZE g.F.Value.Fixed.SIZE) g.F.Key.Ord.cmp g.F.Mergeable.parts.joined g.F.Functions.code c.self.inside.core.records v.core.records x.target e.key c.page_of-page.result c.higher_of-low.result l (g.R.Receipt.stands p.receipt) p.bytes c.trace_in.result (ap (λ u. u.core.records) c.self.view_is) (rw c.records.ensures at c.page_of-page.ensures) (c.higher_of-low.ensures.value ∙ ap (higher_of (x.target + 1)) (rw c.records-3.ensures at c.first_of.ensures)) held (rw c.records-4.ensures at c.trace_in.ensures.read) (rw c.records-4.ensures at c.trace_in.ensures.kept) in
+    let moved = ap (λ u. u.core.records) c.self.view_is in
+    let came = page-came g.R.Receipt.keeps (IsEntryIn g.F.Key.Fixed.bytes_of g.F.Value.Fixed.bytes_of g.F.Key.Known.is_known g.F.Value.Known.is_known g.F.Key.Fixed.SIZE g.F.Value.Fixed.SIZE) g.F.Key.Ord.cmp g.F.Mergeable.parts.joined g.F.Functions.code c.records.result.now c.records-2.result.now c.records-3.result.now c.records-4.result.now v.core.records x.target e.key c.page_of-page.result c.higher_of-low.result l (g.R.Receipt.stands p.receipt) p.bytes c.trace_in.result (c.records.ensures ∙ moved) (c.records-2.ensures ∙ moved) (c.records-3.ensures ∙ moved) (c.records-4.ensures ∙ moved) c.page_of-page.ensures (c.higher_of-low.ensures.value ∙ ap (higher_of (x.target + 1)) c.first_of.ensures) (c.in_default.ensures.own.0 refl) c.trace_in.ensures.read c.trace_in.ensures.kept in
     let r = c.in-Ok.came in
     let is = c.in-Ok.is in
     let j = sym c.liveness_of.ensures ∙ c.in-Superseded.is in
-    rw c.finish.ensures (LoadsOn.newer x e l p r at (has-page g.F.Key.Ord.cmp g.F.Mergeable.parts.joined g.F.Functions.code order v sound s c.args.slot c.args.context x e l a at (IsEntryIn g.F.Key.Fixed.bytes_of g.F.Value.Fixed.bytes_of g.F.Key.Known.is_known g.F.Value.Known.is_known g.F.Key.Fixed.SIZE g.F.Value.Fixed.SIZE) (g.R.Receipt.stands p.receipt) p.bytes c.trace_in.result came) refl (traces-to g.F.Key.Ord.cmp g.F.Mergeable.parts.joined g.F.Functions.code order v sound s c.args.slot c.args.context x e l a at (IsEntryIn g.F.Key.Fixed.bytes_of g.F.Value.Fixed.bytes_of g.F.Key.Known.is_known g.F.Value.Known.is_known g.F.Key.Fixed.SIZE g.F.Value.Fixed.SIZE) (g.R.Receipt.stands p.receipt) p.bytes c.trace_in.result came (Ok r) is) j refl refl)
+    LoadsOn.newer x e l p r at (has-page g.F.Key.Ord.cmp g.F.Mergeable.parts.joined g.F.Functions.code order v sound s c.args.slot c.args.context x e l a at (IsEntryIn g.F.Key.Fixed.bytes_of g.F.Value.Fixed.bytes_of g.F.Key.Known.is_known g.F.Value.Known.is_known g.F.Key.Fixed.SIZE g.F.Value.Fixed.SIZE) (g.R.Receipt.stands p.receipt) p.bytes c.trace_in.result came) refl (traces-to g.F.Key.Ord.cmp g.F.Mergeable.parts.joined g.F.Functions.code order v sound s c.args.slot c.args.context x e l a at (IsEntryIn g.F.Key.Fixed.bytes_of g.F.Value.Fixed.bytes_of g.F.Key.Known.is_known g.F.Value.Known.is_known g.F.Key.Fixed.SIZE g.F.Value.Fixed.SIZE) (g.R.Receipt.stands p.receipt) p.bytes c.trace_in.result came (Ok r) is) j c.finish.ensures refl
 
 pub returns-in-Superseded-clause-event : goal.returns-in-Superseded-clause-event
 returns-in-Superseded-clause-event g c =
@@ -285,7 +276,7 @@ returns-in-Superseded-clause-event g c =
     let l = c.args.loading in
     let at = c.requires.traces in
     let up = past-place v x.target sound.traced (stands-here v c.args.slot c.args.context x a.here s).place in
-    rw c.finish.ensures (event-done g.R.Receipt.keeps g.F.Key.Ord.cmp v c.args.slot c.args.context c.args.now c.requires.context x.target up.0)
+    is-done g.R.Receipt.keeps g.F.Key.Ord.cmp v c.args.slot c.args.context c.args.now c.requires.context x.target up.0 c.finish.ensures
 
 pub returns-in-Superseded-clause-cleared : goal.returns-in-Superseded-clause-cleared
 returns-in-Superseded-clause-cleared g c =
@@ -299,7 +290,7 @@ returns-in-Superseded-clause-cleared g c =
     let l = c.args.loading in
     let at = c.requires.traces in
     let up = past-place v x.target sound.traced (stands-here v c.args.slot c.args.context x a.here s).place in
-    λ done. rw c.finish.ensures up.1
+    λ done. subst (λ u. x.target < u.cleared) (sym c.finish.ensures) up.1
 
 pub returns-in-Last-clause-effect : goal.returns-in-Last-clause-effect
 returns-in-Last-clause-effect g c =
@@ -315,12 +306,12 @@ returns-in-Last-clause-effect g c =
     let e = c.args.entry in
     let l = c.args.loading in
     let at = c.requires.traces in
-    let held = rw c.records-2.ensures at (c.in_default.ensures.own.0 refl) in
-    let came = page-came g.R.Receipt.keeps (IsEntryIn g.F.Key.Fixed.bytes_of g.F.Value.Fixed.bytes_of g.F.Key.Known.is_known g.F.Value.Known.is_known g.F.Key.Fixed.SIZE g.F.Value.Fixed.SIZE) g.F.Key.Ord.cmp g.F.Mergeable.parts.joined g.F.Functions.code c.self.inside.core.records v.core.records x.target e.key c.page_of-page.result c.higher_of-low.result l (g.R.Receipt.stands p.receipt) p.bytes c.trace_in.result (ap (λ u. u.core.records) c.self.view_is) (rw c.records.ensures at c.page_of-page.ensures) (c.higher_of-low.ensures.value ∙ ap (higher_of (x.target + 1)) (rw c.records-3.ensures at c.first_of.ensures)) held (rw c.records-4.ensures at c.trace_in.ensures.read) (rw c.records-4.ensures at c.trace_in.ensures.kept) in
+    let moved = ap (λ u. u.core.records) c.self.view_is in
+    let came = page-came g.R.Receipt.keeps (IsEntryIn g.F.Key.Fixed.bytes_of g.F.Value.Fixed.bytes_of g.F.Key.Known.is_known g.F.Value.Known.is_known g.F.Key.Fixed.SIZE g.F.Value.Fixed.SIZE) g.F.Key.Ord.cmp g.F.Mergeable.parts.joined g.F.Functions.code c.records.result.now c.records-2.result.now c.records-3.result.now c.records-4.result.now v.core.records x.target e.key c.page_of-page.result c.higher_of-low.result l (g.R.Receipt.stands p.receipt) p.bytes c.trace_in.result (c.records.ensures ∙ moved) (c.records-2.ensures ∙ moved) (c.records-3.ensures ∙ moved) (c.records-4.ensures ∙ moved) c.page_of-page.ensures (c.higher_of-low.ensures.value ∙ ap (higher_of (x.target + 1)) c.first_of.ensures) (c.in_default.ensures.own.0 refl) c.trace_in.ensures.read c.trace_in.ensures.kept in
     let r = c.in-Ok.came in
     let is = c.in-Ok.is in
     let j = sym c.liveness_of.ensures ∙ c.in-Last.is in
-    LoadsOn.ends x e l p r c.in-Last.parts at (has-page g.F.Key.Ord.cmp g.F.Mergeable.parts.joined g.F.Functions.code order v sound s c.args.slot c.args.context x e l a at (IsEntryIn g.F.Key.Fixed.bytes_of g.F.Value.Fixed.bytes_of g.F.Key.Known.is_known g.F.Value.Known.is_known g.F.Key.Fixed.SIZE g.F.Value.Fixed.SIZE) (g.R.Receipt.stands p.receipt) p.bytes c.trace_in.result came) refl (traces-to g.F.Key.Ord.cmp g.F.Mergeable.parts.joined g.F.Functions.code order v sound s c.args.slot c.args.context x e l a at (IsEntryIn g.F.Key.Fixed.bytes_of g.F.Value.Fixed.bytes_of g.F.Key.Known.is_known g.F.Value.Known.is_known g.F.Key.Fixed.SIZE g.F.Value.Fixed.SIZE) (g.R.Receipt.stands p.receipt) p.bytes c.trace_in.result came (Ok r) is) j (rw c.renewed-whole.ensures at c.append_again.ensures.effect)
+    LoadsOn.ends x e l p r c.in-Last.parts at (has-page g.F.Key.Ord.cmp g.F.Mergeable.parts.joined g.F.Functions.code order v sound s c.args.slot c.args.context x e l a at (IsEntryIn g.F.Key.Fixed.bytes_of g.F.Value.Fixed.bytes_of g.F.Key.Known.is_known g.F.Value.Known.is_known g.F.Key.Fixed.SIZE g.F.Value.Fixed.SIZE) (g.R.Receipt.stands p.receipt) p.bytes c.trace_in.result came) refl (traces-to g.F.Key.Ord.cmp g.F.Mergeable.parts.joined g.F.Functions.code order v sound s c.args.slot c.args.context x e l a at (IsEntryIn g.F.Key.Fixed.bytes_of g.F.Value.Fixed.bytes_of g.F.Key.Known.is_known g.F.Value.Known.is_known g.F.Key.Fixed.SIZE g.F.Value.Fixed.SIZE) (g.R.Receipt.stands p.receipt) p.bytes c.trace_in.result came (Ok r) is) j (subst (λ q. Ends v c.append_again.new.self c.args.slot c.args.context x q l.kept c.args.now c.append_again.result) c.renewed-whole.ensures c.append_again.ensures.effect)
 
 pub returns-else-not-is_place-clause-effect : goal.returns-else-not-is_place-clause-effect
 returns-else-not-is_place-clause-effect g c =
@@ -336,13 +327,13 @@ returns-else-not-is_place-clause-effect g c =
     let e = c.args.entry in
     let l = c.args.loading in
     let at = c.requires.traces in
-    let held = rw c.records-2.ensures at (c.in_default.ensures.own.0 refl) in
-    let came = page-came g.R.Receipt.keeps (IsEntryIn g.F.Key.Fixed.bytes_of g.F.Value.Fixed.bytes_of g.F.Key.Known.is_known g.F.Value.Known.is_known g.F.Key.Fixed.SIZE g.F.Value.Fixed.SIZE) g.F.Key.Ord.cmp g.F.Mergeable.parts.joined g.F.Functions.code c.self.inside.core.records v.core.records x.target e.key c.page_of-page.result c.higher_of-low.result l (g.R.Receipt.stands p.receipt) p.bytes c.trace_in.result (ap (λ u. u.core.records) c.self.view_is) (rw c.records.ensures at c.page_of-page.ensures) (c.higher_of-low.ensures.value ∙ ap (higher_of (x.target + 1)) (rw c.records-3.ensures at c.first_of.ensures)) held (rw c.records-4.ensures at c.trace_in.ensures.read) (rw c.records-4.ensures at c.trace_in.ensures.kept) in
+    let moved = ap (λ u. u.core.records) c.self.view_is in
+    let came = page-came g.R.Receipt.keeps (IsEntryIn g.F.Key.Fixed.bytes_of g.F.Value.Fixed.bytes_of g.F.Key.Known.is_known g.F.Value.Known.is_known g.F.Key.Fixed.SIZE g.F.Value.Fixed.SIZE) g.F.Key.Ord.cmp g.F.Mergeable.parts.joined g.F.Functions.code c.records.result.now c.records-2.result.now c.records-3.result.now c.records-4.result.now v.core.records x.target e.key c.page_of-page.result c.higher_of-low.result l (g.R.Receipt.stands p.receipt) p.bytes c.trace_in.result (c.records.ensures ∙ moved) (c.records-2.ensures ∙ moved) (c.records-3.ensures ∙ moved) (c.records-4.ensures ∙ moved) c.page_of-page.ensures (c.higher_of-low.ensures.value ∙ ap (higher_of (x.target + 1)) c.first_of.ensures) (c.in_default.ensures.own.0 refl) c.trace_in.ensures.read c.trace_in.ensures.kept in
     let r = c.in-Ok.came in
     let is = c.in-Ok.is in
     let b = c.in-Further.address in
     let j = sym c.liveness_of.ensures ∙ c.in-Further.is in
-    let place = subst (λ u. IsRecordStart u.core.records.page_bits u.core.records.record_size b) c.self.view_is ((rw c.records-in-Further.ensures at c.is_place.ensures).0 c.if-not-is_place.false) in
+    let place = subst (λ r. IsRecordStart r.page_bits r.record_size b) (c.records-in-Further.ensures ∙ moved) (c.is_place.ensures.0 c.if-not-is_place.false) in
     LoadsOn.further x e l p b c.in-Further.parts at (has-page g.F.Key.Ord.cmp g.F.Mergeable.parts.joined g.F.Functions.code order v sound s c.args.slot c.args.context x e l a at (IsEntryIn g.F.Key.Fixed.bytes_of g.F.Value.Fixed.bytes_of g.F.Key.Known.is_known g.F.Value.Known.is_known g.F.Key.Fixed.SIZE g.F.Value.Fixed.SIZE) (g.R.Receipt.stands p.receipt) p.bytes c.trace_in.result came) refl (way-below g.F.Key.Ord.cmp g.F.Mergeable.parts.joined g.F.Functions.code order v sound s c.args.slot c.args.context x e l a at (IsEntryIn g.F.Key.Fixed.bytes_of g.F.Value.Fixed.bytes_of g.F.Key.Known.is_known g.F.Value.Known.is_known g.F.Key.Fixed.SIZE g.F.Value.Fixed.SIZE) (g.R.Receipt.stands p.receipt) p.bytes c.trace_in.result came r b c.in-Further.parts is j) (above-place g.F.Key.Ord.cmp g.F.Mergeable.parts.joined g.F.Functions.code order v sound s c.args.slot c.args.context x e l a at (IsEntryIn g.F.Key.Fixed.bytes_of g.F.Value.Fixed.bytes_of g.F.Key.Known.is_known g.F.Value.Known.is_known g.F.Key.Fixed.SIZE g.F.Value.Fixed.SIZE) (g.R.Receipt.stands p.receipt) p.bytes c.trace_in.result came r b c.in-Further.parts is j) place c.ask.ensures.effect
 
 pub overflow_add-target : goal.overflow_add-target
@@ -352,3 +343,84 @@ overflow_add-target g c =
     let safe = regions.in_order.safe in
     let most = regions.in_order.most in
     omega (arith, frozen, safe, most)
+
+pub returns-in-Err-clause-cleared : goal.returns-in-Err-clause-cleared
+returns-in-Err-clause-cleared g c = err-ok
+
+pub returns-in-Err-clause-moment : goal.returns-in-Err-clause-moment
+returns-in-Err-clause-moment g c = no-later c.requires.later
+
+pub returns-in-Err-trace_in-clause-cleared : goal.returns-in-Err-trace_in-clause-cleared
+returns-in-Err-trace_in-clause-cleared g c = err-ok
+
+pub returns-in-Err-trace_in-clause-moment : goal.returns-in-Err-trace_in-clause-moment
+returns-in-Err-trace_in-clause-moment g c = has-come c.end.ensures refl
+
+pub returns-then-not-is_place-clause-cleared : goal.returns-then-not-is_place-clause-cleared
+returns-then-not-is_place-clause-cleared g c = err-ok
+
+pub returns-then-not-is_place-clause-moment : goal.returns-then-not-is_place-clause-moment
+returns-then-not-is_place-clause-moment g c = has-come c.end-then-not-is_place.ensures refl
+
+pub returns-in-Superseded-clause-moment : goal.returns-in-Superseded-clause-moment
+returns-in-Superseded-clause-moment g c = has-come c.finish.ensures refl
+
+pub returns-else-not-is_place-clause-cleared : goal.returns-else-not-is_place-clause-cleared
+returns-else-not-is_place-clause-cleared g c = λ is. absurd (c.ask.ensures.uncleared is)
+
+pub returns-in-Last-clause-event : goal.returns-in-Last-clause-event
+returns-in-Last-clause-event g c = c.append_again.ensures.event
+
+pub returns-in-Last-clause-cleared : goal.returns-in-Last-clause-cleared
+returns-in-Last-clause-cleared g c = c.append_again.ensures.cleared
+
+pub returns-in-Last-clause-moment : goal.returns-in-Last-clause-moment
+returns-in-Last-clause-moment g c = c.append_again.ensures.moment
+
+pub returns-else-not-is_place-clause-event : goal.returns-else-not-is_place-clause-event
+returns-else-not-is_place-clause-event g c = c.ask.ensures.event
+
+pub returns-else-not-is_place-clause-moment : goal.returns-else-not-is_place-clause-moment
+returns-else-not-is_place-clause-moment g c = c.ask.ensures.moment
+
+pub finish-requires-clause-session : goal.finish-requires-clause-session
+finish-requires-clause-session g c = c.requires.session
+
+pub finish-requires-clause-context : goal.finish-requires-clause-context
+finish-requires-clause-context g c = c.requires.context
+
+pub end-requires-clause-session : goal.end-requires-clause-session
+end-requires-clause-session g c = c.requires.session
+
+pub end-requires-clause-context : goal.end-requires-clause-context
+end-requires-clause-context g c = c.requires.context
+
+pub end-requires-then-not-is_place-clause-session : goal.end-requires-then-not-is_place-clause-session
+end-requires-then-not-is_place-clause-session g c = c.requires.session
+
+pub end-requires-then-not-is_place-clause-context : goal.end-requires-then-not-is_place-clause-context
+end-requires-then-not-is_place-clause-context g c = c.requires.context
+
+pub append_again-requires-clause-later : goal.append_again-requires-clause-later
+append_again-requires-clause-later g c = c.requires.later
+
+pub append_again-requires-clause-session : goal.append_again-requires-clause-session
+append_again-requires-clause-session g c = c.requires.session
+
+pub append_again-requires-clause-context : goal.append_again-requires-clause-context
+append_again-requires-clause-context g c = c.requires.context
+
+pub append_again-requires-clause-here : goal.append_again-requires-clause-here
+append_again-requires-clause-here g c = c.requires.awaits.here
+
+pub ask-requires-clause-later : goal.ask-requires-clause-later
+ask-requires-clause-later g c = c.requires.later
+
+pub ask-requires-clause-session : goal.ask-requires-clause-session
+ask-requires-clause-session g c = c.requires.session
+
+pub ask-requires-clause-context : goal.ask-requires-clause-context
+ask-requires-clause-context g c = c.requires.context
+
+pub ask-requires-clause-here : goal.ask-requires-clause-here
+ask-requires-clause-here g c = c.requires.awaits.here

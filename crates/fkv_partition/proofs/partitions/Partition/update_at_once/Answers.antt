@@ -1,13 +1,19 @@
-use Rattle.std.proofs.Common.{◌≡◌, ◌∙◌, ◌+◌, ◌*◌, refl, sym, ap, Ok}
+use Rattle.std.proofs.Common.{◌≡◌, ◌∙◌, ◌+◌, ◌*◌, ◌<◌, false, None, refl, sym, ap, subst, Ok}
+use Rattle.std.proofs.lemmas.Bool.{false≢true}
 use Rattle.fkv_functions.proofs.KeyOrder.{key_order}
 use Rattle.fkv_operations.specs.declared.operations.KeyedOp.TheVariants.{Rmw}
 use Rattle.fkv_operations.specs.declared.operations.Answer.TheVariants.{Value}
 use Rattle.fkv_core.specs.declared.contexts.Progress.TheVariants.{Done}
+use Rattle.fkv_core.specs.Contexts.{is_session}
+use Rattle.fkv_core.specs.Beginning.{IsEntered}
+use Rattle.fkv_core.specs.Views.{slots_of, context_at}
 use Rattle.fkv_partition.specs.Inside.{view_of}
 use Rattle.fkv_partition.specs.Views.{with_core}
+use Rattle.fkv_partition.proofs.ApartLemmas.{later-still}
 use Rattle.fkv_partition.proofs.AtOnceLemmas.{done-at-once, kept-at-once, left-at-once, sound-issued, told-some}
 use Rattle.fkv_partition.proofs.SteadyLemmas.{goes-steady, issues-steady}
 use Rattle.fkv_partition.proofs.KeepLemmas.{keep-seated, keep-issued}
+use Rattle.fkv_partition.proofs.MoveLemmas.{open-free}
 use Rattle.fkv_partition.proofs.partitions.Partition.update_at_once.Goals as goal
 
 pub invariant_of-self : goal.invariant_of-self
@@ -56,3 +62,55 @@ returns-clause-left g c =
 
 pub returns-clause-within : goal.returns-clause-within
 returns-clause-within g c = told-some c.update_at_once-shown.result (c.is_session.ensures.within c.if-not-is_session.false)
+
+pub returns-then-not-is_session-clause-left : goal.returns-then-not-is_session-clause-left
+returns-then-not-is_session-clause-left g c = 
+    let out = subst (λ u. is_session (slots_of u.core) c.args.slot ≡ false) c.self.view_is (sym c.is_session.ensures.value ∙ c.if-not-is_session.true) in
+    λ none held hand. absurd (false≢true (sym out ∙ hand.entered))
+
+pub returns-then-not-is_session-clause-none : goal.returns-then-not-is_session-clause-none
+returns-then-not-is_session-clause-none g c = λ none. refl
+
+pub returns-then-not-is_session-clause-moment : goal.returns-then-not-is_session-clause-moment
+returns-then-not-is_session-clause-moment g c = later-still c.requires.later c.requires.after
+
+pub first_free-requires-clause-session : goal.first_free-requires-clause-session
+first_free-requires-clause-session g c = c.is_session.ensures.within c.if-not-is_session.false
+
+pub first_free-requires-clause-entered : goal.first_free-requires-clause-entered
+first_free-requires-clause-entered g c = subst (λ u. IsEntered u.core c.args.slot) c.self.view_is (sym c.is_session.ensures.value ∙ c.if-not-is_session.false)
+
+pub returns-in_default-clause-left : goal.returns-in_default-clause-left
+returns-in_default-clause-left g c = λ none held hand. absurd (c.in_default.ensures.value hand.context hand.free.0 hand.free.1)
+
+pub returns-in_default-clause-none : goal.returns-in_default-clause-none
+returns-in_default-clause-none g c = λ none. refl
+
+pub returns-in_default-clause-moment : goal.returns-in_default-clause-moment
+returns-in_default-clause-moment g c = later-still c.requires.later c.requires.after
+
+pub update_at_once-shown-requires-clause-later : goal.update_at_once-shown-requires-clause-later
+update_at_once-shown-requires-clause-later g c = subst (λ u. u.core.moment < c.args.issued) (sym c.self.view_is) c.requires.later
+
+pub update_at_once-shown-requires-clause-after : goal.update_at_once-shown-requires-clause-after
+update_at_once-shown-requires-clause-after g c = c.requires.after
+
+pub update_at_once-shown-requires-clause-session : goal.update_at_once-shown-requires-clause-session
+update_at_once-shown-requires-clause-session g c = c.is_session.ensures.within c.if-not-is_session.false
+
+pub update_at_once-shown-requires-clause-entered : goal.update_at_once-shown-requires-clause-entered
+update_at_once-shown-requires-clause-entered g c = sym c.is_session.ensures.value ∙ c.if-not-is_session.false
+
+pub update_at_once-shown-requires-clause-context : goal.update_at_once-shown-requires-clause-context
+update_at_once-shown-requires-clause-context g c = c.in-Some.ensures.within
+
+pub update_at_once-shown-requires-clause-free : goal.update_at_once-shown-requires-clause-free
+update_at_once-shown-requires-clause-free g c = 
+    let v = c.args.self.now in
+    subst (λ u. context_at u.core c.args.slot c.in-Some.context ≡ None) (sym c.self.view_is) (open-free (slots_of v.core) v.core.contexts c.args.slot c.in-Some.context c.in-Some.ensures.value.1.operation)
+
+pub returns-clause-none : goal.returns-clause-none
+returns-clause-none g c = λ none. ap (λ p. view_of p c.self.inside.cleared c.self.inside.relocations.items) (c.update_at_once-shown.ensures.none none) ∙ c.self.view_is
+
+pub returns-clause-moment : goal.returns-clause-moment
+returns-clause-moment g c = c.update_at_once-shown.ensures.moment

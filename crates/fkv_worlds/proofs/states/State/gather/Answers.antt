@@ -4,12 +4,12 @@ use Rattle.std.specs.BTreeMap.{get, is_at}
 use Rattle.std.specs.Map.{lookup}
 use Rattle.fkv_partition.specs.CoreViews.{partition_of}
 use Rattle.fkv_partition.specs.Unions.{union_of}
-use Rattle.fkv_partition.proofs.UnionLemmas.{live-more, live-all}
+use Rattle.fkv_partition.proofs.UnionLemmas.{live-more, live-all, bare_before}
 use Rattle.fkv_functions.specs.Plain.{Same}
 use Rattle.fkv_device.specs.declared.memory.MemoryReceipt.{MemoryReceipt}
 use Rattle.fkv_worlds.specs.States.{StateView}
 use Rattle.fkv_worlds.proofs.StateLemmas.{at-index}
-use Rattle.fkv_worlds.proofs.ReportLemmas.{memory-only, bare_before}
+use Rattle.fkv_worlds.proofs.ReportLemmas.{memory-only}
 use Rattle.fkv_worlds.proofs.states.State.gather.Goals as goal
 
 pub loop-partition-init : goal.loop-partition-init
