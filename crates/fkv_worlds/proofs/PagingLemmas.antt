@@ -37,6 +37,10 @@ len-map : {A B : Type 0} (f : A → B) (xs : List A) → length (map f xs) ≡ l
 len-map f [] = refl
 len-map f (x ∷ xs) = ap suc (len-map f xs)
 
+-- a flush slot for each row of the jobs
+pub flush_slot-there : (flush_slots : List FlushSlot) (p : ℕ) → p < length (map (λ (e : FlushSlot). e.job) flush_slots) → p < length flush_slots
+flush_slot-there flush_slots p low = let l = len-map (λ (e : FlushSlot). e.job) flush_slots in omega arith
+
 -- the page in a flush slot
 pub flush_slot-job : (flush_slots : List FlushSlot) (p : ℕ) (d : FlushSlot) → p < length (map (λ (e : FlushSlot). e.job) flush_slots) → d ≡ slice_index_or flush_slots p d → job_in (map (λ (e : FlushSlot). e.job) flush_slots) p ≡ d.job
 flush_slot-job flush_slots p d low is =

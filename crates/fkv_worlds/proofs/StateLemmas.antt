@@ -44,6 +44,17 @@ index-of [] i x h = absurd (cc)
 index-of (y ∷ ys) zero x h = cc
 index-of (y ∷ ys) (suc i) x h = index-of ys i x h
 
+-- a number below or past another, by the other's name
+pub below-by : {p n m : ℕ} → n ≡ m → p < n → p < m
+below-by e h = rw (← e) h
+
+pub past-by : {p n m : ℕ} → n ≡ m → n ≤ p → m ≤ p
+past-by e h = rw (← e) h
+
+-- what a list has room for, by the list's name
+pub within-by : {A : Type 0} {xs ys : List A} {n : ℕ} → ys ≡ xs → n ≤ length xs → n ≤ length ys
+within-by e h = rw e h
+
 pub set-unchanged : {A : Type 0} (xs : List A) (i : ℕ) (x y : A) → slice_get xs i ≡ Some x → y ≡ x → slice_set xs i y ≡ xs
 set-unchanged [] i x y h e = refl
 set-unchanged (z ∷ zs) zero x y h e = let same : y ≡ z = cc in ap (λ q. q ∷ zs) same
@@ -87,6 +98,10 @@ life_in-other begun w u x a b n = by_cases (is_context u) refl
     by_cases : (t : Bool) → is_context u ≡ t → life_in (slice_set begun (context_row w) x) u ≡ life_in begun u
     by_cases true t = let h = is_context-bounds u t in ap (λ o. cond (is_context u) (unwrap_or o 0) 0) (get-set_other begun (context_row w) (context_row u) x (row-apart w u a b h.0 h.1 n))
     by_cases false t = rw t refl
+
+-- its row
+pub row-within : (w : ContextId) {row n : ℕ} → is_context w ≡ true → row ≡ context_row w → w.partition * 128 + 128 ≤ n → row < n
+row-within w on e rows = let within = is_context-bounds w on in omega arith
 
 -- what a context asked for last
 pub question-is : {K V I : Type 0} (questions : List (Option (Ask K V I))) (w : ContextId) (x : Option (Ask K V I)) → is_context w ≡ true → slice_get questions (context_row w) ≡ Some x → question_in questions w ≡ x

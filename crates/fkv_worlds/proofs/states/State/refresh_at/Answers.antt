@@ -1,12 +1,13 @@
 use Rattle.std.proofs.Common.{refl}
 use Rattle.fkv_functions.proofs.KeyOrder.{key_order}
+use Rattle.fkv_worlds.proofs.CallLemmas.{with_receipt}
 use Rattle.fkv_worlds.proofs.EventLemmas.{event-later, refused-state, refused-refresh, does-refresh, quiet-state}
 use Rattle.fkv_worlds.proofs.states.State.refresh_at.Goals as goal
 
-pub refresh-requires : goal.refresh-requires
-refresh-requires g c =
+pub refresh-requires-whole : goal.refresh-requires-whole
+refresh-requires-whole g c κs =
     let due = rw (← c.self.view_is) at c.requires.due in
-    record { later = event-later g.F.Key.Ord.cmp g.F.Functions.meaning g.F.Functions.code _ c.self.invariant c.args.partition c.args.now due c.index_mut.result.now c.index_mut.ensures.value }
+    with_receipt (event-later g.F.Key.Ord.cmp g.F.Functions.meaning g.F.Functions.code _ c.self.invariant c.args.partition c.args.now due c.index_mut.result.now c.index_mut.ensures.value)
 
 pub invariant_of-self-in-Err : goal.invariant_of-self-in-Err
 invariant_of-self-in-Err g c =
