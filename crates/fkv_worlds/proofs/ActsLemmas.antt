@@ -169,6 +169,9 @@ module _ {K V I O R : Type 0} {s t : StateView K V I O R} (view : s ≡ t) where
   pub asked-seen : (step : Step K V I) → is_unasked s step ≡ false → is_unasked t step ≡ false
   asked-seen step h = rw (← view) h
 
+  pub asked-was : (step : Step K V I) → is_unasked t step ≡ false → is_unasked s step ≡ false
+  asked-was step h = rw view h
+
   -- a write of no page
   pub acts-idle : {stands : R → Standing} {entry : ℕ → List ℕ → ℕ → Entry K V → Type 0} {cmp : K → K → Ordering} {join : V → V → V} {f : Meanings K V I O} {code : K → ℕ} (p : ℕ) (access : Access) → p < length s.partitions → is_none (job_in s.jobs p) ≡ true → Acts stands entry cmp join f code t t (Write p access) (Err NotReady)
   acts-idle p access there idle = rw (← view) (acts.no_flush_job p access refl there idle refl refl)

@@ -4,7 +4,11 @@ use base.Fml.{Lft}
 use contract.BorrowLft.{◌⊑◌, ⊑_static}
 use Rattle.std.proofs.Common.{[]}
 
--- of keys, values, inputs and outputs
+-- of keys, values and inputs
+pub with_three : {A B C P : Type 0} → P → A × (B × C) → A × (B × (C × P))
+with_three p h = (h.0, (h.1.0, (h.1.1, p)))
+
+-- of outputs too
 pub with_four : {A B C D P : Type 0} → P → A × (B × (C × D)) → A × (B × (C × (D × P)))
 with_four p h = (h.0, (h.1.0, (h.1.1.0, (h.1.1.1, p))))
 

@@ -1,5 +1,5 @@
 -- A world before its first step.
-use Rattle.std.proofs.Common.{◌≡◌, Bool, true, false, cond, ◌&&◌, ℕ, zero, suc, ◌+◌, ◌*◌, ◌^◌, ◌<◌, ◌≤◌, List, [], ◌∷◌, ◌++◌, length, replicate, map, Option, Some, None, option_map, slice_get, nat_lt, refl, sym, ◌∙◌, ap, subst, arith}
+use Rattle.std.proofs.Common.{◌≡◌, Bool, false, ℕ, zero, suc, ◌+◌, ◌*◌, ◌^◌, ◌<◌, ◌≤◌, List, [], ◌∷◌, ◌++◌, length, replicate, map, Option, Some, None, option_map, slice_get, refl, sym, ◌∙◌, ap, subst, arith}
 use Rattle.std.specs.List.{range_with_len}
 use Rattle.std.proofs.lemmas.List.FromFn.{length-map-range_with_len, map-range_with_len_more}
 use Rattle.std.proofs.lemmas.List.{length-replicate}
@@ -17,7 +17,7 @@ use Rattle.fkv_partition.specs.Views.{PartitionView, empty_partition}
 use Rattle.fkv_partition.specs.Pending.{Pending}
 use Rattle.fkv_partition.specs.Effect.{Asked, asked}
 use Rattle.fkv_partition.specs.Unions.{live_at}
-use Rattle.fkv_partition.specs.CoreContexts.{joined, is_session}
+use Rattle.fkv_partition.specs.CoreContexts.{is_session}
 use Rattle.fkv_worlds.specs.declared.tables.Seat.{Seat}
 use Rattle.fkv_worlds.specs.States.{StateView, state_of, IsBlank, empty_partitions, empty_state}
 use Rattle.fkv_lives.specs.declared.lives.Life.{Life}

@@ -117,14 +117,11 @@ module _ {K V I O R : Type 0} (cmp : K → K → Ordering) (f : Meanings K V I O
     refused-state_of new same l = rw l (refused-state new same)
 
     module _ (new : PartitionView K V I) (o : IsKeyOrder cmp) where
-      pub entered-state : (slot : ℕ) → IsQuiet true old new now → AllPend cmp old.core new.core
-          → IsState cmp f code (record s {
-            partitions = slice_set s.partitions p new;
-            enters = slice_set s.enters p (unwrap_or (slice_get s.enters p) 0 + 1);
-            seats = slice_set s.seats (seat_row p slot) (record { session = unwrap_or (slice_get s.enters p) 0 + 1; issues = 0 });
-            moment = now;
-          })
-      entered-state slot ev pends = let n = entered in rw n.1 (state-enter cmp o f code s state now due.next p slot n.0 old new here ev pends n.1)
+      pub entered-state : (slot : ℕ) → {enters : List ℕ} {seats : List Seat} → enters ≡ slice_set s.enters p (unwrap_or (slice_get s.enters p) 0 + 1)
+          → seats ≡ slice_set s.seats (seat_row p slot) (record { session = unwrap_or (slice_get s.enters p) 0 + 1; issues = 0 })
+          → IsQuiet true old new now → AllPend cmp old.core new.core
+          → IsState cmp f code (record s { partitions = slice_set s.partitions p new; enters = enters; seats = seats; moment = now })
+      entered-state slot a b ev pends = let n = entered in rw (a, b, n.1) (state-enter cmp o f code s state now due.next p slot n.0 old new here ev pends n.1)
 
       pub quiet-state : IsQuiet true old new now → AllPend cmp old.core new.core → IsState cmp f code (record s { partitions = slice_set s.partitions p new; moment = now })
       quiet-state ev pends = state-quiet cmp o f code s state now due.next p old new here ev pends
@@ -178,14 +175,11 @@ module _ {K V I O R : Type 0} {stands : R → Standing} {entry : ℕ → List �
         → Acts stands entry cmp join f code t (record s { partitions = slice_set s.partitions p new; lives = lives }) (Issue p slot op) (Err r)
     refused-issue view l slot op r same does = rw (← view, l) (refused-step (Issue p slot op) refl refl r same (refusing.issue p slot op (subst (λ (v : PartitionView K V I). Issues code old v slot op now (Err r)) same does)))
 
-    pub does-enter : (slot : ℕ) → Enters old new now (Ok slot) → IsQuiet true old new now → slot < 16
-        → Acts stands entry cmp join f code s (record s {
-          partitions = slice_set s.partitions p new;
-          enters = slice_set s.enters p (unwrap_or (slice_get s.enters p) 0 + 1);
-          seats = slice_set s.seats (seat_row p slot) (record { session = unwrap_or (slice_get s.enters p) 0 + 1; issues = 0 });
-          moment = now;
-        }) (Enter p) (Ok (outcome.Entered slot))
-    does-enter slot does ev low = let n = entered cmp f code s state p now due in rw n.1 (acts-enter stands entry cmp join f code s now due.next due.fits p old new (here cmp f code s state p now due old is) slot n.0 does ev low n.1)
+    pub does-enter : {t : StateView K V I O R} → s ≡ t → (slot : ℕ) → {enters : List ℕ} {seats : List Seat} → enters ≡ slice_set s.enters p (unwrap_or (slice_get s.enters p) 0 + 1)
+        → seats ≡ slice_set s.seats (seat_row p slot) (record { session = unwrap_or (slice_get s.enters p) 0 + 1; issues = 0 })
+        → Enters old new now (Ok slot) → IsQuiet true old new now → slot < 16
+        → Acts stands entry cmp join f code t (record s { partitions = slice_set s.partitions p new; enters = enters; seats = seats; moment = now }) (Enter p) (Ok (outcome.Entered slot))
+    does-enter view slot a b does ev low = let n = entered cmp f code s state p now due in rw (← view, a, b, n.1) (acts-enter stands entry cmp join f code s now due.next due.fits p old new (here cmp f code s state p now due old is) slot n.0 does ev low n.1)
 
     pub does-leave : (slot : ℕ) → LeavesAll true old new slot now (Ok tt) → IsQuiet true old new now → Acts stands entry cmp join f code s (record s { partitions = slice_set s.partitions p new; moment = now }) (Leave p slot) (Ok outcome.Left)
     does-leave slot does ev = acts-leave stands entry cmp join f code s now due.next due.fits p old new (here cmp f code s state p now due old is) slot does ev

@@ -37,7 +37,7 @@ some_is (Some x) h = (x, refl)
 pub ok_not_err : {A E : Type 0} {x : A} {e : E} → Ok x ≡ Err e → ⊥
 ok_not_err h = absurd (cc)
 
-err_is : {A E : Type 0} (x y : E) → ◌≡◌ {A = Result A E} (Err x) (Err y) → x ≡ y
+pub err_is : {A E : Type 0} (x y : E) → ◌≡◌ {A = Result A E} (Err x) (Err y) → x ≡ y
 err_is x y h = cc
 
 pub err_as : {A B E : Type 0} {x y : E} → ◌≡◌ {A = Result A E} (Err x) (Err y) → ◌≡◌ {A = Result B E} (Err x) (Err y)

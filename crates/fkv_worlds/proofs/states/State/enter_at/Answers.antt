@@ -48,11 +48,9 @@ invariant_of-self g c =
     let known = g.met.F.Key.FixedKey in
     let order = key_order g.F.Key.PartialEq.eq g.F.Key.Ord.cmp ord.matches_eq known.exact ord.total in
     let due = moment-in c.self.view_is c.requires.due in
-    rw (c.seat_session.ensures.enters, c.seat_session.ensures.seats)
-    (entered-state g.F.Key.Ord.cmp g.F.Functions.meaning g.F.Functions.code _ c.self.invariant c.args.partition c.args.now due c.index_mut.result.now c.index_mut.ensures.value c.enter.new.self order c.in-Ok.slot c.in-Ok.ensures.event c.enter.ensures.pends)
+    entered-state g.F.Key.Ord.cmp g.F.Functions.meaning g.F.Functions.code _ c.self.invariant c.args.partition c.args.now due c.index_mut.result.now c.index_mut.ensures.value c.enter.new.self order c.in-Ok.slot c.seat_session.ensures.enters c.seat_session.ensures.seats c.in-Ok.ensures.event c.enter.ensures.pends
 
 pub returns-in-Ok : goal.returns-in-Ok
 returns-in-Ok g c =
     let due = moment-in c.self.view_is c.requires.due in
-    rw (← c.self.view_is, c.seat_session.ensures.enters, c.seat_session.ensures.seats)
-    (record { effect = does-enter g.F.Key.Ord.cmp g.F.Mergeable.parts.joined g.F.Functions.meaning g.F.Functions.code _ c.self.invariant c.args.partition c.args.now due c.index_mut.result.now c.index_mut.ensures.value c.enter.new.self c.in-Ok.slot c.in-Ok.ensures.effect c.in-Ok.ensures.event c.in-Ok.ensures.within })
+    record { effect = does-enter g.F.Key.Ord.cmp g.F.Mergeable.parts.joined g.F.Functions.meaning g.F.Functions.code _ c.self.invariant c.args.partition c.args.now due c.index_mut.result.now c.index_mut.ensures.value c.enter.new.self c.self.view_is c.in-Ok.slot c.seat_session.ensures.enters c.seat_session.ensures.seats c.in-Ok.ensures.effect c.in-Ok.ensures.event c.in-Ok.ensures.within }

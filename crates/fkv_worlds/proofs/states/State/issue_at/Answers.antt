@@ -1,6 +1,7 @@
 use Rattle.std.proofs.Common.{refl}
 use Rattle.fkv_functions.proofs.KeyOrder.{key_order}
 use Rattle.fkv_worlds.proofs.CallLemmas.{with_receipt}
+use Rattle.fkv_worlds.proofs.StateLemmas.{state-lives}
 use Rattle.fkv_worlds.proofs.EventLemmas.{moment-in, rows, issues-fit, no_memory_for_life-issue, event-later, refused-state_of, refused-issue, does-issue, issued-state}
 use Rattle.fkv_worlds.proofs.states.State.issue_at.Goals as goal
 
@@ -79,3 +80,6 @@ pub begin_life-requires-clause-issues : goal.begin_life-requires-clause-issues
 begin_life-requires-clause-issues g c =
     let due = moment-in c.self.view_is c.requires.due in
     issues-fit g.F.Key.Ord.cmp g.F.Functions.meaning g.F.Functions.code _ c.self.invariant c.args.partition c.args.now due c.args.slot c.in-Ok-issue.ensures.within.0
+
+pub invariant_of-self : goal.invariant_of-self
+invariant_of-self g c = state-lives g.F.Key.Ord.cmp g.F.Functions.meaning g.F.Functions.code _ c.self.invariant c.try_reserve.ensures.items
