@@ -169,8 +169,8 @@ module _ {K V I O R : Type 0} {s t : StateView K V I O R} (view : s ≡ t) where
   pub asked-seen : (step : Step K V I) → is_unasked s step ≡ false → is_unasked t step ≡ false
   asked-seen step h = rw (← view) h
 
-  pub asked-was : (step : Step K V I) → is_unasked t step ≡ false → is_unasked s step ≡ false
-  asked-was step h = rw view h
+  pub asked-behind : (step : Step K V I) → is_unasked t step ≡ false → is_unasked s step ≡ false
+  asked-behind step h = rw view h
 
   -- a write of no page
   pub acts-idle : {stands : R → Standing} {entry : ℕ → List ℕ → ℕ → Entry K V → Type 0} {cmp : K → K → Ordering} {join : V → V → V} {f : Meanings K V I O} {code : K → ℕ} (p : ℕ) (access : Access) → p < length s.partitions → is_none (job_in s.jobs p) ≡ true → Acts stands entry cmp join f code t t (Write p access) (Err NotReady)
@@ -186,11 +186,11 @@ module _ {K V I O R : Type 0} {s t : StateView K V I O R} (view : s ≡ t) where
   pub receipt-asked : (w : ContextId) {receipts : List (Option R)} {b : Bool} → receipts ≡ s.receipts → b ≡ is_some (receipt_in receipts w) → b ≡ true → is_none (receipt_in t.receipts w) ≡ false
   receipt-asked w {receipts = receipts} e h on = ap (λ (v : StateView K V I O R). is_none (receipt_in v.receipts w)) (sym view) ∙ ap (λ xs. is_none (receipt_in xs w)) (sym e) ∙ some_not_none (receipt_in receipts w) (sym h ∙ on)
 
-  pub question-seen : (w : ContextId) {ask : Ask K V I} → question_in t.questions w ≡ Some ask → question_in s.questions w ≡ Some ask
-  question-seen w h = ap (λ (v : StateView K V I O R). question_in v.questions w) view ∙ h
+  pub question-behind : (w : ContextId) {ask : Ask K V I} → question_in t.questions w ≡ Some ask → question_in s.questions w ≡ Some ask
+  question-behind w h = ap (λ (v : StateView K V I O R). question_in v.questions w) view ∙ h
 
-  pub receipt-seen : (w : ContextId) → is_none (receipt_in t.receipts w) ≡ false → (receipt : R) × (receipt_in s.receipts w ≡ Some receipt)
-  receipt-seen w h = some_of (receipt_in s.receipts w) (ap (λ (v : StateView K V I O R). is_none (receipt_in v.receipts w)) view ∙ h)
+  pub receipt-behind : (w : ContextId) → is_none (receipt_in t.receipts w) ≡ false → (receipt : R) × (receipt_in s.receipts w ≡ Some receipt)
+  receipt-behind w h = some_of (receipt_in s.receipts w) (ap (λ (v : StateView K V I O R). is_none (receipt_in v.receipts w)) view ∙ h)
 
   pub receipt-there : (w : ContextId) {receipts : List (Option R)} → receipts ≡ s.receipts → is_none (receipt_in t.receipts w) ≡ false → IsSome (receipt_in receipts w)
   receipt-there w {receipts = receipts} e h = some_there (receipt_in receipts w) (ap (λ xs. is_none (receipt_in xs w)) e ∙ ap (λ (v : StateView K V I O R). is_none (receipt_in v.receipts w)) view ∙ h)

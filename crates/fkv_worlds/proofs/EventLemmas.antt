@@ -47,8 +47,8 @@ use Rattle.std.proofs.lemmas.Option.{slice_get_within}
 
 -- the state before a step, as it is seen
 module _ {K V I O R : Type 0} {s t : StateView K V I O R} (view : s ≡ t) where
-  pub moment-in : {p now : ℕ} → IsMomentIn t p now → IsMomentIn s p now
-  moment-in h = rw view h
+  pub moment-behind : {p now : ℕ} → IsMomentIn t p now → IsMomentIn s p now
+  moment-behind h = rw view h
 
   pub acts-seen : {stands : R → Standing} {entry : ℕ → List ℕ → ℕ → Entry K V → Type 0} {cmp : K → K → Ordering} {join : V → V → V} {f : Meanings K V I O} {code : K → ℕ} {new : StateView K V I O R} {step : Step K V I} {r : Result (Outcome V O) Refused}
       → Acts stands entry cmp join f code s new step r → Acts stands entry cmp join f code t new step r

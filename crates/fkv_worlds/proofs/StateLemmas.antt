@@ -44,12 +44,9 @@ index-of [] i x h = absurd (cc)
 index-of (y ∷ ys) zero x h = cc
 index-of (y ∷ ys) (suc i) x h = index-of ys i x h
 
--- a number below or past another, by the other's name
+-- below a number, by its other name
 pub below-by : {p n m : ℕ} → n ≡ m → p < n → p < m
 below-by e h = rw (← e) h
-
-pub past-by : {p n m : ℕ} → n ≡ m → n ≤ p → m ≤ p
-past-by e h = rw (← e) h
 
 -- what a list has room for, by the list's name
 pub within-by : {A : Type 0} {xs ys : List A} {n : ℕ} → ys ≡ xs → n ≤ length xs → n ≤ length ys
