@@ -6,9 +6,9 @@ use Rattle.std.specs.declared.cmp.Ordering.{Ordering}
 use Rattle.fkv_functions.specs.Meanings.{Meanings}
 use Rattle.fkv_functions.specs.declared.refusals.Refused.{Refused}
 use Rattle.fkv_operations.specs.declared.operations.Answer.{Answer}
+use Rattle.fkv_partition.specs.Config.{Config}
 use Rattle.fkv_partition.specs.Progress.{Progress}
 use Rattle.fkv_partition.specs.Progress.TheVariants.{Done, Next, NeedsBuild, NeedsLoad, Waits}
-use Rattle.fkv_partition.specs.Wait.TheVariants.{Full}
 use Rattle.fkv_partition.specs.Views.{PartitionView}
 use Rattle.fkv_partition.specs.Effect.{Asked, asked}
 use Rattle.fkv_device.specs.Standing.{Standing}
@@ -26,7 +26,7 @@ use Rattle.fkv_lives.specs.declared.steps.Step.{Step}
 use Rattle.fkv_lives.specs.declared.steps.Step.TheVariants.{Go, Install, Load, GiveUp}
 use Rattle.fkv_lives.specs.Lives.{finish_of, finish_in}
 use Rattle.fkv_lives.specs.Changes.{ended_at}
-use Rattle.fkv_worlds.specs.States.{StateView, life_in}
+use Rattle.fkv_worlds.specs.States.{StateView, life_in, empty_state}
 use Rattle.fkv_worlds.specs.Acts as acts
 use Rattle.fkv_worlds.specs.Acts.{Acts, lives_by, told}
 use Rattle.fkv_lives.specs.Steps.{partition_in}
@@ -205,6 +205,9 @@ account-empty {K} {V} {I} {O} = record {
   once = λ i j x y t u h k a b e. absurd (cc);
   owned = λ s a h. absurd (nothing_told V s a h);
 }
+
+pub account-begun : {K V I O R : Type 0} (merges : Bool) (config : Config) (size : ℕ) (s : StateView K V I O R) (os : List (Result (Outcome V O) Refused)) → s ≡ empty_state merges config size → os ≡ [] → IsAccount s.lives (taken os) s.moment
+account-begun merges config size s os a b = rw (a, b) account-empty
 
 -- ---- each step keeps the account
 module _ {K V I O R : Type 0} (stands : R → Standing) (entry : ℕ → List ℕ → ℕ → Entry K V → Type 0) (cmp : K → K → Ordering) (join : V → V → V) (f : Meanings K V I O) (code : K → ℕ) (s : StateView K V I O R) (state : IsState cmp f code s) (rs : List (Result (Outcome V O) Refused)) (account : IsAccount s.lives (taken rs) s.moment) where

@@ -1,9 +1,10 @@
 -- Which rule of a step a call is, in the words of the code.
-use Rattle.std.proofs.Common.{◌≡◌, ℕ, suc, ◌+◌, ◌^◌, ◌<◌, true, false, List, ◌∷◌, [], ◌++◌, length, Some, None, Result, Ok, Err, slice_get, slice_set, refl, sym, ◌∙◌, ap, subst, arith}
+use Rattle.std.proofs.Common.{◌≡◌, ℕ, suc, ◌+◌, ◌^◌, ◌<◌, ◌≤◌, Bool, true, false, List, ◌∷◌, [], ◌++◌, length, Option, Some, None, IsSome, is_none, is_some, Result, Ok, Err, slice_get, slice_set, refl, sym, ◌∙◌, ap, subst, arith}
 use Rattle.std.specs.declared.cmp.Ordering.{Ordering}
 use Rattle.fkv_functions.specs.Meanings.{Meanings}
 use Rattle.fkv_functions.specs.declared.asks.Ask.{Ask}
 use Rattle.fkv_functions.specs.declared.refusals.Refused.{Refused}
+use Rattle.fkv_functions.specs.declared.refusals.Refused.TheVariants.{Unknown, NotReady}
 use Rattle.fkv_device.specs.Standing.{Standing, Joined}
 use Rattle.fkv_device.specs.declared.messages.FlushJob.{FlushJob}
 use Rattle.fkv_texts.specs.declared.entries.Entry.{Entry}
@@ -32,6 +33,7 @@ use Rattle.fkv_worlds.specs.Moments.{IsUntimely, no_partition, worn}
 use Rattle.fkv_worlds.specs.Acts as acts
 use Rattle.fkv_worlds.specs.Acts.{Acts, IsDue, begun_life, after_issue, lives_by, questions_by, receipts_by, told}
 use Rattle.fkv_lives.specs.Steps.{partition_in}
+use Rattle.fkv_worlds.proofs.ResultLemmas.{some_of, some_there, some_not_none, not_some_none}
 
 module _ {K V I O R : Type 0} (stands : R → Standing) (entry : ℕ → List ℕ → ℕ → Entry K V → Type 0) (cmp : K → K → Ordering) (join : V → V → V) (f : Meanings K V I O) (code : K → ℕ) (s : StateView K V I O R) (next : ℕ) (then : next ≡ s.moment + 1) (fits : next < 2 ^ 64) where
   e : next ≡ suc s.moment
@@ -153,3 +155,46 @@ pub acts-untimely : {K V I O R : Type 0} (stands : R → Standing) (entry : ℕ 
     → is_unasked s step ≡ false → IsUntimely s (partition_in step) r → Acts stands entry cmp join f code s s step (Err r)
 acts-untimely stands entry cmp join f code s step r asked (no_partition h e) = acts.no_partition h refl (ap Err e)
 acts-untimely stands entry cmp join f code s step r asked (worn h m e) = acts.worn h asked m refl (ap Err e)
+
+-- ---- a world that is seen as another
+module _ {K V I O R : Type 0} {s t : StateView K V I O R} (view : s ≡ t) where
+  pub there-seen : {p : ℕ} → p < length s.partitions → p < length t.partitions
+  there-seen h = rw (← view) h
+
+  -- a step in no partition
+  pub acts-nowhere : {stands : R → Standing} {entry : ℕ → List ℕ → ℕ → Entry K V → Type 0} {cmp : K → K → Ordering} {join : V → V → V} {f : Meanings K V I O} {code : K → ℕ} {step : Step K V I} {n : ℕ} → n ≡ length s.partitions → n ≤ partition_in step → Acts stands entry cmp join f code t t step (Err Unknown)
+  acts-nowhere e h = acts.no_partition (rw (← view, ← e) h) refl refl
+
+  -- what a step answers was asked
+  pub asked-seen : (step : Step K V I) → is_unasked s step ≡ false → is_unasked t step ≡ false
+  asked-seen step h = rw (← view) h
+
+  pub asked-behind : (step : Step K V I) → is_unasked t step ≡ false → is_unasked s step ≡ false
+  asked-behind step h = rw view h
+
+  -- a write of no page
+  pub acts-idle : {stands : R → Standing} {entry : ℕ → List ℕ → ℕ → Entry K V → Type 0} {cmp : K → K → Ordering} {join : V → V → V} {f : Meanings K V I O} {code : K → ℕ} (p : ℕ) (access : Access) → p < length s.partitions → is_none (job_in s.jobs p) ≡ true → Acts stands entry cmp join f code t t (Write p access) (Err NotReady)
+  acts-idle p access there idle = rw (← view) (acts.no_flush_job p access refl there idle refl refl)
+
+  -- whether a context asked, by what its row holds
+  pub question-unasked : (w : ContextId) {questions : List (Option (Ask K V I))} → questions ≡ s.questions → None ≡ question_in questions w → is_none (question_in t.questions w) ≡ true
+  question-unasked w e h = ap is_none (ap (λ (v : StateView K V I O R). question_in v.questions w) (sym view) ∙ ap (λ xs. question_in xs w) (sym e) ∙ sym h)
+
+  pub receipt-unasked : (w : ContextId) {receipts : List (Option R)} {b : Bool} → receipts ≡ s.receipts → b ≡ is_some (receipt_in receipts w) → b ≡ false → is_none (receipt_in t.receipts w) ≡ true
+  receipt-unasked w {receipts = receipts} e h off = ap (λ (v : StateView K V I O R). is_none (receipt_in v.receipts w)) (sym view) ∙ ap (λ xs. is_none (receipt_in xs w)) (sym e) ∙ not_some_none (receipt_in receipts w) (sym h ∙ off)
+
+  pub receipt-asked : (w : ContextId) {receipts : List (Option R)} {b : Bool} → receipts ≡ s.receipts → b ≡ is_some (receipt_in receipts w) → b ≡ true → is_none (receipt_in t.receipts w) ≡ false
+  receipt-asked w {receipts = receipts} e h on = ap (λ (v : StateView K V I O R). is_none (receipt_in v.receipts w)) (sym view) ∙ ap (λ xs. is_none (receipt_in xs w)) (sym e) ∙ some_not_none (receipt_in receipts w) (sym h ∙ on)
+
+  pub question-behind : (w : ContextId) {ask : Ask K V I} → question_in t.questions w ≡ Some ask → question_in s.questions w ≡ Some ask
+  question-behind w h = ap (λ (v : StateView K V I O R). question_in v.questions w) view ∙ h
+
+  pub receipt-behind : (w : ContextId) → is_none (receipt_in t.receipts w) ≡ false → (receipt : R) × (receipt_in s.receipts w ≡ Some receipt)
+  receipt-behind w h = some_of (receipt_in s.receipts w) (ap (λ (v : StateView K V I O R). is_none (receipt_in v.receipts w)) view ∙ h)
+
+  pub receipt-there : (w : ContextId) {receipts : List (Option R)} → receipts ≡ s.receipts → is_none (receipt_in t.receipts w) ≡ false → IsSome (receipt_in receipts w)
+  receipt-there w {receipts = receipts} e h = some_there (receipt_in receipts w) (ap (λ xs. is_none (receipt_in xs w)) e ∙ ap (λ (v : StateView K V I O R). is_none (receipt_in v.receipts w)) view ∙ h)
+
+-- what a context asked for, by the list's name
+pub at-rows : {R : Type 0} {xs ys : List (Option R)} (w : ContextId) {o : Option R} → ys ≡ xs → receipt_in xs w ≡ o → receipt_in ys w ≡ o
+at-rows w e h = ap (λ zs. receipt_in zs w) e ∙ h

@@ -1,5 +1,5 @@
 -- A world before its first step.
-use Rattle.std.proofs.Common.{◌≡◌, Bool, true, false, cond, ◌&&◌, ℕ, zero, suc, ◌+◌, ◌*◌, ◌^◌, ◌<◌, ◌≤◌, List, [], ◌∷◌, ◌++◌, length, replicate, map, Option, Some, None, option_map, slice_get, nat_lt, refl, sym, ◌∙◌, ap, arith}
+use Rattle.std.proofs.Common.{◌≡◌, Bool, false, ℕ, zero, suc, ◌+◌, ◌*◌, ◌^◌, ◌<◌, ◌≤◌, List, [], ◌∷◌, ◌++◌, length, replicate, map, Option, Some, None, option_map, slice_get, refl, sym, ◌∙◌, ap, subst, arith}
 use Rattle.std.specs.List.{range_with_len}
 use Rattle.std.proofs.lemmas.List.FromFn.{length-map-range_with_len, map-range_with_len_more}
 use Rattle.std.proofs.lemmas.List.{length-replicate}
@@ -8,6 +8,8 @@ use Rattle.std.proofs.Math.Pow.{pow_mono}
 use Rattle.std.proofs.lemmas.Option.{slice_get-map}
 use Rattle.std.specs.declared.cmp.Ordering.{Ordering}
 use Rattle.fkv_functions.specs.Meanings.{Meanings}
+use Rattle.fkv_functions.specs.declared.asks.Ask.{Ask}
+use Rattle.fkv_device.specs.declared.messages.FlushJob.{FlushJob}
 use Rattle.fkv_partition.specs.Config.{Config}
 use Rattle.fkv_partition.specs.Limits.{IsWithinLimits}
 use Rattle.fkv_partition.specs.CoreViews.{partition_of}
@@ -15,9 +17,10 @@ use Rattle.fkv_partition.specs.Views.{PartitionView, empty_partition}
 use Rattle.fkv_partition.specs.Pending.{Pending}
 use Rattle.fkv_partition.specs.Effect.{Asked, asked}
 use Rattle.fkv_partition.specs.Unions.{live_at}
-use Rattle.fkv_partition.specs.CoreContexts.{joined, is_session}
+use Rattle.fkv_partition.specs.CoreContexts.{is_session}
 use Rattle.fkv_worlds.specs.declared.tables.Seat.{Seat}
-use Rattle.fkv_worlds.specs.States.{empty_partitions, empty_state}
+use Rattle.fkv_worlds.specs.States.{StateView, state_of, IsBlank, empty_partitions, empty_state}
+use Rattle.fkv_lives.specs.declared.lives.Life.{Life}
 use Rattle.fkv_lives.specs.declared.steps.ContextId.{ContextId}
 use Rattle.fkv_worlds.specs.Worlds.{asked_at, pending_in}
 use Rattle.fkv_worlds.proofs.HeldLemmas.{waiting-at}
@@ -61,6 +64,9 @@ partitions-more merges config size n xs ys before one =
 
 pub small : (n : ℕ) → n ≤ 6 → (1 ≤ 2 ^ n) × (2 ^ n ≤ 64)
 small n h = let most : 2 ^ n ≤ 2 ^ 6 = pow_mono h in let least : 0 < 2 ^ n = pow_pos n in (omega arith, omega arith)
+
+pub few : (bits : ℕ) {n : ℕ} → n ≡ 2 ^ bits → bits ≤ 6 → n ≤ 64
+few bits e h = rw e (small bits h).1
 
 module _ {K V I O : Type 0} (R : Type 0) (cmp : K → K → Ordering) (f : Meanings K V I O) (code : K → ℕ) (merges : Bool) (config : Config) (size : ℕ) (within : IsWithinLimits config size) where
   sized : length (plains {K = K} {V = V} {I = I} merges config size (2 ^ config.partition_bits)) ≡ 2 ^ config.partition_bits
@@ -128,3 +134,12 @@ module _ {K V I O : Type 0} (R : Type 0) (cmp : K → K → Ordering) (f : Meani
       };
     };
   }
+
+  -- the parts of such a state, as they are told
+  module _ {partitions : List (PartitionView K V I)} {begun : List ℕ} {questions : List (Option (Ask K V I))} {receipts : List (Option R)} {jobs : List (Option FlushJob)} {seats : List Seat} {enters : List ℕ} {lives : List (Life K V I O)} (n : ℕ)
+      (count : n ≡ 2 ^ config.partition_bits) (p : partitions ≡ empty_partitions merges config size n) (blank : IsBlank n begun questions receipts seats enters) (j : jobs ≡ replicate n None) (l : lives ≡ []) where
+    pub state-told : state_of partitions begun questions receipts jobs seats enters lives 0 ≡ empty_state merges config size
+    state-told = rw (p, blank.begun, blank.questions, blank.receipts, j, blank.seats, blank.enters, l, count) refl
+
+    pub state-begun : IsState {R = R} cmp f code (state_of partitions begun questions receipts jobs seats enters lives 0)
+    state-begun = subst (λ (s : StateView K V I O R). IsState cmp f code s) (sym state-told) state-empty

@@ -1,5 +1,5 @@
 -- The steps that reach the device.
-use Rattle.std.proofs.Common.{◌≡◌, ℕ, zero, suc, ◌∷◌, ◌<◌, ◌⊎◌, inl, inr, true, false, List, [], length, map, Option, Some, None, option_map, Ok, Err, slice_get, slice_set, slice_index_or, unwrap_or, is_none, is_some, refl, ◌∙◌, ap, subst, arith}
+use Rattle.std.proofs.Common.{◌≡◌, ℕ, zero, suc, ◌∷◌, ◌<◌, ◌⊎◌, inl, inr, true, false, List, [], length, map, Option, Some, None, option_map, Ok, Err, slice_get, slice_set, slice_index_or, unwrap_or, IsSome, is_none, is_some, refl, sym, ◌∙◌, ap, subst, arith}
 use Rattle.std.proofs.lemmas.Option.{slice_get-map}
 use Rattle.std.specs.declared.cmp.Ordering.{Ordering}
 use Rattle.fkv_functions.specs.Meanings.{Meanings}
@@ -22,7 +22,7 @@ use Rattle.fkv_worlds.specs.States.{StateView, job_in, is_unasked}
 use Rattle.fkv_worlds.specs.Moments.{IsMomentIn}
 use Rattle.fkv_worlds.specs.Acts.{Acts}
 use Rattle.fkv_worlds.specs.Sound.{IsState}
-use Rattle.fkv_worlds.proofs.ResultLemmas.{some_not_none, not_some_none}
+use Rattle.fkv_worlds.proofs.ResultLemmas.{some_of, some_there, some_not_none, not_some_none}
 use Rattle.fkv_worlds.proofs.StateLemmas.{at-index, set-unchanged}
 use Rattle.fkv_worlds.proofs.ActsLemmas.{acts-refused, acts-take, acts-spoil, acts-write}
 use Rattle.fkv_worlds.proofs.EventLemmas.{here}
@@ -37,12 +37,23 @@ len-map : {A B : Type 0} (f : A → B) (xs : List A) → length (map f xs) ≡ l
 len-map f [] = refl
 len-map f (x ∷ xs) = ap suc (len-map f xs)
 
+-- a flush slot for each row of the jobs
+pub flush_slot-there : (flush_slots : List FlushSlot) (p : ℕ) → p < length (map (λ (e : FlushSlot). e.job) flush_slots) → p < length flush_slots
+flush_slot-there flush_slots p low = let l = len-map (λ (e : FlushSlot). e.job) flush_slots in omega arith
+
 -- the page in a flush slot
 pub flush_slot-job : (flush_slots : List FlushSlot) (p : ℕ) (d : FlushSlot) → p < length (map (λ (e : FlushSlot). e.job) flush_slots) → d ≡ slice_index_or flush_slots p d → job_in (map (λ (e : FlushSlot). e.job) flush_slots) p ≡ d.job
 flush_slot-job flush_slots p d low is =
     let l = len-map (λ (e : FlushSlot). e.job) flush_slots in
     let at : slice_get flush_slots p ≡ Some d = at-index flush_slots p d (omega arith) is in
     ap (λ o. unwrap_or o None) (slice_get-map (λ (e : FlushSlot). e.job) flush_slots p ∙ ap (option_map (λ (e : FlushSlot). e.job)) at)
+
+-- which is there where it is not none
+pub job-there : {o d : Option FlushJob} → o ≡ d → is_none o ≡ false → (job : FlushJob) × (o ≡ Some job) × (d ≡ Some job)
+job-there {o = o} e h = let job = some_of o h in (job.0, job.1, sym e ∙ job.1)
+
+pub job-some : {o d : Option FlushJob} → o ≡ d → is_none o ≡ false → IsSome d
+job-some {o = o} {d = d} e h = some_there d (ap is_none (sym e) ∙ h)
 
 -- where no page is in a flush slot, a write answers nothing
 pub flush_slot-idle : (flush_slots : List FlushSlot) (p : ℕ) (d : FlushSlot) → p < length (map (λ (e : FlushSlot). e.job) flush_slots) → d ≡ slice_index_or flush_slots p d → is_some d.job ≡ false → is_none (job_in (map (λ (e : FlushSlot). e.job) flush_slots) p) ≡ true
@@ -57,9 +68,9 @@ flush_slot-set flush_slots p d job h = map-set (λ (e : FlushSlot). e.job) flush
 
 -- ---- the rules
 module _ {K V I O R : Type 0} {stands : R → Standing} {entry : ℕ → List ℕ → ℕ → Entry K V → Type 0} (cmp : K → K → Ordering) (join : V → V → V) (f : Meanings K V I O) (code : K → ℕ) (s : StateView K V I O R) (state : IsState cmp f code s) (p now : ℕ) (due : IsMomentIn s p now) (old : PartitionView K V I) (is : old ≡ slice_index_or s.partitions p old) where
-  pub does-take : (new : PartitionView K V I) (job : FlushJob) → job.page ≡ length old.core.records.receipts → slice_get old.core.records.waiting 0 ≡ Some job.bytes → new ≡ at_moment old now
-      → Acts stands entry cmp join f code s (record s { partitions = slice_set s.partitions p new; jobs = slice_set s.jobs p (Some job); moment = now }) (Take p) (Ok (outcome.Taken job.page))
-  does-take new job page bytes at = acts-take stands entry cmp join f code s now due.next due.fits p old new (here cmp f code s state p now due old is) job page bytes at
+  pub does-take : {t : StateView K V I O R} → s ≡ t → {jobs : List (Option FlushJob)} (new : PartitionView K V I) (job : FlushJob) → jobs ≡ slice_set s.jobs p (Some job) → job.page ≡ length old.core.records.receipts → slice_get old.core.records.waiting 0 ≡ Some job.bytes → new ≡ at_moment old now
+      → Acts stands entry cmp join f code t (record s { partitions = slice_set s.partitions p new; jobs = jobs; moment = now }) (Take p) (Ok (outcome.Taken job.page))
+  does-take view new job taken page bytes at = rw (← view, taken) (acts-take stands entry cmp join f code s now due.next due.fits p old new (here cmp f code s state p now due old is) job page bytes at)
 
   pub refused-take : (new : PartitionView K V I) (r : Refused) → new ≡ old → (r ≡ NotDue) ⊎ (r ≡ NoMemory) → (r ≡ NotDue → old.core.records.waiting ≡ []) → (old.core.records.waiting ≡ [] → r ≡ NotDue) → Acts stands entry cmp join f code s (record s { partitions = slice_set s.partitions p new }) (Take p) (Err r)
   refused-take new r same only idle due_not = rw (set-unchanged s.partitions p old new (here cmp f code s state p now due old is) same) (acts-refused stands entry cmp join f code s now due.next due.fits (Take p) old r (here cmp f code s state p now due old is) refl (elim only [
@@ -67,20 +78,21 @@ module _ {K V I O R : Type 0} {stands : R → Standing} {entry : ℕ → List �
     | inr e ↦ refusing.untaken p (λ w. (let k = due_not w in absurd (cc))) e
   ]))
 
-  module _ (access : Access) (job : FlushJob) (asked : is_unasked s (Write p access) ≡ false) (has : job_in s.jobs p ≡ Some job) where
-    pub spoils-unwritten : (r : Refused) → Unwritten job access r → Acts stands entry cmp join f code s (record s { jobs = slice_set s.jobs p None }) (Write p access) (Err r)
-    spoils-unwritten r h = acts-spoil stands entry cmp join f code s now due.next due.fits p old old (here cmp f code s state p now due old is) access job r asked has (Spoils.unwritten h)
+  -- the jobs as they are told after a write
+  module _ {t : StateView K V I O R} (view : s ≡ t) {jobs : List (Option FlushJob)} (used : jobs ≡ slice_set s.jobs p None) (access : Access) (job : FlushJob) (asked : is_unasked s (Write p access) ≡ false) (has : job_in s.jobs p ≡ Some job) where
+    pub spoils-unwritten : (r : Refused) → Unwritten job access r → Acts stands entry cmp join f code t (record s { jobs = jobs }) (Write p access) (Err r)
+    spoils-unwritten r h = rw (← view, used) (acts-spoil stands entry cmp join f code s now due.next due.fits p old old (here cmp f code s state p now due old is) access job r asked has (Spoils.unwritten h))
 
     module _ (new : PartitionView K V I) (receipt : Standing) (bytes : List ℕ) (works : access ≡ Works) (of : receipt ≡ receipt_of job) (same_bytes : bytes ≡ job.bytes) where
-      pub spoils-strange : (r : Refused) → new ≡ old → Flushes old new receipt bytes now (Err r) → Acts stands entry cmp join f code s (record s { partitions = slice_set s.partitions p new; jobs = slice_set s.jobs p None }) (Write p access) (Err r)
+      pub spoils-strange : (r : Refused) → new ≡ old → Flushes old new receipt bytes now (Err r) → Acts stands entry cmp join f code t (record s { partitions = slice_set s.partitions p new; jobs = jobs }) (Write p access) (Err r)
       spoils-strange r same does =
-          rw (set-unchanged s.partitions p old new (here cmp f code s state p now due old is) same)
+          rw (← view, used, set-unchanged s.partitions p old new (here cmp f code s state p now due old is) same)
           (acts-spoil stands entry cmp join f code s now due.next due.fits p old old (here cmp f code s state p now due old is) access job r asked has
           (Spoils.strange works (subst (λ b. Flushes old old (receipt_of job) b now (Err r)) same_bytes (subst (λ s. Flushes old old s bytes now (Err r)) of (subst (λ (v : PartitionView K V I). Flushes old v receipt bytes now (Err r)) same does)))))
 
       pub does-write : (page : ℕ) → page ≡ receipt.page → Flushes old new receipt bytes now (Ok tt) → IsQuiet true old new now
-          → Acts stands entry cmp join f code s (record s { partitions = slice_set s.partitions p new; jobs = slice_set s.jobs p None; moment = now }) (Write p access) (Ok (outcome.Flushed page))
+          → Acts stands entry cmp join f code t (record s { partitions = slice_set s.partitions p new; jobs = jobs; moment = now }) (Write p access) (Ok (outcome.Flushed page))
       does-write page at does ev =
-          rw (at ∙ ap (λ (s : Standing). s.page) of)
+          rw (← view, used, at ∙ ap (λ (s : Standing). s.page) of)
           (acts-write stands entry cmp join f code s now due.next due.fits p old new (here cmp f code s state p now due old is) access job works asked has
           (subst (λ b. Flushes old new (receipt_of job) b now (Ok tt)) same_bytes (subst (λ s. Flushes old new s bytes now (Ok tt)) of does)) ev)

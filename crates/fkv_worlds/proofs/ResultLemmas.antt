@@ -1,5 +1,5 @@
 -- What holds of a result where it is Ok, or Err, and of what may be there.
-use Rattle.std.proofs.Common.{◌≡◌, true, false, Option, Some, None, Result, Ok, Err, IfOk, IfErr, IsSome, is_none, is_some, refl}
+use Rattle.std.proofs.Common.{◌≡◌, true, false, Option, Some, None, Result, Ok, Err, IfOk, IfErr, IsSome, is_none, is_some, refl, ap}
 
 pub if_ok : {A E : Type 0} {P : A → Type 0} (r : Result A E) → ((x : A) → r ≡ Ok x → P x) → IfOk r P
 if_ok (Ok x) h = h x refl
@@ -32,3 +32,13 @@ none_is (Some x) h = absurd (cc)
 pub some_is : {A : Type 0} (o : Option A) → is_some o ≡ true → (x : A) × (o ≡ Some x)
 some_is None h = absurd (cc)
 some_is (Some x) h = (x, refl)
+
+-- a result is not both, and an error is told of results of any type
+pub ok_not_err : {A E : Type 0} {x : A} {e : E} → Ok x ≡ Err e → ⊥
+ok_not_err h = absurd (cc)
+
+pub err_is : {A E : Type 0} (x y : E) → ◌≡◌ {A = Result A E} (Err x) (Err y) → x ≡ y
+err_is x y h = cc
+
+pub err_as : {A B E : Type 0} {x y : E} → ◌≡◌ {A = Result A E} (Err x) (Err y) → ◌≡◌ {A = Result B E} (Err x) (Err y)
+err_as {x = x} {y = y} h = ap Err (err_is x y h)

@@ -44,6 +44,14 @@ index-of [] i x h = absurd (cc)
 index-of (y ∷ ys) zero x h = cc
 index-of (y ∷ ys) (suc i) x h = index-of ys i x h
 
+-- below a number, by its other name
+pub below-by : {p n m : ℕ} → n ≡ m → p < n → p < m
+below-by e h = rw (← e) h
+
+-- what a list has room for, by the list's name
+pub within-by : {A : Type 0} {xs ys : List A} {n : ℕ} → ys ≡ xs → n ≤ length xs → n ≤ length ys
+within-by e h = rw e h
+
 pub set-unchanged : {A : Type 0} (xs : List A) (i : ℕ) (x y : A) → slice_get xs i ≡ Some x → y ≡ x → slice_set xs i y ≡ xs
 set-unchanged [] i x y h e = refl
 set-unchanged (z ∷ zs) zero x y h e = let same : y ≡ z = cc in ap (λ q. q ∷ zs) same
@@ -88,6 +96,10 @@ life_in-other begun w u x a b n = by_cases (is_context u) refl
     by_cases true t = let h = is_context-bounds u t in ap (λ o. cond (is_context u) (unwrap_or o 0) 0) (get-set_other begun (context_row w) (context_row u) x (row-apart w u a b h.0 h.1 n))
     by_cases false t = rw t refl
 
+-- its row
+pub row-within : (w : ContextId) {row n : ℕ} → is_context w ≡ true → row ≡ context_row w → w.partition * 128 + 128 ≤ n → row < n
+row-within w on e rows = let within = is_context-bounds w on in omega arith
+
 -- what a context asked for last
 pub question-is : {K V I : Type 0} (questions : List (Option (Ask K V I))) (w : ContextId) (x : Option (Ask K V I)) → is_context w ≡ true → slice_get questions (context_row w) ≡ Some x → question_in questions w ≡ x
 question-is questions w x on h = rw (on, h) refl
@@ -126,24 +138,28 @@ tables-kept s t tables partitions begun questions receipts jobs seats enters lat
 }
 
 module _ {K V I O R : Type 0} (cmp : K → K → Ordering) (f : Meanings K V I O) (code : K → ℕ) (s : StateView K V I O R) (state : IsState cmp f code s) where
+  -- the lives by another name
+  pub state-lives : {lives : List (Life K V I O)} → lives ≡ s.lives → IsState cmp f code (record s { lives = lives })
+  state-lives l = rw l state
+
   -- a page that was taken is used
-  pub state-used : (p : ℕ) (job : Option FlushJob) → IsState cmp f code (record s { jobs = slice_set s.jobs p job })
-  state-used p job = record {
+  pub state-used : {jobs : List (Option FlushJob)} (p : ℕ) (job : Option FlushJob) → jobs ≡ slice_set s.jobs p job → IsState cmp f code (record s { jobs = jobs })
+  state-used p job used = rw used (record {
     world = state.world;
     tables = tables-kept s (record s { jobs = slice_set s.jobs p job }) state.tables refl refl refl refl (length-set s.jobs p job) refl refl (omega arith);
-  }
+  })
 
 module _ {K V I O R : Type 0} (cmp : K → K → Ordering) (o : IsKeyOrder cmp) (f : Meanings K V I O) (code : K → ℕ) (s : StateView K V I O R) (state : IsState cmp f code s) (next : ℕ) (then : next ≡ s.moment + 1) where
   e : next ≡ suc s.moment
   e = omega arith
 
   -- a page is taken
-  pub state-take : (p : ℕ) (job : Option FlushJob) (old new : PartitionView K V I) → slice_get s.partitions p ≡ Some old → IsQuiet true old new next → AllPend cmp old.core new.core
-      → IsState cmp f code (record s { partitions = slice_set s.partitions p new; jobs = slice_set s.jobs p job; moment = next })
-  state-take p job old new here ev pends = record {
+  pub state-take : {jobs : List (Option FlushJob)} (p : ℕ) (job : Option FlushJob) → jobs ≡ slice_set s.jobs p job → (old new : PartitionView K V I) → slice_get s.partitions p ≡ Some old → IsQuiet true old new next → AllPend cmp old.core new.core
+      → IsState cmp f code (record s { partitions = slice_set s.partitions p new; jobs = jobs; moment = next })
+  state-take p job used old new here ev pends = rw used (record {
     world = world-silent cmp o f code s.partitions (life_in s.begun) s.lives s.moment next e state.world p old new here ev pends;
     tables = tables-kept s (record s { partitions = slice_set s.partitions p new; jobs = slice_set s.jobs p job; moment = next }) state.tables (length-set s.partitions p new) refl refl refl (length-set s.jobs p job) refl refl (omega arith);
-  }
+  })
 
   pub state-enter : (p slot n : ℕ) (old new : PartitionView K V I) → slice_get s.partitions p ≡ Some old → IsQuiet true old new next → AllPend cmp old.core new.core → slice_get s.enters p ≡ Some n
       → IsState cmp f code (record s { partitions = slice_set s.partitions p new; enters = slice_set s.enters p (n + 1); seats = slice_set s.seats (seat_row p slot) (record { session = n + 1; issues = 0 }); moment = next })

@@ -1,68 +1,71 @@
 use Rattle.std.proofs.Common.{refl}
 use Rattle.fkv_functions.proofs.KeyOrder.{key_order}
-use Rattle.fkv_worlds.proofs.EventLemmas.{rows, event-later, refused-state, refused-go, does-go, life-there, progressed-state}
+use Rattle.fkv_worlds.proofs.CallLemmas.{with_receipt}
+use Rattle.fkv_worlds.proofs.EventLemmas.{moment-behind, acts-seen, rows, event-later, refused-state, refused-go, does-go, life-there, progressed-state}
 use Rattle.fkv_worlds.proofs.states.State.go_at.Goals as goal
 
-pub go-requires : goal.go-requires
-go-requires g c =
-    let due = rw (← c.self.view_is) at c.requires.due in
-    record { later = event-later g.F.Key.Ord.cmp g.F.Functions.meaning g.F.Functions.code _ c.self.invariant c.args.place.partition c.args.now due c.index_mut-partition.result.now c.index_mut-partition.ensures.value }
+pub go-requires-whole : goal.go-requires-whole
+go-requires-whole g c κs =
+    let due = moment-behind c.self.view_is c.requires.due in
+    with_receipt (event-later g.F.Key.Ord.cmp g.F.Functions.meaning g.F.Functions.code _ c.self.invariant c.args.place.partition c.args.now due c.index_mut-partition.result.now c.index_mut-partition.ensures.value)
 
 pub invariant_of-self-in-Err : goal.invariant_of-self-in-Err
 invariant_of-self-in-Err g c =
-    let due = rw (← c.self.view_is) at c.requires.due in
+    let due = moment-behind c.self.view_is c.requires.due in
     refused-state g.F.Key.Ord.cmp g.F.Functions.meaning g.F.Functions.code _ c.self.invariant c.args.place.partition c.args.now due c.index_mut-partition.result.now c.index_mut-partition.ensures.value c.go.new.self c.in-Err.ensures.unchanged
 
 pub returns-in-Err : goal.returns-in-Err
 returns-in-Err g c =
-    let due = rw (← c.self.view_is) at c.requires.due in
-    rw (← c.self.view_is) (record { effect = refused-go g.F.Key.Ord.cmp g.F.Mergeable.parts.joined g.F.Functions.meaning g.F.Functions.code _ c.self.invariant c.args.place c.args.now due c.index_mut-partition.result.now c.index_mut-partition.ensures.value c.go.new.self c.in-Err.refused c.in-Err.ensures.unchanged c.in-Err.ensures.effect })
-
-pub note_progress-requires-clause-partition : goal.note_progress-requires-clause-partition
-note_progress-requires-clause-partition g c =
-    let due = rw (← c.self.view_is) at c.requires.due in
-    (rows g.F.Key.Ord.cmp g.F.Functions.meaning g.F.Functions.code _ c.self.invariant c.args.place.partition c.args.now due).0
-
-pub note_progress-requires-clause-slot : goal.note_progress-requires-clause-slot
-note_progress-requires-clause-slot g c =
-    c.in-Ok.ensures.within.0
-
-pub note_progress-requires-clause-context : goal.note_progress-requires-clause-context
-note_progress-requires-clause-context g c =
-    c.in-Ok.ensures.within.1
-
-pub note_progress-requires-clause-questions : goal.note_progress-requires-clause-questions
-note_progress-requires-clause-questions g c =
-    let due = rw (← c.self.view_is) at c.requires.due in
-    (rows g.F.Key.Ord.cmp g.F.Functions.meaning g.F.Functions.code _ c.self.invariant c.args.place.partition c.args.now due).4
-
-pub note_progress-requires-clause-receipts : goal.note_progress-requires-clause-receipts
-note_progress-requires-clause-receipts g c =
-    let due = rw (← c.self.view_is) at c.requires.due in
-    (rows g.F.Key.Ord.cmp g.F.Functions.meaning g.F.Functions.code _ c.self.invariant c.args.place.partition c.args.now due).5
-
-pub note_progress-requires-clause-begun : goal.note_progress-requires-clause-begun
-note_progress-requires-clause-begun g c =
-    let due = rw (← c.self.view_is) at c.requires.due in
-    (rows g.F.Key.Ord.cmp g.F.Functions.meaning g.F.Functions.code _ c.self.invariant c.args.place.partition c.args.now due).3
-
-pub note_progress-requires-clause-life : goal.note_progress-requires-clause-life
-note_progress-requires-clause-life g c =
-    let due = rw (← c.self.view_is) at c.requires.due in
-    let ev = (c.in-Ok.ensures.event refl) in
-    (life-there g.F.Key.Ord.cmp g.F.Functions.meaning g.F.Functions.code _ c.self.invariant c.args.place c.args.now due c.index_mut-partition.result.now c.index_mut-partition.ensures.value ev.question ev.was)
+    let due = moment-behind c.self.view_is c.requires.due in
+    record { effect = acts-seen c.self.view_is (refused-go g.F.Key.Ord.cmp g.F.Mergeable.parts.joined g.F.Functions.meaning g.F.Functions.code _ c.self.invariant c.args.place c.args.now due c.index_mut-partition.result.now c.index_mut-partition.ensures.value c.go.new.self c.in-Err.refused c.in-Err.ensures.unchanged c.in-Err.ensures.effect) }
 
 pub invariant_of-self : goal.invariant_of-self
 invariant_of-self g c =
     let ord = g.met.F.Key.Ord in
     let known = g.met.F.Key.FixedKey in
     let order = key_order g.F.Key.PartialEq.eq g.F.Key.Ord.cmp ord.matches_eq known.exact ord.total in
-    let due = rw (← c.self.view_is) at c.requires.due in
-    rw (c.note_progress.ensures.lives, c.note_progress.ensures.questions, c.note_progress.ensures.receipts, c.note_progress.ensures.begun, c.note_progress.ensures.seats, c.note_progress.ensures.enters)
-    (progressed-state g.F.Key.Ord.cmp g.F.Functions.meaning g.F.Functions.code _ c.self.invariant c.args.place c.args.now due c.index_mut-partition.result.now c.index_mut-partition.ensures.value c.go.new.self order (c.go.ensures.others refl) c.in-Ok.progress (c.in-Ok.ensures.event refl) (c.in-Ok.ensures.finds refl))
+    let due = moment-behind c.self.view_is c.requires.due in
+    progressed-state g.F.Key.Ord.cmp g.F.Functions.meaning g.F.Functions.code _ c.self.invariant c.args.place c.args.now due c.index_mut-partition.result.now c.index_mut-partition.ensures.value c.go.new.self order (c.go.ensures.others refl) c.in-Ok.progress
+    c.note_progress.ensures.lives c.note_progress.ensures.questions c.note_progress.ensures.receipts c.note_progress.ensures.begun c.note_progress.ensures.seats c.note_progress.ensures.enters
+    (c.in-Ok.ensures.event refl) (c.in-Ok.ensures.finds refl)
 
 pub returns-in-Ok : goal.returns-in-Ok
 returns-in-Ok g c =
-    let due = rw (← c.self.view_is) at c.requires.due in
-    rw (← c.self.view_is, c.note_progress.ensures.lives, c.note_progress.ensures.questions, c.note_progress.ensures.receipts, c.note_progress.ensures.begun, c.note_progress.ensures.seats, c.note_progress.ensures.enters, c.note_progress.ensures.told)
-    (record { effect = does-go g.F.Key.Ord.cmp g.F.Mergeable.parts.joined g.F.Functions.meaning g.F.Functions.code _ c.self.invariant c.args.place c.args.now due c.index_mut-partition.result.now c.index_mut-partition.ensures.value c.go.new.self c.in-Ok.progress c.in-Ok.ensures.effect (c.in-Ok.ensures.event refl) })
+    let due = moment-behind c.self.view_is c.requires.due in
+    record {
+      effect = does-go g.F.Key.Ord.cmp g.F.Mergeable.parts.joined g.F.Functions.meaning g.F.Functions.code _ c.self.invariant c.args.place c.args.now due c.index_mut-partition.result.now c.index_mut-partition.ensures.value c.go.new.self c.self.view_is c.in-Ok.progress
+          c.note_progress.ensures.lives c.note_progress.ensures.questions c.note_progress.ensures.receipts c.note_progress.ensures.begun c.note_progress.ensures.seats c.note_progress.ensures.enters c.note_progress.ensures.told
+          c.in-Ok.ensures.effect (c.in-Ok.ensures.event refl);
+    }
+
+pub note_progress-requires-clause-partition : goal.note_progress-requires-clause-partition
+note_progress-requires-clause-partition g c =
+    let due = moment-behind c.self.view_is c.requires.due in
+    (rows g.F.Key.Ord.cmp g.F.Functions.meaning g.F.Functions.code _ c.self.invariant c.args.place.partition c.args.now due).0
+
+pub note_progress-requires-clause-begun : goal.note_progress-requires-clause-begun
+note_progress-requires-clause-begun g c =
+    let due = moment-behind c.self.view_is c.requires.due in
+    (rows g.F.Key.Ord.cmp g.F.Functions.meaning g.F.Functions.code _ c.self.invariant c.args.place.partition c.args.now due).3
+
+pub note_progress-requires-clause-questions : goal.note_progress-requires-clause-questions
+note_progress-requires-clause-questions g c =
+    let due = moment-behind c.self.view_is c.requires.due in
+    (rows g.F.Key.Ord.cmp g.F.Functions.meaning g.F.Functions.code _ c.self.invariant c.args.place.partition c.args.now due).4
+
+pub note_progress-requires-clause-receipts : goal.note_progress-requires-clause-receipts
+note_progress-requires-clause-receipts g c =
+    let due = moment-behind c.self.view_is c.requires.due in
+    (rows g.F.Key.Ord.cmp g.F.Functions.meaning g.F.Functions.code _ c.self.invariant c.args.place.partition c.args.now due).5
+
+pub note_progress-requires-clause-slot : goal.note_progress-requires-clause-slot
+note_progress-requires-clause-slot g c = c.in-Ok.ensures.within.0
+
+pub note_progress-requires-clause-context : goal.note_progress-requires-clause-context
+note_progress-requires-clause-context g c = c.in-Ok.ensures.within.1
+
+pub note_progress-requires-clause-life : goal.note_progress-requires-clause-life
+note_progress-requires-clause-life g c =
+    let due = moment-behind c.self.view_is c.requires.due in
+    let ev = c.in-Ok.ensures.event refl in
+    life-there g.F.Key.Ord.cmp g.F.Functions.meaning g.F.Functions.code _ c.self.invariant c.args.place c.args.now due c.index_mut-partition.result.now c.index_mut-partition.ensures.value ev.question ev.was
