@@ -14,12 +14,12 @@ returns-in-Ok-clause-within g c =
     (c.is_session.ensures.within c.if-not-is_session.false, asked-low v c.args.slot c.args.context _ (asked-key v c.args.slot c.args.context _ c.in-Ok.ensures.ok))
 
 pub returns-in-Some-clause-ok : goal.returns-in-Some-clause-ok
-returns-in-Some-clause-ok g c = 
+returns-in-Some-clause-ok g c =
     asked-relocation c.args.self.now c.args.slot c.args.context c.in-Some.relocation (subst (λ u. key_asked u.core c.args.slot c.args.context ≡ None) c.self.view_is c.in-Err.ensures.none) (sym c.in-Some.ensures.value)
 
 pub returns-in-Some-clause-within : goal.returns-in-Some-clause-within
 returns-in-Some-clause-within g c = (c.in-Some.ensures.session, c.in-Some.ensures.context)
 
 pub returns-in-None-clause-none : goal.returns-in-None-clause-none
-returns-in-None-clause-none g c = 
+returns-in-None-clause-none g c =
     asked-none c.args.self.now c.args.slot c.args.context (subst (λ u. key_asked u.core c.args.slot c.args.context ≡ None) c.self.view_is c.in-Err.ensures.none) (sym c.in-None.ensures.value)

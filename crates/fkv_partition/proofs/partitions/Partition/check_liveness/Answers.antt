@@ -124,7 +124,7 @@ returns-in-None-clause-cleared g c =
     λ is. rw c.finish-in-None.ensures (past-place v x.target c.known.ensures.core.traced (stands-here v c.args.slot c.args.context x c.requires.here c.known.ensures.compacting).place).1
 
 pub finish-requires-clause-superseded : goal.finish-requires-clause-superseded
-finish-requires-clause-superseded g c = 
+finish-requires-clause-superseded g c =
     superseded-one g.F.Key.Ord.cmp c.args.self.now.core.records.entries c.args.relocation.now.target c.args.entry c.requires.is (λ _. inl (none-by c.args.entry.value c.is_none.ensures c.if-is_none.true))
 
 pub returns-then-is_none-clause-effect : goal.returns-then-is_none-clause-effect
@@ -134,7 +134,7 @@ pub returns-then-is_none-clause-moment : goal.returns-then-is_none-clause-moment
 returns-then-is_none-clause-moment g c = has-come c.finish.ensures refl
 
 pub returns-then-home-number-clause-effect : goal.returns-then-home-number-clause-effect
-returns-then-home-number-clause-effect g c = 
+returns-then-home-number-clause-effect g c =
     let other = subst (λ u. partition_of u.core.count (g.F.Functions.code c.args.entry.key) ≢ u.core.number) c.self.view_is (λ q. c.if-home-number.true (c.home-home.ensures ∙ q ∙ sym c.number.ensures)) in
     ChecksLiveness.superseded (NeedsNoCopy.foreign other) c.finish-then-home-number.ensures refl
 
@@ -142,7 +142,7 @@ pub returns-then-home-number-clause-moment : goal.returns-then-home-number-claus
 returns-then-home-number-clause-moment g c = has-come c.finish-then-home-number.ensures refl
 
 pub returns-in-None-clause-effect : goal.returns-in-None-clause-effect
-returns-in-None-clause-effect g c = 
+returns-in-None-clause-effect g c =
     let none = subst (λ u. found_for g.F.Functions.code u.core c.args.entry.key ≡ None) c.self.view_is (sym c.find-found.ensures.entry ∙ c.in-None.is) in
     ChecksLiveness.superseded (NeedsNoCopy.nowhere none) c.finish-in-None.ensures refl
 
@@ -153,19 +153,19 @@ pub follow-requires-clause-some : goal.follow-requires-clause-some
 follow-requires-clause-some g c = some-by c.args.entry.value c.is_none.ensures c.if-is_none.false
 
 pub follow-requires-clause-own : goal.follow-requires-clause-own
-follow-requires-clause-own g c = 
+follow-requires-clause-own g c =
     subst (λ u. partition_of u.core.count (g.F.Functions.code c.args.entry.key) ≡ u.core.number) c.self.view_is (sym c.home-home.ensures ∙ c.if-home-number.false ∙ c.number.ensures)
 
 pub follow-requires-clause-found : goal.follow-requires-clause-found
-follow-requires-clause-found g c = 
+follow-requires-clause-found g c =
     subst (λ u. found_for g.F.Functions.code u.core c.args.entry.key ≡ Some c.in-Some.kept) c.self.view_is (sym c.find-found.ensures.entry ∙ c.in-Some.is)
 
 pub follow-requires-clause-leads : goal.follow-requires-clause-leads
-follow-requires-clause-leads g c = 
+follow-requires-clause-leads g c =
     subst (λ u. entry_for g.F.Functions.code u.core c.args.entry.key ≡ Some (address_of c.in-Some.kept.word)) c.self.view_is (sym c.find-found.ensures.address ∙ ap (option_map (λ (q : IndexEntry). address_of q.word)) c.in-Some.is)
 
 pub follow-requires-clause-entry_stands : goal.follow-requires-clause-entry_stands
-follow-requires-clause-entry_stands g c = 
+follow-requires-clause-entry_stands g c =
     let held = subst (λ o. IfSome o (λ q. IsEntryOf c.self.inside.core.records (class_in g.F.Functions.code c.self.inside.core.records c.args.entry.key) q)) c.in-Some.is c.find-found.ensures.stands in
     subst (λ u. IsEntryOf u.core.records (class_in g.F.Functions.code u.core.records c.args.entry.key) c.in-Some.kept) c.self.view_is held
 

@@ -134,7 +134,7 @@ overflow_add-target g c =
     omega (arith, frozen, safe, most)
 
 pub returns-in-Superseded-clause-effect : goal.returns-in-Superseded-clause-effect
-returns-in-Superseded-clause-effect g c = 
+returns-in-Superseded-clause-effect g c =
     let v = c.args.self.now in
     let x = c.args.relocation.now in
     let e = c.args.entry in

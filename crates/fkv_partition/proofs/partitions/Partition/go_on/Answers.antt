@@ -64,7 +64,7 @@ pub returns-in_default-clause-moment : goal.returns-in_default-clause-moment
 returns-in_default-clause-moment g c = no-later c.requires.later
 
 pub returns-then-relocation-self-clause-cleared : goal.returns-then-relocation-self-clause-cleared
-returns-then-relocation-self-clause-cleared g c = 
+returns-then-relocation-self-clause-cleared g c =
     let low = subst (λ u. c.in-Some.relocation.target < u.cleared) c.self.view_is c.if-relocation-self.true in
     λ is. subst (λ o. IfSome o (λ x. x.target < c.end.new.self.cleared)) c.in-Some.ensures.value (subst (λ u. c.in-Some.relocation.target < u.cleared) (sym c.end.ensures) low)
 

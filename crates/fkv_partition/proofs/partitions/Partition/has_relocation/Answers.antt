@@ -16,6 +16,6 @@ pub open_context-requires-clause-places : goal.open_context-requires-clause-plac
 open_context-requires-clause-places g c = ap length c.deref.ensures.value ∙ c.self.invariant.places
 
 pub returns-else-is_session : goal.returns-else-is_session
-returns-else-is_session g c = 
+returns-else-is_session g c =
     let v = view_of c.self.inside.core c.self.inside.cleared c.self.inside.relocations.items in
     rw (← c.self.view_is) (has-outside v c.args.slot (sym c.is_session.ensures.value ∙ c.if-is_session.false) c.is_session.result c.if-is_session.false)

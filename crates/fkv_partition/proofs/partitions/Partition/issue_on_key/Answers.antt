@@ -146,6 +146,6 @@ pub returns-in_default-clause-unchanged : goal.returns-in_default-clause-unchang
 returns-in_default-clause-unchanged g c = refl
 
 pub issue-requires-clause-free : goal.issue-requires-clause-free
-issue-requires-clause-free g c = 
+issue-requires-clause-free g c =
     let v = c.args.self.now in
     subst (λ u. context_at u.core c.args.slot c.in-Some.context ≡ None) (sym c.self.view_is) (open-free (slots_of v.core) v.core.contexts c.args.slot c.in-Some.context c.in-Some.ensures.value.1.operation)

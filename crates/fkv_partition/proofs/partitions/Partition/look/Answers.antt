@@ -94,7 +94,7 @@ pub check_liveness-requires-clause-begun : goal.check_liveness-requires-clause-b
 check_liveness-requires-clause-begun g c = begun-here g.F.Key.Ord.cmp g.F.Mergeable.parts.joined g.F.Functions.code c.args.self.now c.known.ensures.compacting c.known.ensures.core c.args.slot c.args.context c.args.relocation.now c.requires.here c.requires.uncleared
 
 pub check_liveness-requires-clause-is : goal.check_liveness-requires-clause-is
-check_liveness-requires-clause-is g c = 
+check_liveness-requires-clause-is g c =
     let there = subst (λ r. entry_at r.entries c.args.relocation.now.target ≡ Some c.record_at-entry.result) (c.records-3.ensures ∙ ap (λ u. u.core.records) c.self.view_is) c.record_at-entry.ensures.entry in
     λ _. there
 

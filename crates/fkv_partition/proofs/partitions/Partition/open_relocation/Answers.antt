@@ -16,6 +16,6 @@ pub open_context-requires-clause-places : goal.open_context-requires-clause-plac
 open_context-requires-clause-places g c = ap length c.deref.ensures.value ∙ c.self.invariant.places
 
 pub returns-then-not-is_session : goal.returns-then-not-is_session
-returns-then-not-is_session g c = 
+returns-then-not-is_session g c =
     let v = view_of c.self.inside.core c.self.inside.cleared c.self.inside.relocations.items in
     rw (← c.self.view_is) (none-outside v c.args.slot (sym c.is_session.ensures.value ∙ c.if-not-is_session.true))

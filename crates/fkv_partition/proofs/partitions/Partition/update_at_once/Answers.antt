@@ -64,7 +64,7 @@ pub returns-clause-within : goal.returns-clause-within
 returns-clause-within g c = told-some c.update_at_once-shown.result (c.is_session.ensures.within c.if-not-is_session.false)
 
 pub returns-then-not-is_session-clause-left : goal.returns-then-not-is_session-clause-left
-returns-then-not-is_session-clause-left g c = 
+returns-then-not-is_session-clause-left g c =
     let out = subst (λ u. is_session (slots_of u.core) c.args.slot ≡ false) c.self.view_is (sym c.is_session.ensures.value ∙ c.if-not-is_session.true) in
     λ none held hand. absurd (false≢true (sym out ∙ hand.entered))
 
@@ -105,7 +105,7 @@ pub update_at_once-shown-requires-clause-context : goal.update_at_once-shown-req
 update_at_once-shown-requires-clause-context g c = c.in-Some.ensures.within
 
 pub update_at_once-shown-requires-clause-free : goal.update_at_once-shown-requires-clause-free
-update_at_once-shown-requires-clause-free g c = 
+update_at_once-shown-requires-clause-free g c =
     let v = c.args.self.now in
     subst (λ u. context_at u.core c.args.slot c.in-Some.context ≡ None) (sym c.self.view_is) (open-free (slots_of v.core) v.core.contexts c.args.slot c.in-Some.context c.in-Some.ensures.value.1.operation)
 
