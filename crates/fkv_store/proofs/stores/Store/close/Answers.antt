@@ -1,17 +1,28 @@
-use Rattle.std.proofs.Common.{◌≡◌, length, map, refl, sym, ap, ◌∙◌}
+use Rattle.std.proofs.Common.{◌≡◌, ℕ, List, length, map, refl, sym, ap, ◌∙◌}
 use Rattle.std.specs.List.{All}
 use Rattle.std.proofs.lemmas.List.{length-map}
-use Rattle.fkv_store.specs.Passes.{IsPassOf}
+use Rattle.fkv_store.specs.Passes.{PassView, IsPassOf}
+use Rattle.fkv_store.specs.Stores.{StoreView}
 use Rattle.fkv_store.proofs.ClosingLemmas.{unclosed}
 use Rattle.fkv_store.proofs.stores.Store.close.Goals as goal
 
-pub kept_by-requires : goal.kept_by-requires
-kept_by-requires g c k d lt =
+-- passes of a store were told of as many partitions as it has
+of_store : {K V I O : Type 0} (s : StoreView) (ps : List (PassView K V I O)) (n : ℕ) → n ≡ s.count → All (IsPassOf s) ps
+    → All (λ p. length p.told ≡ n) ps
+of_store s ps n is all k d lt = (all k d lt).1 ∙ sym is
+
+-- what a call requires whole: its lifetimes are within those of its ten types, and its clause holds
+with_ten : {A B C D E F G H I J P : Type 0} → P → A × (B × (C × (D × (E × (F × (G × (H × (I × J))))))))
+    → A × (B × (C × (D × (E × (F × (G × (H × (I × (J × P)))))))))
+with_ten p h = (h.0, (h.1.0, (h.1.1.0, (h.1.1.1.0, (h.1.1.1.1.0, (h.1.1.1.1.1.0, (h.1.1.1.1.1.1.0, (h.1.1.1.1.1.1.1.0, (h.1.1.1.1.1.1.1.1.0, (h.1.1.1.1.1.1.1.1.1, p))))))))))
+
+pub kept_by-requires-whole : goal.kept_by-requires-whole
+kept_by-requires-whole g c κs =
     let all : All (IsPassOf c.args.self) c.args.passes.items = rw c.as_slice.ensures.value at c.if-not-knows_all.ensures.0 refl in
-    (all k d lt).1
-    ∙ sym (c.len-2.ensures
+    with_ten (of_store c.args.self c.args.passes.items c.len-2.result
+    (c.len-2.ensures
     ∙ (c.in-Ok-parts_of.parts.ok.0
-    ∙ (c.in-Ok-parts_of.ensures.len ∙ (c.self.inside.locks.ok.0 ∙ ap (λ s. s.count) c.self.view_is))))
+    ∙ (c.in-Ok-parts_of.ensures.len ∙ (c.self.inside.locks.ok.0 ∙ ap (λ s. s.count) c.self.view_is)))) all)
 
 pub close_parts-requires-clause-kept : goal.close_parts-requires-clause-kept
 close_parts-requires-clause-kept g c = rw (← c.len-2.ensures) c.in-Ok-kept_by.ensures.sized
