@@ -14,11 +14,8 @@ use std::collections::BTreeMap;
 
 /// Puts each live key of all partitions with its value into an empty map. Refused: `NoMemory`, and as a reader refuses pages
 /// of its partition.
-///
-/// Each partition has a map of its own first: where partitions are many, that is small enough for the processor's caches.
 fn gather<F: Mergeable, R: Receipt, P: PageReader<Receipt = R>>(
     functions: &F,
-    alloc: Global,
     tree: &mut BTreeMap<F::Key, F::Value>,
     parts: &[Part<F, R>],
     readers: &mut [P],
@@ -35,17 +32,12 @@ fn gather<F: Mergeable, R: Receipt, P: PageReader<Receipt = R>>(
         → MayFailIn R.stands P.can_fail (map (λ part. part.partition) parts.now)) }
 {
     for (place, part) in parts.iter().enumerate() {
-        let mut own = BTreeMap::new(alloc);
         match part
             .partition
-            .put_live(functions, &mut readers[place], &mut own)
+            .put_live(functions, &mut readers[place], tree)
         {
             Ok(()) => {}
             Err(refused) => return Err(refused),
-        }
-        match tree.append(&mut own) {
-            Ok(()) => {}
-            Err(_) => return Err(Refused::NoMemory),
         }
     }
     Ok(())
@@ -69,7 +61,7 @@ pub(crate) fn live<F: Mergeable, R: Receipt, P: PageReader<Receipt = R>>(
         → MayFailIn R.stands P.can_fail (map (λ part. part.partition) parts.now)) }
 {
     let mut tree = BTreeMap::new(alloc);
-    match gather::<F, R, P>(functions, alloc, &mut tree, parts, readers) {
+    match gather::<F, R, P>(functions, &mut tree, parts, readers) {
         Ok(()) => Ok(tree),
         Err(refused) => Err(refused),
     }

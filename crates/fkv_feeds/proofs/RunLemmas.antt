@@ -27,9 +27,6 @@ use Rattle.fkv_feeds.specs.Tables.{amounts_of, folded_on, folded}
 use Rattle.fkv_feeds.specs.Sessions.{IsIdle}
 use Rattle.fkv_partition.specs.Unions.{live_at, union_of}
 use Rattle.fkv_feeds.specs.Runs.{IsSeatedIn, AreNew, StandFor}
-use Rattle.fkv_feeds.specs.Listing.{IsListRefusal}
-use Rattle.fkv_hybrid.specs.Scans.{IsScanRefusal}
-use Rattle.fkv_records.specs.Places.{page_at}
 use Rattle.fkv_partition.proofs.UnionLemmas.{live-after, is_at-turned}
 
 -- ---- a partition with nothing in it but a session
@@ -204,19 +201,3 @@ module _ {S A : Type 0} (view : S → A) where
   view-same [] i x y h e = refl
   view-same (z ∷ zs) zero x y h e = let same : z ≡ x = cc in ap (λ a. a ∷ map view zs) (e ∙ ap view (sym same))
   view-same (z ∷ zs) (suc i) x y h e = ap (λ bs. view z ∷ bs) (view-same zs i x y h e)
-
--- one shard of several is refused its pages, and has another reader after that
-pub list-refused : {S K V I R : Type 0} (part : S → PartitionView K V I) (reader : S → R) (reads : R → ℕ) (keeps : Bool) (items : List S) (i : ℕ) (x y : S) (views : List (PartitionView K V I)) (counts : List ℕ) (why : Refused)
-    → slice_get items i ≡ Some x → map part items ≡ views → map (λ s. reads (reader s)) items ≡ counts
-    → IsScanRefusal keeps (page_at (part x).core.records.page_bits (part x).core.records.begin) (length (part x).core.records.receipts) (reads (reader x)) (reads (reader y)) why
-    → IsListRefusal keeps reads views counts (map (λ s. reads (reader s)) (slice_set items i y)) why
-list-refused part reader reads keeps items i x y views counts why here parted counted refused = record {
-  place = i;
-  view = part x;
-  before = reader x;
-  after = reader y;
-  here = ap (λ vs. slice_get vs i) (sym parted) ∙ view-get part items i x here;
-  was = ap (λ cs. slice_get cs i) (sym counted) ∙ view-get (λ s. reads (reader s)) items i x here;
-  is = view-set (λ s. reads (reader s)) items i y ∙ ap (λ cs. slice_set cs i (reads (reader y))) counted;
-  refused = refused;
-}

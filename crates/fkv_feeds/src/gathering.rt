@@ -14,11 +14,8 @@ use std::collections::BTreeMap;
 
 /// Puts each live key of all partitions with its value into an empty map. Refused: `NoMemory`, and as a device refuses
 /// pages of a partition.
-///
-/// Each partition has a map of its own first: where partitions are many, that is small enough for the processor's caches.
 fn gather<F: Mergeable, D: Disk>(
     functions: &F,
-    alloc: Global,
     tree: &mut BTreeMap<F::Key, F::Value>,
     shards: &mut [Shard<F, D>],
 ) -> Result<(), Refused>
@@ -36,17 +33,9 @@ fn gather<F: Mergeable, D: Disk>(
 {
     for index in 0..shards.len() {
         let shard = &mut shards[index];
-        let mut own = BTreeMap::new(alloc);
-        match shard
-            .partition
-            .put_live(functions, &mut shard.reader, &mut own)
-        {
+        match shard.partition.put_live(functions, &mut shard.reader, tree) {
             Ok(()) => {}
             Err(refused) => return Err(refused),
-        }
-        match tree.append(&mut own) {
-            Ok(()) => {}
-            Err(_) => return Err(Refused::NoMemory),
         }
     }
     Ok(())
@@ -70,7 +59,7 @@ pub fn live<F: Mergeable, D: Disk>(
         (map (λ shard. D.Reader.failures shard.reader) shards.new)) }
 {
     let mut tree = BTreeMap::new(alloc);
-    match gather(functions, alloc, &mut tree, shards) {
+    match gather(functions, &mut tree, shards) {
         Ok(()) => Ok(tree),
         Err(refused) => Err(refused),
     }

@@ -1,9 +1,9 @@
-use Rattle.std.proofs.Common.{◌≡◌, ◌<◌, ◌∙◌, length, map, get_or, slice_set, slice_get, Some, None, refl, sym, ap, arith}
+use Rattle.std.proofs.Common.{◌≡◌, ◌≢◌, ◌<◌, ◌∙◌, length, map, get_or, slice_set, slice_get, Some, refl, sym, ap, subst, arith}
 use Rattle.std.proofs.lemmas.List.{length-set, length-map, map-set}
 use Rattle.std.specs.BTreeMap.{get, is_at}
 use Rattle.std.specs.Map.{lookup}
-use Rattle.fkv_partition.proofs.UnionLemmas.{inserted-more}
-use Rattle.fkv_hybrid.specs.Scans.{memory}
+use Rattle.fkv_partition.specs.CoreViews.{partition_of}
+use Rattle.fkv_partition.proofs.UnionLemmas.{live-more, bare_before}
 use Rattle.fkv_closing.proofs.PlaceLemmas.{here, at_place, written_same}
 use Rattle.fkv_closing.proofs.UnionLemmas.{union_none, union_all}
 use Rattle.fkv_closing.proofs.gathering.gather.Goals as goal
@@ -27,13 +27,13 @@ loop-place-preserved g c =
     record {
       sized = length-set c.loop-place.readers i c.put_live.new.reader ∙ old.sized;
       steady = written_same g.P.PageReader.failures c.loop-place.readers i c.index-readers-place.result c.put_live.new.reader low c.in-Ok.ensures.steady ∙ old.steady;
-      so_far = λ keeps. (let none : (q : g.row.F-Key.Denot) → get g.F.Key.Ord.cmp c.new-own.result q ≡ None = λ q. ap (lookup (is_at (g.F.Key.Ord.cmp q))) c.new-own.ensures.empty in
-          inserted-more g.F.Key.Ord.cmp g.met.F.Key.Ord.total g.F.Functions.code views i v c.loop-place.tree c.put_live.new.map c.append.new.self
-          there (c.requires.numbered.numbered i v there) (c.requires.numbered.counted i v there)
-          c.append.ensures.other_was_ordered c.in-Ok-append.ensures.inserts_all
-          (λ q. c.in-Ok.ensures.live keeps (λ k b. none k) q (none q))
-          (λ q other. c.in-Ok.ensures.others keeps (λ k b. none k) q other ∙ none q)
-          (old.so_far keeps));
+      so_far = λ keeps q. (let bare = bare_before g.F.Key.Ord.cmp g.F.Functions.code views i v (get g.F.Key.Ord.cmp c.loop-place.tree) (c.requires.numbered.numbered i v there) (c.requires.numbered.counted i v there) (old.so_far keeps) in
+          live-more g.F.Key.Ord.cmp g.F.Functions.code views i v (get g.F.Key.Ord.cmp c.loop-place.tree) (get g.F.Key.Ord.cmp c.put_live.new.map) there
+          (c.in-Ok.ensures.live keeps bare)
+          (subst (λ n. (q : g.row.F-Key.Denot) → partition_of n (g.F.Functions.code q) ≢ i → get g.F.Key.Ord.cmp c.put_live.new.map q ≡ get g.F.Key.Ord.cmp c.loop-place.tree q) (c.requires.numbered.counted i v there)
+          (subst (λ p. (q : g.row.F-Key.Denot) → partition_of v.core.count (g.F.Functions.code q) ≢ p → get g.F.Key.Ord.cmp c.put_live.new.map q ≡ get g.F.Key.Ord.cmp c.loop-place.tree q) (c.requires.numbered.numbered i v there)
+          (c.in-Ok.ensures.others keeps bare)))
+          (old.so_far keeps) q);
     }
 
 pub returns-in-Err-clause-unread : goal.returns-in-Err-clause-unread
@@ -49,21 +49,6 @@ returns-in-Err-clause-unread g c =
       failures = g.P.PageReader.failures c.put_live.new.reader;
       counts = map-set g.P.PageReader.failures c.loop-place.readers i c.put_live.new.reader ∙ ap (λ fs. slice_set fs i (g.P.PageReader.failures c.put_live.new.reader)) old.steady;
       scan = rw was c.in-Err.ensures.refused;
-    }
-
-pub returns-in-Err-append-clause-unread : goal.returns-in-Err-append-clause-unread
-returns-in-Err-append-clause-unread g c =
-    let old = c.loop-place.invariant in
-    let i = c.loop-place.place in
-    let low : i < length c.loop-place.readers = omega (arith, c.loop-place-test.true, c.requires.read, old.sized) in
-    let was = ap (λ fs. get_or fs i 0) (sym old.steady) ∙ at_place g.P.PageReader.failures c.loop-place.readers i c.index-readers-place.result c.put_live.new.reader low 0 in
-    record {
-      partition = i;
-      view = c.index-parts-place.result.partition;
-      here = here (λ part. part.partition) c.args.parts.now i c.index-parts-place.result c.loop-place-test.true c.index-parts-place.is;
-      failures = g.P.PageReader.failures c.put_live.new.reader;
-      counts = map-set g.P.PageReader.failures c.loop-place.readers i c.put_live.new.reader ∙ ap (λ fs. slice_set fs i (g.P.PageReader.failures c.put_live.new.reader)) old.steady;
-      scan = rw was (memory refl c.in-Ok.ensures.steady);
     }
 
 pub returns-in-Err-clause-caused : goal.returns-in-Err-clause-caused
