@@ -5,12 +5,7 @@ use Rattle.std.proofs.lemmas.Bool.Decides.{nat_tests}
 use Rattle.std.proofs.lemmas.List.{length-set}
 use Rattle.std.proofs.Math.Nat.{mod-lt}
 use Rattle.std.specs.declared.cmp.Ordering.{Ordering}
-use Rattle.std.specs.BTreeMap.{BTreeMap, is_at, get, keys, IsOrdered, InsertsAll}
-use Rattle.std.specs.Option.{option_or}
-use Rattle.std.specs.Ordering.{eq_by_cmp}
-use Rattle.std.specs.Cmp.{IsTotalOrder, eq_by_cmp_equiv}
-use Rattle.std.proofs.lemmas.Map.Made.{update_all_distinct}
-use Rattle.std.proofs.lemmas.Map.Keys.{IsDistinct-from_sorted}
+use Rattle.std.specs.BTreeMap.{is_at}
 use Rattle.fkv_functions.specs.Meanings.{Meanings, updated}
 use Rattle.fkv_functions.specs.Plain.{PlainMap, Same, with_at, IsKeyOrder}
 use Rattle.fkv_functions.proofs.ListLemmas.{get-set_same, get-set_other}
@@ -149,26 +144,3 @@ module _ {K V I : Type 0} (cmp : K → K → Ordering) (code : K → ℕ) (views
       let here : partition_of (length views) (code k) ≡ i = ap (λ n. partition_of n (code k)) (sym counted) ∙ own ∙ numbered in
       let low : nat_lt (partition_of (length views) (code k)) i ≡ false = grind (arith, nat_tests) in
       before k ∙ ap (λ b. cond b (union_of cmp code views k) None) low
-
--- ---- and of one more, that has a map of its own
-module _ {K V I : Type 0} (cmp : K → K → Ordering) (order : IsTotalOrder cmp) (code : K → ℕ) (views : List (PartitionView K V I)) where
-  -- its pairs are inserted into the map of those before it
-  pub inserted-more : (i : ℕ) (v : PartitionView K V I) (m own new : BTreeMap K V)
-      → slice_get views i ≡ Some v → v.core.number ≡ i → v.core.count ≡ length views
-      → IsOrdered cmp own → InsertsAll cmp m own.entries new
-      → ((q : K) → get cmp own q ≡ live_of cmp v.core q)
-      → ((q : K) → partition_of v.core.count (code q) ≢ v.core.number → get cmp own q ≡ None)
-      → Same (get cmp m) (λ q. cond (nat_lt (partition_of (length views) (code q)) i) (union_of cmp code views q) None)
-      → Same (get cmp new) (λ q. cond (nat_lt (partition_of (length views) (code q)) (i + 1)) (union_of cmp code views q) None)
-  inserted-more i v m own new here numbered counted ordered inserts live others before =
-      live-more cmp code views i v (get cmp m) (get cmp new) here
-      (λ q none. over q ∙ ap (option_or (get cmp own q)) none ∙ no-other (get cmp own q) ∙ live q)
-      (λ q other. over q ∙ ap (λ o. option_or o (get cmp m q)) (others q (λ same. other (ap (λ n. partition_of n (code q)) (sym counted) ∙ same ∙ numbered))))
-      before
-    where
-      no-other : (o : Option V) → option_or o None ≡ o
-      no-other None = refl
-      no-other (Some x) = refl
-
-      over : (q : K) → get cmp new q ≡ option_or (get cmp own q) (get cmp m q)
-      over q = inserts.0 q ∙ update_all_distinct (eq_by_cmp_equiv order) (eq_by_cmp cmp) (λ x y. refl) (get cmp m) own.entries q (IsDistinct-from_sorted cmp (keys own) ordered)
