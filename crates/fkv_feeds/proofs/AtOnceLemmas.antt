@@ -1,5 +1,5 @@
 -- What an update in one call leaves of a session that had nothing open.
-use Rattle.std.proofs.Common.{◌≡◌, ℕ, Ok, length, None, refl, ◌∙◌, subst}
+use Rattle.std.proofs.Common.{◌≡◌, true, ℕ, Ok, length, None, refl, ◌∙◌, subst}
 use Rattle.std.specs.declared.cmp.Ordering.{Ordering}
 use Rattle.fkv_functions.specs.Meanings.{Meanings}
 use Rattle.fkv_functions.specs.Plain.{Same}
@@ -12,17 +12,11 @@ use Rattle.fkv_partition.specs.Progress.TheVariants.{Done}
 use Rattle.fkv_partition.specs.CoreViews.{live_of}
 use Rattle.fkv_partition.specs.AtOnce.{IsDoneAtOnce}
 use Rattle.fkv_partition.specs.Views.{PartitionView}
-use Rattle.fkv_feeds.specs.Sessions.{IsIdle}
+use Rattle.fkv_feeds.specs.Sessions.{IsIdle, IsUpdated}
 use Rattle.fkv_feeds.proofs.SessionLemmas.{issue-opens, goes-leads, effect-of}
 
-pub record IsUpdated {K V I O : Type 0} (cmp : K → K → Ordering) (f : Meanings K V I O) (v w : PartitionView K V I) (slot : ℕ) (key : K) (input : I) : Type 0 where
-  pub idle : IsIdle w slot
-  pub number : w.core.number ≡ v.core.number
-  pub count : w.core.count ≡ v.core.count
-  pub effect : Same (live_of cmp w.core) (after cmp f (live_of cmp v.core) (Rmw key input))
-
 pub updated-at_once : {K V I O R : Type 0} (stands : R → Standing) (cmp : K → K → Ordering) (join : V → V → V) (f : Meanings K V I O) (code : K → ℕ) (v w : PartitionView K V I) (slot : ℕ) (key : K) (input : I) (issued now : ℕ) (shown : O)
-    → IsIdle v slot → length v.core.contexts ≡ 128 → IsDoneAtOnce stands cmp join f code v w slot key input issued now shown → IsUpdated cmp f v w slot key input
+    → IsIdle v slot → length v.core.contexts ≡ 128 → IsDoneAtOnce stands cmp join f code v w slot key input issued now shown → IsUpdated true cmp f v w slot key input
 updated-at_once stands cmp join f code v w slot key input issued now shown idle places d =
     let op = Rmw key input in
     let opened = issue-opens code v d.between slot d.context issued op idle places refl d.issues in
@@ -32,5 +26,5 @@ updated-at_once stands cmp join f code v w slot key input issued now shown idle 
       idle = leads.1;
       number = leads.0.number ∙ opened.number;
       count = leads.0.count ∙ opened.count;
-      effect = subst (λ t. Same (live_of cmp w.core) (after cmp f (live cmp t) op)) opened.text effect;
+      effect = λ any. subst (λ t. Same (live_of cmp w.core) (after cmp f (live cmp t) op)) opened.text effect;
     }

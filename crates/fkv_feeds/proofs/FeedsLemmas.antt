@@ -204,9 +204,9 @@ devices-by keeps opens writes reads entry cmp e (IsDeviceFault.unworked old new 
 devices-by keeps opens writes reads entry cmp e (IsDeviceFault.unlisted low flushed before now f) = scans-by keeps low flushed (reads before) (reads now) e f
 
 -- ---- what several clauses say of one result
-pub three_ok : {A E P Q S R : Type 0} (r : Result A E) → OnOk r P → OnOk r Q → OnOk r S → (P → Q → S → R) → OnOk r R
-three_ok (Ok v) p q s f = f p q s
-three_ok (Err e) p q s f = tt
+pub two_ok : {A E P Q R : Type 0} (r : Result A E) → OnOk r P → OnOk r Q → (P → Q → R) → OnOk r R
+two_ok (Ok v) p q f = f p q
+two_ok (Err e) p q f = tt
 
 pub err_weaker : {A E : Type 0} {P : E → Type 0} (Q : E → Type 0) (r : Result A E) → ((e : E) → P e → Q e) → IfErr r P → IfErr r Q
 err_weaker Q (Ok v) f p = tt

@@ -4,4 +4,5 @@ pub mod SessionLemmas
 pub mod RunLemmas
 pub mod FeedsLemmas
 mod AtOnceLemmas
+mod TurnLemmas
 mod WritingLemmas

@@ -1,5 +1,5 @@
 -- What the events of operations on keys leave of a session's update, and when they are refused.
-use Rattle.std.proofs.Common.{◌≡◌, ◌≢◌, Bool, true, false, cond, IsTrue, ◌&&◌, ℕ, ◌+◌, ◌*◌, ◌<◌, ◌⊎◌, inl, inr, List, Option, Some, None, Result, Ok, Err, slice_get, slice_set, nat_lt, refl, sym, ◌∙◌, ap, subst, arith}
+use Rattle.std.proofs.Common.{◌≡◌, ◌≢◌, Bool, true, false, cond, IsTrue, ◌&&◌, ℕ, ◌+◌, ◌*◌, ◌^◌, ◌<◌, ◌⊎◌, inl, inr, List, Option, Some, None, Result, Ok, Err, slice_get, slice_set, nat_lt, refl, sym, ◌∙◌, ap, subst, arith}
 use Rattle.std.proofs.lemmas.Option.{same_Some}
 use Rattle.std.proofs.lemmas.Bool.Decides.{nat_tests}
 use Rattle.std.specs.declared.cmp.Ordering.{Ordering}
@@ -209,6 +209,13 @@ module _ {K V I : Type 0} (v w : CoreView K V I) (slot c : ℕ) (op : KeyedOp K 
   gives-up page now r o (GivesUp.gives_up x h n e b) = given-up page o (set-by _ now None e refl refl refl refl) (ap (λ (t : CoreView K V I). t.records.text) e)
   gives-up page now r o (GivesUp.cancels x p h q e b) = given-up page o (set-by _ now None e refl refl refl refl) (ap (λ (t : CoreView K V I). t.records.text) e)
 
+-- no address is left for a record
+abbrev pub IsSpent : {K V I : Type 0} → CoreView K V I → Refused → Type 0
+IsSpent v e = (e ≡ Worn) × (v.records.tail ≡ 2 ^ 48)
+
+abbrev pub IsGoRefusal : {K V I : Type 0} → CoreView K V I → Refused → Type 0
+IsGoRefusal v e = IsSpent v e ⊎ (e ≡ NoMemory)
+
 -- a page that came by the receipt that is kept of it is refused
 abbrev pub IsLoadRefusal : {K V : Type 0} → Spelling K V → (K → K → Ordering) → Refused → Type 0
 IsLoadRefusal entry cmp e = (e ≡ NoMemory) ⊎ ((page : ℕ) × IsSpoilt entry cmp page × (e ≡ Damaged page))
@@ -227,7 +234,7 @@ module _ {K V I O R : Type 0} (stands : R → Standing) where
   Leads why v w slot c op (Err e) = why e
 
   module _ (v w : CoreView K V I) (slot c : ℕ) (op : KeyedOp K V I) where
-    pub goes-leads : (cmp : K → K → Ordering) (join : V → V → V) (f : Meanings K V I O) (code : K → ℕ) (now : ℕ) (r : Result (Progress K V I O R) Refused) → IsOpen v slot c op None → Goes stands cmp join f code v w slot c now r → Leads (λ e. (e ≡ Worn) ⊎ (e ≡ NoMemory)) v w slot c op r
+    pub goes-leads : (cmp : K → K → Ordering) (join : V → V → V) (f : Meanings K V I O) (code : K → ℕ) (now : ℕ) (r : Result (Progress K V I O R) Refused) → IsOpen v slot c op None → Goes stands cmp join f code v w slot c now r → Leads (IsGoRefusal w) v w slot c op r
     goes-leads cmp join f code now r o (Goes.unknown a e b) = absurd (none-open v slot c op None o a)
     goes-leads cmp join f code now r o (Goes.asks x k ask h q e b) =
         let p = passes v w slot c op now e o in
@@ -239,7 +246,7 @@ module _ {K V I O R : Type 0} (stands : R → Standing) where
     goes-leads cmp join f code now r o (Goes.claims x d m b) = rw b (turns v w slot c op None x (Confirm m.place) o d.here refl (set-by v w slot c op _ now _ m.is refl refl (ap (λ (t : RecordsView K V). t.regions.epochs.slots) m.claims.is) refl))
     goes-leads cmp join f code now r o (Goes.unclaimed x d l e b) = rw b (inr refl)
     goes-leads cmp join f code now r o (Goes.appends x a g k d h t n e b) = rw b (over v w slot c op None o (set-by v w slot c op _ now _ e refl refl refl refl))
-    goes-leads cmp join f code now r o (Goes.worn x a g d t e b) = rw b (inl refl)
+    goes-leads cmp join f code now r o (Goes.worn x a g d t e b) = rw b (inl (refl, ap (λ (u : CoreView K V I). u.records.tail) e ∙ t))
     goes-leads cmp join f code now r o (Goes.full x a g d t e b) = rw b (passes v w slot c op now e o)
     goes-leads cmp join f code now r o (Goes.replaces x a g k d h e b) = rw b (over v w slot c op None o (set-by v w slot c op _ now _ e refl refl refl refl))
     goes-leads cmp join f code now r o (Goes.waits x d e b) = rw b (passes v w slot c op now e o)
@@ -258,13 +265,13 @@ module _ {K V I O R : Type 0} (stands : R → Standing) where
         )
     goes-leads cmp join f code now r o (Goes.unshared x p parts d e b) = rw b (inr refl)
 
-    pub installs-leads : (cmp : K → K → Ordering) (f : Meanings K V I O) (code : K → ℕ) (now : ℕ) (ask : Ask K V I) (r : Result (Progress K V I O R) Refused) → IsOpen v slot c op None → IsAsking v slot c ask → Installs cmp f code v w slot c ask now r → Leads (λ e. e ≡ Worn) v w slot c op r
+    pub installs-leads : (cmp : K → K → Ordering) (f : Meanings K V I O) (code : K → ℕ) (now : ℕ) (ask : Ask K V I) (r : Result (Progress K V I O R) Refused) → IsOpen v slot c op None → IsAsking v slot c ask → Installs cmp f code v w slot c ask now r → Leads (IsSpent w) v w slot c op r
     installs-leads cmp f code now ask r o q (Installs.unknown a e b) = absurd (none-open v slot c op None o a)
     installs-leads cmp f code now ask r o q (Installs.not_ready x h n e b) = absurd (let same : x ≡ q.operation = same_Some x q.operation (sym h ∙ q.here) in let bad : None ≡ Some (q.kept, ask) = sym n ∙ ap question_in same ∙ q.question in cc)
     installs-leads cmp f code now ask r o q (Installs.stranger x k m h n d e b) = absurd (let same : x ≡ q.operation = same_Some x q.operation (sym h ∙ q.here) in let both : Some (k, m) ≡ Some (q.kept, ask) = sym n ∙ ap question_in same ∙ q.question in d (sym (ap (λ (p : IndexEntry × Ask K V I). p.1) (same_Some (k, m) (q.kept, ask) both))))
     installs-leads cmp f code now ask r o q (Installs.moved x k h n d e b) = rw b (turns v w slot c op None x Fresh o h refl (set-by v w slot c op _ now _ e refl refl refl refl))
     installs-leads cmp f code now ask r o q (Installs.declined x k h n d u e b) = rw b (over v w slot c op None o (set-by v w slot c op _ now _ e refl refl refl refl))
-    installs-leads cmp f code now ask r o q (Installs.worn x k value h n d u t e b) = rw b refl
+    installs-leads cmp f code now ask r o q (Installs.worn x k value h n d u t e b) = rw b (refl, ap (λ (u : CoreView K V I). u.records.tail) e ∙ t)
     installs-leads cmp f code now ask r o q (Installs.full x k value h n d u t e b) = rw b (passes v w slot c op now e o)
     installs-leads cmp f code now ask r o q (Installs.done x k value h n d u t g e b) = rw b (over v w slot c op None o (set-by v w slot c op _ now _ e refl refl refl refl))
 

@@ -1,13 +1,12 @@
 -- What the events of a partition leave of a session in which no relocation is open: they are those of its operations on
 -- keys.
-use Rattle.std.proofs.Common.{◌≡◌, Bool, true, false, cond, IsTrue, ◌&&◌, ℕ, ◌+◌, ◌*◌, ◌<◌, ◌⊎◌, length, get_or, Option, Some, None, Result, Ok, Err, option_map, slice_get, slice_set, nat_lt, refl, sym, ◌∙◌, ap, subst, arith}
+use Rattle.std.proofs.Common.{◌≡◌, Bool, true, false, cond, IsTrue, ◌&&◌, ℕ, ◌+◌, ◌*◌, ◌<◌, length, get_or, Option, Some, None, Result, Ok, Err, option_map, slice_get, slice_set, nat_lt, refl, sym, ◌∙◌, ap, subst, arith}
 use Rattle.std.proofs.lemmas.Option.{slice_get-get_or, same_Some}
 use Rattle.std.specs.declared.cmp.Ordering.{Ordering}
 use Rattle.fkv_functions.specs.Meanings.{Meanings}
 use Rattle.fkv_functions.specs.Plain.{Same}
 use Rattle.fkv_functions.specs.declared.asks.Ask.{Ask}
 use Rattle.fkv_functions.specs.declared.refusals.Refused.{Refused}
-use Rattle.fkv_functions.specs.declared.refusals.Refused.TheVariants.{NoMemory, Worn}
 use Rattle.fkv_functions.proofs.ListLemmas.{get-set_same}
 use Rattle.fkv_device.specs.Standing.{Standing, Joined}
 use Rattle.fkv_operations.specs.After.{after, key_of, is_merge, is_update}
@@ -36,7 +35,7 @@ use Rattle.fkv_feeds.specs.declared.updating.Turn.{Turn}
 use Rattle.fkv_feeds.specs.declared.updating.Turn.TheVariants.{On}
 use Rattle.fkv_feeds.specs.declared.updating.Turn.TheVariants as turn
 use Rattle.fkv_feeds.proofs.SeatLemmas as seat
-use Rattle.fkv_feeds.proofs.SeatLemmas.{inside, set-other, at-set, IsSet, IsMoved, IsLoadRefusal}
+use Rattle.fkv_feeds.proofs.SeatLemmas.{inside, set-other, at-set, IsSet, IsMoved, IsSpent, IsGoRefusal, IsLoadRefusal}
 
 module _ {K V I : Type 0} where
   -- relocations that stay are open in no session in which none was
@@ -180,12 +179,12 @@ module _ {K V I O R : Type 0} (stands : R → Standing) where
     leads why (Ok (NeedsLoad r a)) none h = (h.0, record { seat = h.1; relocations = none })
     leads why (Err e) none h = h
 
-    pub goes-leads : (cmp : K → K → Ordering) (join : V → V → V) (f : Meanings K V I O) (code : K → ℕ) (now : ℕ) (r : Result (Progress K V I O R) Refused) → IsOpen v slot c op None → Goes stands cmp join f code v w slot c now r → Leads (λ e. (e ≡ Worn) ⊎ (e ≡ NoMemory)) v w slot c op r
-    goes-leads cmp join f code now r o (Goes.on_key none does rest) = leads (λ e. (e ≡ Worn) ⊎ (e ≡ NoMemory)) r (after-key v w slot c op None o rest) (seat.goes-leads stands v.core w.core slot c op cmp join f code now r o.seat does)
+    pub goes-leads : (cmp : K → K → Ordering) (join : V → V → V) (f : Meanings K V I O) (code : K → ℕ) (now : ℕ) (r : Result (Progress K V I O R) Refused) → IsOpen v slot c op None → Goes stands cmp join f code v w slot c now r → Leads (IsGoRefusal w.core) v w slot c op r
+    goes-leads cmp join f code now r o (Goes.on_key none does rest) = leads (IsGoRefusal w.core) r (after-key v w slot c op None o rest) (seat.goes-leads stands v.core w.core slot c op cmp join f code now r o.seat does)
     goes-leads cmp join f code now r o (Goes.relocation x h does) = absurd (let bad : Some x ≡ None = sym h ∙ o.relocations c in cc)
 
-    pub installs-leads : (cmp : K → K → Ordering) (f : Meanings K V I O) (code : K → ℕ) (now : ℕ) (ask : Ask K V I) (r : Result (Progress K V I O R) Refused) → IsOpen v slot c op None → IsAsking v.core slot c ask → Installs cmp f code v w slot c ask now r → Leads (λ e. e ≡ Worn) v w slot c op r
-    installs-leads cmp f code now ask r o q (Installs.on_key none does rest) = leads (λ e. e ≡ Worn) r (after-key v w slot c op None o rest) (seat.installs-leads stands v.core w.core slot c op cmp f code now ask r o.seat q does)
+    pub installs-leads : (cmp : K → K → Ordering) (f : Meanings K V I O) (code : K → ℕ) (now : ℕ) (ask : Ask K V I) (r : Result (Progress K V I O R) Refused) → IsOpen v slot c op None → IsAsking v.core slot c ask → Installs cmp f code v w slot c ask now r → Leads (IsSpent w.core) v w slot c op r
+    installs-leads cmp f code now ask r o q (Installs.on_key none does rest) = leads (IsSpent w.core) r (after-key v w slot c op None o rest) (seat.installs-leads stands v.core w.core slot c op cmp f code now ask r o.seat q does)
     installs-leads cmp f code now ask r o q (Installs.relocation x h same e) = absurd (let bad : Some x ≡ None = sym h ∙ o.relocations c in cc)
 
     pub loads-leads : (entry : Spelling K V) (cmp : K → K → Ordering) (join : V → V → V) (f : Meanings K V I O) (code : K → ℕ) (now : ℕ) (p : Joined R) (s : Standing) (r : Result (Progress K V I O R) Refused)

@@ -3,6 +3,7 @@ pub mod Writing
 pub mod Refusing
 pub mod Faults
 pub mod Exhausted
+pub mod Turns
 pub mod Listing
 pub mod Seats
 pub mod Sessions

@@ -1,9 +1,13 @@
 -- A session of a partition in which no relocation is open, before an update and in one.
-use Rattle.std.specs.Prelude.{◌≡◌, ℕ, Bool, Option, None}
+use Rattle.std.specs.Prelude.{◌≡◌, ℕ, Bool, IsTrue, Option, None}
 use Rattle.std.specs.declared.cmp.Ordering.{Ordering}
 use Rattle.fkv_functions.specs.Meanings.{Meanings}
+use Rattle.fkv_functions.specs.Plain.{Same}
 use Rattle.fkv_device.specs.Standing.{Standing}
+use Rattle.fkv_operations.specs.After.{after}
 use Rattle.fkv_operations.specs.declared.operations.KeyedOp.{KeyedOp}
+use Rattle.fkv_operations.specs.declared.operations.KeyedOp.TheVariants.{Rmw}
+use Rattle.fkv_partition.specs.CoreViews.{live_of}
 use Rattle.fkv_partition.specs.Views.{PartitionView, relocation_at}
 use Rattle.fkv_feeds.specs.Seats as seats
 use Rattle.fkv_feeds.specs.declared.updating.Turn.{Turn}
@@ -31,3 +35,12 @@ pub record IsTidied {K V I : Type 0} (keeps : Bool) (cmp : K → K → Ordering)
     : Type 0 where
   pub seat : seats.IsTidied keeps cmp old.core new.core
   pub relocations : new.relocations ≡ old.relocations
+
+-- an update of a session with nothing open is done: nothing is open, and, on a device that keeps, the live map is the one
+-- after it
+pub record IsUpdated {K V I O : Type 0} (keeps : Bool) (cmp : K → K → Ordering) (f : Meanings K V I O)
+    (old new : PartitionView K V I) (slot : ℕ) (key : K) (input : I) : Type 0 where
+  pub idle : IsIdle new slot
+  pub number : new.core.number ≡ old.core.number
+  pub count : new.core.count ≡ old.core.count
+  pub effect : IsTrue keeps → Same (live_of cmp new.core) (after cmp f (live_of cmp old.core) (Rmw key input))

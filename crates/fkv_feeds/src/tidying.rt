@@ -2,11 +2,11 @@
 //!
 //! A partition keeps its newest records in memory. ReadOnly follows the tail at half of the frames, each page below it
 //! is written, and Head follows so that the page after the tail's finds its frame free.
-ghost use Rattle.std.specs.Prelude.{◌≡◌, ◌<◌, ◌≤◌, ◌+◌, ◌^◌, ◌⊎◌, ℕ, true, false, Err, IfOk, IfErr, OnOk};
-ghost use Rattle.fkv_device.specs.Failing.{FailsOnlyBy};
+ghost use Rattle.std.specs.Prelude.{◌≡◌, ◌<◌, ◌≤◌, ◌+◌, ◌^◌, IfErr, OnOk};
 ghost use Rattle.fkv_partition.specs.CoreBeginning.{IsEntered};
 ghost use Rattle.fkv_feeds.specs.Seats.{SeesNow};
 ghost use Rattle.fkv_feeds.specs.Sessions.{IsTidied};
+ghost use Rattle.fkv_feeds.specs.Turns.{IsWorked, IsMoveRefusal};
 
 use crate::shards::{Shard, Terms};
 use fkv_device::{Disk, Receipt, Written};
@@ -27,8 +27,7 @@ fn refresh<F: Mergeable, R: Receipt>(
     ensures seen { OnOk result (SeesNow partition.new.core slot) }
     ensures past { OnOk result (partition.new.core.moment ≤ clock.new) }
     ensures later { OnOk result (clock.old ≤ clock.new) }
-    ensures only { IfErr result (λ refused. refused ≡ Refused.Worn) }
-    ensures worn { result ≡ Err Refused.Worn → 2 ^ 64 ≤ clock.new + 1 }
+    ensures told { IfErr result (λ e. (e ≡ Refused.Worn) × (2 ^ 64 ≤ clock.new + 1)) }
 {
     let now = match clock.tick() {
         Ok(now) => now,
@@ -56,8 +55,7 @@ fn freeze<F: Mergeable, R: Receipt>(
     ensures seen { OnOk result (SeesNow partition.new.core slot) }
     ensures past { OnOk result (partition.new.core.moment ≤ clock.new) }
     ensures later { OnOk result (clock.old ≤ clock.new) }
-    ensures only { IfErr result (λ refused. refused ≡ Refused.Worn) }
-    ensures worn { result ≡ Err Refused.Worn → 2 ^ 64 ≤ clock.new + 1 }
+    ensures told { IfErr result (λ e. (e ≡ Refused.Worn) × (2 ^ 64 ≤ clock.new + 1)) }
 {
     let now = match clock.tick() {
         Ok(now) => now,
@@ -82,8 +80,7 @@ fn evict<F: Mergeable, R: Receipt>(
     ensures seen { OnOk result (SeesNow partition.new.core slot) }
     ensures past { OnOk result (partition.new.core.moment ≤ clock.new) }
     ensures later { OnOk result (clock.old ≤ clock.new) }
-    ensures only { IfErr result (λ refused. refused ≡ Refused.Worn) }
-    ensures worn { result ≡ Err Refused.Worn → 2 ^ 64 ≤ clock.new + 1 }
+    ensures told { IfErr result (λ e. (e ≡ Refused.Worn) × (2 ^ 64 ≤ clock.new + 1)) }
 {
     let now = match clock.tick() {
         Ok(now) => now,
@@ -102,16 +99,12 @@ fn flush<F: Mergeable, D: Disk>(
 ) -> Result<bool, Refused>
     requires past { shard.old.partition.core.moment ≤ clock.old }
     ensures tidied { OnOk result (IsTidied D.Receipt.keeps F.Key.cmp shard.old.partition shard.new.partition) }
-    ensures past { OnOk result (shard.new.partition.core.moment ≤ clock.new) }
-    ensures later { OnOk result (clock.old ≤ clock.new) }
-    ensures steady { OnOk result (D.Writer.failures shard.new.writer ≡ D.Writer.failures shard.old.writer) }
+    ensures worked { OnOk result (IsWorked 0 shard.new.partition.core.moment clock.old clock.new
+        (D.Writer.failures shard.old.writer) (D.Writer.failures shard.new.writer)
+        (D.Reader.failures shard.old.reader) (D.Reader.failures shard.new.reader)) }
     ensures same_reader { shard.new.reader ≡ shard.old.reader }
-    ensures told { IfErr result (λ e. (e ≡ Refused.Worn) ⊎ (e ≡ Refused.NoMemory)
-        ⊎ ((page : ℕ) × FailsOnlyBy 2 page (D.Writer.failures shard.old.writer)
-        (D.Writer.failures shard.new.writer) e)) }
-    ensures worn { result ≡ Err Refused.Worn → 2 ^ 64 ≤ clock.new + 1 }
-    ensures memory { result ≡ Err Refused.NoMemory
-        → D.Writer.failures shard.new.writer ≡ D.Writer.failures shard.old.writer }
+    ensures told { IfErr result (IsMoveRefusal clock.new (D.Writer.failures shard.old.writer)
+        (D.Writer.failures shard.new.writer)) }
 {
     let taken = match clock.tick() {
         Ok(taken) => taken,
@@ -144,16 +137,12 @@ fn flush_all<F: Mergeable, D: Disk>(
 ) -> Result<(), Refused>
     requires past { shard.old.partition.core.moment ≤ clock.old }
     ensures tidied { OnOk result (IsTidied D.Receipt.keeps F.Key.cmp shard.old.partition shard.new.partition) }
-    ensures past { OnOk result (shard.new.partition.core.moment ≤ clock.new) }
-    ensures later { OnOk result (clock.old ≤ clock.new) }
-    ensures steady { OnOk result (D.Writer.failures shard.new.writer ≡ D.Writer.failures shard.old.writer) }
+    ensures worked { OnOk result (IsWorked 0 shard.new.partition.core.moment clock.old clock.new
+        (D.Writer.failures shard.old.writer) (D.Writer.failures shard.new.writer)
+        (D.Reader.failures shard.old.reader) (D.Reader.failures shard.new.reader)) }
     ensures same_reader { shard.new.reader ≡ shard.old.reader }
-    ensures told { IfErr result (λ e. (e ≡ Refused.Worn) ⊎ (e ≡ Refused.NoMemory)
-        ⊎ ((page : ℕ) × FailsOnlyBy 2 page (D.Writer.failures shard.old.writer)
-        (D.Writer.failures shard.new.writer) e)) }
-    ensures worn { result ≡ Err Refused.Worn → 2 ^ 64 ≤ clock.new + 1 }
-    ensures memory { result ≡ Err Refused.NoMemory
-        → D.Writer.failures shard.new.writer ≡ D.Writer.failures shard.old.writer }
+    ensures told { IfErr result (IsMoveRefusal clock.new (D.Writer.failures shard.old.writer)
+        (D.Writer.failures shard.new.writer)) }
 {
     for _page in 0..terms.frames {
         match flush(terms, shard, clock) {
@@ -184,16 +173,12 @@ pub fn tidy<F: Mergeable, D: Disk>(
     requires past { shard.old.partition.core.moment ≤ clock.old }
     ensures tidied { OnOk result (IsTidied D.Receipt.keeps F.Key.cmp shard.old.partition shard.new.partition) }
     ensures seen { OnOk result (SeesNow shard.new.partition.core terms.now.slot) }
-    ensures past { OnOk result (shard.new.partition.core.moment ≤ clock.new) }
-    ensures later { OnOk result (clock.old ≤ clock.new) }
-    ensures steady { OnOk result (D.Writer.failures shard.new.writer ≡ D.Writer.failures shard.old.writer) }
+    ensures worked { OnOk result (IsWorked 0 shard.new.partition.core.moment clock.old clock.new
+        (D.Writer.failures shard.old.writer) (D.Writer.failures shard.new.writer)
+        (D.Reader.failures shard.old.reader) (D.Reader.failures shard.new.reader)) }
     ensures same_reader { shard.new.reader ≡ shard.old.reader }
-    ensures told { IfErr result (λ e. (e ≡ Refused.Worn) ⊎ (e ≡ Refused.NoMemory)
-        ⊎ ((page : ℕ) × FailsOnlyBy 2 page (D.Writer.failures shard.old.writer)
-        (D.Writer.failures shard.new.writer) e)) }
-    ensures worn { result ≡ Err Refused.Worn → 2 ^ 64 ≤ clock.new + 1 }
-    ensures memory { result ≡ Err Refused.NoMemory
-        → D.Writer.failures shard.new.writer ≡ D.Writer.failures shard.old.writer }
+    ensures told { IfErr result (IsMoveRefusal clock.new (D.Writer.failures shard.old.writer)
+        (D.Writer.failures shard.new.writer)) }
 {
     let tail = tail_page(&shard.partition);
     let changed = (terms.frames / 2).saturating_sub(1);
@@ -224,15 +209,12 @@ pub fn tidy_at_times<F: Mergeable, D: Disk>(
     requires entered { IsEntered shard.old.partition.core terms.now.slot }
     requires past { shard.old.partition.core.moment ≤ clock.old }
     ensures tidied { OnOk result (IsTidied D.Receipt.keeps F.Key.cmp shard.old.partition shard.new.partition) }
-    ensures past { OnOk result (shard.new.partition.core.moment ≤ clock.new) }
-    ensures later { OnOk result (clock.old ≤ clock.new) }
+    ensures worked { OnOk result (IsWorked 0 shard.new.partition.core.moment clock.old clock.new
+        (D.Writer.failures shard.old.writer) (D.Writer.failures shard.new.writer)
+        (D.Reader.failures shard.old.reader) (D.Reader.failures shard.new.reader)) }
     ensures same_reader { shard.new.reader ≡ shard.old.reader }
-    ensures told { IfErr result (λ e. (e ≡ Refused.Worn) ⊎ (e ≡ Refused.NoMemory)
-        ⊎ ((page : ℕ) × FailsOnlyBy 2 page (D.Writer.failures shard.old.writer)
-        (D.Writer.failures shard.new.writer) e)) }
-    ensures worn { result ≡ Err Refused.Worn → 2 ^ 64 ≤ clock.new + 1 }
-    ensures memory { result ≡ Err Refused.NoMemory
-        → D.Writer.failures shard.new.writer ≡ D.Writer.failures shard.old.writer }
+    ensures told { IfErr result (IsMoveRefusal clock.new (D.Writer.failures shard.old.writer)
+        (D.Writer.failures shard.new.writer)) }
 {
     shard.rows = shard.rows.wrapping_add(1);
     if shard.rows % 64 != 0 {

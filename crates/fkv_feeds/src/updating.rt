@@ -1,16 +1,12 @@
 //! One row: an update of a partition, through its own events.
-ghost use Rattle.std.specs.Prelude.{◌≡◌, ◌+◌, ◌^◌, ◌<◌, ◌≤◌, ◌⊎◌, ◌↔◌, ℕ, IsTrue, Some, None, Ok, Err, OnOk, IfOk, IfErr, option_map, true, false};
+ghost use Rattle.std.specs.Prelude.{◌≡◌, ◌+◌, ◌^◌, ◌<◌, ◌≤◌, IsTrue, Some, None, OnOk, IfOk, IfErr, option_map, true};
 ghost use Rattle.std.specs.Bool.{OnTrue, OnFalse};
-ghost use Rattle.fkv_functions.specs.Plain.{Same};
-ghost use Rattle.fkv_operations.specs.After.{after};
 ghost use Rattle.fkv_operations.specs.declared.operations.KeyedOp.{KeyedOp};
-ghost use Rattle.fkv_operations.specs.declared.operations.KeyedOp.TheVariants.{Rmw};
 ghost use Rattle.fkv_pages.specs.Spelled.{IsEntryIn};
-ghost use Rattle.fkv_partition.specs.CoreViews.{live_of, partition_of};
-ghost use Rattle.fkv_feeds.specs.Faults.{IsFault};
+ghost use Rattle.fkv_partition.specs.CoreViews.{partition_of};
 ghost use Rattle.fkv_feeds.specs.Seats.{IsAsking, SeesNow};
-ghost use Rattle.fkv_feeds.specs.Sessions.{IsIdle, IsOpen, Tries};
-ghost use Rattle.fkv_feeds.specs.Exhausted.{IsExhausted};
+ghost use Rattle.fkv_feeds.specs.Sessions.{IsIdle, IsOpen, IsUpdated, Tries};
+ghost use Rattle.fkv_feeds.specs.Turns.{IsWorked, IsTurnRefusal, IsUpdateRefusal};
 
 use crate::shards::{Shard, Terms};
 use crate::tidying::tidy;
@@ -45,18 +41,14 @@ fn wait<F: Mergeable, D: Disk>(
         → Tries D.Receipt.keeps D.Receipt.stands F.Key.cmp F.meaning shard.old.partition shard.new.partition terms.now.slot
         context op turn) }
     ensures seen { OnOk result (SeesNow shard.new.partition.core terms.now.slot) }
-    ensures past { OnOk result (shard.new.partition.core.moment ≤ clock.new) }
-    ensures later { OnOk result (clock.old ≤ clock.new) }
-    ensures steady { OnOk result ((D.Writer.failures shard.new.writer ≡ D.Writer.failures shard.old.writer)
-        × (D.Reader.failures shard.new.reader ≡ D.Reader.failures shard.old.reader)) }
-    ensures told { IfErr result (λ e. (e ≡ Refused.Worn) ⊎ (e ≡ Refused.NoMemory)
-        ⊎ IsFault (IsEntryIn F.Key.bytes_of F.Value.bytes_of F.Key.is_known F.Value.is_known F.Key.SIZE F.Value.SIZE)
-        F.Key.cmp (D.Writer.failures shard.old.writer) (D.Writer.failures shard.new.writer)
-        (D.Reader.failures shard.old.reader) (D.Reader.failures shard.new.reader) e) }
-    ensures worn { result ≡ Err Refused.Worn → IsExhausted 1 shard.new.partition.core.records.tail clock.new }
-    ensures memory { result ≡ Err Refused.NoMemory
-        → (D.Writer.failures shard.new.writer ≡ D.Writer.failures shard.old.writer)
-        × (D.Reader.failures shard.new.reader ≡ D.Reader.failures shard.old.reader) }
+    ensures worked { OnOk result (IsWorked 0 shard.new.partition.core.moment clock.old clock.new
+        (D.Writer.failures shard.old.writer) (D.Writer.failures shard.new.writer)
+        (D.Reader.failures shard.old.reader) (D.Reader.failures shard.new.reader)) }
+    ensures told { IfErr result (IsTurnRefusal
+        (IsEntryIn F.Key.bytes_of F.Value.bytes_of F.Key.is_known F.Value.is_known F.Key.SIZE F.Value.SIZE)
+        F.Key.cmp 1 shard.new.partition.core.records.tail clock.new
+        (D.Writer.failures shard.old.writer) (D.Writer.failures shard.new.writer)
+        (D.Reader.failures shard.old.reader) (D.Reader.failures shard.new.reader)) }
     ensures same_reader { shard.new.reader ≡ shard.old.reader }
 {
     match tidy(terms, shard, clock) {
@@ -80,18 +72,14 @@ fn install<F: Mergeable, D: Disk>(
         → IsOpen shard.old.partition terms.now.slot context op None
         → Tries D.Receipt.keeps D.Receipt.stands F.Key.cmp F.meaning shard.old.partition shard.new.partition terms.now.slot
         context op turn) }
-    ensures past { OnOk result (shard.new.partition.core.moment ≤ clock.new) }
-    ensures later { OnOk result (clock.old < clock.new) }
-    ensures steady { OnOk result ((D.Writer.failures shard.new.writer ≡ D.Writer.failures shard.old.writer)
-        × (D.Reader.failures shard.new.reader ≡ D.Reader.failures shard.old.reader)) }
-    ensures told { IfErr result (λ e. (e ≡ Refused.Worn) ⊎ (e ≡ Refused.NoMemory)
-        ⊎ IsFault (IsEntryIn F.Key.bytes_of F.Value.bytes_of F.Key.is_known F.Value.is_known F.Key.SIZE F.Value.SIZE)
-        F.Key.cmp (D.Writer.failures shard.old.writer) (D.Writer.failures shard.new.writer)
-        (D.Reader.failures shard.old.reader) (D.Reader.failures shard.new.reader) e) }
-    ensures worn { result ≡ Err Refused.Worn → IsExhausted 1 shard.new.partition.core.records.tail clock.new }
-    ensures memory { result ≡ Err Refused.NoMemory
-        → (D.Writer.failures shard.new.writer ≡ D.Writer.failures shard.old.writer)
-        × (D.Reader.failures shard.new.reader ≡ D.Reader.failures shard.old.reader) }
+    ensures worked { OnOk result (IsWorked 1 shard.new.partition.core.moment clock.old clock.new
+        (D.Writer.failures shard.old.writer) (D.Writer.failures shard.new.writer)
+        (D.Reader.failures shard.old.reader) (D.Reader.failures shard.new.reader)) }
+    ensures told { IfErr result (IsTurnRefusal
+        (IsEntryIn F.Key.bytes_of F.Value.bytes_of F.Key.is_known F.Value.is_known F.Key.SIZE F.Value.SIZE)
+        F.Key.cmp 1 shard.new.partition.core.records.tail clock.new
+        (D.Writer.failures shard.old.writer) (D.Writer.failures shard.new.writer)
+        (D.Reader.failures shard.old.reader) (D.Reader.failures shard.new.reader)) }
     ensures same_reader { shard.new.reader ≡ shard.old.reader }
 {
     let now = match clock.tick() {
@@ -124,18 +112,14 @@ fn go_on<F: Mergeable, D: Disk>(
         → IsOpen shard.old.partition terms.now.slot context op None
         → Tries D.Receipt.keeps D.Receipt.stands F.Key.cmp F.meaning shard.old.partition shard.new.partition terms.now.slot
         context op turn) }
-    ensures past { OnOk result (shard.new.partition.core.moment ≤ clock.new) }
-    ensures later { OnOk result (clock.old < clock.new) }
-    ensures steady { OnOk result ((D.Writer.failures shard.new.writer ≡ D.Writer.failures shard.old.writer)
-        × (D.Reader.failures shard.new.reader ≡ D.Reader.failures shard.old.reader)) }
-    ensures told { IfErr result (λ e. (e ≡ Refused.Worn) ⊎ (e ≡ Refused.NoMemory)
-        ⊎ IsFault (IsEntryIn F.Key.bytes_of F.Value.bytes_of F.Key.is_known F.Value.is_known F.Key.SIZE F.Value.SIZE)
-        F.Key.cmp (D.Writer.failures shard.old.writer) (D.Writer.failures shard.new.writer)
-        (D.Reader.failures shard.old.reader) (D.Reader.failures shard.new.reader) e) }
-    ensures worn { result ≡ Err Refused.Worn → IsExhausted 1 shard.new.partition.core.records.tail clock.new }
-    ensures memory { result ≡ Err Refused.NoMemory
-        → (D.Writer.failures shard.new.writer ≡ D.Writer.failures shard.old.writer)
-        × (D.Reader.failures shard.new.reader ≡ D.Reader.failures shard.old.reader) }
+    ensures worked { OnOk result (IsWorked 1 shard.new.partition.core.moment clock.old clock.new
+        (D.Writer.failures shard.old.writer) (D.Writer.failures shard.new.writer)
+        (D.Reader.failures shard.old.reader) (D.Reader.failures shard.new.reader)) }
+    ensures told { IfErr result (IsTurnRefusal
+        (IsEntryIn F.Key.bytes_of F.Value.bytes_of F.Key.is_known F.Value.is_known F.Key.SIZE F.Value.SIZE)
+        F.Key.cmp 1 shard.new.partition.core.records.tail clock.new
+        (D.Writer.failures shard.old.writer) (D.Writer.failures shard.new.writer)
+        (D.Reader.failures shard.old.reader) (D.Reader.failures shard.new.reader)) }
     ensures same_reader { shard.new.reader ≡ shard.old.reader }
 {
     let now = match clock.tick() {
@@ -171,18 +155,14 @@ fn load<F: Mergeable, D: Disk>(
         → IsOpen shard.old.partition terms.now.slot context op (Some (D.Receipt.stands receipt))
         → Tries D.Receipt.keeps D.Receipt.stands F.Key.cmp F.meaning shard.old.partition shard.new.partition terms.now.slot
         context op turn) }
-    ensures past { OnOk result (shard.new.partition.core.moment ≤ clock.new) }
-    ensures later { OnOk result (clock.old < clock.new) }
-    ensures steady { OnOk result ((D.Writer.failures shard.new.writer ≡ D.Writer.failures shard.old.writer)
-        × (D.Reader.failures shard.new.reader ≡ D.Reader.failures shard.old.reader)) }
-    ensures told { IfErr result (λ e. (e ≡ Refused.Worn) ⊎ (e ≡ Refused.NoMemory)
-        ⊎ IsFault (IsEntryIn F.Key.bytes_of F.Value.bytes_of F.Key.is_known F.Value.is_known F.Key.SIZE F.Value.SIZE)
-        F.Key.cmp (D.Writer.failures shard.old.writer) (D.Writer.failures shard.new.writer)
-        (D.Reader.failures shard.old.reader) (D.Reader.failures shard.new.reader) e) }
-    ensures worn { result ≡ Err Refused.Worn → IsExhausted 1 shard.new.partition.core.records.tail clock.new }
-    ensures memory { result ≡ Err Refused.NoMemory
-        → (D.Writer.failures shard.new.writer ≡ D.Writer.failures shard.old.writer)
-        × (D.Reader.failures shard.new.reader ≡ D.Reader.failures shard.old.reader) }
+    ensures worked { OnOk result (IsWorked 1 shard.new.partition.core.moment clock.old clock.new
+        (D.Writer.failures shard.old.writer) (D.Writer.failures shard.new.writer)
+        (D.Reader.failures shard.old.reader) (D.Reader.failures shard.new.reader)) }
+    ensures told { IfErr result (IsTurnRefusal
+        (IsEntryIn F.Key.bytes_of F.Value.bytes_of F.Key.is_known F.Value.is_known F.Key.SIZE F.Value.SIZE)
+        F.Key.cmp 1 shard.new.partition.core.records.tail clock.new
+        (D.Writer.failures shard.old.writer) (D.Writer.failures shard.new.writer)
+        (D.Reader.failures shard.old.reader) (D.Reader.failures shard.new.reader)) }
 {
     let size = shard.partition.page_size();
     let loaded = match Loaded::<D::Receipt>::fetch(&mut shard.reader, &receipt, size) {
@@ -224,18 +204,14 @@ fn attempt<F: Mergeable, D: Disk>(
         → Tries D.Receipt.keeps D.Receipt.stands F.Key.cmp F.meaning shard.old.partition shard.new.partition terms.now.slot
         context op turn) }
     ensures counted { tries.new ≡ tries.old + 1 }
-    ensures past { OnOk result (shard.new.partition.core.moment ≤ clock.new) }
-    ensures later { OnOk result (clock.old < clock.new) }
-    ensures steady { OnOk result ((D.Writer.failures shard.new.writer ≡ D.Writer.failures shard.old.writer)
-        × (D.Reader.failures shard.new.reader ≡ D.Reader.failures shard.old.reader)) }
-    ensures told { IfErr result (λ e. (e ≡ Refused.Worn) ⊎ (e ≡ Refused.NoMemory)
-        ⊎ IsFault (IsEntryIn F.Key.bytes_of F.Value.bytes_of F.Key.is_known F.Value.is_known F.Key.SIZE F.Value.SIZE)
-        F.Key.cmp (D.Writer.failures shard.old.writer) (D.Writer.failures shard.new.writer)
-        (D.Reader.failures shard.old.reader) (D.Reader.failures shard.new.reader) e) }
-    ensures worn { result ≡ Err Refused.Worn → IsExhausted 1 shard.new.partition.core.records.tail clock.new }
-    ensures memory { result ≡ Err Refused.NoMemory
-        → (D.Writer.failures shard.new.writer ≡ D.Writer.failures shard.old.writer)
-        × (D.Reader.failures shard.new.reader ≡ D.Reader.failures shard.old.reader) }
+    ensures worked { OnOk result (IsWorked 1 shard.new.partition.core.moment clock.old clock.new
+        (D.Writer.failures shard.old.writer) (D.Writer.failures shard.new.writer)
+        (D.Reader.failures shard.old.reader) (D.Reader.failures shard.new.reader)) }
+    ensures told { IfErr result (IsTurnRefusal
+        (IsEntryIn F.Key.bytes_of F.Value.bytes_of F.Key.is_known F.Value.is_known F.Key.SIZE F.Value.SIZE)
+        F.Key.cmp 1 shard.new.partition.core.records.tail clock.new
+        (D.Writer.failures shard.old.writer) (D.Writer.failures shard.new.writer)
+        (D.Reader.failures shard.old.reader) (D.Reader.failures shard.new.reader)) }
     ensures unread { page ≡ None → shard.new.reader ≡ shard.old.reader }
 {
     *tries += 1;
@@ -256,18 +232,15 @@ fn done_at_once<F: Mergeable, D: Disk>(
 ) -> Result<bool, Refused>
     requires idle { IsIdle shard.old.partition terms.now.slot }
     requires past { shard.old.partition.core.moment ≤ clock.old }
-    ensures idle { result ≡ Ok true → IsIdle shard.new.partition terms.now.slot }
-    ensures done { result ≡ Ok true → Same (live_of F.Key.cmp shard.new.partition.core)
-        (after F.Key.cmp F.meaning (live_of F.Key.cmp shard.old.partition.core) (Rmw key.now input.now)) }
-    ensures number { result ≡ Ok true → shard.new.partition.core.number ≡ shard.old.partition.core.number }
-    ensures count { result ≡ Ok true → shard.new.partition.core.count ≡ shard.old.partition.core.count }
-    ensures same { result ≡ Ok false → shard.new.partition ≡ shard.old.partition }
+    // on any device
+    ensures updated { IfOk result (λ done. OnTrue done (IsUpdated true F.Key.cmp F.meaning
+        shard.old.partition shard.new.partition terms.now.slot key.now input.now)) }
+    ensures same { IfOk result (λ done. OnFalse done (shard.new.partition ≡ shard.old.partition)) }
     ensures past { OnOk result (shard.new.partition.core.moment ≤ clock.new) }
     ensures later { OnOk result (clock.old < clock.new) }
     ensures steady { (shard.new.writer ≡ shard.old.writer) × (shard.new.reader ≡ shard.old.reader) }
-    ensures told { IfErr result (λ e. e ≡ Refused.Worn) }
     // it takes two
-    ensures worn { result ≡ Err Refused.Worn → 2 ^ 64 ≤ clock.new + 2 }
+    ensures told { IfErr result (λ e. (e ≡ Refused.Worn) × (2 ^ 64 ≤ clock.new + 2)) }
 {
     let (issued, now) = match clock.tick_twice() {
         Ok(moments) => moments,
@@ -298,26 +271,17 @@ fn merge_by_turns<F: Mergeable, D: Disk>(
     requires past { shard.old.partition.core.moment ≤ clock.old }
     requires merges { IsTrue terms.now.merges }
     requires few { tries.old ≤ terms.now.tries }
-    ensures idle { OnOk result (IsIdle shard.new.partition terms.now.slot) }
-    ensures done { OnOk result (IsTrue D.Receipt.keeps → Same (live_of F.Key.cmp shard.new.partition.core)
-        (after F.Key.cmp F.meaning (live_of F.Key.cmp shard.old.partition.core) (Rmw key.now input.now))) }
-    ensures number { OnOk result (shard.new.partition.core.number ≡ shard.old.partition.core.number) }
-    ensures count { OnOk result (shard.new.partition.core.count ≡ shard.old.partition.core.count) }
-    ensures past { OnOk result (shard.new.partition.core.moment ≤ clock.new) }
-    ensures later { OnOk result (clock.old < clock.new) }
-    ensures steady { OnOk result ((D.Writer.failures shard.new.writer ≡ D.Writer.failures shard.old.writer)
-        × (D.Reader.failures shard.new.reader ≡ D.Reader.failures shard.old.reader)) }
-    ensures told { IfErr result (λ e. (e ≡ Refused.NoMemory) ⊎ (e ≡ Refused.Worn) ⊎ (e ≡ Refused.Stalled)
-        ⊎ IsFault (IsEntryIn F.Key.bytes_of F.Value.bytes_of F.Key.is_known F.Value.is_known F.Key.SIZE F.Value.SIZE)
-        F.Key.cmp (D.Writer.failures shard.old.writer) (D.Writer.failures shard.new.writer)
-        (D.Reader.failures shard.old.reader) (D.Reader.failures shard.new.reader) e) }
-    ensures worn { result ≡ Err Refused.Worn → IsExhausted 1 shard.new.partition.core.records.tail clock.new }
-    ensures memory { result ≡ Err Refused.NoMemory
-        → (D.Writer.failures shard.new.writer ≡ D.Writer.failures shard.old.writer)
-        × (D.Reader.failures shard.new.reader ≡ D.Reader.failures shard.old.reader) }
-    ensures tried { result ≡ Err Refused.Stalled → tries.new ≡ terms.now.tries }
-    // so many moments have passed at least
-    ensures stalled { result ≡ Err Refused.Stalled → clock.old + terms.now.tries < clock.new + tries.old }
+    ensures updated { OnOk result (IsUpdated D.Receipt.keeps F.Key.cmp F.meaning shard.old.partition shard.new.partition
+        terms.now.slot key.now input.now) }
+    ensures worked { OnOk result (IsWorked 1 shard.new.partition.core.moment clock.old clock.new
+        (D.Writer.failures shard.old.writer) (D.Writer.failures shard.new.writer)
+        (D.Reader.failures shard.old.reader) (D.Reader.failures shard.new.reader)) }
+    ensures told { IfErr result (IsUpdateRefusal
+        (IsEntryIn F.Key.bytes_of F.Value.bytes_of F.Key.is_known F.Value.is_known F.Key.SIZE F.Value.SIZE)
+        F.Key.cmp 1 shard.new.partition.core.records.tail clock.old clock.new
+        (D.Writer.failures shard.old.writer) (D.Writer.failures shard.new.writer)
+        (D.Reader.failures shard.old.reader) (D.Reader.failures shard.new.reader)
+        terms.now.tries tries.old tries.new) }
     // no page is read
     ensures same_reader { shard.new.reader ≡ shard.old.reader }
 {
@@ -384,26 +348,17 @@ fn update_by_turns<F: Mergeable, D: Disk>(
     requires idle { IsIdle shard.old.partition terms.now.slot }
     requires own { partition_of shard.old.partition.core.count (F.code key.now) ≡ shard.old.partition.core.number }
     requires past { shard.old.partition.core.moment ≤ clock.old }
-    ensures idle { OnOk result (IsIdle shard.new.partition terms.now.slot) }
-    ensures done { OnOk result (IsTrue D.Receipt.keeps → Same (live_of F.Key.cmp shard.new.partition.core)
-        (after F.Key.cmp F.meaning (live_of F.Key.cmp shard.old.partition.core) (Rmw key.now input.now))) }
-    ensures number { OnOk result (shard.new.partition.core.number ≡ shard.old.partition.core.number) }
-    ensures count { OnOk result (shard.new.partition.core.count ≡ shard.old.partition.core.count) }
-    ensures past { OnOk result (shard.new.partition.core.moment ≤ clock.new) }
-    ensures later { OnOk result (clock.old < clock.new) }
-    ensures steady { OnOk result ((D.Writer.failures shard.new.writer ≡ D.Writer.failures shard.old.writer)
-        × (D.Reader.failures shard.new.reader ≡ D.Reader.failures shard.old.reader)) }
-    ensures told { IfErr result (λ e. (e ≡ Refused.NoMemory) ⊎ (e ≡ Refused.Worn) ⊎ (e ≡ Refused.Stalled)
-        ⊎ IsFault (IsEntryIn F.Key.bytes_of F.Value.bytes_of F.Key.is_known F.Value.is_known F.Key.SIZE F.Value.SIZE)
-        F.Key.cmp (D.Writer.failures shard.old.writer) (D.Writer.failures shard.new.writer)
-        (D.Reader.failures shard.old.reader) (D.Reader.failures shard.new.reader) e) }
-    ensures worn { result ≡ Err Refused.Worn → IsExhausted 1 shard.new.partition.core.records.tail clock.new }
-    ensures memory { result ≡ Err Refused.NoMemory
-        → (D.Writer.failures shard.new.writer ≡ D.Writer.failures shard.old.writer)
-        × (D.Reader.failures shard.new.reader ≡ D.Reader.failures shard.old.reader) }
-    ensures tried { result ≡ Err Refused.Stalled → tries.new ≡ terms.now.tries }
-    // so many moments have passed at least
-    ensures stalled { result ≡ Err Refused.Stalled → clock.old + terms.now.tries < clock.new }
+    ensures updated { OnOk result (IsUpdated D.Receipt.keeps F.Key.cmp F.meaning shard.old.partition shard.new.partition
+        terms.now.slot key.now input.now) }
+    ensures worked { OnOk result (IsWorked 1 shard.new.partition.core.moment clock.old clock.new
+        (D.Writer.failures shard.old.writer) (D.Writer.failures shard.new.writer)
+        (D.Reader.failures shard.old.reader) (D.Reader.failures shard.new.reader)) }
+    ensures told { IfErr result (IsUpdateRefusal
+        (IsEntryIn F.Key.bytes_of F.Value.bytes_of F.Key.is_known F.Value.is_known F.Key.SIZE F.Value.SIZE)
+        F.Key.cmp 1 shard.new.partition.core.records.tail clock.old clock.new
+        (D.Writer.failures shard.old.writer) (D.Writer.failures shard.new.writer)
+        (D.Reader.failures shard.old.reader) (D.Reader.failures shard.new.reader)
+        terms.now.tries 0 tries.new) }
     // no page is read, where the update is made a merge for which one would have to be
     ensures unread { IsTrue terms.now.merges → shard.new.reader ≡ shard.old.reader }
 {
@@ -452,26 +407,17 @@ pub fn update<F: Mergeable, D: Disk>(
     requires idle { IsIdle shard.old.partition terms.now.slot }
     requires own { partition_of shard.old.partition.core.count (F.code key.now) ≡ shard.old.partition.core.number }
     requires past { shard.old.partition.core.moment ≤ clock.old }
-    ensures idle { OnOk result (IsIdle shard.new.partition terms.now.slot) }
-    ensures done { OnOk result (IsTrue D.Receipt.keeps → Same (live_of F.Key.cmp shard.new.partition.core)
-        (after F.Key.cmp F.meaning (live_of F.Key.cmp shard.old.partition.core) (Rmw key.now input.now))) }
-    ensures number { OnOk result (shard.new.partition.core.number ≡ shard.old.partition.core.number) }
-    ensures count { OnOk result (shard.new.partition.core.count ≡ shard.old.partition.core.count) }
-    ensures past { OnOk result (shard.new.partition.core.moment ≤ clock.new) }
-    ensures later { OnOk result (clock.old < clock.new) }
-    ensures steady { OnOk result ((D.Writer.failures shard.new.writer ≡ D.Writer.failures shard.old.writer)
-        × (D.Reader.failures shard.new.reader ≡ D.Reader.failures shard.old.reader)) }
-    ensures told { IfErr result (λ e. (e ≡ Refused.NoMemory) ⊎ (e ≡ Refused.Worn) ⊎ (e ≡ Refused.Stalled)
-        ⊎ IsFault (IsEntryIn F.Key.bytes_of F.Value.bytes_of F.Key.is_known F.Value.is_known F.Key.SIZE F.Value.SIZE)
-        F.Key.cmp (D.Writer.failures shard.old.writer) (D.Writer.failures shard.new.writer)
-        (D.Reader.failures shard.old.reader) (D.Reader.failures shard.new.reader) e) }
-    ensures worn { result ≡ Err Refused.Worn → IsExhausted 2 shard.new.partition.core.records.tail clock.new }
-    ensures memory { result ≡ Err Refused.NoMemory
-        → (D.Writer.failures shard.new.writer ≡ D.Writer.failures shard.old.writer)
-        × (D.Reader.failures shard.new.reader ≡ D.Reader.failures shard.old.reader) }
-    ensures tried { result ≡ Err Refused.Stalled → tries.new ≡ terms.now.tries }
-    // so many moments have passed at least
-    ensures stalled { result ≡ Err Refused.Stalled → clock.old + terms.now.tries < clock.new }
+    ensures updated { OnOk result (IsUpdated D.Receipt.keeps F.Key.cmp F.meaning shard.old.partition shard.new.partition
+        terms.now.slot key.now input.now) }
+    ensures worked { OnOk result (IsWorked 1 shard.new.partition.core.moment clock.old clock.new
+        (D.Writer.failures shard.old.writer) (D.Writer.failures shard.new.writer)
+        (D.Reader.failures shard.old.reader) (D.Reader.failures shard.new.reader)) }
+    ensures told { IfErr result (IsUpdateRefusal
+        (IsEntryIn F.Key.bytes_of F.Value.bytes_of F.Key.is_known F.Value.is_known F.Key.SIZE F.Value.SIZE)
+        F.Key.cmp 2 shard.new.partition.core.records.tail clock.old clock.new
+        (D.Writer.failures shard.old.writer) (D.Writer.failures shard.new.writer)
+        (D.Reader.failures shard.old.reader) (D.Reader.failures shard.new.reader)
+        terms.now.tries 0 tries.new) }
     ensures unread { IsTrue terms.now.merges → shard.new.reader ≡ shard.old.reader }
 {
     match done_at_once(terms, shard, key, input, clock) {

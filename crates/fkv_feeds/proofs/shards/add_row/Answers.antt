@@ -2,15 +2,17 @@ use Rattle.std.proofs.Common.{◌<◌, ◌++◌, ◌∷◌, [], ℕ, length, map
 use Rattle.std.specs.Int.{w64}
 use Rattle.std.proofs.lemmas.Int.{to_z-of_z}
 use Rattle.std.proofs.lemmas.Option.{slice_get_read}
+use Rattle.std.proofs.lemmas.Result.{IfErr-at_err}
 use Rattle.fkv_functions.specs.Names.{name_cmp, same_names, name_ties, name_exact, name_total}
 use Rattle.fkv_functions.proofs.KeyOrder.{key_order}
 use Rattle.fkv_functions.proofs.ListLemmas.{get-set_same}
 use Rattle.fkv_partition.specs.CoreViews.{partition_of}
 use Rattle.fkv_feeds.specs.Runs.{StandFor}
 use Rattle.fkv_feeds.specs.Faults.{IsDeviceFault, IsFault}
-use Rattle.fkv_feeds.proofs.FeedsLemmas.{three_ok, err_weaker}
+use Rattle.fkv_feeds.proofs.FeedsLemmas.{two_ok, err_weaker}
 use Rattle.fkv_feeds.proofs.RunLemmas.{stand-more, view-get, view-same, view-set, view-length}
 use Rattle.fkv_feeds.proofs.SessionLemmas.{idle-tidied}
+use Rattle.fkv_feeds.proofs.TurnLemmas.{same_Err, update-told, update-worn, update-uncounted, update-tried, move-told, move-worn, move-uncounted, move-no_stall}
 use Rattle.fkv_feeds.proofs.shards.add_row.Goals as goal
 
 pub home-home-requires-clause-doubled : goal.home-home-requires-clause-doubled
@@ -51,38 +53,26 @@ returns-in-Ok-clause-ok g c =
     let here = slice_get_read items (length items) home old refl c.home-home.ensures.within c.index_mut-shard.ensures.value in
     let there = view-get (λ shard. shard.partition) items home old here in
     let order = key_order same_names name_cmp name_ties name_exact name_total in
-    let done = rw (to_z-of_z w64 c.args.amount c.ranges.amount) at c.in-Ok.ensures.done in
+    let updated = c.in-Ok.ensures.updated in
+    let done = rw (to_z-of_z w64 c.args.amount c.ranges.amount) at updated.effect in
     let slot = c.args.shards.now.terms.slot in
-    three_ok c.tidy_at_times.result c.tidy_at_times.ensures.tidied c.tidy_at_times.ensures.past c.tidy_at_times.ensures.later
-    (λ tidied past later rows stand. (let after : c.args.shards.now.clock < c.tidy_at_times.new.clock = (let a = c.in-Ok.ensures.later in omega arith) in
+    two_ok c.tidy_at_times.result c.tidy_at_times.ensures.tidied c.tidy_at_times.ensures.worked
+    (λ tidied worked rows stand. (let after : c.args.shards.now.clock < c.tidy_at_times.new.clock = (let a = c.in-Ok.ensures.worked.later in let b = worked.later in omega arith) in
     subst (λ views. StandFor g.D.Receipt.Receipt.keeps name_cmp g.F.Functions.meaning g.F.Functions.code views slot c.tidy_at_times.new.clock (rows ++ (c.args.key.now, c.args.amount) ∷ [])) (sym (view-set (λ shard. shard.partition) items home new))
     (stand-more g.D.Receipt.Receipt.keeps name_cmp order g.F.Functions.meaning g.F.Functions.code (map (λ shard. shard.partition) items) slot c.args.shards.now.clock c.tidy_at_times.new.clock rows
     home old.partition new.partition c.args.key.now c.args.amount stand there (ap (λ n. partition_of n (g.F.Functions.code c.args.key.now)) (view-length (λ shard. shard.partition) items) ∙ sym c.home-home.ensures.value)
-    (tidied.seat.number ∙ c.in-Ok.ensures.number) (tidied.seat.count ∙ c.in-Ok.ensures.count) past after (idle-tidied g.D.Receipt.Receipt.keeps name_cmp c.update.new.shard.partition new.partition slot c.in-Ok.ensures.idle tidied)
+    (tidied.seat.number ∙ updated.number) (tidied.seat.count ∙ updated.count) worked.past after (idle-tidied g.D.Receipt.Receipt.keeps name_cmp c.update.new.shard.partition new.partition slot updated.idle tidied)
     (λ keeps q. tidied.seat.live keeps q ∙ done keeps q))))
 
 pub returns-in-Ok-clause-told : goal.returns-in-Ok-clause-told
 returns-in-Ok-clause-told g c = err_weaker _ c.tidy_at_times.result
-    (λ e h. elim h [
-      | inl a ↦ inr (inl a)
-      | inr b ↦ elim b [
-        | inl d ↦ inl d
-        | inr f ↦ inr (inr (inr (IsDeviceFault.unworked c.update.new.shard.writer c.tidy_at_times.new.shard.writer c.update.new.shard.reader c.update.new.shard.reader (IsFault.unwritten f.0 f.1 refl))))
-      ]
-    ])
+    (λ e h. move-told h
+    (λ page f. IsDeviceFault.unworked c.update.new.shard.writer c.tidy_at_times.new.shard.writer c.update.new.shard.reader c.update.new.shard.reader (IsFault.unwritten page f refl)))
     c.tidy_at_times.ensures.told
 
 pub returns-in-Err-clause-told : goal.returns-in-Err-clause-told
-returns-in-Err-clause-told g c = elim c.in-Err.ensures.told [
-  | inl a ↦ inl a
-  | inr b ↦ elim b [
-    | inl d ↦ inr (inl d)
-    | inr t ↦ elim t [
-      | inl s ↦ inr (inr (inl s))
-      | inr f ↦ inr (inr (inr (IsDeviceFault.unworked c.index_mut-shard.result.now.writer c.update.new.shard.writer c.index_mut-shard.result.now.reader c.update.new.shard.reader f)))
-    ]
-  ]
-]
+returns-in-Err-clause-told g c = update-told c.in-Err.ensures.told
+    (IsDeviceFault.unworked c.index_mut-shard.result.now.writer c.update.new.shard.writer c.index_mut-shard.result.now.reader c.update.new.shard.reader)
 
 pub returns-in-Err-clause-worn : goal.returns-in-Err-clause-worn
 returns-in-Err-clause-worn g c =
@@ -91,7 +81,7 @@ returns-in-Err-clause-worn g c =
     let old = c.index_mut-shard.result.now in
     let here = slice_get_read items (length items) home old refl c.home-home.ensures.within c.index_mut-shard.ensures.value in
     let new = c.update.new.shard in
-    λ e. (home, new.partition, view-get (λ shard. shard.partition) (slice_set items home new) home new (get-set_same items home old new here), c.update.ensures.worn (c.in-Err.is ∙ e))
+    λ e. (home, new.partition, view-get (λ shard. shard.partition) (slice_set items home new) home new (get-set_same items home old new here), update-worn c.in-Err.ensures.told (same_Err refl e))
 
 pub returns-in-Err-clause-memory : goal.returns-in-Err-clause-memory
 returns-in-Err-clause-memory g c =
@@ -100,11 +90,11 @@ returns-in-Err-clause-memory g c =
     let old = c.index_mut-shard.result.now in
     let here = slice_get_read items (length items) home old refl c.home-home.ensures.within c.index_mut-shard.ensures.value in
     let new = c.update.new.shard in
-    λ e. (let same = c.update.ensures.memory (c.in-Err.is ∙ e) in
+    λ e. (let same = update-uncounted c.in-Err.ensures.told (same_Err refl e) in
     (view-same (λ shard. g.D.Writer.PageWriter.failures shard.writer) items home old new here same.0, view-same (λ shard. g.D.Reader.PageReader.failures shard.reader) items home old new here same.1))
 
 pub returns-in-Err-clause-tried : goal.returns-in-Err-clause-tried
-returns-in-Err-clause-tried g c = λ e. c.update.ensures.tried (c.in-Err.is ∙ e)
+returns-in-Err-clause-tried g c = λ e. update-tried c.in-Err.ensures.told (same_Err refl e)
 
 pub returns-in-Ok-clause-worn : goal.returns-in-Ok-clause-worn
 returns-in-Ok-clause-worn g c =
@@ -113,7 +103,7 @@ returns-in-Ok-clause-worn g c =
     let old = c.index_mut-shard.result.now in
     let here = slice_get_read items (length items) home old refl c.home-home.ensures.within c.index_mut-shard.ensures.value in
     let new = c.tidy_at_times.new.shard in
-    λ e. (home, new.partition, view-get (λ shard. shard.partition) (slice_set items home new) home new (get-set_same items home old new here), inr (let a = c.tidy_at_times.ensures.worn e in omega arith))
+    λ e. (home, new.partition, view-get (λ shard. shard.partition) (slice_set items home new) home new (get-set_same items home old new here), inr (let a = move-worn (IfErr-at_err _ e c.tidy_at_times.ensures.told) refl in omega arith))
 
 pub returns-in-Ok-clause-memory : goal.returns-in-Ok-clause-memory
 returns-in-Ok-clause-memory g c =
@@ -123,18 +113,12 @@ returns-in-Ok-clause-memory g c =
     let here = slice_get_read items (length items) home old refl c.home-home.ensures.within c.index_mut-shard.ensures.value in
     let new = c.tidy_at_times.new.shard in
     λ e. (
-      view-same (λ shard. g.D.Writer.PageWriter.failures shard.writer) items home old new here (c.tidy_at_times.ensures.memory e ∙ c.in-Ok.ensures.steady.0),
-      view-same (λ shard. g.D.Reader.PageReader.failures shard.reader) items home old new here (ap g.D.Reader.PageReader.failures c.tidy_at_times.ensures.same_reader ∙ c.in-Ok.ensures.steady.1),
+      view-same (λ shard. g.D.Writer.PageWriter.failures shard.writer) items home old new here (move-uncounted (IfErr-at_err _ e c.tidy_at_times.ensures.told) refl ∙ c.in-Ok.ensures.worked.written),
+      view-same (λ shard. g.D.Reader.PageReader.failures shard.reader) items home old new here (ap g.D.Reader.PageReader.failures c.tidy_at_times.ensures.same_reader ∙ c.in-Ok.ensures.worked.read),
     )
 
 pub returns-in-Ok-clause-tried : goal.returns-in-Ok-clause-tried
-returns-in-Ok-clause-tried g c = λ e. absurd (elim (rw e at c.tidy_at_times.ensures.told) [
-  | inl a ↦ cc
-  | inr b ↦ elim b [
-    | inl d ↦ cc
-    | inr f ↦ elim f.1 [ inl m ↦ (let n = m.0 in cc) | inr m ↦ (let n = m.0 in cc) ]
-  ]
-])
+returns-in-Ok-clause-tried g c = λ e. absurd (move-no_stall (IfErr-at_err _ e c.tidy_at_times.ensures.told) refl)
 
 pub returns-in-Ok-clause-unread : goal.returns-in-Ok-clause-unread
 returns-in-Ok-clause-unread g c =

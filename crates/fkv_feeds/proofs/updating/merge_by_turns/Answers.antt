@@ -1,13 +1,14 @@
-use Rattle.std.proofs.Common.{inl, inr, refl, sym, ap, ◌∙◌, subst, arith}
-use Rattle.fkv_functions.specs.Plain.{Same}
+use Rattle.std.proofs.Common.{inr, refl, sym, ap, ◌∙◌, arith}
 use Rattle.fkv_texts.specs.Text.{live}
-use Rattle.fkv_operations.specs.After.{after}
-use Rattle.fkv_operations.specs.AfterLaws.{same_map}
-use Rattle.fkv_operations.specs.declared.operations.KeyedOp.TheVariants.{Rmw, Merge}
-use Rattle.fkv_partition.specs.CoreViews.{live_of}
+use Rattle.fkv_operations.specs.declared.operations.KeyedOp.TheVariants.{Merge}
+use Rattle.fkv_feeds.specs.Turns.{IsTurnRefusal, IsUpdateRefusal}
 use Rattle.fkv_feeds.proofs.SeatLemmas.{merges-wait-not}
 use Rattle.fkv_feeds.proofs.SessionLemmas.{issued-always, issue-opens}
+use Rattle.fkv_feeds.proofs.TurnLemmas.{since, spent, turn-since, merged-by, updated-since}
 use Rattle.fkv_feeds.proofs.updating.merge_by_turns.Goals as goal
+
+pub returns-in-Err-clause-told : goal.returns-in-Err-clause-told
+returns-in-Err-clause-told g c = IsUpdateRefusal.turn (IsTurnRefusal.worn c.in-Err.ensures.only (inr (spent c.in-Err.is c.tick.ensures.worn c.in-Err.ensures.only c.in-Err.ensures.unchanged)))
 
 pub returns-in-Err-issue-clause-told : goal.returns-in-Err-issue-clause-told
 returns-in-Err-issue-clause-told g c =
@@ -37,31 +38,19 @@ attempt-requires-clause-past g c = c.loop-turn.invariant.past
 pub attempt-requires-clause-few : goal.attempt-requires-clause-few
 attempt-requires-clause-few g c = let a = c.loop-turn.invariant.tried in let t = c.loop-turn-test.true in omega arith
 
-pub returns-in-Ok-Done-clause-idle : goal.returns-in-Ok-Done-clause-idle
-returns-in-Ok-Done-clause-idle g c =
-    let h = rw c.in-Ok-Done.field-0-is at c.in-Ok-Done.ensures.ok (Merge c.args.key.now c.args.input.now) c.loop-turn.invariant.seat in
-    record { seat = h.seat.leaves; relocations = h.relocations }
+pub returns-in-Ok-Done-clause-updated : goal.returns-in-Ok-Done-clause-updated
+returns-in-Ok-Done-clause-updated g c =
+    let old = c.loop-turn.invariant in
+    updated-since old.number old.count old.live (merged-by (rw c.in-Ok-Done.field-0-is at c.in-Ok-Done.ensures.ok (Merge c.args.key.now c.args.input.now) old.seat))
 
-pub returns-in-Ok-Done-clause-done : goal.returns-in-Ok-Done-clause-done
-returns-in-Ok-Done-clause-done g c =
-    let h = rw c.in-Ok-Done.field-0-is at c.in-Ok-Done.ensures.ok (Merge c.args.key.now c.args.input.now) c.loop-turn.invariant.seat in
-    λ keeps. (let maps = same_map (live_of g.F.Key.Ord.cmp c.loop-turn.shard.partition.core) (live_of g.F.Key.Ord.cmp c.args.shard.now.partition.core) (c.loop-turn.invariant.live keeps) in
-    subst (λ m. Same (live_of g.F.Key.Ord.cmp c.attempt.new.shard.partition.core) (after g.F.Key.Ord.cmp g.F.Functions.meaning m (Rmw c.args.key.now c.args.input.now))) maps (h.seat.effect keeps))
-
-pub returns-in-Ok-Done-clause-number : goal.returns-in-Ok-Done-clause-number
-returns-in-Ok-Done-clause-number g c = (c.in-Ok-Done.ensures.ok (Merge c.args.key.now c.args.input.now) c.loop-turn.invariant.seat).seat.number ∙ c.loop-turn.invariant.number
-
-pub returns-in-Ok-Done-clause-count : goal.returns-in-Ok-Done-clause-count
-returns-in-Ok-Done-clause-count g c = (c.in-Ok-Done.ensures.ok (Merge c.args.key.now c.args.input.now) c.loop-turn.invariant.seat).seat.count ∙ c.loop-turn.invariant.count
+pub returns-in-Ok-Done-clause-worked : goal.returns-in-Ok-Done-clause-worked
+returns-in-Ok-Done-clause-worked g c = let old = c.loop-turn.invariant in since (let later = old.later in let within = c.loop-turn.auto in omega arith) old.writer (ap g.D.Reader.PageReader.failures old.reader) c.in-Ok-Done.ensures.worked
 
 pub returns-in-Err-attempt-clause-told : goal.returns-in-Err-attempt-clause-told
-returns-in-Err-attempt-clause-told g c = elim c.in-Err-attempt.ensures.told [
-  | inl a ↦ inr (inl a)
-  | inr b ↦ elim b [
-    | inl d ↦ inl d
-    | inr f ↦ inr (inr (inr (rw (c.loop-turn.invariant.writer, ap g.D.Reader.PageReader.failures c.loop-turn.invariant.reader) at f)))
-  ]
-]
+returns-in-Err-attempt-clause-told g c = let old = c.loop-turn.invariant in IsUpdateRefusal.turn (turn-since old.writer (ap g.D.Reader.PageReader.failures old.reader) c.in-Err-attempt.ensures.told)
+
+pub returns-clause-told : goal.returns-clause-told
+returns-clause-told g c = let later = c.loop-turn.invariant.later in let tried = c.loop-turn.invariant.tried in let ends = c.loop-turn-test.false in let within = c.loop-turn.auto._turn-end c.requires.few in IsUpdateRefusal.stalled refl (omega arith) (omega arith)
 
 pub unreachable-requires : goal.unreachable-requires
 unreachable-requires g c =
@@ -77,9 +66,9 @@ loop-turn-preserved g c =
       live = λ keeps q. h.seat.effect keeps q ∙ old.live keeps q;
       number = h.seat.number ∙ old.number;
       count = h.seat.count ∙ old.count;
-      past = c.in-Ok-On-None.ensures.past;
-      later = (let a = old.later in let b = c.in-Ok-On-None.ensures.later in omega arith);
+      past = c.in-Ok-On-None.ensures.worked.past;
+      later = (let a = old.later in let b = c.in-Ok-On-None.ensures.worked.later in omega arith);
       tried = (let a = old.tried in let b = c.in-Ok-On-None.ensures.counted in omega arith);
-      writer = c.in-Ok-On-None.ensures.steady.0 ∙ old.writer;
+      writer = c.in-Ok-On-None.ensures.worked.written ∙ old.writer;
       reader = c.in-Ok-On-None.ensures.unread refl ∙ old.reader;
     }
