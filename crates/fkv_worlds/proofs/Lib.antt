@@ -1,7 +1,6 @@
 pub mod Naming
 pub mod RefusedLemmas
 pub mod ResultLemmas
-pub mod CallLemmas
 pub mod LivesLemmas
 pub mod PlacedLemmas
 pub mod ManyLemmas

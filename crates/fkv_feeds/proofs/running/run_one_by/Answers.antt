@@ -1,12 +1,13 @@
 use Rattle.std.proofs.Common.{map, refl, ◌∙◌}
 use Rattle.std.proofs.lemmas.Result.{IfOk-weaker}
+use Rattle.fkv_functions.proofs.CallLemmas.{with_seven}
 use Rattle.fkv_feeds.specs.Faults.{IsRunFault, IsDeviceFault}
 use Rattle.fkv_feeds.specs.Tables.{IsTableOf}
 use Rattle.fkv_feeds.proofs.FeedsLemmas.{both_ok, devices-by, stopped-by, why_none, err_weaker}
 use Rattle.fkv_feeds.proofs.running.run_one_by.Goals as goal
 
-pub finish-requires : goal.finish-requires
-finish-requires g c = record { stands = let found = c.in-Ok-read_feeds.ensures.ok in (found.0, found.2) }
+pub finish-requires-whole : goal.finish-requires-whole
+finish-requires-whole g c κs = with_seven (let found = c.in-Ok-read_feeds.ensures.ok in (found.0, found.2))
 
 pub returns-in-Ok-read_feeds-clause-ok : goal.returns-in-Ok-read_feeds-clause-ok
 returns-in-Ok-read_feeds-clause-ok g c =

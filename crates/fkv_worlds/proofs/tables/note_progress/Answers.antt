@@ -5,7 +5,7 @@ use Rattle.fkv_lives.specs.Changes.{ended_at}
 use Rattle.fkv_lives.specs.declared.steps.ContextId.{ContextId}
 use Rattle.fkv_worlds.specs.States.{life_in}
 use Rattle.fkv_worlds.specs.Acts.{lives_by, questions_by, receipts_by, told}
-use Rattle.fkv_worlds.proofs.CallLemmas.{with_four}
+use Rattle.fkv_functions.proofs.CallLemmas.{with_four}
 use Rattle.fkv_worlds.proofs.StateLemmas.{within-by}
 use Rattle.fkv_worlds.proofs.tables.note_progress.Goals as goal
 

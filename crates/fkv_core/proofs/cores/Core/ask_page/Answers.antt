@@ -9,13 +9,14 @@ use Rattle.fkv_lookups.specs.DecisionLaws.{load-met}
 use Rattle.fkv_core.specs.Contexts.{claim_by}
 use Rattle.fkv_core.specs.Views.{slots_of, met_at}
 use Rattle.fkv_core.specs.Going.{asks_page, unshared}
+use Rattle.fkv_functions.proofs.CallLemmas.{with_six}
 use Rattle.fkv_core.proofs.AskedLemmas.{open_at}
 use Rattle.fkv_core.proofs.EventLemmas.{loading-stands, event-loads}
 use Rattle.fkv_core.proofs.DecidedLemmas.{page_flushed}
 use Rattle.fkv_core.proofs.cores.Core.ask_page.Goals as goal
 
-pub receipt-requires : goal.receipt-requires
-receipt-requires g c =
+pub receipt-requires-whole : goal.receipt-requires-whole
+receipt-requires-whole g c κs =
     let ord = g.met.F.Key.Ord in
     let known = g.met.F.Key.FixedKey in
     let order = key_order g.F.Key.PartialEq.eq g.F.Key.Ord.cmp ord.matches_eq known.exact ord.total in
@@ -25,7 +26,8 @@ receipt-requires g c =
     let inside = (open_at (slots_of v) v.contexts c.args.slot c.args.context x d.here).inside in
     let met = load-met g.F.Functions.meaning x.op (met_at g.F.Key.Ord.cmp g.F.Mergeable.parts.joined g.F.Functions.code v c.args.slot (key_of x.op)) c.args.wanted c.args.parts d.decided in
     let w = c.meetings_tell.ensures.wanted g.R.Receipt.keeps g.F.Key.Ord.cmp g.F.Mergeable.parts.joined g.F.Functions.code v.records (key_of x.op) c.args.slot c.args.wanted c.args.parts order c.known.ensures.traced c.known.ensures.stood inside met in
-    rw c.page_of-page.ensures (subst (λ u. page_at u.records.page_bits c.args.wanted < length u.records.receipts) (sym c.self.view_is) (page_flushed v.records c.args.wanted c.known.ensures.traced w.begun w.low))
+    with_six (
+    rw c.page_of-page.ensures (subst (λ u. page_at u.records.page_bits c.args.wanted < length u.records.receipts) (sym c.self.view_is) (page_flushed v.records c.args.wanted c.known.ensures.traced w.begun w.low)))
 
 pub set_phase-requires-clause-unclaimed : goal.set_phase-requires-clause-unclaimed
 set_phase-requires-clause-unclaimed g c = ap claim_by c.requires.decided.fresh

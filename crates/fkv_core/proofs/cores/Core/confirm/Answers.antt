@@ -2,15 +2,17 @@ use Rattle.std.proofs.Common.{◌≡◌, Some, refl}
 use Rattle.std.proofs.lemmas.Bool.{OnTrue_at, OnTrue_from, OnFalse_at, OnFalse_from}
 use Rattle.fkv_core.specs.Contexts.{context_in}
 use Rattle.fkv_core.specs.Inside.{view_of}
+use Rattle.fkv_functions.proofs.CallLemmas.{with_six}
 use Rattle.fkv_core.proofs.ChangeLemmas.{is-tentative, settled-made, sound-settles, reworded-by}
 use Rattle.fkv_core.proofs.AskedLemmas.{open_at}
 use Rattle.fkv_core.proofs.cores.Core.confirm.Goals as goal
 
-pub confirm-is_final-requires : goal.confirm-is_final-requires
-confirm-is_final-requires g c =
+pub confirm-is_final-requires-whole : goal.confirm-is_final-requires-whole
+confirm-is_final-requires-whole g c κs =
     let x = c.args.operation.now in
     let at : context_in c.self.inside.records.regions.epochs.slots c.self.inside.contexts.items c.args.slot c.args.context ≡ Some x = rw (← c.self.view_is) at c.requires.here in
-    is-tentative g.F.Key.Ord.cmp g.F.Mergeable.parts.joined g.F.Functions.code (view_of g.F.Mergeable.MERGES c.self.inside.number c.self.inside.count c.self.inside.records c.self.inside.contexts.items c.self.inside.moment) c.self.invariant c.args.slot c.args.context c.args.now x at c.args.place c.requires.phase
+    with_six (
+    is-tentative g.F.Key.Ord.cmp g.F.Mergeable.parts.joined g.F.Functions.code (view_of g.F.Mergeable.MERGES c.self.inside.number c.self.inside.count c.self.inside.records c.self.inside.contexts.items c.self.inside.moment) c.self.invariant c.args.slot c.args.context c.args.now x at c.args.place c.requires.phase)
 
 pub invariant_of-self : goal.invariant_of-self
 invariant_of-self g c =

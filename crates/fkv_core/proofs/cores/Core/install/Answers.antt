@@ -5,6 +5,7 @@ use Rattle.fkv_core.specs.declared.contexts.Phase.TheVariants.{Fresh}
 use Rattle.fkv_core.specs.Contexts.{context_in, question_in}
 use Rattle.fkv_core.specs.Inside.{view_of}
 use Rattle.fkv_core.specs.Installing.{unknown, not_ready, stranger, moved}
+use Rattle.fkv_functions.proofs.CallLemmas.{with_six}
 use Rattle.fkv_core.proofs.EventLemmas.{event-next, kept-at, question-quiet, if-all}
 use Rattle.fkv_core.proofs.cores.Core.install.Goals as goal
 
@@ -17,11 +18,12 @@ returns-then-not-is-clause-effect g c =
     rw c.ask-ask.ensures (stranger c.in-Some.open q.0 q.1 (sym c.in-Some.ensures.value) (sym c.in-Some-question_of.ensures)
     (λ e. let yes = c.is.ensures.1 (c.ask-ask.ensures ∙ e) in let no : false ≡ true = sym c.if-not-is.true ∙ yes in cc) refl refl)
 
-pub holds-requires : goal.holds-requires
-holds-requires g c =
+pub holds-requires-whole : goal.holds-requires-whole
+holds-requires-whole g c κs =
     let q = c.in-Some-question_of.question in
     let at : context_in c.self.inside.records.regions.epochs.slots c.self.inside.contexts.items c.args.slot c.args.context ≡ Some c.in-Some.open = rw (← c.self.view_is) at (sym c.in-Some.ensures.value) in
-    (kept-at g.F.Key.Ord.cmp g.F.Mergeable.parts.joined g.F.Functions.code (view_of g.F.Mergeable.MERGES c.self.inside.number c.self.inside.count c.self.inside.records c.self.inside.contexts.items c.self.inside.moment) c.self.invariant c.args.slot c.args.context c.in-Some.open q.0 q.1 at (sym c.in-Some-question_of.ensures)).entry.place
+    with_six (
+    (kept-at g.F.Key.Ord.cmp g.F.Mergeable.parts.joined g.F.Functions.code (view_of g.F.Mergeable.MERGES c.self.inside.number c.self.inside.count c.self.inside.records c.self.inside.contexts.items c.self.inside.moment) c.self.invariant c.args.slot c.args.context c.in-Some.open q.0 q.1 at (sym c.in-Some-question_of.ensures)).entry.place)
 
 pub set_phase-requires-clause-unclaimed : goal.set_phase-requires-clause-unclaimed
 set_phase-requires-clause-unclaimed g c =

@@ -10,13 +10,14 @@ use Rattle.fkv_operations.specs.After.{key_of}
 use Rattle.fkv_core.specs.Contexts.{claim_by}
 use Rattle.fkv_core.specs.Inside.{view_of}
 use Rattle.fkv_core.specs.Loading.{Tells, Loads, found, ended}
+use Rattle.fkv_functions.proofs.CallLemmas.{with_six}
 use Rattle.fkv_core.proofs.EventLemmas.{claims-none}
 use Rattle.fkv_core.proofs.LoadLemmas.{came-of, stranger-kept, told-done, further-done, may-load, wanted-flushed, reads-on, kept-told, further-flushed, further-stands, newest-told}
 use Rattle.fkv_core.proofs.PendingLemmas.{load-told, further-load}
 use Rattle.fkv_core.proofs.cores.Core.look_on.Goals as goal
 
-pub is_own-requires : goal.is_own-requires
-is_own-requires g c =
+pub is_own-requires-whole : goal.is_own-requires-whole
+is_own-requires-whole g c κs =
     let ord = g.met.F.Key.Ord in
     let known = g.met.F.Key.FixedKey in
     let order = key_order g.F.Key.PartialEq.eq g.F.Key.Ord.cmp ord.matches_eq known.exact ord.total in
@@ -26,7 +27,8 @@ is_own-requires g c =
     let a = c.requires.awaits in
     let p = c.args.loaded in
     let there = wanted-flushed g.F.Key.Ord.cmp g.F.Mergeable.parts.joined g.F.Functions.code order v c.known.ensures c.args.slot c.args.context x l a in
-    rw c.page_of-page.ensures (subst (λ u. page_at u.records.page_bits l.wanted < length u.records.receipts) (sym c.self.view_is) there)
+    with_six (
+    rw c.page_of-page.ensures (subst (λ u. page_at u.records.page_bits l.wanted < length u.records.receipts) (sym c.self.view_is) there))
 
 pub returns-in-Err-clause-effect : goal.returns-in-Err-clause-effect
 returns-in-Err-clause-effect g c =
@@ -42,8 +44,8 @@ returns-in-Err-clause-effect g c =
     let s = stranger-kept (view_of g.F.Mergeable.MERGES c.self.inside.number c.self.inside.count c.self.inside.records c.self.inside.contexts.items c.self.inside.moment) v c.page_of-page.result l.wanted (g.R.Receipt.stands p.receipt) c.in-Err.refused c.self.view_is c.page_of-page.ensures there c.in-Err.ensures.stranger in
     Loads.stranger x l p s.0 a refl s.1 s.2 refl (ap Err s.3)
 
-pub first_of-low-requires : goal.first_of-low-requires
-first_of-low-requires g c =
+pub first_of-low-requires-whole : goal.first_of-low-requires-whole
+first_of-low-requires-whole g c κs =
     let ord = g.met.F.Key.Ord in
     let known = g.met.F.Key.FixedKey in
     let order = key_order g.F.Key.PartialEq.eq g.F.Key.Ord.cmp ord.matches_eq known.exact ord.total in
@@ -53,7 +55,8 @@ first_of-low-requires g c =
     let a = c.requires.awaits in
     let p = c.args.loaded in
     let there = wanted-flushed g.F.Key.Ord.cmp g.F.Mergeable.parts.joined g.F.Functions.code order v c.known.ensures c.args.slot c.args.context x l a in
-    rw c.page_of-page.ensures (subst (λ u. page_at u.records.page_bits l.wanted < length u.records.receipts) (sym c.self.view_is) there)
+    with_six (
+    rw c.page_of-page.ensures (subst (λ u. page_at u.records.page_bits l.wanted < length u.records.receipts) (sym c.self.view_is) there))
 
 pub trace_in-requires-clause-own : goal.trace_in-requires-clause-own
 trace_in-requires-clause-own g c =

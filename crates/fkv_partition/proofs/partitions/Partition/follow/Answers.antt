@@ -5,17 +5,19 @@ use Rattle.fkv_core.specs.Beginning.{IsEntered}
 use Rattle.fkv_core.specs.Views.{entry_for}
 use Rattle.fkv_core.proofs.DecidedLemmas.{page_flushed}
 use Rattle.fkv_partition.specs.Checking.{ChecksLiveness}
+use Rattle.fkv_functions.proofs.CallLemmas.{with_six}
 use Rattle.fkv_partition.proofs.MoveLemmas.{event-done, past-place, open-here, stands-here, low-here}
 use Rattle.fkv_partition.proofs.CheckingLemmas.{told-so, superseded-one, superseded-newer, ready, further-disk, tracing}
 use Rattle.fkv_partition.specs.Checking.{NeedsNoCopy}
 use Rattle.fkv_partition.proofs.ApartLemmas.{no-higher, has-come}
 use Rattle.fkv_partition.proofs.partitions.Partition.follow.Goals as goal
 
-pub lowest-requires : goal.lowest-requires
-lowest-requires g c =
+pub lowest-requires-whole : goal.lowest-requires-whole
+lowest-requires-whole g c κs =
     let v = c.args.self.now in
     let x = c.args.relocation.now in
-    subst (λ u. IsEntered u.core c.args.slot) (sym c.self.view_is) (open-here v c.args.slot c.args.context x c.requires.here).inside
+    with_six (
+    subst (λ u. IsEntered u.core c.args.slot) (sym c.self.view_is) (open-here v c.args.slot c.args.context x c.requires.here).inside)
 
 pub reach-came-requires-clause-begin : goal.reach-came-requires-clause-begin
 reach-came-requires-clause-begin g c = no-higher c.lowest.ensures.begin c.higher_of-low.ensures.right

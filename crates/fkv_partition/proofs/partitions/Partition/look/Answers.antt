@@ -4,15 +4,17 @@ use Rattle.fkv_texts.specs.Text.{entry_at}
 use Rattle.fkv_lookups.specs.Decisions.{low_of}
 use Rattle.fkv_core.specs.Beginning.{IsEntered}
 use Rattle.fkv_partition.specs.Going.{low_at, GoesOn}
+use Rattle.fkv_functions.proofs.CallLemmas.{with_six}
 use Rattle.fkv_partition.proofs.MoveLemmas.{open-here}
 use Rattle.fkv_partition.proofs.LookLemmas.{address-at, begun-here, place-flushed, place-reading, place-there, place-open}
 use Rattle.fkv_partition.proofs.partitions.Partition.look.Goals as goal
 
-pub view-view-requires : goal.view-view-requires
-view-view-requires g c =
+pub view-view-requires-whole : goal.view-view-requires-whole
+view-view-requires-whole g c κs =
     let v = c.args.self.now in
     let x = c.args.relocation.now in
-    rw c.records.ensures (subst (λ u. IsEntered u.core c.args.slot) (sym c.self.view_is) (open-here v c.args.slot c.args.context x c.requires.here).inside)
+    with_six (
+    rw c.records.ensures (subst (λ u. IsEntered u.core c.args.slot) (sym c.self.view_is) (open-here v c.args.slot c.args.context x c.requires.here).inside))
 
 pub ask-requires-clause-flushed : goal.ask-requires-clause-flushed
 ask-requires-clause-flushed g c =

@@ -7,12 +7,13 @@ use Rattle.fkv_texts.specs.Text.{entry_at}
 use Rattle.fkv_pages.specs.Loads.{IsHeldBy}
 use Rattle.fkv_pages.specs.Spelled.{IsEntryIn}
 use Rattle.fkv_partition.specs.Reading.{LoadsOn, HasPage}
+use Rattle.fkv_functions.proofs.CallLemmas.{with_six}
 use Rattle.fkv_partition.proofs.ApartLemmas.{err-ok, no-later, has-come}
 use Rattle.fkv_partition.proofs.ReadLemmas.{page-within, stranger-held, place-begun, place-flushed, place-read}
 use Rattle.fkv_partition.proofs.partitions.Partition.read_place.Goals as goal
 
-pub is_own-requires : goal.is_own-requires
-is_own-requires g c =
+pub is_own-requires-whole : goal.is_own-requires-whole
+is_own-requires-whole g c κs =
     let v = c.args.self.now in
     let x = c.args.relocation.now in
     let a = c.requires.awaits in
@@ -22,7 +23,8 @@ is_own-requires g c =
     let at = c.requires.reads in
     let there = place-flushed g.F.Key.Ord.cmp g.F.Mergeable.parts.joined g.F.Functions.code v sound s c.args.slot c.args.context x v.core.records.begin at refl a.here in
     let moved = ap (λ u. u.core.records) c.self.view_is in
-    page-within x.target c.page_of-page.ensures (c.records.ensures ∙ moved) (c.records-2.ensures ∙ moved) there
+    with_six (
+    page-within x.target c.page_of-page.ensures (c.records.ensures ∙ moved) (c.records-2.ensures ∙ moved) there)
 
 pub returns-in-Err-clause-effect : goal.returns-in-Err-clause-effect
 returns-in-Err-clause-effect g c =

@@ -9,14 +9,15 @@ use Rattle.fkv_partition.specs.Checking.{higher_of, Ends}
 use Rattle.fkv_partition.specs.Reading.{LoadsOn}
 use Rattle.fkv_partition.specs.declared.relocations.Stage.TheVariants.{Ready}
 use Rattle.fkv_partition.specs.Stages.{StageStands}
+use Rattle.fkv_functions.proofs.CallLemmas.{with_six}
 use Rattle.fkv_partition.proofs.ApartLemmas.{err-ok, no-later, has-come}
 use Rattle.fkv_partition.proofs.MoveLemmas.{is-done, past-place, stands-here, frozen-low}
 use Rattle.fkv_partition.proofs.ReadLemmas.{page-within, stranger-held}
 use Rattle.fkv_partition.proofs.TraceLemmas.{page-came, way-flushed, has-page, traces-to, way-dead, way-last, above-place, way-below, lower-flushed, way-further}
 use Rattle.fkv_partition.proofs.partitions.Partition.trace_on.Goals as goal
 
-pub is_own-requires : goal.is_own-requires
-is_own-requires g c =
+pub is_own-requires-whole : goal.is_own-requires-whole
+is_own-requires-whole g c κs =
     let ord = g.met.F.Key.Ord in
     let known = g.met.F.Key.FixedKey in
     let order = key_order g.F.Key.PartialEq.eq g.F.Key.Ord.cmp ord.matches_eq known.exact ord.total in
@@ -31,7 +32,8 @@ is_own-requires g c =
     let at = c.requires.traces in
     let there = way-flushed g.F.Key.Ord.cmp g.F.Mergeable.parts.joined g.F.Functions.code order v sound s c.args.slot c.args.context x e l a at in
     let moved = ap (λ u. u.core.records) c.self.view_is in
-    page-within l.wanted c.page_of-page.ensures (c.records.ensures ∙ moved) (c.records-2.ensures ∙ moved) there
+    with_six (
+    page-within l.wanted c.page_of-page.ensures (c.records.ensures ∙ moved) (c.records-2.ensures ∙ moved) there)
 
 pub returns-in-Err-clause-effect : goal.returns-in-Err-clause-effect
 returns-in-Err-clause-effect g c =
@@ -53,8 +55,8 @@ returns-in-Err-clause-effect g c =
     let z = stranger-held c.records-2.result.now v.core.records c.page_of-page.result l.wanted (g.R.Receipt.stands p.receipt) c.in-Err.refused (c.records-2.ensures ∙ moved) page there c.in-Err.ensures.stranger in
     LoadsOn.stranger x l.wanted p z.0 a refl z.1 z.2 refl (ap Err z.3)
 
-pub first_of-requires : goal.first_of-requires
-first_of-requires g c =
+pub first_of-requires-whole : goal.first_of-requires-whole
+first_of-requires-whole g c κs =
     let ord = g.met.F.Key.Ord in
     let known = g.met.F.Key.FixedKey in
     let order = key_order g.F.Key.PartialEq.eq g.F.Key.Ord.cmp ord.matches_eq known.exact ord.total in
@@ -69,7 +71,8 @@ first_of-requires g c =
     let at = c.requires.traces in
     let there = way-flushed g.F.Key.Ord.cmp g.F.Mergeable.parts.joined g.F.Functions.code order v sound s c.args.slot c.args.context x e l a at in
     let moved = ap (λ u. u.core.records) c.self.view_is in
-    page-within l.wanted c.page_of-page.ensures (c.records.ensures ∙ moved) (c.records-3.ensures ∙ moved) there
+    with_six (
+    page-within l.wanted c.page_of-page.ensures (c.records.ensures ∙ moved) (c.records-3.ensures ∙ moved) there)
 
 pub trace_in-requires-clause-own : goal.trace_in-requires-clause-own
 trace_in-requires-clause-own g c =

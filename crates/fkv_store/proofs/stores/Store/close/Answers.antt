@@ -1,6 +1,7 @@
 use Rattle.std.proofs.Common.{◌≡◌, ℕ, List, length, map, refl, sym, ap, ◌∙◌}
 use Rattle.std.specs.List.{All}
 use Rattle.std.proofs.lemmas.List.{length-map}
+use Rattle.fkv_functions.proofs.CallLemmas.{with_ten}
 use Rattle.fkv_store.specs.Passes.{PassView, IsPassOf}
 use Rattle.fkv_store.specs.Stores.{StoreView}
 use Rattle.fkv_store.proofs.ClosingLemmas.{unclosed}
@@ -10,11 +11,6 @@ use Rattle.fkv_store.proofs.stores.Store.close.Goals as goal
 of_store : {K V I O : Type 0} (s : StoreView) (ps : List (PassView K V I O)) (n : ℕ) → n ≡ s.count → All (IsPassOf s) ps
     → All (λ p. length p.told ≡ n) ps
 of_store s ps n is all k d lt = (all k d lt).1 ∙ sym is
-
--- what a call requires whole: its lifetimes are within those of its ten types, and its clause holds
-with_ten : {A B C D E F G H I J P : Type 0} → P → A × (B × (C × (D × (E × (F × (G × (H × (I × J))))))))
-    → A × (B × (C × (D × (E × (F × (G × (H × (I × (J × P)))))))))
-with_ten p h = (h.0, (h.1.0, (h.1.1.0, (h.1.1.1.0, (h.1.1.1.1.0, (h.1.1.1.1.1.0, (h.1.1.1.1.1.1.0, (h.1.1.1.1.1.1.1.0, (h.1.1.1.1.1.1.1.1.0, (h.1.1.1.1.1.1.1.1.1, p))))))))))
 
 pub kept_by-requires-whole : goal.kept_by-requires-whole
 kept_by-requires-whole g c κs =

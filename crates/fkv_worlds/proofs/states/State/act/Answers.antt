@@ -1,4 +1,4 @@
-use Rattle.fkv_worlds.proofs.CallLemmas.{with_five}
+use Rattle.fkv_functions.proofs.CallLemmas.{with_five}
 use Rattle.fkv_worlds.proofs.ActsLemmas.{acts-untimely, unasked-none}
 use Rattle.fkv_worlds.proofs.EventLemmas.{acts-of}
 use Rattle.fkv_worlds.proofs.states.State.act.Goals as goal

@@ -1,4 +1,4 @@
-use Rattle.fkv_worlds.proofs.CallLemmas.{with_five}
+use Rattle.fkv_functions.proofs.CallLemmas.{with_five}
 use Rattle.fkv_worlds.proofs.EventLemmas.{moment-of, acts-of}
 use Rattle.fkv_worlds.proofs.states.State.act_at.Goals as goal
 

@@ -1,4 +1,4 @@
-use Rattle.fkv_worlds.proofs.CallLemmas.{with_three}
+use Rattle.fkv_functions.proofs.CallLemmas.{with_three}
 use Rattle.fkv_worlds.proofs.EmptyLemmas.{few, state-told, state-begun}
 use Rattle.fkv_worlds.proofs.states.State.empty.Goals as goal
 

@@ -1,5 +1,5 @@
 use Rattle.fkv_functions.proofs.KeyOrder.{key_order}
-use Rattle.fkv_worlds.proofs.CallLemmas.{with_receipt}
+use Rattle.fkv_functions.proofs.CallLemmas.{with_receipt}
 use Rattle.fkv_worlds.proofs.EventLemmas.{moment-behind, acts-seen, rows, enters-fit, event-later, refused-state, refused-enter, does-enter, entered-state}
 use Rattle.fkv_worlds.proofs.states.State.enter_at.Goals as goal
 

@@ -1,6 +1,6 @@
 use Rattle.std.proofs.Common.{refl}
 use Rattle.fkv_functions.proofs.KeyOrder.{key_order}
-use Rattle.fkv_worlds.proofs.CallLemmas.{with_four, with_receipt}
+use Rattle.fkv_functions.proofs.CallLemmas.{with_four, with_receipt}
 use Rattle.fkv_worlds.proofs.StateLemmas.{within-by}
 use Rattle.fkv_worlds.proofs.EventLemmas.{moment-behind, acts-seen, rows, event-later, refused-state, refused-give_up, does-give_up, life-told, ended-state}
 use Rattle.fkv_worlds.proofs.states.State.give_up_at.Goals as goal

@@ -1,6 +1,6 @@
 use Rattle.std.proofs.Common.{refl, Some, sym, ◌∙◌, ap}
 use Rattle.fkv_functions.proofs.KeyOrder.{key_order}
-use Rattle.fkv_worlds.proofs.CallLemmas.{with_receipt}
+use Rattle.fkv_functions.proofs.CallLemmas.{with_receipt}
 use Rattle.fkv_worlds.proofs.ActsLemmas.{question-behind}
 use Rattle.fkv_worlds.proofs.EventLemmas.{moment-behind, acts-seen, rows, event-later, refused-state, refused-install, does-install, life-there, progressed-state}
 use Rattle.fkv_worlds.proofs.states.State.install_at.Goals as goal

@@ -1,6 +1,6 @@
 use Rattle.std.proofs.Common.{refl}
 use Rattle.fkv_functions.proofs.KeyOrder.{key_order}
-use Rattle.fkv_worlds.proofs.CallLemmas.{with_receipt}
+use Rattle.fkv_functions.proofs.CallLemmas.{with_receipt}
 use Rattle.fkv_worlds.proofs.StateLemmas.{state-lives}
 use Rattle.fkv_worlds.proofs.EventLemmas.{moment-behind, rows, issues-fit, no_memory_for_life-issue, event-later, refused-state_of, refused-issue, does-issue, issued-state}
 use Rattle.fkv_worlds.proofs.states.State.issue_at.Goals as goal

@@ -1,6 +1,6 @@
 use Rattle.std.proofs.Common.{refl, sym, ◌∙◌}
 use Rattle.fkv_functions.proofs.KeyOrder.{key_order}
-use Rattle.fkv_worlds.proofs.CallLemmas.{with_four, with_receipt}
+use Rattle.fkv_functions.proofs.CallLemmas.{with_four, with_receipt}
 use Rattle.fkv_worlds.proofs.StateLemmas.{within-by, load-question, is_context-bounds, receipt-context}
 use Rattle.fkv_worlds.proofs.ActsLemmas.{receipt-behind, receipt-there, at-rows}
 use Rattle.fkv_worlds.proofs.EventLemmas.{moment-behind, acts-seen, rows, event-later, refused-state, life-there, life-told, ended-state, loaded-state, does-load, load-leaves, load-ends, refused-load, does-fail}

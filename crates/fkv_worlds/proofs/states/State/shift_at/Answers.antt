@@ -1,6 +1,6 @@
 use Rattle.std.proofs.Common.{refl}
 use Rattle.fkv_functions.proofs.KeyOrder.{key_order}
-use Rattle.fkv_worlds.proofs.CallLemmas.{with_receipt}
+use Rattle.fkv_functions.proofs.CallLemmas.{with_receipt}
 use Rattle.fkv_worlds.proofs.EventLemmas.{moment-behind, acts-seen, event-later, refused-state, refused-shift, does-shift, quiet-state}
 use Rattle.fkv_worlds.proofs.states.State.shift_at.Goals as goal
 

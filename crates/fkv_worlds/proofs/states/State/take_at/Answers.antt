@@ -1,7 +1,7 @@
 use Rattle.std.proofs.Common.{refl, ap, Err, Some, sym}
 use Rattle.fkv_functions.proofs.KeyOrder.{key_order}
 use Rattle.fkv_worlds.proofs.ResultLemmas.{err_is}
-use Rattle.fkv_worlds.proofs.CallLemmas.{with_receipt}
+use Rattle.fkv_functions.proofs.CallLemmas.{with_receipt}
 use Rattle.fkv_worlds.proofs.StateLemmas.{at-index, state-take, below-by}
 use Rattle.fkv_worlds.proofs.EventLemmas.{moment-behind, acts-seen, event-later, refused-state, rows}
 use Rattle.fkv_worlds.proofs.PagingLemmas.{flush_slot-set, does-take, refused-take, flush_slot-there}

@@ -1,5 +1,5 @@
 use Rattle.fkv_functions.proofs.KeyOrder.{key_order}
-use Rattle.fkv_worlds.proofs.CallLemmas.{with_receipt}
+use Rattle.fkv_functions.proofs.CallLemmas.{with_receipt}
 use Rattle.fkv_worlds.proofs.EventLemmas.{moment-behind, acts-seen, event-later, refused-state, refused-truncate, does-truncate, truncated-state}
 use Rattle.fkv_worlds.proofs.states.State.truncate_at.Goals as goal
 

@@ -1,7 +1,7 @@
 use Rattle.std.proofs.Common.{None, sym}
 use Rattle.fkv_functions.proofs.KeyOrder.{key_order}
 use Rattle.fkv_lives.specs.declared.steps.Step.TheVariants.{Write}
-use Rattle.fkv_worlds.proofs.CallLemmas.{with_receipt}
+use Rattle.fkv_functions.proofs.CallLemmas.{with_receipt}
 use Rattle.fkv_worlds.proofs.StateLemmas.{some-at, index-of, state-used, below-by}
 use Rattle.fkv_worlds.proofs.ActsLemmas.{asked-behind}
 use Rattle.fkv_worlds.proofs.EventLemmas.{moment-behind, rows, event-later, refused-state, quiet-state}

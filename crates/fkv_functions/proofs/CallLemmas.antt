@@ -19,3 +19,16 @@ with_five p h = (h.0, (h.1.0, (h.1.1.0, (h.1.1.1.0, (h.1.1.1.1, p)))))
 -- and of receipts, which have none
 pub with_receipt : {A B C D E P : Type 0} {κ : Lft} → P → A × (B × (C × (D × E))) → A × ((κ ⊑ []) × (B × (C × (D × (E × P)))))
 with_receipt {κ = κ} p h = (h.0, (⊑_static κ, (h.1.0, (h.1.1.0, (h.1.1.1.0, (h.1.1.1.1, p))))))
+
+-- of functions and receipts
+pub with_six : {A B C D E F P : Type 0} → P → A × (B × (C × (D × (E × F)))) → A × (B × (C × (D × (E × (F × P)))))
+with_six p h = (h.0, (h.1.0, (h.1.1.0, (h.1.1.1.0, (h.1.1.1.1.0, (h.1.1.1.1.1, p))))))
+
+-- of functions over names, a device, its receipts, writer and reader
+pub with_seven : {A B C D E F G P : Type 0} → P → A × (B × (C × (D × (E × (F × G))))) → A × (B × (C × (D × (E × (F × (G × P))))))
+with_seven p h = (h.0, (h.1.0, (h.1.1.0, (h.1.1.1.0, (h.1.1.1.1.0, (h.1.1.1.1.1.0, (h.1.1.1.1.1.1, p)))))))
+
+-- of functions, a device, its writer, reader and receipts, and a recorder
+pub with_ten : {A B C D E F G H I J P : Type 0} → P → A × (B × (C × (D × (E × (F × (G × (H × (I × J))))))))
+    → A × (B × (C × (D × (E × (F × (G × (H × (I × (J × P)))))))))
+with_ten p h = (h.0, (h.1.0, (h.1.1.0, (h.1.1.1.0, (h.1.1.1.1.0, (h.1.1.1.1.1.0, (h.1.1.1.1.1.1.0, (h.1.1.1.1.1.1.1.0, (h.1.1.1.1.1.1.1.1.0, (h.1.1.1.1.1.1.1.1.1, p))))))))))
