@@ -41,8 +41,7 @@ use Rattle.fkv_lookups.specs.RecordsViews.{RecordsView, class_in, indexed, WasEn
 use Rattle.fkv_lookups.specs.Traced.{IsTraced}
 use Rattle.fkv_lookups.proofs.TracedLemmas.{begin_rises, from_first}
 use Rattle.fkv_lookups.specs.declared.payloads.Payload.{Payload}
-use Rattle.fkv_lookups.specs.declared.payloads.Payload.TheVariants.{Whole}
-use Rattle.fkv_lookups.specs.Payloads.{value_in, is_part, standing}
+use Rattle.fkv_lookups.specs.Payloads.{value_in, is_part}
 use Rattle.fkv_core.specs.declared.contexts.Phase.{Phase}
 use Rattle.fkv_core.specs.declared.contexts.Phase.TheVariants.{Fresh, Confirm, Prepared, Load}
 use Rattle.fkv_core.specs.declared.contexts.Loading.{Loading}

@@ -17,10 +17,10 @@ use Rattle.fkv_core.specs.declared.contexts.Phase.{Phase}
 use Rattle.fkv_core.specs.declared.contexts.Phase.TheVariants.{Fresh, Confirm, Prepared, Load}
 use Rattle.fkv_core.specs.declared.contexts.Loading.{Loading}
 use Rattle.fkv_core.specs.declared.contexts.Progress.{Progress}
-use Rattle.fkv_core.specs.declared.contexts.Progress.TheVariants.{Done, Next, NeedsBuild, NeedsLoad, Waits}
+use Rattle.fkv_core.specs.declared.contexts.Progress.TheVariants.{Done, Next, Waits}
 use Rattle.fkv_core.specs.declared.contexts.Wait.TheVariants.{Full}
 use Rattle.fkv_core.specs.Asking.{AsksNothing}
-use Rattle.fkv_core.specs.Contexts.{question_by, question_in, loading_by}
+use Rattle.fkv_core.specs.Contexts.{question_by, question_in}
 use Rattle.fkv_core.specs.Going.{Goes}
 use Rattle.fkv_core.specs.Installing.{Installs}
 use Rattle.fkv_core.specs.Loading.{Loads}

@@ -1,5 +1,5 @@
 -- What events leave to a layer above: what stands for operations of its own, and what it knows of records.
-use Rattle.std.proofs.Common.{◌≡◌, ◌<◌, ◌≤◌, inl, inr, ℕ, Bool, IsTrue, List, [], ◌∷◌, Option, Some, None, option_map, Result, position, refl, sym, ◌∙◌, ap, subst, arith, false}
+use Rattle.std.proofs.Common.{◌≡◌, ◌<◌, ◌≤◌, inl, inr, ℕ, Bool, IsTrue, List, [], ◌∷◌, Option, Some, None, option_map, Result, position, refl, sym, ◌∙◌, ap, subst, arith}
 use Rattle.std.proofs.lemmas.Bool.{cases_lt}
 use Rattle.std.proofs.lemmas.Option.{slice_get_within}
 use Rattle.std.specs.declared.cmp.Ordering.{Ordering}

@@ -21,7 +21,7 @@ use Rattle.fkv_lookups.specs.RecordsViews.{RecordsView, with_written, with_value
 use Rattle.fkv_lookups.specs.declared.decisions.Decision.TheVariants as decided
 use Rattle.fkv_lookups.specs.declared.payloads.Payload.{Payload}
 use Rattle.fkv_lookups.specs.declared.payloads.Payload.TheVariants.{Whole}
-use Rattle.fkv_lookups.specs.Payloads.{value_in, is_part, standing}
+use Rattle.fkv_lookups.specs.Payloads.{standing}
 use Rattle.fkv_core.specs.declared.contexts.Context.{Context}
 use Rattle.fkv_core.specs.declared.contexts.Loading.{Loading}
 use Rattle.fkv_core.specs.declared.contexts.Phase.{Phase}

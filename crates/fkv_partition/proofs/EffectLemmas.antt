@@ -1,20 +1,19 @@
 -- What events of the core, and of relocations, are to their partition.
-use Rattle.std.proofs.Common.{◌≡◌, ◌≢◌, Bool, true, false, cond, ◌&&◌, ℕ, ◌+◌, ◌*◌, ◌<◌, ◌≤◌, ◌⊎◌, inl, inr, IsTrue, List, length, Option, Some, None, Result, Ok, Err, IfOk, IfErr, OnOk, option_map, slice_get, slice_set, nat_lt, subst, refl, sym, ◌∙◌, ap, arith}
+use Rattle.std.proofs.Common.{◌≡◌, ◌≢◌, Bool, true, false, ◌&&◌, ℕ, ◌+◌, ◌*◌, ◌<◌, ◌≤◌, ◌⊎◌, inl, inr, IsTrue, Option, Some, None, Result, Ok, Err, IfOk, IfErr, OnOk, option_map, slice_get, slice_set, nat_lt, subst, refl, sym, ◌∙◌, ap, arith}
 use Rattle.std.proofs.lemmas.Bool.{cases_eq}
 use Rattle.std.proofs.lemmas.Bool.Decides.{nat_tests}
 use Rattle.std.specs.declared.cmp.Ordering.{Ordering}
 use Rattle.fkv_functions.specs.Meanings.{Meanings}
-use Rattle.fkv_functions.specs.Plain.{PlainMap, Same}
+use Rattle.fkv_functions.specs.Plain.{PlainMap}
 use Rattle.fkv_functions.specs.declared.refusals.Refused.{Refused}
 use Rattle.fkv_functions.proofs.ListLemmas.{get-set_same}
 use Rattle.fkv_regions.specs.RegionsView.{RegionsView}
 use Rattle.fkv_texts.specs.Text.{live}
-use Rattle.fkv_operations.specs.After.{after, answer, key_of}
-use Rattle.fkv_operations.specs.Operations.{keyed, op_of, after_keyed, answer_keyed, map_after, answer_to}
+use Rattle.fkv_operations.specs.After.{key_of}
+use Rattle.fkv_operations.specs.Operations.{keyed, op_of, after_keyed, answer_keyed}
 use Rattle.fkv_operations.specs.declared.operations.Answer.TheVariants.{Cleared}
 use Rattle.fkv_operations.specs.declared.operations.KeyedOp.{KeyedOp}
 use Rattle.fkv_operations.specs.declared.operations.KeyedOp.TheVariants.{Read, Upsert, Rmw, Delete, Merge}
-use Rattle.fkv_operations.specs.declared.operations.Op.{Op}
 use Rattle.fkv_operations.specs.declared.operations.Op.TheVariants.{Relocate}
 use Rattle.fkv_core.specs.declared.contexts.Context.{Context}
 use Rattle.fkv_core.specs.declared.contexts.Progress.{Progress}
@@ -23,12 +22,12 @@ use Rattle.fkv_core.specs.Contexts.{joined, is_session, context_in}
 use Rattle.fkv_core.specs.Effect as key_effect
 use Rattle.fkv_core.specs.Grown.{AllStay}
 use Rattle.fkv_core.specs.Pending as key_pending
-use Rattle.fkv_core.specs.Pending.{Pending, pending, pending_of, OthersPend, AllPend}
+use Rattle.fkv_core.specs.Pending.{Pending, pending, pending_of, OthersPend}
 use Rattle.fkv_core.specs.Truncating as key_truncating
 use Rattle.fkv_core.specs.Views.{CoreView, slots_of, context_at, live_of, partition_of}
-use Rattle.fkv_core.proofs.AskedLemmas.{open_at, IsOpenAt, context-inside, free-here}
+use Rattle.fkv_core.proofs.AskedLemmas.{open_at, context-inside, free-here}
 use Rattle.fkv_partition.specs.declared.relocations.Relocation.{Relocation}
-use Rattle.fkv_partition.specs.Effect.{Asked, asked_by, asked_of, asked, HasEffect, LeavesOthers, IsQuiet, IsOwn, IsIssue, IsEvent, IsGiveUp, to_find, IsAsking, Finds, HasLoaded, IsLoaded, IsTruncation}
+use Rattle.fkv_partition.specs.Effect.{Asked, asked_by, asked_of, asked, HasEffect, LeavesOthers, IsQuiet, IsIssue, IsEvent, IsGiveUp, to_find, Finds, HasLoaded, IsLoaded, IsTruncation}
 use Rattle.fkv_partition.specs.Relocating.{IsRelocating}
 use Rattle.fkv_partition.specs.Sound.{IsCompacting}
 use Rattle.fkv_partition.specs.Views.{PartitionView, with_core, relocation_at, with_relocation}

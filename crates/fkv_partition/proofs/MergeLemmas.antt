@@ -1,5 +1,5 @@
 -- A merge asks for nothing.
-use Rattle.std.proofs.Common.{◌≡◌, true, ℕ, Bool, Option, Some, None, Result, Ok, option_map, refl, sym, ◌∙◌, ap}
+use Rattle.std.proofs.Common.{◌≡◌, true, ℕ, Bool, Option, Some, None, Ok, option_map, refl, sym, ◌∙◌, ap}
 use Rattle.std.specs.declared.cmp.Ordering.{Ordering}
 use Rattle.fkv_functions.specs.Meanings.{Meanings}
 use Rattle.fkv_device.specs.Standing.{Standing}
@@ -14,12 +14,11 @@ use Rattle.fkv_core.specs.Asking.{AsksNothing}
 use Rattle.fkv_core.specs.Effect as key_effect
 use Rattle.fkv_core.specs.Going as going
 use Rattle.fkv_core.specs.Sound.{IsSound}
-use Rattle.fkv_core.specs.Views.{CoreView, context_at}
-use Rattle.fkv_partition.specs.declared.relocations.Relocation.{Relocation}
+use Rattle.fkv_core.specs.Views.{context_at}
 use Rattle.fkv_partition.specs.Effect.{Asked, asked, asked_of, asked_by}
 use Rattle.fkv_partition.specs.Events.{Goes}
 use Rattle.fkv_partition.specs.Sound.{IsCompacting}
-use Rattle.fkv_partition.specs.Views.{PartitionView, relocation_at}
+use Rattle.fkv_partition.specs.Views.{PartitionView}
 use Rattle.fkv_partition.proofs.EffectLemmas.{relocation-asked}
 
 merge-is : {K V I : Type 0} (o : KeyedOp K V I) (k : K) (i : I) → op_of o ≡ Merge k i → is_merge o ≡ true

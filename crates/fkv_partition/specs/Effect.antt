@@ -12,7 +12,7 @@ use Rattle.fkv_operations.specs.declared.operations.Op.TheVariants.{Read, Rmw, R
 use Rattle.fkv_core.specs.declared.contexts.Progress.{Progress}
 use Rattle.fkv_core.specs.declared.contexts.Progress.TheVariants.{Done, Next, NeedsBuild, NeedsLoad, Waits}
 use Rattle.fkv_core.specs.Effect as key_effect
-use Rattle.fkv_core.specs.Pending.{Pending, pending, OthersPend, AllPend}
+use Rattle.fkv_core.specs.Pending.{Pending, pending}
 use Rattle.fkv_core.specs.Views.{live_of, partition_of}
 use Rattle.fkv_partition.specs.declared.relocations.Relocation.{Relocation}
 use Rattle.fkv_partition.specs.Views.{PartitionView, relocation_at}

@@ -1,6 +1,6 @@
 -- What each event does: a relation with a rule for each case. What belongs to operations on keys is the rule of the core;
 -- what belongs to relocations stands in `Beginning`, `Going`, `Reading` and `Truncating`.
-use Rattle.std.specs.Prelude.{◌≡◌, ℕ, Bool, List, Some, None, Result, Ok, Err}
+use Rattle.std.specs.Prelude.{◌≡◌, ℕ, Bool, List, Some, None, Result, Err}
 use Rattle.std.specs.declared.cmp.Ordering.{Ordering}
 use Rattle.fkv_functions.specs.Meanings.{Meanings}
 use Rattle.fkv_functions.specs.declared.asks.Ask.{Ask}

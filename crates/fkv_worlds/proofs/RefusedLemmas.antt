@@ -1,5 +1,5 @@
 -- Which refusals end no operation: all but those of a load that ends its own.
-use Rattle.std.proofs.Common.{◌≡◌, ◌==◌, ◌<◌, ◌⊎◌, inl, inr, Bool, true, false, ℕ, List, [], ◌∷◌, length, Option, Some, None, Result, Ok, Err, option_map, refl, sym, ◌∙◌, ap, arith}
+use Rattle.std.proofs.Common.{◌≡◌, ◌==◌, ◌<◌, ◌⊎◌, inl, inr, Bool, true, false, ℕ, List, [], ◌∷◌, length, Option, Some, None, Result, Err, option_map, refl, sym, ◌∙◌, ap, arith}
 use Rattle.std.specs.declared.cmp.Ordering.{Ordering}
 use Rattle.fkv_functions.specs.Meanings.{Meanings}
 use Rattle.fkv_functions.specs.declared.asks.Ask.{Ask}
@@ -16,7 +16,6 @@ use Rattle.fkv_pages.specs.Flushes.{difference, bytes_refusal}
 use Rattle.fkv_lookups.specs.RecordsViews.{RecordsView}
 use Rattle.fkv_lookups.specs.Flushes.{flush_refusal}
 use Rattle.fkv_records.specs.Places.{page_at}
-use Rattle.fkv_partition.specs.Progress.{Progress}
 use Rattle.fkv_partition.specs.CoreViews.{CoreView}
 use Rattle.fkv_partition.specs.CoreBeginning as core_beginning
 use Rattle.fkv_partition.specs.CoreEnding as core_ending

@@ -1,5 +1,5 @@
 -- What the partition of a step refuses, and then nothing changes: by the rule of its event.
-use Rattle.std.specs.Prelude.{◌≡◌, ◌≢◌, ℕ, [], List, true, false, Some, None, Result, Err}
+use Rattle.std.specs.Prelude.{◌≡◌, ◌≢◌, ℕ, [], List, true, false, Some, Result, Err}
 use Rattle.std.specs.declared.cmp.Ordering.{Ordering}
 use Rattle.fkv_functions.specs.Meanings.{Meanings}
 use Rattle.fkv_functions.specs.declared.asks.Ask.{Ask}

@@ -1,5 +1,5 @@
 -- What a contract sees of a world.
-use Rattle.std.specs.Prelude.{Bool, false, ◌≡◌, ◌⊎◌, ◌+◌, ◌*◌, ◌^◌, ◌&&◌, cond, ℕ, List, [], Option, None, Result, map, replicate, slice_get, unwrap_or, nat_lt, is_none, IsSome, Some}
+use Rattle.std.specs.Prelude.{Bool, false, ◌≡◌, ◌⊎◌, ◌+◌, ◌*◌, ◌^◌, ◌&&◌, cond, ℕ, List, [], Option, None, Result, map, replicate, slice_get, unwrap_or, nat_lt, is_none}
 use Rattle.std.specs.List.{range_with_len}
 use Rattle.fkv_functions.specs.declared.asks.Ask.{Ask}
 use Rattle.fkv_functions.specs.declared.refusals.Refused.{Refused}

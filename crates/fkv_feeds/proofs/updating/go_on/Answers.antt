@@ -1,4 +1,4 @@
-use Rattle.std.proofs.Common.{Ok, Err, Some, None, inl, inr, refl, arith}
+use Rattle.std.proofs.Common.{Ok, Err, Some, None, inr, refl, arith}
 use Rattle.std.proofs.lemmas.Result.{IfOk-weaker, on_ok_weaker}
 use Rattle.fkv_partition.specs.Progress.TheVariants.{Done, Next, Waits, NeedsBuild, NeedsLoad}
 use Rattle.fkv_feeds.specs.Turns.{IsTurnRefusal}
