@@ -25,6 +25,7 @@ pub trait Disk: Drop {
     /// `NoMemory`; `Device` with code 1 and page 0 where the device refuses to open.
     fn writer(&mut self, partition: u64) -> Result<Self::Writer, Refused>
         ensures number { IfOk result (λ w. Self.Writer.next w ≡ 0) }
+        ensures place { IfOk result (λ w. Self.Writer.part w ≡ partition) }
         ensures steady { OnOk result (failures self.new ≡ failures self.old) }
         ensures counted { IfErr result (FailsOnlyBy 1 0 (failures self.old) (failures self.new)) };
 
@@ -34,6 +35,7 @@ pub trait Disk: Drop {
     ///
     /// As for [`Disk::writer`].
     fn reader(&mut self, partition: u64) -> Result<Self::Reader, Refused>
+        ensures place { IfOk result (λ r. Self.Reader.part r ≡ partition) }
         ensures steady { OnOk result (failures self.new ≡ failures self.old) }
         ensures counted { IfErr result (FailsOnlyBy 1 0 (failures self.old) (failures self.new)) };
 }

@@ -94,6 +94,7 @@ fn go_to_page<F: Seek>(file: &mut F, page_bits: u32, page: u64) -> bool
 /// Writes pages of `2^page_bits` bytes to a file. It has the numbers below 2^64 - 1 for its receipts.
 #[derive(Drop)]
 pub struct FileWriter<F: Write + Seek + Drop> {
+    partition: u64,
     file: F,
     page_bits: u32,
     next: u64,
@@ -101,12 +102,14 @@ pub struct FileWriter<F: Write + Seek + Drop> {
 }
 
 impl<F: Write + Seek + Drop> FileWriter<F> {
-    /// A writer whose next receipt has this number.
-    pub fn at(alloc: Global, file: F, page_bits: u32, next: u64) -> FileWriter<F>
+    /// A writer of this partition's pages to its file, whose next receipt has this number.
+    pub fn at(alloc: Global, partition: u64, file: F, page_bits: u32, next: u64) -> FileWriter<F>
+        ensures place { result.partition ≡ partition }
         ensures next { result.next ≡ next }
         ensures bits { result.page_bits ≡ page_bits }
     {
         FileWriter {
+            partition,
             file,
             page_bits,
             next,
@@ -116,6 +119,7 @@ impl<F: Write + Seek + Drop> FileWriter<F> {
 
     /// Writes a page at its place, and says whether it was written.
     fn put(&mut self, page: u64, bytes: &[u8]) -> bool
+        ensures same_part { self.new.partition ≡ self.old.partition }
         ensures next { self.new.next ≡ self.old.next }
         ensures failures { self.new.failures ≡ self.old.failures }
         ensures bits { self.new.page_bits ≡ self.old.page_bits }
@@ -133,6 +137,8 @@ impl<F: Write + Seek + Drop> PageWriter for FileWriter<F> {
 
     ghost next = { λ w. w.next };
 
+    ghost part = { λ w. w.partition };
+
     // a file may fail whenever it is written
     ghost can_fail = { λ _. Unit {0} };
 
@@ -149,6 +155,7 @@ impl<F: Write + Seek + Drop> PageWriter for FileWriter<F> {
         ensures number { IfOk result (λ r. r.number ≡ self.old.next) }
         ensures next { OnOk result (self.new.next ≡ self.old.next + 1) }
         ensures same_next { IfErr result (λ _. self.new.next ≡ self.old.next) }
+        ensures same_part { self.new.partition ≡ self.old.partition }
         ensures steady { OnOk result (self.new.failures ≡ self.old.failures) }
         ensures counted { IfErr result (FailsOnlyBy 2 page self.old.failures self.new.failures) }
         ensures bits { self.new.page_bits ≡ self.old.page_bits }
@@ -176,6 +183,7 @@ impl<F: Write + Seek + Drop> PageWriter for FileWriter<F> {
 #[derive(Drop)]
 pub struct FileReader<F: Read + Seek + Drop> {
     alloc: Global,
+    partition: u64,
     file: F,
     page_bits: u32,
     last: Option<Page>,
@@ -183,12 +191,14 @@ pub struct FileReader<F: Read + Seek + Drop> {
 }
 
 impl<F: Read + Seek + Drop> FileReader<F> {
-    /// A reader of this file.
-    pub fn new(alloc: Global, file: F, page_bits: u32) -> FileReader<F>
-        ensures { result.page_bits ≡ page_bits }
+    /// A reader of this partition's pages from its file.
+    pub fn new(alloc: Global, partition: u64, file: F, page_bits: u32) -> FileReader<F>
+        ensures place { result.partition ≡ partition }
+        ensures bits { result.page_bits ≡ page_bits }
     {
         FileReader {
             alloc,
+            partition,
             file,
             page_bits,
             last: None,
@@ -198,6 +208,7 @@ impl<F: Read + Seek + Drop> FileReader<F> {
 
     /// Reads a page from its place, and says whether it was there.
     fn take(&mut self, receipt: &FileReceipt, out: &mut [u8]) -> bool
+        ensures same_part { self.new.partition ≡ self.old.partition }
         ensures length { IsTrue result → length out.old ≡ receipt.now.length }
         ensures failures { self.new.failures ≡ self.old.failures }
         ensures bits { self.new.page_bits ≡ self.old.page_bits }
@@ -217,6 +228,7 @@ impl<F: Read + Seek + Drop> FileReader<F> {
         ensures size { IfOk result (λ o. IfSome o (λ p. length (arc_value p).items ≡ size)) }
         ensures length { IfOk result (λ o. IfSome o (λ _. size ≡ receipt.now.length)) }
         ensures memory { IfErr result (λ e. e ≡ refused.NoMemory) }
+        ensures same_part { self.new.partition ≡ self.old.partition }
         ensures failures { self.new.failures ≡ self.old.failures }
         ensures bits { self.new.page_bits ≡ self.old.page_bits }
     {
@@ -247,6 +259,8 @@ impl<F: Read + Seek + Drop> PageReader for FileReader<F> {
 
     ghost failures = { λ r. r.failures };
 
+    ghost part = { λ r. r.partition };
+
     // and whenever it is read
     ghost can_fail = { λ _ _. Unit {0} };
 
@@ -260,6 +274,7 @@ impl<F: Read + Seek + Drop> PageReader for FileReader<F> {
         ensures digest { IfOk result (λ page. sha256 page ≡ receipt.now.digest) }
         ensures size { IfOk result (λ page. length page ≡ size) }
         ensures length { OnOk result (size ≡ receipt.now.length) }
+        ensures same_part { self.new.partition ≡ self.old.partition }
         ensures steady { OnOk result (self.new.failures ≡ self.old.failures) }
         ensures counted { IfErr result (ReadFailsBy receipt.now.page self.old.failures self.new.failures) }
         ensures bits { self.new.page_bits ≡ self.old.page_bits }

@@ -1,12 +1,13 @@
 //! A device in a folder, with a file for each partition.
-ghost use Rattle.std.specs.Prelude.{◌≡◌, false, IfOk, IfErr, OnOk};
+ghost use Rattle.std.specs.Prelude.{◌≡◌, false, IfOk, IfErr, OnOk, string_bytes};
 ghost use Rattle.fkv_device.specs.Failing.{FailsOnlyBy};
+ghost use Rattle.fkv_device.specs.Parts.{part_name};
 
 use crate::disks::Disk;
 use crate::failures::Failures;
 use crate::files::{FileReader, FileReceipt, FileWriter};
 use fkv_functions::Refused;
-use std::alloc::Global;
+use std::alloc::{AllocError, Global};
 use std::fs::{OpenOptions, create_dir_all};
 use std::path::Path;
 use std::rt::Files;
@@ -20,6 +21,24 @@ pub struct FileDevice<R: Files + Drop> {
     folder: String,
     page_bits: u32,
     failures: Failures,
+}
+
+/// The file of a partition, beside its number: no file goes without the number that named it.
+#[derive(Drop)]
+struct PartFile<F: Drop> {
+    partition: u64,
+    file: F,
+}
+
+/// The name of the file of a partition. Refused where there is no memory for it.
+fn part_name(alloc: Global, partition: u64) -> Result<String, AllocError>
+    ensures { IfOk result (λ name. string_bytes name ≡ part_name partition) }
+{
+    if partition < 10 {
+        format!(in alloc; "part-0{partition}.log")
+    } else {
+        format!(in alloc; "part-{partition}.log")
+    }
 }
 
 impl<R: Files + Drop> FileDevice<R> {
@@ -37,20 +56,21 @@ impl<R: Files + Drop> FileDevice<R> {
         }
     }
 
-    /// Opens the file of a partition.
-    fn open(&mut self, partition: u64, how: &OpenOptions) -> Result<R::File, Refused>
+    /// Opens the file of a partition, which stands by its number from then on.
+    fn open(&mut self, partition: u64, how: &OpenOptions) -> Result<PartFile<R::File>, Refused>
+        ensures place { IfOk result (λ part. part.partition ≡ partition) }
         ensures steady { OnOk result (self.new.failures ≡ self.old.failures) }
         ensures counted { IfErr result (FailsOnlyBy 1 0 self.old.failures self.new.failures) }
         ensures bits { self.new.page_bits ≡ self.old.page_bits }
     {
-        let Ok(name) = format!(in self.alloc; "part-{partition:02}.log") else {
+        let Ok(name) = part_name(self.alloc, partition) else {
             return Err(Refused::NoMemory);
         };
         let Ok(path) = Path::new(self.folder.as_str()).join(self.alloc, name.as_str()) else {
             return Err(Refused::NoMemory);
         };
         match how.open(&self.rt, path.as_path()) {
-            Ok(file) => Ok(file),
+            Ok(file) => Ok(PartFile { partition, file }),
             Err(_) => Err(self.failures.count(Refused::Device { code: 1, page: 0 })),
         }
     }
@@ -68,6 +88,7 @@ impl<R: Files + Drop> Disk for FileDevice<R> {
     /// Makes the folder where it is not there, and the partition's file anew: an old one is cut to nothing.
     fn writer(&mut self, partition: u64) -> Result<FileWriter<R::File>, Refused>
         ensures number { IfOk result (λ w. w.next ≡ 0) }
+        ensures place { IfOk result (λ w. w.partition ≡ partition) }
         ensures bits { IfOk result (λ w. w.page_bits ≡ self.old.page_bits) }
         ensures steady { OnOk result (self.new.failures ≡ self.old.failures) }
         ensures counted { IfErr result (FailsOnlyBy 1 0 self.old.failures self.new.failures) }
@@ -77,18 +98,22 @@ impl<R: Files + Drop> Disk for FileDevice<R> {
             return Err(self.failures.count(Refused::Device { code: 1, page: 0 }));
         }
         let mut how = OpenOptions::new();
-        let file = self.open(partition, how.write(true).create(true).truncate(true))?;
-        Ok(FileWriter::at(self.alloc, file, self.page_bits, 0))
+        let PartFile { partition, file } = self.open(
+            partition,
+            how.write(true).create(true).truncate(true),
+        )?;
+        Ok(FileWriter::at(self.alloc, partition, file, self.page_bits, 0))
     }
 
     fn reader(&mut self, partition: u64) -> Result<FileReader<R::File>, Refused>
+        ensures place { IfOk result (λ r. r.partition ≡ partition) }
         ensures bits { IfOk result (λ r. r.page_bits ≡ self.old.page_bits) }
         ensures steady { OnOk result (self.new.failures ≡ self.old.failures) }
         ensures counted { IfErr result (FailsOnlyBy 1 0 self.old.failures self.new.failures) }
         ensures same_bits { self.new.page_bits ≡ self.old.page_bits }
     {
         let mut how = OpenOptions::new();
-        let file = self.open(partition, how.read(true))?;
-        Ok(FileReader::new(self.alloc, file, self.page_bits))
+        let PartFile { partition, file } = self.open(partition, how.read(true))?;
+        Ok(FileReader::new(self.alloc, partition, file, self.page_bits))
     }
 }

@@ -64,16 +64,19 @@ impl Receipt for MemoryReceipt {
 /// Writes pages to memory. It has the numbers below 2^64 - 1 for its receipts.
 #[derive(Drop)]
 pub struct MemoryWriter {
+    partition: u64,
     next: u64,
     failures: Failures,
 }
 
 impl MemoryWriter {
-    /// A writer whose next receipt has this number.
-    pub fn at(alloc: Global, next: u64) -> MemoryWriter
-        ensures { result.next ≡ next }
+    /// A writer of this partition's pages, whose next receipt has this number.
+    pub fn at(alloc: Global, partition: u64, next: u64) -> MemoryWriter
+        ensures next { result.next ≡ next }
+        ensures place { result.partition ≡ partition }
     {
         MemoryWriter {
+            partition,
             next,
             failures: Failures::new(alloc),
         }
@@ -86,6 +89,8 @@ impl PageWriter for MemoryWriter {
     ghost failures = { λ w. w.failures };
 
     ghost next = { λ w. w.next };
+
+    ghost part = { λ w. w.partition };
 
     // where no number is left
     ghost can_fail = { λ w. w.next + 1 ≡ 2 ^ 64 };
@@ -101,6 +106,7 @@ impl PageWriter for MemoryWriter {
         ensures number { IfOk result (λ r. r.number ≡ self.old.next) }
         ensures next { OnOk result (self.new.next ≡ self.old.next + 1) }
         ensures same_next { IfErr result (λ _. self.new.next ≡ self.old.next) }
+        ensures same_part { self.new.partition ≡ self.old.partition }
         ensures steady { OnOk result (self.new.failures ≡ self.old.failures) }
         ensures counted { IfErr result (FailsOnlyBy 2 page self.old.failures self.new.failures) }
         ensures caused { IfErr result (λ e. e ≢ refused.NoMemory → self.old.next + 1 ≡ 2 ^ 64) }
@@ -122,6 +128,7 @@ impl PageWriter for MemoryWriter {
 /// Reads pages of memory.
 #[derive(Drop)]
 pub struct MemoryReader {
+    partition: u64,
     failures: Failures,
 }
 
@@ -129,6 +136,8 @@ impl PageReader for MemoryReader {
     type Receipt = MemoryReceipt;
 
     ghost failures = { λ r. r.failures };
+
+    ghost part = { λ r. r.partition };
 
     ghost can_fail = { λ receipt size. size ≢ length receipt.bytes };
 
@@ -141,6 +150,7 @@ impl PageReader for MemoryReader {
     fn read(&mut self, receipt: &MemoryReceipt, size: usize) -> Result<Page, Refused>
         ensures kept { IfOk result (λ page. page ≡ receipt.now.bytes) }
         ensures length { OnOk result (size ≡ length receipt.now.bytes) }
+        ensures same_part { self.new.partition ≡ self.old.partition }
         ensures steady { OnOk result (self.new.failures ≡ self.old.failures) }
         ensures counted { IfErr result (FailsOnlyBy 3 receipt.now.page self.old.failures self.new.failures) }
         ensures caused { IfErr result (λ e. e ≢ refused.NoMemory
@@ -177,18 +187,21 @@ impl Disk for MemoryDevice {
     ghost failures = { λ _. 0 };
 
     /// A writer, which is never refused.
-    fn writer(&mut self, _partition: u64) -> Result<MemoryWriter, Refused>
+    fn writer(&mut self, partition: u64) -> Result<MemoryWriter, Refused>
         ensures done { IsOk result }
         ensures number { IfOk result (λ w. w.next ≡ 0) }
+        ensures place { IfOk result (λ w. w.partition ≡ partition) }
     {
-        Ok(MemoryWriter::at(self.alloc, 0))
+        Ok(MemoryWriter::at(self.alloc, partition, 0))
     }
 
     /// A reader, which is never refused.
-    fn reader(&mut self, _partition: u64) -> Result<MemoryReader, Refused>
+    fn reader(&mut self, partition: u64) -> Result<MemoryReader, Refused>
         ensures done { IsOk result }
+        ensures place { IfOk result (λ r. r.partition ≡ partition) }
     {
         Ok(MemoryReader {
+            partition,
             failures: Failures::new(self.alloc),
         })
     }

@@ -137,6 +137,21 @@ impl<R: Receipt> Loaded<R> {
         })
     }
 
+    /// The same page with a receipt that stands for the same, held once more: nothing is read, and no byte is copied.
+    ///
+    /// # Errors
+    ///
+    /// `NoMemory` where the page or its receipt can't be shared once more.
+    pub fn again(&self) -> Result<Loaded<R>, Refused>
+        ensures receipt { IfOk result (λ l. R.stands l.receipt ≡ R.stands self.now.receipt) }
+        ensures bytes { IfOk result (λ l. l.bytes ≡ self.now.bytes) }
+        ensures memory { IfErr result (λ e. e ≡ refused.NoMemory) }
+    {
+        let page = self.page.again()?;
+        let receipt = self.receipt.again()?;
+        Ok(Loaded { page, receipt })
+    }
+
     /// The receipt that the page was read by.
     pub fn receipt(&self) -> &R
         ensures receipt { result.now ≡ self.now.receipt }

@@ -17,6 +17,9 @@ pub trait PageWriter: Drop {
     /// The number of the next receipt.
     ghost next: { Self → ℕ };
 
+    /// The number of the partition whose pages it writes.
+    ghost part: { Self → ℕ };
+
     /// What holds of a writer wherever a write of it comes to a fault.
     ghost can_fail: { Self → Type 0 };
 
@@ -32,6 +35,7 @@ pub trait PageWriter: Drop {
         ensures number { IfOk result (λ r. (Self.Receipt.stands r).number ≡ next self.old) }
         ensures next { OnOk result (next self.new ≡ next self.old + 1) }
         ensures same_next { IfErr result (λ _. next self.new ≡ next self.old) }
+        ensures same_part { part self.new ≡ part self.old }
         ensures steady { OnOk result (failures self.new ≡ failures self.old) }
         ensures counted { IfErr result (FailsOnlyBy 2 page (failures self.old) (failures self.new)) }
         ensures caused { IfErr result (λ e. e ≢ refused.NoMemory → can_fail self.old) };
@@ -43,6 +47,9 @@ pub trait PageReader: Drop {
 
     /// How often a call has failed: once for each fault that was told.
     ghost failures: { Self → ℕ };
+
+    /// The number of the partition whose pages it reads.
+    ghost part: { Self → ℕ };
 
     /// What holds of a receipt and a number of bytes wherever a read of so many bytes by it comes to a fault.
     ghost can_fail: { Self.Receipt → ℕ → Type 0 };
@@ -58,6 +65,7 @@ pub trait PageReader: Drop {
             → page ≡ (Self.Receipt.stands receipt.now).bytes) }
         ensures size { IfOk result (λ page. length page ≡ size) }
         ensures length { OnOk result (size ≡ (Self.Receipt.stands receipt.now).length) }
+        ensures same_part { part self.new ≡ part self.old }
         ensures steady { OnOk result (failures self.new ≡ failures self.old) }
         ensures counted { IfErr result (ReadFailsBy (Self.Receipt.stands receipt.now).page
             (failures self.old) (failures self.new)) }

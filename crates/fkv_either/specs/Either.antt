@@ -9,6 +9,11 @@ abbrev pub number_at : {M R : Type 0} → (M → ℕ) → (R → ℕ) → Either
 number_at memory other (Memory x) = memory x
 number_at memory other (Other y) = other y
 
+-- a number of what belongs to the other device where there is one, else of what belongs to memory
+abbrev pub part_at : {M R : Type 0} → (M → ℕ) → (R → ℕ) → M → Option R → ℕ
+part_at memory other x None = memory x
+part_at memory other x (Some y) = other y
+
 -- this holds of what belongs to memory, or that of what belongs to the other device
 abbrev pub HoldsAt : {M R : Type 0} → (M → Type 0) → (R → Type 0) → Either M R → Type 0
 HoldsAt memory other (Memory x) = memory x

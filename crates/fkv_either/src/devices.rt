@@ -1,7 +1,7 @@
 //! A device that puts pages on another device where there is one, else into memory.
 ghost use Rattle.std.specs.Prelude.{◌≡◌, true, if◌then◌else◌, IfOk, IfErr, OnOk};
 ghost use Rattle.fkv_device.specs.Failing.{FailsOnlyBy};
-ghost use Rattle.fkv_either.specs.Either.{failures_of, is_absent, is_memory, number_at};
+ghost use Rattle.fkv_either.specs.Either.{failures_of, is_absent, is_memory, number_at, part_at};
 
 use crate::either::Either;
 use crate::keeping::Keeping;
@@ -9,7 +9,7 @@ use crate::readers::EitherReader;
 use crate::receipts::EitherReceipt;
 use crate::writers::EitherWriter;
 use fkv_device::failures::Failures;
-use fkv_device::{Disk, MemoryDevice, MemoryWriter, PageWriter};
+use fkv_device::{Disk, MemoryDevice, MemoryReader, MemoryWriter, PageReader, PageWriter};
 use fkv_functions::Refused;
 use std::alloc::Global;
 use std::marker::PhantomData;
@@ -54,6 +54,8 @@ impl<D: Disk, K: Keeping> Disk for EitherDevice<D, K> {
         ensures device { IfOk result (λ w. is_memory w.either ≡ is_absent self.old.other) }
         ensures number { IfOk result
             (λ w. number_at ⟦<MemoryWriter as PageWriter>⟧.next D.Writer.next w.either ≡ 0) }
+        ensures place { IfOk result
+            (λ w. number_at ⟦<MemoryWriter as PageWriter>⟧.part D.Writer.part w.either ≡ partition) }
         ensures steady { OnOk result (failures_of D.failures self.new.other ≡ failures_of D.failures self.old.other) }
         ensures counted { IfErr result
             (FailsOnlyBy 1 0 (failures_of D.failures self.old.other) (failures_of D.failures self.new.other)) }
@@ -72,6 +74,8 @@ impl<D: Disk, K: Keeping> Disk for EitherDevice<D, K> {
     /// A reader of pages in memory, and of those on the other device where there is one.
     fn reader(&mut self, partition: u64) -> Result<EitherReader<D::Reader, K>, Refused>
         ensures device { IfOk result (λ r. is_absent r.other ≡ is_absent self.old.other) }
+        ensures place { IfOk result
+            (λ r. part_at ⟦<MemoryReader as PageReader>⟧.part D.Reader.part r.memory r.other ≡ partition) }
         ensures steady { OnOk result (failures_of D.failures self.new.other ≡ failures_of D.failures self.old.other) }
         ensures counted { IfErr result
             (FailsOnlyBy 1 0 (failures_of D.failures self.old.other) (failures_of D.failures self.new.other)) }

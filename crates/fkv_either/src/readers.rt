@@ -1,6 +1,6 @@
 //! Readers of pages in memory and on another device.
 ghost use Rattle.std.specs.Prelude.{◌≡◌, ◌+◌};
-ghost use Rattle.fkv_either.specs.Either.{failures_of, CanFailToRead};
+ghost use Rattle.fkv_either.specs.Either.{failures_of, part_at, CanFailToRead};
 
 use crate::either::Either;
 use crate::keeping::Keeping;
@@ -24,6 +24,8 @@ impl<R: PageReader, K: Keeping> PageReader for EitherReader<R, K> {
     type Receipt = EitherReceipt<R::Receipt, K>;
 
     ghost failures = { λ r. ⟦<MemoryReader as PageReader>⟧.failures r.memory + failures_of R.failures r.other + r.strange };
+
+    ghost part = { λ r. part_at ⟦<MemoryReader as PageReader>⟧.part R.part r.memory r.other };
 
     ghost can_fail = { λ r size. CanFailToRead ⟦<MemoryReader as PageReader>⟧.can_fail r.either size };
 

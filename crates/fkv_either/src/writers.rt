@@ -24,6 +24,8 @@ impl<W: PageWriter, K: Keeping> PageWriter for EitherWriter<W, K> {
 
     ghost next = { λ w. number_at ⟦<MemoryWriter as PageWriter>⟧.next W.next w.either };
 
+    ghost part = { λ w. number_at ⟦<MemoryWriter as PageWriter>⟧.part W.part w.either };
+
     ghost can_fail = { λ w. HoldsAt ⟦<MemoryWriter as PageWriter>⟧.can_fail W.can_fail w.either };
 
     fn write(&mut self, page: u64, bytes: &Page) -> Result<EitherReceipt<W::Receipt, K>, Refused> {

@@ -19,6 +19,8 @@ impl<'a, W: PageWriter> PageWriter for MeteredWriter<'a, W> {
 
     ghost next = { λ w. W.next w.writer };
 
+    ghost part = { λ w. W.part w.writer };
+
     ghost can_fail = { λ w. W.can_fail w.writer };
 
     fn write(&mut self, page: u64, bytes: &Page) -> Result<W::Receipt, Refused> {
@@ -39,6 +41,8 @@ impl<'a, R: PageReader> PageReader for MeteredReader<'a, R> {
     type Receipt = R::Receipt;
 
     ghost failures = { λ r. R.failures r.reader };
+
+    ghost part = { λ r. R.part r.reader };
 
     ghost can_fail = { R.can_fail };
 
