@@ -107,7 +107,7 @@ module _ {K V I O R : Type 0} (keeps : Bool) (stands : R → Standing) (cmp : K 
   come-ends Next h off within steady = absurd (off tt)
   come-ends (NeedsBuild ask) h off within steady = absurd (off tt)
   come-ends (NeedsLoad r a) h off within steady = absurd (off tt)
-  come-ends (Waits why) h off within steady = Ends.waits c why opens (subst (λ n. IsWaiting cmp join code op old.core v.core slot c n why) first h) within steady refl
+  come-ends (Waits why) h off within steady = Ends.waits c why opens (subst (λ n. IsWaiting cmp join f code op old.core v.core slot c n why) first h) within steady refl
 
   pub driven-ends : (p : Progress K V I O R) → Drives keeps stands cmp join f code op old.core v.core slot c now (limit - 1) now end before after (Ok p) → Ends keeps cmp join f code op old v slot limit start end before after (Ok p)
   driven-ends p (Drives.ends q come off within steady r) =

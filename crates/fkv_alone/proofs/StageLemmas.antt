@@ -20,8 +20,6 @@ use Rattle.fkv_operations.specs.declared.operations.KeyedOp.TheVariants.{Read, R
 use Rattle.fkv_operations.specs.declared.operations.Answer.{Answer}
 use Rattle.fkv_operations.specs.declared.operations.Answer.TheVariants as answered
 use Rattle.fkv_lookups.specs.RecordsViews.{RecordsView, confirmed, released, with_record}
-use Rattle.fkv_lookups.specs.DecisionLaws.{wait-met}
-use Rattle.fkv_lookups.specs.declared.decisions.LookupResult.TheVariants as meets
 use Rattle.fkv_index.specs.declared.words.Word.{Word}
 use Rattle.fkv_partition.specs.Context.{Context}
 use Rattle.fkv_partition.specs.Loading.{Loading}
@@ -35,8 +33,8 @@ use Rattle.fkv_partition.specs.CoreGoing.{Goes}
 use Rattle.fkv_partition.specs.CoreInstalling.{Installs}
 use Rattle.fkv_partition.specs.CoreLoading.{AwaitsPage, Loads}
 use Rattle.fkv_partition.specs.Pending.{Pending, pending, pending_of}
-use Rattle.fkv_partition.specs.CoreViews.{CoreView, context_at, with_context, live_of, met_at}
-use Rattle.fkv_alone.specs.Stages.{IsOpen, IsReady, IsAsking, IsFetching, IsDone, HasCome}
+use Rattle.fkv_partition.specs.CoreViews.{CoreView, context_at, with_context, live_of}
+use Rattle.fkv_alone.specs.Stages.{IsOpen, IsReady, IsAsking, IsFetching, IsHeldUp, IsDone, HasCome}
 use Rattle.fkv_alone.specs.Ending.{IsOver, IsStop, Advances}
 use Rattle.fkv_alone.proofs.OpenLemmas.{set-here, set-frame, frames, open-pass, open-set, open-over}
 
@@ -192,14 +190,12 @@ module _ {K V I O R : Type 0} (keeps : Bool) (stands : R → Standing) (cmp : K 
   goes-told h p (Goes.full x value a d full is r) event finds =
       let t : p ≡ Waits Full = cc in
       let o = open-same op old v slot c started h.operation x h.open_is d.here in
-      told-as p (Waits Full) t (rw is (record { operation = x; open_is = open-pass op old v slot c started x o now later; reason = full }))
+      told-as p (Waits Full) t (rw is (record { operation = x; open_is = open-pass op old v slot c started x o now later; reason = IsHeldUp.full value a (record { here = d.here; fresh = d.fresh; decided = d.decided }) full }))
   goes-told h p (Goes.replaces x value a e d last is r) event finds = let t : p ≡ Done a now = cc in event-done x (open-same op old v slot c started h.operation x h.open_is d.here) p a t event
   goes-told h p (Goes.waits x d is r) event finds =
       let t : p ≡ Waits Fuzzy = cc in
       let o = open-same op old v slot c started h.operation x h.open_is d.here in
-      let fuzzy = wait-met f x.op _ d.decided in
-      let met = subst (λ (k : K). met_at cmp join code v slot k ≡ meets.Fuzzy fuzzy.0) (ap key_of o.op_is) fuzzy.1 in
-      told-as p (Waits Fuzzy) t (rw is (record { operation = x; open_is = open-pass op old v slot c started x o now later; reason = (fuzzy.0, met) }))
+      told-as p (Waits Fuzzy) t (rw is (record { operation = x; open_is = open-pass op old v slot c started x o now later; reason = IsHeldUp.fuzzy (record { here = d.here; fresh = d.fresh; decided = d.decided }) }))
   goes-told h p (Goes.prepares x source i e d found is r) event finds =
       let ask : Ask K V I = record { number = x.number; key = key_of x.op; source = source; input = i } in
       let t : p ≡ NeedsBuild ask = cc in
@@ -267,7 +263,7 @@ module _ {K V I O R : Type 0} (keeps : Bool) (stands : R → Standing) (cmp : K 
   installs-told ask h p (Installs.full x e value here q word u full is r) event =
       let t : p ≡ Waits Full = cc in
       let o = open-same op old v slot c started h.operation x h.open_is here in
-      told-as p (Waits Full) t (rw is (record { operation = x; open_is = open-pass op old v slot c started x o now later; reason = full }))
+      told-as p (Waits Full) t (rw is (record { operation = x; open_is = open-pass op old v slot c started x o now later; reason = IsHeldUp.built e ask value q word u full }))
   installs-told ask h p (Installs.done x e value here q word u more room is r) event =
       let o = open-same op old v slot c started h.operation x h.open_is here in
       let grown = with_record v.records e ask.key (Some value) in

@@ -88,7 +88,7 @@ pub data Ends {K V I O R : Type 0} (keeps : Bool) (cmp : K → K → Ordering) (
   -- it stays open
   waits : (c : ℕ) (why : Wait)
       → Opens code old slot c op
-      → IsWaiting cmp join code op old.core new.core slot c (start + 1) why
+      → IsWaiting cmp join f code op old.core new.core slot c (start + 1) why
       → end ≤ start + limit
       → after ≡ before
       → result ≡ Ok (Waits why)

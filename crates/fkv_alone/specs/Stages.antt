@@ -2,12 +2,13 @@
 -- is as it was before the issue.
 use Rattle.std.specs.Prelude.{◌≡◌, ◌<◌, ◌≤◌, ◌⊎◌, ℕ, Bool, IsTrue, Some, None}
 use Rattle.std.specs.declared.cmp.Ordering.{Ordering}
-use Rattle.fkv_functions.specs.Meanings.{Meanings}
+use Rattle.fkv_functions.specs.Meanings.{Meanings, updated}
 use Rattle.fkv_functions.specs.Plain.{Same}
 use Rattle.fkv_functions.specs.declared.asks.Ask.{Ask}
 use Rattle.fkv_records.specs.Places.{page_at}
 use Rattle.fkv_device.specs.Standing.{Standing}
 use Rattle.fkv_index.specs.declared.places.Place.{Place}
+use Rattle.fkv_index.specs.Places.{word_at}
 use Rattle.fkv_pages.specs.Loads.{IsHeldBy}
 use Rattle.fkv_operations.specs.After.{key_of, after, answer}
 use Rattle.fkv_operations.specs.declared.entries.IndexEntry.{IndexEntry}
@@ -19,14 +20,16 @@ use Rattle.fkv_partition.specs.Phase.TheVariants.{Fresh, Confirm}
 use Rattle.fkv_partition.specs.Progress.{Progress}
 use Rattle.fkv_partition.specs.Progress.TheVariants.{Done, Next, NeedsBuild, NeedsLoad, Waits}
 use Rattle.fkv_lookups.specs.RecordsViews.{IsFull}
-use Rattle.fkv_lookups.specs.declared.decisions.LookupResult.TheVariants as met
+use Rattle.fkv_lookups.specs.declared.decisions.Decision.TheVariants as decided
+use Rattle.fkv_lookups.specs.declared.payloads.Payload.{Payload}
 use Rattle.fkv_partition.specs.Wait.{Wait}
 use Rattle.fkv_partition.specs.Wait.TheVariants as wait
 use Rattle.fkv_partition.specs.CoreContexts.{question_in}
 use Rattle.fkv_partition.specs.CoreEffect.{LeavesOthers}
+use Rattle.fkv_partition.specs.CoreGoing.{Decides}
 use Rattle.fkv_partition.specs.CoreLoading.{AwaitsPage}
 use Rattle.fkv_partition.specs.Pending.{pending}
-use Rattle.fkv_partition.specs.CoreViews.{CoreView, context_at, live_of, met_at}
+use Rattle.fkv_partition.specs.CoreViews.{CoreView, context_at, live_of}
 
 -- the operation is open in its context, and of the records the words of the index alone may be others than before
 pub record IsOpen {K V I : Type 0} (op : KeyedOp K V I) (old v : CoreView K V I) (slot c started : ℕ) (x : Context K V I)
@@ -67,18 +70,30 @@ pub record IsFetching {K V I : Type 0} (keeps : Bool) (cmp : K → K → Orderin
   pub finds : IsTrue keeps
       → pending cmp v slot c ≡ Some (record { moment = loading.looked; value = live_of cmp old (key_of op) })
 
--- why an operation on a key has to wait
-abbrev pub IsHeldUp : {K V I : Type 0} → (K → K → Ordering) → (V → V → V) → (K → ℕ) → CoreView K V I → ℕ → K → Wait
-    → Type 0
-IsHeldUp {K} {V} {I} cmp join code v slot k wait.Fuzzy = (w : V) × (met_at cmp join code v slot k ≡ met.Fuzzy w)
-IsHeldUp cmp join code v slot k wait.Full = IsFull v.records
+-- why the operation in a context has to wait
+pub data IsHeldUp {K V I O : Type 0} (cmp : K → K → Ordering) (join : V → V → V) (f : Meanings K V I O) (code : K → ℕ)
+    (v : CoreView K V I) (slot c : ℕ) (x : Context K V I) : Wait → Type 0 where
+  -- by what it meets it is to wait, as an update does over a fuzzy value, and nothing else
+  fuzzy : Decides cmp join f code v slot c x decided.Wait → IsHeldUp cmp join f code v slot c x wait.Fuzzy
+  -- by what it meets it is to append a record, and there is no room for one
+  full : (payload : Payload V) (a : Answer O)
+      → Decides cmp join f code v slot c x (decided.Append payload a)
+      → IsFull v.records
+      → IsHeldUp cmp join f code v slot c x wait.Full
+  -- or it is an update, the entry is still the one that it kept, and there is no room for the value that was built
+  built : (kept : IndexEntry) (ask : Ask K V I) (value : V)
+      → question_in x ≡ Some (kept, ask)
+      → word_at v.records.words kept.place ≡ kept.word
+      → updated f ask.key ask.input ask.source ≡ Some value
+      → IsFull v.records
+      → IsHeldUp cmp join f code v slot c x wait.Full
 
 -- it cannot go on yet
-pub record IsWaiting {K V I : Type 0} (cmp : K → K → Ordering) (join : V → V → V) (code : K → ℕ) (op : KeyedOp K V I)
-    (old v : CoreView K V I) (slot c started : ℕ) (why : Wait) : Type 0 where
+pub record IsWaiting {K V I O : Type 0} (cmp : K → K → Ordering) (join : V → V → V) (f : Meanings K V I O) (code : K → ℕ)
+    (op : KeyedOp K V I) (old v : CoreView K V I) (slot c started : ℕ) (why : Wait) : Type 0 where
   pub operation : Context K V I
   pub open_is : IsOpen op old v slot c started operation
-  pub reason : IsHeldUp cmp join code v slot (key_of op) why
+  pub reason : IsHeldUp cmp join f code v slot c operation why
 
 -- it is done, and its context is free: on a device that keeps, the live map is what the operation makes of it, once,
 -- and the answer is the plain map's; its effect is after its issue
@@ -102,4 +117,4 @@ HasCome keeps stands cmp join f code op old v slot c started (NeedsBuild ask) = 
 HasCome keeps stands cmp join f code op old v slot c started (NeedsLoad r a) =
     IsFetching keeps cmp op old v slot c started (stands r) a
 HasCome keeps stands cmp join f code op old v slot c started (Waits why) =
-    IsWaiting cmp join code op old v slot c started why
+    IsWaiting cmp join f code op old v slot c started why

@@ -383,6 +383,12 @@ module _ {K V : Type 0} {keeps : Bool} (cmp : K → K → Ordering) (join : V �
       written = writes v.words e.place (final_word (tag_of e.word) v.tail) place
 
   -- a record gets another value where it stands, or becomes a tombstone
+  pub was-replaced : (a : ℕ) (value : Option V) (e : Entry K V) → IsIn (with_value v a value).entries e
+      → (d : Entry K V) × IsIn v.entries d × (d.address ≡ e.address) × (d.key ≡ e.key) × (d.delta ≡ e.delta)
+  was-replaced a value e m =
+      let w = was_at a value v.entries m.place e m.here in
+      (w.entry, record { place = m.place; here = w.here }, sym (ap (λ (y : Entry K V). y.address) (sym w.is) ∙ set_at-address a value w.entry), sym (ap (λ (y : Entry K V). y.key) (sym w.is) ∙ set_at-key a value w.entry), sym (ap (λ (y : Entry K V). y.delta) (sym w.is) ∙ flag-kept a value w.entry))
+
   pub grown-replaced : (a : ℕ) (value : Option V)
       → v.regions.offsets.safe_read_only ≤ a
       → ((q : K) (b : ℕ) → IsStill v.regions.offsets.safe_read_only (newest cmp v.text q b) → newest cmp (with_value v a value).text q b ≡ newest cmp v.text q b)
@@ -396,8 +402,7 @@ module _ {K V : Type 0} {keeps : Bool} (cmp : K → K → Ordering) (join : V �
     from = omega arith;
     kept = λ keeps q b low still. kept q b still;
     same_class = λ q b low begun o. record { entry = o.entry; here = entry_at-elsewhere a value v.entries b (λ same. omega arith) ∙ o.here; class = o.class };
-    was = λ e m low. (let w = was_at a value v.entries m.place e m.here in
-        (w.entry, record { place = m.place; here = w.here }, sym (ap (λ (y : Entry K V). y.address) (sym w.is) ∙ set_at-address a value w.entry), sym (ap (λ (y : Entry K V). y.key) (sym w.is) ∙ set_at-key a value w.entry), sym (ap (λ (y : Entry K V). y.delta) (sym w.is) ∙ flag-kept a value w.entry)));
+    was = λ e m low. was-replaced a value e m;
     places = λ p h. h;
     held = λ p w f low h. inl h;
   }

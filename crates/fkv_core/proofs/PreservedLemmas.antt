@@ -1,5 +1,5 @@
 -- What events leave to a layer above: what stands for operations of its own, and what it knows of records.
-use Rattle.std.proofs.Common.{◌≡◌, ◌<◌, ◌≤◌, inl, inr, ℕ, Bool, IsTrue, List, [], ◌∷◌, Option, Some, None, option_map, Result, position, refl, sym, ◌∙◌, ap, subst, arith}
+use Rattle.std.proofs.Common.{◌≡◌, ◌<◌, ◌≤◌, inl, inr, nat_le, ℕ, Bool, IsTrue, List, [], ◌∷◌, Option, Some, None, option_map, Result, position, refl, sym, ◌∙◌, ap, subst, arith}
 use Rattle.std.proofs.lemmas.Bool.{cases_lt}
 use Rattle.std.proofs.lemmas.Option.{slice_get_within}
 use Rattle.std.specs.declared.cmp.Ordering.{Ordering}
@@ -20,7 +20,7 @@ use Rattle.fkv_texts.specs.declared.entries.Entry.{Entry}
 use Rattle.fkv_texts.specs.Text.{entry_at, last_of, newest, text_from}
 use Rattle.fkv_texts.proofs.TextLemmas.{entry_at-old}
 use Rattle.fkv_texts.proofs.ChangeLemmas.{entry_at-elsewhere}
-use Rattle.fkv_texts.proofs.CutLemmas.{cut-entry}
+use Rattle.fkv_texts.proofs.CutLemmas.{cut-entry, filter-in}
 use Rattle.fkv_texts.proofs.BaseLemmas.{covered-passed}
 use Rattle.fkv_index.specs.declared.words.Word.{Word}
 use Rattle.fkv_index.specs.declared.places.Place.{Place}
@@ -63,7 +63,7 @@ use Rattle.fkv_core.specs.Views.{CoreView, context_at, with_payload, live_of, Mo
 use Rattle.fkv_core.specs.Writes.{IsWrite}
 use Rattle.fkv_core.proofs.AskedLemmas.{position-found}
 use Rattle.fkv_core.proofs.EventLemmas.{kept-entry}
-use Rattle.fkv_core.proofs.GrownLemmas.{Grows, next-grown, kept-grown, loading-grown, tail-most, tail-up, grown-same, grown-regions, grown-moved, grown-flushed, grown-appended, grown-replaced}
+use Rattle.fkv_core.proofs.GrownLemmas.{Grows, next-grown, kept-grown, loading-grown, tail-most, tail-up, grown-same, grown-regions, grown-moved, grown-flushed, grown-appended, was-replaced, grown-replaced}
 use Rattle.fkv_core.proofs.ChangeLemmas.{IsMade, grown-words, is-tentative, tentative-place, tentative-made, confirmed-made, released-made}
 use Rattle.fkv_core.proofs.StoodLemmas.{raw-replaceable}
 use Rattle.fkv_core.proofs.TruncateLemmas.{none-some, kept-cut, loading-cut, next-cut}
@@ -84,6 +84,7 @@ module _ {K V : Type 0} {keeps : Bool} (cmp : K → K → Ordering) (join : V �
     stay = λ a begun low. refl;
     clear = λ limit low yes_keeps c. c;
     places = places;
+    were = λ x m low. (x, m, refl, refl, refl);
   }
 
   know-moved : (regions : RegionsView) (more : List (List ℕ)) (text : List (Entry K V)) → IsRaised v.regions.offsets regions.offsets → (IsTrue keeps → (moved keeps v regions more text).entries ≡ v.entries) → IsGrown keeps cmp v (moved keeps v regions more text)
@@ -96,6 +97,7 @@ module _ {K V : Type 0} {keeps : Bool} (cmp : K → K → Ordering) (join : V �
     stay = λ a begun low. cut-entry (text_begin keeps v.begin regions.offsets.closed) a v.entries begun;
     clear = λ limit low yes_keeps c. subst (λ u. IsCleared cmp u limit) (sym (kept yes_keeps)) c;
     places = λ p h. h;
+    were = λ x m low. (x, (filter-in (λ (d : Entry K V). nat_le (text_begin keeps v.begin regions.offsets.closed) d.address) v.entries m.place x m.here).0, refl, refl, refl);
   }
 
   know-flushed : (st : Standing) → IsGrown keeps cmp v (with_receipt v st)
@@ -108,6 +110,7 @@ module _ {K V : Type 0} {keeps : Bool} (cmp : K → K → Ordering) (join : V �
     stay = λ a begun low. refl;
     clear = λ limit low yes_keeps c. c;
     places = λ p h. h;
+    were = λ x m low. (x, m, refl, refl, refl);
   }
 
   know-record : (e : IndexEntry) (k : K) (payload : Payload V) (has : Option V) → IsPlace v.words e.place
@@ -123,6 +126,7 @@ module _ {K V : Type 0} {keeps : Bool} (cmp : K → K → Ordering) (join : V �
         entry_at-old v.entries (record { address = v.tail; previous = _; key = k; value = value_in payload; delta = is_part payload }) a (λ same. omega arith));
     clear = λ limit low yes_keeps c. clears limit low c;
     places = λ p h. ((writes v.words e.place (final_word (tag_of e.word) v.tail) place).places p).1 h;
+    were = λ x m low. (grown-appended cmp join code v t e k payload has place).was x m low;
   }
 
   know-value : (a : ℕ) (value : Option V) → v.regions.offsets.safe_read_only ≤ a
@@ -137,6 +141,7 @@ module _ {K V : Type 0} {keeps : Bool} (cmp : K → K → Ordering) (join : V �
     stay = λ b begun low. entry_at-elsewhere a value v.entries b (λ same. omega arith);
     clear = λ limit low yes_keeps c. clears limit low c;
     places = λ p h. h;
+    were = λ x m low. was-replaced cmp join code v t a value x m;
   }
 
   know-cut : (low : ℕ) (text : List (Entry K V)) → v.begin < low
@@ -151,6 +156,7 @@ module _ {K V : Type 0} {keeps : Bool} (cmp : K → K → Ordering) (join : V �
     stay = λ a begun under. cut-entry (text_begin keeps low v.regions.offsets.closed) a v.entries begun;
     clear = λ limit under yes_keeps c. clears limit c;
     places = λ p h. ((sweeps low v.words).places p).1 h;
+    were = λ x m under. (x, (filter-in (λ (d : Entry K V). nat_le (text_begin keeps low v.regions.offsets.closed) d.address) v.entries m.place x m.here).0, refl, refl, refl);
   }
 
   -- a record that may be changed where it stands lies above all that is cleared

@@ -3,7 +3,9 @@ use Rattle.std.specs.Prelude.{◌≡◌, ◌<◌, ◌≤◌, Bool, IsTrue, true,
 use Rattle.std.specs.declared.cmp.Ordering.{Ordering}
 use Rattle.fkv_device.specs.Standing.{Standing}
 use Rattle.fkv_regions.specs.Agree.{IsRaised}
+use Rattle.fkv_texts.specs.declared.entries.Entry.{Entry}
 use Rattle.fkv_texts.specs.Text.{entry_at}
+use Rattle.fkv_texts.specs.Chains.{IsIn}
 use Rattle.fkv_index.specs.declared.places.Place.{Place}
 use Rattle.fkv_index.specs.Places.{IsPlace}
 use Rattle.fkv_operations.specs.declared.entries.IndexEntry.{IndexEntry}
@@ -33,7 +35,8 @@ pub record IsSameShape {K V : Type 0} (old new : RecordsView K V) : Type 0 where
   pub frames : new.frames ≡ old.frames
 
 -- nothing falls, what is flushed stays so, and what is frozen stays as it is, where the text begins now or above; on a
--- device that keeps, what was cleared is cleared
+-- device that keeps, what was cleared is cleared; and a record at an address that was taken is of the key that it was of, and
+-- a delta where it was one
 pub record IsGrown {K V : Type 0} (keeps : Bool) (cmp : K → K → Ordering) (old new : RecordsView K V) : Type 0 where
   pub shape : IsSameShape old new
   pub begin : old.begin ≤ new.begin
@@ -52,6 +55,10 @@ pub record IsGrown {K V : Type 0} (keeps : Bool) (cmp : K → K → Ordering) (o
       → IsCleared cmp old.entries limit
       → IsCleared cmp new.entries limit
   pub places : (p : Place) → IsPlace old.words p → IsPlace new.words p
+  pub were : (e : Entry K V)
+      → IsIn new.entries e
+      → e.address < old.tail
+      → (d : Entry K V) × IsIn old.entries d × (d.address ≡ e.address) × (d.key ≡ e.key) × (d.delta ≡ e.delta)
 
 -- both of an event; and on a device that keeps, no address is used twice
 pub record IsPreserved {K V I : Type 0} (keeps : Bool) (cmp : K → K → Ordering) (join : V → V → V) (code : K → ℕ)

@@ -307,12 +307,14 @@ pub ready-by : {K V : Type 0} {keeps : Bool} (cmp : K → K → Ordering) (join 
     → (IsTrue keeps → word_at v.words kept.place ≡ kept.word → value_of (newest cmp v.text e.key (address_of kept.word)) ≡ onto join e.value parts)
     → (IsTrue keeps → word_at v.words kept.place ≡ kept.word → IsStill v.regions.offsets.safe_read_only (newest cmp v.text e.key (address_of kept.word)))
     → (IsTrue keeps → address_of kept.word < 64 → ⊥)
+    → (IsTrue keeps → (d : Entry K V) → IsIn v.entries d → has_key cmp e.key d ≡ true → place < d.address → d.address ≤ address_of kept.word → d.delta ≡ true)
     → IsReady keeps cmp join code v place (renewed join e parts) kept
-ready-by cmp join code order v t place e parts kept here some entry low is value still nowhere = record {
+ready-by cmp join code order v t place e parts kept here some entry low is value still nowhere between = record {
   here = here;
   some = onto-some join e.value parts some;
   is_kept = record { entry = entry; low = low; value = value; still = still; nowhere = λ yes_keeps none. absurd (nowhere yes_keeps none) };
   own = λ yes_keeps d there. (let both : Some e ≡ Some d = sym (is yes_keeps) ∙ there in let same : e ≡ d = cc in ap (λ (x : Entry _ _). x.key) (sym same));
+  between = between;
 }
 
 -- ---- in memory, from the entry of the record's class
@@ -457,6 +459,7 @@ module _ {K V I : Type 0} {keeps : Bool} (cmp : K → K → Ordering) (join : V 
           (λ yes_keeps holds. ready-value yes_keeps (clear yes_keeps))
           (λ yes_keeps holds. still-text v.records.regions.offsets.safe_read_only (way-still cmp join code v.records e.key (above v slot place) v.records.regions.offsets.safe_read_only (address_of kept.word) None came way ends.1.0 ends.1.1 (let down = ends.1.2 in omega (arith, down, frozen))))
           (λ yes_keeps none. let least = s.traced.first in let low = under yes_keeps in omega (arith, least, low, high, none))
+          (λ yes_keeps d m own above low. deltas d m own low (subst (λ n. n < d.address) (sym (ap at_of ends.1.1 ∙ lands-here yes_keeps)) above))
 
     -- the way goes on, in a page on disk above the place
     module _ (b : ℕ) (parts : Option V) (high : v.records.begin ≤ place) (j : liveness place came ≡ Further b parts) where

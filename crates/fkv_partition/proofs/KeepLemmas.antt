@@ -3,6 +3,7 @@ use Rattle.std.proofs.Common.{◌≡◌, ◌≢◌, Bool, true, false, ℕ, ◌+
 use Rattle.std.proofs.lemmas.List.{length-set}
 use Rattle.std.proofs.lemmas.Bool.{cases_lt, cases_eq, eqb-true}
 use Rattle.std.proofs.lemmas.Bool.Decides.{nat_tests}
+use Rattle.std.specs.BTreeMap.{is_at}
 use Rattle.std.specs.declared.cmp.Ordering.{Ordering}
 use Rattle.fkv_records.specs.Places.{IsShape, IsRecordStart, first}
 use Rattle.fkv_regions.specs.Agree.{IsMark}
@@ -10,6 +11,7 @@ use Rattle.fkv_regions.proofs.MoveLemmas.{mark-place}
 use Rattle.fkv_pages.specs.Views.{text_begin}
 use Rattle.fkv_texts.specs.declared.entries.Entry.{Entry}
 use Rattle.fkv_texts.specs.Places.{tail_after, IsLaidOut}
+use Rattle.fkv_texts.specs.Text.{has_key}
 use Rattle.fkv_texts.proofs.LastWhere.{last_where-in, last_where-found}
 use Rattle.fkv_texts.proofs.PlaceLemmas.{after, after-nearest}
 use Rattle.fkv_texts.specs.Deltas.{IsCleared}
@@ -96,6 +98,11 @@ module _ {K V I : Type 0} (keeps : Bool) (cmp : K → K → Ordering) (join : V 
         let at = eqb-true d.address place (last_where-found (λ x. x.address == place) new.records.entries d there) in
         let low = (traced-raw t st).from m.place d m.here in
         h.own yes_keeps d (sym (b.grown.stay place (omega arith) frozen) ∙ there);
+    between = λ yes_keeps d m key above under.
+        let low = h.is_kept.low in
+        let was = b.grown.were d m (omega (arith, low, under)) in
+        let own : has_key cmp entry.key was.0 ≡ true = ap (λ q. is_at (cmp q) entry.key) was.3 ∙ key in
+        sym was.4 ∙ h.between yes_keeps was.0 was.1 own (let at = was.2 in omega (arith, at, above)) (let at = was.2 in omega (arith, at, under));
   }
 
   -- a relocation stands for what it stood for

@@ -206,7 +206,8 @@ module _ {K V I : Type 0} {keeps : Bool} (cmp : K → K → Ordering) (join : V 
             let least = sound.traced.first in
             let low : v.core.records.from ≤ e.address = (traced-raw sound.traced sound.stood).from st.0.place e st.0.here in
             let up = tracing.led yes_keeps in
-            omega (arith, st.1, from, least, low, up, none)),
+            omega (arith, st.1, from, least, low, up, none))
+            (λ yes_keeps d m own above low. led-deltas yes_keeps r is d m own (subst (λ n. n < d.address) (sym (ap at_of (ends-here yes_keeps).1)) above) low),
       )
 
     -- the way goes on above the place, in a lower page

@@ -1,10 +1,11 @@
 -- What an open relocation stands for.
-use Rattle.std.specs.Prelude.{◌≡◌, ◌<◌, ◌≤◌, ℕ, Bool, IsTrue, IsSome, Some}
+use Rattle.std.specs.Prelude.{◌≡◌, ◌<◌, ◌≤◌, ℕ, Bool, true, IsTrue, IsSome, Some}
 use Rattle.std.specs.declared.cmp.Ordering.{Ordering}
 use Rattle.fkv_records.specs.Places.{IsRecordStart}
 use Rattle.fkv_index.specs.Words.{address_of}
 use Rattle.fkv_texts.specs.declared.entries.Entry.{Entry}
-use Rattle.fkv_texts.specs.Text.{entry_at}
+use Rattle.fkv_texts.specs.Text.{entry_at, has_key}
+use Rattle.fkv_texts.specs.Chains.{IsIn}
 use Rattle.fkv_lookups.specs.RecordsViews.{RecordsView}
 use Rattle.fkv_operations.specs.declared.entries.IndexEntry.{IndexEntry}
 use Rattle.fkv_core.specs.declared.contexts.Loading.{Loading}
@@ -33,14 +34,22 @@ pub record IsTracing {K V : Type 0} (keeps : Bool) (cmp : K → K → Ordering) 
   pub loading : IsLoading keeps cmp join code r entry.key l
   pub is : IsTrue keeps → l.begin ≡ r.begin → entry_at r.entries place ≡ Some entry
 
--- this record is to be appended. On a device that keeps, its key has its value while the entry stands as it was kept, and the
--- record of the place has that key
+-- this record is to be appended. On a device that keeps, its key has its value while the entry stands as it was kept, the
+-- record of the place has that key, and of the key's records only deltas stand after the place, up to where the kept entry
+-- leads: to the last of them, while it stands
 pub record IsReady {K V : Type 0} (keeps : Bool) (cmp : K → K → Ordering) (join : V → V → V) (code : K → ℕ) (r : RecordsView K V)
     (place : ℕ) (entry : Entry K V) (kept : IndexEntry) : Type 0 where
   pub here : entry.address ≡ place
   pub some : IsSome entry.value
   pub is_kept : IsKept keeps cmp code r entry.key kept entry.value
   pub own : IsTrue keeps → (d : Entry K V) → entry_at r.entries place ≡ Some d → d.key ≡ entry.key
+  pub between : IsTrue keeps
+      → (d : Entry K V)
+      → IsIn r.entries d
+      → has_key cmp entry.key d ≡ true
+      → place < d.address
+      → d.address ≤ address_of kept.word
+      → d.delta ≡ true
 
 abbrev pub StageStands : {K V I : Type 0} → Bool → (K → K → Ordering) → (V → V → V) → (K → ℕ) → CoreView K V I → ℕ → Stage K V
     → Type 0

@@ -1,8 +1,11 @@
 //! What holds of the contexts of every partition. Each law is what a function without a body ensures.
-ghost use Rattle.std.specs.Prelude.{◌≡◌, ◌<◌, ℕ, Bool, Some, None, Ok};
+ghost use Rattle.std.specs.Prelude.{◌≡◌, ◌<◌, ℕ, Bool, Some, None, Result, Ok, Err};
 ghost use Rattle.std.specs.declared.cmp.Ordering.{Ordering};
 ghost use Rattle.fkv_functions.specs.Meanings.{Meanings};
-ghost use Rattle.fkv_device.specs.Standing.{Standing};
+ghost use Rattle.fkv_functions.specs.declared.asks.Ask.{Ask};
+ghost use Rattle.fkv_functions.specs.declared.refusals.Refused.{Refused};
+ghost use Rattle.fkv_device.specs.Standing.{Standing, Joined};
+ghost use Rattle.fkv_pages.specs.Spelled.{IsEntryIn};
 ghost use Rattle.fkv_operations.specs.declared.operations.Op.TheVariants.{Merge, Relocate};
 ghost use Rattle.fkv_core.specs.Asking.{AsksNothing};
 ghost use Rattle.fkv_core.specs.Sound.{IsSound};
@@ -10,11 +13,13 @@ ghost use Rattle.fkv_core.specs.declared.contexts.Progress.{Progress};
 ghost use Rattle.fkv_core.specs.Pending.{pending};
 ghost use Rattle.fkv_partition.specs.declared.relocations.Relocation.{Relocation};
 ghost use Rattle.fkv_partition.specs.Effect.{Asked, asked};
-ghost use Rattle.fkv_partition.specs.Events.{Goes};
+ghost use Rattle.fkv_partition.specs.Events.{Goes, Installs, Loads};
 ghost use Rattle.fkv_partition.specs.Sound.{IsCompacting};
 ghost use Rattle.fkv_partition.specs.Views.{PartitionView, relocation_at};
 
-use fkv_core::laws::merges_ask_nothing;
+use fkv_core::laws::{merges_ask_nothing, merges_take_no_page};
+use fkv_device::Receipt;
+use fkv_functions::Mergeable;
 
 /// A context in which nothing is open waits for no page, and a session has eight contexts.
 pub fn contexts_tell<K, V, I>()
@@ -27,15 +32,37 @@ pub fn contexts_tell<K, V, I>()
         → (asked v slot c ≡ Some (record { number = x.number; op = Relocate })) × (pending cmp v.core slot c ≡ None) }
 {}
 
-/// A merge asks for nothing as it goes on: neither for a page, nor for a built value, nor that sessions with an older view are
-/// refreshed. So it is never to be installed or loaded.
+/// No event of a merge asks for a page, for a built value, or that sessions with an older view are refreshed. As it goes on it
+/// tells none of these; and it takes no built value.
 pub fn merges_go_on<K, V, I, O, R>()
-    ensures { (keeps : Bool) (stands : R → Standing) (cmp : K → K → Ordering) (join : V → V → V) (f : Meanings K V I O) (code : K → ℕ)
+    ensures goes { (keeps : Bool) (stands : R → Standing) (cmp : K → K → Ordering) (join : V → V → V) (f : Meanings K V I O) (code : K → ℕ)
         (old new : PartitionView K V I) (slot c now : ℕ) (x : Asked K V I) (k : K) (i : I) (progress : Progress K V I O R)
         → IsSound keeps cmp join code old.core → IsCompacting keeps cmp join code old
         → asked old slot c ≡ Some x → x.op ≡ Merge k i
         → Goes stands cmp join f code old new slot c now (Ok progress)
         → AsksNothing progress }
+    ensures installs { (keeps : Bool) (cmp : K → K → Ordering) (join : V → V → V) (f : Meanings K V I O) (code : K → ℕ)
+        (old new : PartitionView K V I) (slot c : ℕ) (ask : Ask K V I) (now : ℕ) (x : Asked K V I) (k : K) (i : I)
+        (result : Result (Progress K V I O R) Refused)
+        → IsSound keeps cmp join code old.core → IsCompacting keeps cmp join code old
+        → asked old slot c ≡ Some x → x.op ≡ Merge k i
+        → Installs cmp f code old new slot c ask now result
+        → result ≡ Err Refused.NotReady }
 {
     merges_ask_nothing::<K, V, I, O, R>();
+}
+
+/// And it takes no page.
+pub fn merges_load_nothing<F: Mergeable, R: Receipt>()
+    ensures { (keeps : Bool) (join : F.Value → F.Value → F.Value) (code : F.Key → ℕ)
+        (old new : PartitionView F.Key F.Value F.Input) (slot c : ℕ) (came : Result (Joined R) Refused) (now : ℕ)
+        (x : Asked F.Key F.Value F.Input) (k : F.Key) (i : F.Input)
+        (result : Result (Progress F.Key F.Value F.Input F.Output R) Refused)
+        → IsSound keeps F.Key.cmp join code old.core → IsCompacting keeps F.Key.cmp join code old
+        → asked old slot c ≡ Some x → x.op ≡ Merge k i
+        → Loads R.stands (IsEntryIn F.Key.bytes_of F.Value.bytes_of F.Key.is_known F.Value.is_known
+        F.Key.SIZE F.Value.SIZE) F.Key.cmp join F.meaning code old new slot c came now result
+        → result ≡ Err Refused.NotReady }
+{
+    merges_take_no_page::<F, R>();
 }

@@ -7,9 +7,10 @@
 //!
 //! A relocation is an operation without a key. It takes the lowest address that is not cleared; the record there is read, in
 //! memory or from the device, and the chain of its key's class is followed from the entry of the class down to it. Where a
-//! newer record of the key is met, or the record is a tombstone, the address is cleared as it is; else the record is
-//! appended again, while the entry stands as it was found, and its address is cleared in the same event. So each record
-//! below what is cleared is superseded, and a truncation up to there leaves the live map.
+//! newer record of the key that is no delta is met, or the record is a tombstone, the address is cleared as it is; else the
+//! record is appended again, joined with the parts of the key's deltas above, while the entry stands as it was found, and its
+//! address is cleared in the same event. So each record below what is cleared is superseded, by a later one that is no delta
+//! or since it is a tombstone, and a truncation up to there leaves the live map.
 #![tactic(auto)]
 
 mod checking;

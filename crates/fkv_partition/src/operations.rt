@@ -56,7 +56,9 @@ impl<F: Mergeable, R: Receipt> Partition<F, R> {
     /// of a key without a value. A write of a class without an entry makes a tentative one and answers `Next`; the next
     /// call confirms it, or takes it back where another entry of its tag stands in the bucket, and answers `Next` too.
     /// Where there is an entry, the region of the key's last record by the session's view decides. A mutable value is
-    /// changed where it stands, by an upsert, an update, a merge or a delete, which is finished. Else a merge appends its
+    /// changed where it stands, by an upsert, an update, a merge or a delete, which is finished; an update that the functions
+    /// decline is finished with the answer `Declined`, and changes nothing. A delta is never changed where it stands: the
+    /// parts of a key's deltas are joined on the way, down to a record that is none. Else a merge appends its
     /// part as a delta, whatever the key has, and is finished; an upsert, and a delete of a value, append a record and are
     /// finished; and an update keeps the entry and the key's value and asks for the new one,
     /// the same again until it is installed, but over a fuzzy value it answers `Waits`. Where the records of the key's
@@ -64,9 +66,10 @@ impl<F: Mergeable, R: Receipt> Partition<F, R> {
     /// to be appended and there is no room, the answer is `Waits` too.
     ///
     /// A relocation is finished where its target was cleared meanwhile. Else the record there is read in memory, or its
-    /// page is asked for. Where the record is superseded, its target is cleared as it is; where that is to be read from the
-    /// device, a page is asked for; else the record is appended again and its target is cleared. Where there is no room for
-    /// it the answer is `Waits`, and the next call tries this last part again.
+    /// page is asked for. Where the record is a tombstone, or a newer one of its key that is no delta is met, its target is
+    /// cleared as it is; where that is to be read from the device, a page is asked for; else the record is appended again,
+    /// joined with the parts of the key's deltas above, and its target is cleared. Where there is no room for it the answer is
+    /// `Waits`, and the next call tries this last part again.
     ///
     /// Refused, in this order, and then nothing changes: `Unknown` where nothing is open there; `NotReady` where it waits
     /// for a page; `Worn` where a record is to be appended and no address is left; `NoMemory` where an entry is to be made
@@ -106,8 +109,9 @@ impl<F: Mergeable, R: Receipt> Partition<F, R> {
     }
 
     /// Installs the value that was built for an update. Where the entry is as it was kept, the value is appended and the
-    /// update is finished; where it has moved, the update is to look again, with the answer `Next`; where there is no room,
-    /// the answer is `Waits`. Refused, in this order, and then nothing changes: `Unknown` where nothing is open there;
+    /// update is finished; where the functions declined it, it is finished with the answer `Declined`, and nothing is
+    /// appended; where the entry has moved, the update is to look again, with the answer `Next`; where there is no room for
+    /// the value, the answer is `Waits`. Refused, in this order, and then nothing changes: `Unknown` where nothing is open there;
     /// `NotReady` where it asks for nothing to be built, as no relocation does; `Stranger` where the value was built for
     /// another question; `Worn` where no address is left.
     pub fn install(
@@ -141,11 +145,12 @@ impl<F: Mergeable, R: Receipt> Partition<F, R> {
     /// its place.
     ///
     /// Where Begin has moved since it asked it is to look again, whatever came, and the answer is `Next`. Else the records
-    /// of the page are followed along the class's chain. For an operation on a key: where the key's newest record stands
-    /// there, or the chain ends below Begin, a read is finished, its effect being at its look-up, and an update asks for its
-    /// new value; where the chain goes on in another page, that one is asked for. For a relocation: where a newer record of
-    /// the key is met its target is cleared as it is, where the chain goes on above the target another page is asked for,
-    /// and else the record is appended again, unless the entry has moved, and the target is cleared.
+    /// of the page are followed along the class's chain, and the parts of the key's deltas are joined. For an operation on a
+    /// key: where a record of the key that is no delta stands there, or the chain ends below Begin, a read is finished, its
+    /// effect being at its look-up, and an update asks for its new value; where the chain goes on in another page, that one is
+    /// asked for. For a relocation: where a newer record of the key that is no delta is met its target is cleared as it is,
+    /// where the chain goes on above the target another page is asked for, and else the record is appended again, joined with
+    /// those parts, unless the entry has moved, and the target is cleared.
     ///
     /// Refused, in this order: `Unknown` where nothing is open there; `NotReady` where it waits for no page; what came in
     /// place of the page, which ends it without effect unless it is `NoMemory`; `Stranger` where the page was read by

@@ -111,8 +111,8 @@ impl<F: Mergeable, R: Receipt> Partition<F, R> {
         self.core.merges()
     }
 
-    /// Where the records begin that are not cleared: on a device that keeps, each record below is a tombstone, or not the
-    /// last of its key.
+    /// Where the records begin that are not cleared: on a device that keeps, each record below is a tombstone, or a later
+    /// record of its key stands above it that is no delta.
     pub fn cleared(&self) -> Address
         ensures { result ≡ self.now.cleared }
     {

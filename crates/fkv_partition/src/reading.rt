@@ -21,9 +21,9 @@ impl<F: Mergeable, R: Receipt> Partition<F, R> {
     /// Goes on with a relocation that waits for a page, with that page as a device gave it, or with the refusal that came in
     /// its place. Where Begin has moved since it asked it is to begin anew, whatever came, and the answer is `Next`. Else
     /// the page of its target gives its record, whose liveness is checked, and a page on the chain from the entry is followed
-    /// down to the target: where a newer record of the key is met the target is cleared as it is, where the chain goes on
-    /// above the target another page is asked for, and else the record is appended again, unless the entry has moved, and
-    /// the target is cleared. Refused, in this order: `Unknown` where no relocation is open there; `NotReady` where it waits
+    /// down to the target: where a newer record of the key that is no delta is met the target is cleared as it is, where the
+    /// chain goes on above the target another page is asked for, and else the record is appended again, joined with the parts
+    /// of the key's deltas above, unless the entry has moved, and the target is cleared. Refused, in this order: `Unknown` where no relocation is open there; `NotReady` where it waits
     /// for no page; what came in place of the page, which ends the relocation without effect unless it is `NoMemory`;
     /// `Stranger` where the page was read by another receipt than the one that is kept of it; `Damaged` where its bytes
     /// spell no record at the target, or on the chain, or lead to no place, which ends the relocation too; `Worn`;

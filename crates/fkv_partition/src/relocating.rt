@@ -21,9 +21,9 @@ use fkv_records::Address;
 impl<F: Mergeable, R: Receipt> Partition<F, R> {
     /// Goes on with a relocation. Where its target was cleared meanwhile it is finished. Else the record there is read in
     /// memory, or its page is asked for. Where the record is a tombstone, or its class has no entry, or a newer record of its
-    /// key is met, its target is cleared as it is; where the chain from the entry of its class goes on, above its target,
-    /// below what the session reads in memory, a page is asked for; else the record is appended again and its target is
-    /// cleared. Where there is no room for it the answer is `Waits`, and the next call tries this last part again, which
+    /// key that is no delta is met, its target is cleared as it is; where the chain from the entry of its class goes on, above
+    /// its target, below what the session reads in memory, a page is asked for; else the record is appended again, joined with
+    /// the parts of the key's deltas above, and its target is cleared. Where there is no room for it the answer is `Waits`, and the next call tries this last part again, which
     /// begins anew, with the answer `Next`, where the entry has moved. Refused, in this order, and then nothing changes:
     /// `Unknown` where no relocation is open there; `NotReady` where it waits for a page; `Worn` where the record is to be
     /// appended and no address is left; `NoMemory` where the receipt of a page can't be shared.

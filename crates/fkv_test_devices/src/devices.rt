@@ -14,6 +14,7 @@ const NEVER: u64 = 1 << 60;
 /// A writer that fails once, after so many pages.
 #[derive(Drop)]
 pub struct UnsureWriter {
+    partition: u64,
     next: u64,
     pub left: u64,
     failures: Failures,
@@ -25,6 +26,8 @@ impl PageWriter for UnsureWriter {
     ghost failures = { λ w. w.failures };
 
     ghost next = { λ w. w.next };
+
+    ghost part = { λ w. w.partition };
 
     ghost can_fail = { λ _. Unit {0} };
 
@@ -67,6 +70,7 @@ pub enum Turn {
 #[derive(Drop)]
 pub struct UnsureReader {
     alloc: Global,
+    partition: u64,
     pub left: u64,
     pub turn: Turn,
     /// The page that it gave before.
@@ -130,6 +134,8 @@ impl PageReader for UnsureReader {
 
     ghost failures = { λ r. r.failures };
 
+    ghost part = { λ r. r.partition };
+
     ghost can_fail = { λ _ _. Unit {0} };
 
     fn read(&mut self, receipt: &UnsureReceipt, size: usize) -> Result<Page, Refused> {
@@ -177,8 +183,9 @@ impl Disk for UnsureDevice {
     ghost failures = { λ _. 0 };
 
     /// A writer, which is never refused.
-    fn writer(&mut self, _partition: u64) -> Result<UnsureWriter, Refused> {
+    fn writer(&mut self, partition: u64) -> Result<UnsureWriter, Refused> {
         Ok(UnsureWriter {
+            partition,
             next: 0,
             left: self.writes,
             failures: Failures::new(self.alloc),
@@ -186,9 +193,10 @@ impl Disk for UnsureDevice {
     }
 
     /// A reader, which is never refused.
-    fn reader(&mut self, _partition: u64) -> Result<UnsureReader, Refused> {
+    fn reader(&mut self, partition: u64) -> Result<UnsureReader, Refused> {
         Ok(UnsureReader {
             alloc: self.alloc,
+            partition,
             left: self.reads,
             turn: self.turn,
             last: None,

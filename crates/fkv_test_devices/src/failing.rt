@@ -27,6 +27,11 @@ impl Fault {
         }
     }
 
+    /// Has the next call fail.
+    pub fn come(&self) {
+        self.left.store(0, Ordering::SeqCst);
+    }
+
     /// Counts a call, and says whether it is the one that fails. From then on calls are counted down from 2^64 - 1.
     fn comes(&self, code: u8, page: u64) -> bool {
         if self.left.fetch_sub(1, Ordering::SeqCst) != 0 {
@@ -64,6 +69,8 @@ impl<'a, W: PageWriter> PageWriter for FailingWriter<'a, W> {
 
     ghost next = { λ w. W.next w.writer };
 
+    ghost part = { λ w. W.part w.writer };
+
     ghost can_fail = { λ _. Unit {0} };
 
     fn write(&mut self, page: u64, bytes: &Page) -> Result<W::Receipt, Refused> {
@@ -86,6 +93,8 @@ impl<'a, P: PageReader> PageReader for FailingReader<'a, P> {
     type Receipt = P::Receipt;
 
     ghost failures = { λ r. r.failures + P.failures r.reader };
+
+    ghost part = { λ r. P.part r.reader };
 
     ghost can_fail = { λ _ _. Unit {0} };
 

@@ -59,17 +59,24 @@ fn readers_that_fail(rt: HostRuntime) {
     assert!(rt; memory == Some(Refused::NoMemory));
 }
 
-const TABLE: &str = "a,5\nb,2\nc,3\n";
+/// Feeds, how many of them are read, and their table.
+type Tabled = ([&'static str; 2], usize, &'static str);
 
-/// What writing the table of the first two feeds is refused by, and the bytes that a writer of so much room took.
-fn written(alloc: Global, room: usize) -> (Result<(), Refused>, Vec<u8>) {
+const TWO_FEEDS: Tabled = (["a,1\nb,2\n", "c,3\na,4\n"], 2, "a,5\nb,2\nc,3\n");
+
+const ONE_FEED: Tabled = (["a,5\nb,7\na,-2\n", ""], 1, "a,3\nb,7\n");
+
+/// What writing the table of feeds is refused by, and the bytes that a writer of so much room took.
+fn written(alloc: Global, tabled: &Tabled, room: usize) -> (Result<(), Refused>, Vec<u8>) {
+    let (feeds, count, _table) = tabled;
     let mut writer = Filling::with_room(alloc, 2, room);
     let mut readers = [
-        CountedReader::new(FEEDS[0].as_bytes()),
-        CountedReader::new(FEEDS[1].as_bytes()),
+        CountedReader::new(feeds[0].as_bytes()),
+        CountedReader::new(feeds[1].as_bytes()),
     ];
+    let (read, _rest) = readers.split_at_mut((*count).min(2));
     let device = MemoryDevice::new(alloc);
-    let told = match run_one(alloc, readers.as_mut_slice(), &SumFns, &CONFIG, device) {
+    let told = match run_one(alloc, read, &SumFns, &CONFIG, device) {
         Ok(run) => write_table(alloc, &run.table, &mut CountedWriter::new(&mut writer)),
         Err(refused) => Err(refused),
     };
@@ -79,34 +86,38 @@ fn written(alloc: Global, room: usize) -> (Result<(), Refused>, Vec<u8>) {
 /// A writer takes the table's front, and that is told where it is not all.
 #[test]
 fn writers_that_fail(rt: HostRuntime) {
+    let (_feeds, _count, table) = TWO_FEEDS;
     for room in 0..16usize {
-        let (told, text) = written(rt.alloc(), room);
-        let wanted = if room < TABLE.len() {
+        let (told, text) = written(rt.alloc(), &TWO_FEEDS, room);
+        let wanted = if room < table.len() {
             Err(Refused::Unwritable)
         } else {
             Ok(())
         };
-        let front = TABLE.as_bytes().get(..room.min(TABLE.len()));
+        let front = table.as_bytes().get(..room.min(table.len()));
         assert!(rt; told == wanted && front == Some(text.as_slice()), "{room}");
     }
 }
 
 /// Whether the table is written, made again where memory was refused once, before which nothing was written.
-fn is_made(alloc: Global) -> bool {
-    let (told, text) = written(alloc, 1_000);
+fn is_made(alloc: Global, tabled: &Tabled) -> bool {
+    let (_feeds, _count, table) = tabled;
+    let (told, text) = written(alloc, tabled, 1_000);
     match told {
         Err(Refused::NoMemory) => {
-            let (again, more) = written(alloc, 1_000);
-            text.is_empty() && again == Ok(()) && more.as_slice() == TABLE.as_bytes()
+            let (again, more) = written(alloc, tabled, 1_000);
+            text.is_empty() && again == Ok(()) && more.as_slice() == table.as_bytes()
         }
         // a writer that takes memory may itself be the one that is refused
-        Err(Refused::Unwritable) => TABLE.as_bytes().starts_with(text.as_slice()),
-        told => told == Ok(()) && text.as_slice() == TABLE.as_bytes(),
+        Err(Refused::Unwritable) => table.as_bytes().starts_with(text.as_slice()),
+        told => told == Ok(()) && text.as_slice() == table.as_bytes(),
     }
 }
 
 /// Run also with each allocation refused in turn, by `rt try --test --fail-alloc N`.
 #[test]
 fn refused_growths_are_made_again(rt: HostRuntime) {
-    assert!(rt; is_made(rt.alloc()));
+    for tabled in [&TWO_FEEDS, &ONE_FEED] {
+        assert!(rt; is_made(rt.alloc(), tabled));
+    }
 }

@@ -60,7 +60,7 @@ fn written(
     alloc: Global,
     left: u64,
 ) -> (Result<FileReceipt, Refused>, Result<FileReceipt, Refused>) {
-    let mut writer = FileWriter::at(alloc, Faulty { left }, 6, 0);
+    let mut writer = FileWriter::at(alloc, 0, Faulty { left }, 6, 0);
     let first = receipt_of(alloc, &mut writer, 0, &[7u8; 64]);
     (first, receipt_of(alloc, &mut writer, 1, &[7u8; 64]))
 }
@@ -72,7 +72,7 @@ fn read(
     first: &FileReceipt,
     second: &FileReceipt,
 ) -> (Option<Refused>, Option<Refused>) {
-    let mut reader = FileReader::new(alloc, Faulty { left }, 6);
+    let mut reader = FileReader::new(alloc, 0, Faulty { left }, 6);
     let one = reader.read(first, 64).err();
     (one, reader.read(second, 64).err())
 }
@@ -119,11 +119,11 @@ fn numbers<W: PageWriter>(alloc: Global, writer: &mut W, page: u64) -> [Result<u
 fn numbers_are_used_up(rt: HostRuntime) {
     let fault = Err(Refused::Device { code: 2, page: 6 });
     let last = [Ok(u64::MAX - 1), fault, fault];
-    let mut memory = MemoryWriter::at(rt.alloc(), u64::MAX - 1);
+    let mut memory = MemoryWriter::at(rt.alloc(), 0, u64::MAX - 1);
     assert!(rt; numbers(rt.alloc(), &mut memory, 6) == last);
-    let mut file = FileWriter::at(rt.alloc(), Faulty { left: 100 }, 6, u64::MAX - 1);
+    let mut file = FileWriter::at(rt.alloc(), 0, Faulty { left: 100 }, 6, u64::MAX - 1);
     assert!(rt; numbers(rt.alloc(), &mut file, 6) == last);
-    let mut exhausted = FileWriter::at(rt.alloc(), Faulty { left: 100 }, 6, u64::MAX);
+    let mut exhausted = FileWriter::at(rt.alloc(), 0, Faulty { left: 100 }, 6, u64::MAX);
     assert!(rt; numbers(rt.alloc(), &mut exhausted, 6) == [fault; 3]);
 }
 
@@ -133,7 +133,7 @@ fn a_file_that_is_open_to_be_read_alone(rt: HostRuntime) -> Result<(), Fail> {
     let mut disk = FileDevice::new(rt.clone()?, rt.alloc(), folder, 6);
     let _writer = disk.writer(0)?;
     let file = File::open(&rt, "device_files/alone/part-00.log")?;
-    let mut writer = FileWriter::at(rt.alloc(), file, 6, 0);
+    let mut writer = FileWriter::at(rt.alloc(), 0, file, 6, 0);
     let fault = Err(Refused::Device { code: 2, page: 8 });
     assert!(rt; numbers(rt.alloc(), &mut writer, 8) == [fault; 3]);
     fs::remove_dir_all(&rt, "device_files/alone")?;

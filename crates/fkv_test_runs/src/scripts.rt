@@ -257,7 +257,6 @@ flush 0 ok
 head 0 1
 refresh 0 0
 refresh 0 1
-do 0 1 upsert b 7
 read 0 0 a
 ready 0 0 0
 compact 0 1
@@ -265,9 +264,9 @@ compact 0 1
 compact 0 1
 compact 0 1
 truncate 0
+truncate 0
 load 0 0 0 ok
 finish 0 0 0
-do 0 0 read b
 ";
 
 const FULL: &str = "store sum 0 8 8 2

@@ -6,6 +6,7 @@ use fkv_operations::{Answer, KeyedOp};
 use fkv_partition::Config;
 use fkv_store::{Gate, Open, Pass, Place, Store};
 use std::alloc::Global;
+use std::rt::Clock;
 use std::sync::Wait;
 use std::sync::atomic::{AtomicU64, Ordering};
 use std::test::Fail;
@@ -109,7 +110,7 @@ fn asked(call: Call) -> Option<(usize, KeyedOp<Name, i128, i64>)> {
 impl<D: Disk, H: Recorder<SumFns>> Called<D, H> {
     /// A store of this configuration over a device, with nothing in it, and two passes, whose numbers are 0 and 1.
     pub fn new(
-        rt: &impl Wait,
+        rt: &(impl Wait + Clock),
         alloc: Global,
         config: &Config,
         device: D,
@@ -126,7 +127,7 @@ impl<D: Disk, H: Recorder<SumFns>> Called<D, H> {
         })
     }
 
-    fn told(&mut self, rt: &impl Wait, alloc: Global, call: Call) -> Told {
+    fn told(&mut self, rt: &(impl Wait + Clock), alloc: Global, call: Call) -> Told {
         if let Some(asked) = asked(call) {
             let (pass, op) = asked;
             if pass >= self.passes.len() {
@@ -165,7 +166,12 @@ impl<D: Disk, H: Recorder<SumFns>> Called<D, H> {
     }
 
     /// The number of the first row that tells something else.
-    pub fn first_other(&mut self, rt: &impl Wait, alloc: Global, rows: &[Row]) -> Option<usize> {
+    pub fn first_other(
+        &mut self,
+        rt: &(impl Wait + Clock),
+        alloc: Global,
+        rows: &[Row],
+    ) -> Option<usize> {
         rows.iter()
             .position(|row| self.told(rt, alloc, row.0) != row.1)
     }

@@ -35,27 +35,30 @@ const DAMAGED: [Row; 4] = [
     (Call::Read(0, b'a'), Told::Done(Answer::Value(7))),
 ];
 
+/// Each byte of page 0 in turn, each time in a new store.
 #[test]
 fn file_damage(rt: HostRuntime) -> Result<(), Fail> {
     let alloc = rt.alloc();
-    let folder = String::from_str(alloc, "shared_files")?;
-    let device = FileDevice::new(rt.clone()?, alloc, folder, 8);
-    let mut called = Called::<_, Audited<SumFns>>::new(&rt, alloc, &SMALL, device)?;
-    let wrong = called.first_other(&rt, alloc, &EVICTED);
-    assert!(rt; wrong == None, "row {wrong:?}");
-    let mut how = OpenOptions::new();
-    let mut file = how
-        .read(true)
-        .write(true)
-        .open(&rt, "shared_files/part-00.log")?;
-    let mut byte = [0u8; 1];
-    file.seek(SeekFrom::Start(70))?;
-    file.read_exact(&mut byte)?;
-    byte[0] = byte[0].wrapping_add(1);
-    file.seek(SeekFrom::Start(70))?;
-    file.write_all(&byte)?;
-    let wrong = called.first_other(&rt, alloc, &DAMAGED);
-    assert!(rt; wrong == None, "row {wrong:?}");
+    for offset in 0..256u64 {
+        let folder = String::from_str(alloc, "shared_files")?;
+        let device = FileDevice::new(rt.clone()?, alloc, folder, 8);
+        let mut called = Called::<_, Audited<SumFns>>::new(&rt, alloc, &SMALL, device)?;
+        let wrong = called.first_other(&rt, alloc, &EVICTED);
+        assert!(rt; wrong == None, "byte {offset}, row {wrong:?}");
+        let mut how = OpenOptions::new();
+        let mut file = how
+            .read(true)
+            .write(true)
+            .open(&rt, "shared_files/part-00.log")?;
+        let mut byte = [0u8; 1];
+        file.seek(SeekFrom::Start(offset))?;
+        file.read_exact(&mut byte)?;
+        byte[0] = byte[0].wrapping_add(1);
+        file.seek(SeekFrom::Start(offset))?;
+        file.write_all(&byte)?;
+        let wrong = called.first_other(&rt, alloc, &DAMAGED);
+        assert!(rt; wrong == None, "byte {offset}, row {wrong:?}");
+    }
     fs::remove_dir_all(&rt, "shared_files")?;
     Ok(())
 }

@@ -8,6 +8,7 @@ use fkv_partition::Config;
 use fkv_store::Store;
 use fkv_test_devices::{FailingDevice, Fault, UnsureDevice};
 use std::alloc::Global;
+use std::rt::Clock;
 use std::sync::Wait;
 use std::test::Fail;
 
@@ -55,7 +56,7 @@ fn read_fails() -> [Row; 9] {
 
 /// The number of the first row that tells something else, where the device fails after so many pages.
 fn first_other<H: Recorder<SumFns>>(
-    rt: &impl Wait,
+    rt: &(impl Wait + Clock),
     alloc: Global,
     writes: u64,
     reads: u64,
@@ -88,7 +89,7 @@ fn a_read_that_fails(rt: HostRuntime) -> Result<(), Fail> {
 
 /// A page that can't be read at the end, to which so many of two passes come: the store and its passes are gone.
 fn closed<H: Recorder<SumFns>>(
-    rt: &impl Wait,
+    rt: &(impl Wait + Clock),
     alloc: Global,
     passes: usize,
 ) -> Result<Result<(Option<i128>, usize, u64), Refused>, Fail> {
@@ -114,7 +115,7 @@ fn a_read_that_fails_at_the_end(rt: HostRuntime) -> Result<(), Fail> {
 
 /// What the end of a store over a device refuses, with a pass of its own.
 fn refused_at_end<H: Recorder<SumFns>, D: Disk>(
-    rt: &impl Wait,
+    rt: &(impl Wait + Clock),
     alloc: Global,
     device: D,
 ) -> Result<Option<Refused>, Fail> {
@@ -126,7 +127,7 @@ fn refused_at_end<H: Recorder<SumFns>, D: Disk>(
 
 /// The same with a pass of another store, over the second device.
 fn strange_at_end<H: Recorder<SumFns>, D: Disk>(
-    rt: &impl Wait,
+    rt: &(impl Wait + Clock),
     alloc: Global,
     device: D,
     second: D,
@@ -141,7 +142,7 @@ fn strange_at_end<H: Recorder<SumFns>, D: Disk>(
 
 /// What both refuse where the devices open no more pages by then.
 fn unopened<H: Recorder<SumFns>>(
-    rt: &impl Wait,
+    rt: &(impl Wait + Clock),
     alloc: Global,
 ) -> Result<[Option<Refused>; 2], Fail> {
     let fault = Fault::after(2);

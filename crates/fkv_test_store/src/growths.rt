@@ -6,6 +6,7 @@ use fkv_histories::{Audited, Plain, Recorder};
 use fkv_operations::{Answer, KeyedOp};
 use fkv_store::{Open, Pass, Store};
 use std::alloc::Global;
+use std::rt::Clock;
 use std::sync::Wait;
 use std::test::Fail;
 
@@ -13,7 +14,7 @@ type Passed<H> = Pass<SumFns, MemoryDevice, H>;
 
 /// Adds 1 to key a, and where that is refused for want of memory once more.
 fn add_one<H: Recorder<SumFns>>(
-    rt: &impl Wait,
+    rt: &(impl Wait + Clock),
     alloc: Global,
     store: &Store<SumFns, MemoryDevice, H>,
     pass: &mut Passed<H>,
@@ -29,7 +30,7 @@ fn add_one<H: Recorder<SumFns>>(
 
 /// How many operations were finished, where each of two passes adds 1 to key a, or what was refused of the store's beginning
 /// and end. Any other refusal is told as `Mismatch`.
-fn finished<H: Recorder<SumFns>>(rt: &impl Wait, alloc: Global) -> Result<u64, Refused> {
+fn finished<H: Recorder<SumFns>>(rt: &(impl Wait + Clock), alloc: Global) -> Result<u64, Refused> {
     let device = MemoryDevice::new(alloc);
     let store = Store::<SumFns, MemoryDevice, H>::open(alloc, &SMALL, SumFns, device)?;
     let mut one = store.pass(rt, alloc, 0)?;

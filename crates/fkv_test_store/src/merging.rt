@@ -7,6 +7,7 @@ use fkv_operations::{Answer, KeyedOp};
 use fkv_partition::Config;
 use fkv_store::{Open, Store};
 use std::alloc::Global;
+use std::rt::Clock;
 use std::sync::Wait;
 use std::test::Fail;
 
@@ -21,7 +22,7 @@ fn value(call: Call, value: i128) -> Row {
 /// What a store comes to after these calls, each of which has to tell what its row says: what key a has, how many keys there
 /// are, and how many operations were finished.
 fn closed<H: Recorder<SumFns>>(
-    rt: &impl Wait,
+    rt: &(impl Wait + Clock),
     alloc: Global,
     config: &Config,
     rows: &[Row],
@@ -36,7 +37,7 @@ fn closed<H: Recorder<SumFns>>(
 
 /// Whether a store of each recorder comes to this.
 fn come_to(
-    rt: &impl Wait,
+    rt: &(impl Wait + Clock),
     alloc: Global,
     config: &Config,
     rows: &[Row],
@@ -131,7 +132,7 @@ fn merges_wait_for_no_session(rt: HostRuntime) -> Result<(), Fail> {
 }
 
 /// What a store of functions that don't merge comes to: a merge is refused, and an update that may be one is an update.
-fn capped<H: Recorder<CappedSumFns>>(rt: &impl Wait, alloc: Global) -> Result<u64, Fail> {
+fn capped<H: Recorder<CappedSumFns>>(rt: &(impl Wait + Clock), alloc: Global) -> Result<u64, Fail> {
     let device = MemoryDevice::new(alloc);
     let store = Store::<CappedSumFns, MemoryDevice, H>::open(alloc, &SMALL, CappedSumFns, device)?;
     let Some(key) = Name::new(b"a") else {

@@ -7,6 +7,7 @@ use fkv_operations::{Answer, KeyedOp};
 use fkv_partition::Config;
 use fkv_store::{Open, Store};
 use std::alloc::Global;
+use std::rt::Clock;
 use std::sync::Wait;
 use std::test::Fail;
 
@@ -20,7 +21,7 @@ fn value(call: Call, value: i128) -> Row {
 
 /// The number of the first row that tells something else, of a store with this recorder.
 fn first_other<H: Recorder<SumFns>>(
-    rt: &impl Wait,
+    rt: &(impl Wait + Clock),
     alloc: Global,
     config: &Config,
     rows: &[Row],
@@ -125,7 +126,7 @@ fn a_pass_reads_its_own_update(rt: HostRuntime) -> Result<(), Fail> {
 
 /// Whether a pass of a store of one configuration is refused by a store of another one, with these numbers.
 fn is_stranger(
-    rt: &impl Wait,
+    rt: &(impl Wait + Clock),
     alloc: Global,
     configs: [&Config; 2],
     numbers: [u64; 2],
@@ -177,7 +178,7 @@ fn strangers(rt: HostRuntime) -> Result<(), Fail> {
 
 /// How many operations are finished of seventeen passes, each of which adds 1 to key a: the last one finds no free session,
 /// twice, until the first one rests. Anything else gives a number below 5.
-fn seventeen<H: Recorder<SumFns>>(rt: &impl Wait, alloc: Global) -> Result<u64, Fail> {
+fn seventeen<H: Recorder<SumFns>>(rt: &(impl Wait + Clock), alloc: Global) -> Result<u64, Fail> {
     let device = MemoryDevice::new(alloc);
     let store = Store::<SumFns, MemoryDevice, H>::open(alloc, &SMALL, SumFns, device)?;
     let Some(key) = Name::new(b"a") else {
@@ -229,7 +230,7 @@ fn both() -> [Row; 2] {
 
 /// What a store comes to, after these calls, with so many of its passes.
 fn closed<H: Recorder<SumFns>>(
-    rt: &impl Wait,
+    rt: &(impl Wait + Clock),
     alloc: Global,
     config: &Config,
     rows: &[Row],

@@ -6,6 +6,7 @@ use fkv_histories::{Audited, Plain, Recorder};
 use fkv_operations::KeyedOp;
 use fkv_store::{Open, Pass, Store};
 use std::alloc::Global;
+use std::rt::Clock;
 use std::sync::Wait;
 use std::test::Fail;
 use std::thread;
@@ -16,7 +17,7 @@ const EACH: usize = 1_000;
 
 /// Adds 1 to key a, so many times.
 fn add_ones<H: Recorder<SumFns>>(
-    rt: &impl Wait,
+    rt: &(impl Wait + Clock),
     alloc: Global,
     store: &Store<SumFns, MemoryDevice, H>,
     pass: &mut Pass<SumFns, MemoryDevice, H>,
@@ -31,7 +32,7 @@ fn add_ones<H: Recorder<SumFns>>(
 }
 
 /// What key a has, and how many operations were finished, after two callers have added to it in threads of their own.
-fn summed<H: Recorder<SumFns> + Send, T: Threads + Wait + Sync>(
+fn summed<H: Recorder<SumFns> + Send, T: Threads + Wait + Clock + Sync>(
     rt: &T,
     alloc: Global,
 ) -> Result<(Option<i128>, u64), Fail> {

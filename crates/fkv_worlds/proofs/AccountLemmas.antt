@@ -243,8 +243,9 @@ module _ {K V I O R : Type 0} (stands : R → Standing) (entry : ℕ → List �
 
   pub account-acts : (new : StateView K V I O R) (step : Step K V I) (r : Result (Outcome V O) Refused) → Acts stands entry cmp join f code s new step r → IsAccount new.lives (taken (rs ++ r ∷ [])) new.moment
   account-acts new step r (acts.no_partition a same is) = kept-state new r Unknown refl same is
-  account-acts new step r (acts.unasked w v a b c d same is) = kept-state new r NotReady refl same is
-  account-acts new step r (acts.unknown w v a b c d same is) = kept-state new r Unknown refl same is
+  account-acts new step r (acts.uninstalled w v a b c d same is) = kept-state new r NotReady refl same is
+  account-acts new step r (acts.unloaded w access v a b c m d same is) = kept-state new r NotReady refl same is
+  account-acts new step r (acts.unknown w v a b c m d same is) = kept-state new r Unknown refl same is
   account-acts new step r (acts.no_flush_job p access a b c same is) = kept-state new r NotReady refl same is
   account-acts new step r (acts.worn a b c same is) = kept-state new r Worn refl same is
   account-acts new step r (acts.no_memory_for_life p slot op v a b same is) = kept-state new r NoMemory refl same is

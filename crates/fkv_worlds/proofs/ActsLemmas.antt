@@ -1,5 +1,5 @@
 -- Which rule of a step a call is, in the words of the code.
-use Rattle.std.proofs.Common.{◌≡◌, ℕ, suc, ◌+◌, ◌^◌, ◌<◌, ◌≤◌, Bool, true, false, List, ◌∷◌, [], ◌++◌, length, Option, Some, None, IsSome, is_none, is_some, Result, Ok, Err, slice_get, slice_set, refl, sym, ◌∙◌, ap, subst, arith}
+use Rattle.std.proofs.Common.{◌≡◌, ◌&&◌, ℕ, suc, ◌+◌, ◌^◌, ◌<◌, ◌≤◌, Bool, true, false, List, ◌∷◌, [], ◌++◌, length, Option, Some, None, IsSome, is_none, is_some, Result, Ok, Err, slice_get, slice_set, refl, sym, ◌∙◌, ap, subst, arith}
 use Rattle.std.specs.declared.cmp.Ordering.{Ordering}
 use Rattle.fkv_functions.specs.Meanings.{Meanings}
 use Rattle.fkv_functions.specs.declared.asks.Ask.{Ask}
@@ -28,10 +28,11 @@ use Rattle.fkv_worlds.specs.declared.tables.Seat.{Seat}
 use Rattle.fkv_worlds.specs.Devices.{receipt_of, Comes, Spoils}
 use Rattle.fkv_worlds.specs.Refusing.{Refuses}
 use Rattle.fkv_lives.specs.Told.{ends_operation}
+use Rattle.fkv_worlds.specs.Worlds.{asked_in}
 use Rattle.fkv_worlds.specs.States.{StateView, seat_row, context_row, question_in, receipt_in, job_in, is_unasked, life_in}
 use Rattle.fkv_worlds.specs.Moments.{IsUntimely, no_partition, worn}
 use Rattle.fkv_worlds.specs.Acts as acts
-use Rattle.fkv_worlds.specs.Acts.{Acts, IsDue, begun_life, after_issue, lives_by, questions_by, receipts_by, told}
+use Rattle.fkv_worlds.specs.Acts.{Acts, IsDue, is_refused_first, begun_life, after_issue, lives_by, questions_by, receipts_by, told}
 use Rattle.fkv_lives.specs.Steps.{partition_in}
 use Rattle.fkv_worlds.proofs.ResultLemmas.{some_of, some_there, some_not_none, not_some_none}
 
@@ -135,31 +136,42 @@ module _ {K V I O R : Type 0} (stands : R → Standing) (entry : ℕ → List �
           rw e (acts.fails w access old new receipt came r refl (due (Load w access) old here (rw asks refl)) asks comes (subst (λ m. Loads stands entry cmp join f code old new w.slot w.context came m (Err r)) e does) ends (subst (λ m. IsGiveUp old new w.slot w.context m) e ev) refl refl)
 
 -- the other steps answer nothing
-pub unasked-none : {K V I O R : Type 0} (s : StateView K V I O R) (step : Step K V I) → ((w : ContextId) → step ≡ Install w → ⊥) → ((w : ContextId) (access : Access) → step ≡ Load w access → ⊥) → ((p : ℕ) (access : Access) → step ≡ Write p access → ⊥) → is_unasked s step ≡ false
-unasked-none s (Enter p) i l w = refl
-unasked-none s (Leave p slot) i l w = refl
-unasked-none s (Refresh p slot) i l w = refl
-unasked-none s (ReadOnly p page) i l w = refl
-unasked-none s (Take p) i l w = refl
-unasked-none s (Write p access) i l w = absurd (w p access refl)
-unasked-none s (Head p page) i l w = refl
-unasked-none s (Issue p slot op) i l w = refl
-unasked-none s (Go u) i l w = refl
-unasked-none s (Install u) i l w = absurd (i u refl)
-unasked-none s (Load u access) i l w = absurd (l u access refl)
-unasked-none s (GiveUp u) i l w = refl
-unasked-none s (Truncate p) i l w = refl
+pub first-none : {K V I O R : Type 0} (s : StateView K V I O R) (step : Step K V I) → ((w : ContextId) → step ≡ Install w → ⊥) → ((w : ContextId) (access : Access) → step ≡ Load w access → ⊥) → ((p : ℕ) (access : Access) → step ≡ Write p access → ⊥) → is_refused_first s step ≡ false
+first-none s (Enter p) i l w = refl
+first-none s (Leave p slot) i l w = refl
+first-none s (Refresh p slot) i l w = refl
+first-none s (ReadOnly p page) i l w = refl
+first-none s (Take p) i l w = refl
+first-none s (Write p access) i l w = absurd (w p access refl)
+first-none s (Head p page) i l w = refl
+first-none s (Issue p slot op) i l w = refl
+first-none s (Go u) i l w = refl
+first-none s (Install u) i l w = absurd (i u refl)
+first-none s (Load u access) i l w = refl
+first-none s (GiveUp u) i l w = refl
+first-none s (Truncate p) i l w = refl
 
 -- a step that has no moment
 pub acts-untimely : {K V I O R : Type 0} (stands : R → Standing) (entry : ℕ → List ℕ → ℕ → Entry K V → Type 0) (cmp : K → K → Ordering) (join : V → V → V) (f : Meanings K V I O) (code : K → ℕ) (s : StateView K V I O R) (step : Step K V I) (r : Refused)
-    → is_unasked s step ≡ false → IsUntimely s (partition_in step) r → Acts stands entry cmp join f code s s step (Err r)
-acts-untimely stands entry cmp join f code s step r asked (no_partition h e) = acts.no_partition h refl (ap Err e)
-acts-untimely stands entry cmp join f code s step r asked (worn h m e) = acts.worn h asked m refl (ap Err e)
+    → is_refused_first s step ≡ false → IsUntimely s (partition_in step) r → Acts stands entry cmp join f code s s step (Err r)
+acts-untimely stands entry cmp join f code s step r first (no_partition h e) = acts.no_partition h refl (ap Err e)
+acts-untimely stands entry cmp join f code s step r first (worn h m e) = acts.worn h first m refl (ap Err e)
+
+and-false : (b : Bool) → (b && false) ≡ false
+and-false true = refl
+and-false false = refl
+
+-- an install where nothing is open is not refused first
+pub late-first : {K V I O R : Type 0} (s : StateView K V I O R) (w : ContextId) → asked_in s.partitions w ≡ None → is_refused_first s (Install w) ≡ false
+late-first s w none = ap (λ o. is_none (question_in s.questions w) && is_some o) none ∙ and-false (is_none (question_in s.questions w))
 
 -- ---- a world that is seen as another
 module _ {K V I O R : Type 0} {s t : StateView K V I O R} (view : s ≡ t) where
   pub there-seen : {p : ℕ} → p < length s.partitions → p < length t.partitions
   there-seen h = rw (← view) h
+
+  pub there-behind : {p : ℕ} → p < length t.partitions → p < length s.partitions
+  there-behind h = rw view h
 
   -- a step in no partition
   pub acts-nowhere : {stands : R → Standing} {entry : ℕ → List ℕ → ℕ → Entry K V → Type 0} {cmp : K → K → Ordering} {join : V → V → V} {f : Meanings K V I O} {code : K → ℕ} {step : Step K V I} {n : ℕ} → n ≡ length s.partitions → n ≤ partition_in step → Acts stands entry cmp join f code t t step (Err Unknown)

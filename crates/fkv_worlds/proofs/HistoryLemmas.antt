@@ -209,8 +209,9 @@ module _ {K V I O R : Type 0} (stands : R → Standing) (entry : ℕ → List �
 
   pub history-acts : (new : StateView K V I O R) (t : Step K V I) (r : Result (Outcome V O) Refused) → Acts stands entry cmp join f code s new t r → HasHistory new (record { step = t; told = r } ∷ h)
   history-acts new t r (acts.no_partition a same is) = kept-state s h history new t r Unknown refl same is
-  history-acts new t r (acts.unasked w v a b c d same is) = kept-state s h history new t r NotReady refl same is
-  history-acts new t r (acts.unknown w v a b c d same is) = kept-state s h history new t r Unknown refl same is
+  history-acts new t r (acts.uninstalled w v a b c d same is) = kept-state s h history new t r NotReady refl same is
+  history-acts new t r (acts.unloaded w access v a b c m d same is) = kept-state s h history new t r NotReady refl same is
+  history-acts new t r (acts.unknown w v a b c m d same is) = kept-state s h history new t r Unknown refl same is
   history-acts new t r (acts.no_flush_job p access a b c same is) = kept-state s h history new t r NotReady refl same is
   history-acts new t r (acts.worn a b c same is) = kept-state s h history new t r Worn refl same is
   history-acts new t r (acts.no_memory_for_life p slot op v a b same is) = kept-state s h history new t r NoMemory refl same is

@@ -1,5 +1,5 @@
 -- What a step does: a rule for each case, in the order of the tests.
-use Rattle.std.specs.Prelude.{length, IsSome, ◌≡◌, ◌<◌, ◌≤◌, ◌-◌, ◌^◌, ℕ, suc, true, false, List, [], ◌∷◌, ◌++◌, Option, Some, None, Result, Ok, Err, slice_get, slice_set}
+use Rattle.std.specs.Prelude.{length, IsSome, ◌≡◌, ◌<◌, ◌≤◌, ◌-◌, ◌^◌, ◌&&◌, ℕ, suc, Bool, true, false, is_none, is_some, List, [], ◌∷◌, ◌++◌, Option, Some, None, Result, Ok, Err, slice_get, slice_set}
 use Rattle.std.specs.declared.cmp.Ordering.{Ordering}
 use Rattle.fkv_functions.specs.Meanings.{Meanings}
 use Rattle.fkv_functions.specs.declared.asks.Ask.{Ask}
@@ -33,6 +33,7 @@ use Rattle.fkv_lives.specs.Changes.{ended_at}
 use Rattle.fkv_worlds.specs.Devices.{receipt_of, Comes, Spoils}
 use Rattle.fkv_worlds.specs.Refusing.{Refuses}
 use Rattle.fkv_lives.specs.Told.{ends_operation}
+use Rattle.fkv_worlds.specs.Worlds.{asked_in}
 use Rattle.fkv_worlds.specs.States.{StateView, WorldView, seat_row, context_row, life_in, question_in, receipt_in, job_in, is_unasked}
 
 -- the state where the partition at a place has become this one, at its moment
@@ -135,6 +136,23 @@ answers_in (Load w access) = Some w
 answers_in (GiveUp w) = None
 answers_in (Truncate p) = None
 
+-- whether a step is refused before it is seen whether a moment is left: an install of what no operation asked, where one is
+-- open, and a write of no page
+abbrev pub is_refused_first : {K V I O R : Type 0} → StateView K V I O R → Step K V I → Bool
+is_refused_first s (Enter p) = false
+is_refused_first s (Leave p slot) = false
+is_refused_first s (Refresh p slot) = false
+is_refused_first s (ReadOnly p page) = false
+is_refused_first s (Take p) = false
+is_refused_first s (Write p access) = is_none (job_in s.jobs p)
+is_refused_first s (Head p page) = false
+is_refused_first s (Issue p slot op) = false
+is_refused_first s (Go w) = false
+is_refused_first s (Install w) = is_none (question_in s.questions w) && is_some (asked_in s.partitions w)
+is_refused_first s (Load w access) = false
+is_refused_first s (GiveUp w) = false
+is_refused_first s (Truncate p) = false
+
 -- the step is in this partition, what it answers was asked, and a moment is left
 pub record IsDue {K V I O R : Type 0} (s : StateView K V I O R) (step : Step K V I) (v : PartitionView K V I) : Type 0 where
   pub here : slice_get s.partitions (partition_in step) ≡ Some v
@@ -149,22 +167,14 @@ pub data Acts {K V I O R : Type 0} (stands : R → Standing) (entry : ℕ → Li
       → new ≡ old
       → result ≡ Err Unknown
       → Acts stands entry cmp join f code old new step result
-  -- an answer to what was not asked: of an operation, or of none
-  unasked : (w : ContextId) (v : PartitionView K V I)
-      → answers_in step ≡ Some w
+  -- an install of what the operation there did not ask
+  uninstalled : (w : ContextId) (v : PartitionView K V I)
+      → step ≡ Install w
       → slice_get old.partitions w.partition ≡ Some v
       → is_unasked old step ≡ true
       → IsSome (asked v w.slot w.context)
       → new ≡ old
       → result ≡ Err NotReady
-      → Acts stands entry cmp join f code old new step result
-  unknown : (w : ContextId) (v : PartitionView K V I)
-      → answers_in step ≡ Some w
-      → slice_get old.partitions w.partition ≡ Some v
-      → is_unasked old step ≡ true
-      → asked v w.slot w.context ≡ None
-      → new ≡ old
-      → result ≡ Err Unknown
       → Acts stands entry cmp join f code old new step result
   -- a write of no page
   no_flush_job : (p : ℕ) (access : Access)
@@ -176,10 +186,29 @@ pub data Acts {K V I O R : Type 0} (stands : R → Standing) (entry : ℕ → Li
       → Acts stands entry cmp join f code old new step result
   -- no moment is left
   worn : partition_in step < length old.partitions
-      → is_unasked old step ≡ false
+      → is_refused_first old step ≡ false
       → old.moment ≡ 2 ^ 64 - 1
       → new ≡ old
       → result ≡ Err Worn
+      → Acts stands entry cmp join f code old new step result
+  -- a load of a page that the operation there did not ask for; and an install or a load where nothing is open
+  unloaded : (w : ContextId) (access : Access) (v : PartitionView K V I)
+      → step ≡ Load w access
+      → slice_get old.partitions w.partition ≡ Some v
+      → is_unasked old step ≡ true
+      → old.moment < 2 ^ 64 - 1
+      → IsSome (asked v w.slot w.context)
+      → new ≡ old
+      → result ≡ Err NotReady
+      → Acts stands entry cmp join f code old new step result
+  unknown : (w : ContextId) (v : PartitionView K V I)
+      → answers_in step ≡ Some w
+      → slice_get old.partitions w.partition ≡ Some v
+      → is_unasked old step ≡ true
+      → old.moment < 2 ^ 64 - 1
+      → asked v w.slot w.context ≡ None
+      → new ≡ old
+      → result ≡ Err Unknown
       → Acts stands entry cmp join f code old new step result
   -- no memory is left for the life of an issue
   no_memory_for_life : (p slot : ℕ) (op : Op K V I) (v : PartitionView K V I)

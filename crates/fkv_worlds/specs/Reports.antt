@@ -36,12 +36,13 @@ pub record IsReport {K V I O R : Type 0} (cmp : K → K → Ordering) (code : K 
   pub map : (k : K) → lookup (is_at (cmp k)) pairs ≡ union_of cmp code w.state.partitions k
   pub rising : IsStrictlySortedBy cmp (keys_of pairs)
 
--- a step that was done, or refused, and kept
+-- a step that was done, or refused, and kept; the world that it leads to keeps the headline
 pub record IsKept {K V I O R : Type 0} (stands : R → Standing) (entry : ℕ → List ℕ → ℕ → Entry K V → Type 0)
     (cmp : K → K → Ordering) (join : V → V → V) (f : Meanings K V I O) (code : K → ℕ) (old new : WorldView K V I O R)
     (step : Step K V I) (r : Result (Outcome V O) Refused) : Type 0 where
   pub acts : Acts stands entry cmp join f code old.state new.state step r
   pub outcomes : new.outcomes ≡ old.outcomes ++ r ∷ []
+  pub headline : IsHeadline cmp f code new
 
 -- the steps of a list, in turn, each of them kept
 abbrev pub RunsTo : {K V I O R : Type 0} → (R → Standing) → (ℕ → List ℕ → ℕ → Entry K V → Type 0) → (K → K → Ordering)
@@ -53,7 +54,8 @@ RunsTo {K} {V} {I} {O} {R} stands entry cmp join f code v (s ∷ ss) w =
     × IsKept stands entry cmp join f code v u s r
     × RunsTo stands entry cmp join f code u ss w
 
--- a replay: the steps in turn from a world with nothing in it, and the report of the world which they lead to
+-- a replay: the steps in turn from a world with nothing in it, where each world along the list keeps the headline, and the
+-- report of the world which they lead to
 pub record IsReplay {K V I O R : Type 0} (stands : R → Standing) (entry : ℕ → List ℕ → ℕ → Entry K V → Type 0)
     (cmp : K → K → Ordering) (join : V → V → V) (f : Meanings K V I O) (code : K → ℕ) (merges : Bool) (config : Config)
     (record_size : ℕ) (steps : List (Step K V I)) (told : List (Result (Outcome V O) Refused))

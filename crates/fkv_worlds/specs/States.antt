@@ -1,12 +1,11 @@
 -- What a contract sees of a world.
-use Rattle.std.specs.Prelude.{Bool, false, ◌≡◌, ◌⊎◌, ◌+◌, ◌*◌, ◌^◌, ◌&&◌, cond, ℕ, List, [], Option, None, Result, map, replicate, slice_get, unwrap_or, nat_lt, is_none}
+use Rattle.std.specs.Prelude.{Bool, false, ◌≡◌, ◌+◌, ◌*◌, ◌^◌, ◌&&◌, cond, ℕ, List, [], Option, None, Result, map, replicate, slice_get, unwrap_or, nat_lt, is_none}
 use Rattle.std.specs.List.{range_with_len}
 use Rattle.fkv_functions.specs.declared.asks.Ask.{Ask}
 use Rattle.fkv_functions.specs.declared.refusals.Refused.{Refused}
 use Rattle.fkv_device.specs.declared.messages.FlushJob.{FlushJob}
 use Rattle.fkv_partition.specs.Config.{Config}
 use Rattle.fkv_partition.specs.Views.{PartitionView, empty_partition}
-use Rattle.fkv_partition.specs.Effect.{asked}
 use Rattle.fkv_lives.specs.declared.lives.Life.{Life}
 use Rattle.fkv_lives.specs.declared.outcomes.Outcome.{Outcome}
 use Rattle.fkv_worlds.specs.declared.tables.Seat.{Seat}

@@ -128,16 +128,14 @@ impl<F: Mergeable> State<F> {
             F.Key.SIZE F.Value.SIZE) F.Key.cmp F.parts.joined F.meaning F.code
             self.old self.new (Load place access) result }
     {
-        if place.partition >= self.partitions.len() {
-            return Err(Refused::Unknown);
-        }
+        let now = match self.moment_in(place.partition) {
+            Err(refused) => return Err(refused),
+            Ok(now) => now,
+        };
         if !has_receipt(&self.tables.receipts, place) {
-            return Err(self.why_unasked(Step::Load(place, access), place));
+            return Err(self.why_unloaded(place, access));
         }
-        match self.moment_in(place.partition) {
-            Ok(now) => self.load_at(functions, place, access, now),
-            Err(refused) => Err(refused),
-        }
+        self.load_at(functions, place, access, now)
     }
 
     fn load_at(

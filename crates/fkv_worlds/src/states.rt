@@ -5,13 +5,14 @@ ghost use Rattle.fkv_partition.specs.Limits.{IsWithinLimits};
 ghost use Rattle.fkv_partition.specs.Views.{empty_partition};
 ghost use Rattle.fkv_worlds.specs.States.{empty_partitions, empty_state, question_in, is_unasked};
 ghost use Rattle.fkv_worlds.specs.Sound.{IsState};
+ghost use Rattle.fkv_worlds.specs.Worlds.{asked_in};
 ghost use Rattle.fkv_worlds.specs.Reports.{awaits_at};
 ghost use Rattle.fkv_pages.specs.Spelled.{IsEntryIn};
 ghost use Rattle.fkv_worlds.specs.declared.flush_slots.FlushSlot.{FlushSlot};
-ghost use Rattle.fkv_worlds.specs.Acts.{Acts, answers_in};
+ghost use Rattle.fkv_worlds.specs.Acts.{Acts};
 ghost use Rattle.fkv_lives.specs.Steps.{partition_in};
 ghost use Rattle.fkv_worlds.specs.Moments.{IsMomentIn, IsUntimely};
-ghost use Rattle.fkv_lives.specs.declared.steps.Step.TheVariants.{Enter, Leave, Refresh, ReadOnly, Head, Issue, Go, Install, GiveUp, Truncate};
+ghost use Rattle.fkv_lives.specs.declared.steps.Step.TheVariants.{Enter, Leave, Refresh, ReadOnly, Head, Issue, Go, Install, Load, GiveUp, Truncate};
 
 use crate::flush_slots::FlushSlot;
 use crate::tables::{
@@ -21,7 +22,7 @@ use fkv_device::{MemoryReceipt, Receipt};
 use fkv_functions::{Ask, Built, Mergeable, Refused};
 use fkv_lives::lives::{End, LifeOf};
 use fkv_lives::outcomes::{Outcome, OutcomeOf};
-use fkv_lives::steps::{ContextId, Step, StepOf};
+use fkv_lives::steps::{Access, ContextId, Step, StepOf};
 use fkv_operations::{Clock, OpOf};
 use fkv_partition::{Config, Partition};
 use std::alloc::Global;
@@ -337,7 +338,7 @@ impl<F: Mergeable> State<F> {
             return Err(Refused::Unknown);
         }
         let Some(ask) = question_at(&self.tables.questions, place) else {
-            return Err(self.why_unasked(Step::Install(place), place));
+            return Err(self.why_uninstalled(place));
         };
         match self.moment_in(place.partition) {
             Ok(now) => Ok((ask, now)),
@@ -345,13 +346,41 @@ impl<F: Mergeable> State<F> {
         }
     }
 
-    /// Why what nobody asked for is not answered: `NotReady` where an operation is open there, and `Unknown` else.
-    pub(crate) fn why_unasked(&self, step: StepOf<F>, place: ContextId) -> Refused
-        requires answers { answers_in step ≡ Some place }
+    /// Why nothing is installed that nobody asked for: `NotReady` where an operation is open there; else `Worn` where no moment
+    /// is left, and `Unknown`.
+    fn why_uninstalled(&self, place: ContextId) -> Refused
         requires there { place.partition < length self.now.partitions }
-        requires unasked { is_unasked self.now step ≡ true }
+        requires unasked { is_unasked self.now (Install place) ≡ true }
         ensures { Acts ⟦<MemoryReceipt as Receipt>⟧.stands (IsEntryIn F.Key.bytes_of F.Value.bytes_of F.Key.is_known F.Value.is_known
-            F.Key.SIZE F.Value.SIZE) F.Key.cmp F.parts.joined F.meaning F.code self.now self.now step (Err result) }
+            F.Key.SIZE F.Value.SIZE) F.Key.cmp F.parts.joined F.meaning F.code self.now self.now (Install place) (Err result) }
+    {
+        match self.partitions[place.partition].asked(place.slot, place.context) {
+            Ok(_) => Refused::NotReady,
+            Err(_) => self.why_late(place),
+        }
+    }
+
+    /// Why nothing is installed where nothing is open: `Worn` where no moment is left, and `Unknown` else.
+    fn why_late(&self, place: ContextId) -> Refused
+        requires there { place.partition < length self.now.partitions }
+        requires unasked { is_unasked self.now (Install place) ≡ true }
+        requires none { asked_in self.now.partitions place ≡ None }
+        ensures { Acts ⟦<MemoryReceipt as Receipt>⟧.stands (IsEntryIn F.Key.bytes_of F.Value.bytes_of F.Key.is_known F.Value.is_known
+            F.Key.SIZE F.Value.SIZE) F.Key.cmp F.parts.joined F.meaning F.code self.now self.now (Install place) (Err result) }
+    {
+        match self.moment_in(place.partition) {
+            Ok(_now) => Refused::Unknown,
+            Err(refused) => refused,
+        }
+    }
+
+    /// Why nothing is loaded that nobody asked for: `NotReady` where an operation is open there, and `Unknown` else.
+    pub(crate) fn why_unloaded(&self, place: ContextId, access: Access) -> Refused
+        requires there { place.partition < length self.now.partitions }
+        requires moment { self.now.moment < 2 ^ 64 - 1 }
+        requires unasked { is_unasked self.now (Load place access) ≡ true }
+        ensures { Acts ⟦<MemoryReceipt as Receipt>⟧.stands (IsEntryIn F.Key.bytes_of F.Value.bytes_of F.Key.is_known F.Value.is_known
+            F.Key.SIZE F.Value.SIZE) F.Key.cmp F.parts.joined F.meaning F.code self.now self.now (Load place access) (Err result) }
     {
         match self.partitions[place.partition].asked(place.slot, place.context) {
             Ok(_) => Refused::NotReady,
@@ -425,7 +454,7 @@ impl<F: Mergeable> State<F> {
         ensures effect { Acts ⟦<MemoryReceipt as Receipt>⟧.stands (IsEntryIn F.Key.bytes_of F.Value.bytes_of F.Key.is_known F.Value.is_known
             F.Key.SIZE F.Value.SIZE) F.Key.cmp F.parts.joined F.meaning F.code self.old self.new step result }
     {
-        // whether what a step answers was asked comes before whether there is a moment
+        // whether what is to be installed or written was asked for comes before whether there is a moment
         match step {
             Step::Install(place) => self.install(functions, place),
             Step::Load(place, access) => self.load(functions, place, access),

@@ -74,13 +74,15 @@ impl<F: Mergeable> World<F> {
         let result = self.state.act(functions, step);
         // there is room for it
         let _kept = self.outcomes.push(result);
+        self.headline();
         Some(result)
     }
 
     /// Does a step and answers its outcome, which is kept. Refused, in this order: `NoMemory` where there
     /// is no memory to keep the outcome, and then nothing is done; `Unknown` where there is no such
-    /// partition; `NotReady` where nothing was asked for that is to be installed, loaded or written; `Worn` where no moment
-    /// is left; `NoMemory` where there is none for the life of an issue; and what the partition refuses.
+    /// partition; `NotReady` where nothing was asked for that is to be installed in an open context, or written; `Worn` where
+    /// no moment is left; `NoMemory` where there is none for the life of an issue; and what the partition refuses, which is
+    /// `Unknown` or `NotReady` too of a load for which no page was asked.
     /// A refused step takes no moment and changes nothing but the list of outcomes, with two exceptions: a write spends
     /// the page that was taken, and a load whose page could not be read, or is damaged, ends its operation without effect
     /// and takes its moment.

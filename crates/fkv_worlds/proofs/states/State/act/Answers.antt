@@ -1,10 +1,10 @@
 use Rattle.fkv_functions.proofs.CallLemmas.{with_five}
-use Rattle.fkv_worlds.proofs.ActsLemmas.{acts-untimely, unasked-none}
+use Rattle.fkv_worlds.proofs.ActsLemmas.{acts-untimely, first-none}
 use Rattle.fkv_worlds.proofs.EventLemmas.{acts-of}
 use Rattle.fkv_worlds.proofs.states.State.act.Goals as goal
 
 pub returns-in-Err : goal.returns-in-Err
-returns-in-Err g c = record { effect = acts-untimely _ _ g.F.Key.Ord.cmp g.F.Mergeable.parts.joined g.F.Functions.meaning g.F.Functions.code c.args.self.now c.args.step c.in-Err.refused (unasked-none c.args.self.now c.args.step c.in_default.not-Install c.in_default.not-Load c.in_default.not-Write) (rw c.partition.ensures at c.in-Err.ensures.refused) }
+returns-in-Err g c = record { effect = acts-untimely _ _ g.F.Key.Ord.cmp g.F.Mergeable.parts.joined g.F.Functions.meaning g.F.Functions.code c.args.self.now c.args.step c.in-Err.refused (first-none c.args.self.now c.args.step c.in_default.not-Install c.in_default.not-Load c.in_default.not-Write) (rw c.partition.ensures at c.in-Err.ensures.refused) }
 
 pub act_at-requires-whole : goal.act_at-requires-whole
 act_at-requires-whole g c κs = with_five (rw c.partition.ensures at c.in-Ok.ensures.ok)

@@ -15,7 +15,7 @@ returns-in-Err-clause-refused g c =
     acts-untimely _ _ g.F.Key.Ord.cmp g.F.Mergeable.parts.joined g.F.Functions.meaning g.F.Functions.code c.args.self.now (Install c.args.place) c.in-Err.refused (rw asks refl) c.in-Err.ensures.refused
 
 pub returns-in_default-clause-refused : goal.returns-in_default-clause-refused
-returns-in_default-clause-refused g c = c.why_unasked.ensures
+returns-in_default-clause-refused g c = c.why_uninstalled.ensures
 
 pub returns-then-place-len-clause-refused : goal.returns-then-place-len-clause-refused
 returns-then-place-len-clause-refused g c = acts-nowhere c.self.view_is (c.len.ensures ∙ c.self.inside.partitions.ok.0) c.if-place-len.true
@@ -30,10 +30,10 @@ question_at-requires-clause-rows g c =
     let there = below-by (c.len.ensures ∙ c.self.inside.partitions.ok.0) c.if-place-len.false in
     within-by c.deref.ensures.value (rows-of g.F.Key.Ord.cmp g.F.Functions.meaning g.F.Functions.code _ c.self.invariant c.args.place.partition there).4
 
-pub why_unasked-requires-clause-there : goal.why_unasked-requires-clause-there
-why_unasked-requires-clause-there g c =
+pub why_uninstalled-requires-clause-there : goal.why_uninstalled-requires-clause-there
+why_uninstalled-requires-clause-there g c =
     let there = below-by (c.len.ensures ∙ c.self.inside.partitions.ok.0) c.if-place-len.false in
     there-seen c.self.view_is there
 
-pub why_unasked-requires-clause-unasked : goal.why_unasked-requires-clause-unasked
-why_unasked-requires-clause-unasked g c = question-unasked c.self.view_is c.args.place c.deref.ensures.value c.in_default.ensures
+pub why_uninstalled-requires-clause-unasked : goal.why_uninstalled-requires-clause-unasked
+why_uninstalled-requires-clause-unasked g c = question-unasked c.self.view_is c.args.place c.deref.ensures.value c.in_default.ensures

@@ -14,4 +14,4 @@ invariant_of-self-2 g c =
 pub returns-clause-kept : goal.returns-clause-kept
 returns-clause-kept g c =
     let pushed = c.push-kept.ensures.succeeds (let room = c.in-Ok.ensures.ok in omega arith) in
-    rw (← c.self.view_is) (record { acts = c.act-result.ensures.effect; outcomes = rw (c.push-kept.ensures.items, pushed, c.try_reserve.ensures.items) refl })
+    rw (← c.self.view_is) (record { acts = c.act-result.ensures.effect; outcomes = rw (c.push-kept.ensures.items, pushed, c.try_reserve.ensures.items) refl; headline = c.headline.ensures })
