@@ -30,7 +30,7 @@ pub orderly : {K V I : Type 0} (cmp : K → K → Ordering) (v : PartitionView K
 orderly cmp v = record { closed = λ t d h. closed-pending v t d cmp h; within = λ t d x h. asked-low v t d x h }
 
 -- the same place, or another
-same_place : (s d t c : ℕ) → ((s ≡ t) × (d ≡ c)) ⊎ ((s ≢ t) ⊎ (d ≢ c))
+pub same_place : (s d t c : ℕ) → ((s ≡ t) × (d ≡ c)) ⊎ ((s ≢ t) ⊎ (d ≢ c))
 same_place s d t c =
     elim (cases_eq s t) [
       | inr n ↦ inr (inl n)
@@ -38,7 +38,7 @@ same_place s d t c =
     ]
 
 -- contexts of different places are told apart
-apart : (s d t c : ℕ) → d < 8 → c < 8 → (s ≢ t) ⊎ (d ≢ c) → place_of s d ≢ place_of t c
+pub apart : (s d t c : ℕ) → d < 8 → c < 8 → (s ≢ t) ⊎ (d ≢ c) → place_of s d ≢ place_of t c
 apart s d t c low here other e = elim other [ inl n ↦ n (omega arith) | inr n ↦ n (omega arith) ]
 
 -- two operations on keys that are one among all operations

@@ -5,3 +5,4 @@ pub mod LoadLemmas
 pub mod EmptyLemmas
 pub mod CompactingLemmas
 pub mod AtOnceLemmas
+pub mod MarkLemmas

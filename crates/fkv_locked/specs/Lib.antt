@@ -4,3 +4,4 @@ pub mod Locks
 pub mod Fresh
 pub mod Compacting
 pub mod AtOnce
+pub mod Marks

@@ -27,13 +27,27 @@ abbrev pub IsTimed : {A : Type 0} → ℕ → Result A Refused → Type 0 → Ty
 IsTimed clock result event = ((clock ≡ 2 ^ 64 - 1) × (result ≡ Err Worn)) ⊎ event
 
 module _ {K V I O : Type 0} where
-  -- the history and the book
+  -- the history, the marks and the book
   abbrev pub noted : LockedView K V I O → Noted K V I O
-  noted l = record { entries = l.entries; count = l.count; book = l.book }
+  noted l = record { entries = l.entries; count = l.count; lows = l.lows; looks = l.looks; book = l.book }
 
   -- an event of the partition alone, at the next moment
   abbrev pub with_partition : LockedView K V I O → PartitionView K V I → LockedView K V I O
   with_partition l v = record l { partition = v; clock = l.clock + 1 }
+
+  -- an event of a caller's operation, at the next moment: beside the partition nothing changes but the history, the marks of
+  -- look-ups and the book
+  abbrev pub with_turn : LockedView K V I O → LockedView K V I O → LockedView K V I O
+  with_turn l m = record (with_partition l m.partition) {
+    entries = m.entries;
+    count = m.count;
+    looks = m.looks;
+    book = m.book;
+  }
+
+  -- where this operation looks now: so many updates are kept to have stood at the last look-up of its context
+  abbrev pub looks_now : LockedView K V I O → Mine K V I → List ℕ
+  looks_now l mine = slice_set l.looks (place_of mine.seat.slot mine.context) l.count
 
   -- a session is entered
   abbrev pub with_session : LockedView K V I O → PartitionView K V I → LockedView K V I O

@@ -1,5 +1,5 @@
 -- What events of a caller's operation add to a history, and what the caller learns of them.
-use Rattle.std.specs.Prelude.{◌≡◌, ◌≢◌, ◌+◌, ◌-◌, ◌^◌, ◌<◌, ◌≤◌, ◌⊎◌, ℕ, Bool, true, List, [], ◌∷◌, ◌++◌, Option, Some, None, ⊤, if◌then◌else◌}
+use Rattle.std.specs.Prelude.{◌≡◌, ◌≢◌, ◌+◌, ◌-◌, ◌^◌, ◌<◌, ◌≤◌, ◌⊎◌, ℕ, Bool, true, List, [], ◌∷◌, ◌++◌, slice_index, Option, Some, None, ⊤, if◌then◌else◌}
 use Rattle.std.specs.declared.cmp.Ordering.{Ordering}
 use Rattle.fkv_functions.specs.Meanings.{Meanings}
 use Rattle.fkv_functions.specs.declared.refusals.Refused.{Refused}
@@ -17,6 +17,7 @@ use Rattle.fkv_partition.specs.Effect.{Asked, asked, IsEvent, Finds}
 use Rattle.fkv_partition.specs.Views.{PartitionView}
 use Rattle.fkv_histories.specs.declared.entries.Entry.{Entry}
 use Rattle.fkv_histories.specs.Histories.{is_update_entry}
+use Rattle.fkv_locked.specs.Kept.{place_of}
 use Rattle.fkv_locked.specs.declared.seats.Mine.{Mine}
 use Rattle.fkv_locked.specs.declared.turns.Turn.{Turn}
 use Rattle.fkv_locked.specs.declared.turns.Turn.TheVariants.{Done, Next, NeedsBuild, NeedsLoad, Waits}
@@ -49,10 +50,14 @@ module _ {K V I : Type 0} where
       (held ≡ look) × (came ≡ mine.told) × ((look < mine.told) ⊎ (look ≡ 2 ^ 64 - 1))
   IsLookedEarly look mine other = ⊥
 
--- the entries that a history keeps, how many updates were added to it, and how many operations were finished
+-- what an event of a caller's operation may change beside its partition: the entries that a history keeps, and how many updates
+-- were added to it; how many updates stood at the issue and at the last look-up of each context; and how many operations were
+-- finished
 pub record Noted (K V I O : Type 0) : Type 0 where
   pub entries : List (Entry K V I O)
   pub count : ℕ
+  pub lows : List ℕ
+  pub looks : List ℕ
   pub book : ℕ
 
 module _ {K V I O : Type 0} where
@@ -64,21 +69,29 @@ module _ {K V I O : Type 0} where
     pub fresh : mine.told ≤ e.at
     pub room : e.at < 2 ^ 64 - 1
 
-  -- one entry more, of this operation, which the book counts
-  pub record Adds (keeps : Bool) (old new : Noted K V I O) (mine : Mine K V I) (e : Entry K V I O) : Type 0 where
+  -- one entry more, of this operation, which the book counts, behind so many updates: as many stood at its issue as the mark of
+  -- its context says, and as many at its completion as there are. Nothing else changes
+  pub record Adds (keeps : Bool) (at : ℕ) (old new : Noted K V I O) (mine : Mine K V I) (e : Entry K V I O) : Type 0 where
     pub of : IsOf mine e
-    pub book_is : new.book ≡ old.book + 1
-    pub count_is : new.count ≡ old.count + (if is_update_entry e then 1 else 0)
+    pub low_is : e.low ≡ slice_index old.lows (place_of mine.seat.slot mine.context)
+    pub at_is : e.at ≡ at
+    pub high_is : e.high ≡ old.count
     pub entries_is : keeps ≡ true → new.entries ≡ old.entries ++ e ∷ []
+    pub rest : new ≡ record old {
+      entries = new.entries;
+      count = old.count + (if is_update_entry e then 1 else 0);
+      book = old.book + 1;
+    }
 
 module _ {K V I O R : Type 0} where
-  -- what an event of a caller's operation adds
-  abbrev pub Turns : Bool → Noted K V I O → Noted K V I O → Mine K V I → Turn K V I O R → Type 0
-  Turns keeps old new mine (Done e) = Adds keeps old new mine e
-  Turns keeps old new mine Next = new ≡ old
-  Turns keeps old new mine (NeedsBuild ask) = new ≡ old
-  Turns keeps old new mine (NeedsLoad r a) = new ≡ old
-  Turns keeps old new mine (Waits why) = new ≡ old
+  -- what an event of a caller's operation adds: what it finishes stands behind so many updates; and where it asks for a page, so
+  -- many are kept to have stood at the look-up of each context
+  abbrev pub Turns : Bool → ℕ → List ℕ → Noted K V I O → Noted K V I O → Mine K V I → Turn K V I O R → Type 0
+  Turns keeps at looks old new mine (Done e) = Adds keeps at old new mine e
+  Turns keeps at looks old new mine Next = new ≡ old
+  Turns keeps at looks old new mine (NeedsBuild ask) = new ≡ old
+  Turns keeps at looks old new mine (NeedsLoad r a) = new ≡ record old { looks = looks }
+  Turns keeps at looks old new mine (Waits why) = new ≡ old
 
   -- what the caller learns of a turn
   abbrev pub IsTurnOf : Mine K V I → Turn K V I O R → Type 0

@@ -9,6 +9,7 @@
 
 pub mod beginnings;
 pub mod compacting;
+pub mod laws;
 pub mod locked;
 mod marks;
 pub mod offsets;

@@ -5,7 +5,8 @@ ghost use Rattle.fkv_operations.specs.Operations.{op_of};
 ghost use Rattle.fkv_partition.specs.Effect.{asked, IsGiveUp};
 ghost use Rattle.fkv_partition.specs.Events.{Issues, Goes, Installs, Loads, GivesUp};
 ghost use Rattle.fkv_locked.specs.Kept.{place_of};
-ghost use Rattle.fkv_locked.specs.Locks.{IsTimed, noted, with_partition, with_issue, IsLoadRefused};
+ghost use Rattle.fkv_locked.specs.Locks.{IsTimed, noted, with_partition, with_turn, with_issue, looks_now, IsLoadRefused};
+ghost use Rattle.fkv_locked.specs.Marks.{Marks, IsOpen, mark_of};
 ghost use Rattle.fkv_locked.specs.Turns.{question_of, IsUnheard, IsUnready, IsLookedEarly, Turns, IsToldBy};
 
 use crate::locked::{Locked, next_moment};
@@ -47,6 +48,9 @@ impl<F: Mergeable, R: Receipt, H: Recorder<F>> Locked<F, R, H> {
         ensures fresh { IfOk result (λ _. told ≤ self.old.count) }
         ensures after { IfOk result (λ mine.
             self.new ≡ with_issue self.old self.new.partition seat.slot mine.context) }
+        ensures opens { IfOk result (λ mine. IsOpen mine self.new) }
+        ensures marks { OnOk result (Marks self.old self.new) }
+        ensures mark { IfOk result (λ mine. mark_of mine self.new ≡ self.old.count) }
         ensures refused { IfErr result (λ why. IsUnheard self.old.count self.old.clock told why
             ⊎ Issues F.code self.old.partition self.new.partition seat.slot (op_of op) (self.old.clock + 1) (Err why)) }
         ensures unchanged { OnErr result (self.new ≡ self.old) }
@@ -86,7 +90,10 @@ impl<F: Mergeable, R: Receipt, H: Recorder<F>> Locked<F, R, H> {
         ensures effect { IfOk result (λ turn. (p : _) × Goes R.stands F.Key.cmp F.parts.joined F.meaning F.code
             self.old.partition
             self.new.partition mine.now.seat.slot mine.now.context (self.old.clock + 1) (Ok p) × IsToldBy p turn) }
-        ensures turns { IfOk result (Turns H.keeps (noted self.old) (noted self.new) mine.now) }
+        ensures open { OnOk result (IsOpen mine.now self.old) }
+        ensures turns { IfOk result (Turns H.keeps self.old.count (looks_now self.old mine.now) (noted self.old)
+            (noted self.new) mine.now) }
+        ensures after { OnOk result (self.new ≡ with_turn self.old self.new) }
         ensures refused { IfErr result (λ why.
             IsUnready (asked self.old.partition mine.now.seat.slot mine.now.context) self.old.count self.old.book
             self.old.clock mine.now why
@@ -125,7 +132,10 @@ impl<F: Mergeable, R: Receipt, H: Recorder<F>> Locked<F, R, H> {
     ) -> Result<TurnOf<F, R>, Refused>
         ensures effect { IfOk result (λ turn. (p : _) × Installs F.Key.cmp F.meaning F.code self.old.partition
             self.new.partition mine.now.seat.slot mine.now.context built (self.old.clock + 1) (Ok p) × IsToldBy p turn) }
-        ensures turns { IfOk result (Turns H.keeps (noted self.old) (noted self.new) mine.now) }
+        ensures open { OnOk result (IsOpen mine.now self.old) }
+        ensures turns { IfOk result (Turns H.keeps self.old.count (looks_now self.old mine.now) (noted self.old)
+            (noted self.new) mine.now) }
+        ensures after { OnOk result (self.new ≡ with_turn self.old self.new) }
         ensures refused { IfErr result (λ why.
             IsUnready (asked self.old.partition mine.now.seat.slot mine.now.context) self.old.count self.old.book
             self.old.clock mine.now why
@@ -175,7 +185,11 @@ impl<F: Mergeable, R: Receipt, H: Recorder<F>> Locked<F, R, H> {
             F.Value.SIZE) F.Key.cmp F.parts.joined F.meaning F.code
             self.old.partition self.new.partition mine.now.seat.slot mine.now.context came (self.old.clock + 1) (Ok p)
             × IsToldBy p turn) }
-        ensures turns { IfOk result (Turns H.keeps (noted self.old) (noted self.new) mine.now) }
+        ensures open { OnOk result (IsOpen mine.now self.old) }
+        ensures turns { IfOk result (Turns H.keeps
+            (slice_index self.old.looks (place_of mine.now.seat.slot mine.now.context)) self.old.looks (noted self.old)
+            (noted self.new) mine.now) }
+        ensures after { OnOk result (self.new ≡ with_turn self.old self.new) }
         ensures refused { IfErr result (λ why.
             IsUnready (asked self.old.partition mine.now.seat.slot mine.now.context) self.old.count self.old.book
             self.old.clock mine.now why
@@ -221,6 +235,7 @@ impl<F: Mergeable, R: Receipt, H: Recorder<F>> Locked<F, R, H> {
     pub fn give_up(&mut self, mine: &MineOf<F>) -> Result<(), Refused>
         ensures effect { OnOk result (GivesUp self.old.partition self.new.partition mine.now.seat.slot mine.now.context
             (self.old.clock + 1) (Ok tt)) }
+        ensures open { OnOk result (IsOpen mine.now self.old) }
         ensures after { OnOk result (self.new ≡ with_partition self.old self.new.partition) }
         ensures refused { IfErr result (λ why.
             ((why ≡ Refused.Unknown)

@@ -1,5 +1,5 @@
 //! What an event of a caller's operation comes to, and what it adds to the history.
-ghost use Rattle.std.specs.Prelude.{◌≡◌, ℕ, ◌+◌, ◌-◌, ◌^◌, ◌<◌, ◌≤◌, true, List, length, slice_index, Some, IfOk, IfErr, OnOk, OnErr};
+ghost use Rattle.std.specs.Prelude.{◌≡◌, ℕ, ◌+◌, ◌-◌, ◌^◌, ◌<◌, ◌≤◌, true, List, length, slice_index, slice_set, Some, IfOk, IfErr, OnOk, OnErr};
 ghost use Rattle.fkv_operations.specs.Operations.{op_of};
 ghost use Rattle.fkv_partition.specs.Effect.{asked};
 ghost use Rattle.fkv_partition.specs.Views.{PartitionView};
@@ -108,9 +108,22 @@ pub(crate) fn note<F: Mergeable, R: Receipt, H: Recorder<F>>(
         → IsKept F.Key.cmp F.meaning (seen F.Key.cmp new) (H.entries history.new) lows.now.items looks.new.items
         book.new }
     ensures marks { length looks.new.items ≡ 128 }
-    ensures turns { Turns H.keeps
-        (record { entries = H.entries history.old; count = H.count history.old; book = book.old })
-        (record { entries = H.entries history.new; count = H.count history.new; book = book.new }) mine.now result }
+    ensures turns { Turns H.keeps (H.count history.old)
+        (slice_set looks.old.items (place_of mine.now.seat.slot mine.now.context) (H.count history.old))
+        (record {
+          entries = H.entries history.old;
+          count = H.count history.old;
+          lows = lows.now.items;
+          looks = looks.old.items;
+          book = book.old;
+        })
+        (record {
+          entries = H.entries history.new;
+          count = H.count history.new;
+          lows = lows.now.items;
+          looks = looks.new.items;
+          book = book.new;
+        }) mine.now result }
     ensures tells { IsToldBy progress result }
 {
     let at = history.updates();
@@ -159,9 +172,21 @@ pub(crate) fn note_loaded<F: Mergeable, R: Receipt, H: Recorder<F>>(
         → IsCome {R = R} F.Key.cmp F.meaning old new mine.now progress
         → IsKept F.Key.cmp F.meaning (seen F.Key.cmp old) (H.entries history.old) lows.now.items looks book.old
         → IsKept F.Key.cmp F.meaning (seen F.Key.cmp new) (H.entries history.new) lows.now.items looks book.new }
-    ensures turns { Turns H.keeps
-        (record { entries = H.entries history.old; count = H.count history.old; book = book.old })
-        (record { entries = H.entries history.new; count = H.count history.new; book = book.new }) mine.now result }
+    ensures turns { (looks : List ℕ) → Turns H.keeps look looks
+        (record {
+          entries = H.entries history.old;
+          count = H.count history.old;
+          lows = lows.now.items;
+          looks = looks;
+          book = book.old;
+        })
+        (record {
+          entries = H.entries history.new;
+          count = H.count history.new;
+          lows = lows.now.items;
+          looks = looks;
+          book = book.new;
+        }) mine.now result }
     ensures tells { IsToldBy progress result }
 {
     let high = history.updates();

@@ -1,6 +1,8 @@
 use Rattle.std.proofs.Common.{◌<◌, ◌∙◌, inr, length, slice_set, ap, arith}
 use Rattle.std.proofs.lemmas.List.{length-set}
 use Rattle.fkv_locked.specs.Kept.{place_of}
+use Rattle.fkv_locked.specs.Marks.{Marks}
+use Rattle.fkv_locked.proofs.KeptLemmas.{marked_same}
 use Rattle.fkv_locked.proofs.TurnLemmas.{issue_keeps}
 use Rattle.fkv_locked.proofs.locked.Locked.issue.Goals as goal
 
@@ -26,3 +28,19 @@ invariant_of-self-in-Ok g c =
 
 pub returns-in-Err-clause-refused : goal.returns-in-Err-clause-refused
 returns-in-Err-clause-refused g c = rw (← c.self.view_is, ← c.in-Some.ensures.some, ← c.op.ensures) (inr c.in-Err.ensures.effect)
+
+pub returns-in-Ok-clause-marks : goal.returns-in-Ok-clause-marks
+returns-in-Ok-clause-marks g c =
+    rw (← c.self.view_is)
+    (Marks.issues c.args.seat.slot c.in-Ok.context c.in-Ok.ensures.within.1 c.in-Ok.ensures.event.closed
+    (rw (← c.updates-held.ensures) c.set_mark.ensures))
+
+pub returns-in-Ok-clause-mark : goal.returns-in-Ok-clause-mark
+returns-in-Ok-clause-mark g c =
+    let a = c.in-Ok.ensures.within.0 in
+    let b = c.in-Ok.ensures.within.1 in
+    let l = c.self.invariant.1 in
+    let low : place_of c.args.seat.slot c.in-Ok.context < length c.self.inside.lows.items = omega arith in
+    rw (← c.self.view_is)
+    (marked_same c.self.inside.lows.items c.set_mark.new.marks.items (place_of c.args.seat.slot c.in-Ok.context) c.updates-held.result
+    c.set_mark.ensures low ∙ c.updates-held.ensures)

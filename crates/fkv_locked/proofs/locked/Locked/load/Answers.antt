@@ -40,3 +40,8 @@ returns-clause-effect g c = (c.in-Ok-load.progress, rw (← c.self.view_is, ← 
 
 pub returns-in-Err-load-clause-refused : goal.returns-in-Err-load-clause-refused
 returns-in-Err-load-clause-refused g c = rw (← c.self.view_is, ← c.in-Ok.ensures.now) (inr (inr c.in-Err-load.ensures.effect))
+
+pub returns-clause-turns : goal.returns-clause-turns
+returns-clause-turns g c =
+    rw (← c.self.view_is, ← c.mark_at-look.ensures, ← c.in-Ok.ensures.entries, ← c.in-Ok.ensures.count)
+    (c.note_loaded.ensures.turns c.self.inside.looks.items)
