@@ -6,7 +6,7 @@ use fkv_alone::run_alone;
 use fkv_device::{Disk, FileDevice, FileReader, FileReceipt, FileWriter, Written};
 use fkv_functions::{Name, Refused};
 use fkv_operations::{Clock, KeyedOp};
-use fkv_partition::{Config, Partition, ProgressOf};
+use fkv_partition::{Config, Partition, Progress, ProgressOf};
 use std::alloc::Global;
 use std::fs::File;
 
@@ -55,9 +55,10 @@ impl Store {
         })
     }
 
-    /// Makes an update from its issue to its end, with no other event in between.
+    /// Makes an update from its issue to its end, with no other event in between. One that waits has not been made, and is told as
+    /// `Stalled`: a store whose pages fill its frames moves them on first, as `flush` and [`Partition::shift_head`] do.
     pub fn update(&mut self, slot: usize, key: Name, input: i64) -> Result<Told, Refused> {
-        run_alone(
+        let ran = run_alone(
             &mut self.partition,
             slot,
             KeyedOp::Rmw(key, input),
@@ -65,8 +66,11 @@ impl Store {
             &mut self.reader,
             &mut self.clock,
             LIMIT,
-        )
-        .progress
+        );
+        match ran.progress {
+            Ok(Progress::Waits(_)) => Err(Refused::Stalled),
+            told => told,
+        }
     }
 
     /// Lets a session look at the offsets of now.

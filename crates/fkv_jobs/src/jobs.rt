@@ -23,7 +23,7 @@ pub trait Job: Drop {
     ghost gives: { Self → Self.Output → Type 0 };
 
     /// Does it.
-    fn run<W: Wait>(self, rt: &W) -> Self::Output
+    fn run<W: Wait + Clock>(self, rt: &W) -> Self::Output
         requires { ready self }
         ensures { gives self result };
 }

@@ -19,8 +19,8 @@ pub trait Keeper {
     /// Why a turn may be refused.
     ghost fault: { Self → Refused → Type 0 };
 
-    /// One turn. After a refused one there is no other.
-    fn turn<W: Wait>(&self, rt: &W) -> Result<(), Refused>
+    /// One turn, which may end early where it is told to stop. After a refused one there is no other.
+    fn turn<W: Wait>(&self, rt: &W, stop: &AtomicBool) -> Result<(), Refused>
         ensures { IfErr result (fault self.now) };
 }
 
@@ -53,7 +53,7 @@ pub fn keep<K: Keeper, W: Wait + Clock>(
         if stop.load(Ordering::SeqCst) {
             return Ok(());
         }
-        match keeper.turn(rt) {
+        match keeper.turn(rt, stop) {
             Ok(()) => thread::sleep(rt, Duration::from_millis(PAUSE)),
             Err(refused) => return Err(refused),
         }

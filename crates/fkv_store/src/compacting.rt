@@ -8,28 +8,74 @@ use crate::refusals::told;
 use crate::stores::Store;
 use crate::tidying::KEEPER;
 use fkv_compaction::Compactor;
-use fkv_device::{Disk, Loaded};
+use fkv_device::{Disk, Loaded, PageReader, Receipt};
 use fkv_functions::{Mergeable, Refused};
 use fkv_histories::Recorder;
 use fkv_partition::{Progress, ProgressOf};
 use fkv_records::Address;
 use std::alloc::Global;
 use std::sync::Wait;
+use std::sync::atomic::{AtomicBool, Ordering};
 
-/// A compactor that has joined, and up to where it relocates: Head, as it was then.
+/// How often one relocation begins anew in one call, because callers moved the entry of its key meanwhile. After that it is given
+/// up: they write the key faster than it follows.
+const RESTARTS: u8 = 8;
+
+/// A compactor that has joined, up to where it relocates, which is Head as it was then, and how often pages had been moved.
 #[derive(Drop)]
 struct Joined {
     compactor: Compactor,
     end: Address,
+    moves: u64,
+}
+
+/// The pages of a partition, as a compaction reads them: that of the place that is relocated is kept, since the next place stands in
+/// it too, but at the page's end.
+#[derive(Drop)]
+struct Pages<P: PageReader> {
+    reader: P,
+    size: usize,
+    kept: Option<Loaded<P::Receipt>>,
+}
+
+impl<P: PageReader> Pages<P> {
+    /// The page of this receipt, as it is kept, if it is.
+    fn kept(&self, receipt: &P::Receipt) -> Option<Result<Loaded<P::Receipt>, Refused>> {
+        match &self.kept {
+            Some(page) if page.receipt().number() == receipt.number() => Some(page.again()),
+            _ => None,
+        }
+    }
+
+    /// Reads a page, and keeps it where it is that of a place.
+    fn read(
+        &mut self,
+        receipt: &P::Receipt,
+        is_of_place: bool,
+    ) -> Result<Loaded<P::Receipt>, Refused> {
+        let page = match Loaded::fetch(&mut self.reader, receipt, self.size) {
+            Ok(page) => page,
+            Err(refused) => return Err(refused),
+        };
+        if is_of_place {
+            self.kept = match page.again() {
+                Ok(kept) => Some(kept),
+                Err(refused) => return Err(refused),
+            };
+        }
+        Ok(page)
+    }
 }
 
 /// How far relocations are.
 #[derive(Drop)]
 enum Stage<R: Drop> {
-    /// The next one goes on.
-    On,
+    /// One begins, or begins anew.
+    Begun,
     /// The page by this receipt is to be read.
     NeedsLoad(R),
+    /// One is done.
+    Done,
     /// There is no other one in this call.
     Over,
 }
@@ -43,15 +89,17 @@ fn after_event<F: Mergeable, D: Disk>(
     match turned {
         Ok(Progress::NeedsLoad(receipt, _)) => Ok(Stage::NeedsLoad(receipt)),
         Ok(Progress::Waits(_)) | Err(Refused::NotDue) => Ok(Stage::Over),
-        Ok(_) => Ok(Stage::On),
+        Ok(Progress::Done(_, _)) => Ok(Stage::Done),
+        Ok(_) => Ok(Stage::Begun),
         Err(refused) => Err(told(refused)),
     }
 }
 
 impl<F: Mergeable, D: Disk, H: Recorder<F>> Store<F, D, H> {
     /// Relocates what lives at the start of a partition's log, up to the Head that it finds at the most, and moves Begin
-    /// behind what is cleared. It stops early where a part is not due; where a relocation waits it begins no other, and gives
-    /// that one up. No value of a key changes.
+    /// behind what is cleared. It stops early where a part is not due; where a relocation waits, or has begun anew eight times
+    /// because callers wrote its key meanwhile, it begins no other, and gives that one up. Its session is refreshed wherever pages
+    /// were moved, so that callers need not wait for it. No value of a key changes.
     ///
     /// # Errors
     ///
@@ -68,6 +116,25 @@ impl<F: Mergeable, D: Disk, H: Recorder<F>> Store<F, D, H> {
         ensures none { self.now.count ≤ partition → result ≡ Err Refused.Unknown }
         ensures only { IfErr result IsTold }
     {
+        let never = AtomicBool::new(false);
+        self.compact_until(rt, partition, gate, &never)
+    }
+
+    /// Does the same, but begins no event of a relocation any more once it is told to stop: what is cleared by then is cut.
+    ///
+    /// # Errors
+    ///
+    /// As [`Store::compact`]'s.
+    pub fn compact_until<G: Gate>(
+        &self,
+        rt: &impl Wait,
+        partition: usize,
+        gate: &G,
+        stop: &AtomicBool,
+    ) -> Result<(), Refused>
+        ensures none { self.now.count ≤ partition → result ≡ Err Refused.Unknown }
+        ensures only { IfErr result IsTold }
+    {
         if partition >= self.locks.len() {
             return Err(Refused::Unknown);
         }
@@ -75,15 +142,20 @@ impl<F: Mergeable, D: Disk, H: Recorder<F>> Store<F, D, H> {
             partition,
             worker: KEEPER,
         };
-        let mut reader = match self.reader(rt, partition) {
+        let reader = match self.reader(rt, partition) {
             Ok(reader) => reader,
             Err(refused) => return Err(told(refused)),
+        };
+        let mut pages = Pages {
+            reader,
+            size: self.page_size,
+            kept: None,
         };
         let joined = match self.join(rt, at, gate) {
             Ok(joined) => joined,
             Err(refused) => return Err(refused),
         };
-        let relocated = self.relocate(rt, at, &joined, &mut reader, gate);
+        let relocated = self.relocate(rt, at, &joined, &mut pages, gate, stop);
         let truncated = match relocated {
             Ok(()) => self.truncate(rt, at, &joined.compactor, gate),
             Err(refused) => Err(refused),
@@ -106,42 +178,93 @@ impl<F: Mergeable, D: Disk, H: Recorder<F>> Store<F, D, H> {
         requires { at.partition < self.now.count }
         ensures only { IfErr result IsTold }
     {
+        let moves = self.moves_of(at.partition);
         let mut held = self.locks[at.partition].lock(rt);
         gate.pass(at.worker, at.locked());
         let end = held.head();
         match held.join() {
-            Ok(compactor) => Ok(Joined { compactor, end }),
+            Ok(compactor) => Ok(Joined {
+                compactor,
+                end,
+                moves,
+            }),
             Err(refused) => Err(told(refused)),
         }
     }
 
-    /// Relocates until all is cleared up to the end of a compactor, or there is no other relocation in this call.
+    /// Relocates until all is cleared up to the end of a compactor, there is no other relocation in this call, or it is told to
+    /// stop.
     fn relocate<G: Gate>(
         &self,
         rt: &impl Wait,
         at: At,
         joined: &Joined,
-        reader: &mut D::Reader,
+        pages: &mut Pages<D::Reader>,
         gate: &G,
+        stop: &AtomicBool,
     ) -> Result<(), Refused>
         requires { at.partition < self.now.count }
         ensures only { IfErr result IsTold }
     {
         let mut came: Option<Result<Loaded<D::Receipt>, Refused>> = None;
+        let mut moves = joined.moves;
+        let mut begun = 0;
+        let mut is_of_place = false;
         for _event in 0..self.turns {
+            if stop.load(Ordering::SeqCst) {
+                return Ok(());
+            }
             let page = came;
             came = None;
             match self.relocate_on(rt, at, joined, page, gate) {
-                Ok(Stage::On) => {}
+                Ok(Stage::Begun) if begun > RESTARTS => return Ok(()),
+                Ok(Stage::Begun) => {
+                    begun += 1;
+                    is_of_place = true;
+                }
+                Ok(Stage::Done) => begun = 0,
                 Ok(Stage::Over) => return Ok(()),
                 Ok(Stage::NeedsLoad(receipt)) => {
-                    gate.pass(at.worker, Place::Load);
-                    came = Some(Loaded::fetch(reader, &receipt, self.page_size));
+                    came = pages.kept(&receipt);
+                    if came.is_none() {
+                        gate.pass(at.worker, Place::Load);
+                        came = Some(pages.read(&receipt, is_of_place));
+                    }
+                    is_of_place = false;
                 }
+                Err(refused) => return Err(refused),
+            }
+            match self.refresh_moved(rt, at, &joined.compactor, moves, gate) {
+                Ok(moved) => moves = moved,
                 Err(refused) => return Err(refused),
             }
         }
         Err(Refused::Stalled)
+    }
+
+    /// Refreshes a compactor's session where pages of its partition were moved since it was refreshed, so that callers need not
+    /// wait for it. Answers how often they had been moved.
+    fn refresh_moved<G: Gate>(
+        &self,
+        rt: &impl Wait,
+        at: At,
+        compactor: &Compactor,
+        seen: u64,
+        gate: &G,
+    ) -> Result<u64, Refused>
+        requires { at.partition < self.now.count }
+        ensures only { IfErr result IsTold }
+    {
+        let moves = self.moves_of(at.partition);
+        if moves == seen {
+            return Ok(seen);
+        }
+        let mut held = self.locks[at.partition].lock(rt);
+        gate.pass(at.worker, at.locked());
+        match held.refresh_compactor(compactor) {
+            Ok(()) => Ok(moves),
+            Err(refused) => Err(told(refused)),
+        }
     }
 
     /// Makes the next event of a compactor, with the page that came for it, if one did.

@@ -17,6 +17,7 @@ pub(crate) mod refusals;
 pub(crate) mod running;
 pub mod stores;
 pub mod tidying;
+pub(crate) mod waiting;
 
 pub use gates::{Gate, Open, Place};
 pub use passes::Pass;

@@ -19,6 +19,7 @@ use fkv_locked::Seat;
 use fkv_operations::{AnswerOf, KeyedOp, KeyedOpOf};
 use std::alloc::Global;
 use std::marker::{Model, PhantomData};
+use std::rt::Clock;
 use std::sync::Wait;
 
 /// After how many answers a pass refreshes its sessions of itself.
@@ -173,7 +174,7 @@ impl<F: Mergeable, D: Disk, H: Recorder<F>> Pass<F, D, H> {
     /// many turns as the configuration says; `Unknown` where another caller took the pass's sessions for its own.
     pub fn run<G: Gate>(
         &mut self,
-        rt: &impl Wait,
+        rt: &(impl Wait + Clock),
         alloc: Global,
         store: &Store<F, D, H>,
         op: KeyedOpOf<F>,
@@ -199,7 +200,7 @@ impl<F: Mergeable, D: Disk, H: Recorder<F>> Pass<F, D, H> {
     /// Those of [`Pass::run`] for an update.
     pub fn update_or_merge<G: Gate>(
         &mut self,
-        rt: &impl Wait,
+        rt: &(impl Wait + Clock),
         alloc: Global,
         store: &Store<F, D, H>,
         key: F::Key,
@@ -225,7 +226,7 @@ impl<F: Mergeable, D: Disk, H: Recorder<F>> Pass<F, D, H> {
     #[inline(always)]
     fn run_as<G: Gate>(
         &mut self,
-        rt: &impl Wait,
+        rt: &(impl Wait + Clock),
         alloc: Global,
         store: &Store<F, D, H>,
         op: KeyedOpOf<F>,

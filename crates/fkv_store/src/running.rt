@@ -8,14 +8,15 @@ ghost use Rattle.fkv_store.specs.Runs.{IsRunAs, IsEntryOf};
 use crate::gates::{Gate, Place};
 use crate::holds::{At, Hand, give_up, issue, refresh, turn, update_at_once};
 use crate::stores::Store;
+use crate::waiting::Patience;
 use fkv_device::{Disk, Loaded};
 use fkv_functions::{Built, Mergeable, Refused};
 use fkv_histories::{EntryOf, Recorder};
 use fkv_locked::{MineOf, Seat, Turn, TurnOf};
 use fkv_operations::{KeyedOp, KeyedOpOf};
 use std::alloc::Global;
+use std::rt::Clock;
 use std::sync::Wait;
-use std::thread;
 
 /// What is done where an operation needs a page from the device.
 #[derive(Clone, Copy, PartialEq, Eq, Debug)]
@@ -122,13 +123,16 @@ fn attempt<F: Mergeable, D: Disk, H: Recorder<F>, G: Gate>(
     }
 }
 
-/// Moves the pages of a partition on, and refreshes the sessions of a pass, so that what an operation waits for may come.
+/// Moves the pages of a partition on, and refreshes the sessions of a pass, so that what an operation waits for may come, and
+/// gives way to others.
 fn wait<F: Mergeable, D: Disk, H: Recorder<F>, G: Gate>(
-    rt: &impl Wait,
+    rt: &(impl Wait + Clock),
     store: &Store<F, D, H>,
     run: &Run<'_>,
+    patience: &mut Patience,
     gate: &G,
 ) -> Result<(), Refused>
+    requires within { run.now.at.partition < store.now.count }
     requires seats { length run.now.seats.now ≡ store.now.count }
     ensures only { IfErr result IsTold }
 {
@@ -140,14 +144,14 @@ fn wait<F: Mergeable, D: Disk, H: Recorder<F>, G: Gate>(
         Ok(()) => {}
         Err(refused) => return Err(refused),
     }
-    thread::yield_now();
+    patience.give_way(rt, store.moves_of(run.at.partition));
     Ok(())
 }
 
 /// Goes on with an operation until it is finished, or has taken all its turns: each event that lets it go on, asks for a page
 /// or waits is a turn. Answers its entry, or `None` where it needs a page that is not to be read: then it is still open.
 fn run_on<F: Mergeable, D: Disk, H: Recorder<F>, G: Gate>(
-    rt: &impl Wait,
+    rt: &(impl Wait + Clock),
     store: &Store<F, D, H>,
     run: &Run<'_>,
     reader: &mut D::Reader,
@@ -162,6 +166,7 @@ fn run_on<F: Mergeable, D: Disk, H: Recorder<F>, G: Gate>(
     ensures only { IfErr result IsTold }
 {
     let mut hand = Hand::Nothing;
+    let mut patience = Patience::default();
     for _turn in 0..store.turns {
         let at_hand = hand;
         hand = Hand::Nothing;
@@ -180,7 +185,7 @@ fn run_on<F: Mergeable, D: Disk, H: Recorder<F>, G: Gate>(
                 gate.pass(run.at.worker, Place::Load);
                 hand = Hand::Came(Loaded::fetch(reader, &receipt, store.page_size));
             }
-            Turn::Waits(_) => match wait(rt, store, run, gate) {
+            Turn::Waits(_) => match wait(rt, store, run, &mut patience, gate) {
                 Ok(()) => {}
                 Err(refused) => return Err(refused),
             },
@@ -212,7 +217,7 @@ fn try_at_once<F: Mergeable, D: Disk, H: Recorder<F>, G: Gate>(
 /// Issues an operation and runs it to its end. Answers its entry, or `None` where it needs a page that is not to be read. Where
 /// it is not finished it is given up, without effect.
 fn run_out<F: Mergeable, D: Disk, H: Recorder<F>, G: Gate>(
-    rt: &impl Wait,
+    rt: &(impl Wait + Clock),
     store: &Store<F, D, H>,
     run: &Run<'_>,
     reader: &mut D::Reader,
@@ -257,7 +262,7 @@ fn merge_for<F: Mergeable>(op: &KeyedOpOf<F>, loads: Loads) -> Option<KeyedOpOf<
 
 /// Runs an operation in a session of a pass. Where it is refused it is over, without effect.
 pub(crate) fn run_in<F: Mergeable, D: Disk, H: Recorder<F>, G: Gate>(
-    rt: &impl Wait,
+    rt: &(impl Wait + Clock),
     store: &Store<F, D, H>,
     run: &Run<'_>,
     readers: &mut Vec<D::Reader>,

@@ -46,7 +46,7 @@ impl<'a> Job for Meet<'a> {
 
     ghost gives = { λ job number. number ≡ job.number };
 
-    fn run<W: Wait>(self, _rt: &W) -> u64 {
+    fn run<W: Wait + Clock>(self, _rt: &W) -> u64 {
         self.place.begun.fetch_add(1, Ordering::SeqCst);
         for _ in 0..LOOKS {
             if self.is_met() {
@@ -69,7 +69,7 @@ struct Counts<'a> {
 impl<'a> Keeper for Counts<'a> {
     ghost fault = { λ _ refused. refused ≡ Refused.Stalled };
 
-    fn turn<W: Wait>(&self, _rt: &W) -> Result<(), Refused> {
+    fn turn<W: Wait>(&self, _rt: &W, _stop: &AtomicBool) -> Result<(), Refused> {
         if self.place.turns.fetch_add(1, Ordering::SeqCst) == self.last {
             return Err(Refused::Stalled);
         }

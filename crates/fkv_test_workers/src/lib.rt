@@ -8,4 +8,6 @@ mod gated;
 #[cfg(test)]
 mod merging;
 #[cfg(test)]
+mod stalling;
+#[cfg(test)]
 mod tables;

@@ -130,11 +130,18 @@ const TIGHT: Config = Config {
     turns: 1_000_000,
 };
 
-/// Whether a table has k0 to k99, each with 100.
-fn is_hundred(text: &[u8]) -> bool {
-    let lines = text.split(|byte| *byte == b'\n');
-    lines.filter(|line| line.ends_with(b",100")).count() == 100
-}
+/// The table of rows 0 to 999 of each of four feeds, by amounts of 1 to 4.
+const HUNDRED_TABLE: &[u8] =
+    b"k0,100\nk1,100\nk10,100\nk11,100\nk12,100\nk13,100\nk14,100\nk15,100\nk16,100\nk17,100\nk18,100\n\
+k19,100\nk2,100\nk20,100\nk21,100\nk22,100\nk23,100\nk24,100\nk25,100\nk26,100\nk27,100\nk28,100\n\
+k29,100\nk3,100\nk30,100\nk31,100\nk32,100\nk33,100\nk34,100\nk35,100\nk36,100\nk37,100\nk38,100\n\
+k39,100\nk4,100\nk40,100\nk41,100\nk42,100\nk43,100\nk44,100\nk45,100\nk46,100\nk47,100\nk48,100\n\
+k49,100\nk5,100\nk50,100\nk51,100\nk52,100\nk53,100\nk54,100\nk55,100\nk56,100\nk57,100\nk58,100\n\
+k59,100\nk6,100\nk60,100\nk61,100\nk62,100\nk63,100\nk64,100\nk65,100\nk66,100\nk67,100\nk68,100\n\
+k69,100\nk7,100\nk70,100\nk71,100\nk72,100\nk73,100\nk74,100\nk75,100\nk76,100\nk77,100\nk78,100\n\
+k79,100\nk8,100\nk80,100\nk81,100\nk82,100\nk83,100\nk84,100\nk85,100\nk86,100\nk87,100\nk88,100\n\
+k89,100\nk9,100\nk90,100\nk91,100\nk92,100\nk93,100\nk94,100\nk95,100\nk96,100\nk97,100\nk98,100\n\
+k99,100\n";
 
 #[test]
 fn four_workers(rt: HostRuntime) -> Result<(), Fail> {
@@ -150,9 +157,16 @@ fn four_workers(rt: HostRuntime) -> Result<(), Fail> {
         four.as_slice(),
     ];
     let audited = summed::<Audited<SumFns>, _, _>(&rt, alloc, &feeds, 4, &TIGHT, &Open)?;
-    assert!(rt; is_hundred(audited.as_slice()));
+    assert!(rt; audited.as_slice() == HUNDRED_TABLE);
     let plain = summed::<Plain, _, _>(&rt, alloc, &feeds, 4, &TIGHT, &Open)?;
-    assert!(rt; is_hundred(plain.as_slice()));
+    assert!(rt; plain.as_slice() == HUNDRED_TABLE);
+    let folder = String::from_str(alloc, "four_files")?;
+    let device = FileDevice::new(rt.clone()?, alloc, folder, 8);
+    let filed = summed_over::<Audited<SumFns>, _, _, _>(
+        &rt, alloc, &feeds, 4, &TIGHT, device, &Open,
+    )?;
+    assert!(rt; filed.as_slice() == HUNDRED_TABLE);
+    fs::remove_dir_all(&rt, "four_files")?;
     Ok(())
 }
 

@@ -10,7 +10,7 @@ use fkv_jobs::Keeper;
 use fkv_store::{Gate, Store};
 use std::alloc::Global;
 use std::sync::Wait;
-use std::sync::atomic::{AtomicU64, Ordering};
+use std::sync::atomic::{AtomicBool, AtomicU64, Ordering};
 
 /// How many pages Head moves until a partition is compacted again.
 const PAGES: u64 = 64;
@@ -26,12 +26,14 @@ pub(crate) struct StoreKeeper<'a, F: Mergeable, D: Disk, H: Recorder<F>, G> {
     pub span: u64,
 }
 
-/// Moves the pages of one partition, and compacts it where its Head has moved far enough since the last time.
+/// Moves the pages of one partition, and compacts it, until it is told to stop, where its Head has moved far enough since the last
+/// time.
 fn keep_one<F: Mergeable, D: Disk, H: Recorder<F>, G: Gate>(
     rt: &impl Wait,
     keeper: &StoreKeeper<'_, F, D, H, G>,
     partition: usize,
     compacted: &AtomicU64,
+    stop: &AtomicBool,
 ) -> Result<(), Refused>
     ensures { IfErr result IsTold }
 {
@@ -44,8 +46,9 @@ fn keep_one<F: Mergeable, D: Disk, H: Recorder<F>, G: Gate>(
         return Ok(());
     }
     compacted.store(head, Ordering::SeqCst);
-    match keeper.store.compact(rt, partition, keeper.gate) {
-        Ok(()) => Ok(()),
+    match keeper.store.compact_until(rt, partition, keeper.gate, stop) {
+        // one that took too long, or found no free session, is tried again when Head has moved on
+        Ok(()) | Err(Refused::Stalled | Refused::NoSlot) => Ok(()),
         Err(refused) => Err(refused),
     }
 }
@@ -53,9 +56,9 @@ fn keep_one<F: Mergeable, D: Disk, H: Recorder<F>, G: Gate>(
 impl<'a, F: Mergeable, D: Disk, H: Recorder<F>, G: Gate> Keeper for StoreKeeper<'a, F, D, H, G> {
     ghost fault = { λ _ refused. IsTold refused };
 
-    fn turn<W: Wait>(&self, rt: &W) -> Result<(), Refused> {
+    fn turn<W: Wait>(&self, rt: &W, stop: &AtomicBool) -> Result<(), Refused> {
         for (partition, compacted) in self.heads.iter().enumerate() {
-            match keep_one(rt, self, partition, compacted) {
+            match keep_one(rt, self, partition, compacted, stop) {
                 Ok(()) => {}
                 Err(refused) => return Err(refused),
             }

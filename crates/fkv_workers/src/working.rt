@@ -19,6 +19,7 @@ use fkv_operations::KeyedOp;
 use fkv_store::{Gate, Pass, Store};
 use fkv_streams::Source;
 use std::alloc::Global;
+use std::rt::Clock;
 use std::sync::Wait;
 
 /// A pass, into which rows go, and those that wait for it.
@@ -31,12 +32,14 @@ struct Rows<'a, W, F: Mergeable, D: Disk, H: Recorder<F>, G> {
     mode: RowMode,
     pass: Pass<F, D, H>,
     waiting: Waiting,
+    /// Whether the pass refused a row: then none is made after it.
+    stopped: bool,
 }
 
 /// Makes a row an update by a pass, or, as the mode says, where that would read a page a merge. Refused as the pass refuses an
 /// update.
 fn update<F: Mergeable<Key = Name, Input = i64>, D: Disk, H: Recorder<F>, G: Gate>(
-    rt: &impl Wait,
+    rt: &(impl Wait + Clock),
     alloc: Global,
     store: &Store<F, D, H>,
     gate: &G,
@@ -63,7 +66,7 @@ fn update<F: Mergeable<Key = Name, Input = i64>, D: Disk, H: Recorder<F>, G: Gat
 
 /// Makes rows updates by a pass, in order, as [`update`] does, whose refusals it has.
 fn update_all<F: Mergeable<Key = Name, Input = i64>, D: Disk, H: Recorder<F>, G: Gate>(
-    rt: &impl Wait,
+    rt: &(impl Wait + Clock),
     alloc: Global,
     store: &Store<F, D, H>,
     gate: &G,
@@ -86,14 +89,14 @@ fn update_all<F: Mergeable<Key = Name, Input = i64>, D: Disk, H: Recorder<F>, G:
     Ok(())
 }
 
-impl<'a, W: Wait, F: Mergeable<Key = Name, Input = i64>, D: Disk, H: Recorder<F>, G: Gate> Rows<
+impl<
     'a,
-    W,
-    F,
-    D,
-    H,
-    G,
-> {
+    W: Wait + Clock,
+    F: Mergeable<Key = Name, Input = i64>,
+    D: Disk,
+    H: Recorder<F>,
+    G: Gate,
+> Rows<'a, W, F, D, H, G> {
     /// Makes the rows of a partition that wait updates. Refused as [`update_all`] is.
     fn make(&mut self, partition: usize) -> Result<(), Refused>
         requires { partition < vec_len self.old.waiting }
@@ -123,6 +126,20 @@ impl<'a, W: Wait, F: Mergeable<Key = Name, Input = i64>, D: Disk, H: Recorder<F>
         Ok(())
     }
 
+    /// The fault of reading feeds that ended by this one: the rows that wait come before it, so they are made first, and where one is
+    /// refused that is told. Where the pass refused a row already none is made after it.
+    fn first_fault(&mut self, refused: Refused) -> Refused
+        ensures { (result ≡ refused) ⊎ IsTold result }
+    {
+        if self.stopped {
+            return refused;
+        }
+        match self.make_all() {
+            Ok(()) => refused,
+            Err(first) => first,
+        }
+    }
+
     /// Makes all rows that wait updates, partition by partition. Refused as [`update_all`] is.
     fn make_all(&mut self) -> Result<(), Refused>
         ensures ok { OnOk result ((rows : List (Name × ℤ))
@@ -140,8 +157,14 @@ impl<'a, W: Wait, F: Mergeable<Key = Name, Input = i64>, D: Disk, H: Recorder<F>
     }
 }
 
-impl<'a, W: Wait, F: Mergeable<Key = Name, Input = i64>, D: Disk, H: Recorder<F>, G: Gate> RowSink
-    for Rows<'a, W, F, D, H, G> {
+impl<
+    'a,
+    W: Wait + Clock,
+    F: Mergeable<Key = Name, Input = i64>,
+    D: Disk,
+    H: Recorder<F>,
+    G: Gate,
+> RowSink for Rows<'a, W, F, D, H, G> {
     ghost stands = { λ r rows. AreSplit H.keeps F.code r.pass (map (λ rows. rows.items) r.waiting.items) rows
         × (length r.pass.told ≡ r.store.now.count) };
 
@@ -156,7 +179,10 @@ impl<'a, W: Wait, F: Mergeable<Key = Name, Input = i64>, D: Disk, H: Recorder<F>
         }
         match self.make(partition) {
             Ok(()) => Ok(()),
-            Err(refused) => Err(refused),
+            Err(refused) => {
+                self.stopped = true;
+                Err(refused)
+            }
         }
     }
 }
@@ -204,9 +230,9 @@ fn read_all<S: Source + Drop, K: RowSink>(
 }
 
 /// Reads feeds into a pass, one after the other, until none of their rows waits. Refused as [`read_all`] is, and as the pass
-/// refuses an update.
+/// refuses an update: the first of the rows, in the order in which they are made, comes before what stands behind them in a feed.
 fn work_through<
-    W: Wait,
+    W: Wait + Clock,
     S: Source + Drop,
     F: Mergeable<Key = Name, Input = i64>,
     D: Disk,
@@ -220,7 +246,7 @@ fn work_through<
 {
     match read_all(alloc, feeds, rows) {
         Ok(()) => {}
-        Err(refused) => return Err(refused),
+        Err(refused) => return Err(rows.first_fault(refused)),
     }
     match rows.make_all() {
         Ok(()) => Ok(()),
@@ -230,7 +256,7 @@ fn work_through<
 
 /// Does a worker's work. Its pass rests at its end, so that no other worker waits for it.
 fn run_work<
-    W: Wait,
+    W: Wait + Clock,
     S: Source + Drop,
     F: Mergeable<Key = Name, Input = i64>,
     D: Disk,
@@ -268,6 +294,7 @@ fn run_work<
         mode,
         pass,
         waiting,
+        stopped: false,
     };
     let read = work_through(alloc, feeds, &mut rows);
     let Rows { pass, .. } = rows;
@@ -304,7 +331,7 @@ impl<
         (HasDone S.remaining S.failures H.keeps F.code j.feeds.items w.pass)
         × IfSome w.fault (IsStop S.remaining S.failures j.feeds.items) };
 
-    fn run<W: Wait>(self, rt: &W) -> Worked<F, D, H> {
+    fn run<W: Wait + Clock>(self, rt: &W) -> Worked<F, D, H> {
         run_work(rt, self)
     }
 }

@@ -1,0 +1,227 @@
+//! No run stalls: many workers over few frames, and compactions that are slow, take too long or fail; and which fault comes first.
+use crate::tables::{LETTERS, SMALL, summed_by, summed_over};
+use fkv_device::MemoryDevice;
+use fkv_feeds::RowMode;
+use fkv_functions::{Refused, SumFns};
+use fkv_histories::{Audited, Plain, Recorder};
+use fkv_partition::Config;
+use fkv_store::{Gate, KEEPER, Open, Place};
+use fkv_test_devices::{FailingDevice, Fault, UnsureDevice};
+use std::alloc::Global;
+use std::io::Write;
+use std::rt::Clock;
+use std::sync::Wait;
+use std::sync::atomic::{AtomicBool, AtomicU64, Ordering};
+use std::test::Fail;
+use std::thread;
+use std::thread::Threads;
+use std::time::Duration;
+
+/// So many rows over fifty keys, each key once in fifty rows, with this amount.
+fn fifty(alloc: Global, rows: u64, amount: i64) -> Result<Vec<u8>, Fail> {
+    let mut text = Vec::new(alloc);
+    for row in 0..rows {
+        writeln!(text, "k{},{amount}", row.wrapping_mul(37) % 50)?;
+    }
+    Ok(text)
+}
+
+/// The table of these feeds by so many workers, over memory.
+fn table<H: Recorder<SumFns> + Send, G: Gate + Sync, T: Threads + Wait + Clock + Sync>(
+    rt: &T,
+    alloc: Global,
+    feeds: &[&[u8]],
+    workers: usize,
+    config: &Config,
+    gate: &G,
+    mode: RowMode,
+) -> Result<Vec<u8>, Refused> {
+    let device = MemoryDevice::new(alloc);
+    summed_by::<H, _, _, _>(rt, alloc, feeds, workers, config, device, gate, mode)
+}
+
+/// Runs over one partition: by how many workers, with how many frames, whether a row may be a merge, and whether histories are
+/// kept.
+const RUNS: &[(usize, usize, RowMode, bool)] = &[
+    (14, 2, RowMode::Update, false),
+    (14, 2, RowMode::Merge, false),
+    (14, 2, RowMode::Merge, true),
+    (5, 2, RowMode::Merge, false),
+    (5, 3, RowMode::Merge, false),
+    (2, 8, RowMode::Merge, true),
+    (2, 2, RowMode::Merge, false),
+];
+
+/// Each run makes the table of one worker.
+#[test]
+fn many_workers(rt: HostRuntime) -> Result<(), Fail> {
+    let alloc = rt.alloc();
+    let rows = fifty(alloc, 60, 7)?;
+    let feeds = [rows.as_slice(); 14];
+    let one = table::<Plain, _, _>(&rt, alloc, &feeds, 1, &SMALL, &Open, RowMode::Update)?;
+    for (workers, frames, mode, audited) in RUNS {
+        let config = Config {
+            frames: *frames as u64,
+            ..SMALL
+        };
+        let made = if *audited {
+            table::<Audited<SumFns>, _, _>(&rt, alloc, &feeds, *workers, &config, &Open, *mode)?
+        } else {
+            table::<Plain, _, _>(&rt, alloc, &feeds, *workers, &config, &Open, *mode)?
+        };
+        assert!(rt;
+            made.as_slice() == one.as_slice(),
+            "{workers} workers, {frames} frames"
+        );
+    }
+    Ok(())
+}
+
+/// A gate by which each page that a compaction reads takes a millisecond.
+#[derive(Drop)]
+struct Slow<'a, C> {
+    clock: &'a C,
+}
+
+impl<'a, C: Clock> Gate for Slow<'a, C> {
+    fn pass(&self, worker: u32, place: Place) {
+        if worker == KEEPER && place == Place::Load {
+            thread::sleep(self.clock, Duration::from_millis(1));
+        }
+    }
+}
+
+/// A compaction that reads some thousand pages, a millisecond each, has nobody wait for a thousand turns.
+#[test]
+fn slow_compaction(rt: HostRuntime) -> Result<(), Fail> {
+    let alloc = rt.alloc();
+    let rows = fifty(alloc, 1_000, 3)?;
+    let feeds = [rows.as_slice(); 2];
+    let config = Config {
+        turns: 1_000,
+        ..SMALL
+    };
+    let one = table::<Plain, _, _>(&rt, alloc, &feeds, 1, &SMALL, &Open, RowMode::Update)?;
+    let slow = Slow { clock: &rt };
+    let made = table::<Plain, _, _>(&rt, alloc, &feeds, 2, &config, &slow, RowMode::Merge)?;
+    assert!(rt; made.as_slice() == one.as_slice());
+    Ok(())
+}
+
+/// The operation of worker 0 that is held until a compaction reads a page: by then enough pages have left memory for one.
+const HELD: u64 = 700;
+
+/// How often it looks, at the most.
+const LOOKS: u64 = 10_000_000;
+
+/// Holds worker 0 there until a compaction has read a page, or has failed to, where the device has a fault: that read is the call
+/// that fails.
+#[derive(Drop)]
+struct Caught<'a> {
+    begun: AtomicU64,
+    is_reading: AtomicBool,
+    has_read: AtomicBool,
+    fault: Option<&'a Fault>,
+}
+
+impl<'a> Caught<'a> {
+    fn by(fault: Option<&'a Fault>) -> Caught<'a> {
+        Caught {
+            begun: AtomicU64::new(0),
+            is_reading: AtomicBool::new(false),
+            has_read: AtomicBool::new(false),
+            fault,
+        }
+    }
+
+    /// Holds whoever comes until the compaction has read a page.
+    fn hold(&self) {
+        for _ in 0..LOOKS {
+            if self.has_read.load(Ordering::SeqCst) {
+                return;
+            }
+            thread::yield_now();
+        }
+    }
+
+    /// A compaction is going to read a page.
+    fn reads(&self) {
+        if !self.is_reading.swap(true, Ordering::SeqCst) {
+            if let Some(fault) = self.fault {
+                fault.come();
+            }
+        }
+    }
+}
+
+impl<'a> Gate for Caught<'a> {
+    fn pass(&self, worker: u32, place: Place) {
+        match (worker, place) {
+            (KEEPER, Place::Load) => self.reads(),
+            (KEEPER, Place::Locked(_)) if self.is_reading.load(Ordering::SeqCst) => {
+                self.has_read.store(true, Ordering::SeqCst);
+            }
+            (0, Place::Start) if self.begun.fetch_add(1, Ordering::SeqCst) == HELD => self.hold(),
+            _ => {}
+        }
+    }
+}
+
+/// A page that a compaction can't read ends the run.
+#[test]
+fn failing_compaction(rt: HostRuntime) -> Result<(), Fail> {
+    let alloc = rt.alloc();
+    let rows = fifty(alloc, 1_000, 3)?;
+    let fault = Fault::after(u64::MAX);
+    let device = FailingDevice::new(alloc, MemoryDevice::new(alloc), &fault);
+    let gate = Caught::by(Some(&fault));
+    let made = summed_by::<Plain, _, _, _>(
+        &rt,
+        alloc,
+        &[rows.as_slice()],
+        1,
+        &SMALL,
+        device,
+        &gate,
+        RowMode::Merge,
+    );
+    assert!(rt; made == Err(Refused::Device { code: 3, page: 0 }));
+    assert!(rt; fault.told() == Some(Refused::Device { code: 3, page: 0 }));
+    Ok(())
+}
+
+/// A compaction that takes more events than an operation may take turns is passed over.
+#[test]
+fn stalled_compaction(rt: HostRuntime) -> Result<(), Fail> {
+    let alloc = rt.alloc();
+    let rows = fifty(alloc, 3_000, 3)?;
+    let feeds = [rows.as_slice()];
+    let config = Config {
+        turns: 400,
+        ..SMALL
+    };
+    let one = table::<Plain, _, _>(&rt, alloc, &feeds, 1, &SMALL, &Open, RowMode::Update)?;
+    let gate = Caught::by(None);
+    let made = table::<Plain, _, _>(&rt, alloc, &feeds, 1, &config, &gate, RowMode::Merge)?;
+    assert!(rt; gate.has_read.load(Ordering::SeqCst));
+    assert!(rt; made.as_slice() == one.as_slice());
+    Ok(())
+}
+
+/// The rows before a bad one are made first: where the device can't read a page for one of them, that is told.
+#[test]
+fn rows_before_a_bad_row(rt: HostRuntime) -> Result<(), Fail> {
+    let alloc = rt.alloc();
+    let mut rows = LETTERS.to_vec(alloc)?;
+    rows.extend_from_slice(b"a\n")?;
+    let feeds = [rows.as_slice()];
+    let mut device = UnsureDevice::new(alloc);
+    let bad = summed_over::<Plain, _, _, _>(&rt, alloc, &feeds, 1, &SMALL, device, &Open);
+    assert!(rt; bad == Err(Refused::BadRow { feed: 1, row: 22 }));
+    device = UnsureDevice::new(alloc);
+    // the first page that each reader is asked for
+    device.reads = 0;
+    let failed = summed_over::<Plain, _, _, _>(&rt, alloc, &feeds, 1, &SMALL, device, &Open);
+    assert!(rt; failed == Err(Refused::Device { code: 3, page: 0 }));
+    Ok(())
+}
