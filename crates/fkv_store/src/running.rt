@@ -123,8 +123,13 @@ fn attempt<F: Mergeable, D: Disk, H: Recorder<F>, G: Gate>(
     }
 }
 
-/// Moves the pages of a partition on, and refreshes the sessions of a pass, so that what an operation waits for may come, and
-/// gives way to others.
+/// How often a wait moves pages on. A page leaves its frame in two steps, to where it is read only and then out, and each waits
+/// until all sessions are refreshed: so who is refreshed last makes both, and tries again before any other. With one step a
+/// wait, of callers who take turns one would find the frame free each time, and the others never.
+const STEPS: u8 = 2;
+
+/// Gives way to others, moves the pages of a partition on, and refreshes the sessions of a pass, so that what an operation waits
+/// for may come.
 fn wait<F: Mergeable, D: Disk, H: Recorder<F>, G: Gate>(
     rt: &(impl Wait + Clock),
     store: &Store<F, D, H>,
@@ -136,15 +141,17 @@ fn wait<F: Mergeable, D: Disk, H: Recorder<F>, G: Gate>(
     requires seats { length run.now.seats.now ≡ store.now.count }
     ensures only { IfErr result IsTold }
 {
-    match store.tidy(rt, run.alloc, run.at.partition, gate) {
-        Ok(_head) => {}
-        Err(refused) => return Err(refused),
-    }
-    match refresh_all(rt, store, run.seats, run.at.worker, gate) {
-        Ok(()) => {}
-        Err(refused) => return Err(refused),
-    }
     patience.give_way(rt, store.moves_of(run.at.partition));
+    for _step in 0..STEPS {
+        match store.tidy(rt, run.alloc, run.at.partition, gate) {
+            Ok(_head) => {}
+            Err(refused) => return Err(refused),
+        }
+        match refresh_all(rt, store, run.seats, run.at.worker, gate) {
+            Ok(()) => {}
+            Err(refused) => return Err(refused),
+        }
+    }
     Ok(())
 }
 

@@ -15,7 +15,6 @@ use std::sync::atomic::{AtomicBool, AtomicU64, Ordering};
 use std::test::Fail;
 use std::thread;
 use std::thread::Threads;
-use std::time::Duration;
 
 /// So many rows over fifty keys, each key once in fifty rows, with this amount.
 fn fifty(alloc: Global, rows: u64, amount: i64) -> Result<Vec<u8>, Fail> {
@@ -77,34 +76,98 @@ fn many_workers(rt: HostRuntime) -> Result<(), Fail> {
     Ok(())
 }
 
-/// A gate by which each page that a compaction reads takes a millisecond.
+/// How many pages a compaction reads, at the most, until the worker answers again.
+const IDLE: u64 = 64;
+
+/// How often the worker holds its partition while a compaction reads a page.
+const HOLDS: u64 = 4;
+
+/// Has a compaction read a page only when worker 0 has gone on meanwhile, or has made all its rows; and counts pages that were
+/// read, all and those between two answers, the most.
 #[derive(Drop)]
-struct Slow<'a, C> {
-    clock: &'a C,
+struct Watched {
+    rows: u64,
+    holds: AtomicU64,
+    answers: AtomicU64,
+    answers_before: AtomicU64,
+    pages: AtomicU64,
+    idle: AtomicU64,
+    most_idle: AtomicU64,
 }
 
-impl<'a, C: Clock> Gate for Slow<'a, C> {
+impl Watched {
+    fn of(rows: u64) -> Watched {
+        Watched {
+            rows,
+            holds: AtomicU64::new(0),
+            answers: AtomicU64::new(0),
+            answers_before: AtomicU64::new(0),
+            pages: AtomicU64::new(0),
+            idle: AtomicU64::new(0),
+            most_idle: AtomicU64::new(0),
+        }
+    }
+
+    fn has_ended(&self) -> bool {
+        self.answers.load(Ordering::SeqCst) == self.rows
+    }
+
+    /// A compaction is going to read a page.
+    fn reads(&self) {
+        let goal = self.holds.load(Ordering::SeqCst).saturating_add(HOLDS);
+        for _ in 0..LOOKS {
+            if self.has_ended() || self.holds.load(Ordering::SeqCst) >= goal {
+                break;
+            }
+            thread::yield_now();
+        }
+        self.pages.fetch_add(1, Ordering::SeqCst);
+        let answers = self.answers.load(Ordering::SeqCst);
+        if self.has_ended() || self.answers_before.swap(answers, Ordering::SeqCst) != answers {
+            self.idle.store(0, Ordering::SeqCst);
+            return;
+        }
+        let idle = self.idle.fetch_add(1, Ordering::SeqCst).saturating_add(1);
+        self.most_idle.fetch_max(idle, Ordering::SeqCst);
+    }
+}
+
+impl Gate for Watched {
     fn pass(&self, worker: u32, place: Place) {
-        if worker == KEEPER && place == Place::Load {
-            thread::sleep(self.clock, Duration::from_millis(1));
+        match (worker, place) {
+            (0, Place::Locked(_)) => {
+                self.holds.fetch_add(1, Ordering::SeqCst);
+            }
+            (0, Place::Answered) => {
+                self.answers.fetch_add(1, Ordering::SeqCst);
+            }
+            (KEEPER, Place::Load) => self.reads(),
+            _ => {}
         }
     }
 }
 
-/// A compaction that reads some thousand pages, a millisecond each, has nobody wait for a thousand turns.
+/// A compaction holds nobody up: whenever it reads many pages the worker answers meanwhile. Few buckets make ways long, so one
+/// relocation reads many.
 #[test]
-fn slow_compaction(rt: HostRuntime) -> Result<(), Fail> {
+fn compaction_holds_nobody_up(rt: HostRuntime) -> Result<(), Fail> {
     let alloc = rt.alloc();
-    let rows = fifty(alloc, 1_000, 3)?;
-    let feeds = [rows.as_slice(); 2];
+    let rows = fifty(alloc, 1_500, 3)?;
+    let feeds = [rows.as_slice()];
     let config = Config {
-        turns: 1_000,
+        bucket_bits: 2,
         ..SMALL
     };
     let one = table::<Plain, _, _>(&rt, alloc, &feeds, 1, &SMALL, &Open, RowMode::Update)?;
-    let slow = Slow { clock: &rt };
-    let made = table::<Plain, _, _>(&rt, alloc, &feeds, 2, &config, &slow, RowMode::Merge)?;
+    let gate = Watched::of(1_500);
+    let made = table::<Plain, _, _>(&rt, alloc, &feeds, 1, &config, &gate, RowMode::Merge)?;
     assert!(rt; made.as_slice() == one.as_slice());
+    let pages = gate.pages.load(Ordering::SeqCst);
+    let most = gate.most_idle.load(Ordering::SeqCst);
+    assert!(rt;
+        pages > IDLE && most < IDLE,
+        "{pages} pages, at most {most} without an answer"
+    );
     Ok(())
 }
 
