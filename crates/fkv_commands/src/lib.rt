@@ -9,7 +9,7 @@
 pub mod ending;
 mod making;
 mod opening;
-mod reporting;
+pub mod reporting;
 pub mod running;
 pub mod starting;
 mod tabulating;

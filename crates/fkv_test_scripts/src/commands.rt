@@ -1,9 +1,9 @@
 //! Whole runs as rows: their statuses, their texts, and streams that fail. Scripts stand in `fkv_rows`.
 use fkv_commands::running::{refuse_words, run, tell};
 use fkv_functions::{Refused, What};
-use fkv_meters::Silent;
+use fkv_meters::{Progress, Silent};
 use fkv_requests::{command_lines, words_of};
-use fkv_streams::{CountedReader, CountedWriter};
+use fkv_streams::{CountedReader, CountedWriter, Source};
 use fkv_test_streams::{Breaking, Filling};
 use std::alloc::{AllocError, Global};
 use std::env;
@@ -106,21 +106,53 @@ where
     H::File: Send,
     H::Dir: Send,
 {
+    let reader = Breaking::new(start.input.as_bytes(), start.piece, start.calls);
+    let mut reader = CountedReader::new(reader);
+    ends_by(
+        rt,
+        alloc,
+        start,
+        &mut reader,
+        &Silent,
+        status,
+        printed,
+        told,
+    )
+}
+
+/// Whether a run over this reader, which tells this hook how far it is, ends with this status, and prints this and tells what
+/// begins so. Where it is done, all that it prints is out.
+pub(crate) fn ends_by<R: Source, H: Files + Threads + Wait + Clock + Sync, P: Progress + Sync>(
+    rt: &H,
+    alloc: Global,
+    start: Launch<'_>,
+    reader: &mut R,
+    hook: &P,
+    status: u8,
+    printed: &str,
+    told: &str,
+) -> bool
+where
+    H::File: Send,
+    H::Dir: Send,
+{
     let Ok(words) = split(alloc, start.line) else {
         return false;
     };
-    let reader = Breaking::new(start.input.as_bytes(), start.piece, start.calls);
     let mut writer = Filling::with_room(alloc, usize::MAX, start.room);
     let mut faults = Filling::with_room(alloc, usize::MAX, start.beside);
     let ended = run(
         rt,
         alloc,
         words.as_slice(),
-        &mut CountedReader::new(reader),
+        reader,
         &mut CountedWriter::new(&mut writer),
         &mut CountedWriter::new(&mut faults),
-        &Silent,
+        hook,
     );
+    if status == 0 && writer.out != printed.len() {
+        return false;
+    }
     // a report ends with the seconds that the run took
     let is_told = if status == 2 || start.line.contains("--stats") {
         faults.text.starts_with(told.as_bytes())
@@ -459,10 +491,16 @@ fn runs(rt: HostRuntime) {
 }
 
 /// Command lines whose runs read the input to its end, that input, and what they print.
-const READ: [(&str, &str, &str); 2] = [
+const READ: [(&str, &str, &str); 3] = [
     ("fkv_cli", THIN_PATH, THIN_PATH_TOLD),
     (
         "fkv_cli sum --partition-bits 0 --bucket-bits 0 --page-bits 8 --frames 2",
+        "a,5\nb,7\na,-2\nc,1\n",
+        "a,3\nb,7\nc,1\n",
+    ),
+    // a reader that is read whole before the run begins
+    (
+        "fkv_cli sum --audit",
         "a,5\nb,7\na,-2\nc,1\n",
         "a,3\nb,7\nc,1\n",
     ),

@@ -5,8 +5,12 @@
 #[cfg(test)]
 mod commands;
 #[cfg(test)]
+mod folders;
+#[cfg(test)]
 mod named;
 #[cfg(test)]
 mod printed;
+#[cfg(test)]
+mod stats;
 #[cfg(test)]
 mod streams;

@@ -6,7 +6,7 @@ const FOLDER: &str = "named_feeds";
 
 /// What stands in `named_feeds/a` and `named_feeds/b`, the words of a run over them, its status, and what it prints and
 /// tells. Standard input has a row of its own, which no run reads that names a feed.
-const NAMED: [(&str, &str, &str, u8, &str, &str); 16] = [
+const NAMED: [(&str, &str, &str, u8, &str, &str); 23] = [
     (
         "a,1\nb,2\n",
         "a,5\nc,7\n",
@@ -14,6 +14,65 @@ const NAMED: [(&str, &str, &str, u8, &str, &str); 16] = [
         0,
         "a,6\nb,2\nc,7\n",
         "",
+    ),
+    // a path that is named again is read again, beside itself too
+    (
+        "a,1\nb,2\n",
+        "a,5\n",
+        "fkv_cli sum named_feeds/a named_feeds/a named_feeds/b",
+        0,
+        "a,7\nb,4\n",
+        "",
+    ),
+    (
+        "a,1\nb,2\n",
+        "a,5\n",
+        "fkv_cli sum named_feeds/a named_feeds/b named_feeds/a named_feeds/b named_feeds/b",
+        0,
+        "a,17\nb,4\n",
+        "",
+    ),
+    (
+        "a,1\nb,2\n",
+        "a,5\n",
+        "fkv_cli sum --workers 3 named_feeds/a named_feeds/a named_feeds/b named_feeds/b",
+        0,
+        "a,12\nb,4\n",
+        "",
+    ),
+    // one worker counts the records that it appends; several do not, nor does one that keeps histories
+    (
+        "a,1\nb,2\n",
+        "a,5\n",
+        "fkv_cli sum --stats named_feeds/a named_feeds/b",
+        0,
+        "a,6\nb,2\n",
+        "fkv_cli: rows 3\nfkv_cli: keys 2\nfkv_cli: records appended 2\nfkv_cli: updates in place 1\nfkv_cli: pages written 0\n",
+    ),
+    (
+        "a,1\nb,2\n",
+        "a,5\n",
+        "fkv_cli sum --stats --workers 2 named_feeds/a named_feeds/b",
+        0,
+        "a,6\nb,2\n",
+        "fkv_cli: rows 3\nfkv_cli: keys 2\nfkv_cli: pages written 0\n",
+    ),
+    (
+        "a,1\nb,2\n",
+        "a,5\n",
+        "fkv_cli sum --stats --audit named_feeds/a named_feeds/b",
+        0,
+        "a,6\nb,2\n",
+        "fkv_cli: rows 3\nfkv_cli: keys 2\nfkv_cli: pages written 0\n",
+    ),
+    // the feed after the third
+    (
+        "a,1\n",
+        "x\n",
+        "fkv_cli sum named_feeds/a named_feeds/a named_feeds/a named_feeds/b",
+        1,
+        "",
+        "fkv_cli: bad row 1 of feed 4\n",
     ),
     (
         "a,1\n",

@@ -8,6 +8,8 @@ use std::io::{self, Error, ErrorKind, Write};
 pub struct Filling {
     /// What it took.
     pub text: Vec<u8>,
+    /// How many bytes of it the last flush let out.
+    pub out: usize,
     /// The bytes that a call takes at most.
     pub piece: usize,
     /// The bytes that it has room for.
@@ -23,6 +25,7 @@ impl Filling {
     pub fn with_room(alloc: Global, piece: usize, room: usize) -> Filling {
         Filling {
             text: Vec::new(alloc),
+            out: 0,
             piece,
             room,
             calls: u64::MAX,
@@ -61,6 +64,7 @@ impl Write for Filling {
         if is_used_up(&mut self.calls) {
             return Err(Error::from(ErrorKind::Other));
         }
+        self.out = self.text.len();
         Ok(())
     }
 }

@@ -1,0 +1,206 @@
+//! What a run does that its table does not show: the pages that it moves, the rows that it tells of, and help.
+use crate::commands::{ends, ends_by, start};
+use fkv_commands::reporting::Report;
+use fkv_feeds::Counts;
+use fkv_meters::{Progress, Seen};
+use fkv_streams::{CountedReader, CountedWriter};
+use std::sync::atomic::{AtomicBool, AtomicU64, Ordering};
+use std::{fs, io};
+
+/// Twenty keys of one partition and the first of them again. Records of sums take 56 bytes, and the first begins at 64: three
+/// stand on page 0, four on each of the next four pages of 256 bytes, and two on page 5.
+const LETTERS: &str =
+    "a,1\nb,1\nc,1\nd,1\ne,1\nf,1\ng,1\nh,1\ni,1\nj,1\nk,1\nl,1\nm,1\nn,1\no,1\np,1\nq,1\nr,1\ns,1\nt,1\na,1\n";
+
+const LETTERS_TOLD: &str =
+    "a,2\nb,1\nc,1\nd,1\ne,1\nf,1\ng,1\nh,1\ni,1\nj,1\nk,1\nl,1\nm,1\nn,1\no,1\np,1\nq,1\nr,1\ns,1\nt,1\n";
+
+/// Options of `sum --stats` over [`LETTERS`], and its report as far as the seconds: the records appended, the updates in place,
+/// the pages written and read, and the bytes.
+const MOVED: [(&str, [u64; 5]); 7] = [
+    // all six pages are in frames
+    (
+        "--partition-bits 0 --page-bits 8 --frames 1024",
+        [20, 1, 0, 0, 0],
+    ),
+    (
+        "--partition-bits 0 --page-bits 8 --frames 8",
+        [20, 1, 0, 0, 0],
+    ),
+    // page 2 waits for a frame, and so does page 4: the pages below them leave. The second row of `a` reads page 0, and the
+    // list of keys each of the four
+    (
+        "--partition-bits 0 --page-bits 8 --frames 2",
+        [21, 0, 4, 5, 1024],
+    ),
+    // a merge reads no page
+    (
+        "--partition-bits 0 --page-bits 8 --frames 2 --merge",
+        [21, 0, 4, 4, 1024],
+    ),
+    // pages of 512 bytes: eight records on page 0, nine on page 1, four on page 2
+    (
+        "--partition-bits 0 --page-bits 9 --frames 2",
+        [21, 0, 2, 3, 1024],
+    ),
+    // 2^10 buckets leave nothing of 1K, so there are two frames of 256 bytes
+    (
+        "--partition-bits 0 --bucket-bits 10 --memory 1K",
+        [21, 0, 4, 5, 1024],
+    ),
+    // each partition has its own frames, which hold its keys
+    (
+        "--partition-bits 2 --page-bits 8 --frames 4",
+        [20, 1, 0, 0, 0],
+    ),
+];
+
+#[test]
+fn pages_that_move(rt: HostRuntime) -> io::Result<()> {
+    for (options, [appended, in_place, written, read, bytes]) in MOVED {
+        let line = format!(in rt.alloc(); "fkv_cli sum --stats {options}")?;
+        let told = format!(in rt.alloc();
+            "fkv_cli: rows 21\nfkv_cli: keys 20\nfkv_cli: records appended {appended}\nfkv_cli: updates in place {in_place}\nfkv_cli: pages written {written}\nfkv_cli: pages read {read}\nfkv_cli: bytes on the device {bytes}\nfkv_cli: seconds "
+        )?;
+        let run = start(line.as_str(), LETTERS);
+        assert!(rt;
+            ends(&rt, rt.alloc(), run, 0, LETTERS_TOLD, told.as_str()),
+            "{options}"
+        );
+    }
+    Ok(())
+}
+
+/// Milliseconds, and the last line of a report.
+const SECONDS: [(Option<u64>, &str); 6] = [
+    (Some(0), "fkv_cli: seconds 0.000\n"),
+    (Some(7), "fkv_cli: seconds 0.007\n"),
+    (Some(999), "fkv_cli: seconds 0.999\n"),
+    (Some(1_000), "fkv_cli: seconds 1.000\n"),
+    (Some(61_050), "fkv_cli: seconds 61.050\n"),
+    (None, ""),
+];
+
+#[test]
+fn seconds_of_reports(rt: HostRuntime) -> io::Result<()> {
+    for (millis, line) in SECONDS {
+        let report = Report {
+            keys: 2,
+            counts: Counts {
+                rows: 9,
+                appended: Some(4),
+            },
+            seen: Seen {
+                pages_written: 11,
+                pages_read: 12,
+                bytes_written: 13,
+            },
+            millis,
+        };
+        let text = format!(in rt.alloc();
+            "fkv_cli: rows 9\nfkv_cli: keys 2\nfkv_cli: records appended 4\nfkv_cli: updates in place 5\nfkv_cli: pages written 11\nfkv_cli: pages read 12\nfkv_cli: bytes on the device 13\n{line}"
+        )?;
+        let mut told = Vec::new(rt.alloc());
+        report.tell(&mut CountedWriter::new(&mut told));
+        assert!(rt; told.as_slice() == text.as_bytes(), "{millis:?}");
+    }
+    Ok(())
+}
+
+/// Whether a run was to tell how far it is, and how many line ends it was told of.
+#[derive(Drop)]
+struct Heard {
+    has_begun: AtomicBool,
+    lines: AtomicU64,
+}
+
+impl Progress for Heard {
+    fn begin(&self) {
+        self.has_begun.store(true, Ordering::SeqCst);
+    }
+
+    fn read(&self, bytes: &[u8]) {
+        let lines = bytes.iter().filter(|byte| **byte == 10).count() as u64;
+        self.lines.fetch_add(lines, Ordering::SeqCst);
+    }
+}
+
+/// Words, whether they ask for progress, and the line ends of the feeds that they name.
+const HEARD: [(&str, bool, u64); 7] = [
+    ("fkv_cli sum --progress heard/a heard/b", true, 3),
+    (
+        "fkv_cli sum --progress --workers 2 heard/a heard/b",
+        true,
+        3,
+    ),
+    ("fkv_cli sum --progress", true, 0),
+    ("fkv_cli sum --merge heard/b", false, 1),
+    ("fkv_cli sum --stats heard/a", false, 2),
+    ("fkv_cli sum --audit heard/a", false, 2),
+    ("fkv_cli sum", false, 0),
+];
+
+#[test]
+fn progress_that_is_told(rt: HostRuntime) -> io::Result<()> {
+    fs::create_dir_all(&rt, "heard")?;
+    fs::write(&rt, "heard/a", "a,1\nb,2\n")?;
+    fs::write(&rt, "heard/b", "a,4\n")?;
+    for (line, has_begun, lines) in HEARD {
+        let printed = match lines {
+            3 => "a,5\nb,2\n",
+            2 => "a,1\nb,2\n",
+            1 => "a,4\n",
+            _ => "",
+        };
+        let heard = Heard {
+            has_begun: AtomicBool::new(false),
+            lines: AtomicU64::new(0),
+        };
+        let mut reader = CountedReader::new(b"".as_slice());
+        let run = start(line, "");
+        let told = if line.contains("--stats") {
+            "fkv_cli: rows 2\n"
+        } else {
+            ""
+        };
+        assert!(rt;
+            ends_by(&rt, rt.alloc(), run, &mut reader, &heard, 0, printed, told),
+            "{line}"
+        );
+        assert!(rt;
+            heard.has_begun.load(Ordering::SeqCst) == has_begun,
+            "{line}"
+        );
+        assert!(rt; heard.lines.load(Ordering::SeqCst) == lines, "{line}");
+    }
+    fs::remove_dir_all(&rt, "heard")?;
+    Ok(())
+}
+
+const SUM_HELP: &str = "Adds up the amounts of each key
+
+Usage: fkv_cli sum [OPTIONS] [FEED]...
+
+Arguments:
+  [FEED]...  Where the feeds are, up to 64; standard input where none is named
+
+Options:
+      --partition-bits <N>  There are 2 to this many partitions: 0 to 6 [default: 2]
+      --bucket-bits <N>     There are 2 to this many buckets in each: 0 to 20 [default: 10]
+      --page-bits <N>       A page has 2 to this many bytes: 8 to 20 [default: 16]
+      --frames <N>          The page frames of each partition: 2 to 1024 [default: 4]
+      --merge               Make a row a merge where it would read a page
+      --workers <N>         How many threads read the feeds, each some of them: 1 to 14 [default: 1]
+      --audit               Keep every update, and compare them at the end with what the workers were answered
+      --stats               Tell on standard error, at the end, what the run did
+      --progress            Tell on standard error, at most once a second, how many rows were read
+      --memory <SIZE>       Sets --bucket-bits, --page-bits and --frames, where they are not given, so that buckets and frames take at most this much, as 64M or 2G
+      --dir <PATH>          Keep pages in files of this folder, made anew; without it they are kept in memory
+  -h, --help                Print help
+";
+
+#[test]
+fn help_of_tables(rt: HostRuntime) {
+    let run = start("fkv_cli sum --help", "");
+    assert!(rt; ends(&rt, rt.alloc(), run, 0, SUM_HELP, ""));
+}
