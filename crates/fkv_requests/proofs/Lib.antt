@@ -1,3 +1,5 @@
 pub mod CommandLineLemmas
 pub mod OptionLemmas
 pub mod RequestLemmas
+pub mod MemoryLemmas
+pub mod SourceLemmas

@@ -1,15 +1,34 @@
 -- How much memory a store may take, and the numbers that follow from it.
-use Rattle.std.specs.Prelude.{◌+◌, ◌-◌, ◌*◌, ◌/◌, ◌^◌, ◌==◌, ℕ, List, length, take, get_or, Option, Some, None, min, max, nat_lt, if◌then◌else◌}
+use Rattle.std.specs.Prelude.{◌+◌, ◌-◌, ◌*◌, ◌/◌, ◌^◌, ◌==◌, ◌&&◌, ℕ, Bool, true, false, List, [], ◌∷◌, length, take, drop, Option, Some, None, min, max, nat_lt, not, if◌then◌else◌}
+use Rattle.std.specs.Char.{is_ascii_digit, to_ascii_uppercase}
+use Rattle.std.specs.List.{position_or_len}
 use Rattle.std.specs.Int.{w64, leading_zeros}
 use Rattle.fkv_feed_rows.specs.Amounts.{number_of}
 
--- what a letter behind a number stands for: K, M and G
-abbrev pub unit_of : ℕ → Option ℕ
-unit_of letter =
+-- what a letter stands for: K, M, G and T
+abbrev pub power_of : ℕ → Option ℕ
+power_of letter =
     if letter == 75 then Some (2 ^ 10)
     else if letter == 77 then Some (2 ^ 20)
     else if letter == 71 then Some (2 ^ 30)
+    else if letter == 84 then Some (2 ^ 40)
     else None
+
+-- what may stand behind a unit's letter: nothing, B or iB, in either case
+abbrev pub is_bytes : List ℕ → Bool
+is_bytes [] = true
+is_bytes (b ∷ []) = to_ascii_uppercase b == 66
+is_bytes (i ∷ b ∷ []) = (to_ascii_uppercase i == 73) && (to_ascii_uppercase b == 66)
+is_bytes (x ∷ y ∷ z ∷ more) = false
+
+-- the unit that a text names, if it names one: all are powers of 1024
+abbrev pub unit_of : List ℕ → Option ℕ
+unit_of [] = None
+unit_of (letter ∷ rest) = if is_bytes rest then power_of (to_ascii_uppercase letter) else None
+
+-- how many digits stand at the front
+abbrev pub digits_in : List ℕ → ℕ
+digits_in text = position_or_len (λ byte. not (is_ascii_digit byte)) text
 
 -- one to eighteen digits, times a unit, where that is below 2^64
 abbrev pub product : Option ℕ → ℕ → Option ℕ
@@ -20,9 +39,9 @@ abbrev pub scaled : List ℕ → Option ℕ → Option ℕ
 scaled digits None = None
 scaled digits (Some unit) = if nat_lt 18 (length digits) then None else product (number_of digits) unit
 
--- the number of bytes that a text names: digits with a letter behind them
+-- the number of bytes that a text names: digits with a unit behind them
 unfoldable pub size_of : List ℕ → Option ℕ
-size_of text = scaled (take (length text - 1) text) (unit_of (get_or text (length text - 1) 0))
+size_of text = scaled (take (digits_in text) text) (unit_of (drop (digits_in text) text))
 
 -- the greatest number of bits, up to so many, whose power of two is at most n; 0 where there is none
 abbrev pub bits_within : ℕ → ℕ → ℕ

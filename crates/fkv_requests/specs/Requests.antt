@@ -1,5 +1,5 @@
 -- What the words of a command line ask for. The first word is the program's name.
-use Rattle.std.specs.Prelude.{◌≡◌, ◌≢◌, ◌⊎◌, ⊤, Bool, true, false, ◌&&◌, ◌-◌, ◌^◌, ℕ, List, [], ◌∷◌, map, Option, Some, None, codes, nat_lt, option_map, string_bytes, if◌then◌else◌}
+use Rattle.std.specs.Prelude.{◌≡◌, ◌≢◌, ◌==◌, ◌⊎◌, ⊤, Bool, true, false, ◌&&◌, ◌||◌, ◌-◌, ◌^◌, ℕ, List, [], ◌∷◌, count_by, find, length, map, Option, Some, None, codes, nat_lt, option_and_then, option_map, string_bytes, if◌then◌else◌}
 use Rattle.std.specs.Str.{bytes_eq}
 use Rattle.std.specs.Option.{option_map_or}
 use Rattle.std.specs.Str.Parse.{digits_value, without_leading_plus}
@@ -7,6 +7,8 @@ use Rattle.clap.specs.Words.{App, IsAmong, Row, Rule, all_of, fault_of, first_of
 pub use Rattle.clap.specs.Words.{Text}
 use Rattle.clap.specs.declared.builder.action.ArgAction.TheVariants.{SetTrue}
 use Rattle.clap.specs.declared.builder.value_parser.ValueParser.TheVariants as parser
+use Rattle.clap.specs.declared.parser.matches.ValueSource.{ValueSource}
+use Rattle.clap.specs.declared.parser.matches.ValueSource.TheVariants.{CommandLine}
 use Rattle.clap.specs.declared.error.kind.ErrorKind.{ErrorKind}
 use Rattle.clap.specs.declared.error.kind.ErrorKind.TheVariants.{DisplayHelp, DisplayVersion, OutOfMemory}
 use Rattle.fkv_partition.specs.Config.{Config}
@@ -27,14 +29,6 @@ number_rule name least most usual = record (new_rule name) {
   defaults = usual ∷ [];
 }
 
--- the same with no such text
-abbrev pub free_number_rule : Text → ℕ → ℕ → Rule
-free_number_rule name least most = record (new_rule name) {
-  long = Some name;
-  parser = Some (parser.Unsigned least most);
-  value_names = 1;
-}
-
 -- an option that has a size
 abbrev pub memory_rule : Rule
 memory_rule = record (new_rule (codes "memory")) { long = Some (codes "memory"); value_names = 1 }
@@ -51,31 +45,36 @@ flag_rule name = record (new_rule name) { long = Some name; action = Some SetTru
 abbrev pub feeds_rule : Rule
 feeds_rule = record (new_rule (codes "FEED")) { range = Some (record { start_inclusive = 0; end_inclusive = 64 }) }
 
--- a subcommand with the numbers of a store
-abbrev pub numbered_app : Text → App
-numbered_app name =
+-- a subcommand, with where its pages are, and how its rows reach the store
+abbrev pub placed_app : Text → App
+placed_app name =
     with_rule
     (with_rule
-    (with_rule
-    (with_rule (new_app name) (number_rule (codes "partition-bits") 0 6 (codes "2")))
-    (free_number_rule (codes "bucket-bits") 0 20))
-    (free_number_rule (codes "page-bits") 8 20))
-    (free_number_rule (codes "frames") 2 1024)
+    (with_rule (with_rule (new_app name) memory_rule) dir_rule)
+    (number_rule (codes "workers") 1 14 (codes "1")))
+    (flag_rule (codes "merge"))
 
--- the same, with how its rows reach the store, and how threads share its work
-abbrev pub shared_app : App → App
-shared_app app =
+-- the same, with what it tells of its work, and what it compares
+abbrev pub told_app : App → App
+told_app app =
     with_rule
-    (with_rule (with_rule app (flag_rule (codes "merge"))) (number_rule (codes "workers") 1 14 (codes "1")))
+    (with_rule (with_rule app (flag_rule (codes "stats"))) (flag_rule (codes "progress")))
     (flag_rule (codes "audit"))
 
--- the same, with what it tells of its work
-abbrev pub told_app : App → App
-told_app app = with_rule (with_rule app (flag_rule (codes "stats"))) (flag_rule (codes "progress"))
+-- the same, with the numbers of a store
+abbrev pub numbered_app : App → App
+numbered_app app =
+    with_rule
+    (with_rule
+    (with_rule
+    (with_rule app (number_rule (codes "partition-bits") 0 6 (codes "2")))
+    (number_rule (codes "bucket-bits") 0 20 (codes "10")))
+    (number_rule (codes "page-bits") 8 20 (codes "16")))
+    (number_rule (codes "frames") 2 1024 (codes "4"))
 
 -- a subcommand that makes a table
 abbrev pub table_app : Text → App
-table_app name = with_rule (with_rule (with_rule (told_app (shared_app (numbered_app name))) memory_rule) dir_rule) feeds_rule
+table_app name = with_rule (numbered_app (told_app (placed_app name))) feeds_rule
 
 -- a program that has a version
 abbrev pub with_version : App → App
@@ -112,10 +111,22 @@ number_of (Some text) =
     then digits_value 10 (without_leading_plus text)
     else 2 ^ 64 - 1
 
--- the number that a text writes, or this one where there is no text
-abbrev pub number_or : Option Text → ℕ → ℕ
-number_or None usual = usual
-number_or (Some text) usual = number_of (Some text)
+-- whether the words give a value, which is no default then
+abbrev pub is_given : Option ValueSource → Bool
+is_given (Some CommandLine) = true
+is_given other = false
+
+-- where the value of an option comes from
+abbrev pub source_of : Text → List Row → Option ValueSource
+source_of id rows = option_and_then (λ r. r.source) (find (λ r. bytes_eq r.id id) rows)
+
+-- the number of an option
+abbrev pub number_in : Text → List Row → ℕ
+number_in id rows = number_of (first_of id rows)
+
+-- the number that the words give an option, or this one in the place of its default
+abbrev pub given_or : Text → List Row → ℕ → ℕ
+given_or id rows usual = if is_given (source_of id rows) then number_in id rows else usual
 
 -- the memory that is named, or that none is; none at all where the size can't be read
 abbrev pub memory_in : Option Text → Option (Option ℕ)
@@ -132,7 +143,7 @@ shared_config share partition_bits bucket_bits page_bits rows = record {
   partition_bits = partition_bits;
   bucket_bits = bucket_bits;
   page_bits = page_bits;
-  frames = number_or (first_of (codes "frames") rows) (frames_in bucket_bits page_bits share);
+  frames = given_or (codes "frames") rows (frames_in bucket_bits page_bits share);
   turns = 1000000;
 }
 
@@ -140,17 +151,17 @@ shared_config share partition_bits bucket_bits page_bits rows = record {
 abbrev pub config_of : Option ℕ → List Row → Config
 config_of None rows = record {
   id = 1;
-  partition_bits = number_of (first_of (codes "partition-bits") rows);
-  bucket_bits = number_or (first_of (codes "bucket-bits") rows) 10;
-  page_bits = number_or (first_of (codes "page-bits") rows) 16;
-  frames = number_or (first_of (codes "frames") rows) 4;
+  partition_bits = number_in (codes "partition-bits") rows;
+  bucket_bits = number_in (codes "bucket-bits") rows;
+  page_bits = number_in (codes "page-bits") rows;
+  frames = number_in (codes "frames") rows;
   turns = 1000000;
 }
 config_of (Some memory) rows =
-    shared_config (share_of memory (number_of (first_of (codes "partition-bits") rows)))
-    (number_of (first_of (codes "partition-bits") rows))
-    (number_or (first_of (codes "bucket-bits") rows) (bucket_bits_in (share_of memory (number_of (first_of (codes "partition-bits") rows)))))
-    (number_or (first_of (codes "page-bits") rows) (page_bits_in (share_of memory (number_of (first_of (codes "partition-bits") rows)))))
+    shared_config (share_of memory (number_in (codes "partition-bits") rows))
+    (number_in (codes "partition-bits") rows)
+    (given_or (codes "bucket-bits") rows (bucket_bits_in (share_of memory (number_in (codes "partition-bits") rows))))
+    (given_or (codes "page-bits") rows (page_bits_in (share_of memory (number_in (codes "partition-bits") rows))))
     rows
 
 -- the folder that keeps its pages, if one is named
@@ -182,9 +193,26 @@ stats_of rows = is_set (first_of (codes "stats") rows)
 abbrev pub progress_of : List Row → Bool
 progress_of rows = is_set (first_of (codes "progress") rows)
 
+-- whether the words say how much of the store stays in memory
+abbrev pub sized_of : List Row → Bool
+sized_of rows = is_given (source_of (codes "memory") rows) || is_given (source_of (codes "frames") rows)
+
 -- the paths of its feeds
 abbrev pub paths_of : List Row → List Text
 paths_of rows = option_map_or (λ values. values) (all_of (codes "FEED") rows) []
+
+-- a folder is named by an empty path
+abbrev pub is_nameless : Option Text → Bool
+is_nameless None = false
+is_nameless (Some path) = length path == 0
+
+-- how many of these paths are standard input
+abbrev pub inputs_in : List Text → ℕ
+inputs_in paths = count_by (λ path. bytes_eq path (codes "-")) paths
+
+-- clap takes words that name a folder by an empty path, or standard input twice
+abbrev pub has_bad_path : List Row → Bool
+has_bad_path rows = is_nameless (folder_of rows) || nat_lt 1 (inputs_in (paths_of rows))
 
 -- the options of a table, within so much memory where a size is named
 abbrev pub IsTableBy : Option ℕ → List Row → TableRequest → Type 0
@@ -196,6 +224,7 @@ IsTableBy memory rows table =
     × (table.audit ≡ audit_of rows)
     × (table.stats ≡ stats_of rows)
     × (table.progress ≡ progress_of rows)
+    × (table.sized ≡ sized_of rows)
     × (map string_bytes table.paths.items ≡ paths_of rows)
 
 -- a table is asked for by a subcommand, its options and its feeds
@@ -203,14 +232,15 @@ abbrev pub IsTableIn : Option (Text × List Row) → TableRequest → Type 0
 IsTableIn None table = ⊥
 IsTableIn (Some p) table =
     (table_named p.0 ≡ Some table.shown)
+    × (has_bad_path p.1 ≡ false)
     × (memory : Option ℕ)
     × (memory_of p.1 ≡ Some memory)
     × IsTableBy memory p.1 table
 
--- a table is asked for, and the size of its memory can't be read
-abbrev pub HasBadSize : Option (Text × List Row) → Type 0
-HasBadSize None = ⊥
-HasBadSize (Some p) = (table_named p.0 ≢ None) × (memory_of p.1 ≡ None)
+-- a table is asked for, and the size of its memory can't be read, or a path is bad
+abbrev pub HasBadWords : Option (Text × List Row) → Type 0
+HasBadWords None = ⊥
+HasBadWords (Some p) = (table_named p.0 ≢ None) × ((memory_of p.1 ≡ None) ⊎ (has_bad_path p.1 ≡ true))
 
 -- clap finds nothing in the words to refuse, and they name no table: they name the other subcommand or nothing
 unfoldable pub AsksReplay : List Text → Type 0
@@ -229,14 +259,14 @@ unfoldable pub MayAskVersion : List Text → Type 0
 MayAskVersion words = IsAmong DisplayVersion (fault_of program words)
 
 -- clap refuses the words, or may refuse them where they are `help` and more; or it takes them, and the size of the memory
--- can't be read
+-- can't be read, or a path is bad
 unfoldable pub MayBeMistaken : List Text → Type 0
 MayBeMistaken words =
     ((kind : ErrorKind)
     × IsAmong kind (fault_of program words)
     × (kind ≢ DisplayHelp)
     × (kind ≢ DisplayVersion))
-    ⊎ ((fault_of program words ≡ []) × HasBadSize (subcommand_of program words))
+    ⊎ ((fault_of program words ≡ []) × HasBadWords (subcommand_of program words))
 
 -- what a parse that clap takes asks for
 abbrev pub IsAskedIn : Option (Text × List Row) → Request → Type 0
@@ -244,7 +274,7 @@ IsAskedIn sub Replay = table_in sub ≡ None
 IsAskedIn sub (Table table) = IsTableIn sub table
 IsAskedIn sub (Help text) = ⊥
 IsAskedIn sub Version = ⊥
-IsAskedIn sub (Mistake text) = HasBadSize sub
+IsAskedIn sub (Mistake text) = HasBadWords sub
 
 -- what a parse asks for that clap ends with an error of this kind
 abbrev pub IsAskedByKind : ErrorKind → Request → Type 0

@@ -2,9 +2,12 @@
 //!
 //! Each partition has its share. A quarter of that, at most, is for its buckets, 64 bytes each; the rest is for its page
 //! frames. Pages are as small as some hundreds of frames allow, since whoever reads one page reads it whole.
-ghost use Rattle.std.specs.Prelude.{◌≡◌};
+ghost use Rattle.std.specs.Prelude.{◌≡◌, ◌≤◌, length};
 ghost use Rattle.fkv_requests.specs.Memory.{
   size_of,
+  digits_in,
+  is_bytes,
+  power_of,
   unit_of,
   scaled,
   bits_within,
@@ -16,26 +19,60 @@ ghost use Rattle.fkv_requests.specs.Memory.{
 
 use fkv_feed_rows::amounts::short_number;
 
-/// What a letter behind a number stands for: K 2^10, M 2^20 and G 2^30.
-fn unit_of(letter: u8) -> Option<u64>
-    ensures { result ≡ unit_of letter }
+/// What a letter stands for: K 2^10, M 2^20, G 2^30 and T 2^40.
+fn power_of(letter: u8) -> Option<u64>
+    ensures { result ≡ power_of letter }
 {
     match letter {
         b'K' => Some(1 << 10),
         b'M' => Some(1 << 20),
         b'G' => Some(1 << 30),
+        b'T' => Some(1 << 40),
         _ => None,
     }
 }
 
-/// The number of bytes that a text names: one to eighteen digits, and K, M or G behind them (`64M`).
+/// Whether this may stand behind a unit's letter: nothing, `B` or `iB`, in either case.
+fn is_bytes(text: &[u8]) -> bool
+    ensures { result ≡ is_bytes text.now }
+{
+    match text {
+        [] => true,
+        [last] => last.to_ascii_uppercase() == b'B',
+        [first, last] => { first.to_ascii_uppercase() == b'I' && last.to_ascii_uppercase() == b'B' }
+        _ => false,
+    }
+}
+
+/// The unit that a text names: a letter in either case, and `B` or `iB` behind it or nothing. All are powers of 1024.
+fn unit_of(text: &[u8]) -> Option<u64>
+    ensures { result ≡ unit_of text.now }
+{
+    let [letter, rest @ ..] = text else {
+        return None;
+    };
+    if is_bytes(rest) {
+        power_of(letter.to_ascii_uppercase())
+    } else {
+        None
+    }
+}
+
+/// How many digits stand at the front of a text.
+pub fn digits_in(text: &[u8]) -> usize
+    ensures digits { result ≡ digits_in text.now }
+    ensures bound { result ≤ length text.now }
+{
+    let place = text.iter().position(|byte| !byte.is_ascii_digit());
+    place.unwrap_or(text.len())
+}
+
+/// The number of bytes that a text names: one to eighteen digits, and a unit behind them (`64M`, `64mb`, `64MiB`).
 pub fn size_of(text: &[u8]) -> Option<u64>
     ensures { result ≡ size_of text.now }
 {
-    let Some(last) = text.len().checked_sub(1) else {
-        return None;
-    };
-    scaled(&text[..last], unit_of(text[last]))
+    let digits = digits_in(text);
+    scaled(&text[..digits], unit_of(&text[digits..]))
 }
 
 /// A number of one to eighteen digits, times a unit, if there is one; `None` also where that has no 64 bits.

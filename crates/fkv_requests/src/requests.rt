@@ -1,5 +1,6 @@
 //! What the words of a command line ask for.
-ghost use Rattle.std.specs.Prelude.{◌≡◌, false, IfOk, IfErr, codes, map, option_map, string_bytes, Some};
+ghost use Rattle.std.specs.Prelude.{◌≡◌, false, IfOk, IfErr, codes, count_by, is_some, map, option_map, string_bytes, Some};
+ghost use Rattle.std.specs.Str.{bytes_eq};
 ghost use Rattle.clap.specs.Words.{app_of, first_value, found_of, kind_of, new_app, rows_of, rule_of, subcommand_rows_of};
 ghost use Rattle.clap.specs.declared.builder.command.Command.TheViews.{out-Command};
 ghost use Rattle.fkv_requests.specs.Requests.{
@@ -11,33 +12,34 @@ ghost use Rattle.fkv_requests.specs.Requests.{
   IsMistake,
   IsTableBy,
   number_rule,
-  free_number_rule,
   memory_rule,
   feeds_rule,
+  placed_app,
   numbered_app,
-  shared_app,
   told_app,
   table_app,
   table_named,
   dir_rule,
   number_of,
-  number_or,
+  given_or,
   memory_of,
   config_of,
   folder_of,
+  has_bad_path,
+  inputs_in,
+  is_nameless,
   paths_of,
   flag_rule,
+  is_given,
   is_set,
-  workers_of,
-  merge_of,
-  audit_of,
-  stats_of,
-  progress_of,
+  sized_of,
+  source_of,
 };
 
-use crate::memory::{bucket_bits_in, frames_in, page_bits_in, share_of, size_of};
+use crate::memory::{bucket_bits_in, digits_in, frames_in, page_bits_in, share_of, size_of};
 use clap::builder::ValueParser;
 use clap::error::ErrorKind;
+use clap::parser::ValueSource;
 use clap::{Arg, ArgAction, ArgMatches, Command, Error};
 use fkv_functions::Refused;
 use fkv_partition::Config;
@@ -53,7 +55,18 @@ const EXAMPLES: &str = "Examples:
 
 /// What is told of a size that can't be read.
 const BAD_SIZE: &str =
-    "error: --memory takes a number of one to eighteen digits with K, M or G behind it, such as 64M\n";
+    "error: --memory takes a number of one to eighteen digits with K, M, G or T behind it, such as 64M\n";
+
+/// What is told of a size that is a number alone.
+const BARE_SIZE: &str =
+    "error: --memory takes a unit behind its number: K, M, G or T, such as 64M\n";
+
+/// What is told of a folder with an empty path.
+const NO_FOLDER: &str = "error: --dir takes the path of a folder\n";
+
+/// What is told of two feeds that are standard input.
+const TWO_INPUTS: &str =
+    "error: standard input can be read once, so '-' may stand once among the feeds\n";
 
 /// What a table shows of the amounts of each key.
 #[derive(Clone, Copy, PartialEq, Eq, Debug)]
@@ -84,6 +97,8 @@ pub struct TableRequest {
     pub stats: bool,
     /// Whether the rows that were read so far are told on the way.
     pub progress: bool,
+    /// Whether the words say how much of the store stays in memory, by its size or by its page frames.
+    pub sized: bool,
     /// Where its feeds are; with none the one feed is standard input.
     pub paths: Vec<String>,
 }
@@ -157,9 +172,12 @@ fn asked(alloc: Global, matches: &ArgMatches<'_>) -> Result<Request, Refused>
     let Some(shown) = shown_by(name) else {
         return Ok(Request::Replay);
     };
-    match memory_by(options) {
-        Some(memory) => table_by(alloc, options, shown, memory),
-        None => mistake(alloc),
+    let Some(memory) = memory_by(options) else {
+        return mistake(alloc, bad_size(options));
+    };
+    match bad_path(options) {
+        None => table_by(alloc, options, shown, memory),
+        Some(text) => mistake(alloc, text),
     }
 }
 
@@ -202,18 +220,72 @@ fn table_by(
             audit: flag_by(options, "audit"),
             stats: flag_by(options, "stats"),
             progress: flag_by(options, "progress"),
+            sized: is_sized(options),
             paths,
         })),
         Err(refused) => Err(refused),
     }
 }
 
-/// A mistake that clap does not find: the size of the memory can't be read. Refused: `NoMemory`.
-fn mistake(alloc: Global) -> Result<Request, Refused>
+/// What is told of the size that the options name, which can't be read.
+fn bad_size(options: &ArgMatches<'_>) -> &'static str {
+    match options.get_str("memory") {
+        Some(text) if is_bare(text.as_bytes()) => BARE_SIZE,
+        _ => BAD_SIZE,
+    }
+}
+
+/// Whether a size is a number alone.
+fn is_bare(text: &[u8]) -> bool {
+    !text.is_empty() && digits_in(text) == text.len()
+}
+
+/// What is told of a folder that is named by an empty path, or of standard input that is named twice.
+fn bad_path(options: &ArgMatches<'_>) -> Option<&'static str>
+    ensures { is_some result ≡ has_bad_path (rows_of (found_of options.now)) }
+{
+    if is_nameless(options) {
+        return Some(NO_FOLDER);
+    }
+    if inputs_in(options) > 1 {
+        return Some(TWO_INPUTS);
+    }
+    None
+}
+
+/// Whether a folder is named by an empty path.
+fn is_nameless(options: &ArgMatches<'_>) -> bool
+    ensures { result ≡ is_nameless (folder_of (rows_of (found_of options.now))) }
+{
+    match options.get_str("dir") {
+        Some(path) => path.is_empty(),
+        None => false,
+    }
+}
+
+/// How many of the feeds are standard input.
+fn inputs_in(options: &ArgMatches<'_>) -> usize
+    ensures { result ≡ inputs_in (paths_of (rows_of (found_of options.now))) }
+{
+    match options.get_strs("FEED") {
+        Some(paths) => dashes(paths),
+        None => 0,
+    }
+}
+
+/// How many of these texts are `-`.
+fn dashes(paths: &[&str]) -> usize
+    ensures { result ≡ count_by (λ path. bytes_eq path.now (codes "-")) paths.now }
+{
+    paths.iter().filter(|path| **path == "-").count()
+}
+
+/// A mistake that clap does not find, which is told so. Refused: `NoMemory`.
+fn mistake(alloc: Global, text: &str) -> Result<Request, Refused>
     ensures mistake { IfOk result IsMistake }
     ensures only { IfErr result (λ refused. refused ≡ Refused.NoMemory) }
 {
-    match String::from_str(alloc, BAD_SIZE) {
+    match String::from_str(alloc, text) {
         Ok(text) => Ok(Request::Mistake(text)),
         Err(_) => Err(Refused::NoMemory),
     }
@@ -257,13 +329,32 @@ fn flag_by(options: &ArgMatches<'_>, id: &str) -> bool
     }
 }
 
-/// The number of an option, or this one where it is not given.
-fn number_or(options: &ArgMatches<'_>, id: &str, usual: u64) -> u64
-    ensures { result ≡ number_or (first_value (found_of options.now) id.now) usual }
+/// Whether the words give an option a value, which is no default then.
+fn is_given(options: &ArgMatches<'_>, id: &str) -> bool
+    ensures { result ≡ is_given (source_of id.now (rows_of (found_of options.now))) }
 {
-    match options.get_str(id) {
-        None => usual,
-        Some(_text) => number_by(options, id),
+    match options.value_source(id) {
+        Some(ValueSource::CommandLine) => true,
+        Some(ValueSource::DefaultValue) => false,
+        None => false,
+    }
+}
+
+/// Whether the words say how much of the store stays in memory.
+fn is_sized(options: &ArgMatches<'_>) -> bool
+    ensures { result ≡ sized_of (rows_of (found_of options.now)) }
+{
+    is_given(options, "memory") || is_given(options, "frames")
+}
+
+/// The number that the words give an option, or this one in the place of its default.
+fn number_or(options: &ArgMatches<'_>, id: &str, usual: u64) -> u64
+    ensures { result ≡ given_or id.now (rows_of (found_of options.now)) usual }
+{
+    if is_given(options, id) {
+        number_by(options, id)
+    } else {
+        usual
     }
 }
 
@@ -276,9 +367,9 @@ fn config_by(options: &ArgMatches<'_>, memory: Option<u64>) -> Config
         return Config {
             id: 1,
             partition_bits,
-            bucket_bits: number_or(options, "bucket-bits", 10),
-            page_bits: number_or(options, "page-bits", 16),
-            frames: number_or(options, "frames", 4),
+            bucket_bits: number_by(options, "bucket-bits"),
+            page_bits: number_by(options, "page-bits"),
+            frames: number_by(options, "frames"),
             turns: 1_000_000,
         };
     };
@@ -340,25 +431,24 @@ fn copied(alloc: Global, texts: &[&str]) -> Result<Vec<String>, Refused>
     Ok(copies)
 }
 
-/// An option that has a number of a range.
-fn number<'a>(alloc: Global, name: &'a str, least: u64, most: u64, help: &'a str) -> Arg<'a>
-    ensures rule { rule_of result ≡ free_number_rule name.entry.now least most }
+/// An option that has a number of a range, and this one where none is given.
+fn number<'a>(
+    alloc: Global,
+    name: &'a str,
+    least: u64,
+    most: u64,
+    usual: &'a str,
+    help: &'a str,
+) -> Arg<'a>
+    ensures rule { rule_of result ≡ number_rule name.entry.now least most usual.entry.now }
     ensures local { result.global ≡ false }
 {
     Arg::new(alloc, name)
         .long(name)
         .value_name("N")
         .value_parser(ValueParser::unsigned(least, most))
+        .default_value(usual)
         .help(help)
-}
-
-/// The number of partitions.
-fn partition_bits<'a>(alloc: Global) -> Arg<'a>
-    ensures rule { rule_of result ≡ number_rule (codes "partition-bits") 0 6 (codes "2") }
-    ensures local { result.global ≡ false }
-{
-    let help = "There are 2 to this many partitions: 0 to 6";
-    number(alloc, "partition-bits", 0, 6, help).default_value("2")
 }
 
 /// How much memory the store may take.
@@ -370,8 +460,8 @@ fn memory<'a>(alloc: Global) -> Arg<'a>
         .long("memory")
         .value_name("SIZE")
         .help(
-            "Sets --bucket-bits, --page-bits and --frames, where they are not given, so that buckets and frames take at most \
-this much, as 64M or 2G",
+            "How much memory buckets and pages may take, as 64M or 2G; it sets --bucket-bits, --page-bits and --frames, where \
+they are not given",
         )
 }
 
@@ -383,15 +473,6 @@ fn dir<'a>(alloc: Global) -> Arg<'a>
     Arg::new(alloc, "dir").long("dir").value_name("PATH").help(
         "Keep pages in files of this folder, made anew; without it they are kept in memory",
     )
-}
-
-/// How many workers read the feeds.
-fn workers<'a>(alloc: Global) -> Arg<'a>
-    ensures rule { rule_of result ≡ number_rule (codes "workers") 1 14 (codes "1") }
-    ensures local { result.global ≡ false }
-{
-    let help = "How many threads read the feeds, each some of them: 1 to 14";
-    number(alloc, "workers", 1, 14, help).default_value("1")
 }
 
 /// An option with no value.
@@ -411,66 +492,40 @@ fn feeds<'a>(alloc: Global) -> Arg<'a>
     ensures local { result.global ≡ false }
 {
     Arg::new(alloc, "FEED").num_args(0..=64).help(
-        "Where the feeds are, up to 64; standard input where none is named",
+        "CSV files, up to 64, of which - is standard input; with none, standard input. Each line is KEY,AMOUNT (count wants an \
+amount too), with no header: KEY has 1 to 31 bytes, AMOUNT is a whole number of 64 bits",
     )
 }
 
-/// A subcommand with the numbers of a store.
-fn numbered<'a>(
+/// A subcommand, with where its pages are, and how its rows reach the store.
+fn placed<'a>(
     alloc: Global,
     name: &'static str,
     about: &'static str,
 ) -> Result<Command<'a>, AllocError>
-    ensures { IfOk result (λ command. (app_of command ≡ numbered_app name.now)
+    ensures { IfOk result (λ command. (app_of command ≡ placed_app name.now)
         × ((out-Command command).has_globals ≡ false)) }
 {
     Command::new(alloc, name)
         .about(about)
-        .arg(partition_bits(alloc))?
+        .arg(memory(alloc))?
+        .arg(dir(alloc))?
         .arg(number(
             alloc,
-            "bucket-bits",
-            0,
-            20,
-            "There are 2 to this many buckets in each: 0 to 20 [default: 10]",
+            "workers",
+            1,
+            14,
+            "1",
+            "How many threads read the feeds, each some of them: 1 to 14",
         ))?
-        .arg(number(
-            alloc,
-            "page-bits",
-            8,
-            20,
-            "A page has 2 to this many bytes: 8 to 20 [default: 16]",
-        ))?
-        .arg(number(
-            alloc,
-            "frames",
-            2,
-            1024,
-            "The page frames of each partition: 2 to 1024 [default: 4]",
-        ))
-}
-
-/// A subcommand, with how its rows reach the store, and how threads share its work.
-fn shared<'a>(alloc: Global, command: Command<'a>) -> Result<Command<'a>, AllocError>
-    requires { (out-Command command).has_globals ≡ false }
-    ensures { IfOk result (λ more. (app_of more ≡ shared_app (app_of command.entry))
-        × ((out-Command more).has_globals ≡ false)) }
-{
-    command
         .arg(flag(
             alloc,
             "merge",
             "Make a row a merge where it would read a page",
-        ))?
-        .arg(workers(alloc))?
-        .arg(flag(
-            alloc,
-            "audit",
-            "Keep every update, and compare them at the end with what the workers were answered",
         ))
 }
 
-/// A subcommand, with what it tells of its work.
+/// A subcommand, with what it tells of its work, and what it compares.
 fn told<'a>(alloc: Global, command: Command<'a>) -> Result<Command<'a>, AllocError>
     requires { (out-Command command).has_globals ≡ false }
     ensures { IfOk result (λ more. (app_of more ≡ told_app (app_of command.entry))
@@ -485,7 +540,53 @@ fn told<'a>(alloc: Global, command: Command<'a>) -> Result<Command<'a>, AllocErr
         .arg(flag(
             alloc,
             "progress",
-            "Tell on standard error, at most once a second, how many rows were read",
+            "Tell on standard error, as it goes, how many rows were read",
+        ))?
+        .arg(flag(
+            alloc,
+            "audit",
+            "Keep every update, and compare them at the end with what the workers were answered",
+        ))
+}
+
+/// A subcommand, with the numbers of a store.
+fn numbered<'a>(alloc: Global, command: Command<'a>) -> Result<Command<'a>, AllocError>
+    requires { (out-Command command).has_globals ≡ false }
+    ensures { IfOk result (λ more. (app_of more ≡ numbered_app (app_of command.entry))
+        × ((out-Command more).has_globals ≡ false)) }
+{
+    command
+        .arg(number(
+            alloc,
+            "partition-bits",
+            0,
+            6,
+            "2",
+            "There are 2 to this many partitions: 0 to 6",
+        ))?
+        .arg(number(
+            alloc,
+            "bucket-bits",
+            0,
+            20,
+            "10",
+            "There are 2 to this many buckets in each: 0 to 20",
+        ))?
+        .arg(number(
+            alloc,
+            "page-bits",
+            8,
+            20,
+            "16",
+            "A page has 2 to this many bytes: 8 to 20",
+        ))?
+        .arg(number(
+            alloc,
+            "frames",
+            2,
+            1024,
+            "4",
+            "The page frames of each partition: 2 to 1024",
         ))
 }
 
@@ -498,10 +599,7 @@ fn table<'a>(
     ensures { IfOk result (λ command. (app_of command ≡ table_app name.now)
         × ((out-Command command).has_globals ≡ false)) }
 {
-    told(alloc, shared(alloc, numbered(alloc, name, about)?)?)?
-        .arg(memory(alloc))?
-        .arg(dir(alloc))?
-        .arg(feeds(alloc))
+    numbered(alloc, told(alloc, placed(alloc, name, about)?)?)?.arg(feeds(alloc))
 }
 
 /// The subcommand that runs a script.

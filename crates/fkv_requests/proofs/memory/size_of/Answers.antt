@@ -1,19 +1,16 @@
-use Rattle.std.specs.Prelude.{take, get_or}
-use Rattle.std.proofs.Common.{◌≡◌, ◌∙◌, ◌≤◌, ap, List, [], ◌∷◌, ℕ, None, length, refl, arith}
+use Rattle.std.proofs.Common.{◌≡◌, ◌∙◌, ◌-◌, ap, length, take, drop, arith}
+use Rattle.std.proofs.lemmas.List.{take_all, length-drop}
 use Rattle.fkv_requests.specs.Memory.{size_of, scaled, unit_of}
 use Rattle.fkv_requests.proofs.memory.size_of.Goals as goal
-
-none : (t : List ℕ) → (1 ≤ length t → ⊥) → None ≡ size_of t
-unfolding size_of
-none [] h = refl
-none (x ∷ xs) h = absurd (h (omega arith))
-
-pub returns-in_default : goal.returns-in_default
-returns-in_default c = none c.args.text.now c.in_default.ensures
 
 pub returns : goal.returns
 unfolding size_of
 returns c =
     let text = c.args.text.now in
-    let last = c.in-Some.ensures.1 in
-    c.scaled.ensures ∙ ap (scaled (take c.in-Some.last text)) c.unit_of.ensures ∙ (λ i. scaled (take (last i) text) (unit_of (get_or text (last i) 0)))
+    let count = c.digits_in-digits.result in
+    let digits = c.digits_in-digits.ensures.digits in
+    let size : length (drop count text) ≡ length text - count = length-drop count text in
+    let rest : take (length text - count) (drop count text) ≡ drop count text = take_all (length text - count) (drop count text) (omega arith) in
+    c.scaled.ensures
+    ∙ ap (scaled (take count text)) (c.unit_of.ensures ∙ ap unit_of rest)
+    ∙ (λ i. scaled (take (digits i) text) (unit_of (drop (digits i) text)))

@@ -1,20 +1,17 @@
-use Rattle.std.proofs.Common.{rules, ap₂, ◌≡◌, ◌∙◌, false}
+use Rattle.std.proofs.Common.{ap, ap₂, ◌≡◌, ◌∙◌}
 use Rattle.std.proofs.lemmas.Result.{IfOk-weaker}
-use Rattle.clap.specs.Words.{app_of, new_app, with_rule}
-use Rattle.clap.specs.declared.builder.command.Command.TheViews.{out-Command}
+use Rattle.clap.specs.Words.{app_of, with_rule}
 use Rattle.fkv_requests.proofs.RequestLemmas.{neither}
 use Rattle.fkv_requests.proofs.requests.numbered.Goals as goal
 
 pub returns : goal.returns
 returns c =
-    let zero : app_of c.about.result ≡ new_app c.args.name.now = search rules in
-    let zero_local : (out-Command c.about.result).has_globals ≡ false = search rules in
-    let one : app_of c.in_ok-arg.field-0 ≡ _ = c.in_ok-arg.ensures.shape c.partition_bits.ensures.local ∙ ap₂ with_rule zero c.partition_bits.ensures.rule in
-    let one_local = c.in_ok-arg.ensures.globals ∙ neither _ _ zero_local c.partition_bits.ensures.local in
-    let two : app_of c.in_ok-arg-2.field-0 ≡ _ = c.in_ok-arg-2.ensures.shape c.number.ensures.local ∙ ap₂ with_rule one c.number.ensures.rule in
-    let two_local = c.in_ok-arg-2.ensures.globals ∙ neither _ _ one_local c.number.ensures.local in
-    let three : app_of c.in_ok-arg-3.field-0 ≡ _ = c.in_ok-arg-3.ensures.shape c.number-2.ensures.local ∙ ap₂ with_rule two c.number-2.ensures.rule in
-    let three_local = c.in_ok-arg-3.ensures.globals ∙ neither _ _ two_local c.number-2.ensures.local in
+    let one : app_of c.in_ok-arg.field-0 ≡ _ = c.in_ok-arg.ensures.shape c.number.ensures.local ∙ ap (with_rule (app_of c.args.command)) c.number.ensures.rule in
+    let one_local = c.in_ok-arg.ensures.globals ∙ neither _ _ c.requires c.number.ensures.local in
+    let two : app_of c.in_ok-arg-2.field-0 ≡ _ = c.in_ok-arg-2.ensures.shape c.number-2.ensures.local ∙ ap₂ with_rule one c.number-2.ensures.rule in
+    let two_local = c.in_ok-arg-2.ensures.globals ∙ neither _ _ one_local c.number-2.ensures.local in
+    let three : app_of c.in_ok-arg-3.field-0 ≡ _ = c.in_ok-arg-3.ensures.shape c.number-3.ensures.local ∙ ap₂ with_rule two c.number-3.ensures.rule in
+    let three_local = c.in_ok-arg-3.ensures.globals ∙ neither _ _ two_local c.number-3.ensures.local in
     IfOk-weaker c.arg-4.result _ _
-    (λ command added. (added.shape c.number-3.ensures.local ∙ ap₂ with_rule three c.number-3.ensures.rule, added.globals ∙ neither _ _ three_local c.number-3.ensures.local))
+    (λ command added. (added.shape c.number-4.ensures.local ∙ ap₂ with_rule three c.number-4.ensures.rule, added.globals ∙ neither _ _ three_local c.number-4.ensures.local))
     c.arg-4.ensures

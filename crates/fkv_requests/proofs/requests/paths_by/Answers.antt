@@ -1,18 +1,10 @@
-use Rattle.std.proofs.Common.{◌≡◌, List, [], Option, Some, None, refl, map, ap, ◌∙◌, string_bytes}
+use Rattle.std.proofs.Common.{map, ap, ◌∙◌, string_bytes}
 use Rattle.std.specs.Prelude.{codes}
-use Rattle.std.specs.Option.{option_map_or}
 use Rattle.std.proofs.lemmas.Result.{IfOk-weaker}
-use Rattle.clap.specs.Words.{found_of, Text}
+use Rattle.clap.specs.Words.{found_of}
 use Rattle.clap.proofs.WalkLemmas.{raw_values-rows}
+use Rattle.fkv_requests.proofs.SourceLemmas.{some_paths, no_paths}
 use Rattle.fkv_requests.proofs.requests.paths_by.Goals as goal
-
-some_paths : (o : Option (List Text)) (texts : List Text) → Some texts ≡ o → texts ≡ option_map_or (λ values. values) o []
-some_paths None texts e = absurd (cc)
-some_paths (Some other) texts e = cc
-
-no_paths : (o : Option (List Text)) → None ≡ o → [] ≡ option_map_or (λ values. values) o []
-no_paths None e = refl
-no_paths (Some other) e = absurd (cc)
 
 pub returns-in-Some-clause-ok : goal.returns-in-Some-clause-ok
 returns-in-Some-clause-ok c =

@@ -19,6 +19,7 @@ returns-in-Ok-paths_by-clause-ok c =
         c.flag_by-in-Ok-paths_by.ensures ∙ ap is_set (first_value-rows found (codes "audit")),
         c.flag_by-in-Ok-paths_by-2.ensures ∙ ap is_set (first_value-rows found (codes "stats")),
         c.flag_by-in-Ok-paths_by-3.ensures ∙ ap is_set (first_value-rows found (codes "progress")),
+        c.is_sized.ensures,
         c.in-Ok-paths_by.ensures.ok,
       ),
     )

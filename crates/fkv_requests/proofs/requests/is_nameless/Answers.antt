@@ -1,0 +1,11 @@
+use Rattle.std.proofs.Common.{ap, ◌∙◌, codes}
+use Rattle.clap.specs.Words.{found_of}
+use Rattle.clap.proofs.WalkLemmas.{first_value-rows}
+use Rattle.fkv_requests.specs.Requests.{is_nameless}
+use Rattle.fkv_requests.proofs.requests.is_nameless.Goals as goal
+
+pub returns-in-Some : goal.returns-in-Some
+returns-in-Some c = c.is_empty.ensures ∙ ap is_nameless (c.in-Some.ensures ∙ first_value-rows (found_of c.args.options.now) (codes "dir"))
+
+pub returns-in-None : goal.returns-in-None
+returns-in-None c = ap is_nameless (c.in-None.ensures ∙ first_value-rows (found_of c.args.options.now) (codes "dir"))
