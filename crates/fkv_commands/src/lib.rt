@@ -2,13 +2,19 @@
 //! table goes out.
 //!
 //! `running` does what the words of a command line ask for (`fkv_requests`), and `ending` makes the process's end of it;
-//! neither knows where bytes come from or go to. `starting` hands them the process's own words and streams, and is all
-//! that a program calls.
+//! neither knows where bytes come from or go to. `causes` tells beside a refusal what can be found of it afterwards, and `advising`
+//! beside a report what would make a run read fewer pages. `starting` hands them the process's own words and streams, and is
+//! all that a program calls.
 #![tactic(auto)]
 
+pub mod advising;
+pub mod causes;
 pub mod ending;
+pub mod escaping;
+mod finding;
 mod making;
 mod opening;
+mod probing;
 pub mod reporting;
 pub mod running;
 pub mod starting;

@@ -35,11 +35,16 @@ impl<F: Source, B: Source> Source for Feed<F, B> {
     }
 }
 
+/// The file of a feed: `-` is standard input, and `./-` a file of this name.
+fn file_of(path: &str) -> &str {
+    if path == "-" { "/dev/stdin" } else { path }
+}
+
 /// Opens the feed of this number, counted from 1. Refused: `Unreadable` with the number; `NoMemory`.
 fn opened<H: Files>(files: &H, path: &str, number: u64) -> Result<CountedReader<H::File>, Refused>
     ensures { IfErr result (λ e. (e ≡ Refused.NoMemory) ⊎ (e ≡ Refused.Unreadable number)) }
 {
-    match fs::open(files, path) {
+    match fs::open(files, file_of(path)) {
         Ok(file) => Ok(CountedReader::new(file)),
         Err(error) => match error.kind() {
             ErrorKind::OutOfMemory => Err(Refused::NoMemory),

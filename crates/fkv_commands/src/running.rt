@@ -6,6 +6,8 @@ ghost use Rattle.fkv_steps.specs.Printing.{line};
 ghost use Rattle.fkv_requests.specs.Requests.{MayBeMistaken};
 ghost use Rattle.fkv_commands.specs.Endings.{AsksReport, IsDone, IsStopped, version_line};
 
+use crate::advising::advise;
+use crate::causes::tell_with_cause;
 use crate::reporting::Report;
 use crate::tabulating::tabulate;
 use crate::telling::Telling;
@@ -33,7 +35,7 @@ const MISTAKE: u8 = 2;
 /// `replay`, and no word, run the script that the reader gives and write what it tells. Status 0: it was
 /// done, whatever its lines were refused. `count`, `sum` and `max` write the table of the feeds that they name, or of
 /// the reader, status 0; where a report is asked for it goes to `faults` afterwards, and where progress is, `hook` tells it on
-/// the way. Status 1: it was refused; `fkv_cli: ` and why stand on `faults`,
+/// the way. Status 1: it was refused; `fkv_cli: ` and why stand on `faults`, of a table with what [`tell_with_cause`] finds behind it,
 /// and nothing was written, or where the writer failed the front of the output. `--help` writes help, and `--version`
 /// the program's name and version, status 0. Words that ask for nothing that the program does: clap's text on `faults`,
 /// status 2.
@@ -81,7 +83,7 @@ where
                     report(&table, &done, faults);
                     DONE
                 }
-                Err(refused) => tell(faults, refused),
+                Err(refused) => tell_with_cause(rt, alloc, &table, refused, faults),
             }
         }
         Ok(Request::Help(text)) => match write_out(writer, text.as_bytes()) {
@@ -113,6 +115,7 @@ fn report<E: Sink>(table: &TableRequest, done: &Report, faults: &mut E)
 {
     if table.stats {
         done.tell(faults);
+        advise(table, done, faults);
     }
 }
 

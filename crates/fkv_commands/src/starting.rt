@@ -8,7 +8,7 @@ use fkv_requests::words_of;
 use fkv_streams::{CountedReader, CountedWriter};
 use std::env::{self, Env};
 use std::fs::Files;
-use std::io;
+use std::io::{self, IsTerminal};
 use std::process::ExitCode;
 use std::rt::Clock;
 use std::sync::Wait;
@@ -18,14 +18,14 @@ use std::thread::Threads;
 /// or 2. Faults go to `faults`.
 pub fn start<
     R: Env + Files + Input + Print + AllocGlobal + Threads + Wait + Clock + Sync,
-    E: Print + Sync,
+    E: Print + IsTerminal + Sync,
 >(rt: &R, faults: &E) -> ExitCode
 where
     R::File: Send,
     R::Dir: Send,
     ensures { (exit_status result ≡ 0) ⊎ (exit_status result ≡ 1) ⊎ (exit_status result ≡ 2) }
 {
-    let hook = Telling::new(rt, faults);
+    let hook = Telling::new(rt, faults, faults.is_terminal());
     end(
         rt,
         rt.alloc(),

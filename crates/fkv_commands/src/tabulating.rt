@@ -153,7 +153,9 @@ where
 {
     let meters = Meters::new();
     let begun = rt.monotonic();
-    match run_of(rt, alloc, table, functions, reader, &meters, hook) {
+    let made = run_of(rt, alloc, table, functions, reader, &meters, hook);
+    hook.end();
+    match made {
         Ok(run) => match write_table(alloc, &run.table, writer) {
             Ok(()) => Ok(Report::new(&run, meters.seen(), begun, rt.monotonic())),
             Err(refused) => Err(refused),

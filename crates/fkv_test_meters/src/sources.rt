@@ -47,6 +47,8 @@ impl Progress for Heard {
         self.bytes.fetch_add(bytes.len() as u64, Ordering::SeqCst);
         self.lines.fetch_add(lines, Ordering::SeqCst);
     }
+
+    fn end(&self) {}
 }
 
 /// The bytes that a source gives in reads of at most so many, until its end or its first refusal.

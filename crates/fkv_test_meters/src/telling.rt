@@ -5,7 +5,6 @@ use std::cell::{Cell, RefCell};
 use std::fmt::Display;
 use std::io::{self, Error, ErrorKind, Print, Write};
 use std::rt::Clock;
-use std::test::Fail;
 use std::time::Duration;
 
 /// A clock that stands at so many milliseconds, or fails.
@@ -60,26 +59,52 @@ impl Print for Paper {
 /// The clock's milliseconds or that it fails, whether the output fails, and what stands on the output after one line more.
 type Row = (Option<u64>, bool, &'static str);
 
-/// A clock that stands at 5,000 milliseconds when the run begins.
+/// A clock that stands at 5,000 milliseconds when the run begins, and an output that is no terminal.
 const ROWS: [Row; 12] = [
     (Some(5_000), false, ""),
     (Some(5_999), false, ""),
-    (Some(6_000), false, "fkv_cli: 3 rows\n"),
-    (Some(6_001), false, "fkv_cli: 3 rows\n"),
-    (None, false, "fkv_cli: 3 rows\n"),
-    (Some(4_000), false, "fkv_cli: 3 rows\n"),
-    (Some(6_999), false, "fkv_cli: 3 rows\n"),
+    (Some(6_000), false, "fkv_cli: 3 rows, 3 a second\n"),
+    (Some(6_001), false, "fkv_cli: 3 rows, 3 a second\n"),
+    (None, false, "fkv_cli: 3 rows, 3 a second\n"),
+    (Some(4_000), false, "fkv_cli: 3 rows, 3 a second\n"),
+    (Some(6_999), false, "fkv_cli: 3 rows, 3 a second\n"),
     // a line that could not be written is not made good
-    (Some(7_500), true, "fkv_cli: 3 rows\n"),
-    (Some(8_499), false, "fkv_cli: 3 rows\n"),
-    (Some(8_500), false, "fkv_cli: 3 rows\nfkv_cli: 10 rows\n"),
-    (Some(9_000), false, "fkv_cli: 3 rows\nfkv_cli: 10 rows\n"),
+    (Some(7_500), true, "fkv_cli: 3 rows, 3 a second\n"),
+    (Some(8_499), false, "fkv_cli: 3 rows, 3 a second\n"),
+    (
+        Some(8_500),
+        false,
+        "fkv_cli: 3 rows, 3 a second\nfkv_cli: 10 rows, 2 a second\n",
+    ),
+    (
+        Some(9_000),
+        false,
+        "fkv_cli: 3 rows, 3 a second\nfkv_cli: 10 rows, 2 a second\n",
+    ),
     (
         Some(60_000),
         false,
-        "fkv_cli: 3 rows\nfkv_cli: 10 rows\nfkv_cli: 12 rows\n",
+        "fkv_cli: 3 rows, 3 a second\nfkv_cli: 10 rows, 2 a second\nfkv_cli: 12 rows, 0 a second\n",
     ),
 ];
+
+/// The same on a terminal: each line begins at the left, and wipes what stands behind it.
+const OVER: [Row; 6] = [
+    (Some(5_000), false, ""),
+    (Some(5_099), false, ""),
+    (Some(5_100), false, "\rfkv_cli: 3 rows, 30 a second\x1b[K"),
+    (Some(5_199), false, "\rfkv_cli: 3 rows, 30 a second\x1b[K"),
+    // the clock goes back
+    (Some(4_000), false, "\rfkv_cli: 3 rows, 30 a second\x1b[K"),
+    (
+        Some(5_300),
+        false,
+        "\rfkv_cli: 3 rows, 30 a second\x1b[K\rfkv_cli: 6 rows, 15 a second\x1b[K",
+    ),
+];
+
+/// What stands on a terminal at the end of [`OVER`].
+const ENDED: &str = "\rfkv_cli: 3 rows, 30 a second\x1b[K\rfkv_cli: 6 rows, 15 a second\x1b[K\n";
 
 /// Whether this stands on the output.
 fn shows(paper: &Paper, text: &str) -> bool {
@@ -89,24 +114,62 @@ fn shows(paper: &Paper, text: &str) -> bool {
     }
 }
 
-#[test]
-fn a_line_a_second(rt: HostRuntime) -> Result<(), Fail> {
-    let clock = Set(Cell::new(Some(5_000)));
-    let paper = Paper {
-        alloc: rt.alloc(),
-        text: RefCell::new(Vec::new(rt.alloc())),
+/// An output with nothing on it.
+fn blank(alloc: Global) -> Paper {
+    Paper {
+        alloc,
+        text: RefCell::new(Vec::new(alloc)),
         is_torn: Cell::new(false),
-    };
-    let telling = Telling::new(&clock, &paper);
-    clock.0.set(Some(0));
+    }
+}
+
+/// The first row by which a hook of this clock, which has begun, does not show what it is to.
+fn first_other(
+    telling: &Telling<'_, Set, Paper>,
+    clock: &Set,
+    paper: &Paper,
+    rows: &[Row],
+) -> Option<usize> {
+    for (number, (time, is_torn, shown)) in rows.iter().enumerate() {
+        clock.0.set(*time);
+        paper.is_torn.set(*is_torn);
+        telling.read(b"key,1\n");
+        if !shows(paper, shown) {
+            return Some(number);
+        }
+    }
+    None
+}
+
+#[test]
+fn a_line_a_second(rt: HostRuntime) {
+    let clock = Set(Cell::new(Some(0)));
+    let paper = blank(rt.alloc());
+    let telling = Telling::new(&clock, &paper, false);
     telling.read(b"before it begins\n");
     clock.0.set(Some(5_000));
     telling.begin();
-    for (number, (time, is_torn, shown)) in ROWS.into_iter().enumerate() {
-        clock.0.set(time);
-        paper.is_torn.set(is_torn);
-        telling.read(b"key,1\n");
-        assert!(rt; shows(&paper, shown), "row {number}");
-    }
-    Ok(())
+    let other = first_other(&telling, &clock, &paper, &ROWS);
+    assert!(rt; other == None, "row {other:?}");
+    telling.end();
+    clock.0.set(Some(99_000));
+    telling.read(b"after the end\n");
+    assert!(rt; shows(&paper, ROWS[11].2));
+}
+
+#[test]
+fn a_line_over_the_last(rt: HostRuntime) {
+    let clock = Set(Cell::new(Some(5_000)));
+    let paper = blank(rt.alloc());
+    let telling = Telling::new(&clock, &paper, true);
+    telling.end();
+    telling.begin();
+    let other = first_other(&telling, &clock, &paper, &OVER);
+    assert!(rt; other == None, "row {other:?}");
+    telling.end();
+    assert!(rt; shows(&paper, ENDED));
+    telling.end();
+    clock.0.set(Some(9_000));
+    telling.read(b"after the end\n");
+    assert!(rt; shows(&paper, ENDED));
 }

@@ -47,7 +47,7 @@ fn two_sources_share_a_hook(rt: HostRuntime) -> Result<(), Fail> {
     assert!(rt; are_read_by_two(&rt, alloc, text, &heard));
     assert!(rt; heard.told().2 == 100_000, "{:?}", heard.told());
     let faults = rt.stderr();
-    assert!(rt; are_read_by_two(&rt, alloc, text, &Telling::new(&rt, &faults)));
+    assert!(rt; are_read_by_two(&rt, alloc, text, &Telling::new(&rt, &faults, false)));
     assert!(rt; are_read_by_two(&rt, alloc, text, &Silent));
     Ok(())
 }
@@ -128,7 +128,7 @@ fn a_run_in_threads_takes_both(rt: HostRuntime) -> Result<(), Fail> {
     let device = FileDevice::new(&rt, rt.alloc(), folder, 8);
     let feed: &[u8] = b"a,1\n";
     let faults = rt.stderr();
-    let telling = Telling::new(&rt, &faults);
+    let telling = Telling::new(&rt, &faults, false);
     assert!(rt; takes_wrapped(device, CountedReader::new(feed), &telling));
     Ok(())
 }

@@ -57,7 +57,7 @@ Options:
 ";
 
 /// The words of a command line, parted by spaces.
-fn split(alloc: Global, line: &str) -> Result<Vec<String>, AllocError> {
+pub(crate) fn split(alloc: Global, line: &str) -> Result<Vec<String>, AllocError> {
     let mut words = Vec::new(alloc);
     for word in line.split(' ') {
         let word = String::from_str(alloc, word)?;
@@ -162,7 +162,10 @@ where
     ended == status && writer.text.as_slice() == printed.as_bytes() && is_told
 }
 
-const BAD_ROW: &str = "fkv_cli: bad row 2 of feed 1\n";
+const BAD_ROW: &str = "fkv_cli: bad row 2 of feed 1\nfkv_cli: standard input, row 2\n";
+
+const NO_FEED: &str =
+    "fkv_cli: cannot read input 1\nfkv_cli: feed 1 is 'no-such-file': no such file\n";
 
 /// More keys than two frames of 256 bytes hold, and the first of them again.
 const LETTERS: &str =
@@ -172,12 +175,16 @@ const LETTERS_TOLD: &str =
     "a,2\nb,1\nc,1\nd,1\ne,1\nf,1\ng,1\nh,1\ni,1\nj,1\nk,1\nl,1\nm,1\nn,1\no,1\np,1\nq,1\nr,1\ns,1\nt,1\n";
 
 const BAD_SIZE: &str =
-    "error: --memory takes a number of one to eighteen digits with K, M or G behind it, such as 64M\n";
+    "error: --memory takes a number of one to eighteen digits with K, M, G or T behind it, such as 64M\n";
 
-const NO_FOLDER: &str = "fkv_cli: device fault 1 on page 0\n";
+const BARE_SIZE: &str =
+    "error: --memory takes a unit behind its number: K, M, G or T, such as 64M\n";
+
+const NO_FOLDER: &str =
+    "fkv_cli: device fault 1 on page 0\nfkv_cli: the folder '/dev/null/pages' can't be made or written: Not a directory (os error 20)\n";
 
 /// Command lines, inputs, statuses, what is printed, and what is told beside it; of a mistake its first line.
-const RUNS: [(&str, &str, u8, &str, &str); 62] = [
+const RUNS: [(&str, &str, u8, &str, &str); 74] = [
     ("fkv_cli", THIN_PATH, 0, THIN_PATH_TOLD, ""),
     ("fkv_cli replay", THIN_PATH, 0, THIN_PATH_TOLD, ""),
     ("fkv_cli --", THIN_PATH, 0, THIN_PATH_TOLD, ""),
@@ -284,13 +291,7 @@ const RUNS: [(&str, &str, u8, &str, &str); 62] = [
         BAD_ROW,
     ),
     ("fkv_cli sum", "a,5\na,1,1\n", 1, "", BAD_ROW),
-    (
-        "fkv_cli sum no-such-file",
-        "a,1\n",
-        1,
-        "",
-        "fkv_cli: cannot read input 1\n",
-    ),
+    ("fkv_cli sum no-such-file", "a,1\n", 1, "", NO_FEED),
     (
         "fkv_cli sum --frames 1",
         "a,1\n",
@@ -385,7 +386,7 @@ const RUNS: [(&str, &str, u8, &str, &str); 62] = [
         "a,1\n",
         1,
         "",
-        "fkv_cli: cannot read input 1\n",
+        "fkv_cli: cannot read input 1\nfkv_cli: feed 1 is 'no': no such file\n",
     ),
     (
         "fkv_cli sum no no no no no no no no no no no no no no no no no no no no no no no no no no no no no no no no no no no no no no no no no no no no no no no no no no no no no no no no no no no no no no no no no",
@@ -439,7 +440,7 @@ const RUNS: [(&str, &str, u8, &str, &str); 62] = [
         "a,1\n",
         1,
         "",
-        "fkv_cli: cannot read input 1\n",
+        NO_FEED,
     ),
     ("fkv_cli sum --dir /dev/null/pages", "a\n", 1, "", NO_FOLDER),
     (
@@ -458,8 +459,40 @@ const RUNS: [(&str, &str, u8, &str, &str); 62] = [
         LETTERS_TOLD,
         "",
     ),
-    ("fkv_cli sum --memory 64", "a,1\n", 2, "", BAD_SIZE),
+    ("fkv_cli sum --memory 64k", "a,1\n", 0, "a,1\n", ""),
+    ("fkv_cli sum --memory 64MB", "a,1\n", 0, "a,1\n", ""),
+    ("fkv_cli sum --memory 64MiB", "a,1\n", 0, "a,1\n", ""),
+    ("fkv_cli sum --memory 1mib", "a,1\n", 0, "a,1\n", ""),
+    ("fkv_cli sum --memory 64", "a,1\n", 2, "", BARE_SIZE),
+    ("fkv_cli sum --memory 64x", "a,1\n", 2, "", BAD_SIZE),
+    ("fkv_cli sum --memory 64Mi", "a,1\n", 2, "", BAD_SIZE),
+    ("fkv_cli sum --memory 64MiBs", "a,1\n", 2, "", BAD_SIZE),
+    ("fkv_cli sum --memory 6M4", "a,1\n", 2, "", BAD_SIZE),
     ("fkv_cli sum --memory M", "a,1\n", 2, "", BAD_SIZE),
+    // 2^24 of 2^40 have no 64 bits
+    ("fkv_cli sum --memory 16777216T", "a,1\n", 2, "", BAD_SIZE),
+    // an empty path names no folder, and standard input is read once
+    (
+        "fkv_cli sum --dir=",
+        "a,1\n",
+        2,
+        "",
+        "error: --dir takes the path of a folder\n",
+    ),
+    (
+        "fkv_cli sum --dir  no-such-file",
+        "a,1\n",
+        2,
+        "",
+        "error: --dir takes the path of a folder\n",
+    ),
+    (
+        "fkv_cli sum - no-such-file -",
+        "a,1\n",
+        2,
+        "",
+        "error: standard input can be read once, so '-' may stand once among the feeds\n",
+    ),
     (
         "fkv_cli sum --memory 99999999999G",
         "a,1\n",
@@ -536,7 +569,11 @@ where
     H::Dir: Send,
 {
     let least = input.len().div_ceil(PIECE) as u64 + 1;
-    let unreadable = "fkv_cli: cannot read input 1\n";
+    let unreadable = if line == "fkv_cli" {
+        "fkv_cli: cannot read input 1\n"
+    } else {
+        "fkv_cli: cannot read input 1\nfkv_cli: feed 1 is standard input\n"
+    };
     for calls in 0..CALLS {
         let start = Launch {
             calls,
@@ -605,11 +642,11 @@ const ENDED: [(Launch<'_>, u8, &str, &str); 6] = [
             piece: PIECE,
             calls: 100,
             room: 0,
-            beside: 100,
+            beside: 200,
         },
         1,
         "",
-        "fkv_cli: bad row 1 of feed 1\n",
+        "fkv_cli: bad row 1 of feed 1\nfkv_cli: standard input, row 1\nfkv_cli: a feed has no header; each line is KEY,AMOUNT\n",
     ),
     (
         Launch {

@@ -89,8 +89,14 @@ const LETTERS: &str =
 
 /// Harms, and what is told. Pages 0 to 3 are in the file, and each is read for the table.
 const HARMS: [(Harm, &str); 2] = [
-    (Harm::Zeros, "fkv_cli: damaged page 0\n"),
-    (Harm::Cut(768), "fkv_cli: device fault 3 on page 3\n"),
+    (
+        Harm::Zeros,
+        "fkv_cli: damaged page 0\nfkv_cli: the folder 'harmed' was changed while the run went on; is another run using it?\n",
+    ),
+    (
+        Harm::Cut(768),
+        "fkv_cli: device fault 3 on page 3\nfkv_cli: the folder 'harmed' was changed while the run went on; is another run using it?\n",
+    ),
 ];
 
 #[test]
@@ -126,7 +132,7 @@ fn a_device_that_is_full(rt: HostRuntime) -> Result<(), Fail> {
             run,
             1,
             "",
-            "fkv_cli: device fault 2 on page 0\n"
+            "fkv_cli: device fault 2 on page 0\nfkv_cli: page 0 of the folder 'full': No space left on device (os error 28)\n"
         )
     );
     fs::remove_dir_all(&rt, "full")?;

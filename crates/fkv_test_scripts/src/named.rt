@@ -6,7 +6,7 @@ const FOLDER: &str = "named_feeds";
 
 /// What stands in `named_feeds/a` and `named_feeds/b`, the words of a run over them, its status, and what it prints and
 /// tells. Standard input has a row of its own, which no run reads that names a feed.
-const NAMED: [(&str, &str, &str, u8, &str, &str); 23] = [
+const NAMED: [(&str, &str, &str, u8, &str, &str); 27] = [
     (
         "a,1\nb,2\n",
         "a,5\nc,7\n",
@@ -72,7 +72,7 @@ const NAMED: [(&str, &str, &str, u8, &str, &str); 23] = [
         "fkv_cli sum named_feeds/a named_feeds/a named_feeds/a named_feeds/b",
         1,
         "",
-        "fkv_cli: bad row 1 of feed 4\n",
+        "fkv_cli: bad row 1 of feed 4\nfkv_cli: 'named_feeds/b', line 1: \"x\"\n",
     ),
     (
         "a,1\n",
@@ -96,7 +96,7 @@ const NAMED: [(&str, &str, &str, u8, &str, &str); 23] = [
         "fkv_cli sum named_feeds/a named_feeds/b",
         1,
         "",
-        "fkv_cli: bad row 2 of feed 2\n",
+        "fkv_cli: bad row 2 of feed 2\nfkv_cli: 'named_feeds/b', line 2: \"x\"\n",
     ),
     (
         "x\n",
@@ -104,7 +104,7 @@ const NAMED: [(&str, &str, &str, u8, &str, &str); 23] = [
         "fkv_cli sum named_feeds/a named_feeds/b",
         1,
         "",
-        "fkv_cli: bad row 1 of feed 1\n",
+        "fkv_cli: bad row 1 of feed 1\nfkv_cli: 'named_feeds/a', line 1: \"x\"\n",
     ),
     (
         "x\n",
@@ -112,7 +112,7 @@ const NAMED: [(&str, &str, &str, u8, &str, &str); 23] = [
         "fkv_cli sum named_feeds/b named_feeds/a",
         1,
         "",
-        "fkv_cli: bad row 2 of feed 1\n",
+        "fkv_cli: bad row 2 of feed 1\nfkv_cli: 'named_feeds/b', line 2: \"y\"\n",
     ),
     // all feeds are opened before a row is read
     (
@@ -121,7 +121,7 @@ const NAMED: [(&str, &str, &str, u8, &str, &str); 23] = [
         "fkv_cli sum named_feeds/a named_feeds/none",
         1,
         "",
-        "fkv_cli: cannot read input 2\n",
+        "fkv_cli: cannot read input 2\nfkv_cli: feed 2 is 'named_feeds/none': no such file\n",
     ),
     ("", "", "fkv_cli sum named_feeds/a named_feeds/b", 0, "", ""),
     (
@@ -130,7 +130,7 @@ const NAMED: [(&str, &str, &str, u8, &str, &str); 23] = [
         "fkv_cli sum named_feeds",
         1,
         "",
-        "fkv_cli: cannot read input 1\n",
+        "fkv_cli: cannot read input 1\nfkv_cli: feed 1 is 'named_feeds': it is a folder\n",
     ),
     // two workers, each with a feed of its own
     (
@@ -164,7 +164,7 @@ const NAMED: [(&str, &str, &str, u8, &str, &str); 23] = [
         "fkv_cli sum --workers 2 named_feeds/a named_feeds/b",
         1,
         "",
-        "fkv_cli: bad row 2 of feed 1\n",
+        "fkv_cli: bad row 2 of feed 1\nfkv_cli: 'named_feeds/a', line 2: \"x\"\n",
     ),
     (
         "a,1\n",
@@ -172,7 +172,7 @@ const NAMED: [(&str, &str, &str, u8, &str, &str); 23] = [
         "fkv_cli sum --workers 2 --audit named_feeds/a named_feeds/b",
         1,
         "",
-        "fkv_cli: bad row 3 of feed 2\n",
+        "fkv_cli: bad row 3 of feed 2\nfkv_cli: 'named_feeds/b', line 3: \"y\"\n",
     ),
     (
         "x\n",
@@ -180,7 +180,7 @@ const NAMED: [(&str, &str, &str, u8, &str, &str); 23] = [
         "fkv_cli sum --workers 2 named_feeds/a named_feeds/none",
         1,
         "",
-        "fkv_cli: cannot read input 2\n",
+        "fkv_cli: cannot read input 2\nfkv_cli: feed 2 is 'named_feeds/none': no such file\n",
     ),
     (
         "a,1\n",
@@ -188,7 +188,42 @@ const NAMED: [(&str, &str, &str, u8, &str, &str); 23] = [
         "fkv_cli sum --workers 2 named_feeds/a named_feeds",
         1,
         "",
-        "fkv_cli: cannot read input 2\n",
+        "fkv_cli: cannot read input 2\nfkv_cli: feed 2 is 'named_feeds': it is a folder\n",
+    ),
+    // a bad row by its line and its bytes: behind a line break in quotes, behind empty lines, with bytes that no terminal is shown,
+    // and one that is shown in part
+    (
+        "\"a\nb\",1\r\n\r\nc;2\r\nd,3\r\n",
+        "",
+        "fkv_cli sum named_feeds/a",
+        1,
+        "",
+        "fkv_cli: bad row 2 of feed 1\nfkv_cli: 'named_feeds/a', line 4: \"c;2\"\n",
+    ),
+    (
+        "a,1\n\"b\n\x1b[2J\\\",2,3\n",
+        "",
+        "fkv_cli sum named_feeds/a",
+        1,
+        "",
+        "fkv_cli: bad row 2 of feed 1\nfkv_cli: 'named_feeds/a', line 2: \"\"b\\n\\x1b[2J\\\\\",2,3\"\n",
+    ),
+    (
+        "a,1\nabcdefghijklmnopqrstuvwxyzabcdefghijklmnopqrstuvwxyz01234567,1",
+        "",
+        "fkv_cli sum named_feeds/a",
+        1,
+        "",
+        "fkv_cli: bad row 2 of feed 1\nfkv_cli: 'named_feeds/a', line 2: \"abcdefghijklmnopqrstuvwxyzabcdefghijklmnopqrstuvwxyz01234567...\"\n",
+    ),
+    // a header
+    (
+        "key,amount\na,1\n",
+        "",
+        "fkv_cli sum named_feeds/a",
+        1,
+        "",
+        "fkv_cli: bad row 1 of feed 1\nfkv_cli: 'named_feeds/a', line 1: \"key,amount\"\nfkv_cli: a feed has no header; each line is KEY,AMOUNT\n",
     ),
 ];
 

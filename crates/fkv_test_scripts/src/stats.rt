@@ -1,8 +1,11 @@
 //! What a run does that its table does not show: the pages that it moves, the rows that it tells of, and help.
-use crate::commands::{ends, ends_by, start};
+use crate::commands::{ends, ends_by, split, start};
+use fkv_commands::advising::advise;
 use fkv_commands::reporting::Report;
+use fkv_commands::run;
 use fkv_feeds::Counts;
-use fkv_meters::{Progress, Seen};
+use fkv_meters::{Progress, Seen, Silent};
+use fkv_requests::{Request, request_of};
 use fkv_streams::{CountedReader, CountedWriter};
 use std::sync::atomic::{AtomicBool, AtomicU64, Ordering};
 use std::{fs, io};
@@ -107,11 +110,143 @@ fn seconds_of_reports(rt: HostRuntime) -> io::Result<()> {
     Ok(())
 }
 
-/// Whether a run was to tell how far it is, and how many line ends it was told of.
+/// Words, the keys and the rows of a run, the pages that were written and those that were read, and what is advised.
+const ADVISED: [(&str, usize, u64, u64, u64, &str); 9] = [
+    (
+        "fkv_cli sum --stats",
+        632_120,
+        1_000_000,
+        540,
+        360_959,
+        "fkv_cli: 360419 of 1000000 rows read a page back; --memory 64M would hold them\n",
+    ),
+    // three quarters of 2^20 bytes are 64 for each of 12,288 keys
+    (
+        "fkv_cli count --stats --page-bits 8",
+        12_288,
+        20_000,
+        0,
+        2_001,
+        "fkv_cli: 2001 of 20000 rows read a page back; --memory 1M would hold them\n",
+    ),
+    (
+        "fkv_cli max --stats --dir pages",
+        12_289,
+        20_000,
+        0,
+        2_001,
+        "fkv_cli: 2001 of 20000 rows read a page back; --memory 2M would hold them\n",
+    ),
+    // one row in ten is not more than that
+    ("fkv_cli sum --stats", 12_288, 20_000, 0, 2_000, ""),
+    // pages that only the list of the keys reads
+    ("fkv_cli sum --stats", 12_288, 20, 40, 40, ""),
+    ("fkv_cli sum --stats", 12_288, 20, 40, 39, ""),
+    // there are no more such rows than rows
+    (
+        "fkv_cli sum --stats",
+        0,
+        20,
+        0,
+        2_000,
+        "fkv_cli: 20 of 20 rows read a page back; --memory 1M would hold them\n",
+    ),
+    // the words say how much there is
+    (
+        "fkv_cli sum --stats --memory 64M",
+        12_288,
+        20_000,
+        0,
+        9_000,
+        "",
+    ),
+    (
+        "fkv_cli sum --stats --frames 4",
+        12_288,
+        20_000,
+        0,
+        9_000,
+        "",
+    ),
+];
+
+#[test]
+fn advice_of_reports(rt: HostRuntime) -> io::Result<()> {
+    for (at, (line, keys, rows, pages_written, pages_read, text)) in ADVISED
+        .into_iter()
+        .enumerate()
+    {
+        let report = Report {
+            keys,
+            counts: Counts {
+                rows,
+                appended: None,
+            },
+            seen: Seen {
+                pages_written,
+                pages_read,
+                bytes_written: 0,
+            },
+            millis: None,
+        };
+        let words = split(rt.alloc(), line)?;
+        let mut told = Vec::new(rt.alloc());
+        let mut faults = CountedWriter::new(&mut told);
+        match request_of(rt.alloc(), words.as_slice()) {
+            Ok(Request::Table(table)) => advise(&table, &report, &mut faults),
+            _ => panic!(rt; "row {at} asks for no table"),
+        }
+        assert!(rt; told.as_slice() == text.as_bytes(), "row {at}");
+    }
+    Ok(())
+}
+
+/// Words of runs over [`LETTERS`] twice, and whether their reports end with advice.
+const ENDS: [(&str, bool); 5] = [
+    ("fkv_cli sum --stats --partition-bits 0 --page-bits 8", true),
+    (
+        "fkv_cli sum --stats --partition-bits 0 --page-bits 8 --frames 4",
+        false,
+    ),
+    ("fkv_cli sum --stats --partition-bits 0 --memory 1K", false),
+    (
+        "fkv_cli sum --stats --partition-bits 0 --page-bits 8 --merge",
+        false,
+    ),
+    ("fkv_cli sum --partition-bits 0 --page-bits 8", false),
+];
+
+#[test]
+fn reports_that_end_with_advice(rt: HostRuntime) -> io::Result<()> {
+    let input = format!(in rt.alloc(); "{LETTERS}{LETTERS}")?;
+    for (line, is_advised) in ENDS {
+        let words = split(rt.alloc(), line)?;
+        let mut told = Vec::new(rt.alloc());
+        let mut printed = Vec::new(rt.alloc());
+        let status = run(
+            &rt,
+            rt.alloc(),
+            words.as_slice(),
+            &mut CountedReader::new(input.as_bytes()),
+            &mut CountedWriter::new(&mut printed),
+            &mut CountedWriter::new(&mut told),
+            &Silent,
+        );
+        assert!(rt; status == 0, "{line}");
+        let has_advice = told
+            .as_slice()
+            .ends_with(b"; --memory 1M would hold them\n");
+        assert!(rt; has_advice == is_advised, "{line}");
+    }
+    Ok(())
+}
+
+/// Whether a run was to tell how far it is, how many line ends it was told of, and how often that it was over.
 #[derive(Drop)]
 struct Heard {
     has_begun: AtomicBool,
     lines: AtomicU64,
+    ends: AtomicU64,
 }
 
 impl Progress for Heard {
@@ -122,6 +257,10 @@ impl Progress for Heard {
     fn read(&self, bytes: &[u8]) {
         let lines = bytes.iter().filter(|byte| **byte == 10).count() as u64;
         self.lines.fetch_add(lines, Ordering::SeqCst);
+    }
+
+    fn end(&self) {
+        self.ends.fetch_add(1, Ordering::SeqCst);
     }
 }
 
@@ -155,6 +294,7 @@ fn progress_that_is_told(rt: HostRuntime) -> io::Result<()> {
         let heard = Heard {
             has_begun: AtomicBool::new(false),
             lines: AtomicU64::new(0),
+            ends: AtomicU64::new(0),
         };
         let mut reader = CountedReader::new(b"".as_slice());
         let run = start(line, "");
@@ -172,6 +312,7 @@ fn progress_that_is_told(rt: HostRuntime) -> io::Result<()> {
             "{line}"
         );
         assert!(rt; heard.lines.load(Ordering::SeqCst) == lines, "{line}");
+        assert!(rt; heard.ends.load(Ordering::SeqCst) == 1, "{line}");
     }
     fs::remove_dir_all(&rt, "heard")?;
     Ok(())
@@ -182,20 +323,20 @@ const SUM_HELP: &str = "Adds up the amounts of each key
 Usage: fkv_cli sum [OPTIONS] [FEED]...
 
 Arguments:
-  [FEED]...  Where the feeds are, up to 64; standard input where none is named
+  [FEED]...  CSV files, up to 64, of which - is standard input; with none, standard input. Each line is KEY,AMOUNT (count wants an amount too), with no header: KEY has 1 to 31 bytes, AMOUNT is a whole number of 64 bits
 
 Options:
+      --memory <SIZE>       How much memory buckets and pages may take, as 64M or 2G; it sets --bucket-bits, --page-bits and --frames, where they are not given
+      --dir <PATH>          Keep pages in files of this folder, made anew; without it they are kept in memory
+      --workers <N>         How many threads read the feeds, each some of them: 1 to 14 [default: 1]
+      --merge               Make a row a merge where it would read a page
+      --stats               Tell on standard error, at the end, what the run did
+      --progress            Tell on standard error, as it goes, how many rows were read
+      --audit               Keep every update, and compare them at the end with what the workers were answered
       --partition-bits <N>  There are 2 to this many partitions: 0 to 6 [default: 2]
       --bucket-bits <N>     There are 2 to this many buckets in each: 0 to 20 [default: 10]
       --page-bits <N>       A page has 2 to this many bytes: 8 to 20 [default: 16]
       --frames <N>          The page frames of each partition: 2 to 1024 [default: 4]
-      --merge               Make a row a merge where it would read a page
-      --workers <N>         How many threads read the feeds, each some of them: 1 to 14 [default: 1]
-      --audit               Keep every update, and compare them at the end with what the workers were answered
-      --stats               Tell on standard error, at the end, what the run did
-      --progress            Tell on standard error, at most once a second, how many rows were read
-      --memory <SIZE>       Sets --bucket-bits, --page-bits and --frames, where they are not given, so that buckets and frames take at most this much, as 64M or 2G
-      --dir <PATH>          Keep pages in files of this folder, made anew; without it they are kept in memory
   -h, --help                Print help
 ";
 

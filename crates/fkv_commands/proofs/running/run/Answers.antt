@@ -78,7 +78,7 @@ returns-in-Ok-Replay g c =
 pub returns-in-Ok-Table : goal.returns-in-Ok-Table
 returns-in-Ok-Table g c =
     let asks : AsksTable (map string_bytes c.args.words.now) c.in-Ok-Table.table = rw c.in-Ok-Table.field-0-is at c.in-Ok-Table.ensures.ok in
-    let told = c.tell-in-Err-tabulate.ensures in
+    let told = c.tell_with_cause.ensures in
     record {
       done = λ e. absurd (done_is_no_fault _ e told);
       quiet = λ e. absurd (done_is_no_fault _ e told);

@@ -1,0 +1,57 @@
+//! What would make a run read fewer pages.
+ghost use Rattle.std.specs.Prelude.{◌≡◌, ◌≤◌, ◌*◌};
+ghost use Rattle.fkv_commands.specs.Advice.{read_back, is_advised};
+
+use crate::reporting::Report;
+use crate::telling::Telling;
+use fkv_requests::TableRequest;
+use fkv_streams::Sink;
+use std::io::{self, Write};
+
+/// How many rows read a page back, about: each page that was written is read once for the list of the keys, and a row seldom reads
+/// two.
+fn read_back(report: &Report) -> u64
+    ensures { result ≡ read_back report.now.counts.rows report.now.seen.pages_read report.now.seen.pages_written }
+{
+    let seen = report.seen;
+    let pages = seen.pages_read.saturating_sub(seen.pages_written);
+    pages.min(report.counts.rows)
+}
+
+/// Whether more memory is to be advised: more than one row in ten read a page back, and the words do not say how much there is.
+fn is_advised(table: &TableRequest, report: &Report) -> bool
+    ensures { result ≡ is_advised table.now.sized report.now.counts.rows report.now.seen.pages_read
+        report.now.seen.pages_written }
+{
+    !table.sized && read_back(report) > report.counts.rows / 10
+}
+
+/// The keys for which three quarters of a MiB have 64 bytes each: no record of the three tables takes more. The last quarter is for
+/// buckets.
+const KEYS_OF_A_MEBIBYTE: u64 = 12_288;
+
+/// A power of two of MiB that have room for so many keys.
+fn mebibytes_for(keys: u64) -> u64
+    ensures { keys ≤ result * 12288 }
+{
+    keys.div_ceil(KEYS_OF_A_MEBIBYTE).next_power_of_two()
+}
+
+/// Tells how much memory would hold the pages that rows read back, where it is to be advised. Where it can't be told, the table
+/// stands all the same.
+pub fn advise<E: Sink>(table: &TableRequest, report: &Report, faults: &mut E) {
+    if is_advised(table, report) {
+        let _untold = write(report, &mut Telling { sink: faults });
+    }
+}
+
+/// Writes the advice.
+fn write<S: Sink>(report: &Report, sink: &mut Telling<'_, S>) -> io::Result<()> {
+    let back = read_back(report);
+    let rows = report.counts.rows;
+    let size = mebibytes_for(report.keys as u64);
+    writeln!(
+        sink,
+        "fkv_cli: {back} of {rows} rows read a page back; --memory {size}M would hold them"
+    )
+}
