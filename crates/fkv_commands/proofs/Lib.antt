@@ -2,3 +2,4 @@ pub mod StatusLemmas
 pub mod TellingLemmas
 pub mod WholeLemmas
 pub mod MakingLemmas
+pub mod OpeningLemmas

@@ -20,3 +20,8 @@ module _ {S : Type 0} (remaining : S → Option (List ℕ)) (failures : S → �
 pub later : {T E K : Type 0} (r : Result T E) (P : T → Type 0) → (K → IfOk r P) → IfOk r (λ x. K → P x)
 later (Ok x) P h = h
 later (Err e) P h = tt
+
+-- a fact that stands under a premise in an answer, where the premise is given
+pub under : {T E K : Type 0} (r : Result T E) (P : T → Type 0) → IfOk r (λ x. K → P x) → K → IfOk r P
+under (Ok x) P h k = h k
+under (Err e) P h k = tt

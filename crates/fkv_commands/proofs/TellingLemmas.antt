@@ -1,5 +1,5 @@
 -- Texts that were told, whole or in part.
-use Rattle.std.proofs.Common.{◌≡◌, ◌≢◌, ◌⊎◌, inl, inr, refl, ℕ, List, Option, Result, Ok, Err, OnOk, OnErr, length}
+use Rattle.std.proofs.Common.{◌≡◌, ◌≢◌, ◌⊎◌, ◌++◌, ◌∙◌, inl, inr, refl, append_assoc, ℕ, List, Option, Result, Ok, Err, OnOk, OnErr, length}
 use Rattle.std.proofs.Math.Seq.{take-length}
 use Rattle.std.specs.Io.KnownBytes.{Appends}
 use Rattle.fkv_functions.specs.declared.refusals.Refused.{Refused}
@@ -15,3 +15,11 @@ told_from_front old new bytes text same (Err _) whole front = rw same front
 pub unwritable_or : (e : Refused) → (e ≡ Unwritable) ⊎ (e ≢ Unwritable)
 unwritable_or Unwritable = inl refl
 unwritable_or other = inr (λ e. absurd (cc))
+
+-- six texts in a row, however they are joined
+pub joined : (a b c d e f : List ℕ) → a ++ b ++ c ++ d ++ e ++ f ≡ a ++ (b ++ (c ++ (d ++ (e ++ f))))
+joined a b c d e f =
+    append_assoc (a ++ b ++ c ++ d) e f
+    ∙ append_assoc (a ++ b ++ c) d (e ++ f)
+    ∙ append_assoc (a ++ b) c (d ++ (e ++ f))
+    ∙ append_assoc a b (c ++ (d ++ (e ++ f)))

@@ -1,5 +1,6 @@
--- When more memory is advised.
-use Rattle.std.specs.Prelude.{◌-◌, ◌/◌, ◌&&◌, ℕ, Bool, min, nat_lt, not}
+-- When more memory is advised, and how.
+use Rattle.std.specs.Prelude.{◌-◌, ◌/◌, ◌&&◌, ◌++◌, ◌∷◌, [], ℕ, List, Bool, min, nat_lt, not, if◌then◌else◌, codes, decimal}
+use Rattle.fkv_commands.specs.declared.reporting.Report.{Report}
 
 -- how many rows read a page back, about: each page that was written is read once for the list of the keys
 abbrev pub read_back : ℕ → ℕ → ℕ → ℕ
@@ -8,3 +9,19 @@ read_back rows read written = min (read - written) rows
 -- more than one row in ten read a page back, and the words do not say how much memory there is
 abbrev pub is_advised : Bool → ℕ → ℕ → ℕ → Bool
 is_advised sized rows read written = not sized && nat_lt (rows / 10) (read_back rows read written)
+
+-- a line that names so many MiB
+abbrev pub advice : ℕ → Report → List ℕ
+advice size report =
+    codes "fkv_cli: "
+    ++ (decimal (read_back report.counts.rows report.seen.pages_read report.seen.pages_written)
+    ++ (codes " of "
+    ++ (decimal report.counts.rows
+    ++ (codes " rows read a page back; --memory "
+    ++ (decimal size
+    ++ codes "M would hold them\n")))))
+
+-- what stands behind a report
+abbrev pub advice_text : Bool → ℕ → Report → List ℕ
+advice_text sized size report =
+    if is_advised sized report.counts.rows report.seen.pages_read report.seen.pages_written then advice size report else []

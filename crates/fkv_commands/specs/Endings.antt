@@ -1,5 +1,5 @@
 -- What a run leaves on its output, by what was read.
-use Rattle.std.specs.Prelude.{◌≡◌, ◌⊎◌, true, List, [], ◌∷◌, map, ℕ, ℤ, Option, None, IfSome, codes, option_map, string_bytes}
+use Rattle.std.specs.Prelude.{◌≡◌, ◌⊎◌, true, List, [], map, length, ℕ, ℤ, Option, None, Some, IfSome, codes, option_map, string_bytes}
 use Rattle.std.specs.Fmt.{decimal, signed_decimal}
 use Rattle.fkv_functions.specs.Meanings.{Meanings}
 use Rattle.fkv_functions.specs.Sets.{counts, sums, maxima}
@@ -14,6 +14,9 @@ use Rattle.fkv_steps.specs.Printing.{line}
 use Rattle.fkv_steps.specs.Running.{IsOutputOf}
 use Rattle.fkv_feeds.specs.Tables.{IsTableOf}
 use Rattle.fkv_feeds.specs.Writing.{table_text}
+use Rattle.fkv_commands.specs.declared.reporting.Report.{Report}
+use Rattle.fkv_commands.specs.Plans.{IsPlanOf, feeds_of}
+use Rattle.fkv_commands.specs.Reports.{IsTold}
 
 -- the whole output of the input was written, and nothing else; known bytes are those of a reader and of a writer in
 -- memory
@@ -24,70 +27,90 @@ PrintsAll input old new = IfSome input (λ bytes. (text : List ℕ) × IsOutputO
 abbrev pub PrintsPart : Option (List ℕ) → Option (List ℕ) → Option (List ℕ) → Type 0
 PrintsPart input old new = IfSome input (λ bytes. (text : List ℕ) × IsOutputOf bytes text × AppendsPrefix old new text)
 
--- the text of a table of these meanings; where no folder and no path is named, it is that of the input, and nothing is
--- known of files
-abbrev pub IsTableBy : {V : Type 0} → Meanings Name V ℤ V → (V → List ℕ) → Option Text → List Text → Option (List ℕ)
-    → List ℕ
+-- what is known of the table of a request: its pages stay in memory, and one feed comes in, one worker reads all, or
+-- histories are kept
+abbrev pub IsKnown : TableRequest → Type 0
+IsKnown table =
+    (option_map string_bytes table.folder ≡ None)
+    × ((map string_bytes table.paths.items ≡ []) ⊎ (table.audit ≡ true) ⊎ (table.workers ≡ 1))
+
+-- the text of a table of these meanings, of these feeds where that is known
+abbrev pub IsTableBy : {V : Type 0} → Meanings Name V ℤ V → (V → List ℕ) → TableRequest → List (Option (List ℕ)) → List ℕ
     → Type 0
-IsTableBy {V} f value folder paths input text =
+IsTableBy {V} f value table feeds text =
     (pairs : List (Name × V))
-    × (folder ≡ None → paths ≡ [] → IsTableOf f (input ∷ []) pairs)
+    × (IsKnown table → IsTableOf f feeds pairs)
     × (text ≡ table_text value pairs)
 
 -- the text of the table that is asked for
-abbrev pub IsTableText : Shown → Option Text → List Text → Option (List ℕ) → List ℕ → Type 0
-IsTableText Count folder paths input text = IsTableBy counts decimal folder paths input text
-IsTableText Sum folder paths input text = IsTableBy sums signed_decimal folder paths input text
-IsTableText Max folder paths input text = IsTableBy maxima signed_decimal folder paths input text
+abbrev pub IsTableText : Shown → TableRequest → List (Option (List ℕ)) → List ℕ → Type 0
+IsTableText Count table feeds text = IsTableBy counts decimal table feeds text
+IsTableText Sum table feeds text = IsTableBy sums signed_decimal table feeds text
+IsTableText Max table feeds text = IsTableBy maxima signed_decimal table feeds text
 
 -- that text was written whole, and nothing else; or a part of it, from its front
-abbrev pub PrintsTable : Shown → Option Text → List Text → Option (List ℕ) → Option (List ℕ) → Option (List ℕ) → Type 0
-PrintsTable shown folder paths input old new =
+abbrev pub PrintsTable : TableRequest → List (Option (List ℕ)) → Option (List ℕ) → Option (List ℕ) → Type 0
+PrintsTable table feeds old new =
     (text : List ℕ)
-    × IsTableText shown folder paths input text
+    × IsTableText table.shown table feeds text
     × Appends old new text
 
-abbrev pub PrintsTablePart : Shown → Option Text → List Text → Option (List ℕ) → Option (List ℕ) → Option (List ℕ) → Type 0
-PrintsTablePart shown folder paths input old new =
+abbrev pub PrintsTablePart : TableRequest → List (Option (List ℕ)) → Option (List ℕ) → Option (List ℕ) → Type 0
+PrintsTablePart table feeds old new =
     (text : List ℕ)
-    × IsTableText shown folder paths input text
+    × IsTableText table.shown table feeds text
     × AppendsPrefix old new text
+
+-- the feeds of a request
+abbrev pub feeds_by : (List ℕ → Option (List ℕ)) → TableRequest → Option (List ℕ) → List (Option (List ℕ))
+feeds_by bytes table input = feeds_of bytes (map string_bytes table.paths.items) input
+
+-- a report of a run that was made as this request asks
+abbrev pub IsReportOf : TableRequest → List (Option (List ℕ)) → Option Report → Type 0
+IsReportOf table feeds told = (report : Report) × (told ≡ Some report) × IsPlanOf table (length feeds) report.plan
 
 -- what the program tells of its version
 unfoldable pub version_line : List ℕ
 version_line = line (codes "fkv_cli 0.1.0")
 
--- The output of a run of these words, which was done; help is not told.
-abbrev pub IsDone : List Text → Option (List ℕ) → Option (List ℕ) → Option (List ℕ) → Type 0
-IsDone words input old new =
+-- The output of a run of these words, which was done, and its report, where paths lead to these bytes; help is not told.
+abbrev pub IsDone : (List ℕ → Option (List ℕ)) → List Text → Option (List ℕ) → Option (List ℕ) → Option (List ℕ) → Option Report → Type 0
+IsDone bytes words input old new told =
     (AsksReplay words × PrintsAll input old new)
     ⊎ ((table : TableRequest)
     × AsksTable words table
-    × PrintsTable table.shown (option_map string_bytes table.folder) (map string_bytes table.paths.items) input old new)
+    × PrintsTable table (feeds_by bytes table input) old new
+    × IsReportOf table (feeds_by bytes table input) told)
     ⊎ (MayAskVersion words × Appends old new version_line)
     ⊎ MayAskHelp words
 
 -- the output of a run of these words, which a fault ended: nothing, or the front of what is asked for
-abbrev pub IsStopped : List Text → Option (List ℕ) → Option (List ℕ) → Option (List ℕ) → Type 0
-IsStopped words input old new =
+abbrev pub IsStopped : (List ℕ → Option (List ℕ)) → List Text → Option (List ℕ) → Option (List ℕ) → Option (List ℕ) → Type 0
+IsStopped bytes words input old new =
     (new ≡ old)
     ⊎ (AsksReplay words × PrintsPart input old new)
     ⊎ ((table : TableRequest)
     × AsksTable words table
-    × PrintsTablePart table.shown (option_map string_bytes table.folder) (map string_bytes table.paths.items) input old new)
+    × PrintsTablePart table (feeds_by bytes table input) old new)
     ⊎ (MayAskVersion words × AppendsPrefix old new version_line)
     ⊎ MayAskHelp words
 
--- the words ask for a table, and for a report of what its run did
-abbrev pub AsksReport : List Text → Type 0
-AsksReport words = (table : TableRequest) × AsksTable words table × (table.stats ≡ true)
+-- what a run that was done tells: nothing, or where a report is asked for the run's, or its front where it can't be told whole
+abbrev pub IsQuiet : List Text → Option Report → Option (List ℕ) → Option (List ℕ) → Type 0
+IsQuiet words told old new =
+    (new ≡ old)
+    ⊎ ((table : TableRequest)
+    × AsksTable words table
+    × (table.stats ≡ true)
+    × ((report : Report) × (told ≡ Some report) × ((text : List ℕ) × IsTold table.sized report text × AppendsPrefix old new text)))
 
 -- what a run of these words ends with: status 0 where help is asked for, or where a replay, a table or the version was
--- written whole, and then nothing was told but a report that was asked for; status 1 where nothing was written, or the front of what is asked for; status 2 where the words
--- are mistaken, and then nothing was written
-pub record IsEnding (words : List Text) (input old new told_old told_new : Option (List ℕ)) (status : ℕ) : Type 0 where
-  pub done : status ≡ 0 → IsDone words input old new
-  pub quiet : status ≡ 0 → (told_new ≡ told_old) ⊎ AsksReport words
-  pub fault : status ≡ 1 → IsStopped words input old new
+-- written whole, and then nothing was told but a report that was asked for; status 1 where nothing was written, or the front
+-- of what is asked for; status 2 where the words are mistaken, and then nothing was written
+pub record IsEnding (bytes : List ℕ → Option (List ℕ)) (words : List Text) (input old new told_old told_new : Option (List ℕ))
+    (told : Option Report) (status : ℕ) : Type 0 where
+  pub done : status ≡ 0 → IsDone bytes words input old new told
+  pub quiet : status ≡ 0 → IsQuiet words told told_old told_new
+  pub fault : status ≡ 1 → IsStopped bytes words input old new
   pub mistake : status ≡ 2 → MayBeMistaken words × (new ≡ old)
   pub only : (status ≡ 0) ⊎ (status ≡ 1) ⊎ (status ≡ 2)

@@ -1,3 +1,5 @@
 pub mod Endings
+pub mod Plans
+pub mod Reports
 pub mod Sources
 pub mod Advice

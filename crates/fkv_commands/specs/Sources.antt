@@ -1,4 +1,5 @@
 -- What is said of a feed, by where it comes from.
+use Rattle.std.specs.Prelude.{◌≡◌, ℕ, List, Option, Some, IfSome}
 use Rattle.fkv_commands.specs.declared.opening.Feed.{Feed}
 use Rattle.fkv_commands.specs.declared.opening.Feed.TheVariants.{File, Bytes}
 
@@ -6,3 +7,7 @@ use Rattle.fkv_commands.specs.declared.opening.Feed.TheVariants.{File, Bytes}
 abbrev pub said_of : {T : Type 0} {F B : Type 0} → (F → T) → (B → T) → Feed F B → T
 said_of file bytes (File f) = file f
 said_of file bytes (Bytes b) = bytes b
+
+-- where the bytes of a path are known, these are they
+abbrev pub Agrees : Option (List ℕ) → Option (List ℕ) → Type 0
+Agrees known told = IfSome known (λ xs. told ≡ Some xs)

@@ -1,12 +1,10 @@
 //! What would make a run read fewer pages.
-ghost use Rattle.std.specs.Prelude.{◌≡◌, ◌≤◌, ◌*◌};
-ghost use Rattle.fkv_commands.specs.Advice.{read_back, is_advised};
+ghost use Rattle.std.specs.Prelude.{◌≡◌, ◌≤◌, ◌*◌, ◌++◌, ℕ, IfErr, OnOk};
+ghost use Rattle.fkv_commands.specs.Advice.{advice_text, read_back, is_advised};
 
 use crate::reporting::Report;
-use crate::telling::Telling;
-use fkv_requests::TableRequest;
-use fkv_streams::Sink;
-use std::io::{self, Write};
+use fkv_functions::Refused;
+use std::io::Write;
 
 /// How many rows read a page back, about: each page that was written is read once for the list of the keys, and a row seldom reads
 /// two.
@@ -19,11 +17,10 @@ fn read_back(report: &Report) -> u64
 }
 
 /// Whether more memory is to be advised: more than one row in ten read a page back, and the words do not say how much there is.
-fn is_advised(table: &TableRequest, report: &Report) -> bool
-    ensures { result ≡ is_advised table.now.sized report.now.counts.rows report.now.seen.pages_read
-        report.now.seen.pages_written }
+fn is_advised(sized: bool, report: &Report) -> bool
+    ensures { result ≡ is_advised sized report.now.counts.rows report.now.seen.pages_read report.now.seen.pages_written }
 {
-    !table.sized && read_back(report) > report.counts.rows / 10
+    !sized && read_back(report) > report.counts.rows / 10
 }
 
 /// The keys for which three quarters of a MiB have 64 bytes each: no record of the three tables takes more. The last quarter is for
@@ -37,21 +34,24 @@ fn mebibytes_for(keys: u64) -> u64
     keys.div_ceil(KEYS_OF_A_MEBIBYTE).next_power_of_two()
 }
 
-/// Tells how much memory would hold the pages that rows read back, where it is to be advised. Where it can't be told, the table
-/// stands all the same.
-pub fn advise<E: Sink>(table: &TableRequest, report: &Report, faults: &mut E) {
-    if is_advised(table, report) {
-        let _untold = write(report, &mut Telling { sink: faults });
+/// Adds how much memory would hold the pages that rows read back, where it is to be advised: where the words name no size, as
+/// `sized` says. Refused: `NoMemory`.
+pub(crate) fn add_advice(sized: bool, report: &Report, text: &mut Vec<u8>) -> Result<(), Refused>
+    ensures ok { OnOk result ((size : ℕ) × (report.now.keys ≤ size * 12288)
+        × (text.new.items ≡ text.old.items ++ advice_text sized size report.now)) }
+    ensures only { IfErr result (λ refused. refused ≡ Refused.NoMemory) }
+{
+    let size = mebibytes_for(report.keys as u64);
+    if !is_advised(sized, report) {
+        return Ok(());
     }
-}
-
-/// Writes the advice.
-fn write<S: Sink>(report: &Report, sink: &mut Telling<'_, S>) -> io::Result<()> {
     let back = read_back(report);
     let rows = report.counts.rows;
-    let size = mebibytes_for(report.keys as u64);
-    writeln!(
-        sink,
+    match writeln!(
+        text,
         "fkv_cli: {back} of {rows} rows read a page back; --memory {size}M would hold them"
-    )
+    ) {
+        Ok(()) => Ok(()),
+        Err(_) => Err(Refused::NoMemory),
+    }
 }

@@ -1,9 +1,11 @@
 //! How the process ends.
-ghost use Rattle.std.specs.Prelude.{◌≡◌, ◌≢◌, true, map, string_bytes, IfOk, IfErr};
+ghost use Rattle.std.specs.Prelude.{◌≡◌, ◌≢◌, true, map, string_bytes, Option, IfOk, IfErr};
 ghost use Rattle.std.specs.IoError.{error_kind};
 ghost use Rattle.std.specs.Process.{exit_status};
 ghost use Rattle.fkv_commands.specs.Endings.{IsEnding};
 
+use crate::opening::Opener;
+use crate::reporting::Report;
 use crate::running::{refuse_words, run, tell};
 use fkv_functions::Refused;
 use fkv_meters::Progress;
@@ -25,6 +27,7 @@ pub fn end<
     E: Sink,
     H: Files + Threads + Wait + Clock + Sync,
     P: Progress + Sync,
+    O: Opener,
 >(
     rt: &H,
     alloc: Global,
@@ -33,13 +36,15 @@ pub fn end<
     writer: &mut W,
     faults: &mut E,
     hook: &P,
+    opener: &O,
 ) -> ExitCode
 where
     H::File: Send,
     H::Dir: Send,
-    ensures ends { IfOk words (λ ws. IsEnding (map string_bytes ws.items) (R.remaining reader.old)
-        (W.contents writer.old) (W.contents writer.new) (E.contents faults.old) (E.contents faults.new)
-        (exit_status result)) }
+    O::Feed: Send,
+    ensures ends { IfOk words (λ ws. (told : Option Report) × IsEnding (λ path. O.bytes opener.now path) (map string_bytes ws.items)
+        (R.remaining reader.old) (W.contents writer.old) (W.contents writer.new) (E.contents faults.old)
+        (E.contents faults.new) told (exit_status result)) }
     ensures no_text { IfErr words (λ e. error_kind e ≡ ErrorKind.InvalidData → exit_status result ≡ 2) }
     ensures no_memory { IfErr words (λ e. error_kind e ≢ ErrorKind.InvalidData → exit_status result ≡ 1) }
     ensures unwritten { IfErr words (λ _. W.contents writer.new ≡ W.contents writer.old) }
@@ -49,13 +54,29 @@ where
         × (W.failures writer.new ≡ W.failures writer.old) }
 {
     match words {
-        Ok(words) => ended(rt, alloc, words.as_slice(), reader, writer, faults, hook),
+        Ok(words) => ended(
+            rt,
+            alloc,
+            words.as_slice(),
+            reader,
+            writer,
+            faults,
+            hook,
+            opener,
+        ),
         Err(error) => ExitCode::from(unworded(&error, faults)),
     }
 }
 
 /// Does what the words ask for, and ends with its status, as [`run`] has it.
-fn ended<R: Source, W: Sink, E: Sink, H: Files + Threads + Wait + Clock + Sync, P: Progress + Sync>(
+fn ended<
+    R: Source,
+    W: Sink,
+    E: Sink,
+    H: Files + Threads + Wait + Clock + Sync,
+    P: Progress + Sync,
+    O: Opener,
+>(
     rt: &H,
     alloc: Global,
     words: &[String],
@@ -63,18 +84,21 @@ fn ended<R: Source, W: Sink, E: Sink, H: Files + Threads + Wait + Clock + Sync, 
     writer: &mut W,
     faults: &mut E,
     hook: &P,
+    opener: &O,
 ) -> ExitCode
 where
     H::File: Send,
     H::Dir: Send,
-    ensures ends { IsEnding (map string_bytes words.now) (R.remaining reader.old) (W.contents writer.old)
-        (W.contents writer.new) (E.contents faults.old) (E.contents faults.new) (exit_status result) }
+    O::Feed: Send,
+    ensures ends { (told : Option Report) × IsEnding (λ path. O.bytes opener.now path) (map string_bytes words.now)
+        (R.remaining reader.old) (W.contents writer.old) (W.contents writer.new) (E.contents faults.old)
+        (E.contents faults.new) told (exit_status result) }
     ensures out { exit_status result ≡ 0 → W.is_out writer.new ≡ true }
     ensures steady { exit_status result ≡ 0 → (R.failures reader.new ≡ R.failures reader.old)
         × (W.failures writer.new ≡ W.failures writer.old) }
 {
-    let status = run(rt, alloc, words, reader, writer, faults, hook);
-    ExitCode::from(status)
+    let ended = run(rt, alloc, words, reader, writer, faults, hook, opener);
+    ExitCode::from(ended.status)
 }
 
 /// Tells why the words could not be had, and answers the status.

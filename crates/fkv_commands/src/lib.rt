@@ -13,7 +13,7 @@ pub mod ending;
 pub mod escaping;
 mod finding;
 mod making;
-mod opening;
+pub mod opening;
 mod probing;
 pub mod reporting;
 pub mod running;
@@ -22,5 +22,7 @@ mod tabulating;
 mod telling;
 
 pub use ending::end;
-pub use running::run;
+pub use opening::{FeedFiles, Opener};
+pub use reporting::Report;
+pub use running::{Ended, run};
 pub use starting::start;

@@ -1,8 +1,9 @@
 //! Making tables over a device, by one worker or by several.
-ghost use Rattle.std.specs.Prelude.{◌≡◌, ◌≢◌, ◌↔◌, ◌∷◌, [], true, map, IfOk, IfErr, IsTrue, OnOk};
+ghost use Rattle.std.specs.Prelude.{◌≡◌, ◌≢◌, ◌⊎◌, ◌↔◌, ◌∷◌, [], true, length, map, min, string_bytes, IfOk, IfErr, IsTrue, OnOk};
 ghost use Rattle.fkv_feeds.specs.Tables.{IsTableOf};
+ghost use Rattle.fkv_commands.specs.Plans.{IsPlanOf};
 
-use crate::opening::{Feed, FeedOf, all_opened, read_whole};
+use crate::opening::{Feed, FeedOf, Opener, all_opened, read_whole};
 use fkv_device::Disk;
 use fkv_feeds::{RowMode, Run, run_alone_by, run_one_by};
 use fkv_functions::{Mergeable, Name, OrderFree, Refused};
@@ -30,7 +31,9 @@ fn mode_of(table: &TableRequest) -> RowMode
 }
 
 /// How many workers have a feed to read, where so many are asked for: none reads another's.
-fn workers_for(asked: u64, feeds: usize) -> usize {
+fn workers_for(asked: u64, feeds: usize) -> usize
+    ensures { result ≡ min asked feeds }
+{
     match usize::try_from(asked) {
         Ok(asked) => asked.min(feeds),
         Err(_) => feeds,
@@ -60,6 +63,7 @@ where
     D::Reader: Send,
     ensures ok { H.keeps ≡ true → IsTrue D.Receipt.keeps
         → IfOk result (λ run. IsTableOf F.meaning (map S.remaining feeds.items) run.table) }
+    ensures ran { IfOk result (λ run. IsPlanOf table.now (length feeds.items) run.plan) }
     ensures only { IfErr result (λ e. e ≢ Refused.Unwritable) }
 {
     let workers = workers_for(table.workers, feeds.len());
@@ -97,6 +101,7 @@ where
     D::Reader: Send,
     ensures ok { IsTrue D.Receipt.keeps
         → IfOk result (λ run. IsTableOf F.meaning (R.remaining reader.old ∷ []) run.table) }
+    ensures ran { IfOk result (λ run. IsPlanOf table.now 1 run.plan) }
     ensures steady { OnOk result (R.failures reader.new ≡ R.failures reader.old) }
     ensures only { IfErr result (λ e. e ≢ Refused.Unwritable) }
 {
@@ -120,35 +125,38 @@ where
 pub(crate) fn made_of_feeds<
     F: Mergeable + OrderFree<Key = Name, Input = i64> + Send + Sync,
     D: Disk + Send,
-    H: Files + Threads + Wait + Clock + Sync,
-    P: Progress + Sync,
+    O: Opener,
+    T: Threads + Wait + Clock + Sync,
 >(
-    rt: &H,
+    rt: &T,
     alloc: Global,
     table: &TableRequest,
     functions: F,
     device: D,
-    hook: &P,
+    opener: &O,
 ) -> Result<Run<F::Value>, Refused>
 where
     F::Value: Send,
     F::Output: Send,
-    H::File: Send,
-    H::Dir: Send,
+    O::Feed: Send,
     D::Receipt: Send,
     D::Writer: Send,
     D::Reader: Send,
+    ensures ok { IsTrue D.Receipt.keeps → IsTrue table.now.audit ⊎ (table.now.workers ≡ 1)
+        → IfOk result (λ run. IsTableOf F.meaning
+        (map (λ path. O.bytes opener.now (string_bytes path)) table.now.paths.items) run.table) }
+    ensures ran { IfOk result (λ run. IsPlanOf table.now (length table.now.paths.items) run.plan) }
     ensures only { IfErr result (λ e. e ≢ Refused.Unwritable) }
 {
-    let mut feeds = match all_opened(alloc, rt, table.paths.as_slice(), hook) {
+    let mut feeds = match all_opened(alloc, opener, table.paths.as_slice()) {
         Ok(feeds) => feeds,
         Err(refused) => return Err(refused),
     };
     if table.audit {
-        return shared::<_, F, Audited<F>, D, H>(rt, alloc, table, functions, feeds, device);
+        return shared::<_, F, Audited<F>, D, T>(rt, alloc, table, functions, feeds, device);
     }
     if workers_for(table.workers, feeds.len()) > 1 {
-        return shared::<_, F, Plain, D, H>(rt, alloc, table, functions, feeds, device);
+        return shared::<_, F, Plain, D, T>(rt, alloc, table, functions, feeds, device);
     }
     let config = &table.config;
     let mode = mode_of(table);

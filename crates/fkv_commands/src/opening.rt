@@ -1,23 +1,25 @@
 //! Opening feeds, and reading one that no thread can take.
-ghost use Rattle.std.specs.Prelude.{◌≡◌, ◌≢◌, ◌⊎◌, IfOk, IfErr, IfSome, OnOk};
-ghost use Rattle.fkv_commands.specs.Sources.{said_of};
+ghost use Rattle.std.specs.Prelude.{◌≡◌, ◌⊎◌, ◌<◌, ◌+◌, ℕ, List, Option, None, length, map, slice_index_or, [], string_bytes, IfOk, IfErr, IfSome, OnOk};
+ghost use Rattle.std.specs.List.{AllZip};
+ghost use Rattle.fkv_commands.specs.Sources.{said_of, Agrees};
 
 use fkv_functions::Refused;
-use fkv_meters::ProgressSource;
+use fkv_meters::{Progress, ProgressSource};
 use fkv_streams::{CountedReader, Source};
 use std::alloc::Global;
 use std::fs::{self, Files};
 use std::io::ErrorKind;
+use std::marker::PhantomData;
 
 /// A feed in a file, or one whose bytes were read. A run takes both as one type, so it is compiled once.
 #[derive(Drop)]
-pub(crate) enum Feed<F, B> {
+pub enum Feed<F, B> {
     File(F),
     Bytes(B),
 }
 
 /// A feed that tells how far it is where it is in a file; the reader of the bytes has told it of the other.
-pub(crate) type FeedOf<'a, 'b, T, P> = Feed<
+pub type FeedOf<'a, 'b, T, P> = Feed<
     ProgressSource<'a, CountedReader<T>, P>,
     CountedReader<&'b [u8]>,
 >;
@@ -40,38 +42,87 @@ fn file_of(path: &str) -> &str {
     if path == "-" { "/dev/stdin" } else { path }
 }
 
-/// Opens the feed of this number, counted from 1. Refused: `Unreadable` with the number; `NoMemory`.
-fn opened<H: Files>(files: &H, path: &str, number: u64) -> Result<CountedReader<H::File>, Refused>
-    ensures { IfErr result (λ e. (e ≡ Refused.NoMemory) ⊎ (e ≡ Refused.Unreadable number)) }
-{
-    match fs::open(files, file_of(path)) {
-        Ok(file) => Ok(CountedReader::new(file)),
-        Err(error) => match error.kind() {
-            ErrorKind::OutOfMemory => Err(Refused::NoMemory),
-            _ => Err(Refused::Unreadable { number }),
-        },
+/// What opens feeds by their paths.
+pub trait Opener {
+    type Feed: Source + Drop;
+
+    /// The bytes that a path leads to, where they are known.
+    ghost bytes: { Self → List ℕ → Option (List ℕ) };
+
+    /// What holds of a path wherever it can not be opened.
+    ghost is_closed: { Self → List ℕ → Type 0 };
+
+    /// Opens the feed at this path, which is told as the feed of this number.
+    ///
+    /// # Errors
+    ///
+    /// `NoMemory`; `Unreadable` with the number.
+    fn open(&self, path: &str, number: u64) -> Result<Self::Feed, Refused>
+        ensures ok { IfOk result (λ feed. Agrees (bytes self.now path.now) (Self.Feed.remaining feed)) }
+        ensures only { IfErr result (λ e. (e ≡ Refused.NoMemory)
+            ⊎ ((e ≡ Refused.Unreadable number) × is_closed self.now path.now)) };
+}
+
+/// Feeds in files, which tell a hook how far they are. What stands in a file is not known.
+#[derive(Drop)]
+pub struct FeedFiles<'a, 'b, H, P> {
+    files: &'a H,
+    hook: &'a P,
+    of: PhantomData<&'b [u8]>,
+}
+
+impl<'a, 'b, H, P> FeedFiles<'a, 'b, H, P> {
+    /// The feeds in these files, which tell this hook.
+    pub fn new(files: &'a H, hook: &'a P) -> FeedFiles<'a, 'b, H, P> {
+        FeedFiles {
+            files,
+            hook,
+            of: PhantomData,
+        }
     }
 }
 
-/// Opens feeds, in order, which tell this hook how far they are. Refused: `Unreadable` with the number of the first that
-/// can not be opened, counted from 1; `NoMemory`.
-pub(crate) fn all_opened<'a, 'b, H: Files, P>(
+impl<'a, 'b, H: Files, P: Progress> Opener for FeedFiles<'a, 'b, H, P> {
+    type Feed = FeedOf<'a, 'b, H::File, P>;
+
+    ghost bytes = { λ _ _. None };
+
+    ghost is_closed = { λ _ _. Unit {0} };
+
+    fn open(&self, path: &str, number: u64) -> Result<FeedOf<'a, 'b, H::File, P>, Refused> {
+        match fs::open(self.files, file_of(path)) {
+            Ok(file) => {
+                let feed = ProgressSource::new(CountedReader::new(file), self.hook);
+                Ok(Feed::File(feed))
+            }
+            Err(error) => match error.kind() {
+                ErrorKind::OutOfMemory => Err(Refused::NoMemory),
+                _ => Err(Refused::Unreadable { number }),
+            },
+        }
+    }
+}
+
+/// Opens a feed for each path, in order. Refused: `Unreadable` with the number of the first that can not be opened, counted
+/// from 1; `NoMemory`.
+pub(crate) fn all_opened<O: Opener>(
     alloc: Global,
-    files: &H,
+    opener: &O,
     paths: &[String],
-    hook: &'a P,
-) -> Result<Vec<FeedOf<'a, 'b, H::File, P>>, Refused>
-    ensures { IfErr result (λ e. e ≢ Refused.Unwritable) }
+) -> Result<Vec<O::Feed>, Refused>
+    ensures ok { IfOk result (λ feeds. AllZip Agrees (map (λ path. O.bytes opener.now (string_bytes path)) paths.now)
+        (map O.Feed.remaining feeds.items)) }
+    ensures only { IfErr result (λ e. (e ≡ Refused.NoMemory)
+        ⊎ ((n : ℕ) × (n < length paths.now) × (e ≡ Refused.Unreadable (n + 1))
+        × O.is_closed opener.now (slice_index_or (map string_bytes paths.now) n []))) }
 {
     let mut feeds = Vec::new(alloc);
-    let mut number = 0u64;
-    for path in paths {
-        number = number.saturating_add(1);
-        let feed = match opened(files, path.as_str(), number) {
+    for (place, path) in paths.iter().enumerate() {
+        let feed = match opener.open(path.as_str(), place as u64 + 1) {
             Ok(feed) => feed,
             Err(refused) => return Err(refused),
         };
-        let Ok(()) = feeds.push(Feed::File(ProgressSource::new(feed, hook))) else {
+        let Ok(()) = feeds.push(feed) else {
             return Err(Refused::NoMemory);
         };
     }

@@ -1,8 +1,15 @@
 //! What a run did, told beside its table.
-use crate::telling::Telling;
-use fkv_feeds::{Counts, Run};
+ghost use Rattle.std.specs.Prelude.{◌≡◌, ◌++◌, ◌-◌, ◌/◌, ◌^◌, ◌<◌, ◌≤◌, ℕ, List, length, IfOk, IfErr, IfSome, IsSome, OnOk, codes, decimal};
+ghost use Rattle.std.specs.Duration.{as_nanos};
+ghost use Rattle.fkv_streams.specs.Streams.{AppendsPrefix};
+ghost use Rattle.fkv_commands.specs.Reports.{IsTold, appended_text, fact, seconds_text};
+
+use crate::advising::add_advice;
+use fkv_feeds::{Counts, Plan, Run};
+use fkv_functions::Refused;
 use fkv_meters::Seen;
-use fkv_streams::Sink;
+use fkv_streams::{Sink, write_out};
+use std::alloc::Global;
 use std::io::{self, Write};
 use std::time::Duration;
 
@@ -13,6 +20,8 @@ pub struct Report {
     pub keys: usize,
     /// Its rows, and the records that they appended.
     pub counts: Counts,
+    /// How it was made.
+    pub plan: Plan,
     /// What went to its device and came back.
     pub seen: Seen,
     /// The milliseconds from its beginning to the table's end, where the clock tells them.
@@ -20,7 +29,11 @@ pub struct Report {
 }
 
 /// The milliseconds between two moments of a clock; `None` where it failed, or went back.
-fn millis_between(begun: io::Result<Duration>, ended: io::Result<Duration>) -> Option<u64> {
+fn millis_between(begun: io::Result<Duration>, ended: io::Result<Duration>) -> Option<u64>
+    ensures right { IfSome result (λ millis. IfOk begun (λ b. IfOk ended (λ e. millis ≡ (as_nanos e - as_nanos b) / 1_000_000))) }
+    ensures some { IfOk begun (λ b. IfOk ended (λ e. as_nanos b ≤ as_nanos e
+        → (as_nanos e - as_nanos b) / 1_000_000 < 2 ^ 64 → IsSome result)) }
+{
     let Ok(begun) = begun else {
         return None;
     };
@@ -31,6 +44,17 @@ fn millis_between(begun: io::Result<Duration>, ended: io::Result<Duration>) -> O
     u64::try_from(taken.as_millis()).ok()
 }
 
+/// Adds a line that names a number. Refused: `NoMemory`.
+fn add_fact(text: &mut Vec<u8>, name: &str, number: u64) -> Result<(), Refused>
+    ensures ok { OnOk result (text.new.items ≡ text.old.items ++ fact name.now number) }
+    ensures only { IfErr result (λ refused. refused ≡ Refused.NoMemory) }
+{
+    match writeln!(text, "fkv_cli: {name} {number}") {
+        Ok(()) => Ok(()),
+        Err(_) => Err(Refused::NoMemory),
+    }
+}
+
 impl Report {
     /// What a run did between these two moments.
     pub fn new<V>(
@@ -38,42 +62,80 @@ impl Report {
         seen: Seen,
         begun: io::Result<Duration>,
         ended: io::Result<Duration>,
-    ) -> Report {
+    ) -> Report
+        ensures keys { result.keys ≡ length run.now.table }
+        ensures counts { result.counts ≡ run.now.counts }
+        ensures plan { result.plan ≡ run.now.plan }
+        ensures seen { result.seen ≡ seen }
+    {
         Report {
             keys: run.table.map().len(),
             counts: run.counts,
+            plan: run.plan,
             seen,
             millis: millis_between(begun, ended),
         }
     }
 
-    /// Writes it, a line a fact. Of a run that several workers shared, appended records are not counted.
-    fn write<S: Sink>(&self, sink: &mut Telling<'_, S>) -> io::Result<()> {
-        let Counts { rows, appended } = self.counts;
-        let Seen {
-            pages_written,
-            pages_read,
-            bytes_written,
-        } = self.seen;
-        writeln!(sink, "fkv_cli: rows {rows}")?;
-        writeln!(sink, "fkv_cli: keys {}", self.keys)?;
-        if let Some(appended) = appended {
-            let in_place = rows.saturating_sub(appended);
-            writeln!(sink, "fkv_cli: records appended {appended}")?;
-            writeln!(sink, "fkv_cli: updates in place {in_place}")?;
-        }
-        writeln!(sink, "fkv_cli: pages written {pages_written}")?;
-        writeln!(sink, "fkv_cli: pages read {pages_read}")?;
-        writeln!(sink, "fkv_cli: bytes on the device {bytes_written}")?;
-        if let Some(millis) = self.millis {
-            let (seconds, rest) = (millis / 1_000, millis % 1_000);
-            writeln!(sink, "fkv_cli: seconds {seconds}.{rest:03}")?;
-        }
-        Ok(())
+    /// The text of it, a line a fact, and then advice on memory. Of a run that several workers shared, appended records are not
+    /// counted. Refused: `NoMemory`.
+    fn text(&self, alloc: Global, sized: bool) -> Result<Vec<u8>, Refused>
+        ensures ok { IfOk result (λ text. IsTold sized self.now text.items) }
+        ensures only { IfErr result (λ refused. refused ≡ Refused.NoMemory) }
+    {
+        let mut text = Vec::new(alloc);
+        add_fact(&mut text, "rows", self.counts.rows)?;
+        add_fact(&mut text, "keys", self.keys as u64)?;
+        self.add_appended(&mut text)?;
+        add_fact(&mut text, "pages written", self.seen.pages_written)?;
+        add_fact(&mut text, "pages read", self.seen.pages_read)?;
+        add_fact(&mut text, "bytes on the device", self.seen.bytes_written)?;
+        self.add_seconds(&mut text)?;
+        add_advice(sized, self, &mut text)?;
+        Ok(text)
     }
 
-    /// Tells it. Where it can not be told, the table stands all the same.
-    pub fn tell<E: Sink>(&self, faults: &mut E) {
-        let _untold = self.write(&mut Telling { sink: faults });
+    /// Adds how many rows appended a record, and how many changed one in place, where that is counted. Refused: `NoMemory`.
+    fn add_appended(&self, text: &mut Vec<u8>) -> Result<(), Refused>
+        ensures ok { OnOk result (text.new.items
+            ≡ text.old.items ++ appended_text self.now.counts.rows self.now.counts.appended) }
+        ensures only { IfErr result (λ refused. refused ≡ Refused.NoMemory) }
+    {
+        let Counts { rows, appended } = self.counts;
+        let Some(appended) = appended else {
+            return Ok(());
+        };
+        add_fact(text, "records appended", appended)?;
+        add_fact(text, "updates in place", rows.saturating_sub(appended))
+    }
+
+    /// Adds the seconds that it took, where the clock told them. Refused: `NoMemory`.
+    fn add_seconds(&self, text: &mut Vec<u8>) -> Result<(), Refused>
+        ensures ok { OnOk result (text.new.items ≡ text.old.items ++ seconds_text self.now.millis) }
+        ensures only { IfErr result (λ refused. refused ≡ Refused.NoMemory) }
+    {
+        let Some(millis) = self.millis else {
+            return Ok(());
+        };
+        let (seconds, tenths) = (millis / 1_000, millis % 1_000 / 100);
+        let (hundredths, thousandths) = (millis / 10 % 10, millis % 10);
+        match writeln!(
+            text,
+            "fkv_cli: seconds {seconds}.{tenths}{hundredths}{thousandths}"
+        ) {
+            Ok(()) => Ok(()),
+            Err(_) => Err(Refused::NoMemory),
+        }
+    }
+
+    /// Tells it, with advice on memory where the words name no size of it, as `sized` says. Where it can not be told, the table
+    /// stands all the same.
+    pub fn tell<E: Sink>(&self, alloc: Global, sized: bool, faults: &mut E)
+        ensures { (text : List ℕ) × IsTold sized self.now text
+            × AppendsPrefix (E.contents faults.old) (E.contents faults.new) text }
+    {
+        if let Ok(text) = self.text(alloc, sized) {
+            let _untold = write_out(faults, text.as_slice());
+        }
     }
 }

@@ -1,13 +1,14 @@
 //! Doing what a command line asks for.
-ghost use Rattle.std.specs.Prelude.{◌≡◌, ◌⊎◌, true, OnOk, OnErr, map, codes, string_bytes};
+ghost use Rattle.std.specs.Prelude.{◌≡◌, ◌⊎◌, ℕ, List, true, None, OnOk, OnErr, map, codes, string_bytes};
 ghost use Rattle.std.specs.Io.KnownBytes.{Appends};
 ghost use Rattle.fkv_streams.specs.Streams.{AppendsPrefix};
 ghost use Rattle.fkv_steps.specs.Printing.{line};
 ghost use Rattle.fkv_requests.specs.Requests.{MayBeMistaken};
-ghost use Rattle.fkv_commands.specs.Endings.{AsksReport, IsDone, IsStopped, version_line};
+ghost use Rattle.fkv_commands.specs.Endings.{IsDone, IsQuiet, IsStopped, version_line};
+ghost use Rattle.fkv_commands.specs.Reports.{IsTold};
 
-use crate::advising::advise;
 use crate::causes::tell_with_cause;
+use crate::opening::Opener;
 use crate::reporting::Report;
 use crate::tabulating::tabulate;
 use crate::telling::Telling;
@@ -30,7 +31,29 @@ const FAULT: u8 = 1;
 /// The status of a run whose command line is mistaken.
 const MISTAKE: u8 = 2;
 
-/// Does what the words ask for, of which the first is the program's name, and answers the run's status.
+/// How a run ended.
+#[derive(Clone, Copy, Debug, PartialEq, Eq)]
+pub struct Ended {
+    /// The status: 0, 1 or 2.
+    pub status: u8,
+    /// What it did, where it made a table and wrote it.
+    pub report: Option<Report>,
+}
+
+impl Ended {
+    /// A run with this status that wrote no table.
+    fn by(status: u8) -> Ended
+        ensures { result ≡ record { status = status; report = None } }
+    {
+        Ended {
+            status,
+            report: None,
+        }
+    }
+}
+
+/// Does what the words ask for, of which the first is the program's name, and answers the run's status, and what it did.
+/// Feeds that are named are opened by `opener`.
 ///
 /// `replay`, and no word, run the script that the reader gives and write what it tells. Status 0: it was
 /// done, whatever its lines were refused. `count`, `sum` and `max` write the table of the feeds that they name, or of
@@ -45,6 +68,7 @@ pub fn run<
     E: Sink,
     H: Files + Threads + Wait + Clock + Sync,
     P: Progress + Sync,
+    O: Opener,
 >(
     rt: &H,
     alloc: Global,
@@ -53,52 +77,57 @@ pub fn run<
     writer: &mut W,
     faults: &mut E,
     hook: &P,
-) -> u8
+    opener: &O,
+) -> Ended
 where
     H::File: Send,
     H::Dir: Send,
-    ensures done { result ≡ 0 → IsDone (map string_bytes words.now) (R.remaining reader.old)
-        (W.contents writer.old) (W.contents writer.new) }
-    // where no report was asked for
-    ensures quiet { result ≡ 0 → (E.contents faults.new ≡ E.contents faults.old) ⊎ AsksReport (map string_bytes words.now) }
+    O::Feed: Send,
+    ensures done { result.status ≡ 0 → IsDone (λ path. O.bytes opener.now path) (map string_bytes words.now)
+        (R.remaining reader.old) (W.contents writer.old) (W.contents writer.new) result.report }
+    ensures quiet { result.status ≡ 0 → IsQuiet (map string_bytes words.now) result.report (E.contents faults.old)
+        (E.contents faults.new) }
     // What was written is out, and no failure of a stream is hidden.
-    ensures out { result ≡ 0 → W.is_out writer.new ≡ true }
-    ensures steady { result ≡ 0 → (R.failures reader.new ≡ R.failures reader.old)
+    ensures out { result.status ≡ 0 → W.is_out writer.new ≡ true }
+    ensures steady { result.status ≡ 0 → (R.failures reader.new ≡ R.failures reader.old)
         × (W.failures writer.new ≡ W.failures writer.old) }
-    ensures fault { result ≡ 1 → IsStopped (map string_bytes words.now) (R.remaining reader.old)
-        (W.contents writer.old) (W.contents writer.new) }
-    ensures mistake { result ≡ 2 → MayBeMistaken (map string_bytes words.now)
+    ensures fault { result.status ≡ 1 → IsStopped (λ path. O.bytes opener.now path) (map string_bytes words.now)
+        (R.remaining reader.old) (W.contents writer.old) (W.contents writer.new) }
+    ensures mistake { result.status ≡ 2 → MayBeMistaken (map string_bytes words.now)
         × (W.contents writer.new ≡ W.contents writer.old) }
-    ensures only { (result ≡ 0) ⊎ (result ≡ 1) ⊎ (result ≡ 2) }
+    ensures only { (result.status ≡ 0) ⊎ (result.status ≡ 1) ⊎ (result.status ≡ 2) }
 {
     match request_of(alloc, words) {
         Ok(Request::Replay) => match run_script(alloc, reader, writer) {
-            Ok(()) => DONE,
-            Err(refused) => tell(faults, refused),
+            Ok(()) => Ended::by(DONE),
+            Err(refused) => Ended::by(tell(faults, refused)),
         },
         Ok(Request::Table(table)) => {
             begin(&table, hook);
-            match tabulate(rt, alloc, &table, reader, writer, hook) {
+            match tabulate(rt, alloc, &table, reader, writer, hook, opener) {
                 Ok(done) => {
-                    report(&table, &done, faults);
-                    DONE
+                    report(alloc, &table, &done, faults);
+                    Ended {
+                        status: DONE,
+                        report: Some(done),
+                    }
                 }
-                Err(refused) => tell_with_cause(rt, alloc, &table, refused, faults),
+                Err(refused) => Ended::by(tell_with_cause(rt, alloc, &table, refused, faults)),
             }
         }
         Ok(Request::Help(text)) => match write_out(writer, text.as_bytes()) {
-            Ok(()) => DONE,
-            Err(refused) => tell(faults, refused),
+            Ok(()) => Ended::by(DONE),
+            Err(refused) => Ended::by(tell(faults, refused)),
         },
         Ok(Request::Version) => match write_version(writer) {
-            Ok(()) => DONE,
-            Err(refused) => tell(faults, refused),
+            Ok(()) => Ended::by(DONE),
+            Err(refused) => Ended::by(tell(faults, refused)),
         },
         Ok(Request::Mistake(text)) => {
             let _untold = write_out(faults, text.as_bytes());
-            MISTAKE
+            Ended::by(MISTAKE)
         }
-        Err(refused) => tell(faults, refused),
+        Err(refused) => Ended::by(tell(faults, refused)),
     }
 }
 
@@ -110,12 +139,13 @@ fn begin<P: Progress>(table: &TableRequest, hook: &P) {
 }
 
 /// Tells what a run did, where that is asked for.
-fn report<E: Sink>(table: &TableRequest, done: &Report, faults: &mut E)
-    ensures { (E.contents faults.new ≡ E.contents faults.old) ⊎ (table.now.stats ≡ true) }
+fn report<E: Sink>(alloc: Global, table: &TableRequest, done: &Report, faults: &mut E)
+    ensures { (E.contents faults.new ≡ E.contents faults.old) ⊎ ((table.now.stats ≡ true)
+        × ((text : List ℕ) × IsTold table.now.sized done.now text
+        × AppendsPrefix (E.contents faults.old) (E.contents faults.new) text)) }
 {
     if table.stats {
-        done.tell(faults);
-        advise(table, done, faults);
+        done.tell(alloc, table.sized, faults);
     }
 }
 

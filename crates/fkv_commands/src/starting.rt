@@ -3,6 +3,7 @@ ghost use Rattle.std.specs.Prelude.{◌≡◌, ◌⊎◌};
 ghost use Rattle.std.specs.Process.{exit_status};
 
 use crate::ending::end;
+use crate::opening::FeedFiles;
 use fkv_meters::{ProgressSource, Telling};
 use fkv_requests::words_of;
 use fkv_streams::{CountedReader, CountedWriter};
@@ -10,29 +11,31 @@ use std::env::{self, Env};
 use std::fs::Files;
 use std::io::{self, IsTerminal};
 use std::process::ExitCode;
-use std::rt::Clock;
+use std::rt::{Clock, Stderr, Stdout};
 use std::sync::Wait;
 use std::thread::Threads;
 
 /// Does what the process's own words ask for, with its own streams, and ends with [`end`]'s status: 0, 1
-/// or 2. Faults go to `faults`.
-pub fn start<
-    R: Env + Files + Input + Print + AllocGlobal + Threads + Wait + Clock + Sync,
-    E: Print + IsTerminal + Sync,
->(rt: &R, faults: &E) -> ExitCode
+/// or 2. A handle of the process can not print, so what goes where is told by the types of its two outputs.
+pub fn start<R: Env + Files + Input + AllocGlobal + Threads + Wait + Clock + Sync>(
+    rt: &R,
+    output: &Stdout,
+    faults: &Stderr,
+) -> ExitCode
 where
     R::File: Send,
     R::Dir: Send,
     ensures { (exit_status result ≡ 0) ⊎ (exit_status result ≡ 1) ⊎ (exit_status result ≡ 2) }
 {
-    let hook = Telling::new(rt, faults, faults.is_terminal());
+    let hook: Telling<'_, R, Stderr> = Telling::new(rt, faults, faults.is_terminal());
     end(
         rt,
         rt.alloc(),
         words_of(rt.alloc(), env::args(rt)),
         &mut ProgressSource::new(CountedReader::new(rt.reader()), &hook),
-        &mut CountedWriter::new(io::writer(rt)),
+        &mut CountedWriter::new(io::writer(output)),
         &mut CountedWriter::new(io::writer(faults)),
         &hook,
+        &FeedFiles::new(rt, &hook),
     )
 }

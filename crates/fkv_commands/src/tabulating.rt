@@ -1,14 +1,16 @@
 //! Making tables of feeds, and writing them.
-ghost use Rattle.std.specs.Prelude.{◌≡◌, ◌≢◌, ◌∷◌, [], List, Err, None, true, map, option_map, string_bytes, if◌then◌else◌, IfOk, IfErr, IsTrue, OnOk};
+ghost use Rattle.std.specs.Prelude.{◌≡◌, ◌≢◌, ◌⊎◌, [], List, Err, None, true, length, map, option_map, string_bytes, if◌then◌else◌, IfOk, IfErr, IsTrue, OnOk};
 ghost use Rattle.std.specs.Io.KnownBytes.{Appends};
 ghost use Rattle.fkv_functions.specs.declared.names.Name.{Name};
 ghost use Rattle.fkv_either.specs.Either.{is_absent};
 ghost use Rattle.fkv_streams.specs.Streams.{AppendsPrefix};
 ghost use Rattle.fkv_feeds.specs.Tables.{IsTableOf};
 ghost use Rattle.fkv_feeds.specs.Writing.{table_text};
-ghost use Rattle.fkv_commands.specs.Endings.{PrintsTable, PrintsTablePart};
+ghost use Rattle.fkv_commands.specs.Endings.{IsKnown, PrintsTable, PrintsTablePart, feeds_by};
+ghost use Rattle.fkv_commands.specs.Plans.{IsPlanOf};
 
 use crate::making::{made_of_feeds, made_of_input};
+use crate::opening::Opener;
 use crate::reporting::Report;
 use fkv_device::FileDevice;
 use fkv_either::{EitherDevice, Keeping};
@@ -32,6 +34,7 @@ fn run_on<
     F: Mergeable + OrderFree<Key = Name, Input = i64> + Send + Sync,
     H: Files + Threads + Wait + Clock + Sync,
     P: Progress + Sync,
+    O: Opener,
     K: Keeping + Send,
 >(
     rt: &H,
@@ -41,16 +44,20 @@ fn run_on<
     reader: &mut R,
     folder: Option<FileDevice<&H>>,
     meters: &Meters,
-    hook: &P,
+    opener: &O,
 ) -> Result<Run<F::Value>, Refused>
 where
     F::Value: Send,
     F::Output: Send,
     H::File: Send,
     H::Dir: Send,
+    O::Feed: Send,
     requires { (if K.keeps then is_absent folder else true) ≡ true }
-    ensures ok { IsTrue K.keeps → IfOk result (λ run. map string_bytes table.now.paths.items ≡ []
-        → IsTableOf F.meaning (R.remaining reader.old ∷ []) run.table) }
+    ensures ok { IsTrue K.keeps → IfOk result (λ run. (map string_bytes table.now.paths.items ≡ []) ⊎ (table.now.audit ≡ true)
+        ⊎ (table.now.workers ≡ 1)
+        → IsTableOf F.meaning (feeds_by (λ path. O.bytes opener.now path) table.now (R.remaining reader.old)) run.table) }
+    ensures ran { IfOk result (λ run. IsPlanOf table.now
+        (length (feeds_by (λ path. O.bytes opener.now path) table.now (R.remaining reader.old))) run.plan) }
     ensures steady { OnOk result (R.failures reader.new ≡ R.failures reader.old) }
     ensures only { IfErr result (λ e. e ≢ Refused.Unwritable) }
 {
@@ -58,7 +65,7 @@ where
     if table.paths.is_empty() {
         made_of_input::<R, F, _, H, P>(rt, alloc, table, functions, reader, device)
     } else {
-        made_of_feeds(rt, alloc, table, functions, device, hook)
+        made_of_feeds(rt, alloc, table, functions, device, opener)
     }
 }
 
@@ -89,6 +96,7 @@ fn run_of<
     F: Mergeable + OrderFree<Key = Name, Input = i64> + Send + Sync,
     H: Files + Threads + Wait + Clock + Sync,
     P: Progress + Sync,
+    O: Opener,
 >(
     rt: &H,
     alloc: Global,
@@ -96,22 +104,24 @@ fn run_of<
     functions: F,
     reader: &mut R,
     meters: &Meters,
-    hook: &P,
+    opener: &O,
 ) -> Result<Run<F::Value>, Refused>
 where
     F::Value: Send,
     F::Output: Send,
     H::File: Send,
     H::Dir: Send,
-    ensures ok { IfOk result (λ run. option_map string_bytes table.now.folder ≡ None
-        → map string_bytes table.now.paths.items ≡ []
-        → IsTableOf F.meaning (R.remaining reader.old ∷ []) run.table) }
+    O::Feed: Send,
+    ensures ok { IfOk result (λ run. IsKnown table.now
+        → IsTableOf F.meaning (feeds_by (λ path. O.bytes opener.now path) table.now (R.remaining reader.old)) run.table) }
+    ensures ran { IfOk result (λ run. IsPlanOf table.now
+        (length (feeds_by (λ path. O.bytes opener.now path) table.now (R.remaining reader.old))) run.plan) }
     ensures steady { OnOk result (R.failures reader.new ≡ R.failures reader.old) }
     ensures only { IfErr result (λ e. e ≢ Refused.Unwritable) }
 {
     match folder_of(rt, alloc, table) {
-        Ok(folder) => run_on::<R, F, H, P, Brand>(
-            rt, alloc, table, functions, reader, folder, meters, hook,
+        Ok(folder) => run_on::<R, F, H, P, O, Brand>(
+            rt, alloc, table, functions, reader, folder, meters, opener,
         ),
         Err(refused) => Err(refused),
     }
@@ -124,6 +134,7 @@ fn tabulate_by<
     F: Mergeable + OrderFree<Key = Name, Input = i64> + Send + Sync,
     H: Files + Threads + Wait + Clock + Sync,
     P: Progress + Sync,
+    O: Opener,
 >(
     rt: &H,
     alloc: Global,
@@ -132,19 +143,23 @@ fn tabulate_by<
     reader: &mut R,
     writer: &mut W,
     hook: &P,
+    opener: &O,
 ) -> Result<Report, Refused>
 where
     F::Value: Integer + Send,
     F::Output: Send,
     H::File: Send,
     H::Dir: Send,
+    O::Feed: Send,
     ensures ok { OnOk result ((pairs : List (Name × F.Value))
-        × (option_map string_bytes table.now.folder ≡ None → map string_bytes table.now.paths.items ≡ []
-        → IsTableOf F.meaning (R.remaining reader.old ∷ []) pairs)
+        × (IsKnown table.now
+        → IsTableOf F.meaning (feeds_by (λ path. O.bytes opener.now path) table.now (R.remaining reader.old)) pairs)
         × Appends (W.contents writer.old) (W.contents writer.new) (table_text F.Value.text pairs)) }
+    ensures ran { IfOk result (λ report. IsPlanOf table.now
+        (length (feeds_by (λ path. O.bytes opener.now path) table.now (R.remaining reader.old))) report.plan) }
     ensures unwritable { result ≡ Err Refused.Unwritable → (pairs : List (Name × F.Value))
-        × (option_map string_bytes table.now.folder ≡ None → map string_bytes table.now.paths.items ≡ []
-        → IsTableOf F.meaning (R.remaining reader.old ∷ []) pairs)
+        × (IsKnown table.now
+        → IsTableOf F.meaning (feeds_by (λ path. O.bytes opener.now path) table.now (R.remaining reader.old)) pairs)
         × AppendsPrefix (W.contents writer.old) (W.contents writer.new) (table_text F.Value.text pairs) }
     ensures nothing { IfErr result (λ e. e ≢ Refused.Unwritable → W.contents writer.new ≡ W.contents writer.old) }
     ensures out { OnOk result (W.is_out writer.new ≡ true) }
@@ -153,7 +168,7 @@ where
 {
     let meters = Meters::new();
     let begun = rt.monotonic();
-    let made = run_of(rt, alloc, table, functions, reader, &meters, hook);
+    let made = run_of::<R, F, H, P, O>(rt, alloc, table, functions, reader, &meters, opener);
     hook.end();
     match made {
         Ok(run) => match write_table(alloc, &run.table, writer) {
@@ -167,21 +182,31 @@ where
 /// Makes the table that is asked for, and writes it. Refused as `fkv_feeds::run_one_by`, `fkv_workers::run_feeds_by` and
 /// `fkv_feeds::write_table` are; `Unreadable` too with the number of the first feed that can not be opened. Answers what the
 /// run did.
-pub fn tabulate<R: Source, W: Sink, H: Files + Threads + Wait + Clock + Sync, P: Progress + Sync>(
+pub fn tabulate<
+    R: Source,
+    W: Sink,
+    H: Files + Threads + Wait + Clock + Sync,
+    P: Progress + Sync,
+    O: Opener,
+>(
     rt: &H,
     alloc: Global,
     table: &TableRequest,
     reader: &mut R,
     writer: &mut W,
     hook: &P,
+    opener: &O,
 ) -> Result<Report, Refused>
 where
     H::File: Send,
     H::Dir: Send,
-    ensures ok { OnOk result (PrintsTable table.now.shown (option_map string_bytes table.now.folder)
-        (map string_bytes table.now.paths.items) (R.remaining reader.old) (W.contents writer.old) (W.contents writer.new)) }
-    ensures unwritable { result ≡ Err Refused.Unwritable → PrintsTablePart table.now.shown
-        (option_map string_bytes table.now.folder) (map string_bytes table.now.paths.items) (R.remaining reader.old) (W.contents writer.old)
+    O::Feed: Send,
+    ensures ok { OnOk result (PrintsTable table.now
+        (feeds_by (λ path. O.bytes opener.now path) table.now (R.remaining reader.old)) (W.contents writer.old) (W.contents writer.new)) }
+    ensures ran { IfOk result (λ report. IsPlanOf table.now
+        (length (feeds_by (λ path. O.bytes opener.now path) table.now (R.remaining reader.old))) report.plan) }
+    ensures unwritable { result ≡ Err Refused.Unwritable → PrintsTablePart table.now
+        (feeds_by (λ path. O.bytes opener.now path) table.now (R.remaining reader.old)) (W.contents writer.old)
         (W.contents writer.new) }
     ensures nothing { IfErr result (λ e. e ≢ Refused.Unwritable → W.contents writer.new ≡ W.contents writer.old) }
     ensures out { OnOk result (W.is_out writer.new ≡ true) }
@@ -189,8 +214,14 @@ where
         × (W.failures writer.new ≡ W.failures writer.old)) }
 {
     match table.shown {
-        Shown::Count => tabulate_by(rt, alloc, table, CountFns, reader, writer, hook),
-        Shown::Sum => tabulate_by(rt, alloc, table, SumFns, reader, writer, hook),
-        Shown::Max => tabulate_by(rt, alloc, table, MaxFns, reader, writer, hook),
+        Shown::Count => tabulate_by::<R, W, _, H, P, O>(
+            rt, alloc, table, CountFns, reader, writer, hook, opener,
+        ),
+        Shown::Sum => tabulate_by::<R, W, _, H, P, O>(
+            rt, alloc, table, SumFns, reader, writer, hook, opener,
+        ),
+        Shown::Max => tabulate_by::<R, W, _, H, P, O>(
+            rt, alloc, table, MaxFns, reader, writer, hook, opener,
+        ),
     }
 }

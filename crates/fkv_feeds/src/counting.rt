@@ -1,8 +1,10 @@
 //! How much a run did.
+use crate::modes::RowMode;
 use crate::shards::Shard;
 use crate::tables::Table;
 use fkv_device::Disk;
 use fkv_functions::Mergeable;
+use fkv_partition::Config;
 use fkv_records::{FIRST, record_size};
 
 /// How much a run did.
@@ -16,11 +18,23 @@ pub struct Counts {
     pub appended: Option<u64>,
 }
 
-/// A run over feeds: its table, and how much it did.
+/// How a table was made.
+#[derive(Clone, Copy, Debug, PartialEq, Eq)]
+pub struct Plan {
+    /// The configuration of the store.
+    pub config: Config,
+    /// How each row was made an update of it.
+    pub mode: RowMode,
+    /// How many workers read the feeds.
+    pub workers: usize,
+}
+
+/// A run over feeds: its table, how much it did, and how.
 #[derive(Drop)]
 pub struct Run<V> {
     pub table: Table<V>,
     pub counts: Counts,
+    pub plan: Plan,
 }
 
 /// The records of a log below its tail, where each page and each record has so many bytes. The first record stands at 64,

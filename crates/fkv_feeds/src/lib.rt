@@ -12,7 +12,7 @@ pub mod tidying;
 pub mod updating;
 pub mod writing;
 
-pub use counting::{Counts, Run};
+pub use counting::{Counts, Plan, Run};
 pub use modes::RowMode;
 pub use running::{LIMIT, run_alone, run_alone_by, run_one, run_one_by};
 pub use tables::Table;

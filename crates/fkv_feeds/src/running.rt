@@ -12,7 +12,7 @@ ghost use Rattle.fkv_feeds.specs.Tables.{IsTableOf, AreFeeds, HaveRows, amounts_
 ghost use Rattle.fkv_feeds.specs.Refusing.{IsRunnable, TellsStopped, TellsWhyNone};
 ghost use Rattle.fkv_feeds.specs.Runs.{StandFor};
 
-use crate::counting::{Counts, Run, appended};
+use crate::counting::{Counts, Plan, Run, appended};
 use crate::gathering::live;
 use crate::modes::RowMode;
 use crate::reading::read_feed;
@@ -35,6 +35,7 @@ fn finish<F: Mergeable<Key = Name, Input = i64>, D: Disk>(
     alloc: Global,
     shards: &mut Shards<'_, F, D>,
     rows: u64,
+    plan: Plan,
 ) -> Result<Run<F::Value>, Refused>
     requires stands { (rows : List (Name × ℤ)) × StandFor D.Receipt.keeps name_cmp F.meaning F.code
         (map (λ shard. shard.partition) shards.old.shards.items) shards.old.terms.slot shards.old.clock rows }
@@ -44,6 +45,7 @@ fn finish<F: Mergeable<Key = Name, Input = i64>, D: Disk>(
         → (k : Name) → lookup (is_at (name_cmp k)) run.table ≡ folded F.meaning k (amounts_of name_cmp k rows)) }
     ensures rising { IfOk result (λ run. IsStrictlySortedBy name_cmp (keys_of run.table)) }
     ensures counted { IfOk result (λ run. run.counts.rows ≡ rows) }
+    ensures planned { IfOk result (λ run. run.plan ≡ plan) }
     ensures steady { OnOk result (map (λ shard. D.Reader.failures shard.reader) shards.new.shards.items
         ≡ map (λ shard. D.Reader.failures shard.reader) shards.old.shards.items) }
     ensures told { IfErr result (IsListRefusal D.Receipt.keeps D.Reader.failures
@@ -58,6 +60,7 @@ fn finish<F: Mergeable<Key = Name, Input = i64>, D: Disk>(
                 rows,
                 appended: Some(appended(shards.shards.as_slice())),
             },
+            plan,
         }),
         Err(refused) => Err(refused),
     }
@@ -97,7 +100,7 @@ fn read_feeds<S: Source, F: Mergeable<Key = Name, Input = i64>, D: Disk>(
 /// of a row, but those whose updates are all declined. The feeds are read one after the other, to their ends, and each row
 /// is one update of a store of this configuration over this device, through the events of its partitions. On a device that
 /// keeps, the table is that of the rows; on any other errors are reported as below. Beside the table
-/// stands how many rows were read, and how many records they appended.
+/// stands how many rows were read, how many records they appended, and how the table was made.
 ///
 /// # Errors
 ///
@@ -118,6 +121,7 @@ pub fn run_one<S: Source, F: Mergeable<Key = Name, Input = i64>, D: Disk>(
     ensures ok { IsTrue D.Receipt.keeps
         → IfOk result (λ run. IsTableOf F.meaning (map S.remaining feeds.old) run.table) }
     ensures counted { IfOk result (λ run. HaveRows (map S.remaining feeds.old) run.counts.rows) }
+    ensures ran { IfOk result (λ run. run.plan ≡ record { config = config.now; mode = RowMode.Update; workers = 1 }) }
     ensures steady { OnOk result (map S.failures feeds.new ≡ map S.failures feeds.old) }
     ensures good { result ≢ Err Refused.BadConfig
         → IsRunnable config.now (size_of 32 F.Value.SIZE) (length feeds.old) }
@@ -146,6 +150,7 @@ pub fn run_one_by<S: Source, F: Mergeable<Key = Name, Input = i64>, D: Disk>(
     ensures ok { IsTrue D.Receipt.keeps
         → IfOk result (λ run. IsTableOf F.meaning (map S.remaining feeds.old) run.table) }
     ensures counted { IfOk result (λ run. HaveRows (map S.remaining feeds.old) run.counts.rows) }
+    ensures ran { IfOk result (λ run. run.plan ≡ record { config = config.now; mode = mode; workers = 1 }) }
     ensures steady { OnOk result (map S.failures feeds.new ≡ map S.failures feeds.old) }
     ensures good { result ≢ Err Refused.BadConfig
         → IsRunnable config.now (size_of 32 F.Value.SIZE) (length feeds.old) }
@@ -158,12 +163,17 @@ pub fn run_one_by<S: Source, F: Mergeable<Key = Name, Input = i64>, D: Disk>(
     if !is_within || feeds.is_empty() || feeds.len() > MOST {
         return Err(Refused::BadConfig);
     }
+    let plan = Plan {
+        config: *config,
+        mode,
+        workers: 1,
+    };
     let mut shards = match Shards::open(alloc, functions, config, &mut device, mode) {
         Ok(shards) => shards,
         Err(refused) => return Err(refused),
     };
     match read_feeds(alloc, feeds, &mut shards) {
-        Ok(rows) => finish(alloc, &mut shards, rows),
+        Ok(rows) => finish(alloc, &mut shards, rows, plan),
         Err(refused) => Err(refused),
     }
 }
@@ -183,6 +193,7 @@ pub fn run_alone<S: Source, F: Mergeable<Key = Name, Input = i64>, D: Disk>(
     ensures ok { IsTrue D.Receipt.keeps
         → IfOk result (λ run. IsTableOf F.meaning (S.remaining feed.old ∷ []) run.table) }
     ensures counted { IfOk result (λ run. HaveRows (S.remaining feed.old ∷ []) run.counts.rows) }
+    ensures ran { IfOk result (λ run. run.plan ≡ record { config = config.now; mode = RowMode.Update; workers = 1 }) }
     ensures steady { OnOk result (S.failures feed.new ≡ S.failures feed.old) }
     ensures good { result ≢ Err Refused.BadConfig → IsRunnable config.now (size_of 32 F.Value.SIZE) 1 }
     ensures told { IfErr result (TellsWhyNone (IsRunFault D.Receipt.keeps D.failures D.Writer.failures
@@ -209,6 +220,7 @@ pub fn run_alone_by<S: Source, F: Mergeable<Key = Name, Input = i64>, D: Disk>(
     ensures ok { IsTrue D.Receipt.keeps
         → IfOk result (λ run. IsTableOf F.meaning (S.remaining feed.old ∷ []) run.table) }
     ensures counted { IfOk result (λ run. HaveRows (S.remaining feed.old ∷ []) run.counts.rows) }
+    ensures ran { IfOk result (λ run. run.plan ≡ record { config = config.now; mode = mode; workers = 1 }) }
     ensures steady { OnOk result (S.failures feed.new ≡ S.failures feed.old) }
     ensures good { result ≢ Err Refused.BadConfig → IsRunnable config.now (size_of 32 F.Value.SIZE) 1 }
     ensures told { IfErr result (TellsWhyNone (IsRunFault D.Receipt.keeps D.failures D.Writer.failures
@@ -220,12 +232,17 @@ pub fn run_alone_by<S: Source, F: Mergeable<Key = Name, Input = i64>, D: Disk>(
     if !is_within {
         return Err(Refused::BadConfig);
     }
+    let plan = Plan {
+        config: *config,
+        mode,
+        workers: 1,
+    };
     let mut shards = match Shards::open(alloc, functions, config, &mut device, mode) {
         Ok(shards) => shards,
         Err(refused) => return Err(refused),
     };
     match read_feed(alloc, feed, 1, LIMIT, &mut shards) {
-        Ok(rows) => finish(alloc, &mut shards, rows),
+        Ok(rows) => finish(alloc, &mut shards, rows, plan),
         Err(refused) => Err(refused),
     }
 }

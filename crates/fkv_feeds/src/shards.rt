@@ -99,6 +99,7 @@ fn placed<F: Mergeable, D: Disk>(
     requires small { number < 64 }
     requires of { IsPartitionOf config.now (size_of F.Key.SIZE F.Value.SIZE) number }
     ensures ok { IfOk result (λ shard. IsSeatedIn F.Key.cmp config.now number shard.partition) }
+    ensures places { IfOk result (λ shard. (D.Writer.part shard.writer ≡ number) × (D.Reader.part shard.reader ≡ number)) }
     ensures steady { OnOk result (D.failures device.new ≡ D.failures device.old) }
     ensures told { IfErr result (FailsOnlyBy 1 0 (D.failures device.old) (D.failures device.new)) }
 {

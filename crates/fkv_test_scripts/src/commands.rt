@@ -1,4 +1,5 @@
 //! Whole runs as rows: their statuses, their texts, and streams that fail. Scripts stand in `fkv_rows`.
+use fkv_commands::FeedFiles;
 use fkv_commands::running::{refuse_words, run, tell};
 use fkv_functions::{Refused, What};
 use fkv_meters::{Progress, Silent};
@@ -149,6 +150,7 @@ where
         &mut CountedWriter::new(&mut writer),
         &mut CountedWriter::new(&mut faults),
         hook,
+        &FeedFiles::new(rt, hook),
     );
     if status == 0 && writer.out != printed.len() {
         return false;
@@ -159,7 +161,7 @@ where
     } else {
         faults.text.as_slice() == told.as_bytes()
     };
-    ended == status && writer.text.as_slice() == printed.as_bytes() && is_told
+    ended.status == status && writer.text.as_slice() == printed.as_bytes() && is_told
 }
 
 const BAD_ROW: &str = "fkv_cli: bad row 2 of feed 1\nfkv_cli: standard input, row 2\n";

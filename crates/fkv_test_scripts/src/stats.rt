@@ -3,8 +3,9 @@ use crate::commands::{ends, ends_by, split, start};
 use fkv_commands::advising::advise;
 use fkv_commands::reporting::Report;
 use fkv_commands::run;
-use fkv_feeds::Counts;
+use fkv_feeds::{Counts, Plan, RowMode};
 use fkv_meters::{Progress, Seen, Silent};
+use fkv_partition::Config;
 use fkv_requests::{Request, request_of};
 use fkv_streams::{CountedReader, CountedWriter};
 use std::sync::atomic::{AtomicBool, AtomicU64, Ordering};
@@ -74,6 +75,20 @@ fn pages_that_move(rt: HostRuntime) -> io::Result<()> {
     Ok(())
 }
 
+/// How a run of one worker was made.
+const PLAN: Plan = Plan {
+    config: Config {
+        id: 1,
+        partition_bits: 0,
+        bucket_bits: 8,
+        page_bits: 8,
+        frames: 2,
+        turns: 1,
+    },
+    mode: RowMode::Update,
+    workers: 1,
+};
+
 /// Milliseconds, and the last line of a report.
 const SECONDS: [(Option<u64>, &str); 6] = [
     (Some(0), "fkv_cli: seconds 0.000\n"),
@@ -93,6 +108,7 @@ fn seconds_of_reports(rt: HostRuntime) -> io::Result<()> {
                 rows: 9,
                 appended: Some(4),
             },
+            plan: PLAN,
             seen: Seen {
                 pages_written: 11,
                 pages_read: 12,
@@ -104,7 +120,7 @@ fn seconds_of_reports(rt: HostRuntime) -> io::Result<()> {
             "fkv_cli: rows 9\nfkv_cli: keys 2\nfkv_cli: records appended 4\nfkv_cli: updates in place 5\nfkv_cli: pages written 11\nfkv_cli: pages read 12\nfkv_cli: bytes on the device 13\n{line}"
         )?;
         let mut told = Vec::new(rt.alloc());
-        report.tell(&mut CountedWriter::new(&mut told));
+        report.tell(rt.alloc(), true, &mut CountedWriter::new(&mut told));
         assert!(rt; told.as_slice() == text.as_bytes(), "{millis:?}");
     }
     Ok(())

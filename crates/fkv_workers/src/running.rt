@@ -13,7 +13,7 @@ use crate::keeping::{StoreKeeper, fresh_heads, span_of};
 use crate::laws::tables_join;
 use crate::working::Worked;
 use fkv_device::Disk;
-use fkv_feeds::{Counts, RowMode, Run, Table};
+use fkv_feeds::{Counts, Plan, RowMode, Run, Table};
 use fkv_functions::{Fixed, Mergeable, Name, OrderFree, Refused};
 use fkv_histories::Recorder;
 use fkv_jobs::{Ran, run_jobs};
@@ -124,8 +124,8 @@ where
 
 /// The table of these feeds, as [`fkv_feeds::run_one`] makes it, by so many workers in threads of their own, beside a keeper
 /// that moves pages: feed i, counted from 0, is read by worker `i mod workers`, and each row is one update of a store that all
-/// share. With a recorder that keeps, and on a device that keeps, the table is that of one worker. Beside it stands how many updates
-/// were made, one a row.
+/// share. With a recorder that keeps, and on a device that keeps, the table is that of one worker. Beside it stand how many updates
+/// were made, one a row, and how the table was made.
 ///
 /// # Errors
 ///
@@ -159,6 +159,7 @@ where
     D::Reader: Send,
     ensures ok { H.keeps ≡ true → IsTrue D.Receipt.keeps
         → IfOk result (λ run. IsTableOf F.meaning (map S.remaining feeds.items) run.table) }
+    ensures ran { IfOk result (λ run. run.plan ≡ record { config = config.now; mode = RowMode.Update; workers = workers }) }
     ensures good { result ≢ Err Refused.BadConfig
         → IsRunnable config.now (size_of 32 F.Value.SIZE) workers (length feeds.items) }
     ensures refused { IfErr result (IsUnmade S.remaining S.failures
@@ -209,6 +210,7 @@ where
     D::Reader: Send,
     ensures ok { H.keeps ≡ true → IsTrue D.Receipt.keeps
         → IfOk result (λ run. IsTableOf F.meaning (map S.remaining feeds.items) run.table) }
+    ensures ran { IfOk result (λ run. run.plan ≡ record { config = config.now; mode = mode; workers = workers }) }
     ensures good { result ≢ Err Refused.BadConfig
         → IsRunnable config.now (size_of 32 F.Value.SIZE) workers (length feeds.items) }
     ensures refused { IfErr result (IsUnmade S.remaining S.failures
@@ -236,6 +238,11 @@ where
         counts: Counts {
             rows: closed.finished,
             appended: None,
+        },
+        plan: Plan {
+            config: *config,
+            mode,
+            workers,
         },
     })
 }
