@@ -1,5 +1,6 @@
 -- What runs of several workers are not refused by, and answers under a premise.
-use Rattle.std.proofs.Common.{◌≡◌, ◌<◌, ℕ, List, Option, Result, Ok, Err, sym, subst, ◌∙◌}
+use Rattle.std.proofs.Common.{◌≡◌, ◌≤◌, ◌↔◌, ℕ, true, min, List, Option, Result, Ok, Err, refl, sym, subst, ◌∙◌}
+use Rattle.std.proofs.Math.Nat.{max-eq_left}
 use Rattle.std.specs.Prelude.{◌≢◌, IfOk}
 use Rattle.fkv_functions.specs.declared.refusals.Refused.{Refused}
 use Rattle.fkv_functions.specs.declared.refusals.Refused.TheVariants.{BadConfig, Unwritable}
@@ -7,6 +8,11 @@ use Rattle.fkv_feed_rows.specs.Feeds.{TellsUnread}
 use Rattle.fkv_feeds.specs.Tables.{most_rows}
 use Rattle.fkv_store.specs.Stores.{IsTold, IsClosing}
 use Rattle.fkv_workers.specs.Works.{IsUnmade, number_of}
+use Rattle.fkv_feeds.specs.declared.counting.Plan.{Plan}
+use Rattle.fkv_feeds.specs.declared.modes.RowMode.{RowMode}
+use Rattle.fkv_feeds.specs.declared.modes.RowMode.TheVariants.{Merge}
+use Rattle.fkv_requests.specs.declared.requests.TableRequest.{TableRequest}
+use Rattle.fkv_commands.specs.Plans.{IsPlanOf}
 
 module _ {S : Type 0} (remaining : S → Option (List ℕ)) (failures : S → ℕ) (runnable : Type 0) (workers : ℕ) (feeds : List S) where
   pub blames-no-writer : (why : Refused) → IsUnmade remaining failures runnable workers feeds why → why ≢ Unwritable
@@ -25,3 +31,12 @@ later (Err e) P h = tt
 pub under : {T E K : Type 0} (r : Result T E) (P : T → Type 0) → IfOk r (λ x. K → P x) → K → IfOk r P
 under (Ok x) P h k = h k
 under (Err e) P h k = tt
+
+-- one worker is enough where no more have a feed
+pub one-plan : {R E : Type 0} (plan : R → Plan) (table : TableRequest) (feeds : ℕ) (mode : RowMode) (r : Result R E)
+    → ((mode ≡ Merge) ↔ (table.merge ≡ true))
+    → min table.workers feeds ≤ 1
+    → IfOk r (λ run. plan run ≡ record { config = table.config; mode = mode; workers = 1 })
+    → IfOk r (λ run. IsPlanOf table feeds (plan run))
+one-plan plan table feeds mode (Ok run) modes few is = rw is (refl, modes, sym (max-eq_left few))
+one-plan plan table feeds mode (Err e) modes few is = tt

@@ -1,5 +1,5 @@
 -- Feeds that were opened, and the bytes that their paths lead to.
-use Rattle.std.proofs.Common.{◌≡◌, ◌++◌, [], ◌∷◌, ℕ, ℤ, List, Option, None, Some, Result, Ok, Err, refl, subst, sym, ap, length, map}
+use Rattle.std.proofs.Common.{◌≡◌, ◌++◌, [], ◌∷◌, ℕ, ℤ, List, Option, None, Some, Result, Ok, Err, refl, subst, ap, length, map, suc}
 use Rattle.std.proofs.lemmas.Simd.{map-map}
 use Rattle.std.specs.Prelude.{IfOk}
 use Rattle.std.specs.List.{AllZip}
@@ -48,15 +48,21 @@ agree-run f table known told (Ok run) h made = agree-table f known told (table r
 agree-run f table known told (Err e) h made = tt
 
 -- as many feeds were opened as there are paths
-pub agree-length : (known told : List (Option (List ℕ))) → AllZip Agrees known told → length told ≡ length known
-agree-length [] [] h = refl
-agree-length [] (t ∷ ts) h = absurd h
-agree-length (x ∷ xs) [] h = absurd h
-agree-length (x ∷ xs) (t ∷ ts) (h, hs) = ap (λ n. suc n) (agree-length xs ts hs)
+pub opened-length : {A B : Type 0} (known : A → Option (List ℕ)) (told : B → Option (List ℕ)) (paths : List A) (feeds : List B)
+    → AllZip Agrees (map known paths) (map told feeds)
+    → length feeds ≡ length paths
+opened-length known told [] [] h = refl
+opened-length known told [] (f ∷ fs) h = absurd h
+opened-length known told (p ∷ ps) [] h = absurd h
+opened-length known told (p ∷ ps) (f ∷ fs) (h, hs) = ap (λ n. suc n) (opened-length known told ps fs hs)
+
+pub unmapped : {A B : Type 0} (f : A → B) (xs : List A) → map f xs ≡ [] → xs ≡ []
+unmapped f [] e = refl
+unmapped f (x ∷ xs) e = absurd (cc)
 
 -- where a path is named, the feeds are those of the paths
 pub feeds-named : {A : Type 0} (bytes : List ℕ → Option (List ℕ)) (of : A → List ℕ) (items : List A) (input : Option (List ℕ))
     → (items ≡ [] → ⊥)
     → feeds_of bytes (map of items) input ≡ map (λ a. bytes (of a)) items
 feeds-named bytes of [] input some = absurd (some refl)
-feeds-named bytes of (a ∷ as) input some = ap (λ t. bytes (of a) ∷ t) (map-map bytes of as)
+feeds-named bytes of (a ∷ more) input some = ap (λ t. bytes (of a) ∷ t) (map-map bytes of more)

@@ -1,10 +1,14 @@
 -- Texts that were told, whole or in part.
-use Rattle.std.proofs.Common.{◌≡◌, ◌≢◌, ◌⊎◌, ◌++◌, ◌∙◌, inl, inr, refl, append_assoc, ℕ, List, Option, Result, Ok, Err, OnOk, OnErr, length}
+use Rattle.std.proofs.Common.{arith, ◌≡◌, ◌≢◌, ◌⊎◌, ◌++◌, ◌∙◌, inl, inr, refl, sym, append_assoc, ℕ, Bool, List, Option, None, Some, Result, Ok, Err, OnOk, OnErr, length}
+use Rattle.std.proofs.lemmas.List.{append-nil}
 use Rattle.std.proofs.Math.Seq.{take-length}
 use Rattle.std.specs.Io.KnownBytes.{Appends}
 use Rattle.fkv_functions.specs.declared.refusals.Refused.{Refused}
 use Rattle.fkv_functions.specs.declared.refusals.Refused.TheVariants.{Unwritable}
 use Rattle.fkv_streams.specs.Streams.{AppendsPrefix}
+use Rattle.fkv_commands.specs.declared.reporting.Report.{Report}
+use Rattle.fkv_commands.specs.Advice.{advice_text}
+use Rattle.fkv_commands.specs.Reports.{IsTold, report_text}
 
 -- a text that was told whole was told from its front
 pub told_from_front : {T E : Type 0} (old new : Option (List ℕ)) (bytes text : List ℕ) → text ≡ bytes → (r : Result T E) → OnOk r (Appends old new bytes) → OnErr r (AppendsPrefix old new bytes) → AppendsPrefix old new text
@@ -23,3 +27,14 @@ joined a b c d e f =
     ∙ append_assoc (a ++ b ++ c) d (e ++ f)
     ∙ append_assoc (a ++ b) c (d ++ (e ++ f))
     ∙ append_assoc a b (c ++ (d ++ (e ++ f)))
+
+-- of any text nothing may be written
+pub nothing_written : (a : Option (List ℕ)) (text : List ℕ) → AppendsPrefix a a text
+nothing_written None text = (0, tt)
+nothing_written (Some xs) text = (0, sym (append-nil xs))
+
+-- a report that is not told
+pub told_nothing : (sized : Bool) (report : Report) (a : Option (List ℕ))
+    → (text : List ℕ) × IsTold sized report text × AppendsPrefix a a text
+told_nothing sized report a =
+    (report_text report ++ advice_text sized report.keys report, (report.keys, omega arith, refl), nothing_written a _)

@@ -1,12 +1,11 @@
 -- A stream that is read whole, and the feed that its bytes are.
-use Rattle.std.proofs.Common.{◌≡◌, ◌++◌, [], ◌∷◌, ℕ, ℤ, List, Option, None, Some, refl, sym, ap, subst, ◌∙◌, take, append_assoc}
+use Rattle.std.proofs.Common.{◌≡◌, ◌++◌, [], ◌∷◌, ℕ, ℤ, List, Option, None, Some, refl, sym, subst, take, append_assoc}
 use Rattle.std.specs.Prelude.{IfSome}
 use Rattle.std.specs.Io.KnownBytes.{Consumes, IsAtEnd}
 use Rattle.std.proofs.lemmas.List.{append-nil}
 use Rattle.fkv_functions.specs.Meanings.{Meanings}
 use Rattle.fkv_functions.specs.declared.names.Name.{Name}
-use Rattle.fkv_feed_rows.specs.Feeds.{IsFeed}
-use Rattle.fkv_feeds.specs.Tables.{AreFeeds, IsTableOf, most_rows}
+use Rattle.fkv_feeds.specs.Tables.{IsTableOf}
 
 pub consumed-none : (a : Option (List ℕ)) → Consumes a a []
 consumed-none None = tt

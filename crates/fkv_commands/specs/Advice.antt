@@ -1,5 +1,5 @@
 -- When more memory is advised, and how.
-use Rattle.std.specs.Prelude.{◌-◌, ◌/◌, ◌&&◌, ◌++◌, ◌∷◌, [], ℕ, List, Bool, min, nat_lt, not, if◌then◌else◌, codes, decimal}
+use Rattle.std.specs.Prelude.{◌-◌, ◌/◌, ◌&&◌, ◌++◌, [], ℕ, List, Bool, min, nat_lt, not, if◌then◌else◌, codes, decimal}
 use Rattle.fkv_commands.specs.declared.reporting.Report.{Report}
 
 -- how many rows read a page back, about: each page that was written is read once for the list of the keys

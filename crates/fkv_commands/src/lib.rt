@@ -7,7 +7,7 @@
 //! all that a program calls.
 #![tactic(auto)]
 
-pub mod advising;
+mod advising;
 pub mod causes;
 pub mod ending;
 pub mod escaping;

@@ -1,24 +1,31 @@
-use Rattle.std.proofs.Common.{rules, ◌≡◌, ◌≢◌, ◌⊎◌, ◌↔◌, ◌∷◌, [], true, length, map, min, string_bytes, IfOk, IfErr, IsTrue, OnOk, ℕ, ◌+◌, ◌-◌, ◌*◌, ◌<◌, ◌≤◌, ◌/◌, ◌%◌, Bool, false, nat_eq, nat_lt, List, ◌++◌, slice_index_or, slice_set, bit_and, bit_or, Fits, w8, w32, w64, Bor, MutBor}
-use Rattle.fkv_feeds.specs.Tables.{IsTableOf}
-use Rattle.fkv_commands.specs.Plans.{IsPlanOf}
+use Rattle.std.proofs.Common.{rules, ◌≡◌, ◌≤◌, length, min, refl, string_bytes}
+use Rattle.fkv_commands.proofs.MakingLemmas.{one-plan}
+use Rattle.fkv_commands.proofs.OpeningLemmas.{agree-run, opened-length}
 use Rattle.fkv_commands.proofs.making.made_of_feeds.Goals as goal
 
--- src/making.rt:156:9
 pub returns-then-table-clause-ok : goal.returns-then-table-clause-ok
-returns-then-table-clause-ok g c = ?
+returns-then-table-clause-ok g c =
+    λ keeps asked. agree-run g.F.Functions.meaning (λ run. run.table) _ _ c.shared.result (rw c.as_slice.ensures.value at c.in-Ok.ensures.ok) (c.shared.ensures.ok refl keeps)
 
--- src/making.rt:156:9
 pub returns-then-table-clause-ran : goal.returns-then-table-clause-ran
-returns-then-table-clause-ran g c = ?
+returns-then-table-clause-ran g c =
+    let count : length c.in-Ok.feeds.items ≡ length c.args.table.now.paths.items =
+    opened-length (λ path. g.O.Opener.bytes c.args.opener.now (string_bytes path)) g.O.Feed.Source.remaining _ _ (rw c.as_slice.ensures.value at c.in-Ok.ensures.ok) in
+    rw count at c.shared.ensures.ran
 
--- src/making.rt:159:9
 pub returns-then-workers_for-gt1-clause-ran : goal.returns-then-workers_for-gt1-clause-ran
-returns-then-workers_for-gt1-clause-ran g c = ?
+returns-then-workers_for-gt1-clause-ran g c =
+    let count : length c.in-Ok.feeds.items ≡ length c.args.table.now.paths.items =
+    opened-length (λ path. g.O.Opener.bytes c.args.opener.now (string_bytes path)) g.O.Feed.Source.remaining _ _ (rw c.as_slice.ensures.value at c.in-Ok.ensures.ok) in
+    rw count at c.shared-then-workers_for-gt1.ensures.ran
 
--- src/making.rt:125:1
 pub returns-clause-ok : goal.returns-clause-ok
-returns-clause-ok g c = ?
+returns-clause-ok g c =
+    λ keeps asked. agree-run g.F.Functions.meaning (λ run. run.table) _ _ c.run_one_by.result (rw c.as_slice.ensures.value at c.in-Ok.ensures.ok) ((rw c.as_mut_slice.ensures.value at c.run_one_by.ensures.ok) keeps)
 
--- src/making.rt:125:1
 pub returns-clause-ran : goal.returns-clause-ran
-returns-clause-ran g c = ?
+returns-clause-ran g c =
+    let count : length c.in-Ok.feeds.items ≡ length c.args.table.now.paths.items =
+    opened-length (λ path. g.O.Opener.bytes c.args.opener.now (string_bytes path)) g.O.Feed.Source.remaining _ _ (rw c.as_slice.ensures.value at c.in-Ok.ensures.ok) in
+    let few : min c.args.table.now.workers (length c.args.table.now.paths.items) ≤ 1 = search (rules, count) in
+    one-plan (λ run. run.plan) c.args.table.now _ _ c.run_one_by.result c.mode_of-mode.ensures few c.run_one_by.ensures.ran

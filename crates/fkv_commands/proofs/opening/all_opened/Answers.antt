@@ -1,4 +1,4 @@
-use Rattle.std.proofs.Common.{rules, ◌≡◌, ◌⊎◌, ◌<◌, ◌+◌, ◌++◌, ◌∷◌, [], inl, inr, sym, subst, ap, ◌∙◌, get_or, length, map, take, slice_index_or, string_bytes}
+use Rattle.std.proofs.Common.{rules, ◌≡◌, ◌<◌, ◌+◌, ◌++◌, ◌∷◌, [], inl, inr, sym, subst, ap, ◌∙◌, get_or, length, map, take, slice_index_or, string_bytes}
 use Rattle.std.proofs.lemmas.List.{get_or-map, map-append, map_more}
 use Rattle.fkv_functions.specs.declared.refusals.Refused.TheVariants.{Unreadable}
 use Rattle.fkv_commands.specs.Sources.{Agrees}

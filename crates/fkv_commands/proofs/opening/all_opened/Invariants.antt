@@ -1,4 +1,4 @@
-use Rattle.std.proofs.Common.{◌≡◌, map, take, string_bytes}
+use Rattle.std.proofs.Common.{map, take, string_bytes}
 use Rattle.std.specs.List.{AllZip}
 use Rattle.fkv_commands.specs.Sources.{Agrees}
 use Rattle.fkv_commands.proofs.opening.all_opened.Given as goal
