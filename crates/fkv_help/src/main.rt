@@ -2,7 +2,7 @@
 //! print goes out behind a line that shows them. The launcher tells these texts where the program is not built.
 #![tactic(auto)]
 
-use fkv_commands::run;
+use fkv_commands::{FeedFiles, run};
 use fkv_meters::Silent;
 use fkv_streams::{CountedReader, CountedWriter, write_out};
 use std::alloc::{AllocError, Global};
@@ -49,7 +49,10 @@ where
         &mut writer,
         &mut faults,
         &Silent,
-    ) == 0
+        &FeedFiles::new(rt, &Silent),
+    )
+    .status
+        == 0
 }
 
 fn main(rt: HostRuntime) -> ExitCode {

@@ -1,8 +1,7 @@
 //! What a run does that its table does not show: the pages that it moves, the rows that it tells of, and help.
 use crate::commands::{ends, ends_by, split, start};
-use fkv_commands::advising::advise;
 use fkv_commands::reporting::Report;
-use fkv_commands::run;
+use fkv_commands::{FeedFiles, run};
 use fkv_feeds::{Counts, Plan, RowMode};
 use fkv_meters::{Progress, Seen, Silent};
 use fkv_partition::Config;
@@ -198,6 +197,7 @@ fn advice_of_reports(rt: HostRuntime) -> io::Result<()> {
                 rows,
                 appended: None,
             },
+            plan: PLAN,
             seen: Seen {
                 pages_written,
                 pages_read,
@@ -205,14 +205,17 @@ fn advice_of_reports(rt: HostRuntime) -> io::Result<()> {
             },
             millis: None,
         };
+        let mut bare = Vec::new(rt.alloc());
+        report.tell(rt.alloc(), true, &mut CountedWriter::new(&mut bare));
         let words = split(rt.alloc(), line)?;
         let mut told = Vec::new(rt.alloc());
         let mut faults = CountedWriter::new(&mut told);
         match request_of(rt.alloc(), words.as_slice()) {
-            Ok(Request::Table(table)) => advise(&table, &report, &mut faults),
+            Ok(Request::Table(table)) => report.tell(rt.alloc(), table.sized, &mut faults),
             _ => panic!(rt; "row {at} asks for no table"),
         }
-        assert!(rt; told.as_slice() == text.as_bytes(), "row {at}");
+        bare.extend_from_slice(text.as_bytes())?;
+        assert!(rt; told.as_slice() == bare.as_slice(), "row {at}");
     }
     Ok(())
 }
@@ -239,7 +242,7 @@ fn reports_that_end_with_advice(rt: HostRuntime) -> io::Result<()> {
         let words = split(rt.alloc(), line)?;
         let mut told = Vec::new(rt.alloc());
         let mut printed = Vec::new(rt.alloc());
-        let status = run(
+        let ended = run(
             &rt,
             rt.alloc(),
             words.as_slice(),
@@ -247,8 +250,9 @@ fn reports_that_end_with_advice(rt: HostRuntime) -> io::Result<()> {
             &mut CountedWriter::new(&mut printed),
             &mut CountedWriter::new(&mut told),
             &Silent,
+            &FeedFiles::new(&rt, &Silent),
         );
-        assert!(rt; status == 0, "{line}");
+        assert!(rt; ended.status == 0, "{line}");
         let has_advice = told
             .as_slice()
             .ends_with(b"; --memory 1M would hold them\n");
