@@ -8,8 +8,9 @@ use fkv_meters::{Progress, ProgressSource};
 use fkv_streams::{CountedReader, Source};
 use std::alloc::Global;
 use std::fs::{self, Files};
-use std::io::ErrorKind;
+use std::io::{self, ErrorKind, Read};
 use std::marker::PhantomData;
+use std::rt::Stdin;
 
 /// A feed in a file, or one whose bytes were read. A run takes both as one type, so it is compiled once.
 #[derive(Drop)]
@@ -18,9 +19,25 @@ pub enum Feed<F, B> {
     Bytes(B),
 }
 
-/// A feed that tells how far it is where it is in a file; the reader of the bytes has told it of the other.
+/// A file, or standard input, which a thread can take as it takes a file.
+#[derive(Drop)]
+pub enum Opened<T> {
+    File(T),
+    Input(Stdin),
+}
+
+impl<T: Read> Read for Opened<T> {
+    fn read(&mut self, buf: &mut [u8]) -> io::Result<usize> {
+        match self {
+            Opened::File(file) => file.read(buf),
+            Opened::Input(input) => input.read(buf),
+        }
+    }
+}
+
+/// A feed that tells how far it is where it was opened; the reader of the bytes has told it of the other.
 pub type FeedOf<'a, 'b, T, P> = Feed<
-    ProgressSource<'a, CountedReader<T>, P>,
+    ProgressSource<'a, CountedReader<Opened<T>>, P>,
     CountedReader<&'b [u8]>,
 >;
 
@@ -35,11 +52,6 @@ impl<F: Source, B: Source> Source for Feed<F, B> {
             Feed::Bytes(source) => source.read(buf),
         }
     }
-}
-
-/// The file of a feed: `-` is standard input, and `./-` a file of this name.
-fn file_of(path: &str) -> &str {
-    if path == "-" { "/dev/stdin" } else { path }
 }
 
 /// What opens feeds by their paths.
@@ -63,22 +75,56 @@ pub trait Opener {
             ⊎ ((e ≡ Refused.Unreadable number) × is_closed self.now path.now)) };
 }
 
-/// Feeds in files, which tell a hook how far they are. What stands in a file is not known.
+/// Feeds in files, and standard input by the path `-`, which tell a hook how far they are. What stands in a file is not known, nor
+/// what standard input gives. A file of this name is `./-`.
 #[derive(Drop)]
 pub struct FeedFiles<'a, 'b, H, P> {
     files: &'a H,
+    /// Standard input, where it is lent.
+    input: Option<Stdin>,
     hook: &'a P,
     of: PhantomData<&'b [u8]>,
 }
 
 impl<'a, 'b, H, P> FeedFiles<'a, 'b, H, P> {
-    /// The feeds in these files, which tell this hook.
+    /// The feeds in these files, which tell this hook. Standard input can't be read.
     pub fn new(files: &'a H, hook: &'a P) -> FeedFiles<'a, 'b, H, P> {
         FeedFiles {
             files,
+            input: None,
             hook,
             of: PhantomData,
         }
+    }
+
+    /// The same feeds, and this standard input.
+    pub fn with_input(mut self, input: Stdin) -> FeedFiles<'a, 'b, H, P> {
+        self.input = Some(input);
+        self
+    }
+}
+
+/// Opens the file at this path, or this standard input by the path `-`. Refused: `NoMemory`; `Unreadable` with the number.
+fn open_at<H: Files>(
+    files: &H,
+    input: Option<Stdin>,
+    path: &str,
+    number: u64,
+) -> Result<Opened<H::File>, Refused>
+    ensures { IfErr result (λ e. (e ≡ Refused.NoMemory) ⊎ (e ≡ Refused.Unreadable number)) }
+{
+    if path == "-" {
+        return match input {
+            Some(input) => Ok(Opened::Input(input)),
+            None => Err(Refused::Unreadable { number }),
+        };
+    }
+    match fs::open(files, path) {
+        Ok(file) => Ok(Opened::File(file)),
+        Err(error) => match error.kind() {
+            ErrorKind::OutOfMemory => Err(Refused::NoMemory),
+            _ => Err(Refused::Unreadable { number }),
+        },
     }
 }
 
@@ -90,15 +136,12 @@ impl<'a, 'b, H: Files, P: Progress> Opener for FeedFiles<'a, 'b, H, P> {
     ghost is_closed = { λ _ _. Unit {0} };
 
     fn open(&self, path: &str, number: u64) -> Result<FeedOf<'a, 'b, H::File, P>, Refused> {
-        match fs::open(self.files, file_of(path)) {
-            Ok(file) => {
-                let feed = ProgressSource::new(CountedReader::new(file), self.hook);
+        match open_at(self.files, self.input, path, number) {
+            Ok(opened) => {
+                let feed = ProgressSource::new(CountedReader::new(opened), self.hook);
                 Ok(Feed::File(feed))
             }
-            Err(error) => match error.kind() {
-                ErrorKind::OutOfMemory => Err(Refused::NoMemory),
-                _ => Err(Refused::Unreadable { number }),
-            },
+            Err(refused) => Err(refused),
         }
     }
 }

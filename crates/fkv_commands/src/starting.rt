@@ -11,14 +11,15 @@ use std::env::{self, Env};
 use std::fs::Files;
 use std::io::{self, IsTerminal};
 use std::process::ExitCode;
-use std::rt::{Clock, Stderr, Stdout};
+use std::rt::{Clock, Stderr, Stdin, Stdout};
 use std::sync::Wait;
 use std::thread::Threads;
 
 /// Does what the process's own words ask for, with its own streams, and ends with [`end`]'s status: 0, 1
-/// or 2. A handle of the process can not print, so what goes where is told by the types of its two outputs.
-pub fn start<R: Env + Files + Input + AllocGlobal + Threads + Wait + Clock + Sync>(
+/// or 2. A handle of the process can not read or print, so what goes where is told by the types of its streams.
+pub fn start<R: Env + Files + AllocGlobal + Threads + Wait + Clock + Sync>(
     rt: &R,
+    input: &Stdin,
     output: &Stdout,
     faults: &Stderr,
 ) -> ExitCode
@@ -32,10 +33,10 @@ where
         rt,
         rt.alloc(),
         words_of(rt.alloc(), env::args(rt)),
-        &mut ProgressSource::new(CountedReader::new(rt.reader()), &hook),
+        &mut ProgressSource::new(CountedReader::new(input.reader()), &hook),
         &mut CountedWriter::new(io::writer(output)),
         &mut CountedWriter::new(io::writer(faults)),
         &hook,
-        &FeedFiles::new(rt, &hook),
+        &FeedFiles::new(rt, &hook).with_input(*input),
     )
 }

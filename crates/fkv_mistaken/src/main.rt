@@ -5,5 +5,5 @@
 use std::process::ExitCode;
 
 fn main(rt: HostRuntime) -> ExitCode {
-    fkv_commands::start(&rt, &rt.stdout(), &rt.stderr())
+    fkv_commands::start(&rt, &rt.stdin(), &rt.stdout(), &rt.stderr())
 }

@@ -6,7 +6,7 @@ const FOLDER: &str = "named_feeds";
 
 /// What stands in `named_feeds/a` and `named_feeds/b`, the words of a run over them, its status, and what it prints and
 /// tells. Standard input has a row of its own, which no run reads that names a feed.
-const NAMED: [(&str, &str, &str, u8, &str, &str); 27] = [
+const NAMED: [(&str, &str, &str, u8, &str, &str); 28] = [
     (
         "a,1\nb,2\n",
         "a,5\nc,7\n",
@@ -189,6 +189,15 @@ const NAMED: [(&str, &str, &str, u8, &str, &str); 27] = [
         1,
         "",
         "fkv_cli: cannot read input 2\nfkv_cli: feed 2 is 'named_feeds': it is a folder\n",
+    ),
+    // standard input, which these runs do not lend
+    (
+        "a,1\n",
+        "",
+        "fkv_cli sum named_feeds/a -",
+        1,
+        "",
+        "fkv_cli: cannot read input 2\nfkv_cli: feed 2 is standard input\n",
     ),
     // a bad row by its line and its bytes: behind a line break in quotes, behind empty lines, with bytes that no terminal is shown,
     // and one that is shown in part

@@ -1,0 +1,9 @@
+//! The program of the store, run with standard input and a file as its feeds, and with a report, which is not for standard output.
+//! It is the same call as that of `fkv_cli`.
+#![tactic(auto)]
+
+use std::process::ExitCode;
+
+fn main(rt: HostRuntime) -> ExitCode {
+    fkv_commands::start(&rt, &rt.stdin(), &rt.stdout(), &rt.stderr())
+}
