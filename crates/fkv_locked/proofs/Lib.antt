@@ -5,4 +5,5 @@ pub mod LoadLemmas
 pub mod EmptyLemmas
 pub mod CompactingLemmas
 pub mod AtOnceLemmas
+pub mod ListLemmas
 pub mod MarkLemmas

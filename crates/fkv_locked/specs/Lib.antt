@@ -4,4 +4,5 @@ pub mod Locks
 pub mod Fresh
 pub mod Compacting
 pub mod AtOnce
+pub mod Owns
 pub mod Marks

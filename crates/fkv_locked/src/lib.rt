@@ -9,17 +9,21 @@
 
 pub mod beginnings;
 pub mod compacting;
+pub mod finished;
 pub mod laws;
 pub mod locked;
 mod marks;
 pub mod offsets;
 pub mod operations;
+pub mod owns;
 pub mod pages;
 pub mod seats;
 pub mod sessions;
 pub mod turns;
 pub mod updating;
 
+pub use finished::{Finished, FinishedOf};
 pub use locked::{Locked, Part};
+pub use owns::Owns;
 pub use seats::{Mine, MineOf, Seat};
 pub use turns::{Turn, TurnOf};

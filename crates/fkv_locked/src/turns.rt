@@ -6,6 +6,7 @@ ghost use Rattle.fkv_partition.specs.Views.{PartitionView};
 ghost use Rattle.fkv_locked.specs.Kept.{seen, place_of, IsKept};
 ghost use Rattle.fkv_locked.specs.Turns.{question_of, IsUnready, Turns, IsToldBy, IsGone, IsCome};
 
+use crate::finished::{Finished, finish};
 use crate::marks::{mark_at, set_mark};
 use crate::seats::MineOf;
 use fkv_device::Receipt;
@@ -15,11 +16,10 @@ use fkv_operations::{Clock, is_same_op};
 use fkv_partition::{Partition, Progress, ProgressOf, Wait};
 use fkv_records::Address;
 
-/// What an event of a caller's operation comes to.
-#[derive(Drop)]
+/// What an event of a caller's operation comes to. It is not let go, since what is finished is to be told.
 pub enum Turn<K, V, I, O, R: Drop> {
-    /// The operation is finished, with this entry.
-    Done(Entry<K, V, I, O>),
+    /// The operation is finished, with this entry, which stands in the history now.
+    Done(Finished<K, V, I, O>),
     /// It is to go on.
     Next,
     /// It needs this question answered.
@@ -145,9 +145,7 @@ pub(crate) fn note<F: Mergeable, R: Receipt, H: Recorder<F>>(
                 at,
                 high: at,
             };
-            history.add(entry);
-            *book += 1;
-            Turn::Done(entry)
+            Turn::Done(finish::<F, H>(history, book, entry))
         }
     }
 }
@@ -205,9 +203,7 @@ pub(crate) fn note_loaded<F: Mergeable, R: Receipt, H: Recorder<F>>(
                 at: look,
                 high,
             };
-            history.add(entry);
-            *book += 1;
-            Turn::Done(entry)
+            Turn::Done(finish::<F, H>(history, book, entry))
         }
     }
 }

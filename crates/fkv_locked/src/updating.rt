@@ -3,11 +3,12 @@ ghost use Rattle.std.specs.Prelude.{◌≡◌, ◌+◌, ◌-◌, ◌^◌, ◌<�
 ghost use Rattle.fkv_partition.specs.AtOnce.{IsAtHand, IsDoneAtOnce};
 ghost use Rattle.fkv_locked.specs.AtOnce.{IsUnfit, IsUpdated, entry_at_once};
 
+use crate::finished::{FinishedOf, finish};
 use crate::locked::Locked;
 use crate::seats::Seat;
 use fkv_device::Receipt;
 use fkv_functions::{Mergeable, Refused, What};
-use fkv_histories::{Entry, EntryOf, Recorder};
+use fkv_histories::{Entry, Recorder};
 use fkv_operations::{Answer, Clock, KeyedOp};
 use fkv_partition::pendings_stay;
 
@@ -25,7 +26,7 @@ impl<F: Mergeable, R: Receipt, H: Recorder<F>> Locked<F, R, H> {
         input: &F::Input,
         told: u64,
         functions: &F,
-    ) -> Result<Option<EntryOf<F>>, Refused>
+    ) -> Result<Option<FinishedOf<F>>, Refused>
         ensures done { IfOk result (λ done. IfSome done (λ e. (shown : F.Output)
             × (e ≡ entry_at_once self.old seat key.now input.now shown)
             × IsDoneAtOnce R.stands F.Key.cmp F.parts.joined F.meaning F.code
@@ -81,8 +82,6 @@ impl<F: Mergeable, R: Receipt, H: Recorder<F>> Locked<F, R, H> {
             at,
             high: at,
         };
-        history.add(entry);
-        *book += 1;
-        Ok(Some(entry))
+        Ok(Some(finish::<F, H>(history, book, entry)))
     }
 }

@@ -1,5 +1,7 @@
+pub mod HoldLemmas
+pub mod TidyLemmas
 pub mod ClosingLemmas
-pub mod ListLemmas
 pub mod PassLemmas
 mod RunLemmas
+pub mod StrangeLemmas
 pub mod TurnLemmas

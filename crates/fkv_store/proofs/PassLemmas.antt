@@ -1,5 +1,5 @@
 -- An update or a merge that was answered.
-use Rattle.std.proofs.Common.{ℕ, Bool, refl, sym, subst}
+use Rattle.std.proofs.Common.{ℕ, Bool, Some, refl, sym, ap, subst, ◌∙◌}
 use Rattle.fkv_operations.specs.declared.operations.KeyedOp.{KeyedOp}
 use Rattle.fkv_operations.specs.declared.operations.Answer.{Answer}
 use Rattle.fkv_store.specs.Passes.{PassView, IsUpdateBy, Runs, Updates}
@@ -18,6 +18,7 @@ ran_update keeps old new p key input ran is a h = (
     own_is = h.1.own_is;
     told_is = h.1.told_is;
     share_is = h.1.share_is;
+    last_is = h.1.last_is ∙ ap Some (sym h.1.answer_is);
     store_is = h.1.store_is;
     sized = h.1.sized;
   },

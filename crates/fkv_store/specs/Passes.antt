@@ -1,5 +1,5 @@
 -- What a contract sees of a pass, and what an operation that it runs adds.
-use Rattle.std.specs.Prelude.{◌≡◌, ◌≢◌, ◌+◌, ◌≤◌, ◌⊎◌, ℕ, Bool, true, List, [], ◌∷◌, ◌++◌, length, slice_set, slice_index, slice_index_or, if◌then◌else◌}
+use Rattle.std.specs.Prelude.{◌≡◌, ◌≢◌, ◌+◌, ◌≤◌, ◌⊎◌, ℕ, Bool, true, List, [], ◌∷◌, ◌++◌, Option, Some, length, slice_set, slice_index, slice_index_or}
 use Rattle.fkv_functions.specs.declared.refusals.Refused.{Refused}
 use Rattle.fkv_functions.specs.declared.refusals.Refused.TheVariants.{Stranger}
 use Rattle.fkv_functions.specs.declared.refusals.What.TheVariants as what
@@ -7,16 +7,17 @@ use Rattle.fkv_operations.specs.declared.operations.KeyedOp.{KeyedOp}
 use Rattle.fkv_operations.specs.declared.operations.KeyedOp.TheVariants.{Rmw, Merge}
 use Rattle.fkv_operations.specs.declared.operations.Answer.{Answer}
 use Rattle.fkv_histories.specs.declared.entries.Entry.{Entry}
-use Rattle.fkv_histories.specs.Histories.{is_update_entry}
+use Rattle.fkv_locked.specs.Owns.{told_after}
 use Rattle.fkv_store.specs.Stores.{StoreView}
 
 -- the number of its store; for each partition its own list, and of how many updates it was told there; and its share: how
--- many operations it was answered
+-- many entries it took; and the answer of the last. It takes what events finished under a lock, and nothing else (`Owns`)
 pub record PassView (K V I O : Type 0) : Type 0 where
   pub store : ℕ
   pub own : List (List (Entry K V I O))
   pub told : List ℕ
   pub share : ℕ
+  pub last : Option (Answer O)
 
 -- an update of a key by an input, or a merge, which does the same to the map
 abbrev pub IsUpdateBy : {K V I : Type 0} → K → I → KeyedOp K V I → Type 0
@@ -26,10 +27,6 @@ module _ {K V I O : Type 0} where
   -- a pass is of a store where it has the store's number, and as many partitions
   abbrev pub IsPassOf : StoreView → PassView K V I O → Type 0
   IsPassOf s p = (p.store ≡ s.id) × (length p.told ≡ s.count)
-
-  -- of how many updates a caller was told, after it was answered by an entry
-  abbrev pub told_after : Entry K V I O → ℕ
-  told_after e = if is_update_entry e then e.at + 1 else e.at
 
   -- an operation was answered: by one entry of this operation and answer, whose place is not before what the pass was told
   -- of the partition; where entries are kept the own list has it, at its end
@@ -42,6 +39,7 @@ module _ {K V I O : Type 0} where
         → new.own ≡ slice_set old.own partition (slice_index_or old.own partition [] ++ e ∷ [])
     pub told_is : new.told ≡ slice_set old.told partition (told_after e)
     pub share_is : new.share ≡ old.share + 1
+    pub last_is : new.last ≡ Some answer
     pub store_is : new.store ≡ old.store
     pub sized : length new.own ≡ length old.own
 

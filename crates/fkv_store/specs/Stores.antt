@@ -23,6 +23,34 @@ IsTold (Damaged page) = ⊤
 IsTold Stalled = ⊤
 IsTold other = ⊥
 
+-- what a caller is told where an event is refused: why, or `Unknown` where that speaks of sessions and contexts, which are the
+-- store's own matter
+abbrev pub heard : Refused → Refused
+heard NoMemory = NoMemory
+heard NoSlot = NoSlot
+heard (Stranger what held came) = Stranger what held came
+heard Worn = Worn
+heard (Device code page) = Device code page
+heard (Damaged page) = Damaged page
+heard Stalled = Stalled
+heard other = Unknown
+
+-- what a session is refused by that is refreshed or left: its partition's clock has no next moment; or another caller took the
+-- session for its own
+abbrev pub IsUnseated : Refused → Type 0
+IsUnseated Unknown = ⊤
+IsUnseated Worn = ⊤
+IsUnseated other = ⊥
+
+-- what moving a partition's pages on is refused by: no page is read, no session is entered and nothing is waited for
+abbrev pub IsUntidy : Refused → Type 0
+IsUntidy NoMemory = ⊤
+IsUntidy Unknown = ⊤
+IsUntidy (Stranger what held came) = ⊤
+IsUntidy Worn = ⊤
+IsUntidy (Device code page) = code ≡ 2
+IsUntidy other = ⊥
+
 -- what an operation may be refused by: by what any call may be, or as a merge of functions that do not merge
 abbrev pub IsUnrun : {K V I : Type 0} → Bool → KeyedOp K V I → Refused → Type 0
 IsUnrun merges op refused = IsTold refused ⊎ ((refused ≡ NoMerge) × (is_merge op ≡ true) × (merges ≡ false))

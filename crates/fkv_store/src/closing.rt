@@ -41,7 +41,8 @@ fn kept_by<F: Mergeable, D: Disk, H: Recorder<F>>(
     let mut owns = Vec::new(alloc);
     let mut shares = Vec::new(alloc);
     for pass in passes {
-        let Pass { own, share, .. } = pass;
+        let Pass { owns: kept, .. } = pass;
+        let (own, share) = kept.end();
         let Ok(()) = owns.push(own) else {
             return Err(Refused::NoMemory);
         };

@@ -2,15 +2,15 @@
 ghost use Rattle.std.specs.Prelude.{◌≡◌, ◌<◌, ◌≤◌, ◌-◌, ◌^◌, IfOk, IfErr, IfSome};
 ghost use Rattle.fkv_operations.specs.declared.operations.KeyedOp.TheVariants.{Rmw};
 ghost use Rattle.fkv_locked.specs.Turns.{IsTurnOf};
-ghost use Rattle.fkv_store.specs.Stores.{IsTold};
+ghost use Rattle.fkv_store.specs.Stores.{IsTold, IsUnseated};
 
 use crate::gates::{Gate, Place};
 use crate::refusals::told;
 use crate::stores::Store;
 use fkv_device::{Disk, Loaded, Receipt};
 use fkv_functions::{Built, Mergeable, Refused};
-use fkv_histories::{EntryOf, Recorder};
-use fkv_locked::{MineOf, Seat, TurnOf};
+use fkv_histories::Recorder;
+use fkv_locked::{FinishedOf, MineOf, Seat, TurnOf};
 use fkv_operations::KeyedOpOf;
 use std::sync::Wait;
 
@@ -66,7 +66,7 @@ pub(crate) fn refresh<F: Mergeable, D: Disk, H: Recorder<F>, G: Gate>(
     gate: &G,
 ) -> Result<(), Refused>
     requires { at.partition < store.now.count }
-    ensures only { IfErr result IsTold }
+    ensures only { IfErr result IsUnseated }
 {
     let mut held = store.locks[at.partition].lock(rt);
     gate.pass(at.worker, at.locked());
@@ -85,7 +85,7 @@ pub(crate) fn leave<F: Mergeable, D: Disk, H: Recorder<F>, G: Gate>(
     gate: &G,
 ) -> Result<(), Refused>
     requires { at.partition < store.now.count }
-    ensures only { IfErr result IsTold }
+    ensures only { IfErr result IsUnseated }
 {
     let mut held = store.locks[at.partition].lock(rt);
     gate.pass(at.worker, at.locked());
@@ -128,7 +128,7 @@ pub(crate) fn update_at_once<F: Mergeable, D: Disk, H: Recorder<F>, G: Gate>(
     input: &F::Input,
     known: u64,
     gate: &G,
-) -> Result<Option<EntryOf<F>>, Refused>
+) -> Result<Option<FinishedOf<F>>, Refused>
     requires { at.partition < store.now.count }
     ensures op { IfOk result (λ done. IfSome done (λ e. e.op ≡ Rmw key.now input.now)) }
     ensures fresh { IfOk result (λ done. IfSome done (λ e. known ≤ e.at)) }

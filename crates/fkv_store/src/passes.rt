@@ -3,22 +3,21 @@ ghost use Rattle.std.specs.Prelude.{◌≡◌, ◌≢◌, ◌+◌, ◌-◌, ◌^
 ghost use Rattle.fkv_partition.specs.CoreViews.{partition_of};
 ghost use Rattle.fkv_operations.specs.After.{key_of, is_merge};
 ghost use Rattle.fkv_operations.specs.declared.operations.KeyedOp.{KeyedOp};
-ghost use Rattle.fkv_store.specs.Stores.{IsTold, IsUnrun};
-ghost use Rattle.fkv_store.specs.Passes.{IsPassOf, IsStrange, Runs, Updates, told_after};
+ghost use Rattle.fkv_store.specs.Stores.{IsTold, IsUnseated, IsUnrun};
+ghost use Rattle.fkv_store.specs.Passes.{IsPassOf, IsStrange, Runs, Updates};
 ghost use Rattle.fkv_store.specs.Runs.{IsRunAs};
 
 use crate::gates::{Gate, Open, Place};
 use crate::holds::{At, enter, leave};
-use crate::lists::{add_at, room_at};
 use crate::running::{Loads, Run, refresh_all, refresh_moved, run_in};
 use crate::stores::Store;
 use fkv_device::Disk;
 use fkv_functions::{Mergeable, Refused, What};
-use fkv_histories::{EntryOf, Recorder};
-use fkv_locked::Seat;
+use fkv_histories::Recorder;
+use fkv_locked::{Owns, Seat};
 use fkv_operations::{AnswerOf, KeyedOp, KeyedOpOf};
 use std::alloc::Global;
-use std::marker::{Model, PhantomData};
+use std::marker::Model;
 use std::rt::Clock;
 use std::sync::Wait;
 
@@ -31,16 +30,13 @@ const ANSWERS: u8 = 64;
 pub struct Pass<F: Mergeable, D: Disk, H: Recorder<F>> {
     pub(crate) store: u64,
     pub(crate) worker: u32,
-    pub(crate) share: u64,
-    pub(crate) own: Vec<H>,
-    pub(crate) told: Vec<u64>,
+    pub(crate) owns: Owns<F, H>,
     pub(crate) seats: Vec<Option<Seat>>,
     /// For each partition how often its pages had been moved when its session was refreshed.
     pub(crate) seen: Vec<u64>,
     pub(crate) readers: Vec<D::Reader>,
     /// How many operations were answered since its sessions were refreshed.
     pub(crate) answered: u8,
-    pub(crate) functions: PhantomData<F>,
 }
 
 impl<F: Mergeable, D: Disk, H: Recorder<F>> Model for Pass<F, D, H> {
@@ -51,35 +47,16 @@ impl<F: Mergeable, D: Disk, H: Recorder<F>> Model for Pass<F, D, H> {
 
     ghost view = { λ p. record {
       store = p.store;
-      own = map H.entries p.own.items;
-      told = p.told.items;
-      share = p.share;
+      own = map H.entries p.owns.lists;
+      told = p.owns.told;
+      share = p.owns.share;
+      last = p.owns.last;
     } };
 
-    ghost invariant = { λ p. (length p.told.items ≡ length p.own.items)
-        × (length p.seats.items ≡ length p.own.items)
-        × (length p.seen.items ≡ length p.own.items)
-        × (length p.readers.items ≡ length p.own.items) };
-}
-
-/// Of how many updates of a partition a caller was told.
-fn told_at(told: &Vec<u64>, partition: usize) -> u64
-    requires { partition < length told.now.items }
-    ensures { result ≡ slice_index told.now.items partition }
-{
-    told[partition]
-}
-
-/// Of how many updates a caller was told, after it was answered by an entry.
-fn told_by<F: Mergeable>(entry: &EntryOf<F>) -> u64
-    requires { entry.now.at < 2 ^ 64 - 1 }
-    ensures { result ≡ told_after entry.now }
-{
-    if entry.is_update() {
-        entry.at + 1
-    } else {
-        entry.at
-    }
+    ghost invariant = { λ p. (length p.owns.told ≡ length p.owns.lists)
+        × (length p.seats.items ≡ length p.owns.lists)
+        × (length p.seen.items ≡ length p.owns.lists)
+        × (length p.readers.items ≡ length p.owns.lists) };
 }
 
 /// The seat in a partition: that which is there, or that of a session which is entered now.
@@ -149,11 +126,11 @@ impl<F: Mergeable, D: Disk, H: Recorder<F>> Pass<F, D, H> {
                 came: self.store,
             });
         }
-        if self.told.len() != store.locks.len() {
+        if self.owns.partitions() != store.locks.len() {
             return Err(Refused::Stranger {
                 what: What::Pass,
                 held: store.locks.len() as u64,
-                came: self.told.len() as u64,
+                came: self.owns.partitions() as u64,
             });
         }
         Ok(())
@@ -246,11 +223,8 @@ impl<F: Mergeable, D: Disk, H: Recorder<F>> Pass<F, D, H> {
             Ok(()) => {}
             Err(refused) => return Err(refused),
         }
-        if self.share == u64::MAX {
-            return Err(Refused::Worn);
-        }
         let partition = store.home(&op.key());
-        match room_at::<F, H>(&mut self.own, partition) {
+        match self.owns.make_room(partition) {
             Ok(()) => {}
             Err(refused) => return Err(refused),
         }
@@ -275,7 +249,7 @@ impl<F: Mergeable, D: Disk, H: Recorder<F>> Pass<F, D, H> {
             Ok(seat) => seat,
             Err(refused) => return Err(refused),
         };
-        let known = told_at(&self.told, partition);
+        let known = self.owns.told_at(partition);
         let run = Run {
             alloc,
             at,
@@ -283,16 +257,14 @@ impl<F: Mergeable, D: Disk, H: Recorder<F>> Pass<F, D, H> {
             seat,
             known,
         };
-        let entry = match run_in(rt, store, &run, &mut self.readers, op, loads, gate) {
-            Ok(entry) => entry,
+        let finished = match run_in(rt, store, &run, &mut self.readers, op, loads, gate) {
+            Ok(finished) => finished,
             Err(refused) => return Err(refused),
         };
-        add_at::<F, H>(&mut self.own, partition, entry);
-        self.told[partition] = told_by::<F>(&entry);
-        self.share += 1;
+        let answer = self.owns.take(partition, finished);
         self.answered += 1;
         gate.pass(self.worker, Place::Answered);
-        Ok(entry.answer)
+        Ok(answer)
     }
 
     /// Refreshes each session of the pass, so that partitions need not wait for it.
@@ -303,7 +275,8 @@ impl<F: Mergeable, D: Disk, H: Recorder<F>> Pass<F, D, H> {
     /// refuses: `Worn` where its clock has no next moment, `Unknown` where another caller left the session.
     pub fn refresh(&mut self, rt: &impl Wait, store: &Store<F, D, H>) -> Result<(), Refused>
         ensures foreign { ¬ IsPassOf store.now self.old → IfErr result (IsStrange store.now self.old) }
-        ensures only { IfErr result IsTold }
+        ensures own { OnOk result (IsPassOf store.now self.old) }
+        ensures only { IfErr result (λ why. IsStrange store.now self.old why ⊎ IsUnseated why) }
         ensures same { self.new ≡ self.old }
     {
         match self.known_to(store) {
@@ -326,7 +299,8 @@ impl<F: Mergeable, D: Disk, H: Recorder<F>> Pass<F, D, H> {
     /// As [`Pass::refresh`]'s, after the sessions before it are left.
     pub fn rest(&mut self, rt: &impl Wait, store: &Store<F, D, H>) -> Result<(), Refused>
         ensures foreign { ¬ IsPassOf store.now self.old → IfErr result (IsStrange store.now self.old) }
-        ensures only { IfErr result IsTold }
+        ensures own { OnOk result (IsPassOf store.now self.old) }
+        ensures only { IfErr result (λ why. IsStrange store.now self.old why ⊎ IsUnseated why) }
         ensures same { self.new ≡ self.old }
     {
         match self.known_to(store) {
@@ -346,7 +320,7 @@ fn leave_all<F: Mergeable, D: Disk, H: Recorder<F>>(
 ) -> Result<(), Refused>
     requires { length seats.old.items ≡ store.now.count }
     ensures seats { length seats.new.items ≡ length seats.old.items }
-    ensures only { IfErr result IsTold }
+    ensures only { IfErr result IsUnseated }
 {
     for partition in 0..seats.len() {
         let Some(seat) = seats[partition] else {

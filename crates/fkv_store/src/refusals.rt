@@ -1,12 +1,14 @@
 //! Which refusals a pass and a store tell.
-ghost use Rattle.fkv_store.specs.Stores.{IsTold};
+ghost use Rattle.std.specs.Prelude.{◌≡◌};
+ghost use Rattle.fkv_store.specs.Stores.{IsTold, heard};
 
 use fkv_functions::Refused;
 
 /// The refusal that a caller is told of an event's: itself, or `Unknown` where it speaks of sessions and contexts, which are
 /// the store's own matter.
 pub(crate) fn told(refused: Refused) -> Refused
-    ensures { IsTold result }
+    ensures told { IsTold result }
+    ensures heard { result ≡ heard refused }
 {
     match refused {
         Refused::NoMemory

@@ -2,7 +2,7 @@
 ghost use Rattle.std.specs.Prelude.{◌≡◌, ◌<◌, ◌≤◌, ◌-◌, ◌^◌, true, false, length, IsTrue, IfOk, IfErr, IfSome, OnOk, IsSome};
 ghost use Rattle.fkv_operations.specs.After.{is_merge};
 ghost use Rattle.fkv_locked.specs.Turns.{IsOf, IsTurnOf};
-ghost use Rattle.fkv_store.specs.Stores.{IsTold, IsUnrun};
+ghost use Rattle.fkv_store.specs.Stores.{IsTold, IsUnseated, IsUnrun};
 ghost use Rattle.fkv_store.specs.Runs.{IsRunAs, IsEntryOf};
 
 use crate::gates::{Gate, Place};
@@ -11,8 +11,8 @@ use crate::stores::Store;
 use crate::waiting::Patience;
 use fkv_device::{Disk, Loaded};
 use fkv_functions::{Built, Mergeable, Refused};
-use fkv_histories::{EntryOf, Recorder};
-use fkv_locked::{MineOf, Seat, Turn, TurnOf};
+use fkv_histories::Recorder;
+use fkv_locked::{FinishedOf, MineOf, Seat, Turn, TurnOf};
 use fkv_operations::{KeyedOp, KeyedOpOf};
 use std::alloc::Global;
 use std::rt::Clock;
@@ -48,7 +48,7 @@ pub(crate) fn refresh_all<F: Mergeable, D: Disk, H: Recorder<F>, G: Gate>(
     gate: &G,
 ) -> Result<(), Refused>
     requires { length seats.now ≡ store.now.count }
-    ensures only { IfErr result IsTold }
+    ensures only { IfErr result IsUnseated }
 {
     for (partition, seat) in seats.iter().enumerate() {
         let Some(seat) = seat else {
@@ -74,7 +74,7 @@ pub(crate) fn refresh_moved<F: Mergeable, D: Disk, H: Recorder<F>, G: Gate>(
     requires seats { length seats.now ≡ store.now.count }
     requires seen { length seen.old.items ≡ store.now.count }
     ensures seen { length seen.new.items ≡ length seen.old.items }
-    ensures only { IfErr result IsTold }
+    ensures only { IfErr result IsUnseated }
 {
     for (partition, seat) in seats.iter().enumerate() {
         let Some(seat) = seat else {
@@ -165,7 +165,7 @@ fn run_on<F: Mergeable, D: Disk, H: Recorder<F>, G: Gate>(
     mine: &MineOf<F>,
     reads: bool,
     gate: &G,
-) -> Result<Option<EntryOf<F>>, Refused>
+) -> Result<Option<FinishedOf<F>>, Refused>
     requires within { run.now.at.partition < store.now.count }
     requires seats { length run.now.seats.now ≡ store.now.count }
     ensures of { IfOk result (λ done. IfSome done (IsOf mine.now)) }
@@ -209,7 +209,7 @@ fn try_at_once<F: Mergeable, D: Disk, H: Recorder<F>, G: Gate>(
     run: &Run<'_>,
     op: KeyedOpOf<F>,
     gate: &G,
-) -> Result<Option<EntryOf<F>>, Refused>
+) -> Result<Option<FinishedOf<F>>, Refused>
     requires { run.now.at.partition < store.now.count }
     ensures of { IfOk result (λ done. IfSome done (IsEntryOf op run.now.known)) }
     ensures update { IfOk result (λ done. IfSome done (λ _. is_merge op ≡ false)) }
@@ -231,7 +231,7 @@ fn run_out<F: Mergeable, D: Disk, H: Recorder<F>, G: Gate>(
     op: KeyedOpOf<F>,
     reads: bool,
     gate: &G,
-) -> Result<Option<EntryOf<F>>, Refused>
+) -> Result<Option<FinishedOf<F>>, Refused>
     requires within { run.now.at.partition < store.now.count }
     requires seats { length run.now.seats.now ≡ store.now.count }
     ensures of { IfOk result (λ done. IfSome done (IsEntryOf op run.now.known)) }
@@ -276,7 +276,7 @@ pub(crate) fn run_in<F: Mergeable, D: Disk, H: Recorder<F>, G: Gate>(
     op: KeyedOpOf<F>,
     loads: Loads,
     gate: &G,
-) -> Result<EntryOf<F>, Refused>
+) -> Result<FinishedOf<F>, Refused>
     requires within { run.now.at.partition < store.now.count }
     requires seats { length run.now.seats.now ≡ store.now.count }
     requires readers { length readers.old.items ≡ store.now.count }

@@ -1,21 +1,21 @@
 //! A store, its beginning, and its passes.
-ghost use Rattle.std.specs.Prelude.{◌≡◌, ◌≢◌, ◌<◌, ◌*◌, ◌^◌, ◌⊎◌, ℕ, [], length, replicate, Err, IfOk, IfErr};
+ghost use Rattle.std.specs.Prelude.{◌≡◌, ◌≢◌, ◌<◌, ◌*◌, ◌^◌, ◌⊎◌, ℕ, [], length, replicate, None, Err, IfOk, IfErr};
 ghost use Rattle.fkv_records.specs.Records.{size_of};
 ghost use Rattle.fkv_partition.specs.CoreViews.{partition_of};
 ghost use Rattle.fkv_partition.specs.Limits.{IsWithinLimits};
 ghost use Rattle.fkv_device.specs.Failing.{FailsOnlyBy};
 ghost use Rattle.fkv_store.specs.Stores.{IsUnopened};
 
-use crate::lists::{fresh_lists, no_seats, zeros};
+use crate::lists::{no_seats, zeros};
 use crate::passes::Pass;
 use fkv_device::Disk;
 use fkv_functions::{Functions, Mergeable, Refused};
 use fkv_histories::Recorder;
-use fkv_locked::Locked;
+use fkv_locked::{Locked, Owns};
 use fkv_operations::partition_at;
 use fkv_partition::Config;
 use std::alloc::Global;
-use std::marker::{Model, PhantomData};
+use std::marker::Model;
 use std::sync::atomic::{AtomicU64, Ordering};
 use std::sync::{Mutex, Wait};
 
@@ -208,6 +208,7 @@ impl<F: Mergeable, D: Disk, H: Recorder<F>> Store<F, D, H> {
           own = replicate self.now.count [];
           told = replicate self.now.count 0;
           share = 0;
+          last = None;
         }) }
         ensures only { IfErr result IsUnopened }
     {
@@ -216,12 +217,8 @@ impl<F: Mergeable, D: Disk, H: Recorder<F>> Store<F, D, H> {
             Ok(readers) => readers,
             Err(refused) => return Err(refused),
         };
-        let own = match fresh_lists::<F, H>(alloc, count) {
-            Ok(own) => own,
-            Err(refused) => return Err(refused),
-        };
-        let told = match zeros(alloc, count) {
-            Ok(told) => told,
+        let owns = match Owns::fresh(alloc, count) {
+            Ok(owns) => owns,
             Err(refused) => return Err(refused),
         };
         let seats = match no_seats(alloc, count) {
@@ -235,14 +232,11 @@ impl<F: Mergeable, D: Disk, H: Recorder<F>> Store<F, D, H> {
         Ok(Pass {
             store: self.id,
             worker,
-            share: 0,
-            own,
-            told,
+            owns,
             seats,
             seen,
             readers,
             answered: 0,
-            functions: PhantomData,
         })
     }
 

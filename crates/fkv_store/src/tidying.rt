@@ -1,6 +1,6 @@
 //! How a partition's pages move, a hold at a time: to where they are read only, to the device, and out of their frames.
 ghost use Rattle.std.specs.Prelude.{◌≡◌, ◌≢◌, ◌<◌, ◌≤◌, ◌⊎◌, ℕ, Err, IfErr};
-ghost use Rattle.fkv_store.specs.Stores.{IsTold};
+ghost use Rattle.fkv_store.specs.Stores.{IsUntidy, heard};
 
 use crate::gates::{Gate, Place};
 use crate::holds::At;
@@ -18,7 +18,8 @@ pub const KEEPER: u32 = u32::MAX;
 
 /// What comes of a shift: one that is not due, or finds the list of waiting actions full, is passed over.
 fn passed(shifted: Result<(), Refused>) -> Result<(), Refused>
-    ensures only { IfErr result IsTold }
+    requires { IfErr shifted (λ why. IsUntidy (heard why)) }
+    ensures only { IfErr result IsUntidy }
 {
     match shifted {
         Ok(()) | Err(Refused::NotDue) | Err(Refused::DrainFull) => Ok(()),
@@ -44,7 +45,7 @@ impl<F: Mergeable, D: Disk, H: Recorder<F>> Store<F, D, H> {
         gate: &G,
     ) -> Result<Address, Refused>
         ensures none { self.now.count ≤ partition → result ≡ Err Refused.Unknown }
-        ensures only { IfErr result IsTold }
+        ensures only { IfErr result IsUntidy }
     {
         if partition >= self.locks.len() {
             return Err(Refused::Unknown);
@@ -67,7 +68,7 @@ impl<F: Mergeable, D: Disk, H: Recorder<F>> Store<F, D, H> {
     /// Moves ReadOnly behind the tail.
     fn freeze<G: Gate>(&self, rt: &impl Wait, at: At, gate: &G) -> Result<(), Refused>
         requires { at.partition < self.now.count }
-        ensures only { IfErr result IsTold }
+        ensures only { IfErr result IsUntidy }
     {
         let mut held = self.locks[at.partition].lock(rt);
         gate.pass(at.worker, at.locked());
@@ -85,7 +86,7 @@ impl<F: Mergeable, D: Disk, H: Recorder<F>> Store<F, D, H> {
     /// Moves Head behind the tail, as far as pages are written, and answers it.
     fn evict<G: Gate>(&self, rt: &impl Wait, at: At, gate: &G) -> Result<Address, Refused>
         requires { at.partition < self.now.count }
-        ensures only { IfErr result IsTold }
+        ensures only { IfErr result IsUntidy }
     {
         let mut held = self.locks[at.partition].lock(rt);
         gate.pass(at.worker, at.locked());
@@ -116,7 +117,7 @@ impl<F: Mergeable, D: Disk, H: Recorder<F>> Store<F, D, H> {
         gate: &G,
     ) -> Result<(), Refused>
         requires { at.partition < self.now.count }
-        ensures only { IfErr result IsTold }
+        ensures only { IfErr result IsUntidy }
     {
         for _page in 0..self.frames {
             match self.flush(rt, alloc, at, gate) {
@@ -138,7 +139,7 @@ impl<F: Mergeable, D: Disk, H: Recorder<F>> Store<F, D, H> {
         gate: &G,
     ) -> Result<bool, Refused>
         requires { at.partition < self.now.count }
-        ensures only { IfErr result IsTold }
+        ensures only { IfErr result IsUntidy }
     {
         let mut writer = self.writers[at.partition].lock(rt);
         let job = match self.take(rt, alloc, at, gate) {
@@ -171,6 +172,7 @@ impl<F: Mergeable, D: Disk, H: Recorder<F>> Store<F, D, H> {
         gate: &G,
     ) -> Result<FlushJob, Refused>
         requires { at.partition < self.now.count }
+        ensures only { IfErr result (λ why. IsUntidy (heard why)) }
     {
         let mut held = self.locks[at.partition].lock(rt);
         gate.pass(at.worker, at.locked());

@@ -1,5 +1,6 @@
 use Rattle.std.proofs.Common.{◌∙◌, ◌<◌, length, slice_set, refl, ap, arith}
 use Rattle.fkv_locked.specs.Kept.{place_of}
+use Rattle.fkv_locked.specs.declared.turns.Turn.TheVariants.{Done}
 use Rattle.fkv_locked.proofs.TurnLemmas.{went_next, went_build, went_wait, went_load, went_done}
 use Rattle.fkv_locked.proofs.turns.note.Goals as goal
 
@@ -32,10 +33,11 @@ returns-in-NeedsLoad-clause-kept g c k old new now event kept =
 pub returns-in-Done-clause-kept : goal.returns-in-Done-clause-kept
 returns-in-Done-clause-kept g c k old new now event kept =
     let count = c.updates-at.ensures ∙ g.met.H.Recorder.counted c.args.history.now k in
-    went_done g.F.Key.Ord.cmp g.F.Functions.meaning old new (g.H.Recorder.entries c.args.history.now) c.args.lows.now.items c.args.looks.now.items c.args.book.now now kept c.args.mine.now
+    rw c.finish.ensures.book
+    (went_done g.F.Key.Ord.cmp g.F.Functions.meaning old new (g.H.Recorder.entries c.args.history.now) c.args.lows.now.items c.args.looks.now.items c.args.book.now now kept c.args.mine.now
     c.in-Done.answer c.in-Done._effect
     (record { session = c.args.mine.now.seat.session; number = c.args.mine.now.number; op = c.args.mine.now.op; answer = c.in-Done.answer; low = c.mark_at.result; at = c.updates-at.result; high = c.updates-at.result })
-    (g.H.Recorder.entries c.add.new.self) (rw c.in-Done.is at event) refl refl count count c.mark_at.ensures (c.add.ensures.entries k)
+    (g.H.Recorder.entries c.finish.new.history) (rw c.in-Done.is at event) refl refl count count c.mark_at.ensures (c.finish.ensures.entries k))
 
 pub returns-in-Done-clause-tells : goal.returns-in-Done-clause-tells
-returns-in-Done-clause-tells g c = rw c.in-Done.is (_, refl, refl)
+returns-in-Done-clause-tells g c = rw c.in-Done.is (_, ap Done c.finish.ensures.entry, refl)

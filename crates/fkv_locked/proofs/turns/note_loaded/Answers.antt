@@ -1,4 +1,5 @@
-use Rattle.std.proofs.Common.{◌∙◌, refl}
+use Rattle.std.proofs.Common.{◌∙◌, refl, ap}
+use Rattle.fkv_locked.specs.declared.turns.Turn.TheVariants.{Done}
 use Rattle.fkv_locked.proofs.TurnLemmas.{came_next, came_build, came_wait, came_further, came_done}
 use Rattle.fkv_locked.proofs.turns.note_loaded.Goals as goal
 
@@ -25,10 +26,11 @@ returns-in-NeedsLoad-clause-kept g c k old new looks is event kept =
 pub returns-in-Done-clause-kept : goal.returns-in-Done-clause-kept
 returns-in-Done-clause-kept g c k old new looks is event kept =
     let count = c.updates-high.ensures ∙ g.met.H.Recorder.counted c.args.history.now k in
-    came_done g.F.Key.Ord.cmp g.F.Functions.meaning old new (g.H.Recorder.entries c.args.history.now) c.args.lows.now.items looks c.args.book.now 0 kept c.args.mine.now
+    rw c.finish.ensures.book
+    (came_done g.F.Key.Ord.cmp g.F.Functions.meaning old new (g.H.Recorder.entries c.args.history.now) c.args.lows.now.items looks c.args.book.now 0 kept c.args.mine.now
     c.in-Done.answer c.in-Done._effect
     (record { session = c.args.mine.now.seat.session; number = c.args.mine.now.number; op = c.args.mine.now.op; answer = c.in-Done.answer; low = c.mark_at.result; at = c.args.look; high = c.updates-high.result })
-    (g.H.Recorder.entries c.add.new.self) (rw c.in-Done.is at event) refl refl is count c.mark_at.ensures (c.add.ensures.entries k)
+    (g.H.Recorder.entries c.finish.new.history) (rw c.in-Done.is at event) refl refl is count c.mark_at.ensures (c.finish.ensures.entries k))
 
 pub returns-in-Done-clause-tells : goal.returns-in-Done-clause-tells
-returns-in-Done-clause-tells g c = rw c.in-Done.is (_, refl, refl)
+returns-in-Done-clause-tells g c = rw c.in-Done.is (_, ap Done c.finish.ensures.entry, refl)

@@ -33,7 +33,7 @@ invariant_of-self-2 g c =
           let shown = c.in-Some-update_at_once.shown in
           let done = c.in-Some-update_at_once.ensures.done in
           let count = c.updates-at.ensures ∙ g.met.H.Recorder.counted c.self.inside.history k in
-          rw (c.add.ensures.entries k, c.in-Ok.ensures.entries)
+          rw (c.finish.ensures.book, c.finish.ensures.entries k, c.in-Ok.ensures.entries)
           (at_once_keeps cmp join f stands code c.self.inside.partition c.update_at_once.new.self slot c.args.key.now c.args.input.now issued now shown done keeps c.known.ensures.core
           c.in-Some-update_at_once.ensures.within (omega arith) (omega arith)
           (λ p q h. c.pendings_stay.ensures.issues cmp join code p q slot done.context op issued (Ok tt) h)
@@ -49,4 +49,4 @@ returns-clause-done g c =
     let next = c.in-Some.ensures in
     let first : c.in-Some.now - 1 ≡ c.self.inside.clock + 1 = omega arith in
     let second : c.in-Some.now ≡ c.self.inside.clock + 2 = omega arith in
-    rw (← c.self.view_is, ← first, ← second, ← c.updates-at.ensures) (c.in-Some-update_at_once.shown, refl, c.in-Some-update_at_once.ensures.done)
+    rw (← c.self.view_is, ← first, ← second, ← c.updates-at.ensures) (c.in-Some-update_at_once.shown, c.finish.ensures.entry, c.in-Some-update_at_once.ensures.done)

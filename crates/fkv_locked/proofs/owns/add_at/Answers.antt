@@ -1,6 +1,6 @@
 use Rattle.std.proofs.Common.{rules}
-use Rattle.fkv_store.proofs.ListLemmas.{map_set_add}
-use Rattle.fkv_store.proofs.lists.add_at.Goals as goal
+use Rattle.fkv_locked.proofs.ListLemmas.{map_set_add}
+use Rattle.fkv_locked.proofs.owns.add_at.Goals as goal
 
 pub returns-clause-entries : goal.returns-clause-entries
 returns-clause-entries g c k =

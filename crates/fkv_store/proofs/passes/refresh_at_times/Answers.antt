@@ -1,0 +1,5 @@
+use Rattle.fkv_store.proofs.HoldLemmas.{told_unseated}
+use Rattle.fkv_store.proofs.passes.refresh_at_times.Goals as goal
+
+pub returns-in-Err-clause-only : goal.returns-in-Err-clause-only
+returns-in-Err-clause-only g c = told_unseated _ c.in-Err.ensures.only
