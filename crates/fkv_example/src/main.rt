@@ -1,18 +1,20 @@
 //! The library, used with functions of one's own: per key how many inputs there were, the least and the greatest of them,
 //! and their sum.
 //!
-//! `summaries.rt` has the functions and their value, `store.rt` a partition of them, whose pages go to a file. The program
-//! makes updates and reads in two sessions. `docs/library.md` walks through it.
+//! `summaries.rt` has the functions and their value. The program first keeps summaries in the store for one thread, which is a plain
+//! map. Then it makes updates and reads by single events, in two sessions that overlap, of one partition whose pages go to a file
+//! (`store.rt`). `docs/library.md` walks through it.
 #![tactic(auto)]
 
 mod store;
 mod summaries;
 
-use crate::store::{Store, Told};
+use crate::store::{CONFIG, Store, Told};
 use crate::summaries::SummaryFns;
 use anyhow::{Context, Result};
-use fkv_device::Loaded;
+use fkv_device::{Loaded, MemoryDevice};
 use fkv_functions::{Built, Name};
+use fkv_local::LocalStore;
 use fkv_operations::{Answer, Op};
 use fkv_partition::{Progress, Wait};
 use std::alloc::Global;
@@ -20,6 +22,27 @@ use std::{fs, str};
 
 /// The folder of the pages, below the current one.
 const FOLDER: &str = "fkv_example_pages";
+
+/// Keeps summaries in the store for one thread: prints what each update shows, and the map at the end, keys rising.
+fn summarize<P: Print>(rt: &P, alloc: Global) -> Result<()> {
+    let mut device = MemoryDevice::new(alloc);
+    let mut store = LocalStore::open(alloc, &CONFIG, SummaryFns, &mut device)?;
+    for (name, input) in [
+        ("apples", 7i64),
+        ("plums", 12),
+        ("apples", -2),
+        ("plums", 30),
+    ] {
+        if let Answer::Value(summary) = store.rmw(&name_of(name)?, &input)? {
+            println!(rt; "{name}: {summary}")?;
+        }
+    }
+    println!(rt; "the map:")?;
+    for (key, summary) in &store.live()? {
+        println!(rt; "{}: {summary}", str::from_utf8(key.bytes())?)?;
+    }
+    Ok(())
+}
 
 /// Updates a key by single events, after page 0 is made read-only. The first session sees that at once, and waits: the second
 /// one may still change the value where it stands, until it looks too. Then the update copies the value.
@@ -128,6 +151,8 @@ fn run<P: Print>(rt: &P, store: &mut Store, alloc: Global) -> Result<()> {
 
 fn main(rt: HostRuntime) -> Result<()> {
     let alloc = rt.alloc();
+    summarize(&rt, alloc)?;
+    println!(rt; "by single events:")?;
     let mut store = Store::open(rt.clone()?, alloc, FOLDER)?;
     run(&rt, &mut store, alloc)?;
     // nothing is kept between runs

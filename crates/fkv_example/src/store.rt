@@ -11,7 +11,7 @@ use std::alloc::Global;
 use std::fs::File;
 
 /// One partition, in pages of 256 bytes. A record of a name and a summary has 80 bytes.
-const CONFIG: Config = Config {
+pub const CONFIG: Config = Config {
     id: 1,
     partition_bits: 0,
     bucket_bits: 4,

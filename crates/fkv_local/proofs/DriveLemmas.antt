@@ -1,0 +1,252 @@
+-- What an operation leaves of a partition that was driven alone, and why it is refused.
+use Rattle.std.proofs.Common.{◌≡◌, ◌≢◌, Bool, true, false, cond, ◌&&◌, ℕ, ◌+◌, ◌-◌, ◌*◌, ◌^◌, ◌<◌, ◌≤◌, inl, inr, List, Option, Some, None, Result, Ok, Err, IfErr, OnOk, option_map, slice_get, nat_lt, refl, sym, ◌∙◌, ap, subst, arith}
+use Rattle.std.proofs.lemmas.Bool.Decides.{nat_tests}
+use Rattle.std.proofs.lemmas.Result.{IfErr-weaker}
+use Rattle.std.specs.declared.cmp.Ordering.{Ordering}
+use Rattle.fkv_functions.specs.Meanings.{Meanings}
+use Rattle.fkv_functions.specs.Plain.{Same}
+use Rattle.fkv_functions.specs.declared.refusals.Refused.{Refused}
+use Rattle.fkv_functions.specs.declared.refusals.Refused.TheVariants.{Worn}
+use Rattle.fkv_operations.specs.After.{key_of, after, answer}
+use Rattle.fkv_operations.specs.AfterLaws.{same_map}
+use Rattle.fkv_operations.specs.declared.operations.KeyedOp.{KeyedOp}
+use Rattle.fkv_operations.specs.declared.operations.Answer.{Answer}
+use Rattle.fkv_texts.specs.Text.{live}
+use Rattle.fkv_partition.specs.Wait.{Wait}
+use Rattle.fkv_partition.specs.Progress.TheVariants.{Done, Waits}
+use Rattle.fkv_partition.specs.Context.{Context}
+use Rattle.fkv_partition.specs.CoreContexts.{joined, is_session, context_in}
+use Rattle.fkv_partition.specs.CoreEnding.{GivesUp}
+use Rattle.fkv_partition.specs.CoreEffect.{asked_by, LeavesOthers, IsGiveUp}
+use Rattle.fkv_partition.specs.CoreViews.{CoreView, slots_of, context_at, live_of, partition_of}
+use Rattle.fkv_partition.specs.Beginning.{IsFirstFree, IsFree, IssuesOnKey}
+use Rattle.fkv_partition.specs.Views.{PartitionView, with_core}
+use Rattle.fkv_alone.specs.Ending.{Ends, IsOver, IsStop}
+use Rattle.fkv_alone.specs.Stages.{IsWaiting}
+use Rattle.fkv_local.specs.Resting.{IsIdle, StaysIdle}
+use Rattle.fkv_local.specs.Moving.{IsTidied, IsMoveRefusal}
+use Rattle.fkv_local.specs.Storing.{Runs}
+use Rattle.fkv_local.specs.Refusing.{IsStopped, IsRefusedBy}
+
+-- ---- a session with nothing open
+pub none-mapped : {A B : Type 0} (f : A → B) (o : Option A) → option_map f o ≡ None → o ≡ None
+none-mapped f None h = refl
+none-mapped f (Some x) h = absurd (cc)
+
+inside : {A : Type 0} (slots : List (Option ℕ)) (contexts : List (Option A)) (c : ℕ) → is_session slots 0 ≡ true → c < 8 → context_in slots contexts 0 c ≡ joined (slice_get contexts (0 * 8 + c))
+inside slots contexts c h low = let t : nat_lt c 8 ≡ true = grind (arith, nat_tests) in rw (h, t) refl
+
+module _ {K V I : Type 0} where
+  -- what one context did is over, and the others ask what they asked
+  pub idle-left : (v w : PartitionView K V I) (c now : ℕ) → IsIdle v 0 → LeavesOthers v.core w.core 0 c now → w ≡ with_core v w.core → context_at w.core 0 c ≡ None → IsIdle w 0
+  idle-left v w c now i frame rest closed = record {
+    entered = entered;
+    free = λ d. free d (nat_lt d c) (nat_lt c d) refl refl;
+    relocations = λ d. ap (λ t. context_in t w.relocations 0 d) slots ∙ ap (λ (u : PartitionView K V I). context_in (slots_of v.core) u.relocations 0 d) rest ∙ i.relocations d;
+  }
+    where
+      slots : slots_of w.core ≡ slots_of v.core
+      slots = ap (λ r. r.epochs.slots) frame.regions
+
+      entered : is_session (slots_of w.core) 0 ≡ true
+      entered = ap (λ t. is_session t 0) slots ∙ i.entered
+
+      other : (d : ℕ) → d ≢ c → context_at w.core 0 d ≡ None
+      other d n = none-mapped asked_by (context_at w.core 0 d) (frame.others 0 d (inr n) ∙ ap (option_map asked_by) (i.free d))
+
+      free : (d : ℕ) (a b : Bool) → nat_lt d c ≡ a → nat_lt c d ≡ b → context_at w.core 0 d ≡ None
+      free d true b p q = other d (λ e. absurd (let l : d < c = grind (arith, nat_tests) in omega arith))
+      free d false true p q = other d (λ e. absurd (let l : c < d = grind (arith, nat_tests) in omega arith))
+      free d false false p q = let same : d ≡ c = grind (arith, nat_tests) in rw same closed
+
+  -- pages that move leave it
+  pub idle-tidied : (keeps : Bool) (cmp : K → K → Ordering) (v w : PartitionView K V I) → IsIdle v 0 → IsTidied keeps cmp v w → IsIdle w 0
+  idle-tidied keeps cmp v w i t = record {
+    entered = t.sessions 0 ∙ i.entered;
+    free = λ c. ap (λ b. cond (b && nat_lt c 8) (joined (slice_get w.core.contexts (0 * 8 + c))) None) (t.sessions 0)
+        ∙ ap (λ cs. cond (is_session (slots_of v.core) 0 && nat_lt c 8) (joined (slice_get cs (0 * 8 + c))) None) t.operations ∙ i.free c;
+    relocations = λ c. ap (λ b. cond (b && nat_lt c 8) (joined (slice_get w.relocations (0 * 8 + c))) None) (t.sessions 0)
+        ∙ ap (λ cs. cond (is_session (slots_of v.core) 0 && nat_lt c 8) (joined (slice_get cs (0 * 8 + c))) None) t.relocations ∙ i.relocations c;
+  }
+
+  -- so its lowest context is free, and an operation is issued there
+  zero-free : (v : PartitionView K V I) → IsIdle v 0 → IsFree v 0 0
+  zero-free v i = record {
+    operation = sym (inside (slots_of v.core) v.core.contexts 0 i.entered (omega arith)) ∙ i.free 0;
+    relocation = sym (inside (slots_of v.core) v.relocations 0 i.entered (omega arith)) ∙ i.relocations 0;
+  }
+
+  pub first-is-zero : (v : PartitionView K V I) (c : ℕ) → IsIdle v 0 → IsFirstFree v 0 (Some c) → c ≡ 0
+  first-is-zero v c i f = by (nat_lt 0 c) refl
+    where
+      by : (b : Bool) → nat_lt 0 c ≡ b → c ≡ 0
+      by true p = absurd (f.2 0 (grind (arith, nat_tests)) (zero-free v i))
+      by false p = grind (arith, nat_tests)
+
+  pub stays-tidied : {keeps : Bool} {cmp : K → K → Ordering} {u v w : PartitionView K V I} → StaysIdle keeps cmp u v → IsTidied keeps cmp v w → StaysIdle keeps cmp u w
+  stays-tidied {keeps} {cmp} {u} {v} {w} s t = record {
+    number = t.number ∙ s.number;
+    count = t.count ∙ s.count;
+    idle = idle-tidied keeps cmp v w s.idle t;
+    live = λ k q. t.live k q ∙ s.live k q;
+  }
+
+module _ {K V I : Type 0} {keeps : Bool} {cmp : K → K → Ordering} where
+  pub stays-new : {u v : PartitionView K V I} → IsIdle u 0 → IsTidied keeps cmp u v → StaysIdle keeps cmp u v
+  stays-new {u} {v} i t = record { number = t.number; count = t.count; idle = idle-tidied keeps cmp u v i t; live = t.live }
+
+  -- an operation that begins later
+  pub runs-since : {O : Type 0} {f : Meanings K V I O} {op : KeyedOp K V I} {u v w : PartitionView K V I} (r : Result (Answer O) Refused) → StaysIdle keeps cmp u v → Runs keeps cmp f v w op r → Runs keeps cmp f u w op r
+  runs-since {O} {f} {op} {u} {v} {w} (Ok a) s h = record {
+    number = h.number ∙ s.number;
+    count = h.count ∙ s.count;
+    idle = h.idle;
+    effect = λ k. (let maps = same_map (live_of cmp v.core) (live_of cmp u.core) (s.live k) in
+        (subst (λ m. Same (live_of cmp w.core) (after cmp f m op)) maps (h.effect k).0, subst (λ m. a ≡ answer f m op) maps (h.effect k).1));
+  }
+  runs-since (Err e) s h = record { number = h.number ∙ s.number; count = h.count ∙ s.count; idle = h.idle; effect = λ k q. h.effect k q ∙ s.live k q }
+
+  -- on any device, so on this one
+  pub runs-any : {O : Type 0} {f : Meanings K V I O} {op : KeyedOp K V I} {u w : PartitionView K V I} {r : Result (Answer O) Refused} → Runs true cmp f u w op r → Runs keeps cmp f u w op r
+  runs-any h = record { number = h.number; count = h.count; idle = h.idle; effect = λ k. h.effect refl }
+
+-- ---- an operation that is refused leaves the live map
+over-stays : {K V I : Type 0} {keeps : Bool} {cmp : K → K → Ordering} (u v w : PartitionView K V I) (c : ℕ) → StaysIdle keeps cmp u v → IsOver v.core w.core 0 c → w ≡ with_core v w.core → StaysIdle keeps cmp u w
+over-stays {K} {V} {I} {keeps} {cmp} u v w c s over rest = record {
+  number = over.frame.number ∙ s.number;
+  count = over.frame.count ∙ s.count;
+  idle = idle-left v w c w.core.moment s.idle over.frame rest over.closed;
+  live = λ k q. ap (λ r. live cmp r.text q) over.records ∙ s.live k q;
+}
+
+module _ {K V I : Type 0} {merges : Bool} {op : KeyedOp K V I} where
+  -- by the partition's own event, over this log
+  stopped : {tail clock before after_ writes writes_now : ℕ} {e : Refused} → IsStop tail before after_ e → writes_now ≡ writes → IsStopped merges op tail clock writes writes_now before after_ e
+  stopped (IsStop.memory a b) same = IsStopped.no_memory a b same
+  stopped (IsStop.worn a b d) same = IsStopped.no_address a b d same
+  stopped (IsStop.device page a b) same = IsStopped.unread page (inl (inr (a, b))) same
+  stopped (IsStop.damaged page a b) same = IsStopped.unread page (inr (a, b)) same
+  stopped (IsStop.misspelled page a b) same = IsStopped.misspelled page a b same
+
+  unissued : {code : K → ℕ} {tail clock before after_ writes writes_now : ℕ} (v w : PartitionView K V I) (now : ℕ) (e : Refused) → IsIdle v 0 → partition_of v.core.count (code (key_of op)) ≡ v.core.number → v.core.merges ≡ merges → IssuesOnKey code v w 0 op now (Err e) → after_ ≡ before → writes_now ≡ writes → IsStopped merges op tail clock writes writes_now before after_ e
+  unissued v w now e i own m (IssuesOnKey.unknown a b r) s t = let bad : false ≡ true = sym a ∙ i.entered in absurd (cc)
+  unissued v w now e i own m (IssuesOnKey.stranger a b d r) s t = absurd (b own)
+  unissued v w now e i own m (IssuesOnKey.unmerged a b d n g r) s t = IsStopped.unmerged (cc) d (sym m ∙ n) s t
+  unissued v w now e i own m (IssuesOnKey.full a b q d g r) s t = absurd (d 0 (omega arith) (zero-free v i))
+  unissued v w now e i own m (IssuesOnKey.issues c a b q d g r) s t = absurd (cc)
+
+  -- or since pages are not moved
+  pub move-stopped : {tail clock writes writes_now before after_ : ℕ} {e : Refused} → IsMoveRefusal clock writes writes_now e → after_ ≡ before → IsStopped merges op tail clock writes writes_now before after_ e
+  move-stopped (IsMoveRefusal.worn a b s) same = IsStopped.no_moment a (omega arith) same s
+  move-stopped (IsMoveRefusal.no_memory a b) same = IsStopped.no_memory a same b
+  move-stopped (IsMoveRefusal.unwritten page a) same = IsStopped.unwritten page a same
+
+  -- of a partition's writer and reader
+  pub move-refused : {W P : Type 0} (writes : W → ℕ) (reads : P → ℕ) {tail clock : ℕ} {e : Refused} (w w_now : W) (p p_now : P) → IsMoveRefusal clock (writes w) (writes w_now) e → reads p_now ≡ reads p → IsRefusedBy merges writes reads op tail clock e
+  move-refused writes reads w w_now p p_now h same = record { writer = w; writer_now = w_now; reader = p; reader_now = p_now; stopped = move-stopped h same }
+
+  pub refused-by : {W P : Type 0} (writes : W → ℕ) (reads : P → ℕ) {tail clock : ℕ} {e : Refused} (w w_now : W) (p p_now : P) → IsStopped merges op tail clock (writes w) (writes w_now) (reads p) (reads p_now) e → IsRefusedBy merges writes reads op tail clock e
+  refused-by writes reads w w_now p p_now h = record { writer = w; writer_now = w_now; reader = p; reader_now = p_now; stopped = h }
+
+  pub worn-refused : {W P : Type 0} (writes : W → ℕ) (reads : P → ℕ) {tail clock : ℕ} {e : Refused} (w : W) (p : P) → (e ≡ Worn) × (2 ^ 64 ≤ clock + 2) → IsRefusedBy merges writes reads op tail clock e
+  worn-refused writes reads w p h = refused-by writes reads w w p p (IsStopped.no_moment h.0 h.1 refl refl)
+
+pub told-by : {K V I A W P : Type 0} (merges : Bool) (op : KeyedOp K V I) (writes : W → ℕ) (reads : P → ℕ) (tail clock : ℕ) (w w_now : W) (p p_now : P) (r : Result A Refused) → IfErr r (IsStopped merges op tail clock (writes w) (writes w_now) (reads p) (reads p_now)) → IfErr r (IsRefusedBy merges writes reads op tail clock)
+told-by merges op writes reads tail clock w w_now p p_now r h = IfErr-weaker r (IsStopped merges op tail clock (writes w) (writes w_now) (reads p) (reads p_now)) (IsRefusedBy merges writes reads op tail clock) (λ e. refused-by writes reads w w_now p p_now) h
+
+is-given_up : {K V I : Type 0} (v w : CoreView K V I) (now : ℕ) (r : Result (Unit {0}) Refused) (x : Context K V I) → context_at v 0 0 ≡ Some x → GivesUp v w 0 0 now r → OnOk r (IsGiveUp v w 0 0 now) → IsGiveUp v w 0 0 now
+is-given_up v w now (Ok t) x here g event = event
+is-given_up v w now (Err e) x here (GivesUp.unknown n s q) event = let bad : None ≡ Some x = sym n ∙ here in absurd (cc)
+is-given_up v w now (Err e) x here (GivesUp.gives_up y a b d q) event = absurd (cc)
+is-given_up v w now (Err e) x here (GivesUp.cancels y p a b d q) event = absurd (cc)
+
+pub record IsLeft {K V I : Type 0} (keeps merges : Bool) (cmp : K → K → Ordering) (op : KeyedOp K V I) (u w : PartitionView K V I) (clock writes writes_now reads reads_now : ℕ) (e : Refused) : Type 0 where
+  pub stays : StaysIdle keeps cmp u w
+  pub why : IsStopped merges op w.core.records.tail clock writes writes_now reads reads_now e
+
+-- a refused operation, by what it leaves
+pub left-runs : {K V I O : Type 0} {keeps : Bool} {cmp : K → K → Ordering} {f : Meanings K V I O} {u w : PartitionView K V I} {op : KeyedOp K V I} {e : Refused} → StaysIdle keeps cmp u w → Runs keeps cmp f u w op (Err e)
+left-runs s = record { number = s.number; count = s.count; idle = s.idle; effect = s.live }
+
+module _ {K V I O R : Type 0} {keeps : Bool} {cmp : K → K → Ordering} {join : V → V → V} {f : Meanings K V I O} {code : K → ℕ} {op : KeyedOp K V I} where
+  -- ---- how an operation ends of which nothing was open before
+  module _ {u v w : PartitionView K V I} {start end before after_ : ℕ} (s : StaysIdle keeps cmp u v) (own : partition_of v.core.count (code (key_of op)) ≡ v.core.number) (rest : w ≡ with_core v w.core) (begun : 0 < start) (within : end < 2 ^ 64) where
+    pub done-runs : {a : Answer O} {at : ℕ} → Ends {R = R} keeps cmp join f code op v w 0 (2 ^ 64 - 1) start end before after_ (Ok (Done a at)) → Runs keeps cmp f u w op (Ok a)
+    done-runs (Ends.barred b n e t r) = absurd (cc)
+    done-runs (Ends.late b d n e t r) = absurd (cc)
+    done-runs (Ends.unissued why b i n e t r) = absurd (cc)
+    done-runs {a} {at} (Ends.done c a2 effect opens d m t r) =
+        let same : a ≡ a2 = cc in
+        record {
+          number = d.frame.number ∙ s.number;
+          count = d.frame.count ∙ s.count;
+          idle = idle-left v w c w.core.moment s.idle d.frame rest d.closed;
+          effect = λ k. (let maps = same_map (live_of cmp v.core) (live_of cmp u.core) (s.live k) in
+              (subst (λ m. Same (live_of cmp w.core) (after cmp f m op)) maps (d.live k), subst (λ m. a ≡ answer f m op) maps (same ∙ d.answers k)));
+        }
+    done-runs (Ends.waits c why opens d m t r) = absurd (cc)
+    done-runs (Ends.refused c why opens d m t r) = absurd (cc)
+    done-runs (Ends.stalled c opens d m t r) = absurd (cc)
+    done-runs (Ends.exhausted c opens d m b t r) = absurd (cc)
+
+    pub err-left : {merges : Bool} {writes writes_now : ℕ} {e : Refused} → v.core.merges ≡ merges → writes_now ≡ writes → Ends {O = O} {R = R} keeps cmp join f code op v w 0 (2 ^ 64 - 1) start end before after_ (Err e) → IsLeft keeps merges cmp op u w end writes writes_now before after_ e
+    err-left m same (Ends.barred b n e t r) = absurd (omega arith)
+    err-left m same (Ends.late b d n e t r) = record { stays = subst (StaysIdle keeps cmp u) (sym n) s; why = IsStopped.no_moment (cc) (omega arith) t same }
+    err-left {merges} {writes} {writes_now} {e} m same (Ends.unissued why b i n ends t r) = record {
+      stays = subst (StaysIdle keeps cmp u) (sym n) s;
+      why = subst (λ x. IsStopped merges op w.core.records.tail end writes writes_now before after_ x) (let q : why ≡ e = cc in q) (unissued v w (start + 1) why s.idle own m i t same);
+    }
+    err-left m same (Ends.done c a2 effect opens d b t r) = absurd (cc)
+    err-left m same (Ends.waits c why opens d b t r) = absurd (cc)
+    err-left {merges} {writes} {writes_now} {e} m same (Ends.refused c why opens d b st r) = record {
+      stays = over-stays u v w c s d rest;
+      why = subst (λ x. IsStopped merges op w.core.records.tail end writes writes_now before after_ x) (let q : why ≡ e = cc in q)
+          (subst (λ n. IsStopped merges op n end writes writes_now before after_ why) (sym (ap (λ x. x.tail) d.records)) (stopped st same));
+    }
+    -- more events than a clock has moments
+    err-left m same (Ends.stalled c opens d b t r) = absurd (omega arith)
+    err-left m same (Ends.exhausted c opens d last b t r) = record { stays = over-stays u v w c s d rest; why = IsStopped.no_moment (cc) (omega arith) t same }
+
+    -- ---- no failure of the reader is counted where it waits
+    pub steady-waits : {why : Wait} → Ends {O = O} {R = R} keeps cmp join f code op v w 0 (2 ^ 64 - 1) start end before after_ (Ok (Waits why)) → after_ ≡ before
+    steady-waits (Ends.barred b n e t r) = t
+    steady-waits (Ends.late b d n e t r) = t
+    steady-waits (Ends.unissued why b i n e t r) = t
+    steady-waits (Ends.done c a2 effect opens d b t r) = t
+    steady-waits (Ends.waits c why2 opens d b t r) = t
+    steady-waits (Ends.refused c why2 opens d b st r) = absurd (cc)
+    steady-waits (Ends.stalled c opens d b t r) = t
+    steady-waits (Ends.exhausted c opens d last b t r) = t
+
+    -- ---- an operation that waits, and is given up
+    waited : {why : Wait} → Ends {O = O} {R = R} keeps cmp join f code op v w 0 (2 ^ 64 - 1) start end before after_ (Ok (Waits why)) → IsWaiting cmp join f code op v.core w.core 0 0 (start + 1) why
+    waited (Ends.barred b n e t r) = absurd (cc)
+    waited (Ends.late b d n e t r) = absurd (cc)
+    waited (Ends.unissued why b i n e t r) = absurd (cc)
+    waited (Ends.done c a2 effect opens d m t r) = absurd (cc)
+    waited {why} (Ends.waits c why2 opens d m t r) =
+        let zero_c : c ≡ 0 = first-is-zero v c s.idle opens.free in
+        let same : why2 ≡ why = cc in
+        subst (λ x. IsWaiting cmp join f code op v.core w.core 0 0 (start + 1) x) same (subst (λ x. IsWaiting cmp join f code op v.core w.core 0 x (start + 1) why2) zero_c d)
+    waited (Ends.refused c why opens d m t r) = absurd (cc)
+    waited (Ends.stalled c opens d m t r) = absurd (cc)
+    waited (Ends.exhausted c opens d m b t r) = absurd (cc)
+
+    pub wait-given_up : {why : Wait} {x : PartitionView K V I} {m : ℕ} {r : Result (Unit {0}) Refused} → Ends {O = O} {R = R} keeps cmp join f code op v w 0 (2 ^ 64 - 1) start end before after_ (Ok (Waits why)) → GivesUp w.core x.core 0 0 m r → OnOk r (IsGiveUp w.core x.core 0 0 m) → x ≡ with_core w x.core → StaysIdle keeps cmp u x
+    wait-given_up {why} {x} {m} {r} ends gives event passed =
+        let h = waited ends in
+        let given = is-given_up w.core x.core m r h.operation h.open_is.here gives event in
+        let o = h.open_is in
+        record {
+          number = given.frame.number ∙ o.frame.number ∙ s.number;
+          count = given.frame.count ∙ o.frame.count ∙ s.count;
+          idle = idle-left v x 0 x.core.moment s.idle (record {
+            others = λ a d n. given.frame.others a d n ∙ o.frame.others a d n;
+            number = given.frame.number ∙ o.frame.number;
+            count = given.frame.count ∙ o.frame.count;
+            begin = given.frame.begin ∙ o.frame.begin;
+            regions = given.frame.regions ∙ o.frame.regions;
+            moment = refl;
+          }) (passed ∙ ap (λ (y : PartitionView K V I). with_core y x.core) rest) (none-mapped asked_by (context_at x.core 0 0) given.closed);
+          live = λ k q. ap (λ t. live cmp t q) given.text ∙ ap (λ r. live cmp r.text q) o.records ∙ s.live k q;
+        }

@@ -1,0 +1,7 @@
+mod FlushLemmas
+mod DriveLemmas
+mod PartLemmas
+mod AtOnceLemmas
+mod StoreLemmas
+mod ClearLemmas
+mod CountLemmas

@@ -1,0 +1,11 @@
+use Rattle.fkv_local.proofs.ClearLemmas.{but-same, go-stays, load-stays}
+use Rattle.fkv_local.proofs.compacting.event.Goals as goal
+
+pub returns-in-Err-clause-stays : goal.returns-in-Err-clause-stays
+returns-in-Err-clause-stays g c = but-same c.requires.only
+
+pub returns-in-None-clause-stays : goal.returns-in-None-clause-stays
+returns-in-None-clause-stays g c = go-stays c.in-Ok.now c.go.result c.requires.only (c.go.ensures.relocating c.requires.here) c.go.ensures.unchanged
+
+pub returns-in-Some-clause-stays : goal.returns-in-Some-clause-stays
+returns-in-Some-clause-stays g c = load-stays c.in-Ok.now c.load.result c.requires.only (c.load.ensures.relocating c.requires.here) c.load.ensures.fails

@@ -1,0 +1,10 @@
+use Rattle.std.proofs.Common.{◌≡◌, ◌-◌, ◌^◌, min, sum_by, take, map}
+use Rattle.fkv_local.specs.Storing.{log_bytes, evicted_bytes}
+use Rattle.fkv_local.proofs.counting.held_bytes.Given as goal
+
+-- those of the partitions so far
+abbrev pub invariant-loop-index : goal.invariant-loop-index
+invariant-loop-index g l = record {
+  bytes : l.bytes ≡ min (sum_by log_bytes (take l.index (map (λ part. part.partition) l.parts))) (2 ^ 64 - 1);
+  evicted : l.evicted ≡ min (sum_by evicted_bytes (take l.index (map (λ part. part.partition) l.parts))) (2 ^ 64 - 1);
+}

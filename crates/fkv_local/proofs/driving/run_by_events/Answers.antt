@@ -1,0 +1,82 @@
+use Rattle.std.proofs.Common.{◌≡◌, ◌<◌, sym, ap, subst, ◌∙◌, arith}
+use Rattle.fkv_operations.specs.After.{key_of}
+use Rattle.fkv_partition.specs.CoreViews.{partition_of}
+use Rattle.fkv_local.proofs.DriveLemmas.{done-runs, err-left, left-runs, move-stopped, stays-tidied, steady-waits, wait-given_up}
+use Rattle.fkv_local.specs.Refusing.{IsStopped}
+use Rattle.fkv_local.proofs.driving.run_by_events.Goals as goal
+
+pub returns-in-Err-clause-runs : goal.returns-in-Err-clause-runs
+returns-in-Err-clause-runs g c =
+    let s = c.loop-try.invariant.stays in
+    let own = ap (λ n. partition_of n (g.F.Functions.code (key_of c.args.op))) s.count ∙ c.requires.own ∙ sym s.number in
+    let later = c.loop-try.invariant.later in
+    let first = c.requires.begun in
+    let begun : 0 < c.loop-try.clock = omega arith in
+    let same : g.D.Writer.PageWriter.failures c.once.new.part.writer ≡ g.D.Writer.PageWriter.failures c.loop-try.part.writer = ap g.D.Writer.PageWriter.failures c.in-Err.ensures.same_writer in
+    left-runs (err-left s own c.in-Err.ensures.rest begun c.in-Err.ensures.small c.in-Err.ensures.merges same c.in-Err.ensures.ends).stays
+
+pub returns-in-Err-clause-told : goal.returns-in-Err-clause-told
+returns-in-Err-clause-told g c =
+    let i = c.loop-try.invariant in
+    let s = i.stays in
+    let own = ap (λ n. partition_of n (g.F.Functions.code (key_of c.args.op))) s.count ∙ c.requires.own ∙ sym s.number in
+    let later = i.later in
+    let first = c.requires.begun in
+    let begun : 0 < c.loop-try.clock = omega arith in
+    let same = ap g.D.Writer.PageWriter.failures c.in-Err.ensures.same_writer in
+    let why = (err-left s own c.in-Err.ensures.rest begun c.in-Err.ensures.small c.in-Err.ensures.merges same c.in-Err.ensures.ends).why in
+    subst (λ n. IsStopped g.F.Mergeable.MERGES c.args.op c.once.new.part.partition.core.records.tail c.once.new.clock (g.D.Writer.PageWriter.failures c.args.part.now.writer) (g.D.Writer.PageWriter.failures c.once.new.part.writer) n (g.D.Reader.PageReader.failures c.once.new.part.reader) c.in-Err.refused) i.reads
+    (subst (λ n. IsStopped g.F.Mergeable.MERGES c.args.op c.once.new.part.partition.core.records.tail c.once.new.clock n (g.D.Writer.PageWriter.failures c.once.new.part.writer) (g.D.Reader.PageReader.failures c.loop-try.part.reader) (g.D.Reader.PageReader.failures c.once.new.part.reader) c.in-Err.refused) i.writes why)
+
+pub returns-in-Done-clause-runs : goal.returns-in-Done-clause-runs
+returns-in-Done-clause-runs g c =
+    let s = c.loop-try.invariant.stays in
+    let own = ap (λ n. partition_of n (g.F.Functions.code (key_of c.args.op))) s.count ∙ c.requires.own ∙ sym s.number in
+    let later = c.loop-try.invariant.later in
+    let first = c.requires.begun in
+    let begun : 0 < c.loop-try.clock = omega arith in
+    done-runs s own c.in-Ok.ensures.rest begun c.in-Ok.ensures.small (rw c.in-Done.is at c.in-Ok.ensures.ends)
+
+pub returns-in-Err-tidy-clause-runs : goal.returns-in-Err-tidy-clause-runs
+returns-in-Err-tidy-clause-runs g c =
+    let s = c.loop-try.invariant.stays in
+    let own = ap (λ n. partition_of n (g.F.Functions.code (key_of c.args.op))) s.count ∙ c.requires.own ∙ sym s.number in
+    let later = c.loop-try.invariant.later in
+    let first = c.requires.begun in
+    let begun : 0 < c.loop-try.clock = omega arith in
+    let left = wait-given_up s own c.in-Ok.ensures.rest begun c.in-Ok.ensures.small (rw c.in-Waits.is at c.in-Ok.ensures.ends) c.abandon-given_up.ensures.effect c.abandon-given_up.ensures.event c.abandon-given_up.ensures.rest in
+    left-runs (stays-tidied left c.tidy.ensures.tidied)
+
+pub returns-in-Err-tidy-clause-told : goal.returns-in-Err-tidy-clause-told
+returns-in-Err-tidy-clause-told g c =
+    let i = c.loop-try.invariant in
+    let s = i.stays in
+    let own = ap (λ n. partition_of n (g.F.Functions.code (key_of c.args.op))) s.count ∙ c.requires.own ∙ sym s.number in
+    let later = i.later in
+    let first = c.requires.begun in
+    let begun : 0 < c.loop-try.clock = omega arith in
+    let waited = steady-waits s own c.in-Ok.ensures.rest begun c.in-Ok.ensures.small (rw c.in-Waits.is at c.in-Ok.ensures.ends) in
+    let reads = ap g.D.Reader.PageReader.failures c.tidy.ensures.same_reader ∙ waited ∙ i.reads in
+    let writes = ap g.D.Writer.PageWriter.failures c.in-Ok.ensures.same_writer ∙ i.writes in
+    subst (λ n. IsStopped g.F.Mergeable.MERGES c.args.op c.tidy.new.part.partition.core.records.tail c.tidy.new.clock n (g.D.Writer.PageWriter.failures c.tidy.new.part.writer) (g.D.Reader.PageReader.failures c.args.part.now.reader) (g.D.Reader.PageReader.failures c.tidy.new.part.reader) c.in-Err-tidy.refused) writes
+    (move-stopped c.in-Err-tidy.ensures.told reads)
+
+pub loop-try-preserved : goal.loop-try-preserved
+loop-try-preserved g c =
+    let s = c.loop-try.invariant.stays in
+    let own = ap (λ n. partition_of n (g.F.Functions.code (key_of c.args.op))) s.count ∙ c.requires.own ∙ sym s.number in
+    let later = c.loop-try.invariant.later in
+    let first = c.requires.begun in
+    let begun : 0 < c.loop-try.clock = omega arith in
+    let left = wait-given_up s own c.in-Ok.ensures.rest begun c.in-Ok.ensures.small (rw c.in-Waits.is at c.in-Ok.ensures.ends) c.abandon-given_up.ensures.effect c.abandon-given_up.ensures.event c.abandon-given_up.ensures.rest in
+    let passed = c.tidy.ensures.passed in
+    let given = c.abandon-given_up.ensures.moment in
+    let ran = c.in-Ok.ensures.passed in
+    record {
+      stays = stays-tidied left c.tidy.ensures.tidied;
+      past = passed.past;
+      later = (let a = passed.later in let b = ran.later in omega arith);
+      writes = c.in-Ok-tidy.ensures.steady ∙ ap g.D.Writer.PageWriter.failures c.in-Ok.ensures.same_writer ∙ c.loop-try.invariant.writes;
+      reads = ap g.D.Reader.PageReader.failures c.tidy.ensures.same_reader
+          ∙ steady-waits s own c.in-Ok.ensures.rest begun c.in-Ok.ensures.small (rw c.in-Waits.is at c.in-Ok.ensures.ends) ∙ c.loop-try.invariant.reads;
+    }

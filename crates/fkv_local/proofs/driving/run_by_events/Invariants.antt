@@ -1,0 +1,13 @@
+use Rattle.std.proofs.Common.{◌≡◌, ◌≤◌}
+use Rattle.fkv_local.specs.Resting.{StaysIdle}
+use Rattle.fkv_local.proofs.driving.run_by_events.Given as goal
+
+-- nothing is open, on a device that keeps the live map is that of the beginning, and no failure was counted
+abbrev pub invariant-loop-try : goal.invariant-loop-try
+invariant-loop-try g l = record {
+  stays : StaysIdle g.D.Receipt.Receipt.keeps g.F.Key.Ord.cmp l.initial.part.partition l.part.partition;
+  past : l.part.partition.core.moment ≤ l.clock;
+  later : l.initial.clock ≤ l.clock;
+  writes : g.D.Writer.PageWriter.failures l.part.writer ≡ g.D.Writer.PageWriter.failures l.initial.part.writer;
+  reads : g.D.Reader.PageReader.failures l.part.reader ≡ g.D.Reader.PageReader.failures l.initial.part.reader;
+}

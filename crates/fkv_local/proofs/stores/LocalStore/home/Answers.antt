@@ -1,0 +1,14 @@
+use Rattle.std.proofs.Common.{◌≡◌, ◌<◌, ◌^◌, ℕ, length, refl, sym, ◌∙◌, subst}
+use Rattle.std.proofs.lemmas.Option.{slice_get_read}
+use Rattle.fkv_local.proofs.PartLemmas.{view-get, view-length}
+use Rattle.fkv_local.proofs.stores.LocalStore.home.Goals as goal
+
+pub partition_at-requires : goal.partition_at-requires
+partition_at-requires g c =
+    let items = c.self.inside.parts.items in
+    let first = c.index.result.now in
+    let here = slice_get_read items (length items) 0 first refl (subst (λ (n : ℕ). 0 < n) (view-length (λ part. part.partition) items) c.self.invariant.some) c.index.ensures in
+    let sized : length items ≡ 2 ^ first.partition.core.records.partition_bits = sym (view-length (λ part. part.partition) items) ∙ sym (c.self.invariant.counted 0 first.partition (view-get (λ part. part.partition) items 0 first here)) ∙ c.known.ensures.core.counted in
+    let ok = c.self.inside.parts.ok.0 in
+    let count = c.len-count.ensures in
+    (first.partition.core.records.partition_bits, cc)

@@ -1,0 +1,4 @@
+pub mod Resting
+pub mod Moving
+pub mod Storing
+pub mod Refusing

@@ -1,0 +1,37 @@
+-- What moves of a partition while its live map stays, and why that is refused.
+use Rattle.std.specs.Prelude.{◌≡◌, ◌≤◌, ◌+◌, ◌^◌, ℕ, Bool, IsTrue}
+use Rattle.std.specs.declared.cmp.Ordering.{Ordering}
+use Rattle.fkv_functions.specs.Plain.{Same}
+use Rattle.fkv_functions.specs.declared.refusals.Refused.{Refused}
+use Rattle.fkv_functions.specs.declared.refusals.Refused.TheVariants.{NoMemory, Worn}
+use Rattle.fkv_device.specs.Failing.{FailsOnlyBy}
+use Rattle.fkv_regions.specs.Offsets.{view_of}
+use Rattle.fkv_partition.specs.CoreContexts.{is_session}
+use Rattle.fkv_partition.specs.CoreViews.{CoreView, live_of, seen_at, slots_of}
+use Rattle.fkv_partition.specs.Views.{PartitionView}
+
+-- a session has the view of now
+abbrev pub SeesNow : {K V I : Type 0} → CoreView K V I → ℕ → Type 0
+SeesNow v slot = seen_at v slot ≡ view_of v.records.regions.offsets
+
+-- the pages of a partition move: each session, each open operation and each relocation stays as it is, and, on a device that
+-- keeps, the live map stays
+pub record IsTidied {K V I : Type 0} (keeps : Bool) (cmp : K → K → Ordering) (old new : PartitionView K V I)
+    : Type 0 where
+  pub number : new.core.number ≡ old.core.number
+  pub count : new.core.count ≡ old.core.count
+  pub sessions : (s : ℕ) → is_session (slots_of new.core) s ≡ is_session (slots_of old.core) s
+  pub operations : new.core.contexts ≡ old.core.contexts
+  pub relocations : new.relocations ≡ old.relocations
+  pub live : IsTrue keeps → Same (live_of cmp new.core) (live_of cmp old.core)
+
+-- the partition's last moment is past, and the clock has not gone back
+pub record IsPassed (last clock clock_now : ℕ) : Type 0 where
+  pub past : last ≤ clock_now
+  pub later : clock ≤ clock_now
+
+-- Why pages are not moved on: no moment is left, or no memory, which counts no failure; or a page is not written.
+pub data IsMoveRefusal (clock writes writes_now : ℕ) (why : Refused) : Type 0 where
+  worn : why ≡ Worn → 2 ^ 64 ≤ clock + 1 → writes_now ≡ writes → IsMoveRefusal clock writes writes_now why
+  no_memory : why ≡ NoMemory → writes_now ≡ writes → IsMoveRefusal clock writes writes_now why
+  unwritten : (page : ℕ) → FailsOnlyBy 2 page writes writes_now why → IsMoveRefusal clock writes writes_now why

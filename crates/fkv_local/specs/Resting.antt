@@ -1,0 +1,60 @@
+-- Partitions between two operations: the session of each has nothing open.
+use Rattle.std.specs.Prelude.{◌≡◌, ◌≢◌, ◌≤◌, ◌<◌, ◌+◌, ◌^◌, ℕ, Bool, IsTrue, List, Some, None, slice_get, length}
+use Rattle.std.specs.declared.cmp.Ordering.{Ordering}
+use Rattle.fkv_functions.specs.Plain.{Same}
+use Rattle.fkv_partition.specs.Config.{Config}
+use Rattle.fkv_partition.specs.CoreBeginning.{IsEntered}
+use Rattle.fkv_partition.specs.CoreViews.{context_at, live_of}
+use Rattle.fkv_partition.specs.Views.{PartitionView, relocation_at}
+
+-- a session with nothing open, neither an operation on a key nor a relocation
+pub record IsIdle {K V I : Type 0} (v : PartitionView K V I) (slot : ℕ) : Type 0 where
+  pub entered : IsEntered v.core slot
+  pub free : (c : ℕ) → context_at v.core slot c ≡ None
+  pub relocations : (d : ℕ) → relocation_at v slot d ≡ None
+
+-- what has become of a partition whose session had nothing open: it has nothing open, and on a device that keeps the live map
+-- is what it was
+pub record StaysIdle {K V I : Type 0} (keeps : Bool) (cmp : K → K → Ordering) (old new : PartitionView K V I) : Type 0 where
+  pub number : new.core.number ≡ old.core.number
+  pub count : new.core.count ≡ old.core.count
+  pub idle : IsIdle new 0
+  pub live : IsTrue keeps → Same (live_of cmp new.core) (live_of cmp old.core)
+
+-- a session with nothing open but what may stand in one context, and that is no operation on a key
+pub record IsIdleBut {K V I : Type 0} (v : PartitionView K V I) (slot c : ℕ) : Type 0 where
+  pub entered : IsEntered v.core slot
+  pub free : (d : ℕ) → context_at v.core slot d ≡ None
+  pub relocations : (d : ℕ) → d ≢ c → relocation_at v slot d ≡ None
+
+pub record StaysIdleBut {K V I : Type 0} (keeps : Bool) (cmp : K → K → Ordering) (old new : PartitionView K V I) (c : ℕ)
+    : Type 0 where
+  pub number : new.core.number ≡ old.core.number
+  pub count : new.core.count ≡ old.core.count
+  pub idle : IsIdleBut new 0 c
+  pub live : IsTrue keeps → Same (live_of cmp new.core) (live_of cmp old.core)
+
+-- a partition of this number with nothing in it but a session, of slot 0
+pub record IsSeatedIn {K V I : Type 0} (cmp : K → K → Ordering) (config : Config) (number : ℕ) (v : PartitionView K V I)
+    : Type 0 where
+  pub numbered : v.core.number ≡ number
+  pub counted : v.core.count ≡ 2 ^ config.partition_bits
+  pub past : v.core.moment ≤ number + 1
+  pub idle : IsIdle v 0
+  pub empty : (k : K) → live_of cmp v.core k ≡ None
+
+-- so many of them, numbered by their places
+pub record AreNew {K V I : Type 0} (cmp : K → K → Ordering) (config : Config) (views : List (PartitionView K V I))
+    (count : ℕ) : Type 0 where
+  pub sized : length views ≡ count
+  pub each : (p : ℕ) (v : PartitionView K V I) → slice_get views p ≡ Some v → IsSeatedIn cmp config p v
+
+-- the partitions of a store between two operations: numbered by their places, the session at slot 0 idle in each, and their
+-- moments past by a clock that has begun
+pub record AreAtRest {K V I : Type 0} (views : List (PartitionView K V I)) (now : ℕ) : Type 0 where
+  pub some : 0 < length views
+  pub begun : 0 < now
+  pub numbered : (p : ℕ) (v : PartitionView K V I) → slice_get views p ≡ Some v → v.core.number ≡ p
+  pub counted : (p : ℕ) (v : PartitionView K V I) → slice_get views p ≡ Some v → v.core.count ≡ length views
+  pub past : (p : ℕ) (v : PartitionView K V I) → slice_get views p ≡ Some v → v.core.moment ≤ now
+  pub idle : (p : ℕ) (v : PartitionView K V I) → slice_get views p ≡ Some v → IsIdle v 0

@@ -1,0 +1,337 @@
+//! How the start of a partition's log is cleared and cut.
+//!
+//! Relocations are made in the session that all operations are made in, one at a time, while nothing else is open there. So pages
+//! can move on wherever one finds no room, and one that is not done is given up, which is without effect: whatever is refused on the
+//! way, the map stays and nothing is open.
+ghost use Rattle.std.specs.Prelude.{◌≡◌, ◌≤◌, ◌+◌, ◌^◌, ◌<◌, IfOk, IfErr, IsSome};
+ghost use Rattle.fkv_partition.specs.Views.{relocation_at};
+ghost use Rattle.fkv_local.specs.Resting.{IsIdle, IsIdleBut, StaysIdle, StaysIdleBut};
+ghost use Rattle.fkv_local.specs.Moving.{IsPassed};
+
+use crate::moving::tidy;
+use crate::parts::{Part, SLOT};
+use fkv_device::{Disk, Loaded, PageReader, Receipt};
+use fkv_functions::{Mergeable, Refused};
+use fkv_operations::{Clock, Op};
+use fkv_partition::{Partition, Progress, ProgressOf};
+use fkv_records::Address;
+use std::alloc::Global;
+
+/// How often a relocation begins anew, until it is given up.
+const RESTARTS: u8 = 8;
+
+/// How many pages Head moves, at least, until a partition is compacted again by itself.
+const PAGES: u64 = 64;
+
+/// The page that a relocation waits for, if it does.
+#[derive(Drop)]
+struct Wanted<R: Receipt> {
+    receipt: Option<R>,
+    /// Whether it is the page of the place that is relocated.
+    is_of_place: bool,
+}
+
+impl<R: Receipt> Wanted<R> {
+    /// It waits for none.
+    fn nothing() -> Wanted<R> {
+        Wanted {
+            receipt: None,
+            is_of_place: false,
+        }
+    }
+
+    /// The page of this receipt: the first one since it began is that of its place.
+    fn then(self, receipt: R) -> Wanted<R> {
+        Wanted {
+            is_of_place: self.receipt.is_none(),
+            receipt: Some(receipt),
+        }
+    }
+}
+
+/// The page of the place that is relocated: the next place stands in it too, but at the page's end.
+#[derive(Drop)]
+struct Kept<R: Receipt> {
+    size: usize,
+    page: Option<Loaded<R>>,
+}
+
+impl<R: Receipt> Kept<R> {
+    /// The page of this receipt: the kept one, or it is read, and kept where it is that of a place.
+    fn fetch<P: PageReader<Receipt = R>>(
+        &mut self,
+        reader: &mut P,
+        receipt: &R,
+        is_of_place: bool,
+    ) -> Result<Loaded<R>, Refused> {
+        if let Some(page) = &self.page {
+            if page.receipt().number() == receipt.number() {
+                return page.again();
+            }
+        }
+        let page = match Loaded::fetch(reader, receipt, self.size) {
+            Ok(page) => page,
+            Err(refused) => return Err(refused),
+        };
+        if is_of_place {
+            match page.again() {
+                Ok(again) => self.page = Some(again),
+                Err(refused) => return Err(refused),
+            }
+        }
+        Ok(page)
+    }
+}
+
+/// What became of a relocation.
+#[derive(Clone, Copy, Debug, PartialEq, Eq)]
+enum Relocated {
+    /// Its place is cleared.
+    Cleared,
+    /// It found no room, or began anew too often.
+    Waits,
+    /// Nothing is to be cleared.
+    NotDue,
+}
+
+/// The next moment, where another one is left after it. Refused: `Worn`.
+fn moment_before_another(clock: &mut Clock) -> Result<u64, Refused>
+    ensures ok { IfOk result (λ now. (now ≡ clock.old + 1) × (clock.new ≡ now) × (now + 1 < 2 ^ 64)) }
+    ensures refused { IfErr result (λ refused. (refused ≡ Refused.Worn) × (clock.new ≡ clock.old)) }
+{
+    if clock.last() >= u64::MAX - 1 {
+        return Err(Refused::Worn);
+    }
+    clock.tick()
+}
+
+/// Makes the next event of the relocation in a context: it goes on, with the page of this receipt if it waits for one.
+fn event<F: Mergeable, D: Disk>(
+    functions: &F,
+    part: &mut Part<F, D>,
+    kept: &mut Kept<D::Receipt>,
+    context: usize,
+    wanted: &Wanted<D::Receipt>,
+    clock: &mut Clock,
+) -> Result<ProgressOf<F, D::Receipt>, Refused>
+    requires only { IsIdleBut part.old.partition 0 context }
+    requires here { IsSome (relocation_at part.old.partition 0 context) }
+    requires past { part.old.partition.core.moment ≤ clock.old }
+    requires spare { clock.old + 1 < 2 ^ 64 }
+    ensures stays { StaysIdleBut D.Receipt.keeps F.Key.cmp part.old.partition part.new.partition context }
+    ensures passed { IsPassed part.new.partition.core.moment clock.old clock.new }
+    ensures spare { clock.new + 1 < 2 ^ 64 }
+{
+    let now = match moment_before_another(clock) {
+        Ok(now) => now,
+        Err(refused) => return Err(refused),
+    };
+    match &wanted.receipt {
+        None => part.partition.go(SLOT, context, functions, now),
+        Some(receipt) => {
+            let came = kept.fetch(&mut part.reader, receipt, wanted.is_of_place);
+            part.partition.load(SLOT, context, came, functions, now)
+        }
+    }
+}
+
+/// Goes on with the relocation that is open in a context, until it is done, waits or is refused.
+fn go_on<F: Mergeable, D: Disk>(
+    functions: &F,
+    part: &mut Part<F, D>,
+    kept: &mut Kept<D::Receipt>,
+    context: usize,
+    clock: &mut Clock,
+) -> Result<Relocated, Refused>
+    requires only { IsIdleBut part.old.partition 0 context }
+    requires past { part.old.partition.core.moment ≤ clock.old }
+    requires spare { clock.old + 1 < 2 ^ 64 }
+    ensures stays { StaysIdleBut D.Receipt.keeps F.Key.cmp part.old.partition part.new.partition context }
+    ensures passed { IsPassed part.new.partition.core.moment clock.old clock.new }
+    ensures spare { clock.new + 1 < 2 ^ 64 }
+{
+    let mut wanted = Wanted::nothing();
+    let mut begun = 0u8;
+    for _event in 0..u64::MAX {
+        if begun > RESTARTS || part.partition.relocation(SLOT, context).is_none() {
+            return Ok(Relocated::Waits);
+        }
+        match event(functions, part, kept, context, &wanted, clock) {
+            Ok(Progress::NeedsLoad(receipt, _)) => wanted = wanted.then(receipt),
+            Ok(Progress::Done(..)) => return Ok(Relocated::Cleared),
+            Ok(Progress::Next) => {
+                begun = begun.saturating_add(1);
+                wanted = Wanted::nothing();
+            }
+            Ok(Progress::Waits(_)) | Ok(Progress::NeedsBuild(_)) => return Ok(Relocated::Waits),
+            Err(refused) => return Err(refused),
+        }
+    }
+    Ok(Relocated::Waits)
+}
+
+/// Gives up the relocation in a context, if it is open.
+fn give_up<F: Mergeable, R: Receipt>(
+    partition: &mut Partition<F, R>,
+    context: usize,
+    clock: &mut Clock,
+)
+    requires only { IsIdleBut partition.old 0 context }
+    requires past { partition.old.core.moment ≤ clock.old }
+    requires spare { clock.old + 1 < 2 ^ 64 }
+    ensures stays { StaysIdle R.keeps F.Key.cmp partition.old partition.new }
+    ensures passed { IsPassed partition.new.core.moment clock.old clock.new }
+{
+    let Some(_relocation) = partition.relocation(SLOT, context) else {
+        return;
+    };
+    let Ok(now) = clock.tick() else {
+        unreachable!()
+    };
+    let _given_up = partition.give_up(SLOT, context, now);
+}
+
+/// Relocates what stands at the address that is cleared next. Where that is not done it is given up.
+fn relocate<F: Mergeable, D: Disk>(
+    functions: &F,
+    part: &mut Part<F, D>,
+    kept: &mut Kept<D::Receipt>,
+    clock: &mut Clock,
+) -> Result<Relocated, Refused>
+    requires idle { IsIdle part.old.partition 0 }
+    requires past { part.old.partition.core.moment ≤ clock.old }
+    ensures stays { StaysIdle D.Receipt.keeps F.Key.cmp part.old.partition part.new.partition }
+    ensures passed { IsPassed part.new.partition.core.moment clock.old clock.new }
+{
+    let now = match moment_before_another(clock) {
+        Ok(now) => now,
+        Err(refused) => return Err(refused),
+    };
+    let context = match part.partition.issue(SLOT, Op::Relocate, functions, now) {
+        Ok(context) => context,
+        Err(Refused::NotDue) => return Ok(Relocated::NotDue),
+        Err(refused) => return Err(refused),
+    };
+    let told = go_on(functions, part, kept, context, clock);
+    give_up(&mut part.partition, context, clock);
+    told
+}
+
+/// Relocates what lives below an address, one record after the other. Pages move on where one finds no room; where it finds none
+/// then either, it ends.
+fn clear<F: Mergeable, D: Disk>(
+    alloc: Global,
+    functions: &F,
+    frames: u64,
+    part: &mut Part<F, D>,
+    end: Address,
+    clock: &mut Clock,
+) -> Result<(), Refused>
+    requires idle { IsIdle part.old.partition 0 }
+    requires past { part.old.partition.core.moment ≤ clock.old }
+    ensures stays { StaysIdle D.Receipt.keeps F.Key.cmp part.old.partition part.new.partition }
+    ensures passed { IsPassed part.new.partition.core.moment clock.old clock.new }
+{
+    let mut kept = Kept {
+        size: part.partition.page_size(),
+        page: None,
+    };
+    let mut has_waited = false;
+    for _record in 0..u64::MAX {
+        if part.partition.cleared() >= end {
+            return Ok(());
+        }
+        match relocate(functions, part, &mut kept, clock) {
+            Ok(Relocated::Cleared) => has_waited = false,
+            Ok(Relocated::Waits) if !has_waited => {
+                has_waited = true;
+                match tidy(alloc, frames, part, clock) {
+                    Ok(()) => {}
+                    Err(refused) => return Err(refused),
+                }
+            }
+            Ok(_) => return Ok(()),
+            Err(refused) => return Err(refused),
+        }
+    }
+    Ok(())
+}
+
+/// Cuts the start of a log behind what is cleared. Answers whether there was anything to cut.
+fn cut<F: Mergeable, R: Receipt>(
+    partition: &mut Partition<F, R>,
+    clock: &mut Clock,
+) -> Result<bool, Refused>
+    requires idle { IsIdle partition.old 0 }
+    requires past { partition.old.core.moment ≤ clock.old }
+    ensures stays { StaysIdle R.keeps F.Key.cmp partition.old partition.new }
+    ensures passed { IsPassed partition.new.core.moment clock.old clock.new }
+{
+    let now = match clock.tick() {
+        Ok(now) => now,
+        Err(refused) => return Err(refused),
+    };
+    match partition.truncate_cleared(now) {
+        Ok(_begin) => Ok(true),
+        Err(Refused::NotDue) => Ok(false),
+        Err(refused) => Err(refused),
+    }
+}
+
+/// Appends what lives below Head again, as far as there is room, and cuts the log's start behind what is cleared, also where
+/// something is refused. Answers whether it cut anything.
+pub fn compact<F: Mergeable, D: Disk>(
+    alloc: Global,
+    functions: &F,
+    frames: u64,
+    part: &mut Part<F, D>,
+    clock: &mut Clock,
+) -> Result<bool, Refused>
+    requires idle { IsIdle part.old.partition 0 }
+    requires past { part.old.partition.core.moment ≤ clock.old }
+    ensures stays { StaysIdle D.Receipt.keeps F.Key.cmp part.old.partition part.new.partition }
+    ensures passed { IsPassed part.new.partition.core.moment clock.old clock.new }
+{
+    match tidy(alloc, frames, part, clock) {
+        Ok(()) => {}
+        Err(refused) => return Err(refused),
+    }
+    let end = part.partition.head();
+    let cleared = clear(alloc, functions, frames, part, end, clock);
+    let cut = cut(&mut part.partition, clock);
+    match cleared {
+        Ok(()) => cut,
+        Err(refused) => Err(refused),
+    }
+}
+
+/// Whether Head has moved 64 pages since a log was compacted, and as far as what was left of it below Head then, so that each byte
+/// is appended again a bounded number of times.
+fn is_due<F: Mergeable, D: Disk>(part: &Part<F, D>) -> bool {
+    let span = (part.partition.page_size() as u64).saturating_mul(PAGES);
+    let moved = part.partition.head().saturating_sub(part.compacted);
+    moved >= span.max(part.left)
+}
+
+/// Compacts a log where that is due. What is refused is not told: the map stays, and the log is compacted again when Head has moved
+/// on.
+pub fn compact_where_due<F: Mergeable, D: Disk>(
+    alloc: Global,
+    functions: &F,
+    frames: u64,
+    part: &mut Part<F, D>,
+    clock: &mut Clock,
+)
+    requires idle { IsIdle part.old.partition 0 }
+    requires past { part.old.partition.core.moment ≤ clock.old }
+    ensures stays { StaysIdle D.Receipt.keeps F.Key.cmp part.old.partition part.new.partition }
+    ensures passed { IsPassed part.new.partition.core.moment clock.old clock.new }
+{
+    if !is_due(part) {
+        return;
+    }
+    let _cut = compact(alloc, functions, frames, part, clock);
+    let head = part.partition.head();
+    part.compacted = head;
+    part.left = head.saturating_sub(part.partition.begin());
+}

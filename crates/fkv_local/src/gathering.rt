@@ -1,0 +1,38 @@
+//! The table of a store: the live maps of its partitions as one.
+ghost use Rattle.std.specs.Prelude.{◌≡◌, ◌<◌, ℕ, [], length, map, IsTrue, IfErr, OnOk};
+ghost use Rattle.std.specs.BTreeMap.{get};
+ghost use Rattle.fkv_functions.specs.Plain.{Same};
+ghost use Rattle.fkv_local.specs.Resting.{AreAtRest};
+ghost use Rattle.fkv_local.specs.Refusing.{IsUnlisted};
+ghost use Rattle.fkv_partition.specs.Unions.{union_of};
+
+use crate::parts::Part;
+use fkv_device::Disk;
+use fkv_functions::{Mergeable, Refused};
+use std::collections::BTreeMap;
+
+/// Puts each live key of all partitions with its value into an empty map. Refused: `NoMemory`, and as a device refuses
+/// pages of a partition.
+pub fn gather<F: Mergeable, D: Disk>(
+    functions: &F,
+    tree: &mut BTreeMap<F::Key, F::Value>,
+    parts: &mut [Part<F, D>],
+) -> Result<(), Refused>
+    requires empty { tree.old.entries ≡ [] }
+    requires some { 0 < length parts.old }
+    requires numbered { (now : ℕ) × AreAtRest (map (λ part. part.partition) parts.old) now }
+    ensures ok { IsTrue D.Receipt.keeps → OnOk result (Same (get F.Key.cmp tree.new)
+        (union_of F.Key.cmp F.code (map (λ part. part.partition) parts.old))) }
+    ensures views { map (λ part. part.partition) parts.new ≡ map (λ part. part.partition) parts.old }
+    ensures sized { length parts.new ≡ length parts.old }
+    ensures told { IfErr result (IsUnlisted D.Receipt.keeps D.Reader.failures (map (λ part. part.partition) parts.old)) }
+{
+    for index in 0..parts.len() {
+        let part = &mut parts[index];
+        match part.partition.put_live(functions, &mut part.reader, tree) {
+            Ok(()) => {}
+            Err(refused) => return Err(refused),
+        }
+    }
+    Ok(())
+}

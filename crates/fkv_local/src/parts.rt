@@ -1,0 +1,124 @@
+//! One partition of a store, with the session that all operations are made in, and its places on a device.
+ghost use Rattle.std.specs.Prelude.{◌≡◌, ◌<◌, ◌+◌, ◌^◌, ◌∷◌, ◌++◌, [], ℕ, map, IfOk, IfErr, OnOk};
+ghost use Rattle.fkv_records.specs.Records.{size_of};
+ghost use Rattle.fkv_device.specs.Failing.{FailsOnlyBy};
+ghost use Rattle.fkv_partition.specs.Limits.{IsWithinLimits, IsPartitionOf};
+ghost use Rattle.fkv_local.specs.Resting.{IsSeatedIn, AreNew};
+
+use fkv_device::Disk;
+use fkv_functions::{Mergeable, Refused};
+use fkv_partition::{Config, Partition};
+use fkv_records::{Address, FIRST};
+use std::alloc::Global;
+
+/// The slot of the session in which all operations are made: a partition's first.
+pub const SLOT: usize = 0;
+
+/// One partition, with what writes its pages to the device and what reads them back.
+#[derive(Drop)]
+pub struct Part<F: Mergeable, D: Disk> {
+    pub partition: Partition<F, D::Receipt>,
+    pub writer: D::Writer,
+    pub reader: D::Reader,
+    /// The operations that came here, as far as a byte counts.
+    pub operations: u8,
+    /// Head as the log was compacted last, and the bytes that were left below it.
+    pub compacted: Address,
+    pub left: u64,
+}
+
+/// The partition of this number, with nothing in it but a session, whose slot is 0. Refused: `NoMemory`.
+fn seated<F: Mergeable, D: Disk>(
+    alloc: Global,
+    config: &Config,
+    number: u64,
+) -> Result<Partition<F, D::Receipt>, Refused>
+    requires small { number < 64 }
+    requires of { IsPartitionOf config.now (size_of F.Key.SIZE F.Value.SIZE) number }
+    ensures ok { IfOk result (IsSeatedIn F.Key.cmp config.now number) }
+    ensures only { IfErr result (λ refused. refused ≡ Refused.NoMemory) }
+{
+    let mut partition = match Partition::new(alloc, config, number) {
+        Ok(partition) => partition,
+        Err(refused) => return Err(refused),
+    };
+    match partition.enter(number + 1) {
+        Ok(_) => Ok(partition),
+        Err(refused) => Err(refused),
+    }
+}
+
+/// The partition of this number, as [`seated`] makes it, with its place on a device. Refused: `NoMemory`, and as the
+/// device refuses to open.
+fn placed<F: Mergeable, D: Disk>(
+    alloc: Global,
+    config: &Config,
+    device: &mut D,
+    number: u64,
+) -> Result<Part<F, D>, Refused>
+    requires small { number < 64 }
+    requires of { IsPartitionOf config.now (size_of F.Key.SIZE F.Value.SIZE) number }
+    ensures ok { IfOk result (λ part. IsSeatedIn F.Key.cmp config.now number part.partition) }
+    ensures steady { OnOk result (D.failures device.new ≡ D.failures device.old) }
+    ensures told { IfErr result (FailsOnlyBy 1 0 (D.failures device.old) (D.failures device.new)) }
+{
+    let partition = match seated::<F, D>(alloc, config, number) {
+        Ok(partition) => partition,
+        Err(refused) => return Err(refused),
+    };
+    let writer = match device.writer(number) {
+        Ok(writer) => writer,
+        Err(refused) => return Err(refused),
+    };
+    match device.reader(number) {
+        Ok(reader) => Ok(Part {
+            partition,
+            writer,
+            reader,
+            operations: 0,
+            compacted: FIRST,
+            left: 0,
+        }),
+        Err(refused) => Err(refused),
+    }
+}
+
+/// Adds an item. Refused: `NoMemory`.
+fn keep<T: Drop>(items: &mut Vec<T>, item: T) -> Result<(), Refused>
+    ensures ok { OnOk result (items.new.items ≡ items.old.items ++ item ∷ []) }
+    ensures only { IfErr result (λ refused. refused ≡ Refused.NoMemory) }
+{
+    match items.push(item) {
+        Ok(()) => Ok(()),
+        Err(_) => Err(Refused::NoMemory),
+    }
+}
+
+/// Partitions with nothing in them but a session in each, whose slot is 0, with their places on a device. Refused:
+/// `NoMemory`, and as the device refuses to open.
+pub fn all_placed<F: Mergeable, D: Disk>(
+    alloc: Global,
+    config: &Config,
+    device: &mut D,
+    count: u64,
+) -> Result<Vec<Part<F, D>>, Refused>
+    requires limits { IsWithinLimits config.now (size_of F.Key.SIZE F.Value.SIZE) }
+    requires count { count ≡ 2 ^ config.now.partition_bits }
+    ensures ok { IfOk result
+        (λ parts. AreNew F.Key.cmp config.now (map (λ part. part.partition) parts.items) count) }
+    ensures steady { OnOk result (D.failures device.new ≡ D.failures device.old) }
+    ensures told { IfErr result (FailsOnlyBy 1 0 (D.failures device.old) (D.failures device.new)) }
+{
+    let mut parts = Vec::new(alloc);
+    for number in 0..count {
+        let part = match placed::<F, D>(alloc, config, device, number) {
+            Ok(part) => part,
+            Err(refused) => return Err(refused),
+        };
+        match keep(&mut parts, part) {
+            Ok(()) => {}
+            Err(refused) => return Err(refused),
+        }
+    }
+    Ok(parts)
+}

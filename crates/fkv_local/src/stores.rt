@@ -1,0 +1,279 @@
+//! The store of one thread.
+ghost use Rattle.std.specs.Prelude.{◌≡◌, ◌≢◌, ◌<◌, ◌-◌, ◌^◌, min, sum_by, None, Err, IsTrue, IfOk, IfErr, OnOk, length};
+ghost use Rattle.std.specs.BTreeMap.{get};
+ghost use Rattle.fkv_records.specs.Records.{size_of};
+ghost use Rattle.fkv_functions.specs.Plain.{Same};
+ghost use Rattle.fkv_operations.specs.After.{after, answer};
+ghost use Rattle.fkv_operations.specs.declared.operations.KeyedOp.TheVariants.{Read, Upsert, Rmw, Delete, Merge};
+ghost use Rattle.fkv_partition.specs.CoreViews.{partition_of};
+ghost use Rattle.fkv_partition.specs.Limits.{IsWithinLimits};
+ghost use Rattle.fkv_local.specs.Storing.{plain, IsRun, IsUnopened, log_bytes, evicted_bytes};
+ghost use Rattle.fkv_local.specs.Refusing.{IsRefusal, IsUnlisted};
+
+use crate::compacting::compact;
+use crate::counting::{Counts, held_bytes};
+use crate::driving::{operate, update};
+use crate::gathering::gather;
+use crate::parts::{Part, all_placed};
+use fkv_device::Disk;
+use fkv_functions::{Mergeable, Refused};
+use fkv_operations::{Answer, Clock, KeyedOp, KeyedOpOf, partition_at};
+use fkv_partition::Config;
+use std::alloc::Global;
+use std::collections::BTreeMap;
+use std::marker::Model;
+
+/// A store of values by key, on one thread, whose pages move to a device by themselves. **It is a plain map**: `plain` of it. On a
+/// device that keeps what it is given, each operation that is answered has made of that map what it makes of a plain one, and is
+/// answered as by a plain one; each that is refused has left it. On any other device the same holds of what comes back undamaged,
+/// and damage is told, not answered.
+#[derive(Drop)]
+pub struct LocalStore<F: Mergeable, D: Disk> {
+    alloc: Global,
+    functions: F,
+    frames: u64,
+    tries: u64,
+    parts: Vec<Part<F, D>>,
+    clock: Clock,
+}
+
+impl<F: Mergeable, D: Disk> Model for LocalStore<F, D> {
+    ghost use Rattle.std.specs.Prelude.{map};
+    ghost use Rattle.fkv_local.specs.Resting.{AreAtRest};
+    ghost use Rattle.fkv_local.specs.Storing.{StoreView};
+
+    ghost Value = { StoreView F.Key F.Value F.Input };
+
+    ghost view = { λ s. record { parts = map (λ part. part.partition) s.parts.items; moments = s.clock } };
+
+    ghost invariant = { λ s. AreAtRest (map (λ part. part.partition) s.parts.items) s.clock };
+}
+
+impl<F: Mergeable, D: Disk> LocalStore<F, D> {
+    /// An empty store of this configuration over a device.
+    ///
+    /// # Errors
+    ///
+    /// `BadConfig` where a number of the configuration is outside its limits or a record would be too large, and then the device
+    /// is not touched; `NoMemory`; `Device` with code 1 where the device refuses to open a partition's pages.
+    pub fn open(
+        alloc: Global,
+        config: &Config,
+        functions: F,
+        device: &mut D,
+    ) -> Result<Self, Refused>
+        ensures empty { IfOk result (λ s. (k : F.Key) → plain F.Key.cmp F.code s k ≡ None) }
+        ensures sized { IfOk result (λ s. length s.parts ≡ 2 ^ config.now.partition_bits) }
+        ensures good { result ≢ Err Refused.BadConfig → IsWithinLimits config.now (size_of F.Key.SIZE F.Value.SIZE) }
+        ensures bad { result ≡ Err Refused.BadConfig → IsWithinLimits config.now (size_of F.Key.SIZE F.Value.SIZE) → ⊥ }
+        ensures steady { OnOk result (D.failures device.new ≡ D.failures device.old) }
+        ensures told { IfErr result (IsUnopened (D.failures device.old) (D.failures device.new)) }
+    {
+        if !config.is_within_limits::<F::Key, F::Value>() {
+            return Err(Refused::BadConfig);
+        }
+        let count = config.partitions();
+        match all_placed::<F, D>(alloc, config, device, count) {
+            Ok(parts) => Ok(LocalStore {
+                alloc,
+                functions,
+                frames: config.frames,
+                tries: config.turns,
+                parts,
+                clock: Clock::starting(count),
+            }),
+            Err(refused) => Err(refused),
+        }
+    }
+
+    /// Makes an operation, of any kind. Whatever is refused, the store stays the map that it was, and can be used on.
+    ///
+    /// # Errors
+    ///
+    /// `NoMemory`; `NoMerge` of a merge, where the functions don't merge; `Device` with code 2 or 3 where a page can't be written
+    /// or read; `Damaged` where a page came back with other bytes, or spells no record; `Worn` where no address or no two moments
+    /// are left; `Stalled` where no room came free in as many tries as the configuration has turns.
+    pub fn run(&mut self, op: KeyedOpOf<F>) -> Result<Answer<F::Output>, Refused>
+        ensures runs { IsTrue D.Receipt.keeps → IsRun F.Key.cmp F.meaning (plain F.Key.cmp F.code self.old) (plain F.Key.cmp F.code self.new) op result }
+        ensures told { IfErr result (IsRefusal F.MERGES F.code D.Writer.failures D.Reader.failures self.new op) }
+    {
+        let home = self.home(&op.key());
+        let part = &mut self.parts[home];
+        operate(
+            self.alloc,
+            &self.functions,
+            self.frames,
+            self.tries,
+            part,
+            op,
+            &mut self.clock,
+        )
+    }
+
+    /// Changes a key's value by an input, or gives it its first value, and shows the new one; or is declined. A value in memory
+    /// is changed where it stands.
+    ///
+    /// # Errors
+    ///
+    /// As [`LocalStore::run`]'s.
+    pub fn rmw(&mut self, key: &F::Key, input: &F::Input) -> Result<Answer<F::Output>, Refused>
+        ensures runs { IsTrue D.Receipt.keeps → IsRun F.Key.cmp F.meaning (plain F.Key.cmp F.code self.old) (plain F.Key.cmp F.code self.new) (Rmw key.now input.now) result }
+        ensures told { IfErr result (IsRefusal F.MERGES F.code D.Writer.failures D.Reader.failures self.new (Rmw key.now input.now)) }
+    {
+        let home = self.home(key);
+        let part = &mut self.parts[home];
+        update(
+            self.alloc,
+            &self.functions,
+            self.frames,
+            self.tries,
+            part,
+            key,
+            input,
+            &mut self.clock,
+        )
+    }
+
+    /// Shows a key's value, for an input.
+    ///
+    /// # Errors
+    ///
+    /// As [`LocalStore::run`]'s.
+    pub fn read(&mut self, key: &F::Key, input: &F::Input) -> Result<Answer<F::Output>, Refused>
+        ensures runs { IsTrue D.Receipt.keeps → IsRun F.Key.cmp F.meaning (plain F.Key.cmp F.code self.old) (plain F.Key.cmp F.code self.new) (Read key.now input.now) result }
+        ensures told { IfErr result (IsRefusal F.MERGES F.code D.Writer.failures D.Reader.failures self.new (Read key.now input.now)) }
+    {
+        self.run(KeyedOp::Read(*key, *input))
+    }
+
+    /// Sets a key's value, whatever it was.
+    ///
+    /// # Errors
+    ///
+    /// As [`LocalStore::run`]'s.
+    pub fn upsert(&mut self, key: &F::Key, value: &F::Value) -> Result<Answer<F::Output>, Refused>
+        ensures runs { IsTrue D.Receipt.keeps → IsRun F.Key.cmp F.meaning (plain F.Key.cmp F.code self.old) (plain F.Key.cmp F.code self.new) (Upsert key.now value.now) result }
+        ensures told { IfErr result (IsRefusal F.MERGES F.code D.Writer.failures D.Reader.failures self.new (Upsert key.now value.now)) }
+    {
+        self.run(KeyedOp::Upsert(*key, *value))
+    }
+
+    /// Removes a key.
+    ///
+    /// # Errors
+    ///
+    /// As [`LocalStore::run`]'s.
+    pub fn delete(&mut self, key: &F::Key) -> Result<Answer<F::Output>, Refused>
+        ensures runs { IsTrue D.Receipt.keeps → IsRun F.Key.cmp F.meaning (plain F.Key.cmp F.code self.old) (plain F.Key.cmp F.code self.new) (Delete key.now) result }
+        ensures told { IfErr result (IsRefusal F.MERGES F.code D.Writer.failures D.Reader.failures self.new (Delete key.now)) }
+    {
+        self.run(KeyedOp::Delete(*key))
+    }
+
+    /// Changes a key's value as [`LocalStore::rmw`] does, shows nothing, and reads no page.
+    ///
+    /// # Errors
+    ///
+    /// As [`LocalStore::run`]'s.
+    pub fn merge(&mut self, key: &F::Key, input: &F::Input) -> Result<Answer<F::Output>, Refused>
+        ensures runs { IsTrue D.Receipt.keeps → IsRun F.Key.cmp F.meaning (plain F.Key.cmp F.code self.old) (plain F.Key.cmp F.code self.new) (Merge key.now input.now) result }
+        ensures told { IfErr result (IsRefusal F.MERGES F.code D.Writer.failures D.Reader.failures self.new (Merge key.now input.now)) }
+    {
+        self.run(KeyedOp::Merge(*key, *input))
+    }
+
+    /// All keys with their values, keys rising. Each page that left memory is read once.
+    ///
+    /// # Errors
+    ///
+    /// `NoMemory`; `Device` with code 3 where a page can't be read; `Damaged` where one came back with other bytes, or spells no
+    /// record.
+    pub fn live(&mut self) -> Result<BTreeMap<F::Key, F::Value>, Refused>
+        ensures map { IsTrue D.Receipt.keeps → IfOk result (λ live. Same (get F.Key.cmp live) (plain F.Key.cmp F.code self.old)) }
+        ensures stays { self.new ≡ self.old }
+        ensures told { IfErr result (IsUnlisted D.Receipt.keeps D.Reader.failures self.old.parts) }
+    {
+        let mut map = BTreeMap::new(self.alloc);
+        match gather(&self.functions, &mut map, &mut self.parts) {
+            Ok(()) => Ok(map),
+            Err(refused) => Err(refused),
+        }
+    }
+
+    /// The map that the store is, as [`LocalStore::live`] gives it, and the end of the store.
+    ///
+    /// # Errors
+    ///
+    /// As [`LocalStore::live`]'s.
+    pub fn into_map(self) -> Result<BTreeMap<F::Key, F::Value>, Refused>
+        ensures map { IsTrue D.Receipt.keeps → IfOk result (λ live. Same (get F.Key.cmp live) (plain F.Key.cmp F.code self)) }
+        ensures told { IfErr result (IsUnlisted D.Receipt.keeps D.Reader.failures self.parts) }
+    {
+        let mut store = self;
+        store.live()
+    }
+
+    /// Appends what lives at the start of each log again, as far as there is room, and cuts that start. Answers whether any log's
+    /// start was cut. No key's value changes, whatever is refused. It is done by itself too, for each partition where its pages
+    /// have moved far enough.
+    ///
+    /// # Errors
+    ///
+    /// `NoMemory`; `Device` with code 2 or 3; `Damaged`; `Worn`. What is cleared by then stays so, and the partitions behind are
+    /// not compacted.
+    pub fn compact(&mut self) -> Result<bool, Refused>
+        ensures stays { IsTrue D.Receipt.keeps → Same (plain F.Key.cmp F.code self.new) (plain F.Key.cmp F.code self.old) }
+        ensures sized { length self.new.parts ≡ length self.old.parts }
+    {
+        let mut has_cut = false;
+        for home in 0..self.parts.len() {
+            match self.compact_part(home) {
+                Ok(true) => has_cut = true,
+                Ok(false) => {}
+                Err(refused) => return Err(refused),
+            }
+        }
+        Ok(has_cut)
+    }
+
+    /// Compacts the log of the partition at a place.
+    fn compact_part(&mut self, home: usize) -> Result<bool, Refused>
+        requires within { home < length self.old.parts }
+        ensures stays { IsTrue D.Receipt.keeps → Same (plain F.Key.cmp F.code self.new) (plain F.Key.cmp F.code self.old) }
+        ensures sized { length self.new.parts ≡ length self.old.parts }
+    {
+        let part = &mut self.parts[home];
+        compact(
+            self.alloc,
+            &self.functions,
+            self.frames,
+            part,
+            &mut self.clock,
+        )
+    }
+
+    /// How much the store holds.
+    pub fn counts(&self) -> Counts
+        ensures bytes { result.bytes ≡ min (sum_by log_bytes self.now.parts) (2 ^ 64 - 1) }
+        ensures evicted { result.evicted ≡ min (sum_by evicted_bytes self.now.parts) (2 ^ 64 - 1) }
+        ensures moments { result.moments ≡ self.now.moments }
+    {
+        let (bytes, evicted) = held_bytes(&self.parts);
+        Counts {
+            bytes,
+            evicted,
+            moments: self.clock.last(),
+        }
+    }
+
+    /// The place of the partition of a key.
+    fn home(&self, key: &F::Key) -> usize
+        ensures value { result ≡ partition_of (length self.now.parts) (F.code key.now) }
+        ensures within { result < length self.now.parts }
+    {
+        // which says that their number is a power of two
+        self.parts[0].partition.known();
+        let count = self.parts.len() as u64;
+        partition_at(self.functions.hash(key), count) as usize
+    }
+}

@@ -1,0 +1,178 @@
+//! Single calls: what is counted, what is refused for good, and a log that is compacted by itself.
+use crate::beside::{SMALL, name_of};
+use fkv_device::MemoryDevice;
+use fkv_functions::{CappedSumFns, Name, Refused, SumFns};
+use fkv_local::LocalStore;
+use fkv_operations::Answer;
+use fkv_partition::Config;
+use fkv_test_devices::UnsureDevice;
+use std::alloc::Global;
+
+/// A store of sums in memory.
+type Sums = LocalStore<SumFns, MemoryDevice>;
+
+fn opened(alloc: Global, config: &Config) -> Result<Sums, Refused> {
+    LocalStore::open(alloc, config, SumFns, &mut MemoryDevice::new(alloc))
+}
+
+/// Configurations outside their limits.
+const BAD: [Config; 6] = [
+    Config {
+        partition_bits: 7,
+        ..SMALL
+    },
+    Config {
+        bucket_bits: 21,
+        ..SMALL
+    },
+    Config {
+        page_bits: 7,
+        ..SMALL
+    },
+    Config {
+        page_bits: 21,
+        ..SMALL
+    },
+    Config { frames: 1, ..SMALL },
+    Config { turns: 0, ..SMALL },
+];
+
+#[test]
+fn bad_configurations(rt: HostRuntime) {
+    for config in BAD {
+        let refused = opened(rt.alloc(), &config).err();
+        assert!(rt; refused == Some(Refused::BadConfig), "{config:?}");
+    }
+}
+
+/// The answers to two updates, a read, a delete and a read of one key.
+fn answers(alloc: Global, key: Name) -> Result<[Answer<i128>; 5], Refused> {
+    let mut store = opened(alloc, &SMALL)?;
+    Ok([
+        store.rmw(&key, &12)?,
+        store.rmw(&key, &-2)?,
+        store.read(&key, &0)?,
+        store.delete(&key)?,
+        store.read(&key, &0)?,
+    ])
+}
+
+const ANSWERS: [Answer<i128>; 5] = [
+    Answer::Value(12),
+    Answer::Value(10),
+    Answer::Value(10),
+    Answer::Deleted,
+    Answer::Absent,
+];
+
+/// What a merge is refused by of functions that don't merge, and what an update is answered then.
+fn merged(alloc: Global, key: Name) -> Result<(Option<Refused>, Answer<i128>), Refused> {
+    let mut store = LocalStore::open(alloc, &SMALL, CappedSumFns, &mut MemoryDevice::new(alloc))?;
+    Ok((store.merge(&key, &5).err(), store.rmw(&key, &7)?))
+}
+
+/// How many new keys are taken by a store in which an operation has one turn, and what the next one is refused by. The record of
+/// the eighth key begins a page whose frame is to be emptied first; after that pages have moved, so it is taken when it is asked
+/// for again.
+fn stalled(alloc: Global) -> Result<(u64, Option<Refused>, bool), Refused> {
+    let config = Config { turns: 1, ..SMALL };
+    let mut store = opened(alloc, &config)?;
+    for number in 0..20u64 {
+        let Some(key) = name_of(number) else {
+            return Err(Refused::Stalled);
+        };
+        if let Err(refused) = store.rmw(&key, &1) {
+            return Ok((
+                number,
+                Some(refused),
+                store.rmw(&key, &1) == Ok(Answer::Value(1)),
+            ));
+        }
+    }
+    Ok((20, None, false))
+}
+
+/// The bytes of a log, and those below Head, and the pairs of the map at the end of so many updates of three keys.
+fn counted(alloc: Global, updates: u64) -> Result<(u64, u64, usize), Refused> {
+    let mut store = opened(alloc, &SMALL)?;
+    for at in 0..updates {
+        let Some(key) = name_of(at % 3) else {
+            return Err(Refused::Stalled);
+        };
+        // of ever new values, each where the key's last one stands
+        store.upsert(&key, &i128::from(at))?;
+    }
+    let counts = store.counts();
+    Ok((counts.bytes, counts.evicted, store.into_map()?.len()))
+}
+
+/// Numbers of updates, and what is counted: the first record stands at 64, and each has 56 bytes, so that the fourth stands at 256,
+/// where the next page begins. Before the 64th update all below that page is frozen, written and evicted, so each key has one more
+/// record there, which changes in place from then on: the tail stands at 424.
+const COUNTED: [(u64, (u64, u64, usize)); 3] = [
+    (0, (0, 0, 0)),
+    (3, (256 - 64, 0, 3)),
+    (600, (424 - 64, 256 - 64, 3)),
+];
+
+#[test]
+fn single_calls(rt: HostRuntime) {
+    let key = name_of(0).expect(&rt, "a name of five bytes");
+    assert!(rt; answers(rt.alloc(), key) == Ok(ANSWERS));
+    assert!(rt; merged(rt.alloc(), key) == Ok((Some(Refused::NoMerge), Answer::Value(7))));
+    assert!(rt; stalled(rt.alloc()) == Ok((7, Some(Refused::Stalled), true)));
+    for (updates, wanted) in COUNTED {
+        let come = counted(rt.alloc(), updates);
+        assert!(rt; come == Ok(wanted), "{updates}: {come:?}");
+    }
+}
+
+/// The first refusal where twenty keys are written to a store whose device takes so many pages, if any is refused.
+fn refused(alloc: Global, pages: u64) -> Option<Refused> {
+    let mut device = UnsureDevice::new(alloc);
+    device.writes = pages;
+    let mut store = match LocalStore::open(alloc, &SMALL, SumFns, &mut device) {
+        Ok(store) => store,
+        Err(refused) => return Some(refused),
+    };
+    for number in 0..20u64 {
+        let Some(key) = name_of(number) else {
+            return Some(Refused::Stalled);
+        };
+        if let Err(refused) = store.upsert(&key, &1) {
+            return Some(refused);
+        }
+    }
+    None
+}
+
+/// Nineteen records fill five pages, of three and four times four. The last key's begins the sixth, and only the page before that
+/// is in memory then too.
+#[test]
+fn each_page_is_written_once(rt: HostRuntime) {
+    assert!(rt; refused(rt.alloc(), 5) == None);
+    let fourth = Refused::Device { code: 2, page: 3 };
+    assert!(rt; refused(rt.alloc(), 3) == Some(fourth));
+}
+
+/// The bytes of a log after so many updates of 40 keys in turn, whose records leave memory in between, so that each appends one.
+fn held(alloc: Global, updates: u64) -> Result<u64, Refused> {
+    let mut store = opened(alloc, &SMALL)?;
+    for at in 0..updates {
+        let Some(key) = name_of(at % 40) else {
+            return Err(Refused::Stalled);
+        };
+        store.rmw(&key, &1)?;
+    }
+    Ok(store.counts().bytes)
+}
+
+/// Some 750 pages are written in these updates; by itself the log is cut each time Head has moved 64 of them.
+#[test]
+fn a_log_is_compacted_by_itself(rt: HostRuntime) {
+    let bytes = held(rt.alloc(), 3_000);
+    assert!(rt;
+        bytes.is_ok_and(|bytes| bytes < 100 << SMALL.page_bits),
+        "{bytes:?}"
+    );
+}
