@@ -136,9 +136,10 @@ impl<F: Mergeable, D: Disk, H: Recorder<F>> Pass<F, D, H> {
         Ok(())
     }
 
-    /// Runs an operation on a key: it is answered as the history of its partition says, from no fewer updates than the pass
-    /// was told of before, and takes effect exactly once. Where it is refused it is over, without effect, and the pass's
-    /// lists stay.
+    /// Runs an operation on a key. Where it answers, the pass took exactly one entry more, which an event of a partition
+    /// recorded in that hold: of this operation, with this answer, whose place is not before what the pass was told. So it
+    /// takes effect exactly once. Where it is refused, no event recorded anything for it: it is over, without effect, and the
+    /// pass's lists stay.
     ///
     /// # Errors
     ///

@@ -1,9 +1,11 @@
 //! A locked partition of sums over a device in memory, with one caller and one compactor.
+ghost use Rattle.std.specs.Prelude.{◌≡◌, length};
+
 use fkv_compaction::Compactor;
 use fkv_device::{Disk, Loaded, MemoryDevice, MemoryReader, MemoryReceipt, MemoryWriter, Written};
 use fkv_functions::{Built, Name, Refused, SumFns};
 use fkv_histories::Recorder;
-use fkv_locked::{Locked, Part, Seat, Turn};
+use fkv_locked::{FinishedOf, Locked, MineOf, Owns, Part, Seat, Turn};
 use fkv_operations::{Answer, KeyedOp, KeyedOpOf};
 use fkv_partition::{Config, Progress};
 use std::alloc::Global;
@@ -63,8 +65,9 @@ pub struct Driven<H: Recorder<SumFns>> {
     writer: MemoryWriter,
     seat: Seat,
     compactor: Compactor,
-    /// How many updates the caller was told of.
-    told: u64,
+    /// What the caller was answered, in one partition.
+    owns: Owns<SumFns, H>,
+    ghost in_one: { length owns.told ≡ 1 },
 }
 
 impl<H: Recorder<SumFns>> Driven<H> {
@@ -75,13 +78,14 @@ impl<H: Recorder<SumFns>> Driven<H> {
         let mut locked = Locked::new(alloc, &CONFIG, 0)?;
         let seat = locked.enter()?;
         let compactor = locked.join()?;
+        let owns = Owns::fresh(alloc, 1)?;
         Ok(Driven {
             locked,
             reader,
             writer,
             seat,
             compactor,
-            told: 0,
+            owns,
         })
     }
 
@@ -89,47 +93,64 @@ impl<H: Recorder<SumFns>> Driven<H> {
         self.locked.end(alloc)
     }
 
-    /// The page that is asked for.
-    fn fetched(&mut self, receipt: &MemoryReceipt) -> Result<Loaded<MemoryReceipt>, Refused> {
-        Loaded::fetch(&mut self.reader, receipt, self.locked.page_size())
-    }
-
     /// An operation of the caller, driven to its end.
     fn done(&mut self, op: KeyedOpOf<SumFns>) -> Result<Told, Refused> {
-        let mine = self.locked.issue(self.seat, op, self.told, &SumFns)?;
-        let mut turn = Turn::Next;
-        for _event in 0..EVENTS {
-            turn = match turn {
-                Turn::Next => self.locked.go(&mine, &SumFns)?,
-                Turn::NeedsBuild(ask) => {
-                    let built = Built::make(&SumFns, ask);
-                    self.locked.install(&mine, built, &SumFns)?
-                }
-                Turn::NeedsLoad(receipt, _address) => {
-                    let came = self.fetched(&receipt);
-                    self.locked.load(&mine, came, &SumFns)?
-                }
-                Turn::Waits(_why) => return Err(Refused::Stalled),
-                Turn::Done(entry) => {
-                    self.told = entry.at;
-                    return Ok(Told::Done(entry.answer));
-                }
-            };
+        let mine = self.issued(op)?;
+        self.ended(&mine)
+    }
+
+    /// An operation of the caller, issued.
+    pub fn issued(&mut self, op: KeyedOpOf<SumFns>) -> Result<MineOf<SumFns>, Refused> {
+        let told = self.owns.told_at(0);
+        self.locked.issue(self.seat, op, told, &SumFns)
+    }
+
+    /// The receipt of the page that an operation needs after its next event, if it needs one.
+    pub fn looked(&mut self, mine: &MineOf<SumFns>) -> Result<Option<MemoryReceipt>, Refused> {
+        self.owns.make_room(0)?;
+        match self.locked.go(mine, &SumFns)? {
+            Turn::NeedsLoad(receipt, _address) => Ok(Some(receipt)),
+            Turn::Done(finished) => {
+                let _answer = self.owns.take(0, finished);
+                Ok(None)
+            }
+            Turn::Next | Turn::NeedsBuild(_) | Turn::Waits(_) => Ok(None),
         }
-        Err(Refused::Stalled)
+    }
+
+    /// What an operation is answered by the page that it needs.
+    pub fn loaded(
+        &mut self,
+        mine: &MineOf<SumFns>,
+        receipt: &MemoryReceipt,
+    ) -> Result<Told, Refused> {
+        self.owns.make_room(0)?;
+        let came = fetched(&self.locked, &mut self.reader, receipt);
+        match self.locked.load(mine, came, &SumFns)? {
+            Turn::Done(finished) => Ok(Told::Done(self.owns.take(0, finished))),
+            Turn::Next | Turn::NeedsBuild(_) | Turn::NeedsLoad(_, _) | Turn::Waits(_) => {
+                Ok(Told::Ok)
+            }
+        }
+    }
+
+    /// An operation that was issued, driven to its end.
+    pub fn ended(&mut self, mine: &MineOf<SumFns>) -> Result<Told, Refused> {
+        self.owns.make_room(0)?;
+        let finished = drive(&mut self.locked, &mut self.reader, mine)?;
+        Ok(Told::Done(self.owns.take(0, finished)))
     }
 
     /// An update of the caller, in one call.
     fn done_at_once(&mut self, letter: u8, amount: i64) -> Result<Told, Refused> {
         let key = key(letter)?;
+        self.owns.make_room(0)?;
+        let told = self.owns.told_at(0);
         match self
             .locked
-            .update_at_once(self.seat, &key, &amount, self.told, &SumFns)?
+            .update_at_once(self.seat, &key, &amount, told, &SumFns)?
         {
-            Some(entry) => {
-                self.told = entry.at + 1;
-                Ok(Told::Done(entry.answer))
-            }
+            Some(finished) => Ok(Told::Done(self.owns.take(0, finished))),
             None => Ok(Told::Ok),
         }
     }
@@ -141,7 +162,7 @@ impl<H: Recorder<SumFns>> Driven<H> {
             progress = match progress {
                 Progress::Next => self.locked.next(&self.compactor, &SumFns)?,
                 Progress::NeedsLoad(receipt, _address) => {
-                    let came = self.fetched(&receipt);
+                    let came = fetched(&self.locked, &mut self.reader, &receipt);
                     self.locked.load_relocation(&self.compactor, came, &SumFns)?
                 }
                 Progress::Done(answer, _effect) => return Ok(Told::Done(answer)),
@@ -208,8 +229,47 @@ impl<H: Recorder<SumFns>> Driven<H> {
     }
 }
 
+/// The page that is asked for.
+fn fetched<H: Recorder<SumFns>>(
+    locked: &Locked<SumFns, MemoryReceipt, H>,
+    reader: &mut MemoryReader,
+    receipt: &MemoryReceipt,
+) -> Result<Loaded<MemoryReceipt>, Refused> {
+    Loaded::fetch(reader, receipt, locked.page_size())
+}
+
+/// An operation that was issued, driven to its end.
+fn drive<H: Recorder<SumFns>>(
+    locked: &mut Locked<SumFns, MemoryReceipt, H>,
+    reader: &mut MemoryReader,
+    mine: &MineOf<SumFns>,
+) -> Result<FinishedOf<SumFns>, Refused> {
+    let mut turn = locked.go(mine, &SumFns)?;
+    for _event in 0..EVENTS {
+        turn = match turn {
+            Turn::Done(finished) => return Ok(finished),
+            Turn::Next => locked.go(mine, &SumFns)?,
+            Turn::NeedsBuild(ask) => {
+                let built = Built::make(&SumFns, ask);
+                locked.install(mine, built, &SumFns)?
+            }
+            Turn::NeedsLoad(receipt, _address) => {
+                let came = fetched(locked, reader, &receipt);
+                locked.load(mine, came, &SumFns)?
+            }
+            Turn::Waits(_why) => return Err(Refused::Stalled),
+        };
+    }
+    match turn {
+        Turn::Done(finished) => Ok(finished),
+        Turn::Next | Turn::NeedsBuild(_) | Turn::NeedsLoad(_, _) | Turn::Waits(_) => {
+            Err(Refused::Stalled)
+        }
+    }
+}
+
 /// The key of a letter.
-fn key(letter: u8) -> Result<Name, Refused> {
+pub fn key(letter: u8) -> Result<Name, Refused> {
     match Name::new(&[letter]) {
         Some(name) => Ok(name),
         None => Err(Refused::Unknown),

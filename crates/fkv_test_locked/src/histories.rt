@@ -1,9 +1,9 @@
 //! One caller's operations, in memory and from the device, beside a compactor that clears page 0: what each tells, and the
 //! history that is left, where one is kept. The records of a to c stand at 64, 120 and 176 on page 0.
-use crate::driven::{Call, Driven, Row, Told};
+use crate::driven::{Call, Driven, Row, Told, key};
 use fkv_functions::{Refused, SumFns};
 use fkv_histories::{Audited, EntryOf, Plain};
-use fkv_operations::Answer;
+use fkv_operations::{Answer, KeyedOp};
 use std::test::Fail;
 
 const ROWS: [Row; 37] = [
@@ -97,5 +97,53 @@ fn one_caller_plain(rt: HostRuntime) -> Result<(), Fail> {
     assert!(rt; wrong == None, "row {wrong:?}");
     let part = driven.end(alloc);
     assert!(rt; part.history.is_empty() && part.book == 15);
+    Ok(())
+}
+
+/// Of entries behind the first five how many updates stood at the issue, stand before, and stood at the completion.
+const TIMES: [(u64, u64, u64); 7] = [
+    (4, 4, 4),
+    (5, 5, 5),
+    (4, 5, 6),
+    (6, 6, 6),
+    (6, 7, 7),
+    (7, 7, 7),
+    (7, 8, 8),
+];
+
+/// Operations that are open while others are finished: a read from the device, a read in memory, and an update.
+#[test]
+fn interleaved(rt: HostRuntime) -> Result<(), Fail> {
+    let alloc = rt.alloc();
+    let mut driven = Driven::<Audited<SumFns>>::new(alloc)?;
+    let wrong = driven.first_other(alloc, &ROWS[..13]);
+    assert!(rt; wrong == None, "row {wrong:?}");
+    let add = (Call::Add(b'd', 1), Told::Done(Answer::Value(2)));
+    let late = driven.issued(KeyedOp::Read(key(b'c')?, 0))?;
+    let begun = driven.first_other(
+        alloc,
+        &[(Call::Upsert(b'd', 1), Told::Done(Answer::Stored))],
+    );
+    let Some(receipt) = driven.looked(&late)? else {
+        assert!(rt; false, "the page is in memory");
+        return Ok(());
+    };
+    assert!(rt; begun == None && driven.first_other(alloc, &[add]) == None);
+    assert!(rt; driven.loaded(&late, &receipt)? == Told::Done(Answer::Value(1)));
+    let near = driven.issued(KeyedOp::Read(key(b'd')?, 0))?;
+    let more = [(Call::Add(b'd', 1), Told::Done(Answer::Value(3)))];
+    assert!(rt; driven.first_other(alloc, &more) == None);
+    assert!(rt; driven.ended(&near)? == Told::Done(Answer::Value(3)));
+    let last = driven.issued(KeyedOp::Rmw(key(b'd')?, 1))?;
+    let more = [(Call::Add(b'd', 1), Told::Done(Answer::Value(4)))];
+    assert!(rt; driven.first_other(alloc, &more) == None);
+    assert!(rt; driven.ended(&last)? == Told::Done(Answer::Value(5)));
+    let part = driven.end(alloc);
+    assert!(rt; part.history.len() == 12);
+    let wrong = part.history[5..]
+        .iter()
+        .zip(&TIMES)
+        .position(|(entry, is)| (entry.low, entry.at, entry.high) != *is);
+    assert!(rt; wrong == None, "entry {wrong:?}");
     Ok(())
 }

@@ -4,7 +4,7 @@ use fkv_functions::{Name, Refused, SumFns};
 use fkv_histories::Recorder;
 use fkv_operations::{Answer, KeyedOp};
 use fkv_partition::Config;
-use fkv_store::{Gate, Open, Pass, Place, Store};
+use fkv_store::{Gate, KEEPER, Open, Pass, Place, Store};
 use std::alloc::Global;
 use std::rt::Clock;
 use std::sync::Wait;
@@ -31,14 +31,23 @@ pub const IMPATIENT: Config = Config {
     turns: 10,
 };
 
-/// A gate that counts how often a page is read.
+/// A gate that counts how often a page is read, and how often a pass holds the lock of a partition.
 #[derive(Drop)]
-pub struct Loads(AtomicU64);
+pub struct Counted {
+    loads: AtomicU64,
+    holds: AtomicU64,
+}
 
-impl Gate for Loads {
-    fn pass(&self, _worker: u32, place: Place) {
-        if place == Place::Load {
-            self.0.fetch_add(1, Ordering::SeqCst);
+impl Gate for Counted {
+    fn pass(&self, worker: u32, place: Place) {
+        match place {
+            Place::Load => {
+                self.loads.fetch_add(1, Ordering::SeqCst);
+            }
+            Place::Locked(_) if worker != KEEPER => {
+                self.holds.fetch_add(1, Ordering::SeqCst);
+            }
+            _ => {}
         }
     }
 }
@@ -80,7 +89,7 @@ pub type Row = (Call, Told);
 pub struct Called<D: Disk, H: Recorder<SumFns>> {
     pub store: Store<SumFns, D, H>,
     pub passes: Vec<Pass<SumFns, D, H>>,
-    loads: Loads,
+    counted: Counted,
 }
 
 fn done_told(done: Result<(), Refused>) -> Told {
@@ -123,7 +132,10 @@ impl<D: Disk, H: Recorder<SumFns>> Called<D, H> {
         Ok(Called {
             store,
             passes,
-            loads: Loads(AtomicU64::new(0)),
+            counted: Counted {
+                loads: AtomicU64::new(0),
+                holds: AtomicU64::new(0),
+            },
         })
     }
 
@@ -133,7 +145,7 @@ impl<D: Disk, H: Recorder<SumFns>> Called<D, H> {
             if pass >= self.passes.len() {
                 return Told::Refused(Refused::Unknown);
             }
-            return match self.passes[pass].run(rt, alloc, &self.store, op, &self.loads) {
+            return match self.passes[pass].run(rt, alloc, &self.store, op, &self.counted) {
                 Ok(answer) => Told::Done(answer),
                 Err(refused) => Told::Refused(refused),
             };
@@ -146,9 +158,9 @@ impl<D: Disk, H: Recorder<SumFns>> Called<D, H> {
                 let Called {
                     store,
                     passes,
-                    loads,
+                    counted,
                 } = self;
-                done_told(passes[pass].update_or_merge(rt, alloc, store, key, amount, loads))
+                done_told(passes[pass].update_or_merge(rt, alloc, store, key, amount, counted))
             }
             Call::Refresh(pass) if pass < self.passes.len() => {
                 done_told(self.passes[pass].refresh(rt, &self.store))
@@ -161,8 +173,13 @@ impl<D: Disk, H: Recorder<SumFns>> Called<D, H> {
                 Err(refused) => Told::Refused(refused),
             },
             Call::Compact(partition) => done_told(self.store.compact(rt, partition, &Open)),
-            _ => Told::Count(self.loads.0.load(Ordering::SeqCst)),
+            _ => Told::Count(self.counted.loads.load(Ordering::SeqCst)),
         }
+    }
+
+    /// How often its passes held the lock of a partition for an operation.
+    pub fn holds(&self) -> u64 {
+        self.counted.holds.load(Ordering::SeqCst)
     }
 
     /// The number of the first row that tells something else.

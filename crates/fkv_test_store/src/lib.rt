@@ -16,3 +16,5 @@ mod merging;
 mod sharing;
 #[cfg(test)]
 mod threads;
+#[cfg(test)]
+mod turning;

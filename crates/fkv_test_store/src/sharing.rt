@@ -11,11 +11,11 @@ use std::rt::Clock;
 use std::sync::Wait;
 use std::test::Fail;
 
-fn stored(call: Call) -> Row {
+pub fn stored(call: Call) -> Row {
     (call, Told::Done(Answer::Stored))
 }
 
-fn value(call: Call, value: i128) -> Row {
+pub fn value(call: Call, value: i128) -> Row {
     (call, Told::Done(Answer::Value(value)))
 }
 
@@ -55,7 +55,7 @@ fn stalled_by_a_fuzzy_value(rt: HostRuntime) -> Result<(), Fail> {
 }
 
 /// A page that is needed waits for the session of a pass that does not rest.
-fn full() -> [Row; 11] {
+pub fn full() -> [Row; 11] {
     [
         value(Call::Update(1, b'a', 1), 1),
         stored(Call::Upsert(0, b'b', 1)),

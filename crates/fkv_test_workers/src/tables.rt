@@ -4,14 +4,15 @@ use fkv_feeds::{RowMode, write_table};
 use fkv_functions::{Refused, SumFns};
 use fkv_histories::{Audited, Plain, Recorder};
 use fkv_partition::Config;
-use fkv_store::{Gate, Open};
+use fkv_store::{Gate, KEEPER, Open, Place};
 use fkv_streams::{CountedReader, CountedWriter};
-use fkv_workers::run_feeds_by;
+use fkv_workers::{run_feeds, run_feeds_by};
 use std::alloc::Global;
 use std::fs;
 use std::io::Write;
 use std::rt::Clock;
 use std::sync::Wait;
+use std::sync::atomic::{AtomicU64, Ordering};
 use std::test::Fail;
 use std::thread::Threads;
 
@@ -226,5 +227,95 @@ fn refused_growths_of_one_worker(rt: HostRuntime) -> Result<(), Fail> {
         Ok(text) => assert!(rt; text.as_slice() == b"a,1\nb,1\n".as_slice()),
         Err(refused) => assert!(rt; refused == Refused::NoMemory, "{refused}"),
     }
+    Ok(())
+}
+
+/// A gate that counts how often a worker reads a page, and keeps which partition's lock a worker held first.
+#[derive(Drop)]
+struct Seen {
+    loads: AtomicU64,
+    first: AtomicU64,
+}
+
+/// No partition.
+const NONE: u64 = u64::MAX;
+
+impl Seen {
+    fn nothing() -> Seen {
+        Seen {
+            loads: AtomicU64::new(0),
+            first: AtomicU64::new(NONE),
+        }
+    }
+}
+
+impl Gate for Seen {
+    fn pass(&self, worker: u32, place: Place) {
+        match place {
+            _ if worker == KEEPER => {}
+            Place::Load => {
+                self.loads.fetch_add(1, Ordering::SeqCst);
+            }
+            Place::Locked(partition) if self.first.load(Ordering::SeqCst) == NONE => {
+                self.first.store(partition, Ordering::SeqCst);
+            }
+            _ => {}
+        }
+    }
+}
+
+/// Each row is one update: that of a whose page left memory reads it again. As a merge it reads none.
+#[test]
+fn rows_are_updates(rt: HostRuntime) -> Result<(), Fail> {
+    let alloc = rt.alloc();
+    let feeds: [&[u8]; 2] = [LETTERS, b"t,1\n"];
+    let sources = vec![in alloc; CountedReader::new(feeds[0]), CountedReader::new(feeds[1])]?;
+    let device = MemoryDevice::new(alloc);
+    let gate = Seen::nothing();
+    let run = run_feeds::<_, _, _, Plain, _, _>(
+        &rt, alloc, sources, 1, SumFns, &SMALL, device, &gate,
+    )?;
+    assert!(rt; run.counts.rows == 22);
+    let mut text = Vec::new(alloc);
+    write_table(alloc, &run.table, &mut CountedWriter::new(&mut text))?;
+    assert!(rt; text.as_slice() == LETTERS_TABLE);
+    assert!(rt; gate.loads.load(Ordering::SeqCst) > 0);
+    let gate = Seen::nothing();
+    let device = MemoryDevice::new(alloc);
+    let mode = RowMode::Merge;
+    let text = summed_by::<Plain, _, _, _>(&rt, alloc, &feeds, 1, &SMALL, device, &gate, mode)?;
+    assert!(rt; text.as_slice() == LETTERS_TABLE);
+    assert!(rt; gate.loads.load(Ordering::SeqCst) == 0);
+    Ok(())
+}
+
+/// Which partition's lock a worker holds first that reads so many rows of the second one, and then a row of the first.
+fn first_locked<T: Threads + Wait + Clock + Sync>(
+    rt: &T,
+    alloc: Global,
+    rows: u64,
+) -> Result<u64, Fail> {
+    let two = Config {
+        partition_bits: 1,
+        ..SMALL
+    };
+    let mut feed = Vec::new(alloc);
+    for _row in 0..rows {
+        feed.write_all(b"b,1\n")?;
+    }
+    feed.write_all(b"a,1\n")?;
+    let gate = Seen::nothing();
+    let text = summed::<Plain, _, _>(rt, alloc, &[feed.as_slice()], 1, &two, &gate)?;
+    if !text.starts_with(b"a,1\nb,") {
+        return Ok(NONE);
+    }
+    Ok(gate.first.load(Ordering::SeqCst))
+}
+
+/// Rows wait until they are 64 of their partition; at the end those of the first partition are made first.
+#[test]
+fn rows_together(rt: HostRuntime) -> Result<(), Fail> {
+    assert!(rt; first_locked(&rt, rt.alloc(), 63)? == 0);
+    assert!(rt; first_locked(&rt, rt.alloc(), 64)? == 1);
     Ok(())
 }

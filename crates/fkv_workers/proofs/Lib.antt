@@ -10,3 +10,4 @@ pub mod StandLemmas
 pub mod WorkedLemmas
 pub mod StoppedLemmas
 pub mod SplitLemmas
+pub mod EmptiedLemmas

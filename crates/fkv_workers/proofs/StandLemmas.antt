@@ -1,5 +1,5 @@
 -- Passes of a store that have no rows yet.
-use Rattle.std.proofs.Common.{◌≡◌, ◌<◌, ℕ, ℤ, Bool, [], replicate, sym, subst}
+use Rattle.std.proofs.Common.{◌≡◌, ◌<◌, ℕ, ℤ, Bool, [], None, replicate, sym, subst}
 use Rattle.std.proofs.lemmas.List.{length-replicate, get_or-replicate}
 use Rattle.fkv_functions.specs.declared.names.Name.{Name}
 use Rattle.fkv_store.specs.Stores.{StoreView}
@@ -9,7 +9,7 @@ use Rattle.fkv_workers.specs.Works.{StandsFor}
 use Rattle.fkv_workers.proofs.ShareLemmas.{share_none}
 
 pub stands_fresh : {V O : Type 0} (keeps : Bool) (code : Name → ℕ) (s : StoreView) (p : PassView Name V ℤ O) → 0 < s.count
-    → p ≡ record { store = s.id; own = replicate s.count []; told = replicate s.count 0; share = 0 }
+    → p ≡ record { store = s.id; own = replicate s.count []; told = replicate s.count 0; share = 0; last = None }
     → StandsFor keeps code p []
 stands_fresh {V = V} {O = O} keeps code s p some is =
     rw is

@@ -1,5 +1,5 @@
 //! Runs over feeds, with several workers.
-ghost use Rattle.std.specs.Prelude.{◌≡◌, ◌≢◌, ◌≤◌, ◌<◌, ◌↔◌, ◌⊎◌, true, length, map, IsTrue, Err, None, IfOk, IfErr, OnOk};
+ghost use Rattle.std.specs.Prelude.{◌≡◌, ◌≢◌, ◌≤◌, ◌<◌, ◌↔◌, ◌⊎◌, true, length, map, IsTrue, Ok, Err, None, IfOk, IfErr, OnOk};
 ghost use Rattle.std.specs.List.{All};
 ghost use Rattle.fkv_records.specs.Records.{size_of};
 ghost use Rattle.fkv_partition.specs.Limits.{IsWithinLimits};
@@ -48,8 +48,9 @@ fn ended<F: Mergeable, D: Disk, H: Recorder<F>>(
 ) -> Result<Vec<Pass<F, D, H>>, Refused>
     ensures ok { IfOk result (λ passes. passes.items ≡ map (λ w. w.pass) ran.results.items) }
     ensures none { OnOk result (All (λ fault. fault ≡ None) (map (λ w. w.fault) ran.results.items)) }
+    ensures kept { OnOk result (ran.kept ≡ Ok tt) }
     ensures refused { IfErr result (λ e. (e ≡ refused.NoMemory) ⊎ IsFirstFault (map (λ w. w.fault) ran.results.items) e
-        ⊎ (ran.kept ≡ Err e)) }
+        ⊎ ((ran.kept ≡ Err e) × All (λ fault. fault ≡ None) (map (λ w. w.fault) ran.results.items))) }
 {
     let Ran { results, kept } = ran;
     let passes = match passes_of(alloc, results) {

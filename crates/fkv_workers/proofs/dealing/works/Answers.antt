@@ -1,6 +1,8 @@
-use Rattle.std.proofs.Common.{◌≡◌, ◌++◌, [], ◌∷◌, length, sym, ap, ◌∙◌}
-use Rattle.std.proofs.lemmas.List.{map_push, length-replicate}
+use Rattle.std.proofs.Common.{◌≡◌, ◌++◌, [], ◌∷◌, length, map, sym, ap, ◌∙◌}
+use Rattle.std.proofs.lemmas.List.{map_push, map-id, length-replicate}
 use Rattle.std.proofs.lemmas.List.Elements.{All-push}
+use Rattle.std.proofs.lemmas.Iterator.Adapters.{YieldsList-from_vec}
+use Rattle.std.proofs.lemmas.Iterator.Consumers.{YieldsList-end}
 use Rattle.fkv_workers.specs.Works.{StandsFor}
 use Rattle.fkv_workers.proofs.StandLemmas.{stands_fresh}
 use Rattle.fkv_workers.proofs.dealing.works.Goals as goal
@@ -21,3 +23,10 @@ loop-feeds-preserved g c =
             ap (λ p. length p.told) c.in-Ok.ensures.ok ∙ length-replicate c.args.store.now.count 0,
           ));
     }
+
+pub returns-clause-feeds : goal.returns-clause-feeds
+returns-clause-feeds g c =
+    let gives = c.into_iter-feeds-iterator.ensures.into_iter_gives in
+    let road = YieldsList-from_vec c.args.hands.items gives.0 (gives.1 ∙ c.args.hands.ok.0) in
+    let end = YieldsList-end road c.loop-feeds.yielded c.loop-feeds.feeds-iterator c.loop-feeds.yielded_by c.next.result c.next.new.self c.in-None.is c.next.ensures.steps in
+    c.loop-feeds.invariant.feeds ∙ ap (map (λ hand. hand.items)) (sym (map-id c.loop-feeds.yielded) ∙ end.0)

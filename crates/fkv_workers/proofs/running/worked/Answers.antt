@@ -36,6 +36,6 @@ returns-clause-refused g c =
     c.args.workers c.args.feeds.items works results c.in-Err-ended.refused
     (rw c.in-Ok-works.ensures.feeds c.in-Ok.ensures.ok) c.in-Ok-run_jobs.ensures.ok.results first in
     ⊎_elim (λ told. inl told) (λ unread. inr (at.0, at.1, unread)) at.2)
-    (λ kept. inl (subst (λ r. IfErr r IsTold) kept c.in-Ok-run_jobs.ensures.ok.kept))
+    (λ kept. inl (subst (λ r. IfErr r IsTold) kept.0 c.in-Ok-run_jobs.ensures.ok.kept))
     rest)
     c.in-Err-ended.ensures.refused

@@ -1,0 +1,139 @@
+//! How many turns an operation takes that waits for good, what is left of it, and when sessions are refreshed.
+use crate::calls::{Call, Called, IMPATIENT, Row, SMALL, Told};
+use crate::sharing::{full, stored, value};
+use fkv_device::MemoryDevice;
+use fkv_functions::{Refused, SumFns};
+use fkv_histories::{Audited, Plain, Recorder};
+use fkv_operations::Answer;
+use fkv_partition::Config;
+use std::alloc::Global;
+use std::rt::Clock;
+use std::sync::Wait;
+use std::test::Fail;
+
+/// The operation that waits for the session of a pass that does not rest.
+const WAITS: Row = (Call::Upsert(0, b'h', 1), Told::Refused(Refused::Stalled));
+
+/// How often the lock is held for an operation that waits for good, where it may take so many turns.
+fn holds_of_a_stall<H: Recorder<SumFns>>(
+    rt: &(impl Wait + Clock),
+    alloc: Global,
+    turns: u64,
+) -> Result<Option<u64>, Fail> {
+    let config = Config { turns, ..SMALL };
+    let device = MemoryDevice::new(alloc);
+    let mut called = Called::<MemoryDevice, H>::new(rt, alloc, &config, device)?;
+    let rows = full();
+    if called.first_other(rt, alloc, &rows[..7]) != None {
+        return Ok(None);
+    }
+    let before = called.holds();
+    if called.first_other(rt, alloc, &[WAITS]) != None {
+        return Ok(None);
+    }
+    Ok(called.holds().checked_sub(before))
+}
+
+/// The issue; a turn's event each, of which two claim an entry of the index; for each other one, which waits, a refresh of the
+/// pass's session; and the end without effect.
+#[test]
+fn stalled_after_its_turns(rt: HostRuntime) -> Result<(), Fail> {
+    let alloc = rt.alloc();
+    assert!(rt; holds_of_a_stall::<Audited<SumFns>>(&rt, alloc, 10)? == Some(20));
+    assert!(rt; holds_of_a_stall::<Plain>(&rt, alloc, 10)? == Some(20));
+    assert!(rt; holds_of_a_stall::<Plain>(&rt, alloc, 25)? == Some(50));
+    Ok(())
+}
+
+/// The number of the first row that tells something else.
+fn first_other<H: Recorder<SumFns>>(
+    rt: &(impl Wait + Clock),
+    alloc: Global,
+    config: &Config,
+    rows: &[Row],
+) -> Result<Option<usize>, Fail> {
+    let mut called = Called::<MemoryDevice, H>::new(rt, alloc, config, MemoryDevice::new(alloc))?;
+    Ok(called.first_other(rt, alloc, rows))
+}
+
+/// An operation that waited for good is open no longer: a session has eight contexts, and nine of them leave one free.
+#[test]
+fn nine_stalls(rt: HostRuntime) -> Result<(), Fail> {
+    let alloc = rt.alloc();
+    let mut rows = Vec::new(alloc);
+    for row in &full()[..7] {
+        rows.push(*row)?;
+    }
+    for _ in 0..9 {
+        rows.push(WAITS)?;
+    }
+    rows.push((Call::Rest(1), Told::Ok))?;
+    rows.push(stored(Call::Upsert(0, b'h', 1)))?;
+    let audited = first_other::<Audited<SumFns>>(&rt, alloc, &IMPATIENT, &rows)?;
+    assert!(rt; audited == None, "row {audited:?}");
+    let plain = first_other::<Plain>(&rt, alloc, &IMPATIENT, &rows)?;
+    assert!(rt; plain == None, "row {plain:?}");
+    Ok(())
+}
+
+/// A pass refreshes its sessions of itself before its next operation after 64 answers: until then an update waits for it.
+#[test]
+fn refreshed_after_64_answers(rt: HostRuntime) -> Result<(), Fail> {
+    let alloc = rt.alloc();
+    let waits = (Call::Update(0, b'a', 1), Told::Refused(Refused::Stalled));
+    let mut rows = Vec::new(alloc);
+    rows.push(stored(Call::Upsert(1, b'a', 10)))?;
+    rows.push(stored(Call::Upsert(0, b'b', 1)))?;
+    rows.push(stored(Call::Upsert(0, b'c', 1)))?;
+    rows.push((Call::Tidy(0), Told::Count(64)))?;
+    rows.push((Call::Refresh(0), Told::Ok))?;
+    for _answer in 1..64 {
+        rows.push(waits)?;
+        rows.push(value(Call::Read(1, b'a'), 10))?;
+    }
+    rows.push(waits)?;
+    rows.push(value(Call::Read(1, b'a'), 10))?;
+    rows.push(value(Call::Update(0, b'a', 1), 11))?;
+    let audited = first_other::<Audited<SumFns>>(&rt, alloc, &IMPATIENT, &rows)?;
+    assert!(rt; audited == None, "row {audited:?}");
+    let plain = first_other::<Plain>(&rt, alloc, &IMPATIENT, &rows)?;
+    assert!(rt; plain == None, "row {plain:?}");
+    Ok(())
+}
+
+/// In a partition that is not the first: a refresh lets its pages move, and a compaction has its values in memory again.
+fn second_partition() -> [Row; 12] {
+    [
+        stored(Call::Upsert(0, b'a', 1)),
+        stored(Call::Upsert(0, b'b', 10)),
+        stored(Call::Upsert(0, b'd', 1)),
+        stored(Call::Upsert(0, b'f', 1)),
+        (Call::Tidy(1), Told::Count(64)),
+        (Call::Refresh(0), Told::Ok),
+        (Call::Tidy(1), Told::Count(256)),
+        (Call::Refresh(0), Told::Ok),
+        value(Call::Read(0, b'b'), 10),
+        (Call::Loads, Told::Count(1)),
+        (Call::Compact(1), Told::Ok),
+        value(Call::Read(0, b'b'), 10),
+    ]
+}
+
+#[test]
+fn pages_of_the_second_partition(rt: HostRuntime) -> Result<(), Fail> {
+    let alloc = rt.alloc();
+    let config = Config {
+        partition_bits: 1,
+        ..SMALL
+    };
+    let mut rows = Vec::new(alloc);
+    for row in &second_partition() {
+        rows.push(*row)?;
+    }
+    rows.push((Call::Loads, Told::Count(1)))?;
+    let audited = first_other::<Audited<SumFns>>(&rt, alloc, &config, &rows)?;
+    assert!(rt; audited == None, "row {audited:?}");
+    let plain = first_other::<Plain>(&rt, alloc, &config, &rows)?;
+    assert!(rt; plain == None, "row {plain:?}");
+    Ok(())
+}
