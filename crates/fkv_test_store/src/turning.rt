@@ -34,14 +34,14 @@ fn holds_of_a_stall<H: Recorder<SumFns>>(
     Ok(called.holds().checked_sub(before))
 }
 
-/// The issue; a turn's event each, of which two claim an entry of the index; for each other one, which waits, a refresh of the
-/// pass's session; and the end without effect.
+/// The issue; a turn's event each, of which two claim an entry of the index; for each other one, which waits, two refreshes of
+/// the pass's session; and the end without effect.
 #[test]
 fn stalled_after_its_turns(rt: HostRuntime) -> Result<(), Fail> {
     let alloc = rt.alloc();
-    assert!(rt; holds_of_a_stall::<Audited<SumFns>>(&rt, alloc, 10)? == Some(20));
-    assert!(rt; holds_of_a_stall::<Plain>(&rt, alloc, 10)? == Some(20));
-    assert!(rt; holds_of_a_stall::<Plain>(&rt, alloc, 25)? == Some(50));
+    assert!(rt; holds_of_a_stall::<Audited<SumFns>>(&rt, alloc, 10)? == Some(28));
+    assert!(rt; holds_of_a_stall::<Plain>(&rt, alloc, 10)? == Some(28));
+    assert!(rt; holds_of_a_stall::<Plain>(&rt, alloc, 25)? == Some(73));
     Ok(())
 }
 
