@@ -174,53 +174,27 @@ fn compaction_holds_nobody_up(rt: HostRuntime) -> Result<(), Fail> {
 /// The operation of worker 0 that is held until a compaction reads a page: by then enough pages have left memory for one.
 const HELD: u64 = 700;
 
-/// The same where there are two partitions.
-const HELD_OF_TWO: u64 = 1_400;
-
 /// How often it looks, at the most.
 const LOOKS: u64 = 10_000_000;
 
-/// Holds worker 0 there until a compaction of a partition has read a page, or has failed to, where the device has a fault: that
-/// read is the call that fails.
+/// Holds worker 0 there until a compaction has read a page, or has failed to, where the device has a fault: that read is the call
+/// that fails.
 #[derive(Drop)]
 struct Caught<'a> {
-    partition: u64,
     begun: AtomicU64,
-    /// The partition whose lock the keeper held last.
-    keeps: AtomicU64,
     is_reading: AtomicBool,
     has_read: AtomicBool,
     fault: Option<&'a Fault>,
 }
 
 impl<'a> Caught<'a> {
-    fn by(partition: u64, fault: Option<&'a Fault>) -> Caught<'a> {
+    fn by(fault: Option<&'a Fault>) -> Caught<'a> {
         Caught {
-            partition,
             begun: AtomicU64::new(0),
-            keeps: AtomicU64::new(u64::MAX),
             is_reading: AtomicBool::new(false),
             has_read: AtomicBool::new(false),
             fault,
         }
-    }
-
-    /// The keeper holds the lock of a partition.
-    fn locks(&self, partition: u64) {
-        self.keeps.store(partition, Ordering::SeqCst);
-        if partition == self.partition && self.is_reading.load(Ordering::SeqCst) {
-            self.has_read.store(true, Ordering::SeqCst);
-        }
-    }
-
-    /// Whether an operation of worker 0 that begins is the one that is held.
-    fn is_held(&self) -> bool {
-        let held = if self.partition == 0 {
-            HELD
-        } else {
-            HELD_OF_TWO
-        };
-        self.begun.fetch_add(1, Ordering::SeqCst) == held
     }
 
     /// Holds whoever comes until the compaction has read a page.
@@ -235,9 +209,6 @@ impl<'a> Caught<'a> {
 
     /// A compaction is going to read a page.
     fn reads(&self) {
-        if self.keeps.load(Ordering::SeqCst) != self.partition {
-            return;
-        }
         if !self.is_reading.swap(true, Ordering::SeqCst) {
             if let Some(fault) = self.fault {
                 fault.come();
@@ -250,8 +221,10 @@ impl<'a> Gate for Caught<'a> {
     fn pass(&self, worker: u32, place: Place) {
         match (worker, place) {
             (KEEPER, Place::Load) => self.reads(),
-            (KEEPER, Place::Locked(partition)) => self.locks(partition),
-            (0, Place::Start) if self.is_held() => self.hold(),
+            (KEEPER, Place::Locked(_)) if self.is_reading.load(Ordering::SeqCst) => {
+                self.has_read.store(true, Ordering::SeqCst);
+            }
+            (0, Place::Start) if self.begun.fetch_add(1, Ordering::SeqCst) == HELD => self.hold(),
             _ => {}
         }
     }
@@ -264,7 +237,7 @@ fn failing_compaction(rt: HostRuntime) -> Result<(), Fail> {
     let rows = fifty(alloc, 1_000, 3)?;
     let fault = Fault::after(u64::MAX);
     let device = FailingDevice::new(alloc, MemoryDevice::new(alloc), &fault);
-    let gate = Caught::by(0, Some(&fault));
+    let gate = Caught::by(Some(&fault));
     let made = summed_by::<Plain, _, _, _>(
         &rt,
         alloc,
@@ -280,24 +253,6 @@ fn failing_compaction(rt: HostRuntime) -> Result<(), Fail> {
     Ok(())
 }
 
-/// Each partition is compacted.
-#[test]
-fn compaction_of_the_second_partition(rt: HostRuntime) -> Result<(), Fail> {
-    let alloc = rt.alloc();
-    let rows = fifty(alloc, 2_000, 3)?;
-    let feeds = [rows.as_slice()];
-    let config = Config {
-        partition_bits: 1,
-        ..SMALL
-    };
-    let one = table::<Plain, _, _>(&rt, alloc, &feeds, 1, &SMALL, &Open, RowMode::Update)?;
-    let gate = Caught::by(1, None);
-    let made = table::<Plain, _, _>(&rt, alloc, &feeds, 1, &config, &gate, RowMode::Merge)?;
-    assert!(rt; gate.has_read.load(Ordering::SeqCst));
-    assert!(rt; made.as_slice() == one.as_slice());
-    Ok(())
-}
-
 /// A compaction that takes more events than an operation may take turns is passed over.
 #[test]
 fn stalled_compaction(rt: HostRuntime) -> Result<(), Fail> {
@@ -309,7 +264,7 @@ fn stalled_compaction(rt: HostRuntime) -> Result<(), Fail> {
         ..SMALL
     };
     let one = table::<Plain, _, _>(&rt, alloc, &feeds, 1, &SMALL, &Open, RowMode::Update)?;
-    let gate = Caught::by(0, None);
+    let gate = Caught::by(None);
     let made = table::<Plain, _, _>(&rt, alloc, &feeds, 1, &config, &gate, RowMode::Merge)?;
     assert!(rt; gate.has_read.load(Ordering::SeqCst));
     assert!(rt; made.as_slice() == one.as_slice());
