@@ -1,7 +1,6 @@
 use Rattle.std.proofs.Common.{◌≡◌, ◌≤◌, ◌*◌, ◌^◌, ℤ, List, length, take, drop, map}
 use Rattle.fkv_functions.specs.declared.names.Name.{Name}
 use Rattle.fkv_feeds.specs.Tables.{AreFeeds, StandsFor, most_rows}
-
 use Rattle.fkv_feeds.proofs.running.read_feeds.Given as goal
 
 abbrev pub invariant-loop-index : goal.invariant-loop-index

@@ -8,7 +8,7 @@ use Rattle.fkv_feeds.proofs.running.run_alone_by.Goals as goal
 
 pub returns-in-Ok-read_feed-clause-ok : goal.returns-in-Ok-read_feed-clause-ok
 returns-in-Ok-read_feed-clause-ok g c =
-    let found = c.in-Ok-read_feed.ensures.ok [] c.in-Ok.ensures.ok in
+    let found = c.in-Ok-read_feed.ensures.ok [] c.in-Ok.ensures.stands in
     λ keeps. both_ok (λ run. IsTableOf g.F.Functions.meaning (g.S.Source.remaining c.args.feed.now ∷ []) run.table) c.finish.result (c.finish.ensures.value keeps) c.finish.ensures.rising
     (λ run value rising. record {
       rows = found.0;
@@ -45,5 +45,5 @@ returns-in-Ok-read_feed-clause-told g c =
 
 pub returns-in-Ok-read_feed-clause-counted : goal.returns-in-Ok-read_feed-clause-counted
 returns-in-Ok-read_feed-clause-counted g c =
-    let found = c.in-Ok-read_feed.ensures.ok [] c.in-Ok.ensures.ok in
+    let found = c.in-Ok-read_feed.ensures.ok [] c.in-Ok.ensures.stands in
     IfOk-weaker c.finish.result _ _ (λ run same. (found.0, (found.0, [], found.1, refl, sym (append-nil found.0)), same ∙ found.3)) c.finish.ensures.counted
