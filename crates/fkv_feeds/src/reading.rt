@@ -1,5 +1,5 @@
 //! Reading a feed into the store of a run.
-ghost use Rattle.std.specs.Prelude.{◌≡◌, ◌≤◌, ◌++◌, ℤ, List, length, OnOk, IfOk, IfErr};
+ghost use Rattle.std.specs.Prelude.{◌≡◌, ◌≤◌, ◌++◌, ◌∷◌, [], ℤ, List, length, IsTrue, OnOk, IfOk, IfErr};
 ghost use Rattle.fkv_functions.specs.declared.names.Name.{Name};
 ghost use Rattle.fkv_functions.specs.Names.{name_cmp};
 ghost use Rattle.fkv_feed_rows.specs.Feeds.{IsFeed, TellsWhy};
@@ -22,6 +22,34 @@ pub struct RowStore<F: Mergeable, D: Disk> {
     pub mode: RowMode,
 }
 
+/// Makes a row an update of the store. Where rows are made merges, the functions merge and the logs are kept whole, no page is read.
+/// Refused as [`LocalStore::rmw`] is; then the store is the map that it was.
+fn add_row<F: Mergeable<Key = Name, Input = i64>, D: Disk>(
+    rows: &mut RowStore<F, D>,
+    key: &Name,
+    amount: i64,
+) -> Result<(), Refused>
+    ensures ok { OnOk result ((before : List (Name × ℤ)) → StandsFor D.Receipt.keeps F.meaning F.code rows.old.store before
+        → StandsFor D.Receipt.keeps F.meaning F.code rows.new.store (before ++ (key.now, amount) ∷ [])) }
+    ensures told { IfErr result (IsRowRefusal (IsRunFault D.Receipt.keeps D.failures D.Writer.failures D.Reader.failures
+        F.Value.bytes_of F.Value.is_known F.Value.SIZE)) }
+    ensures unread { IsTrue F.MERGES → rows.old.mode ≡ RowMode.Merge → IsTrue rows.old.store.keeps_log
+        → rows.new.store.readers ≡ rows.old.store.readers }
+    ensures same_log { rows.old.mode ≡ RowMode.Merge → rows.new.store.keeps_log ≡ rows.old.store.keeps_log }
+    ensures same_mode { rows.new.mode ≡ rows.old.mode }
+{
+    match rows.mode {
+        RowMode::Update => match rows.store.rmw(key, &amount) {
+            Ok(_answer) => Ok(()),
+            Err(refused) => Err(refused),
+        },
+        RowMode::Merge => match rows.store.update_or_merge(key, &amount) {
+            Ok(_answer) => Ok(()),
+            Err(refused) => Err(refused),
+        },
+    }
+}
+
 impl<F: Mergeable<Key = Name, Input = i64>, D: Disk> RowSink for RowStore<F, D> {
     ghost stands = { λ s rows. StandsFor D.Receipt.keeps F.meaning F.code s.store rows };
 
@@ -29,16 +57,7 @@ impl<F: Mergeable<Key = Name, Input = i64>, D: Disk> RowSink for RowStore<F, D> 
         F.Value.bytes_of F.Value.is_known F.Value.SIZE) };
 
     fn add(&mut self, key: &Name, amount: i64) -> Result<(), Refused> {
-        match self.mode {
-            RowMode::Update => match self.store.rmw(key, &amount) {
-                Ok(_answer) => Ok(()),
-                Err(refused) => Err(refused),
-            },
-            RowMode::Merge => match self.store.update_or_merge(key, &amount) {
-                Ok(_answer) => Ok(()),
-                Err(refused) => Err(refused),
-            },
-        }
+        add_row(self, key, amount)
     }
 }
 

@@ -40,6 +40,8 @@ fn opened<F: Mergeable<Key = Name, Input = i64>, D: Disk>(
 ) -> Result<RowStore<F, D>, Refused>
     requires limits { IsWithinLimits config.now (size_of 32 F.Value.SIZE) }
     ensures stands { IfOk result (λ rows. StandsFor D.Receipt.keeps F.meaning F.code rows.store []) }
+    ensures kept { IfOk result (λ rows. mode ≡ RowMode.Merge → IsTrue rows.store.keeps_log) }
+    ensures mode { IfOk result (λ rows. rows.mode ≡ mode) }
     ensures told { IfErr result (FailsOnlyBy 1 0 (D.failures device.old) (D.failures device.new)) }
 {
     let mut store = match LocalStore::open(alloc, config, functions, device) {
