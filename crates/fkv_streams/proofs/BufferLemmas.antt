@@ -48,6 +48,28 @@ pub passes-front : (a b c : Option (List ℕ)) (before held xs ys : List ℕ) �
 passes-front a b c before held xs ys p q =
     subst (AppendsPrefix a c) (sym (append_assoc p.0 held ys) ∙ ap (λ t. t ++ ys) p.2 ∙ append_assoc before xs ys) (prefix-behind a b c p.0 (held ++ ys) p.1 q)
 
+-- a front of what is put is one of more
+pub prefix-longer : (a b : Option (List ℕ)) (before xs ys : List ℕ) → AppendsPrefix a b (before ++ xs) → AppendsPrefix a b (before ++ (xs ++ ys))
+prefix-longer a b before xs ys p = subst (AppendsPrefix a b) (append_assoc before xs ys) (prefix-more a b (before ++ xs) ys p)
+
+-- the same of a call that comes last
+pub passes-last : {T E : Type 0} (a b c : Option (List ℕ)) (before held after xs ys : List ℕ) (r : Result T E) → PassesOn a b held (before ++ xs) → OnOk r (PassesOn b c after (held ++ ys)) → OnOk r (PassesOn a c after (before ++ (xs ++ ys)))
+passes-last a b c before held after xs ys (Ok x) p q = passes-behind a b c before held after xs ys p q
+passes-last a b c before held after xs ys (Err e) p q = tt
+
+pub front-last : {T E : Type 0} (a b c : Option (List ℕ)) (before held xs ys : List ℕ) (r : Result T E) → PassesOn a b held (before ++ xs) → OnErr r (AppendsPrefix b c (held ++ ys)) → OnErr r (AppendsPrefix a c (before ++ (xs ++ ys)))
+front-last a b c before held xs ys (Ok x) p q = tt
+front-last a b c before held xs ys (Err e) p q = passes-front a b c before held xs ys p q
+
+-- what was held back is written at the end
+pub passes-out : {T E : Type 0} (a b c : Option (List ℕ)) (held bytes : List ℕ) (r : Result T E) → PassesOn a b held bytes → OnOk r (Appends b c held) → OnOk r (Appends a c bytes)
+passes-out a b c held bytes (Ok x) p q = subst (Appends a c) p.2 (Appends-trans a b c p.0 held p.1 q)
+passes-out a b c held bytes (Err e) p q = tt
+
+pub front-out : {T E : Type 0} (a b c : Option (List ℕ)) (held bytes : List ℕ) (r : Result T E) → PassesOn a b held bytes → OnErr r (AppendsPrefix b c held) → OnErr r (AppendsPrefix a c bytes)
+front-out a b c held bytes (Ok x) p q = tt
+front-out a b c held bytes (Err e) p q = subst (AppendsPrefix a c) p.2 (prefix-behind a b c p.0 held p.1 q)
+
 -- nothing was put yet
 pub passes-none : (a : Option (List ℕ)) (held : List ℕ) → PassesOn a a held (held ++ [])
 passes-none a held = ([], Appends-nil a, sym (append-nil held))
