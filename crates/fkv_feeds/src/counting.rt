@@ -1,11 +1,11 @@
 //! How much a run did.
 use crate::modes::RowMode;
 use crate::shards::Shard;
-use crate::tables::Table;
 use fkv_device::Disk;
 use fkv_functions::Mergeable;
 use fkv_partition::Config;
 use fkv_records::{FIRST, record_size};
+use fkv_runs::Table;
 
 /// How much a run did.
 #[derive(Clone, Copy, Debug, PartialEq, Eq)]

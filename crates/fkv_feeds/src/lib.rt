@@ -7,13 +7,12 @@ pub mod modes;
 pub mod reading;
 pub mod running;
 pub mod shards;
-pub mod tables;
 pub mod tidying;
 pub mod updating;
 pub mod writing;
 
 pub use counting::{Counts, Plan, Run};
+pub use fkv_runs::Table;
 pub use modes::RowMode;
 pub use running::{LIMIT, run_alone, run_alone_by, run_one, run_one_by};
-pub use tables::Table;
 pub use writing::write_table;

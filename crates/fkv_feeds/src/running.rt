@@ -17,10 +17,10 @@ use crate::gathering::live;
 use crate::modes::RowMode;
 use crate::reading::read_feed;
 use crate::shards::Shards;
-use crate::tables::Table;
 use fkv_device::Disk;
 use fkv_functions::{Mergeable, Name, Refused};
 use fkv_partition::Config;
+use fkv_runs::Table;
 use fkv_streams::Source;
 use std::alloc::Global;
 
@@ -53,17 +53,22 @@ fn finish<F: Mergeable<Key = Name, Input = i64>, D: Disk>(
         (map (λ shard. D.Reader.failures shard.reader) shards.old.shards.items)
         (map (λ shard. D.Reader.failures shard.reader) shards.new.shards.items)) }
 {
-    match live(shards.terms.functions, alloc, shards.shards.as_mut_slice()) {
-        Ok(live) => Ok(Run {
-            table: Table::new(live),
-            counts: Counts {
-                rows,
-                appended: Some(appended(shards.shards.as_slice())),
-            },
-            plan,
-        }),
-        Err(refused) => Err(refused),
-    }
+    let live = match live(shards.terms.functions, alloc, shards.shards.as_mut_slice()) {
+        Ok(live) => live,
+        Err(refused) => return Err(refused),
+    };
+    let table = match Table::of_map(alloc, &live) {
+        Ok(table) => table,
+        Err(refused) => return Err(refused),
+    };
+    Ok(Run {
+        table,
+        counts: Counts {
+            rows,
+            appended: Some(appended(shards.shards.as_slice())),
+        },
+        plan,
+    })
 }
 
 /// Reads feeds, one after the other, into a store that stands for no rows. Answers how many rows they have.

@@ -3,7 +3,6 @@ ghost use Rattle.std.specs.Prelude.{◌≡◌, ◌⊎◌, ◌∷◌, ◌++◌, [
 ghost use Rattle.std.specs.Io.KnownBytes.{Appends};
 ghost use Rattle.csv.specs.Quoting.{needs_byte};
 ghost use Rattle.csv.specs.Writing.{default_writer, escaped, field_text, needs_quotes, quoted};
-ghost use Rattle.fkv_functions.specs.declared.names.Name.{Name};
 ghost use Rattle.fkv_streams.specs.Counting.{CountsOnly};
 ghost use Rattle.fkv_streams.specs.Streams.{AppendsPrefix, PassesOn};
 ghost use Rattle.fkv_feeds.specs.Writing.{pair_text, table_text};
@@ -111,25 +110,25 @@ fn put_ended<W: Sink>(
 fn put_row<V: Integer, W: Sink>(
     buffer: &mut WriteBuffer,
     sink: &mut W,
-    key: &Name,
-    value: V,
+    pair: &(Name, V),
 ) -> Result<(), Refused>
     ensures ok { OnOk result (PassesOn (W.contents sink.old) (W.contents sink.new) buffer.new
-        (buffer.old ++ pair_text V.text (key.now, value))) }
+        (buffer.old ++ pair_text V.text pair.now)) }
     ensures refused { OnErr result (AppendsPrefix (W.contents sink.old) (W.contents sink.new)
-        (buffer.old ++ pair_text V.text (key.now, value))) }
+        (buffer.old ++ pair_text V.text pair.now)) }
     ensures only { IfErr result (λ refused. refused ≡ Refused.Unwritable) }
     ensures counted { CountsOnly Refused.Unwritable result (W.failures sink.old) (W.failures sink.new) }
 {
     let mut digits = Buffer::new();
-    let value = digits.format(value).as_bytes();
-    match put_ended(buffer, sink, key.bytes(), b',') {
+    let value = digits.format(pair.1).as_bytes();
+    let key = pair.0.bytes();
+    match put_ended(buffer, sink, key, b',') {
         Ok(()) => put_ended(buffer, sink, value, b'\n'),
         Err(refused) => Err(refused),
     }
 }
 
-/// Writes a table, a row for each key, in order, and lets it out. Its rows are gathered in 64 KiB; no text of the whole is made.
+/// Writes a table, a row for each key, in order, and lets it out. Its rows are gathered in 64 KiB: no text of all of them is made.
 ///
 /// # Errors
 ///
@@ -157,8 +156,8 @@ pub fn write_table<V: Integer, W: Sink>(
         Ok(buffer) => buffer,
         Err(refused) => return Err(refused),
     };
-    while let Some((key, value)) = pairs.next() {
-        match put_row(&mut buffer, writer, &key, value) {
+    while let Some(pair) = pairs.next() {
+        match put_row(&mut buffer, writer, &pair) {
             Ok(()) => {}
             Err(refused) => return Err(refused),
         }
