@@ -2,13 +2,9 @@
 #![tactic(auto)]
 
 pub mod counting;
-pub mod gathering;
 pub mod modes;
 pub mod reading;
 pub mod running;
-pub mod shards;
-pub mod tidying;
-pub mod updating;
 pub mod writing;
 
 pub use counting::{Counts, Plan, Run};
