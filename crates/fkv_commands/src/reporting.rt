@@ -69,7 +69,7 @@ impl Report {
         ensures seen { result.seen ≡ seen }
     {
         Report {
-            keys: run.table.map().len(),
+            keys: run.table.len(),
             counts: run.counts,
             plan: run.plan,
             seen,

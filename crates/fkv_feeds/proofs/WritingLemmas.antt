@@ -1,14 +1,95 @@
 -- The text of a table, row by row.
-use Rattle.std.proofs.Common.{◌≡◌, true, List, ◌++◌, Result, Ok, Err, Some, ap, ◌∙◌}
-use Rattle.std.specs.Prelude.{OnOk}
-use Rattle.std.specs.Result.{is_ok}
+use Rattle.std.proofs.Common.{◌≡◌, ◌<◌, ◌≤◌, ◌+◌, true, false, ℕ, List, [], ◌∷◌, ◌++◌, Option, Some, None, Result, take, drop, get_or, length, refl, sym, ap, subst, ◌∙◌, append_assoc}
+use Rattle.std.specs.Prelude.{OnErr}
+use Rattle.std.proofs.lemmas.List.{append-nil, take_more, take_all, take-append-drop}
+use Rattle.csv.specs.Writing.{default_writer, escaped, field_text, fields_text, is_blank, needs_quotes, row_text}
+use Rattle.csv.proofs.WriteFacts.{escaped-append}
+use Rattle.fkv_functions.specs.declared.names.Name.{Name}
+use Rattle.fkv_runs.specs.Merging.{first_pair}
+use Rattle.fkv_feeds.specs.Writing.{pair_text, table_text}
+use Rattle.fkv_streams.specs.Streams.{AppendsPrefix, PassesOn}
+use Rattle.fkv_streams.proofs.BufferLemmas.{prefix-more, prefix-longer, passes-behind, passes-front, front-out, passes-none}
 
-pub ok-holds : {T E P : Type 0} (r : Result T E) → is_ok r ≡ true → OnOk r P → P
-ok-holds (Ok x) e p = p
-ok-holds (Err y) e p = absurd (cc)
+-- a field in quotes, and one without
+pub field-plain : (field : List ℕ) → needs_quotes default_writer field ≡ false → field_text default_writer field ≡ field
+field-plain field e = rw e refl
 
--- a row behind what was written
-pub more-written : {A : Type 0} (t written row new : List A) → Some written ≡ Some t → new ≡ written ++ row → Some new ≡ Some (t ++ row)
-more-written t written row new e is =
-    let s : written ≡ t = cc in
-    ap (λ x. Some x) (is ∙ ap (λ x. x ++ row) s)
+pub field-quoted : (field : List ℕ) → needs_quotes default_writer field ≡ true → field_text default_writer field ≡ (34 ∷ []) ++ (escaped default_writer field ++ 34 ∷ [])
+field-quoted field e = rw e refl
+
+-- a row, field by field
+pub row-parts : (key value : List ℕ) → (field_text default_writer key ++ 44 ∷ []) ++ (field_text default_writer value ++ 10 ∷ []) ≡ row_text default_writer (key ∷ value ∷ [])
+unfolding fields_text is_blank
+row-parts key value =
+    let k : List ℕ = field_text default_writer key in
+    let v : List ℕ = field_text default_writer value in
+    append_assoc k (44 ∷ []) (v ++ 10 ∷ []) ∙ sym (append_assoc k (44 ∷ (v ++ [])) (10 ∷ []) ∙ ap (λ t. k ++ (44 ∷ (t ++ 10 ∷ []))) (append-nil v))
+
+-- ---- the bytes of a field in quotes
+pub escaped-start : (a : Option (List ℕ)) (held : List ℕ) → PassesOn a a held (held ++ escaped default_writer [])
+unfolding escaped
+escaped-start a held = passes-none a held
+
+pub escaped-more : (a b c : Option (List ℕ)) (before held after field : List ℕ) (i : ℕ) → i < length field
+    → PassesOn a b held (before ++ escaped default_writer (take i field))
+    → PassesOn b c after (held ++ escaped default_writer (get_or field i 0 ∷ []))
+    → PassesOn a c after (before ++ escaped default_writer (take (i + 1) field))
+escaped-more a b c before held after field i low p q =
+    subst (λ t. PassesOn a c after (before ++ t))
+    (sym (escaped-append default_writer (take i field) (get_or field i 0 ∷ [])) ∙ ap (escaped default_writer) (sym (take_more field i 0 low)))
+    (passes-behind a b c before held after (escaped default_writer (take i field)) (escaped default_writer (get_or field i 0 ∷ [])) p q)
+
+pub escaped-front : (a b c : Option (List ℕ)) (before held field : List ℕ) (i : ℕ) → i < length field
+    → PassesOn a b held (before ++ escaped default_writer (take i field))
+    → AppendsPrefix b c (held ++ escaped default_writer (get_or field i 0 ∷ []))
+    → AppendsPrefix a c (before ++ (escaped default_writer field ++ 34 ∷ []))
+escaped-front a b c before held field i low p q =
+    let taken : escaped default_writer (take i field) ++ escaped default_writer (get_or field i 0 ∷ []) ≡ escaped default_writer (take (i + 1) field) =
+    sym (escaped-append default_writer (take i field) (get_or field i 0 ∷ [])) ∙ ap (escaped default_writer) (sym (take_more field i 0 low)) in
+    let here : AppendsPrefix a c (before ++ escaped default_writer (take (i + 1) field)) =
+    subst (λ t. AppendsPrefix a c (before ++ t)) taken
+    (passes-front a b c before held (escaped default_writer (take i field)) (escaped default_writer (get_or field i 0 ∷ [])) p q) in
+    let whole : escaped default_writer (take (i + 1) field) ++ (escaped default_writer (drop (i + 1) field) ++ 34 ∷ []) ≡ escaped default_writer field ++ 34 ∷ [] =
+    sym (append_assoc (escaped default_writer (take (i + 1) field)) (escaped default_writer (drop (i + 1) field)) (34 ∷ []))
+    ∙ ap (λ t. t ++ 34 ∷ []) (sym (escaped-append default_writer (take (i + 1) field) (drop (i + 1) field)) ∙ ap (escaped default_writer) (take-append-drop (i + 1) field)) in
+    subst (λ t. AppendsPrefix a c (before ++ t)) whole
+    (prefix-longer a c before (escaped default_writer (take (i + 1) field)) (escaped default_writer (drop (i + 1) field) ++ 34 ∷ []) here)
+
+pub escaped-whole : (a b : Option (List ℕ)) (before held field : List ℕ) (i : ℕ) → length field ≤ i
+    → PassesOn a b held (before ++ escaped default_writer (take i field)) → PassesOn a b held (before ++ escaped default_writer field)
+escaped-whole a b before held field i all p = subst (λ t. PassesOn a b held (before ++ escaped default_writer t)) (take_all i field all) p
+
+-- ---- rows, one after the other
+module _ {A : Type 0} where
+  pub first-cons : (xs : List A) (x : A) → Some x ≡ first_pair xs → xs ≡ x ∷ drop 1 xs
+  first-cons [] x e = absurd (cc)
+  first-cons (y ∷ ys) x e = (let s : y ≡ x = cc in ap (λ z. z ∷ ys) s)
+
+module _ {V : Type 0} (value : V → List ℕ) where
+  -- the rows so far were put, and with those of the pairs that are left they are the table's text
+  abbrev pub Written : Option (List ℕ) → Option (List ℕ) → List ℕ → List (Name × V) → List (Name × V) → Type 0
+  Written a b held left all = (done : List ℕ) × PassesOn a b held done × (done ++ table_text value left ≡ table_text value all)
+
+  behind : (done : List ℕ) (left all : List (Name × V)) (x : Name × V) → Some x ≡ first_pair left → done ++ table_text value left ≡ table_text value all
+      → (done ++ pair_text value x) ++ table_text value (drop 1 left) ≡ table_text value all
+  behind done left all x e h =
+      append_assoc done (pair_text value x) (table_text value (drop 1 left)) ∙ ap (λ xs. done ++ table_text value xs) (sym (first-cons left x e)) ∙ h
+
+  pub written-more : (a b c : Option (List ℕ)) (held after : List ℕ) (left all : List (Name × V)) (x : Name × V) → Some x ≡ first_pair left
+      → Written a b held left all → PassesOn b c after (held ++ pair_text value x) → Written a c after (drop 1 left) all
+  written-more a b c held after left all x e w p =
+      (w.0 ++ pair_text value x, passes-behind a b c [] held after w.0 (pair_text value x) w.1 p, behind w.0 left all x e w.2)
+
+  pub written-front : (a b c : Option (List ℕ)) (held : List ℕ) (left all : List (Name × V)) (x : Name × V) → Some x ≡ first_pair left
+      → Written a b held left all → AppendsPrefix b c (held ++ pair_text value x) → AppendsPrefix a c (table_text value all)
+  written-front a b c held left all x e w p =
+      subst (AppendsPrefix a c) (behind w.0 left all x e w.2)
+      (prefix-more a c (w.0 ++ pair_text value x) (table_text value (drop 1 left)) (passes-front a b c [] held w.0 (pair_text value x) w.1 p))
+
+  whole : (a b : Option (List ℕ)) (held : List ℕ) (left all : List (Name × V)) → first_pair left ≡ None → Written a b held left all → PassesOn a b held (table_text value all)
+  whole a b held [] all e w = subst (PassesOn a b held) (sym (append-nil w.0) ∙ w.2) w.1
+  whole a b held (y ∷ ys) all e w = absurd (cc)
+
+  pub written-out : {T E : Type 0} (a b c : Option (List ℕ)) (held : List ℕ) (left all : List (Name × V)) (r : Result T E) → first_pair left ≡ None
+      → Written a b held left all → OnErr r (AppendsPrefix b c held) → OnErr r (AppendsPrefix a c (table_text value all))
+  written-out a b c held left all r e w p = front-out a b c held (table_text value all) r (whole a b held left all e w) p

@@ -1,7 +1,7 @@
 //! How much a run did.
 use crate::modes::RowMode;
-use crate::tables::Table;
 use fkv_partition::Config;
+use fkv_runs::Table;
 
 /// How much a run did.
 #[derive(Clone, Copy, Debug, PartialEq, Eq)]

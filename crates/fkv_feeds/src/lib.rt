@@ -5,11 +5,10 @@ pub mod counting;
 pub mod modes;
 pub mod reading;
 pub mod running;
-pub mod tables;
 pub mod writing;
 
 pub use counting::{Counts, Plan, Run};
+pub use fkv_runs::Table;
 pub use modes::RowMode;
 pub use running::{LIMIT, run_alone, run_alone_by, run_one, run_one_by};
-pub use tables::Table;
 pub use writing::write_table;

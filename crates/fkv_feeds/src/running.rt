@@ -1,5 +1,5 @@
 //! Runs over feeds, with one worker.
-ghost use Rattle.std.specs.Prelude.{◌≡◌, ◌≢◌, ◌≤◌, ◌∷◌, [], ℤ, List, map, length, IsTrue, Err, IfOk, IfErr, OnOk};
+ghost use Rattle.std.specs.Prelude.{◌≡◌, ◌≢◌, ◌≤◌, ◌⊎◌, ◌∷◌, [], ℤ, List, map, length, IsTrue, Err, IfOk, IfErr, OnOk};
 ghost use Rattle.std.specs.BTreeMap.{is_at};
 ghost use Rattle.std.specs.Map.{lookup, keys_of};
 ghost use Rattle.std.specs.List.Sorted.{IsStrictlySortedBy};
@@ -16,11 +16,11 @@ ghost use Rattle.fkv_local.specs.Refusing.{IsUnlisted};
 use crate::counting::{Counts, Plan, Run};
 use crate::modes::RowMode;
 use crate::reading::{RowStore, read_feed};
-use crate::tables::Table;
 use fkv_device::Disk;
 use fkv_functions::{Mergeable, Name, Refused};
 use fkv_local::LocalStore;
 use fkv_partition::Config;
+use fkv_runs::Table;
 use fkv_streams::Source;
 use std::alloc::Global;
 
@@ -57,6 +57,7 @@ fn opened<F: Mergeable<Key = Name, Input = i64>, D: Disk>(
 
 /// The run that a store stands for at its end, over so many rows. Refused: `NoMemory`, and as a device refuses pages.
 fn finish<F: Mergeable<Key = Name, Input = i64>, D: Disk>(
+    alloc: Global,
     store: LocalStore<F, D>,
     rows: u64,
     plan: Plan,
@@ -67,20 +68,25 @@ fn finish<F: Mergeable<Key = Name, Input = i64>, D: Disk>(
     ensures rising { IfOk result (λ run. IsStrictlySortedBy name_cmp (keys_of run.table)) }
     ensures counted { IfOk result (λ run. run.counts.rows ≡ rows) }
     ensures planned { IfOk result (λ run. run.plan ≡ plan) }
-    ensures told { IfErr result (IsUnlisted D.Receipt.keeps D.Reader.failures store.parts) }
+    ensures told { IfErr result (λ e. (e ≡ Refused.NoMemory) ⊎ IsUnlisted D.Receipt.keeps D.Reader.failures store.parts e) }
 {
     let appended = store.counts().records;
-    match store.into_map() {
-        Ok(live) => Ok(Run {
-            table: Table::new(live),
-            counts: Counts {
-                rows,
-                appended: Some(appended),
-            },
-            plan,
-        }),
-        Err(refused) => Err(refused),
-    }
+    let live = match store.into_map() {
+        Ok(live) => live,
+        Err(refused) => return Err(refused),
+    };
+    let table = match Table::of_map(alloc, &live) {
+        Ok(table) => table,
+        Err(refused) => return Err(refused),
+    };
+    Ok(Run {
+        table,
+        counts: Counts {
+            rows,
+            appended: Some(appended),
+        },
+        plan,
+    })
 }
 
 /// Reads feeds, one after the other, into a store that stands for no rows. Answers how many rows they have.
@@ -187,7 +193,7 @@ pub fn run_one_by<S: Source, F: Mergeable<Key = Name, Input = i64>, D: Disk>(
         Err(refused) => return Err(refused),
     };
     match read_feeds(alloc, feeds, &mut store) {
-        Ok(rows) => finish(store.store, rows, plan),
+        Ok(rows) => finish(alloc, store.store, rows, plan),
         Err(refused) => Err(refused),
     }
 }
@@ -256,7 +262,7 @@ pub fn run_alone_by<S: Source, F: Mergeable<Key = Name, Input = i64>, D: Disk>(
         Err(refused) => return Err(refused),
     };
     match read_feed(alloc, feed, 1, LIMIT, &mut store) {
-        Ok(rows) => finish(store.store, rows, plan),
+        Ok(rows) => finish(alloc, store.store, rows, plan),
         Err(refused) => Err(refused),
     }
 }

@@ -1,41 +1,134 @@
 //! Writing a table out.
-ghost use Rattle.std.specs.Prelude.{◌≡◌, ◌⊎◌, true, Err, IfOk, IfErr, OnOk};
+ghost use Rattle.std.specs.Prelude.{◌≡◌, ◌⊎◌, ◌∷◌, ◌++◌, [], true, Err, IfErr, OnOk, OnErr};
 ghost use Rattle.std.specs.Io.KnownBytes.{Appends};
+ghost use Rattle.csv.specs.Quoting.{needs_byte};
+ghost use Rattle.csv.specs.Writing.{default_writer, escaped, field_text, needs_quotes, quoted};
 ghost use Rattle.fkv_streams.specs.Counting.{CountsOnly};
-ghost use Rattle.fkv_streams.specs.Streams.{AppendsPrefix};
-ghost use Rattle.fkv_feeds.specs.Writing.{table_text};
+ghost use Rattle.fkv_streams.specs.Streams.{AppendsPrefix, PassesOn};
+ghost use Rattle.fkv_feeds.specs.Writing.{pair_text, table_text};
 
-use crate::tables::Table;
-use csv::WriterBuilder;
 use fkv_functions::{Name, Refused};
-use fkv_streams::{Sink, write_out};
+use fkv_runs::Table;
+use fkv_streams::{Sink, WriteBuffer};
 use itoa::{Buffer, Integer};
 use std::alloc::Global;
-use std::collections::BTreeMap;
 
-/// The text of a table's pairs. Refused: `NoMemory`.
-fn text_of<V: Integer>(alloc: Global, pairs: &BTreeMap<Name, V>) -> Result<Vec<u8>, Refused>
-    ensures ok { IfOk result (λ text. text.items ≡ table_text V.text pairs.now.entries) }
-    ensures only { IfErr result (λ refused. refused ≡ Refused.NoMemory) }
+/// The bytes that are gathered before they are written.
+const ROOM: usize = 65_536;
+
+/// Whether a byte calls for quotes round its field.
+fn calls_for_quotes(byte: u8) -> bool
+    ensures { result ≡ needs_byte default_writer byte }
 {
-    let mut writer = WriterBuilder::new().from_writer(Vec::new(alloc));
-    let mut buffer = Buffer::new();
-    for (name, value) in pairs {
-        let text = buffer.format(*value);
-        if writer
-            .write_fields(&[name.bytes(), text.as_bytes()])
-            .is_err()
-        {
-            return Err(Refused::NoMemory);
+    byte == b',' || byte == b'"' || byte == b'\r' || byte == b'\n'
+}
+
+/// Whether a field is put in quotes.
+fn is_quoted(field: &[u8]) -> bool
+    ensures { result ≡ needs_quotes default_writer field.now }
+{
+    for byte in field {
+        if calls_for_quotes(*byte) {
+            return true;
         }
     }
-    match writer.into_inner() {
-        Ok(text) => Ok(text),
-        Err(_) => Err(Refused::NoMemory),
+    false
+}
+
+/// Puts a byte of a field in quotes. Refused as [`WriteBuffer::put`].
+fn put_byte<W: Sink>(buffer: &mut WriteBuffer, sink: &mut W, byte: u8) -> Result<(), Refused>
+    ensures ok { OnOk result (PassesOn (W.contents sink.old) (W.contents sink.new) buffer.new
+        (buffer.old ++ escaped default_writer (byte ∷ []))) }
+    ensures refused { OnErr result (AppendsPrefix (W.contents sink.old) (W.contents sink.new)
+        (buffer.old ++ escaped default_writer (byte ∷ []))) }
+    ensures only { IfErr result (λ refused. refused ≡ Refused.Unwritable) }
+    ensures counted { CountsOnly Refused.Unwritable result (W.failures sink.old) (W.failures sink.new) }
+{
+    if byte == b'"' {
+        return buffer.put(sink, &[byte, byte]);
+    }
+    buffer.put(sink, &[byte])
+}
+
+/// Puts the bytes of a field in quotes, and the quote behind them. Refused as [`WriteBuffer::put`].
+fn put_escaped<W: Sink>(buffer: &mut WriteBuffer, sink: &mut W, field: &[u8]) -> Result<(), Refused>
+    ensures ok { OnOk result (PassesOn (W.contents sink.old) (W.contents sink.new) buffer.new
+        (buffer.old ++ (escaped default_writer field.now ++ 34 ∷ []))) }
+    ensures refused { OnErr result (AppendsPrefix (W.contents sink.old) (W.contents sink.new)
+        (buffer.old ++ (escaped default_writer field.now ++ 34 ∷ []))) }
+    ensures only { IfErr result (λ refused. refused ≡ Refused.Unwritable) }
+    ensures counted { CountsOnly Refused.Unwritable result (W.failures sink.old) (W.failures sink.new) }
+{
+    for byte in field {
+        match put_byte(buffer, sink, *byte) {
+            Ok(()) => {}
+            Err(refused) => return Err(refused),
+        }
+    }
+    buffer.put(sink, b"\"")
+}
+
+/// Puts a field as `csv` writes it: in quotes where a byte calls for them. Refused as [`WriteBuffer::put`].
+fn put_field<W: Sink>(buffer: &mut WriteBuffer, sink: &mut W, field: &[u8]) -> Result<(), Refused>
+    ensures ok { OnOk result (PassesOn (W.contents sink.old) (W.contents sink.new) buffer.new
+        (buffer.old ++ field_text default_writer field.now)) }
+    ensures refused { OnErr result (AppendsPrefix (W.contents sink.old) (W.contents sink.new)
+        (buffer.old ++ field_text default_writer field.now)) }
+    ensures only { IfErr result (λ refused. refused ≡ Refused.Unwritable) }
+    ensures counted { CountsOnly Refused.Unwritable result (W.failures sink.old) (W.failures sink.new) }
+{
+    if !is_quoted(field) {
+        return buffer.put(sink, field);
+    }
+    match buffer.put(sink, b"\"") {
+        Ok(()) => put_escaped(buffer, sink, field),
+        Err(refused) => Err(refused),
     }
 }
 
-/// Writes a table, a row for each key, in order, and lets it out.
+/// Puts a field, and what ends it. Refused as [`WriteBuffer::put`].
+fn put_ended<W: Sink>(
+    buffer: &mut WriteBuffer,
+    sink: &mut W,
+    field: &[u8],
+    end: u8,
+) -> Result<(), Refused>
+    ensures ok { OnOk result (PassesOn (W.contents sink.old) (W.contents sink.new) buffer.new
+        (buffer.old ++ (field_text default_writer field.now ++ end ∷ []))) }
+    ensures refused { OnErr result (AppendsPrefix (W.contents sink.old) (W.contents sink.new)
+        (buffer.old ++ (field_text default_writer field.now ++ end ∷ []))) }
+    ensures only { IfErr result (λ refused. refused ≡ Refused.Unwritable) }
+    ensures counted { CountsOnly Refused.Unwritable result (W.failures sink.old) (W.failures sink.new) }
+{
+    match put_field(buffer, sink, field) {
+        Ok(()) => buffer.put(sink, &[end]),
+        Err(refused) => Err(refused),
+    }
+}
+
+/// Puts a row: a key and its value. Refused as [`WriteBuffer::put`].
+fn put_row<V: Integer, W: Sink>(
+    buffer: &mut WriteBuffer,
+    sink: &mut W,
+    pair: &(Name, V),
+) -> Result<(), Refused>
+    ensures ok { OnOk result (PassesOn (W.contents sink.old) (W.contents sink.new) buffer.new
+        (buffer.old ++ pair_text V.text pair.now)) }
+    ensures refused { OnErr result (AppendsPrefix (W.contents sink.old) (W.contents sink.new)
+        (buffer.old ++ pair_text V.text pair.now)) }
+    ensures only { IfErr result (λ refused. refused ≡ Refused.Unwritable) }
+    ensures counted { CountsOnly Refused.Unwritable result (W.failures sink.old) (W.failures sink.new) }
+{
+    let mut digits = Buffer::new();
+    let value = digits.format(pair.1).as_bytes();
+    let key = pair.0.bytes();
+    match put_ended(buffer, sink, key, b',') {
+        Ok(()) => put_ended(buffer, sink, value, b'\n'),
+        Err(refused) => Err(refused),
+    }
+}
+
+/// Writes a table, a row for each key, in order, and lets it out. Its rows are gathered in 64 KiB: no text of all of them is made.
 ///
 /// # Errors
 ///
@@ -55,8 +148,19 @@ pub fn write_table<V: Integer, W: Sink>(
     ensures out { OnOk result (W.is_out writer.new ≡ true) }
     ensures counted { CountsOnly Refused.Unwritable result (W.failures writer.old) (W.failures writer.new) }
 {
-    match text_of(alloc, table.map()) {
-        Ok(text) => write_out(writer, text.as_slice()),
-        Err(refused) => Err(refused),
+    let mut pairs = match table.pairs(alloc) {
+        Ok(pairs) => pairs,
+        Err(refused) => return Err(refused),
+    };
+    let mut buffer = match WriteBuffer::new(alloc, ROOM) {
+        Ok(buffer) => buffer,
+        Err(refused) => return Err(refused),
+    };
+    while let Some(pair) = pairs.next() {
+        match put_row(&mut buffer, writer, &pair) {
+            Ok(()) => {}
+            Err(refused) => return Err(refused),
+        }
     }
+    buffer.finish(writer)
 }

@@ -1,5 +1,5 @@
 -- What is read of a stream of bytes, and what is written to one.
-use Rattle.std.specs.Prelude.{◌==◌, ℕ, zero, suc, List, [], ◌∷◌, Option, take, if◌then◌else◌}
+use Rattle.std.specs.Prelude.{◌≡◌, ◌==◌, ◌++◌, ℕ, zero, suc, List, [], ◌∷◌, Option, take, if◌then◌else◌}
 use Rattle.std.specs.Io.KnownBytes.{Appends}
 
 -- the bytes of the first lines: a line feed ends each, which the last may lack
@@ -17,3 +17,7 @@ lines_left (suc n) (b ∷ bs) = if b == 10 then lines_left n bs else lines_left 
 -- bytes from the front of these were written, and no others
 abbrev pub AppendsPrefix : Option (List ℕ) → Option (List ℕ) → List ℕ → Type 0
 AppendsPrefix old new bytes = (n : ℕ) × Appends old new (take n bytes)
+
+-- of these bytes the first were written, and the others are held back
+abbrev pub PassesOn : Option (List ℕ) → Option (List ℕ) → List ℕ → List ℕ → Type 0
+PassesOn old new held bytes = (sent : List ℕ) × Appends old new sent × (sent ++ held ≡ bytes)

@@ -234,8 +234,12 @@ where
         Err(refused) => return Err(refused),
     };
     tables_join::<F>();
+    let table = match Table::of_map(alloc, &closed.map) {
+        Ok(table) => table,
+        Err(refused) => return Err(refused),
+    };
     Ok(Run {
-        table: Table::new(closed.map),
+        table,
         counts: Counts {
             rows: closed.finished,
             appended: None,

@@ -1,5 +1,4 @@
 use Rattle.std.proofs.Common.{Err, inl, inr, ap}
-use Rattle.fkv_feeds.proofs.RunLemmas.{stands-new}
 use Rattle.fkv_feeds.proofs.running.opened.Goals as goal
 
 pub returns-in-Err-clause-told : goal.returns-in-Err-clause-told

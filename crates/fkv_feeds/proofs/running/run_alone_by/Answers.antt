@@ -3,7 +3,7 @@ use Rattle.std.proofs.lemmas.List.{append-nil}
 use Rattle.std.proofs.lemmas.Result.{IfOk-weaker}
 use Rattle.fkv_feeds.specs.Faults.{IsRunFault, IsDeviceFault}
 use Rattle.fkv_feeds.specs.Tables.{IsTableOf}
-use Rattle.fkv_feeds.proofs.FeedsLemmas.{stopped, devices-by, stopped-by, why_none, both_ok, err_weaker}
+use Rattle.fkv_feeds.proofs.FeedsLemmas.{stopped, devices-by, ended-by, stopped-by, why_none, both_ok, err_weaker}
 use Rattle.fkv_feeds.proofs.running.run_alone_by.Goals as goal
 
 pub returns-in-Ok-read_feed-clause-ok : goal.returns-in-Ok-read_feed-clause-ok
@@ -38,7 +38,7 @@ returns-in-Ok-read_feed-clause-told g c =
     let same : new ≡ old = ap (λ n. n ∷ []) c.in-Ok-read_feed.ensures.steady in
     err_weaker _ c.finish.result
     (λ e h. why_none (IsRunFault g.D.Receipt.Receipt.keeps g.D.Disk.failures g.D.Writer.PageWriter.failures g.D.Reader.PageReader.failures g.F.Value.Fixed.bytes_of g.F.Value.Known.is_known g.F.Value.Fixed.SIZE) c.args.config.now _ feeds old new e
-    (let fault = IsDeviceFault.unlisted _ _ h.reader h.reader_now h.refused in
+    (let fault = ended-by g.D.Receipt.Receipt.keeps g.D.Disk.failures g.D.Writer.PageWriter.failures g.D.Reader.PageReader.failures _ _ c.args.device _ e h in
     stopped-by (IsRunFault g.D.Receipt.Receipt.keeps g.D.Disk.failures g.D.Writer.PageWriter.failures g.D.Reader.PageReader.failures g.F.Value.Fixed.bytes_of g.F.Value.Known.is_known g.F.Value.Fixed.SIZE) feeds old new e same fault
     (devices-by g.D.Receipt.Receipt.keeps g.D.Disk.failures g.D.Writer.PageWriter.failures g.D.Reader.PageReader.failures _ _ e fault)))
     c.finish.ensures.told

@@ -1,16 +1,19 @@
-use Rattle.std.proofs.Common.{◌∙◌, ap, subst}
-use Rattle.std.specs.Prelude.{OnOk}
-use Rattle.std.specs.Io.KnownBytes.{Appends}
-use Rattle.fkv_streams.specs.Streams.{AppendsPrefix}
-use Rattle.fkv_feeds.specs.Writing.{table_text}
+use Rattle.std.proofs.Common.{rules, ◌≡◌, None, ◌∙◌}
+use Rattle.fkv_runs.specs.Merging.{first_pair}
+use Rattle.fkv_feeds.proofs.WritingLemmas.{written-more, written-front, written-out}
 use Rattle.fkv_feeds.proofs.writing.write_table.Goals as goal
 
-pub returns-in-Ok-clause-ok : goal.returns-in-Ok-clause-ok
-returns-in-Ok-clause-ok g c =
-    subst (λ text. OnOk c.write_out.result (Appends (g.W.Sink.contents c.args.writer.now) (g.W.Sink.contents c.write_out.new.writer) text))
-    (c.as_slice.ensures.value ∙ c.in-Ok.ensures.ok ∙ ap (table_text g.V.Integer.text) c.map.ensures) c.write_out.ensures.ok
+pub loop-pair-preserved : goal.loop-pair-preserved
+loop-pair-preserved g c = record {
+  put = rw c.next.ensures.after (written-more g.V.Integer.text _ _ _ c.loop-pair.buffer c.put_row.new.buffer c.loop-pair.pairs c.args.table.now c.in-Some.pair c.in-Some.ensures.pair c.loop-pair.invariant.put c.in-Ok-put_row.ensures.ok);
+  counted = c.in-Ok-put_row.ensures.counted.steady (λ e. cc) ∙ c.loop-pair.invariant.counted;
+}
 
-pub returns-in-Ok-clause-unwritable : goal.returns-in-Ok-clause-unwritable
-returns-in-Ok-clause-unwritable g c =
-    λ e. subst (λ text. AppendsPrefix (g.W.Sink.contents c.args.writer.now) (g.W.Sink.contents c.write_out.new.writer) text)
-    (c.as_slice.ensures.value ∙ c.in-Ok.ensures.ok ∙ ap (table_text g.V.Integer.text) c.map.ensures) (rw e at c.write_out.ensures.refused)
+pub returns-in-Err-put_row-clause-unwritable : goal.returns-in-Err-put_row-clause-unwritable
+returns-in-Err-put_row-clause-unwritable g c =
+    λ e. written-front g.V.Integer.text _ _ _ c.loop-pair.buffer c.loop-pair.pairs c.args.table.now c.in-Some.pair c.in-Some.ensures.pair c.loop-pair.invariant.put c.in-Err-put_row.ensures.refused
+
+pub returns-clause-unwritable : goal.returns-clause-unwritable
+returns-clause-unwritable g c =
+    let none : first_pair c.loop-pair.pairs ≡ None = search rules in
+    λ e. rw e at (written-out g.V.Integer.text _ _ _ c.loop-pair.buffer c.loop-pair.pairs c.args.table.now c.finish.result none c.loop-pair.invariant.put c.finish.ensures.refused)

@@ -17,9 +17,9 @@ returns-clause-ok g c keeps held =
     let has : AllZip (HasShare g.F.Functions.code (length histories)) owns fed.shares =
     counted g.F.Functions.code (length histories) c.in-Ok-worked.passes.items fed.shares (λ i d lt. (c.in-Ok-close.ensures.own i d lt).1 ∙ sym many) fed.kept in
     let some : 0 < c.in-Ok.store.count = search rules in
-    c.tables_join.ensures.table (map g.S.Source.remaining c.args.feeds.items) fed.shares owns histories c.new.result fed.fed has
-    (record { some = rw many some; each = λ p history at. (closed.merged p history at).1 }) (λ k. rw c.new.ensures.pairs (closed.made k))
-    (rw c.new.ensures.pairs c.new.ensures.rising)
+    c.tables_join.ensures.table (map g.S.Source.remaining c.args.feeds.items) fed.shares owns histories c.in-Ok-of_map.table fed.fed has
+    (record { some = rw many some; each = λ p history at. (closed.merged p history at).1 }) (λ k. rw c.in-Ok-of_map.ensures.pairs (closed.made k))
+    c.in-Ok-of_map.ensures.rising
 
 pub returns-clause-good : goal.returns-clause-good
 returns-clause-good g c k =
@@ -28,6 +28,11 @@ returns-clause-good g c k =
 
 pub returns-in-Err-close-clause-good : goal.returns-in-Err-close-clause-good
 returns-in-Err-close-clause-good g c k =
+    subst (λ n. IsRunnable c.args.config.now (size_of 32 g.F.Value.Fixed.SIZE) c.args.workers n) (c.len.ensures ∙ c.args.feeds.ok.0)
+    (c.if-not-is_runnable.ensures.0 refl)
+
+pub returns-in-Err-of_map-clause-good : goal.returns-in-Err-of_map-clause-good
+returns-in-Err-of_map-clause-good g c k =
     subst (λ n. IsRunnable c.args.config.now (size_of 32 g.F.Value.Fixed.SIZE) c.args.workers n) (c.len.ensures ∙ c.args.feeds.ok.0)
     (c.if-not-is_runnable.ensures.0 refl)
 
