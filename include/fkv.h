@@ -1,8 +1,8 @@
 /* fkv: a key-value store for one thread, from C.
  *
- * A store keeps a number for each name, in memory, and changes it by inputs. The library is written and proved in Rattle: what each
- * call does is a contract of its function in crates/fkv_c, which the checker proves. The contracts assume that the caller owes what
- * stands here as "owed". Nothing checks that.
+ * A store keeps a number for each name, in memory, and changes it by inputs: sums, maxima or capped sums. The library is written and
+ * proved in Rattle: what each call does is a contract of its function in crates/fkv_c, which the checker proves. The contracts assume
+ * that the caller owes what stands here as "owed". Nothing checks that.
  *
  * Link with crates/fkv_c/out/libfkv_c.a, and behind it liblibc_c.a of the kit (libc/c/heap.c, which calls malloc, realloc and free).
  *
@@ -52,12 +52,15 @@ enum {
     FKV_BAD_KEY = 36,     /* the name has no byte, or more than 31 */
     FKV_BAD_KIND = 37,    /* there is no such kind of store */
     FKV_NULL = 38,        /* a pointer is null */
-    FKV_SAME = 39         /* the store and the cursor are one handle */
+    FKV_SAME = 39,        /* the store and the cursor are one handle */
+    FKV_OUT_OF_RANGE = 40 /* the value that was to be set has more bits than the store's values */
 };
 
-/* Kinds of stores. */
+/* Kinds of stores: what they make of the inputs of a name. */
 enum {
-    FKV_SUM = 1 /* adds up inputs, modulo 2^128 */
+    FKV_SUM = 1,       /* adds them up, modulo 2^128 */
+    FKV_MAX = 2,       /* keeps the greatest; values have 64 bits */
+    FKV_CAPPED_SUM = 3 /* adds them up, and declines an input by which the sum would be below 0 or above 1,000,000; it does not merge */
 };
 
 /* Kinds of answers. */
@@ -130,7 +133,7 @@ static inline uint32_t fkv_open(fkv_handle *store, uint32_t kind, const fkv_sett
     return store && settings ? fkv_c_open(store, kind, settings) : FKV_NULL;
 }
 
-/* Adds the input to the value of a name, or gives it its first, and answers the new value. */
+/* Changes the value of a name by an input, or gives it its first, and answers the new value, or FKV_DECLINED where it is as it was. */
 static inline uint32_t fkv_rmw(fkv_handle *store, const void *name, size_t length, int64_t input, fkv_answer *answer) {
     return store && name && answer ? fkv_c_rmw(store, name, length, input, answer) : FKV_NULL;
 }
@@ -150,7 +153,7 @@ static inline uint32_t fkv_delete(fkv_handle *store, const void *name, size_t le
     return store && name && answer ? fkv_c_delete(store, name, length, answer) : FKV_NULL;
 }
 
-/* Adds the input as fkv_rmw does, answers FKV_STORED and no value, and reads no page. */
+/* Changes the value as fkv_rmw does, answers FKV_STORED and no value, and reads no page. */
 static inline uint32_t fkv_merge(fkv_handle *store, const void *name, size_t length, int64_t input, fkv_answer *answer) {
     return store && name && answer ? fkv_c_merge(store, name, length, input, answer) : FKV_NULL;
 }

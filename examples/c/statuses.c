@@ -73,5 +73,24 @@ int main(void) {
         printf("  %" PRIu64 " %" PRIu64 " %s %" PRIu64 " %" PRId64 "\n", pair.is_some, pair.length, pair.name, pair.value.low, pair.value.high);
     }
     show("close the cursor", fkv_close(&cursor));
+
+    show("maxima", fkv_open(&store, FKV_MAX, &settings));
+    show_answer("first", fkv_rmw(&store, "a", 1, -5, &answer), &answer);
+    show_answer("less", fkv_rmw(&store, "a", 1, -6, &answer), &answer);
+    show_answer("too large", fkv_upsert(&store, "a", 1, (fkv_number){0, 1}, &answer), &answer);
+    show_answer("greatest", fkv_upsert(&store, "b", 1, (fkv_number){INT64_MAX, 0}, &answer), &answer);
+    show("list", fkv_list(&store, &cursor));
+    for (int row = 0; row < 3; row++) {
+        show("next", fkv_next(&cursor, &pair));
+        printf("  %" PRIu64 " %" PRIu64 " %s %" PRIu64 " %" PRId64 "\n", pair.is_some, pair.length, pair.name, pair.value.low, pair.value.high);
+    }
+    show("close", fkv_close(&cursor));
+    show("close", fkv_close(&store));
+    show("capped", fkv_open(&store, FKV_CAPPED_SUM, &settings));
+    show_answer("within", fkv_rmw(&store, "a", 1, 1000000, &answer), &answer);
+    show_answer("above", fkv_rmw(&store, "a", 1, 1, &answer), &answer);
+    show_answer("still", fkv_read(&store, "a", 1, &answer), &answer);
+    show_answer("no merge", fkv_merge(&store, "a", 1, 1, &answer), &answer);
+    show("close", fkv_close(&store));
     return 0;
 }

@@ -1,4 +1,4 @@
-"""The store of one thread, from Python: sums of numbers by name.
+"""The store of one thread, from Python: sums, maxima and capped sums of numbers by name.
 
     import fkv
 
@@ -18,10 +18,10 @@ import ctypes
 import os
 import re
 
-SUM = 1
+SUM, MAX, CAPPED_SUM = 1, 2, 3
 
 _CLOSED = 32
-_ABSENT = 1
+_ABSENT, _DECLINED = 1, 4
 
 
 class _Handle(ctypes.Structure):
@@ -170,13 +170,14 @@ class Store:
             self.close()
 
     def rmw(self, name, number):
-        """Adds a number of 64 bits to the value of a name, or gives it its first, and returns the new one."""
+        """Changes the value of a name by a number of 64 bits, or gives it its first. Returns the new one, or None where the store declined
+        it and the value is as it was."""
         key = _bytes_of(name)
         _call("rmw", self._store, key, len(key), _input_of(number), self._answer)
-        return self._answer.value.value()
+        return None if self._answer.kind == _DECLINED else self._answer.value.value()
 
     def merge(self, name, number):
-        """Adds as `rmw` does, returns nothing, and reads no page."""
+        """Changes the value as `rmw` does, returns nothing, and reads no page."""
         key = _bytes_of(name)
         _call("merge", self._store, key, len(key), _input_of(number), self._answer)
 

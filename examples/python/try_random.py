@@ -12,21 +12,37 @@ def wrapped(value):
     return (value + (1 << 127)) % (1 << 128) - (1 << 127)
 
 
-def step(store, plain, draw):
+def updated(kind, value, amount):
+    """What a store of this kind makes of a value, or none, by an amount; None where it declines it."""
+    if kind == fkv.MAX:
+        return amount if value is None else max(value, amount)
+    total = wrapped((value or 0) + amount)
+    return total if kind == fkv.SUM or 0 <= total <= 1_000_000 else None
+
+
+def update(store, plain, kind, name, amount, is_merge):
+    """Makes an update of both."""
+    value = updated(kind, plain.get(name), amount)
+    if is_merge and kind != fkv.CAPPED_SUM:
+        store.merge(name, amount)
+    else:
+        assert store.rmw(name, amount) == value, name
+    if value is not None:
+        plain[name] = value
+
+
+def step(store, plain, kind, draw):
     """Makes one random operation of both, and compares what they answer."""
     name = draw.choice(NAMES)
-    kind = draw.randrange(10)
+    what = draw.randrange(10)
     amount = draw.choice([draw.randrange(-100, 100), draw.randrange(-(1 << 63), 1 << 63)])
-    if kind < 5:
-        plain[name] = wrapped(plain.get(name, 0) + amount)
-        assert store.rmw(name, amount) == plain[name], name
-    elif kind < 6:
-        plain[name] = wrapped(plain.get(name, 0) + amount)
-        store.merge(name, amount)
-    elif kind < 7:
-        plain[name] = draw.randrange(-(1 << 127), 1 << 127)
+    if what < 6:
+        update(store, plain, kind, name, amount, what == 5)
+    elif what < 7:
+        bits = 63 if kind == fkv.MAX else 127
+        plain[name] = draw.randrange(-(1 << bits), 1 << bits)
         store[name] = plain[name]
-    elif kind < 8:
+    elif what < 8:
         plain.pop(name, None)
         del store[name]
     else:
@@ -41,12 +57,12 @@ def compare(store, plain):
     assert list(store) == [name for name, _ in rising]
 
 
-def run(seed, steps, **settings):
-    """So many operations of a store with these settings; returns how many bytes left its frames."""
+def run(seed, kind, steps, **settings):
+    """So many operations of a store of this kind with these settings; returns how many bytes left its frames."""
     draw, plain = random.Random(seed), {}
-    with fkv.Store(fkv.SUM, **settings) as store:
+    with fkv.Store(kind, **settings) as store:
         for number in range(steps):
-            step(store, plain, draw)
+            step(store, plain, kind, draw)
             if number % 10_000 == 0:
                 compare(store, plain)
             if number % 25_000 == 1:
@@ -64,12 +80,19 @@ def refused(name, call):
     return False
 
 
-assert run(1, 50_000, memory="64M") == 0
 # two frames of 1 KiB in each of four partitions, so that most values have left them
-assert run(2, 50_000, partition_bits=2, bucket_bits=4, page_bits=10, frames=2) > 0
+SMALL = {"partition_bits": 2, "bucket_bits": 4, "page_bits": 10, "frames": 2}
+assert run(1, fkv.SUM, 40_000, memory="64M") == 0
+assert run(2, fkv.SUM, 20_000, **SMALL) > 0
+assert run(3, fkv.MAX, 20_000, **SMALL) > 0
+assert run(4, fkv.CAPPED_SUM, 20_000, **SMALL) > 0
 
 assert refused("BadConfig", lambda: fkv.Store(fkv.SUM, frames=1))
 assert refused("BadKind", lambda: fkv.Store(99))
+with fkv.Store(fkv.MAX) as store:
+    assert refused("OutOfRange", lambda: store.__setitem__("apples", 1 << 63))
+with fkv.Store(fkv.CAPPED_SUM) as store:
+    assert refused("NoMerge", lambda: store.merge("apples", 1))
 with fkv.Store(fkv.SUM) as store:
     assert refused("BadKey", lambda: store.rmw("", 1))
     assert refused("BadKey", lambda: store.rmw("x" * 32, 1))

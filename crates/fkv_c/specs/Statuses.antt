@@ -40,3 +40,4 @@ fault_number fault.NotAStore = 34
 fault_number fault.NotACursor = 35
 fault_number fault.BadKey = 36
 fault_number fault.BadKind = 37
+fault_number fault.OutOfRange = 40

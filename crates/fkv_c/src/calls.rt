@@ -1,32 +1,28 @@
 //! The calls, on handles.
 ghost use Rattle.std.specs.Prelude.{◌≡◌, None, Some, IfOk, IfErr, OnOk};
-ghost use Rattle.std.specs.BTreeMap.{get};
-ghost use Rattle.fkv_functions.specs.Names.{name_cmp};
 ghost use Rattle.fkv_functions.specs.Plain.{Same};
-ghost use Rattle.fkv_functions.specs.Sets.{sums};
 ghost use Rattle.fkv_functions.specs.declared.refusals.Refused.TheVariants.{NoMemory};
-ghost use Rattle.fkv_local.specs.Storing.{plain, IsRun};
-ghost use Rattle.fkv_c.specs.Leading.{Store, Cursor, kind_of, map_of, name_code, pairs_of, IsMade, IsNext, AreCounts, IsStoreFault};
+ghost use Rattle.fkv_c.specs.Leading.{Store, Cursor, kind_of, set_of, meaning_of, map_of, pairs_of, IsMade, IsNext, AreCounts, IsStoreFault};
 ghost use Rattle.fkv_c.specs.declared.faults.Fault.TheVariants as fault;
 
 use crate::faults::Fault;
 use crate::handles::{Handle, Held};
-use fkv_device::MemoryDevice;
-use fkv_functions::{Name, Refused, SumFns};
-use fkv_local::{Counts, LocalStore};
-use fkv_operations::{Answer, KeyedOp};
+use crate::sets::{AnyOp, compact_held, counts_held, live_held, made, next_held, operate_held};
+use fkv_functions::{Name, Refused};
+use fkv_local::Counts;
+use fkv_operations::Answer;
 use fkv_partition::Config;
 use std::alloc::Global;
-use std::collections::BTreeMap;
 
-/// An operation of sums.
-pub(crate) type SumOp = KeyedOp<Name, i128, i64>;
-
-type SumStore = LocalStore<SumFns, MemoryDevice>;
-
-/// Opens a closed handle, as an empty store of sums.
-pub(crate) fn open(alloc: Global, config: &Config, handle: &mut Handle) -> Result<(), Fault>
-    ensures opened { OnOk result (kind_of handle.new.held ≡ Store) }
+/// Opens a closed handle, as an empty store of the functions of this number.
+pub(crate) fn open(
+    alloc: Global,
+    kind: u32,
+    config: &Config,
+    handle: &mut Handle,
+) -> Result<(), Fault>
+    ensures opened { OnOk result (set_of handle.new.held ≡ kind) }
+    ensures store { OnOk result (kind_of handle.new.held ≡ Store) }
     ensures empty { OnOk result ((k : Name) → map_of handle.new.held k ≡ None) }
     ensures was { OnOk result (handle.old.held ≡ None) }
     ensures same { IfErr result (λ why. handle.new.held ≡ handle.old.held) }
@@ -34,9 +30,9 @@ pub(crate) fn open(alloc: Global, config: &Config, handle: &mut Handle) -> Resul
     if !handle.is_closed(alloc) {
         return Err(Fault::InUse);
     }
-    match LocalStore::open(alloc, config, SumFns, &mut MemoryDevice::new(alloc)) {
-        Err(refused) => Err(Fault::Refused(refused)),
-        Ok(store) => lead(alloc, handle, Held::Sums(store)),
+    match made(alloc, kind, config) {
+        Err(fault) => Err(fault),
+        Ok(held) => lead(alloc, handle, held),
     }
 }
 
@@ -57,8 +53,9 @@ fn lead(alloc: Global, handle: &mut Handle, held: Held) -> Result<(), Fault>
 }
 
 /// Makes an operation.
-pub(crate) fn operate(alloc: Global, handle: &mut Handle, op: SumOp) -> Result<Answer<i128>, Fault>
-    ensures made { IsMade (map_of handle.old.held) (map_of handle.new.held) op result }
+pub(crate) fn operate(alloc: Global, handle: &mut Handle, op: AnyOp) -> Result<Answer<i128>, Fault>
+    ensures made { IsMade (meaning_of handle.old.held) (map_of handle.old.held) (map_of handle.new.held) op result }
+    ensures set { set_of handle.new.held ≡ set_of handle.old.held }
     ensures kind { kind_of handle.new.held ≡ kind_of handle.old.held }
     ensures store { OnOk result (kind_of handle.old.held ≡ Store) }
     ensures told { IfErr result (IsStoreFault (kind_of handle.old.held)) }
@@ -73,36 +70,11 @@ pub(crate) fn operate(alloc: Global, handle: &mut Handle, op: SumOp) -> Result<A
     }
 }
 
-/// The same of what a handle leads to.
-fn operate_held(held: &mut Held, op: SumOp) -> Result<Answer<i128>, Fault>
-    ensures made { IsMade (map_of (Some held.old)) (map_of (Some held.new)) op result }
-    ensures kind { kind_of (Some held.new) ≡ kind_of (Some held.old) }
-    ensures store { OnOk result (kind_of (Some held.old) ≡ Store) }
-    ensures told { IfErr result (IsStoreFault (kind_of (Some held.old))) }
-{
-    match held {
-        Held::Sums(store) => match run(store, op) {
-            Ok(answer) => Ok(answer),
-            Err(refused) => Err(Fault::Refused(refused)),
-        },
-        Held::SumPairs(_) => Err(Fault::NotAStore),
-    }
-}
-
-/// Makes an operation of a store: an update by the call that is for it, which is the fastest.
-fn run(store: &mut SumStore, op: SumOp) -> Result<Answer<i128>, Refused>
-    ensures made { IsRun name_cmp sums (plain name_cmp name_code store.old) (plain name_cmp name_code store.new) op result }
-{
-    match op {
-        KeyedOp::Rmw(key, input) => store.rmw(&key, &input),
-        other => store.run(other),
-    }
-}
-
 /// Appends what lives at the start of the logs again, and cuts that start. Answers whether any was cut.
 pub(crate) fn compact(alloc: Global, handle: &mut Handle) -> Result<bool, Fault>
     ensures same { Same (map_of handle.new.held) (map_of handle.old.held) }
     ensures kind { kind_of handle.new.held ≡ kind_of handle.old.held }
+    ensures set { set_of handle.new.held ≡ set_of handle.old.held }
     ensures store { OnOk result (kind_of handle.old.held ≡ Store) }
     ensures told { IfErr result (IsStoreFault (kind_of handle.old.held)) }
 {
@@ -113,22 +85,6 @@ pub(crate) fn compact(alloc: Global, handle: &mut Handle) -> Result<bool, Fault>
             handle.put(held);
             result
         }
-    }
-}
-
-/// The same of what a handle leads to.
-fn compact_held(held: &mut Held) -> Result<bool, Fault>
-    ensures same { Same (map_of (Some held.new)) (map_of (Some held.old)) }
-    ensures kind { kind_of (Some held.new) ≡ kind_of (Some held.old) }
-    ensures store { OnOk result (kind_of (Some held.old) ≡ Store) }
-    ensures told { IfErr result (IsStoreFault (kind_of (Some held.old))) }
-{
-    match held {
-        Held::Sums(store) => match store.compact() {
-            Ok(has_cut) => Ok(has_cut),
-            Err(refused) => Err(Fault::Refused(refused)),
-        },
-        Held::SumPairs(_) => Err(Fault::NotAStore),
     }
 }
 
@@ -148,21 +104,11 @@ pub(crate) fn counts(alloc: Global, handle: &mut Handle) -> Result<Counts, Fault
     }
 }
 
-/// The same of what a handle leads to.
-fn counts_held(held: &Held) -> Result<Counts, Fault>
-    ensures counted { IfOk result (λ c. AreCounts (Some held.now) c.bytes c.evicted c.moments) }
-    ensures told { IfErr result (IsStoreFault (kind_of (Some held.now))) }
-{
-    match held {
-        Held::Sums(store) => Ok(store.counts()),
-        Held::SumPairs(_) => Err(Fault::NotAStore),
-    }
-}
-
 /// Opens a closed handle as a cursor over the pairs of a store, keys rising.
 pub(crate) fn list(alloc: Global, from: &mut Handle, into: &mut Handle) -> Result<(), Fault>
     ensures same { Same (map_of from.new.held) (map_of from.old.held) }
     ensures kind { kind_of from.new.held ≡ kind_of from.old.held }
+    ensures set { set_of from.new.held ≡ set_of from.old.held }
     ensures opened { OnOk result (kind_of into.new.held ≡ Cursor) }
     ensures pairs { OnOk result (Same (map_of into.new.held) (map_of from.old.held)) }
     ensures store { OnOk result (kind_of from.old.held ≡ Store) }
@@ -173,15 +119,17 @@ pub(crate) fn list(alloc: Global, from: &mut Handle, into: &mut Handle) -> Resul
     }
     match live(alloc, from) {
         Err(fault) => Err(fault),
-        Ok(pairs) => lead(alloc, into, Held::SumPairs(pairs)),
+        Ok(pairs) => lead(alloc, into, pairs),
     }
 }
 
-/// The pairs of a store.
-fn live(alloc: Global, handle: &mut Handle) -> Result<BTreeMap<Name, i128>, Fault>
-    ensures pairs { IfOk result (λ pairs. Same (get name_cmp pairs) (map_of handle.old.held)) }
+/// The pairs of a store, for a cursor.
+fn live(alloc: Global, handle: &mut Handle) -> Result<Held, Fault>
+    ensures pairs { IfOk result (λ pairs. Same (map_of (Some pairs)) (map_of handle.old.held)) }
+    ensures cursor { IfOk result (λ pairs. kind_of (Some pairs) ≡ Cursor) }
     ensures same { Same (map_of handle.new.held) (map_of handle.old.held) }
     ensures kind { kind_of handle.new.held ≡ kind_of handle.old.held }
+    ensures set { set_of handle.new.held ≡ set_of handle.old.held }
     ensures store { OnOk result (kind_of handle.old.held ≡ Store) }
     ensures told { IfErr result (IsStoreFault (kind_of handle.old.held)) }
 {
@@ -192,23 +140,6 @@ fn live(alloc: Global, handle: &mut Handle) -> Result<BTreeMap<Name, i128>, Faul
             handle.put(held);
             result
         }
-    }
-}
-
-/// The same of what a handle leads to.
-fn live_held(held: &mut Held) -> Result<BTreeMap<Name, i128>, Fault>
-    ensures pairs { IfOk result (λ pairs. Same (get name_cmp pairs) (map_of (Some held.old))) }
-    ensures same { Same (map_of (Some held.new)) (map_of (Some held.old)) }
-    ensures kind { kind_of (Some held.new) ≡ kind_of (Some held.old) }
-    ensures store { OnOk result (kind_of (Some held.old) ≡ Store) }
-    ensures told { IfErr result (IsStoreFault (kind_of (Some held.old))) }
-{
-    match held {
-        Held::Sums(store) => match store.live() {
-            Ok(pairs) => Ok(pairs),
-            Err(refused) => Err(Fault::Refused(refused)),
-        },
-        Held::SumPairs(_) => Err(Fault::NotAStore),
     }
 }
 
@@ -226,19 +157,6 @@ pub(crate) fn next(alloc: Global, handle: &mut Handle) -> Result<Option<(Name, i
             handle.put(held);
             result
         }
-    }
-}
-
-/// The same of what a handle leads to.
-fn next_held(held: &mut Held) -> Result<Option<(Name, i128)>, Fault>
-    ensures told { IfOk result (λ pair. IsNext (pairs_of (Some held.old)) (pairs_of (Some held.new)) pair) }
-    ensures kind { kind_of (Some held.new) ≡ kind_of (Some held.old) }
-    ensures cursor { OnOk result (kind_of (Some held.old) ≡ Cursor) }
-    ensures same { IfErr result (λ why. held.new ≡ held.old) }
-{
-    match held {
-        Held::Sums(_) => Err(Fault::NotACursor),
-        Held::SumPairs(pairs) => Ok(pairs.pop_first()),
     }
 }
 

@@ -3,18 +3,16 @@ ghost use Rattle.std.specs.Prelude.{◌≡◌, ◌≢◌, pos, length, None};
 ghost use Rattle.fkv_functions.specs.Plain.{Same};
 ghost use Rattle.fkv_operations.specs.declared.operations.KeyedOp.TheVariants.{Read, Upsert, Rmw, Delete, Merge};
 ghost use Rattle.fkv_c.specs.Crossing.{value_of};
-ghost use Rattle.fkv_c.specs.Leading.{Store, Cursor, kind_of, map_of, pairs_of, IsNextTold, AreCounts, IsPerformed, IsPerformedAt, IsNoKey};
+ghost use Rattle.fkv_c.specs.Leading.{Store, Cursor, kind_of, set_of, map_of, pairs_of, IsNextTold, AreCounts, IsPerformed, IsPerformedAt, IsNoKey};
 
-use crate::calls::{SumOp, close, compact, counts, list, next, open, operate};
+use crate::calls::{close, compact, counts, list, next, open, operate};
 use crate::faults::{Fault, status_name};
 use crate::handles::Handle;
 use crate::numbers::{Number, Pair, Settings, Sizes, Told};
+use crate::sets::AnyOp;
 use fkv_functions::Name;
 use fkv_operations::KeyedOp;
 use std::alloc::Global;
-
-/// The kind of a store of sums.
-const SUMS: u32 = 1;
 
 /// Opens a closed handle, as an empty store of this kind, in memory.
 #[unsafe(no_mangle)]
@@ -24,22 +22,20 @@ pub extern "C" fn fkv_c_open(
     kind: u32,
     settings: &Settings,
 ) -> u32
-    ensures opened { result ≡ 0 → kind_of store.new.held ≡ Store }
+    ensures opened { result ≡ 0 → set_of store.new.held ≡ kind }
+    ensures store { result ≡ 0 → kind_of store.new.held ≡ Store }
     ensures empty { result ≡ 0 → (k : Name) → map_of store.new.held k ≡ None }
     ensures was { result ≡ 0 → store.old.held ≡ None }
     ensures left { result ≢ 0 → store.new.held ≡ store.old.held }
 {
-    if kind != SUMS {
-        return Fault::BadKind.number();
-    }
-    match open(alloc, &settings.config(), store) {
+    match open(alloc, kind, &settings.config(), store) {
         Ok(()) => 0,
         Err(fault) => fault.number(),
     }
 }
 
 /// Makes an operation, and writes its answer.
-fn perform(alloc: Global, store: &mut Handle, op: SumOp, answer: &mut Told) -> u32
+fn perform(alloc: Global, store: &mut Handle, op: AnyOp, answer: &mut Told) -> u32
     ensures { IsPerformed store.old.held store.new.held op answer.old answer.new result }
 {
     match operate(alloc, store, op) {
@@ -144,6 +140,7 @@ pub extern "C" fn fkv_c_merge(
 pub extern "C" fn fkv_c_compact(alloc: Global, store: &mut Handle, has_cut: &mut u32) -> u32
     ensures same { Same (map_of store.new.held) (map_of store.old.held) }
     ensures kind { kind_of store.new.held ≡ kind_of store.old.held }
+    ensures set { set_of store.new.held ≡ set_of store.old.held }
     ensures store { result ≡ 0 → kind_of store.old.held ≡ Store }
     ensures left { result ≢ 0 → has_cut.new ≡ has_cut.old }
 {
@@ -181,6 +178,7 @@ pub extern "C" fn fkv_c_counts(alloc: Global, store: &mut Handle, sizes: &mut Si
 pub extern "C" fn fkv_c_list(alloc: Global, store: &mut Handle, cursor: &mut Handle) -> u32
     ensures same { Same (map_of store.new.held) (map_of store.old.held) }
     ensures kind { kind_of store.new.held ≡ kind_of store.old.held }
+    ensures set { set_of store.new.held ≡ set_of store.old.held }
     ensures opened { result ≡ 0 → kind_of cursor.new.held ≡ Cursor }
     ensures pairs { result ≡ 0 → Same (map_of cursor.new.held) (map_of store.old.held) }
     ensures store { result ≡ 0 → kind_of store.old.held ≡ Store }

@@ -21,6 +21,8 @@ pub enum Fault {
     BadKey,
     /// There are no functions of this number.
     BadKind,
+    /// The value has more bits than the functions' values.
+    OutOfRange,
 }
 
 impl Fault {
@@ -37,6 +39,7 @@ impl Fault {
             Fault::NotACursor => 35,
             Fault::BadKey => 36,
             Fault::BadKind => 37,
+            Fault::OutOfRange => 40,
         }
     }
 }
@@ -102,6 +105,7 @@ pub(crate) fn status_name(status: u32) -> &'static str {
         37 => "BadKind",
         38 => "Null",
         39 => "Same",
+        40 => "OutOfRange",
         _ => "?",
     }
 }

@@ -6,7 +6,7 @@ ghost use Rattle.fkv_c.specs.contracts.handles.Held.{the_row};
 
 use crate::loose::Loose;
 use fkv_device::MemoryDevice;
-use fkv_functions::{Name, SumFns};
+use fkv_functions::{CappedSumFns, MaxFns, Name, SumFns};
 use fkv_local::LocalStore;
 use std::alloc::Global;
 use std::collections::BTreeMap;
@@ -19,8 +19,14 @@ use std::ptr::null_mut;
 pub enum Held {
     /// A store of sums.
     Sums(LocalStore<SumFns, MemoryDevice>),
-    /// What a cursor over the pairs of one still has to tell.
+    /// A store of maxima.
+    Maxima(LocalStore<MaxFns, MemoryDevice>),
+    /// A store of capped sums.
+    CappedSums(LocalStore<CappedSumFns, MemoryDevice>),
+    /// What a cursor over the pairs of a store of sums, capped or not, still has to tell.
     SumPairs(BTreeMap<Name, i128>),
+    /// What one over those of a store of maxima has.
+    MaxPairs(BTreeMap<Name, i64>),
 }
 
 /// A handle, in memory of C's: a pointer that C neither reads nor writes, null where the handle is closed. It is no `Drop`, so

@@ -7,3 +7,4 @@ pub mod faults;
 pub mod handles;
 mod loose;
 pub mod numbers;
+mod sets;
