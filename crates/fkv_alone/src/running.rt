@@ -1,14 +1,17 @@
 //! An operation that is driven to its end.
-ghost use Rattle.std.specs.Prelude.{◌≡◌, ◌≢◌, ◌+◌, ◌-◌, ◌*◌, ◌^◌, ◌<◌, ◌≤◌, ◌⊎◌, ◌↔◌, ℕ, None, Some, Err, IsTrue, IfOk, IfErr, slice_get};
+ghost use Rattle.std.specs.Prelude.{◌≡◌, ◌≢◌, ◌+◌, ◌-◌, ◌*◌, ◌^◌, ◌<◌, ◌≤◌, ◌⊎◌, ◌↔◌, ℕ, true, None, Some, Err, IsTrue, IfOk, IfErr, slice_get};
 ghost use Rattle.fkv_partition.specs.Beginning.{IsFirstFree};
 ghost use Rattle.fkv_partition.specs.CoreViews.{CoreView};
 ghost use Rattle.fkv_partition.specs.Pending.{OthersPend, pending};
 ghost use Rattle.fkv_partition.specs.CoreContexts.{joined};
 ghost use Rattle.fkv_partition.specs.Views.{with_core};
+ghost use Rattle.fkv_pages.specs.Spelled.{IsEntryIn};
+ghost use Rattle.fkv_operations.specs.After.{is_merge};
 ghost use Rattle.fkv_operations.specs.declared.operations.KeyedOp.{KeyedOp};
 ghost use Rattle.fkv_alone.specs.Stages.{IsReady};
 ghost use Rattle.fkv_alone.specs.Bound.{IsNear, NoneClaims, rest_of};
 ghost use Rattle.fkv_alone.specs.Ending.{Ends, IsOn, Drives};
+ghost use Rattle.fkv_alone.specs.Spoilt.{IsSpoilt};
 
 use crate::outcomes::{Alone, AloneOf};
 use crate::stepping::step;
@@ -69,6 +72,14 @@ fn drive<F: Mergeable, R: Receipt, P: PageReader<Receipt = R>>(
         → IsNear {O = F.Output} {R = R} F.code partition.old.core slot context Progress.Next n
         → n ≤ left → result ≢ Err Refused.Stalled }
     ensures within { clock.new ≤ clock.old + left }
+    ensures spoilt { (op : KeyedOp F.Key F.Value F.Input) (old : CoreView F.Key F.Value F.Input) (started page : ℕ)
+        → IsReady op old partition.old.core slot context started
+        → result ≡ Err (Refused.Damaged page) → P.failures reader.new ≡ P.failures reader.old
+        → IsSpoilt (IsEntryIn F.Key.bytes_of F.Value.bytes_of F.Key.is_known F.Value.is_known F.Key.SIZE F.Value.SIZE)
+        F.Key.cmp page }
+    ensures unread { (op : KeyedOp F.Key F.Value F.Input) (old : CoreView F.Key F.Value F.Input) (started : ℕ)
+        → IsReady op old partition.old.core slot context started
+        → is_merge op ≡ true → reader.new ≡ reader.old }
     ensures rest { partition.new ≡ with_core partition.old partition.new.core }
     ensures past { partition.new.core.moment ≤ clock.new }
     ensures onward { clock.old ≤ clock.new }
@@ -113,6 +124,10 @@ fn attempt<F: Mergeable, R: Receipt, P: PageReader<Receipt = R>>(
         → 4 + rest_of F.code partition.old.core.records op ≤ limit
         → result ≢ Err Refused.Stalled }
     ensures within { clock.new ≤ clock.old + limit }
+    ensures spoilt { (page : ℕ) → result ≡ Err (Refused.Damaged page) → P.failures reader.new ≡ P.failures reader.old
+        → IsSpoilt (IsEntryIn F.Key.bytes_of F.Value.bytes_of F.Key.is_known F.Value.is_known F.Key.SIZE F.Value.SIZE)
+        F.Key.cmp page }
+    ensures unread { is_merge op ≡ true → reader.new ≡ reader.old }
     ensures rest { partition.new ≡ with_core partition.old partition.new.core }
     ensures past { partition.new.core.moment ≤ clock.new }
     ensures onward { clock.old ≤ clock.new }
@@ -183,6 +198,12 @@ pub fn run_alone<F: Mergeable, R: Receipt, P: PageReader<Receipt = R>>(
     ensures enough { IsTrue R.keeps → NoneClaims partition.old.core
         → 4 + rest_of F.code partition.old.core.records op ≤ limit
         → result.progress ≢ Err Refused.Stalled }
+    // where it is damaged and the reader counted nothing, bytes that were read spell no record on the way
+    ensures spoilt { (page : ℕ) → result.progress ≡ Err (Refused.Damaged page) → P.failures reader.new ≡ P.failures reader.old
+        → IsSpoilt (IsEntryIn F.Key.bytes_of F.Value.bytes_of F.Key.is_known F.Value.is_known F.Key.SIZE F.Value.SIZE)
+        F.Key.cmp page }
+    // a merge reads no page
+    ensures unread { is_merge op ≡ true → reader.new ≡ reader.old }
     // relocations stay, and what is cleared
     ensures rest { partition.new ≡ with_core partition.old partition.new.core }
     ensures past { partition.new.core.moment ≤ clock.new }

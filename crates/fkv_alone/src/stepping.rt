@@ -1,5 +1,7 @@
 //! One event of an operation that is driven alone: what it asked for is built or read, and handed in.
-ghost use Rattle.std.specs.Prelude.{◌≡◌, ◌+◌, ◌*◌, ◌<◌, ◌≤◌, ℕ, None, IsTrue, IfOk, slice_get};
+ghost use Rattle.std.specs.Prelude.{◌≡◌, ◌+◌, ◌*◌, ◌<◌, ◌≤◌, ℕ, true, None, Err, IsTrue, IfOk, slice_get};
+ghost use Rattle.fkv_pages.specs.Spelled.{IsEntryIn};
+ghost use Rattle.fkv_operations.specs.After.{is_merge};
 ghost use Rattle.fkv_operations.specs.declared.operations.KeyedOp.{KeyedOp};
 ghost use Rattle.fkv_partition.specs.CoreViews.{CoreView};
 ghost use Rattle.fkv_partition.specs.Pending.{OthersPend};
@@ -8,6 +10,7 @@ ghost use Rattle.fkv_partition.specs.Views.{with_core};
 ghost use Rattle.fkv_alone.specs.Stages.{HasCome, IsFetching};
 ghost use Rattle.fkv_alone.specs.Ending.{Advances, IsOn};
 ghost use Rattle.fkv_alone.specs.Bound.{IsNear, IsNearer};
+ghost use Rattle.fkv_alone.specs.Spoilt.{IsSpoilt};
 
 use fkv_device::{Loaded, PageReader, Receipt};
 use fkv_functions::{Built, Mergeable, Refused};
@@ -34,6 +37,10 @@ fn load<F: Mergeable, R: Receipt, P: PageReader<Receipt = R>>(
     ensures nearer { (n a : ℕ) → IsTrue R.keeps
         → IsNear {O = F.Output} F.code partition.old.core slot context (Progress.NeedsLoad receipt a) n
         → IfOk result (λ progress. IsOn progress → IsNearer F.code partition.new.core slot context progress n) }
+    // where it is damaged and the reader counted nothing, bytes that were read spell no record on the way
+    ensures spoilt { (page : ℕ) → result ≡ Err (Refused.Damaged page) → P.failures reader.new ≡ P.failures reader.old
+        → IsSpoilt (IsEntryIn F.Key.bytes_of F.Value.bytes_of F.Key.is_known F.Value.is_known F.Key.SIZE F.Value.SIZE)
+        F.Key.cmp page }
     ensures rest { partition.new ≡ with_core partition.old partition.new.core }
     ensures past { partition.new.core.moment ≤ now }
 {
@@ -68,6 +75,14 @@ pub(crate) fn step<F: Mergeable, R: Receipt, P: PageReader<Receipt = R>>(
     ensures nearer { (n : ℕ) → IsTrue R.keeps
         → IsNear F.code partition.old.core slot context told n
         → IfOk result (λ progress. IsOn progress → IsNearer F.code partition.new.core slot context progress n) }
+    ensures spoilt { (page : ℕ) → result ≡ Err (Refused.Damaged page) → P.failures reader.new ≡ P.failures reader.old
+        → IsSpoilt (IsEntryIn F.Key.bytes_of F.Value.bytes_of F.Key.is_known F.Value.is_known F.Key.SIZE F.Value.SIZE)
+        F.Key.cmp page }
+    // a merge reads no page
+    ensures unread { (op : KeyedOp F.Key F.Value F.Input) (old : CoreView F.Key F.Value F.Input) (started : ℕ)
+        → HasCome R.keeps R.stands F.Key.cmp F.parts.joined F.meaning F.code op old
+        partition.old.core slot context started told
+        → is_merge op ≡ true → reader.new ≡ reader.old }
     ensures rest { partition.new ≡ with_core partition.old partition.new.core }
     ensures past { partition.new.core.moment ≤ now }
 {

@@ -107,7 +107,7 @@ where
 {
     if !table.audit {
         let mode = mode_of(table);
-        return run_alone_by(alloc, reader, &functions, &table.config, device, mode);
+        return run_alone_by(alloc, reader, functions, &table.config, device, mode);
     }
     let bytes = match read_whole(alloc, reader) {
         Ok(bytes) => bytes,
@@ -163,7 +163,7 @@ where
     run_one_by(
         alloc,
         feeds.as_mut_slice(),
-        &functions,
+        functions,
         config,
         device,
         mode,

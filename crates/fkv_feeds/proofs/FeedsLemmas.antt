@@ -13,7 +13,8 @@ use Rattle.fkv_partition.specs.Config.{Config}
 use Rattle.std.specs.declared.cmp.Ordering.{Ordering}
 use Rattle.fkv_device.specs.Failing.{FailsOnlyBy, ReadFailsBy}
 use Rattle.fkv_hybrid.specs.Scans.{IsScanRefusal}
-use Rattle.fkv_feeds.specs.Faults.{Spelling, IsFault, IsDeviceFault}
+use Rattle.fkv_alone.specs.Spoilt.{Spelling}
+use Rattle.fkv_feeds.specs.Faults.{IsFault, IsDeviceFault}
 use Rattle.fkv_feeds.specs.Refusing.{IsRowRefusal, IsReached, counted_at, TellsStopped, TellsWhyNone}
 
 -- ---- lists

@@ -2,9 +2,3 @@ pub mod Tables
 pub mod Writing
 pub mod Refusing
 pub mod Faults
-pub mod Exhausted
-pub mod Turns
-pub mod Listing
-pub mod Seats
-pub mod Sessions
-pub mod Runs

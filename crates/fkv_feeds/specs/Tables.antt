@@ -1,5 +1,5 @@
 -- The table of feeds: what the amounts of each key come to.
-use Rattle.std.specs.Prelude.{◌≡◌, ◌++◌, ◌∷◌, [], ◌^◌, ℕ, ℤ, List, length, map, fold, Option, None}
+use Rattle.std.specs.Prelude.{◌≡◌, ◌++◌, ◌∷◌, [], ◌^◌, ℕ, ℤ, Bool, IsTrue, List, length, map, fold, Option, None}
 use Rattle.std.specs.Option.{option_or}
 use Rattle.std.specs.List.{filter}
 use Rattle.std.specs.BTreeMap.{is_at}
@@ -8,7 +8,9 @@ use Rattle.std.specs.List.Sorted.{IsStrictlySortedBy}
 use Rattle.std.specs.declared.cmp.Ordering.{Ordering}
 use Rattle.fkv_functions.specs.Meanings.{Meanings, updated}
 use Rattle.fkv_functions.specs.Names.{name_cmp}
+use Rattle.fkv_functions.specs.Plain.{Same}
 use Rattle.fkv_functions.specs.declared.names.Name.{Name}
+use Rattle.fkv_local.specs.Storing.{StoreView, plain}
 use Rattle.fkv_feed_rows.specs.Feeds.{IsFeed}
 
 -- the amounts of a key, in the order of its rows
@@ -48,3 +50,8 @@ pub record IsTableOf {V O : Type 0} (f : Meanings Name V ℤ O) (feeds : List (O
   pub read : AreFeeds most_rows feeds rows
   pub value : (k : Name) → lookup (is_at (name_cmp k)) pairs ≡ folded f k (amounts_of name_cmp k rows)
   pub rising : IsStrictlySortedBy name_cmp (keys_of pairs)
+
+-- a store stands for these rows: on a device that keeps, it is the map of what the amounts of each key come to
+abbrev pub StandsFor : {V O P : Type 0} → Bool → Meanings Name V ℤ O → (Name → ℕ) → StoreView Name V ℤ P → List (Name × ℤ)
+    → Type 0
+StandsFor keeps f code store rows = IsTrue keeps → Same (plain name_cmp code store) (λ k. folded f k (amounts_of name_cmp k rows))

@@ -1,11 +1,7 @@
 //! How much a run did.
 use crate::modes::RowMode;
-use crate::shards::Shard;
 use crate::tables::Table;
-use fkv_device::Disk;
-use fkv_functions::Mergeable;
 use fkv_partition::Config;
-use fkv_records::{FIRST, record_size};
 
 /// How much a run did.
 #[derive(Clone, Copy, Debug, PartialEq, Eq)]
@@ -35,30 +31,4 @@ pub struct Run<V> {
     pub table: Table<V>,
     pub counts: Counts,
     pub plan: Plan,
-}
-
-/// The records of a log below its tail, where each page and each record has so many bytes. The first record stands at 64,
-/// and no record lies in two pages.
-fn records_below(tail: u64, page: u64, record: u64) -> u64 {
-    let first = tail.min(page).saturating_sub(FIRST);
-    let behind = tail.saturating_sub(page);
-    let pages = behind.checked_div(page).unwrap_or(0);
-    let last = behind.checked_rem(page).unwrap_or(0);
-    let in_page = page.checked_div(record).unwrap_or(0);
-    let in_first = first.checked_div(record).unwrap_or(0);
-    let in_last = last.checked_div(record).unwrap_or(0);
-    in_first
-        .saturating_add(pages.saturating_mul(in_page))
-        .saturating_add(in_last)
-}
-
-/// The records of all logs.
-pub fn appended<F: Mergeable, D: Disk>(shards: &[Shard<F, D>]) -> u64 {
-    let record = record_size::<F::Key, F::Value>().unwrap_or(0) as u64;
-    let mut count = 0u64;
-    for shard in shards {
-        let page = shard.partition.page_size() as u64;
-        count = count.saturating_add(records_below(shard.partition.tail(), page, record));
-    }
-    count
 }

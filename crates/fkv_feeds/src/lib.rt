@@ -2,14 +2,10 @@
 #![tactic(auto)]
 
 pub mod counting;
-pub mod gathering;
 pub mod modes;
 pub mod reading;
 pub mod running;
-pub mod shards;
 pub mod tables;
-pub mod tidying;
-pub mod updating;
 pub mod writing;
 
 pub use counting::{Counts, Plan, Run};

@@ -1,22 +1,57 @@
 //! Reading a feed into the store of a run.
-ghost use Rattle.std.specs.Prelude.{◌≡◌, ◌≤◌, ◌++◌, ℤ, List, map, length, OnOk, IfOk, IfErr};
+ghost use Rattle.std.specs.Prelude.{◌≡◌, ◌≤◌, ◌++◌, ◌∷◌, [], ℤ, List, length, IsTrue, OnOk, IfOk, IfErr};
 ghost use Rattle.fkv_functions.specs.declared.names.Name.{Name};
 ghost use Rattle.fkv_functions.specs.Names.{name_cmp};
 ghost use Rattle.fkv_feed_rows.specs.Feeds.{IsFeed, TellsWhy};
 ghost use Rattle.fkv_feeds.specs.Faults.{IsRunFault};
 ghost use Rattle.fkv_feeds.specs.Refusing.{IsRowRefusal};
-ghost use Rattle.fkv_feeds.specs.Runs.{StandFor};
+ghost use Rattle.fkv_feeds.specs.Tables.{StandsFor};
 
-use crate::shards::{Shards, add_row};
+use crate::modes::RowMode;
 use fkv_device::Disk;
 use fkv_feed_rows::RowSink;
 use fkv_functions::{Mergeable, Name, Refused};
+use fkv_local::LocalStore;
 use fkv_streams::Source;
 use std::alloc::Global;
 
-impl<F: Mergeable<Key = Name, Input = i64>, D: Disk> RowSink for Shards<'_, F, D> {
-    ghost stands = { λ s rows. StandFor D.Receipt.keeps name_cmp F.meaning F.code
-        (map (λ shard. shard.partition) s.shards.items) s.terms.slot s.clock rows };
+/// The store of a run, and how each row is made an update of it.
+#[derive(Drop)]
+pub struct RowStore<F: Mergeable, D: Disk> {
+    pub store: LocalStore<F, D>,
+    pub mode: RowMode,
+}
+
+/// Makes a row an update of the store. Where rows are made merges, the functions merge and the logs are kept whole, no page is read.
+/// Refused as [`LocalStore::rmw`] is; then the store is the map that it was.
+fn add_row<F: Mergeable<Key = Name, Input = i64>, D: Disk>(
+    rows: &mut RowStore<F, D>,
+    key: &Name,
+    amount: i64,
+) -> Result<(), Refused>
+    ensures ok { OnOk result ((before : List (Name × ℤ)) → StandsFor D.Receipt.keeps F.meaning F.code rows.old.store before
+        → StandsFor D.Receipt.keeps F.meaning F.code rows.new.store (before ++ (key.now, amount) ∷ [])) }
+    ensures told { IfErr result (IsRowRefusal (IsRunFault D.Receipt.keeps D.failures D.Writer.failures D.Reader.failures
+        F.Value.bytes_of F.Value.is_known F.Value.SIZE)) }
+    ensures unread { IsTrue F.MERGES → rows.old.mode ≡ RowMode.Merge → IsTrue rows.old.store.keeps_log
+        → rows.new.store.readers ≡ rows.old.store.readers }
+    ensures same_log { rows.old.mode ≡ RowMode.Merge → rows.new.store.keeps_log ≡ rows.old.store.keeps_log }
+    ensures same_mode { rows.new.mode ≡ rows.old.mode }
+{
+    match rows.mode {
+        RowMode::Update => match rows.store.rmw(key, &amount) {
+            Ok(_answer) => Ok(()),
+            Err(refused) => Err(refused),
+        },
+        RowMode::Merge => match rows.store.update_or_merge(key, &amount) {
+            Ok(_answer) => Ok(()),
+            Err(refused) => Err(refused),
+        },
+    }
+}
+
+impl<F: Mergeable<Key = Name, Input = i64>, D: Disk> RowSink for RowStore<F, D> {
+    ghost stands = { λ s rows. StandsFor D.Receipt.keeps F.meaning F.code s.store rows };
 
     ghost fault = { IsRowRefusal (IsRunFault D.Receipt.keeps D.failures D.Writer.failures D.Reader.failures
         F.Value.bytes_of F.Value.is_known F.Value.SIZE) };
@@ -39,16 +74,12 @@ pub fn read_feed<S: Source, F: Mergeable<Key = Name, Input = i64>, D: Disk>(
     source: &mut S,
     feed: u64,
     limit: u64,
-    shards: &mut Shards<'_, F, D>,
+    rows: &mut RowStore<F, D>,
 ) -> Result<u64, Refused>
-    requires { (rows : List (Name × ℤ)) × StandFor D.Receipt.keeps name_cmp F.meaning F.code
-        (map (λ shard. shard.partition) shards.old.shards.items) shards.old.terms.slot shards.old.clock rows }
-    ensures ok { IfOk result (λ count. (before : List (Name × ℤ)) → StandFor D.Receipt.keeps name_cmp F.meaning F.code
-        (map (λ shard. shard.partition) shards.old.shards.items) shards.old.terms.slot shards.old.clock before
-        → (rows : List (Name × ℤ)) × IsFeed limit (S.remaining source.old) rows
-        × StandFor D.Receipt.keeps name_cmp F.meaning F.code
-        (map (λ shard. shard.partition) shards.new.shards.items) shards.new.terms.slot shards.new.clock
-        (before ++ rows) × (count ≡ length rows)) }
+    requires { (before : List (Name × ℤ)) × StandsFor D.Receipt.keeps F.meaning F.code rows.old.store before }
+    ensures ok { IfOk result (λ count. (before : List (Name × ℤ)) → StandsFor D.Receipt.keeps F.meaning F.code rows.old.store before
+        → (read : List (Name × ℤ)) × IsFeed limit (S.remaining source.old) read
+        × StandsFor D.Receipt.keeps F.meaning F.code rows.new.store (before ++ read) × (count ≡ length read)) }
     ensures within { IfOk result (λ count. count ≤ limit) }
     ensures steady { OnOk result (S.failures source.new ≡ S.failures source.old) }
     ensures told { IfErr result
@@ -56,5 +87,5 @@ pub fn read_feed<S: Source, F: Mergeable<Key = Name, Input = i64>, D: Disk>(
         D.Reader.failures F.Value.bytes_of F.Value.is_known F.Value.SIZE)
         feed limit (S.remaining source.old) (S.failures source.old) (S.failures source.new)) }
 {
-    fkv_feed_rows::read_feed(alloc, source, feed, limit, shards)
+    fkv_feed_rows::read_feed(alloc, source, feed, limit, rows)
 }

@@ -6,20 +6,20 @@ ghost use Rattle.std.specs.List.Sorted.{IsStrictlySortedBy};
 ghost use Rattle.fkv_functions.specs.Names.{name_cmp};
 ghost use Rattle.fkv_functions.specs.declared.names.Name.{Name};
 ghost use Rattle.fkv_records.specs.Records.{size_of};
-ghost use Rattle.fkv_feeds.specs.Listing.{IsListRefusal};
+ghost use Rattle.fkv_device.specs.Failing.{FailsOnlyBy};
+ghost use Rattle.fkv_partition.specs.Limits.{IsWithinLimits};
 ghost use Rattle.fkv_feeds.specs.Faults.{IsRunFault};
-ghost use Rattle.fkv_feeds.specs.Tables.{IsTableOf, AreFeeds, HaveRows, amounts_of, folded, most_rows};
+ghost use Rattle.fkv_feeds.specs.Tables.{IsTableOf, AreFeeds, HaveRows, StandsFor, amounts_of, folded, most_rows};
 ghost use Rattle.fkv_feeds.specs.Refusing.{IsRunnable, TellsStopped, TellsWhyNone};
-ghost use Rattle.fkv_feeds.specs.Runs.{StandFor};
+ghost use Rattle.fkv_local.specs.Refusing.{IsUnlisted};
 
-use crate::counting::{Counts, Plan, Run, appended};
-use crate::gathering::live;
+use crate::counting::{Counts, Plan, Run};
 use crate::modes::RowMode;
-use crate::reading::read_feed;
-use crate::shards::Shards;
+use crate::reading::{RowStore, read_feed};
 use crate::tables::Table;
 use fkv_device::Disk;
 use fkv_functions::{Mergeable, Name, Refused};
+use fkv_local::LocalStore;
 use fkv_partition::Config;
 use fkv_streams::Source;
 use std::alloc::Global;
@@ -30,35 +30,52 @@ pub const LIMIT: u64 = 1_099_511_627_776;
 /// The most feeds of a run.
 const MOST: usize = 64;
 
+/// A store that stands for no rows. Where rows are made merges its logs are kept whole, so that no row reads a page.
+fn opened<F: Mergeable<Key = Name, Input = i64>, D: Disk>(
+    alloc: Global,
+    functions: F,
+    config: &Config,
+    device: &mut D,
+    mode: RowMode,
+) -> Result<RowStore<F, D>, Refused>
+    requires limits { IsWithinLimits config.now (size_of 32 F.Value.SIZE) }
+    ensures stands { IfOk result (λ rows. StandsFor D.Receipt.keeps F.meaning F.code rows.store []) }
+    ensures kept { IfOk result (λ rows. mode ≡ RowMode.Merge → IsTrue rows.store.keeps_log) }
+    ensures mode { IfOk result (λ rows. rows.mode ≡ mode) }
+    ensures told { IfErr result (FailsOnlyBy 1 0 (D.failures device.old) (D.failures device.new)) }
+{
+    let mut store = match LocalStore::open(alloc, config, functions, device) {
+        Ok(store) => store,
+        Err(refused) => return Err(refused),
+    };
+    match mode {
+        RowMode::Update => {}
+        RowMode::Merge => store.keep_log(),
+    }
+    Ok(RowStore { store, mode })
+}
+
 /// The run that a store stands for at its end, over so many rows. Refused: `NoMemory`, and as a device refuses pages.
 fn finish<F: Mergeable<Key = Name, Input = i64>, D: Disk>(
-    alloc: Global,
-    shards: &mut Shards<'_, F, D>,
+    store: LocalStore<F, D>,
     rows: u64,
     plan: Plan,
 ) -> Result<Run<F::Value>, Refused>
-    requires stands { (rows : List (Name × ℤ)) × StandFor D.Receipt.keeps name_cmp F.meaning F.code
-        (map (λ shard. shard.partition) shards.old.shards.items) shards.old.terms.slot shards.old.clock rows }
     ensures value { IsTrue D.Receipt.keeps → IfOk result (λ run. (rows : List (Name × ℤ))
-        → StandFor D.Receipt.keeps name_cmp F.meaning F.code
-        (map (λ shard. shard.partition) shards.old.shards.items) shards.old.terms.slot shards.old.clock rows
+        → StandsFor D.Receipt.keeps F.meaning F.code store rows
         → (k : Name) → lookup (is_at (name_cmp k)) run.table ≡ folded F.meaning k (amounts_of name_cmp k rows)) }
     ensures rising { IfOk result (λ run. IsStrictlySortedBy name_cmp (keys_of run.table)) }
     ensures counted { IfOk result (λ run. run.counts.rows ≡ rows) }
     ensures planned { IfOk result (λ run. run.plan ≡ plan) }
-    ensures steady { OnOk result (map (λ shard. D.Reader.failures shard.reader) shards.new.shards.items
-        ≡ map (λ shard. D.Reader.failures shard.reader) shards.old.shards.items) }
-    ensures told { IfErr result (IsListRefusal D.Receipt.keeps D.Reader.failures
-        (map (λ shard. shard.partition) shards.old.shards.items)
-        (map (λ shard. D.Reader.failures shard.reader) shards.old.shards.items)
-        (map (λ shard. D.Reader.failures shard.reader) shards.new.shards.items)) }
+    ensures told { IfErr result (IsUnlisted D.Receipt.keeps D.Reader.failures store.parts) }
 {
-    match live(shards.terms.functions, alloc, shards.shards.as_mut_slice()) {
+    let appended = store.counts().records;
+    match store.into_map() {
         Ok(live) => Ok(Run {
             table: Table::new(live),
             counts: Counts {
                 rows,
-                appended: Some(appended(shards.shards.as_slice())),
+                appended: Some(appended),
             },
             plan,
         }),
@@ -70,15 +87,12 @@ fn finish<F: Mergeable<Key = Name, Input = i64>, D: Disk>(
 fn read_feeds<S: Source, F: Mergeable<Key = Name, Input = i64>, D: Disk>(
     alloc: Global,
     feeds: &mut [S],
-    shards: &mut Shards<'_, F, D>,
+    store: &mut RowStore<F, D>,
 ) -> Result<u64, Refused>
     requires most { length feeds.old ≤ 64 }
-    requires stands { StandFor D.Receipt.keeps name_cmp F.meaning F.code
-        (map (λ shard. shard.partition) shards.old.shards.items) shards.old.terms.slot shards.old.clock [] }
+    requires stands { StandsFor D.Receipt.keeps F.meaning F.code store.old.store [] }
     ensures ok { IfOk result (λ count. (rows : List (Name × ℤ)) × AreFeeds most_rows (map S.remaining feeds.old) rows
-        × StandFor D.Receipt.keeps name_cmp F.meaning F.code
-        (map (λ shard. shard.partition) shards.new.shards.items) shards.new.terms.slot shards.new.clock rows
-        × (count ≡ length rows)) }
+        × StandsFor D.Receipt.keeps F.meaning F.code store.new.store rows × (count ≡ length rows)) }
     ensures steady { OnOk result (map S.failures feeds.new ≡ map S.failures feeds.old) }
     ensures told { IfErr result (TellsStopped (IsRunFault D.Receipt.keeps D.failures D.Writer.failures
         D.Reader.failures F.Value.bytes_of F.Value.is_known F.Value.SIZE)
@@ -88,7 +102,7 @@ fn read_feeds<S: Source, F: Mergeable<Key = Name, Input = i64>, D: Disk>(
     let mut rows = 0u64;
     for index in 0..feeds.len() {
         let feed = &mut feeds[index];
-        match read_feed(alloc, feed, index as u64 + 1, LIMIT, shards) {
+        match read_feed(alloc, feed, index as u64 + 1, LIMIT, store) {
             Ok(count) => rows += count,
             Err(refused) => return Err(refused),
         }
@@ -114,7 +128,7 @@ fn read_feeds<S: Source, F: Mergeable<Key = Name, Input = i64>, D: Disk>(
 pub fn run_one<S: Source, F: Mergeable<Key = Name, Input = i64>, D: Disk>(
     alloc: Global,
     feeds: &mut [S],
-    functions: &F,
+    functions: F,
     config: &Config,
     device: D,
 ) -> Result<Run<F::Value>, Refused>
@@ -142,7 +156,7 @@ pub fn run_one<S: Source, F: Mergeable<Key = Name, Input = i64>, D: Disk>(
 pub fn run_one_by<S: Source, F: Mergeable<Key = Name, Input = i64>, D: Disk>(
     alloc: Global,
     feeds: &mut [S],
-    functions: &F,
+    functions: F,
     config: &Config,
     mut device: D,
     mode: RowMode,
@@ -168,12 +182,12 @@ pub fn run_one_by<S: Source, F: Mergeable<Key = Name, Input = i64>, D: Disk>(
         mode,
         workers: 1,
     };
-    let mut shards = match Shards::open(alloc, functions, config, &mut device, mode) {
-        Ok(shards) => shards,
+    let mut store = match opened(alloc, functions, config, &mut device, mode) {
+        Ok(store) => store,
         Err(refused) => return Err(refused),
     };
-    match read_feeds(alloc, feeds, &mut shards) {
-        Ok(rows) => finish(alloc, &mut shards, rows, plan),
+    match read_feeds(alloc, feeds, &mut store) {
+        Ok(rows) => finish(store.store, rows, plan),
         Err(refused) => Err(refused),
     }
 }
@@ -186,7 +200,7 @@ pub fn run_one_by<S: Source, F: Mergeable<Key = Name, Input = i64>, D: Disk>(
 pub fn run_alone<S: Source, F: Mergeable<Key = Name, Input = i64>, D: Disk>(
     alloc: Global,
     feed: &mut S,
-    functions: &F,
+    functions: F,
     config: &Config,
     device: D,
 ) -> Result<Run<F::Value>, Refused>
@@ -212,7 +226,7 @@ pub fn run_alone<S: Source, F: Mergeable<Key = Name, Input = i64>, D: Disk>(
 pub fn run_alone_by<S: Source, F: Mergeable<Key = Name, Input = i64>, D: Disk>(
     alloc: Global,
     feed: &mut S,
-    functions: &F,
+    functions: F,
     config: &Config,
     mut device: D,
     mode: RowMode,
@@ -237,12 +251,12 @@ pub fn run_alone_by<S: Source, F: Mergeable<Key = Name, Input = i64>, D: Disk>(
         mode,
         workers: 1,
     };
-    let mut shards = match Shards::open(alloc, functions, config, &mut device, mode) {
-        Ok(shards) => shards,
+    let mut store = match opened(alloc, functions, config, &mut device, mode) {
+        Ok(store) => store,
         Err(refused) => return Err(refused),
     };
-    match read_feed(alloc, feed, 1, LIMIT, &mut shards) {
-        Ok(rows) => finish(alloc, &mut shards, rows, plan),
+    match read_feed(alloc, feed, 1, LIMIT, &mut store) {
+        Ok(rows) => finish(store.store, rows, plan),
         Err(refused) => Err(refused),
     }
 }

@@ -6,7 +6,7 @@ use Rattle.std.specs.declared.cmp.Ordering.{Ordering}
 use Rattle.fkv_functions.specs.Meanings.{Meanings}
 use Rattle.fkv_functions.specs.Plain.{Same}
 use Rattle.fkv_functions.specs.declared.refusals.Refused.{Refused}
-use Rattle.fkv_functions.specs.declared.refusals.Refused.TheVariants.{Worn}
+use Rattle.fkv_functions.specs.declared.refusals.Refused.TheVariants.{Worn, Damaged}
 use Rattle.fkv_operations.specs.After.{key_of, after, answer}
 use Rattle.fkv_operations.specs.AfterLaws.{same_map}
 use Rattle.fkv_operations.specs.declared.operations.KeyedOp.{KeyedOp}
@@ -22,6 +22,7 @@ use Rattle.fkv_partition.specs.CoreViews.{CoreView, slots_of, context_at, live_o
 use Rattle.fkv_partition.specs.Beginning.{IsFirstFree, IsFree, IssuesOnKey}
 use Rattle.fkv_partition.specs.Views.{PartitionView, with_core}
 use Rattle.fkv_alone.specs.Ending.{Ends, IsOver, IsStop}
+use Rattle.fkv_alone.specs.Spoilt.{Spelling, IsSpoilt}
 use Rattle.fkv_alone.specs.Stages.{IsWaiting}
 use Rattle.fkv_local.specs.Resting.{IsIdle, StaysIdle}
 use Rattle.fkv_local.specs.Moving.{IsTidied, IsMoveRefusal}
@@ -119,16 +120,16 @@ over-stays {K} {V} {I} {keeps} {cmp} u v w c s over rest = record {
   live = λ k q. ap (λ r. live cmp r.text q) over.records ∙ s.live k q;
 }
 
-module _ {K V I : Type 0} {merges : Bool} {op : KeyedOp K V I} where
+module _ {K V I : Type 0} {merges : Bool} {entry : Spelling K V} {cmp : K → K → Ordering} {op : KeyedOp K V I} where
   -- by the partition's own event, over this log
-  stopped : {tail clock before after_ writes writes_now : ℕ} {e : Refused} → IsStop tail before after_ e → writes_now ≡ writes → IsStopped merges op tail clock writes writes_now before after_ e
-  stopped (IsStop.memory a b) same = IsStopped.no_memory a b same
-  stopped (IsStop.worn a b d) same = IsStopped.no_address a b d same
-  stopped (IsStop.device page a b) same = IsStopped.unread page (inl (inr (a, b))) same
-  stopped (IsStop.damaged page a b) same = IsStopped.unread page (inr (a, b)) same
-  stopped (IsStop.misspelled page a b) same = IsStopped.misspelled page a b same
+  stopped : {tail clock before after_ writes writes_now : ℕ} {e : Refused} → ((page : ℕ) → e ≡ Damaged page → after_ ≡ before → IsSpoilt entry cmp page) → IsStop tail before after_ e → writes_now ≡ writes → IsStopped merges entry cmp op tail clock writes writes_now before after_ e
+  stopped spoilt (IsStop.memory a b) same = IsStopped.no_memory a b same
+  stopped spoilt (IsStop.worn a b d) same = IsStopped.no_address a b d same
+  stopped spoilt (IsStop.device page a b) same = IsStopped.unread page (inl (inr (a, b))) same
+  stopped spoilt (IsStop.damaged page a b) same = IsStopped.unread page (inr (a, b)) same
+  stopped spoilt (IsStop.misspelled page a b) same = IsStopped.misspelled page (spoilt page a b) a b same
 
-  unissued : {code : K → ℕ} {tail clock before after_ writes writes_now : ℕ} (v w : PartitionView K V I) (now : ℕ) (e : Refused) → IsIdle v 0 → partition_of v.core.count (code (key_of op)) ≡ v.core.number → v.core.merges ≡ merges → IssuesOnKey code v w 0 op now (Err e) → after_ ≡ before → writes_now ≡ writes → IsStopped merges op tail clock writes writes_now before after_ e
+  unissued : {code : K → ℕ} {tail clock before after_ writes writes_now : ℕ} (v w : PartitionView K V I) (now : ℕ) (e : Refused) → IsIdle v 0 → partition_of v.core.count (code (key_of op)) ≡ v.core.number → v.core.merges ≡ merges → IssuesOnKey code v w 0 op now (Err e) → after_ ≡ before → writes_now ≡ writes → IsStopped merges entry cmp op tail clock writes writes_now before after_ e
   unissued v w now e i own m (IssuesOnKey.unknown a b r) s t = let bad : false ≡ true = sym a ∙ i.entered in absurd (cc)
   unissued v w now e i own m (IssuesOnKey.stranger a b d r) s t = absurd (b own)
   unissued v w now e i own m (IssuesOnKey.unmerged a b d n g r) s t = IsStopped.unmerged (cc) d (sym m ∙ n) s t
@@ -136,23 +137,23 @@ module _ {K V I : Type 0} {merges : Bool} {op : KeyedOp K V I} where
   unissued v w now e i own m (IssuesOnKey.issues c a b q d g r) s t = absurd (cc)
 
   -- or since pages are not moved
-  pub move-stopped : {tail clock writes writes_now before after_ : ℕ} {e : Refused} → IsMoveRefusal clock writes writes_now e → after_ ≡ before → IsStopped merges op tail clock writes writes_now before after_ e
+  pub move-stopped : {tail clock writes writes_now before after_ : ℕ} {e : Refused} → IsMoveRefusal clock writes writes_now e → after_ ≡ before → IsStopped merges entry cmp op tail clock writes writes_now before after_ e
   move-stopped (IsMoveRefusal.worn a b s) same = IsStopped.no_moment a (omega arith) same s
   move-stopped (IsMoveRefusal.no_memory a b) same = IsStopped.no_memory a same b
   move-stopped (IsMoveRefusal.unwritten page a) same = IsStopped.unwritten page a same
 
   -- of a partition's writer and reader
-  pub move-refused : {W P : Type 0} (writes : W → ℕ) (reads : P → ℕ) {tail clock : ℕ} {e : Refused} (w w_now : W) (p p_now : P) → IsMoveRefusal clock (writes w) (writes w_now) e → reads p_now ≡ reads p → IsRefusedBy merges writes reads op tail clock e
+  pub move-refused : {W P : Type 0} (writes : W → ℕ) (reads : P → ℕ) {tail clock : ℕ} {e : Refused} (w w_now : W) (p p_now : P) → IsMoveRefusal clock (writes w) (writes w_now) e → reads p_now ≡ reads p → IsRefusedBy merges entry cmp writes reads op tail clock e
   move-refused writes reads w w_now p p_now h same = record { writer = w; writer_now = w_now; reader = p; reader_now = p_now; stopped = move-stopped h same }
 
-  pub refused-by : {W P : Type 0} (writes : W → ℕ) (reads : P → ℕ) {tail clock : ℕ} {e : Refused} (w w_now : W) (p p_now : P) → IsStopped merges op tail clock (writes w) (writes w_now) (reads p) (reads p_now) e → IsRefusedBy merges writes reads op tail clock e
+  pub refused-by : {W P : Type 0} (writes : W → ℕ) (reads : P → ℕ) {tail clock : ℕ} {e : Refused} (w w_now : W) (p p_now : P) → IsStopped merges entry cmp op tail clock (writes w) (writes w_now) (reads p) (reads p_now) e → IsRefusedBy merges entry cmp writes reads op tail clock e
   refused-by writes reads w w_now p p_now h = record { writer = w; writer_now = w_now; reader = p; reader_now = p_now; stopped = h }
 
-  pub worn-refused : {W P : Type 0} (writes : W → ℕ) (reads : P → ℕ) {tail clock : ℕ} {e : Refused} (w : W) (p : P) → (e ≡ Worn) × (2 ^ 64 ≤ clock + 2) → IsRefusedBy merges writes reads op tail clock e
+  pub worn-refused : {W P : Type 0} (writes : W → ℕ) (reads : P → ℕ) {tail clock : ℕ} {e : Refused} (w : W) (p : P) → (e ≡ Worn) × (2 ^ 64 ≤ clock + 2) → IsRefusedBy merges entry cmp writes reads op tail clock e
   worn-refused writes reads w p h = refused-by writes reads w w p p (IsStopped.no_moment h.0 h.1 refl refl)
 
-pub told-by : {K V I A W P : Type 0} (merges : Bool) (op : KeyedOp K V I) (writes : W → ℕ) (reads : P → ℕ) (tail clock : ℕ) (w w_now : W) (p p_now : P) (r : Result A Refused) → IfErr r (IsStopped merges op tail clock (writes w) (writes w_now) (reads p) (reads p_now)) → IfErr r (IsRefusedBy merges writes reads op tail clock)
-told-by merges op writes reads tail clock w w_now p p_now r h = IfErr-weaker r (IsStopped merges op tail clock (writes w) (writes w_now) (reads p) (reads p_now)) (IsRefusedBy merges writes reads op tail clock) (λ e. refused-by writes reads w w_now p p_now) h
+pub told-by : {K V I A W P : Type 0} (merges : Bool) (entry : Spelling K V) (cmp : K → K → Ordering) (op : KeyedOp K V I) (writes : W → ℕ) (reads : P → ℕ) (tail clock : ℕ) (w w_now : W) (p p_now : P) (r : Result A Refused) → IfErr r (IsStopped merges entry cmp op tail clock (writes w) (writes w_now) (reads p) (reads p_now)) → IfErr r (IsRefusedBy merges entry cmp writes reads op tail clock)
+told-by merges entry cmp op writes reads tail clock w w_now p p_now r h = IfErr-weaker r (IsStopped merges entry cmp op tail clock (writes w) (writes w_now) (reads p) (reads p_now)) (IsRefusedBy merges entry cmp writes reads op tail clock) (λ e. refused-by writes reads w w_now p p_now) h
 
 is-given_up : {K V I : Type 0} (v w : CoreView K V I) (now : ℕ) (r : Result (Unit {0}) Refused) (x : Context K V I) → context_at v 0 0 ≡ Some x → GivesUp v w 0 0 now r → OnOk r (IsGiveUp v w 0 0 now) → IsGiveUp v w 0 0 now
 is-given_up v w now (Ok t) x here g event = event
@@ -160,9 +161,9 @@ is-given_up v w now (Err e) x here (GivesUp.unknown n s q) event = let bad : Non
 is-given_up v w now (Err e) x here (GivesUp.gives_up y a b d q) event = absurd (cc)
 is-given_up v w now (Err e) x here (GivesUp.cancels y p a b d q) event = absurd (cc)
 
-pub record IsLeft {K V I : Type 0} (keeps merges : Bool) (cmp : K → K → Ordering) (op : KeyedOp K V I) (u w : PartitionView K V I) (clock writes writes_now reads reads_now : ℕ) (e : Refused) : Type 0 where
+pub record IsLeft {K V I : Type 0} (keeps merges : Bool) (entry : Spelling K V) (cmp : K → K → Ordering) (op : KeyedOp K V I) (u w : PartitionView K V I) (clock writes writes_now reads reads_now : ℕ) (e : Refused) : Type 0 where
   pub stays : StaysIdle keeps cmp u w
-  pub why : IsStopped merges op w.core.records.tail clock writes writes_now reads reads_now e
+  pub why : IsStopped merges entry cmp op w.core.records.tail clock writes writes_now reads reads_now e
 
 -- a refused operation, by what it leaves
 pub left-runs : {K V I O : Type 0} {keeps : Bool} {cmp : K → K → Ordering} {f : Meanings K V I O} {u w : PartitionView K V I} {op : KeyedOp K V I} {e : Refused} → StaysIdle keeps cmp u w → Runs keeps cmp f u w op (Err e)
@@ -189,23 +190,23 @@ module _ {K V I O R : Type 0} {keeps : Bool} {cmp : K → K → Ordering} {join 
     done-runs (Ends.stalled c opens d m t r) = absurd (cc)
     done-runs (Ends.exhausted c opens d m b t r) = absurd (cc)
 
-    pub err-left : {merges : Bool} {writes writes_now : ℕ} {e : Refused} → v.core.merges ≡ merges → writes_now ≡ writes → Ends {O = O} {R = R} keeps cmp join f code op v w 0 (2 ^ 64 - 1) start end before after_ (Err e) → IsLeft keeps merges cmp op u w end writes writes_now before after_ e
-    err-left m same (Ends.barred b n e t r) = absurd (omega arith)
-    err-left m same (Ends.late b d n e t r) = record { stays = subst (StaysIdle keeps cmp u) (sym n) s; why = IsStopped.no_moment (cc) (omega arith) t same }
-    err-left {merges} {writes} {writes_now} {e} m same (Ends.unissued why b i n ends t r) = record {
+    pub err-left : {merges : Bool} {entry : Spelling K V} {writes writes_now : ℕ} {e : Refused} → ((page : ℕ) → e ≡ Damaged page → after_ ≡ before → IsSpoilt entry cmp page) → v.core.merges ≡ merges → writes_now ≡ writes → Ends {O = O} {R = R} keeps cmp join f code op v w 0 (2 ^ 64 - 1) start end before after_ (Err e) → IsLeft keeps merges entry cmp op u w end writes writes_now before after_ e
+    err-left spoilt m same (Ends.barred b n e t r) = absurd (omega arith)
+    err-left spoilt m same (Ends.late b d n e t r) = record { stays = subst (StaysIdle keeps cmp u) (sym n) s; why = IsStopped.no_moment (cc) (omega arith) t same }
+    err-left {merges} {entry} {writes} {writes_now} {e} spoilt m same (Ends.unissued why b i n ends t r) = record {
       stays = subst (StaysIdle keeps cmp u) (sym n) s;
-      why = subst (λ x. IsStopped merges op w.core.records.tail end writes writes_now before after_ x) (let q : why ≡ e = cc in q) (unissued v w (start + 1) why s.idle own m i t same);
+      why = subst (λ x. IsStopped merges entry cmp op w.core.records.tail end writes writes_now before after_ x) (let q : why ≡ e = cc in q) (unissued v w (start + 1) why s.idle own m i t same);
     }
-    err-left m same (Ends.done c a2 effect opens d b t r) = absurd (cc)
-    err-left m same (Ends.waits c why opens d b t r) = absurd (cc)
-    err-left {merges} {writes} {writes_now} {e} m same (Ends.refused c why opens d b st r) = record {
+    err-left spoilt m same (Ends.done c a2 effect opens d b t r) = absurd (cc)
+    err-left spoilt m same (Ends.waits c why opens d b t r) = absurd (cc)
+    err-left {merges} {entry} {writes} {writes_now} {e} spoilt m same (Ends.refused c why opens d b st r) = record {
       stays = over-stays u v w c s d rest;
-      why = subst (λ x. IsStopped merges op w.core.records.tail end writes writes_now before after_ x) (let q : why ≡ e = cc in q)
-          (subst (λ n. IsStopped merges op n end writes writes_now before after_ why) (sym (ap (λ x. x.tail) d.records)) (stopped st same));
+      why = subst (λ x. IsStopped merges entry cmp op w.core.records.tail end writes writes_now before after_ x) (let q : why ≡ e = cc in q)
+          (subst (λ n. IsStopped merges entry cmp op n end writes writes_now before after_ why) (sym (ap (λ x. x.tail) d.records)) (stopped (λ page told. spoilt page (let q : why ≡ e = cc in sym q ∙ told)) st same));
     }
     -- more events than a clock has moments
-    err-left m same (Ends.stalled c opens d b t r) = absurd (omega arith)
-    err-left m same (Ends.exhausted c opens d last b t r) = record { stays = over-stays u v w c s d rest; why = IsStopped.no_moment (cc) (omega arith) t same }
+    err-left spoilt m same (Ends.stalled c opens d b t r) = absurd (omega arith)
+    err-left spoilt m same (Ends.exhausted c opens d last b t r) = record { stays = over-stays u v w c s d rest; why = IsStopped.no_moment (cc) (omega arith) t same }
 
     -- ---- no failure of the reader is counted where it waits
     pub steady-waits : {why : Wait} → Ends {O = O} {R = R} keeps cmp join f code op v w 0 (2 ^ 64 - 1) start end before after_ (Ok (Waits why)) → after_ ≡ before

@@ -5,3 +5,4 @@ mod AtOnceLemmas
 mod StoreLemmas
 mod ClearLemmas
 mod CountLemmas
+pub mod MergeLemmas

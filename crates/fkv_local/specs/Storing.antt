@@ -8,19 +8,22 @@ use Rattle.fkv_functions.specs.declared.refusals.Refused.TheVariants.{BadConfig}
 use Rattle.fkv_device.specs.Failing.{FailsOnlyBy}
 use Rattle.fkv_operations.specs.After.{after, answer}
 use Rattle.fkv_operations.specs.declared.operations.KeyedOp.{KeyedOp}
+use Rattle.fkv_operations.specs.declared.operations.KeyedOp.TheVariants.{Rmw, Merge}
 use Rattle.fkv_operations.specs.declared.operations.Answer.{Answer}
 use Rattle.fkv_partition.specs.CoreViews.{live_of}
 use Rattle.fkv_partition.specs.Views.{PartitionView}
 use Rattle.fkv_partition.specs.Unions.{union_of}
 use Rattle.fkv_local.specs.Resting.{IsIdle}
 
--- the partitions of a store, and how many moments it has taken
-pub record StoreView (K V I : Type 0) : Type 0 where
+-- the partitions of a store, what reads their pages, whether logs are compacted on call alone, and how many moments it has taken
+pub record StoreView (K V I P : Type 0) : Type 0 where
   pub parts : List (PartitionView K V I)
+  pub readers : List P
+  pub keeps_log : Bool
   pub moments : ℕ
 
 -- the plain map that a store is
-abbrev pub plain : {K V I : Type 0} → (K → K → Ordering) → (K → ℕ) → StoreView K V I → PlainMap K V
+abbrev pub plain : {K V I P : Type 0} → (K → K → Ordering) → (K → ℕ) → StoreView K V I P → PlainMap K V
 plain cmp code s = union_of cmp code s.parts
 
 -- THE STORE IS A PLAIN MAP. An operation on the map `old` came to this result, and left the map `new`: where it is done,
@@ -30,6 +33,11 @@ abbrev pub IsRun : {K V I O : Type 0} → (K → K → Ordering) → Meanings K 
 IsRun cmp f old new op (Ok a) = Same new (after cmp f old op) × (a ≡ answer f old op)
 IsRun cmp f old new op (Err why) = Same new old
 
+-- the same of an update that may have been made a merge
+abbrev pub IsUpdateRun : {K V I O : Type 0} → (K → K → Ordering) → Meanings K V I O → PlainMap K V → PlainMap K V → K → I
+    → Result (Answer O) Refused → Type 0
+IsUpdateRun cmp f old new k i result = IsRun cmp f old new (Rmw k i) result ⊎ IsRun cmp f old new (Merge k i) result
+
 -- the same of one partition, whose session has nothing open before and after
 pub record Runs {K V I O : Type 0} (keeps : Bool) (cmp : K → K → Ordering) (f : Meanings K V I O)
     (old new : PartitionView K V I) (op : KeyedOp K V I) (result : Result (Answer O) Refused) : Type 0 where
@@ -37,6 +45,10 @@ pub record Runs {K V I O : Type 0} (keeps : Bool) (cmp : K → K → Ordering) (
   pub count : new.core.count ≡ old.core.count
   pub idle : IsIdle new 0
   pub effect : IsTrue keeps → IsRun cmp f (live_of cmp old.core) (live_of cmp new.core) op result
+
+abbrev pub Updates : {K V I O : Type 0} → Bool → (K → K → Ordering) → Meanings K V I O → PartitionView K V I → PartitionView K V I
+    → K → I → Result (Answer O) Refused → Type 0
+Updates keeps cmp f old new k i result = Runs keeps cmp f old new (Rmw k i) result ⊎ Runs keeps cmp f old new (Merge k i) result
 
 -- the bytes of a log from its beginning to its tail, and those of them that are below Head
 abbrev pub log_bytes : {K V I : Type 0} → PartitionView K V I → ℕ

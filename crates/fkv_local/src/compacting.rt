@@ -3,22 +3,24 @@
 //! Relocations are made in the session that all operations are made in, one at a time, while nothing else is open there. So pages
 //! can move on wherever one finds no room, and one that is not done is given up, which is without effect: whatever is refused on the
 //! way, the map stays and nothing is open.
-ghost use Rattle.std.specs.Prelude.{◌≡◌, ◌≤◌, ◌+◌, ◌^◌, ◌<◌, IfOk, IfErr, IsSome};
+ghost use Rattle.std.specs.Prelude.{◌≡◌, ◌≤◌, ◌+◌, ◌^◌, ◌<◌, IfOk, IfErr, IsSome, IsTrue};
 ghost use Rattle.fkv_partition.specs.Views.{relocation_at};
 ghost use Rattle.fkv_local.specs.Resting.{IsIdle, IsIdleBut, StaysIdle, StaysIdleBut};
 ghost use Rattle.fkv_local.specs.Moving.{IsPassed};
 
 use crate::moving::tidy;
-use crate::parts::{Part, SLOT};
+use crate::parts::{Part, SLOT, Shard, Terms};
 use fkv_device::{Disk, Loaded, PageReader, Receipt};
 use fkv_functions::{Mergeable, Refused};
 use fkv_operations::{Clock, Op};
 use fkv_partition::{Partition, Progress, ProgressOf};
 use fkv_records::Address;
-use std::alloc::Global;
 
 /// How often a relocation begins anew, until it is given up.
 const RESTARTS: u8 = 8;
+
+/// How many pages a compaction clears, at least, until it is seen whether it pays.
+const SEEN: u64 = 8;
 
 /// How many pages Head moves, at least, until a partition is compacted again by itself.
 const PAGES: u64 = 64;
@@ -108,18 +110,18 @@ fn moment_before_another(clock: &mut Clock) -> Result<u64, Refused>
 /// Makes the next event of the relocation in a context: it goes on, with the page of this receipt if it waits for one.
 fn event<F: Mergeable, D: Disk>(
     functions: &F,
-    part: &mut Part<F, D>,
+    shard: &mut Shard<F, D>,
     kept: &mut Kept<D::Receipt>,
     context: usize,
     wanted: &Wanted<D::Receipt>,
     clock: &mut Clock,
 ) -> Result<ProgressOf<F, D::Receipt>, Refused>
-    requires only { IsIdleBut part.old.partition 0 context }
-    requires here { IsSome (relocation_at part.old.partition 0 context) }
-    requires past { part.old.partition.core.moment ≤ clock.old }
+    requires only { IsIdleBut shard.old.part.partition 0 context }
+    requires here { IsSome (relocation_at shard.old.part.partition 0 context) }
+    requires past { shard.old.part.partition.core.moment ≤ clock.old }
     requires spare { clock.old + 1 < 2 ^ 64 }
-    ensures stays { StaysIdleBut D.Receipt.keeps F.Key.cmp part.old.partition part.new.partition context }
-    ensures passed { IsPassed part.new.partition.core.moment clock.old clock.new }
+    ensures stays { StaysIdleBut D.Receipt.keeps F.Key.cmp shard.old.part.partition shard.new.part.partition context }
+    ensures passed { IsPassed shard.new.part.partition.core.moment clock.old clock.new }
     ensures spare { clock.new + 1 < 2 ^ 64 }
 {
     let now = match moment_before_another(clock) {
@@ -127,10 +129,13 @@ fn event<F: Mergeable, D: Disk>(
         Err(refused) => return Err(refused),
     };
     match &wanted.receipt {
-        None => part.partition.go(SLOT, context, functions, now),
+        None => shard.part.partition.go(SLOT, context, functions, now),
         Some(receipt) => {
-            let came = kept.fetch(&mut part.reader, receipt, wanted.is_of_place);
-            part.partition.load(SLOT, context, came, functions, now)
+            let came = kept.fetch(&mut shard.reader, receipt, wanted.is_of_place);
+            shard
+                .part
+                .partition
+                .load(SLOT, context, came, functions, now)
         }
     }
 }
@@ -138,25 +143,25 @@ fn event<F: Mergeable, D: Disk>(
 /// Goes on with the relocation that is open in a context, until it is done, waits or is refused.
 fn go_on<F: Mergeable, D: Disk>(
     functions: &F,
-    part: &mut Part<F, D>,
+    shard: &mut Shard<F, D>,
     kept: &mut Kept<D::Receipt>,
     context: usize,
     clock: &mut Clock,
 ) -> Result<Relocated, Refused>
-    requires only { IsIdleBut part.old.partition 0 context }
-    requires past { part.old.partition.core.moment ≤ clock.old }
+    requires only { IsIdleBut shard.old.part.partition 0 context }
+    requires past { shard.old.part.partition.core.moment ≤ clock.old }
     requires spare { clock.old + 1 < 2 ^ 64 }
-    ensures stays { StaysIdleBut D.Receipt.keeps F.Key.cmp part.old.partition part.new.partition context }
-    ensures passed { IsPassed part.new.partition.core.moment clock.old clock.new }
+    ensures stays { StaysIdleBut D.Receipt.keeps F.Key.cmp shard.old.part.partition shard.new.part.partition context }
+    ensures passed { IsPassed shard.new.part.partition.core.moment clock.old clock.new }
     ensures spare { clock.new + 1 < 2 ^ 64 }
 {
     let mut wanted = Wanted::nothing();
     let mut begun = 0u8;
     for _event in 0..u64::MAX {
-        if begun > RESTARTS || part.partition.relocation(SLOT, context).is_none() {
+        if begun > RESTARTS || shard.part.partition.relocation(SLOT, context).is_none() {
             return Ok(Relocated::Waits);
         }
-        match event(functions, part, kept, context, &wanted, clock) {
+        match event(functions, shard, kept, context, &wanted, clock) {
             Ok(Progress::NeedsLoad(receipt, _)) => wanted = wanted.then(receipt),
             Ok(Progress::Done(..)) => return Ok(Relocated::Cleared),
             Ok(Progress::Next) => {
@@ -194,58 +199,95 @@ fn give_up<F: Mergeable, R: Receipt>(
 /// Relocates what stands at the address that is cleared next. Where that is not done it is given up.
 fn relocate<F: Mergeable, D: Disk>(
     functions: &F,
-    part: &mut Part<F, D>,
+    shard: &mut Shard<F, D>,
     kept: &mut Kept<D::Receipt>,
     clock: &mut Clock,
 ) -> Result<Relocated, Refused>
-    requires idle { IsIdle part.old.partition 0 }
-    requires past { part.old.partition.core.moment ≤ clock.old }
-    ensures stays { StaysIdle D.Receipt.keeps F.Key.cmp part.old.partition part.new.partition }
-    ensures passed { IsPassed part.new.partition.core.moment clock.old clock.new }
+    requires idle { IsIdle shard.old.part.partition 0 }
+    requires past { shard.old.part.partition.core.moment ≤ clock.old }
+    ensures stays { StaysIdle D.Receipt.keeps F.Key.cmp shard.old.part.partition shard.new.part.partition }
+    ensures passed { IsPassed shard.new.part.partition.core.moment clock.old clock.new }
 {
     let now = match moment_before_another(clock) {
         Ok(now) => now,
         Err(refused) => return Err(refused),
     };
-    let context = match part.partition.issue(SLOT, Op::Relocate, functions, now) {
+    let context = match shard
+        .part
+        .partition
+        .issue(SLOT, Op::Relocate, functions, now)
+    {
         Ok(context) => context,
         Err(Refused::NotDue) => return Ok(Relocated::NotDue),
         Err(refused) => return Err(refused),
     };
-    let told = go_on(functions, part, kept, context, clock);
-    give_up(&mut part.partition, context, clock);
+    let told = go_on(functions, shard, kept, context, clock);
+    give_up(&mut shard.part.partition, context, clock);
     told
+}
+
+/// How far a compaction goes.
+#[derive(Clone, Copy, Debug, PartialEq, Eq)]
+pub enum Effort {
+    /// To Head.
+    Whole,
+    /// To Head, but it ends where more than a quarter of what it passed still lives.
+    WhereItPays,
+}
+
+/// What a compaction has done so far.
+#[derive(Clone, Copy, Drop)]
+struct Passed {
+    /// The bytes at the start that it has cleared.
+    cleared: u64,
+    /// The bytes that it has appended again.
+    appended: u64,
+    page_size: u64,
+}
+
+impl Effort {
+    /// Whether a compaction is to end that has done so much.
+    fn ends(self, passed: &Passed) -> bool {
+        let is_seen = passed.cleared >= passed.page_size.saturating_mul(SEEN);
+        match self {
+            Effort::Whole => false,
+            Effort::WhereItPays => is_seen && passed.appended > passed.cleared / 4,
+        }
+    }
 }
 
 /// Relocates what lives below an address, one record after the other. Pages move on where one finds no room; where it finds none
 /// then either, it ends.
 fn clear<F: Mergeable, D: Disk>(
-    alloc: Global,
-    functions: &F,
-    frames: u64,
-    part: &mut Part<F, D>,
+    terms: &Terms<F>,
+    shard: &mut Shard<F, D>,
     end: Address,
+    effort: Effort,
     clock: &mut Clock,
 ) -> Result<(), Refused>
-    requires idle { IsIdle part.old.partition 0 }
-    requires past { part.old.partition.core.moment ≤ clock.old }
-    ensures stays { StaysIdle D.Receipt.keeps F.Key.cmp part.old.partition part.new.partition }
-    ensures passed { IsPassed part.new.partition.core.moment clock.old clock.new }
+    requires idle { IsIdle shard.old.part.partition 0 }
+    requires past { shard.old.part.partition.core.moment ≤ clock.old }
+    ensures stays { StaysIdle D.Receipt.keeps F.Key.cmp shard.old.part.partition shard.new.part.partition }
+    ensures passed { IsPassed shard.new.part.partition.core.moment clock.old clock.new }
 {
-    let mut kept = Kept {
-        size: part.partition.page_size(),
-        page: None,
-    };
+    let size = shard.part.partition.page_size();
+    let (start, tail) = (shard.part.partition.cleared(), shard.part.partition.tail());
+    let mut kept = Kept { size, page: None };
     let mut has_waited = false;
     for _record in 0..u64::MAX {
-        if part.partition.cleared() >= end {
+        let passed = Passed {
+            cleared: shard.part.partition.cleared().saturating_sub(start),
+            appended: shard.part.partition.tail().saturating_sub(tail),
+            page_size: size as u64,
+        };
+        if shard.part.partition.cleared() >= end || effort.ends(&passed) {
             return Ok(());
         }
-        match relocate(functions, part, &mut kept, clock) {
+        match relocate(&terms.functions, shard, &mut kept, clock) {
             Ok(Relocated::Cleared) => has_waited = false,
             Ok(Relocated::Waits) if !has_waited => {
                 has_waited = true;
-                match tidy(alloc, frames, part, clock) {
+                match tidy(terms.alloc, terms.frames, &mut shard.part, clock) {
                     Ok(()) => {}
                     Err(refused) => return Err(refused),
                 }
@@ -281,24 +323,23 @@ fn cut<F: Mergeable, R: Receipt>(
 /// Appends what lives below Head again, as far as there is room, and cuts the log's start behind what is cleared, also where
 /// something is refused. Answers whether it cut anything.
 pub fn compact<F: Mergeable, D: Disk>(
-    alloc: Global,
-    functions: &F,
-    frames: u64,
-    part: &mut Part<F, D>,
+    terms: &Terms<F>,
+    shard: &mut Shard<F, D>,
+    effort: Effort,
     clock: &mut Clock,
 ) -> Result<bool, Refused>
-    requires idle { IsIdle part.old.partition 0 }
-    requires past { part.old.partition.core.moment ≤ clock.old }
-    ensures stays { StaysIdle D.Receipt.keeps F.Key.cmp part.old.partition part.new.partition }
-    ensures passed { IsPassed part.new.partition.core.moment clock.old clock.new }
+    requires idle { IsIdle shard.old.part.partition 0 }
+    requires past { shard.old.part.partition.core.moment ≤ clock.old }
+    ensures stays { StaysIdle D.Receipt.keeps F.Key.cmp shard.old.part.partition shard.new.part.partition }
+    ensures passed { IsPassed shard.new.part.partition.core.moment clock.old clock.new }
 {
-    match tidy(alloc, frames, part, clock) {
+    match tidy(terms.alloc, terms.frames, &mut shard.part, clock) {
         Ok(()) => {}
         Err(refused) => return Err(refused),
     }
-    let end = part.partition.head();
-    let cleared = clear(alloc, functions, frames, part, end, clock);
-    let cut = cut(&mut part.partition, clock);
+    let end = shard.part.partition.head();
+    let cleared = clear(terms, shard, end, effort, clock);
+    let cut = cut(&mut shard.part.partition, clock);
     match cleared {
         Ok(()) => cut,
         Err(refused) => Err(refused),
@@ -313,25 +354,24 @@ fn is_due<F: Mergeable, D: Disk>(part: &Part<F, D>) -> bool {
     moved >= span.max(part.left)
 }
 
-/// Compacts a log where that is due. What is refused is not told: the map stays, and the log is compacted again when Head has moved
+/// Compacts a log where that is due, as far as it pays. What is refused is not told: the map stays, and the log is compacted again when Head has moved
 /// on.
 pub fn compact_where_due<F: Mergeable, D: Disk>(
-    alloc: Global,
-    functions: &F,
-    frames: u64,
-    part: &mut Part<F, D>,
+    terms: &Terms<F>,
+    shard: &mut Shard<F, D>,
     clock: &mut Clock,
 )
-    requires idle { IsIdle part.old.partition 0 }
-    requires past { part.old.partition.core.moment ≤ clock.old }
-    ensures stays { StaysIdle D.Receipt.keeps F.Key.cmp part.old.partition part.new.partition }
-    ensures passed { IsPassed part.new.partition.core.moment clock.old clock.new }
+    requires idle { IsIdle shard.old.part.partition 0 }
+    requires past { shard.old.part.partition.core.moment ≤ clock.old }
+    ensures stays { StaysIdle D.Receipt.keeps F.Key.cmp shard.old.part.partition shard.new.part.partition }
+    ensures same { IsTrue terms.now.keeps_log → shard.new ≡ shard.old }
+    ensures passed { IsPassed shard.new.part.partition.core.moment clock.old clock.new }
 {
-    if !is_due(part) {
+    if terms.keeps_log || !is_due(&shard.part) {
         return;
     }
-    let _cut = compact(alloc, functions, frames, part, clock);
-    let head = part.partition.head();
-    part.compacted = head;
-    part.left = head.saturating_sub(part.partition.begin());
+    let _cut = compact(terms, shard, Effort::WhereItPays, clock);
+    let head = shard.part.partition.head();
+    shard.part.compacted = head;
+    shard.part.left = head.saturating_sub(shard.part.partition.begin());
 }

@@ -1,11 +1,13 @@
 //! One operation of one partition, driven to its end.
-ghost use Rattle.std.specs.Prelude.{◌≡◌, ◌<◌, ◌≤◌, ◌+◌, ◌-◌, ◌^◌, None, Ok, true, IfOk, IfErr, IfSome, OnErr};
-ghost use Rattle.fkv_operations.specs.After.{key_of};
+ghost use Rattle.std.specs.Prelude.{◌≡◌, ◌<◌, ◌≤◌, ◌+◌, ◌-◌, ◌^◌, ℕ, None, Ok, Err, true, IsTrue, IfOk, IfErr, IfSome, OnErr};
+ghost use Rattle.fkv_pages.specs.Spelled.{IsEntryIn};
+ghost use Rattle.fkv_operations.specs.After.{key_of, is_merge};
 ghost use Rattle.fkv_operations.specs.declared.operations.KeyedOp.TheVariants.{Rmw};
 ghost use Rattle.fkv_operations.specs.declared.operations.Answer.TheVariants.{Value};
 ghost use Rattle.fkv_partition.specs.CoreViews.{partition_of};
 ghost use Rattle.fkv_partition.specs.Views.{with_core};
 ghost use Rattle.fkv_alone.specs.Ending.{Ends};
+ghost use Rattle.fkv_alone.specs.Spoilt.{IsSpoilt};
 ghost use Rattle.fkv_local.specs.Resting.{IsIdle, StaysIdle};
 ghost use Rattle.fkv_local.specs.Moving.{IsPassed, IsMoveRefusal};
 ghost use Rattle.fkv_local.specs.Storing.{Runs};
@@ -13,13 +15,12 @@ ghost use Rattle.fkv_local.specs.Refusing.{IsStopped, IsRefusedBy};
 
 use crate::compacting::compact_where_due;
 use crate::moving::tidy;
-use crate::parts::{Part, SLOT};
+use crate::parts::{Part, SLOT, Shard, Terms};
 use fkv_alone::run_alone;
-use fkv_device::Disk;
+use fkv_device::{Disk, PageReader};
 use fkv_functions::{Mergeable, Refused};
 use fkv_operations::{Answer, Clock, KeyedOp, KeyedOpOf};
 use fkv_partition::{Progress, ProgressOf};
-use std::alloc::Global;
 
 /// An operation that waits is in its session's lowest context, where nothing else is open.
 const CONTEXT: usize = 0;
@@ -28,15 +29,20 @@ const CONTEXT: usize = 0;
 const NO_LIMIT: u64 = u64::MAX;
 
 /// Makes an operation in a session that has nothing open, by the events of its partition, until it is done, waits or is refused.
-fn once<F: Mergeable, D: Disk>(
+fn once<F: Mergeable, D: Disk, P: PageReader<Receipt = D::Receipt>>(
     functions: &F,
     part: &mut Part<F, D>,
+    reader: &mut P,
     op: KeyedOpOf<F>,
     clock: &mut Clock,
 ) -> Result<ProgressOf<F, D::Receipt>, Refused>
     requires past { part.old.partition.core.moment ≤ clock.old }
     ensures ends { Ends D.Receipt.keeps F.Key.cmp F.parts.joined F.meaning F.code op part.old.partition part.new.partition 0
-        (2 ^ 64 - 1) clock.old clock.new (D.Reader.failures part.old.reader) (D.Reader.failures part.new.reader) result }
+        (2 ^ 64 - 1) clock.old clock.new (P.failures reader.old) (P.failures reader.new) result }
+    ensures spoilt { (page : ℕ) → result ≡ Err (Refused.Damaged page) → P.failures reader.new ≡ P.failures reader.old
+        → IsSpoilt (IsEntryIn F.Key.bytes_of F.Value.bytes_of F.Key.is_known F.Value.is_known F.Key.SIZE F.Value.SIZE)
+        F.Key.cmp page }
+    ensures unread { is_merge op ≡ true → reader.new ≡ reader.old }
     ensures rest { part.new.partition ≡ with_core part.old.partition part.new.partition.core }
     ensures passed { IsPassed part.new.partition.core.moment clock.old clock.new }
     ensures small { clock.new < 2 ^ 64 }
@@ -50,7 +56,7 @@ fn once<F: Mergeable, D: Disk>(
         SLOT,
         op,
         functions,
-        &mut part.reader,
+        reader,
         clock,
         NO_LIMIT,
     )
@@ -62,12 +68,10 @@ fn once<F: Mergeable, D: Disk>(
 
 /// Makes an operation in a session that has nothing open, by the events of its partition, to its end. What it asks for is built
 /// or read. Where it has to wait it is given up, which is without effect, pages move on, and it begins anew.
-pub fn run_by_events<F: Mergeable, D: Disk>(
-    alloc: Global,
-    functions: &F,
-    frames: u64,
-    tries: u64,
+pub fn run_by_events<F: Mergeable, D: Disk, P: PageReader<Receipt = D::Receipt>>(
+    terms: &Terms<F>,
     part: &mut Part<F, D>,
+    reader: &mut P,
     op: KeyedOpOf<F>,
     clock: &mut Clock,
 ) -> Result<Answer<F::Output>, Refused>
@@ -77,12 +81,15 @@ pub fn run_by_events<F: Mergeable, D: Disk>(
     requires begun { 0 < clock.old }
     ensures runs { Runs D.Receipt.keeps F.Key.cmp F.meaning part.old.partition part.new.partition op result }
     ensures passed { IsPassed part.new.partition.core.moment clock.old clock.new }
-    ensures told { IfErr result (IsStopped F.MERGES op part.new.partition.core.records.tail clock.new
+    ensures unread { is_merge op ≡ true → reader.new ≡ reader.old }
+    ensures told { IfErr result (IsStopped F.MERGES
+        (IsEntryIn F.Key.bytes_of F.Value.bytes_of F.Key.is_known F.Value.is_known F.Key.SIZE F.Value.SIZE) F.Key.cmp
+        op part.new.partition.core.records.tail clock.new
         (D.Writer.failures part.old.writer) (D.Writer.failures part.new.writer)
-        (D.Reader.failures part.old.reader) (D.Reader.failures part.new.reader)) }
+        (P.failures reader.old) (P.failures reader.new)) }
 {
-    for _try in 0..tries {
-        let told = match once(functions, part, op, clock) {
+    for _try in 0..terms.tries {
+        let told = match once(&terms.functions, part, reader, op, clock) {
             Ok(told) => told,
             Err(refused) => return Err(refused),
         };
@@ -90,7 +97,7 @@ pub fn run_by_events<F: Mergeable, D: Disk>(
             Progress::Done(answer, _) => return Ok(*answer),
             Progress::Waits(_) => {
                 let _given_up = part.partition.abandon(SLOT, CONTEXT);
-                match tidy(alloc, frames, part, clock) {
+                match tidy(terms.alloc, terms.frames, part, clock) {
                     Ok(()) => {}
                     Err(refused) => return Err(refused),
                 }
@@ -119,7 +126,6 @@ pub fn update_at_once<F: Mergeable, D: Disk>(
     ensures refused { OnErr result (part.new.partition ≡ part.old.partition) }
     ensures passed { IsPassed part.new.partition.core.moment clock.old clock.new }
     ensures same_writer { part.new.writer ≡ part.old.writer }
-    ensures same_reader { part.new.reader ≡ part.old.reader }
     ensures told { IfErr result (λ e. (e ≡ Refused.Worn) × (2 ^ 64 ≤ clock.new + 2)) }
 {
     let (issued, now) = match clock.tick_twice() {
@@ -138,90 +144,86 @@ pub fn update_at_once<F: Mergeable, D: Disk>(
 
 /// Counts an operation, and before every 64th moves the partition's pages on, and compacts its log where that is due. Refused as
 /// [`tidy`] is.
-fn tidy_at_times<F: Mergeable, D: Disk>(
-    alloc: Global,
-    functions: &F,
-    frames: u64,
-    part: &mut Part<F, D>,
+pub fn tidy_at_times<F: Mergeable, D: Disk>(
+    terms: &Terms<F>,
+    shard: &mut Shard<F, D>,
     clock: &mut Clock,
 ) -> Result<(), Refused>
-    requires idle { IsIdle part.old.partition 0 }
-    requires past { part.old.partition.core.moment ≤ clock.old }
-    ensures stays { StaysIdle D.Receipt.keeps F.Key.cmp part.old.partition part.new.partition }
-    ensures passed { IsPassed part.new.partition.core.moment clock.old clock.new }
-    ensures same_reader { OnErr result (part.new.reader ≡ part.old.reader) }
-    ensures told { IfErr result (IsMoveRefusal clock.new (D.Writer.failures part.old.writer)
-        (D.Writer.failures part.new.writer)) }
+    requires idle { IsIdle shard.old.part.partition 0 }
+    requires past { shard.old.part.partition.core.moment ≤ clock.old }
+    ensures stays { StaysIdle D.Receipt.keeps F.Key.cmp shard.old.part.partition shard.new.part.partition }
+    ensures passed { IsPassed shard.new.part.partition.core.moment clock.old clock.new }
+    ensures same_reader { OnErr result (shard.new.reader ≡ shard.old.reader) }
+    ensures unread { IsTrue terms.now.keeps_log → shard.new.reader ≡ shard.old.reader }
+    ensures told { IfErr result (IsMoveRefusal clock.new (D.Writer.failures shard.old.part.writer)
+        (D.Writer.failures shard.new.part.writer)) }
 {
-    part.operations = part.operations.wrapping_add(1);
-    if part.operations % 64 != 0 {
+    shard.part.operations = shard.part.operations.wrapping_add(1);
+    if shard.part.operations % 64 != 0 {
         return Ok(());
     }
-    match tidy(alloc, frames, part, clock) {
+    match tidy(terms.alloc, terms.frames, &mut shard.part, clock) {
         Ok(()) => {}
         Err(refused) => return Err(refused),
     }
-    compact_where_due(alloc, functions, frames, part, clock);
+    compact_where_due(terms, shard, clock);
     Ok(())
 }
 
 /// Makes an operation in a session that has nothing open, to its end, after pages have moved on where they are due. Refused as
 /// [`LocalStore::run`](crate::LocalStore::run) is.
 pub fn operate<F: Mergeable, D: Disk>(
-    alloc: Global,
-    functions: &F,
-    frames: u64,
-    tries: u64,
-    part: &mut Part<F, D>,
+    terms: &Terms<F>,
+    shard: &mut Shard<F, D>,
     op: KeyedOpOf<F>,
     clock: &mut Clock,
 ) -> Result<Answer<F::Output>, Refused>
-    requires idle { IsIdle part.old.partition 0 }
-    requires own { partition_of part.old.partition.core.count (F.code (key_of op)) ≡ part.old.partition.core.number }
-    requires past { part.old.partition.core.moment ≤ clock.old }
+    requires idle { IsIdle shard.old.part.partition 0 }
+    requires own { partition_of shard.old.part.partition.core.count (F.code (key_of op)) ≡ shard.old.part.partition.core.number }
+    requires past { shard.old.part.partition.core.moment ≤ clock.old }
     requires begun { 0 < clock.old }
-    ensures runs { Runs D.Receipt.keeps F.Key.cmp F.meaning part.old.partition part.new.partition op result }
-    ensures passed { IsPassed part.new.partition.core.moment clock.old clock.new }
-    ensures told { IfErr result (IsRefusedBy F.MERGES D.Writer.failures D.Reader.failures op
-        part.new.partition.core.records.tail clock.new) }
+    ensures runs { Runs D.Receipt.keeps F.Key.cmp F.meaning shard.old.part.partition shard.new.part.partition op result }
+    ensures passed { IsPassed shard.new.part.partition.core.moment clock.old clock.new }
+    ensures told { IfErr result (IsRefusedBy F.MERGES
+        (IsEntryIn F.Key.bytes_of F.Value.bytes_of F.Key.is_known F.Value.is_known F.Key.SIZE F.Value.SIZE) F.Key.cmp
+        D.Writer.failures D.Reader.failures op shard.new.part.partition.core.records.tail clock.new) }
 {
-    let tidied = tidy_at_times(alloc, functions, frames, part, clock);
+    let tidied = tidy_at_times(terms, shard, clock);
     match tidied {
         Ok(()) => {}
         Err(refused) => return Err(refused),
     }
-    run_by_events(alloc, functions, frames, tries, part, op, clock)
+    run_by_events(terms, &mut shard.part, &mut shard.reader, op, clock)
 }
 
 /// Makes an update as [`operate`] does, in one call where the key's last record may be changed in place.
 pub fn update<F: Mergeable, D: Disk>(
-    alloc: Global,
-    functions: &F,
-    frames: u64,
-    tries: u64,
-    part: &mut Part<F, D>,
+    terms: &Terms<F>,
+    shard: &mut Shard<F, D>,
     key: &F::Key,
     input: &F::Input,
     clock: &mut Clock,
 ) -> Result<Answer<F::Output>, Refused>
-    requires idle { IsIdle part.old.partition 0 }
-    requires own { partition_of part.old.partition.core.count (F.code key.now) ≡ part.old.partition.core.number }
-    requires past { part.old.partition.core.moment ≤ clock.old }
+    requires idle { IsIdle shard.old.part.partition 0 }
+    requires own { partition_of shard.old.part.partition.core.count (F.code key.now) ≡ shard.old.part.partition.core.number }
+    requires past { shard.old.part.partition.core.moment ≤ clock.old }
     requires begun { 0 < clock.old }
-    ensures runs { Runs D.Receipt.keeps F.Key.cmp F.meaning part.old.partition part.new.partition (Rmw key.now input.now) result }
-    ensures passed { IsPassed part.new.partition.core.moment clock.old clock.new }
-    ensures told { IfErr result (IsRefusedBy {V = F.Value} F.MERGES D.Writer.failures D.Reader.failures (Rmw key.now input.now)
-        part.new.partition.core.records.tail clock.new) }
+    ensures runs { Runs D.Receipt.keeps F.Key.cmp F.meaning shard.old.part.partition shard.new.part.partition
+        (Rmw key.now input.now) result }
+    ensures passed { IsPassed shard.new.part.partition.core.moment clock.old clock.new }
+    ensures told { IfErr result (IsRefusedBy F.MERGES
+        (IsEntryIn F.Key.bytes_of F.Value.bytes_of F.Key.is_known F.Value.is_known F.Key.SIZE F.Value.SIZE) F.Key.cmp
+        D.Writer.failures D.Reader.failures (Rmw key.now input.now) shard.new.part.partition.core.records.tail clock.new) }
 {
-    match tidy_at_times(alloc, functions, frames, part, clock) {
+    match tidy_at_times(terms, shard, clock) {
         Ok(()) => {}
         Err(refused) => return Err(refused),
     }
-    match update_at_once(functions, part, key, input, clock) {
+    match update_at_once(&terms.functions, &mut shard.part, key, input, clock) {
         Ok(Some(shown)) => Ok(Answer::Value(shown)),
         Ok(None) => {
             let rmw = KeyedOp::Rmw(*key, *input);
-            run_by_events(alloc, functions, frames, tries, part, rmw, clock)
+            run_by_events(terms, &mut shard.part, &mut shard.reader, rmw, clock)
         }
         Err(refused) => Err(refused),
     }

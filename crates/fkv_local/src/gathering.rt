@@ -6,7 +6,7 @@ ghost use Rattle.fkv_local.specs.Resting.{AreAtRest};
 ghost use Rattle.fkv_local.specs.Refusing.{IsUnlisted};
 ghost use Rattle.fkv_partition.specs.Unions.{union_of};
 
-use crate::parts::Part;
+use crate::parts::Shard;
 use fkv_device::Disk;
 use fkv_functions::{Mergeable, Refused};
 use std::collections::BTreeMap;
@@ -16,20 +16,24 @@ use std::collections::BTreeMap;
 pub fn gather<F: Mergeable, D: Disk>(
     functions: &F,
     tree: &mut BTreeMap<F::Key, F::Value>,
-    parts: &mut [Part<F, D>],
+    shards: &mut [Shard<F, D>],
 ) -> Result<(), Refused>
     requires empty { tree.old.entries ≡ [] }
-    requires some { 0 < length parts.old }
-    requires numbered { (now : ℕ) × AreAtRest (map (λ part. part.partition) parts.old) now }
+    requires some { 0 < length shards.old }
+    requires numbered { (now : ℕ) × AreAtRest (map (λ shard. shard.part.partition) shards.old) now }
     ensures ok { IsTrue D.Receipt.keeps → OnOk result (Same (get F.Key.cmp tree.new)
-        (union_of F.Key.cmp F.code (map (λ part. part.partition) parts.old))) }
-    ensures views { map (λ part. part.partition) parts.new ≡ map (λ part. part.partition) parts.old }
-    ensures sized { length parts.new ≡ length parts.old }
-    ensures told { IfErr result (IsUnlisted D.Receipt.keeps D.Reader.failures (map (λ part. part.partition) parts.old)) }
+        (union_of F.Key.cmp F.code (map (λ shard. shard.part.partition) shards.old))) }
+    ensures views { map (λ shard. shard.part.partition) shards.new ≡ map (λ shard. shard.part.partition) shards.old }
+    ensures sized { length shards.new ≡ length shards.old }
+    ensures told { IfErr result (IsUnlisted D.Receipt.keeps D.Reader.failures (map (λ shard. shard.part.partition) shards.old)) }
 {
-    for index in 0..parts.len() {
-        let part = &mut parts[index];
-        match part.partition.put_live(functions, &mut part.reader, tree) {
+    for index in 0..shards.len() {
+        let shard = &mut shards[index];
+        match shard
+            .part
+            .partition
+            .put_live(functions, &mut shard.reader, tree)
+        {
             Ok(()) => {}
             Err(refused) => return Err(refused),
         }

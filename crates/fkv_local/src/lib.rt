@@ -5,10 +5,12 @@
 //! room. On a device that keeps what it is given, the store IS the plain map that its operations make.
 #![tactic(auto)]
 
+mod barring;
 mod compacting;
 pub mod counting;
 mod driving;
 mod gathering;
+mod merging;
 mod moving;
 mod parts;
 pub mod stores;

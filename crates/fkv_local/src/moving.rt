@@ -92,7 +92,6 @@ fn flush<F: Mergeable, D: Disk>(
     ensures tidied { IsTidied D.Receipt.keeps F.Key.cmp part.old.partition part.new.partition }
     ensures passed { IsPassed part.new.partition.core.moment clock.old clock.new }
     ensures steady { OnOk result (D.Writer.failures part.new.writer ≡ D.Writer.failures part.old.writer) }
-    ensures same_reader { part.new.reader ≡ part.old.reader }
     ensures told { IfErr result (IsMoveRefusal clock.new (D.Writer.failures part.old.writer)
         (D.Writer.failures part.new.writer)) }
 {
@@ -130,7 +129,6 @@ fn flush_all<F: Mergeable, D: Disk>(
     ensures tidied { IsTidied D.Receipt.keeps F.Key.cmp part.old.partition part.new.partition }
     ensures passed { IsPassed part.new.partition.core.moment clock.old clock.new }
     ensures steady { OnOk result (D.Writer.failures part.new.writer ≡ D.Writer.failures part.old.writer) }
-    ensures same_reader { part.new.reader ≡ part.old.reader }
     ensures told { IfErr result (IsMoveRefusal clock.new (D.Writer.failures part.old.writer)
         (D.Writer.failures part.new.writer)) }
 {
@@ -166,7 +164,6 @@ pub fn tidy<F: Mergeable, D: Disk>(
     ensures seen { OnOk result (SeesNow part.new.partition.core 0) }
     ensures passed { IsPassed part.new.partition.core.moment clock.old clock.new }
     ensures steady { OnOk result (D.Writer.failures part.new.writer ≡ D.Writer.failures part.old.writer) }
-    ensures same_reader { part.new.reader ≡ part.old.reader }
     ensures told { IfErr result (IsMoveRefusal clock.new (D.Writer.failures part.old.writer)
         (D.Writer.failures part.new.writer)) }
 {

@@ -14,17 +14,36 @@ use std::alloc::Global;
 /// The slot of the session in which all operations are made: a partition's first.
 pub const SLOT: usize = 0;
 
-/// One partition, with what writes its pages to the device and what reads them back.
+/// What holds for every operation of a store.
+#[derive(Drop)]
+pub struct Terms<F: Mergeable> {
+    pub alloc: Global,
+    pub functions: F,
+    /// The page frames of each partition.
+    pub frames: u64,
+    /// How often an operation begins that has to wait: one more than it may take turns.
+    pub tries: u64,
+    /// Whether logs are compacted on call alone.
+    pub keeps_log: bool,
+}
+
+/// One partition, with what writes its pages to the device.
 #[derive(Drop)]
 pub struct Part<F: Mergeable, D: Disk> {
     pub partition: Partition<F, D::Receipt>,
     pub writer: D::Writer,
-    pub reader: D::Reader,
     /// The operations that came here, as far as a byte counts.
     pub operations: u8,
     /// Head as the log was compacted last, and the bytes that were left below it.
     pub compacted: Address,
     pub left: u64,
+}
+
+/// A part of a store: one partition, with what writes its pages and what reads them back.
+#[derive(Drop)]
+pub struct Shard<F: Mergeable, D: Disk> {
+    pub part: Part<F, D>,
+    pub reader: D::Reader,
 }
 
 /// The partition of this number, with nothing in it but a session, whose slot is 0. Refused: `NoMemory`.
@@ -55,10 +74,12 @@ fn placed<F: Mergeable, D: Disk>(
     config: &Config,
     device: &mut D,
     number: u64,
-) -> Result<Part<F, D>, Refused>
+) -> Result<Shard<F, D>, Refused>
     requires small { number < 64 }
     requires of { IsPartitionOf config.now (size_of F.Key.SIZE F.Value.SIZE) number }
-    ensures ok { IfOk result (λ part. IsSeatedIn F.Key.cmp config.now number part.partition) }
+    ensures ok { IfOk result (λ shard. IsSeatedIn F.Key.cmp config.now number shard.part.partition) }
+    ensures places { IfOk result
+        (λ shard. (D.Writer.part shard.part.writer ≡ number) × (D.Reader.part shard.reader ≡ number)) }
     ensures steady { OnOk result (D.failures device.new ≡ D.failures device.old) }
     ensures told { IfErr result (FailsOnlyBy 1 0 (D.failures device.old) (D.failures device.new)) }
 {
@@ -71,13 +92,15 @@ fn placed<F: Mergeable, D: Disk>(
         Err(refused) => return Err(refused),
     };
     match device.reader(number) {
-        Ok(reader) => Ok(Part {
-            partition,
-            writer,
+        Ok(reader) => Ok(Shard {
+            part: Part {
+                partition,
+                writer,
+                operations: 0,
+                compacted: FIRST,
+                left: 0,
+            },
             reader,
-            operations: 0,
-            compacted: FIRST,
-            left: 0,
         }),
         Err(refused) => Err(refused),
     }
@@ -101,24 +124,24 @@ pub fn all_placed<F: Mergeable, D: Disk>(
     config: &Config,
     device: &mut D,
     count: u64,
-) -> Result<Vec<Part<F, D>>, Refused>
+) -> Result<Vec<Shard<F, D>>, Refused>
     requires limits { IsWithinLimits config.now (size_of F.Key.SIZE F.Value.SIZE) }
     requires count { count ≡ 2 ^ config.now.partition_bits }
     ensures ok { IfOk result
-        (λ parts. AreNew F.Key.cmp config.now (map (λ part. part.partition) parts.items) count) }
+        (λ shards. AreNew F.Key.cmp config.now (map (λ shard. shard.part.partition) shards.items) count) }
     ensures steady { OnOk result (D.failures device.new ≡ D.failures device.old) }
     ensures told { IfErr result (FailsOnlyBy 1 0 (D.failures device.old) (D.failures device.new)) }
 {
-    let mut parts = Vec::new(alloc);
+    let mut shards = Vec::new(alloc);
     for number in 0..count {
-        let part = match placed::<F, D>(alloc, config, device, number) {
-            Ok(part) => part,
+        let shard = match placed::<F, D>(alloc, config, device, number) {
+            Ok(shard) => shard,
             Err(refused) => return Err(refused),
         };
-        match keep(&mut parts, part) {
+        match keep(&mut shards, shard) {
             Ok(()) => {}
             Err(refused) => return Err(refused),
         }
     }
-    Ok(parts)
+    Ok(shards)
 }

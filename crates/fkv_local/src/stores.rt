@@ -1,20 +1,22 @@
 //! The store of one thread.
-ghost use Rattle.std.specs.Prelude.{◌≡◌, ◌≢◌, ◌<◌, ◌-◌, ◌^◌, min, sum_by, None, Err, IsTrue, IfOk, IfErr, OnOk, length};
+ghost use Rattle.std.specs.Prelude.{◌≡◌, ◌≢◌, ◌<◌, ◌-◌, ◌^◌, min, sum_by, true, false, None, Err, IsTrue, IfOk, IfErr, OnOk, length};
 ghost use Rattle.std.specs.BTreeMap.{get};
 ghost use Rattle.fkv_records.specs.Records.{size_of};
+ghost use Rattle.fkv_pages.specs.Spelled.{IsEntryIn};
 ghost use Rattle.fkv_functions.specs.Plain.{Same};
 ghost use Rattle.fkv_operations.specs.After.{after, answer};
 ghost use Rattle.fkv_operations.specs.declared.operations.KeyedOp.TheVariants.{Read, Upsert, Rmw, Delete, Merge};
 ghost use Rattle.fkv_partition.specs.CoreViews.{partition_of};
 ghost use Rattle.fkv_partition.specs.Limits.{IsWithinLimits};
-ghost use Rattle.fkv_local.specs.Storing.{plain, IsRun, IsUnopened, log_bytes, evicted_bytes};
+ghost use Rattle.fkv_local.specs.Storing.{plain, IsRun, IsUpdateRun, IsUnopened, log_bytes, evicted_bytes};
 ghost use Rattle.fkv_local.specs.Refusing.{IsRefusal, IsUnlisted};
 
-use crate::compacting::compact;
-use crate::counting::{Counts, held_bytes};
+use crate::compacting::{Effort, compact};
+use crate::counting::{Counts, appended_records, held_bytes};
 use crate::driving::{operate, update};
 use crate::gathering::gather;
-use crate::parts::{Part, all_placed};
+use crate::merging::update_or_merge;
+use crate::parts::{Shard, Terms, all_placed};
 use fkv_device::Disk;
 use fkv_functions::{Mergeable, Refused};
 use fkv_operations::{Answer, Clock, KeyedOp, KeyedOpOf, partition_at};
@@ -29,11 +31,8 @@ use std::marker::Model;
 /// and damage is told, not answered.
 #[derive(Drop)]
 pub struct LocalStore<F: Mergeable, D: Disk> {
-    alloc: Global,
-    functions: F,
-    frames: u64,
-    tries: u64,
-    parts: Vec<Part<F, D>>,
+    terms: Terms<F>,
+    shards: Vec<Shard<F, D>>,
     clock: Clock,
 }
 
@@ -42,11 +41,16 @@ impl<F: Mergeable, D: Disk> Model for LocalStore<F, D> {
     ghost use Rattle.fkv_local.specs.Resting.{AreAtRest};
     ghost use Rattle.fkv_local.specs.Storing.{StoreView};
 
-    ghost Value = { StoreView F.Key F.Value F.Input };
+    ghost Value = { StoreView F.Key F.Value F.Input D.Reader };
 
-    ghost view = { λ s. record { parts = map (λ part. part.partition) s.parts.items; moments = s.clock } };
+    ghost view = { λ s. record {
+      parts = map (λ shard. shard.part.partition) s.shards.items;
+      readers = map (λ shard. shard.reader) s.shards.items;
+      keeps_log = s.terms.keeps_log;
+      moments = s.clock;
+    } };
 
-    ghost invariant = { λ s. AreAtRest (map (λ part. part.partition) s.parts.items) s.clock };
+    ghost invariant = { λ s. AreAtRest (map (λ shard. shard.part.partition) s.shards.items) s.clock };
 }
 
 impl<F: Mergeable, D: Disk> LocalStore<F, D> {
@@ -63,6 +67,7 @@ impl<F: Mergeable, D: Disk> LocalStore<F, D> {
         device: &mut D,
     ) -> Result<Self, Refused>
         ensures empty { IfOk result (λ s. (k : F.Key) → plain F.Key.cmp F.code s k ≡ None) }
+        ensures compacts { IfOk result (λ s. s.keeps_log ≡ false) }
         ensures sized { IfOk result (λ s. length s.parts ≡ 2 ^ config.now.partition_bits) }
         ensures good { result ≢ Err Refused.BadConfig → IsWithinLimits config.now (size_of F.Key.SIZE F.Value.SIZE) }
         ensures bad { result ≡ Err Refused.BadConfig → IsWithinLimits config.now (size_of F.Key.SIZE F.Value.SIZE) → ⊥ }
@@ -74,16 +79,26 @@ impl<F: Mergeable, D: Disk> LocalStore<F, D> {
         }
         let count = config.partitions();
         match all_placed::<F, D>(alloc, config, device, count) {
-            Ok(parts) => Ok(LocalStore {
-                alloc,
-                functions,
-                frames: config.frames,
-                tries: config.turns,
-                parts,
+            Ok(shards) => Ok(LocalStore {
+                terms: Terms {
+                    alloc,
+                    functions,
+                    frames: config.frames,
+                    tries: config.turns.saturating_add(1),
+                    keeps_log: false,
+                },
+                shards,
                 clock: Clock::starting(count),
             }),
             Err(refused) => Err(refused),
         }
+    }
+
+    /// From now on no log is compacted by itself, but by [`LocalStore::compact`] alone.
+    pub fn keep_log(&mut self)
+        ensures { self.new ≡ record self.old { keeps_log = true } }
+    {
+        self.terms.keeps_log = true;
     }
 
     /// Makes an operation, of any kind. Whatever is refused, the store stays the map that it was, and can be used on.
@@ -92,22 +107,16 @@ impl<F: Mergeable, D: Disk> LocalStore<F, D> {
     ///
     /// `NoMemory`; `NoMerge` of a merge, where the functions don't merge; `Device` with code 2 or 3 where a page can't be written
     /// or read; `Damaged` where a page came back with other bytes, or spells no record; `Worn` where no address or no two moments
-    /// are left; `Stalled` where no room came free in as many tries as the configuration has turns.
+    /// are left; `Stalled` where it had to wait more often than the configuration has turns.
     pub fn run(&mut self, op: KeyedOpOf<F>) -> Result<Answer<F::Output>, Refused>
         ensures runs { IsTrue D.Receipt.keeps → IsRun F.Key.cmp F.meaning (plain F.Key.cmp F.code self.old) (plain F.Key.cmp F.code self.new) op result }
-        ensures told { IfErr result (IsRefusal F.MERGES F.code D.Writer.failures D.Reader.failures self.new op) }
+        ensures told { IfErr result (IsRefusal F.MERGES
+            (IsEntryIn F.Key.bytes_of F.Value.bytes_of F.Key.is_known F.Value.is_known F.Key.SIZE F.Value.SIZE) F.Key.cmp
+            F.code D.Writer.failures D.Reader.failures self.new op) }
     {
         let home = self.home(&op.key());
-        let part = &mut self.parts[home];
-        operate(
-            self.alloc,
-            &self.functions,
-            self.frames,
-            self.tries,
-            part,
-            op,
-            &mut self.clock,
-        )
+        let shard = &mut self.shards[home];
+        operate(&self.terms, shard, op, &mut self.clock)
     }
 
     /// Changes a key's value by an input, or gives it its first value, and shows the new one; or is declined. A value in memory
@@ -118,20 +127,36 @@ impl<F: Mergeable, D: Disk> LocalStore<F, D> {
     /// As [`LocalStore::run`]'s.
     pub fn rmw(&mut self, key: &F::Key, input: &F::Input) -> Result<Answer<F::Output>, Refused>
         ensures runs { IsTrue D.Receipt.keeps → IsRun F.Key.cmp F.meaning (plain F.Key.cmp F.code self.old) (plain F.Key.cmp F.code self.new) (Rmw key.now input.now) result }
-        ensures told { IfErr result (IsRefusal F.MERGES F.code D.Writer.failures D.Reader.failures self.new (Rmw key.now input.now)) }
+        ensures told { IfErr result (IsRefusal F.MERGES
+            (IsEntryIn F.Key.bytes_of F.Value.bytes_of F.Key.is_known F.Value.is_known F.Key.SIZE F.Value.SIZE) F.Key.cmp
+            F.code D.Writer.failures D.Reader.failures self.new (Rmw key.now input.now)) }
     {
         let home = self.home(key);
-        let part = &mut self.parts[home];
-        update(
-            self.alloc,
-            &self.functions,
-            self.frames,
-            self.tries,
-            part,
-            key,
-            input,
-            &mut self.clock,
-        )
+        let shard = &mut self.shards[home];
+        update(&self.terms, shard, key, input, &mut self.clock)
+    }
+
+    /// Changes a key's value as [`LocalStore::rmw`] does, and reads no page for it: where one would have to be read, and the functions
+    /// merge, it is made as [`LocalStore::merge`] makes it, and answers `Stored`.
+    ///
+    /// # Errors
+    ///
+    /// As [`LocalStore::rmw`]'s.
+    pub fn update_or_merge(
+        &mut self,
+        key: &F::Key,
+        input: &F::Input,
+    ) -> Result<Answer<F::Output>, Refused>
+        ensures runs { IsTrue D.Receipt.keeps → IsUpdateRun F.Key.cmp F.meaning (plain F.Key.cmp F.code self.old) (plain F.Key.cmp F.code self.new) key.now input.now result }
+        ensures told { IfErr result (IsRefusal F.MERGES
+            (IsEntryIn F.Key.bytes_of F.Value.bytes_of F.Key.is_known F.Value.is_known F.Key.SIZE F.Value.SIZE) F.Key.cmp
+            F.code D.Writer.failures D.Reader.failures self.new (Rmw key.now input.now)) }
+        ensures unread { IsTrue F.MERGES → IsTrue self.old.keeps_log → self.new.readers ≡ self.old.readers }
+        ensures same_log { self.new.keeps_log ≡ self.old.keeps_log }
+    {
+        let place = self.home(key);
+        let shard = &mut self.shards[place];
+        update_or_merge(&self.terms, shard, key, input, &mut self.clock)
     }
 
     /// Shows a key's value, for an input.
@@ -141,7 +166,9 @@ impl<F: Mergeable, D: Disk> LocalStore<F, D> {
     /// As [`LocalStore::run`]'s.
     pub fn read(&mut self, key: &F::Key, input: &F::Input) -> Result<Answer<F::Output>, Refused>
         ensures runs { IsTrue D.Receipt.keeps → IsRun F.Key.cmp F.meaning (plain F.Key.cmp F.code self.old) (plain F.Key.cmp F.code self.new) (Read key.now input.now) result }
-        ensures told { IfErr result (IsRefusal F.MERGES F.code D.Writer.failures D.Reader.failures self.new (Read key.now input.now)) }
+        ensures told { IfErr result (IsRefusal F.MERGES
+            (IsEntryIn F.Key.bytes_of F.Value.bytes_of F.Key.is_known F.Value.is_known F.Key.SIZE F.Value.SIZE) F.Key.cmp
+            F.code D.Writer.failures D.Reader.failures self.new (Read key.now input.now)) }
     {
         self.run(KeyedOp::Read(*key, *input))
     }
@@ -153,7 +180,9 @@ impl<F: Mergeable, D: Disk> LocalStore<F, D> {
     /// As [`LocalStore::run`]'s.
     pub fn upsert(&mut self, key: &F::Key, value: &F::Value) -> Result<Answer<F::Output>, Refused>
         ensures runs { IsTrue D.Receipt.keeps → IsRun F.Key.cmp F.meaning (plain F.Key.cmp F.code self.old) (plain F.Key.cmp F.code self.new) (Upsert key.now value.now) result }
-        ensures told { IfErr result (IsRefusal F.MERGES F.code D.Writer.failures D.Reader.failures self.new (Upsert key.now value.now)) }
+        ensures told { IfErr result (IsRefusal F.MERGES
+            (IsEntryIn F.Key.bytes_of F.Value.bytes_of F.Key.is_known F.Value.is_known F.Key.SIZE F.Value.SIZE) F.Key.cmp
+            F.code D.Writer.failures D.Reader.failures self.new (Upsert key.now value.now)) }
     {
         self.run(KeyedOp::Upsert(*key, *value))
     }
@@ -165,7 +194,9 @@ impl<F: Mergeable, D: Disk> LocalStore<F, D> {
     /// As [`LocalStore::run`]'s.
     pub fn delete(&mut self, key: &F::Key) -> Result<Answer<F::Output>, Refused>
         ensures runs { IsTrue D.Receipt.keeps → IsRun F.Key.cmp F.meaning (plain F.Key.cmp F.code self.old) (plain F.Key.cmp F.code self.new) (Delete key.now) result }
-        ensures told { IfErr result (IsRefusal F.MERGES F.code D.Writer.failures D.Reader.failures self.new (Delete key.now)) }
+        ensures told { IfErr result (IsRefusal F.MERGES
+            (IsEntryIn F.Key.bytes_of F.Value.bytes_of F.Key.is_known F.Value.is_known F.Key.SIZE F.Value.SIZE) F.Key.cmp
+            F.code D.Writer.failures D.Reader.failures self.new (Delete key.now)) }
     {
         self.run(KeyedOp::Delete(*key))
     }
@@ -177,7 +208,9 @@ impl<F: Mergeable, D: Disk> LocalStore<F, D> {
     /// As [`LocalStore::run`]'s.
     pub fn merge(&mut self, key: &F::Key, input: &F::Input) -> Result<Answer<F::Output>, Refused>
         ensures runs { IsTrue D.Receipt.keeps → IsRun F.Key.cmp F.meaning (plain F.Key.cmp F.code self.old) (plain F.Key.cmp F.code self.new) (Merge key.now input.now) result }
-        ensures told { IfErr result (IsRefusal F.MERGES F.code D.Writer.failures D.Reader.failures self.new (Merge key.now input.now)) }
+        ensures told { IfErr result (IsRefusal F.MERGES
+            (IsEntryIn F.Key.bytes_of F.Value.bytes_of F.Key.is_known F.Value.is_known F.Key.SIZE F.Value.SIZE) F.Key.cmp
+            F.code D.Writer.failures D.Reader.failures self.new (Merge key.now input.now)) }
     {
         self.run(KeyedOp::Merge(*key, *input))
     }
@@ -190,11 +223,11 @@ impl<F: Mergeable, D: Disk> LocalStore<F, D> {
     /// record.
     pub fn live(&mut self) -> Result<BTreeMap<F::Key, F::Value>, Refused>
         ensures map { IsTrue D.Receipt.keeps → IfOk result (λ live. Same (get F.Key.cmp live) (plain F.Key.cmp F.code self.old)) }
-        ensures stays { self.new ≡ self.old }
+        ensures stays { self.new ≡ record self.old { readers = self.new.readers } }
         ensures told { IfErr result (IsUnlisted D.Receipt.keeps D.Reader.failures self.old.parts) }
     {
-        let mut map = BTreeMap::new(self.alloc);
-        match gather(&self.functions, &mut map, &mut self.parts) {
+        let mut map = BTreeMap::new(self.terms.alloc);
+        match gather(&self.terms.functions, &mut map, &mut self.shards) {
             Ok(()) => Ok(map),
             Err(refused) => Err(refused),
         }
@@ -226,7 +259,7 @@ impl<F: Mergeable, D: Disk> LocalStore<F, D> {
         ensures sized { length self.new.parts ≡ length self.old.parts }
     {
         let mut has_cut = false;
-        for home in 0..self.parts.len() {
+        for home in 0..self.shards.len() {
             match self.compact_part(home) {
                 Ok(true) => has_cut = true,
                 Ok(false) => {}
@@ -242,14 +275,8 @@ impl<F: Mergeable, D: Disk> LocalStore<F, D> {
         ensures stays { IsTrue D.Receipt.keeps → Same (plain F.Key.cmp F.code self.new) (plain F.Key.cmp F.code self.old) }
         ensures sized { length self.new.parts ≡ length self.old.parts }
     {
-        let part = &mut self.parts[home];
-        compact(
-            self.alloc,
-            &self.functions,
-            self.frames,
-            part,
-            &mut self.clock,
-        )
+        let shard = &mut self.shards[home];
+        compact(&self.terms, shard, Effort::Whole, &mut self.clock)
     }
 
     /// How much the store holds.
@@ -258,10 +285,11 @@ impl<F: Mergeable, D: Disk> LocalStore<F, D> {
         ensures evicted { result.evicted ≡ min (sum_by evicted_bytes self.now.parts) (2 ^ 64 - 1) }
         ensures moments { result.moments ≡ self.now.moments }
     {
-        let (bytes, evicted) = held_bytes(&self.parts);
+        let (bytes, evicted) = held_bytes(&self.shards);
         Counts {
             bytes,
             evicted,
+            records: appended_records(&self.shards),
             moments: self.clock.last(),
         }
     }
@@ -272,8 +300,8 @@ impl<F: Mergeable, D: Disk> LocalStore<F, D> {
         ensures within { result < length self.now.parts }
     {
         // which says that their number is a power of two
-        self.parts[0].partition.known();
-        let count = self.parts.len() as u64;
-        partition_at(self.functions.hash(key), count) as usize
+        self.shards[0].part.partition.known();
+        let count = self.shards.len() as u64;
+        partition_at(self.terms.functions.hash(key), count) as usize
     }
 }

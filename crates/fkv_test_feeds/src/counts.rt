@@ -27,7 +27,7 @@ const ROOMY: Config = Config {
 /// What a run over these feeds did.
 fn counted<F: Mergeable<Key = Name, Input = i64>>(
     alloc: Global,
-    functions: &F,
+    functions: F,
     feeds: &[&str],
     config: &Config,
 ) -> Option<Counts> {
@@ -65,7 +65,7 @@ const COUNTS: [(&[&str], Config, u64, u64); 8] = [
 #[test]
 fn counts(rt: HostRuntime) {
     for (feeds, config, rows, appended) in COUNTS {
-        let come = counted(rt.alloc(), &CappedSumFns, feeds, &config);
+        let come = counted(rt.alloc(), CappedSumFns, feeds, &config);
         assert!(rt;
             come == Some(Counts {
                 rows,

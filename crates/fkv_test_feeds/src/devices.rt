@@ -41,7 +41,7 @@ fn summed<D: Disk>(
         return Err(Refused::NoMemory);
     };
     let mut reader = CountedReader::new(feed.as_slice());
-    let run = match run_alone(alloc, &mut reader, &SumFns, config, device) {
+    let run = match run_alone(alloc, &mut reader, SumFns, config, device) {
         Ok(run) => run,
         Err(refused) => return Err(refused),
     };
@@ -178,7 +178,7 @@ fn map_beside_the_log(rt: HostRuntime) {
     let mut device = UnsureDevice::new(rt.alloc());
     device.writes = 0;
     let mut readers = [CountedReader::new(TWENTY)];
-    let told = run_one(rt.alloc(), readers.as_mut_slice(), &SumFns, &config, device).err();
+    let told = run_one(rt.alloc(), readers.as_mut_slice(), SumFns, &config, device).err();
     assert!(rt; told == Some(Refused::Device { code: 2, page: 0 }));
 }
 

@@ -12,7 +12,7 @@ use std::alloc::Global;
 fn text_by<F: Mergeable<Key = Name, Input = i64>>(
     alloc: Global,
     feed: &[u8],
-    functions: &F,
+    functions: F,
     mode: RowMode,
 ) -> Result<Vec<u8>, Refused>
 where
@@ -27,10 +27,10 @@ where
 }
 
 /// Whether a feed comes to one table in both modes.
-fn is_one_table<F: Mergeable<Key = Name, Input = i64>>(
+fn is_one_table<F: Mergeable<Key = Name, Input = i64> + Copy>(
     alloc: Global,
     feed: &[u8],
-    functions: &F,
+    functions: F,
 ) -> Result<bool, Refused>
 where
     F::Value: Integer,
@@ -45,7 +45,7 @@ fn pages_of(alloc: Global, feed: &[u8], mode: RowMode) -> Result<(u64, u64), Ref
     let meters = Meters::new();
     let device = MeteredDevice::new(MemoryDevice::new(alloc), &meters);
     let mut reader = CountedReader::new(feed);
-    let _run = run_alone_by(alloc, &mut reader, &SumFns, &CONFIG, device, mode)?;
+    let _run = run_alone_by(alloc, &mut reader, SumFns, &CONFIG, device, mode)?;
     let seen = meters.seen();
     Ok((seen.pages_written, seen.pages_read))
 }
@@ -56,11 +56,11 @@ fn one_table(rt: HostRuntime) -> Result<(), Refused> {
     for (rows, keys) in FEEDS {
         let (feed, _sums) = made(alloc, rows + keys, rows, keys)?;
         assert!(rt;
-            is_one_table(alloc, &feed, &CountFns)?,
+            is_one_table(alloc, &feed, CountFns)?,
             "count {rows} {keys}"
         );
-        assert!(rt; is_one_table(alloc, &feed, &SumFns)?, "sum {rows} {keys}");
-        assert!(rt; is_one_table(alloc, &feed, &MaxFns)?, "max {rows} {keys}");
+        assert!(rt; is_one_table(alloc, &feed, SumFns)?, "sum {rows} {keys}");
+        assert!(rt; is_one_table(alloc, &feed, MaxFns)?, "max {rows} {keys}");
     }
     Ok(())
 }

@@ -59,7 +59,7 @@ fn is_folded(alloc: Global, seed: u64, rows: u64, keys: u64, mode: RowMode) -> b
     };
     let mut reader = CountedReader::new(feed.as_slice());
     let device = MemoryDevice::new(alloc);
-    let Ok(run) = run_alone_by(alloc, &mut reader, &SumFns, &CONFIG, device, mode) else {
+    let Ok(run) = run_alone_by(alloc, &mut reader, SumFns, &CONFIG, device, mode) else {
         return false;
     };
     let mut text = Vec::new(alloc);

@@ -31,7 +31,7 @@ fn broken(alloc: Global, feeds: usize, left: u64, kind: ErrorKind) -> Option<Ref
         }
     }
     let device = MemoryDevice::new(alloc);
-    run_one(alloc, readers.as_mut_slice(), &SumFns, &CONFIG, device).err()
+    run_one(alloc, readers.as_mut_slice(), SumFns, &CONFIG, device).err()
 }
 
 const UNREADABLE: Option<Refused> = Some(Refused::Unreadable { number: 2 });
@@ -76,7 +76,7 @@ fn written(alloc: Global, tabled: &Tabled, room: usize) -> (Result<(), Refused>,
     ];
     let (read, _rest) = readers.split_at_mut((*count).min(2));
     let device = MemoryDevice::new(alloc);
-    let told = match run_one(alloc, read, &SumFns, &CONFIG, device) {
+    let told = match run_one(alloc, read, SumFns, &CONFIG, device) {
         Ok(run) => write_table(alloc, &run.table, &mut CountedWriter::new(&mut writer)),
         Err(refused) => Err(refused),
     };

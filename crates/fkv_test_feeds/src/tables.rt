@@ -43,7 +43,7 @@ enum Kind {
 /// The text of the table of these feeds.
 fn text_of<F: Mergeable<Key = Name, Input = i64>>(
     alloc: Global,
-    functions: &F,
+    functions: F,
     feeds: &[&str],
     config: &Config,
 ) -> Result<Vec<u8>, Refused>
@@ -71,11 +71,11 @@ where
 /// The same, by what is done with the amounts.
 fn text_by(alloc: Global, kind: Kind, feeds: &[&str], config: &Config) -> Result<Vec<u8>, Refused> {
     match kind {
-        Kind::Count => text_of(alloc, &CountFns, feeds, config),
-        Kind::Sum => text_of(alloc, &SumFns, feeds, config),
-        Kind::Max => text_of(alloc, &MaxFns, feeds, config),
-        Kind::Capped => text_of(alloc, &CappedSumFns, feeds, config),
-        Kind::Rising => text_of(alloc, &RisingFns, feeds, config),
+        Kind::Count => text_of(alloc, CountFns, feeds, config),
+        Kind::Sum => text_of(alloc, SumFns, feeds, config),
+        Kind::Max => text_of(alloc, MaxFns, feeds, config),
+        Kind::Capped => text_of(alloc, CappedSumFns, feeds, config),
+        Kind::Rising => text_of(alloc, RisingFns, feeds, config),
     }
 }
 

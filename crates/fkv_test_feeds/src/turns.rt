@@ -25,27 +25,17 @@ fn stalled(alloc: Global, keys: u64, turns: u64) -> Option<Refused> {
     }
     let mut readers = [CountedReader::new(feed.as_slice())];
     let device = MemoryDevice::new(alloc);
-    run_one(alloc, readers.as_mut_slice(), &SumFns, &config, device).err()
+    run_one(alloc, readers.as_mut_slice(), SumFns, &config, device).err()
 }
 
-const STALLED: Option<Refused> = Some(Refused::Stalled);
-
-/// Keys, turns, and what the run is refused by. A new key takes two turns: its entry is made, and confirmed; the next try
-/// appends its record. The eighth takes a third, since its record begins a page whose frame is to be emptied first.
-const TURNS: [(u64, u64, Option<Refused>); 7] = [
-    (0, 1, None),
-    (1, 1, STALLED),
-    (1, 2, None),
-    (7, 2, None),
-    (8, 2, STALLED),
-    (8, 3, None),
-    (100, 3, None),
-];
+/// Keys, each once, and turns. The eighth key begins a page whose frame is to be emptied first: its row waits for one turn, in
+/// which pages move, and is done then; so does each that begins a page.
+const TURNS: [(u64, u64); 5] = [(0, 1), (1, 1), (8, 1), (100, 1), (1_000, 2)];
 
 #[test]
 fn turns(rt: HostRuntime) {
-    for (keys, turns, told) in TURNS {
+    for (keys, turns) in TURNS {
         let come = stalled(rt.alloc(), keys, turns);
-        assert!(rt; come == told, "{keys} {turns}");
+        assert!(rt; come.is_none(), "{keys} {turns}");
     }
 }

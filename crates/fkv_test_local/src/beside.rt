@@ -28,11 +28,24 @@ pub struct Plan {
     pub span: u64,
 }
 
+/// By which call an operation is made.
+#[derive(Clone, Copy, Debug, PartialEq, Eq)]
+enum Way {
+    /// The one for all kinds.
+    Any,
+    /// The one that is named for its kind.
+    Named,
+    /// The one for updates that may be merged, where it is an update.
+    Merged,
+}
+
 /// How often what was seen.
 #[derive(Clone, Copy, Debug, PartialEq, Eq)]
 pub struct Outcome {
     pub done: u64,
     pub declined: u64,
+    /// Updates that were made merges.
+    pub merged: u64,
     pub cuts: u64,
     pub refused: u64,
     /// The last refusal, if any.
@@ -42,6 +55,7 @@ pub struct Outcome {
 const NOTHING: Outcome = Outcome {
     done: 0,
     declined: 0,
+    merged: 0,
     cuts: 0,
     refused: 0,
     last: None,
@@ -104,27 +118,41 @@ impl<F: Mergeable<Key = Name, Value = i128, Input = i64, Output = i128> + Copy, 
         self.seen.last = Some(refused);
     }
 
-    /// Makes an operation, by the call that is named for its kind, or by the one for all kinds.
-    fn call(&mut self, op: KeyedOpOf<F>, by_name: bool) -> Result<Answer<i128>, Refused> {
-        match op {
-            KeyedOp::Read(key, input) if by_name => self.store.read(&key, &input),
-            KeyedOp::Upsert(key, value) if by_name => self.store.upsert(&key, &value),
-            KeyedOp::Rmw(key, input) if by_name => self.store.rmw(&key, &input),
-            KeyedOp::Delete(key) if by_name => self.store.delete(&key),
-            KeyedOp::Merge(key, input) if by_name => self.store.merge(&key, &input),
-            op => self.store.run(op),
+    /// Makes an operation.
+    fn call(&mut self, op: KeyedOpOf<F>, way: Way) -> Result<Answer<i128>, Refused> {
+        match (op, way) {
+            (KeyedOp::Read(key, input), Way::Named) => self.store.read(&key, &input),
+            (KeyedOp::Upsert(key, value), Way::Named) => self.store.upsert(&key, &value),
+            (KeyedOp::Rmw(key, input), Way::Named) => self.store.rmw(&key, &input),
+            (KeyedOp::Rmw(key, input), Way::Merged) => self.store.update_or_merge(&key, &input),
+            (KeyedOp::Delete(key), Way::Named) => self.store.delete(&key),
+            (KeyedOp::Merge(key, input), Way::Named) => self.store.merge(&key, &input),
+            (op, _) => self.store.run(op),
         }
     }
 
+    /// Whether an operation may be answered so that the plain map answers otherwise: an update that was made a merge.
+    fn may_be_merged(op: KeyedOpOf<F>, way: Way, answer: Answer<i128>) -> bool {
+        F::MERGES
+            && way == Way::Merged
+            && answer == Answer::Stored
+            && matches!(op, KeyedOp::Rmw(..))
+    }
+
     /// Whether an operation is answered as by the plain map, or is refused and leaves the store the map that it was.
-    fn is_right(&mut self, op: KeyedOpOf<F>, by_name: bool) -> bool {
-        match self.call(op, by_name) {
+    fn is_right(&mut self, op: KeyedOpOf<F>, way: Way) -> bool {
+        match self.call(op, way) {
             Ok(answer) => {
                 self.seen.done = self.seen.done.saturating_add(1);
                 if answer == Answer::Declined {
                     self.seen.declined = self.seen.declined.saturating_add(1);
                 }
-                apply_plainly(&self.functions, &mut self.plain, op) == Ok(answer)
+                let plainly = apply_plainly(&self.functions, &mut self.plain, op);
+                if Self::may_be_merged(op, way, answer) {
+                    self.seen.merged = self.seen.merged.saturating_add(1);
+                    return plainly.is_ok();
+                }
+                plainly == Ok(answer)
             }
             // a merge of functions that don't is refused each time
             Err(Refused::NoMerge) => op.is_merge() && !F::MERGES,
@@ -172,7 +200,12 @@ impl<F: Mergeable<Key = Name, Value = i128, Input = i64, Output = i128> + Copy, 
             let Some(op) = random_op::<F>(word, plan.keys) else {
                 return false;
             };
-            if !self.is_right(op, word >> 63 == 0) {
+            let way = match word >> 62 {
+                0 => Way::Any,
+                1 => Way::Merged,
+                _ => Way::Named,
+            };
+            if !self.is_right(op, way) {
                 return false;
             }
             if at.wrapping_add(1).checked_rem(plan.span) == Some(0) {

@@ -55,6 +55,7 @@ loop-turn-preserved g c =
           let come = i.comes op old started h in
           let e = c.in-Ok-step.ensures.advances op old started come.0 in
           (e.0, (let a = e.1 in let b = come.1 in omega arith));
+      unread = λ op old started h merge. c.in-Ok-step.ensures.unread op old started (i.comes op old started h).0 merge ∙ i.unread op old started h merge;
       near = λ n kept near.
           let more = i.near n kept near in
           let next = c.in-Ok-step.ensures.nearer more.0 kept more.2 (c.is_on.ensures.0 c.if-not-is_on.false) in
@@ -149,6 +150,7 @@ returns-then-not-is_on-clause-rest g c = rest-then c.args.partition.now c.loop-t
 pub loop-turn-init : goal.loop-turn-init
 loop-turn-init g c = record {
   comes = λ op old started h. (h, refl);
+  unread = λ op old started h merge. refl;
   near = λ n kept near. (n, omega arith, near);
   others = λ kept. pend-self g.F.Key.Ord.cmp c.args.partition.now.core c.args.slot c.args.context;
   on = tt;
@@ -186,3 +188,30 @@ returns-clause-within g c =
     let d = c.loop-turn-test.false in
     let u = c.loop-turn.auto in
     omega arith
+
+pub returns-in-Err-clause-spoilt : goal.returns-in-Err-clause-spoilt
+returns-in-Err-clause-spoilt g c = λ op old started page h told same. (let only = c.in-Err.ensures.only in absurd (cc))
+
+pub returns-in-Err-step-clause-spoilt : goal.returns-in-Err-step-clause-spoilt
+returns-in-Err-step-clause-spoilt g c = λ op old started page h told same.
+    c.in-Err-step.ensures.spoilt page told (same ∙ sym (c.loop-turn.invariant.comes op old started h).1)
+
+pub returns-then-not-is_on-clause-spoilt : goal.returns-then-not-is_on-clause-spoilt
+returns-then-not-is_on-clause-spoilt g c = λ op old started page h told same. absurd (cc)
+
+pub returns-clause-spoilt : goal.returns-clause-spoilt
+returns-clause-spoilt g c = λ op old started page h told same. absurd (cc)
+
+pub returns-in-Err-clause-unread : goal.returns-in-Err-clause-unread
+returns-in-Err-clause-unread g c = λ op old started h merge. c.loop-turn.invariant.unread op old started h merge
+
+pub returns-in-Err-step-clause-unread : goal.returns-in-Err-step-clause-unread
+returns-in-Err-step-clause-unread g c = λ op old started h merge.
+    c.in-Err-step.ensures.unread op old started (c.loop-turn.invariant.comes op old started h).0 merge ∙ c.loop-turn.invariant.unread op old started h merge
+
+pub returns-then-not-is_on-clause-unread : goal.returns-then-not-is_on-clause-unread
+returns-then-not-is_on-clause-unread g c = λ op old started h merge.
+    c.in-Ok-step.ensures.unread op old started (c.loop-turn.invariant.comes op old started h).0 merge ∙ c.loop-turn.invariant.unread op old started h merge
+
+pub returns-clause-unread : goal.returns-clause-unread
+returns-clause-unread g c = λ op old started h merge. c.loop-turn.invariant.unread op old started h merge

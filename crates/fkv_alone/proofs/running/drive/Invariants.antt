@@ -1,4 +1,5 @@
-use Rattle.std.proofs.Common.{◌≡◌, ◌+◌, ◌≤◌, ℕ, IsTrue}
+use Rattle.std.proofs.Common.{◌≡◌, ◌+◌, ◌≤◌, ℕ, true, IsTrue}
+use Rattle.fkv_operations.specs.After.{is_merge}
 use Rattle.fkv_operations.specs.declared.operations.KeyedOp.{KeyedOp}
 use Rattle.fkv_partition.specs.CoreViews.{CoreView}
 use Rattle.fkv_partition.specs.Views.{with_core}
@@ -15,6 +16,9 @@ invariant-loop-turn g l = record {
       → IsReady op old l.fn.partition.core l.slot l.context started
       → HasCome g.R.Receipt.keeps g.R.Receipt.stands g.F.Key.Ord.cmp g.F.Mergeable.parts.joined g.F.Functions.meaning g.F.Functions.code op old l.partition.core l.slot l.context started l.told
       × (g.P.PageReader.failures l.reader ≡ g.P.PageReader.failures l.fn.reader);
+  unread : (op : KeyedOp g.row.F-Key.Denot g.row.F-Value.Denot g.row.F-Input.Denot) (old : CoreView g.row.F-Key.Denot g.row.F-Value.Denot g.row.F-Input.Denot) (started : ℕ)
+      → IsReady op old l.fn.partition.core l.slot l.context started
+      → is_merge op ≡ true → l.reader ≡ l.fn.reader;
   near : (n : ℕ) → IsTrue g.R.Receipt.keeps → IsNear {O = g.row.F-Output.Denot} {R = g.row.R.Denot} g.F.Functions.code l.fn.partition.core l.slot l.context Next n
       → (m : ℕ) × (l._turn + m ≤ n) × IsNear g.F.Functions.code l.partition.core l.slot l.context l.told m;
   others : IsTrue g.R.Receipt.keeps → OthersPend g.F.Key.Ord.cmp l.fn.partition.core l.partition.core l.slot l.context;

@@ -2,6 +2,7 @@ use Rattle.std.proofs.lemmas.Result.{IfOk-weaker}
 use Rattle.fkv_pages.specs.Spelled.{IsEntryIn}
 use Rattle.fkv_alone.proofs.BoundLemmas.{loads-nearer}
 use Rattle.fkv_alone.proofs.KeyLemmas.{loads-on-key, load-tells}
+use Rattle.fkv_alone.proofs.SpoiltLemmas.{loads-spoilt}
 use Rattle.fkv_alone.proofs.StageLemmas.{loads-advances}
 use Rattle.fkv_alone.proofs.stepping.load.Goals as goal
 
@@ -31,3 +32,9 @@ pub returns-clause-rest : goal.returns-clause-rest
 returns-clause-rest g c =
     let entry = IsEntryIn g.F.Key.Fixed.bytes_of g.F.Value.Fixed.bytes_of g.F.Key.Known.is_known g.F.Value.Known.is_known g.F.Key.Fixed.SIZE g.F.Value.Fixed.SIZE in
     (loads-on-key c.args.partition.now c.load.new.self c.args.slot c.args.context c.args.now c.requires.none g.R.Receipt.stands entry g.F.Key.Ord.cmp g.F.Mergeable.parts.joined g.F.Functions.meaning g.F.Functions.code c.fetch-came.result c.load.result c.load.ensures.effect).1
+
+pub returns-clause-spoilt : goal.returns-clause-spoilt
+returns-clause-spoilt g c = λ page told same.
+    let entry = IsEntryIn g.F.Key.Fixed.bytes_of g.F.Value.Fixed.bytes_of g.F.Key.Known.is_known g.F.Value.Known.is_known g.F.Key.Fixed.SIZE g.F.Value.Fixed.SIZE in
+    let on = loads-on-key c.args.partition.now c.load.new.self c.args.slot c.args.context c.args.now c.requires.none g.R.Receipt.stands entry g.F.Key.Ord.cmp g.F.Mergeable.parts.joined g.F.Functions.meaning g.F.Functions.code c.fetch-came.result c.load.result c.load.ensures.effect in
+    loads-spoilt entry (g.R.Receipt.stands c.args.receipt).page (g.P.PageReader.failures c.args.reader.now) (g.P.PageReader.failures c.fetch-came.new.reader) c.fetch-came.result c.fetch-came.ensures.counted same (rw told at on.0)

@@ -2,6 +2,7 @@ use Rattle.std.proofs.lemmas.Result.{IfOk-weaker}
 use Rattle.fkv_alone.proofs.BoundLemmas.{goes-nearer, installs-nearer}
 use Rattle.fkv_alone.proofs.DriveLemmas.{core-same}
 use Rattle.fkv_alone.proofs.KeyLemmas.{goes-on-key, installs-on-key, none-here, finds-asks, event-finishes}
+use Rattle.fkv_alone.proofs.SpoiltLemmas.{goes-undamaged, installs-undamaged, merges-fetch-not}
 use Rattle.fkv_alone.proofs.StageLemmas.{goes-advances, installs-advances}
 use Rattle.fkv_alone.proofs.stepping.step.Goals as goal
 
@@ -48,3 +49,16 @@ returns-in-Next-clause-rest g c =
 pub returns-in-NeedsBuild-clause-rest : goal.returns-in-NeedsBuild-clause-rest
 returns-in-NeedsBuild-clause-rest g c =
     (installs-on-key c.args.partition.now c.install.new.self c.args.slot c.args.context c.args.now c.requires.none g.F.Key.Ord.cmp g.F.Functions.meaning g.F.Functions.code c.make-built.result c.install.result c.install.ensures.effect).1
+
+pub returns-in-Next-clause-spoilt : goal.returns-in-Next-clause-spoilt
+returns-in-Next-clause-spoilt g c = λ page told same.
+    let on = goes-on-key c.args.partition.now c.go.new.self c.args.slot c.args.context c.args.now c.requires.none g.R.Receipt.stands g.F.Key.Ord.cmp g.F.Mergeable.parts.joined g.F.Functions.meaning g.F.Functions.code c.go.result c.go.ensures.effect in
+    absurd (goes-undamaged (rw told at on.0))
+
+pub returns-in-NeedsBuild-clause-spoilt : goal.returns-in-NeedsBuild-clause-spoilt
+returns-in-NeedsBuild-clause-spoilt g c = λ page told same.
+    let on = installs-on-key c.args.partition.now c.install.new.self c.args.slot c.args.context c.args.now c.requires.none g.F.Key.Ord.cmp g.F.Functions.meaning g.F.Functions.code c.make-built.result c.install.result c.install.ensures.effect in
+    absurd (installs-undamaged (rw told at on.0))
+
+pub returns-in-NeedsLoad-clause-unread : goal.returns-in-NeedsLoad-clause-unread
+returns-in-NeedsLoad-clause-unread g c = λ op old started h merge. absurd (merges-fetch-not c.known.ensures.core (rw c.in-NeedsLoad.is at h) merge)

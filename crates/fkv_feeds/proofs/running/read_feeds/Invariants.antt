@@ -1,8 +1,6 @@
 use Rattle.std.proofs.Common.{◌≡◌, ◌≤◌, ◌*◌, ◌^◌, ℤ, List, length, take, drop, map}
-use Rattle.fkv_functions.specs.Names.{name_cmp}
 use Rattle.fkv_functions.specs.declared.names.Name.{Name}
-use Rattle.fkv_feeds.specs.Tables.{AreFeeds, most_rows}
-use Rattle.fkv_feeds.specs.Runs.{StandFor}
+use Rattle.fkv_feeds.specs.Tables.{AreFeeds, StandsFor, most_rows}
 use Rattle.fkv_feeds.proofs.running.read_feeds.Given as goal
 
 abbrev pub invariant-loop-index : goal.invariant-loop-index
@@ -11,7 +9,7 @@ invariant-loop-index g l = record {
   unread : drop l.index l.feeds ≡ drop l.index l.initial.feeds;
   so_far : (rows : List (Name × ℤ))
       × AreFeeds most_rows (map g.S.Source.remaining (take l.index l.initial.feeds)) rows
-      × StandFor g.D.Receipt.Receipt.keeps name_cmp g.F.Functions.meaning g.F.Functions.code (map (λ shard. shard.partition) l.shards.shards.items) l.shards.terms.slot l.shards.clock rows
+      × StandsFor g.D.Receipt.Receipt.keeps g.F.Functions.meaning g.F.Functions.code l.store.store rows
       × (l.rows ≡ length rows);
   few : l.rows ≤ l.index * 2 ^ 40;
 }

@@ -1,18 +1,14 @@
 use Rattle.std.proofs.Common.{◌≡◌, [], ◌∷◌, refl, sym, ap, ◌∙◌}
 use Rattle.std.proofs.lemmas.List.{append-nil}
 use Rattle.std.proofs.lemmas.Result.{IfOk-weaker}
-use Rattle.fkv_functions.proofs.CallLemmas.{with_seven}
 use Rattle.fkv_feeds.specs.Faults.{IsRunFault, IsDeviceFault}
 use Rattle.fkv_feeds.specs.Tables.{IsTableOf}
 use Rattle.fkv_feeds.proofs.FeedsLemmas.{stopped, devices-by, stopped-by, why_none, both_ok, err_weaker}
 use Rattle.fkv_feeds.proofs.running.run_alone_by.Goals as goal
 
-pub finish-requires-whole : goal.finish-requires-whole
-finish-requires-whole g c κs = with_seven (let found = c.in-Ok-read_feed.ensures.ok [] c.in-Ok.ensures.ok in (found.0, found.2))
-
 pub returns-in-Ok-read_feed-clause-ok : goal.returns-in-Ok-read_feed-clause-ok
 returns-in-Ok-read_feed-clause-ok g c =
-    let found = c.in-Ok-read_feed.ensures.ok [] c.in-Ok.ensures.ok in
+    let found = c.in-Ok-read_feed.ensures.ok [] c.in-Ok.ensures.stands in
     λ keeps. both_ok (λ run. IsTableOf g.F.Functions.meaning (g.S.Source.remaining c.args.feed.now ∷ []) run.table) c.finish.result (c.finish.ensures.value keeps) c.finish.ensures.rising
     (λ run value rising. record {
       rows = found.0;
@@ -28,7 +24,7 @@ returns-clause-told g c =
 
 pub returns-in-Err-clause-told : goal.returns-in-Err-clause-told
 returns-in-Err-clause-told g c =
-    let fault = IsDeviceFault.unopened c.args.device c.open.new.device c.in-Err.ensures.told in
+    let fault = IsDeviceFault.unopened c.args.device c.opened.new.device c.in-Err.ensures.told in
     let counts = g.S.Source.failures c.args.feed.now ∷ [] in
     why_none (IsRunFault g.D.Receipt.Receipt.keeps g.D.Disk.failures g.D.Writer.PageWriter.failures g.D.Reader.PageReader.failures g.F.Value.Fixed.bytes_of g.F.Value.Known.is_known g.F.Value.Fixed.SIZE) c.args.config.now _ (g.S.Source.remaining c.args.feed.now ∷ []) counts counts c.in-Err.refused
     (stopped-by (IsRunFault g.D.Receipt.Receipt.keeps g.D.Disk.failures g.D.Writer.PageWriter.failures g.D.Reader.PageReader.failures g.F.Value.Fixed.bytes_of g.F.Value.Known.is_known g.F.Value.Fixed.SIZE) (g.S.Source.remaining c.args.feed.now ∷ []) counts counts c.in-Err.refused refl fault
@@ -42,12 +38,12 @@ returns-in-Ok-read_feed-clause-told g c =
     let same : new ≡ old = ap (λ n. n ∷ []) c.in-Ok-read_feed.ensures.steady in
     err_weaker _ c.finish.result
     (λ e h. why_none (IsRunFault g.D.Receipt.Receipt.keeps g.D.Disk.failures g.D.Writer.PageWriter.failures g.D.Reader.PageReader.failures g.F.Value.Fixed.bytes_of g.F.Value.Known.is_known g.F.Value.Fixed.SIZE) c.args.config.now _ feeds old new e
-    (let fault = IsDeviceFault.unlisted _ _ h.before h.after h.refused in
+    (let fault = IsDeviceFault.unlisted _ _ h.reader h.reader_now h.refused in
     stopped-by (IsRunFault g.D.Receipt.Receipt.keeps g.D.Disk.failures g.D.Writer.PageWriter.failures g.D.Reader.PageReader.failures g.F.Value.Fixed.bytes_of g.F.Value.Known.is_known g.F.Value.Fixed.SIZE) feeds old new e same fault
     (devices-by g.D.Receipt.Receipt.keeps g.D.Disk.failures g.D.Writer.PageWriter.failures g.D.Reader.PageReader.failures _ _ e fault)))
     c.finish.ensures.told
 
 pub returns-in-Ok-read_feed-clause-counted : goal.returns-in-Ok-read_feed-clause-counted
 returns-in-Ok-read_feed-clause-counted g c =
-    let found = c.in-Ok-read_feed.ensures.ok [] c.in-Ok.ensures.ok in
+    let found = c.in-Ok-read_feed.ensures.ok [] c.in-Ok.ensures.stands in
     IfOk-weaker c.finish.result _ _ (λ run same. (found.0, (found.0, [], found.1, refl, sym (append-nil found.0)), same ∙ found.3)) c.finish.ensures.counted

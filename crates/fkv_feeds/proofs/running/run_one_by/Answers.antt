@@ -1,13 +1,9 @@
 use Rattle.std.proofs.Common.{map, refl, ◌∙◌}
 use Rattle.std.proofs.lemmas.Result.{IfOk-weaker}
-use Rattle.fkv_functions.proofs.CallLemmas.{with_seven}
 use Rattle.fkv_feeds.specs.Faults.{IsRunFault, IsDeviceFault}
 use Rattle.fkv_feeds.specs.Tables.{IsTableOf}
 use Rattle.fkv_feeds.proofs.FeedsLemmas.{both_ok, devices-by, stopped-by, why_none, err_weaker}
 use Rattle.fkv_feeds.proofs.running.run_one_by.Goals as goal
-
-pub finish-requires-whole : goal.finish-requires-whole
-finish-requires-whole g c κs = with_seven (let found = c.in-Ok-read_feeds.ensures.ok in (found.0, found.2))
 
 pub returns-in-Ok-read_feeds-clause-ok : goal.returns-in-Ok-read_feeds-clause-ok
 returns-in-Ok-read_feeds-clause-ok g c =
@@ -22,7 +18,7 @@ returns-in-Ok-read_feeds-clause-ok g c =
 
 pub returns-in-Err-clause-told : goal.returns-in-Err-clause-told
 returns-in-Err-clause-told g c =
-    let fault = IsDeviceFault.unopened c.args.device c.open.new.device c.in-Err.ensures.told in
+    let fault = IsDeviceFault.unopened c.args.device c.opened.new.device c.in-Err.ensures.told in
     why_none (IsRunFault g.D.Receipt.Receipt.keeps g.D.Disk.failures g.D.Writer.PageWriter.failures g.D.Reader.PageReader.failures g.F.Value.Fixed.bytes_of g.F.Value.Known.is_known g.F.Value.Fixed.SIZE) c.args.config.now _ (map g.S.Source.remaining c.args.feeds.now) (map g.S.Source.failures c.args.feeds.now) (map g.S.Source.failures c.args.feeds.now) c.in-Err.refused
     (stopped-by (IsRunFault g.D.Receipt.Receipt.keeps g.D.Disk.failures g.D.Writer.PageWriter.failures g.D.Reader.PageReader.failures g.F.Value.Fixed.bytes_of g.F.Value.Known.is_known g.F.Value.Fixed.SIZE) (map g.S.Source.remaining c.args.feeds.now) (map g.S.Source.failures c.args.feeds.now) (map g.S.Source.failures c.args.feeds.now) c.in-Err.refused refl fault
     (devices-by g.D.Receipt.Receipt.keeps g.D.Disk.failures g.D.Writer.PageWriter.failures g.D.Reader.PageReader.failures _ _ c.in-Err.refused fault))
@@ -31,7 +27,7 @@ pub returns-in-Ok-read_feeds-clause-told : goal.returns-in-Ok-read_feeds-clause-
 returns-in-Ok-read_feeds-clause-told g c =
     err_weaker _ c.finish.result
     (λ e h. why_none (IsRunFault g.D.Receipt.Receipt.keeps g.D.Disk.failures g.D.Writer.PageWriter.failures g.D.Reader.PageReader.failures g.F.Value.Fixed.bytes_of g.F.Value.Known.is_known g.F.Value.Fixed.SIZE) c.args.config.now _ (map g.S.Source.remaining c.args.feeds.now) (map g.S.Source.failures c.args.feeds.now) (map g.S.Source.failures c.read_feeds.new.feeds) e
-    (let fault = IsDeviceFault.unlisted _ _ h.before h.after h.refused in
+    (let fault = IsDeviceFault.unlisted _ _ h.reader h.reader_now h.refused in
     stopped-by (IsRunFault g.D.Receipt.Receipt.keeps g.D.Disk.failures g.D.Writer.PageWriter.failures g.D.Reader.PageReader.failures g.F.Value.Fixed.bytes_of g.F.Value.Known.is_known g.F.Value.Fixed.SIZE) (map g.S.Source.remaining c.args.feeds.now) (map g.S.Source.failures c.args.feeds.now) (map g.S.Source.failures c.read_feeds.new.feeds) e c.in-Ok-read_feeds.ensures.steady fault
     (devices-by g.D.Receipt.Receipt.keeps g.D.Disk.failures g.D.Writer.PageWriter.failures g.D.Reader.PageReader.failures _ _ e fault)))
     c.finish.ensures.told

@@ -5,6 +5,6 @@ use Rattle.fkv_local.proofs.counting.held_bytes.Given as goal
 -- those of the partitions so far
 abbrev pub invariant-loop-index : goal.invariant-loop-index
 invariant-loop-index g l = record {
-  bytes : l.bytes ≡ min (sum_by log_bytes (take l.index (map (λ part. part.partition) l.parts))) (2 ^ 64 - 1);
-  evicted : l.evicted ≡ min (sum_by evicted_bytes (take l.index (map (λ part. part.partition) l.parts))) (2 ^ 64 - 1);
+  bytes : l.bytes ≡ min (sum_by log_bytes (take l.index (map (λ shard. shard.part.partition) l.shards))) (2 ^ 64 - 1);
+  evicted : l.evicted ≡ min (sum_by evicted_bytes (take l.index (map (λ shard. shard.part.partition) l.shards))) (2 ^ 64 - 1);
 }

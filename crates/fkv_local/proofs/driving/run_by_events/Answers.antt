@@ -1,4 +1,5 @@
-use Rattle.std.proofs.Common.{◌≡◌, ◌<◌, sym, ap, subst, ◌∙◌, arith}
+use Rattle.std.proofs.Common.{◌≡◌, ◌<◌, Err, sym, ap, subst, ◌∙◌, arith}
+use Rattle.fkv_pages.specs.Spelled.{IsEntryIn}
 use Rattle.fkv_operations.specs.After.{key_of}
 use Rattle.fkv_partition.specs.CoreViews.{partition_of}
 use Rattle.fkv_local.proofs.DriveLemmas.{done-runs, err-left, left-runs, move-stopped, stays-tidied, steady-waits, wait-given_up}
@@ -13,7 +14,7 @@ returns-in-Err-clause-runs g c =
     let first = c.requires.begun in
     let begun : 0 < c.loop-try.clock = omega arith in
     let same : g.D.Writer.PageWriter.failures c.once.new.part.writer ≡ g.D.Writer.PageWriter.failures c.loop-try.part.writer = ap g.D.Writer.PageWriter.failures c.in-Err.ensures.same_writer in
-    left-runs (err-left s own c.in-Err.ensures.rest begun c.in-Err.ensures.small c.in-Err.ensures.merges same c.in-Err.ensures.ends).stays
+    left-runs (err-left s own c.in-Err.ensures.rest begun c.in-Err.ensures.small (λ page told same_reads. c.in-Err.ensures.spoilt page (ap Err told) same_reads) c.in-Err.ensures.merges same c.in-Err.ensures.ends).stays
 
 pub returns-in-Err-clause-told : goal.returns-in-Err-clause-told
 returns-in-Err-clause-told g c =
@@ -24,9 +25,9 @@ returns-in-Err-clause-told g c =
     let first = c.requires.begun in
     let begun : 0 < c.loop-try.clock = omega arith in
     let same = ap g.D.Writer.PageWriter.failures c.in-Err.ensures.same_writer in
-    let why = (err-left s own c.in-Err.ensures.rest begun c.in-Err.ensures.small c.in-Err.ensures.merges same c.in-Err.ensures.ends).why in
-    subst (λ n. IsStopped g.F.Mergeable.MERGES c.args.op c.once.new.part.partition.core.records.tail c.once.new.clock (g.D.Writer.PageWriter.failures c.args.part.now.writer) (g.D.Writer.PageWriter.failures c.once.new.part.writer) n (g.D.Reader.PageReader.failures c.once.new.part.reader) c.in-Err.refused) i.reads
-    (subst (λ n. IsStopped g.F.Mergeable.MERGES c.args.op c.once.new.part.partition.core.records.tail c.once.new.clock n (g.D.Writer.PageWriter.failures c.once.new.part.writer) (g.D.Reader.PageReader.failures c.loop-try.part.reader) (g.D.Reader.PageReader.failures c.once.new.part.reader) c.in-Err.refused) i.writes why)
+    let why = (err-left s own c.in-Err.ensures.rest begun c.in-Err.ensures.small (λ page told same_reads. c.in-Err.ensures.spoilt page (ap Err told) same_reads) c.in-Err.ensures.merges same c.in-Err.ensures.ends).why in
+    subst (λ n. IsStopped g.F.Mergeable.MERGES (IsEntryIn g.F.Key.Fixed.bytes_of g.F.Value.Fixed.bytes_of g.F.Key.Known.is_known g.F.Value.Known.is_known g.F.Key.Fixed.SIZE g.F.Value.Fixed.SIZE) g.F.Key.Ord.cmp c.args.op c.once.new.part.partition.core.records.tail c.once.new.clock (g.D.Writer.PageWriter.failures c.args.part.now.writer) (g.D.Writer.PageWriter.failures c.once.new.part.writer) n (g.P.PageReader.failures c.once.new.reader) c.in-Err.refused) i.reads
+    (subst (λ n. IsStopped g.F.Mergeable.MERGES (IsEntryIn g.F.Key.Fixed.bytes_of g.F.Value.Fixed.bytes_of g.F.Key.Known.is_known g.F.Value.Known.is_known g.F.Key.Fixed.SIZE g.F.Value.Fixed.SIZE) g.F.Key.Ord.cmp c.args.op c.once.new.part.partition.core.records.tail c.once.new.clock n (g.D.Writer.PageWriter.failures c.once.new.part.writer) (g.P.PageReader.failures c.loop-try.reader) (g.P.PageReader.failures c.once.new.reader) c.in-Err.refused) i.writes why)
 
 pub returns-in-Done-clause-runs : goal.returns-in-Done-clause-runs
 returns-in-Done-clause-runs g c =
@@ -56,9 +57,9 @@ returns-in-Err-tidy-clause-told g c =
     let first = c.requires.begun in
     let begun : 0 < c.loop-try.clock = omega arith in
     let waited = steady-waits s own c.in-Ok.ensures.rest begun c.in-Ok.ensures.small (rw c.in-Waits.is at c.in-Ok.ensures.ends) in
-    let reads = ap g.D.Reader.PageReader.failures c.tidy.ensures.same_reader ∙ waited ∙ i.reads in
+    let reads = waited ∙ i.reads in
     let writes = ap g.D.Writer.PageWriter.failures c.in-Ok.ensures.same_writer ∙ i.writes in
-    subst (λ n. IsStopped g.F.Mergeable.MERGES c.args.op c.tidy.new.part.partition.core.records.tail c.tidy.new.clock n (g.D.Writer.PageWriter.failures c.tidy.new.part.writer) (g.D.Reader.PageReader.failures c.args.part.now.reader) (g.D.Reader.PageReader.failures c.tidy.new.part.reader) c.in-Err-tidy.refused) writes
+    subst (λ n. IsStopped g.F.Mergeable.MERGES (IsEntryIn g.F.Key.Fixed.bytes_of g.F.Value.Fixed.bytes_of g.F.Key.Known.is_known g.F.Value.Known.is_known g.F.Key.Fixed.SIZE g.F.Value.Fixed.SIZE) g.F.Key.Ord.cmp c.args.op c.tidy.new.part.partition.core.records.tail c.tidy.new.clock n (g.D.Writer.PageWriter.failures c.tidy.new.part.writer) (g.P.PageReader.failures c.args.reader.now) (g.P.PageReader.failures c.once.new.reader) c.in-Err-tidy.refused) writes
     (move-stopped c.in-Err-tidy.ensures.told reads)
 
 pub loop-try-preserved : goal.loop-try-preserved
@@ -77,6 +78,15 @@ loop-try-preserved g c =
       past = passed.past;
       later = (let a = passed.later in let b = ran.later in omega arith);
       writes = c.in-Ok-tidy.ensures.steady ∙ ap g.D.Writer.PageWriter.failures c.in-Ok.ensures.same_writer ∙ c.loop-try.invariant.writes;
-      reads = ap g.D.Reader.PageReader.failures c.tidy.ensures.same_reader
-          ∙ steady-waits s own c.in-Ok.ensures.rest begun c.in-Ok.ensures.small (rw c.in-Waits.is at c.in-Ok.ensures.ends) ∙ c.loop-try.invariant.reads;
+      unread = λ merge. c.in-Ok.ensures.unread merge ∙ c.loop-try.invariant.unread merge;
+      reads = steady-waits s own c.in-Ok.ensures.rest begun c.in-Ok.ensures.small (rw c.in-Waits.is at c.in-Ok.ensures.ends) ∙ c.loop-try.invariant.reads;
     }
+
+pub returns-in-Err-clause-unread : goal.returns-in-Err-clause-unread
+returns-in-Err-clause-unread g c = λ merge. c.in-Err.ensures.unread merge ∙ c.loop-try.invariant.unread merge
+
+pub returns-in-Done-clause-unread : goal.returns-in-Done-clause-unread
+returns-in-Done-clause-unread g c = λ merge. c.in-Ok.ensures.unread merge ∙ c.loop-try.invariant.unread merge
+
+pub returns-in-Err-tidy-clause-unread : goal.returns-in-Err-tidy-clause-unread
+returns-in-Err-tidy-clause-unread g c = λ merge. c.in-Ok.ensures.unread merge ∙ c.loop-try.invariant.unread merge

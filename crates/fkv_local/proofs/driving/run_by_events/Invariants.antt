@@ -1,4 +1,5 @@
-use Rattle.std.proofs.Common.{◌≡◌, ◌≤◌}
+use Rattle.std.proofs.Common.{◌≡◌, ◌≤◌, true}
+use Rattle.fkv_operations.specs.After.{is_merge}
 use Rattle.fkv_local.specs.Resting.{StaysIdle}
 use Rattle.fkv_local.proofs.driving.run_by_events.Given as goal
 
@@ -9,5 +10,6 @@ invariant-loop-try g l = record {
   past : l.part.partition.core.moment ≤ l.clock;
   later : l.initial.clock ≤ l.clock;
   writes : g.D.Writer.PageWriter.failures l.part.writer ≡ g.D.Writer.PageWriter.failures l.initial.part.writer;
-  reads : g.D.Reader.PageReader.failures l.part.reader ≡ g.D.Reader.PageReader.failures l.initial.part.reader;
+  unread : is_merge l.op ≡ true → l.reader ≡ l.initial.reader;
+  reads : g.P.PageReader.failures l.reader ≡ g.P.PageReader.failures l.initial.reader;
 }

@@ -12,20 +12,20 @@ loop-index-preserved g c =
     let idle = c.requires.numbered.1 in
     let old = c.loop-index.invariant in
     let i = c.loop-index.index in
-    let items = c.loop-index.parts in
-    let x = get_or items i c.index-parts-index.result in
-    let low : i < length items = (let t = c.loop-index-test.true in let s = c.loop-index.auto.parts in omega arith) in
-    let here : slice_get items i ≡ Some x = slice_get-get_or items i c.index-parts-index.result low in
-    let views = map (λ part. part.partition) c.args.parts.now in
-    let there : slice_get views i ≡ Some x.partition = ap (λ vs. slice_get vs i) (sym old.views) ∙ view-get (λ part. part.partition) items i x here in
+    let items = c.loop-index.shards in
+    let x = get_or items i c.index-shards-index.result in
+    let low : i < length items = (let t = c.loop-index-test.true in let s = c.loop-index.auto.shards in omega arith) in
+    let here : slice_get items i ≡ Some x = slice_get-get_or items i c.index-shards-index.result low in
+    let views = map (λ shard. shard.part.partition) c.args.shards.now in
+    let there : slice_get views i ≡ Some x.part.partition = ap (λ vs. slice_get vs i) (sym old.views) ∙ view-get (λ shard. shard.part.partition) items i x here in
     record {
-      views = view-same (λ part. part.partition) items i x (record x { reader = c.put_live.new.reader }) here refl ∙ old.views;
+      views = view-same (λ shard. shard.part.partition) items i x (record x { reader = c.put_live.new.reader }) here refl ∙ old.views;
       sized = length-set items i _ ∙ old.sized;
-      so_far = λ keeps q. (let bare = bare_before g.F.Key.Ord.cmp g.F.Functions.code views i x.partition (get g.F.Key.Ord.cmp c.loop-index.tree) (idle.numbered i x.partition there) (idle.counted i x.partition there) (old.so_far keeps) in
-          live-more g.F.Key.Ord.cmp g.F.Functions.code views i x.partition (get g.F.Key.Ord.cmp c.loop-index.tree) _ there
+      so_far = λ keeps q. (let bare = bare_before g.F.Key.Ord.cmp g.F.Functions.code views i x.part.partition (get g.F.Key.Ord.cmp c.loop-index.tree) (idle.numbered i x.part.partition there) (idle.counted i x.part.partition there) (old.so_far keeps) in
+          live-more g.F.Key.Ord.cmp g.F.Functions.code views i x.part.partition (get g.F.Key.Ord.cmp c.loop-index.tree) _ there
           (c.in-Ok.ensures.live keeps bare)
-          (subst (λ n. (q : g.row.F-Key.Denot) → partition_of n (g.F.Functions.code q) ≢ i → get g.F.Key.Ord.cmp c.put_live.new.map q ≡ get g.F.Key.Ord.cmp c.loop-index.tree q) (idle.counted i x.partition there)
-          (subst (λ p. (q : g.row.F-Key.Denot) → partition_of x.partition.core.count (g.F.Functions.code q) ≢ p → get g.F.Key.Ord.cmp c.put_live.new.map q ≡ get g.F.Key.Ord.cmp c.loop-index.tree q) (idle.numbered i x.partition there)
+          (subst (λ n. (q : g.row.F-Key.Denot) → partition_of n (g.F.Functions.code q) ≢ i → get g.F.Key.Ord.cmp c.put_live.new.map q ≡ get g.F.Key.Ord.cmp c.loop-index.tree q) (idle.counted i x.part.partition there)
+          (subst (λ p. (q : g.row.F-Key.Denot) → partition_of x.part.partition.core.count (g.F.Functions.code q) ≢ p → get g.F.Key.Ord.cmp c.put_live.new.map q ≡ get g.F.Key.Ord.cmp c.loop-index.tree q) (idle.numbered i x.part.partition there)
           (c.in-Ok.ensures.others keeps bare)))
           (old.so_far keeps) q);
     }
@@ -34,24 +34,24 @@ pub returns-in-Err-clause-views : goal.returns-in-Err-clause-views
 returns-in-Err-clause-views g c =
     let old = c.loop-index.invariant in
     let i = c.loop-index.index in
-    let items = c.loop-index.parts in
-    let x = get_or items i c.index-parts-index.result in
-    let low : i < length items = (let t = c.loop-index-test.true in let s = c.loop-index.auto.parts in omega arith) in
-    let here : slice_get items i ≡ Some x = slice_get-get_or items i c.index-parts-index.result low in
-    view-same (λ part. part.partition) items i x _ here refl ∙ old.views
+    let items = c.loop-index.shards in
+    let x = get_or items i c.index-shards-index.result in
+    let low : i < length items = (let t = c.loop-index-test.true in let s = c.loop-index.auto.shards in omega arith) in
+    let here : slice_get items i ≡ Some x = slice_get-get_or items i c.index-shards-index.result low in
+    view-same (λ shard. shard.part.partition) items i x _ here refl ∙ old.views
 
 pub returns-in-Err-clause-told : goal.returns-in-Err-clause-told
 returns-in-Err-clause-told g c =
     let old = c.loop-index.invariant in
     let i = c.loop-index.index in
-    let items = c.loop-index.parts in
-    let x = get_or items i c.index-parts-index.result in
-    let low : i < length items = (let t = c.loop-index-test.true in let s = c.loop-index.auto.parts in omega arith) in
-    let here : slice_get items i ≡ Some x = slice_get-get_or items i c.index-parts-index.result low in
+    let items = c.loop-index.shards in
+    let x = get_or items i c.index-shards-index.result in
+    let low : i < length items = (let t = c.loop-index-test.true in let s = c.loop-index.auto.shards in omega arith) in
+    let here : slice_get items i ≡ Some x = slice_get-get_or items i c.index-shards-index.result low in
     record {
       place = i;
-      view = x.partition;
-      here = ap (λ vs. slice_get vs i) (sym old.views) ∙ view-get (λ part. part.partition) items i x here;
+      view = x.part.partition;
+      here = ap (λ vs. slice_get vs i) (sym old.views) ∙ view-get (λ shard. shard.part.partition) items i x here;
       reader = x.reader;
       reader_now = c.put_live.new.reader;
       refused = c.in-Err.ensures.refused;

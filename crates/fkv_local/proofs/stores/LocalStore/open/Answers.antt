@@ -5,11 +5,11 @@ use Rattle.fkv_local.proofs.stores.LocalStore.open.Goals as goal
 
 pub invariant_of-result : goal.invariant_of-result
 invariant_of-result g c =
-    let views = map (λ part. part.partition) c.in-Ok.parts.items in
+    let views = map (λ shard. shard.part.partition) c.in-Ok.shards.items in
     subst (λ n. AreAtRest views n) (sym c.starting.ensures) (new-rests g.F.Key.Ord.cmp c.args.config.now views c.partitions-count.result c.partitions-count.ensures.count c.in-Ok.ensures.ok)
 
 pub returns-in-Ok-clause-empty : goal.returns-in-Ok-clause-empty
-returns-in-Ok-clause-empty g c = new-empty g.F.Key.Ord.cmp g.F.Functions.code c.args.config.now (map (λ part. part.partition) c.in-Ok.parts.items) c.partitions-count.result c.starting.result c.in-Ok.ensures.ok
+returns-in-Ok-clause-empty g c = new-empty g.F.Key.Ord.cmp g.F.Functions.code c.args.config.now (map (λ shard. shard.part.partition) c.in-Ok.shards.items) c.partitions-count.result c.in-Ok.ensures.ok
 
 pub returns-in-Ok-clause-sized : goal.returns-in-Ok-clause-sized
 returns-in-Ok-clause-sized g c = c.in-Ok.ensures.ok.sized ∙ c.partitions-count.ensures.count

@@ -1,0 +1,131 @@
+//! Updates that read no page: where one would have to be read they are merges.
+ghost use Rattle.std.specs.Prelude.{◌≡◌, ◌≤◌, ◌<◌, ℕ, true, None, Ok, IsTrue, IfOk, IfErr, OnErr, IfSome, IsSome};
+ghost use Rattle.fkv_pages.specs.Spelled.{IsEntryIn};
+ghost use Rattle.fkv_operations.specs.After.{key_of, is_merge};
+ghost use Rattle.fkv_operations.specs.declared.operations.KeyedOp.TheVariants.{Rmw};
+ghost use Rattle.fkv_partition.specs.CoreViews.{partition_of};
+ghost use Rattle.fkv_local.specs.Resting.{IsIdle, StaysIdle};
+ghost use Rattle.fkv_local.specs.Moving.{IsPassed};
+ghost use Rattle.fkv_local.specs.Storing.{Runs, Updates};
+ghost use Rattle.fkv_local.specs.Refusing.{IsStopped, IsRefusedBy};
+
+use crate::barring::NoPages;
+use crate::driving::{run_by_events, tidy_at_times, update_at_once};
+use crate::parts::{Part, SLOT, Shard, Terms};
+use fkv_device::Disk;
+use fkv_functions::{Mergeable, Refused};
+use fkv_operations::{Answer, Clock, KeyedOp, KeyedOpOf};
+
+/// Makes an operation as [`run_by_events`] does, but reads no page: `None` where one would have to be read, and then the operation is
+/// given up, which is without effect. None of a merge has to be.
+fn run_in_memory<F: Mergeable, D: Disk>(
+    terms: &Terms<F>,
+    part: &mut Part<F, D>,
+    op: KeyedOpOf<F>,
+    clock: &mut Clock,
+) -> Result<Option<Answer<F::Output>>, Refused>
+    requires idle { IsIdle part.old.partition 0 }
+    requires own { partition_of part.old.partition.core.count (F.code (key_of op)) ≡ part.old.partition.core.number }
+    requires past { part.old.partition.core.moment ≤ clock.old }
+    requires begun { 0 < clock.old }
+    ensures runs { IfOk result (λ told. IfSome told (λ answer.
+        Runs D.Receipt.keeps F.Key.cmp F.meaning part.old.partition part.new.partition op (Ok answer))) }
+    ensures stays { IfOk result (λ told. told ≡ None
+        → StaysIdle D.Receipt.keeps F.Key.cmp part.old.partition part.new.partition) }
+    ensures steady { IfOk result (λ told. told ≡ None
+        → D.Writer.failures part.new.writer ≡ D.Writer.failures part.old.writer) }
+    ensures left { OnErr result (StaysIdle D.Receipt.keeps F.Key.cmp part.old.partition part.new.partition) }
+    ensures merges { is_merge op ≡ true → IfOk result IsSome }
+    ensures passed { IsPassed part.new.partition.core.moment clock.old clock.new }
+    ensures told { IfErr result (λ e. (reads : ℕ) → IsStopped F.MERGES
+        (IsEntryIn F.Key.bytes_of F.Value.bytes_of F.Key.is_known F.Value.is_known F.Key.SIZE F.Value.SIZE) F.Key.cmp
+        op part.new.partition.core.records.tail clock.new
+        (D.Writer.failures part.old.writer) (D.Writer.failures part.new.writer) reads reads e) }
+{
+    let mut pages = NoPages::new();
+    match run_by_events(terms, part, &mut pages, op, clock) {
+        Ok(answer) => Ok(Some(answer)),
+        Err(refused) => {
+            if pages.asked() > 0 {
+                Ok(None)
+            } else {
+                Err(refused)
+            }
+        }
+    }
+}
+
+/// Makes an update that was not done in one call: as [`run_by_events`] does; or, where a page would have to be read, as a merge. One
+/// whose key's last record in memory is a delta is a merge with no look at it, since a page was to be read when that was appended.
+fn merge_for_page<F: Mergeable, D: Disk>(
+    terms: &Terms<F>,
+    part: &mut Part<F, D>,
+    key: &F::Key,
+    input: &F::Input,
+    clock: &mut Clock,
+) -> Result<Answer<F::Output>, Refused>
+    requires merging { IsTrue F.MERGES }
+    requires idle { IsIdle part.old.partition 0 }
+    requires own { partition_of part.old.partition.core.count (F.code key.now) ≡ part.old.partition.core.number }
+    requires past { part.old.partition.core.moment ≤ clock.old }
+    requires begun { 0 < clock.old }
+    ensures runs { Updates D.Receipt.keeps F.Key.cmp F.meaning part.old.partition part.new.partition key.now input.now result }
+    ensures passed { IsPassed part.new.partition.core.moment clock.old clock.new }
+    ensures told { IfErr result (λ e. (reads : ℕ) → IsStopped F.MERGES
+        (IsEntryIn F.Key.bytes_of F.Value.bytes_of F.Key.is_known F.Value.is_known F.Key.SIZE F.Value.SIZE) F.Key.cmp
+        (Rmw key.now input.now) part.new.partition.core.records.tail clock.new
+        (D.Writer.failures part.old.writer) (D.Writer.failures part.new.writer) reads reads e) }
+{
+    if !part.partition.is_at_delta(SLOT, &terms.functions, key) {
+        let rmw = KeyedOp::Rmw(*key, *input);
+        match run_in_memory(terms, part, rmw, clock) {
+            Ok(Some(answer)) => return Ok(answer),
+            Ok(None) => {}
+            Err(refused) => return Err(refused),
+        }
+    }
+    let merge = KeyedOp::Merge(*key, *input);
+    match run_in_memory(terms, part, merge, clock) {
+        Ok(Some(answer)) => Ok(answer),
+        Ok(None) => unreachable!(),
+        Err(refused) => Err(refused),
+    }
+}
+
+/// Makes an update in one call, where the key's last record may be changed in place; else by events, and where a page would have to
+/// be read, and the functions merge, it is made a merge, which reads none.
+pub fn update_or_merge<F: Mergeable, D: Disk>(
+    terms: &Terms<F>,
+    shard: &mut Shard<F, D>,
+    key: &F::Key,
+    input: &F::Input,
+    clock: &mut Clock,
+) -> Result<Answer<F::Output>, Refused>
+    requires idle { IsIdle shard.old.part.partition 0 }
+    requires own { partition_of shard.old.part.partition.core.count (F.code key.now) ≡ shard.old.part.partition.core.number }
+    requires past { shard.old.part.partition.core.moment ≤ clock.old }
+    requires begun { 0 < clock.old }
+    ensures runs { Updates D.Receipt.keeps F.Key.cmp F.meaning shard.old.part.partition shard.new.part.partition
+        key.now input.now result }
+    ensures passed { IsPassed shard.new.part.partition.core.moment clock.old clock.new }
+    ensures told { IfErr result (IsRefusedBy F.MERGES
+        (IsEntryIn F.Key.bytes_of F.Value.bytes_of F.Key.is_known F.Value.is_known F.Key.SIZE F.Value.SIZE) F.Key.cmp
+        D.Writer.failures D.Reader.failures (Rmw key.now input.now) shard.new.part.partition.core.records.tail clock.new) }
+    ensures unread { IsTrue F.MERGES → IsTrue terms.now.keeps_log → shard.new.reader ≡ shard.old.reader }
+{
+    match tidy_at_times(terms, shard, clock) {
+        Ok(()) => {}
+        Err(refused) => return Err(refused),
+    }
+    match update_at_once(&terms.functions, &mut shard.part, key, input, clock) {
+        Ok(Some(shown)) => return Ok(Answer::Value(shown)),
+        Ok(None) => {}
+        Err(refused) => return Err(refused),
+    }
+    if F::MERGES {
+        merge_for_page(terms, &mut shard.part, key, input, clock)
+    } else {
+        let rmw = KeyedOp::Rmw(*key, *input);
+        run_by_events(terms, &mut shard.part, &mut shard.reader, rmw, clock)
+    }
+}
