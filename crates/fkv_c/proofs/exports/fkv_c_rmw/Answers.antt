@@ -1,0 +1,16 @@
+use Rattle.std.specs.Prelude.{ℤ}
+use Rattle.std.specs.Int.{w64}
+use Rattle.std.proofs.Common.{subst}
+use Rattle.std.proofs.lemmas.Int.{to_z-of_z}
+use Rattle.fkv_functions.specs.declared.names.Name.{Name}
+use Rattle.fkv_operations.specs.declared.operations.KeyedOp.{KeyedOp}
+use Rattle.fkv_operations.specs.declared.operations.KeyedOp.TheVariants.{Rmw}
+use Rattle.fkv_c.specs.Leading.{IsPerformed}
+use Rattle.fkv_c.proofs.LeadLemmas.{keyed}
+use Rattle.fkv_c.proofs.exports.fkv_c_rmw.Goals as goal
+
+pub returns-in-Some-clause-performed : goal.returns-in-Some-clause-performed
+returns-in-Some-clause-performed c =
+    let Done : KeyedOp Name ℤ ℤ → Type 0 = λ op. IsPerformed c.args.store.now.held c.perform.new.store.held op c.args.answer.now c.perform.new.answer c.perform.result in
+    keyed Done (λ n. Rmw n c.args.input) c.args.name.now c.in-Some.key c.in-Some.ensures.some
+    (subst (λ i. Done (Rmw c.in-Some.key i)) (to_z-of_z w64 c.args.input c.ranges.input) c.perform.ensures)

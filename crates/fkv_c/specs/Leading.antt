@@ -1,0 +1,135 @@
+-- What a handle leads to: nothing, a store, which is a plain map, or pairs.
+use Rattle.std.specs.Prelude.{◌≡◌, ◌≢◌, ◌<◌, ◌-◌, ◌^◌, ◌⊎◌, ℕ, ℤ, List, [], ◌∷◌, length, min, sum_by, Option, Some, None, Result, Ok, Err}
+use Rattle.std.specs.BTreeMap.{get}
+use Rattle.fkv_functions.specs.declared.names.Name.{Name}
+use Rattle.fkv_functions.specs.declared.refusals.Refused.{Refused}
+use Rattle.fkv_functions.specs.Names.{text_of, name_cmp}
+use Rattle.fkv_functions.specs.Hashes.{fnv_1a}
+use Rattle.fkv_functions.specs.Meanings.{Meanings}
+use Rattle.fkv_functions.specs.Sets.{sums, maxima, capped_sums}
+use Rattle.fkv_functions.specs.Plain.{PlainMap, Same}
+use Rattle.fkv_operations.specs.After.{after, answer}
+use Rattle.fkv_operations.specs.declared.operations.KeyedOp.{KeyedOp}
+use Rattle.fkv_operations.specs.declared.operations.Answer.{Answer}
+use Rattle.fkv_local.specs.Storing.{plain, log_bytes, evicted_bytes}
+use Rattle.fkv_c.specs.Statuses.{refusal_number}
+use Rattle.fkv_c.specs.Crossing.{answer_of, pair_of}
+use Rattle.fkv_c.specs.declared.numbers.Told.{Told}
+use Rattle.fkv_c.specs.declared.numbers.Pair.{Pair}
+use Rattle.fkv_c.specs.declared.handles.Held.{Held}
+use Rattle.fkv_c.specs.declared.handles.Held.TheVariants.{Sums, Maxima, CappedSums, SumPairs, MaxPairs}
+use Rattle.fkv_c.specs.declared.faults.Fault.{Fault}
+use Rattle.fkv_c.specs.declared.faults.Fault.TheVariants as fault
+
+pub data Kind : Type 0 where
+  Shut : Kind
+  Store : Kind
+  Cursor : Kind
+
+-- what a handle is
+abbrev pub kind_of : Option Held → Kind
+kind_of None = Shut
+kind_of (Some (Sums s)) = Store
+kind_of (Some (Maxima s)) = Store
+kind_of (Some (CappedSums s)) = Store
+kind_of (Some (SumPairs p)) = Cursor
+kind_of (Some (MaxPairs p)) = Cursor
+
+-- the number of a store's functions, and what they mean
+abbrev pub set_of : Option Held → ℕ
+set_of None = 0
+set_of (Some (Sums s)) = 1
+set_of (Some (Maxima s)) = 2
+set_of (Some (CappedSums s)) = 3
+set_of (Some (SumPairs p)) = 0
+set_of (Some (MaxPairs p)) = 0
+
+abbrev pub meaning_of : Option Held → Meanings Name ℤ ℤ ℤ
+meaning_of None = sums
+meaning_of (Some (Sums s)) = sums
+meaning_of (Some (Maxima s)) = maxima
+meaning_of (Some (CappedSums s)) = capped_sums
+meaning_of (Some (SumPairs p)) = sums
+meaning_of (Some (MaxPairs p)) = sums
+
+-- the number by which a name is sent to its partition
+abbrev pub name_code : Name → ℕ
+name_code k = fnv_1a (text_of k)
+
+-- THE PLAIN MAP THAT A HANDLE LEADS TO: the store's, the pairs that a cursor still has, or the empty one
+abbrev pub map_of : Option Held → PlainMap Name ℤ
+map_of None = λ k. None
+map_of (Some (Sums s)) = plain name_cmp name_code s
+map_of (Some (Maxima s)) = plain name_cmp name_code s
+map_of (Some (CappedSums s)) = plain name_cmp name_code s
+map_of (Some (SumPairs p)) = get name_cmp p
+map_of (Some (MaxPairs p)) = get name_cmp p
+
+-- AN OPERATION ON THE STORE OF A HANDLE came to this, and made `new` of the map `old`: where it is done, `new` is `old` after the
+-- operation, and the answer is the plain map's; where it is not, `new` is `old`
+abbrev pub IsMade : Meanings Name ℤ ℤ ℤ → PlainMap Name ℤ → PlainMap Name ℤ → KeyedOp Name ℤ ℤ → Result (Answer ℤ) Fault → Type 0
+IsMade f old new op (Ok a) = Same new (after name_cmp f old op) × (a ≡ answer f old op)
+IsMade f old new op (Err why) = Same new old
+
+-- why a call that wants a store does nothing: the handle is no store's, the number is too large for its functions, or the store refuses
+abbrev pub IsStoreFault : Kind → Fault → Type 0
+IsStoreFault Shut why = why ≡ fault.Closed
+IsStoreFault Store why = (why ≡ fault.OutOfRange) ⊎ ((r : Refused) × (why ≡ fault.Refused r))
+IsStoreFault Cursor why = why ≡ fault.NotAStore
+
+-- the pairs that a cursor still has, keys rising
+abbrev pub pairs_of : Option Held → List (Name × ℤ)
+pairs_of None = []
+pairs_of (Some (Sums s)) = []
+pairs_of (Some (Maxima s)) = []
+pairs_of (Some (CappedSums s)) = []
+pairs_of (Some (SumPairs p)) = p.entries
+pairs_of (Some (MaxPairs p)) = p.entries
+
+-- the first of these pairs is told, and those behind it are left; or there is none
+abbrev pub IsNext : List (Name × ℤ) → List (Name × ℤ) → Option (Name × ℤ) → Type 0
+IsNext [] new told = (new ≡ []) × (told ≡ None)
+IsNext (p ∷ ps) new told = (new ≡ ps) × (told ≡ Some p)
+
+-- a store holds so many bytes in its logs, so many of them below Head, and has taken so many moments
+abbrev pub AreCounts : Option Held → ℕ → ℕ → ℕ → Type 0
+AreCounts None bytes evicted moments = ⊥
+AreCounts (Some (Sums s)) bytes evicted moments =
+    (bytes ≡ min (sum_by log_bytes s.parts) (2 ^ 64 - 1)) × (evicted ≡ min (sum_by evicted_bytes s.parts) (2 ^ 64 - 1))
+    × (moments ≡ s.moments)
+AreCounts (Some (Maxima s)) bytes evicted moments =
+    (bytes ≡ min (sum_by log_bytes s.parts) (2 ^ 64 - 1)) × (evicted ≡ min (sum_by evicted_bytes s.parts) (2 ^ 64 - 1))
+    × (moments ≡ s.moments)
+AreCounts (Some (CappedSums s)) bytes evicted moments =
+    (bytes ≡ min (sum_by log_bytes s.parts) (2 ^ 64 - 1)) × (evicted ≡ min (sum_by evicted_bytes s.parts) (2 ^ 64 - 1))
+    × (moments ≡ s.moments)
+AreCounts (Some (SumPairs p)) bytes evicted moments = ⊥
+AreCounts (Some (MaxPairs p)) bytes evicted moments = ⊥
+
+-- the statuses of an operation on a handle
+abbrev pub IsStatus : Kind → ℕ → Type 0
+IsStatus Shut status = status ≡ 32
+IsStatus Store status = (status ≡ 0) ⊎ (status ≡ 40) ⊎ ((why : Refused) × (status ≡ refusal_number why))
+IsStatus Cursor status = status ≡ 34
+
+-- AN OPERATION ON A HANDLE, BY ITS STATUS: where that is 0, the map is what the plain one's operation makes of it, and its answer
+-- is written; else the map and what stood for the answer are left
+pub record IsPerformed (old new : Option Held) (op : KeyedOp Name ℤ ℤ) (before after_it : Told) (status : ℕ) : Type 0 where
+  pub kind : kind_of new ≡ kind_of old
+  pub set : set_of new ≡ set_of old
+  pub told : IsStatus (kind_of old) status
+  pub done : status ≡ 0 → Same (map_of new) (after name_cmp (meaning_of old) (map_of old) op) × (after_it ≡ answer_of (answer (meaning_of old) (map_of old) op))
+  pub left : status ≢ 0 → Same (map_of new) (map_of old) × (after_it ≡ before)
+
+-- the same of the operation on the key of these bytes
+abbrev pub IsPerformedAt : List ℕ → Option Held → Option Held → (Name → KeyedOp Name ℤ ℤ) → Told → Told → ℕ → Type 0
+IsPerformedAt key old new op before after_it status = (k : Name) → text_of k ≡ key → IsPerformed old new (op k) before after_it status
+
+-- bytes that are no key: none, or more than 31
+abbrev pub IsNoKey : List ℕ → Type 0
+IsNoKey key = (length key ≡ 0) ⊎ (31 < length key)
+
+-- the same, as C is told
+abbrev pub IsNextTold : List (Name × ℤ) → List (Name × ℤ) → Pair → Type 0
+IsNextTold [] new told = (new ≡ []) × (told ≡ pair_of None)
+IsNextTold (p ∷ ps) new told = (new ≡ ps) × (told ≡ pair_of (Some p))

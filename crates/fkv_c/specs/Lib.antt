@@ -1,0 +1,4 @@
+pub mod Holding
+pub mod Statuses
+pub mod Crossing
+pub mod Leading

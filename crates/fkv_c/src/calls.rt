@@ -1,0 +1,172 @@
+//! The calls, on handles.
+ghost use Rattle.std.specs.Prelude.{◌≡◌, None, Some, IfOk, IfErr, OnOk};
+ghost use Rattle.fkv_functions.specs.Plain.{Same};
+ghost use Rattle.fkv_functions.specs.declared.refusals.Refused.TheVariants.{NoMemory};
+ghost use Rattle.fkv_c.specs.Leading.{Store, Cursor, kind_of, set_of, meaning_of, map_of, pairs_of, IsMade, IsNext, AreCounts, IsStoreFault};
+ghost use Rattle.fkv_c.specs.declared.faults.Fault.TheVariants as fault;
+
+use crate::faults::Fault;
+use crate::handles::{Handle, Held};
+use crate::sets::{AnyOp, compact_held, counts_held, live_held, made, next_held, operate_held};
+use fkv_functions::{Name, Refused};
+use fkv_local::Counts;
+use fkv_operations::Answer;
+use fkv_partition::Config;
+use std::alloc::Global;
+
+/// Opens a closed handle, as an empty store of the functions of this number.
+pub(crate) fn open(
+    alloc: Global,
+    kind: u32,
+    config: &Config,
+    handle: &mut Handle,
+) -> Result<(), Fault>
+    ensures opened { OnOk result (set_of handle.new.held ≡ kind) }
+    ensures store { OnOk result (kind_of handle.new.held ≡ Store) }
+    ensures empty { OnOk result ((k : Name) → map_of handle.new.held k ≡ None) }
+    ensures was { OnOk result (handle.old.held ≡ None) }
+    ensures same { IfErr result (λ why. handle.new.held ≡ handle.old.held) }
+{
+    if !handle.is_closed(alloc) {
+        return Err(Fault::InUse);
+    }
+    match made(alloc, kind, config) {
+        Err(fault) => Err(fault),
+        Ok(held) => lead(alloc, handle, held),
+    }
+}
+
+/// Opens a closed handle, which leads to this then, where there is memory for it.
+fn lead(alloc: Global, handle: &mut Handle, held: Held) -> Result<(), Fault>
+    requires closed { handle.old.held ≡ None }
+    ensures opened { OnOk result (handle.new.held ≡ Some held) }
+    ensures same { IfErr result (λ why. handle.new.held ≡ handle.old.held) }
+    ensures told { IfErr result (λ why. why ≡ fault.Refused NoMemory) }
+{
+    match Box::new(alloc, held) {
+        Err(_) => Err(Fault::Refused(Refused::NoMemory)),
+        Ok(held) => {
+            handle.put(held);
+            Ok(())
+        }
+    }
+}
+
+/// Makes an operation.
+pub(crate) fn operate(alloc: Global, handle: &mut Handle, op: AnyOp) -> Result<Answer<i128>, Fault>
+    ensures made { IsMade (meaning_of handle.old.held) (map_of handle.old.held) (map_of handle.new.held) op result }
+    ensures set { set_of handle.new.held ≡ set_of handle.old.held }
+    ensures kind { kind_of handle.new.held ≡ kind_of handle.old.held }
+    ensures store { OnOk result (kind_of handle.old.held ≡ Store) }
+    ensures told { IfErr result (IsStoreFault (kind_of handle.old.held)) }
+{
+    match handle.take(alloc) {
+        None => Err(Fault::Closed),
+        Some(mut held) => {
+            let result = operate_held(&mut held, op);
+            handle.put(held);
+            result
+        }
+    }
+}
+
+/// Appends what lives at the start of the logs again, and cuts that start. Answers whether any was cut.
+pub(crate) fn compact(alloc: Global, handle: &mut Handle) -> Result<bool, Fault>
+    ensures same { Same (map_of handle.new.held) (map_of handle.old.held) }
+    ensures kind { kind_of handle.new.held ≡ kind_of handle.old.held }
+    ensures set { set_of handle.new.held ≡ set_of handle.old.held }
+    ensures store { OnOk result (kind_of handle.old.held ≡ Store) }
+    ensures told { IfErr result (IsStoreFault (kind_of handle.old.held)) }
+{
+    match handle.take(alloc) {
+        None => Err(Fault::Closed),
+        Some(mut held) => {
+            let result = compact_held(&mut held);
+            handle.put(held);
+            result
+        }
+    }
+}
+
+/// How much a store holds.
+pub(crate) fn counts(alloc: Global, handle: &mut Handle) -> Result<Counts, Fault>
+    ensures counted { IfOk result (λ c. AreCounts handle.old.held c.bytes c.evicted c.moments) }
+    ensures same { handle.new.held ≡ handle.old.held }
+    ensures told { IfErr result (IsStoreFault (kind_of handle.old.held)) }
+{
+    match handle.take(alloc) {
+        None => Err(Fault::Closed),
+        Some(held) => {
+            let result = counts_held(&held);
+            handle.put(held);
+            result
+        }
+    }
+}
+
+/// Opens a closed handle as a cursor over the pairs of a store, keys rising.
+pub(crate) fn list(alloc: Global, from: &mut Handle, into: &mut Handle) -> Result<(), Fault>
+    ensures same { Same (map_of from.new.held) (map_of from.old.held) }
+    ensures kind { kind_of from.new.held ≡ kind_of from.old.held }
+    ensures set { set_of from.new.held ≡ set_of from.old.held }
+    ensures opened { OnOk result (kind_of into.new.held ≡ Cursor) }
+    ensures pairs { OnOk result (Same (map_of into.new.held) (map_of from.old.held)) }
+    ensures store { OnOk result (kind_of from.old.held ≡ Store) }
+    ensures left { IfErr result (λ why. into.new.held ≡ into.old.held) }
+{
+    if !into.is_closed(alloc) {
+        return Err(Fault::InUse);
+    }
+    match live(alloc, from) {
+        Err(fault) => Err(fault),
+        Ok(pairs) => lead(alloc, into, pairs),
+    }
+}
+
+/// The pairs of a store, for a cursor.
+fn live(alloc: Global, handle: &mut Handle) -> Result<Held, Fault>
+    ensures pairs { IfOk result (λ pairs. Same (map_of (Some pairs)) (map_of handle.old.held)) }
+    ensures cursor { IfOk result (λ pairs. kind_of (Some pairs) ≡ Cursor) }
+    ensures same { Same (map_of handle.new.held) (map_of handle.old.held) }
+    ensures kind { kind_of handle.new.held ≡ kind_of handle.old.held }
+    ensures set { set_of handle.new.held ≡ set_of handle.old.held }
+    ensures store { OnOk result (kind_of handle.old.held ≡ Store) }
+    ensures told { IfErr result (IsStoreFault (kind_of handle.old.held)) }
+{
+    match handle.take(alloc) {
+        None => Err(Fault::Closed),
+        Some(mut held) => {
+            let result = live_held(&mut held);
+            handle.put(held);
+            result
+        }
+    }
+}
+
+/// The least pair that a cursor still has, which it has no more then.
+pub(crate) fn next(alloc: Global, handle: &mut Handle) -> Result<Option<(Name, i128)>, Fault>
+    ensures told { IfOk result (λ pair. IsNext (pairs_of handle.old.held) (pairs_of handle.new.held) pair) }
+    ensures kind { kind_of handle.new.held ≡ kind_of handle.old.held }
+    ensures cursor { OnOk result (kind_of handle.old.held ≡ Cursor) }
+    ensures same { IfErr result (λ why. handle.new.held ≡ handle.old.held) }
+{
+    match handle.take(alloc) {
+        None => Err(Fault::Closed),
+        Some(mut held) => {
+            let result = next_held(&mut held);
+            handle.put(held);
+            result
+        }
+    }
+}
+
+/// Closes an open handle, and frees what it led to.
+pub(crate) fn close(alloc: Global, handle: &mut Handle) -> Result<(), Fault>
+    ensures closed { handle.new.held ≡ None }
+    ensures told { IfErr result (λ why. (handle.old.held ≡ None) × (why ≡ fault.Closed)) }
+{
+    match handle.take(alloc) {
+        None => Err(Fault::Closed),
+        Some(_) => Ok(()),
+    }
+}

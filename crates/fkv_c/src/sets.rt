@@ -1,0 +1,220 @@
+//! The sets of functions that C has, and the calls on what a handle leads to.
+ghost use Rattle.std.specs.Prelude.{◌≡◌, None, Some, IfOk, IfErr, IfSome, OnOk};
+ghost use Rattle.fkv_functions.specs.Names.{name_cmp};
+ghost use Rattle.fkv_functions.specs.Plain.{Same};
+ghost use Rattle.fkv_functions.specs.Sets.{sums, maxima, capped_sums};
+ghost use Rattle.fkv_local.specs.Storing.{plain, IsRun};
+ghost use Rattle.fkv_c.specs.Leading.{Store, Cursor, kind_of, set_of, meaning_of, map_of, name_code, pairs_of, IsMade, IsNext, AreCounts, IsStoreFault};
+
+use crate::faults::Fault;
+use crate::handles::Held;
+use fkv_device::MemoryDevice;
+use fkv_functions::{CappedSumFns, MaxFns, Name, Refused, SumFns};
+use fkv_local::{Counts, LocalStore};
+use fkv_operations::{Answer, KeyedOp};
+use fkv_partition::Config;
+use std::alloc::Global;
+
+/// An operation of any of the sets.
+pub(crate) type AnyOp = KeyedOp<Name, i128, i64>;
+
+/// An empty store of the functions of this number.
+pub(crate) fn made(alloc: Global, kind: u32, config: &Config) -> Result<Held, Fault>
+    ensures set { IfOk result (λ h. set_of (Some h) ≡ kind) }
+    ensures store { IfOk result (λ h. kind_of (Some h) ≡ Store) }
+    ensures empty { IfOk result (λ h. (k : Name) → map_of (Some h) k ≡ None) }
+{
+    let device = &mut MemoryDevice::new(alloc);
+    match kind {
+        1 => match LocalStore::open(alloc, config, SumFns, device) {
+            Ok(store) => Ok(Held::Sums(store)),
+            Err(refused) => Err(Fault::Refused(refused)),
+        },
+        2 => match LocalStore::open(alloc, config, MaxFns, device) {
+            Ok(store) => Ok(Held::Maxima(store)),
+            Err(refused) => Err(Fault::Refused(refused)),
+        },
+        3 => match LocalStore::open(alloc, config, CappedSumFns, device) {
+            Ok(store) => Ok(Held::CappedSums(store)),
+            Err(refused) => Err(Fault::Refused(refused)),
+        },
+        _ => Err(Fault::BadKind),
+    }
+}
+
+/// Makes an operation.
+pub(crate) fn operate_held(held: &mut Held, op: AnyOp) -> Result<Answer<i128>, Fault>
+    ensures made { IsMade (meaning_of (Some held.old)) (map_of (Some held.old)) (map_of (Some held.new)) op result }
+    ensures kind { kind_of (Some held.new) ≡ kind_of (Some held.old) }
+    ensures set { set_of (Some held.new) ≡ set_of (Some held.old) }
+    ensures store { OnOk result (kind_of (Some held.old) ≡ Store) }
+    ensures told { IfErr result (IsStoreFault (kind_of (Some held.old))) }
+{
+    match held {
+        Held::Sums(store) => run_sums(store, op),
+        Held::Maxima(store) => run_maxima(store, op),
+        Held::CappedSums(store) => run_capped(store, op),
+        Held::SumPairs(_) | Held::MaxPairs(_) => Err(Fault::NotAStore),
+    }
+}
+
+/// The same of sums: an update by the call that is for it, which is the fastest.
+fn run_sums(store: &mut LocalStore<SumFns, MemoryDevice>, op: AnyOp) -> Result<Answer<i128>, Fault>
+    ensures made { IsMade sums (plain name_cmp name_code store.old) (plain name_cmp name_code store.new) op result }
+    ensures told { IfErr result (IsStoreFault Store) }
+{
+    let result = match op {
+        KeyedOp::Rmw(key, input) => store.rmw(&key, &input),
+        other => store.run(other),
+    };
+    match result {
+        Ok(answer) => Ok(answer),
+        Err(refused) => Err(Fault::Refused(refused)),
+    }
+}
+
+/// The same of capped sums.
+fn run_capped(
+    store: &mut LocalStore<CappedSumFns, MemoryDevice>,
+    op: AnyOp,
+) -> Result<Answer<i128>, Fault>
+    ensures made { IsMade capped_sums (plain name_cmp name_code store.old) (plain name_cmp name_code store.new) op result }
+    ensures told { IfErr result (IsStoreFault Store) }
+{
+    let result = match op {
+        KeyedOp::Rmw(key, input) => store.rmw(&key, &input),
+        other => store.run(other),
+    };
+    match result {
+        Ok(answer) => Ok(answer),
+        Err(refused) => Err(Fault::Refused(refused)),
+    }
+}
+
+/// The same of maxima, whose values have 64 bits.
+fn run_maxima(
+    store: &mut LocalStore<MaxFns, MemoryDevice>,
+    op: AnyOp,
+) -> Result<Answer<i128>, Fault>
+    ensures made { IsMade maxima (plain name_cmp name_code store.old) (plain name_cmp name_code store.new) op result }
+    ensures told { IfErr result (IsStoreFault Store) }
+{
+    let Some(op) = narrowed(op) else {
+        return Err(Fault::OutOfRange);
+    };
+    let result = match op {
+        KeyedOp::Rmw(key, input) => store.rmw(&key, &input),
+        other => store.run(other),
+    };
+    match result {
+        Ok(answer) => Ok(widened(answer)),
+        Err(refused) => Err(Fault::Refused(refused)),
+    }
+}
+
+/// The same operation, where its value has 64 bits.
+fn narrowed(op: AnyOp) -> Option<KeyedOp<Name, i64, i64>>
+    ensures { IfSome result (λ narrow. narrow ≡ op) }
+{
+    match op {
+        KeyedOp::Read(key, input) => Some(KeyedOp::Read(key, input)),
+        KeyedOp::Upsert(key, value) => match i64::try_from(value) {
+            Ok(value) => Some(KeyedOp::Upsert(key, value)),
+            Err(_) => None,
+        },
+        KeyedOp::Rmw(key, input) => Some(KeyedOp::Rmw(key, input)),
+        KeyedOp::Delete(key) => Some(KeyedOp::Delete(key)),
+        KeyedOp::Merge(key, input) => Some(KeyedOp::Merge(key, input)),
+    }
+}
+
+/// The same answer.
+fn widened(answer: Answer<i64>) -> Answer<i128>
+    ensures { result ≡ answer }
+{
+    match answer {
+        Answer::Value(value) => Answer::Value(i128::from(value)),
+        Answer::Absent => Answer::Absent,
+        Answer::Stored => Answer::Stored,
+        Answer::Deleted => Answer::Deleted,
+        Answer::Cleared => Answer::Cleared,
+        Answer::Declined => Answer::Declined,
+    }
+}
+
+/// Appends what lives at the start of the logs again, and cuts that start. Answers whether any was cut.
+pub(crate) fn compact_held(held: &mut Held) -> Result<bool, Fault>
+    ensures same { Same (map_of (Some held.new)) (map_of (Some held.old)) }
+    ensures kind { kind_of (Some held.new) ≡ kind_of (Some held.old) }
+    ensures set { set_of (Some held.new) ≡ set_of (Some held.old) }
+    ensures store { OnOk result (kind_of (Some held.old) ≡ Store) }
+    ensures told { IfErr result (IsStoreFault (kind_of (Some held.old))) }
+{
+    let result = match held {
+        Held::Sums(store) => store.compact(),
+        Held::Maxima(store) => store.compact(),
+        Held::CappedSums(store) => store.compact(),
+        Held::SumPairs(_) | Held::MaxPairs(_) => return Err(Fault::NotAStore),
+    };
+    match result {
+        Ok(has_cut) => Ok(has_cut),
+        Err(refused) => Err(Fault::Refused(refused)),
+    }
+}
+
+/// How much a store holds.
+pub(crate) fn counts_held(held: &Held) -> Result<Counts, Fault>
+    ensures counted { IfOk result (λ c. AreCounts (Some held.now) c.bytes c.evicted c.moments) }
+    ensures told { IfErr result (IsStoreFault (kind_of (Some held.now))) }
+{
+    match held {
+        Held::Sums(store) => Ok(store.counts()),
+        Held::Maxima(store) => Ok(store.counts()),
+        Held::CappedSums(store) => Ok(store.counts()),
+        Held::SumPairs(_) | Held::MaxPairs(_) => Err(Fault::NotAStore),
+    }
+}
+
+/// The pairs of a store, for a cursor.
+pub(crate) fn live_held(held: &mut Held) -> Result<Held, Fault>
+    ensures pairs { IfOk result (λ pairs. Same (map_of (Some pairs)) (map_of (Some held.old))) }
+    ensures cursor { IfOk result (λ pairs. kind_of (Some pairs) ≡ Cursor) }
+    ensures same { Same (map_of (Some held.new)) (map_of (Some held.old)) }
+    ensures kind { kind_of (Some held.new) ≡ kind_of (Some held.old) }
+    ensures set { set_of (Some held.new) ≡ set_of (Some held.old) }
+    ensures store { OnOk result (kind_of (Some held.old) ≡ Store) }
+    ensures told { IfErr result (IsStoreFault (kind_of (Some held.old))) }
+{
+    match held {
+        Held::Sums(store) => match store.live() {
+            Ok(pairs) => Ok(Held::SumPairs(pairs)),
+            Err(refused) => Err(Fault::Refused(refused)),
+        },
+        Held::Maxima(store) => match store.live() {
+            Ok(pairs) => Ok(Held::MaxPairs(pairs)),
+            Err(refused) => Err(Fault::Refused(refused)),
+        },
+        Held::CappedSums(store) => match store.live() {
+            Ok(pairs) => Ok(Held::SumPairs(pairs)),
+            Err(refused) => Err(Fault::Refused(refused)),
+        },
+        Held::SumPairs(_) | Held::MaxPairs(_) => Err(Fault::NotAStore),
+    }
+}
+
+/// The least pair that a cursor still has, which it has no more then.
+pub(crate) fn next_held(held: &mut Held) -> Result<Option<(Name, i128)>, Fault>
+    ensures told { IfOk result (λ pair. IsNext (pairs_of (Some held.old)) (pairs_of (Some held.new)) pair) }
+    ensures kind { kind_of (Some held.new) ≡ kind_of (Some held.old) }
+    ensures cursor { OnOk result (kind_of (Some held.old) ≡ Cursor) }
+    ensures same { IfErr result (λ why. held.new ≡ held.old) }
+{
+    match held {
+        Held::SumPairs(pairs) => Ok(pairs.pop_first()),
+        Held::MaxPairs(pairs) => match pairs.pop_first() {
+            None => Ok(None),
+            Some((name, value)) => Ok(Some((name, i128::from(value)))),
+        },
+        Held::Sums(_) | Held::Maxima(_) | Held::CappedSums(_) => Err(Fault::NotACursor),
+    }
+}
