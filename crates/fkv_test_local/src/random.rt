@@ -14,7 +14,8 @@ fn is_lively(seen: Option<Outcome>, plan: &Plan, declines: bool) -> bool {
             seen.refused == 0
                 && seen.done > plan.operations / 4
                 && (seen.declined > 0) == declines
-                && (seen.merged > 0) == (!declines && plan.keys >= 50)
+                && (seen.merged == 0 || !declines)
+                && (seen.merged > 0 || declines || plan.keys < 50)
                 && (seen.cuts > 0) == (plan.span <= plan.operations)
         }
         None => false,
