@@ -1,5 +1,5 @@
 -- What the end of a store is refused by.
-use Rattle.std.proofs.Common.{◌≡◌, ◌⊎◌, ⊎_elim, ℕ, Bool, List}
+use Rattle.std.proofs.Common.{◌≡◌, ◌⊎◌, ⊎_elim, inl, inr, refl, ℕ, Bool, List}
 use Rattle.fkv_functions.specs.declared.refusals.Refused.{Refused}
 use Rattle.fkv_functions.specs.declared.refusals.Refused.TheVariants.{NoMemory, BadConfig, NoSlot, NoContext, Unknown, Busy, NotDue, DrainFull, Stranger, Worn, Device, Damaged, Stalled, Mismatch, BadRow, BadScript, NotReady, Unreadable, Unwritable, NoMerge}
 use Rattle.fkv_device.specs.Failing.{ReadFailsBy}
@@ -9,12 +9,12 @@ use Rattle.fkv_partition.specs.Views.{PartitionView}
 use Rattle.fkv_histories.specs.declared.entries.Entry.{Entry}
 use Rattle.fkv_closing.specs.Closing.{AreMerged}
 use Rattle.fkv_closing.specs.Refusing.{IsUnclosed, IsUnread}
-use Rattle.fkv_store.specs.Stores.{IsClosing}
+use Rattle.fkv_store.specs.Stores.{IsClosing, IsUnopened}
 
 -- a page that is not read
 unread : (page old new : ℕ) (why : Refused) → ReadFailsBy page old new why → IsClosing why
 unread page old new why h =
-    ⊎_elim (⊎_elim (λ m. rw m.0 tt) (λ d. rw d.0 tt)) (λ d. rw d.0 tt) h
+    ⊎_elim (⊎_elim (λ m. rw m.0 tt) (λ d. rw d.0 (inr refl))) (λ d. rw d.0 tt) h
 
 step : (keeps : Bool) (page old new : ℕ) (why : Refused) → IsStepRefusal keeps page old new why → IsClosing why
 step keeps page old new why h = ⊎_elim (unread page old new why) (λ d. rw d.1 tt) h
@@ -32,7 +32,7 @@ module _ {K V I O : Type 0} (keeps : Bool) (views : List (PartitionView K V I)) 
       → IsClosing why
   unclosed shared booked NoMemory h = tt
   unclosed shared booked Worn h = tt
-  unclosed shared booked (Device code page) h = tt
+  unclosed shared booked (Device code page) h = other (Device code page) h
   unclosed shared booked (Damaged page) h = tt
   unclosed shared booked Mismatch h = tt
   unclosed shared booked BadConfig h = other BadConfig h
@@ -50,3 +50,7 @@ module _ {K V I O : Type 0} (keeps : Bool) (views : List (PartitionView K V I)) 
   unclosed shared booked (Unreadable number) h = other (Unreadable number) h
   unclosed shared booked Unwritable h = other Unwritable h
   unclosed shared booked NoMerge h = other NoMerge h
+
+-- a device that does not open, or no memory
+pub closing_unopened : (why : Refused) → IsUnopened why → IsClosing why
+closing_unopened why h = ⊎_elim (λ memory. rw memory tt) (λ device. rw device (inl (refl, refl))) h

@@ -1,7 +1,7 @@
 -- What passes are refused by that refresh or rest.
-use Rattle.std.proofs.Common.{◌≡◌, ◌⊎◌, inl, inr, ℕ}
+use Rattle.std.proofs.Common.{◌≡◌, ◌≢◌, ◌⊎◌, inl, inr, subst, ℕ}
 use Rattle.fkv_functions.specs.declared.refusals.Refused.{Refused}
-use Rattle.fkv_functions.specs.declared.refusals.Refused.TheVariants.{Unknown, Stranger, Worn}
+use Rattle.fkv_functions.specs.declared.refusals.Refused.TheVariants.{Unknown, Stranger, Worn, Stalled}
 use Rattle.fkv_store.specs.Passes.{PassView, IsStrange}
 use Rattle.fkv_store.specs.Stores.{StoreView, IsTold, IsUnseated}
 
@@ -15,3 +15,7 @@ pub told_rest : {K V I O : Type 0} (s : StoreView) (p : PassView K V I O) (why :
 told_rest s p why (inr h) = told_unseated why h
 told_rest s p (Stranger what held came) (inl h) = tt
 told_rest s p other (inl h) = absurd h
+
+-- nothing stalls there
+pub unseated_on : (why : Refused) → IsUnseated why → why ≢ Stalled
+unseated_on why h is = subst IsUnseated is h

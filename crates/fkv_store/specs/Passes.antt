@@ -11,13 +11,15 @@ use Rattle.fkv_locked.specs.Owns.{told_after}
 use Rattle.fkv_store.specs.Stores.{StoreView}
 
 -- the number of its store; for each partition its own list, and of how many updates it was told there; and its share: how
--- many entries it took; and the answer of the last. It takes what events finished under a lock, and nothing else (`Owns`)
+-- many entries it took; and the answer of the last. It takes what events finished under a lock, and nothing else (`Owns`). And how
+-- many turns its last operation took that was issued: each is a hold of a lock in which an event of it was made (`Turned`)
 pub record PassView (K V I O : Type 0) : Type 0 where
   pub store : ℕ
   pub own : List (List (Entry K V I O))
   pub told : List ℕ
   pub share : ℕ
   pub last : Option (Answer O)
+  pub turned : ℕ
 
 -- an update of a key by an input, or a merge, which does the same to the map
 abbrev pub IsUpdateBy : {K V I : Type 0} → K → I → KeyedOp K V I → Type 0

@@ -24,7 +24,7 @@ IsTold Stalled = ⊤
 IsTold other = ⊥
 
 -- what a caller is told where an event is refused: why, or `Unknown` where that speaks of sessions and contexts, which are the
--- store's own matter
+-- store's own matter. No event stalls: an operation does, after so many of them
 abbrev pub heard : Refused → Refused
 heard NoMemory = NoMemory
 heard NoSlot = NoSlot
@@ -32,7 +32,6 @@ heard (Stranger what held came) = Stranger what held came
 heard Worn = Worn
 heard (Device code page) = Device code page
 heard (Damaged page) = Damaged page
-heard Stalled = Stalled
 heard other = Unknown
 
 -- what a session is refused by that is refreshed or left: its partition's clock has no next moment; or another caller took the
@@ -59,11 +58,12 @@ IsUnrun merges op refused = IsTold refused ⊎ ((refused ≡ NoMerge) × (is_mer
 abbrev pub IsUnopened : Refused → Type 0
 IsUnopened refused = (refused ≡ NoMemory) ⊎ (refused ≡ Device 1 0)
 
--- what the end of a store may be refused by
+-- what the end of a store may be refused by: a device by code 1 where it does not open a partition's pages, by code 3 where a page
+-- is not read
 abbrev pub IsClosing : Refused → Type 0
 IsClosing NoMemory = ⊤
 IsClosing Worn = ⊤
-IsClosing (Device code page) = ⊤
+IsClosing (Device code page) = ((code ≡ 1) × (page ≡ 0)) ⊎ (code ≡ 3)
 IsClosing (Damaged page) = ⊤
 IsClosing Mismatch = ⊤
 IsClosing other = ⊥

@@ -1,12 +1,12 @@
 //! The end of a store, with all its passes.
-ghost use Rattle.std.specs.Prelude.{◌≡◌, ◌⊎◌, ◌↔◌, true, length, map, sum, vec_len, IsTrue, IfOk, IfErr, OnOk};
+ghost use Rattle.std.specs.Prelude.{◌≡◌, ◌≤◌, ◌^◌, ◌⊎◌, ◌↔◌, true, length, map, sum, vec_len, Err, IsTrue, IfOk, IfErr, OnOk};
 ghost use Rattle.std.specs.List.{All};
 ghost use Rattle.std.specs.BTreeMap.{get};
 ghost use Rattle.fkv_locked.specs.Kept.{seen, IsEnded};
 ghost use Rattle.fkv_closing.specs.Closing.{IsClosed, AreMerged};
 ghost use Rattle.fkv_closing.specs.Lists.{lists_of};
 ghost use Rattle.fkv_store.specs.Passes.{IsPassOf};
-ghost use Rattle.fkv_store.specs.Stores.{IsClosing};
+ghost use Rattle.fkv_store.specs.Stores.{IsClosing, IsUnopened};
 
 use crate::passes::Pass;
 use crate::stores::{Store, readers_of};
@@ -106,6 +106,9 @@ impl<F: Mergeable, D: Disk, H: Recorder<F>> Store<F, D, H> {
             (lists_of (map (λ pass. pass.own) passes.items))) }
         ensures len { IfOk result (λ closed. length closed.histories.items ≡ self.count) }
         ensures own { OnOk result (All (IsPassOf self) passes.items) }
+        ensures foreign { ¬ All (IsPassOf self) passes.items → result ≡ Err Refused.Mismatch }
+        ensures worn { All (IsPassOf self) passes.items → 2 ^ 64 ≤ sum (map (λ pass. pass.share) passes.items)
+            → IfErr result (λ why. (why ≡ Refused.Worn) ⊎ IsUnopened why) }
         ensures only { IfErr result IsClosing }
     {
         if !self.knows_all(passes.as_slice()) {

@@ -1,17 +1,18 @@
 //! Holds of a partition's lock, each for one event, or for an update that is issued and finished at once.
-ghost use Rattle.std.specs.Prelude.{◌≡◌, ◌<◌, ◌≤◌, ◌-◌, ◌^◌, IfOk, IfErr, IfSome};
+ghost use Rattle.std.specs.Prelude.{◌≡◌, ◌≢◌, ◌<◌, ◌≤◌, ◌+◌, ◌-◌, ◌^◌, IfOk, IfErr, IfSome, OnOk};
 ghost use Rattle.fkv_operations.specs.declared.operations.KeyedOp.TheVariants.{Rmw};
-ghost use Rattle.fkv_locked.specs.Turns.{IsTurnOf};
+ghost use Rattle.fkv_locked.specs.Turns.{IsOf, IsTurnOf};
 ghost use Rattle.fkv_store.specs.Stores.{IsTold, IsUnseated};
 
 use crate::gates::{Gate, Place};
 use crate::refusals::told;
 use crate::stores::Store;
 use fkv_device::{Disk, Loaded, Receipt};
-use fkv_functions::{Built, Mergeable, Refused};
+use fkv_functions::{Built, Functions, Mergeable, Refused};
 use fkv_histories::Recorder;
-use fkv_locked::{FinishedOf, MineOf, Seat, TurnOf};
+use fkv_locked::{FinishedOf, Mine, Seat, TurnOf};
 use fkv_operations::KeyedOpOf;
+use std::marker::Model;
 use std::sync::Wait;
 
 /// Where a hold is: which partition's lock it takes, and which worker it tells the gate.
@@ -30,13 +31,59 @@ impl At {
 
 /// What is at hand for the next event of an operation.
 #[derive(Drop)]
-pub(crate) enum Hand<F: Mergeable, R: Receipt> {
+pub(crate) enum Hand<R: Receipt> {
     /// Nothing: it goes on.
     Nothing,
-    /// What was built for it.
-    Built(Built<F>),
     /// The page that it waits for, or the refusal that came in its place.
     Came(Result<Loaded<R>, Refused>),
+}
+
+/// An operation of a caller that is issued. A contract sees it as what the caller knows of it. It is neither copied nor let go: it
+/// ends where an event finished it ([`close`]), or it is given up ([`give_up`]).
+pub(crate) struct Issued<K, V, I> {
+    mine: Mine<K, V, I>,
+}
+
+impl<K, V, I> Model for Issued<K, V, I> {
+    ghost use Rattle.fkv_locked.specs.declared.seats.Mine.{Mine};
+
+    ghost Value = { Mine K V I };
+
+    ghost view = { λ i. i.mine };
+
+    ghost inverse = { λ mine. record { mine = mine } };
+}
+
+/// The operations of callers of one type of functions that are issued.
+pub(crate) type IssuedOf<F> = Issued<
+    <F as Functions>::Key,
+    <F as Functions>::Value,
+    <F as Functions>::Input,
+>;
+
+/// How many turns an operation took. Only [`turn`] counts one, where an event of the operation was made under a lock.
+#[derive(Drop)]
+pub(crate) struct Turned {
+    count: u64,
+}
+
+impl Model for Turned {
+    ghost use Rattle.std.specs.Prelude.{ℕ};
+
+    ghost Value = { ℕ };
+
+    ghost view = { λ t. t.count };
+
+    ghost inverse = { λ n. record { count = n } };
+}
+
+impl Turned {
+    /// No turn.
+    pub(crate) fn none() -> Turned
+        ensures { result ≡ 0 }
+    {
+        Turned { count: 0 }
+    }
 }
 
 /// Enters a session. Refused as [`fkv_locked::Locked::enter`] is.
@@ -48,6 +95,7 @@ pub(crate) fn enter<F: Mergeable, D: Disk, H: Recorder<F>, G: Gate>(
 ) -> Result<Seat, Refused>
     requires { at.partition < store.now.count }
     ensures only { IfErr result IsTold }
+    ensures on { IfErr result (λ why. why ≢ Refused.Stalled) }
 {
     let mut held = store.locks[at.partition].lock(rt);
     gate.pass(at.worker, at.locked());
@@ -104,16 +152,17 @@ pub(crate) fn issue<F: Mergeable, D: Disk, H: Recorder<F>, G: Gate>(
     op: KeyedOpOf<F>,
     known: u64,
     gate: &G,
-) -> Result<MineOf<F>, Refused>
+) -> Result<IssuedOf<F>, Refused>
     requires { at.partition < store.now.count }
-    ensures op { IfOk result (λ mine. mine.op ≡ op) }
-    ensures known { IfOk result (λ mine. mine.told ≡ known) }
+    ensures op { IfOk result (λ issued. issued.op ≡ op) }
+    ensures known { IfOk result (λ issued. issued.told ≡ known) }
     ensures only { IfErr result IsTold }
+    ensures on { IfErr result (λ why. why ≢ Refused.Stalled) }
 {
     let mut held = store.locks[at.partition].lock(rt);
     gate.pass(at.worker, at.locked());
     match held.issue(seat, op, known, &store.functions) {
-        Ok(mine) => Ok(mine),
+        Ok(mine) => Ok(Issued { mine }),
         Err(refused) => Err(told(refused)),
     }
 }
@@ -134,6 +183,7 @@ pub(crate) fn update_at_once<F: Mergeable, D: Disk, H: Recorder<F>, G: Gate>(
     ensures fresh { IfOk result (λ done. IfSome done (λ e. known ≤ e.at)) }
     ensures room { IfOk result (λ done. IfSome done (λ e. e.at < 2 ^ 64 - 1)) }
     ensures only { IfErr result IsTold }
+    ensures on { IfErr result (λ why. why ≢ Refused.Stalled) }
 {
     let mut held = store.locks[at.partition].lock(rt);
     gate.pass(at.worker, at.locked());
@@ -143,31 +193,67 @@ pub(crate) fn update_at_once<F: Mergeable, D: Disk, H: Recorder<F>, G: Gate>(
     }
 }
 
-/// Makes the next event of an operation of a caller, with what is at hand. Refused as [`fkv_locked::Locked::go`], `install`
-/// and `load` are.
+/// Makes the next event of an operation of a caller, with what is at hand, and counts a turn of it. Refused as
+/// [`fkv_locked::Locked::go`] and `load` are.
 pub(crate) fn turn<F: Mergeable, D: Disk, H: Recorder<F>, G: Gate>(
     rt: &impl Wait,
     store: &Store<F, D, H>,
     at: At,
-    mine: &MineOf<F>,
-    hand: Hand<F, D::Receipt>,
+    issued: &IssuedOf<F>,
+    hand: Hand<D::Receipt>,
+    turned: &mut Turned,
     gate: &G,
 ) -> Result<TurnOf<F, D::Receipt>, Refused>
-    requires { at.partition < store.now.count }
-    ensures of { IfOk result (IsTurnOf mine.now) }
+    requires within { at.partition < store.now.count }
+    requires room { turned.old < 2 ^ 64 - 1 }
+    ensures counted { OnOk result (turned.new ≡ turned.old + 1) }
+    ensures of { IfOk result (IsTurnOf issued.now) }
     ensures only { IfErr result IsTold }
+    ensures on { IfErr result (λ why. why ≢ Refused.Stalled) }
 {
     let mut held = store.locks[at.partition].lock(rt);
     gate.pass(at.worker, at.locked());
     let turn = match hand {
-        Hand::Nothing => held.go(mine, &store.functions),
-        Hand::Built(built) => held.install(mine, built, &store.functions),
-        Hand::Came(came) => held.load(mine, came, &store.functions),
+        Hand::Nothing => held.go(&issued.mine, &store.functions),
+        Hand::Came(came) => held.load(&issued.mine, came, &store.functions),
     };
     match turn {
+        Ok(turn) => {
+            turned.count += 1;
+            Ok(turn)
+        }
+        Err(refused) => Err(told(refused)),
+    }
+}
+
+/// Installs what was built for an operation of a caller, in the turn that asked for it. Refused as
+/// [`fkv_locked::Locked::install`] is.
+pub(crate) fn install<F: Mergeable, D: Disk, H: Recorder<F>, G: Gate>(
+    rt: &impl Wait,
+    store: &Store<F, D, H>,
+    at: At,
+    issued: &IssuedOf<F>,
+    built: Built<F>,
+    gate: &G,
+) -> Result<TurnOf<F, D::Receipt>, Refused>
+    requires { at.partition < store.now.count }
+    ensures of { IfOk result (IsTurnOf issued.now) }
+    ensures only { IfErr result IsTold }
+    ensures on { IfErr result (λ why. why ≢ Refused.Stalled) }
+{
+    let mut held = store.locks[at.partition].lock(rt);
+    gate.pass(at.worker, at.locked());
+    match held.install(&issued.mine, built, &store.functions) {
         Ok(turn) => Ok(turn),
         Err(refused) => Err(told(refused)),
     }
+}
+
+/// Ends an operation of a caller that an event finished.
+pub(crate) fn close<F: Mergeable>(issued: IssuedOf<F>, _finished: &FinishedOf<F>)
+    requires { IsOf issued _finished.now }
+{
+    let Issued { mine: _mine } = issued;
 }
 
 /// Gives an operation of a caller up, if it is still open.
@@ -175,13 +261,14 @@ pub(crate) fn give_up<F: Mergeable, D: Disk, H: Recorder<F>, G: Gate>(
     rt: &impl Wait,
     store: &Store<F, D, H>,
     at: At,
-    mine: &MineOf<F>,
+    issued: IssuedOf<F>,
     gate: &G,
 )
     requires { at.partition < store.now.count }
 {
+    let Issued { mine } = issued;
     let mut held = store.locks[at.partition].lock(rt);
     gate.pass(at.worker, at.locked());
     // a page that was refused has ended it already
-    let _ended = held.give_up(mine);
+    let _ended = held.give_up(&mine);
 }

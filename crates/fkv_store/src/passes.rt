@@ -8,7 +8,7 @@ ghost use Rattle.fkv_store.specs.Passes.{IsPassOf, IsStrange, Runs, Updates};
 ghost use Rattle.fkv_store.specs.Runs.{IsRunAs};
 
 use crate::gates::{Gate, Open, Place};
-use crate::holds::{At, enter, leave};
+use crate::holds::{At, Turned, enter, leave};
 use crate::running::{Loads, Run, refresh_all, refresh_moved, run_in};
 use crate::stores::Store;
 use fkv_device::Disk;
@@ -37,6 +37,8 @@ pub struct Pass<F: Mergeable, D: Disk, H: Recorder<F>> {
     pub(crate) readers: Vec<D::Reader>,
     /// How many operations were answered since its sessions were refreshed.
     pub(crate) answered: u8,
+    /// How many turns its last operation took that was issued.
+    pub(crate) turned: Turned,
 }
 
 impl<F: Mergeable, D: Disk, H: Recorder<F>> Model for Pass<F, D, H> {
@@ -51,6 +53,7 @@ impl<F: Mergeable, D: Disk, H: Recorder<F>> Model for Pass<F, D, H> {
       told = p.owns.told;
       share = p.owns.share;
       last = p.owns.last;
+      turned = p.turned;
     } };
 
     ghost invariant = { λ p. (length p.owns.told ≡ length p.owns.lists)
@@ -71,6 +74,7 @@ fn seat_in<F: Mergeable, D: Disk, H: Recorder<F>, G: Gate>(
     requires seats { length seats.old.items ≡ store.now.count }
     ensures seats { length seats.new.items ≡ length seats.old.items }
     ensures only { IfErr result IsTold }
+    ensures on { IfErr result (λ why. why ≢ Refused.Stalled) }
 {
     if let Some(seat) = seats[at.partition] {
         return Ok(seat);
@@ -100,6 +104,7 @@ fn refresh_at_times<F: Mergeable, D: Disk, H: Recorder<F>, G: Gate>(
     ensures seen { length seen.new.items ≡ length seen.old.items }
     ensures few { OnOk result (answered.new < 64) }
     ensures only { IfErr result IsTold }
+    ensures on { IfErr result (λ why. why ≢ Refused.Stalled) }
 {
     if *answered < ANSWERS {
         return Ok(());
@@ -164,7 +169,8 @@ impl<F: Mergeable, D: Disk, H: Recorder<F>> Pass<F, D, H> {
         ensures own { OnOk result (IsPassOf store.now self.old) }
         ensures worn { OnOk result (self.old.share < 2 ^ 64 - 1) }
         ensures only { IfErr result (IsUnrun F.MERGES op) }
-        ensures unchanged { OnErr result (self.new ≡ self.old) }
+        ensures stalled { IfErr result (λ why. why ≡ Refused.Stalled → self.new.turned ≡ store.now.turns) }
+        ensures unchanged { OnErr result (self.new ≡ record self.old { turned = self.new.turned }) }
     {
         self.run_as(rt, alloc, store, op, Loads::Read, gate)
     }
@@ -191,7 +197,8 @@ impl<F: Mergeable, D: Disk, H: Recorder<F>> Pass<F, D, H> {
         ensures own { OnOk result (IsPassOf store.now self.old) }
         ensures worn { OnOk result (self.old.share < 2 ^ 64 - 1) }
         ensures only { IfErr result IsTold }
-        ensures unchanged { OnErr result (self.new ≡ self.old) }
+        ensures stalled { IfErr result (λ why. why ≡ Refused.Stalled → self.new.turned ≡ store.now.turns) }
+        ensures unchanged { OnErr result (self.new ≡ record self.old { turned = self.new.turned }) }
     {
         let op = KeyedOp::Rmw(key, input);
         match self.run_as(rt, alloc, store, op, Loads::Merge, gate) {
@@ -218,7 +225,8 @@ impl<F: Mergeable, D: Disk, H: Recorder<F>> Pass<F, D, H> {
         ensures own { OnOk result (IsPassOf store.now self.old) }
         ensures worn { OnOk result (self.old.share < 2 ^ 64 - 1) }
         ensures only { IfErr result (IsUnrun F.MERGES op) }
-        ensures unchanged { OnErr result (self.new ≡ self.old) }
+        ensures stalled { IfErr result (λ why. why ≡ Refused.Stalled → self.new.turned ≡ store.now.turns) }
+        ensures unchanged { OnErr result (self.new ≡ record self.old { turned = self.new.turned }) }
     {
         match self.known_to(store) {
             Ok(()) => {}
@@ -258,7 +266,16 @@ impl<F: Mergeable, D: Disk, H: Recorder<F>> Pass<F, D, H> {
             seat,
             known,
         };
-        let finished = match run_in(rt, store, &run, &mut self.readers, op, loads, gate) {
+        let finished = match run_in(
+            rt,
+            store,
+            &run,
+            &mut self.readers,
+            op,
+            loads,
+            &mut self.turned,
+            gate,
+        ) {
             Ok(finished) => finished,
             Err(refused) => return Err(refused),
         };

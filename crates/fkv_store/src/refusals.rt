@@ -1,14 +1,15 @@
 //! Which refusals a pass and a store tell.
-ghost use Rattle.std.specs.Prelude.{◌≡◌};
+ghost use Rattle.std.specs.Prelude.{◌≡◌, ◌≢◌};
 ghost use Rattle.fkv_store.specs.Stores.{IsTold, heard};
 
 use fkv_functions::Refused;
 
 /// The refusal that a caller is told of an event's: itself, or `Unknown` where it speaks of sessions and contexts, which are
-/// the store's own matter.
+/// the store's own matter. No event stalls.
 pub(crate) fn told(refused: Refused) -> Refused
     ensures told { IsTold result }
     ensures heard { result ≡ heard refused }
+    ensures on { result ≢ Refused.Stalled }
 {
     match refused {
         Refused::NoMemory
@@ -16,8 +17,7 @@ pub(crate) fn told(refused: Refused) -> Refused
         | Refused::Stranger { .. }
         | Refused::Worn
         | Refused::Device { .. }
-        | Refused::Damaged { .. }
-        | Refused::Stalled => refused,
+        | Refused::Damaged { .. } => refused,
         _ => Refused::Unknown,
     }
 }

@@ -1,18 +1,20 @@
 //! How an operation of a pass runs, from its issue to its end: in one hold, or one event a hold, and what is done between holds.
-ghost use Rattle.std.specs.Prelude.{◌≡◌, ◌<◌, ◌≤◌, ◌-◌, ◌^◌, true, false, length, IsTrue, IfOk, IfErr, IfSome, OnOk, IsSome};
+ghost use Rattle.std.specs.Prelude.{◌≡◌, ◌≢◌, ◌<◌, ◌≤◌, ◌+◌, ◌-◌, ◌^◌, true, false, length, IsTrue, IfOk, IfErr, IfSome, OnOk, IsSome};
 ghost use Rattle.fkv_operations.specs.After.{is_merge};
 ghost use Rattle.fkv_locked.specs.Turns.{IsOf, IsTurnOf};
 ghost use Rattle.fkv_store.specs.Stores.{IsTold, IsUnseated, IsUnrun};
 ghost use Rattle.fkv_store.specs.Runs.{IsRunAs, IsEntryOf};
 
 use crate::gates::{Gate, Place};
-use crate::holds::{At, Hand, give_up, issue, refresh, turn, update_at_once};
+use crate::holds::{
+    At, Hand, IssuedOf, Turned, close, give_up, install, issue, refresh, turn, update_at_once,
+};
 use crate::stores::Store;
 use crate::waiting::Patience;
 use fkv_device::{Disk, Loaded};
 use fkv_functions::{Built, Mergeable, Refused};
 use fkv_histories::Recorder;
-use fkv_locked::{FinishedOf, MineOf, Seat, Turn, TurnOf};
+use fkv_locked::{FinishedOf, Seat, Turn, TurnOf};
 use fkv_operations::{KeyedOp, KeyedOpOf};
 use std::alloc::Global;
 use std::rt::Clock;
@@ -92,29 +94,33 @@ pub(crate) fn refresh_moved<F: Mergeable, D: Disk, H: Recorder<F>, G: Gate>(
     Ok(())
 }
 
-/// Makes the next event of an operation, and where a value is to be built for it builds and installs that. Refused as
-/// [`turn`] is.
+/// Makes the next event of an operation, which is a turn of it, and where a value is to be built for it builds and installs that.
+/// Refused as [`turn`] and [`install`] are.
 fn attempt<F: Mergeable, D: Disk, H: Recorder<F>, G: Gate>(
     rt: &impl Wait,
     store: &Store<F, D, H>,
     at: At,
-    mine: &MineOf<F>,
-    hand: Hand<F, D::Receipt>,
+    issued: &IssuedOf<F>,
+    hand: Hand<D::Receipt>,
+    turned: &mut Turned,
     gate: &G,
 ) -> Result<TurnOf<F, D::Receipt>, Refused>
-    requires { at.partition < store.now.count }
-    ensures of { IfOk result (IsTurnOf mine.now) }
+    requires within { at.partition < store.now.count }
+    requires room { turned.old < 2 ^ 64 - 1 }
+    ensures counted { OnOk result (turned.new ≡ turned.old + 1) }
+    ensures of { IfOk result (IsTurnOf issued.now) }
     ensures only { IfErr result IsTold }
+    ensures on { IfErr result (λ why. why ≢ Refused.Stalled) }
 {
-    let turned = match turn(rt, store, at, mine, hand, gate) {
-        Ok(turned) => turned,
+    let made = match turn(rt, store, at, issued, hand, turned, gate) {
+        Ok(made) => made,
         Err(refused) => return Err(refused),
     };
-    match turned {
+    match made {
         Turn::NeedsBuild(ask) => {
             gate.pass(at.worker, Place::Build);
             let built = Built::make(&store.functions, ask);
-            turn(rt, store, at, mine, Hand::Built(built), gate)
+            install(rt, store, at, issued, built, gate)
         }
         Turn::Done(entry) => Ok(Turn::Done(entry)),
         Turn::Next => Ok(Turn::Next),
@@ -140,6 +146,7 @@ fn wait<F: Mergeable, D: Disk, H: Recorder<F>, G: Gate>(
     requires within { run.now.at.partition < store.now.count }
     requires seats { length run.now.seats.now ≡ store.now.count }
     ensures only { IfErr result IsTold }
+    ensures on { IfErr result (λ why. why ≢ Refused.Stalled) }
 {
     patience.give_way(rt, store.moves_of(run.at.partition));
     for _step in 0..STEPS {
@@ -156,32 +163,35 @@ fn wait<F: Mergeable, D: Disk, H: Recorder<F>, G: Gate>(
 }
 
 /// Goes on with an operation until it is finished, or has taken all its turns: each event that lets it go on, asks for a page
-/// or waits is a turn. Answers its entry, or `None` where it needs a page that is not to be read: then it is still open.
+/// or waits is a turn, and they are counted. Answers its entry, or `None` where it needs a page that is not to be read: then it is still open.
 fn run_on<F: Mergeable, D: Disk, H: Recorder<F>, G: Gate>(
     rt: &(impl Wait + Clock),
     store: &Store<F, D, H>,
     run: &Run<'_>,
     reader: &mut D::Reader,
-    mine: &MineOf<F>,
+    issued: &IssuedOf<F>,
     reads: bool,
+    turned: &mut Turned,
     gate: &G,
 ) -> Result<Option<FinishedOf<F>>, Refused>
     requires within { run.now.at.partition < store.now.count }
     requires seats { length run.now.seats.now ≡ store.now.count }
-    ensures of { IfOk result (λ done. IfSome done (IsOf mine.now)) }
+    ensures of { IfOk result (λ done. IfSome done (IsOf issued.now)) }
     ensures read { IsTrue reads → IfOk result IsSome }
     ensures only { IfErr result IsTold }
+    ensures stalled { IfErr result (λ why. why ≡ Refused.Stalled → turned.new ≡ store.now.turns) }
 {
+    *turned = Turned::none();
     let mut hand = Hand::Nothing;
     let mut patience = Patience::default();
     for _turn in 0..store.turns {
         let at_hand = hand;
         hand = Hand::Nothing;
-        let turned = match attempt(rt, store, run.at, mine, at_hand, gate) {
-            Ok(turned) => turned,
+        let made = match attempt(rt, store, run.at, issued, at_hand, turned, gate) {
+            Ok(made) => made,
             Err(refused) => return Err(refused),
         };
-        match turned {
+        match made {
             Turn::Done(entry) => return Ok(Some(entry)),
             // an install asks nothing
             Turn::Next | Turn::NeedsBuild(_) => {}
@@ -214,6 +224,7 @@ fn try_at_once<F: Mergeable, D: Disk, H: Recorder<F>, G: Gate>(
     ensures of { IfOk result (λ done. IfSome done (IsEntryOf op run.now.known)) }
     ensures update { IfOk result (λ done. IfSome done (λ _. is_merge op ≡ false)) }
     ensures only { IfErr result IsTold }
+    ensures on { IfErr result (λ why. why ≢ Refused.Stalled) }
 {
     let KeyedOp::Rmw(key, input) = op else {
         return Ok(None);
@@ -230,6 +241,7 @@ fn run_out<F: Mergeable, D: Disk, H: Recorder<F>, G: Gate>(
     reader: &mut D::Reader,
     op: KeyedOpOf<F>,
     reads: bool,
+    turned: &mut Turned,
     gate: &G,
 ) -> Result<Option<FinishedOf<F>>, Refused>
     requires within { run.now.at.partition < store.now.count }
@@ -237,19 +249,23 @@ fn run_out<F: Mergeable, D: Disk, H: Recorder<F>, G: Gate>(
     ensures of { IfOk result (λ done. IfSome done (IsEntryOf op run.now.known)) }
     ensures read { IsTrue reads → IfOk result IsSome }
     ensures only { IfErr result IsTold }
+    ensures stalled { IfErr result (λ why. why ≡ Refused.Stalled → turned.new ≡ store.now.turns) }
 {
-    let mine = match issue(rt, store, run.at, run.seat, op, run.known, gate) {
-        Ok(mine) => mine,
+    let issued = match issue(rt, store, run.at, run.seat, op, run.known, gate) {
+        Ok(issued) => issued,
         Err(refused) => return Err(refused),
     };
-    match run_on(rt, store, run, reader, &mine, reads, gate) {
-        Ok(Some(entry)) => Ok(Some(entry)),
+    match run_on(rt, store, run, reader, &issued, reads, turned, gate) {
+        Ok(Some(entry)) => {
+            close::<F>(issued, &entry);
+            Ok(Some(entry))
+        }
         Ok(None) => {
-            give_up(rt, store, run.at, &mine, gate);
+            give_up(rt, store, run.at, issued, gate);
             Ok(None)
         }
         Err(refused) => {
-            give_up(rt, store, run.at, &mine, gate);
+            give_up(rt, store, run.at, issued, gate);
             Err(refused)
         }
     }
@@ -275,6 +291,7 @@ pub(crate) fn run_in<F: Mergeable, D: Disk, H: Recorder<F>, G: Gate>(
     readers: &mut Vec<D::Reader>,
     op: KeyedOpOf<F>,
     loads: Loads,
+    turned: &mut Turned,
     gate: &G,
 ) -> Result<FinishedOf<F>, Refused>
     requires within { run.now.at.partition < store.now.count }
@@ -286,6 +303,7 @@ pub(crate) fn run_in<F: Mergeable, D: Disk, H: Recorder<F>, G: Gate>(
     ensures room { IfOk result (λ e. e.at < 2 ^ 64 - 1) }
     ensures merging { OnOk result (is_merge op ≡ true → F.MERGES ≡ true) }
     ensures only { IfErr result (IsUnrun F.MERGES op) }
+    ensures stalled { IfErr result (λ why. why ≡ Refused.Stalled → turned.new ≡ store.now.turns) }
 {
     match try_at_once(rt, store, run, op, gate) {
         Ok(Some(entry)) => return Ok(entry),
@@ -297,13 +315,13 @@ pub(crate) fn run_in<F: Mergeable, D: Disk, H: Recorder<F>, G: Gate>(
     }
     let reader = &mut readers[run.at.partition];
     let merge = merge_for::<F>(&op, loads);
-    match run_out(rt, store, run, reader, op, merge.is_none(), gate) {
+    match run_out(rt, store, run, reader, op, merge.is_none(), turned, gate) {
         Ok(Some(entry)) => return Ok(entry),
         Ok(None) => {}
         Err(refused) => return Err(refused),
     }
     let Some(merge) = merge else { unreachable!() };
-    match run_out(rt, store, run, reader, merge, true, gate) {
+    match run_out(rt, store, run, reader, merge, true, turned, gate) {
         Ok(Some(entry)) => Ok(entry),
         Ok(None) => unreachable!(),
         Err(refused) => Err(refused),

@@ -6,6 +6,7 @@ ghost use Rattle.fkv_partition.specs.Limits.{IsWithinLimits};
 ghost use Rattle.fkv_device.specs.Failing.{FailsOnlyBy};
 ghost use Rattle.fkv_store.specs.Stores.{IsUnopened};
 
+use crate::holds::Turned;
 use crate::lists::{no_seats, zeros};
 use crate::passes::Pass;
 use fkv_device::Disk;
@@ -209,6 +210,7 @@ impl<F: Mergeable, D: Disk, H: Recorder<F>> Store<F, D, H> {
           told = replicate self.now.count 0;
           share = 0;
           last = None;
+          turned = 0;
         }) }
         ensures only { IfErr result IsUnopened }
     {
@@ -237,6 +239,7 @@ impl<F: Mergeable, D: Disk, H: Recorder<F>> Store<F, D, H> {
             seen,
             readers,
             answered: 0,
+            turned: Turned::none(),
         })
     }
 

@@ -2,10 +2,10 @@
 use crate::tables::{LETTERS, SMALL, summed_by, summed_over};
 use fkv_device::MemoryDevice;
 use fkv_feeds::RowMode;
-use fkv_functions::{Refused, SumFns};
+use fkv_functions::{Name, Refused, SumFns};
 use fkv_histories::{Audited, Plain, Recorder};
 use fkv_partition::Config;
-use fkv_store::{Gate, KEEPER, Open, Place};
+use fkv_store::{Gate, KEEPER, Open, Place, Store};
 use fkv_test_devices::{FailingDevice, Fault, UnsureDevice};
 use std::alloc::Global;
 use std::io::Write;
@@ -248,6 +248,54 @@ fn failing_compaction(rt: HostRuntime) -> Result<(), Fail> {
         &gate,
         RowMode::Merge,
     );
+    assert!(rt; made == Err(Refused::Device { code: 3, page: 0 }));
+    assert!(rt; fault.told() == Some(Refused::Device { code: 3, page: 0 }));
+    Ok(())
+}
+
+/// Two partitions.
+const TWO: Config = Config {
+    partition_bits: 1,
+    ..SMALL
+};
+
+/// So many rows with this amount, over keys of the second of two partitions.
+fn of_the_second(alloc: Global, rows: u64, amount: i64) -> Result<Vec<u8>, Fail> {
+    let device = MemoryDevice::new(alloc);
+    let store = Store::<SumFns, MemoryDevice, Plain>::open(alloc, &TWO, SumFns, device)?;
+    let mut keys = Vec::new(alloc);
+    for number in 0..100u8 {
+        let text = [b'k', number / 10 + b'0', number % 10 + b'0'];
+        if let Some(name) = Name::new(&text) {
+            if store.home(&name) == 1 {
+                keys.push(text)?;
+            }
+        }
+    }
+    let mut text = Vec::new(alloc);
+    for row in 0..rows as usize {
+        if let Some(key) = row
+            .checked_rem(keys.len())
+            .and_then(|place| keys.get(place))
+        {
+            text.write_all(key)?;
+            writeln!(text, ",{amount}")?;
+        }
+    }
+    Ok(text)
+}
+
+/// The keeper compacts each partition: only the second one has rows here, so the page is one of its pages.
+#[test]
+fn failing_compaction_of_the_second_partition(rt: HostRuntime) -> Result<(), Fail> {
+    let alloc = rt.alloc();
+    let rows = of_the_second(alloc, 1_000, 3)?;
+    let fault = Fault::after(u64::MAX);
+    let device = FailingDevice::new(alloc, MemoryDevice::new(alloc), &fault);
+    let gate = Caught::by(Some(&fault));
+    let feeds = [rows.as_slice()];
+    let mode = RowMode::Merge;
+    let made = summed_by::<Plain, _, _, _>(&rt, alloc, &feeds, 1, &TWO, device, &gate, mode);
     assert!(rt; made == Err(Refused::Device { code: 3, page: 0 }));
     assert!(rt; fault.told() == Some(Refused::Device { code: 3, page: 0 }));
     Ok(())

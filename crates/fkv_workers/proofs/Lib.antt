@@ -10,4 +10,5 @@ pub mod StandLemmas
 pub mod WorkedLemmas
 pub mod StoppedLemmas
 pub mod SplitLemmas
+pub mod MadeLemmas
 pub mod EmptiedLemmas

@@ -1,16 +1,21 @@
 -- Own lists that have one row more.
-use Rattle.std.proofs.Common.{◌≡◌, ◌<◌, ◌==◌, inl, inr, ℕ, ℤ, List, [], ◌∷◌, ◌++◌, length, slice_set, refl, sym, subst, ◌∙◌, arith}
+use Rattle.std.proofs.Common.{◌≡◌, ◌<◌, ◌==◌, inl, inr, ℕ, ℤ, List, false, [], ◌∷◌, ◌++◌, length, slice_set, refl, sym, ap, subst, ◌∙◌, arith}
 use Rattle.std.specs.Prelude.{slice_index_or, FitsSigned}
 use Rattle.std.specs.Int.{w64}
+use Rattle.std.specs.List.{All}
 use Rattle.std.proofs.lemmas.Bool.{eq-eqb, ne_eqb, cases_eq}
 use Rattle.std.proofs.lemmas.List.{append-nil, length-set, get_or-set_same, get_or-set_other}
-use Rattle.std.proofs.lemmas.List.Elements.{filter-append, All-push}
+use Rattle.std.proofs.lemmas.List.Elements.{filter-append, All-push, All-set}
 use Rattle.std.proofs.Math.Nat.{mod-lt}
 use Rattle.fkv_functions.specs.declared.names.Name.{Name}
 use Rattle.fkv_partition.specs.CoreViews.{partition_of}
 use Rattle.fkv_histories.specs.declared.entries.Entry.{Entry}
 use Rattle.fkv_store.specs.Passes.{IsUpdateBy}
+use Rattle.fkv_feeds.specs.declared.modes.RowMode.{RowMode}
+use Rattle.fkv_feeds.specs.declared.modes.RowMode.TheVariants.{Update}
+use Rattle.fkv_operations.specs.After.{is_merge}
 use Rattle.fkv_workers.specs.Shares.{rows_at, HasRows, HasShare}
+use Rattle.fkv_workers.specs.Works.{AreMadeBy}
 
 module _ (code : Name → ℕ) (count : ℕ) where
   pub rows_one : (p : ℕ) (rows : List (Name × ℤ)) (r : Name × ℤ) → partition_of count (code r.0) ≡ p → rows_at code count p (rows ++ r ∷ []) ≡ rows_at code count p rows ++ r ∷ []
@@ -57,3 +62,13 @@ module _ {V O : Type 0} (code : Name → ℕ) (count : ℕ) where
             )
         | inr ne ↦ rw (get_or-set_other own p q (slice_index_or own p [] ++ e ∷ []) [] ne, rows_none code count q rows (key, amount) (λ there. ne (sym there ∙ sym home))) (h.lists q lt)
       ]
+
+-- an entry more that is as the mode says
+pub made_more : {V O : Type 0} (mode : RowMode) (p : ℕ) (own : List (List (Entry Name V ℤ O))) (e : Entry Name V ℤ O)
+    → p < length own
+    → (mode ≡ Update → is_merge e.op ≡ false)
+    → AreMadeBy mode own
+    → AreMadeBy mode (slice_set own p (slice_index_or own p [] ++ e ∷ []))
+made_more {V = V} {O = O} mode p own e within is was =
+    let P : Entry Name V ℤ O → Type 0 = λ e. is_merge e.op ≡ false in
+    λ update. All-set (All P) own p (slice_index_or own p [] ++ e ∷ []) (All-push P (slice_index_or own p []) e (was update p [] within) (is update)) (was update)

@@ -1,17 +1,19 @@
 -- Rows of which a pass has some and the others wait: one row more, those of a partition made updates, and none that waits.
-use Rattle.std.proofs.Common.{◌≡◌, ◌<◌, ◌==◌, inl, inr, ℕ, ℤ, Bool, List, [], ◌∷◌, ◌++◌, length, map, slice_set, replicate, refl, sym, ap, ◌∙◌, arith, append_assoc}
+use Rattle.std.proofs.Common.{◌≡◌, ◌<◌, ◌==◌, inl, inr, ℕ, ℤ, Bool, List, [], ◌∷◌, ◌++◌, length, map, slice_set, replicate, refl, sym, ap, subst, ◌∙◌, arith, append_assoc}
 use Rattle.std.specs.Prelude.{slice_index_or, FitsSigned}
 use Rattle.std.specs.Int.{w64}
 use Rattle.std.specs.List.{All}
 use Rattle.std.proofs.lemmas.Bool.{eq-eqb, ne_eqb, cases_eq}
 use Rattle.std.proofs.lemmas.List.{append-nil, length-set, length-replicate, get_or-set_same, get_or-set_other, get_or-replicate, map-set, get_or-map}
 use Rattle.std.proofs.lemmas.List.Elements.{filter-append, All-push, All-nil, All-head, All-tail}
+use Rattle.std.proofs.Math.Nat.{mod-lt}
 use Rattle.fkv_functions.specs.declared.names.Name.{Name}
 use Rattle.fkv_partition.specs.CoreViews.{partition_of}
-use Rattle.fkv_store.specs.Passes.{PassView, Updates}
+use Rattle.fkv_feeds.specs.declared.modes.RowMode.{RowMode}
+use Rattle.fkv_store.specs.Passes.{PassView}
 use Rattle.fkv_workers.specs.Shares.{rows_at}
-use Rattle.fkv_workers.specs.Works.{StandsFor, AreSplit}
-use Rattle.fkv_workers.proofs.ShareLemmas.{rows_one, rows_none, share_more}
+use Rattle.fkv_workers.specs.Works.{StandsFor, AreSplit, Makes}
+use Rattle.fkv_workers.proofs.ShareLemmas.{rows_one, rows_none, share_more, made_more}
 
 -- of rows with keys of one partition, those with keys there are all, and those with keys elsewhere none
 module _ (code : Name → ℕ) (count : ℕ) where
@@ -26,8 +28,8 @@ module _ (code : Name → ℕ) (count : ℕ) where
   rows_join : (p : ℕ) (before rows : List (Name × ℤ)) → rows_at code count p (before ++ rows) ≡ rows_at code count p before ++ rows_at code count p rows
   rows_join p before rows = filter-append (λ x. partition_of count (code x.0) == p) before rows
 
-module _ {V O : Type 0} (keeps : Bool) (code : Name → ℕ) (pass : PassView Name V ℤ O) where
-  pub split_none : (waiting : List (List (Name × ℤ))) → StandsFor keeps code pass [] → waiting ≡ replicate (length pass.told) [] → AreSplit keeps code pass waiting []
+module _ {V O : Type 0} (keeps : Bool) (code : Name → ℕ) (mode : RowMode) (pass : PassView Name V ℤ O) where
+  pub split_none : (waiting : List (List (Name × ℤ))) → StandsFor keeps code mode pass [] → waiting ≡ replicate (length pass.told) [] → AreSplit keeps code mode pass waiting []
   split_none waiting stands none = record {
     done = [];
     stands = stands;
@@ -37,11 +39,11 @@ module _ {V O : Type 0} (keeps : Bool) (code : Name → ℕ) (pass : PassView Na
     small = All-nil (λ r. FitsSigned w64 r.1);
   }
 
-  pub split_more : (waiting : List (List (Name × ℤ))) (rows : List (Name × ℤ)) (p : ℕ) (r : Name × ℤ) → AreSplit keeps code pass waiting rows
+  pub split_more : (waiting : List (List (Name × ℤ))) (rows : List (Name × ℤ)) (p : ℕ) (r : Name × ℤ) → AreSplit keeps code mode pass waiting rows
       → partition_of (length pass.told) (code r.0) ≡ p
       → p < length pass.told
       → FitsSigned w64 r.1
-      → AreSplit keeps code pass (slice_set waiting p (slice_index_or waiting p [] ++ r ∷ [])) (rows ++ r ∷ [])
+      → AreSplit keeps code mode pass (slice_set waiting p (slice_index_or waiting p [] ++ r ∷ [])) (rows ++ r ∷ [])
   split_more waiting rows p r s home lt fits = record {
     done = s.done;
     stands = s.stands;
@@ -80,9 +82,9 @@ module _ {V O : Type 0} (keeps : Bool) (code : Name → ℕ) (pass : PassView Na
 
   pub split_made : (pass' : PassView Name V ℤ O) (waiting : List (List (Name × ℤ))) (rows : List (Name × ℤ)) (p : ℕ) → p < length waiting
       → length pass'.told ≡ length pass.told
-      → ((before : List (Name × ℤ)) → StandsFor keeps code pass before → StandsFor keeps code pass' (before ++ slice_index_or waiting p []))
-      → AreSplit keeps code pass waiting rows
-      → AreSplit keeps code pass' (slice_set waiting p []) rows
+      → ((before : List (Name × ℤ)) → StandsFor keeps code mode pass before → StandsFor keeps code mode pass' (before ++ slice_index_or waiting p []))
+      → AreSplit keeps code mode pass waiting rows
+      → AreSplit keeps code mode pass' (slice_set waiting p []) rows
   split_made pass' waiting rows p within long made s = record {
     done = s.done ++ those;
     stands = made s.done s.stands;
@@ -124,8 +126,8 @@ module _ {V O : Type 0} (keeps : Bool) (code : Name → ℕ) (pass : PassView Na
       ]
 
   pub split_all : (waiting : List (List (Name × ℤ))) (rows : List (Name × ℤ)) → ((p : ℕ) → p < length waiting → slice_index_or waiting p [] ≡ [])
-      → AreSplit keeps code pass waiting rows
-      → StandsFor keeps code pass rows
+      → AreSplit keeps code mode pass waiting rows
+      → StandsFor keeps code mode pass rows
   split_all waiting rows none s = record {
     some = s.stands.some;
     share = λ k.
@@ -137,6 +139,7 @@ module _ {V O : Type 0} (keeps : Bool) (code : Name → ℕ) (pass : PassView Na
               rw (s.parts p lt ∙ (ap (λ l. rows_at code (length pass.told) p s.done ++ l) empty ∙ append-nil (rows_at code (length pass.told) p s.done))) (had.lists p lt);
           small = s.small;
         };
+    made = s.stands.made;
   }
 
 -- where the rows of a partition that wait grow by one, so does their list
@@ -148,18 +151,23 @@ lists_more f xs i x d y lt d_is x_is =
     map-set f xs i x
     ∙ ap (λ l. slice_set (map f xs) i l) (x_is ∙ ap (λ l. l ++ y ∷ []) (ap f d_is ∙ sym (get_or-map f xs i d [] lt)))
 
--- a pass that ran an update of a row, or a merge, has one row more
-pub stands_more : {V O : Type 0} (keeps : Bool) (code : Name → ℕ) (old new : PassView Name V ℤ O) (count : ℕ) (key : Name) (amount : ℤ) (rows : List (Name × ℤ))
+-- a pass that made a row has one row more
+pub stands_more : {V O : Type 0} (keeps : Bool) (code : Name → ℕ) (mode : RowMode) (old new : PassView Name V ℤ O) (count : ℕ) (key : Name) (amount : ℤ) (rows : List (Name × ℤ))
     → length old.told ≡ count
     → FitsSigned w64 amount
-    → Updates keeps old new (partition_of count (code key)) key amount
-    → StandsFor keeps code old rows
-    → StandsFor keeps code new (rows ++ (key, amount) ∷ [])
-stands_more keeps code old new count key amount rows sized fits ran s =
-    let long = ap length ran.2.told_is ∙ length-set _ _ _ in
+    → Makes mode keeps old new (partition_of count (code key)) key amount
+    → StandsFor keeps code mode old rows
+    → StandsFor keeps code mode new (rows ++ (key, amount) ∷ [])
+stands_more keeps code mode old new count key amount rows sized fits ran s =
+    let long = ap length ran.answers.told_is ∙ length-set _ _ _ in
+    let home = partition_of count (code key) in
+    let some : 0 < count = subst (λ n. 0 < n) sized s.some in
     record {
       some = rw long s.some;
       share = λ k.
-          rw (long, ran.2.own_is k)
-          (share_more code (length old.told) (partition_of count (code key)) old.own rows ran.0 key amount (s.share k) s.some (ap (λ n. partition_of n (code key)) (sym sized)) ran.1 fits);
+          rw (long, ran.answers.own_is k)
+          (share_more code (length old.told) home old.own rows ran.entry key amount (s.share k) s.some (ap (λ n. partition_of n (code key)) (sym sized)) ran.of_row fits);
+      made = λ k.
+          let within : home < length old.own = omega (arith, (s.share k).sized, sized, s.some, mod-lt (code key) some) in
+          rw (ran.answers.own_is k) (made_more mode home old.own ran.entry within ran.by_mode (s.made k));
     }

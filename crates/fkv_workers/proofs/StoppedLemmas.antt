@@ -1,6 +1,6 @@
 -- Workers that stopped before their feeds ended.
 use Rattle.std.proofs.Common.{◌≡◌, inl, inr, ◌<◌, ◌++◌, [], ◌∷◌, ℕ, List, length, map, Option, Some, None, refl, sym, ap, subst, ◌∙◌}
-use Rattle.std.specs.Prelude.{IfSome, option_map, slice_get}
+use Rattle.std.specs.Prelude.{◌⊎◌, IfSome, IfNone, option_map, slice_get}
 use Rattle.std.specs.List.{AllZip}
 use Rattle.std.proofs.lemmas.List.{length-map}
 use Rattle.std.proofs.lemmas.Option.{slice_get-map, slice_get_within}
@@ -52,3 +52,17 @@ told_unopened e (inr is) = subst IsTold (sym is) tt
 pub told_failing : (old new : ℕ) (e : Refused) → FailsOnlyBy 1 0 old new e → IsTold e
 told_failing old new e (inl is) = told_memory e is.0
 told_failing old new e (inr is) = subst IsTold (sym is.0) tt
+
+-- a worker whose pass rests at its end, with the fault that it had
+pub rested_done : (Done : Type 0) (was now : Option Refused) → IfSome was (λ why. now ≡ Some why) → IfNone was Done → IfNone now Done
+rested_done Done (Some why) now first done = rw first tt
+rested_done Done None None first done = done
+rested_done Done None (Some why) first done = tt
+
+pub rested_stopped : (Told Unread : Refused → Type 0) (was now : Option Refused) → IfSome was (λ why. now ≡ Some why)
+    → (was ≡ None → IfSome now Told)
+    → IfSome was (λ why. Told why ⊎ Unread why)
+    → IfSome now (λ why. Told why ⊎ Unread why)
+rested_stopped Told Unread (Some why) now first told stops = rw first stops
+rested_stopped Told Unread None None first told stops = tt
+rested_stopped Told Unread None (Some why) first told stops = inl (told refl)

@@ -5,13 +5,14 @@ use Rattle.std.specs.List.{All, AllZip, filter, enumerate_from}
 use Rattle.std.proofs.lemmas.List.{length-map}
 use Rattle.std.proofs.lemmas.Option.{slice_get-map}
 use Rattle.std.proofs.lemmas.Slice.Zip.{AllZip-long, AllZip-right}
-use Rattle.std.proofs.lemmas.List.Elements.{All-head, All-tail}
+use Rattle.std.proofs.lemmas.List.Elements.{All-nil, All-cons, All-head, All-tail}
 use Rattle.fkv_functions.specs.declared.names.Name.{Name}
 use Rattle.fkv_functions.specs.declared.refusals.Refused.{Refused}
 use Rattle.fkv_feeds.specs.Tables.{AreFeeds, most_rows}
+use Rattle.fkv_feeds.specs.declared.modes.RowMode.{RowMode}
 use Rattle.fkv_store.specs.Passes.{PassView}
 use Rattle.fkv_workers.specs.Shares.{AreDealt, HasShare, dealt}
-use Rattle.fkv_workers.specs.Works.{HasDone, IsFedBy}
+use Rattle.fkv_workers.specs.Works.{HasDone, IsFedBy, AreMadeBy}
 
 -- a worker's feeds by what is known of their texts
 texts_dealt : {S T : Type 0} (f : S → T) (workers w place : ℕ) (items : List S)
@@ -29,29 +30,34 @@ texts_dealt f workers w place (x ∷ xs) =
     by (place % workers == w) refl
 
 module _ {W R S V O : Type 0} (rem : S → Option (List ℕ)) (fails : S → ℕ) (code : Name → ℕ) (feeds_in : W → List (ℕ × S))
-    (pass_of : R → PassView Name V ℤ O) (fault_of : R → Option Refused) (keeps : Bool) (stops : W → R → Type 0) where
+    (mode_of : W → RowMode) (pass_of : R → PassView Name V ℤ O) (fault_of : R → Option Refused) (keeps : Bool) (mode : RowMode)
+    (stops : W → R → Type 0) where
   -- each worker that has no fault has the rows of its feeds
   pub record Shared (works : List W) (results : List R) : Type 0 where
     pub shares : List (List (Name × ℤ))
     pub read : AllZip (λ work rows. AreFeeds most_rows (map (λ feed. rem feed.1) (feeds_in work)) rows) works shares
     pub kept : AllZip (λ pass rows. HasShare code (length pass.told) pass.own rows) (map pass_of results) shares
+    pub made : All (λ pass. AreMadeBy mode pass.own) (map pass_of results)
 
   pub shared : (works : List W) (results : List R) → keeps ≡ true
-      → AllZip (λ work result. IfNone (fault_of result) (HasDone rem fails keeps code (feeds_in work) (pass_of result)) × stops work result)
+      → AllZip (λ work result. IfNone (fault_of result) (HasDone rem fails keeps code (mode_of work) (feeds_in work) (pass_of result)) × stops work result)
       works results
+      → All (λ work. mode_of work ≡ mode) works
       → All (λ fault. fault ≡ None) (map fault_of results)
       → Shared works results
-  shared [] [] k each none = record { shares = []; read = tt; kept = tt }
-  shared [] (r ∷ rs) k each none = absurd each
-  shared (w ∷ ws) [] k each none = absurd each
-  shared (w ∷ ws) (r ∷ rs) k each none =
-      let done : HasDone rem fails keeps code (feeds_in w) (pass_of r) =
-      subst (λ fault. IfNone fault (HasDone rem fails keeps code (feeds_in w) (pass_of r))) (All-head (λ fault. fault ≡ None) (fault_of r) (map fault_of rs) none) each.0.0 in
-      let rest = shared ws rs k each.1 (All-tail (λ fault. fault ≡ None) (fault_of r) (map fault_of rs) none) in
+  shared [] [] k each modes none = record { shares = []; read = tt; kept = tt; made = All-nil (λ pass. AreMadeBy mode pass.own) }
+  shared [] (r ∷ rs) k each modes none = absurd each
+  shared (w ∷ ws) [] k each modes none = absurd each
+  shared (w ∷ ws) (r ∷ rs) k each modes none =
+      let done : HasDone rem fails keeps code (mode_of w) (feeds_in w) (pass_of r) =
+      subst (λ fault. IfNone fault (HasDone rem fails keeps code (mode_of w) (feeds_in w) (pass_of r))) (All-head (λ fault. fault ≡ None) (fault_of r) (map fault_of rs) none) each.0.0 in
+      let rest = shared ws rs k each.1 (All-tail (λ work. mode_of work ≡ mode) w ws modes) (All-tail (λ fault. fault ≡ None) (fault_of r) (map fault_of rs) none) in
       record {
         shares = done.rows ∷ rest.shares;
         read = (done.read, rest.read);
         kept = (done.stands.share k, rest.kept);
+        made = All-cons (λ pass. AreMadeBy mode pass.own) (pass_of r) (map pass_of rs)
+            (subst (λ m. AreMadeBy m (pass_of r).own) (All-head (λ work. mode_of work ≡ mode) w ws modes) (done.stands.made k)) rest.made;
       }
 
 -- what goes with an item of the second list
@@ -68,13 +74,14 @@ beside {A = A} {B = B} R xs ys w y h at =
     from (Some x) e t = (x, e, t)
 
 -- what workers share out among them, where feeds were dealt out
-pub fed_by : {W S V O : Type 0} (rem : S → Option (List ℕ)) (code : Name → ℕ) (feeds_in : W → List (ℕ × S)) (workers : ℕ) (items : List S)
+pub fed_by : {W S V O : Type 0} (rem : S → Option (List ℕ)) (code : Name → ℕ) (mode : RowMode) (feeds_in : W → List (ℕ × S)) (workers : ℕ) (items : List S)
     (works : List W) (passes : List (PassView Name V ℤ O)) (shares : List (List (Name × ℤ))) → 0 < workers
     → AreDealt workers items (map feeds_in works)
     → AllZip (λ work rows. AreFeeds most_rows (map (λ feed. rem feed.1) (feeds_in work)) rows) works shares
     → AllZip (λ pass rows. HasShare code (length pass.told) pass.own rows) passes shares
-    → IsFedBy code (map rem items) passes
-fed_by {W = W} rem code feeds_in workers items works passes shares some hands read kept =
+    → All (λ pass. AreMadeBy mode pass.own) passes
+    → IsFedBy code mode (map rem items) passes
+fed_by {W = W} rem code mode feeds_in workers items works passes shares some hands read kept made =
     let fed : W → List (Name × ℤ) → Type 0 = λ work rows. AreFeeds most_rows (map (λ feed. rem feed.1) (feeds_in work)) rows in
     let many : length shares ≡ workers = AllZip-long fed works shares read ∙ (sym (length-map works feeds_in) ∙ hands.count) in
     record {
@@ -87,6 +94,7 @@ fed_by {W = W} rem code feeds_in workers items works passes shares some hands re
             rw (many, texts_dealt rem workers w 0 items) (subst (λ feeds. AreFeeds most_rows (map (λ feed. rem feed.1) feeds) rows) hand found.2);
       };
       kept = kept;
+      made = made;
     }
 
 -- as many partitions for each pass

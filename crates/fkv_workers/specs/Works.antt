@@ -1,5 +1,5 @@
 -- What a worker does with its feeds, and what is known of it afterwards.
-use Rattle.std.specs.Prelude.{◌≡◌, ◌<◌, ◌+◌, ◌-◌, ◌^◌, ◌≤◌, ◌⊎◌, ℕ, ℤ, Bool, true, FitsSigned, List, [], ◌∷◌, ◌++◌, length, map, slice_get, slice_index_or, Option, Some, None, min}
+use Rattle.std.specs.Prelude.{◌≡◌, ◌<◌, ◌+◌, ◌-◌, ◌^◌, ◌≤◌, ◌⊎◌, ℕ, ℤ, Bool, true, false, FitsSigned, List, [], ◌∷◌, ◌++◌, length, map, slice_get, slice_index_or, Option, Some, None, min}
 use Rattle.std.specs.Int.{w64}
 use Rattle.std.specs.List.{All, AllZip}
 use Rattle.fkv_functions.specs.declared.names.Name.{Name}
@@ -7,24 +7,42 @@ use Rattle.fkv_functions.specs.declared.refusals.Refused.{Refused}
 use Rattle.fkv_functions.specs.declared.refusals.Refused.TheVariants.{BadConfig}
 use Rattle.fkv_feed_rows.specs.Feeds.{TellsUnread}
 use Rattle.fkv_feeds.specs.Tables.{AreFeeds, most_rows}
+use Rattle.fkv_feeds.specs.declared.modes.RowMode.{RowMode}
+use Rattle.fkv_feeds.specs.declared.modes.RowMode.TheVariants.{Update}
+use Rattle.fkv_operations.specs.After.{is_merge}
+use Rattle.fkv_histories.specs.declared.entries.Entry.{Entry}
 use Rattle.fkv_partition.specs.Limits.{IsWithinLimits}
 use Rattle.fkv_partition.specs.Config.{Config}
 use Rattle.fkv_partition.specs.CoreViews.{partition_of}
 use Rattle.fkv_store.specs.Stores.{IsTold, IsClosing}
-use Rattle.fkv_store.specs.Passes.{PassView}
+use Rattle.fkv_store.specs.Passes.{PassView, IsUpdateBy, Answers}
 use Rattle.fkv_workers.specs.Shares.{AreFed, HasShare, dealt, rows_at}
 
--- a pass, whose own lists have these rows where entries are kept
-pub record StandsFor {V O : Type 0} (keeps : Bool) (code : Name → ℕ) (pass : PassView Name V ℤ O) (rows : List (Name × ℤ))
-    : Type 0 where
+-- a pass made a row by one operation on its key, with its amount: by an update, or, only where the mode asks for merges, by a
+-- merge
+pub record Makes {V O : Type 0} (mode : RowMode) (keeps : Bool) (old new : PassView Name V ℤ O) (partition : ℕ) (key : Name)
+    (amount : ℤ) : Type 0 where
+  pub entry : Entry Name V ℤ O
+  pub of_row : IsUpdateBy key amount entry.op
+  pub by_mode : mode ≡ Update → is_merge entry.op ≡ false
+  pub answers : Answers keeps old new partition entry.op entry.answer entry
+
+-- no own list has a merge, but where the mode asks for merges
+abbrev pub AreMadeBy : {V O : Type 0} → RowMode → List (List (Entry Name V ℤ O)) → Type 0
+AreMadeBy mode own = mode ≡ Update → All (All (λ e. is_merge e.op ≡ false)) own
+
+-- a pass, whose own lists have these rows where entries are kept, and each as the mode says
+pub record StandsFor {V O : Type 0} (keeps : Bool) (code : Name → ℕ) (mode : RowMode) (pass : PassView Name V ℤ O)
+    (rows : List (Name × ℤ)) : Type 0 where
   pub some : 0 < length pass.told
   pub share : keeps ≡ true → HasShare code (length pass.told) pass.own rows
+  pub made : keeps ≡ true → AreMadeBy mode pass.own
 
 -- a pass has some of these rows, and the others wait: those of each partition in a list of its own, in their order
-pub record AreSplit {V O : Type 0} (keeps : Bool) (code : Name → ℕ) (pass : PassView Name V ℤ O)
+pub record AreSplit {V O : Type 0} (keeps : Bool) (code : Name → ℕ) (mode : RowMode) (pass : PassView Name V ℤ O)
     (waiting : List (List (Name × ℤ))) (rows : List (Name × ℤ)) : Type 0 where
   pub done : List (Name × ℤ)
-  pub stands : StandsFor keeps code pass done
+  pub stands : StandsFor keeps code mode pass done
   pub sized : length waiting ≡ length pass.told
   pub parts : (p : ℕ) → p < length pass.told → rows_at code (length pass.told) p rows
       ≡ rows_at code (length pass.told) p done ++ slice_index_or waiting p []
@@ -45,12 +63,12 @@ module _ {S : Type 0} (remaining : S → Option (List ℕ)) (failures : S → �
     pub after : ℕ
     pub tells : TellsUnread (number_of feed.0) most_rows (remaining feed.1) (failures feed.1) after why
 
-  -- a worker read these feeds to their ends, and its pass has their rows
-  pub record HasDone {V O : Type 0} (keeps : Bool) (code : Name → ℕ) (feeds : List (ℕ × S)) (pass : PassView Name V ℤ O)
-      : Type 0 where
+  -- a worker read these feeds to their ends, and its pass has their rows, each made as the mode says
+  pub record HasDone {V O : Type 0} (keeps : Bool) (code : Name → ℕ) (mode : RowMode) (feeds : List (ℕ × S))
+      (pass : PassView Name V ℤ O) : Type 0 where
     pub rows : List (Name × ℤ)
     pub read : AreFeeds most_rows (map (λ feed. remaining feed.1) feeds) rows
-    pub stands : StandsFor keeps code pass rows
+    pub stands : StandsFor keeps code mode pass rows
 
   -- why a worker stopped before: its pass refused an update or to rest, or a feed was not read to its end
   abbrev pub IsStop : List (ℕ × S) → Refused → Type 0
@@ -75,12 +93,14 @@ pub record IsFirstFault (faults : List (Option Refused)) (why : Refused) : Type 
   pub is : faults ≡ before ++ Some why ∷ after
   pub none : All (λ fault. fault ≡ None) before
 
--- the own lists of these passes have the rows of these feeds, which their workers share out among them
-pub record IsFedBy {V O : Type 0} (code : Name → ℕ) (feeds : List (Option (List ℕ))) (passes : List (PassView Name V ℤ O))
-    : Type 0 where
+-- the own lists of these passes have the rows of these feeds, which their workers share out among them: each row by one update,
+-- or, only where the mode asks for merges, by one merge
+pub record IsFedBy {V O : Type 0} (code : Name → ℕ) (mode : RowMode) (feeds : List (Option (List ℕ)))
+    (passes : List (PassView Name V ℤ O)) : Type 0 where
   pub shares : List (List (Name × ℤ))
   pub fed : AreFed most_rows feeds shares
   pub kept : AllZip (λ pass rows. HasShare code (length pass.told) pass.own rows) passes shares
+  pub made : All (λ pass. AreMadeBy mode pass.own) passes
 
 -- a run of so many workers over so many feeds is within its limits
 pub record IsRunnable (c : Config) (record_size workers feeds : ℕ) : Type 0 where

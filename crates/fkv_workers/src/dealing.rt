@@ -35,8 +35,9 @@ pub(crate) fn works<
     requires { 0 < store.now.count }
     ensures feeds { IfOk result
         (λ works. map (λ work. work.feeds.items) works.items ≡ map (λ hand. hand.items) hands.items) }
-    ensures ready { IfOk result (λ works. All (λ work. StandsFor H.keeps F.code work.pass []
+    ensures ready { IfOk result (λ works. All (λ work. StandsFor H.keeps F.code work.mode work.pass []
         × (length work.pass.told ≡ work.store.now.count)) works.items) }
+    ensures modes { IfOk result (λ works. All (λ work. work.mode ≡ mode) works.items) }
     ensures only { IfErr result IsUnopened }
 {
     let mut works = Vec::new(alloc);

@@ -63,7 +63,15 @@ fn ended<F: Mergeable, D: Disk, H: Recorder<F>>(
     }
 }
 
-/// The passes of workers in threads of their own that have read all feeds into a store, beside a keeper.
+/// The passes of workers that have read all feeds, and by which mode their rows were made.
+#[derive(Drop)]
+struct Fed<F: Mergeable, D: Disk, H: Recorder<F>> {
+    passes: Vec<Pass<F, D, H>>,
+    mode: RowMode,
+}
+
+/// The passes of workers in threads of their own that have read all feeds into a store, beside a keeper: each row is an update
+/// there, or, only where the mode asks for merges, a merge.
 fn worked<
     S: Source + Drop + Send,
     F: Mergeable + OrderFree<Key = Name, Input = i64> + Send + Sync,
@@ -80,7 +88,7 @@ fn worked<
     page_bits: u64,
     gate: &G,
     mode: RowMode,
-) -> Result<Vec<Pass<F, D, H>>, Refused>
+) -> Result<Fed<F, D, H>, Refused>
 where
     F::Value: Send,
     F::Output: Send,
@@ -90,8 +98,9 @@ where
     requires some { 0 < workers }
     requires store { 0 < store.now.count }
     requires bits { page_bits < 57 }
-    ensures ok { IfOk result (λ passes. H.keeps ≡ true
-        → IsFedBy F.code (map S.remaining feeds.items) passes.items) }
+    ensures ok { IfOk result (λ fed. H.keeps ≡ true
+        → IsFedBy F.code fed.mode (map S.remaining feeds.items) fed.passes.items) }
+    ensures mode { IfOk result (λ fed. fed.mode ≡ mode) }
     ensures refused { IfErr result (IsUnworked S.remaining S.failures workers feeds.items) }
 {
     let hands = match deal(alloc, feeds, workers) {
@@ -118,7 +127,7 @@ where
         Err(refused) => return Err(refused),
     };
     match ended(alloc, ran) {
-        Ok(passes) => Ok(passes),
+        Ok(passes) => Ok(Fed { passes, mode }),
         Err(refused) => Err(refused),
     }
 }
@@ -225,10 +234,11 @@ where
         Err(refused) => return Err(refused),
     };
     let bits = config.page_bits;
-    let passes = match worked(rt, alloc, feeds, workers, &store, bits, gate, mode) {
-        Ok(passes) => passes,
+    let fed = match worked(rt, alloc, feeds, workers, &store, bits, gate, mode) {
+        Ok(fed) => fed,
         Err(refused) => return Err(refused),
     };
+    let Fed { passes, mode } = fed;
     let closed = match store.close(alloc, passes) {
         Ok(closed) => closed,
         Err(refused) => return Err(refused),

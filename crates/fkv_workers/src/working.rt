@@ -1,11 +1,12 @@
 //! What one worker does: it reads its feeds, one after the other, and makes each row an update, or a merge.
-ghost use Rattle.std.specs.Prelude.{◌≡◌, ◌<◌, ◌⊎◌, ◌++◌, ◌∷◌, [], ℤ, List, length, map, slice_set, vec_len, IfSome, IfNone, IfErr, OnOk};
+ghost use Rattle.std.specs.Prelude.{◌≡◌, ◌<◌, ◌⊎◌, ◌++◌, ◌∷◌, [], ℤ, List, length, map, slice_set, vec_len, Some, None, IfSome, IfNone, IfErr, OnOk};
 ghost use Rattle.fkv_functions.specs.declared.names.Name.{Name};
 ghost use Rattle.fkv_feeds.specs.Tables.{AreFeeds, most_rows};
+ghost use Rattle.fkv_feeds.specs.declared.modes.RowMode.{RowMode};
 ghost use Rattle.fkv_partition.specs.CoreViews.{partition_of};
 ghost use Rattle.fkv_store.specs.Stores.{IsTold};
-ghost use Rattle.fkv_store.specs.Passes.{IsPassOf, Updates};
-ghost use Rattle.fkv_workers.specs.Works.{StandsFor, AreSplit, IsUnreadOf, HasDone, IsStop};
+ghost use Rattle.fkv_store.specs.Passes.{IsPassOf};
+ghost use Rattle.fkv_workers.specs.Works.{StandsFor, AreSplit, IsUnreadOf, HasDone, IsStop, Makes};
 
 use crate::deals::Hand;
 use crate::waiting::{Waiting, clear, none_wait, put, rows_of};
@@ -19,12 +20,24 @@ use fkv_operations::KeyedOp;
 use fkv_store::{Gate, Pass, Store};
 use fkv_streams::Source;
 use std::alloc::Global;
+use std::marker::{Brand, PhantomData};
 use std::rt::Clock;
 use std::sync::Wait;
 
+/// The mode by which rows are made, as a part of their type: what reads a feed says nothing of the fields of what takes its rows.
+/// A call with the marker [`Brand`] picks it.
+trait ByMode {
+    /// The mode.
+    ghost mode: { RowMode };
+}
+
+impl ByMode for Brand {
+    ghost mode = { RowMode.Update };
+}
+
 /// A pass, into which rows go, and those that wait for it.
 #[derive(Drop)]
-struct Rows<'a, W, F: Mergeable, D: Disk, H: Recorder<F>, G> {
+struct Rows<'a, W, F: Mergeable, D: Disk, H: Recorder<F>, G, M> {
     rt: &'a W,
     alloc: Global,
     store: &'a Store<F, D, H>,
@@ -34,6 +47,7 @@ struct Rows<'a, W, F: Mergeable, D: Disk, H: Recorder<F>, G> {
     waiting: Waiting,
     /// Whether the pass refused a row: then none is made after it.
     stopped: bool,
+    by: PhantomData<M>,
 }
 
 /// Makes a row an update by a pass, or, as the mode says, where that would read a page a merge. Refused as the pass refuses an
@@ -49,7 +63,7 @@ fn update<F: Mergeable<Key = Name, Input = i64>, D: Disk, H: Recorder<F>, G: Gat
     mode: RowMode,
 ) -> Result<(), Refused>
     ensures ok { OnOk result
-        (Updates H.keeps pass.old pass.new (partition_of store.now.count (F.code key)) key amount) }
+        (Makes mode H.keeps pass.old pass.new (partition_of store.now.count (F.code key)) key amount) }
     ensures own { OnOk result (IsPassOf store.now pass.old) }
     ensures told { IfErr result IsTold }
 {
@@ -74,8 +88,8 @@ fn update_all<F: Mergeable<Key = Name, Input = i64>, D: Disk, H: Recorder<F>, G:
     rows: &[(Name, i64)],
     mode: RowMode,
 ) -> Result<(), Refused>
-    ensures ok { OnOk result ((before : List (Name × ℤ)) → StandsFor H.keeps F.code pass.old before
-        → StandsFor H.keeps F.code pass.new (before ++ rows.now)) }
+    ensures ok { OnOk result ((before : List (Name × ℤ)) → StandsFor H.keeps F.code mode pass.old before
+        → StandsFor H.keeps F.code mode pass.new (before ++ rows.now)) }
     ensures long { OnOk result (length pass.new.told ≡ length pass.old.told) }
     ensures told { IfErr result IsTold }
 {
@@ -96,17 +110,19 @@ impl<
     D: Disk,
     H: Recorder<F>,
     G: Gate,
-> Rows<'a, W, F, D, H, G> {
+    M: ByMode,
+> Rows<'a, W, F, D, H, G, M> {
     /// Makes the rows of a partition that wait updates. Refused as [`update_all`] is.
     fn make(&mut self, partition: usize) -> Result<(), Refused>
         requires { partition < vec_len self.old.waiting }
         ensures ok { OnOk result ((rows : List (Name × ℤ))
-            → AreSplit H.keeps F.code self.old.pass (map (λ rows. rows.items) self.old.waiting.items) rows
-            → AreSplit H.keeps F.code self.new.pass (map (λ rows. rows.items) self.new.waiting.items) rows) }
+            → AreSplit H.keeps F.code self.old.mode self.old.pass (map (λ rows. rows.items) self.old.waiting.items) rows
+            → AreSplit H.keeps F.code self.old.mode self.new.pass (map (λ rows. rows.items) self.new.waiting.items) rows) }
         ensures empty { OnOk result (map (λ rows. rows.items) self.new.waiting.items
             ≡ slice_set (map (λ rows. rows.items) self.old.waiting.items) partition []) }
         ensures long { OnOk result (length self.new.pass.told ≡ length self.old.pass.told) }
         ensures store { self.new.store ≡ self.old.store }
+        ensures mode { self.new.mode ≡ self.old.mode }
         ensures told { IfErr result IsTold }
     {
         let rows = rows_of(&self.waiting, partition);
@@ -143,8 +159,8 @@ impl<
     /// Makes all rows that wait updates, partition by partition. Refused as [`update_all`] is.
     fn make_all(&mut self) -> Result<(), Refused>
         ensures ok { OnOk result ((rows : List (Name × ℤ))
-            → AreSplit H.keeps F.code self.old.pass (map (λ rows. rows.items) self.old.waiting.items) rows
-            → StandsFor H.keeps F.code self.new.pass rows) }
+            → AreSplit H.keeps F.code self.old.mode self.old.pass (map (λ rows. rows.items) self.old.waiting.items) rows
+            → StandsFor H.keeps F.code self.old.mode self.new.pass rows) }
         ensures told { IfErr result IsTold }
     {
         for partition in 0..self.waiting.len() {
@@ -164,9 +180,10 @@ impl<
     D: Disk,
     H: Recorder<F>,
     G: Gate,
-> RowSink for Rows<'a, W, F, D, H, G> {
-    ghost stands = { λ r rows. AreSplit H.keeps F.code r.pass (map (λ rows. rows.items) r.waiting.items) rows
-        × (length r.pass.told ≡ r.store.now.count) };
+    M: ByMode,
+> RowSink for Rows<'a, W, F, D, H, G, M> {
+    ghost stands = { λ r rows. AreSplit H.keeps F.code M.mode r.pass (map (λ rows. rows.items) r.waiting.items) rows
+        × (length r.pass.told ≡ r.store.now.count) × (r.mode ≡ M.mode) };
 
     ghost fault = { IsTold };
 
@@ -238,10 +255,12 @@ fn work_through<
     D: Disk,
     H: Recorder<F>,
     G: Gate,
->(alloc: Global, feeds: Hand<S>, rows: &mut Rows<'_, W, F, D, H, G>) -> Result<(), Refused>
-    requires none { AreSplit H.keeps F.code rows.old.pass (map (λ rows. rows.items) rows.old.waiting.items) [] }
+    M: ByMode,
+>(alloc: Global, feeds: Hand<S>, rows: &mut Rows<'_, W, F, D, H, G, M>) -> Result<(), Refused>
+    requires none { AreSplit H.keeps F.code M.mode rows.old.pass (map (λ rows. rows.items) rows.old.waiting.items) [] }
     requires long { length rows.old.pass.told ≡ rows.old.store.now.count }
-    ensures done { OnOk result (HasDone S.remaining S.failures H.keeps F.code feeds.items rows.new.pass) }
+    requires mode { rows.old.mode ≡ M.mode }
+    ensures done { OnOk result (HasDone S.remaining S.failures H.keeps F.code M.mode feeds.items rows.new.pass) }
     ensures stopped { IfErr result (IsStop S.remaining S.failures feeds.items) }
 {
     match read_all(alloc, feeds, rows) {
@@ -254,19 +273,21 @@ fn work_through<
     }
 }
 
-/// Does a worker's work. Its pass rests at its end, so that no other worker waits for it.
-fn run_work<
+/// Reads a worker's feeds, and makes each row by this mode.
+fn read_by<
     W: Wait + Clock,
     S: Source + Drop,
     F: Mergeable<Key = Name, Input = i64>,
     D: Disk,
     H: Recorder<F>,
     G: Gate,
+    M: ByMode,
 >(rt: &W, asked: Work<'_, S, F, D, H, G>) -> Worked<F, D, H>
-    requires none { StandsFor H.keeps F.code asked.pass [] }
+    requires none { StandsFor H.keeps F.code M.mode asked.pass [] }
     requires long { length asked.pass.told ≡ asked.store.now.count }
+    requires mode { asked.mode ≡ M.mode }
     ensures done { IfNone result.fault
-        (HasDone S.remaining S.failures H.keeps F.code asked.entry.feeds.items result.pass) }
+        (HasDone S.remaining S.failures H.keeps F.code M.mode asked.entry.feeds.items result.pass) }
     ensures stopped { IfSome result.fault (IsStop S.remaining S.failures asked.entry.feeds.items) }
 {
     let Work {
@@ -286,7 +307,7 @@ fn run_work<
             };
         }
     };
-    let mut rows = Rows {
+    let mut rows: Rows<'_, W, F, D, H, G, M> = Rows {
         rt,
         alloc,
         store,
@@ -295,24 +316,60 @@ fn run_work<
         pass,
         waiting,
         stopped: false,
+        by: PhantomData,
     };
     let read = work_through(alloc, feeds, &mut rows);
     let Rows { pass, .. } = rows;
-    let mut pass = pass;
-    let rested = pass.rest(rt, store);
-    if let Err(refused) = read {
-        return Worked {
-            pass,
-            fault: Some(refused),
-        };
-    }
-    match rested {
+    match read {
         Ok(()) => Worked { pass, fault: None },
         Err(refused) => Worked {
             pass,
             fault: Some(refused),
         },
     }
+}
+
+/// Has a worker's pass rest at its end, so that no other worker waits for it. The worker's fault stays, if it has one: that the pass
+/// is refused to rest is told only where it has none.
+fn rest_after<F: Mergeable, D: Disk, H: Recorder<F>>(
+    rt: &impl Wait,
+    store: &Store<F, D, H>,
+    worked: Worked<F, D, H>,
+) -> Worked<F, D, H>
+    ensures same { result.pass ≡ worked.pass }
+    ensures first { IfSome worked.fault (λ why. result.fault ≡ Some why) }
+    ensures told { worked.fault ≡ None → IfSome result.fault IsTold }
+{
+    let Worked { pass, fault } = worked;
+    let mut pass = pass;
+    let rested = pass.rest(rt, store);
+    match (fault, rested) {
+        (None, Err(refused)) => Worked {
+            pass,
+            fault: Some(refused),
+        },
+        (fault, _) => Worked { pass, fault },
+    }
+}
+
+/// Does a worker's work: it reads its feeds, and makes each row by its mode; then its pass rests.
+fn run_work<
+    W: Wait + Clock,
+    S: Source + Drop,
+    F: Mergeable<Key = Name, Input = i64>,
+    D: Disk,
+    H: Recorder<F>,
+    G: Gate,
+>(rt: &W, asked: Work<'_, S, F, D, H, G>) -> Worked<F, D, H>
+    requires none { StandsFor H.keeps F.code asked.mode asked.pass [] }
+    requires long { length asked.pass.told ≡ asked.store.now.count }
+    ensures done { IfNone result.fault
+        (HasDone S.remaining S.failures H.keeps F.code asked.entry.mode asked.entry.feeds.items result.pass) }
+    ensures stopped { IfSome result.fault (IsStop S.remaining S.failures asked.entry.feeds.items) }
+{
+    let store = asked.store;
+    let worked = read_by::<W, S, F, D, H, G, Brand>(rt, asked);
+    rest_after(rt, store, worked)
 }
 
 impl<
@@ -325,10 +382,10 @@ impl<
 > Job for Work<'a, S, F, D, H, G> {
     type Output = Worked<F, D, H>;
 
-    ghost ready = { λ j. StandsFor H.keeps F.code j.pass [] × (length j.pass.told ≡ j.store.now.count) };
+    ghost ready = { λ j. StandsFor H.keeps F.code j.mode j.pass [] × (length j.pass.told ≡ j.store.now.count) };
 
     ghost gives = { λ j w. IfNone w.fault
-        (HasDone S.remaining S.failures H.keeps F.code j.feeds.items w.pass)
+        (HasDone S.remaining S.failures H.keeps F.code j.mode j.feeds.items w.pass)
         × IfSome w.fault (IsStop S.remaining S.failures j.feeds.items) };
 
     fn run<W: Wait + Clock>(self, rt: &W) -> Worked<F, D, H> {

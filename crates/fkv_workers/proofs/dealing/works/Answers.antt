@@ -1,4 +1,4 @@
-use Rattle.std.proofs.Common.{◌≡◌, ◌++◌, [], ◌∷◌, length, map, sym, ap, ◌∙◌}
+use Rattle.std.proofs.Common.{◌≡◌, ◌++◌, [], ◌∷◌, length, map, refl, sym, ap, ◌∙◌}
 use Rattle.std.proofs.lemmas.List.{map_push, map-id, length-replicate}
 use Rattle.std.proofs.lemmas.List.Elements.{All-push}
 use Rattle.std.proofs.lemmas.Iterator.Adapters.{YieldsList-from_vec}
@@ -18,10 +18,12 @@ loop-feeds-preserved g c =
           ∙ sym (map_push (λ hand. hand.items) c.loop-feeds.yielded c.in-Some.feeds)));
       ready =
           rw c.in-Ok-push.ensures.items
-          (All-push (λ work. StandsFor g.H.Recorder.keeps g.F.Functions.code work.pass [] × (length work.pass.told ≡ work.store.now.count)) c.loop-feeds.works.items _ old.ready (
-            stands_fresh g.H.Recorder.keeps g.F.Functions.code c.args.store.now c.in-Ok.pass c.requires c.in-Ok.ensures.ok,
+          (All-push (λ work. StandsFor g.H.Recorder.keeps g.F.Functions.code work.mode work.pass [] × (length work.pass.told ≡ work.store.now.count)) c.loop-feeds.works.items _ old.ready (
+            stands_fresh g.H.Recorder.keeps g.F.Functions.code c.args.mode c.args.store.now c.in-Ok.pass c.requires c.in-Ok.ensures.ok,
             ap (λ p. length p.told) c.in-Ok.ensures.ok ∙ length-replicate c.args.store.now.count 0,
           ));
+      modes =
+          rw c.in-Ok-push.ensures.items (All-push (λ work. work.mode ≡ c.args.mode) c.loop-feeds.works.items _ old.modes refl);
     }
 
 pub returns-clause-feeds : goal.returns-clause-feeds

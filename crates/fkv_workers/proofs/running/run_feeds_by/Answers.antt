@@ -12,10 +12,10 @@ returns-clause-ok g c keeps held =
     let closed = c.in-Ok-close.ensures.closed keeps held in
     let fed = c.in-Ok-worked.ensures.ok keeps in
     let histories = map (λ history. history.items) c.in-Ok-close.closed.histories.items in
-    let owns = map (λ pass. pass.own) c.in-Ok-worked.passes.items in
+    let owns = map (λ pass. pass.own) c.in-Ok-worked.fed.passes.items in
     let many : length histories ≡ c.in-Ok.store.count = length-map c.in-Ok-close.closed.histories.items (λ history. history.items) ∙ c.in-Ok-close.ensures.len in
     let has : AllZip (HasShare g.F.Functions.code (length histories)) owns fed.shares =
-    counted g.F.Functions.code (length histories) c.in-Ok-worked.passes.items fed.shares (λ i d lt. (c.in-Ok-close.ensures.own i d lt).1 ∙ sym many) fed.kept in
+    counted g.F.Functions.code (length histories) c.in-Ok-worked.fed.passes.items fed.shares (λ i d lt. (c.in-Ok-close.ensures.own i d lt).1 ∙ sym many) fed.kept in
     let some : 0 < c.in-Ok.store.count = search rules in
     c.tables_join.ensures.table (map g.S.Source.remaining c.args.feeds.items) fed.shares owns histories c.in-Ok-of_map.table fed.fed has
     (record { some = rw many some; each = λ p history at. (closed.merged p history at).1 }) (λ k. rw c.in-Ok-of_map.ensures.pairs (closed.made k))

@@ -1,4 +1,4 @@
-use Rattle.std.proofs.Common.{⊎_elim, inl, inr, map, subst, IfSome}
+use Rattle.std.proofs.Common.{⊎_elim, inl, inr, map, refl, subst, IfSome}
 use Rattle.std.specs.Prelude.{IfErr, IfNone}
 use Rattle.fkv_store.specs.Stores.{IsTold}
 use Rattle.fkv_workers.specs.Works.{HasDone, IsStop}
@@ -13,11 +13,12 @@ returns-in-Ok-ended g c = record {
       let fails = g.S.Source.failures in
       let works = c.in-Ok-works.works.items in
       let results = c.in-Ok-run_jobs.ran.results.items in
-      let sh = shared rem fails g.F.Functions.code (λ work. work.feeds.items) (λ w. w.pass) (λ w. w.fault) g.H.Recorder.keeps
-      (λ work w. IfSome w.fault (IsStop rem fails work.feeds.items)) works results keeps c.in-Ok-run_jobs.ensures.ok.results c.in-Ok-ended.ensures.none in
+      let sh = shared rem fails g.F.Functions.code (λ work. work.feeds.items) (λ work. work.mode) (λ w. w.pass) (λ w. w.fault) g.H.Recorder.keeps c.args.mode
+      (λ work w. IfSome w.fault (IsStop rem fails work.feeds.items)) works results keeps c.in-Ok-run_jobs.ensures.ok.results c.in-Ok-works.ensures.modes c.in-Ok-ended.ensures.none in
       rw c.in-Ok-ended.ensures.ok
-      (fed_by rem g.F.Functions.code (λ work. work.feeds.items) c.args.workers c.args.feeds.items works (map (λ w. w.pass) results) sh.shares c.requires.some
-      (rw c.in-Ok-works.ensures.feeds c.in-Ok.ensures.ok) sh.read sh.kept);
+      (fed_by rem g.F.Functions.code c.args.mode (λ work. work.feeds.items) c.args.workers c.args.feeds.items works (map (λ w. w.pass) results) sh.shares c.requires.some
+      (rw c.in-Ok-works.ensures.feeds c.in-Ok.ensures.ok) sh.read sh.kept sh.made);
+  mode = refl;
   refused = tt;
 }
 
@@ -32,7 +33,7 @@ returns-clause-refused g c =
     ⊎_elim
     (λ first.
     let at = stopped (λ work. work.feeds.items) (λ w. w.fault) (IsStop rem fails)
-    (λ work w. IfNone w.fault (HasDone rem fails g.H.Recorder.keeps g.F.Functions.code work.feeds.items w.pass))
+    (λ work w. IfNone w.fault (HasDone rem fails g.H.Recorder.keeps g.F.Functions.code work.mode work.feeds.items w.pass))
     c.args.workers c.args.feeds.items works results c.in-Err-ended.refused
     (rw c.in-Ok-works.ensures.feeds c.in-Ok.ensures.ok) c.in-Ok-run_jobs.ensures.ok.results first in
     ⊎_elim (λ told. inl told) (λ unread. inr (at.0, at.1, unread)) at.2)

@@ -20,9 +20,9 @@ loop-row-preserved g c =
     record {
       stands = λ before h.
           let so_far = c.loop-row.invariant.stands before h in
-          let one = stands_more g.H.Recorder.keeps g.F.Functions.code c.loop-row.pass c.update.new.pass c.args.store.now.count row.0 row.1 (before ++ take i rows) c.in-Ok.ensures.own.1 fits ran so_far in
-          rw (take_more rows i row c.loop-row-test.true) (subst (λ x. StandsFor g.H.Recorder.keeps g.F.Functions.code c.update.new.pass (before ++ (take i rows ++ x ∷ []))) c.row-item.is (rw (← append_assoc before (take i rows) (row ∷ [])) one));
-      long = ap length ran.2.told_is ∙ (length-set _ _ _ ∙ c.loop-row.invariant.long);
+          let one = stands_more g.H.Recorder.keeps g.F.Functions.code c.args.mode c.loop-row.pass c.update.new.pass c.args.store.now.count row.0 row.1 (before ++ take i rows) c.in-Ok.ensures.own.1 fits ran so_far in
+          rw (take_more rows i row c.loop-row-test.true) (subst (λ x. StandsFor g.H.Recorder.keeps g.F.Functions.code c.args.mode c.update.new.pass (before ++ (take i rows ++ x ∷ []))) c.row-item.is (rw (← append_assoc before (take i rows) (row ∷ [])) one));
+      long = ap length ran.answers.told_is ∙ (length-set _ _ _ ∙ c.loop-row.invariant.long);
     }
 
 pub returns-clause-ok : goal.returns-clause-ok

@@ -5,7 +5,7 @@ use Rattle.fkv_workers.proofs.working.update_all.Given as goal
 
 abbrev pub invariant-loop-row : goal.invariant-loop-row
 invariant-loop-row g l = record {
-  stands : (before : List (Name × ℤ)) → StandsFor g.H.Recorder.keeps g.F.Functions.code l.initial.pass before
-      → StandsFor g.H.Recorder.keeps g.F.Functions.code l.pass (before ++ take l.row-index l.rows);
+  stands : (before : List (Name × ℤ)) → StandsFor g.H.Recorder.keeps g.F.Functions.code l.mode l.initial.pass before
+      → StandsFor g.H.Recorder.keeps g.F.Functions.code l.mode l.pass (before ++ take l.row-index l.rows);
   long : length l.pass.told ≡ length l.initial.pass.told;
 }

@@ -1,10 +1,10 @@
-use Rattle.std.proofs.Common.{◌≡◌, ℕ, List, length, map, refl, sym, ap, ◌∙◌}
+use Rattle.std.proofs.Common.{◌≡◌, ℕ, List, length, map, refl, sym, ap, ◌∙◌, true, false, inl, inr}
 use Rattle.std.specs.List.{All}
 use Rattle.std.proofs.lemmas.List.{length-map}
 use Rattle.fkv_functions.proofs.CallLemmas.{with_ten}
 use Rattle.fkv_store.specs.Passes.{PassView, IsPassOf}
 use Rattle.fkv_store.specs.Stores.{StoreView}
-use Rattle.fkv_store.proofs.ClosingLemmas.{unclosed}
+use Rattle.fkv_store.proofs.ClosingLemmas.{unclosed, closing_unopened}
 use Rattle.fkv_store.proofs.stores.Store.close.Goals as goal
 
 -- passes of a store were told of as many partitions as it has
@@ -47,3 +47,37 @@ returns-in-Ok-close_parts-clause-own g c = rw c.as_slice.ensures.value at c.if-n
 
 pub returns-clause-only : goal.returns-clause-only
 returns-clause-only g c = unclosed _ _ _ _ _ _ _ _ c.in-Err-close_parts.refused c.in-Err-close_parts.ensures.refused
+
+pub returns-then-not-knows_all-clause-worn : goal.returns-then-not-knows_all-clause-worn
+returns-then-not-knows_all-clause-worn g c own over =
+    let bad : false ≡ true = c.if-not-knows_all.ensures.1 (rw c.as_slice.ensures.value own) in
+    absurd (cc)
+
+pub returns-in-Err-clause-foreign : goal.returns-in-Err-clause-foreign
+returns-in-Err-clause-foreign g c foreign = absurd (foreign (rw c.as_slice.ensures.value at c.if-not-knows_all.ensures.0 refl))
+
+pub returns-in-Err-clause-worn : goal.returns-in-Err-clause-worn
+returns-in-Err-clause-worn g c own over = inr c.in-Err.ensures.only
+
+pub returns-in-Err-clause-only : goal.returns-in-Err-clause-only
+returns-in-Err-clause-only g c = closing_unopened _ c.in-Err.ensures.only
+
+pub returns-in-Err-parts_of-clause-foreign : goal.returns-in-Err-parts_of-clause-foreign
+returns-in-Err-parts_of-clause-foreign g c foreign =
+    absurd (foreign (rw c.as_slice.ensures.value at c.if-not-knows_all.ensures.0 refl))
+
+pub returns-in-Err-kept_by-clause-foreign : goal.returns-in-Err-kept_by-clause-foreign
+returns-in-Err-kept_by-clause-foreign g c foreign =
+    absurd (foreign (rw c.as_slice.ensures.value at c.if-not-knows_all.ensures.0 refl))
+
+pub returns-in-Ok-close_parts-clause-foreign : goal.returns-in-Ok-close_parts-clause-foreign
+returns-in-Ok-close_parts-clause-foreign g c foreign =
+    absurd (foreign (rw c.as_slice.ensures.value at c.if-not-knows_all.ensures.0 refl))
+
+pub returns-clause-foreign : goal.returns-clause-foreign
+returns-clause-foreign g c foreign = absurd (foreign (rw c.as_slice.ensures.value at c.if-not-knows_all.ensures.0 refl))
+
+pub returns-clause-worn : goal.returns-clause-worn
+returns-clause-worn g c own over =
+    let is = c.in-Err-close_parts.ensures.worn (inl (rw (c.as_slice-2.ensures.value, c.in-Ok-kept_by.ensures.shares) over)) in
+    inl (cc)

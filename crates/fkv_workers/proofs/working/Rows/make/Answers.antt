@@ -9,5 +9,5 @@ returns-clause-ok g c rows s =
     let here : c.args.partition < length c.args.self.now.waiting.items = search rules in
     let within : c.args.partition < length lists = rw (length-map c.args.self.now.waiting.items (λ rows. rows.items)) here in
     rw c.clear.ensures
-    (split_made g.H.Recorder.keeps g.F.Functions.code c.args.self.now.pass c.update_all.new.pass lists rows c.args.partition within c.in-Ok.ensures.long
+    (split_made g.H.Recorder.keeps g.F.Functions.code c.args.self.now.mode c.args.self.now.pass c.update_all.new.pass lists rows c.args.partition within c.in-Ok.ensures.long
     (λ before h. rw (← c.rows_of-rows.ensures) (c.in-Ok.ensures.ok before h)) s)

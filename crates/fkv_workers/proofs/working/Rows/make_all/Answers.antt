@@ -15,7 +15,8 @@ loop-partition-preserved g c =
     c.len-partition-end.ensures ∙ c.args.self.now.waiting.ok.0 in
     let within : i < length was = omega (arith, long, old.sized, count, c.loop-partition-test.true) in
     record {
-      split = λ rows s. c.in-Ok.ensures.ok rows (old.split rows s);
+      split = λ rows s. rw old.mode at c.in-Ok.ensures.ok rows (old.split rows s);
+      mode = c.in-Ok.ensures.mode ∙ old.mode;
       empty = emptied was now i within c.in-Ok.ensures.empty old.empty;
       sized =
           sym (length-map c.make.new.self.waiting.items (λ rows. rows.items))
@@ -28,5 +29,5 @@ returns-clause-ok g c rows s =
     let lists = map (λ rows. rows.items) end.waiting.items in
     let long = length-map end.waiting.items (λ rows. rows.items) in
     let sized = c.loop-partition.invariant.sized in
-    split_all g.H.Recorder.keeps g.F.Functions.code end.pass lists rows
+    split_all g.H.Recorder.keeps g.F.Functions.code c.args.self.now.mode end.pass lists rows
     (λ p lt. c.loop-partition.invariant.empty p (omega (arith, long, sized, lt))) (c.loop-partition.invariant.split rows s)

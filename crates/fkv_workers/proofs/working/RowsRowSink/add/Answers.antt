@@ -23,8 +23,9 @@ returns-in-Ok-false-clause-ok g c rows s =
     let home = ap (λ n. partition_of n (code c.args.key.now)) s.1 ∙ sym c.home-partition.ensures.value in
     let within : c.home-partition.result < length c.args.self.now.pass.told = rw s.1 c.home-partition.ensures.within in (
       rw (rw (to_z-of_z w64 c.args.amount fits) at c.in-Ok-false.ensures.ok)
-          (split_more g.H.Recorder.keeps code c.args.self.now.pass (map (λ rows. rows.items) c.args.self.now.waiting.items) rows c.home-partition.result (c.args.key.now, c.args.amount) s.0 home within fits),
+          (split_more g.H.Recorder.keeps code g.M.ByMode.mode c.args.self.now.pass (map (λ rows. rows.items) c.args.self.now.waiting.items) rows c.home-partition.result (c.args.key.now, c.args.amount) s.0 home within fits),
       s.1,
+      s.2,
     )
 
 pub returns-in-Ok-clause-ok : goal.returns-in-Ok-clause-ok
@@ -33,8 +34,9 @@ returns-in-Ok-clause-ok g c rows s =
     let fits : FitsSigned w64 c.args.amount = search rules in
     let home = ap (λ n. partition_of n (code c.args.key.now)) s.1 ∙ sym c.home-partition.ensures.value in
     let within : c.home-partition.result < length c.args.self.now.pass.told = rw s.1 c.home-partition.ensures.within in (
-      c.in-Ok.ensures.ok (rows ++ (c.args.key.now, c.args.amount) ∷ [])
+      rw s.2 at c.in-Ok.ensures.ok (rows ++ (c.args.key.now, c.args.amount) ∷ [])
           (rw (rw (to_z-of_z w64 c.args.amount fits) at c.in-Ok-true.ensures.ok)
-          (split_more g.H.Recorder.keeps code c.args.self.now.pass (map (λ rows. rows.items) c.args.self.now.waiting.items) rows c.home-partition.result (c.args.key.now, c.args.amount) s.0 home within fits)),
+          (split_more g.H.Recorder.keeps code g.M.ByMode.mode c.args.self.now.pass (map (λ rows. rows.items) c.args.self.now.waiting.items) rows c.home-partition.result (c.args.key.now, c.args.amount) s.0 home within fits)),
       rw c.in-Ok.ensures.store (c.in-Ok.ensures.long ∙ s.1),
+      c.in-Ok.ensures.mode ∙ s.2,
     )
