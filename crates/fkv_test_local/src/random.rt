@@ -6,15 +6,16 @@ use fkv_functions::{CappedSumFns, SumFns};
 use std::fs;
 use std::test::Fail;
 
-/// Whether a run was right, refused nothing, and had enough of each kind: updates that are declined, where they may be, and a log
-/// whose start was cut, where it was to be.
+/// Whether a run was right, refused nothing, and had enough of each kind: updates that are declined, where they may be, updates that
+/// were made merges, where keys leave memory and the functions merge, and a log whose start was cut, where it was to be.
 fn is_lively(seen: Option<Outcome>, plan: &Plan, declines: bool) -> bool {
     match seen {
         Some(seen) => {
             seen.refused == 0
                 && seen.done > plan.operations / 4
                 && (seen.declined > 0) == declines
-                && (seen.merged > 0) != declines
+                && (seen.merged == 0 || !declines)
+                && (seen.merged > 0 || declines || plan.keys < 50)
                 && (seen.cuts > 0) == (plan.span <= plan.operations)
         }
         None => false,
