@@ -130,59 +130,59 @@ void fkv_c_name(uint32_t status, char *text, size_t room);
 
 /* Opens a closed handle, as an empty store of this kind. */
 static inline uint32_t fkv_open(fkv_handle *store, uint32_t kind, const fkv_settings *settings) {
-    return store && settings ? fkv_c_open(store, kind, settings) : FKV_NULL;
+    return store && settings ? fkv_c_open(store, kind, settings) : (uint32_t)FKV_NULL;
 }
 
 /* Changes the value of a name by an input, or gives it its first, and answers the new value, or FKV_DECLINED where it is as it was. */
 static inline uint32_t fkv_rmw(fkv_handle *store, const void *name, size_t length, int64_t input, fkv_answer *answer) {
-    return store && name && answer ? fkv_c_rmw(store, name, length, input, answer) : FKV_NULL;
+    return store && name && answer ? fkv_c_rmw(store, name, length, input, answer) : (uint32_t)FKV_NULL;
 }
 
 /* Answers the value of a name, or FKV_ABSENT. */
 static inline uint32_t fkv_read(fkv_handle *store, const void *name, size_t length, fkv_answer *answer) {
-    return store && name && answer ? fkv_c_read(store, name, length, answer) : FKV_NULL;
+    return store && name && answer ? fkv_c_read(store, name, length, answer) : (uint32_t)FKV_NULL;
 }
 
 /* Sets the value of a name, whatever it was, and answers FKV_STORED. */
 static inline uint32_t fkv_upsert(fkv_handle *store, const void *name, size_t length, fkv_number value, fkv_answer *answer) {
-    return store && name && answer ? fkv_c_upsert(store, name, length, &value, answer) : FKV_NULL;
+    return store && name && answer ? fkv_c_upsert(store, name, length, &value, answer) : (uint32_t)FKV_NULL;
 }
 
 /* Removes a name, whether it has a value or not, and answers FKV_DELETED. */
 static inline uint32_t fkv_delete(fkv_handle *store, const void *name, size_t length, fkv_answer *answer) {
-    return store && name && answer ? fkv_c_delete(store, name, length, answer) : FKV_NULL;
+    return store && name && answer ? fkv_c_delete(store, name, length, answer) : (uint32_t)FKV_NULL;
 }
 
 /* Changes the value as fkv_rmw does, answers FKV_STORED and no value, and reads no page. */
 static inline uint32_t fkv_merge(fkv_handle *store, const void *name, size_t length, int64_t input, fkv_answer *answer) {
-    return store && name && answer ? fkv_c_merge(store, name, length, input, answer) : FKV_NULL;
+    return store && name && answer ? fkv_c_merge(store, name, length, input, answer) : (uint32_t)FKV_NULL;
 }
 
 /* Gives back what superseded records take, as far as there is room, and tells whether any was given back. It is done by itself too. No
  * value changes, whatever the status. */
 static inline uint32_t fkv_compact(fkv_handle *store, uint32_t *has_cut) {
-    return store && has_cut ? fkv_c_compact(store, has_cut) : FKV_NULL;
+    return store && has_cut ? fkv_c_compact(store, has_cut) : (uint32_t)FKV_NULL;
 }
 
 /* Tells how much the store holds. */
 static inline uint32_t fkv_counts(fkv_handle *store, fkv_sizes *sizes) {
-    return store && sizes ? fkv_c_counts(store, sizes) : FKV_NULL;
+    return store && sizes ? fkv_c_counts(store, sizes) : (uint32_t)FKV_NULL;
 }
 
 /* Opens a closed handle, as a cursor over the pairs that the store has now, names rising as strings of bytes. The pairs are copied: what
  * the store does then, the cursor does not see, and it may outlive the store. */
 static inline uint32_t fkv_list(fkv_handle *store, fkv_handle *cursor) {
-    return !store || !cursor ? FKV_NULL : store == cursor ? FKV_SAME : fkv_c_list(store, cursor);
+    return !store || !cursor ? (uint32_t)FKV_NULL : store == cursor ? (uint32_t)FKV_SAME : fkv_c_list(store, cursor);
 }
 
 /* Tells the cursor's next pair, or that there is none left. */
 static inline uint32_t fkv_next(fkv_handle *cursor, fkv_pair *pair) {
-    return cursor && pair ? fkv_c_next(cursor, pair) : FKV_NULL;
+    return cursor && pair ? fkv_c_next(cursor, pair) : (uint32_t)FKV_NULL;
 }
 
 /* Closes an open handle, of a store or of a cursor, and frees what it had. A closed one answers FKV_IS_CLOSED. */
 static inline uint32_t fkv_close(fkv_handle *handle) {
-    return handle ? fkv_c_close(handle) : FKV_NULL;
+    return handle ? fkv_c_close(handle) : (uint32_t)FKV_NULL;
 }
 
 /* Writes the name of a status, such as NoMemory, and zeros behind it; it needs at most 11 bytes and one for a zero. */

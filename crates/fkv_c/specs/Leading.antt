@@ -1,6 +1,7 @@
 -- What a handle leads to: nothing, a store, which is a plain map, or pairs.
-use Rattle.std.specs.Prelude.{◌≡◌, ◌≢◌, ◌<◌, ◌-◌, ◌^◌, ◌⊎◌, ℕ, ℤ, List, [], ◌∷◌, length, min, sum_by, Option, Some, None, Result, Ok, Err}
+use Rattle.std.specs.Prelude.{◌≡◌, ◌≢◌, ◌<◌, ◌-◌, ◌^◌, ◌⊎◌, ℕ, ℤ, List, [], ◌∷◌, length, map, All, min, sum_by, Option, Some, None, Result, Ok, Err}
 use Rattle.std.specs.BTreeMap.{get}
+use Rattle.std.specs.BTreeMap.Range.{IsLtBy}
 use Rattle.fkv_functions.specs.declared.names.Name.{Name}
 use Rattle.fkv_functions.specs.declared.refusals.Refused.{Refused}
 use Rattle.fkv_functions.specs.Names.{text_of, name_cmp}
@@ -90,6 +91,11 @@ pairs_of (Some (MaxPairs p)) = p.entries
 abbrev pub IsNext : List (Name × ℤ) → List (Name × ℤ) → Option (Name × ℤ) → Type 0
 IsNext [] new told = (new ≡ []) × (told ≡ None)
 IsNext (p ∷ ps) new told = (new ≡ ps) × (told ≡ Some p)
+
+-- the first of these pairs has the least name
+abbrev pub FirstIsLeast : List (Name × ℤ) → Type 0
+FirstIsLeast [] = Unit {0}
+FirstIsLeast (p ∷ ps) = All (IsLtBy name_cmp p.0) (map (λ q. q.0) ps)
 
 -- a store holds so many bytes in its logs, so many of them below Head, and has taken so many moments
 abbrev pub AreCounts : Option Held → ℕ → ℕ → ℕ → Type 0

@@ -2,7 +2,7 @@
 ghost use Rattle.std.specs.Prelude.{◌≡◌, None, Some, IfOk, IfErr, OnOk};
 ghost use Rattle.fkv_functions.specs.Plain.{Same};
 ghost use Rattle.fkv_functions.specs.declared.refusals.Refused.TheVariants.{NoMemory};
-ghost use Rattle.fkv_c.specs.Leading.{Store, Cursor, kind_of, set_of, meaning_of, map_of, pairs_of, IsMade, IsNext, AreCounts, IsStoreFault};
+ghost use Rattle.fkv_c.specs.Leading.{Store, Cursor, kind_of, set_of, meaning_of, map_of, pairs_of, FirstIsLeast, IsMade, IsNext, AreCounts, IsStoreFault};
 ghost use Rattle.fkv_c.specs.declared.faults.Fault.TheVariants as fault;
 
 use crate::faults::Fault;
@@ -146,6 +146,7 @@ fn live(alloc: Global, handle: &mut Handle) -> Result<Held, Fault>
 /// The least pair that a cursor still has, which it has no more then.
 pub(crate) fn next(alloc: Global, handle: &mut Handle) -> Result<Option<(Name, i128)>, Fault>
     ensures told { IfOk result (λ pair. IsNext (pairs_of handle.old.held) (pairs_of handle.new.held) pair) }
+    ensures least { OnOk result (FirstIsLeast (pairs_of handle.old.held)) }
     ensures kind { kind_of handle.new.held ≡ kind_of handle.old.held }
     ensures cursor { OnOk result (kind_of handle.old.held ≡ Cursor) }
     ensures same { IfErr result (λ why. handle.new.held ≡ handle.old.held) }

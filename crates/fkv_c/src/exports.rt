@@ -3,7 +3,7 @@ ghost use Rattle.std.specs.Prelude.{◌≡◌, ◌≢◌, pos, length, None};
 ghost use Rattle.fkv_functions.specs.Plain.{Same};
 ghost use Rattle.fkv_operations.specs.declared.operations.KeyedOp.TheVariants.{Read, Upsert, Rmw, Delete, Merge};
 ghost use Rattle.fkv_c.specs.Crossing.{value_of};
-ghost use Rattle.fkv_c.specs.Leading.{Store, Cursor, kind_of, set_of, map_of, pairs_of, IsNextTold, AreCounts, IsPerformed, IsPerformedAt, IsNoKey};
+ghost use Rattle.fkv_c.specs.Leading.{Store, Cursor, kind_of, set_of, map_of, pairs_of, FirstIsLeast, IsNextTold, AreCounts, IsPerformed, IsPerformedAt, IsNoKey};
 
 use crate::calls::{close, compact, counts, list, next, open, operate};
 use crate::faults::{Fault, status_name};
@@ -194,6 +194,7 @@ pub extern "C" fn fkv_c_list(alloc: Global, store: &mut Handle, cursor: &mut Han
 #[unsafe(no_mangle)]
 pub extern "C" fn fkv_c_next(alloc: Global, cursor: &mut Handle, pair: &mut Pair) -> u32
     ensures told { result ≡ 0 → IsNextTold (pairs_of cursor.old.held) (pairs_of cursor.new.held) pair.new }
+    ensures least { result ≡ 0 → FirstIsLeast (pairs_of cursor.old.held) }
     ensures kind { kind_of cursor.new.held ≡ kind_of cursor.old.held }
     ensures cursor { result ≡ 0 → kind_of cursor.old.held ≡ Cursor }
     ensures left { result ≢ 0 → (cursor.new.held ≡ cursor.old.held) × (pair.new ≡ pair.old) }

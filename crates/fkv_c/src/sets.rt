@@ -4,7 +4,7 @@ ghost use Rattle.fkv_functions.specs.Names.{name_cmp};
 ghost use Rattle.fkv_functions.specs.Plain.{Same};
 ghost use Rattle.fkv_functions.specs.Sets.{sums, maxima, capped_sums};
 ghost use Rattle.fkv_local.specs.Storing.{plain, IsRun};
-ghost use Rattle.fkv_c.specs.Leading.{Store, Cursor, kind_of, set_of, meaning_of, map_of, name_code, pairs_of, IsMade, IsNext, AreCounts, IsStoreFault};
+ghost use Rattle.fkv_c.specs.Leading.{Store, Cursor, kind_of, set_of, meaning_of, map_of, name_code, pairs_of, FirstIsLeast, IsMade, IsNext, AreCounts, IsStoreFault};
 
 use crate::faults::Fault;
 use crate::handles::Held;
@@ -205,6 +205,7 @@ pub(crate) fn live_held(held: &mut Held) -> Result<Held, Fault>
 /// The least pair that a cursor still has, which it has no more then.
 pub(crate) fn next_held(held: &mut Held) -> Result<Option<(Name, i128)>, Fault>
     ensures told { IfOk result (λ pair. IsNext (pairs_of (Some held.old)) (pairs_of (Some held.new)) pair) }
+    ensures least { OnOk result (FirstIsLeast (pairs_of (Some held.old))) }
     ensures kind { kind_of (Some held.new) ≡ kind_of (Some held.old) }
     ensures cursor { OnOk result (kind_of (Some held.old) ≡ Cursor) }
     ensures same { IfErr result (λ why. held.new ≡ held.old) }
