@@ -160,12 +160,5 @@ where
     }
     let config = &table.config;
     let mode = mode_of(table);
-    run_one_by(
-        alloc,
-        feeds.as_mut_slice(),
-        functions,
-        config,
-        device,
-        mode,
-    )
+    run_one_by(alloc, feeds.as_mut_slice(), functions, config, device, mode)
 }
