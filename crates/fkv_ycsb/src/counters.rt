@@ -1,18 +1,17 @@
 //! Counters: what the inputs of each key add up to.
 ghost use Rattle.std.specs.Prelude.{true};
 ghost use Rattle.fkv_functions.specs.Sets.{count_associative};
-ghost use Rattle.fkv_ycsb.specs.Numbers.{mixed};
+ghost use Rattle.fkv_functions.specs.Hashes.{fmix_64};
 ghost use Rattle.fkv_ycsb.specs.Counters.{counters, counter_parts, counters_merge};
 
-use crate::numbers::Number;
-use fkv_functions::{Functions, Mergeable};
+use fkv_functions::{Functions, Mergeable, fmix_64_hash};
 
 /// Adds up the inputs of each number, modulo 2^64.
 #[derive(Clone, Copy, Debug, Default)]
 pub struct CounterFns;
 
 impl Functions for CounterFns {
-    type Key = Number;
+    type Key = u64;
 
     type Value = u64;
 
@@ -22,27 +21,27 @@ impl Functions for CounterFns {
 
     ghost meaning = { counters };
 
-    ghost code = { λ n. mixed n.value };
+    ghost code = { fmix_64 };
 
-    fn initial(&self, _key: &Number, input: &u64) -> Option<u64> {
+    fn initial(&self, _key: &u64, input: &u64) -> Option<u64> {
         Some(*input)
     }
 
-    fn in_place(&self, _key: &Number, input: &u64, value: &mut u64) -> bool {
+    fn in_place(&self, _key: &u64, input: &u64, value: &mut u64) -> bool {
         *value = value.wrapping_add(*input);
         true
     }
 
-    fn copy(&self, _key: &Number, input: &u64, held: &u64) -> Option<u64> {
+    fn copy(&self, _key: &u64, input: &u64, held: &u64) -> Option<u64> {
         Some(held.wrapping_add(*input))
     }
 
-    fn read(&self, _key: &Number, _input: &u64, held: &u64) -> u64 {
+    fn read(&self, _key: &u64, _input: &u64, held: &u64) -> u64 {
         *held
     }
 
-    fn hash(&self, key: &Number) -> u64 {
-        key.hash()
+    fn hash(&self, key: &u64) -> u64 {
+        fmix_64_hash(*key)
     }
 }
 
@@ -57,7 +56,7 @@ impl Mergeable for CounterFns {
 
     ghost associative = { λ u v w. count_associative u v w };
 
-    fn delta(&self, _key: &Number, input: &u64) -> u64 {
+    fn delta(&self, _key: &u64, input: &u64) -> u64 {
         *input
     }
 

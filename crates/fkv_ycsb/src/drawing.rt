@@ -1,8 +1,7 @@
 //! How keys are drawn: each alike, or by Zipf's law as YCSB draws them.
 ghost use Rattle.std.specs.Prelude.{◌<◌};
 
-use crate::numbers::Number;
-use fkv_functions::Refused;
+use fkv_functions::{Refused, fmix_64_hash};
 use rand_core::{Rng, SeedableRng};
 use rand_xoshiro::Xoshiro256PlusPlus;
 use std::alloc::Global;
@@ -84,21 +83,16 @@ impl Drawer {
 
     /// The key that a word draws. What is drawn by Zipf's law is a rank, whose hash leads to the key: so the keys that come
     /// often are not those that were loaded first.
-    fn key(&self, word: u64) -> Number {
+    fn key(&self, word: u64) -> u64 {
         let drawn = match self.zipf {
             None => word,
-            Some(zipf) => {
-                let value = zipf.rank(word);
-                Number { value }.hash()
-            }
+            Some(zipf) => fmix_64_hash(zipf.rank(word)),
         };
-        Number {
-            value: drawn % self.keys,
-        }
+        drawn % self.keys
     }
 
     /// So many keys, drawn by the generator that begins with this seed. Refused: `NoMemory`.
-    pub fn list(&self, alloc: Global, count: u64, seed: u64) -> Result<Vec<Number>, Refused> {
+    pub fn list(&self, alloc: Global, count: u64, seed: u64) -> Result<Vec<u64>, Refused> {
         let mut words = Xoshiro256PlusPlus::seed_from_u64(seed);
         let mut list = Vec::new(alloc);
         for _ in 0..count {
@@ -112,10 +106,10 @@ impl Drawer {
 }
 
 /// The numbers from `first` up to `end`, in order. Refused: `NoMemory`.
-pub fn in_order(alloc: Global, first: u64, end: u64) -> Result<Vec<Number>, Refused> {
+pub fn in_order(alloc: Global, first: u64, end: u64) -> Result<Vec<u64>, Refused> {
     let mut numbers = Vec::new(alloc);
     for value in first..end {
-        let Ok(()) = numbers.push(Number { value }) else {
+        let Ok(()) = numbers.push(value) else {
             return Err(Refused::NoMemory);
         };
     }

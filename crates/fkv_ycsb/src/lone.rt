@@ -3,7 +3,6 @@ use crate::asking::Plan;
 use crate::counters::CounterFns;
 use crate::drawing::Drawer;
 use crate::mixes::Mix;
-use crate::numbers::Number;
 use crate::outcomes::Outcome;
 use crate::working::since;
 use fkv_device::Disk;
@@ -18,7 +17,7 @@ use std::time::{CpuClock, Instant};
 fn make_all<D: Disk>(
     store: &mut LocalStore<CounterFns, D>,
     plan: &Plan<'_>,
-    keys: &[Number],
+    keys: &[u64],
 ) -> Result<(), Refused> {
     if plan.mix == Mix::Nothing {
         return Ok(());
@@ -43,7 +42,7 @@ pub fn run_local<R: Clock + CpuClock, D: Disk>(
     let mut device = device;
     let mut store = LocalStore::open(alloc, &plan.config, CounterFns, &mut device)?;
     for value in 0..plan.keys {
-        let _stored = store.upsert(&Number { value }, &0)?;
+        let _stored = store.upsert(&value, &0)?;
     }
     let keys = Drawer::new(plan.law, plan.keys).list(alloc, plan.operations, plan.seed)?;
     let before = rt.process_cpu_time().unwrap_or_default();

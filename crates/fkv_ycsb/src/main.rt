@@ -8,7 +8,6 @@ mod drawing;
 mod keeping;
 mod lone;
 mod mixes;
-mod numbers;
 mod outcomes;
 mod sharing;
 mod working;

@@ -1,5 +1,4 @@
 //! What is done to a key that was drawn.
-use crate::numbers::Number;
 use fkv_operations::KeyedOp;
 
 /// What is done to keys, one after the other.
@@ -18,14 +17,14 @@ pub enum Mix {
 }
 
 /// The value that an upsert gives a key.
-pub fn upserted(key: Number) -> u64 {
-    key.value.wrapping_add(1)
+pub fn upserted(key: u64) -> u64 {
+    key.wrapping_add(1)
 }
 
 impl Mix {
     /// What is done to a key at this place.
     #[inline(always)]
-    pub fn op(self, place: usize, key: Number) -> KeyedOp<Number, u64, u64> {
+    pub fn op(self, place: usize, key: u64) -> KeyedOp<u64, u64, u64> {
         match self {
             Mix::Load => KeyedOp::Upsert(key, 0),
             Mix::Halves if place % 2 == 1 => KeyedOp::Upsert(key, upserted(key)),

@@ -1,7 +1,6 @@
 //! What a run came to, and whether that is what its operations come to.
 use crate::asking::Plan;
 use crate::mixes::{Mix, upserted};
-use crate::numbers::Number;
 use std::collections::BTreeMap;
 use std::io;
 use std::time::Duration;
@@ -14,7 +13,7 @@ pub struct Outcome {
     /// The processor time of the process meanwhile.
     pub processor: Duration,
     /// What the store was at the end.
-    pub map: BTreeMap<Number, u64>,
+    pub map: BTreeMap<u64, u64>,
 }
 
 impl Outcome {
@@ -47,7 +46,7 @@ impl Outcome {
     pub fn digest(&self) -> u64 {
         let mut digest = 0u64;
         for (key, value) in &self.map {
-            let weight = key.value.wrapping_mul(2).wrapping_add(1);
+            let weight = key.wrapping_mul(2).wrapping_add(1);
             digest = digest.wrapping_add(value.wrapping_mul(weight));
         }
         digest

@@ -4,7 +4,6 @@ use crate::counters::CounterFns;
 use crate::drawing::{Drawer, in_order};
 use crate::keeping::{PageKeeper, fresh_heads, span_of};
 use crate::mixes::Mix;
-use crate::numbers::Number;
 use crate::outcomes::Outcome;
 use crate::working::{SharedStore, Work, Worked};
 use fkv_device::Disk;
@@ -22,7 +21,7 @@ use std::time::{CpuClock, Duration};
 type Passes<D, H> = Vec<Pass<CounterFns, D, H>>;
 
 /// What each thread loads.
-fn loads(alloc: Global, plan: &Plan<'_>) -> Result<Vec<Vec<Number>>, Refused> {
+fn loads(alloc: Global, plan: &Plan<'_>) -> Result<Vec<Vec<u64>>, Refused> {
     let share = plan.keys.div_ceil(plan.threads.max(1));
     let mut lists = Vec::new(alloc);
     for thread in 0..plan.threads {
@@ -36,7 +35,7 @@ fn loads(alloc: Global, plan: &Plan<'_>) -> Result<Vec<Vec<Number>>, Refused> {
 }
 
 /// What each thread draws.
-fn draws(alloc: Global, plan: &Plan<'_>) -> Result<Vec<Vec<Number>>, Refused> {
+fn draws(alloc: Global, plan: &Plan<'_>) -> Result<Vec<Vec<u64>>, Refused> {
     let drawer = Drawer::new(plan.law, plan.keys);
     let mut lists = Vec::new(alloc);
     for thread in 0..plan.threads {
@@ -55,7 +54,7 @@ fn works<'a, R: Wait, D: Disk, H: Recorder<CounterFns>>(
     plan: &Plan<'_>,
     store: &'a SharedStore<D, H>,
     mix: Mix,
-    lists: Vec<Vec<Number>>,
+    lists: Vec<Vec<u64>>,
 ) -> Result<Vec<Work<'a, D, H>>, Refused> {
     let mut works = Vec::new(alloc);
     let mut worker = 0u32;
@@ -102,7 +101,7 @@ fn make<R: Threads + Wait + Clock + Sync, D: Disk + Send, H: Recorder<CounterFns
     plan: &Plan<'_>,
     store: &SharedStore<D, H>,
     mix: Mix,
-    lists: Vec<Vec<Number>>,
+    lists: Vec<Vec<u64>>,
     passes: &mut Passes<D, H>,
 ) -> Result<Duration, Refused>
 where

@@ -1,7 +1,6 @@
 //! What a thread does over the store that all share.
 use crate::counters::CounterFns;
 use crate::mixes::Mix;
-use crate::numbers::Number;
 use fkv_device::Disk;
 use fkv_functions::Refused;
 use fkv_histories::Recorder;
@@ -22,7 +21,7 @@ pub struct Work<'a, D: Disk, H: Recorder<CounterFns>> {
     pub alloc: Global,
     pub store: &'a SharedStore<D, H>,
     pub pass: Pass<CounterFns, D, H>,
-    pub keys: Vec<Number>,
+    pub keys: Vec<u64>,
     pub mix: Mix,
     /// Whether an update is a merge where it would read a page.
     pub merge: bool,
