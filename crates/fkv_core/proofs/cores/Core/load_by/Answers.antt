@@ -1,11 +1,10 @@
-use Rattle.std.proofs.Common.{◌≡◌, ◌≢◌, ◌<◌, Err, true, false, length, refl, sym, ap, subst, ◌∙◌}
+use Rattle.std.proofs.Common.{◌≡◌, ◌≢◌, refl, sym, ap, ◌∙◌}
 use Rattle.std.proofs.Math.Nat.{le_of_lt, le_refl}
 use Rattle.fkv_records.specs.Places.{page_at}
 use Rattle.fkv_functions.proofs.KeyOrder.{key_order}
-use Rattle.fkv_functions.proofs.CallLemmas.{with_six}
 use Rattle.fkv_core.specs.Contexts.{claim_by}
 use Rattle.fkv_core.specs.Loading.{AwaitsPage, Loads, idle, came, failed}
-use Rattle.fkv_core.proofs.EventLemmas.{loading-is, claims-none, if-all}
+use Rattle.fkv_core.proofs.EventLemmas.{loading-is, if-all}
 use Rattle.fkv_core.proofs.LoadLemmas.{wanted-flushed, waits-none, waits-not, waits-moved, counted-why}
 use Rattle.fkv_core.proofs.PendingLemmas.{load-moved}
 use Rattle.fkv_core.proofs.cores.Core.load_by.Goals as goal
