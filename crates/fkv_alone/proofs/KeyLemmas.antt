@@ -107,9 +107,9 @@ module _ {K V I : Type 0} where
 
       pub reads-on-key : {O R : Type 0} (stands : R → Standing) (entry : ℕ → List ℕ → ℕ → Entry K V → Type 0) (cmp : K → K → Ordering) (join : V → V → V) (f : Meanings K V I O) (code : K → ℕ) (before after_ : ℕ) (r : Result (Progress K V I O R) Refused) → LoadsBy stands entry cmp join f code v w slot c now before after_ r → loading.LoadsBy stands entry cmp join f v.core w.core slot c now before after_ r × (w ≡ with_core v w.core)
       reads-on-key {O} {R} stands entry cmp join f code before after_ r (loading.ReadsBy.idle unasked all same) = (
-          loading.ReadsBy.idle (λ page waits. unasked page (WaitsFor.on_key none-here waits)) (λ came. (loads-on-key stands entry cmp join f code came r (all came)).0) same,
-          (loads-on-key stands entry cmp join f code (Err NoMemory) r (all (Err NoMemory))).1,
-        )
+        loading.ReadsBy.idle (λ page waits. unasked page (WaitsFor.on_key none-here waits)) (λ came. (loads-on-key stands entry cmp join f code came r (all came)).0) same,
+        (loads-on-key stands entry cmp join f code (Err NoMemory) r (all (Err NoMemory))).1,
+      )
       reads-on-key stands entry cmp join f code before after_ r (loading.ReadsBy.came page p at own does same) =
           let on = loads-on-key stands entry cmp join f code (Ok p) r does in
           (loading.ReadsBy.came page p (waits-on-key page at) own on.0 same, on.1)

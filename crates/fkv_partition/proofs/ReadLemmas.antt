@@ -170,13 +170,13 @@ module _ {K V I : Type 0} {v : PartitionView K V I} {slot c : ℕ} {x : Relocati
   same-wanted {begin} {at} is = same-awaited (record { begin = begin; wanted = at }) (record { begin = v.core.records.begin; wanted = wanted }) (sym is ∙ h.awaits.awaits)
 
   pub has-place : {begin : ℕ} → x.stage ≡ Reading begin → HasPage v slot c x x.target st
-  has-place {begin} at = subst (λ (n : ℕ). HasPage v slot c x n st) (sym (same-wanted {begin} {x.target} (ap (awaited_by x.target) at)).1) h
+  has-place {begin} at = subst (λ (n : ℕ). HasPage v slot c x n st) (sym (same-wanted {begin = begin} {at = x.target} (ap (awaited_by x.target) at)).1) h
 
   pub reads-begin : {begin : ℕ} → x.stage ≡ Reading begin → x.stage ≡ Reading v.core.records.begin
-  reads-begin {begin} at = subst (λ (n : ℕ). x.stage ≡ Reading n) (same-wanted {begin} {x.target} (ap (awaited_by x.target) at)).0 at
+  reads-begin {begin} at = subst (λ (n : ℕ). x.stage ≡ Reading n) (same-wanted {begin = begin} {at = x.target} (ap (awaited_by x.target) at)).0 at
 
   pub has-way : {e : Entry K V} {l : Loading V} → x.stage ≡ Tracing e l → HasPage v slot c x l.wanted st
-  has-way {e} {l} at = subst (λ (n : ℕ). HasPage v slot c x n st) (sym (same-wanted {l.begin} {l.wanted} (ap (awaited_by x.target) at)).1) h
+  has-way {e} {l} at = subst (λ (n : ℕ). HasPage v slot c x n st) (sym (same-wanted {begin = l.begin} {at = l.wanted} (ap (awaited_by x.target) at)).1) h
 
 -- ---- where a relocation waits for no page
 module _ {K V I : Type 0} (v : PartitionView K V I) (slot c : ℕ) where

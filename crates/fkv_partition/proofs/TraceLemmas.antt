@@ -33,7 +33,7 @@ use Rattle.fkv_partition.specs.declared.relocations.Relocation.{Relocation}
 use Rattle.fkv_partition.specs.declared.relocations.Liveness.TheVariants.{Superseded, Last, Further}
 use Rattle.fkv_partition.specs.declared.relocations.Stage.{Stage}
 use Rattle.fkv_partition.specs.declared.relocations.Stage.TheVariants.{Fresh, Reading, Tracing, Ready}
-use Rattle.fkv_partition.specs.Going.{Awaited, awaited, awaited_by}
+use Rattle.fkv_partition.specs.Going.{Awaited, awaited_by}
 use Rattle.fkv_partition.specs.Reading.{AwaitsPage, HasPage, TracesTo}
 use Rattle.fkv_partition.specs.Sound.{IsCompacting}
 use Rattle.fkv_partition.specs.Stages.{IsTracing, RelocationStands, StageStands}

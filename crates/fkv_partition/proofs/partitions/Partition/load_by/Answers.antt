@@ -59,7 +59,7 @@ returns-in-Some-clause-others g c = λ yes_keeps.
     (λ why e. reads-any _ c.load_on_by.ensures.effect
     (λ came does. ended-pends c.args.self.now c.load_on_by.new.self c.args.slot c.args.context c.args.now
     (loads_on-ends g.R.Receipt.stands _ c.args.self.now c.load_on_by.new.self c.args.slot c.args.context c.args.now came why (rw e at does)) g.F.Key.Ord.cmp)
-    (λ told same is. rw same (λ s d other. refl)))
+    (λ told same is. rw same (λ s d. refl)))
 
 pub returns-in-Some-clause-unread : goal.returns-in-Some-clause-unread
 returns-in-Some-clause-unread g c = λ none. c.load_on_by.ensures.unread (λ page waits. none page (relocation waits))

@@ -1,9 +1,7 @@
-use Rattle.std.proofs.Common.{◌×◌}
-use Rattle.fkv_core.specs.Sound.{IsSound}
 use Rattle.fkv_core.proofs.LoadLemmas.{reads-any}
 use Rattle.fkv_partition.specs.Inside.{view_of}
 use Rattle.fkv_partition.proofs.SteadyLemmas.{loads-steady}
-use Rattle.fkv_partition.proofs.KeepLemmas.{keep-seated, keep-same}
+use Rattle.fkv_partition.proofs.KeepLemmas.{keep-seated}
 use Rattle.fkv_partition.proofs.partitions.Partition.load_by_on_key.Goals as goal
 
 pub invariant_of-self : goal.invariant_of-self

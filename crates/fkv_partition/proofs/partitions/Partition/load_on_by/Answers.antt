@@ -1,10 +1,9 @@
-use Rattle.std.proofs.Common.{◌≡◌, ◌<◌, Err, length, refl, sym, ap, subst, ◌∙◌}
+use Rattle.std.proofs.Common.{◌≢◌, ◌<◌, length, refl, sym, ap, subst, ◌∙◌}
 use Rattle.std.specs.Prelude.{IfSome}
 use Rattle.fkv_functions.proofs.KeyOrder.{key_order}
 use Rattle.fkv_records.specs.Places.{page_at}
 use Rattle.fkv_pages.specs.Loads.{IsHeldBy}
 use Rattle.fkv_hybrid.specs.Scans.{MayFail}
-use Rattle.fkv_device.specs.Failing.{ReadFailsBy}
 use Rattle.fkv_core.specs.Loading.{idle, came, failed}
 use Rattle.fkv_core.proofs.LoadLemmas.{counted-why}
 use Rattle.fkv_partition.specs.Reading.{LoadsOn}
@@ -37,7 +36,7 @@ returns-then-begin-begins-clause-effect g c =
     let moved = ap (λ u. u.core.records) c.self.view_is in
     let begins = c.begin-begins.ensures ∙ ap (λ r. r.begin) (c.records.ensures ∙ moved) in
     let waits = awaits-some v c.args.slot c.args.context x c.in-Some-awaited.begin wanted told in
-    let other = (λ e. c.if-begin-begins.true (e ∙ sym begins)) in
+    let other : c.in-Some-awaited.begin ≢ v.core.records.begin = λ e. c.if-begin-begins.true (e ∙ sym begins) in
     idle (waits-moved-on v c.args.slot c.args.context x c.in-Some-awaited.begin wanted here waits other)
     (λ handed. LoadsOn.moved x (record { begin = c.in-Some-awaited.begin; wanted = wanted }) here waits other c.set_stage.ensures refl) refl
 
@@ -45,8 +44,8 @@ pub returns-then-begin-begins-clause-event : goal.returns-then-begin-begins-clau
 returns-then-begin-begins-clause-event g c =
     is-set g.R.Receipt.keeps g.F.Key.Ord.cmp c.args.self.now c.args.slot c.args.context c.args.now c.in-Some.ensures.context _ c.set_stage.ensures
 
-pub read-requires-clause-flushed : goal.read-requires-clause-flushed
-read-requires-clause-flushed g c =
+pub read-requires : goal.read-requires
+read-requires g c =
     let ord = g.met.F.Key.Ord in
     let known = g.met.F.Key.FixedKey in
     let order = key_order g.F.Key.PartialEq.eq g.F.Key.Ord.cmp ord.matches_eq known.exact ord.total in
@@ -60,7 +59,7 @@ read-requires-clause-flushed g c =
     let a = awaits-page v c.args.slot c.args.context x c.in-Some-awaited.begin wanted here told (c.if-begin-begins.false ∙ begins) in
     let page = c.page_of-page.ensures ∙ ap (λ r. page_at r.page_bits wanted) (c.records-2.ensures ∙ moved) in
     let there = awaited-flushed g.F.Key.Ord.cmp g.F.Mergeable.parts.joined g.F.Functions.code order v c.known.ensures.core c.known.ensures.compacting c.args.slot c.args.context x wanted a in
-    subst (λ r. c.page_of-page.result < length r.receipts) (sym moved) (rw page there)
+    record { flushed = subst (λ r. c.page_of-page.result < length r.receipts) (sym moved) (rw page there) }
 
 pub read_on-requires-clause-has : goal.read_on-requires-clause-has
 read_on-requires-clause-has g c =
@@ -141,9 +140,11 @@ returns-then-begin-begins-clause-caused g c = λ other. absurd (other refl)
 
 pub returns-in-Err-clause-caused : goal.returns-in-Err-clause-caused
 returns-in-Err-clause-caused g c = λ other.
-    let moved = ap (λ u. u.core.records) c.self.view_is in
-    (c.page_of-page.result, subst (λ r. MayFail g.R.Receipt.stands g.P.PageReader.can_fail r.receipts r.page_bits c.page_of-page.result) moved
-    (c.in-Err.ensures.caused (counted-why c.in-Err.refused c.in-Err.ensures.counted other)))
+    let moved = ap (λ u. u.core.records) c.self.view_is in (
+      c.page_of-page.result,
+      subst (λ r. MayFail g.R.Receipt.stands g.P.PageReader.can_fail r.receipts r.page_bits c.page_of-page.result) moved
+          (c.in-Err.ensures.caused (counted-why c.in-Err.refused c.in-Err.ensures.counted other)),
+    )
 
 pub returns-in-Ok-clause-caused : goal.returns-in-Ok-clause-caused
 returns-in-Ok-clause-caused g c = λ other. absurd (other c.in-Ok.ensures.steady)

@@ -7,7 +7,7 @@ use Rattle.fkv_texts.specs.Text.{entry_at}
 use Rattle.fkv_pages.specs.Loads.{IsHeldBy}
 use Rattle.fkv_pages.specs.Spelled.{IsEntryIn}
 use Rattle.fkv_partition.specs.Reading.{LoadsOn, HasPage}
-use Rattle.fkv_partition.proofs.ApartLemmas.{err-ok, no-later, has-come}
+use Rattle.fkv_partition.proofs.ApartLemmas.{err-ok, has-come}
 use Rattle.fkv_partition.proofs.ReadLemmas.{place-begun, place-read}
 use Rattle.fkv_partition.proofs.partitions.Partition.read_place.Goals as goal
 
@@ -97,7 +97,7 @@ returns-in-Ok-clause-cleared g c = c.check_liveness.ensures.cleared
 pub returns-in-Ok-clause-moment : goal.returns-in-Ok-clause-moment
 returns-in-Ok-clause-moment g c = c.check_liveness.ensures.moment
 
-pub own_record_in-requires-clause-own : goal.own_record_in-requires-clause-own
-own_record_in-requires-clause-own g c =
+pub own_record_in-requires : goal.own_record_in-requires
+own_record_in-requires g c =
     let moved = ap (λ u. u.core.records) c.self.view_is in
-    subst (λ r. IsHeldBy r.receipts (page_at r.page_bits c.args.relocation.now.target) (g.R.Receipt.stands c.args.loaded.now.receipt)) (sym (c.records-2.ensures ∙ moved)) c.requires.has.own
+    record { own = subst (λ r. IsHeldBy r.receipts (page_at r.page_bits c.args.relocation.now.target) (g.R.Receipt.stands c.args.loaded.now.receipt)) (sym (c.records-2.ensures ∙ moved)) c.requires.has.own }

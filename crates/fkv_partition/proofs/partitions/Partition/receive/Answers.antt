@@ -1,4 +1,4 @@
-use Rattle.std.proofs.Common.{◌≡◌, ◌<◌, Err, length, refl, sym, ap, subst, ◌∙◌}
+use Rattle.std.proofs.Common.{Err, refl, sym, ap, subst, ◌∙◌}
 use Rattle.fkv_functions.proofs.KeyOrder.{key_order}
 use Rattle.fkv_functions.proofs.CallLemmas.{with_six}
 use Rattle.fkv_records.specs.Places.{page_at}

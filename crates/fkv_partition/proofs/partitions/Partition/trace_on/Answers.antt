@@ -10,7 +10,7 @@ use Rattle.fkv_partition.specs.Reading.{LoadsOn}
 use Rattle.fkv_partition.specs.declared.relocations.Stage.TheVariants.{Ready}
 use Rattle.fkv_partition.specs.Stages.{StageStands}
 use Rattle.fkv_functions.proofs.CallLemmas.{with_six}
-use Rattle.fkv_partition.proofs.ApartLemmas.{err-ok, no-later, has-come}
+use Rattle.fkv_partition.proofs.ApartLemmas.{err-ok, has-come}
 use Rattle.fkv_partition.proofs.MoveLemmas.{is-done, past-place, stands-here, frozen-low}
 use Rattle.fkv_partition.proofs.ReadLemmas.{page-within}
 use Rattle.fkv_partition.proofs.TraceLemmas.{page-came, way-flushed, has-page, traces-to, way-dead, way-last, above-place, way-below, lower-flushed, way-further}
