@@ -1,5 +1,5 @@
 -- Which bytes spell no record where an operation is refused as damaged, and that no merge waits for a page.
-use Rattle.std.proofs.Common.{◌≡◌, ◌+◌, ◌*◌, inl, inr, ℕ, List, Bool, true, false, Option, Some, Result, Ok, Err, OnOk, IfErr, refl, sym, ◌∙◌, ap, subst, arith}
+use Rattle.std.proofs.Common.{◌≡◌, ◌+◌, ◌*◌, inl, inr, ℕ, Bool, true, Result, Ok, Err, IfErr, refl, subst, arith}
 use Rattle.std.specs.declared.cmp.Ordering.{Ordering}
 use Rattle.fkv_functions.specs.Meanings.{Meanings}
 use Rattle.fkv_functions.specs.declared.asks.Ask.{Ask}
@@ -11,9 +11,7 @@ use Rattle.fkv_device.specs.Failing.{ReadFailsBy}
 use Rattle.fkv_operations.specs.After.{key_of, is_merge}
 use Rattle.fkv_operations.specs.declared.operations.KeyedOp.{KeyedOp}
 use Rattle.fkv_operations.specs.declared.operations.KeyedOp.TheVariants.{Read, Upsert, Rmw, Delete, Merge}
-use Rattle.fkv_partition.specs.Loading.{Loading}
 use Rattle.fkv_partition.specs.Phase.TheVariants.{Load}
-use Rattle.fkv_partition.specs.Progress.{Progress}
 use Rattle.fkv_partition.specs.CoreGoing.{Goes}
 use Rattle.fkv_partition.specs.CoreInstalling.{Installs}
 use Rattle.fkv_partition.specs.CoreLoading.{Loads, LoadsBy, ReadsBy}
