@@ -6,9 +6,10 @@ use Rattle.std.proofs.lemmas.Bool.{and_parts, and_from, eq-eqb, eqb-true}
 use Rattle.std.proofs.lemmas.Bool.Decides.{nat_tests}
 use Rattle.std.specs.declared.cmp.Ordering.{Ordering}
 use Rattle.fkv_functions.proofs.ListLemmas.{get-set_cases}
-use Rattle.fkv_functions.specs.Meanings.{Meanings, updated}
+use Rattle.fkv_functions.specs.Meanings.{Meanings}
 use Rattle.fkv_functions.specs.declared.asks.Ask.{Ask}
 use Rattle.fkv_functions.specs.declared.refusals.Refused.{Refused}
+use Rattle.fkv_functions.specs.declared.refusals.Refused.TheVariants.{NoMemory}
 use Rattle.fkv_records.specs.Places.{page_at, start_at}
 use Rattle.fkv_device.specs.Standing.{Standing, Joined}
 use Rattle.fkv_index.specs.declared.words.Word.{Word}
@@ -48,7 +49,7 @@ use Rattle.fkv_partition.specs.CoreClaiming.{IsClaimed}
 use Rattle.fkv_partition.specs.CoreContexts.{joined, question_in, question_by, at_phase, claim_at, claim_by, claim_of}
 use Rattle.fkv_partition.specs.CoreGoing.{Goes, Decides}
 use Rattle.fkv_partition.specs.CoreInstalling.{Installs}
-use Rattle.fkv_partition.specs.CoreLoading.{AwaitsPage, Loads}
+use Rattle.fkv_partition.specs.CoreLoading.{AwaitsPage, Loads, LoadsBy, ReadsBy}
 use Rattle.fkv_partition.specs.CoreSound.{IsSound, StandsFor, IsLoading}
 use Rattle.fkv_partition.specs.CoreViews.{CoreView, slots_of, seen_at, context_at, with_context}
 use Rattle.fkv_alone.specs.Stages.{IsReady}
@@ -430,6 +431,13 @@ module _ {K V I : Type 0} (keeps : Bool) (cmp : K → K → Ordering) (join : V 
         → (r : Result (Progress K V I O R) Refused) → Loads stands entry cmp join f v w slot c came now r → IfOk r (λ p. IsOn p → IsNearer code w slot c p n)
     loads-nearer kept entry receipt a came near (Ok p) loads = loads-near kept entry receipt a came p near loads
     loads-nearer kept entry receipt a came near (Err why) loads = tt
+
+    pub reads-nearer : IsTrue keeps → (entry : ℕ → List ℕ → ℕ → Entry K V → Type 0) (receipt : R) (a before after_ : ℕ) → IsNear {O = O} {R = R} code v slot c (NeedsLoad receipt a) n
+        → (r : Result (Progress K V I O R) Refused) → LoadsBy stands entry cmp join f v w slot c now before after_ r → IfOk r (λ p. IsOn p → IsNearer code w slot c p n)
+    reads-nearer kept entry receipt a before after_ near r (ReadsBy.idle unasked all same) = loads-nearer kept entry receipt a (Err NoMemory) near r (all (Err NoMemory))
+    reads-nearer kept entry receipt a before after_ near r (ReadsBy.came page p at own does same) = loads-nearer kept entry receipt a (Ok p) near r does
+    reads-nearer kept entry receipt a before after_ near r (ReadsBy.failed page why at fails is told) =
+        subst (λ (q : Result (Progress K V I O R) Refused). IfOk q (λ p. IsOn p → IsNearer code w slot c p n)) (sym told) tt
 
 -- an operation that is to go on takes one more event at least
 pub near-some : {K V I O R : Type 0} (code : K → ℕ) (v : CoreView K V I) (slot c : ℕ) (told : Progress K V I O R) (n : ℕ) → IsNear code v slot c told n → 1 ≤ n

@@ -1,11 +1,12 @@
 -- What the events of a partition are where no relocation stands in a context: those of operations on keys.
-use Rattle.std.proofs.Common.{◌≡◌, Bool, true, false, cond, ◌&&◌, ◌+◌, ◌*◌, ℕ, List, Option, Some, None, Result, option_map, slice_get, nat_lt, refl, sym, ◌∙◌, ap, subst}
+use Rattle.std.proofs.Common.{◌≡◌, Bool, true, false, cond, ◌&&◌, ◌+◌, ◌*◌, ℕ, List, Option, Some, None, Result, Ok, Err, option_map, slice_get, nat_lt, refl, sym, ◌∙◌, ap, subst}
 use Rattle.std.proofs.lemmas.Option.{same_Some}
 use Rattle.std.specs.declared.cmp.Ordering.{Ordering}
 use Rattle.fkv_functions.specs.Meanings.{Meanings}
 use Rattle.fkv_functions.specs.Plain.{Same}
 use Rattle.fkv_functions.specs.declared.asks.Ask.{Ask}
 use Rattle.fkv_functions.specs.declared.refusals.Refused.{Refused}
+use Rattle.fkv_functions.specs.declared.refusals.Refused.TheVariants.{NoMemory}
 use Rattle.fkv_device.specs.Standing.{Standing, Joined}
 use Rattle.fkv_texts.specs.declared.entries.Entry.{Entry}
 use Rattle.fkv_operations.specs.After.{key_of}
@@ -25,7 +26,7 @@ use Rattle.fkv_partition.specs.CoreLoading as loading
 use Rattle.fkv_partition.specs.CoreViews.{slots_of, context_at, live_of}
 use Rattle.fkv_partition.specs.Beginning.{IssuesOnKey}
 use Rattle.fkv_partition.specs.Effect.{Asked, asked, asked_of, to_find, IsEvent, IsLoad, Finds}
-use Rattle.fkv_partition.specs.Events.{Issues, Goes, Installs, Loads}
+use Rattle.fkv_partition.specs.Events.{Issues, Goes, Installs, Loads, LoadsBy, WaitsFor}
 use Rattle.fkv_partition.specs.Views.{PartitionView, relocation_at, with_core}
 use Rattle.fkv_partition.proofs.EffectLemmas.{keyed-op}
 use Rattle.fkv_alone.proofs.StageLemmas.{Asks, Finishes, Tells}
@@ -99,6 +100,21 @@ module _ {K V I : Type 0} where
 
       pub none-here : relocation_at v slot c ≡ None
       none-here = none-at v slot c empty
+
+      waits-on-key : (page : ℕ) → WaitsFor v slot c page → loading.WaitsFor v.core slot c page
+      waits-on-key page (WaitsFor.on_key none waits) = waits
+      waits-on-key page (WaitsFor.relocation waits) = absurd (refuted waits.relocation (relocation_at v slot c) waits.awaits.here none-here)
+
+      pub reads-on-key : {O R : Type 0} (stands : R → Standing) (entry : ℕ → List ℕ → ℕ → Entry K V → Type 0) (cmp : K → K → Ordering) (join : V → V → V) (f : Meanings K V I O) (code : K → ℕ) (before after_ : ℕ) (r : Result (Progress K V I O R) Refused) → LoadsBy stands entry cmp join f code v w slot c now before after_ r → loading.LoadsBy stands entry cmp join f v.core w.core slot c now before after_ r × (w ≡ with_core v w.core)
+      reads-on-key {O} {R} stands entry cmp join f code before after_ r (loading.ReadsBy.idle unasked all same) = (
+        loading.ReadsBy.idle (λ page waits. unasked page (WaitsFor.on_key none-here waits)) (λ came. (loads-on-key stands entry cmp join f code came r (all came)).0) same,
+        (loads-on-key stands entry cmp join f code (Err NoMemory) r (all (Err NoMemory))).1,
+      )
+      reads-on-key stands entry cmp join f code before after_ r (loading.ReadsBy.came page p at own does same) =
+          let on = loads-on-key stands entry cmp join f code (Ok p) r does in
+          (loading.ReadsBy.came page p (waits-on-key page at) own on.0 same, on.1)
+      reads-on-key stands entry cmp join f code before after_ r (loading.ReadsBy.failed page why at fails is told) =
+          (loading.ReadsBy.failed page why (waits-on-key page at) fails (ap (λ (u : PartitionView K V I). u.core) is) told, rest-same v w is)
 
     -- ---- what the events tell
     pub finds-asks : {O R : Type 0} (cmp : K → K → Ordering) (p : Progress K V I O R) → Finds cmp v w slot c now p → Asks cmp v.core w.core slot c now p

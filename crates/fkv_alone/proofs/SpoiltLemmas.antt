@@ -1,22 +1,20 @@
 -- Which bytes spell no record where an operation is refused as damaged, and that no merge waits for a page.
-use Rattle.std.proofs.Common.{◌≡◌, ◌+◌, ◌*◌, inl, inr, ℕ, List, Bool, true, false, Option, Some, Result, Ok, Err, OnOk, IfErr, refl, sym, ◌∙◌, ap, subst, arith}
+use Rattle.std.proofs.Common.{◌≡◌, ◌+◌, ◌*◌, inl, inr, ℕ, Bool, true, Result, Ok, Err, IfErr, refl, subst, arith}
 use Rattle.std.specs.declared.cmp.Ordering.{Ordering}
 use Rattle.fkv_functions.specs.Meanings.{Meanings}
 use Rattle.fkv_functions.specs.declared.asks.Ask.{Ask}
 use Rattle.fkv_functions.specs.declared.refusals.Refused.{Refused}
-use Rattle.fkv_functions.specs.declared.refusals.Refused.TheVariants.{Damaged}
+use Rattle.fkv_functions.specs.declared.refusals.Refused.TheVariants.{Damaged, NoMemory}
 use Rattle.fkv_records.specs.Places.{page_at}
 use Rattle.fkv_device.specs.Standing.{Standing, Joined}
 use Rattle.fkv_device.specs.Failing.{ReadFailsBy}
 use Rattle.fkv_operations.specs.After.{key_of, is_merge}
 use Rattle.fkv_operations.specs.declared.operations.KeyedOp.{KeyedOp}
 use Rattle.fkv_operations.specs.declared.operations.KeyedOp.TheVariants.{Read, Upsert, Rmw, Delete, Merge}
-use Rattle.fkv_partition.specs.Loading.{Loading}
 use Rattle.fkv_partition.specs.Phase.TheVariants.{Load}
-use Rattle.fkv_partition.specs.Progress.{Progress}
 use Rattle.fkv_partition.specs.CoreGoing.{Goes}
 use Rattle.fkv_partition.specs.CoreInstalling.{Installs}
-use Rattle.fkv_partition.specs.CoreLoading.{Loads}
+use Rattle.fkv_partition.specs.CoreLoading.{Loads, LoadsBy, ReadsBy}
 use Rattle.fkv_partition.specs.CoreSound.{IsSound, StandsFor}
 use Rattle.fkv_partition.specs.CoreViews.{CoreView, slots_of}
 use Rattle.fkv_partition.specs.Beginning.{IssuesOnKey}
@@ -81,6 +79,14 @@ loads-spoilt {cmp = cmp} {join = join} {v = v} {page = page} entry asked_for bef
 loads-spoilt {cmp = cmp} {join = join} {v = v} {page = page} entry asked_for before after_ came counted same (Loads.prepares x l j k i value told e rmw is r) = absurd (cc)
 loads-spoilt {cmp = cmp} {join = join} {v = v} {page = page} entry asked_for before after_ came counted same (Loads.goes_on x l j b parts receipt reads e low place held is r) = absurd (cc)
 loads-spoilt {cmp = cmp} {join = join} {v = v} {page = page} entry asked_for before after_ came counted same (Loads.unshared x l j b parts reads e low place is r) = absurd (cc)
+
+pub reads-spoilt : {K V I O R : Type 0} {stands : R → Standing} {cmp : K → K → Ordering} {join : V → V → V} {f : Meanings K V I O} {v w : CoreView K V I} {slot c now page before after_ : ℕ} (entry : Spelling K V) → after_ ≡ before
+    → LoadsBy {O = O} stands entry cmp join f v w slot c now before after_ (Err (Damaged page)) → IsSpoilt entry cmp page
+reads-spoilt {before = before} {after_ = after_} entry same (ReadsBy.idle unasked all steady) = loads-spoilt entry 0 before after_ (Err NoMemory) (inl (inl (refl, same))) same (all (Err NoMemory))
+reads-spoilt {before = before} {after_ = after_} entry same (ReadsBy.came read p at own does steady) = loads-spoilt entry 0 before after_ (Ok p) tt same does
+reads-spoilt {page = page} {before = before} {after_ = after_} entry same (ReadsBy.failed read why at fails is told) =
+    let t : why ≡ Damaged page = cc in
+    absurd (counted-not (subst (ReadFailsBy read before after_) t fails) same)
 
 -- a merge waits for no page
 pub merges-fetch-not : {K V I : Type 0} {keeps kept : Bool} {cmp : K → K → Ordering} {join : V → V → V} {code : K → ℕ} {op : KeyedOp K V I} {old v : CoreView K V I} {slot c started a : ℕ} {s : Standing} → IsSound kept cmp join code v

@@ -1,7 +1,7 @@
 -- What each event makes of an operation that is driven alone.
 use Rattle.std.proofs.Common.{◌≡◌, ◌≢◌, ◌<◌, ◌^◌, ◌⊎◌, ◌==◌, inl, inr, ℕ, List, Bool, true, false, cond, IsTrue, Option, Some, None, option_map, Result, Ok, Err, IfOk, IfErr, OnOk, OnErr, slice_get, refl, sym, ◌∙◌, ap, subst, arith}
 use Rattle.std.specs.declared.cmp.Ordering.{Ordering}
-use Rattle.fkv_functions.specs.Meanings.{Meanings, updated}
+use Rattle.fkv_functions.specs.Meanings.{Meanings}
 use Rattle.fkv_functions.specs.Plain.{Same, PlainMap}
 use Rattle.fkv_functions.specs.declared.asks.Ask.{Ask}
 use Rattle.fkv_functions.specs.declared.refusals.Refused.{Refused}
@@ -31,7 +31,7 @@ use Rattle.fkv_partition.specs.CoreContexts.{question_in, loading_by, at_phase}
 use Rattle.fkv_partition.specs.CoreEffect.{Asked, asked, asked_by, LeavesOthers, IsEvent}
 use Rattle.fkv_partition.specs.CoreGoing.{Goes}
 use Rattle.fkv_partition.specs.CoreInstalling.{Installs}
-use Rattle.fkv_partition.specs.CoreLoading.{AwaitsPage, Loads}
+use Rattle.fkv_partition.specs.CoreLoading.{AwaitsPage, Loads, LoadsBy, ReadsBy, WaitsFor}
 use Rattle.fkv_partition.specs.Pending.{Pending, pending, pending_of}
 use Rattle.fkv_partition.specs.CoreViews.{CoreView, context_at, with_context, live_of}
 use Rattle.fkv_alone.specs.Stages.{IsOpen, IsReady, IsAsking, IsFetching, IsHeldUp, IsDone, HasCome}
@@ -473,3 +473,20 @@ module _ {K V I O R : Type 0} (keeps : Bool) (stands : R → Standing) (cmp : K 
         → Advances keeps stands cmp join f code op old v w slot c started before after result
     loads-advances page before after came own steady counted (Ok p) loads load = (loads-told came p loads load, loads-steady page before after came steady p loads)
     loads-advances page before after came own steady counted (Err why) loads load = loads-stops page before after came own steady counted why loads
+
+    -- the page that it waits for is the one that it asked for
+    page-asked : (page : ℕ) (at : WaitsFor v slot c page) → page ≡ page_at v.records.page_bits a
+    page-asked page at =
+        at.page_is
+        ∙ ap (λ (z : Loading V). page_at v.records.page_bits z.wanted) (sym (await-same at.operation at.loading at.awaits.here at.awaits.loading))
+        ∙ ap (page_at v.records.page_bits) h.wanted
+
+    pub reads-advances : (before after : ℕ) (result : Result (Progress K V I O R) Refused) → LoadsBy stands entry cmp join f v w slot c now before after result → (IsTrue keeps → IfOk result (λ p. Tells cmp f v w slot c now p))
+        → Advances keeps stands cmp join f code op old v w slot c started before after result
+    reads-advances before after result (ReadsBy.idle unasked all same) load =
+        absurd (unasked (page_at v.records.page_bits a) (record { operation = h.operation; loading = h.loading; awaits = h.awaits; page_is = ap (page_at v.records.page_bits) (sym h.wanted) }))
+    reads-advances before after result (ReadsBy.came page p at own does same) load =
+        let held : slice_get v.records.receipts page ≡ Some s = subst (λ n. IsHeldBy v.records.receipts n s) (sym (page-asked page at)) h.held in
+        loads-advances page before after (Ok p) (some-same (stands p.receipt) s (slice_get v.records.receipts page) own held) same tt result does load
+    reads-advances before after result (ReadsBy.failed page why at fails is told) load =
+        subst (λ (q : Result (Progress K V I O R) Refused). Advances keeps stands cmp join f code op old v w slot c started before after q) (sym told) (stop-of old.records.tail page before after why fails, inl is)

@@ -162,7 +162,7 @@ fn attempt<F: Mergeable, R: Receipt, P: PageReader<Receipt = R>>(
 
 /// Issues an operation on a key in a session, and goes on with it by the events of its partition, each at the next moment
 /// of the clock, until it is done, waits or is refused, by at most `limit` events, the issue counted. What it asks for is
-/// built, or read by `reader`, and handed in. A relocation is no operation that is driven alone.
+/// built and handed in, or read by `reader`. A relocation is no operation that is driven alone.
 ///
 /// Where it waits, it stays open, in the context that was the session's lowest free one. Where it is refused it is
 /// given up, without effect, which takes no moment. Relocations stay, and so does what is cleared.

@@ -1,4 +1,4 @@
-//! One event of an operation that is driven alone: what it asked for is built or read, and handed in.
+//! One event of an operation that is driven alone: what it asked for is built and handed in, or read.
 ghost use Rattle.std.specs.Prelude.{◌≡◌, ◌+◌, ◌*◌, ◌<◌, ◌≤◌, ℕ, true, None, Err, IsTrue, IfOk, slice_get};
 ghost use Rattle.fkv_pages.specs.Spelled.{IsEntryIn};
 ghost use Rattle.fkv_operations.specs.After.{is_merge};
@@ -7,51 +7,17 @@ ghost use Rattle.fkv_partition.specs.CoreViews.{CoreView};
 ghost use Rattle.fkv_partition.specs.Pending.{OthersPend};
 ghost use Rattle.fkv_partition.specs.CoreContexts.{joined};
 ghost use Rattle.fkv_partition.specs.Views.{with_core};
-ghost use Rattle.fkv_alone.specs.Stages.{HasCome, IsFetching};
+ghost use Rattle.fkv_alone.specs.Stages.{HasCome};
 ghost use Rattle.fkv_alone.specs.Ending.{Advances, IsOn};
 ghost use Rattle.fkv_alone.specs.Bound.{IsNear, IsNearer};
 ghost use Rattle.fkv_alone.specs.Spoilt.{IsSpoilt};
 
-use fkv_device::{Loaded, PageReader, Receipt};
+use fkv_device::{PageReader, Receipt};
 use fkv_functions::{Built, Mergeable, Refused};
 use fkv_partition::{Partition, Progress, ProgressOf};
 
-/// Reads the page that an operation asked for, and hands it in, or what came in its place.
-fn load<F: Mergeable, R: Receipt, P: PageReader<Receipt = R>>(
-    partition: &mut Partition<F, R>,
-    slot: usize,
-    context: usize,
-    receipt: R,
-    functions: &F,
-    reader: &mut P,
-    now: u64,
-) -> Result<ProgressOf<F, R>, Refused>
-    requires later { partition.old.core.moment < now }
-    requires none { joined (slice_get partition.old.relocations (slot * 8 + context)) ≡ None }
-    ensures advances { (op : KeyedOp F.Key F.Value F.Input) (old : CoreView F.Key F.Value F.Input) (started a : ℕ)
-        → IsFetching R.keeps F.Key.cmp op old partition.old.core slot context started (R.stands receipt) a
-        → Advances R.keeps R.stands F.Key.cmp F.parts.joined F.meaning F.code op old
-        partition.old.core partition.new.core slot context
-        started (P.failures reader.old) (P.failures reader.new) result }
-    ensures others { IsTrue R.keeps → OthersPend F.Key.cmp partition.old.core partition.new.core slot context }
-    ensures nearer { (n a : ℕ) → IsTrue R.keeps
-        → IsNear {O = F.Output} F.code partition.old.core slot context (Progress.NeedsLoad receipt a) n
-        → IfOk result (λ progress. IsOn progress → IsNearer F.code partition.new.core slot context progress n) }
-    // where it is damaged and the reader counted nothing, bytes that were read spell no record on the way
-    ensures spoilt { (page : ℕ) → result ≡ Err (Refused.Damaged page) → P.failures reader.new ≡ P.failures reader.old
-        → IsSpoilt (IsEntryIn F.Key.bytes_of F.Value.bytes_of F.Key.is_known F.Value.is_known F.Key.SIZE F.Value.SIZE)
-        F.Key.cmp page }
-    ensures rest { partition.new ≡ with_core partition.old partition.new.core }
-    ensures past { partition.new.core.moment ≤ now }
-{
-    partition.known();
-    let size = partition.page_size();
-    let came = Loaded::<R>::fetch(reader, &receipt, size);
-    partition.load(slot, context, came, functions, now)
-}
-
 /// Makes one event of an operation, by what it told last: it goes on, or what it asked for is built and installed, or
-/// read and handed in.
+/// the page that it waits for is read.
 pub(crate) fn step<F: Mergeable, R: Receipt, P: PageReader<Receipt = R>>(
     partition: &mut Partition<F, R>,
     slot: usize,
@@ -75,6 +41,7 @@ pub(crate) fn step<F: Mergeable, R: Receipt, P: PageReader<Receipt = R>>(
     ensures nearer { (n : ℕ) → IsTrue R.keeps
         → IsNear F.code partition.old.core slot context told n
         → IfOk result (λ progress. IsOn progress → IsNearer F.code partition.new.core slot context progress n) }
+    // where it is damaged and the reader counted nothing, bytes that were read spell no record on the way
     ensures spoilt { (page : ℕ) → result ≡ Err (Refused.Damaged page) → P.failures reader.new ≡ P.failures reader.old
         → IsSpoilt (IsEntryIn F.Key.bytes_of F.Value.bytes_of F.Key.is_known F.Value.is_known F.Key.SIZE F.Value.SIZE)
         F.Key.cmp page }
@@ -93,9 +60,9 @@ pub(crate) fn step<F: Mergeable, R: Receipt, P: PageReader<Receipt = R>>(
             let built = Built::make(functions, ask);
             partition.install(slot, context, built, functions, now)
         }
-        Progress::NeedsLoad(receipt, _address) => load(
-            partition, slot, context, receipt, functions, reader, now,
-        ),
+        Progress::NeedsLoad(_receipt, _address) => {
+            partition.load_by(slot, context, functions, reader, now)
+        }
         Progress::Done(_, _) | Progress::Waits(_) => unreachable!(),
     }
 }

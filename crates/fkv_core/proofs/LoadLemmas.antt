@@ -11,6 +11,7 @@ use Rattle.fkv_functions.specs.declared.refusals.Refused.TheVariants.{Stranger, 
 use Rattle.fkv_functions.specs.declared.refusals.What.TheVariants as what
 use Rattle.fkv_records.specs.Places.{page_at, IsRecordStart}
 use Rattle.fkv_device.specs.Standing.{Standing, Joined}
+use Rattle.fkv_device.specs.Failing.{ReadFailsBy}
 use Rattle.fkv_texts.specs.declared.entries.Entry.{Entry}
 use Rattle.fkv_texts.specs.declared.entries.ChainPosition.{ChainPosition}
 use Rattle.fkv_texts.specs.declared.entries.ChainPosition.TheVariants.{Below}
@@ -34,10 +35,10 @@ use Rattle.fkv_core.specs.declared.contexts.Phase.{Phase}
 use Rattle.fkv_core.specs.declared.contexts.Phase.TheVariants.{Load, Prepared}
 use Rattle.fkv_core.specs.declared.contexts.Progress.{Progress}
 use Rattle.fkv_core.specs.declared.contexts.Progress.TheVariants.{Done, NeedsBuild, NeedsLoad}
-use Rattle.fkv_core.specs.Contexts.{at_phase}
-use Rattle.fkv_core.specs.Views.{CoreView, with_context}
+use Rattle.fkv_core.specs.Contexts.{at_phase, loading_by}
+use Rattle.fkv_core.specs.Views.{CoreView, with_context, context_at}
 use Rattle.fkv_core.specs.Sound.{IsKept, IsLoading, StandsFor, IsSound}
-use Rattle.fkv_core.specs.Loading.{Tells, MayLoad, AwaitsPage, ReadsOn, IsTold, Loads, found, ended}
+use Rattle.fkv_core.specs.Loading.{Tells, MayLoad, AwaitsPage, ReadsOn, IsTold, Loads, WaitsFor, ReadsBy, found, ended}
 use Rattle.std.proofs.lemmas.Option.{slice_get_cases}
 use Rattle.fkv_index.specs.Words.{address_of}
 use Rattle.fkv_core.proofs.GrownLemmas.{newest-nowhere, newest-under}
@@ -97,7 +98,7 @@ pub came-of : {K V I : Type 0} (keeps : Bool) (entry : ℕ → List ℕ → ℕ 
     → key ≡ k
     → page ≡ page_at u.records.page_bits wanted
     → low ≡ first_place u.records.page_bits page
-    → IsHeldBy u.records.receipts page st
+    → IsHeldBy v.records.receipts (page_at v.records.page_bits wanted) st
     → IsGathered join (entry u.records.page_bits bytes) cmp key u.records.page_bits low wanted parts result
     → (IsTrue keeps
     → u.records.begin ≤ wanted
@@ -105,7 +106,7 @@ pub came-of : {K V I : Type 0} (keeps : Bool) (entry : ℕ → List ℕ → ℕ 
     → (r : Gathered K V) × (result ≡ Ok r) × GoesOn cmp join code u.records key low wanted parts r)
     → Came keeps entry cmp join code v k wanted parts st bytes result
 came-of keeps entry cmp join code u v key k page low wanted parts st bytes result same key_is page_is low_is held reads kept =
-    let own = subst (λ (n : ℕ). IsHeldBy u.records.receipts n st) page_is held in
+    let own = subst (λ (w : CoreView _ _ _). IsHeldBy w.records.receipts (page_at w.records.page_bits wanted) st) (sym same) held in
     let floor : low ≡ first_place u.records.page_bits (page_at u.records.page_bits wanted) = low_is ∙ ap (first_place u.records.page_bits) page_is in
     subst (λ (w : CoreView _ _ _). Came keeps entry cmp join code w k wanted parts st bytes result) same
     (subst (λ q. Came keeps entry cmp join code u q wanted parts st bytes result) key_is
@@ -271,3 +272,35 @@ pub further-done : {K V I O R : Type 0} (stands : R → Standing) (entry : ℕ �
     → Loads stands entry cmp join f old new slot c (Ok p) now result
 further-done stands entry cmp join f old new slot c now x l p b parts reads high place (Ok q) asked effect only err = Loads.goes_on x l p b parts asked.0 reads refl high place asked.2 effect (ap Ok asked.1)
 further-done stands entry cmp join f old new slot c now x l p b parts reads high place (Err why) asked effect only err = Loads.unshared x l p b parts reads refl high place err (ap Err only)
+
+-- ---- what an operation waits for
+module _ {K V I : Type 0} (v : CoreView K V I) (slot c : ℕ) where
+  pub waits-none : context_at v slot c ≡ None → (page : ℕ) → WaitsFor v slot c page → ⊥
+  waits-none none page w = let bad : None ≡ Some w.operation = sym none ∙ w.awaits.here in absurd (cc)
+
+  waits-open : (x : Context K V I) → context_at v slot c ≡ Some x → (page : ℕ) (w : WaitsFor v slot c page) → x.phase ≡ Load w.loading
+  waits-open x here page w = let same : Some x ≡ Some w.operation = sym here ∙ w.awaits.here in let is : x ≡ w.operation = cc in ap (λ (y : Context K V I). y.phase) is ∙ w.awaits.loading
+
+  pub waits-not : (x : Context K V I) → context_at v slot c ≡ Some x → loading_by x.phase ≡ None → (page : ℕ) → WaitsFor v slot c page → ⊥
+  waits-not x here none page w = let bad : None ≡ Some w.loading = sym none ∙ ap loading_by (waits-open x here page w) in absurd (cc)
+
+  pub waits-moved : (x : Context K V I) (l : Loading V) → context_at v slot c ≡ Some x → x.phase ≡ Load l → l.begin ≢ v.records.begin → (page : ℕ) → WaitsFor v slot c page → ⊥
+  waits-moved x l here phase other page w =
+      let same : Load l ≡ Load w.loading = sym phase ∙ waits-open x here page w in
+      let is : l ≡ w.loading = cc in
+      other (ap (λ (q : Loading V). q.begin) is ∙ w.awaits.begin)
+
+-- ---- what a load that reads for itself comes to
+module _ {R S A : Type 0} {stands : R → Standing} {receipts : List Standing} {awaits : ℕ → Type 0} {loads : Result (Joined R) Refused → Type 0} {old new : S} {before after_ : ℕ} {result : Result A Refused} where
+  -- what any load does, or nothing
+  pub reads-any : (P : Type 0) → ReadsBy stands receipts awaits loads old new before after_ result → ((came : Result (Joined R) Refused) → loads came → P)
+      → ((why : Refused) → new ≡ old → result ≡ Err why → P) → P
+  reads-any P (ReadsBy.idle _ all same) come stay = come (Err NoMemory) (all (Err NoMemory))
+  reads-any P (ReadsBy.came page p at own does same) come stay = come (Ok p) does
+  reads-any P (ReadsBy.failed page why at fails is r) come stay = stay why is r
+
+-- a read that failed was counted, or memory was wanted
+pub counted-why : {page before after_ : ℕ} (why : Refused) → ReadFailsBy page before after_ why → after_ ≢ before → why ≢ NoMemory
+counted-why why (inl (inl m)) other = absurd (other m.1)
+counted-why why (inl (inr d)) other = λ e. let is = d.0 in absurd (cc)
+counted-why why (inr d) other = λ e. let is = d.0 in absurd (cc)

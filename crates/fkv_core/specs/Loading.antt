@@ -8,6 +8,7 @@ use Rattle.fkv_functions.specs.declared.refusals.Refused.TheVariants.{Unknown, N
 use Rattle.fkv_functions.specs.declared.refusals.What.TheVariants as what
 use Rattle.fkv_records.specs.Places.{page_at, IsRecordStart}
 use Rattle.fkv_device.specs.Standing.{Standing, Joined}
+use Rattle.fkv_device.specs.Failing.{ReadFailsBy}
 use Rattle.fkv_texts.specs.declared.entries.Entry.{Entry}
 use Rattle.fkv_texts.specs.declared.entries.ChainPosition.TheVariants.{Found, Below}
 use Rattle.fkv_texts.specs.Deltas.{onto}
@@ -157,3 +158,41 @@ pub data Loads {K V I O R : Type 0} (stands : R → Standing) (entry : ℕ → L
       → new ≡ old
       → result ≡ Err NoMemory
       → Loads stands entry cmp join f old new slot c came now result
+
+-- what comes of a load that reads for itself, by the receipt that is kept of a page. `awaits` says which page is waited for,
+-- and `loads` what comes of what is handed in.
+pub data ReadsBy {R S A : Type 0} (stands : R → Standing) (receipts : List Standing) (awaits : ℕ → Type 0)
+    (loads : Result (Joined R) Refused → Type 0) (old new : S) (before after : ℕ) (result : Result A Refused)
+    : Type 0 where
+  -- no page is waited for: whatever was handed in would do the same
+  idle : ((page : ℕ) → awaits page → ⊥)
+      → ((came : Result (Joined R) Refused) → loads came)
+      → after ≡ before
+      → ReadsBy stands receipts awaits loads old new before after result
+  -- the page was read, and handed in
+  came : (page : ℕ) (p : Joined R)
+      → awaits page
+      → IsHeldBy receipts page (stands p.receipt)
+      → loads (Ok p)
+      → after ≡ before
+      → ReadsBy stands receipts awaits loads old new before after result
+  -- the read failed, and nothing changes
+  failed : (page : ℕ) (why : Refused)
+      → awaits page
+      → ReadFailsBy page before after why
+      → new ≡ old
+      → result ≡ Err why
+      → ReadsBy stands receipts awaits loads old new before after result
+
+-- the operation that is open in a context waits for this page, and Begin has not moved since
+pub record WaitsFor {K V I : Type 0} (v : CoreView K V I) (slot c page : ℕ) : Type 0 where
+  pub operation : Context K V I
+  pub loading : Loading V
+  pub awaits : AwaitsPage v slot c operation loading
+  pub page_is : page ≡ page_at v.records.page_bits loading.wanted
+
+abbrev pub LoadsBy : {K V I O R : Type 0} → (R → Standing) → (ℕ → List ℕ → ℕ → Entry K V → Type 0)
+    → (K → K → Ordering) → (V → V → V) → Meanings K V I O → CoreView K V I → CoreView K V I → ℕ → ℕ → ℕ → ℕ → ℕ
+    → Result (Progress K V I O R) Refused → Type 0
+LoadsBy stands entry cmp join f old new slot c now before after result = ReadsBy stands old.records.receipts
+    (WaitsFor old slot c) (λ came. Loads stands entry cmp join f old new slot c came now result) old new before after result

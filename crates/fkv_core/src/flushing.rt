@@ -57,7 +57,6 @@ impl<F: Mergeable, R: Receipt> Core<F, R> {
         ensures unchanged { OnErr result (self.new ≡ self.old) }
         ensures moment { self.new.moment ≤ now }
     {
-        let refusal = self.records.flush_refusal(&written);
         match self.records.flush_done(written) {
             Err(refused) => return Err(refused),
             Ok(()) => (),

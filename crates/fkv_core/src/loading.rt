@@ -1,20 +1,22 @@
 //! What an operation does with the page that it waited for.
-ghost use Rattle.std.specs.Prelude.{◌≡◌, ◌<◌, ◌≤◌, ◌↔◌, Some, None, Ok, IsTrue, IfOk, IfErr, OnOk, OnErr, length};
+ghost use Rattle.std.specs.Prelude.{◌≡◌, ◌≢◌, ◌<◌, ◌≤◌, ◌↔◌, ℕ, Some, None, Ok, IsTrue, IfOk, IfErr, OnOk, OnErr, length};
 ghost use Rattle.fkv_records.specs.Places.{page_at};
+ghost use Rattle.fkv_device.specs.Failing.{ReadFailsBy};
 ghost use Rattle.fkv_pages.specs.Spelled.{IsEntryIn};
 ghost use Rattle.fkv_pages.specs.Loads.{IsHeldBy};
+ghost use Rattle.fkv_hybrid.specs.Scans.{MayFail};
 ghost use Rattle.fkv_operations.specs.After.{key_of, shown_of};
 ghost use Rattle.fkv_operations.specs.declared.operations.KeyedOp.TheVariants.{Read, Rmw};
 ghost use Rattle.fkv_core.specs.declared.contexts.Phase.TheVariants.{Prepared, Load};
 ghost use Rattle.fkv_core.specs.Contexts.{at_phase};
-ghost use Rattle.fkv_core.specs.Loading.{AwaitsPage, MayLoad, Loads};
+ghost use Rattle.fkv_core.specs.Loading.{AwaitsPage, MayLoad, Loads, WaitsFor, LoadsBy};
 ghost use Rattle.fkv_core.specs.Sound.{IsKept, IsLoading};
 ghost use Rattle.fkv_core.specs.Pending.{IsLoad};
 ghost use Rattle.fkv_core.specs.Views.{with_context};
 
 use crate::contexts::{ContextOf, Loading, Phase, Progress, ProgressOf, loading_of};
 use crate::cores::Core;
-use fkv_device::{Loaded, Receipt};
+use fkv_device::{Loaded, PageReader, Receipt};
 use fkv_functions::{Ask, Mergeable, Refused};
 use fkv_lookups::gathered::onto;
 use fkv_lookups::laws::lookups_tell;
@@ -79,12 +81,77 @@ impl<F: Mergeable, R: Receipt> Core<F, R> {
                 self.free(slot, context, now);
                 Err(refused)
             }
+            Ok(loaded) => self.receive(slot, context, &open, loading, loaded, functions, now),
+        }
+    }
+
+    /// Goes on with an operation that waits for a page, as [`Core::load`] does, with the page that is read here, by the
+    /// receipt that is kept of it: so the page is the one that was asked for, and is compared with none. Where nothing is
+    /// open there, the operation waits for no page, or Begin has moved, nothing is read. Refused as `load` is, but never by
+    /// `Stranger`; and by what the reader tells, and `NoMemory` where the receipt can't be shared: then nothing changes, and
+    /// the page may be asked for again.
+    pub fn load_by<P: PageReader<Receipt = R>>(
+        &mut self,
+        slot: usize,
+        context: usize,
+        functions: &F,
+        reader: &mut P,
+        now: u64,
+    ) -> Result<ProgressOf<F, R>, Refused>
+        requires later { self.old.moment < now }
+        ensures effect { LoadsBy R.stands (IsEntryIn F.Key.bytes_of F.Value.bytes_of F.Key.is_known F.Value.is_known
+            F.Key.SIZE F.Value.SIZE) F.Key.cmp F.parts.joined F.meaning self.old self.new slot context now
+            (P.failures reader.old) (P.failures reader.new) result }
+        ensures event { IsTrue R.keeps → IfOk result
+            (λ progress. IsLoad F.Key.cmp F.meaning self.old self.new slot context now progress) }
+        ensures unread { ((page : ℕ) → WaitsFor self.old slot context page → ⊥) → reader.new ≡ reader.old }
+        ensures caused { P.failures reader.new ≢ P.failures reader.old → (page : ℕ)
+            × MayFail R.stands P.can_fail self.old.records.receipts self.old.records.page_bits page }
+        ensures within { IfOk result (λ _. (slot < 16) × (context < 8)) }
+        ensures moment { self.new.moment ≤ now }
+    {
+        let Some(open) = self.open(slot, context) else {
+            return Err(Refused::Unknown);
+        };
+        let Some(loading) = loading_of(&open.phase) else {
+            return Err(Refused::NotReady);
+        };
+        let begin = self.records.begin();
+        if loading.begin != begin {
+            self.set_phase(slot, context, &open, Phase::Fresh, now);
+            return Ok(Progress::Next);
+        }
+        self.known();
+        let page = self.records.page_of(loading.wanted);
+        match self.read(reader, page) {
+            Err(refused) => Err(refused),
             Ok(loaded) => self.look_on(slot, context, &open, loading, loaded, functions, now),
         }
     }
 
-    /// Follows the records of a page that came for an operation.
-    fn look_on(
+    /// Reads a flushed page by the receipt that is kept of it. Refused: `NoMemory`, or as the reader tells.
+    pub fn read<P: PageReader<Receipt = R>>(
+        &self,
+        reader: &mut P,
+        page: u64,
+    ) -> Result<Loaded<R>, Refused>
+        requires flushed { page < length self.now.records.receipts }
+        ensures own { IfOk result (λ l. IsHeldBy self.now.records.receipts page (R.stands l.receipt)) }
+        ensures steady { OnOk result (P.failures reader.new ≡ P.failures reader.old) }
+        ensures counted { IfErr result (ReadFailsBy page (P.failures reader.old) (P.failures reader.new)) }
+        ensures caused { IfErr result (λ e. e ≢ Refused.NoMemory
+            → MayFail R.stands P.can_fail self.now.records.receipts self.now.records.page_bits page) }
+    {
+        self.pages_known();
+        let receipt = match self.records.receipt(page) {
+            Err(refused) => return Err(refused),
+            Ok(receipt) => receipt,
+        };
+        Loaded::fetch(reader, &receipt, self.page_size())
+    }
+
+    /// Takes a page that came for an operation, where it is the one that is kept.
+    fn receive(
         &mut self,
         slot: usize,
         context: usize,
@@ -105,12 +172,40 @@ impl<F: Mergeable, R: Receipt> Core<F, R> {
         ensures moment { self.new.moment ≤ now }
     {
         self.known();
-        lookups_tell::<F::Key, F::Value>();
-        let key = operation.op.key();
         let page = self.records.page_of(loading.wanted);
         if let Err(refused) = self.records.is_own(&loaded, page) {
             return Err(refused);
         }
+        self.look_on(slot, context, operation, loading, loaded, functions, now)
+    }
+
+    /// Follows the records of the page that an operation waits for.
+    fn look_on(
+        &mut self,
+        slot: usize,
+        context: usize,
+        operation: &ContextOf<F>,
+        loading: Loading<F::Value>,
+        loaded: Loaded<R>,
+        functions: &F,
+        now: u64,
+    ) -> Result<ProgressOf<F, R>, Refused>
+        requires later { self.old.moment < now }
+        requires session { slot < 16 }
+        requires context { context < 8 }
+        requires awaits { AwaitsPage self.old slot context operation.now loading }
+        requires own { IsHeldBy self.old.records.receipts (page_at self.old.records.page_bits loading.wanted)
+            (R.stands loaded.receipt) }
+        ensures effect { Loads R.stands (IsEntryIn F.Key.bytes_of F.Value.bytes_of F.Key.is_known F.Value.is_known
+            F.Key.SIZE F.Value.SIZE) F.Key.cmp F.parts.joined F.meaning self.old self.new slot context (Ok loaded) now result }
+        ensures event { IsTrue R.keeps → IfOk result
+            (λ progress. IsLoad F.Key.cmp F.meaning self.old self.new slot context now progress) }
+        ensures moment { self.new.moment ≤ now }
+    {
+        self.known();
+        lookups_tell::<F::Key, F::Value>();
+        let key = operation.op.key();
+        let page = self.records.page_of(loading.wanted);
         let low = self.records.first_of(page);
         let came = match self.records.trace_in(
             functions,

@@ -2,7 +2,7 @@
 ghost use Rattle.std.specs.Prelude.{◌≡◌, ◌↔◌, length, IsTrue};
 
 /// Whether these bytes are those, a block at a time: no page is shorter than a block.
-pub(crate) fn is_same(left: &[u8], right: &[u8]) -> bool
+pub fn is_same(left: &[u8], right: &[u8]) -> bool
     ensures { IsTrue result ↔ (left.now ≡ right.now) }
 {
     if left.len() != right.len() {

@@ -5,7 +5,7 @@
 //! premise. All other clauses hold of every device. [`MemoryDevice`] keeps.
 #![tactic(auto)]
 
-pub(crate) mod comparing;
+pub mod comparing;
 pub mod disks;
 pub mod failures;
 pub mod files;

@@ -2,6 +2,7 @@
 use Rattle.std.proofs.Common.{◌≡◌, ◌≤◌, ◌==◌, ℕ, suc, Bool, true, false, List, [], ◌∷◌, length, drop, Option, Some, None, refl, ap, ◌∙◌, arith}
 use Rattle.std.proofs.lemmas.List.{drop_all}
 use Rattle.std.proofs.lemmas.Bool.{eqb-true}
+use Rattle.std.proofs.lemmas.Bool.Decides.{nat_tests}
 use Rattle.fkv_pages.specs.Flushes.{first_difference, difference}
 
 by_nothing : (xs : List ℕ) → first_difference xs [] ≡ None
@@ -32,3 +33,11 @@ no_difference held came h = by_test (length held == length came) refl
     by_test : (b : Bool) → (length held == length came) ≡ b → held ≡ came
     by_test true t = none_same held came (rw t at h) (eqb-true (length held) (length came) t)
     by_test false t = absurd (let some : ◌≡◌ {A = Option (ℕ × ℕ)} (Some (length held, length came)) None = rw t at h in cc)
+
+-- a list differs from itself nowhere
+by_itself : (xs : List ℕ) → first_difference xs xs ≡ None
+by_itself [] = refl
+by_itself (x ∷ xs) = let t : (x == x) ≡ true = grind (arith, nat_tests) in rw t (by_itself xs)
+
+pub same_difference : (held came : List ℕ) → held ≡ came → difference held came ≡ None
+same_difference held came h = let t : (length came == length came) ≡ true = grind (arith, nat_tests) in rw (h, t) (by_itself came)

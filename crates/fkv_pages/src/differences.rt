@@ -2,6 +2,7 @@
 ghost use Rattle.std.specs.Prelude.{◌≡◌, ◌∷◌, [], length, None, option_map};
 ghost use Rattle.fkv_pages.specs.Flushes.{first_difference, difference, bytes_refusal};
 
+use fkv_device::comparing::is_same;
 use fkv_functions::{Refused, What};
 
 /// Why bytes are not those of the page that waits: `Stranger` with the lengths where they differ, else with the two
@@ -15,6 +16,9 @@ pub(crate) fn refusal_of_bytes(held: &[u8], came: &[u8]) -> Option<Refused>
             held: held.len() as u64,
             came: came.len() as u64,
         });
+    }
+    if is_same(held, came) {
+        return None;
     }
     let (held, came) = differing(held, came)?;
     Some(Refused::Stranger {

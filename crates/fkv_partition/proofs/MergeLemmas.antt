@@ -19,7 +19,6 @@ use Rattle.fkv_core.specs.Effect as key_effect
 use Rattle.fkv_core.specs.Going as going
 use Rattle.fkv_core.specs.Installing as installing
 use Rattle.fkv_core.specs.Loading as loading
-use Rattle.fkv_core.specs.Sound.{IsSound}
 use Rattle.fkv_core.specs.Views.{context_at}
 use Rattle.fkv_partition.specs.declared.relocations.Relocation.{Relocation}
 use Rattle.fkv_partition.specs.Effect.{Asked, asked, asked_of, asked_by}

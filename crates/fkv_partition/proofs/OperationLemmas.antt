@@ -1,8 +1,10 @@
 -- What the calls of operations come to: those on keys, and those of relocations.
-use Rattle.std.proofs.Common.{◌≡◌, ◌↔◌, [], Bool, ℕ, ◌<◌, ◌⊎◌, inl, inr, IsTrue, Some, None, Result, Ok, Err, IfOk, OnOk, OnErr, subst, refl, sym, ◌∙◌, ap}
+use Rattle.std.proofs.Common.{◌≡◌, ◌↔◌, [], Bool, List, ℕ, ◌<◌, ◌⊎◌, inl, inr, IsTrue, Some, None, Result, Ok, Err, IfOk, OnOk, OnErr, subst, refl, sym, ◌∙◌, ap}
 use Rattle.std.specs.declared.cmp.Ordering.{Ordering}
 use Rattle.fkv_functions.specs.Meanings.{Meanings}
 use Rattle.fkv_functions.specs.declared.refusals.Refused.{Refused}
+use Rattle.fkv_device.specs.Standing.{Standing}
+use Rattle.fkv_texts.specs.declared.entries.Entry.{Entry}
 use Rattle.fkv_operations.specs.Operations.{keyed, op_of}
 use Rattle.fkv_operations.specs.declared.operations.KeyedOp.{KeyedOp}
 use Rattle.fkv_operations.specs.declared.operations.KeyedOp.TheVariants as on_key
@@ -11,6 +13,8 @@ use Rattle.fkv_operations.specs.declared.operations.Op.TheVariants.{Read, Upsert
 use Rattle.fkv_core.specs.declared.contexts.Progress.{Progress}
 use Rattle.fkv_core.specs.Beginning as beginning
 use Rattle.fkv_core.specs.Effect as key_effect
+use Rattle.fkv_core.specs.Loading as key_loading
+use Rattle.fkv_core.specs.Loading.{ReadsBy}
 use Rattle.fkv_core.specs.Pending as key_pending
 use Rattle.fkv_core.specs.Pending.{pending, OthersPend, AllPend}
 use Rattle.fkv_core.specs.Views.{CoreView, slots_of}
@@ -19,6 +23,8 @@ use Rattle.fkv_partition.specs.declared.relocations.Relocation.{Relocation}
 use Rattle.fkv_partition.specs.declared.relocations.Stage.TheVariants.{Fresh}
 use Rattle.fkv_partition.specs.Beginning.{IssuesOnKey, Relocates, Drops}
 use Rattle.fkv_partition.specs.Effect.{IsQuiet, IsIssue, IsEvent, IsLoad, IsLoaded, IsGiveUp, Finds}
+use Rattle.fkv_partition.specs.Events.{Loads, WaitsFor, LoadsBy}
+use Rattle.fkv_partition.specs.Reading.{WaitsOn, LoadsOnBy}
 use Rattle.fkv_partition.specs.Relocating.{IsRelocating}
 use Rattle.fkv_partition.specs.Sound.{IsCompacting}
 use Rattle.fkv_partition.specs.Views.{PartitionView, with_core, at_moment, relocation_at, with_relocation}
@@ -147,3 +153,26 @@ drops-pend cmp old new slot c now r (Drops.drops x here is told) = rw is (λ s d
 -- whether a page waits to be written is the same of a partition that is the same
 pub due-same : {K V I P : Type 0} {u v : PartitionView K V I} → u ≡ v → P ↔ (u.core.records.waiting ≡ []) → P ↔ (v.core.records.waiting ≡ [])
 due-same {K} {V} {I} {P = P} same h = subst (λ (w : PartitionView K V I). P ↔ (w.core.records.waiting ≡ [])) same h
+
+-- ---- a load that reads for itself
+module _ {K V I : Type 0} (old : PartitionView K V I) (slot c : ℕ) where
+  waits-key : relocation_at old slot c ≡ None → (page : ℕ) → WaitsFor old slot c page → key_loading.WaitsFor old.core slot c page
+  waits-key none page (WaitsFor.on_key n w) = w
+  waits-key none page (WaitsFor.relocation w) = let bad : None ≡ Some w.relocation = sym none ∙ w.awaits.here in absurd (cc)
+
+  waits-relocation : (x : Relocation K V) → relocation_at old slot c ≡ Some x → (page : ℕ) → WaitsFor old slot c page → WaitsOn old slot c page
+  waits-relocation x here page (WaitsFor.on_key n w) = let bad : None ≡ Some x = sym n ∙ here in absurd (cc)
+  waits-relocation x here page (WaitsFor.relocation w) = w
+
+module _ {K V I O R : Type 0} (stands : R → Standing) (spells : ℕ → List ℕ → ℕ → Entry K V → Type 0) (cmp : K → K → Ordering) (join : V → V → V) (f : Meanings K V I O) (code : K → ℕ) (old new : PartitionView K V I) (slot c now : ℕ) {before after_ : ℕ} {r : Result (Progress K V I O R) Refused} where
+  pub reads-key : relocation_at old slot c ≡ None → new ≡ with_core old new.core → key_loading.LoadsBy stands spells cmp join f old.core new.core slot c now before after_ r
+      → LoadsBy stands spells cmp join f code old new slot c now before after_ r
+  reads-key none rest (ReadsBy.idle unasked all same) = ReadsBy.idle (λ page w. unasked page (waits-key old slot c none page w)) (λ came. Loads.on_key none (all came) rest) same
+  reads-key none rest (ReadsBy.came page p at own does same) = ReadsBy.came page p (WaitsFor.on_key none at) own (Loads.on_key none does rest) same
+  reads-key none rest (ReadsBy.failed page why at fails is told) = ReadsBy.failed page why (WaitsFor.on_key none at) fails (rest ∙ ap (with_core old) is) told
+
+  pub reads-relocation : (x : Relocation K V) → relocation_at old slot c ≡ Some x → LoadsOnBy stands spells cmp join code old new slot c now before after_ r
+      → LoadsBy stands spells cmp join f code old new slot c now before after_ r
+  reads-relocation x here (ReadsBy.idle unasked all same) = ReadsBy.idle (λ page w. unasked page (waits-relocation old slot c x here page w)) (λ came. Loads.relocation x here (all came)) same
+  reads-relocation x here (ReadsBy.came page p at own does same) = ReadsBy.came page p (WaitsFor.relocation at) own (Loads.relocation x here does) same
+  reads-relocation x here (ReadsBy.failed page why at fails is told) = ReadsBy.failed page why (WaitsFor.relocation at) fails is told

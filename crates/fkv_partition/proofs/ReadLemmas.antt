@@ -21,12 +21,13 @@ use Rattle.fkv_lookups.specs.RecordsViews.{RecordsView}
 use Rattle.fkv_lookups.specs.Traced.{IsTraced}
 use Rattle.fkv_lookups.proofs.TracedLemmas.{raw, traced-raw}
 use Rattle.fkv_core.specs.Sound.{IsSound}
+use Rattle.fkv_core.specs.declared.contexts.Loading.{Loading}
 use Rattle.fkv_core.proofs.DecidedLemmas.{page_flushed}
 use Rattle.fkv_partition.specs.declared.relocations.Relocation.{Relocation}
 use Rattle.fkv_partition.specs.declared.relocations.Stage.{Stage}
-use Rattle.fkv_partition.specs.declared.relocations.Stage.TheVariants.{Reading}
+use Rattle.fkv_partition.specs.declared.relocations.Stage.TheVariants.{Reading, Tracing}
 use Rattle.fkv_partition.specs.Going.{Awaited, awaited, awaited_by}
-use Rattle.fkv_partition.specs.Reading.{AwaitsPage}
+use Rattle.fkv_partition.specs.Reading.{AwaitsPage, HasPage, WaitsOn}
 use Rattle.fkv_partition.specs.Sound.{IsCompacting}
 use Rattle.fkv_partition.specs.Stages.{IsReading, StageStands}
 use Rattle.fkv_partition.specs.Views.{PartitionView, relocation_at}
@@ -162,3 +163,34 @@ stranger-held {K} {V} u v page wanted st why same page_is there told =
       | inr past ↦ absurd (let le = past.0 in omega (arith, there))
     ]
     by_get (Some s) h t = (s, h, t.0, t.1)
+
+-- the page that is at hand is that of the relocation's target, or the one on the way to it
+module _ {K V I : Type 0} {v : PartitionView K V I} {slot c : ℕ} {x : Relocation K V} {wanted : ℕ} {st : Standing} (h : HasPage v slot c x wanted st) where
+  same-wanted : {begin at : ℕ} → awaited x ≡ Some (record { begin = begin; wanted = at }) → (begin ≡ v.core.records.begin) × (at ≡ wanted)
+  same-wanted {begin} {at} is = same-awaited (record { begin = begin; wanted = at }) (record { begin = v.core.records.begin; wanted = wanted }) (sym is ∙ h.awaits.awaits)
+
+  pub has-place : {begin : ℕ} → x.stage ≡ Reading begin → HasPage v slot c x x.target st
+  has-place {begin} at = subst (λ (n : ℕ). HasPage v slot c x n st) (sym (same-wanted {begin = begin} {at = x.target} (ap (awaited_by x.target) at)).1) h
+
+  pub reads-begin : {begin : ℕ} → x.stage ≡ Reading begin → x.stage ≡ Reading v.core.records.begin
+  reads-begin {begin} at = subst (λ (n : ℕ). x.stage ≡ Reading n) (same-wanted {begin = begin} {at = x.target} (ap (awaited_by x.target) at)).0 at
+
+  pub has-way : {e : Entry K V} {l : Loading V} → x.stage ≡ Tracing e l → HasPage v slot c x l.wanted st
+  has-way {e} {l} at = subst (λ (n : ℕ). HasPage v slot c x n st) (sym (same-wanted {begin = l.begin} {at = l.wanted} (ap (awaited_by x.target) at)).1) h
+
+-- ---- where a relocation waits for no page
+module _ {K V I : Type 0} (v : PartitionView K V I) (slot c : ℕ) where
+  pub waits-none-on : relocation_at v slot c ≡ None → (page : ℕ) → WaitsOn v slot c page → ⊥
+  waits-none-on none page w = let bad : None ≡ Some w.relocation = sym none ∙ w.awaits.here in absurd (cc)
+
+  waits-open-on : (x : Relocation K V) → relocation_at v slot c ≡ Some x → (page : ℕ) (w : WaitsOn v slot c page) → awaited x ≡ Some (record { begin = v.core.records.begin; wanted = w.wanted })
+  waits-open-on x here page w =
+      let same : Some x ≡ Some w.relocation = sym here ∙ w.awaits.here in
+      let is : x ≡ w.relocation = cc in
+      ap awaited is ∙ w.awaits.awaits
+
+  pub waits-not-on : (x : Relocation K V) → relocation_at v slot c ≡ Some x → awaited x ≡ None → (page : ℕ) → WaitsOn v slot c page → ⊥
+  waits-not-on x here none page w = let bad = sym none ∙ waits-open-on x here page w in absurd (cc)
+
+  pub waits-moved-on : (x : Relocation K V) (begin wanted : ℕ) → relocation_at v slot c ≡ Some x → awaited x ≡ Some (record { begin = begin; wanted = wanted }) → begin ≢ v.core.records.begin → (page : ℕ) → WaitsOn v slot c page → ⊥
+  waits-moved-on x begin wanted here is other page w = other (same-awaited (record { begin = begin; wanted = wanted }) (record { begin = v.core.records.begin; wanted = w.wanted }) (sym is ∙ waits-open-on x here page w)).0

@@ -1,5 +1,5 @@
 -- What a page on the way from the entry of a record's class down to its place tells of the record.
-use Rattle.std.proofs.Common.{◌≡◌, ◌+◌, ◌<◌, ◌≤◌, inl, inr, nat_le, ℕ, Bool, true, false, cond, length, nat_lt, IsTrue, List, Option, Some, refl, sym, ap, subst, ◌∙◌, arith}
+use Rattle.std.proofs.Common.{◌≡◌, ◌+◌, ◌<◌, ◌≤◌, inl, inr, nat_le, ℕ, Bool, true, false, cond, length, nat_lt, IsTrue, List, Option, Some, None, refl, sym, ap, subst, ◌∙◌, arith}
 use Rattle.std.proofs.lemmas.Bool.Decides.{nat_tests}
 use Rattle.std.proofs.lemmas.Bool.{cases_lt, ltb-true}
 use Rattle.std.specs.Prelude.{Result, Ok}
@@ -32,15 +32,15 @@ use Rattle.fkv_core.proofs.StoodLemmas.{rises}
 use Rattle.fkv_partition.specs.declared.relocations.Relocation.{Relocation}
 use Rattle.fkv_partition.specs.declared.relocations.Liveness.TheVariants.{Superseded, Last, Further}
 use Rattle.fkv_partition.specs.declared.relocations.Stage.{Stage}
-use Rattle.fkv_partition.specs.declared.relocations.Stage.TheVariants.{Tracing, Ready}
-use Rattle.fkv_partition.specs.Going.{awaited_by}
+use Rattle.fkv_partition.specs.declared.relocations.Stage.TheVariants.{Fresh, Reading, Tracing, Ready}
+use Rattle.fkv_partition.specs.Going.{Awaited, awaited_by}
 use Rattle.fkv_partition.specs.Reading.{AwaitsPage, HasPage, TracesTo}
 use Rattle.fkv_partition.specs.Sound.{IsCompacting}
 use Rattle.fkv_partition.specs.Stages.{IsTracing, RelocationStands, StageStands}
 use Rattle.fkv_partition.specs.Views.{PartitionView}
 use Rattle.fkv_partition.specs.Checking.{liveness, higher_of, renewed}
 use Rattle.fkv_partition.proofs.MoveLemmas.{stands-here}
-use Rattle.fkv_partition.proofs.ReadLemmas.{kept-from, same-awaited}
+use Rattle.fkv_partition.proofs.ReadLemmas.{kept-from, same-awaited, place-flushed}
 use Rattle.fkv_partition.proofs.CheckingLemmas.{higher-left, higher-right, stands-in, found-in, way-class, met-dead, lands, place-value, ready-by, at-last, at-further}
 
 -- ---- what the page that came says
@@ -53,26 +53,25 @@ pub record CameOf {K V : Type 0} (keeps : Bool) (entry : ℕ → List ℕ → �
       → IsOfClass code r key l.wanted
       → (q : Gathered K V) × (result ≡ Ok q) × GoesOn cmp join code r key (higher_of (place + 1) (first_place r.page_bits (page_at r.page_bits l.wanted))) l.wanted l.parts q
 
-pub page-came : {K V : Type 0} (keeps : Bool) (entry : ℕ → List ℕ → ℕ → Entry K V → Type 0) (cmp : K → K → Ordering) (join : V → V → V) (code : K → ℕ) (a b d u v : RecordsView K V) (place : ℕ) (key : K) (page low : ℕ) (l : Loading V) (st : Standing) (bytes : List ℕ) (result : Result (Gathered K V) Refused)
+pub page-came : {K V : Type 0} (keeps : Bool) (entry : ℕ → List ℕ → ℕ → Entry K V → Type 0) (cmp : K → K → Ordering) (join : V → V → V) (code : K → ℕ) (a d u v : RecordsView K V) (place : ℕ) (key : K) (page low : ℕ) (l : Loading V) (st : Standing) (bytes : List ℕ) (result : Result (Gathered K V) Refused)
     → a ≡ v
-    → b ≡ v
     → d ≡ v
     → u ≡ v
     → page ≡ page_at a.page_bits l.wanted
     → low ≡ higher_of (place + 1) (first_place d.page_bits page)
-    → IsHeldBy b.receipts page st
+    → IsHeldBy v.receipts (page_at v.page_bits l.wanted) st
     → IsGathered join (entry u.page_bits bytes) cmp key u.page_bits low l.wanted l.parts result
     → (IsTrue keeps
     → u.begin ≤ l.wanted
     → IsOfClass code u key l.wanted
     → (r : Gathered K V) × (result ≡ Ok r) × GoesOn cmp join code u key low l.wanted l.parts r)
     → CameOf keeps entry cmp join code v place key l st bytes result
-page-came {K} {V} keeps entry cmp join code a b d u v place key page low l st bytes result a_is b_is d_is u_is page_is low_is held reads kept =
+page-came {K} {V} keeps entry cmp join code a d u v place key page low l st bytes result a_is d_is u_is page_is low_is held reads kept =
     let at : page ≡ page_at v.page_bits l.wanted = page_is ∙ ap (λ (w : RecordsView K V). page_at w.page_bits l.wanted) a_is in
     let floor : low ≡ higher_of (place + 1) (first_place v.page_bits (page_at v.page_bits l.wanted)) =
     low_is ∙ ap (λ (w : RecordsView K V). higher_of (place + 1) (first_place w.page_bits page)) d_is ∙ ap (λ n. higher_of (place + 1) (first_place v.page_bits n)) at in
     record {
-      own = subst (λ (n : ℕ). IsHeldBy v.receipts n st) at (subst (λ (w : RecordsView K V). IsHeldBy w.receipts page st) b_is held);
+      own = held;
       reads = rw floor at (subst (λ (w : RecordsView K V). IsGathered join (entry w.page_bits bytes) cmp key w.page_bits low l.wanted l.parts result) u_is reads);
       kept = rw floor at (subst (λ (w : RecordsView K V). IsTrue keeps → w.begin ≤ l.wanted → IsOfClass code w key l.wanted → (r : Gathered K V) × (result ≡ Ok r) × GoesOn cmp join code w key low l.wanted l.parts r) u_is kept);
     }
@@ -282,3 +281,29 @@ module _ {K V I : Type 0} {keeps : Bool} (cmp : K → K → Ordering) (join : V 
           is = tracing.is;
         },
       )
+
+-- the page that a relocation waits for is flushed
+module _ {K V I : Type 0} {keeps : Bool} (cmp : K → K → Ordering) (join : V → V → V) (code : K → ℕ) (order : IsKeyOrder cmp) (v : PartitionView K V I) (sound : IsSound keeps cmp join code v.core) (s : IsCompacting keeps cmp join code v) (slot c : ℕ) (x : Relocation K V) (wanted : ℕ)
+    (a : AwaitsPage v slot c x wanted) where
+  abbrev asked_by : Stage K V → Option Awaited
+  asked_by q = awaited_by x.target q
+
+  waits-none : (q : Stage K V) → x.stage ≡ q → asked_by q ≡ None → ⊥
+  waits-none q at none = let bad = sym none ∙ sym (ap asked_by at) ∙ a.awaits in absurd (cc)
+
+  same-begin : (q : Stage K V) (begin at : ℕ) → x.stage ≡ q → asked_by q ≡ Some (record { begin = begin; wanted = at }) → (begin ≡ v.core.records.begin) × (at ≡ wanted)
+  same-begin q begin at is told = same-awaited (record { begin = begin; wanted = at }) (record { begin = v.core.records.begin; wanted = wanted }) (sym told ∙ sym (ap asked_by is) ∙ a.awaits)
+
+  pub awaited-flushed : page_at v.core.records.page_bits wanted < length v.core.records.receipts
+  awaited-flushed = by_stage x.stage refl
+    where
+      by_stage : (q : Stage K V) → x.stage ≡ q → page_at v.core.records.page_bits wanted < length v.core.records.receipts
+      by_stage Fresh at = absurd (waits-none Fresh at refl)
+      by_stage (Ready e kept) at = absurd (waits-none (Ready e kept) at refl)
+      by_stage (Reading begin) at =
+          let same = same-begin (Reading begin) begin x.target at refl in
+          subst (λ (n : ℕ). page_at v.core.records.page_bits n < length v.core.records.receipts) same.1 (place-flushed cmp join code v sound s slot c x begin at same.0 a.here)
+      by_stage (Tracing e l) at =
+          let same = same-begin (Tracing e l) l.begin l.wanted at refl in
+          let here = subst (λ (n : ℕ). AwaitsPage v slot c x n) (sym same.1) a in
+          subst (λ (n : ℕ). page_at v.core.records.page_bits n < length v.core.records.receipts) same.1 (way-flushed cmp join code order v sound s slot c x e l here at)

@@ -23,7 +23,7 @@ use Rattle.fkv_core.specs.Looking as looking
 use Rattle.fkv_partition.specs.declared.relocations.Relocation.{Relocation}
 use Rattle.fkv_partition.specs.Beginning.{IssuesOnKey, Relocates, Drops}
 use Rattle.fkv_partition.specs.Going.{GoesOn}
-use Rattle.fkv_partition.specs.Reading.{LoadsOn}
+use Rattle.fkv_partition.specs.Reading.{LoadsOn, WaitsOn}
 use Rattle.fkv_partition.specs.Views.{PartitionView, relocation_at, with_core}
 
 -- relocations stay, and what is cleared
@@ -103,6 +103,19 @@ pub data Loads {K V I O R : Type 0} (stands : R → Standing) (spells : ℕ → 
       → relocation_at old slot c ≡ Some x
       → LoadsOn stands spells cmp join code old new slot c came now result
       → Loads stands spells cmp join f code old new slot c came now result
+
+-- what is open in a context waits for this page, and Begin has not moved since
+pub data WaitsFor {K V I : Type 0} (v : PartitionView K V I) (slot c page : ℕ) : Type 0 where
+  on_key : relocation_at v slot c ≡ None → loading.WaitsFor v.core slot c page → WaitsFor v slot c page
+  relocation : WaitsOn v slot c page → WaitsFor v slot c page
+
+-- the page that is waited for is read by the receipt that is kept of it
+abbrev pub LoadsBy : {K V I O R : Type 0} → (R → Standing) → (ℕ → List ℕ → ℕ → Entry K V → Type 0)
+    → (K → K → Ordering) → (V → V → V) → Meanings K V I O → (K → ℕ) → PartitionView K V I → PartitionView K V I
+    → ℕ → ℕ → ℕ → ℕ → ℕ → Result (Progress K V I O R) Refused → Type 0
+LoadsBy stands spells cmp join f code old new slot c now before after result = loading.ReadsBy stands
+    old.core.records.receipts (WaitsFor old slot c)
+    (λ came. Loads stands spells cmp join f code old new slot c came now result) old new before after result
 
 -- what is open in a context is given up
 pub data GivesUp {K V I : Type 0} (old new : PartitionView K V I) (slot c now : ℕ)

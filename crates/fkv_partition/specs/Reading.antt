@@ -12,6 +12,7 @@ use Rattle.fkv_texts.specs.declared.entries.ChainPosition.TheVariants.{Below}
 use Rattle.fkv_pages.specs.Loads.{IsHeldBy, first_place}
 use Rattle.fkv_lookups.specs.declared.gathered.Gathered.{Gathered}
 use Rattle.fkv_lookups.specs.Lookups.{IsGathered}
+use Rattle.fkv_core.specs.Loading.{ReadsBy}
 use Rattle.fkv_core.specs.declared.contexts.Loading.{Loading}
 use Rattle.fkv_partition.specs.declared.relocations.Relocation.{Relocation}
 use Rattle.fkv_partition.specs.declared.relocations.Stage.TheVariants.{Fresh, Reading, Tracing}
@@ -154,3 +155,18 @@ pub data LoadsOn {K V I O R : Type 0} (stands : R → Standing) (spells : ℕ �
       → new ≡ with_relocation old slot c None now
       → result ≡ Err (Damaged (page_at old.core.records.page_bits l.wanted))
       → LoadsOn stands spells cmp join code old new slot c came now result
+
+-- the relocation that is open in a context waits for this page, and Begin has not moved since
+pub record WaitsOn {K V I : Type 0} (v : PartitionView K V I) (slot c page : ℕ) : Type 0 where
+  pub relocation : Relocation K V
+  pub wanted : ℕ
+  pub awaits : AwaitsPage v slot c relocation wanted
+  pub page_is : page ≡ page_at v.core.records.page_bits wanted
+
+-- and the same where the page is read by the receipt that is kept of it
+abbrev pub LoadsOnBy : {K V I O R : Type 0} → (R → Standing) → (ℕ → List ℕ → ℕ → Entry K V → Type 0)
+    → (K → K → Ordering) → (V → V → V) → (K → ℕ) → PartitionView K V I → PartitionView K V I → ℕ → ℕ → ℕ → ℕ → ℕ
+    → Result (Progress K V I O R) Refused → Type 0
+LoadsOnBy stands spells cmp join code old new slot c now before after result = ReadsBy stands old.core.records.receipts
+    (WaitsOn old slot c) (λ came. LoadsOn stands spells cmp join code old new slot c came now result) old new before after
+    result

@@ -1,9 +1,10 @@
 //! Events of operations on keys: they are the core's, and leave relocations and what is cleared.
-ghost use Rattle.std.specs.Prelude.{◌≡◌, ◌<◌, ◌≤◌, None, IsTrue, IfOk, OnOk, OnErr};
+ghost use Rattle.std.specs.Prelude.{◌≡◌, ◌≢◌, ◌<◌, ◌≤◌, ℕ, None, IsTrue, IfOk, OnOk, OnErr};
 ghost use Rattle.fkv_pages.specs.Spelled.{IsEntryIn};
+ghost use Rattle.fkv_hybrid.specs.Scans.{MayFail};
 ghost use Rattle.fkv_core.specs.Going.{Goes};
 ghost use Rattle.fkv_core.specs.Installing.{Installs};
-ghost use Rattle.fkv_core.specs.Loading.{Loads};
+ghost use Rattle.fkv_core.specs.Loading.{Loads, LoadsBy, WaitsFor};
 ghost use Rattle.fkv_core.specs.Ending.{GivesUp};
 ghost use Rattle.fkv_core.specs.Effect.{IsEvent, IsGiveUp, IsIssue};
 ghost use Rattle.fkv_core.specs.Pending.{IsLoad};
@@ -15,7 +16,7 @@ use fkv_core::ProgressOf;
 use fkv_core::preserving::{
     events_preserve, loads_preserve, loads_preserve_sessions, sessions_preserved,
 };
-use fkv_device::{Loaded, Receipt};
+use fkv_device::{Loaded, PageReader, Receipt};
 use fkv_functions::{Built, Mergeable, Refused, What};
 use fkv_operations::KeyedOpOf;
 
@@ -146,6 +147,37 @@ impl<F: Mergeable, R: Receipt> Partition<F, R> {
         loads_preserve_sessions::<F, R>();
         self.core.known();
         let loaded = self.core.load(slot, context, came, functions, now);
+        self.core.known();
+        loaded
+    }
+
+    /// Goes on with an operation on a key with the page that it waits for, as [`fkv_core::Core::load_by`] does, whose
+    /// refusals it has.
+    pub(crate) fn load_by_on_key<P: PageReader<Receipt = R>>(
+        &mut self,
+        slot: usize,
+        context: usize,
+        functions: &F,
+        reader: &mut P,
+        now: u64,
+    ) -> Result<ProgressOf<F, R>, Refused>
+        requires later { self.old.core.moment < now }
+        ensures effect { LoadsBy R.stands (IsEntryIn F.Key.bytes_of F.Value.bytes_of F.Key.is_known F.Value.is_known
+            F.Key.SIZE F.Value.SIZE) F.Key.cmp F.parts.joined F.meaning self.old.core self.new.core
+            slot context now (P.failures reader.old) (P.failures reader.new) result }
+        ensures rest { self.new ≡ with_core self.old self.new.core }
+        ensures event { IsTrue R.keeps → IfOk result (λ progress.
+            IsLoad F.Key.cmp F.meaning self.old.core self.new.core slot context now progress) }
+        ensures unread { ((page : ℕ) → WaitsFor self.old.core slot context page → ⊥) → reader.new ≡ reader.old }
+        ensures caused { P.failures reader.new ≢ P.failures reader.old → (page : ℕ)
+            × MayFail R.stands P.can_fail self.old.core.records.receipts self.old.core.records.page_bits page }
+        ensures within { IfOk result (λ _. (slot < 16) × (context < 8)) }
+        ensures moment { self.new.core.moment ≤ now }
+    {
+        loads_preserve::<F, R>();
+        loads_preserve_sessions::<F, R>();
+        self.core.known();
+        let loaded = self.core.load_by(slot, context, functions, reader, now);
         self.core.known();
         loaded
     }

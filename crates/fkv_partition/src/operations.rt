@@ -1,7 +1,8 @@
 //! Operations: on keys, which are the core's, and relocations. Each stands in a context of a session from its issue on, and
 //! goes on by events of its own session.
-ghost use Rattle.std.specs.Prelude.{◌≡◌, ◌<◌, ◌≤◌, ◌⊎◌, ℕ, IsTrue, None, Ok, IfOk, IfErr, IfSome, IsSome, OnOk, OnErr};
+ghost use Rattle.std.specs.Prelude.{◌≡◌, ◌≢◌, ◌<◌, ◌≤◌, ◌⊎◌, ℕ, IsTrue, None, Ok, IfOk, IfErr, IfSome, IsSome, OnOk, OnErr};
 ghost use Rattle.fkv_pages.specs.Spelled.{IsEntryIn};
+ghost use Rattle.fkv_hybrid.specs.Scans.{MayFail};
 ghost use Rattle.fkv_operations.specs.declared.operations.Answer.TheVariants.{Cleared};
 ghost use Rattle.fkv_operations.specs.declared.operations.Op.TheVariants.{Relocate};
 ghost use Rattle.fkv_core.specs.declared.contexts.Progress.TheVariants.{Done};
@@ -10,12 +11,12 @@ ghost use Rattle.fkv_core.specs.Pending.{AllPend, OthersPend};
 ghost use Rattle.fkv_partition.specs.Views.{relocation_at};
 ghost use Rattle.fkv_partition.specs.Effect.{IsIssue, IsEvent, IsLoad, IsGiveUp, Finds};
 ghost use Rattle.fkv_partition.specs.Relocating.{IsRelocating};
-ghost use Rattle.fkv_partition.specs.Events.{Issues, Goes, Installs, Loads, GivesUp};
+ghost use Rattle.fkv_partition.specs.Events.{Issues, Goes, Installs, Loads, LoadsBy, WaitsFor, GivesUp};
 
 use crate::partitions::Partition;
 use fkv_core::ProgressOf;
 use fkv_core::laws::{loads_end, pendings_stay};
-use fkv_device::{Loaded, Receipt};
+use fkv_device::{Loaded, PageReader, Receipt};
 use fkv_functions::{Built, Mergeable, Refused};
 use fkv_operations::OpOf;
 
@@ -186,6 +187,53 @@ impl<F: Mergeable, R: Receipt> Partition<F, R> {
         match self.relocation(slot, context) {
             None => self.load_on_key(slot, context, came, functions, now),
             Some(_relocation) => self.load_on(slot, context, came, functions, now),
+        }
+    }
+
+    /// Goes on with what waits for a page in a context, as [`Partition::load`] does with that page, and reads it here, by the
+    /// receipt that is kept of it. So it is the page that was asked for, and is compared with none: a caller that holds the
+    /// partition while it reads calls this one.
+    ///
+    /// Where nothing is open there, it waits for no page, or Begin has moved since it asked, nothing is read, and what comes
+    /// of it is what `load` makes of anything.
+    ///
+    /// Refused as `load` is, but never by `Stranger`; and by what the reader tells (`Device` with code 3, `Damaged`,
+    /// `NoMemory`), and `NoMemory` where the receipt can't be shared: then nothing changes, also where `load` would end the
+    /// operation that is handed this refusal. So the page may be asked for again, or the operation be given up.
+    pub fn load_by<P: PageReader<Receipt = R>>(
+        &mut self,
+        slot: usize,
+        context: usize,
+        functions: &F,
+        reader: &mut P,
+        now: u64,
+    ) -> Result<ProgressOf<F, R>, Refused>
+        requires later { self.old.core.moment < now }
+        ensures effect { LoadsBy R.stands (IsEntryIn F.Key.bytes_of F.Value.bytes_of F.Key.is_known F.Value.is_known
+            F.Key.SIZE F.Value.SIZE) F.Key.cmp F.parts.joined F.meaning F.code self.old self.new slot context now
+            (P.failures reader.old) (P.failures reader.new) result }
+        // on a device that keeps, what comes of it is what the look-up was to find
+        ensures event { IsTrue R.keeps → IfOk result (λ progress.
+            IsLoad F.Key.cmp F.meaning self.old self.new slot context now progress) }
+        // of a relocation also where the device does not keep
+        ensures relocating { IsSome (relocation_at self.old slot context) → IfOk result (λ _.
+            IsRelocating R.keeps F.Key.cmp self.old self.new slot context now) }
+        ensures fails { IfErr result (λ _. (self.new ≡ self.old) ⊎ IsGiveUp self.old self.new slot context now) }
+        ensures others { IsTrue R.keeps → OthersPend F.Key.cmp self.old.core self.new.core slot context }
+        ensures cleared { result ≡ Ok (Done Cleared now)
+            → IfSome (relocation_at self.old slot context) (λ x. x.target < self.new.cleared) }
+        ensures unread { ((page : ℕ) → WaitsFor self.old slot context page → ⊥) → reader.new ≡ reader.old }
+        // the reader fails only where it may for the receipt that is kept of a page
+        ensures caused { P.failures reader.new ≢ P.failures reader.old → (page : ℕ)
+            × MayFail R.stands P.can_fail self.old.core.records.receipts self.old.core.records.page_bits page }
+        ensures within { IfOk result (λ _. (slot < 16) × (context < 8)) }
+        ensures moment { self.new.core.moment ≤ now }
+    {
+        loads_end::<F, R>();
+        self.known();
+        match self.relocation(slot, context) {
+            None => self.load_by_on_key(slot, context, functions, reader, now),
+            Some(_relocation) => self.load_on_by(slot, context, functions, reader, now),
         }
     }
 

@@ -1,11 +1,12 @@
 //! What a relocation does with the page that it waited for.
-ghost use Rattle.std.specs.Prelude.{◌≡◌, ◌<◌, ◌≤◌, IfOk, IfSome, Ok, length};
+ghost use Rattle.std.specs.Prelude.{◌≡◌, ◌≢◌, ◌<◌, ◌≤◌, ℕ, IfOk, IfSome, Ok, length};
 ghost use Rattle.fkv_records.specs.Places.{page_at};
 ghost use Rattle.fkv_pages.specs.Spelled.{IsEntryIn};
+ghost use Rattle.fkv_hybrid.specs.Scans.{MayFail};
 ghost use Rattle.fkv_partition.specs.declared.relocations.Stage.TheVariants.{Reading, Tracing};
 ghost use Rattle.fkv_partition.specs.Views.{relocation_at};
 ghost use Rattle.fkv_partition.specs.Relocating.{IsRelocating};
-ghost use Rattle.fkv_partition.specs.Reading.{AwaitsPage, LoadsOn};
+ghost use Rattle.fkv_partition.specs.Reading.{AwaitsPage, HasPage, LoadsOn, WaitsOn, LoadsOnBy};
 
 use crate::partitions::Partition;
 use crate::relocations::{
@@ -13,9 +14,10 @@ use crate::relocations::{
 };
 use fkv_core::loading::is_no_memory;
 use fkv_core::{Loading, Progress, ProgressOf};
-use fkv_device::{Loaded, Receipt};
+use fkv_device::{Loaded, PageReader, Receipt};
 use fkv_functions::{Mergeable, Refused};
 use fkv_operations::Answer;
+use fkv_records::Address;
 
 impl<F: Mergeable, R: Receipt> Partition<F, R> {
     /// Goes on with a relocation that waits for a page, with that page as a device gave it, or with the refusal that came in
@@ -48,7 +50,7 @@ impl<F: Mergeable, R: Receipt> Partition<F, R> {
         let Some(relocation) = self.relocation(slot, context) else {
             return Err(Refused::Unknown);
         };
-        let Some((begin, _wanted)) = awaited(relocation.target, &relocation.stage) else {
+        let Some((begin, wanted)) = awaited(relocation.target, &relocation.stage) else {
             return Err(Refused::NotReady);
         };
         if begin != self.core.records().begin() {
@@ -63,11 +65,86 @@ impl<F: Mergeable, R: Receipt> Partition<F, R> {
                 self.end(slot, context, now);
                 Err(refused)
             }
+            Ok(loaded) => {
+                self.receive(slot, context, &relocation, wanted, loaded, functions, now)
+            }
+        }
+    }
+
+    /// Goes on with a relocation that waits for a page, as [`Partition::load_on`] does, with the page that is read here, by the
+    /// receipt that is kept of it. Where none is open there, it waits for no page, or Begin has moved, nothing is read. Refused
+    /// as `load_on` is, but never by `Stranger`; and by what the reader tells, and `NoMemory` where the receipt can't be shared:
+    /// then nothing changes.
+    pub(crate) fn load_on_by<P: PageReader<Receipt = R>>(
+        &mut self,
+        slot: usize,
+        context: usize,
+        functions: &F,
+        reader: &mut P,
+        now: u64,
+    ) -> Result<ProgressOf<F, R>, Refused>
+        requires later { self.old.core.moment < now }
+        ensures effect { LoadsOnBy R.stands (IsEntryIn F.Key.bytes_of F.Value.bytes_of F.Key.is_known F.Value.is_known
+            F.Key.SIZE F.Value.SIZE) F.Key.cmp F.parts.joined F.code self.old self.new slot context now
+            (P.failures reader.old) (P.failures reader.new) result }
+        ensures event { IfOk result (λ _. IsRelocating R.keeps F.Key.cmp self.old self.new slot context now) }
+        ensures cleared { result ≡ Ok (Progress.Done Answer.Cleared now)
+            → IfSome (relocation_at self.old slot context) (λ x. x.target < self.new.cleared) }
+        ensures unread { ((page : ℕ) → WaitsOn self.old slot context page → ⊥) → reader.new ≡ reader.old }
+        ensures caused { P.failures reader.new ≢ P.failures reader.old → (page : ℕ)
+            × MayFail R.stands P.can_fail self.old.core.records.receipts self.old.core.records.page_bits page }
+        ensures within { IfOk result (λ _. (slot < 16) × (context < 8)) }
+        ensures moment { self.new.core.moment ≤ now }
+    {
+        let Some(relocation) = self.relocation(slot, context) else {
+            return Err(Refused::Unknown);
+        };
+        let Some((begin, wanted)) = awaited(relocation.target, &relocation.stage) else {
+            return Err(Refused::NotReady);
+        };
+        let begins = self.core.records().begin();
+        if begin != begins {
+            self.set_stage(slot, context, &relocation, Stage::Fresh, now);
+            return Ok(Progress::Next);
+        }
+        self.known();
+        let page = self.core.records().page_of(wanted);
+        match self.core.read(reader, page) {
+            Err(refused) => Err(refused),
             Ok(loaded) => self.read_on(slot, context, &relocation, loaded, functions, now),
         }
     }
 
-    /// Reads a page that came for a relocation.
+    /// Takes a page that came for a relocation, where it is the one that is kept.
+    fn receive(
+        &mut self,
+        slot: usize,
+        context: usize,
+        relocation: &RelocationOf<F>,
+        wanted: Address,
+        loaded: Loaded<R>,
+        functions: &F,
+        now: u64,
+    ) -> Result<ProgressOf<F, R>, Refused>
+        requires later { self.old.core.moment < now }
+        requires session { slot < 16 }
+        requires context { context < 8 }
+        requires awaits { AwaitsPage self.old slot context relocation.now wanted }
+        ensures effect { LoadsOn R.stands (IsEntryIn F.Key.bytes_of F.Value.bytes_of F.Key.is_known F.Value.is_known
+            F.Key.SIZE F.Value.SIZE) F.Key.cmp F.parts.joined F.code self.old self.new slot context (Ok loaded) now result }
+        ensures event { IfOk result (λ _. IsRelocating R.keeps F.Key.cmp self.old self.new slot context now) }
+        ensures cleared { result ≡ Ok (Progress.Done Answer.Cleared now) → relocation.now.target < self.new.cleared }
+        ensures moment { self.new.core.moment ≤ now }
+    {
+        self.known();
+        let page = self.core.records().page_of(wanted);
+        if let Err(refused) = self.core.records().is_own(&loaded, page) {
+            return Err(refused);
+        }
+        self.read_on(slot, context, relocation, loaded, functions, now)
+    }
+
+    /// Reads the page that a relocation waits for.
     fn read_on(
         &mut self,
         slot: usize,
@@ -80,7 +157,7 @@ impl<F: Mergeable, R: Receipt> Partition<F, R> {
         requires later { self.old.core.moment < now }
         requires session { slot < 16 }
         requires context { context < 8 }
-        requires awaits { (wanted : _) × AwaitsPage self.old slot context relocation.now wanted }
+        requires has { (wanted : _) × HasPage self.old slot context relocation.now wanted (R.stands loaded.receipt) }
         ensures effect { LoadsOn R.stands (IsEntryIn F.Key.bytes_of F.Value.bytes_of F.Key.is_known F.Value.is_known
             F.Key.SIZE F.Value.SIZE) F.Key.cmp F.parts.joined F.code self.old self.new slot context (Ok loaded) now result }
         ensures event { IfOk result (λ _. IsRelocating R.keeps F.Key.cmp self.old self.new slot context now) }
@@ -113,7 +190,7 @@ impl<F: Mergeable, R: Receipt> Partition<F, R> {
         requires later { self.old.core.moment < now }
         requires session { slot < 16 }
         requires context { context < 8 }
-        requires awaits { AwaitsPage self.old slot context relocation.now relocation.now.target }
+        requires has { HasPage self.old slot context relocation.now relocation.now.target (R.stands loaded.now.receipt) }
         requires reads { relocation.now.stage ≡ Reading self.old.core.records.begin }
         ensures effect { LoadsOn R.stands (IsEntryIn F.Key.bytes_of F.Value.bytes_of F.Key.is_known F.Value.is_known
             F.Key.SIZE F.Value.SIZE) F.Key.cmp F.parts.joined F.code self.old self.new slot context (Ok loaded.now) now result }
@@ -124,9 +201,6 @@ impl<F: Mergeable, R: Receipt> Partition<F, R> {
         self.known();
         let target = relocation.target;
         let page = self.core.records().page_of(target);
-        if let Err(refused) = self.core.records().is_own(loaded, page) {
-            return Err(refused);
-        }
         match self.core.records().own_record_in(loaded, target) {
             Err(_damaged) => {
                 self.end(slot, context, now);
@@ -151,7 +225,7 @@ impl<F: Mergeable, R: Receipt> Partition<F, R> {
         requires later { self.old.core.moment < now }
         requires session { slot < 16 }
         requires context { context < 8 }
-        requires awaits { AwaitsPage self.old slot context relocation.now loading.wanted }
+        requires has { HasPage self.old slot context relocation.now loading.wanted (R.stands loaded.now.receipt) }
         requires traces { relocation.now.stage ≡ Tracing entry loading }
         ensures effect { LoadsOn R.stands (IsEntryIn F.Key.bytes_of F.Value.bytes_of F.Key.is_known F.Value.is_known
             F.Key.SIZE F.Value.SIZE) F.Key.cmp F.parts.joined F.code self.old self.new slot context (Ok loaded.now) now result }
@@ -162,9 +236,6 @@ impl<F: Mergeable, R: Receipt> Partition<F, R> {
         self.known();
         let target = relocation.target;
         let page = self.core.records().page_of(loading.wanted);
-        if let Err(refused) = self.core.records().is_own(loaded, page) {
-            return Err(refused);
-        }
         let low = higher_of(target + 1, self.core.records().first_of(page));
         let came = match self.core.records().trace_in(
             functions,

@@ -59,6 +59,8 @@ pub enum Call {
     Install(usize, usize),
     /// Hands an operation the page that it last asked for.
     Load(usize, usize),
+    /// Has an operation read the page that it waits for.
+    LoadBy(usize, usize),
     /// Hands an operation the page that the one of the last context, in the same session, last asked for.
     LoadOther(usize, usize, usize),
     /// Hands an operation this refusal in place of its page.

@@ -204,6 +204,18 @@ impl Driven {
         self.note(place_of(slot, context), progress)
     }
 
+    /// Has an operation read its page.
+    fn read_told(&mut self, slot: usize, context: usize) -> Told {
+        let Some(now) = self.now.checked_add(1) else {
+            return Told::Refused(Refused::Worn);
+        };
+        let progress = self
+            .compacted
+            .load_by(slot, context, &SumFns, &mut self.reader, now);
+        self.now = now;
+        self.note(place_of(slot, context), progress)
+    }
+
     /// Installs what is built for the question that was last asked in a context.
     fn installed(&mut self, slot: usize, context: usize) -> Told {
         let Some(now) = self.now.checked_add(1) else {
@@ -368,6 +380,7 @@ impl Driven {
             Call::Load(_, _) | Call::LoadOther(_, _, _) | Call::Fault(_, _, _) => {
                 self.loads_told(call)
             }
+            Call::LoadBy(slot, context) => self.read_told(slot, context),
             Call::Install(slot, context) => self.installed(slot, context),
             Call::Flush => self.flushed(alloc, None),
             Call::HandIn(page) => self.flushed(alloc, Some(page)),

@@ -4,6 +4,7 @@ use crate::openings::{EVICTED, EVICTED_MAP, IN_MEMORY, SMALL};
 use crate::rows::{Run, first_wrong};
 use fkv_functions::{Refused, What};
 use fkv_operations::{Answer, Op};
+use fkv_test_devices::Turn;
 
 const FUZZY_WAIT: [Row; 9] = [
     // it ends above the safe read-only offset
@@ -36,7 +37,7 @@ const TWO_UPDATES_OF_AN_EVICTED_KEY: [Row; 7] = [
     (Call::Finish(0, 0), Told::Done(Answer::Value(16))),
 ];
 
-const DEVICE_FAULT: [Row; 9] = [
+const DEVICE_FAULT: [Row; 21] = [
     // what it asked for is left in context 0, and neither loads nor installs anything there
     (Call::Do(0, Op::Rmw(b'b', 1)), Told::Done(Answer::Value(2))),
     (Call::Issue(0, Op::Read(b'a', 0)), Told::At(0)),
@@ -53,6 +54,25 @@ const DEVICE_FAULT: [Row; 9] = [
         Call::Do(0, Op::Read(b'a', 0)),
         Told::Done(Answer::Value(10)),
     ),
+    // one that reads for itself waits where the device fails, and reads again; what spells no record ends it
+    (Call::LoadBy(0, 0), Told::Refused(Refused::Unknown)),
+    (Call::Issue(0, Op::Read(b'a', 0)), Told::At(0)),
+    (Call::LoadBy(0, 0), Told::Refused(Refused::NotReady)),
+    (Call::Ready(0, 0), Told::Loads(64)),
+    (Call::Stray(0, Turn::Fails), Told::Ok),
+    (
+        Call::LoadBy(0, 0),
+        Told::Refused(Refused::Device { code: 3, page: 0 }),
+    ),
+    (Call::LoadBy(0, 0), Told::Done(Answer::Value(10))),
+    (Call::Issue(0, Op::Read(b'a', 0)), Told::At(0)),
+    (Call::Ready(0, 0), Told::Loads(64)),
+    (Call::Stray(0, Turn::Clears), Told::Ok),
+    (
+        Call::LoadBy(0, 0),
+        Told::Refused(Refused::Damaged { page: 0 }),
+    ),
+    (Call::LoadBy(0, 0), Told::Refused(Refused::Unknown)),
 ];
 
 const DELETES_OF_EVICTED_KEYS: [Row; 6] = [

@@ -120,6 +120,7 @@ impl Beside {
         } else if self.driven.compacted.awaits_page(slot, context) {
             match random_fault(word) {
                 Some(refused) => Call::Fault(slot, context, refused),
+                None if word >> 24 & 1 == 0 => Call::LoadBy(slot, context),
                 None => Call::Load(slot, context),
             }
         } else if word >> 23 & 1 == 0 && !relocates {

@@ -88,7 +88,7 @@ const TWO_ON_ONE_PLACE: [Row; 18] = [
     (Call::Issue(0, Op::Relocate), Told::At(0)),
     (Call::Issue(1, Op::Relocate), Told::At(0)),
     (Call::Go(0, 0), Told::Loads(64)),
-    (Call::Load(0, 0), Told::Done(Answer::Cleared)),
+    (Call::LoadBy(0, 0), Told::Done(Answer::Cleared)),
     (Call::Tail, Told::At(312)),
     // it had not begun
     (Call::Go(1, 0), Told::Done(Answer::Cleared)),

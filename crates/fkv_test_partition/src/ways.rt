@@ -85,15 +85,15 @@ const BEGIN_MOVES: [Row; 26] = [
         Told::Next,
     ),
     (Call::Fault(0, 2, Refused::NoMemory), Told::Next),
-    (Call::Load(0, 3), Told::Next),
+    (Call::LoadBy(0, 3), Told::Next),
     (Call::Go(0, 0), Told::Done(Answer::Cleared)),
     (Call::Go(0, 1), Told::Done(Answer::Cleared)),
     (Call::Go(0, 2), Told::Loads(256)),
     (Call::Go(0, 3), Told::Loads(256)),
     (Call::Finish(0, 2), Told::Refused(Refused::NotReady)),
-    (Call::Load(0, 2), Told::Loads(680)),
-    (Call::Load(0, 2), Told::Loads(424)),
-    (Call::Load(0, 2), Told::Done(Answer::Cleared)),
+    (Call::LoadBy(0, 2), Told::Loads(680)),
+    (Call::LoadBy(0, 2), Told::Loads(424)),
+    (Call::LoadBy(0, 2), Told::Done(Answer::Cleared)),
 ];
 
 /// Another key of the class is written while a relocation waits for a page on its way: it begins anew.

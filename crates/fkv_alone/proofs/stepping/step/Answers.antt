@@ -1,9 +1,10 @@
 use Rattle.std.proofs.lemmas.Result.{IfOk-weaker}
-use Rattle.fkv_alone.proofs.BoundLemmas.{goes-nearer, installs-nearer}
+use Rattle.fkv_pages.specs.Spelled.{IsEntryIn}
+use Rattle.fkv_alone.proofs.BoundLemmas.{goes-nearer, installs-nearer, reads-nearer}
 use Rattle.fkv_alone.proofs.DriveLemmas.{core-same}
-use Rattle.fkv_alone.proofs.KeyLemmas.{goes-on-key, installs-on-key, none-here, finds-asks, event-finishes}
-use Rattle.fkv_alone.proofs.SpoiltLemmas.{goes-undamaged, installs-undamaged, merges-fetch-not}
-use Rattle.fkv_alone.proofs.StageLemmas.{goes-advances, installs-advances}
+use Rattle.fkv_alone.proofs.KeyLemmas.{goes-on-key, installs-on-key, reads-on-key, none-here, finds-asks, event-finishes, load-tells}
+use Rattle.fkv_alone.proofs.SpoiltLemmas.{goes-undamaged, installs-undamaged, merges-fetch-not, reads-spoilt}
+use Rattle.fkv_alone.proofs.StageLemmas.{goes-advances, installs-advances, reads-advances}
 use Rattle.fkv_alone.proofs.stepping.step.Goals as goal
 
 pub returns-in-Next-clause-advances : goal.returns-in-Next-clause-advances
@@ -39,8 +40,42 @@ returns-in-NeedsBuild-clause-nearer g c = λ n kept near.
     let on = installs-on-key v w c.args.slot c.args.context c.args.now c.requires.none g.F.Key.Ord.cmp g.F.Functions.meaning g.F.Functions.code c.in-NeedsBuild.ask c.install.result (rw c.make-built.ensures at c.install.ensures.effect) in
     installs-nearer g.R.Receipt.keeps g.F.Key.Ord.cmp g.F.Mergeable.parts.joined g.F.Functions.code v.core c.args.slot c.args.context n c.known.ensures.core g.R.Receipt.stands g.F.Functions.meaning w.core c.args.now c.in-NeedsBuild.ask (rw c.in-NeedsBuild.is at near) c.install.result on.0
 
+pub returns-in-NeedsLoad-clause-advances : goal.returns-in-NeedsLoad-clause-advances
+returns-in-NeedsLoad-clause-advances g c = λ op old started h.
+    let v = c.args.partition.now in
+    let w = c.load_by.new.self in
+    let entry = IsEntryIn g.F.Key.Fixed.bytes_of g.F.Value.Fixed.bytes_of g.F.Key.Known.is_known g.F.Value.Known.is_known g.F.Key.Fixed.SIZE g.F.Value.Fixed.SIZE in
+    let on = reads-on-key v w c.args.slot c.args.context c.args.now c.requires.none g.R.Receipt.stands entry g.F.Key.Ord.cmp g.F.Mergeable.parts.joined g.F.Functions.meaning g.F.Functions.code (g.P.PageReader.failures c.args.reader.now) (g.P.PageReader.failures c.load_by.new.reader) c.load_by.result c.load_by.ensures.effect in
+    reads-advances g.R.Receipt.keeps g.R.Receipt.stands g.F.Key.Ord.cmp g.F.Mergeable.parts.joined g.F.Functions.meaning g.F.Functions.code op old v.core w.core c.args.slot c.args.context started c.args.now c.requires.later
+    entry
+    c.in-NeedsLoad._address (g.R.Receipt.stands c.in-NeedsLoad._receipt) (rw c.in-NeedsLoad.is at h) (g.P.PageReader.failures c.args.reader.now) (g.P.PageReader.failures c.load_by.new.reader) c.load_by.result on.0
+    (λ kept. IfOk-weaker c.load_by.result _ _ (λ p load. load-tells v w c.args.slot c.args.context c.args.now g.F.Key.Ord.cmp g.F.Functions.meaning p load) (c.load_by.ensures.event kept))
+
 pub returns-in-NeedsLoad-clause-nearer : goal.returns-in-NeedsLoad-clause-nearer
-returns-in-NeedsLoad-clause-nearer g c = λ n kept near. c.load.ensures.nearer n c.in-NeedsLoad._address kept (rw c.in-NeedsLoad.is at near)
+returns-in-NeedsLoad-clause-nearer g c = λ n kept near.
+    let v = c.args.partition.now in
+    let w = c.load_by.new.self in
+    let entry = IsEntryIn g.F.Key.Fixed.bytes_of g.F.Value.Fixed.bytes_of g.F.Key.Known.is_known g.F.Value.Known.is_known g.F.Key.Fixed.SIZE g.F.Value.Fixed.SIZE in
+    let on = reads-on-key v w c.args.slot c.args.context c.args.now c.requires.none g.R.Receipt.stands entry g.F.Key.Ord.cmp g.F.Mergeable.parts.joined g.F.Functions.meaning g.F.Functions.code (g.P.PageReader.failures c.args.reader.now) (g.P.PageReader.failures c.load_by.new.reader) c.load_by.result c.load_by.ensures.effect in
+    reads-nearer g.R.Receipt.keeps g.F.Key.Ord.cmp g.F.Mergeable.parts.joined g.F.Functions.code v.core c.args.slot c.args.context n c.known.ensures.core g.R.Receipt.stands g.F.Functions.meaning w.core c.args.now kept
+    entry
+    c.in-NeedsLoad._receipt c.in-NeedsLoad._address (g.P.PageReader.failures c.args.reader.now) (g.P.PageReader.failures c.load_by.new.reader) (rw c.in-NeedsLoad.is at near) c.load_by.result on.0
+
+pub returns-in-NeedsLoad-clause-rest : goal.returns-in-NeedsLoad-clause-rest
+returns-in-NeedsLoad-clause-rest g c =
+    let v = c.args.partition.now in
+    let w = c.load_by.new.self in
+    let entry = IsEntryIn g.F.Key.Fixed.bytes_of g.F.Value.Fixed.bytes_of g.F.Key.Known.is_known g.F.Value.Known.is_known g.F.Key.Fixed.SIZE g.F.Value.Fixed.SIZE in
+    let on = reads-on-key v w c.args.slot c.args.context c.args.now c.requires.none g.R.Receipt.stands entry g.F.Key.Ord.cmp g.F.Mergeable.parts.joined g.F.Functions.meaning g.F.Functions.code (g.P.PageReader.failures c.args.reader.now) (g.P.PageReader.failures c.load_by.new.reader) c.load_by.result c.load_by.ensures.effect in
+    on.1
+
+pub returns-in-NeedsLoad-clause-spoilt : goal.returns-in-NeedsLoad-clause-spoilt
+returns-in-NeedsLoad-clause-spoilt g c = λ page told same.
+    let v = c.args.partition.now in
+    let w = c.load_by.new.self in
+    let entry = IsEntryIn g.F.Key.Fixed.bytes_of g.F.Value.Fixed.bytes_of g.F.Key.Known.is_known g.F.Value.Known.is_known g.F.Key.Fixed.SIZE g.F.Value.Fixed.SIZE in
+    let on = reads-on-key v w c.args.slot c.args.context c.args.now c.requires.none g.R.Receipt.stands entry g.F.Key.Ord.cmp g.F.Mergeable.parts.joined g.F.Functions.meaning g.F.Functions.code (g.P.PageReader.failures c.args.reader.now) (g.P.PageReader.failures c.load_by.new.reader) c.load_by.result c.load_by.ensures.effect in
+    reads-spoilt entry same (rw told at on.0)
 
 pub returns-in-Next-clause-rest : goal.returns-in-Next-clause-rest
 returns-in-Next-clause-rest g c =

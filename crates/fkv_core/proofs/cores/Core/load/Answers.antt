@@ -15,8 +15,8 @@ returns-then-loading-begin-clause-effect g c =
     let begins : c.begin.result ≡ c.args.self.now.records.begin = c.begin.ensures ∙ ap (λ u. u.records.begin) c.self.view_is in
     rw c.set_phase.ensures (Loads.moved c.in-Some.open l (sym c.in-Some.ensures.value) (loading-is c.in-Some.open.phase l (sym c.in-Some-loading_of.ensures)) (λ e. c.if-loading-begin.true (e ∙ sym begins)) refl refl)
 
-pub look_on-requires-clause-awaits : goal.look_on-requires-clause-awaits
-look_on-requires-clause-awaits g c = record {
+pub receive-requires-clause-awaits : goal.receive-requires-clause-awaits
+receive-requires-clause-awaits g c = record {
   here = sym c.in-Some.ensures.value;
   loading = loading-is c.in-Some.open.phase c.in-Some-loading_of.loading (sym c.in-Some-loading_of.ensures);
   begin = c.if-loading-begin.false ∙ c.begin.ensures ∙ ap (λ u. u.records.begin) c.self.view_is;
@@ -46,10 +46,10 @@ returns-else-is_no_memory-clause-effect g c =
     rw c.free.ensures (Loads.failed c.in-Some.open c.in-Some-loading_of.loading c.in-Err.refused a c.in-Err.is (λ e. let memory = c.is_no_memory.ensures.1 e in let bad : false ≡ true = sym c.if-is_no_memory.false ∙ memory in cc) refl refl)
 
 pub returns-in-Ok-clause-effect : goal.returns-in-Ok-clause-effect
-returns-in-Ok-clause-effect g c = rw c.in-Ok.is c.look_on.ensures.effect
+returns-in-Ok-clause-effect g c = rw c.in-Ok.is c.receive.ensures.effect
 
 pub returns-in-Ok-clause-within : goal.returns-in-Ok-clause-within
-returns-in-Ok-clause-within g c = if-all c.look_on.result (c.in-Some.ensures.session, c.in-Some.ensures.context)
+returns-in-Ok-clause-within g c = if-all c.receive.result (c.in-Some.ensures.session, c.in-Some.ensures.context)
 
 pub returns-then-loading-begin-clause-event : goal.returns-then-loading-begin-clause-event
 returns-then-loading-begin-clause-event g c = λ keeps.
@@ -96,17 +96,17 @@ free-requires-clause-session g c = c.in-Some.ensures.session
 pub free-requires-clause-context : goal.free-requires-clause-context
 free-requires-clause-context g c = c.in-Some.ensures.context
 
-pub look_on-requires-clause-session : goal.look_on-requires-clause-session
-look_on-requires-clause-session g c = c.in-Some.ensures.session
+pub receive-requires-clause-session : goal.receive-requires-clause-session
+receive-requires-clause-session g c = c.in-Some.ensures.session
 
-pub look_on-requires-clause-context : goal.look_on-requires-clause-context
-look_on-requires-clause-context g c = c.in-Some.ensures.context
+pub receive-requires-clause-context : goal.receive-requires-clause-context
+receive-requires-clause-context g c = c.in-Some.ensures.context
 
 pub returns-else-is_no_memory-clause-moment : goal.returns-else-is_no_memory-clause-moment
 returns-else-is_no_memory-clause-moment g c = rw c.free.ensures (le_refl c.args.now)
 
 pub returns-in-Ok-clause-event : goal.returns-in-Ok-clause-event
-returns-in-Ok-clause-event g c = c.look_on.ensures.event
+returns-in-Ok-clause-event g c = c.receive.ensures.event
 
 pub returns-in-Ok-clause-moment : goal.returns-in-Ok-clause-moment
-returns-in-Ok-clause-moment g c = c.look_on.ensures.moment
+returns-in-Ok-clause-moment g c = c.receive.ensures.moment

@@ -1,6 +1,5 @@
-use Rattle.std.proofs.Common.{◌∙◌, length, map, arith}
+use Rattle.std.proofs.Common.{length, map, arith}
 use Rattle.fkv_pages.proofs.FrameLemmas.{start_rises}
-use Rattle.fkv_pages.proofs.ReadLemmas.{low_zero, low_later}
 use Rattle.fkv_pages.proofs.pages.Pages.first_of.Goals as goal
 
 pub start-requires : goal.start-requires

@@ -1,4 +1,14 @@
+use Rattle.fkv_partition.proofs.ReadLemmas.{has-place, reads-begin, has-way}
 use Rattle.fkv_partition.proofs.partitions.Partition.read_on.Goals as goal
+
+pub read_place-requires-clause-has : goal.read_place-requires-clause-has
+read_place-requires-clause-has g c = has-place c.requires.has.1 c.in-Reading.is
+
+pub read_place-requires-clause-reads : goal.read_place-requires-clause-reads
+read_place-requires-clause-reads g c = reads-begin c.requires.has.1 c.in-Reading.is
+
+pub trace_on-requires-clause-has : goal.trace_on-requires-clause-has
+trace_on-requires-clause-has g c = has-way c.requires.has.1 c.in-Tracing.is
 
 pub read_place-requires-clause-later : goal.read_place-requires-clause-later
 read_place-requires-clause-later g c = c.requires.later

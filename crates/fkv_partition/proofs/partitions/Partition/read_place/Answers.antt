@@ -7,45 +7,15 @@ use Rattle.fkv_texts.specs.Text.{entry_at}
 use Rattle.fkv_pages.specs.Loads.{IsHeldBy}
 use Rattle.fkv_pages.specs.Spelled.{IsEntryIn}
 use Rattle.fkv_partition.specs.Reading.{LoadsOn, HasPage}
-use Rattle.fkv_functions.proofs.CallLemmas.{with_six}
-use Rattle.fkv_partition.proofs.ApartLemmas.{err-ok, no-later, has-come}
-use Rattle.fkv_partition.proofs.ReadLemmas.{page-within, stranger-held, place-begun, place-flushed, place-read}
+use Rattle.fkv_partition.proofs.ApartLemmas.{err-ok, has-come}
+use Rattle.fkv_partition.proofs.ReadLemmas.{place-begun, place-read}
 use Rattle.fkv_partition.proofs.partitions.Partition.read_place.Goals as goal
-
-pub is_own-requires-whole : goal.is_own-requires-whole
-is_own-requires-whole g c κs =
-    let v = c.args.self.now in
-    let x = c.args.relocation.now in
-    let a = c.requires.awaits in
-    let p = c.args.loaded.now in
-    let sound = c.known.ensures.core in
-    let s = c.known.ensures.compacting in
-    let at = c.requires.reads in
-    let there = place-flushed g.F.Key.Ord.cmp g.F.Mergeable.parts.joined g.F.Functions.code v sound s c.args.slot c.args.context x v.core.records.begin at refl a.here in
-    let moved = ap (λ u. u.core.records) c.self.view_is in
-    with_six (
-    page-within x.target c.page_of-page.ensures (c.records.ensures ∙ moved) (c.records-2.ensures ∙ moved) there)
-
-pub returns-in-Err-clause-effect : goal.returns-in-Err-clause-effect
-returns-in-Err-clause-effect g c =
-    let v = c.args.self.now in
-    let x = c.args.relocation.now in
-    let a = c.requires.awaits in
-    let p = c.args.loaded.now in
-    let sound = c.known.ensures.core in
-    let s = c.known.ensures.compacting in
-    let at = c.requires.reads in
-    let there = place-flushed g.F.Key.Ord.cmp g.F.Mergeable.parts.joined g.F.Functions.code v sound s c.args.slot c.args.context x v.core.records.begin at refl a.here in
-    let moved = ap (λ u. u.core.records) c.self.view_is in
-    let page = c.page_of-page.ensures ∙ ap (λ r. page_at r.page_bits x.target) (c.records.ensures ∙ sym c.records-2.ensures) in
-    let z = stranger-held c.records-2.result.now v.core.records c.page_of-page.result x.target (g.R.Receipt.stands p.receipt) c.in-Err.refused (c.records-2.ensures ∙ moved) page there c.in-Err.ensures.stranger in
-    LoadsOn.stranger x x.target p z.0 a refl z.1 z.2 refl (ap Err z.3)
 
 pub check_liveness-requires-clause-begun : goal.check_liveness-requires-clause-begun
 check_liveness-requires-clause-begun g c =
     let v = c.args.self.now in
     let x = c.args.relocation.now in
-    let a = c.requires.awaits in
+    let a = c.requires.has.awaits in
     let p = c.args.loaded.now in
     let sound = c.known.ensures.core in
     let s = c.known.ensures.compacting in
@@ -56,57 +26,49 @@ pub check_liveness-requires-clause-is : goal.check_liveness-requires-clause-is
 check_liveness-requires-clause-is g c =
     let v = c.args.self.now in
     let x = c.args.relocation.now in
-    let a = c.requires.awaits in
+    let a = c.requires.has.awaits in
     let p = c.args.loaded.now in
     let sound = c.known.ensures.core in
     let s = c.known.ensures.compacting in
     let at = c.requires.reads in
-    let kept = subst (λ u. IsTrue g.R.Receipt.keeps → IfSome (entry_at u.core.records.entries x.target) (λ y. c.own_record_in.result ≡ Ok y)) c.self.view_is (subst (λ r. IsTrue g.R.Receipt.keeps → IfSome (entry_at r.entries x.target) (λ y. c.own_record_in.result ≡ Ok y)) c.records-3.ensures c.own_record_in.ensures.kept) in
+    let kept = subst (λ u. IsTrue g.R.Receipt.keeps → IfSome (entry_at u.core.records.entries x.target) (λ y. c.own_record_in.result ≡ Ok y)) c.self.view_is (subst (λ r. IsTrue g.R.Receipt.keeps → IfSome (entry_at r.entries x.target) (λ y. c.own_record_in.result ≡ Ok y)) c.records-2.ensures c.own_record_in.ensures.kept) in
     place-read g.F.Key.Ord.cmp g.F.Mergeable.parts.joined g.F.Functions.code v sound s c.args.slot c.args.context x v.core.records.begin at refl a.here c.in-Ok.entry c.own_record_in.result c.in-Ok.is kept
 
-pub returns-in-Err-own_record_in-clause-effect : goal.returns-in-Err-own_record_in-clause-effect
-returns-in-Err-own_record_in-clause-effect g c =
+pub returns-in-Err-clause-effect : goal.returns-in-Err-clause-effect
+returns-in-Err-clause-effect g c =
     let v = c.args.self.now in
     let x = c.args.relocation.now in
-    let a = c.requires.awaits in
+    let a = c.requires.has.awaits in
     let p = c.args.loaded.now in
     let sound = c.known.ensures.core in
     let s = c.known.ensures.compacting in
     let at = c.requires.reads in
     let moved = ap (λ u. u.core.records) c.self.view_is in
     let page = c.page_of-page.ensures ∙ ap (λ r. page_at r.page_bits x.target) (c.records.ensures ∙ moved) in
-    let own = subst (λ n. IsHeldBy v.core.records.receipts n (g.R.Receipt.stands p.receipt)) page (subst (λ r. IsHeldBy r.receipts c.page_of-page.result (g.R.Receipt.stands p.receipt)) (c.records-2.ensures ∙ moved) (c.in_default.ensures.own.0 refl)) in
-    let has : HasPage v c.args.slot c.args.context x x.target (g.R.Receipt.stands p.receipt) = record { awaits = a; own = own } in
-    let found = subst (λ r. (y : Entry _ _) → IsEntryIn g.F.Key.Fixed.bytes_of g.F.Value.Fixed.bytes_of g.F.Key.Known.is_known g.F.Value.Known.is_known g.F.Key.Fixed.SIZE g.F.Value.Fixed.SIZE r.page_bits p.bytes x.target y → c.own_record_in.result ≡ Ok y) (c.records-3.ensures ∙ moved) c.own_record_in.ensures.found in
-    LoadsOn.damaged x v.core.records.begin p at has refl (λ y spelled. err-ok (sym c.in-Err-own_record_in.is ∙ found y spelled)) c.end.ensures (ap (λ n. Err (Damaged n)) page)
+    let has : HasPage v c.args.slot c.args.context x x.target (g.R.Receipt.stands p.receipt) = c.requires.has in
+    let found = subst (λ r. (y : Entry _ _) → IsEntryIn g.F.Key.Fixed.bytes_of g.F.Value.Fixed.bytes_of g.F.Key.Known.is_known g.F.Value.Known.is_known g.F.Key.Fixed.SIZE g.F.Value.Fixed.SIZE r.page_bits p.bytes x.target y → c.own_record_in.result ≡ Ok y) (c.records-2.ensures ∙ moved) c.own_record_in.ensures.found in
+    LoadsOn.damaged x v.core.records.begin p at has refl (λ y spelled. err-ok (sym c.in-Err.is ∙ found y spelled)) c.end.ensures (ap (λ n. Err (Damaged n)) page)
 
 pub returns-in-Ok-clause-effect : goal.returns-in-Ok-clause-effect
 returns-in-Ok-clause-effect g c =
     let v = c.args.self.now in
     let x = c.args.relocation.now in
-    let a = c.requires.awaits in
+    let a = c.requires.has.awaits in
     let p = c.args.loaded.now in
     let sound = c.known.ensures.core in
     let s = c.known.ensures.compacting in
     let at = c.requires.reads in
     let moved = ap (λ u. u.core.records) c.self.view_is in
     let page = c.page_of-page.ensures ∙ ap (λ r. page_at r.page_bits x.target) (c.records.ensures ∙ moved) in
-    let own = subst (λ n. IsHeldBy v.core.records.receipts n (g.R.Receipt.stands p.receipt)) page (subst (λ r. IsHeldBy r.receipts c.page_of-page.result (g.R.Receipt.stands p.receipt)) (c.records-2.ensures ∙ moved) (c.in_default.ensures.own.0 refl)) in
-    let has : HasPage v c.args.slot c.args.context x x.target (g.R.Receipt.stands p.receipt) = record { awaits = a; own = own } in
-    let spelled = subst (λ u. (IsEntryIn g.F.Key.Fixed.bytes_of g.F.Value.Fixed.bytes_of g.F.Key.Known.is_known g.F.Value.Known.is_known g.F.Key.Fixed.SIZE g.F.Value.Fixed.SIZE) u.core.records.page_bits p.bytes x.target c.in-Ok.entry) c.self.view_is (rw (c.records-3.ensures, c.in-Ok.is) at c.own_record_in.ensures.only) in
+    let has : HasPage v c.args.slot c.args.context x x.target (g.R.Receipt.stands p.receipt) = c.requires.has in
+    let spelled = subst (λ u. (IsEntryIn g.F.Key.Fixed.bytes_of g.F.Value.Fixed.bytes_of g.F.Key.Known.is_known g.F.Value.Known.is_known g.F.Key.Fixed.SIZE g.F.Value.Fixed.SIZE) u.core.records.page_bits p.bytes x.target c.in-Ok.entry) c.self.view_is (rw (c.records-2.ensures, c.in-Ok.is) at c.own_record_in.ensures.only) in
     LoadsOn.checks x v.core.records.begin p c.in-Ok.entry at has refl spelled c.check_liveness.ensures.effect
 
 pub returns-in-Err-clause-cleared : goal.returns-in-Err-clause-cleared
 returns-in-Err-clause-cleared g c = err-ok
 
 pub returns-in-Err-clause-moment : goal.returns-in-Err-clause-moment
-returns-in-Err-clause-moment g c = no-later c.requires.later
-
-pub returns-in-Err-own_record_in-clause-cleared : goal.returns-in-Err-own_record_in-clause-cleared
-returns-in-Err-own_record_in-clause-cleared g c = err-ok
-
-pub returns-in-Err-own_record_in-clause-moment : goal.returns-in-Err-own_record_in-clause-moment
-returns-in-Err-own_record_in-clause-moment g c = has-come c.end.ensures refl
+returns-in-Err-clause-moment g c = has-come c.end.ensures refl
 
 pub end-requires-clause-session : goal.end-requires-clause-session
 end-requires-clause-session g c = c.requires.session
@@ -124,7 +86,7 @@ pub check_liveness-requires-clause-context : goal.check_liveness-requires-clause
 check_liveness-requires-clause-context g c = c.requires.context
 
 pub check_liveness-requires-clause-here : goal.check_liveness-requires-clause-here
-check_liveness-requires-clause-here g c = c.requires.awaits.here
+check_liveness-requires-clause-here g c = c.requires.has.awaits.here
 
 pub returns-in-Ok-clause-event : goal.returns-in-Ok-clause-event
 returns-in-Ok-clause-event g c = c.check_liveness.ensures.event
@@ -134,3 +96,8 @@ returns-in-Ok-clause-cleared g c = c.check_liveness.ensures.cleared
 
 pub returns-in-Ok-clause-moment : goal.returns-in-Ok-clause-moment
 returns-in-Ok-clause-moment g c = c.check_liveness.ensures.moment
+
+pub own_record_in-requires : goal.own_record_in-requires
+own_record_in-requires g c =
+    let moved = ap (λ u. u.core.records) c.self.view_is in
+    record { own = subst (λ r. IsHeldBy r.receipts (page_at r.page_bits c.args.relocation.now.target) (g.R.Receipt.stands c.args.loaded.now.receipt)) (sym (c.records-2.ensures ∙ moved)) c.requires.has.own }

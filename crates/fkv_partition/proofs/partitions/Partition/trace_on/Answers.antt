@@ -10,20 +10,20 @@ use Rattle.fkv_partition.specs.Reading.{LoadsOn}
 use Rattle.fkv_partition.specs.declared.relocations.Stage.TheVariants.{Ready}
 use Rattle.fkv_partition.specs.Stages.{StageStands}
 use Rattle.fkv_functions.proofs.CallLemmas.{with_six}
-use Rattle.fkv_partition.proofs.ApartLemmas.{err-ok, no-later, has-come}
+use Rattle.fkv_partition.proofs.ApartLemmas.{err-ok, has-come}
 use Rattle.fkv_partition.proofs.MoveLemmas.{is-done, past-place, stands-here, frozen-low}
-use Rattle.fkv_partition.proofs.ReadLemmas.{page-within, stranger-held}
+use Rattle.fkv_partition.proofs.ReadLemmas.{page-within}
 use Rattle.fkv_partition.proofs.TraceLemmas.{page-came, way-flushed, has-page, traces-to, way-dead, way-last, above-place, way-below, lower-flushed, way-further}
 use Rattle.fkv_partition.proofs.partitions.Partition.trace_on.Goals as goal
 
-pub is_own-requires-whole : goal.is_own-requires-whole
-is_own-requires-whole g c κs =
+pub first_of-requires-whole : goal.first_of-requires-whole
+first_of-requires-whole g c κs =
     let ord = g.met.F.Key.Ord in
     let known = g.met.F.Key.FixedKey in
     let order = key_order g.F.Key.PartialEq.eq g.F.Key.Ord.cmp ord.matches_eq known.exact ord.total in
     let v = c.args.self.now in
     let x = c.args.relocation.now in
-    let a = c.requires.awaits in
+    let a = c.requires.has.awaits in
     let p = c.args.loaded.now in
     let sound = c.known.ensures.core in
     let s = c.known.ensures.compacting in
@@ -35,6 +35,17 @@ is_own-requires-whole g c κs =
     with_six (
     page-within l.wanted c.page_of-page.ensures (c.records.ensures ∙ moved) (c.records-2.ensures ∙ moved) there)
 
+pub trace_in-requires-clause-own : goal.trace_in-requires-clause-own
+trace_in-requires-clause-own g c =
+    let moved = ap (λ u. u.core.records) c.self.view_is in
+    subst (λ r. IsHeldBy r.receipts (page_at r.page_bits c.args.loading.wanted) (g.R.Receipt.stands c.args.loaded.now.receipt)) (sym (c.records-3.ensures ∙ moved)) c.requires.has.own
+
+pub trace_in-requires-clause-floor : goal.trace_in-requires-clause-floor
+trace_in-requires-clause-floor g c =
+    let page = c.page_of-page.ensures ∙ ap (λ r. page_at r.page_bits c.args.loading.wanted) (c.records.ensures ∙ sym c.records-3.ensures) in
+    let first = c.first_of.ensures ∙ ap (λ r. first_place r.page_bits c.page_of-page.result) (c.records-2.ensures ∙ sym c.records-3.ensures) ∙ ap (first_place c.records-3.result.now.page_bits) page in
+    subst (λ n. n ≤ c.higher_of-low.result) first c.higher_of-low.ensures.right
+
 pub returns-in-Err-clause-effect : goal.returns-in-Err-clause-effect
 returns-in-Err-clause-effect g c =
     let ord = g.met.F.Key.Ord in
@@ -42,58 +53,7 @@ returns-in-Err-clause-effect g c =
     let order = key_order g.F.Key.PartialEq.eq g.F.Key.Ord.cmp ord.matches_eq known.exact ord.total in
     let v = c.args.self.now in
     let x = c.args.relocation.now in
-    let a = c.requires.awaits in
-    let p = c.args.loaded.now in
-    let sound = c.known.ensures.core in
-    let s = c.known.ensures.compacting in
-    let e = c.args.entry in
-    let l = c.args.loading in
-    let at = c.requires.traces in
-    let there = way-flushed g.F.Key.Ord.cmp g.F.Mergeable.parts.joined g.F.Functions.code order v sound s c.args.slot c.args.context x e l a at in
-    let moved = ap (λ u. u.core.records) c.self.view_is in
-    let page = c.page_of-page.ensures ∙ ap (λ r. page_at r.page_bits l.wanted) (c.records.ensures ∙ sym c.records-2.ensures) in
-    let z = stranger-held c.records-2.result.now v.core.records c.page_of-page.result l.wanted (g.R.Receipt.stands p.receipt) c.in-Err.refused (c.records-2.ensures ∙ moved) page there c.in-Err.ensures.stranger in
-    LoadsOn.stranger x l.wanted p z.0 a refl z.1 z.2 refl (ap Err z.3)
-
-pub first_of-requires-whole : goal.first_of-requires-whole
-first_of-requires-whole g c κs =
-    let ord = g.met.F.Key.Ord in
-    let known = g.met.F.Key.FixedKey in
-    let order = key_order g.F.Key.PartialEq.eq g.F.Key.Ord.cmp ord.matches_eq known.exact ord.total in
-    let v = c.args.self.now in
-    let x = c.args.relocation.now in
-    let a = c.requires.awaits in
-    let p = c.args.loaded.now in
-    let sound = c.known.ensures.core in
-    let s = c.known.ensures.compacting in
-    let e = c.args.entry in
-    let l = c.args.loading in
-    let at = c.requires.traces in
-    let there = way-flushed g.F.Key.Ord.cmp g.F.Mergeable.parts.joined g.F.Functions.code order v sound s c.args.slot c.args.context x e l a at in
-    let moved = ap (λ u. u.core.records) c.self.view_is in
-    with_six (
-    page-within l.wanted c.page_of-page.ensures (c.records.ensures ∙ moved) (c.records-3.ensures ∙ moved) there)
-
-pub trace_in-requires-clause-own : goal.trace_in-requires-clause-own
-trace_in-requires-clause-own g c =
-    let page = c.page_of-page.ensures ∙ ap (λ r. page_at r.page_bits c.args.loading.wanted) (c.records.ensures ∙ sym c.records-4.ensures) in
-    let held = subst (λ r. IsHeldBy r.receipts c.page_of-page.result (g.R.Receipt.stands c.args.loaded.now.receipt)) (c.records-2.ensures ∙ sym c.records-4.ensures) (c.in_default.ensures.own.0 refl) in
-    subst (λ n. IsHeldBy c.records-4.result.now.receipts n (g.R.Receipt.stands c.args.loaded.now.receipt)) page held
-
-pub trace_in-requires-clause-floor : goal.trace_in-requires-clause-floor
-trace_in-requires-clause-floor g c =
-    let page = c.page_of-page.ensures ∙ ap (λ r. page_at r.page_bits c.args.loading.wanted) (c.records.ensures ∙ sym c.records-4.ensures) in
-    let first = c.first_of.ensures ∙ ap (λ r. first_place r.page_bits c.page_of-page.result) (c.records-3.ensures ∙ sym c.records-4.ensures) ∙ ap (first_place c.records-4.result.now.page_bits) page in
-    subst (λ n. n ≤ c.higher_of-low.result) first c.higher_of-low.ensures.right
-
-pub returns-in-Err-trace_in-clause-effect : goal.returns-in-Err-trace_in-clause-effect
-returns-in-Err-trace_in-clause-effect g c =
-    let ord = g.met.F.Key.Ord in
-    let known = g.met.F.Key.FixedKey in
-    let order = key_order g.F.Key.PartialEq.eq g.F.Key.Ord.cmp ord.matches_eq known.exact ord.total in
-    let v = c.args.self.now in
-    let x = c.args.relocation.now in
-    let a = c.requires.awaits in
+    let a = c.requires.has.awaits in
     let p = c.args.loaded.now in
     let sound = c.known.ensures.core in
     let s = c.known.ensures.compacting in
@@ -101,16 +61,16 @@ returns-in-Err-trace_in-clause-effect g c =
     let l = c.args.loading in
     let at = c.requires.traces in
     let moved = ap (λ u. u.core.records) c.self.view_is in
-    let came = page-came g.R.Receipt.keeps (IsEntryIn g.F.Key.Fixed.bytes_of g.F.Value.Fixed.bytes_of g.F.Key.Known.is_known g.F.Value.Known.is_known g.F.Key.Fixed.SIZE g.F.Value.Fixed.SIZE) g.F.Key.Ord.cmp g.F.Mergeable.parts.joined g.F.Functions.code c.records.result.now c.records-2.result.now c.records-3.result.now c.records-4.result.now v.core.records x.target e.key c.page_of-page.result c.higher_of-low.result l (g.R.Receipt.stands p.receipt) p.bytes c.trace_in.result (c.records.ensures ∙ moved) (c.records-2.ensures ∙ moved) (c.records-3.ensures ∙ moved) (c.records-4.ensures ∙ moved) c.page_of-page.ensures (c.higher_of-low.ensures.value ∙ ap (higher_of (x.target + 1)) c.first_of.ensures) (c.in_default.ensures.own.0 refl) c.trace_in.ensures.read c.trace_in.ensures.kept in
+    let came = page-came g.R.Receipt.keeps (IsEntryIn g.F.Key.Fixed.bytes_of g.F.Value.Fixed.bytes_of g.F.Key.Known.is_known g.F.Value.Known.is_known g.F.Key.Fixed.SIZE g.F.Value.Fixed.SIZE) g.F.Key.Ord.cmp g.F.Mergeable.parts.joined g.F.Functions.code c.records.result.now c.records-2.result.now c.records-3.result.now v.core.records x.target e.key c.page_of-page.result c.higher_of-low.result l (g.R.Receipt.stands p.receipt) p.bytes c.trace_in.result (c.records.ensures ∙ moved) (c.records-2.ensures ∙ moved) (c.records-3.ensures ∙ moved) c.page_of-page.ensures (c.higher_of-low.ensures.value ∙ ap (higher_of (x.target + 1)) c.first_of.ensures) c.requires.has.own c.trace_in.ensures.read c.trace_in.ensures.kept in
     let page = c.page_of-page.ensures ∙ ap (λ r. page_at r.page_bits l.wanted) (c.records.ensures ∙ moved) in
-    let is = c.in-Err-trace_in.is in
-    LoadsOn.bad_record x e l p c.in-Err-trace_in._damaged at (has-page g.F.Key.Ord.cmp g.F.Mergeable.parts.joined g.F.Functions.code order v sound s c.args.slot c.args.context x e l a at (IsEntryIn g.F.Key.Fixed.bytes_of g.F.Value.Fixed.bytes_of g.F.Key.Known.is_known g.F.Value.Known.is_known g.F.Key.Fixed.SIZE g.F.Value.Fixed.SIZE) (g.R.Receipt.stands p.receipt) p.bytes c.trace_in.result came) refl (traces-to g.F.Key.Ord.cmp g.F.Mergeable.parts.joined g.F.Functions.code order v sound s c.args.slot c.args.context x e l a at (IsEntryIn g.F.Key.Fixed.bytes_of g.F.Value.Fixed.bytes_of g.F.Key.Known.is_known g.F.Value.Known.is_known g.F.Key.Fixed.SIZE g.F.Value.Fixed.SIZE) (g.R.Receipt.stands p.receipt) p.bytes c.trace_in.result came (Err c.in-Err-trace_in._damaged) is) c.end.ensures (ap (λ n. Err (Damaged n)) page)
+    let is = c.in-Err.is in
+    LoadsOn.bad_record x e l p c.in-Err._damaged at (has-page g.F.Key.Ord.cmp g.F.Mergeable.parts.joined g.F.Functions.code order v sound s c.args.slot c.args.context x e l a at (IsEntryIn g.F.Key.Fixed.bytes_of g.F.Value.Fixed.bytes_of g.F.Key.Known.is_known g.F.Value.Known.is_known g.F.Key.Fixed.SIZE g.F.Value.Fixed.SIZE) (g.R.Receipt.stands p.receipt) p.bytes c.trace_in.result came) refl (traces-to g.F.Key.Ord.cmp g.F.Mergeable.parts.joined g.F.Functions.code order v sound s c.args.slot c.args.context x e l a at (IsEntryIn g.F.Key.Fixed.bytes_of g.F.Value.Fixed.bytes_of g.F.Key.Known.is_known g.F.Value.Known.is_known g.F.Key.Fixed.SIZE g.F.Value.Fixed.SIZE) (g.R.Receipt.stands p.receipt) p.bytes c.trace_in.result came (Err c.in-Err._damaged) is) c.end.ensures (ap (λ n. Err (Damaged n)) page)
 
 pub finish-requires-clause-issued : goal.finish-requires-clause-issued
 finish-requires-clause-issued g c =
     let v = c.args.self.now in
     let x = c.args.relocation.now in
-    let a = c.requires.awaits in
+    let a = c.requires.has.awaits in
     let s = c.known.ensures.compacting in
     (stands-here v c.args.slot c.args.context x a.here s).issued
 
@@ -118,7 +78,7 @@ pub finish-requires-clause-place : goal.finish-requires-clause-place
 finish-requires-clause-place g c =
     let v = c.args.self.now in
     let x = c.args.relocation.now in
-    let a = c.requires.awaits in
+    let a = c.requires.has.awaits in
     let s = c.known.ensures.compacting in
     (stands-here v c.args.slot c.args.context x a.here s).place
 
@@ -126,7 +86,7 @@ pub finish-requires-clause-low : goal.finish-requires-clause-low
 finish-requires-clause-low g c =
     let v = c.args.self.now in
     let x = c.args.relocation.now in
-    let a = c.requires.awaits in
+    let a = c.requires.has.awaits in
     let p = c.args.loaded.now in
     let sound = c.known.ensures.core in
     let s = c.known.ensures.compacting in
@@ -142,7 +102,7 @@ finish-requires-clause-superseded g c =
     let order = key_order g.F.Key.PartialEq.eq g.F.Key.Ord.cmp ord.matches_eq known.exact ord.total in
     let v = c.args.self.now in
     let x = c.args.relocation.now in
-    let a = c.requires.awaits in
+    let a = c.requires.has.awaits in
     let p = c.args.loaded.now in
     let sound = c.known.ensures.core in
     let s = c.known.ensures.compacting in
@@ -150,7 +110,7 @@ finish-requires-clause-superseded g c =
     let l = c.args.loading in
     let at = c.requires.traces in
     let moved = ap (λ u. u.core.records) c.self.view_is in
-    let came = page-came g.R.Receipt.keeps (IsEntryIn g.F.Key.Fixed.bytes_of g.F.Value.Fixed.bytes_of g.F.Key.Known.is_known g.F.Value.Known.is_known g.F.Key.Fixed.SIZE g.F.Value.Fixed.SIZE) g.F.Key.Ord.cmp g.F.Mergeable.parts.joined g.F.Functions.code c.records.result.now c.records-2.result.now c.records-3.result.now c.records-4.result.now v.core.records x.target e.key c.page_of-page.result c.higher_of-low.result l (g.R.Receipt.stands p.receipt) p.bytes c.trace_in.result (c.records.ensures ∙ moved) (c.records-2.ensures ∙ moved) (c.records-3.ensures ∙ moved) (c.records-4.ensures ∙ moved) c.page_of-page.ensures (c.higher_of-low.ensures.value ∙ ap (higher_of (x.target + 1)) c.first_of.ensures) (c.in_default.ensures.own.0 refl) c.trace_in.ensures.read c.trace_in.ensures.kept in
+    let came = page-came g.R.Receipt.keeps (IsEntryIn g.F.Key.Fixed.bytes_of g.F.Value.Fixed.bytes_of g.F.Key.Known.is_known g.F.Value.Known.is_known g.F.Key.Fixed.SIZE g.F.Value.Fixed.SIZE) g.F.Key.Ord.cmp g.F.Mergeable.parts.joined g.F.Functions.code c.records.result.now c.records-2.result.now c.records-3.result.now v.core.records x.target e.key c.page_of-page.result c.higher_of-low.result l (g.R.Receipt.stands p.receipt) p.bytes c.trace_in.result (c.records.ensures ∙ moved) (c.records-2.ensures ∙ moved) (c.records-3.ensures ∙ moved) c.page_of-page.ensures (c.higher_of-low.ensures.value ∙ ap (higher_of (x.target + 1)) c.first_of.ensures) c.requires.has.own c.trace_in.ensures.read c.trace_in.ensures.kept in
     let r = c.in-Ok.came in
     let is = c.in-Ok.is in
     let j = sym c.liveness_of.ensures ∙ c.in-Superseded.is in
@@ -163,7 +123,7 @@ append_again-requires-clause-stands g c =
     let order = key_order g.F.Key.PartialEq.eq g.F.Key.Ord.cmp ord.matches_eq known.exact ord.total in
     let v = c.args.self.now in
     let x = c.args.relocation.now in
-    let a = c.requires.awaits in
+    let a = c.requires.has.awaits in
     let p = c.args.loaded.now in
     let sound = c.known.ensures.core in
     let s = c.known.ensures.compacting in
@@ -171,7 +131,7 @@ append_again-requires-clause-stands g c =
     let l = c.args.loading in
     let at = c.requires.traces in
     let moved = ap (λ u. u.core.records) c.self.view_is in
-    let came = page-came g.R.Receipt.keeps (IsEntryIn g.F.Key.Fixed.bytes_of g.F.Value.Fixed.bytes_of g.F.Key.Known.is_known g.F.Value.Known.is_known g.F.Key.Fixed.SIZE g.F.Value.Fixed.SIZE) g.F.Key.Ord.cmp g.F.Mergeable.parts.joined g.F.Functions.code c.records.result.now c.records-2.result.now c.records-3.result.now c.records-4.result.now v.core.records x.target e.key c.page_of-page.result c.higher_of-low.result l (g.R.Receipt.stands p.receipt) p.bytes c.trace_in.result (c.records.ensures ∙ moved) (c.records-2.ensures ∙ moved) (c.records-3.ensures ∙ moved) (c.records-4.ensures ∙ moved) c.page_of-page.ensures (c.higher_of-low.ensures.value ∙ ap (higher_of (x.target + 1)) c.first_of.ensures) (c.in_default.ensures.own.0 refl) c.trace_in.ensures.read c.trace_in.ensures.kept in
+    let came = page-came g.R.Receipt.keeps (IsEntryIn g.F.Key.Fixed.bytes_of g.F.Value.Fixed.bytes_of g.F.Key.Known.is_known g.F.Value.Known.is_known g.F.Key.Fixed.SIZE g.F.Value.Fixed.SIZE) g.F.Key.Ord.cmp g.F.Mergeable.parts.joined g.F.Functions.code c.records.result.now c.records-2.result.now c.records-3.result.now v.core.records x.target e.key c.page_of-page.result c.higher_of-low.result l (g.R.Receipt.stands p.receipt) p.bytes c.trace_in.result (c.records.ensures ∙ moved) (c.records-2.ensures ∙ moved) (c.records-3.ensures ∙ moved) c.page_of-page.ensures (c.higher_of-low.ensures.value ∙ ap (higher_of (x.target + 1)) c.first_of.ensures) c.requires.has.own c.trace_in.ensures.read c.trace_in.ensures.kept in
     let r = c.in-Ok.came in
     let is = c.in-Ok.is in
     let j = sym c.liveness_of.ensures ∙ c.in-Last.is in
@@ -185,7 +145,7 @@ returns-then-not-is_place-clause-effect g c =
     let order = key_order g.F.Key.PartialEq.eq g.F.Key.Ord.cmp ord.matches_eq known.exact ord.total in
     let v = c.args.self.now in
     let x = c.args.relocation.now in
-    let a = c.requires.awaits in
+    let a = c.requires.has.awaits in
     let p = c.args.loaded.now in
     let sound = c.known.ensures.core in
     let s = c.known.ensures.compacting in
@@ -193,7 +153,7 @@ returns-then-not-is_place-clause-effect g c =
     let l = c.args.loading in
     let at = c.requires.traces in
     let moved = ap (λ u. u.core.records) c.self.view_is in
-    let came = page-came g.R.Receipt.keeps (IsEntryIn g.F.Key.Fixed.bytes_of g.F.Value.Fixed.bytes_of g.F.Key.Known.is_known g.F.Value.Known.is_known g.F.Key.Fixed.SIZE g.F.Value.Fixed.SIZE) g.F.Key.Ord.cmp g.F.Mergeable.parts.joined g.F.Functions.code c.records.result.now c.records-2.result.now c.records-3.result.now c.records-4.result.now v.core.records x.target e.key c.page_of-page.result c.higher_of-low.result l (g.R.Receipt.stands p.receipt) p.bytes c.trace_in.result (c.records.ensures ∙ moved) (c.records-2.ensures ∙ moved) (c.records-3.ensures ∙ moved) (c.records-4.ensures ∙ moved) c.page_of-page.ensures (c.higher_of-low.ensures.value ∙ ap (higher_of (x.target + 1)) c.first_of.ensures) (c.in_default.ensures.own.0 refl) c.trace_in.ensures.read c.trace_in.ensures.kept in
+    let came = page-came g.R.Receipt.keeps (IsEntryIn g.F.Key.Fixed.bytes_of g.F.Value.Fixed.bytes_of g.F.Key.Known.is_known g.F.Value.Known.is_known g.F.Key.Fixed.SIZE g.F.Value.Fixed.SIZE) g.F.Key.Ord.cmp g.F.Mergeable.parts.joined g.F.Functions.code c.records.result.now c.records-2.result.now c.records-3.result.now v.core.records x.target e.key c.page_of-page.result c.higher_of-low.result l (g.R.Receipt.stands p.receipt) p.bytes c.trace_in.result (c.records.ensures ∙ moved) (c.records-2.ensures ∙ moved) (c.records-3.ensures ∙ moved) c.page_of-page.ensures (c.higher_of-low.ensures.value ∙ ap (higher_of (x.target + 1)) c.first_of.ensures) c.requires.has.own c.trace_in.ensures.read c.trace_in.ensures.kept in
     let page = c.page_of-page.ensures ∙ ap (λ r. page_at r.page_bits l.wanted) (c.records.ensures ∙ moved) in
     let r = c.in-Ok.came in
     let is = c.in-Ok.is in
@@ -209,7 +169,7 @@ ask-requires-clause-flushed g c =
     let order = key_order g.F.Key.PartialEq.eq g.F.Key.Ord.cmp ord.matches_eq known.exact ord.total in
     let v = c.args.self.now in
     let x = c.args.relocation.now in
-    let a = c.requires.awaits in
+    let a = c.requires.has.awaits in
     let p = c.args.loaded.now in
     let sound = c.known.ensures.core in
     let s = c.known.ensures.compacting in
@@ -217,7 +177,7 @@ ask-requires-clause-flushed g c =
     let l = c.args.loading in
     let at = c.requires.traces in
     let moved = ap (λ u. u.core.records) c.self.view_is in
-    let came = page-came g.R.Receipt.keeps (IsEntryIn g.F.Key.Fixed.bytes_of g.F.Value.Fixed.bytes_of g.F.Key.Known.is_known g.F.Value.Known.is_known g.F.Key.Fixed.SIZE g.F.Value.Fixed.SIZE) g.F.Key.Ord.cmp g.F.Mergeable.parts.joined g.F.Functions.code c.records.result.now c.records-2.result.now c.records-3.result.now c.records-4.result.now v.core.records x.target e.key c.page_of-page.result c.higher_of-low.result l (g.R.Receipt.stands p.receipt) p.bytes c.trace_in.result (c.records.ensures ∙ moved) (c.records-2.ensures ∙ moved) (c.records-3.ensures ∙ moved) (c.records-4.ensures ∙ moved) c.page_of-page.ensures (c.higher_of-low.ensures.value ∙ ap (higher_of (x.target + 1)) c.first_of.ensures) (c.in_default.ensures.own.0 refl) c.trace_in.ensures.read c.trace_in.ensures.kept in
+    let came = page-came g.R.Receipt.keeps (IsEntryIn g.F.Key.Fixed.bytes_of g.F.Value.Fixed.bytes_of g.F.Key.Known.is_known g.F.Value.Known.is_known g.F.Key.Fixed.SIZE g.F.Value.Fixed.SIZE) g.F.Key.Ord.cmp g.F.Mergeable.parts.joined g.F.Functions.code c.records.result.now c.records-2.result.now c.records-3.result.now v.core.records x.target e.key c.page_of-page.result c.higher_of-low.result l (g.R.Receipt.stands p.receipt) p.bytes c.trace_in.result (c.records.ensures ∙ moved) (c.records-2.ensures ∙ moved) (c.records-3.ensures ∙ moved) c.page_of-page.ensures (c.higher_of-low.ensures.value ∙ ap (higher_of (x.target + 1)) c.first_of.ensures) c.requires.has.own c.trace_in.ensures.read c.trace_in.ensures.kept in
     let r = c.in-Ok.came in
     let is = c.in-Ok.is in
     let b = c.in-Further.address in
@@ -231,7 +191,7 @@ ask-requires-clause-stands g c =
     let order = key_order g.F.Key.PartialEq.eq g.F.Key.Ord.cmp ord.matches_eq known.exact ord.total in
     let v = c.args.self.now in
     let x = c.args.relocation.now in
-    let a = c.requires.awaits in
+    let a = c.requires.has.awaits in
     let p = c.args.loaded.now in
     let sound = c.known.ensures.core in
     let s = c.known.ensures.compacting in
@@ -239,7 +199,7 @@ ask-requires-clause-stands g c =
     let l = c.args.loading in
     let at = c.requires.traces in
     let moved = ap (λ u. u.core.records) c.self.view_is in
-    let came = page-came g.R.Receipt.keeps (IsEntryIn g.F.Key.Fixed.bytes_of g.F.Value.Fixed.bytes_of g.F.Key.Known.is_known g.F.Value.Known.is_known g.F.Key.Fixed.SIZE g.F.Value.Fixed.SIZE) g.F.Key.Ord.cmp g.F.Mergeable.parts.joined g.F.Functions.code c.records.result.now c.records-2.result.now c.records-3.result.now c.records-4.result.now v.core.records x.target e.key c.page_of-page.result c.higher_of-low.result l (g.R.Receipt.stands p.receipt) p.bytes c.trace_in.result (c.records.ensures ∙ moved) (c.records-2.ensures ∙ moved) (c.records-3.ensures ∙ moved) (c.records-4.ensures ∙ moved) c.page_of-page.ensures (c.higher_of-low.ensures.value ∙ ap (higher_of (x.target + 1)) c.first_of.ensures) (c.in_default.ensures.own.0 refl) c.trace_in.ensures.read c.trace_in.ensures.kept in
+    let came = page-came g.R.Receipt.keeps (IsEntryIn g.F.Key.Fixed.bytes_of g.F.Value.Fixed.bytes_of g.F.Key.Known.is_known g.F.Value.Known.is_known g.F.Key.Fixed.SIZE g.F.Value.Fixed.SIZE) g.F.Key.Ord.cmp g.F.Mergeable.parts.joined g.F.Functions.code c.records.result.now c.records-2.result.now c.records-3.result.now v.core.records x.target e.key c.page_of-page.result c.higher_of-low.result l (g.R.Receipt.stands p.receipt) p.bytes c.trace_in.result (c.records.ensures ∙ moved) (c.records-2.ensures ∙ moved) (c.records-3.ensures ∙ moved) c.page_of-page.ensures (c.higher_of-low.ensures.value ∙ ap (higher_of (x.target + 1)) c.first_of.ensures) c.requires.has.own c.trace_in.ensures.read c.trace_in.ensures.kept in
     let r = c.in-Ok.came in
     let is = c.in-Ok.is in
     let b = c.in-Further.address in
@@ -253,7 +213,7 @@ returns-in-Superseded-clause-effect g c =
     let order = key_order g.F.Key.PartialEq.eq g.F.Key.Ord.cmp ord.matches_eq known.exact ord.total in
     let v = c.args.self.now in
     let x = c.args.relocation.now in
-    let a = c.requires.awaits in
+    let a = c.requires.has.awaits in
     let p = c.args.loaded.now in
     let sound = c.known.ensures.core in
     let s = c.known.ensures.compacting in
@@ -261,7 +221,7 @@ returns-in-Superseded-clause-effect g c =
     let l = c.args.loading in
     let at = c.requires.traces in
     let moved = ap (λ u. u.core.records) c.self.view_is in
-    let came = page-came g.R.Receipt.keeps (IsEntryIn g.F.Key.Fixed.bytes_of g.F.Value.Fixed.bytes_of g.F.Key.Known.is_known g.F.Value.Known.is_known g.F.Key.Fixed.SIZE g.F.Value.Fixed.SIZE) g.F.Key.Ord.cmp g.F.Mergeable.parts.joined g.F.Functions.code c.records.result.now c.records-2.result.now c.records-3.result.now c.records-4.result.now v.core.records x.target e.key c.page_of-page.result c.higher_of-low.result l (g.R.Receipt.stands p.receipt) p.bytes c.trace_in.result (c.records.ensures ∙ moved) (c.records-2.ensures ∙ moved) (c.records-3.ensures ∙ moved) (c.records-4.ensures ∙ moved) c.page_of-page.ensures (c.higher_of-low.ensures.value ∙ ap (higher_of (x.target + 1)) c.first_of.ensures) (c.in_default.ensures.own.0 refl) c.trace_in.ensures.read c.trace_in.ensures.kept in
+    let came = page-came g.R.Receipt.keeps (IsEntryIn g.F.Key.Fixed.bytes_of g.F.Value.Fixed.bytes_of g.F.Key.Known.is_known g.F.Value.Known.is_known g.F.Key.Fixed.SIZE g.F.Value.Fixed.SIZE) g.F.Key.Ord.cmp g.F.Mergeable.parts.joined g.F.Functions.code c.records.result.now c.records-2.result.now c.records-3.result.now v.core.records x.target e.key c.page_of-page.result c.higher_of-low.result l (g.R.Receipt.stands p.receipt) p.bytes c.trace_in.result (c.records.ensures ∙ moved) (c.records-2.ensures ∙ moved) (c.records-3.ensures ∙ moved) c.page_of-page.ensures (c.higher_of-low.ensures.value ∙ ap (higher_of (x.target + 1)) c.first_of.ensures) c.requires.has.own c.trace_in.ensures.read c.trace_in.ensures.kept in
     let r = c.in-Ok.came in
     let is = c.in-Ok.is in
     let j = sym c.liveness_of.ensures ∙ c.in-Superseded.is in
@@ -271,7 +231,7 @@ pub returns-in-Superseded-clause-event : goal.returns-in-Superseded-clause-event
 returns-in-Superseded-clause-event g c =
     let v = c.args.self.now in
     let x = c.args.relocation.now in
-    let a = c.requires.awaits in
+    let a = c.requires.has.awaits in
     let p = c.args.loaded.now in
     let sound = c.known.ensures.core in
     let s = c.known.ensures.compacting in
@@ -285,7 +245,7 @@ pub returns-in-Superseded-clause-cleared : goal.returns-in-Superseded-clause-cle
 returns-in-Superseded-clause-cleared g c =
     let v = c.args.self.now in
     let x = c.args.relocation.now in
-    let a = c.requires.awaits in
+    let a = c.requires.has.awaits in
     let p = c.args.loaded.now in
     let sound = c.known.ensures.core in
     let s = c.known.ensures.compacting in
@@ -302,7 +262,7 @@ returns-in-Last-clause-effect g c =
     let order = key_order g.F.Key.PartialEq.eq g.F.Key.Ord.cmp ord.matches_eq known.exact ord.total in
     let v = c.args.self.now in
     let x = c.args.relocation.now in
-    let a = c.requires.awaits in
+    let a = c.requires.has.awaits in
     let p = c.args.loaded.now in
     let sound = c.known.ensures.core in
     let s = c.known.ensures.compacting in
@@ -310,7 +270,7 @@ returns-in-Last-clause-effect g c =
     let l = c.args.loading in
     let at = c.requires.traces in
     let moved = ap (λ u. u.core.records) c.self.view_is in
-    let came = page-came g.R.Receipt.keeps (IsEntryIn g.F.Key.Fixed.bytes_of g.F.Value.Fixed.bytes_of g.F.Key.Known.is_known g.F.Value.Known.is_known g.F.Key.Fixed.SIZE g.F.Value.Fixed.SIZE) g.F.Key.Ord.cmp g.F.Mergeable.parts.joined g.F.Functions.code c.records.result.now c.records-2.result.now c.records-3.result.now c.records-4.result.now v.core.records x.target e.key c.page_of-page.result c.higher_of-low.result l (g.R.Receipt.stands p.receipt) p.bytes c.trace_in.result (c.records.ensures ∙ moved) (c.records-2.ensures ∙ moved) (c.records-3.ensures ∙ moved) (c.records-4.ensures ∙ moved) c.page_of-page.ensures (c.higher_of-low.ensures.value ∙ ap (higher_of (x.target + 1)) c.first_of.ensures) (c.in_default.ensures.own.0 refl) c.trace_in.ensures.read c.trace_in.ensures.kept in
+    let came = page-came g.R.Receipt.keeps (IsEntryIn g.F.Key.Fixed.bytes_of g.F.Value.Fixed.bytes_of g.F.Key.Known.is_known g.F.Value.Known.is_known g.F.Key.Fixed.SIZE g.F.Value.Fixed.SIZE) g.F.Key.Ord.cmp g.F.Mergeable.parts.joined g.F.Functions.code c.records.result.now c.records-2.result.now c.records-3.result.now v.core.records x.target e.key c.page_of-page.result c.higher_of-low.result l (g.R.Receipt.stands p.receipt) p.bytes c.trace_in.result (c.records.ensures ∙ moved) (c.records-2.ensures ∙ moved) (c.records-3.ensures ∙ moved) c.page_of-page.ensures (c.higher_of-low.ensures.value ∙ ap (higher_of (x.target + 1)) c.first_of.ensures) c.requires.has.own c.trace_in.ensures.read c.trace_in.ensures.kept in
     let r = c.in-Ok.came in
     let is = c.in-Ok.is in
     let j = sym c.liveness_of.ensures ∙ c.in-Last.is in
@@ -323,7 +283,7 @@ returns-else-not-is_place-clause-effect g c =
     let order = key_order g.F.Key.PartialEq.eq g.F.Key.Ord.cmp ord.matches_eq known.exact ord.total in
     let v = c.args.self.now in
     let x = c.args.relocation.now in
-    let a = c.requires.awaits in
+    let a = c.requires.has.awaits in
     let p = c.args.loaded.now in
     let sound = c.known.ensures.core in
     let s = c.known.ensures.compacting in
@@ -331,7 +291,7 @@ returns-else-not-is_place-clause-effect g c =
     let l = c.args.loading in
     let at = c.requires.traces in
     let moved = ap (λ u. u.core.records) c.self.view_is in
-    let came = page-came g.R.Receipt.keeps (IsEntryIn g.F.Key.Fixed.bytes_of g.F.Value.Fixed.bytes_of g.F.Key.Known.is_known g.F.Value.Known.is_known g.F.Key.Fixed.SIZE g.F.Value.Fixed.SIZE) g.F.Key.Ord.cmp g.F.Mergeable.parts.joined g.F.Functions.code c.records.result.now c.records-2.result.now c.records-3.result.now c.records-4.result.now v.core.records x.target e.key c.page_of-page.result c.higher_of-low.result l (g.R.Receipt.stands p.receipt) p.bytes c.trace_in.result (c.records.ensures ∙ moved) (c.records-2.ensures ∙ moved) (c.records-3.ensures ∙ moved) (c.records-4.ensures ∙ moved) c.page_of-page.ensures (c.higher_of-low.ensures.value ∙ ap (higher_of (x.target + 1)) c.first_of.ensures) (c.in_default.ensures.own.0 refl) c.trace_in.ensures.read c.trace_in.ensures.kept in
+    let came = page-came g.R.Receipt.keeps (IsEntryIn g.F.Key.Fixed.bytes_of g.F.Value.Fixed.bytes_of g.F.Key.Known.is_known g.F.Value.Known.is_known g.F.Key.Fixed.SIZE g.F.Value.Fixed.SIZE) g.F.Key.Ord.cmp g.F.Mergeable.parts.joined g.F.Functions.code c.records.result.now c.records-2.result.now c.records-3.result.now v.core.records x.target e.key c.page_of-page.result c.higher_of-low.result l (g.R.Receipt.stands p.receipt) p.bytes c.trace_in.result (c.records.ensures ∙ moved) (c.records-2.ensures ∙ moved) (c.records-3.ensures ∙ moved) c.page_of-page.ensures (c.higher_of-low.ensures.value ∙ ap (higher_of (x.target + 1)) c.first_of.ensures) c.requires.has.own c.trace_in.ensures.read c.trace_in.ensures.kept in
     let r = c.in-Ok.came in
     let is = c.in-Ok.is in
     let b = c.in-Further.address in
@@ -341,7 +301,7 @@ returns-else-not-is_place-clause-effect g c =
 
 pub overflow_add-target : goal.overflow_add-target
 overflow_add-target g c =
-    let frozen = (stands-here c.args.self.now c.args.slot c.args.context c.args.relocation.now c.requires.awaits.here c.known.ensures.compacting).frozen in
+    let frozen = (stands-here c.args.self.now c.args.slot c.args.context c.args.relocation.now c.requires.has.awaits.here c.known.ensures.compacting).frozen in
     let regions = c.known.ensures.core.traced.regions.agree in
     let safe = regions.in_order.safe in
     let most = regions.in_order.most in
@@ -351,13 +311,7 @@ pub returns-in-Err-clause-cleared : goal.returns-in-Err-clause-cleared
 returns-in-Err-clause-cleared g c = err-ok
 
 pub returns-in-Err-clause-moment : goal.returns-in-Err-clause-moment
-returns-in-Err-clause-moment g c = no-later c.requires.later
-
-pub returns-in-Err-trace_in-clause-cleared : goal.returns-in-Err-trace_in-clause-cleared
-returns-in-Err-trace_in-clause-cleared g c = err-ok
-
-pub returns-in-Err-trace_in-clause-moment : goal.returns-in-Err-trace_in-clause-moment
-returns-in-Err-trace_in-clause-moment g c = has-come c.end.ensures refl
+returns-in-Err-clause-moment g c = has-come c.end.ensures refl
 
 pub returns-then-not-is_place-clause-cleared : goal.returns-then-not-is_place-clause-cleared
 returns-then-not-is_place-clause-cleared g c = err-ok
@@ -414,7 +368,7 @@ pub append_again-requires-clause-context : goal.append_again-requires-clause-con
 append_again-requires-clause-context g c = c.requires.context
 
 pub append_again-requires-clause-here : goal.append_again-requires-clause-here
-append_again-requires-clause-here g c = c.requires.awaits.here
+append_again-requires-clause-here g c = c.requires.has.awaits.here
 
 pub ask-requires-clause-later : goal.ask-requires-clause-later
 ask-requires-clause-later g c = c.requires.later
@@ -426,4 +380,4 @@ pub ask-requires-clause-context : goal.ask-requires-clause-context
 ask-requires-clause-context g c = c.requires.context
 
 pub ask-requires-clause-here : goal.ask-requires-clause-here
-ask-requires-clause-here g c = c.requires.awaits.here
+ask-requires-clause-here g c = c.requires.has.awaits.here
