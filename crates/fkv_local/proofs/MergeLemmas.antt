@@ -1,5 +1,5 @@
 -- Updates that read no page, and merges in their place.
-use Rattle.std.proofs.Common.{◌≡◌, Bool, true, false, ℕ, ◌+◌, inl, inr, IsTrue, Result, Ok, Err, refl, sym, ◌∙◌, ap, subst, arith}
+use Rattle.std.proofs.Common.{◌≡◌, Bool, true, false, ℕ, inl, inr, IsTrue, Result, refl, ap, subst, arith}
 use Rattle.std.specs.declared.cmp.Ordering.{Ordering}
 use Rattle.fkv_functions.specs.Meanings.{Meanings}
 use Rattle.fkv_functions.specs.declared.refusals.Refused.{Refused}
@@ -8,7 +8,7 @@ use Rattle.fkv_operations.specs.declared.operations.KeyedOp.TheVariants.{Rmw, Me
 use Rattle.fkv_operations.specs.declared.operations.Answer.{Answer}
 use Rattle.fkv_partition.specs.Views.{PartitionView}
 use Rattle.fkv_alone.specs.Spoilt.{Spelling}
-use Rattle.fkv_local.specs.Resting.{IsIdle, StaysIdle}
+use Rattle.fkv_local.specs.Resting.{IsIdle}
 use Rattle.fkv_local.specs.Storing.{Updates}
 use Rattle.fkv_local.specs.Failures.{Failures}
 use Rattle.fkv_local.specs.Refusing.{IsWorkRefusal, IsStopped}

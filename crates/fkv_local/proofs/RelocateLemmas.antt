@@ -1,6 +1,5 @@
 -- What a relocation waits for after an event, and why an event of it is refused.
-use Rattle.std.proofs.Common.{◌≡◌, ◌≢◌, Bool, true, false, ℕ, ◌+◌, ◌*◌, ◌^◌, ◌<◌, ◌≤◌, inl, inr, List, Option, Some, None, Result, Ok, Err, IfOk, IfErr, OnOk, IsSome, IsTrue, length, nat_lt, slice_get, slice_set, refl, sym, ◌∙◌, ap, subst, arith}
-use Rattle.std.proofs.lemmas.Bool.Decides.{nat_tests}
+use Rattle.std.proofs.Common.{◌≡◌, Bool, true, false, ℕ, ◌+◌, ◌*◌, ◌^◌, ◌<◌, inl, inr, List, Option, Some, None, Result, Ok, Err, IfOk, IfErr, OnOk, IsSome, length, slice_get, slice_set, refl, sym, ◌∙◌, ap, subst, arith}
 use Rattle.std.proofs.lemmas.Option.{same_Some, slice_get_cases}
 use Rattle.std.specs.declared.cmp.Ordering.{Ordering}
 use Rattle.fkv_functions.specs.Meanings.{Meanings}
@@ -11,7 +10,6 @@ use Rattle.fkv_records.specs.Places.{page_at}
 use Rattle.fkv_device.specs.Standing.{Standing, Joined}
 use Rattle.fkv_texts.specs.declared.entries.Entry.{Entry}
 use Rattle.fkv_pages.specs.Loads.{IsHeldBy}
-use Rattle.fkv_operations.specs.Operations.{keyed}
 use Rattle.fkv_operations.specs.declared.entries.IndexEntry.{IndexEntry}
 use Rattle.fkv_operations.specs.declared.operations.Op.TheVariants.{Relocate}
 use Rattle.fkv_operations.specs.declared.operations.Answer.{Answer}
@@ -19,17 +17,17 @@ use Rattle.fkv_operations.specs.declared.operations.Answer.TheVariants.{Cleared}
 use Rattle.fkv_partition.specs.Wait.{Wait}
 use Rattle.fkv_partition.specs.Wait.TheVariants.{Full}
 use Rattle.fkv_partition.specs.Progress.{Progress}
-use Rattle.fkv_partition.specs.Progress.TheVariants.{Done, Next, NeedsBuild, NeedsLoad, Waits}
-use Rattle.fkv_partition.specs.CoreContexts.{is_session, joined, context_in}
+use Rattle.fkv_partition.specs.Progress.TheVariants.{Done, Next, NeedsLoad, Waits}
+use Rattle.fkv_partition.specs.CoreContexts.{joined}
 use Rattle.fkv_partition.specs.CoreViews.{slots_of}
-use Rattle.fkv_partition.specs.Beginning.{IsFirstFree, Relocates}
+use Rattle.fkv_partition.specs.Beginning.{Relocates}
 use Rattle.fkv_partition.specs.Checking.{Ends, Asks, ChecksLiveness, renewed}
 use Rattle.fkv_partition.specs.Events.{Issues, Goes, Loads}
 use Rattle.fkv_partition.specs.Going.{Awaited, awaited, awaited_by, GoesOn}
 use Rattle.fkv_partition.specs.Reading.{LoadsOn}
 use Rattle.fkv_partition.specs.Views.{PartitionView, relocation_at, with_relocation, at_stage}
 use Rattle.fkv_partition.specs.declared.relocations.Relocation.{Relocation}
-use Rattle.fkv_partition.specs.declared.relocations.Stage.TheVariants.{Fresh, Reading, Tracing, Ready}
+use Rattle.fkv_partition.specs.declared.relocations.Stage.TheVariants.{Fresh, Tracing}
 use Rattle.fkv_partition.proofs.EffectLemmas.{set-here}
 use Rattle.fkv_alone.specs.Spoilt.{Spelling}
 use Rattle.fkv_local.specs.Clearing.{IsWanted, WantsThen, IsKeptBy, IsAstray}

@@ -1,5 +1,6 @@
 -- What a store is after one of its partitions has run an operation.
-use Rattle.std.proofs.Common.{◌≡◌, ◌≢◌, Bool, true, false, ℕ, zero, suc, ◌<◌, ◌≤◌, ◌^◌, inl, inr, List, [], ◌∷◌, length, map, Option, Some, None, Result, Ok, Err, IsTrue, IfOk, OnOk, nat_lt, option_map, slice_get, slice_set, refl, sym, ◌∙◌, ap, subst, arith}
+use Rattle.std.proofs.Common.{◌≡◌, ◌≢◌, Bool, true, false, ℕ, zero, suc, ◌+◌, ◌<◌, ◌≤◌, ◌^◌, ◌||◌, inl, inr, List, [], ◌∷◌, length, map, Option, Some, None, Result, Ok, Err, IsTrue, IfOk, OnOk, nat_lt, option_map, slice_get, slice_set, refl, sym, ◌∙◌, ap, subst, arith}
+use Rattle.std.proofs.lemmas.Bool.{cases_lt}
 use Rattle.std.proofs.lemmas.Bool.Decides.{nat_tests}
 use Rattle.std.proofs.lemmas.List.{length-set}
 use Rattle.std.proofs.lemmas.Nat.{pow_pos}
@@ -157,16 +158,17 @@ get-other f (x ∷ xs) zero (suc p) y apart = refl
 get-other f (x ∷ xs) (suc i) zero y apart = refl
 get-other f (x ∷ xs) (suc i) (suc p) y apart = get-other f xs i p y (λ same. apart (ap suc same))
 
-module _ {K V I W P S : Type 0} (view : S → PartitionView K V I) (writer : S → W) (reader : S → P) (items : List S) {keeps_log : Bool} {tries now : ℕ} {self : StoreView K V I W P}
-    (is : seen_as (map view items) (map writer items) (map reader items) keeps_log tries now ≡ self) (home : ℕ) (x y : S) (here : slice_get items home ≡ Some x) (then : ℕ) where
-  after_it : StoreView K V I W P
-  after_it = seen_as (map view (slice_set items home y)) (map writer (slice_set items home y)) (map reader (slice_set items home y)) keeps_log tries then
+-- a store of these items, as it is seen
+abbrev pub of_items : {K V I W P S : Type 0} → (S → PartitionView K V I) → (S → W) → (S → P) → List S → Bool → ℕ → ℕ → StoreView K V I W P
+of_items view writer reader items keeps_log tries now = seen_as (map view items) (map writer items) (map reader items) keeps_log tries now
 
+module _ {K V I W P S : Type 0} (view : S → PartitionView K V I) (writer : S → W) (reader : S → P) (items : List S) {keeps_log : Bool} {tries now : ℕ} {self : StoreView K V I W P}
+    (is : of_items view writer reader items keeps_log tries now ≡ self) (home : ℕ) (x y : S) (here : slice_get items home ≡ Some x) (then : ℕ) where
   now-there : slice_get (slice_set items home y) home ≡ Some y
   now-there = get-set_same items home x y here
 
-  pub others-stay : (p : ℕ) → p ≢ home → StaysAt self after_it p
-  others-stay p apart = subst (λ s. StaysAt s after_it p) is (record {
+  pub others-stay : (p : ℕ) → p ≢ home → StaysAt self (of_items view writer reader (slice_set items home y) keeps_log tries then) p
+  others-stay p apart = subst (λ s. StaysAt s (of_items view writer reader (slice_set items home y) keeps_log tries then) p) is (record {
     part = get-other view items home p y apart;
     writer = get-other writer items home p y apart;
     reader = get-other reader items home p y apart;
@@ -175,14 +177,14 @@ module _ {K V I W P S : Type 0} (view : S → PartitionView K V I) (writer : S �
   ends-were : HasEnds self home (writer x) (reader x)
   ends-were = subst (λ s. HasEnds s home (writer x) (reader x)) is (view-get writer items home x here, view-get reader items home x here)
 
-  ends-are : HasEnds after_it home (writer y) (reader y)
+  ends-are : HasEnds (of_items view writer reader (slice_set items home y) keeps_log tries then) home (writer y) (reader y)
   ends-are = (view-get writer (slice_set items home y) home y now-there, view-get reader (slice_set items home y) home y now-there)
 
   module _ (writes : W → ℕ) (reads : P → ℕ) where
     -- why an operation is refused
     pub home-refusal : {merges : Bool} {entry : Spelling K V} {cmp : K → K → Ordering} (code : K → ℕ) (op : KeyedOp K V I) (k : K) → home ≡ partition_of (length self.parts) (code k) → k ≡ key_of op
         → (e : Refused) → IsRefusedBy merges keeps_log entry cmp writes reads op tries (view y).core.records.tail now then (writer x) (reader x) (writer y) (reader y) e
-        → IsRefusal merges entry cmp code writes reads self after_it op e
+        → IsRefusal merges entry cmp code writes reads self (of_items view writer reader (slice_set items home y) keeps_log tries then) op e
     home-refusal {merges} {entry} {cmp} code op k at key e h =
         let sized : length (map view (slice_set items home y)) ≡ length self.parts = view-length view (slice_set items home y) ∙ length-set items home y ∙ sym (view-length view items) ∙ ap length (parts-is is) in
         let own : partition_of (length (map view (slice_set items home y))) (code (key_of op)) ≡ home = ap (λ n. partition_of n (code (key_of op))) sized ∙ ap (λ q. partition_of (length self.parts) (code q)) (sym key) ∙ sym at in
@@ -194,14 +196,14 @@ module _ {K V I W P S : Type 0} (view : S → PartitionView K V I) (writer : S �
           reader_now = reader y;
           here = subst (λ p. slice_get (map view (slice_set items home y)) p ≡ Some (view y)) (sym own) (view-get view (slice_set items home y) home y now-there);
           ends = subst (λ p. HasEnds self p (writer x) (reader x)) (sym own) ends-were;
-          ends_now = subst (λ p. HasEnds after_it p (writer y) (reader y)) (sym own) ends-are;
+          ends_now = subst (λ p. HasEnds (of_items view writer reader (slice_set items home y) keeps_log tries then) p (writer y) (reader y)) (sym own) ends-are;
           others = λ p apart. others-stay p (λ same. apart (same ∙ sym own));
           refused = subst (λ (s : StoreView K V I W P). IsRefusedBy merges s.keeps_log entry cmp writes reads op s.tries (view y).core.records.tail s.moments then (writer x) (reader x) (writer y) (reader y) e) is h;
         }
 
     -- why a log is not compacted
     pub home-uncompacted : {entry : Spelling K V} {cmp : K → K → Ordering} (e : Refused) → IsWorkRefusal (IsAstray entry cmp) (view y).core.records.tail then (failures_of writes reads (writer x) (reader x)) (failures_of writes reads (writer y) (reader y)) e
-        → IsUncompactedAt entry cmp writes reads self after_it home e
+        → IsUncompactedAt entry cmp writes reads self (of_items view writer reader (slice_set items home y) keeps_log tries then) home e
     home-uncompacted e h = record {
       part = view y;
       writer = writer x;
@@ -214,7 +216,7 @@ module _ {K V I W P S : Type 0} (view : S → PartitionView K V I) (writer : S �
       refused = h;
     }
 
-    pub home-steady : failures_of writes reads (writer y) (reader y) ≡ failures_of writes reads (writer x) (reader x) → FailedAsBefore writes reads self after_it home
+    pub home-steady : failures_of writes reads (writer y) (reader y) ≡ failures_of writes reads (writer x) (reader x) → FailedAsBefore writes reads self (of_items view writer reader (slice_set items home y) keeps_log tries then) home
     home-steady same = (
       view-get writes (map writer (slice_set items home y)) home (writer y) ends-are.0 ∙ ap (λ (f : Failures). Some f.writes) same ∙ sym (view-get writes self.writers home (writer x) ends-were.0),
       view-get reads (map reader (slice_set items home y)) home (reader y) ends-are.1 ∙ ap (λ (f : Failures). Some f.reads) same ∙ sym (view-get reads self.readers home (reader x) ends-were.1),
@@ -224,20 +226,26 @@ module _ {K V I W P S : Type 0} (view : S → PartitionView K V I) (writer : S �
   begun : begin_at self home ≡ Some (view x).core.records.begin
   begun = subst (λ (s : StoreView K V I W P). begin_at s home ≡ Some (view x).core.records.begin) is (ap (option_map (λ (v : PartitionView K V I). v.core.records.begin)) (view-get view items home x here))
 
-  begins : begin_at after_it home ≡ Some (view y).core.records.begin
+  begins : begin_at (of_items view writer reader (slice_set items home y) keeps_log tries then) home ≡ Some (view y).core.records.begin
   begins = ap (option_map (λ (v : PartitionView K V I). v.core.records.begin)) (view-get view (slice_set items home y) home y now-there)
 
-  pub home-cut : IsCut (view x) (view y) true → IsCutAt self after_it home
+  pub home-cut : IsCut (view x) (view y) true → IsCutAt self (of_items view writer reader (slice_set items home y) keeps_log tries then) home
   home-cut risen = record { begin = (view x).core.records.begin; begin_now = (view y).core.records.begin; was = begun; is = begins; risen = risen }
 
-  pub home-uncut : IsCut (view x) (view y) false → begin_at after_it home ≡ begin_at self home
+  pub home-uncut : IsCut (view x) (view y) false → begin_at (of_items view writer reader (slice_set items home y) keeps_log tries then) home ≡ begin_at self home
   home-uncut same = begins ∙ ap Some same ∙ sym begun
 
-  pub home-all_cut : IsAllCut (view y) → (v : PartitionView K V I) → slice_get after_it.parts home ≡ Some v → IsAllCut v
+  pub home-all_cut : IsAllCut (view y) → (v : PartitionView K V I) → slice_get (of_items view writer reader (slice_set items home y) keeps_log tries then).parts home ≡ Some v → IsAllCut v
   home-all_cut all v h = subst IsAllCut (same_Some (view y) v (sym (view-get view (slice_set items home y) home y now-there) ∙ h)) all
 
+pub or-yes : (r b h : Bool) → r ≡ true → h ≡ r → (r || b) ≡ h
+or-yes r b h p q = ap (λ x. x || b) p ∙ sym p ∙ sym q
+
+pub or-no : (r b h : Bool) → r ≡ false → h ≡ b → (r || b) ≡ h
+or-no r b h p q = ap (λ x. x || b) p ∙ sym q
+
 -- ---- one store after the other
-module _ {K V I W P : Type 0} {u v w : StoreView K V I W P} {home : ℕ} where
+module _ {K V I W P : Type 0} {v w : StoreView K V I W P} {home : ℕ} where
   begin-stays : ((p : ℕ) → p ≢ home → StaysAt v w p) → begin_at w home ≡ begin_at v home → (p : ℕ) → begin_at w p ≡ begin_at v p
   begin-stays others same p = by (nat_lt p home) (nat_lt home p) refl refl
     where
@@ -250,23 +258,77 @@ module _ {K V I W P : Type 0} {u v w : StoreView K V I W P} {home : ℕ} where
       by false false q r = let here : p ≡ home = grind (arith, nat_tests) in rw here same
 
   -- the log at a place is the first of which the start is cut there
-  pub cut-here : StaysAt u v home → IsCutAt v w home → IsCutAt u w home
+  pub cut-here : {u : StoreView K V I W P} → StaysAt u v home → IsCutAt v w home → IsCutAt u w home
   cut-here stays c = record { begin = c.begin; begin_now = c.begin_now; was = sym (ap (option_map (λ (x : PartitionView K V I). x.core.records.begin)) stays.part) ∙ c.was; is = c.is; risen = c.risen }
 
-  pub cut-still : (b : Bool) → AnyIsCut u v b → ((p : ℕ) → p ≢ home → StaysAt v w p) → begin_at w home ≡ begin_at v home → AnyIsCut u w b
-  cut-still true c others same = (c.0, record { begin = c.1.begin; begin_now = c.1.begin_now; was = c.1.was; is = begin-stays others same c.0 ∙ c.1.is; risen = c.1.risen })
-  cut-still false c others same = λ p. begin-stays others same p ∙ c p
+  pub cut-still : (u : StoreView K V I W P) (b : Bool) → AnyIsCut u v b → ((p : ℕ) → p ≢ home → StaysAt v w p) → begin_at w home ≡ begin_at v home → AnyIsCut u w b
+  cut-still u true c others same = (c.0, record { begin = c.1.begin; begin_now = c.1.begin_now; was = c.1.was; is = begin-stays others same c.0 ∙ c.1.is; risen = c.1.risen })
+  cut-still u false c others same = λ p. begin-stays others same p ∙ c p
+
+  pub any-cut : (u : StoreView K V I W P) (b r : Bool) → AnyIsCut u v b → ((p : ℕ) → p ≢ home → StaysAt v w p) → StaysAt u v home → (IsTrue r → IsCutAt v w home) → (r ≡ false → begin_at w home ≡ begin_at v home) → AnyIsCut u w (r || b)
+  any-cut u b true c others stays cut uncut = (home, cut-here stays (cut refl))
+  any-cut u b false c others stays cut uncut = cut-still u b c others (uncut refl)
+
+  -- no more can be cut of the logs up to there
+  pub all-cut : ((p : ℕ) (x : PartitionView K V I) → p < home → slice_get v.parts p ≡ Some x → IsAllCut x) → ((p : ℕ) → p ≢ home → StaysAt v w p) → ((x : PartitionView K V I) → slice_get w.parts home ≡ Some x → IsAllCut x)
+      → (p : ℕ) (x : PartitionView K V I) → p < home + 1 → slice_get w.parts p ≡ Some x → IsAllCut x
+  all-cut so_far others more p x low here = elim (cases_lt p home) [
+    | inl less ↦ so_far p x less (sym (others p (λ e. absurd (omega arith))).part ∙ here)
+    | inr up ↦ (let same : p ≡ home = omega arith in more x (ap (slice_get w.parts) (sym same) ∙ here))
+  ]
+
+module _ {K V I W P : Type 0} {u v w : StoreView K V I W P} {p : ℕ} where
+  pub stays-at : StaysAt u v p → StaysAt v w p → StaysAt u w p
+  stays-at a b = record { part = b.part ∙ a.part; writer = b.writer ∙ a.writer; reader = b.reader ∙ a.reader }
+
+  -- why a log is not compacted that was as it was
+  pub uncompacted-since : {entry : Spelling K V} {cmp : K → K → Ordering} {writes : W → ℕ} {reads : P → ℕ} {e : Refused} → StaysAt u v p → IsUncompactedAt entry cmp writes reads v w p e → IsUncompactedAt entry cmp writes reads u w p e
+  uncompacted-since stays h = record {
+    part = h.part;
+    writer = h.writer;
+    reader = h.reader;
+    writer_now = h.writer_now;
+    reader_now = h.reader_now;
+    here = h.here;
+    ends = (sym stays.writer ∙ h.ends.0, sym stays.reader ∙ h.ends.1);
+    ends_now = h.ends_now;
+    refused = h.refused;
+  }
+
+get-mapped : {A B : Type 0} (f : A → B) (xs : List A) (i : ℕ) → slice_get (map f xs) i ≡ option_map f (slice_get xs i)
+get-mapped f [] i = refl
+get-mapped f (x ∷ xs) zero = refl
+get-mapped f (x ∷ xs) (suc i) = get-mapped f xs i
+
+module _ {K V I W P : Type 0} (writes : W → ℕ) (reads : P → ℕ) (u v w : StoreView K V I W P) where
+  -- what has failed as often
+  pub failed-then : (p : ℕ) → FailedAsBefore writes reads u v p → FailedAsBefore writes reads v w p → FailedAsBefore writes reads u w p
+  failed-then p a b = (b.0 ∙ a.0, b.1 ∙ a.1)
+
+  pub failed-still : (p : ℕ) → FailedAsBefore writes reads u v p → StaysAt v w p → FailedAsBefore writes reads u w p
+  failed-still p a stays = failed-then p a (
+    get-mapped writes w.writers p ∙ ap (option_map writes) stays.writer ∙ sym (get-mapped writes v.writers p),
+    get-mapped reads w.readers p ∙ ap (option_map reads) stays.reader ∙ sym (get-mapped reads v.readers p),
+  )
+
+  pub failed-more : (home : ℕ) → ((p : ℕ) → FailedAsBefore writes reads u v p) → ((p : ℕ) → p ≢ home → StaysAt v w p) → FailedAsBefore writes reads v w home → (p : ℕ) → FailedAsBefore writes reads u w p
+  failed-more home so_far others more p = by (nat_lt p home) (nat_lt home p) refl refl
+    where
+      by : (a b : Bool) → nat_lt p home ≡ a → nat_lt home p ≡ b → FailedAsBefore writes reads u w p
+      by true b q r = failed-still p (so_far p) (others p (λ e. absurd (let l : p < home = grind (arith, nat_tests) in omega arith)))
+      by false true q r = failed-still p (so_far p) (others p (λ e. absurd (let l : home < p = grind (arith, nat_tests) in omega arith)))
+      by false false q r = let same : p ≡ home = grind (arith, nat_tests) in failed-then p (so_far p) (subst (λ n. FailedAsBefore writes reads v w n) (sym same) more)
 
 pub OnOk-weaker : {A P Q : Type 0} (r : Result A Refused) → (P → Q) → OnOk r P → OnOk r Q
 OnOk-weaker (Ok a) f h = f h
 OnOk-weaker (Err e) f h = tt
 
-pub cut-told : {K V I C : Type 0} {v w : PartitionView K V I} (r : Result Bool Refused) → (IsCut v w true → C) → IfOk r (IsCut v w) → IfOk r (λ b. IsTrue b → C)
-cut-told (Ok true) f h = λ t. f h
-cut-told (Ok false) f h = λ t. absurd (cc)
-cut-told (Err e) f h = tt
+pub cut-told : {K V I C : Type 0} (v w : PartitionView K V I) (r : Result Bool Refused) → (IsCut v w true → C) → IfOk r (IsCut v w) → IfOk r (λ b. IsTrue b → C)
+cut-told v w (Ok true) f h = λ t. f h
+cut-told v w (Ok false) f h = λ t. absurd (cc)
+cut-told v w (Err e) f h = tt
 
-pub uncut-told : {K V I C : Type 0} {v w : PartitionView K V I} (r : Result Bool Refused) → (IsCut v w false → C) → IfOk r (IsCut v w) → IfOk r (λ b. b ≡ false → C)
-uncut-told (Ok true) f h = λ t. absurd (cc)
-uncut-told (Ok false) f h = λ t. f h
-uncut-told (Err e) f h = tt
+pub uncut-told : {K V I C : Type 0} (v w : PartitionView K V I) (r : Result Bool Refused) → (IsCut v w false → C) → IfOk r (IsCut v w) → IfOk r (λ b. b ≡ false → C)
+uncut-told v w (Ok true) f h = λ t. absurd (cc)
+uncut-told v w (Ok false) f h = λ t. f h
+uncut-told v w (Err e) f h = tt

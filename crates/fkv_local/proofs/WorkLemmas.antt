@@ -1,5 +1,5 @@
 -- Why work at a partition is refused, and what its writer and reader have counted then.
-use Rattle.std.proofs.Common.{◌≡◌, Bool, true, false, ℕ, ◌+◌, ◌^◌, ◌≤◌, ◌⊎◌, inl, inr, Result, Ok, Err, IfErr, OnOk, refl, sym, ◌∙◌, ap, subst, arith}
+use Rattle.std.proofs.Common.{◌≡◌, Bool, false, ℕ, ◌+◌, ◌^◌, ◌≤◌, inl, inr, Result, Ok, Err, IfErr, OnOk, ◌∙◌, ap, subst, arith}
 use Rattle.fkv_functions.specs.declared.refusals.Refused.{Refused}
 use Rattle.fkv_functions.specs.declared.refusals.Refused.TheVariants.{Worn}
 use Rattle.fkv_local.specs.Failures.{Failures, FailsOnceAtMost, IsBeside}

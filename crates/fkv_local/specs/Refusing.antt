@@ -120,8 +120,8 @@ pub record IsUncompactedAt {K V I W P : Type 0} (entry : Spelling K V) (cmp : K 
   pub refused : IsWorkRefusal (IsAstray entry cmp) part.core.records.tail new.moments (failures_of writes reads writer reader)
       (failures_of writes reads writer_now reader_now) why
 
--- WHY A COMPACTION IS REFUSED: by the log at this place. Those before it were compacted, and none of their ends has failed; those
--- behind it are as they were.
+-- WHY A COMPACTION IS REFUSED: by the log at this place. No writer or reader before it has failed, and what is behind it is as it
+-- was.
 pub record IsUncompacted {K V I W P : Type 0} (entry : Spelling K V) (cmp : K → K → Ordering) (writes : W → ℕ) (reads : P → ℕ)
     (old new : StoreView K V I W P) (why : Refused) : Type 0 where
   pub place : ℕ

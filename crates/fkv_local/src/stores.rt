@@ -279,8 +279,7 @@ impl<F: Mergeable, D: Disk> LocalStore<F, D> {
         let mut has_cut = false;
         for home in 0..self.shards.len() {
             match self.compact_part(home) {
-                Ok(true) => has_cut = true,
-                Ok(false) => {}
+                Ok(is_cut) => has_cut = is_cut || has_cut,
                 Err(refused) => return Err(refused),
             }
         }

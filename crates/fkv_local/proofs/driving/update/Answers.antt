@@ -1,4 +1,4 @@
-use Rattle.std.proofs.Common.{◌≡◌, ◌≤◌, ap, subst, sym, arith}
+use Rattle.std.proofs.Common.{◌≤◌, ap, arith}
 use Rattle.std.proofs.lemmas.Result.{IfErr-weaker}
 use Rattle.fkv_local.proofs.DriveLemmas.{move-refused, refused-by, worn-refused, beside-then}
 use Rattle.fkv_local.proofs.driving.update.Goals as goal

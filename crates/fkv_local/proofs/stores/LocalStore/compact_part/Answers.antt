@@ -100,7 +100,7 @@ returns-clause-cut g c =
     let old = c.index_mut-shard.result.now in
     let within = inside-home (λ shard. shard.part.partition) g.F.Functions.code items c.self.inside.clock c.args.self.now.parts (parts-is c.self.view_is) home c.requires.within in
     let here = slice_get_read items (length items) home old refl within c.index_mut-shard.ensures.value in
-    cut-told c.compact.result (home-cut (λ shard. shard.part.partition) (λ shard. shard.part.writer) (λ shard. shard.reader) items c.self.view_is home old c.compact.new.shard here c.compact.new.clock) c.compact.ensures.cut
+    cut-told old.part.partition c.compact.new.shard.part.partition c.compact.result (home-cut (λ shard. shard.part.partition) (λ shard. shard.part.writer) (λ shard. shard.reader) items c.self.view_is home old c.compact.new.shard here c.compact.new.clock) c.compact.ensures.cut
 
 pub returns-clause-uncut : goal.returns-clause-uncut
 returns-clause-uncut g c =
@@ -109,4 +109,4 @@ returns-clause-uncut g c =
     let old = c.index_mut-shard.result.now in
     let within = inside-home (λ shard. shard.part.partition) g.F.Functions.code items c.self.inside.clock c.args.self.now.parts (parts-is c.self.view_is) home c.requires.within in
     let here = slice_get_read items (length items) home old refl within c.index_mut-shard.ensures.value in
-    uncut-told c.compact.result (home-uncut (λ shard. shard.part.partition) (λ shard. shard.part.writer) (λ shard. shard.reader) items c.self.view_is home old c.compact.new.shard here c.compact.new.clock) c.compact.ensures.cut
+    uncut-told old.part.partition c.compact.new.shard.part.partition c.compact.result (home-uncut (λ shard. shard.part.partition) (λ shard. shard.part.writer) (λ shard. shard.reader) items c.self.view_is home old c.compact.new.shard here c.compact.new.clock) c.compact.ensures.cut
