@@ -85,7 +85,7 @@ module _ {V O W P : Type 0} (keeps : Bool) (f : Meanings Name V ℤ O) (code : N
   stands-update s t rows k i a ran stand = stands-more s t rows k i stand (λ kept. elim (ran kept) [ inl r ↦ r.0 | inr r ↦ r.0 ])
 
 -- ---- why a row is refused
-module _ {K V I D W P : Type 0} {keeps merges : Bool} {entry : Spelling K V} {cmp : K → K → Ordering} {k : K} {i : I} {e : Refused} (opens : D → ℕ) (writes : W → ℕ) (reads : P → ℕ) where
+module _ {K V D W P : Type 0} {keeps : Bool} {entry : Spelling K V} {cmp : K → K → Ordering} {e : Refused} (opens : D → ℕ) (writes : W → ℕ) (reads : P → ℕ) where
   work-row : (w w_now : W) (p p_now : P) {tail clock : ℕ} → IsWorkRefusal (IsSpoilt entry cmp) tail clock (failures_of writes reads w p) (failures_of writes reads w_now p_now) e → IsRowRefusal (IsDeviceFault keeps opens writes reads entry cmp) e
   work-row w w_now p p_now (IsWorkRefusal.no_memory a s) = inl a
   work-row w w_now p p_now (IsWorkRefusal.unwritten page a s) = inr (inr (inr (IsDeviceFault.unworked w w_now p p_now (IsFault.unwritten page a s))))
@@ -94,8 +94,9 @@ module _ {K V I D W P : Type 0} {keeps merges : Bool} {entry : Spelling K V} {cm
   work-row w w_now p p_now (IsWorkRefusal.no_address a t s) = inr (inl a)
   work-row w w_now p p_now (IsWorkRefusal.no_moment a t s) = inr (inl a)
 
+module _ {K V I D W P : Type 0} {keeps merges : Bool} {entry : Spelling K V} {cmp : K → K → Ordering} {k : K} {i : I} {e : Refused} (opens : D → ℕ) (writes : W → ℕ) (reads : P → ℕ) where
   stopped-row : (w w_now : W) (p p_now : P) {tries tail began clock : ℕ} → IsStopped merges entry cmp (Rmw k i) tries tail began clock (failures_of writes reads w p) (failures_of writes reads w_now p_now) e → IsRowRefusal (IsDeviceFault keeps opens writes reads entry cmp) e
-  stopped-row w w_now p p_now (IsStopped.unworked h) = work-row w w_now p p_now h
+  stopped-row w w_now p p_now (IsStopped.unworked h) = work-row opens writes reads w w_now p p_now h
   stopped-row w w_now p p_now (IsStopped.stalled a b s) = inr (inr (inl a))
   stopped-row w w_now p p_now (IsStopped.unmerged a m n s) = absurd (cc)
 
