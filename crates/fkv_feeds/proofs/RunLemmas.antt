@@ -18,9 +18,10 @@ use Rattle.fkv_operations.specs.AfterLaws.{same_map}
 use Rattle.fkv_operations.specs.declared.operations.Answer.{Answer}
 use Rattle.fkv_operations.specs.declared.operations.KeyedOp.TheVariants.{Rmw}
 use Rattle.fkv_partition.proofs.UnionLemmas.{is_at-turned}
-use Rattle.fkv_alone.specs.Spoilt.{Spelling}
+use Rattle.fkv_alone.specs.Spoilt.{Spelling, IsSpoilt}
 use Rattle.fkv_local.specs.Storing.{StoreView, plain, IsRun, IsUpdateRun}
-use Rattle.fkv_local.specs.Refusing.{IsRefusal, IsStopped}
+use Rattle.fkv_local.specs.Failures.{Failures, failures_of}
+use Rattle.fkv_local.specs.Refusing.{IsWorkRefusal, IsRefusal, IsStopped}
 use Rattle.fkv_feeds.specs.Faults.{IsFault, IsDeviceFault}
 use Rattle.fkv_feeds.specs.Refusing.{IsRowRefusal}
 use Rattle.fkv_feeds.specs.Tables.{amounts_of, folded_on, folded, StandsFor}
@@ -64,36 +65,40 @@ module _ {K V I O : Type 0} (cmp : K → K → Ordering) (order : IsKeyOrder cmp
           rw e (sym (ap (folded f q) more))
 
 -- ---- before the first row, and after one more
-module _ {V O P : Type 0} (keeps : Bool) (f : Meanings Name V ℤ O) (code : Name → ℕ) where
-  pub stands-new : (s : StoreView Name V ℤ P) → ((k : Name) → plain name_cmp code s k ≡ None) → StandsFor keeps f code s []
+module _ {V O W P : Type 0} (keeps : Bool) (f : Meanings Name V ℤ O) (code : Name → ℕ) where
+  pub stands-new : (s : StoreView Name V ℤ W P) → ((k : Name) → plain name_cmp code s k ≡ None) → StandsFor keeps f code s []
   stands-new s empty = λ kept k. empty k
 
-  stands-more : (s t : StoreView Name V ℤ P) (rows : List (Name × ℤ)) (k : Name) (i : ℤ) → StandsFor keeps f code s rows
+  stands-more : (s t : StoreView Name V ℤ W P) (rows : List (Name × ℤ)) (k : Name) (i : ℤ) → StandsFor keeps f code s rows
       → (IsTrue keeps → Same (plain name_cmp code t) (after name_cmp f (plain name_cmp code s) (Rmw k i))) → StandsFor keeps f code t (rows ++ (k, i) ∷ [])
   stands-more s t rows k i stand done kept = (let maps : plain name_cmp code s ≡ (λ q. folded f q (amounts_of name_cmp q rows)) = same_map (plain name_cmp code s) (λ q. folded f q (amounts_of name_cmp q rows)) (stand kept) in
       λ q. done kept q
       ∙ ap (λ (m : PlainMap Name V). after name_cmp f m (Rmw k i) q) maps
       ∙ table-more name_cmp (key_order same_names name_cmp name_ties name_exact name_total) f rows k i q)
 
-  pub stands-run : (s t : StoreView Name V ℤ P) (rows : List (Name × ℤ)) (k : Name) (i : ℤ) (a : Answer O)
+  pub stands-run : (s t : StoreView Name V ℤ W P) (rows : List (Name × ℤ)) (k : Name) (i : ℤ) (a : Answer O)
       → (IsTrue keeps → IsRun name_cmp f (plain name_cmp code s) (plain name_cmp code t) (Rmw k i) (Ok a)) → StandsFor keeps f code s rows → StandsFor keeps f code t (rows ++ (k, i) ∷ [])
   stands-run s t rows k i a ran stand = stands-more s t rows k i stand (λ kept. (ran kept).0)
 
-  pub stands-update : (s t : StoreView Name V ℤ P) (rows : List (Name × ℤ)) (k : Name) (i : ℤ) (a : Answer O)
+  pub stands-update : (s t : StoreView Name V ℤ W P) (rows : List (Name × ℤ)) (k : Name) (i : ℤ) (a : Answer O)
       → (IsTrue keeps → IsUpdateRun name_cmp f (plain name_cmp code s) (plain name_cmp code t) k i (Ok a)) → StandsFor keeps f code s rows → StandsFor keeps f code t (rows ++ (k, i) ∷ [])
   stands-update s t rows k i a ran stand = stands-more s t rows k i stand (λ kept. elim (ran kept) [ inl r ↦ r.0 | inr r ↦ r.0 ])
 
 -- ---- why a row is refused
-module _ {K V I D W P : Type 0} {keeps merges : Bool} {entry : Spelling K V} {cmp : K → K → Ordering} {k : K} {i : I} {e : Refused} (opens : D → ℕ) (writes : W → ℕ) (reads : P → ℕ) where
-  stopped-row : (w w_now : W) (p p_now : P) {tail clock : ℕ} → IsStopped merges entry cmp (Rmw k i) tail clock (writes w) (writes w_now) (reads p) (reads p_now) e → IsRowRefusal (IsDeviceFault keeps opens writes reads entry cmp) e
-  stopped-row w w_now p p_now (IsStopped.no_memory a b d) = inl a
-  stopped-row w w_now p p_now (IsStopped.unwritten page a b) = inr (inr (inr (IsDeviceFault.unworked w w_now p p_now (IsFault.unwritten page a b))))
-  stopped-row w w_now p p_now (IsStopped.unread page a b) = inr (inr (inr (IsDeviceFault.unworked w w_now p p_now (IsFault.unread page a b))))
-  stopped-row w w_now p p_now (IsStopped.misspelled page s a b d) = inr (inr (inr (IsDeviceFault.unworked w w_now p p_now (IsFault.spoilt page s a d b))))
-  stopped-row w w_now p p_now (IsStopped.no_address a t b d) = inr (inl a)
-  stopped-row w w_now p p_now (IsStopped.no_moment a t b d) = inr (inl a)
-  stopped-row w w_now p p_now (IsStopped.stalled a b d) = inr (inr (inl a))
-  stopped-row w w_now p p_now (IsStopped.unmerged a m n b d) = absurd (cc)
+module _ {K V D W P : Type 0} {keeps : Bool} {entry : Spelling K V} {cmp : K → K → Ordering} {e : Refused} (opens : D → ℕ) (writes : W → ℕ) (reads : P → ℕ) where
+  work-row : (w w_now : W) (p p_now : P) {tail clock : ℕ} → IsWorkRefusal (IsSpoilt entry cmp) tail clock (failures_of writes reads w p) (failures_of writes reads w_now p_now) e → IsRowRefusal (IsDeviceFault keeps opens writes reads entry cmp) e
+  work-row w w_now p p_now (IsWorkRefusal.no_memory a s) = inl a
+  work-row w w_now p p_now (IsWorkRefusal.unwritten page a s) = inr (inr (inr (IsDeviceFault.unworked w w_now p p_now (IsFault.unwritten page a s))))
+  work-row w w_now p p_now (IsWorkRefusal.unread page a s) = inr (inr (inr (IsDeviceFault.unworked w w_now p p_now (IsFault.unread page a s))))
+  work-row w w_now p p_now (IsWorkRefusal.misspelled page a b s) = inr (inr (inr (IsDeviceFault.unworked w w_now p p_now (IsFault.spoilt page a b (ap (λ (f : Failures). f.writes) s) (ap (λ (f : Failures). f.reads) s)))))
+  work-row w w_now p p_now (IsWorkRefusal.no_address a t s) = inr (inl a)
+  work-row w w_now p p_now (IsWorkRefusal.no_moment a t s) = inr (inl a)
 
-  pub refused-row : {code : K → ℕ} {store : StoreView K V I P} → IsRefusal merges entry cmp code writes reads store (Rmw k i) e → IsRowRefusal (IsDeviceFault keeps opens writes reads entry cmp) e
-  refused-row h = stopped-row h.refused.writer h.refused.writer_now h.refused.reader h.refused.reader_now h.refused.stopped
+module _ {K V I D W P : Type 0} {keeps merges : Bool} {entry : Spelling K V} {cmp : K → K → Ordering} {k : K} {i : I} {e : Refused} (opens : D → ℕ) (writes : W → ℕ) (reads : P → ℕ) where
+  stopped-row : (w w_now : W) (p p_now : P) {tries tail began clock : ℕ} → IsStopped merges entry cmp (Rmw k i) tries tail began clock (failures_of writes reads w p) (failures_of writes reads w_now p_now) e → IsRowRefusal (IsDeviceFault keeps opens writes reads entry cmp) e
+  stopped-row w w_now p p_now (IsStopped.unworked h) = work-row opens writes reads w w_now p p_now h
+  stopped-row w w_now p p_now (IsStopped.stalled a b s) = inr (inr (inl a))
+  stopped-row w w_now p p_now (IsStopped.unmerged a m n s) = absurd (cc)
+
+  pub refused-row : {code : K → ℕ} {old new : StoreView K V I W P} → IsRefusal merges entry cmp code writes reads old new (Rmw k i) e → IsRowRefusal (IsDeviceFault keeps opens writes reads entry cmp) e
+  refused-row h = stopped-row h.refused.writer_then h.writer_now h.refused.reader_then h.reader_now h.refused.stopped

@@ -52,6 +52,6 @@ pub record IsTableOf {V O : Type 0} (f : Meanings Name V ℤ O) (feeds : List (O
   pub rising : IsStrictlySortedBy name_cmp (keys_of pairs)
 
 -- a store stands for these rows: on a device that keeps, it is the map of what the amounts of each key come to
-abbrev pub StandsFor : {V O P : Type 0} → Bool → Meanings Name V ℤ O → (Name → ℕ) → StoreView Name V ℤ P → List (Name × ℤ)
+abbrev pub StandsFor : {V O W P : Type 0} → Bool → Meanings Name V ℤ O → (Name → ℕ) → StoreView Name V ℤ W P → List (Name × ℤ)
     → Type 0
 StandsFor keeps f code store rows = IsTrue keeps → Same (plain name_cmp code store) (λ k. folded f k (amounts_of name_cmp k rows))

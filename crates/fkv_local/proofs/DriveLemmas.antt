@@ -1,7 +1,6 @@
 -- What an operation leaves of a partition that was driven alone, and why it is refused.
-use Rattle.std.proofs.Common.{◌≡◌, ◌≢◌, Bool, true, false, cond, ◌&&◌, ℕ, ◌+◌, ◌-◌, ◌*◌, ◌^◌, ◌<◌, ◌≤◌, inl, inr, List, Option, Some, None, Result, Ok, Err, IfErr, OnOk, option_map, slice_get, nat_lt, refl, sym, ◌∙◌, ap, subst, arith}
+use Rattle.std.proofs.Common.{◌≡◌, ◌≢◌, Bool, true, false, cond, ◌&&◌, ℕ, ◌+◌, ◌-◌, ◌*◌, ◌^◌, ◌<◌, ◌≤◌, inl, inr, List, Option, Some, None, Result, Ok, Err, OnOk, option_map, slice_get, nat_lt, refl, sym, ◌∙◌, ap, subst, arith}
 use Rattle.std.proofs.lemmas.Bool.Decides.{nat_tests}
-use Rattle.std.proofs.lemmas.Result.{IfErr-weaker}
 use Rattle.std.specs.declared.cmp.Ordering.{Ordering}
 use Rattle.fkv_functions.specs.Meanings.{Meanings}
 use Rattle.fkv_functions.specs.Plain.{Same}
@@ -27,14 +26,16 @@ use Rattle.fkv_alone.specs.Stages.{IsWaiting}
 use Rattle.fkv_local.specs.Resting.{IsIdle, StaysIdle}
 use Rattle.fkv_local.specs.Moving.{IsTidied, IsMoveRefusal}
 use Rattle.fkv_local.specs.Storing.{Runs}
-use Rattle.fkv_local.specs.Refusing.{IsStopped, IsRefusedBy}
+use Rattle.fkv_local.specs.Failures.{Failures, failures_of, IsBeside}
+use Rattle.fkv_local.specs.Refusing.{IsWorkRefusal, IsStopped, IsRefusedBy}
+use Rattle.fkv_local.proofs.WorkLemmas.{both, same-both, move-work, worn-work}
 
 -- ---- a session with nothing open
 pub none-mapped : {A B : Type 0} (f : A → B) (o : Option A) → option_map f o ≡ None → o ≡ None
 none-mapped f None h = refl
 none-mapped f (Some x) h = absurd (cc)
 
-inside : {A : Type 0} (slots : List (Option ℕ)) (contexts : List (Option A)) (c : ℕ) → is_session slots 0 ≡ true → c < 8 → context_in slots contexts 0 c ≡ joined (slice_get contexts (0 * 8 + c))
+pub inside : {A : Type 0} (slots : List (Option ℕ)) (contexts : List (Option A)) (c : ℕ) → is_session slots 0 ≡ true → c < 8 → context_in slots contexts 0 c ≡ joined (slice_get contexts (0 * 8 + c))
 inside slots contexts c h low = let t : nat_lt c 8 ≡ true = grind (arith, nat_tests) in rw (h, t) refl
 
 module _ {K V I : Type 0} where
@@ -71,7 +72,7 @@ module _ {K V I : Type 0} where
   }
 
   -- so its lowest context is free, and an operation is issued there
-  zero-free : (v : PartitionView K V I) → IsIdle v 0 → IsFree v 0 0
+  pub zero-free : (v : PartitionView K V I) → IsIdle v 0 → IsFree v 0 0
   zero-free v i = record {
     operation = sym (inside (slots_of v.core) v.core.contexts 0 i.entered (omega arith)) ∙ i.free 0;
     relocation = sym (inside (slots_of v.core) v.relocations 0 i.entered (omega arith)) ∙ i.relocations 0;
@@ -120,40 +121,54 @@ over-stays {K} {V} {I} {keeps} {cmp} u v w c s over rest = record {
   live = λ k q. ap (λ r. live cmp r.text q) over.records ∙ s.live k q;
 }
 
-module _ {K V I : Type 0} {merges : Bool} {entry : Spelling K V} {cmp : K → K → Ordering} {op : KeyedOp K V I} where
+module _ {K V I : Type 0} {merges : Bool} {entry : Spelling K V} {cmp : K → K → Ordering} {op : KeyedOp K V I} {tries tail clock : ℕ} {e : Refused} where
   -- by the partition's own event, over this log
-  stopped : {tail clock before after_ writes writes_now : ℕ} {e : Refused} → ((page : ℕ) → e ≡ Damaged page → after_ ≡ before → IsSpoilt entry cmp page) → IsStop tail before after_ e → writes_now ≡ writes → IsStopped merges entry cmp op tail clock writes writes_now before after_ e
-  stopped spoilt (IsStop.memory a b) same = IsStopped.no_memory a b same
-  stopped spoilt (IsStop.worn a b d) same = IsStopped.no_address a b d same
-  stopped spoilt (IsStop.device page a b) same = IsStopped.unread page (inl (inr (a, b))) same
-  stopped spoilt (IsStop.damaged page a b) same = IsStopped.unread page (inr (a, b)) same
-  stopped spoilt (IsStop.misspelled page a b) same = IsStopped.misspelled page (spoilt page a b) a b same
-
-  unissued : {code : K → ℕ} {tail clock before after_ writes writes_now : ℕ} (v w : PartitionView K V I) (now : ℕ) (e : Refused) → IsIdle v 0 → partition_of v.core.count (code (key_of op)) ≡ v.core.number → v.core.merges ≡ merges → IssuesOnKey code v w 0 op now (Err e) → after_ ≡ before → writes_now ≡ writes → IsStopped merges entry cmp op tail clock writes writes_now before after_ e
-  unissued v w now e i own m (IssuesOnKey.unknown a b r) s t = let bad : false ≡ true = sym a ∙ i.entered in absurd (cc)
-  unissued v w now e i own m (IssuesOnKey.stranger a b d r) s t = absurd (b own)
-  unissued v w now e i own m (IssuesOnKey.unmerged a b d n g r) s t = IsStopped.unmerged (cc) d (sym m ∙ n) s t
-  unissued v w now e i own m (IssuesOnKey.full a b q d g r) s t = absurd (d 0 (omega arith) (zero-free v i))
-  unissued v w now e i own m (IssuesOnKey.issues c a b q d g r) s t = absurd (cc)
+  stopped : {began before after_ writes writes_now : ℕ} → ((page : ℕ) → e ≡ Damaged page → after_ ≡ before → IsSpoilt entry cmp page) → IsStop tail before after_ e → writes_now ≡ writes → IsStopped merges entry cmp op tries tail began clock (both writes before) (both writes_now after_) e
+  stopped spoilt (IsStop.memory a b) same = IsStopped.unworked (IsWorkRefusal.no_memory a (same-both same b))
+  stopped spoilt (IsStop.worn a b d) same = IsStopped.unworked (IsWorkRefusal.no_address a b (same-both same d))
+  stopped spoilt (IsStop.device page a b) same = IsStopped.unworked (IsWorkRefusal.unread page (inl (inr (a, b))) same)
+  stopped spoilt (IsStop.damaged page a b) same = IsStopped.unworked (IsWorkRefusal.unread page (inr (a, b)) same)
+  stopped spoilt (IsStop.misspelled page a b) same = IsStopped.unworked (IsWorkRefusal.misspelled page (spoilt page a b) a (same-both same b))
 
   -- or since pages are not moved
-  pub move-stopped : {tail clock writes writes_now before after_ : ℕ} {e : Refused} → IsMoveRefusal clock writes writes_now e → after_ ≡ before → IsStopped merges entry cmp op tail clock writes writes_now before after_ e
-  move-stopped (IsMoveRefusal.worn a b s) same = IsStopped.no_moment a (omega arith) same s
-  move-stopped (IsMoveRefusal.no_memory a b) same = IsStopped.no_memory a same b
-  move-stopped (IsMoveRefusal.unwritten page a) same = IsStopped.unwritten page a same
+  pub move-stopped : {began writes writes_now before after_ : ℕ} → IsMoveRefusal clock writes writes_now e → after_ ≡ before → IsStopped merges entry cmp op tries tail began clock (both writes before) (both writes_now after_) e
+  move-stopped h same = IsStopped.unworked (move-work h same)
 
-  -- of a partition's writer and reader
-  pub move-refused : {W P : Type 0} (writes : W → ℕ) (reads : P → ℕ) {tail clock : ℕ} {e : Refused} (w w_now : W) (p p_now : P) → IsMoveRefusal clock (writes w) (writes w_now) e → reads p_now ≡ reads p → IsRefusedBy merges entry cmp writes reads op tail clock e
-  move-refused writes reads w w_now p p_now h same = record { writer = w; writer_now = w_now; reader = p; reader_now = p_now; stopped = move-stopped h same }
+  -- from counts that are the same
+  pub stopped-from : {began w w_now r r_now w_first r_first : ℕ} → w ≡ w_first → r ≡ r_first → IsStopped merges entry cmp op tries tail began clock (both w r) (both w_now r_now) e → IsStopped merges entry cmp op tries tail began clock (both w_first r_first) (both w_now r_now) e
+  stopped-from {began} {w} {w_now} {r} {r_now} p q h = subst (λ f. IsStopped merges entry cmp op tries tail began clock f (both w_now r_now) e) (same-both p q) h
 
-  pub refused-by : {W P : Type 0} (writes : W → ℕ) (reads : P → ℕ) {tail clock : ℕ} {e : Refused} (w w_now : W) (p p_now : P) → IsStopped merges entry cmp op tail clock (writes w) (writes w_now) (reads p) (reads p_now) e → IsRefusedBy merges entry cmp writes reads op tail clock e
-  refused-by writes reads w w_now p p_now h = record { writer = w; writer_now = w_now; reader = p; reader_now = p_now; stopped = h }
+  module _ {began first : ℕ} (later : first ≤ began) where
+    -- by a call that began earlier
+    pub stopped-since : {old now : Failures} → IsStopped merges entry cmp op tries tail began clock old now e → IsStopped merges entry cmp op tries tail first clock old now e
+    stopped-since (IsStopped.unworked h) = IsStopped.unworked h
+    stopped-since (IsStopped.stalled a b s) = IsStopped.stalled a (omega arith) s
+    stopped-since (IsStopped.unmerged a b m s) = IsStopped.unmerged a b m s
 
-  pub worn-refused : {W P : Type 0} (writes : W → ℕ) (reads : P → ℕ) {tail clock : ℕ} {e : Refused} (w : W) (p : P) → (e ≡ Worn) × (2 ^ 64 ≤ clock + 2) → IsRefusedBy merges entry cmp writes reads op tail clock e
-  worn-refused writes reads w p h = refused-by writes reads w w p p (IsStopped.no_moment h.0 h.1 refl refl)
+    -- after a compaction that began by itself
+    pub refused-by : {W P : Type 0} {writes : W → ℕ} {reads : P → ℕ} {keeps_log : Bool} {writer writer_now : W} {reader reader_now : P} (writer_then : W) (reader_then : P) → IsBeside keeps_log (failures_of writes reads writer reader) (failures_of writes reads writer_then reader_then)
+        → IsStopped merges entry cmp op tries tail began clock (failures_of writes reads writer_then reader_then) (failures_of writes reads writer_now reader_now) e → IsRefusedBy merges keeps_log entry cmp writes reads op tries tail first clock writer reader writer_now reader_now e
+    refused-by writer_then reader_then beside h = record { writer_then = writer_then; reader_then = reader_then; beside = beside; stopped = stopped-since h }
 
-pub told-by : {K V I A W P : Type 0} (merges : Bool) (entry : Spelling K V) (cmp : K → K → Ordering) (op : KeyedOp K V I) (writes : W → ℕ) (reads : P → ℕ) (tail clock : ℕ) (w w_now : W) (p p_now : P) (r : Result A Refused) → IfErr r (IsStopped merges entry cmp op tail clock (writes w) (writes w_now) (reads p) (reads p_now)) → IfErr r (IsRefusedBy merges entry cmp writes reads op tail clock)
-told-by merges entry cmp op writes reads tail clock w w_now p p_now r h = IfErr-weaker r (IsStopped merges entry cmp op tail clock (writes w) (writes w_now) (reads p) (reads p_now)) (IsRefusedBy merges entry cmp writes reads op tail clock) (λ e. refused-by writes reads w w_now p p_now) h
+  module _ {W P : Type 0} {writes : W → ℕ} {reads : P → ℕ} {keeps_log : Bool} {began : ℕ} {writer writer_now : W} {reader reader_now : P} where
+    pub move-refused : IsMoveRefusal clock (writes writer) (writes writer_now) e → reads reader_now ≡ reads reader → IsRefusedBy merges keeps_log entry cmp writes reads op tries tail began clock writer reader writer_now reader_now e
+    move-refused h same = record { writer_then = writer; reader_then = reader; beside = inl refl; stopped = move-stopped h same }
+
+    pub worn-refused : (writer_then : W) → IsBeside keeps_log (failures_of writes reads writer reader) (failures_of writes reads writer_then reader_now) → writes writer_now ≡ writes writer_then → (e ≡ Worn) × (2 ^ 64 ≤ clock + 2)
+        → IsRefusedBy merges keeps_log entry cmp writes reads op tries tail began clock writer reader writer_now reader_now e
+    worn-refused writer_then beside same h = record { writer_then = writer_then; reader_then = reader_now; beside = beside; stopped = IsStopped.unworked (worn-work h.0 h.1 same refl) }
+
+unissued : {K V I : Type 0} {merges : Bool} {entry : Spelling K V} {cmp : K → K → Ordering} {op : KeyedOp K V I} {code : K → ℕ} {tries tail began clock before after_ writes writes_now : ℕ} (v w : PartitionView K V I) (now : ℕ) (e : Refused) → IsIdle v 0 → partition_of v.core.count (code (key_of op)) ≡ v.core.number → v.core.merges ≡ merges → IssuesOnKey code v w 0 op now (Err e) → after_ ≡ before → writes_now ≡ writes → IsStopped merges entry cmp op tries tail began clock (both writes before) (both writes_now after_) e
+unissued v w now e i own m (IssuesOnKey.unknown a b r) s t = let bad : false ≡ true = sym a ∙ i.entered in absurd (cc)
+unissued v w now e i own m (IssuesOnKey.stranger a b d r) s t = absurd (b own)
+unissued v w now e i own m (IssuesOnKey.unmerged a b d n g r) s t = IsStopped.unmerged (cc) d (sym m ∙ n) (same-both t s)
+unissued v w now e i own m (IssuesOnKey.full a b q d g r) s t = absurd (d 0 (omega arith) (zero-free v i))
+unissued v w now e i own m (IssuesOnKey.issues c a b q d g r) s t = absurd (cc)
+
+-- what was counted beside an operation, of a writer that is the same
+pub beside-then : {W P : Type 0} (keeps_log : Bool) (writes : W → ℕ) (reads : P → ℕ) {writer_then writer_now : W} (writer : W) (reader reader_now : P) → writer_now ≡ writer_then → IsBeside keeps_log (failures_of writes reads writer reader) (failures_of writes reads writer_then reader_now)
+    → IsBeside keeps_log (failures_of writes reads writer reader) (failures_of writes reads writer_now reader_now)
+beside-then keeps_log writes reads writer reader reader_now same h = subst (λ w. IsBeside keeps_log (failures_of writes reads writer reader) (failures_of writes reads w reader_now)) (sym same) h
 
 is-given_up : {K V I : Type 0} (v w : CoreView K V I) (now : ℕ) (r : Result (Unit {0}) Refused) (x : Context K V I) → context_at v 0 0 ≡ Some x → GivesUp v w 0 0 now r → OnOk r (IsGiveUp v w 0 0 now) → IsGiveUp v w 0 0 now
 is-given_up v w now (Ok t) x here g event = event
@@ -161,9 +176,9 @@ is-given_up v w now (Err e) x here (GivesUp.unknown n s q) event = let bad : Non
 is-given_up v w now (Err e) x here (GivesUp.gives_up y a b d q) event = absurd (cc)
 is-given_up v w now (Err e) x here (GivesUp.cancels y p a b d q) event = absurd (cc)
 
-pub record IsLeft {K V I : Type 0} (keeps merges : Bool) (entry : Spelling K V) (cmp : K → K → Ordering) (op : KeyedOp K V I) (u w : PartitionView K V I) (clock writes writes_now reads reads_now : ℕ) (e : Refused) : Type 0 where
+pub record IsLeft {K V I : Type 0} (keeps merges : Bool) (entry : Spelling K V) (cmp : K → K → Ordering) (op : KeyedOp K V I) (u w : PartitionView K V I) (tries began clock writes writes_now reads reads_now : ℕ) (e : Refused) : Type 0 where
   pub stays : StaysIdle keeps cmp u w
-  pub why : IsStopped merges entry cmp op w.core.records.tail clock writes writes_now reads reads_now e
+  pub why : IsStopped merges entry cmp op tries w.core.records.tail began clock (both writes reads) (both writes_now reads_now) e
 
 -- a refused operation, by what it leaves
 pub left-runs : {K V I O : Type 0} {keeps : Bool} {cmp : K → K → Ordering} {f : Meanings K V I O} {u w : PartitionView K V I} {op : KeyedOp K V I} {e : Refused} → StaysIdle keeps cmp u w → Runs keeps cmp f u w op (Err e)
@@ -190,23 +205,23 @@ module _ {K V I O R : Type 0} {keeps : Bool} {cmp : K → K → Ordering} {join 
     done-runs (Ends.stalled c opens d m t r) = absurd (cc)
     done-runs (Ends.exhausted c opens d m b t r) = absurd (cc)
 
-    pub err-left : {merges : Bool} {entry : Spelling K V} {writes writes_now : ℕ} {e : Refused} → ((page : ℕ) → e ≡ Damaged page → after_ ≡ before → IsSpoilt entry cmp page) → v.core.merges ≡ merges → writes_now ≡ writes → Ends {O = O} {R = R} keeps cmp join f code op v w 0 (2 ^ 64 - 1) start end before after_ (Err e) → IsLeft keeps merges entry cmp op u w end writes writes_now before after_ e
-    err-left spoilt m same (Ends.barred b n e t r) = absurd (omega arith)
-    err-left spoilt m same (Ends.late b d n e t r) = record { stays = subst (StaysIdle keeps cmp u) (sym n) s; why = IsStopped.no_moment (cc) (omega arith) t same }
-    err-left {merges} {entry} {writes} {writes_now} {e} spoilt m same (Ends.unissued why b i n ends t r) = record {
+    pub err-left : {merges : Bool} {entry : Spelling K V} {writes writes_now : ℕ} {e : Refused} (tries began : ℕ) → ((page : ℕ) → e ≡ Damaged page → after_ ≡ before → IsSpoilt entry cmp page) → v.core.merges ≡ merges → writes_now ≡ writes → Ends {O = O} {R = R} keeps cmp join f code op v w 0 (2 ^ 64 - 1) start end before after_ (Err e) → IsLeft keeps merges entry cmp op u w tries began end writes writes_now before after_ e
+    err-left tries began spoilt m same (Ends.barred b n e t r) = absurd (omega arith)
+    err-left tries began spoilt m same (Ends.late b d n e t r) = record { stays = subst (StaysIdle keeps cmp u) (sym n) s; why = IsStopped.unworked (worn-work (cc) (omega arith) same t) }
+    err-left {merges} {entry} {writes} {writes_now} {e} tries began spoilt m same (Ends.unissued why b i n ends t r) = record {
       stays = subst (StaysIdle keeps cmp u) (sym n) s;
-      why = subst (λ x. IsStopped merges entry cmp op w.core.records.tail end writes writes_now before after_ x) (let q : why ≡ e = cc in q) (unissued v w (start + 1) why s.idle own m i t same);
+      why = subst (λ x. IsStopped merges entry cmp op tries w.core.records.tail began end (both writes before) (both writes_now after_) x) (let q : why ≡ e = cc in q) (unissued v w (start + 1) why s.idle own m i t same);
     }
-    err-left spoilt m same (Ends.done c a2 effect opens d b t r) = absurd (cc)
-    err-left spoilt m same (Ends.waits c why opens d b t r) = absurd (cc)
-    err-left {merges} {entry} {writes} {writes_now} {e} spoilt m same (Ends.refused c why opens d b st r) = record {
+    err-left tries began spoilt m same (Ends.done c a2 effect opens d b t r) = absurd (cc)
+    err-left tries began spoilt m same (Ends.waits c why opens d b t r) = absurd (cc)
+    err-left {merges} {entry} {writes} {writes_now} {e} tries began spoilt m same (Ends.refused c why opens d b st r) = record {
       stays = over-stays u v w c s d rest;
-      why = subst (λ x. IsStopped merges entry cmp op w.core.records.tail end writes writes_now before after_ x) (let q : why ≡ e = cc in q)
-          (subst (λ n. IsStopped merges entry cmp op n end writes writes_now before after_ why) (sym (ap (λ x. x.tail) d.records)) (stopped (λ page told. spoilt page (let q : why ≡ e = cc in sym q ∙ told)) st same));
+      why = subst (λ x. IsStopped merges entry cmp op tries w.core.records.tail began end (both writes before) (both writes_now after_) x) (let q : why ≡ e = cc in q)
+          (subst (λ n. IsStopped merges entry cmp op tries n began end (both writes before) (both writes_now after_) why) (sym (ap (λ x. x.tail) d.records)) (stopped (λ page told. spoilt page (let q : why ≡ e = cc in sym q ∙ told)) st same));
     }
     -- more events than a clock has moments
-    err-left spoilt m same (Ends.stalled c opens d b t r) = absurd (omega arith)
-    err-left spoilt m same (Ends.exhausted c opens d last b t r) = record { stays = over-stays u v w c s d rest; why = IsStopped.no_moment (cc) (omega arith) t same }
+    err-left tries began spoilt m same (Ends.stalled c opens d b t r) = absurd (omega arith)
+    err-left tries began spoilt m same (Ends.exhausted c opens d last b t r) = record { stays = over-stays u v w c s d rest; why = IsStopped.unworked (worn-work (cc) (omega arith) same t) }
 
     -- ---- no failure of the reader is counted where it waits
     pub steady-waits : {why : Wait} → Ends {O = O} {R = R} keeps cmp join f code op v w 0 (2 ^ 64 - 1) start end before after_ (Ok (Waits why)) → after_ ≡ before
@@ -232,6 +247,10 @@ module _ {K V I O R : Type 0} {keeps : Bool} {cmp : K → K → Ordering} {join 
     waited (Ends.refused c why opens d m t r) = absurd (cc)
     waited (Ends.stalled c opens d m t r) = absurd (cc)
     waited (Ends.exhausted c opens d m b t r) = absurd (cc)
+
+    -- its issue took a moment
+    pub waits-later : {why : Wait} → Ends {O = O} {R = R} keeps cmp join f code op v w 0 (2 ^ 64 - 1) start end before after_ (Ok (Waits why)) → start + 1 ≤ w.core.moment
+    waits-later ends = (waited ends).open_is.begun
 
     pub wait-given_up : {why : Wait} {x : PartitionView K V I} {m : ℕ} {r : Result (Unit {0}) Refused} → Ends {O = O} {R = R} keeps cmp join f code op v w 0 (2 ^ 64 - 1) start end before after_ (Ok (Waits why)) → GivesUp w.core x.core 0 0 m r → OnOk r (IsGiveUp w.core x.core 0 0 m) → x ≡ with_core w x.core → StaysIdle keeps cmp u x
     wait-given_up {why} {x} {m} {r} ends gives event passed =

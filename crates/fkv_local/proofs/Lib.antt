@@ -1,8 +1,10 @@
 mod FlushLemmas
+mod WorkLemmas
 mod DriveLemmas
 mod PartLemmas
 mod AtOnceLemmas
 mod StoreLemmas
 mod ClearLemmas
+mod RelocateLemmas
 mod CountLemmas
 pub mod MergeLemmas

@@ -1,5 +1,5 @@
 -- Updates that read no page, and merges in their place.
-use Rattle.std.proofs.Common.{◌≡◌, Bool, true, false, ℕ, ◌+◌, inl, inr, IsTrue, Result, Ok, Err, refl, sym, ◌∙◌, ap, subst, arith}
+use Rattle.std.proofs.Common.{◌≡◌, Bool, true, false, ℕ, inl, inr, IsTrue, Result, refl, ap, subst, arith}
 use Rattle.std.specs.declared.cmp.Ordering.{Ordering}
 use Rattle.fkv_functions.specs.Meanings.{Meanings}
 use Rattle.fkv_functions.specs.declared.refusals.Refused.{Refused}
@@ -8,9 +8,11 @@ use Rattle.fkv_operations.specs.declared.operations.KeyedOp.TheVariants.{Rmw, Me
 use Rattle.fkv_operations.specs.declared.operations.Answer.{Answer}
 use Rattle.fkv_partition.specs.Views.{PartitionView}
 use Rattle.fkv_alone.specs.Spoilt.{Spelling}
-use Rattle.fkv_local.specs.Resting.{IsIdle, StaysIdle}
+use Rattle.fkv_local.specs.Resting.{IsIdle}
 use Rattle.fkv_local.specs.Storing.{Updates}
-use Rattle.fkv_local.specs.Refusing.{IsStopped}
+use Rattle.fkv_local.specs.Failures.{Failures}
+use Rattle.fkv_local.specs.Refusing.{IsWorkRefusal, IsStopped}
+use Rattle.fkv_local.proofs.WorkLemmas.{both, same-both}
 
 module _ {K V I : Type 0} {keeps : Bool} {cmp : K → K → Ordering} where
   -- what every end of it leaves
@@ -26,28 +28,27 @@ module _ {K V I : Type 0} {keeps : Bool} {cmp : K → K → Ordering} where
   updates-idle (inl h) = h.idle
   updates-idle (inr h) = h.idle
 
-module _ {K V I : Type 0} {merges : Bool} {entry : Spelling K V} {cmp : K → K → Ordering} {op : KeyedOp K V I} {tail clock writes writes_now : ℕ} {e : Refused} where
-  -- no page was asked for, so none was read by the reader that was not used
-  pub unread-stopped : {n m : ℕ} → m ≡ n → IsStopped merges entry cmp op tail clock writes writes_now n m e → (reads : ℕ) → IsStopped merges entry cmp op tail clock writes writes_now reads reads e
-  unread-stopped same (IsStopped.no_memory a b w) reads = IsStopped.no_memory a refl w
-  unread-stopped same (IsStopped.unwritten page a b) reads = IsStopped.unwritten page a refl
-  unread-stopped same (IsStopped.unread page (inl (inl a)) w) reads = IsStopped.no_memory a.0 refl w
-  unread-stopped same (IsStopped.unread page (inl (inr a)) w) reads = let more = a.1 in absurd (omega arith)
-  unread-stopped same (IsStopped.unread page (inr a) w) reads = let more = a.1 in absurd (omega arith)
-  unread-stopped same (IsStopped.misspelled page s a b w) reads = IsStopped.misspelled page s a refl w
-  unread-stopped same (IsStopped.no_address a t b w) reads = IsStopped.no_address a t refl w
-  unread-stopped same (IsStopped.no_moment a t b w) reads = IsStopped.no_moment a t refl w
-  unread-stopped same (IsStopped.stalled a b w) reads = IsStopped.stalled a refl w
-  unread-stopped same (IsStopped.unmerged a m f b w) reads = IsStopped.unmerged a m f refl w
+-- no page was asked for, so none was read by the reader that was not used
+module _ {is_spoilt : ℕ → Type 0} {tail clock writes writes_now : ℕ} {e : Refused} where
+  unread-work : {n m : ℕ} → m ≡ n → IsWorkRefusal is_spoilt tail clock (both writes n) (both writes_now m) e → (reads : ℕ) → IsWorkRefusal is_spoilt tail clock (both writes reads) (both writes_now reads) e
+  unread-work same (IsWorkRefusal.no_memory a s) reads = IsWorkRefusal.no_memory a (same-both (ap (λ (f : Failures). f.writes) s) refl)
+  unread-work same (IsWorkRefusal.unwritten page a s) reads = IsWorkRefusal.unwritten page a refl
+  unread-work same (IsWorkRefusal.unread page (inl (inl a)) s) reads = IsWorkRefusal.no_memory a.0 (same-both s refl)
+  unread-work same (IsWorkRefusal.unread page (inl (inr a)) s) reads = let more = a.1 in absurd (omega arith)
+  unread-work same (IsWorkRefusal.unread page (inr a) s) reads = let more = a.1 in absurd (omega arith)
+  unread-work same (IsWorkRefusal.misspelled page a b s) reads = IsWorkRefusal.misspelled page a b (same-both (ap (λ (f : Failures). f.writes) s) refl)
+  unread-work same (IsWorkRefusal.no_address a t s) reads = IsWorkRefusal.no_address a t (same-both (ap (λ (f : Failures). f.writes) s) refl)
+  unread-work same (IsWorkRefusal.no_moment a t s) reads = IsWorkRefusal.no_moment a t (same-both (ap (λ (f : Failures). f.writes) s) refl)
+
+module _ {K V I : Type 0} {merges : Bool} {entry : Spelling K V} {cmp : K → K → Ordering} {op : KeyedOp K V I} {tries tail began clock writes writes_now : ℕ} {e : Refused} where
+  pub unread-stopped : {n m : ℕ} → m ≡ n → IsStopped merges entry cmp op tries tail began clock (both writes n) (both writes_now m) e → (reads : ℕ) → IsStopped merges entry cmp op tries tail began clock (both writes reads) (both writes_now reads) e
+  unread-stopped same (IsStopped.unworked h) reads = IsStopped.unworked (unread-work same h reads)
+  unread-stopped same (IsStopped.stalled a b s) reads = IsStopped.stalled a b (same-both (ap (λ (f : Failures). f.writes) s) refl)
+  unread-stopped same (IsStopped.unmerged a m f s) reads = IsStopped.unmerged a m f (same-both (ap (λ (f : Failures). f.writes) s) refl)
 
 -- a merge of functions that merge is refused as an update is
-pub merge-stopped : {K V I : Type 0} {merges : Bool} {entry : Spelling K V} {cmp : K → K → Ordering} {k : K} {i : I} {tail clock writes writes_now reads reads_now : ℕ} {e : Refused} → IsTrue merges
-    → IsStopped merges entry cmp (Merge k i) tail clock writes writes_now reads reads_now e → IsStopped merges entry cmp (Rmw k i) tail clock writes writes_now reads reads_now e
-merge-stopped merging (IsStopped.no_memory a b w) = IsStopped.no_memory a b w
-merge-stopped merging (IsStopped.unwritten page a b) = IsStopped.unwritten page a b
-merge-stopped merging (IsStopped.unread page a w) = IsStopped.unread page a w
-merge-stopped merging (IsStopped.misspelled page s a b w) = IsStopped.misspelled page s a b w
-merge-stopped merging (IsStopped.no_address a t b w) = IsStopped.no_address a t b w
-merge-stopped merging (IsStopped.no_moment a t b w) = IsStopped.no_moment a t b w
-merge-stopped merging (IsStopped.stalled a b w) = IsStopped.stalled a b w
-merge-stopped merging (IsStopped.unmerged a m f b w) = absurd (let bad : false ≡ true = subst IsTrue f merging in cc)
+pub merge-stopped : {K V I : Type 0} {merges : Bool} {entry : Spelling K V} {cmp : K → K → Ordering} {k : K} {i : I} {tries tail began clock : ℕ} {old now : Failures} {e : Refused} → IsTrue merges
+    → IsStopped merges entry cmp (Merge k i) tries tail began clock old now e → IsStopped merges entry cmp (Rmw k i) tries tail began clock old now e
+merge-stopped merging (IsStopped.unworked h) = IsStopped.unworked h
+merge-stopped merging (IsStopped.stalled a b s) = IsStopped.stalled a b s
+merge-stopped merging (IsStopped.unmerged a m f s) = absurd (let bad : false ≡ true = subst IsTrue f merging in cc)

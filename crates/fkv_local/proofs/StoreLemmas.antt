@@ -1,8 +1,10 @@
 -- What a store is after one of its partitions has run an operation.
-use Rattle.std.proofs.Common.{◌≡◌, Bool, ℕ, ◌<◌, ◌≤◌, ◌^◌, inl, inr, List, length, map, Option, Some, None, Result, Ok, Err, IsTrue, slice_get, slice_set, refl, sym, ◌∙◌, ap, subst, arith}
+use Rattle.std.proofs.Common.{◌≡◌, ◌≢◌, Bool, true, false, ℕ, zero, suc, ◌+◌, ◌<◌, ◌≤◌, ◌^◌, ◌||◌, inl, inr, List, [], ◌∷◌, length, map, Option, Some, None, Result, Ok, Err, IsTrue, IfOk, OnOk, nat_lt, option_map, slice_get, slice_set, refl, sym, ◌∙◌, ap, subst, arith}
+use Rattle.std.proofs.lemmas.Bool.{cases_lt}
+use Rattle.std.proofs.lemmas.Bool.Decides.{nat_tests}
 use Rattle.std.proofs.lemmas.List.{length-set}
 use Rattle.std.proofs.lemmas.Nat.{pow_pos}
-use Rattle.std.proofs.lemmas.Option.{slice_get_within}
+use Rattle.std.proofs.lemmas.Option.{same_Some, slice_get_within}
 use Rattle.std.specs.declared.cmp.Ordering.{Ordering}
 use Rattle.fkv_functions.specs.Meanings.{Meanings}
 use Rattle.fkv_functions.specs.Plain.{IsKeyOrder}
@@ -21,7 +23,9 @@ use Rattle.fkv_functions.specs.Plain.{Same}
 use Rattle.fkv_local.specs.Resting.{IsIdle, StaysIdle, AreNew, AreAtRest}
 use Rattle.fkv_alone.specs.Spoilt.{Spelling}
 use Rattle.fkv_local.specs.Storing.{StoreView, IsRun, IsUpdateRun, Runs, Updates}
-use Rattle.fkv_local.specs.Refusing.{IsRefusal, IsRefusedBy}
+use Rattle.fkv_local.specs.Failures.{Failures, failures_of}
+use Rattle.fkv_local.specs.Clearing.{IsAstray, IsCut, IsAllCut, IsCutAt, AnyIsCut, begin_at}
+use Rattle.fkv_local.specs.Refusing.{IsWorkRefusal, IsRefusal, IsRefusedBy, IsUncompactedAt, HasEnds, FailedAsBefore, StaysAt}
 use Rattle.fkv_local.proofs.PartLemmas.{view-get, view-length, view-set}
 
 module _ {K V I : Type 0} where
@@ -74,15 +78,22 @@ run-of keeps cmp order f code views p old new op (Ok a) here own h k = (
 )
 run-of keeps cmp order f code views p old new op (Err e) here own h k = live-quiet cmp order f code views p old new here (h.effect k)
 
--- the partitions that a contract sees
-pub parts-is : {K V I P : Type 0} {views : List (PartitionView K V I)} {readers : List P} {keeps_log : Bool} {now : ℕ} {self : StoreView K V I P} → record { parts = views; readers = readers; keeps_log = keeps_log; moments = now } ≡ self → views ≡ self.parts
-parts-is is = ap (λ (s : StoreView _ _ _ _). s.parts) is
+-- what a contract sees of a store
+abbrev pub seen_as : {K V I W P : Type 0} → List (PartitionView K V I) → List W → List P → Bool → ℕ → ℕ → StoreView K V I W P
+seen_as parts writers readers keeps_log tries moments = record { parts = parts; writers = writers; readers = readers; keeps_log = keeps_log; tries = tries; moments = moments }
 
-pub readers-is : {K V I P : Type 0} {views : List (PartitionView K V I)} {readers : List P} {keeps_log : Bool} {now : ℕ} {self : StoreView K V I P} → record { parts = views; readers = readers; keeps_log = keeps_log; moments = now } ≡ self → readers ≡ self.readers
-readers-is is = ap (λ (s : StoreView _ _ _ _). s.readers) is
+module _ {K V I W P : Type 0} {views : List (PartitionView K V I)} {writers : List W} {readers : List P} {keeps_log : Bool} {tries now : ℕ} {self : StoreView K V I W P} (is : seen_as views writers readers keeps_log tries now ≡ self) where
+  pub parts-is : views ≡ self.parts
+  parts-is = ap (λ (s : StoreView _ _ _ _ _). s.parts) is
 
-pub keeps-is : {K V I P : Type 0} {views : List (PartitionView K V I)} {readers : List P} {keeps_log : Bool} {now : ℕ} {self : StoreView K V I P} → record { parts = views; readers = readers; keeps_log = keeps_log; moments = now } ≡ self → keeps_log ≡ self.keeps_log
-keeps-is is = ap (λ (s : StoreView _ _ _ _). s.keeps_log) is
+  pub readers-is : readers ≡ self.readers
+  readers-is = ap (λ (s : StoreView _ _ _ _ _). s.readers) is
+
+  pub keeps-is : keeps_log ≡ self.keeps_log
+  keeps-is = ap (λ (s : StoreView _ _ _ _ _). s.keeps_log) is
+
+  pub terms-are : (keeps_log ≡ self.keeps_log) × (tries ≡ self.tries)
+  terms-are = (keeps-is, ap (λ (s : StoreView _ _ _ _ _). s.tries) is)
 
 -- ---- the partition of a key, in its place
 module _ {K V I S : Type 0} (view : S → PartitionView K V I) (code : K → ℕ) (items : List S) (now : ℕ) (views : List (PartitionView K V I))
@@ -139,13 +150,185 @@ module _ {K V I S : Type 0} (view : S → PartitionView K V I) (code : K → ℕ
           | inr runs ↦ inr (home-runs keeps cmp order f (Merge k i) r refl runs kept)
         ]
 
-        pub home-refusal : {W P : Type 0} {readers : List P} {keeps_log : Bool} {entry : Spelling K V} {cmp : K → K → Ordering} (merges : Bool) (writes : W → ℕ) (reads : P → ℕ) (op : KeyedOp K V I) → k ≡ key_of op
-            → (e : Refused) → IsRefusedBy merges entry cmp writes reads op (view y).core.records.tail then e
-            → IsRefusal merges entry cmp code writes reads (record { parts = map view (slice_set items home y); readers = readers; keeps_log = keeps_log; moments = then }) op e
-        home-refusal merges writes reads op key e h =
-            let own : partition_of (length (map view (slice_set items home y))) (code (key_of op)) ≡ home = ap (λ n. partition_of n (code (key_of op))) home-sized ∙ ap (λ q. partition_of (length views) (code q)) (sym key) ∙ sym at in
-            record {
-              part = view y;
-              here = subst (λ p. slice_get (map view (slice_set items home y)) p ≡ Some (view y)) (sym own) (view-get view (slice_set items home y) home y (get-set_same items home x y here));
-              refused = h;
-            }
+-- ---- one place of a store has changed
+get-other : {S A : Type 0} (f : S → A) (xs : List S) (i p : ℕ) (y : S) → p ≢ i → slice_get (map f (slice_set xs i y)) p ≡ slice_get (map f xs) p
+get-other f [] i p y apart = refl
+get-other f (x ∷ xs) zero zero y apart = absurd (apart refl)
+get-other f (x ∷ xs) zero (suc p) y apart = refl
+get-other f (x ∷ xs) (suc i) zero y apart = refl
+get-other f (x ∷ xs) (suc i) (suc p) y apart = get-other f xs i p y (λ same. apart (ap suc same))
+
+-- a store of these items, as it is seen
+abbrev pub of_items : {K V I W P S : Type 0} → (S → PartitionView K V I) → (S → W) → (S → P) → List S → Bool → ℕ → ℕ → StoreView K V I W P
+of_items view writer reader items keeps_log tries now = seen_as (map view items) (map writer items) (map reader items) keeps_log tries now
+
+module _ {K V I W P S : Type 0} (view : S → PartitionView K V I) (writer : S → W) (reader : S → P) (items : List S) {keeps_log : Bool} {tries now : ℕ} {self : StoreView K V I W P}
+    (is : of_items view writer reader items keeps_log tries now ≡ self) (home : ℕ) (x y : S) (here : slice_get items home ≡ Some x) (then : ℕ) where
+  now-there : slice_get (slice_set items home y) home ≡ Some y
+  now-there = get-set_same items home x y here
+
+  pub others-stay : (p : ℕ) → p ≢ home → StaysAt self (of_items view writer reader (slice_set items home y) keeps_log tries then) p
+  others-stay p apart = subst (λ s. StaysAt s (of_items view writer reader (slice_set items home y) keeps_log tries then) p) is (record {
+    part = get-other view items home p y apart;
+    writer = get-other writer items home p y apart;
+    reader = get-other reader items home p y apart;
+  })
+
+  ends-were : HasEnds self home (writer x) (reader x)
+  ends-were = subst (λ s. HasEnds s home (writer x) (reader x)) is (view-get writer items home x here, view-get reader items home x here)
+
+  ends-are : HasEnds (of_items view writer reader (slice_set items home y) keeps_log tries then) home (writer y) (reader y)
+  ends-are = (view-get writer (slice_set items home y) home y now-there, view-get reader (slice_set items home y) home y now-there)
+
+  module _ (writes : W → ℕ) (reads : P → ℕ) where
+    -- why an operation is refused
+    pub home-refusal : {merges : Bool} {entry : Spelling K V} {cmp : K → K → Ordering} (code : K → ℕ) (op : KeyedOp K V I) (k : K) → home ≡ partition_of (length self.parts) (code k) → k ≡ key_of op
+        → (e : Refused) → IsRefusedBy merges keeps_log entry cmp writes reads op tries (view y).core.records.tail now then (writer x) (reader x) (writer y) (reader y) e
+        → IsRefusal merges entry cmp code writes reads self (of_items view writer reader (slice_set items home y) keeps_log tries then) op e
+    home-refusal {merges} {entry} {cmp} code op k at key e h =
+        let sized : length (map view (slice_set items home y)) ≡ length self.parts = view-length view (slice_set items home y) ∙ length-set items home y ∙ sym (view-length view items) ∙ ap length (parts-is is) in
+        let own : partition_of (length (map view (slice_set items home y))) (code (key_of op)) ≡ home = ap (λ n. partition_of n (code (key_of op))) sized ∙ ap (λ q. partition_of (length self.parts) (code q)) (sym key) ∙ sym at in
+        record {
+          part = view y;
+          writer = writer x;
+          reader = reader x;
+          writer_now = writer y;
+          reader_now = reader y;
+          here = subst (λ p. slice_get (map view (slice_set items home y)) p ≡ Some (view y)) (sym own) (view-get view (slice_set items home y) home y now-there);
+          ends = subst (λ p. HasEnds self p (writer x) (reader x)) (sym own) ends-were;
+          ends_now = subst (λ p. HasEnds (of_items view writer reader (slice_set items home y) keeps_log tries then) p (writer y) (reader y)) (sym own) ends-are;
+          others = λ p apart. others-stay p (λ same. apart (same ∙ sym own));
+          refused = subst (λ (s : StoreView K V I W P). IsRefusedBy merges s.keeps_log entry cmp writes reads op s.tries (view y).core.records.tail s.moments then (writer x) (reader x) (writer y) (reader y) e) is h;
+        }
+
+    -- why a log is not compacted
+    pub home-uncompacted : {entry : Spelling K V} {cmp : K → K → Ordering} (e : Refused) → IsWorkRefusal (IsAstray entry cmp) (view y).core.records.tail then (failures_of writes reads (writer x) (reader x)) (failures_of writes reads (writer y) (reader y)) e
+        → IsUncompactedAt entry cmp writes reads self (of_items view writer reader (slice_set items home y) keeps_log tries then) home e
+    home-uncompacted e h = record {
+      part = view y;
+      writer = writer x;
+      reader = reader x;
+      writer_now = writer y;
+      reader_now = reader y;
+      here = view-get view (slice_set items home y) home y now-there;
+      ends = ends-were;
+      ends_now = ends-are;
+      refused = h;
+    }
+
+    pub home-steady : failures_of writes reads (writer y) (reader y) ≡ failures_of writes reads (writer x) (reader x) → FailedAsBefore writes reads self (of_items view writer reader (slice_set items home y) keeps_log tries then) home
+    home-steady same = (
+      view-get writes (map writer (slice_set items home y)) home (writer y) ends-are.0 ∙ ap (λ (f : Failures). Some f.writes) same ∙ sym (view-get writes self.writers home (writer x) ends-were.0),
+      view-get reads (map reader (slice_set items home y)) home (reader y) ends-are.1 ∙ ap (λ (f : Failures). Some f.reads) same ∙ sym (view-get reads self.readers home (reader x) ends-were.1),
+    )
+
+  -- what a compaction leaves there
+  begun : begin_at self home ≡ Some (view x).core.records.begin
+  begun = subst (λ (s : StoreView K V I W P). begin_at s home ≡ Some (view x).core.records.begin) is (ap (option_map (λ (v : PartitionView K V I). v.core.records.begin)) (view-get view items home x here))
+
+  begins : begin_at (of_items view writer reader (slice_set items home y) keeps_log tries then) home ≡ Some (view y).core.records.begin
+  begins = ap (option_map (λ (v : PartitionView K V I). v.core.records.begin)) (view-get view (slice_set items home y) home y now-there)
+
+  pub home-cut : IsCut (view x) (view y) true → IsCutAt self (of_items view writer reader (slice_set items home y) keeps_log tries then) home
+  home-cut risen = record { begin = (view x).core.records.begin; begin_now = (view y).core.records.begin; was = begun; is = begins; risen = risen }
+
+  pub home-uncut : IsCut (view x) (view y) false → begin_at (of_items view writer reader (slice_set items home y) keeps_log tries then) home ≡ begin_at self home
+  home-uncut same = begins ∙ ap Some same ∙ sym begun
+
+  pub home-all_cut : IsAllCut (view y) → (v : PartitionView K V I) → slice_get (of_items view writer reader (slice_set items home y) keeps_log tries then).parts home ≡ Some v → IsAllCut v
+  home-all_cut all v h = subst IsAllCut (same_Some (view y) v (sym (view-get view (slice_set items home y) home y now-there) ∙ h)) all
+
+pub or-yes : (r b h : Bool) → r ≡ true → h ≡ r → (r || b) ≡ h
+or-yes r b h p q = ap (λ x. x || b) p ∙ sym p ∙ sym q
+
+pub or-no : (r b h : Bool) → r ≡ false → h ≡ b → (r || b) ≡ h
+or-no r b h p q = ap (λ x. x || b) p ∙ sym q
+
+-- ---- one store after the other
+module _ {K V I W P : Type 0} {v w : StoreView K V I W P} {home : ℕ} where
+  begin-stays : ((p : ℕ) → p ≢ home → StaysAt v w p) → begin_at w home ≡ begin_at v home → (p : ℕ) → begin_at w p ≡ begin_at v p
+  begin-stays others same p = by (nat_lt p home) (nat_lt home p) refl refl
+    where
+      other : p ≢ home → begin_at w p ≡ begin_at v p
+      other apart = ap (option_map (λ (x : PartitionView K V I). x.core.records.begin)) (others p apart).part
+
+      by : (a b : Bool) → nat_lt p home ≡ a → nat_lt home p ≡ b → begin_at w p ≡ begin_at v p
+      by true b q r = other (λ e. absurd (let l : p < home = grind (arith, nat_tests) in omega arith))
+      by false true q r = other (λ e. absurd (let l : home < p = grind (arith, nat_tests) in omega arith))
+      by false false q r = let here : p ≡ home = grind (arith, nat_tests) in rw here same
+
+  -- the log at a place is the first of which the start is cut there
+  pub cut-here : {u : StoreView K V I W P} → StaysAt u v home → IsCutAt v w home → IsCutAt u w home
+  cut-here stays c = record { begin = c.begin; begin_now = c.begin_now; was = sym (ap (option_map (λ (x : PartitionView K V I). x.core.records.begin)) stays.part) ∙ c.was; is = c.is; risen = c.risen }
+
+  pub cut-still : (u : StoreView K V I W P) (b : Bool) → AnyIsCut u v b → ((p : ℕ) → p ≢ home → StaysAt v w p) → begin_at w home ≡ begin_at v home → AnyIsCut u w b
+  cut-still u true c others same = (c.0, record { begin = c.1.begin; begin_now = c.1.begin_now; was = c.1.was; is = begin-stays others same c.0 ∙ c.1.is; risen = c.1.risen })
+  cut-still u false c others same = λ p. begin-stays others same p ∙ c p
+
+  pub any-cut : (u : StoreView K V I W P) (b r : Bool) → AnyIsCut u v b → ((p : ℕ) → p ≢ home → StaysAt v w p) → StaysAt u v home → (IsTrue r → IsCutAt v w home) → (r ≡ false → begin_at w home ≡ begin_at v home) → AnyIsCut u w (r || b)
+  any-cut u b true c others stays cut uncut = (home, cut-here stays (cut refl))
+  any-cut u b false c others stays cut uncut = cut-still u b c others (uncut refl)
+
+  -- no more can be cut of the logs up to there
+  pub all-cut : ((p : ℕ) (x : PartitionView K V I) → p < home → slice_get v.parts p ≡ Some x → IsAllCut x) → ((p : ℕ) → p ≢ home → StaysAt v w p) → ((x : PartitionView K V I) → slice_get w.parts home ≡ Some x → IsAllCut x)
+      → (p : ℕ) (x : PartitionView K V I) → p < home + 1 → slice_get w.parts p ≡ Some x → IsAllCut x
+  all-cut so_far others more p x low here = elim (cases_lt p home) [
+    | inl less ↦ so_far p x less (sym (others p (λ e. absurd (omega arith))).part ∙ here)
+    | inr up ↦ (let same : p ≡ home = omega arith in more x (ap (slice_get w.parts) (sym same) ∙ here))
+  ]
+
+module _ {K V I W P : Type 0} {u v w : StoreView K V I W P} {p : ℕ} where
+  pub stays-at : StaysAt u v p → StaysAt v w p → StaysAt u w p
+  stays-at a b = record { part = b.part ∙ a.part; writer = b.writer ∙ a.writer; reader = b.reader ∙ a.reader }
+
+  -- why a log is not compacted that was as it was
+  pub uncompacted-since : {entry : Spelling K V} {cmp : K → K → Ordering} {writes : W → ℕ} {reads : P → ℕ} {e : Refused} → StaysAt u v p → IsUncompactedAt entry cmp writes reads v w p e → IsUncompactedAt entry cmp writes reads u w p e
+  uncompacted-since stays h = record {
+    part = h.part;
+    writer = h.writer;
+    reader = h.reader;
+    writer_now = h.writer_now;
+    reader_now = h.reader_now;
+    here = h.here;
+    ends = (sym stays.writer ∙ h.ends.0, sym stays.reader ∙ h.ends.1);
+    ends_now = h.ends_now;
+    refused = h.refused;
+  }
+
+get-mapped : {A B : Type 0} (f : A → B) (xs : List A) (i : ℕ) → slice_get (map f xs) i ≡ option_map f (slice_get xs i)
+get-mapped f [] i = refl
+get-mapped f (x ∷ xs) zero = refl
+get-mapped f (x ∷ xs) (suc i) = get-mapped f xs i
+
+module _ {K V I W P : Type 0} (writes : W → ℕ) (reads : P → ℕ) (u v w : StoreView K V I W P) where
+  -- what has failed as often
+  pub failed-then : (p : ℕ) → FailedAsBefore writes reads u v p → FailedAsBefore writes reads v w p → FailedAsBefore writes reads u w p
+  failed-then p a b = (b.0 ∙ a.0, b.1 ∙ a.1)
+
+  pub failed-still : (p : ℕ) → FailedAsBefore writes reads u v p → StaysAt v w p → FailedAsBefore writes reads u w p
+  failed-still p a stays = failed-then p a (
+    get-mapped writes w.writers p ∙ ap (option_map writes) stays.writer ∙ sym (get-mapped writes v.writers p),
+    get-mapped reads w.readers p ∙ ap (option_map reads) stays.reader ∙ sym (get-mapped reads v.readers p),
+  )
+
+  pub failed-more : (home : ℕ) → ((p : ℕ) → FailedAsBefore writes reads u v p) → ((p : ℕ) → p ≢ home → StaysAt v w p) → FailedAsBefore writes reads v w home → (p : ℕ) → FailedAsBefore writes reads u w p
+  failed-more home so_far others more p = by (nat_lt p home) (nat_lt home p) refl refl
+    where
+      by : (a b : Bool) → nat_lt p home ≡ a → nat_lt home p ≡ b → FailedAsBefore writes reads u w p
+      by true b q r = failed-still p (so_far p) (others p (λ e. absurd (let l : p < home = grind (arith, nat_tests) in omega arith)))
+      by false true q r = failed-still p (so_far p) (others p (λ e. absurd (let l : home < p = grind (arith, nat_tests) in omega arith)))
+      by false false q r = let same : p ≡ home = grind (arith, nat_tests) in failed-then p (so_far p) (subst (λ n. FailedAsBefore writes reads v w n) (sym same) more)
+
+pub OnOk-weaker : {A P Q : Type 0} (r : Result A Refused) → (P → Q) → OnOk r P → OnOk r Q
+OnOk-weaker (Ok a) f h = f h
+OnOk-weaker (Err e) f h = tt
+
+pub cut-told : {K V I C : Type 0} (v w : PartitionView K V I) (r : Result Bool Refused) → (IsCut v w true → C) → IfOk r (IsCut v w) → IfOk r (λ b. IsTrue b → C)
+cut-told v w (Ok true) f h = λ t. f h
+cut-told v w (Ok false) f h = λ t. absurd (cc)
+cut-told v w (Err e) f h = tt
+
+pub uncut-told : {K V I C : Type 0} (v w : PartitionView K V I) (r : Result Bool Refused) → (IsCut v w false → C) → IfOk r (IsCut v w) → IfOk r (λ b. b ≡ false → C)
+uncut-told v w (Ok true) f h = λ t. absurd (cc)
+uncut-told v w (Ok false) f h = λ t. f h
+uncut-told v w (Err e) f h = tt

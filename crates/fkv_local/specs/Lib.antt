@@ -1,4 +1,6 @@
 pub mod Resting
+pub mod Failures
 pub mod Moving
 pub mod Storing
+pub mod Clearing
 pub mod Refusing

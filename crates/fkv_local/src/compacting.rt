@@ -3,9 +3,15 @@
 //! Relocations are made in the session that all operations are made in, one at a time, while nothing else is open there. So pages
 //! can move on wherever one finds no room, and one that is not done is given up, which is without effect: whatever is refused on the
 //! way, the map stays and nothing is open.
-ghost use Rattle.std.specs.Prelude.{◌≡◌, ◌≤◌, ◌+◌, ◌^◌, ◌<◌, IfOk, IfErr, IsSome, IsTrue};
-ghost use Rattle.fkv_partition.specs.Views.{relocation_at};
+ghost use Rattle.std.specs.Prelude.{◌≡◌, ◌≤◌, ◌+◌, ◌^◌, ◌<◌, IfOk, IfErr, IfSome, OnOk, IsTrue, List, None, Some, option_map};
+ghost use Rattle.fkv_device.specs.Failing.{ReadFailsBy};
+ghost use Rattle.fkv_device.specs.Standing.{Standing};
+ghost use Rattle.fkv_pages.specs.Loads.{IsHeldBy};
+ghost use Rattle.fkv_pages.specs.Spelled.{IsEntryIn};
+ghost use Rattle.fkv_local.specs.Clearing.{IsWanted, WantsThen, IsKeptBy, IsAstray, IsCut, IsAllCut};
+ghost use Rattle.fkv_local.specs.Failures.{failures_of, IsBeside};
 ghost use Rattle.fkv_local.specs.Resting.{IsIdle, IsIdleBut, StaysIdle, StaysIdleBut};
+ghost use Rattle.fkv_local.specs.Refusing.{IsWorkRefusal};
 ghost use Rattle.fkv_local.specs.Moving.{IsPassed};
 
 use crate::moving::tidy;
@@ -35,7 +41,9 @@ struct Wanted<R: Receipt> {
 
 impl<R: Receipt> Wanted<R> {
     /// It waits for none.
-    fn nothing() -> Wanted<R> {
+    fn nothing() -> Wanted<R>
+        ensures { result.receipt ≡ None }
+    {
         Wanted {
             receipt: None,
             is_of_place: false,
@@ -43,7 +51,9 @@ impl<R: Receipt> Wanted<R> {
     }
 
     /// The page of this receipt: the first one since it began is that of its place.
-    fn then(self, receipt: R) -> Wanted<R> {
+    fn then(self, receipt: R) -> Wanted<R>
+        ensures { result.receipt ≡ Some receipt }
+    {
         Wanted {
             is_of_place: self.receipt.is_none(),
             receipt: Some(receipt),
@@ -56,18 +66,49 @@ impl<R: Receipt> Wanted<R> {
 struct Kept<R: Receipt> {
     size: usize,
     page: Option<Loaded<R>>,
+    /// Whether it is the log's own for sure: no page has moved since it was read, or was compared.
+    is_sure: bool,
 }
 
 impl<R: Receipt> Kept<R> {
+    /// Whether it is the page of this receipt of the log.
+    fn has(&self, receipt: &R) -> bool
+        ensures same { (receipts : List Standing) → IsTrue result
+            → IsKeptBy R.stands receipts self.now.is_sure self.now.page
+            → IsHeldBy receipts (R.stands receipt.now).page (R.stands receipt.now)
+            → IfSome self.now.page (λ p. R.stands p.receipt ≡ R.stands receipt.now) }
+    {
+        match &self.page {
+            None => false,
+            Some(page) => {
+                if self.is_sure {
+                    page.receipt().page() == receipt.page()
+                } else {
+                    page.receipt().same(receipt)
+                }
+            }
+        }
+    }
+
     /// The page of this receipt: the kept one, or it is read, and kept where it is that of a place.
     fn fetch<P: PageReader<Receipt = R>>(
         &mut self,
         reader: &mut P,
         receipt: &R,
         is_of_place: bool,
-    ) -> Result<Loaded<R>, Refused> {
-        if let Some(page) = &self.page {
-            if page.receipt().number() == receipt.number() {
+    ) -> Result<Loaded<R>, Refused>
+        ensures same { (receipts : List Standing)
+            → IsKeptBy R.stands receipts self.old.is_sure self.old.page
+            → IsHeldBy receipts (R.stands receipt.now).page (R.stands receipt.now)
+            → IfOk result (λ l. R.stands l.receipt ≡ R.stands receipt.now)
+            × IsKeptBy R.stands receipts self.new.is_sure self.new.page }
+        ensures steady { OnOk result (P.failures reader.new ≡ P.failures reader.old) }
+        ensures told { IfErr result
+            (ReadFailsBy (R.stands receipt.now).page (P.failures reader.old) (P.failures reader.new)) }
+    {
+        if self.has(receipt) {
+            self.is_sure = true;
+            if let Some(page) = &self.page {
                 return page.again();
             }
         }
@@ -77,7 +118,10 @@ impl<R: Receipt> Kept<R> {
         };
         if is_of_place {
             match page.again() {
-                Ok(again) => self.page = Some(again),
+                Ok(again) => {
+                    self.page = Some(again);
+                    self.is_sure = true;
+                }
                 Err(refused) => return Err(refused),
             }
         }
@@ -99,7 +143,8 @@ enum Relocated {
 /// The next moment, where another one is left after it. Refused: `Worn`.
 fn moment_before_another(clock: &mut Clock) -> Result<u64, Refused>
     ensures ok { IfOk result (λ now. (now ≡ clock.old + 1) × (clock.new ≡ now) × (now + 1 < 2 ^ 64)) }
-    ensures refused { IfErr result (λ refused. (refused ≡ Refused.Worn) × (clock.new ≡ clock.old)) }
+    ensures refused { IfErr result (λ refused. (refused ≡ Refused.Worn) × (clock.new ≡ clock.old)
+        × (2 ^ 64 ≤ clock.new + 2)) }
 {
     if clock.last() >= u64::MAX - 1 {
         return Err(Refused::Worn);
@@ -117,12 +162,25 @@ fn event<F: Mergeable, D: Disk>(
     clock: &mut Clock,
 ) -> Result<ProgressOf<F, D::Receipt>, Refused>
     requires only { IsIdleBut shard.old.part.partition 0 context }
-    requires here { IsSome (relocation_at shard.old.part.partition 0 context) }
+    requires wanted { IsWanted shard.old.part.partition context (option_map D.Receipt.stands wanted.now.receipt) }
+    requires kept { IsKeptBy D.Receipt.stands shard.old.part.partition.core.records.receipts
+        kept.old.is_sure kept.old.page }
     requires past { shard.old.part.partition.core.moment ≤ clock.old }
     requires spare { clock.old + 1 < 2 ^ 64 }
     ensures stays { StaysIdleBut D.Receipt.keeps F.Key.cmp shard.old.part.partition shard.new.part.partition context }
     ensures passed { IsPassed shard.new.part.partition.core.moment clock.old clock.new }
     ensures spare { clock.new + 1 < 2 ^ 64 }
+    ensures wants { IfOk result (λ progress. WantsThen D.Receipt.stands shard.new.part.partition context progress) }
+    ensures kept { OnOk result (IsKeptBy D.Receipt.stands shard.new.part.partition.core.records.receipts
+        kept.new.is_sure kept.new.page) }
+    ensures same_writer { shard.new.part.writer ≡ shard.old.part.writer }
+    ensures steady { OnOk result (D.Reader.failures shard.new.reader ≡ D.Reader.failures shard.old.reader) }
+    ensures same_begin { shard.new.part.partition.core.records.begin ≡ shard.old.part.partition.core.records.begin }
+    ensures told { IfErr result (IsWorkRefusal (IsAstray
+        (IsEntryIn F.Key.bytes_of F.Value.bytes_of F.Key.is_known F.Value.is_known F.Key.SIZE F.Value.SIZE) F.Key.cmp)
+        shard.new.part.partition.core.records.tail clock.new
+        (failures_of D.Writer.failures D.Reader.failures shard.old.part.writer shard.old.reader)
+        (failures_of D.Writer.failures D.Reader.failures shard.new.part.writer shard.new.reader)) }
 {
     let now = match moment_before_another(clock) {
         Ok(now) => now,
@@ -131,11 +189,16 @@ fn event<F: Mergeable, D: Disk>(
     match &wanted.receipt {
         None => shard.part.partition.go(SLOT, context, functions, now),
         Some(receipt) => {
-            let came = kept.fetch(&mut shard.reader, receipt, wanted.is_of_place);
+            let page = match kept.fetch(&mut shard.reader, receipt, wanted.is_of_place) {
+                Ok(page) => page,
+                Err(refused) => return Err(refused),
+            };
+            // which says which page each receipt is of
+            shard.part.partition.pages_known();
             shard
                 .part
                 .partition
-                .load(SLOT, context, came, functions, now)
+                .load(SLOT, context, Ok(page), functions, now)
         }
     }
 }
@@ -149,16 +212,29 @@ fn go_on<F: Mergeable, D: Disk>(
     clock: &mut Clock,
 ) -> Result<Relocated, Refused>
     requires only { IsIdleBut shard.old.part.partition 0 context }
+    requires fresh { IsWanted shard.old.part.partition context None }
+    requires kept { IsKeptBy D.Receipt.stands shard.old.part.partition.core.records.receipts
+        kept.old.is_sure kept.old.page }
     requires past { shard.old.part.partition.core.moment ≤ clock.old }
     requires spare { clock.old + 1 < 2 ^ 64 }
     ensures stays { StaysIdleBut D.Receipt.keeps F.Key.cmp shard.old.part.partition shard.new.part.partition context }
     ensures passed { IsPassed shard.new.part.partition.core.moment clock.old clock.new }
     ensures spare { clock.new + 1 < 2 ^ 64 }
+    ensures kept { OnOk result (IsKeptBy D.Receipt.stands shard.new.part.partition.core.records.receipts
+        kept.new.is_sure kept.new.page) }
+    ensures same_writer { shard.new.part.writer ≡ shard.old.part.writer }
+    ensures steady { OnOk result (D.Reader.failures shard.new.reader ≡ D.Reader.failures shard.old.reader) }
+    ensures same_begin { shard.new.part.partition.core.records.begin ≡ shard.old.part.partition.core.records.begin }
+    ensures told { IfErr result (IsWorkRefusal (IsAstray
+        (IsEntryIn F.Key.bytes_of F.Value.bytes_of F.Key.is_known F.Value.is_known F.Key.SIZE F.Value.SIZE) F.Key.cmp)
+        shard.new.part.partition.core.records.tail clock.new
+        (failures_of D.Writer.failures D.Reader.failures shard.old.part.writer shard.old.reader)
+        (failures_of D.Writer.failures D.Reader.failures shard.new.part.writer shard.new.reader)) }
 {
     let mut wanted = Wanted::nothing();
     let mut begun = 0u8;
     for _event in 0..u64::MAX {
-        if begun > RESTARTS || shard.part.partition.relocation(SLOT, context).is_none() {
+        if begun > RESTARTS {
             return Ok(Relocated::Waits);
         }
         match event(functions, shard, kept, context, &wanted, clock) {
@@ -185,6 +261,7 @@ fn give_up<F: Mergeable, R: Receipt>(
     requires past { partition.old.core.moment ≤ clock.old }
     requires spare { clock.old + 1 < 2 ^ 64 }
     ensures stays { StaysIdle R.keeps F.Key.cmp partition.old partition.new }
+    ensures same_records { partition.new.core.records ≡ partition.old.core.records }
     ensures passed { IsPassed partition.new.core.moment clock.old clock.new }
 {
     let Some(_relocation) = partition.relocation(SLOT, context) else {
@@ -204,22 +281,38 @@ fn relocate<F: Mergeable, D: Disk>(
     clock: &mut Clock,
 ) -> Result<Relocated, Refused>
     requires idle { IsIdle shard.old.part.partition 0 }
+    requires kept { IsKeptBy D.Receipt.stands shard.old.part.partition.core.records.receipts
+        kept.old.is_sure kept.old.page }
     requires past { shard.old.part.partition.core.moment ≤ clock.old }
     ensures stays { StaysIdle D.Receipt.keeps F.Key.cmp shard.old.part.partition shard.new.part.partition }
     ensures passed { IsPassed shard.new.part.partition.core.moment clock.old clock.new }
+    ensures kept { OnOk result (IsKeptBy D.Receipt.stands shard.new.part.partition.core.records.receipts
+        kept.new.is_sure kept.new.page) }
+    ensures same_writer { shard.new.part.writer ≡ shard.old.part.writer }
+    ensures steady { OnOk result (D.Reader.failures shard.new.reader ≡ D.Reader.failures shard.old.reader) }
+    ensures same_begin { shard.new.part.partition.core.records.begin ≡ shard.old.part.partition.core.records.begin }
+    ensures told { IfErr result (IsWorkRefusal (IsAstray
+        (IsEntryIn F.Key.bytes_of F.Value.bytes_of F.Key.is_known F.Value.is_known F.Key.SIZE F.Value.SIZE) F.Key.cmp)
+        shard.new.part.partition.core.records.tail clock.new
+        (failures_of D.Writer.failures D.Reader.failures shard.old.part.writer shard.old.reader)
+        (failures_of D.Writer.failures D.Reader.failures shard.new.part.writer shard.new.reader)) }
 {
     let now = match moment_before_another(clock) {
         Ok(now) => now,
         Err(refused) => return Err(refused),
     };
+    shard.part.partition.known();
     let context = match shard
         .part
         .partition
         .issue(SLOT, Op::Relocate, functions, now)
     {
         Ok(context) => context,
-        Err(Refused::NotDue) => return Ok(Relocated::NotDue),
-        Err(refused) => return Err(refused),
+        Err(refused) => match refused {
+            Refused::NotDue => return Ok(Relocated::NotDue),
+            // nothing is open
+            _ => unreachable!(),
+        },
     };
     let told = go_on(functions, shard, kept, context, clock);
     give_up(&mut shard.part.partition, context, clock);
@@ -269,10 +362,22 @@ fn clear<F: Mergeable, D: Disk>(
     requires past { shard.old.part.partition.core.moment ≤ clock.old }
     ensures stays { StaysIdle D.Receipt.keeps F.Key.cmp shard.old.part.partition shard.new.part.partition }
     ensures passed { IsPassed shard.new.part.partition.core.moment clock.old clock.new }
+    ensures steady { OnOk result (failures_of D.Writer.failures D.Reader.failures shard.new.part.writer shard.new.reader
+        ≡ failures_of D.Writer.failures D.Reader.failures shard.old.part.writer shard.old.reader) }
+    ensures same_begin { shard.new.part.partition.core.records.begin ≡ shard.old.part.partition.core.records.begin }
+    ensures told { IfErr result (IsWorkRefusal (IsAstray
+        (IsEntryIn F.Key.bytes_of F.Value.bytes_of F.Key.is_known F.Value.is_known F.Key.SIZE F.Value.SIZE) F.Key.cmp)
+        shard.new.part.partition.core.records.tail clock.new
+        (failures_of D.Writer.failures D.Reader.failures shard.old.part.writer shard.old.reader)
+        (failures_of D.Writer.failures D.Reader.failures shard.new.part.writer shard.new.reader)) }
 {
     let size = shard.part.partition.page_size();
     let (start, tail) = (shard.part.partition.cleared(), shard.part.partition.tail());
-    let mut kept = Kept { size, page: None };
+    let mut kept = Kept {
+        size,
+        page: None,
+        is_sure: false,
+    };
     let mut has_waited = false;
     for _record in 0..u64::MAX {
         let passed = Passed {
@@ -288,7 +393,7 @@ fn clear<F: Mergeable, D: Disk>(
             Ok(Relocated::Waits) if !has_waited => {
                 has_waited = true;
                 match tidy(terms.alloc, terms.frames, &mut shard.part, clock) {
-                    Ok(()) => {}
+                    Ok(()) => kept.is_sure = false,
                     Err(refused) => return Err(refused),
                 }
             }
@@ -299,7 +404,8 @@ fn clear<F: Mergeable, D: Disk>(
     Ok(())
 }
 
-/// Cuts the start of a log behind what is cleared. Answers whether there was anything to cut.
+/// Cuts the start of a log behind what is cleared. Answers whether there was anything to cut. Refused: `Worn` where no moment is
+/// left.
 fn cut<F: Mergeable, R: Receipt>(
     partition: &mut Partition<F, R>,
     clock: &mut Clock,
@@ -307,7 +413,11 @@ fn cut<F: Mergeable, R: Receipt>(
     requires idle { IsIdle partition.old 0 }
     requires past { partition.old.core.moment ≤ clock.old }
     ensures stays { StaysIdle R.keeps F.Key.cmp partition.old partition.new }
+    ensures same_tail { partition.new.core.records.tail ≡ partition.old.core.records.tail }
+    ensures cut { IfOk result (IsCut partition.old partition.new) }
+    ensures whole { OnOk result (IsAllCut partition.new) }
     ensures passed { IsPassed partition.new.core.moment clock.old clock.new }
+    ensures told { IfErr result (λ e. (e ≡ Refused.Worn) × (2 ^ 64 ≤ clock.new + 1)) }
 {
     let now = match clock.tick() {
         Ok(now) => now,
@@ -332,6 +442,15 @@ pub fn compact<F: Mergeable, D: Disk>(
     requires past { shard.old.part.partition.core.moment ≤ clock.old }
     ensures stays { StaysIdle D.Receipt.keeps F.Key.cmp shard.old.part.partition shard.new.part.partition }
     ensures passed { IsPassed shard.new.part.partition.core.moment clock.old clock.new }
+    ensures cut { IfOk result (IsCut shard.old.part.partition shard.new.part.partition) }
+    ensures whole { OnOk result (IsAllCut shard.new.part.partition) }
+    ensures steady { OnOk result (failures_of D.Writer.failures D.Reader.failures shard.new.part.writer shard.new.reader
+        ≡ failures_of D.Writer.failures D.Reader.failures shard.old.part.writer shard.old.reader) }
+    ensures told { IfErr result (IsWorkRefusal (IsAstray
+        (IsEntryIn F.Key.bytes_of F.Value.bytes_of F.Key.is_known F.Value.is_known F.Key.SIZE F.Value.SIZE) F.Key.cmp)
+        shard.new.part.partition.core.records.tail clock.new
+        (failures_of D.Writer.failures D.Reader.failures shard.old.part.writer shard.old.reader)
+        (failures_of D.Writer.failures D.Reader.failures shard.new.part.writer shard.new.reader)) }
 {
     match tidy(terms.alloc, terms.frames, &mut shard.part, clock) {
         Ok(()) => {}
@@ -365,6 +484,9 @@ pub fn compact_where_due<F: Mergeable, D: Disk>(
     requires past { shard.old.part.partition.core.moment ≤ clock.old }
     ensures stays { StaysIdle D.Receipt.keeps F.Key.cmp shard.old.part.partition shard.new.part.partition }
     ensures same { IsTrue terms.now.keeps_log → shard.new ≡ shard.old }
+    ensures beside { IsBeside terms.now.keeps_log
+        (failures_of D.Writer.failures D.Reader.failures shard.old.part.writer shard.old.reader)
+        (failures_of D.Writer.failures D.Reader.failures shard.new.part.writer shard.new.reader) }
     ensures passed { IsPassed shard.new.part.partition.core.moment clock.old clock.new }
 {
     if terms.keeps_log || !is_due(&shard.part) {

@@ -1,5 +1,5 @@
 //! One operation of one partition, driven to its end.
-ghost use Rattle.std.specs.Prelude.{◌≡◌, ◌<◌, ◌≤◌, ◌+◌, ◌-◌, ◌^◌, ℕ, None, Ok, Err, true, IsTrue, IfOk, IfErr, IfSome, OnErr};
+ghost use Rattle.std.specs.Prelude.{◌≡◌, ◌<◌, ◌≤◌, ◌+◌, ◌-◌, ◌^◌, ℕ, None, Ok, Err, true, IsTrue, IfOk, IfErr, IfSome, OnOk, OnErr};
 ghost use Rattle.fkv_pages.specs.Spelled.{IsEntryIn};
 ghost use Rattle.fkv_operations.specs.After.{key_of, is_merge};
 ghost use Rattle.fkv_operations.specs.declared.operations.KeyedOp.TheVariants.{Rmw};
@@ -10,6 +10,7 @@ ghost use Rattle.fkv_alone.specs.Ending.{Ends};
 ghost use Rattle.fkv_alone.specs.Spoilt.{IsSpoilt};
 ghost use Rattle.fkv_local.specs.Resting.{IsIdle, StaysIdle};
 ghost use Rattle.fkv_local.specs.Moving.{IsPassed, IsMoveRefusal};
+ghost use Rattle.fkv_local.specs.Failures.{failures_of, IsBeside};
 ghost use Rattle.fkv_local.specs.Storing.{Runs};
 ghost use Rattle.fkv_local.specs.Refusing.{IsStopped, IsRefusedBy};
 
@@ -84,9 +85,9 @@ pub fn run_by_events<F: Mergeable, D: Disk, P: PageReader<Receipt = D::Receipt>>
     ensures unread { is_merge op ≡ true → reader.new ≡ reader.old }
     ensures told { IfErr result (IsStopped F.MERGES
         (IsEntryIn F.Key.bytes_of F.Value.bytes_of F.Key.is_known F.Value.is_known F.Key.SIZE F.Value.SIZE) F.Key.cmp
-        op part.new.partition.core.records.tail clock.new
-        (D.Writer.failures part.old.writer) (D.Writer.failures part.new.writer)
-        (P.failures reader.old) (P.failures reader.new)) }
+        op terms.now.tries part.new.partition.core.records.tail clock.old clock.new
+        (failures_of D.Writer.failures P.failures part.old.writer reader.old)
+        (failures_of D.Writer.failures P.failures part.new.writer reader.new)) }
 {
     for _try in 0..terms.tries {
         let told = match once(&terms.functions, part, reader, op, clock) {
@@ -155,6 +156,9 @@ pub fn tidy_at_times<F: Mergeable, D: Disk>(
     ensures passed { IsPassed shard.new.part.partition.core.moment clock.old clock.new }
     ensures same_reader { OnErr result (shard.new.reader ≡ shard.old.reader) }
     ensures unread { IsTrue terms.now.keeps_log → shard.new.reader ≡ shard.old.reader }
+    ensures beside { OnOk result (IsBeside terms.now.keeps_log
+        (failures_of D.Writer.failures D.Reader.failures shard.old.part.writer shard.old.reader)
+        (failures_of D.Writer.failures D.Reader.failures shard.new.part.writer shard.new.reader)) }
     ensures told { IfErr result (IsMoveRefusal clock.new (D.Writer.failures shard.old.part.writer)
         (D.Writer.failures shard.new.part.writer)) }
 {
@@ -184,9 +188,10 @@ pub fn operate<F: Mergeable, D: Disk>(
     requires begun { 0 < clock.old }
     ensures runs { Runs D.Receipt.keeps F.Key.cmp F.meaning shard.old.part.partition shard.new.part.partition op result }
     ensures passed { IsPassed shard.new.part.partition.core.moment clock.old clock.new }
-    ensures told { IfErr result (IsRefusedBy F.MERGES
+    ensures told { IfErr result (IsRefusedBy F.MERGES terms.now.keeps_log
         (IsEntryIn F.Key.bytes_of F.Value.bytes_of F.Key.is_known F.Value.is_known F.Key.SIZE F.Value.SIZE) F.Key.cmp
-        D.Writer.failures D.Reader.failures op shard.new.part.partition.core.records.tail clock.new) }
+        D.Writer.failures D.Reader.failures op terms.now.tries shard.new.part.partition.core.records.tail clock.old clock.new
+        shard.old.part.writer shard.old.reader shard.new.part.writer shard.new.reader) }
 {
     let tidied = tidy_at_times(terms, shard, clock);
     match tidied {
@@ -211,9 +216,10 @@ pub fn update<F: Mergeable, D: Disk>(
     ensures runs { Runs D.Receipt.keeps F.Key.cmp F.meaning shard.old.part.partition shard.new.part.partition
         (Rmw key.now input.now) result }
     ensures passed { IsPassed shard.new.part.partition.core.moment clock.old clock.new }
-    ensures told { IfErr result (IsRefusedBy F.MERGES
+    ensures told { IfErr result (IsRefusedBy F.MERGES terms.now.keeps_log
         (IsEntryIn F.Key.bytes_of F.Value.bytes_of F.Key.is_known F.Value.is_known F.Key.SIZE F.Value.SIZE) F.Key.cmp
-        D.Writer.failures D.Reader.failures (Rmw key.now input.now) shard.new.part.partition.core.records.tail clock.new) }
+        D.Writer.failures D.Reader.failures (Rmw key.now input.now) terms.now.tries shard.new.part.partition.core.records.tail clock.old clock.new
+        shard.old.part.writer shard.old.reader shard.new.part.writer shard.new.reader) }
 {
     match tidy_at_times(terms, shard, clock) {
         Ok(()) => {}

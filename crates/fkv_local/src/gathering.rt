@@ -24,6 +24,7 @@ pub fn gather<F: Mergeable, D: Disk>(
     ensures ok { IsTrue D.Receipt.keeps → OnOk result (Same (get F.Key.cmp tree.new)
         (union_of F.Key.cmp F.code (map (λ shard. shard.part.partition) shards.old))) }
     ensures views { map (λ shard. shard.part.partition) shards.new ≡ map (λ shard. shard.part.partition) shards.old }
+    ensures writers { map (λ shard. shard.part.writer) shards.new ≡ map (λ shard. shard.part.writer) shards.old }
     ensures sized { length shards.new ≡ length shards.old }
     ensures told { IfErr result (IsUnlisted D.Receipt.keeps D.Reader.failures (map (λ shard. shard.part.partition) shards.old)) }
 {

@@ -39,8 +39,9 @@ fn run_in_memory<F: Mergeable, D: Disk>(
     ensures passed { IsPassed part.new.partition.core.moment clock.old clock.new }
     ensures told { IfErr result (λ e. (reads : ℕ) → IsStopped F.MERGES
         (IsEntryIn F.Key.bytes_of F.Value.bytes_of F.Key.is_known F.Value.is_known F.Key.SIZE F.Value.SIZE) F.Key.cmp
-        op part.new.partition.core.records.tail clock.new
-        (D.Writer.failures part.old.writer) (D.Writer.failures part.new.writer) reads reads e) }
+        op terms.now.tries part.new.partition.core.records.tail clock.old clock.new
+        (record { writes = D.Writer.failures part.old.writer; reads = reads })
+        (record { writes = D.Writer.failures part.new.writer; reads = reads }) e) }
 {
     let mut pages = NoPages::new();
     match run_by_events(terms, part, &mut pages, op, clock) {
@@ -73,8 +74,9 @@ fn merge_for_page<F: Mergeable, D: Disk>(
     ensures passed { IsPassed part.new.partition.core.moment clock.old clock.new }
     ensures told { IfErr result (λ e. (reads : ℕ) → IsStopped F.MERGES
         (IsEntryIn F.Key.bytes_of F.Value.bytes_of F.Key.is_known F.Value.is_known F.Key.SIZE F.Value.SIZE) F.Key.cmp
-        (Rmw key.now input.now) part.new.partition.core.records.tail clock.new
-        (D.Writer.failures part.old.writer) (D.Writer.failures part.new.writer) reads reads e) }
+        (Rmw key.now input.now) terms.now.tries part.new.partition.core.records.tail clock.old clock.new
+        (record { writes = D.Writer.failures part.old.writer; reads = reads })
+        (record { writes = D.Writer.failures part.new.writer; reads = reads }) e) }
 {
     if !part.partition.is_at_delta(SLOT, &terms.functions, key) {
         let rmw = KeyedOp::Rmw(*key, *input);
@@ -108,9 +110,10 @@ pub fn update_or_merge<F: Mergeable, D: Disk>(
     ensures runs { Updates D.Receipt.keeps F.Key.cmp F.meaning shard.old.part.partition shard.new.part.partition
         key.now input.now result }
     ensures passed { IsPassed shard.new.part.partition.core.moment clock.old clock.new }
-    ensures told { IfErr result (IsRefusedBy F.MERGES
+    ensures told { IfErr result (IsRefusedBy F.MERGES terms.now.keeps_log
         (IsEntryIn F.Key.bytes_of F.Value.bytes_of F.Key.is_known F.Value.is_known F.Key.SIZE F.Value.SIZE) F.Key.cmp
-        D.Writer.failures D.Reader.failures (Rmw key.now input.now) shard.new.part.partition.core.records.tail clock.new) }
+        D.Writer.failures D.Reader.failures (Rmw key.now input.now) terms.now.tries shard.new.part.partition.core.records.tail clock.old clock.new
+        shard.old.part.writer shard.old.reader shard.new.part.writer shard.new.reader) }
     ensures unread { IsTrue F.MERGES → IsTrue terms.now.keeps_log → shard.new.reader ≡ shard.old.reader }
 {
     match tidy_at_times(terms, shard, clock) {

@@ -1,5 +1,5 @@
 //! The store of one thread.
-ghost use Rattle.std.specs.Prelude.{◌≡◌, ◌≢◌, ◌<◌, ◌-◌, ◌^◌, min, sum_by, true, false, None, Err, IsTrue, IfOk, IfErr, OnOk, length};
+ghost use Rattle.std.specs.Prelude.{◌≡◌, ◌≢◌, ◌<◌, ◌+◌, ◌-◌, ◌^◌, min, sum_by, ℕ, true, false, None, Some, Err, IsTrue, IfOk, IfErr, OnOk, length, slice_get};
 ghost use Rattle.std.specs.BTreeMap.{get};
 ghost use Rattle.fkv_records.specs.Records.{size_of};
 ghost use Rattle.fkv_pages.specs.Spelled.{IsEntryIn};
@@ -8,8 +8,10 @@ ghost use Rattle.fkv_operations.specs.After.{after, answer};
 ghost use Rattle.fkv_operations.specs.declared.operations.KeyedOp.TheVariants.{Read, Upsert, Rmw, Delete, Merge};
 ghost use Rattle.fkv_partition.specs.CoreViews.{partition_of};
 ghost use Rattle.fkv_partition.specs.Limits.{IsWithinLimits};
-ghost use Rattle.fkv_local.specs.Storing.{plain, IsRun, IsUpdateRun, IsUnopened, log_bytes, evicted_bytes};
-ghost use Rattle.fkv_local.specs.Refusing.{IsRefusal, IsUnlisted};
+ghost use Rattle.fkv_partition.specs.Views.{PartitionView};
+ghost use Rattle.fkv_local.specs.Storing.{plain, IsRun, IsUpdateRun, IsUnopened, SameTerms, log_bytes, evicted_bytes};
+ghost use Rattle.fkv_local.specs.Clearing.{IsCutAt, AnyIsCut, IsAllCut, begin_at};
+ghost use Rattle.fkv_local.specs.Refusing.{IsRefusal, IsUncompacted, IsUncompactedAt, FailedAsBefore, StaysAt, IsUnlisted};
 
 use crate::compacting::{Effort, compact};
 use crate::counting::{Counts, appended_records, held_bytes};
@@ -41,12 +43,14 @@ impl<F: Mergeable, D: Disk> Model for LocalStore<F, D> {
     ghost use Rattle.fkv_local.specs.Resting.{AreAtRest};
     ghost use Rattle.fkv_local.specs.Storing.{StoreView};
 
-    ghost Value = { StoreView F.Key F.Value F.Input D.Reader };
+    ghost Value = { StoreView F.Key F.Value F.Input D.Writer D.Reader };
 
     ghost view = { λ s. record {
       parts = map (λ shard. shard.part.partition) s.shards.items;
+      writers = map (λ shard. shard.part.writer) s.shards.items;
       readers = map (λ shard. shard.reader) s.shards.items;
       keeps_log = s.terms.keeps_log;
+      tries = s.terms.tries;
       moments = s.clock;
     } };
 
@@ -68,6 +72,7 @@ impl<F: Mergeable, D: Disk> LocalStore<F, D> {
     ) -> Result<Self, Refused>
         ensures empty { IfOk result (λ s. (k : F.Key) → plain F.Key.cmp F.code s k ≡ None) }
         ensures compacts { IfOk result (λ s. s.keeps_log ≡ false) }
+        ensures tries { IfOk result (λ s. s.tries ≡ min (config.now.turns + 1) (2 ^ 64 - 1)) }
         ensures sized { IfOk result (λ s. length s.parts ≡ 2 ^ config.now.partition_bits) }
         ensures good { result ≢ Err Refused.BadConfig → IsWithinLimits config.now (size_of F.Key.SIZE F.Value.SIZE) }
         ensures bad { result ≡ Err Refused.BadConfig → IsWithinLimits config.now (size_of F.Key.SIZE F.Value.SIZE) → ⊥ }
@@ -112,7 +117,8 @@ impl<F: Mergeable, D: Disk> LocalStore<F, D> {
         ensures runs { IsTrue D.Receipt.keeps → IsRun F.Key.cmp F.meaning (plain F.Key.cmp F.code self.old) (plain F.Key.cmp F.code self.new) op result }
         ensures told { IfErr result (IsRefusal F.MERGES
             (IsEntryIn F.Key.bytes_of F.Value.bytes_of F.Key.is_known F.Value.is_known F.Key.SIZE F.Value.SIZE) F.Key.cmp
-            F.code D.Writer.failures D.Reader.failures self.new op) }
+            F.code D.Writer.failures D.Reader.failures self.old self.new op) }
+        ensures same_terms { SameTerms self.old self.new }
     {
         let home = self.home(&op.key());
         let shard = &mut self.shards[home];
@@ -129,7 +135,8 @@ impl<F: Mergeable, D: Disk> LocalStore<F, D> {
         ensures runs { IsTrue D.Receipt.keeps → IsRun F.Key.cmp F.meaning (plain F.Key.cmp F.code self.old) (plain F.Key.cmp F.code self.new) (Rmw key.now input.now) result }
         ensures told { IfErr result (IsRefusal F.MERGES
             (IsEntryIn F.Key.bytes_of F.Value.bytes_of F.Key.is_known F.Value.is_known F.Key.SIZE F.Value.SIZE) F.Key.cmp
-            F.code D.Writer.failures D.Reader.failures self.new (Rmw key.now input.now)) }
+            F.code D.Writer.failures D.Reader.failures self.old self.new (Rmw key.now input.now)) }
+        ensures same_terms { SameTerms self.old self.new }
     {
         let home = self.home(key);
         let shard = &mut self.shards[home];
@@ -150,9 +157,9 @@ impl<F: Mergeable, D: Disk> LocalStore<F, D> {
         ensures runs { IsTrue D.Receipt.keeps → IsUpdateRun F.Key.cmp F.meaning (plain F.Key.cmp F.code self.old) (plain F.Key.cmp F.code self.new) key.now input.now result }
         ensures told { IfErr result (IsRefusal F.MERGES
             (IsEntryIn F.Key.bytes_of F.Value.bytes_of F.Key.is_known F.Value.is_known F.Key.SIZE F.Value.SIZE) F.Key.cmp
-            F.code D.Writer.failures D.Reader.failures self.new (Rmw key.now input.now)) }
+            F.code D.Writer.failures D.Reader.failures self.old self.new (Rmw key.now input.now)) }
         ensures unread { IsTrue F.MERGES → IsTrue self.old.keeps_log → self.new.readers ≡ self.old.readers }
-        ensures same_log { self.new.keeps_log ≡ self.old.keeps_log }
+        ensures same_terms { SameTerms self.old self.new }
     {
         let place = self.home(key);
         let shard = &mut self.shards[place];
@@ -168,7 +175,8 @@ impl<F: Mergeable, D: Disk> LocalStore<F, D> {
         ensures runs { IsTrue D.Receipt.keeps → IsRun F.Key.cmp F.meaning (plain F.Key.cmp F.code self.old) (plain F.Key.cmp F.code self.new) (Read key.now input.now) result }
         ensures told { IfErr result (IsRefusal F.MERGES
             (IsEntryIn F.Key.bytes_of F.Value.bytes_of F.Key.is_known F.Value.is_known F.Key.SIZE F.Value.SIZE) F.Key.cmp
-            F.code D.Writer.failures D.Reader.failures self.new (Read key.now input.now)) }
+            F.code D.Writer.failures D.Reader.failures self.old self.new (Read key.now input.now)) }
+        ensures same_terms { SameTerms self.old self.new }
     {
         self.run(KeyedOp::Read(*key, *input))
     }
@@ -182,7 +190,8 @@ impl<F: Mergeable, D: Disk> LocalStore<F, D> {
         ensures runs { IsTrue D.Receipt.keeps → IsRun F.Key.cmp F.meaning (plain F.Key.cmp F.code self.old) (plain F.Key.cmp F.code self.new) (Upsert key.now value.now) result }
         ensures told { IfErr result (IsRefusal F.MERGES
             (IsEntryIn F.Key.bytes_of F.Value.bytes_of F.Key.is_known F.Value.is_known F.Key.SIZE F.Value.SIZE) F.Key.cmp
-            F.code D.Writer.failures D.Reader.failures self.new (Upsert key.now value.now)) }
+            F.code D.Writer.failures D.Reader.failures self.old self.new (Upsert key.now value.now)) }
+        ensures same_terms { SameTerms self.old self.new }
     {
         self.run(KeyedOp::Upsert(*key, *value))
     }
@@ -196,7 +205,8 @@ impl<F: Mergeable, D: Disk> LocalStore<F, D> {
         ensures runs { IsTrue D.Receipt.keeps → IsRun F.Key.cmp F.meaning (plain F.Key.cmp F.code self.old) (plain F.Key.cmp F.code self.new) (Delete key.now) result }
         ensures told { IfErr result (IsRefusal F.MERGES
             (IsEntryIn F.Key.bytes_of F.Value.bytes_of F.Key.is_known F.Value.is_known F.Key.SIZE F.Value.SIZE) F.Key.cmp
-            F.code D.Writer.failures D.Reader.failures self.new (Delete key.now)) }
+            F.code D.Writer.failures D.Reader.failures self.old self.new (Delete key.now)) }
+        ensures same_terms { SameTerms self.old self.new }
     {
         self.run(KeyedOp::Delete(*key))
     }
@@ -210,7 +220,8 @@ impl<F: Mergeable, D: Disk> LocalStore<F, D> {
         ensures runs { IsTrue D.Receipt.keeps → IsRun F.Key.cmp F.meaning (plain F.Key.cmp F.code self.old) (plain F.Key.cmp F.code self.new) (Merge key.now input.now) result }
         ensures told { IfErr result (IsRefusal F.MERGES
             (IsEntryIn F.Key.bytes_of F.Value.bytes_of F.Key.is_known F.Value.is_known F.Key.SIZE F.Value.SIZE) F.Key.cmp
-            F.code D.Writer.failures D.Reader.failures self.new (Merge key.now input.now)) }
+            F.code D.Writer.failures D.Reader.failures self.old self.new (Merge key.now input.now)) }
+        ensures same_terms { SameTerms self.old self.new }
     {
         self.run(KeyedOp::Merge(*key, *input))
     }
@@ -257,12 +268,18 @@ impl<F: Mergeable, D: Disk> LocalStore<F, D> {
     pub fn compact(&mut self) -> Result<bool, Refused>
         ensures stays { IsTrue D.Receipt.keeps → Same (plain F.Key.cmp F.code self.new) (plain F.Key.cmp F.code self.old) }
         ensures sized { length self.new.parts ≡ length self.old.parts }
+        ensures same_terms { SameTerms self.old self.new }
+        ensures cut { IfOk result (AnyIsCut self.old self.new) }
+        ensures whole { OnOk result ((p : ℕ) (v : PartitionView F.Key F.Value F.Input) → slice_get self.new.parts p ≡ Some v → IsAllCut v) }
+        ensures steady { OnOk result ((p : ℕ) → FailedAsBefore D.Writer.failures D.Reader.failures self.old self.new p) }
+        ensures told { IfErr result (IsUncompacted
+            (IsEntryIn F.Key.bytes_of F.Value.bytes_of F.Key.is_known F.Value.is_known F.Key.SIZE F.Value.SIZE) F.Key.cmp
+            D.Writer.failures D.Reader.failures self.old self.new) }
     {
         let mut has_cut = false;
         for home in 0..self.shards.len() {
             match self.compact_part(home) {
-                Ok(true) => has_cut = true,
-                Ok(false) => {}
+                Ok(is_cut) => has_cut = is_cut || has_cut,
                 Err(refused) => return Err(refused),
             }
         }
@@ -274,6 +291,15 @@ impl<F: Mergeable, D: Disk> LocalStore<F, D> {
         requires within { home < length self.old.parts }
         ensures stays { IsTrue D.Receipt.keeps → Same (plain F.Key.cmp F.code self.new) (plain F.Key.cmp F.code self.old) }
         ensures sized { length self.new.parts ≡ length self.old.parts }
+        ensures same_terms { SameTerms self.old self.new }
+        ensures others { (p : ℕ) → p ≢ home → StaysAt self.old self.new p }
+        ensures cut { IfOk result (λ has_cut. IsTrue has_cut → IsCutAt self.old self.new home) }
+        ensures uncut { IfOk result (λ has_cut. has_cut ≡ false → begin_at self.new home ≡ begin_at self.old home) }
+        ensures whole { OnOk result ((v : PartitionView F.Key F.Value F.Input) → slice_get self.new.parts home ≡ Some v → IsAllCut v) }
+        ensures steady { OnOk result (FailedAsBefore D.Writer.failures D.Reader.failures self.old self.new home) }
+        ensures told { IfErr result (IsUncompactedAt
+            (IsEntryIn F.Key.bytes_of F.Value.bytes_of F.Key.is_known F.Value.is_known F.Key.SIZE F.Value.SIZE) F.Key.cmp
+            D.Writer.failures D.Reader.failures self.old self.new home) }
     {
         let shard = &mut self.shards[home];
         compact(&self.terms, shard, Effort::Whole, &mut self.clock)

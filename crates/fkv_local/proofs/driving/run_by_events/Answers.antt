@@ -1,8 +1,8 @@
-use Rattle.std.proofs.Common.{◌≡◌, ◌<◌, Err, sym, ap, subst, ◌∙◌, arith}
-use Rattle.fkv_pages.specs.Spelled.{IsEntryIn}
+use Rattle.std.proofs.Common.{◌≡◌, ◌<◌, Err, refl, sym, ap, ◌∙◌, arith}
 use Rattle.fkv_operations.specs.After.{key_of}
 use Rattle.fkv_partition.specs.CoreViews.{partition_of}
-use Rattle.fkv_local.proofs.DriveLemmas.{done-runs, err-left, left-runs, move-stopped, stays-tidied, steady-waits, wait-given_up}
+use Rattle.fkv_local.proofs.DriveLemmas.{done-runs, err-left, left-runs, move-stopped, stopped-from, stays-tidied, steady-waits, waits-later, wait-given_up}
+use Rattle.fkv_local.proofs.WorkLemmas.{same-both}
 use Rattle.fkv_local.specs.Refusing.{IsStopped}
 use Rattle.fkv_local.proofs.driving.run_by_events.Goals as goal
 
@@ -10,30 +10,29 @@ pub returns-in-Err-clause-runs : goal.returns-in-Err-clause-runs
 returns-in-Err-clause-runs g c =
     let s = c.loop-try.invariant.stays in
     let own = ap (λ n. partition_of n (g.F.Functions.code (key_of c.args.op))) s.count ∙ c.requires.own ∙ sym s.number in
-    let later = c.loop-try.invariant.later in
+    let later = c.loop-try.invariant.waited in
     let first = c.requires.begun in
     let begun : 0 < c.loop-try.clock = omega arith in
     let same : g.D.Writer.PageWriter.failures c.once.new.part.writer ≡ g.D.Writer.PageWriter.failures c.loop-try.part.writer = ap g.D.Writer.PageWriter.failures c.in-Err.ensures.same_writer in
-    left-runs (err-left s own c.in-Err.ensures.rest begun c.in-Err.ensures.small (λ page told same_reads. c.in-Err.ensures.spoilt page (ap Err told) same_reads) c.in-Err.ensures.merges same c.in-Err.ensures.ends).stays
+    left-runs (err-left s own c.in-Err.ensures.rest begun c.in-Err.ensures.small c.args.terms.now.tries c.args.clock.now (λ page told same_reads. c.in-Err.ensures.spoilt page (ap Err told) same_reads) c.in-Err.ensures.merges same c.in-Err.ensures.ends).stays
 
 pub returns-in-Err-clause-told : goal.returns-in-Err-clause-told
 returns-in-Err-clause-told g c =
     let i = c.loop-try.invariant in
     let s = i.stays in
     let own = ap (λ n. partition_of n (g.F.Functions.code (key_of c.args.op))) s.count ∙ c.requires.own ∙ sym s.number in
-    let later = i.later in
+    let later = i.waited in
     let first = c.requires.begun in
     let begun : 0 < c.loop-try.clock = omega arith in
     let same = ap g.D.Writer.PageWriter.failures c.in-Err.ensures.same_writer in
-    let why = (err-left s own c.in-Err.ensures.rest begun c.in-Err.ensures.small (λ page told same_reads. c.in-Err.ensures.spoilt page (ap Err told) same_reads) c.in-Err.ensures.merges same c.in-Err.ensures.ends).why in
-    subst (λ n. IsStopped g.F.Mergeable.MERGES (IsEntryIn g.F.Key.Fixed.bytes_of g.F.Value.Fixed.bytes_of g.F.Key.Known.is_known g.F.Value.Known.is_known g.F.Key.Fixed.SIZE g.F.Value.Fixed.SIZE) g.F.Key.Ord.cmp c.args.op c.once.new.part.partition.core.records.tail c.once.new.clock (g.D.Writer.PageWriter.failures c.args.part.now.writer) (g.D.Writer.PageWriter.failures c.once.new.part.writer) n (g.P.PageReader.failures c.once.new.reader) c.in-Err.refused) i.reads
-    (subst (λ n. IsStopped g.F.Mergeable.MERGES (IsEntryIn g.F.Key.Fixed.bytes_of g.F.Value.Fixed.bytes_of g.F.Key.Known.is_known g.F.Value.Known.is_known g.F.Key.Fixed.SIZE g.F.Value.Fixed.SIZE) g.F.Key.Ord.cmp c.args.op c.once.new.part.partition.core.records.tail c.once.new.clock n (g.D.Writer.PageWriter.failures c.once.new.part.writer) (g.P.PageReader.failures c.loop-try.reader) (g.P.PageReader.failures c.once.new.reader) c.in-Err.refused) i.writes why)
+    let why = (err-left s own c.in-Err.ensures.rest begun c.in-Err.ensures.small c.args.terms.now.tries c.args.clock.now (λ page told same_reads. c.in-Err.ensures.spoilt page (ap Err told) same_reads) c.in-Err.ensures.merges same c.in-Err.ensures.ends).why in
+    stopped-from i.writes i.reads why
 
 pub returns-in-Done-clause-runs : goal.returns-in-Done-clause-runs
 returns-in-Done-clause-runs g c =
     let s = c.loop-try.invariant.stays in
     let own = ap (λ n. partition_of n (g.F.Functions.code (key_of c.args.op))) s.count ∙ c.requires.own ∙ sym s.number in
-    let later = c.loop-try.invariant.later in
+    let later = c.loop-try.invariant.waited in
     let first = c.requires.begun in
     let begun : 0 < c.loop-try.clock = omega arith in
     done-runs s own c.in-Ok.ensures.rest begun c.in-Ok.ensures.small (rw c.in-Done.is at c.in-Ok.ensures.ends)
@@ -42,7 +41,7 @@ pub returns-in-Err-tidy-clause-runs : goal.returns-in-Err-tidy-clause-runs
 returns-in-Err-tidy-clause-runs g c =
     let s = c.loop-try.invariant.stays in
     let own = ap (λ n. partition_of n (g.F.Functions.code (key_of c.args.op))) s.count ∙ c.requires.own ∙ sym s.number in
-    let later = c.loop-try.invariant.later in
+    let later = c.loop-try.invariant.waited in
     let first = c.requires.begun in
     let begun : 0 < c.loop-try.clock = omega arith in
     let left = wait-given_up s own c.in-Ok.ensures.rest begun c.in-Ok.ensures.small (rw c.in-Waits.is at c.in-Ok.ensures.ends) c.abandon-given_up.ensures.effect c.abandon-given_up.ensures.event c.abandon-given_up.ensures.rest in
@@ -53,20 +52,27 @@ returns-in-Err-tidy-clause-told g c =
     let i = c.loop-try.invariant in
     let s = i.stays in
     let own = ap (λ n. partition_of n (g.F.Functions.code (key_of c.args.op))) s.count ∙ c.requires.own ∙ sym s.number in
-    let later = i.later in
+    let later = i.waited in
     let first = c.requires.begun in
     let begun : 0 < c.loop-try.clock = omega arith in
     let waited = steady-waits s own c.in-Ok.ensures.rest begun c.in-Ok.ensures.small (rw c.in-Waits.is at c.in-Ok.ensures.ends) in
     let reads = waited ∙ i.reads in
     let writes = ap g.D.Writer.PageWriter.failures c.in-Ok.ensures.same_writer ∙ i.writes in
-    subst (λ n. IsStopped g.F.Mergeable.MERGES (IsEntryIn g.F.Key.Fixed.bytes_of g.F.Value.Fixed.bytes_of g.F.Key.Known.is_known g.F.Value.Known.is_known g.F.Key.Fixed.SIZE g.F.Value.Fixed.SIZE) g.F.Key.Ord.cmp c.args.op c.tidy.new.part.partition.core.records.tail c.tidy.new.clock n (g.D.Writer.PageWriter.failures c.tidy.new.part.writer) (g.P.PageReader.failures c.args.reader.now) (g.P.PageReader.failures c.once.new.reader) c.in-Err-tidy.refused) writes
-    (move-stopped c.in-Err-tidy.ensures.told reads)
+    stopped-from writes refl (move-stopped c.in-Err-tidy.ensures.told reads)
+
+pub returns-clause-told : goal.returns-clause-told
+returns-clause-told g c =
+    let i = c.loop-try.invariant in
+    let waited = i.waited in
+    let all = c.loop-try-test.false in
+    let last = c.loop-try.auto in
+    IsStopped.stalled refl (omega arith) (same-both i.writes i.reads)
 
 pub loop-try-preserved : goal.loop-try-preserved
 loop-try-preserved g c =
     let s = c.loop-try.invariant.stays in
     let own = ap (λ n. partition_of n (g.F.Functions.code (key_of c.args.op))) s.count ∙ c.requires.own ∙ sym s.number in
-    let later = c.loop-try.invariant.later in
+    let later = c.loop-try.invariant.waited in
     let first = c.requires.begun in
     let begun : 0 < c.loop-try.clock = omega arith in
     let left = wait-given_up s own c.in-Ok.ensures.rest begun c.in-Ok.ensures.small (rw c.in-Waits.is at c.in-Ok.ensures.ends) c.abandon-given_up.ensures.effect c.abandon-given_up.ensures.event c.abandon-given_up.ensures.rest in
@@ -76,7 +82,8 @@ loop-try-preserved g c =
     record {
       stays = stays-tidied left c.tidy.ensures.tidied;
       past = passed.past;
-      later = (let a = passed.later in let b = ran.later in omega arith);
+      waited = (let issued = waits-later s own c.in-Ok.ensures.rest begun c.in-Ok.ensures.small (rw c.in-Waits.is at c.in-Ok.ensures.ends) in
+          let a = passed.later in let b = ran.past in omega arith);
       writes = c.in-Ok-tidy.ensures.steady ∙ ap g.D.Writer.PageWriter.failures c.in-Ok.ensures.same_writer ∙ c.loop-try.invariant.writes;
       unread = λ merge. c.in-Ok.ensures.unread merge ∙ c.loop-try.invariant.unread merge;
       reads = steady-waits s own c.in-Ok.ensures.rest begun c.in-Ok.ensures.small (rw c.in-Waits.is at c.in-Ok.ensures.ends) ∙ c.loop-try.invariant.reads;

@@ -20,6 +20,7 @@ loop-index-preserved g c =
     let there : slice_get views i ≡ Some x.part.partition = ap (λ vs. slice_get vs i) (sym old.views) ∙ view-get (λ shard. shard.part.partition) items i x here in
     record {
       views = view-same (λ shard. shard.part.partition) items i x (record x { reader = c.put_live.new.reader }) here refl ∙ old.views;
+      writers = view-same (λ shard. shard.part.writer) items i x (record x { reader = c.put_live.new.reader }) here refl ∙ old.writers;
       sized = length-set items i _ ∙ old.sized;
       so_far = λ keeps q. (let bare = bare_before g.F.Key.Ord.cmp g.F.Functions.code views i x.part.partition (get g.F.Key.Ord.cmp c.loop-index.tree) (idle.numbered i x.part.partition there) (idle.counted i x.part.partition there) (old.so_far keeps) in
           live-more g.F.Key.Ord.cmp g.F.Functions.code views i x.part.partition (get g.F.Key.Ord.cmp c.loop-index.tree) _ there
@@ -39,6 +40,16 @@ returns-in-Err-clause-views g c =
     let low : i < length items = (let t = c.loop-index-test.true in let s = c.loop-index.auto.shards in omega arith) in
     let here : slice_get items i ≡ Some x = slice_get-get_or items i c.index-shards-index.result low in
     view-same (λ shard. shard.part.partition) items i x _ here refl ∙ old.views
+
+pub returns-in-Err-clause-writers : goal.returns-in-Err-clause-writers
+returns-in-Err-clause-writers g c =
+    let old = c.loop-index.invariant in
+    let i = c.loop-index.index in
+    let items = c.loop-index.shards in
+    let x = get_or items i c.index-shards-index.result in
+    let low : i < length items = (let t = c.loop-index-test.true in let s = c.loop-index.auto.shards in omega arith) in
+    let here : slice_get items i ≡ Some x = slice_get-get_or items i c.index-shards-index.result low in
+    view-same (λ shard. shard.part.writer) items i x _ here refl ∙ old.writers
 
 pub returns-in-Err-clause-told : goal.returns-in-Err-clause-told
 returns-in-Err-clause-told g c =

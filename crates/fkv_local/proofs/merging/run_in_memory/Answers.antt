@@ -1,4 +1,4 @@
-use Rattle.std.proofs.Common.{◌≡◌, arith}
+use Rattle.std.proofs.Common.{arith}
 use Rattle.fkv_local.proofs.MergeLemmas.{unread-stopped}
 use Rattle.fkv_local.proofs.merging.run_in_memory.Goals as goal
 

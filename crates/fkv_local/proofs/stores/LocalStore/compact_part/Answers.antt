@@ -1,7 +1,8 @@
 use Rattle.std.proofs.Common.{length, refl}
 use Rattle.std.proofs.lemmas.Option.{slice_get_read}
+use Rattle.std.proofs.lemmas.Result.{IfErr-weaker}
 use Rattle.fkv_functions.proofs.KeyOrder.{key_order}
-use Rattle.fkv_local.proofs.StoreLemmas.{inside-home, home-idle, home-past, home-rests, home-sized, home-quiet, parts-is}
+use Rattle.fkv_local.proofs.StoreLemmas.{inside-home, home-idle, home-past, home-rests, home-sized, home-quiet, home-uncompacted, home-steady, home-all_cut, home-cut, home-uncut, others-stay, cut-told, uncut-told, OnOk-weaker, parts-is, terms-are}
 use Rattle.fkv_local.proofs.stores.LocalStore.compact_part.Goals as goal
 
 pub compact-requires-clause-idle : goal.compact-requires-clause-idle
@@ -52,3 +53,60 @@ returns-clause-sized g c =
     let within = inside-home (λ shard. shard.part.partition) g.F.Functions.code items c.self.inside.clock c.args.self.now.parts (parts-is c.self.view_is) home c.requires.within in
     let here = slice_get_read items (length items) home old refl within c.index_mut-shard.ensures.value in
     home-sized (λ shard. shard.part.partition) g.F.Functions.code items c.self.inside.clock c.args.self.now.parts (parts-is c.self.view_is) home old c.self.invariant here c.compact.new.shard c.compact.new.clock
+
+pub returns-clause-same_terms : goal.returns-clause-same_terms
+returns-clause-same_terms g c = terms-are c.self.view_is
+
+pub returns-clause-others : goal.returns-clause-others
+returns-clause-others g c =
+    let items = c.self.inside.shards.items in
+    let home = c.args.home in
+    let old = c.index_mut-shard.result.now in
+    let within = inside-home (λ shard. shard.part.partition) g.F.Functions.code items c.self.inside.clock c.args.self.now.parts (parts-is c.self.view_is) home c.requires.within in
+    let here = slice_get_read items (length items) home old refl within c.index_mut-shard.ensures.value in
+    others-stay (λ shard. shard.part.partition) (λ shard. shard.part.writer) (λ shard. shard.reader) items c.self.view_is home old c.compact.new.shard here c.compact.new.clock
+
+pub returns-clause-told : goal.returns-clause-told
+returns-clause-told g c =
+    let items = c.self.inside.shards.items in
+    let home = c.args.home in
+    let old = c.index_mut-shard.result.now in
+    let within = inside-home (λ shard. shard.part.partition) g.F.Functions.code items c.self.inside.clock c.args.self.now.parts (parts-is c.self.view_is) home c.requires.within in
+    let here = slice_get_read items (length items) home old refl within c.index_mut-shard.ensures.value in
+    IfErr-weaker c.compact.result _ _ (home-uncompacted (λ shard. shard.part.partition) (λ shard. shard.part.writer) (λ shard. shard.reader) items c.self.view_is home old c.compact.new.shard here c.compact.new.clock g.D.Writer.PageWriter.failures g.D.Reader.PageReader.failures) c.compact.ensures.told
+
+pub returns-clause-steady : goal.returns-clause-steady
+returns-clause-steady g c =
+    let items = c.self.inside.shards.items in
+    let home = c.args.home in
+    let old = c.index_mut-shard.result.now in
+    let within = inside-home (λ shard. shard.part.partition) g.F.Functions.code items c.self.inside.clock c.args.self.now.parts (parts-is c.self.view_is) home c.requires.within in
+    let here = slice_get_read items (length items) home old refl within c.index_mut-shard.ensures.value in
+    OnOk-weaker c.compact.result (home-steady (λ shard. shard.part.partition) (λ shard. shard.part.writer) (λ shard. shard.reader) items c.self.view_is home old c.compact.new.shard here c.compact.new.clock g.D.Writer.PageWriter.failures g.D.Reader.PageReader.failures) c.compact.ensures.steady
+
+pub returns-clause-whole : goal.returns-clause-whole
+returns-clause-whole g c =
+    let items = c.self.inside.shards.items in
+    let home = c.args.home in
+    let old = c.index_mut-shard.result.now in
+    let within = inside-home (λ shard. shard.part.partition) g.F.Functions.code items c.self.inside.clock c.args.self.now.parts (parts-is c.self.view_is) home c.requires.within in
+    let here = slice_get_read items (length items) home old refl within c.index_mut-shard.ensures.value in
+    OnOk-weaker c.compact.result (home-all_cut (λ shard. shard.part.partition) (λ shard. shard.part.writer) (λ shard. shard.reader) items c.self.view_is home old c.compact.new.shard here c.compact.new.clock) c.compact.ensures.whole
+
+pub returns-clause-cut : goal.returns-clause-cut
+returns-clause-cut g c =
+    let items = c.self.inside.shards.items in
+    let home = c.args.home in
+    let old = c.index_mut-shard.result.now in
+    let within = inside-home (λ shard. shard.part.partition) g.F.Functions.code items c.self.inside.clock c.args.self.now.parts (parts-is c.self.view_is) home c.requires.within in
+    let here = slice_get_read items (length items) home old refl within c.index_mut-shard.ensures.value in
+    cut-told old.part.partition c.compact.new.shard.part.partition c.compact.result (home-cut (λ shard. shard.part.partition) (λ shard. shard.part.writer) (λ shard. shard.reader) items c.self.view_is home old c.compact.new.shard here c.compact.new.clock) c.compact.ensures.cut
+
+pub returns-clause-uncut : goal.returns-clause-uncut
+returns-clause-uncut g c =
+    let items = c.self.inside.shards.items in
+    let home = c.args.home in
+    let old = c.index_mut-shard.result.now in
+    let within = inside-home (λ shard. shard.part.partition) g.F.Functions.code items c.self.inside.clock c.args.self.now.parts (parts-is c.self.view_is) home c.requires.within in
+    let here = slice_get_read items (length items) home old refl within c.index_mut-shard.ensures.value in
+    uncut-told old.part.partition c.compact.new.shard.part.partition c.compact.result (home-uncut (λ shard. shard.part.partition) (λ shard. shard.part.writer) (λ shard. shard.reader) items c.self.view_is home old c.compact.new.shard here c.compact.new.clock) c.compact.ensures.cut

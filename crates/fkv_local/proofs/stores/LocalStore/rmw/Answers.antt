@@ -3,7 +3,7 @@ use Rattle.std.proofs.lemmas.Option.{slice_get_read}
 use Rattle.std.proofs.lemmas.Result.{IfErr-weaker}
 use Rattle.fkv_functions.proofs.KeyOrder.{key_order}
 use Rattle.fkv_operations.specs.declared.operations.KeyedOp.TheVariants.{Rmw}
-use Rattle.fkv_local.proofs.StoreLemmas.{inside-home, home-idle, home-past, home-own, home-rests, home-runs, home-refusal, parts-is}
+use Rattle.fkv_local.proofs.StoreLemmas.{inside-home, home-idle, home-past, home-own, home-rests, home-runs, home-refusal, parts-is, terms-are}
 use Rattle.fkv_local.proofs.stores.LocalStore.rmw.Goals as goal
 
 pub update-requires-clause-idle : goal.update-requires-clause-idle
@@ -62,4 +62,7 @@ returns-clause-told g c =
     let old = c.index_mut-shard.result.now in
     let within = inside-home (λ shard. shard.part.partition) g.F.Functions.code items c.self.inside.clock c.args.self.now.parts (parts-is c.self.view_is) home c.home-home.ensures.within in
     let here = slice_get_read items (length items) home old refl within c.index_mut-shard.ensures.value in
-    IfErr-weaker c.update.result _ _ (home-refusal (λ shard. shard.part.partition) g.F.Functions.code items c.self.inside.clock c.args.self.now.parts (parts-is c.self.view_is) home old c.self.invariant here c.update.new.shard c.update.new.clock c.args.key.now c.home-home.ensures.value g.F.Mergeable.MERGES g.D.Writer.PageWriter.failures g.D.Reader.PageReader.failures (Rmw c.args.key.now c.args.input.now) refl) c.update.ensures.told
+    IfErr-weaker c.update.result _ _ (home-refusal (λ shard. shard.part.partition) (λ shard. shard.part.writer) (λ shard. shard.reader) items c.self.view_is home old c.update.new.shard here c.update.new.clock g.D.Writer.PageWriter.failures g.D.Reader.PageReader.failures g.F.Functions.code (Rmw c.args.key.now c.args.input.now) c.args.key.now c.home-home.ensures.value refl) c.update.ensures.told
+
+pub returns-clause-same_terms : goal.returns-clause-same_terms
+returns-clause-same_terms g c = terms-are c.self.view_is

@@ -3,7 +3,7 @@ use Rattle.std.proofs.lemmas.Option.{slice_get_read}
 use Rattle.std.proofs.lemmas.Result.{IfErr-weaker}
 use Rattle.fkv_functions.proofs.KeyOrder.{key_order}
 use Rattle.fkv_partition.specs.CoreViews.{partition_of}
-use Rattle.fkv_local.proofs.StoreLemmas.{inside-home, home-idle, home-past, home-own, home-rests, home-runs, home-refusal, parts-is}
+use Rattle.fkv_local.proofs.StoreLemmas.{inside-home, home-idle, home-past, home-own, home-rests, home-runs, home-refusal, parts-is, terms-are}
 use Rattle.fkv_local.proofs.stores.LocalStore.run.Goals as goal
 
 pub operate-requires-clause-idle : goal.operate-requires-clause-idle
@@ -62,4 +62,7 @@ returns-clause-told g c =
     let old = c.index_mut-shard.result.now in
     let within = inside-home (λ shard. shard.part.partition) g.F.Functions.code items c.self.inside.clock c.args.self.now.parts (parts-is c.self.view_is) home c.home-home.ensures.within in
     let here = slice_get_read items (length items) home old refl within c.index_mut-shard.ensures.value in
-    IfErr-weaker c.operate.result _ _ (home-refusal (λ shard. shard.part.partition) g.F.Functions.code items c.self.inside.clock c.args.self.now.parts (parts-is c.self.view_is) home old c.self.invariant here c.operate.new.shard c.operate.new.clock c.key.result c.home-home.ensures.value g.F.Mergeable.MERGES g.D.Writer.PageWriter.failures g.D.Reader.PageReader.failures c.args.op c.key.ensures) c.operate.ensures.told
+    IfErr-weaker c.operate.result _ _ (home-refusal (λ shard. shard.part.partition) (λ shard. shard.part.writer) (λ shard. shard.reader) items c.self.view_is home old c.operate.new.shard here c.operate.new.clock g.D.Writer.PageWriter.failures g.D.Reader.PageReader.failures g.F.Functions.code c.args.op c.key.result c.home-home.ensures.value c.key.ensures) c.operate.ensures.told
+
+pub returns-clause-same_terms : goal.returns-clause-same_terms
+returns-clause-same_terms g c = terms-are c.self.view_is

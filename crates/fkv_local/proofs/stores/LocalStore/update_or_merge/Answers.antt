@@ -5,7 +5,7 @@ use Rattle.fkv_functions.proofs.KeyOrder.{key_order}
 use Rattle.fkv_operations.specs.declared.operations.KeyedOp.TheVariants.{Rmw}
 use Rattle.fkv_local.proofs.MergeLemmas.{updates-number, updates-count, updates-idle}
 use Rattle.fkv_local.proofs.PartLemmas.{view-same}
-use Rattle.fkv_local.proofs.StoreLemmas.{inside-home, home-idle, home-past, home-own, home-rests, home-updates, home-refusal, parts-is, readers-is, keeps-is}
+use Rattle.fkv_local.proofs.StoreLemmas.{inside-home, home-idle, home-past, home-own, home-rests, home-updates, home-refusal, parts-is, terms-are, readers-is, keeps-is}
 use Rattle.fkv_local.proofs.stores.LocalStore.update_or_merge.Goals as goal
 
 pub update_or_merge-requires-clause-idle : goal.update_or_merge-requires-clause-idle
@@ -64,7 +64,10 @@ returns-clause-told g c =
     let old = c.index_mut-shard.result.now in
     let within = inside-home (λ shard. shard.part.partition) g.F.Functions.code items c.self.inside.clock c.args.self.now.parts (parts-is c.self.view_is) home c.home-place.ensures.within in
     let here = slice_get_read items (length items) home old refl within c.index_mut-shard.ensures.value in
-    IfErr-weaker c.update_or_merge.result _ _ (home-refusal (λ shard. shard.part.partition) g.F.Functions.code items c.self.inside.clock c.args.self.now.parts (parts-is c.self.view_is) home old c.self.invariant here c.update_or_merge.new.shard c.update_or_merge.new.clock c.args.key.now c.home-place.ensures.value g.F.Mergeable.MERGES g.D.Writer.PageWriter.failures g.D.Reader.PageReader.failures (Rmw c.args.key.now c.args.input.now) refl) c.update_or_merge.ensures.told
+    IfErr-weaker c.update_or_merge.result _ _ (home-refusal (λ shard. shard.part.partition) (λ shard. shard.part.writer) (λ shard. shard.reader) items c.self.view_is home old c.update_or_merge.new.shard here c.update_or_merge.new.clock g.D.Writer.PageWriter.failures g.D.Reader.PageReader.failures g.F.Functions.code (Rmw c.args.key.now c.args.input.now) c.args.key.now c.home-place.ensures.value refl) c.update_or_merge.ensures.told
+
+pub returns-clause-same_terms : goal.returns-clause-same_terms
+returns-clause-same_terms g c = terms-are c.self.view_is
 
 pub returns-clause-unread : goal.returns-clause-unread
 returns-clause-unread g c = λ merges kept.
@@ -76,6 +79,3 @@ returns-clause-unread g c = λ merges kept.
     view-same (λ shard. shard.reader) items home old c.update_or_merge.new.shard here
     (c.update_or_merge.ensures.unread merges (subst IsTrue (sym (keeps-is c.self.view_is)) kept))
     ∙ readers-is c.self.view_is
-
-pub returns-clause-same_log : goal.returns-clause-same_log
-returns-clause-same_log g c = keeps-is c.self.view_is
