@@ -6,7 +6,7 @@ use Rattle.fkv_functions.specs.declared.refusals.Refused.{Refused}
 use Rattle.fkv_functions.specs.declared.refusals.Refused.TheVariants.{NoMemory, NoSlot, Unknown, Stranger, Worn, Device, Damaged, Stalled}
 use Rattle.fkv_functions.specs.declared.refusals.What.TheVariants as what
 use Rattle.fkv_store.specs.Passes.{PassView, IsStrange}
-use Rattle.fkv_store.specs.Stores.{StoreView, IsTold, IsUnentered, IsUnseated, IsUntidy, IsUndone, IsStopped, IsUnrun, IsUncompacted}
+use Rattle.fkv_store.specs.Stores.{StoreView, IsTold, IsUnentered, IsUnseated, IsUntidy, IsUndone, IsStopped, IsUnrun, IsUncompacted, heard}
 
 pub undone_stopped : (known : ℕ) (why : Refused) → IsUndone known why → IsStopped known why
 undone_stopped known NoMemory h = tt
@@ -88,9 +88,9 @@ run_told s p known why (inr h) = stopped_told known why h
 -- of an operation that is no merge
 pub unrun_told : {K V I O : Type 0} (s : StoreView) (p : PassView K V I O) (merges : Bool) (op : KeyedOp K V I) (known : ℕ) (why : Refused)
     → is_merge op ≡ false → IsStrange s p why ⊎ IsUnrun merges op known why → IsTold why
-unrun_told s p merges op known why no (inl h) = strange_told s p why h
-unrun_told s p merges op known why no (inr (inl h)) = stopped_told known why h
-unrun_told s p merges op known why no (inr (inr h)) = absurd (subst (λ b. b ≡ true) no h.1.0)
+unrun_told s p merges op known why keyed (inl h) = strange_told s p why h
+unrun_told s p merges op known why keyed (inr (inl h)) = stopped_told known why h
+unrun_told s p merges op known why keyed (inr (inr h)) = absurd (cc)
 
 pub untidy_told : (why : Refused) → IsUntidy why → IsTold why
 untidy_told why h = stopped_told 0 why (untidy_stopped 0 why h)

@@ -1,6 +1,6 @@
 //! Which refusals a pass and a store tell.
-ghost use Rattle.std.specs.Prelude.{◌≡◌, ◌≢◌, ◌⊎◌, ⊥};
-ghost use Rattle.fkv_store.specs.Stores.{IsUndone, IsUncompacted, heard};
+ghost use Rattle.std.specs.Prelude.{◌≡◌, ◌≢◌, ◌⊎◌};
+ghost use Rattle.fkv_store.specs.Stores.{IsUntidy, IsUndone, IsUncompacted, heard};
 
 use fkv_functions::{Refused, What};
 
@@ -20,6 +20,26 @@ pub(crate) fn told(refused: Refused) -> Refused
         | Refused::Worn
         | Refused::Device { .. }
         | Refused::Damaged { .. } => refused,
+        _ => Refused::Unknown,
+    }
+}
+
+/// The refusal that a caller is told of an event's by which pages move: itself, or `Unknown` where it speaks of what such an event
+/// knows nothing of.
+pub(crate) fn told_of_move(refused: Refused) -> Refused
+    ensures told { IsUntidy result }
+    ensures same { IsUntidy refused → result ≡ refused }
+    ensures other { (result ≡ refused) ⊎ (result ≡ Refused.Unknown) }
+{
+    match refused {
+        Refused::Stranger {
+            what: What::Pass,
+            ..
+        } => Refused::Unknown,
+        Refused::Device { code: 2, .. }
+        | Refused::NoMemory
+        | Refused::Stranger { .. }
+        | Refused::Worn => refused,
         _ => Refused::Unknown,
     }
 }
