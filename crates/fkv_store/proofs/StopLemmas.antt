@@ -1,12 +1,12 @@
 -- What an operation is refused by is refused of one of its events, or while it waits.
-use Rattle.std.proofs.Common.{◌≡◌, ◌≢◌, ◌⊎◌, inl, inr, subst, ℕ, Bool, true, false}
+use Rattle.std.proofs.Common.{◌≡◌, ◌≢◌, ◌⊎◌, inl, inr, subst, ℕ, Bool, false}
 use Rattle.fkv_operations.specs.After.{is_merge}
 use Rattle.fkv_operations.specs.declared.operations.KeyedOp.{KeyedOp}
 use Rattle.fkv_functions.specs.declared.refusals.Refused.{Refused}
 use Rattle.fkv_functions.specs.declared.refusals.Refused.TheVariants.{NoMemory, NoSlot, Unknown, Stranger, Worn, Device, Damaged, Stalled}
 use Rattle.fkv_functions.specs.declared.refusals.What.TheVariants as what
 use Rattle.fkv_store.specs.Passes.{PassView, IsStrange}
-use Rattle.fkv_store.specs.Stores.{StoreView, IsTold, IsUnentered, IsUnseated, IsUntidy, IsUndone, IsStopped, IsUnrun, IsUncompacted, heard}
+use Rattle.fkv_store.specs.Stores.{StoreView, IsTold, IsUnentered, IsUnseated, IsUntidy, IsUndone, IsStopped, IsUnrun, IsUncompacted}
 
 pub undone_stopped : (known : ℕ) (why : Refused) → IsUndone known why → IsStopped known why
 undone_stopped known NoMemory h = tt
