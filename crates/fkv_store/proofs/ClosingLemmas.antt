@@ -1,5 +1,5 @@
 -- What the end of a store is refused by.
-use Rattle.std.proofs.Common.{◌≡◌, ◌⊎◌, ⊎_elim, inl, inr, refl, ℕ, Bool, List}
+use Rattle.std.proofs.Common.{⊎_elim, inl, inr, refl, ℕ, Bool, List}
 use Rattle.fkv_functions.specs.declared.refusals.Refused.{Refused}
 use Rattle.fkv_functions.specs.declared.refusals.Refused.TheVariants.{NoMemory, BadConfig, NoSlot, NoContext, Unknown, Busy, NotDue, DrainFull, Stranger, Worn, Device, Damaged, Stalled, Mismatch, BadRow, BadScript, NotReady, Unreadable, Unwritable, NoMerge}
 use Rattle.fkv_device.specs.Failing.{ReadFailsBy}

@@ -1,5 +1,4 @@
-pub mod HoldLemmas
-pub mod TidyLemmas
+pub mod StopLemmas
 pub mod ClosingLemmas
 pub mod PassLemmas
 mod RunLemmas

@@ -1,5 +1,5 @@
 -- Passes of a store, and those of another.
-use Rattle.std.proofs.Common.{◌≡◌, inl, inr}
+use Rattle.std.proofs.Common.{inl, inr}
 use Rattle.fkv_functions.specs.declared.refusals.Refused.{Refused}
 use Rattle.fkv_functions.specs.declared.refusals.Refused.TheVariants.{Stranger}
 use Rattle.fkv_functions.specs.declared.refusals.What.TheVariants as what

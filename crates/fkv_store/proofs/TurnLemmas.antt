@@ -1,5 +1,5 @@
 -- What a caller learns of a turn.
-use Rattle.std.proofs.Common.{◌≡◌, ℕ, Bool, List}
+use Rattle.std.proofs.Common.{ℕ, Bool, List}
 use Rattle.fkv_locked.specs.Turns.{Noted, Turns, IsTurnOf}
 use Rattle.fkv_locked.specs.declared.seats.Mine.{Mine}
 use Rattle.fkv_locked.specs.declared.turns.Turn.{Turn}

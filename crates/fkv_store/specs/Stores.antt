@@ -1,7 +1,8 @@
 -- What a contract sees of a store, and what it refuses.
-use Rattle.std.specs.Prelude.{◌≡◌, ◌⊎◌, ℕ, Bool, true, false, ⊤}
+use Rattle.std.specs.Prelude.{◌≡◌, ◌⊎◌, ◌<◌, ◌-◌, ◌^◌, ℕ, Bool, true, false, ⊤}
 use Rattle.fkv_functions.specs.declared.refusals.Refused.{Refused}
 use Rattle.fkv_functions.specs.declared.refusals.Refused.TheVariants.{NoMemory, NoSlot, Unknown, Stranger, Worn, Device, Damaged, Stalled, Mismatch, NoMerge}
+use Rattle.fkv_functions.specs.declared.refusals.What.TheVariants as what
 use Rattle.fkv_operations.specs.After.{is_merge}
 use Rattle.fkv_operations.specs.declared.operations.KeyedOp.{KeyedOp}
 
@@ -11,23 +12,26 @@ pub record StoreView : Type 0 where
   pub count : ℕ
   pub turns : ℕ
 
--- what a call on a store may be refused by
+-- what a call on a store may be refused by: a device, by code 1 where it does not open a partition's pages, 2 where it does not write
+-- one, and 3 where it does not read one
 abbrev pub IsTold : Refused → Type 0
 IsTold NoMemory = ⊤
 IsTold NoSlot = ⊤
 IsTold Unknown = ⊤
 IsTold (Stranger what held came) = ⊤
 IsTold Worn = ⊤
-IsTold (Device code page) = ⊤
+IsTold (Device code page) = ((code ≡ 1) × (page ≡ 0)) ⊎ ((code ≡ 2) ⊎ (code ≡ 3))
 IsTold (Damaged page) = ⊤
 IsTold Stalled = ⊤
 IsTold other = ⊥
 
 -- what a caller is told where an event is refused: why, or `Unknown` where that speaks of sessions and contexts, which are the
--- store's own matter. No event stalls: an operation does, after so many of them
+-- store's own matter, or of a pass, which an event without an operation knows nothing of. No event stalls: an operation does, after
+-- so many of them
 abbrev pub heard : Refused → Refused
 heard NoMemory = NoMemory
 heard NoSlot = NoSlot
+heard (Stranger what.Pass held came) = Unknown
 heard (Stranger what held came) = Stranger what held came
 heard Worn = Worn
 heard (Device code page) = Device code page
@@ -45,14 +49,61 @@ IsUnseated other = ⊥
 abbrev pub IsUntidy : Refused → Type 0
 IsUntidy NoMemory = ⊤
 IsUntidy Unknown = ⊤
+IsUntidy (Stranger what.Pass held came) = ⊥
 IsUntidy (Stranger what held came) = ⊤
 IsUntidy Worn = ⊤
 IsUntidy (Device code page) = code ≡ 2
 IsUntidy other = ⊥
 
--- what an operation may be refused by: by what any call may be, or as a merge of functions that do not merge
-abbrev pub IsUnrun : {K V I : Type 0} → Bool → KeyedOp K V I → Refused → Type 0
-IsUnrun merges op refused = IsTold refused ⊎ ((refused ≡ NoMerge) × (is_merge op ≡ true) × (merges ≡ false))
+-- what a session is refused by that enters: sixteen are entered, or there is no next number of sessions or no next moment
+abbrev pub IsUnentered : Refused → Type 0
+IsUnentered NoSlot = ⊤
+IsUnentered Worn = ⊤
+IsUnentered other = ⊥
+
+-- fewer updates stand than a pass was told of, or as many as have no next number
+abbrev pub IsBehind : ℕ → ℕ → ℕ → Type 0
+IsBehind known held came = (came ≡ known) × ((held < known) ⊎ (held ≡ 2 ^ 64 - 1))
+
+-- what an event of an operation may be refused by, of a pass that was told of so many updates of its partition: a device, by code 3
+-- where it does not read a page; `Unknown` is that another caller took the pass's session for its own
+abbrev pub IsUndone : ℕ → Refused → Type 0
+IsUndone known NoMemory = ⊤
+IsUndone known Unknown = ⊤
+IsUndone known (Stranger what.Pass held came) = IsBehind known held came
+IsUndone known Worn = ⊤
+IsUndone known (Device code page) = code ≡ 3
+IsUndone known (Damaged page) = ⊤
+IsUndone known other = ⊥
+
+-- what the operation may be: as an event of it is, or as sessions that enter and pages that move on are, or by its turns
+abbrev pub IsStopped : ℕ → Refused → Type 0
+IsStopped known NoMemory = ⊤
+IsStopped known NoSlot = ⊤
+IsStopped known Unknown = ⊤
+IsStopped known (Stranger what.Pass held came) = IsBehind known held came
+IsStopped known (Stranger what held came) = ⊤
+IsStopped known Worn = ⊤
+IsStopped known (Device code page) = (code ≡ 2) ⊎ (code ≡ 3)
+IsStopped known (Damaged page) = ⊤
+IsStopped known Stalled = ⊤
+IsStopped known other = ⊥
+
+-- or as a merge of functions that do not merge
+abbrev pub IsUnrun : {K V I : Type 0} → Bool → KeyedOp K V I → ℕ → Refused → Type 0
+IsUnrun merges op known refused = IsStopped known refused ⊎ ((refused ≡ NoMerge) × (is_merge op ≡ true) × (merges ≡ false))
+
+-- what a compaction may be refused by: a device, by code 1 where it does not open the partition's pages, by code 3 where it does not
+-- read one; and as it enters, and by its events
+abbrev pub IsUncompacted : Refused → Type 0
+IsUncompacted NoMemory = ⊤
+IsUncompacted NoSlot = ⊤
+IsUncompacted Unknown = ⊤
+IsUncompacted Worn = ⊤
+IsUncompacted (Device code page) = ((code ≡ 1) × (page ≡ 0)) ⊎ (code ≡ 3)
+IsUncompacted (Damaged page) = ⊤
+IsUncompacted Stalled = ⊤
+IsUncompacted other = ⊥
 
 -- a device does not open a partition's pages, or there is no memory
 abbrev pub IsUnopened : Refused → Type 0

@@ -1,10 +1,10 @@
 //! How the start of a partition's log is cleared and cut, a hold at a time.
 ghost use Rattle.std.specs.Prelude.{◌≡◌, ◌<◌, ◌≤◌, Err, IfErr};
-ghost use Rattle.fkv_store.specs.Stores.{IsTold};
+ghost use Rattle.fkv_store.specs.Stores.{IsUncompacted};
 
 use crate::gates::{Gate, Place};
 use crate::holds::At;
-use crate::refusals::told;
+use crate::refusals::told_of_compaction;
 use crate::stores::Store;
 use crate::tidying::KEEPER;
 use fkv_compaction::Compactor;
@@ -84,14 +84,14 @@ enum Stage<R: Drop> {
 fn after_event<F: Mergeable, D: Disk>(
     turned: Result<ProgressOf<F, D::Receipt>, Refused>,
 ) -> Result<Stage<D::Receipt>, Refused>
-    ensures only { IfErr result IsTold }
+    ensures only { IfErr result IsUncompacted }
 {
     match turned {
         Ok(Progress::NeedsLoad(receipt, _)) => Ok(Stage::NeedsLoad(receipt)),
         Ok(Progress::Waits(_)) | Err(Refused::NotDue) => Ok(Stage::Over),
         Ok(Progress::Done(_, _)) => Ok(Stage::Done),
         Ok(_) => Ok(Stage::Begun),
-        Err(refused) => Err(told(refused)),
+        Err(refused) => Err(told_of_compaction(refused)),
     }
 }
 
@@ -114,7 +114,7 @@ impl<F: Mergeable, D: Disk, H: Recorder<F>> Store<F, D, H> {
         gate: &G,
     ) -> Result<(), Refused>
         ensures none { self.now.count ≤ partition → result ≡ Err Refused.Unknown }
-        ensures only { IfErr result IsTold }
+        ensures only { IfErr result IsUncompacted }
     {
         let never = AtomicBool::new(false);
         self.compact_until(rt, partition, gate, &never)
@@ -133,7 +133,7 @@ impl<F: Mergeable, D: Disk, H: Recorder<F>> Store<F, D, H> {
         stop: &AtomicBool,
     ) -> Result<(), Refused>
         ensures none { self.now.count ≤ partition → result ≡ Err Refused.Unknown }
-        ensures only { IfErr result IsTold }
+        ensures only { IfErr result IsUncompacted }
     {
         if partition >= self.locks.len() {
             return Err(Refused::Unknown);
@@ -144,7 +144,7 @@ impl<F: Mergeable, D: Disk, H: Recorder<F>> Store<F, D, H> {
         };
         let reader = match self.reader(rt, partition) {
             Ok(reader) => reader,
-            Err(refused) => return Err(told(refused)),
+            Err(refused) => return Err(told_of_compaction(refused)),
         };
         let mut pages = Pages {
             reader,
@@ -176,7 +176,7 @@ impl<F: Mergeable, D: Disk, H: Recorder<F>> Store<F, D, H> {
     /// A compactor joins a partition.
     fn join<G: Gate>(&self, rt: &impl Wait, at: At, gate: &G) -> Result<Joined, Refused>
         requires { at.partition < self.now.count }
-        ensures only { IfErr result IsTold }
+        ensures only { IfErr result IsUncompacted }
     {
         let moves = self.moves_of(at.partition);
         let mut held = self.locks[at.partition].lock(rt);
@@ -188,7 +188,7 @@ impl<F: Mergeable, D: Disk, H: Recorder<F>> Store<F, D, H> {
                 end,
                 moves,
             }),
-            Err(refused) => Err(told(refused)),
+            Err(refused) => Err(told_of_compaction(refused)),
         }
     }
 
@@ -204,7 +204,7 @@ impl<F: Mergeable, D: Disk, H: Recorder<F>> Store<F, D, H> {
         stop: &AtomicBool,
     ) -> Result<(), Refused>
         requires { at.partition < self.now.count }
-        ensures only { IfErr result IsTold }
+        ensures only { IfErr result IsUncompacted }
     {
         let mut came: Option<Result<Loaded<D::Receipt>, Refused>> = None;
         let mut moves = joined.moves;
@@ -253,7 +253,7 @@ impl<F: Mergeable, D: Disk, H: Recorder<F>> Store<F, D, H> {
         gate: &G,
     ) -> Result<u64, Refused>
         requires { at.partition < self.now.count }
-        ensures only { IfErr result IsTold }
+        ensures only { IfErr result IsUncompacted }
     {
         let moves = self.moves_of(at.partition);
         if moves == seen {
@@ -263,7 +263,7 @@ impl<F: Mergeable, D: Disk, H: Recorder<F>> Store<F, D, H> {
         gate.pass(at.worker, at.locked());
         match held.refresh_compactor(compactor) {
             Ok(()) => Ok(moves),
-            Err(refused) => Err(told(refused)),
+            Err(refused) => Err(told_of_compaction(refused)),
         }
     }
 
@@ -277,7 +277,7 @@ impl<F: Mergeable, D: Disk, H: Recorder<F>> Store<F, D, H> {
         gate: &G,
     ) -> Result<Stage<D::Receipt>, Refused>
         requires { at.partition < self.now.count }
-        ensures only { IfErr result IsTold }
+        ensures only { IfErr result IsUncompacted }
     {
         let mut held = self.locks[at.partition].lock(rt);
         gate.pass(at.worker, at.locked());
@@ -301,13 +301,13 @@ impl<F: Mergeable, D: Disk, H: Recorder<F>> Store<F, D, H> {
         gate: &G,
     ) -> Result<(), Refused>
         requires { at.partition < self.now.count }
-        ensures only { IfErr result IsTold }
+        ensures only { IfErr result IsUncompacted }
     {
         let mut held = self.locks[at.partition].lock(rt);
         gate.pass(at.worker, at.locked());
         match held.truncate_cleared(compactor) {
             Ok(_) | Err(Refused::NotDue) => Ok(()),
-            Err(refused) => Err(told(refused)),
+            Err(refused) => Err(told_of_compaction(refused)),
         }
     }
 
@@ -320,13 +320,13 @@ impl<F: Mergeable, D: Disk, H: Recorder<F>> Store<F, D, H> {
         gate: &G,
     ) -> Result<(), Refused>
         requires { at.partition < self.now.count }
-        ensures only { IfErr result IsTold }
+        ensures only { IfErr result IsUncompacted }
     {
         let mut held = self.locks[at.partition].lock(rt);
         gate.pass(at.worker, at.locked());
         match held.part(compactor) {
             Ok(()) => Ok(()),
-            Err(refused) => Err(told(refused)),
+            Err(refused) => Err(told_of_compaction(refused)),
         }
     }
 }

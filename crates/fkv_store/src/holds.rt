@@ -2,10 +2,10 @@
 ghost use Rattle.std.specs.Prelude.{◌≡◌, ◌≢◌, ◌<◌, ◌≤◌, ◌+◌, ◌-◌, ◌^◌, IfOk, IfErr, IfSome, OnOk};
 ghost use Rattle.fkv_operations.specs.declared.operations.KeyedOp.TheVariants.{Rmw};
 ghost use Rattle.fkv_locked.specs.Turns.{IsOf, IsTurnOf};
-ghost use Rattle.fkv_store.specs.Stores.{IsTold, IsUnseated};
+ghost use Rattle.fkv_store.specs.Stores.{IsUnentered, IsUndone, IsUnseated};
 
 use crate::gates::{Gate, Place};
-use crate::refusals::told;
+use crate::refusals::{told, told_of};
 use crate::stores::Store;
 use fkv_device::{Disk, Loaded, Receipt};
 use fkv_functions::{Built, Functions, Mergeable, Refused};
@@ -94,8 +94,7 @@ pub(crate) fn enter<F: Mergeable, D: Disk, H: Recorder<F>, G: Gate>(
     gate: &G,
 ) -> Result<Seat, Refused>
     requires { at.partition < store.now.count }
-    ensures only { IfErr result IsTold }
-    ensures on { IfErr result (λ why. why ≢ Refused.Stalled) }
+    ensures only { IfErr result IsUnentered }
 {
     let mut held = store.locks[at.partition].lock(rt);
     gate.pass(at.worker, at.locked());
@@ -156,14 +155,13 @@ pub(crate) fn issue<F: Mergeable, D: Disk, H: Recorder<F>, G: Gate>(
     requires { at.partition < store.now.count }
     ensures op { IfOk result (λ issued. issued.op ≡ op) }
     ensures known { IfOk result (λ issued. issued.told ≡ known) }
-    ensures only { IfErr result IsTold }
-    ensures on { IfErr result (λ why. why ≢ Refused.Stalled) }
+    ensures only { IfErr result (IsUndone known) }
 {
     let mut held = store.locks[at.partition].lock(rt);
     gate.pass(at.worker, at.locked());
     match held.issue(seat, op, known, &store.functions) {
         Ok(mine) => Ok(Issued { mine }),
-        Err(refused) => Err(told(refused)),
+        Err(refused) => Err(told_of(refused, known)),
     }
 }
 
@@ -182,14 +180,13 @@ pub(crate) fn update_at_once<F: Mergeable, D: Disk, H: Recorder<F>, G: Gate>(
     ensures op { IfOk result (λ done. IfSome done (λ e. e.op ≡ Rmw key.now input.now)) }
     ensures fresh { IfOk result (λ done. IfSome done (λ e. known ≤ e.at)) }
     ensures room { IfOk result (λ done. IfSome done (λ e. e.at < 2 ^ 64 - 1)) }
-    ensures only { IfErr result IsTold }
-    ensures on { IfErr result (λ why. why ≢ Refused.Stalled) }
+    ensures only { IfErr result (IsUndone known) }
 {
     let mut held = store.locks[at.partition].lock(rt);
     gate.pass(at.worker, at.locked());
     match held.update_at_once(seat, key, input, known, &store.functions) {
         Ok(entry) => Ok(entry),
-        Err(refused) => Err(told(refused)),
+        Err(refused) => Err(told_of(refused, known)),
     }
 }
 
@@ -208,8 +205,7 @@ pub(crate) fn turn<F: Mergeable, D: Disk, H: Recorder<F>, G: Gate>(
     requires room { turned.old < 2 ^ 64 - 1 }
     ensures counted { OnOk result (turned.new ≡ turned.old + 1) }
     ensures of { IfOk result (IsTurnOf issued.now) }
-    ensures only { IfErr result IsTold }
-    ensures on { IfErr result (λ why. why ≢ Refused.Stalled) }
+    ensures only { IfErr result (IsUndone issued.now.told) }
 {
     let mut held = store.locks[at.partition].lock(rt);
     gate.pass(at.worker, at.locked());
@@ -222,7 +218,7 @@ pub(crate) fn turn<F: Mergeable, D: Disk, H: Recorder<F>, G: Gate>(
             turned.count += 1;
             Ok(turn)
         }
-        Err(refused) => Err(told(refused)),
+        Err(refused) => Err(told_of(refused, issued.mine.told)),
     }
 }
 
@@ -238,14 +234,13 @@ pub(crate) fn install<F: Mergeable, D: Disk, H: Recorder<F>, G: Gate>(
 ) -> Result<TurnOf<F, D::Receipt>, Refused>
     requires { at.partition < store.now.count }
     ensures of { IfOk result (IsTurnOf issued.now) }
-    ensures only { IfErr result IsTold }
-    ensures on { IfErr result (λ why. why ≢ Refused.Stalled) }
+    ensures only { IfErr result (IsUndone issued.now.told) }
 {
     let mut held = store.locks[at.partition].lock(rt);
     gate.pass(at.worker, at.locked());
     match held.install(&issued.mine, built, &store.functions) {
         Ok(turn) => Ok(turn),
-        Err(refused) => Err(told(refused)),
+        Err(refused) => Err(told_of(refused, issued.mine.told)),
     }
 }
 

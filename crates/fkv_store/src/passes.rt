@@ -3,7 +3,7 @@ ghost use Rattle.std.specs.Prelude.{◌≡◌, ◌≢◌, ◌+◌, ◌-◌, ◌^
 ghost use Rattle.fkv_partition.specs.CoreViews.{partition_of};
 ghost use Rattle.fkv_operations.specs.After.{key_of, is_merge};
 ghost use Rattle.fkv_operations.specs.declared.operations.KeyedOp.{KeyedOp};
-ghost use Rattle.fkv_store.specs.Stores.{IsTold, IsUnseated, IsUnrun};
+ghost use Rattle.fkv_store.specs.Stores.{IsUnentered, IsUnseated, IsStopped, IsUnrun};
 ghost use Rattle.fkv_store.specs.Passes.{IsPassOf, IsStrange, Runs, Updates};
 ghost use Rattle.fkv_store.specs.Runs.{IsRunAs};
 
@@ -73,8 +73,7 @@ fn seat_in<F: Mergeable, D: Disk, H: Recorder<F>, G: Gate>(
     requires within { at.partition < store.now.count }
     requires seats { length seats.old.items ≡ store.now.count }
     ensures seats { length seats.new.items ≡ length seats.old.items }
-    ensures only { IfErr result IsTold }
-    ensures on { IfErr result (λ why. why ≢ Refused.Stalled) }
+    ensures only { IfErr result IsUnentered }
 {
     if let Some(seat) = seats[at.partition] {
         return Ok(seat);
@@ -103,8 +102,7 @@ fn refresh_at_times<F: Mergeable, D: Disk, H: Recorder<F>, G: Gate>(
     requires seen { length seen.old.items ≡ store.now.count }
     ensures seen { length seen.new.items ≡ length seen.old.items }
     ensures few { OnOk result (answered.new < 64) }
-    ensures only { IfErr result IsTold }
-    ensures on { IfErr result (λ why. why ≢ Refused.Stalled) }
+    ensures only { IfErr result IsUnseated }
 {
     if *answered < ANSWERS {
         return Ok(());
@@ -151,8 +149,8 @@ impl<F: Mergeable, D: Disk, H: Recorder<F>> Pass<F, D, H> {
     /// In this order: `Stranger` where the pass is not of this store, with the two stores' numbers, or their numbers of
     /// partitions; `Worn` where the pass's share has no next number. Then, in the course of the operation: `NoMemory`;
     /// `NoSlot` where sixteen sessions are entered; `NoMerge` where it is a merge and the functions do not merge; `Stranger`
-    /// where fewer updates stand than the pass was told of; `Worn`
-    /// where a number of the store has no next one; `Device` with code 2 where a page can't be written, 3 where one can't be
+    /// where fewer updates stand than the pass was told of, with both numbers; `Worn` where a number of the store has no next one;
+    /// `Device` with code 2 where a page can't be written, 3 where one can't be
     /// read; `Damaged` where a page came back with other bytes, or spells no record; `Stalled` where the operation took as
     /// many turns as the configuration says; `Unknown` where another caller took the pass's sessions for its own.
     pub fn run<G: Gate>(
@@ -168,7 +166,8 @@ impl<F: Mergeable, D: Disk, H: Recorder<F>> Pass<F, D, H> {
         ensures foreign { ¬ IsPassOf store.now self.old → IfErr result (IsStrange store.now self.old) }
         ensures own { OnOk result (IsPassOf store.now self.old) }
         ensures worn { OnOk result (self.old.share < 2 ^ 64 - 1) }
-        ensures only { IfErr result (IsUnrun F.MERGES op) }
+        ensures only { IfErr result (λ why. IsStrange store.now self.old why
+            ⊎ IsUnrun F.MERGES op (slice_index self.old.told (partition_of store.now.count (F.code (key_of op)))) why) }
         ensures stalled { IfErr result (λ why. why ≡ Refused.Stalled → self.new.turned ≡ store.now.turns) }
         ensures unchanged { OnErr result (self.new ≡ record self.old { turned = self.new.turned }) }
     {
@@ -196,7 +195,8 @@ impl<F: Mergeable, D: Disk, H: Recorder<F>> Pass<F, D, H> {
         ensures foreign { ¬ IsPassOf store.now self.old → IfErr result (IsStrange store.now self.old) }
         ensures own { OnOk result (IsPassOf store.now self.old) }
         ensures worn { OnOk result (self.old.share < 2 ^ 64 - 1) }
-        ensures only { IfErr result IsTold }
+        ensures only { IfErr result (λ why. IsStrange store.now self.old why
+            ⊎ IsStopped (slice_index self.old.told (partition_of store.now.count (F.code key))) why) }
         ensures stalled { IfErr result (λ why. why ≡ Refused.Stalled → self.new.turned ≡ store.now.turns) }
         ensures unchanged { OnErr result (self.new ≡ record self.old { turned = self.new.turned }) }
     {
@@ -224,7 +224,8 @@ impl<F: Mergeable, D: Disk, H: Recorder<F>> Pass<F, D, H> {
         ensures foreign { ¬ IsPassOf store.now self.old → IfErr result (IsStrange store.now self.old) }
         ensures own { OnOk result (IsPassOf store.now self.old) }
         ensures worn { OnOk result (self.old.share < 2 ^ 64 - 1) }
-        ensures only { IfErr result (IsUnrun F.MERGES op) }
+        ensures only { IfErr result (λ why. IsStrange store.now self.old why
+            ⊎ IsUnrun F.MERGES op (slice_index self.old.told (partition_of store.now.count (F.code (key_of op)))) why) }
         ensures stalled { IfErr result (λ why. why ≡ Refused.Stalled → self.new.turned ≡ store.now.turns) }
         ensures unchanged { OnErr result (self.new ≡ record self.old { turned = self.new.turned }) }
     {

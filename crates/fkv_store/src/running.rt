@@ -2,7 +2,7 @@
 ghost use Rattle.std.specs.Prelude.{◌≡◌, ◌≢◌, ◌<◌, ◌≤◌, ◌+◌, ◌-◌, ◌^◌, true, false, length, IsTrue, IfOk, IfErr, IfSome, OnOk, IsSome};
 ghost use Rattle.fkv_operations.specs.After.{is_merge};
 ghost use Rattle.fkv_locked.specs.Turns.{IsOf, IsTurnOf};
-ghost use Rattle.fkv_store.specs.Stores.{IsTold, IsUnseated, IsUnrun};
+ghost use Rattle.fkv_store.specs.Stores.{IsUndone, IsUnseated, IsUntidy, IsStopped, IsUnrun};
 ghost use Rattle.fkv_store.specs.Runs.{IsRunAs, IsEntryOf};
 
 use crate::gates::{Gate, Place};
@@ -109,8 +109,7 @@ fn attempt<F: Mergeable, D: Disk, H: Recorder<F>, G: Gate>(
     requires room { turned.old < 2 ^ 64 - 1 }
     ensures counted { OnOk result (turned.new ≡ turned.old + 1) }
     ensures of { IfOk result (IsTurnOf issued.now) }
-    ensures only { IfErr result IsTold }
-    ensures on { IfErr result (λ why. why ≢ Refused.Stalled) }
+    ensures only { IfErr result (IsUndone issued.now.told) }
 {
     let made = match turn(rt, store, at, issued, hand, turned, gate) {
         Ok(made) => made,
@@ -145,8 +144,7 @@ fn wait<F: Mergeable, D: Disk, H: Recorder<F>, G: Gate>(
 ) -> Result<(), Refused>
     requires within { run.now.at.partition < store.now.count }
     requires seats { length run.now.seats.now ≡ store.now.count }
-    ensures only { IfErr result IsTold }
-    ensures on { IfErr result (λ why. why ≢ Refused.Stalled) }
+    ensures only { IfErr result IsUntidy }
 {
     patience.give_way(rt, store.moves_of(run.at.partition));
     for _step in 0..STEPS {
@@ -178,7 +176,7 @@ fn run_on<F: Mergeable, D: Disk, H: Recorder<F>, G: Gate>(
     requires seats { length run.now.seats.now ≡ store.now.count }
     ensures of { IfOk result (λ done. IfSome done (IsOf issued.now)) }
     ensures read { IsTrue reads → IfOk result IsSome }
-    ensures only { IfErr result IsTold }
+    ensures only { IfErr result (IsStopped issued.now.told) }
     ensures stalled { IfErr result (λ why. why ≡ Refused.Stalled → turned.new ≡ store.now.turns) }
 {
     *turned = Turned::none();
@@ -223,8 +221,7 @@ fn try_at_once<F: Mergeable, D: Disk, H: Recorder<F>, G: Gate>(
     requires { run.now.at.partition < store.now.count }
     ensures of { IfOk result (λ done. IfSome done (IsEntryOf op run.now.known)) }
     ensures update { IfOk result (λ done. IfSome done (λ _. is_merge op ≡ false)) }
-    ensures only { IfErr result IsTold }
-    ensures on { IfErr result (λ why. why ≢ Refused.Stalled) }
+    ensures only { IfErr result (IsUndone run.now.known) }
 {
     let KeyedOp::Rmw(key, input) = op else {
         return Ok(None);
@@ -248,7 +245,7 @@ fn run_out<F: Mergeable, D: Disk, H: Recorder<F>, G: Gate>(
     requires seats { length run.now.seats.now ≡ store.now.count }
     ensures of { IfOk result (λ done. IfSome done (IsEntryOf op run.now.known)) }
     ensures read { IsTrue reads → IfOk result IsSome }
-    ensures only { IfErr result IsTold }
+    ensures only { IfErr result (IsStopped run.now.known) }
     ensures stalled { IfErr result (λ why. why ≡ Refused.Stalled → turned.new ≡ store.now.turns) }
 {
     let issued = match issue(rt, store, run.at, run.seat, op, run.known, gate) {
@@ -302,7 +299,7 @@ pub(crate) fn run_in<F: Mergeable, D: Disk, H: Recorder<F>, G: Gate>(
     ensures fresh { IfOk result (λ e. run.now.known ≤ e.at) }
     ensures room { IfOk result (λ e. e.at < 2 ^ 64 - 1) }
     ensures merging { OnOk result (is_merge op ≡ true → F.MERGES ≡ true) }
-    ensures only { IfErr result (IsUnrun F.MERGES op) }
+    ensures only { IfErr result (IsUnrun F.MERGES op run.now.known) }
     ensures stalled { IfErr result (λ why. why ≡ Refused.Stalled → turned.new ≡ store.now.turns) }
 {
     match try_at_once(rt, store, run, op, gate) {

@@ -1,10 +1,10 @@
 //! How a partition's pages move, a hold at a time: to where they are read only, to the device, and out of their frames.
 ghost use Rattle.std.specs.Prelude.{◌≡◌, ◌≢◌, ◌<◌, ◌≤◌, ◌⊎◌, ℕ, Err, IfErr};
-ghost use Rattle.fkv_store.specs.Stores.{IsUntidy, heard};
+ghost use Rattle.fkv_store.specs.Stores.{IsUntidy};
 
 use crate::gates::{Gate, Place};
 use crate::holds::At;
-use crate::refusals::told;
+use crate::refusals::told_of_move;
 use crate::stores::Store;
 use fkv_device::{Disk, FlushJob, Written};
 use fkv_functions::{Mergeable, Refused};
@@ -18,12 +18,11 @@ pub const KEEPER: u32 = u32::MAX;
 
 /// What comes of a shift: one that is not due, or finds the list of waiting actions full, is passed over.
 fn passed(shifted: Result<(), Refused>) -> Result<(), Refused>
-    requires { IfErr shifted (λ why. IsUntidy (heard why)) }
     ensures only { IfErr result IsUntidy }
 {
     match shifted {
         Ok(()) | Err(Refused::NotDue) | Err(Refused::DrainFull) => Ok(()),
-        Err(refused) => Err(told(refused)),
+        Err(refused) => Err(told_of_move(refused)),
     }
 }
 
@@ -145,12 +144,12 @@ impl<F: Mergeable, D: Disk, H: Recorder<F>> Store<F, D, H> {
         let job = match self.take(rt, alloc, at, gate) {
             Ok(job) => job,
             Err(Refused::NotDue) => return Ok(false),
-            Err(refused) => return Err(told(refused)),
+            Err(refused) => return Err(told_of_move(refused)),
         };
         gate.pass(at.worker, Place::Flush);
         let written = match Written::<D::Receipt>::write(&mut *writer, job) {
             Ok(written) => written,
-            Err(refused) => return Err(told(refused)),
+            Err(refused) => return Err(told_of_move(refused)),
         };
         let mut held = self.locks[at.partition].lock(rt);
         gate.pass(at.worker, at.locked());
@@ -159,7 +158,7 @@ impl<F: Mergeable, D: Disk, H: Recorder<F>> Store<F, D, H> {
                 self.tell_move(at.partition);
                 Ok(true)
             }
-            Err(refused) => Err(told(refused)),
+            Err(refused) => Err(told_of_move(refused)),
         }
     }
 
@@ -172,7 +171,6 @@ impl<F: Mergeable, D: Disk, H: Recorder<F>> Store<F, D, H> {
         gate: &G,
     ) -> Result<FlushJob, Refused>
         requires { at.partition < self.now.count }
-        ensures only { IfErr result (λ why. IsUntidy (heard why)) }
     {
         let mut held = self.locks[at.partition].lock(rt);
         gate.pass(at.worker, at.locked());

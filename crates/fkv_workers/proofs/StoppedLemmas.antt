@@ -47,11 +47,11 @@ told_memory e is = subst IsTold (sym is) tt
 
 pub told_unopened : (e : Refused) → IsUnopened e → IsTold e
 told_unopened e (inl is) = told_memory e is
-told_unopened e (inr is) = subst IsTold (sym is) tt
+told_unopened e (inr is) = subst IsTold (sym is) (inl (refl, refl))
 
 pub told_failing : (old new : ℕ) (e : Refused) → FailsOnlyBy 1 0 old new e → IsTold e
 told_failing old new e (inl is) = told_memory e is.0
-told_failing old new e (inr is) = subst IsTold (sym is.0) tt
+told_failing old new e (inr is) = subst IsTold (sym is.0) (inl (refl, refl))
 
 -- a worker whose pass rests at its end, with the fault that it had
 pub rested_done : (Done : Type 0) (was now : Option Refused) → IfSome was (λ why. now ≡ Some why) → IfNone was Done → IfNone now Done

@@ -1,4 +1,4 @@
-use Rattle.std.proofs.Common.{◌<◌, ◌^◌, Err, ⊎_elim, inl, ap, rules}
+use Rattle.std.proofs.Common.{◌<◌, ◌^◌, Err, ⊎_elim, inl, ap}
 use Rattle.fkv_partition.specs.Limits.{IsPartitionOf}
 use Rattle.fkv_records.specs.Records.{size_of}
 use Rattle.fkv_store.proofs.stores.open_all.Goals as goal

@@ -1,4 +1,4 @@
-use Rattle.std.proofs.Common.{◌≡◌, take}
+use Rattle.std.proofs.Common.{take}
 use Rattle.std.specs.List.{All}
 use Rattle.fkv_store.specs.Passes.{IsPassOf}
 use Rattle.fkv_store.proofs.stores.Store.knows_all.Given as goal

@@ -1,0 +1,100 @@
+-- What an operation is refused by is refused of one of its events, or while it waits.
+use Rattle.std.proofs.Common.{◌≡◌, ◌≢◌, ◌⊎◌, inl, inr, subst, ℕ, Bool, false}
+use Rattle.fkv_operations.specs.After.{is_merge}
+use Rattle.fkv_operations.specs.declared.operations.KeyedOp.{KeyedOp}
+use Rattle.fkv_functions.specs.declared.refusals.Refused.{Refused}
+use Rattle.fkv_functions.specs.declared.refusals.Refused.TheVariants.{NoMemory, NoSlot, Unknown, Stranger, Worn, Device, Damaged, Stalled}
+use Rattle.fkv_functions.specs.declared.refusals.What.TheVariants as what
+use Rattle.fkv_store.specs.Passes.{PassView, IsStrange}
+use Rattle.fkv_store.specs.Stores.{StoreView, IsTold, IsUnentered, IsUnseated, IsUntidy, IsUndone, IsStopped, IsUnrun, IsUncompacted}
+
+pub undone_stopped : (known : ℕ) (why : Refused) → IsUndone known why → IsStopped known why
+undone_stopped known NoMemory h = tt
+undone_stopped known Unknown h = tt
+undone_stopped known (Stranger what.Pass held came) h = h
+undone_stopped known Worn h = tt
+undone_stopped known (Device code page) h = inr h
+undone_stopped known (Damaged page) h = tt
+undone_stopped known other h = absurd h
+
+pub untidy_stopped : (known : ℕ) (why : Refused) → IsUntidy why → IsStopped known why
+untidy_stopped known NoMemory h = tt
+untidy_stopped known Unknown h = tt
+untidy_stopped known (Stranger what.Pass held came) h = absurd h
+untidy_stopped known (Stranger what held came) h = tt
+untidy_stopped known Worn h = tt
+untidy_stopped known (Device code page) h = inl h
+untidy_stopped known other h = absurd h
+
+pub unseated_stopped : (known : ℕ) (why : Refused) → IsUnseated why → IsStopped known why
+unseated_stopped known Unknown h = tt
+unseated_stopped known Worn h = tt
+unseated_stopped known other h = absurd h
+
+pub unentered_stopped : (known : ℕ) (why : Refused) → IsUnentered why → IsStopped known why
+unentered_stopped known NoSlot h = tt
+unentered_stopped known Worn h = tt
+unentered_stopped known other h = absurd h
+
+pub unseated_untidy : (why : Refused) → IsUnseated why → IsUntidy why
+unseated_untidy Unknown h = tt
+unseated_untidy Worn h = tt
+unseated_untidy other h = absurd h
+
+-- an operation alone stalls
+pub undone_on : (known : ℕ) (why : Refused) → IsUndone known why → why ≢ Stalled
+undone_on known why h is = subst (IsUndone known) is h
+
+pub untidy_on : (why : Refused) → IsUntidy why → why ≢ Stalled
+untidy_on why h is = subst IsUntidy is h
+
+pub unseated_on : (why : Refused) → IsUnseated why → why ≢ Stalled
+unseated_on why h is = subst IsUnseated is h
+
+pub unentered_on : (why : Refused) → IsUnentered why → why ≢ Stalled
+unentered_on why h is = subst IsUnentered is h
+
+-- each is among what any call tells
+pub stopped_told : (known : ℕ) (why : Refused) → IsStopped known why → IsTold why
+stopped_told known NoMemory h = tt
+stopped_told known NoSlot h = tt
+stopped_told known Unknown h = tt
+stopped_told known (Stranger what held came) h = tt
+stopped_told known Worn h = tt
+stopped_told known (Device code page) h = inr h
+stopped_told known (Damaged page) h = tt
+stopped_told known Stalled h = tt
+stopped_told known other h = absurd h
+
+pub uncompacted_told : (why : Refused) → IsUncompacted why → IsTold why
+uncompacted_told NoMemory h = tt
+uncompacted_told NoSlot h = tt
+uncompacted_told Unknown h = tt
+uncompacted_told Worn h = tt
+uncompacted_told (Device code page) (inl h) = inl h
+uncompacted_told (Device code page) (inr h) = inr (inr h)
+uncompacted_told (Damaged page) h = tt
+uncompacted_told Stalled h = tt
+uncompacted_told other h = absurd h
+
+pub strange_told : {K V I O : Type 0} (s : StoreView) (p : PassView K V I O) (why : Refused) → IsStrange s p why → IsTold why
+strange_told s p (Stranger what held came) h = tt
+strange_told s p other h = absurd h
+
+pub run_told : {K V I O : Type 0} (s : StoreView) (p : PassView K V I O) (known : ℕ) (why : Refused) → IsStrange s p why ⊎ IsStopped known why → IsTold why
+run_told s p known why (inl h) = strange_told s p why h
+run_told s p known why (inr h) = stopped_told known why h
+
+-- of an operation that is no merge
+pub unrun_told : {K V I O : Type 0} (s : StoreView) (p : PassView K V I O) (merges : Bool) (op : KeyedOp K V I) (known : ℕ) (why : Refused)
+    → is_merge op ≡ false → IsStrange s p why ⊎ IsUnrun merges op known why → IsTold why
+unrun_told s p merges op known why keyed (inl h) = strange_told s p why h
+unrun_told s p merges op known why keyed (inr (inl h)) = stopped_told known why h
+unrun_told s p merges op known why keyed (inr (inr h)) = absurd (cc)
+
+pub untidy_told : (why : Refused) → IsUntidy why → IsTold why
+untidy_told why h = stopped_told 0 why (untidy_stopped 0 why h)
+
+pub rest_told : {K V I O : Type 0} (s : StoreView) (p : PassView K V I O) (why : Refused) → IsStrange s p why ⊎ IsUnseated why → IsTold why
+rest_told s p why (inl h) = strange_told s p why h
+rest_told s p why (inr h) = stopped_told 0 why (unseated_stopped 0 why h)
