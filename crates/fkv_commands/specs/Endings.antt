@@ -1,5 +1,5 @@
 -- What a run leaves on its output, by what was read.
-use Rattle.std.specs.Prelude.{◌≡◌, ◌⊎◌, true, List, [], map, length, ℕ, ℤ, Option, None, Some, IfSome, codes, option_map, string_bytes}
+use Rattle.std.specs.Prelude.{◌≡◌, ◌⊎◌, true, List, [], ◌∷◌, map, length, ℕ, ℤ, Option, None, Some, IfSome, codes, option_map, string_bytes}
 use Rattle.std.specs.Fmt.{decimal, signed_decimal}
 use Rattle.fkv_functions.specs.Meanings.{Meanings}
 use Rattle.fkv_functions.specs.Sets.{counts, sums, maxima}
@@ -40,7 +40,7 @@ abbrev pub IsTableBy : {V : Type 0} → Meanings Name V ℤ V → (V → List �
 IsTableBy {V} f value table feeds text =
     (pairs : List (Name × V))
     × (IsKnown table → IsTableOf f feeds pairs)
-    × (text ≡ table_text value pairs)
+    × (text ≡ table_text (λ v. value v ∷ []) pairs)
 
 -- the text of the table that is asked for
 abbrev pub IsTableText : Shown → TableRequest → List (Option (List ℕ)) → List ℕ → Type 0

@@ -1,5 +1,5 @@
 //! Making tables of feeds, and writing them.
-ghost use Rattle.std.specs.Prelude.{◌≡◌, ◌≢◌, ◌⊎◌, [], List, Err, None, true, length, map, option_map, string_bytes, if◌then◌else◌, IfOk, IfErr, IsTrue, OnOk};
+ghost use Rattle.std.specs.Prelude.{◌≡◌, ◌≢◌, ◌⊎◌, ◌∷◌, [], List, Err, None, true, length, map, option_map, string_bytes, if◌then◌else◌, IfOk, IfErr, IsTrue, OnOk};
 ghost use Rattle.std.specs.Io.KnownBytes.{Appends};
 ghost use Rattle.fkv_functions.specs.declared.names.Name.{Name};
 ghost use Rattle.fkv_either.specs.Either.{is_absent};
@@ -154,13 +154,13 @@ where
     ensures ok { OnOk result ((pairs : List (Name × F.Value))
         × (IsKnown table.now
         → IsTableOf F.meaning (feeds_by (λ path. O.bytes opener.now path) table.now (R.remaining reader.old)) pairs)
-        × Appends (W.contents writer.old) (W.contents writer.new) (table_text F.Value.text pairs)) }
+        × Appends (W.contents writer.old) (W.contents writer.new) (table_text (λ v. F.Value.text v ∷ []) pairs)) }
     ensures ran { IfOk result (λ report. IsPlanOf table.now
         (length (feeds_by (λ path. O.bytes opener.now path) table.now (R.remaining reader.old))) report.plan) }
     ensures unwritable { result ≡ Err Refused.Unwritable → (pairs : List (Name × F.Value))
         × (IsKnown table.now
         → IsTableOf F.meaning (feeds_by (λ path. O.bytes opener.now path) table.now (R.remaining reader.old)) pairs)
-        × AppendsPrefix (W.contents writer.old) (W.contents writer.new) (table_text F.Value.text pairs) }
+        × AppendsPrefix (W.contents writer.old) (W.contents writer.new) (table_text (λ v. F.Value.text v ∷ []) pairs) }
     ensures nothing { IfErr result (λ e. e ≢ Refused.Unwritable → W.contents writer.new ≡ W.contents writer.old) }
     ensures out { OnOk result (W.is_out writer.new ≡ true) }
     ensures steady { OnOk result ((R.failures reader.new ≡ R.failures reader.old)

@@ -8,9 +8,11 @@
 
 mod store;
 mod summaries;
+mod tables;
 
 use crate::store::{CONFIG, Store, Told};
 use crate::summaries::SummaryFns;
+use crate::tables::tabulate;
 use anyhow::{Context, Result};
 use fkv_device::{Loaded, MemoryDevice};
 use fkv_functions::{Built, Name};
@@ -152,6 +154,8 @@ fn run<P: Print>(rt: &P, store: &mut Store, alloc: Global) -> Result<()> {
 fn main(rt: HostRuntime) -> Result<()> {
     let alloc = rt.alloc();
     summarize(&rt, alloc)?;
+    println!(rt; "a table of rows:")?;
+    tabulate(&rt, alloc)?;
     println!(rt; "by single events:")?;
     let mut store = Store::open(rt.clone()?, alloc, FOLDER)?;
     run(&rt, &mut store, alloc)?;

@@ -1,12 +1,13 @@
 -- The text of a table, row by row.
-use Rattle.std.proofs.Common.{◌≡◌, ◌<◌, ◌≤◌, ◌+◌, true, false, ℕ, List, [], ◌∷◌, ◌++◌, Option, Some, None, Result, take, drop, get_or, length, refl, sym, ap, subst, ◌∙◌, append_assoc}
+use Rattle.std.proofs.Common.{arith, ◌≡◌, ◌<◌, ◌≤◌, ◌+◌, ◌-◌, zero, suc, true, false, ℕ, List, [], ◌∷◌, ◌++◌, Option, Some, None, Result, take, drop, get_or, length, refl, sym, ap, subst, ◌∙◌, append_assoc}
 use Rattle.std.specs.Prelude.{OnErr}
 use Rattle.std.proofs.lemmas.List.{append-nil, take_more, take_all, take-append-drop}
 use Rattle.csv.specs.Writing.{default_writer, escaped, field_text, fields_text, is_blank, needs_quotes, row_text}
-use Rattle.csv.proofs.WriteFacts.{escaped-append}
+use Rattle.csv.proofs.WriteFacts.{escaped-append, fields-snoc}
+use Rattle.std.proofs.lemmas.List.FromFn.{length-map-range_with_len, map-range_with_len_more}
 use Rattle.fkv_functions.specs.declared.names.Name.{Name}
 use Rattle.fkv_runs.specs.Merging.{first_pair}
-use Rattle.fkv_feeds.specs.Writing.{pair_text, table_text}
+use Rattle.fkv_feeds.specs.Writing.{fields_of, pair_text, table_text}
 use Rattle.fkv_streams.specs.Streams.{AppendsPrefix, PassesOn}
 use Rattle.fkv_streams.proofs.BufferLemmas.{prefix-more, prefix-longer, passes-behind, passes-front, front-out, passes-none}
 
@@ -17,13 +18,62 @@ field-plain field e = rw e refl
 pub field-quoted : (field : List ℕ) → needs_quotes default_writer field ≡ true → field_text default_writer field ≡ (34 ∷ []) ++ (escaped default_writer field ++ 34 ∷ [])
 field-quoted field e = rw e refl
 
--- a row, field by field
-pub row-parts : (key value : List ℕ) → (field_text default_writer key ++ 44 ∷ []) ++ (field_text default_writer value ++ 10 ∷ []) ≡ row_text default_writer (key ∷ value ∷ [])
-unfolding fields_text is_blank
-row-parts key value =
-    let k : List ℕ = field_text default_writer key in
-    let v : List ℕ = field_text default_writer value in
-    append_assoc k (44 ∷ []) (v ++ 10 ∷ []) ∙ sym (append_assoc k (44 ∷ (v ++ [])) (10 ∷ []) ∙ ap (λ t. k ++ (44 ∷ (t ++ 10 ∷ []))) (append-nil v))
+-- ---- the fields of a value
+module _ {V : Type 0} (at : V → ℕ → List ℕ) (v : V) where
+  pub fields-start : (a : Option (List ℕ)) (held : List ℕ) → PassesOn a a held (held ++ fields_text default_writer (fields_of 0 at v))
+  unfolding fields_text
+  fields-start a held = passes-none a held
+
+  fields-next : (n : ℕ) → fields_text default_writer (fields_of (n + 1) at v) ≡ fields_text default_writer (fields_of n at v) ++ 44 ∷ field_text default_writer (at v n)
+  fields-next n =
+      ap (fields_text default_writer) (map-range_with_len_more (at v) 0 n n (omega arith)) ∙ fields-snoc default_writer (fields_of n at v) (at v n)
+
+  pub fields-more : (a b c : Option (List ℕ)) (before held after : List ℕ) (n : ℕ)
+      → PassesOn a b held (before ++ fields_text default_writer (fields_of n at v))
+      → PassesOn b c after (held ++ 44 ∷ field_text default_writer (at v n))
+      → PassesOn a c after (before ++ fields_text default_writer (fields_of (n + 1) at v))
+  fields-more a b c before held after n p q =
+      subst (λ t. PassesOn a c after (before ++ t)) (sym (fields-next n))
+      (passes-behind a b c before held after (fields_text default_writer (fields_of n at v)) (44 ∷ field_text default_writer (at v n)) p q)
+
+  -- the fields before a place are the front of all
+  fields-apart : (n more : ℕ) → (behind : List ℕ) × (fields_text default_writer (fields_of (n + more) at v) ≡ fields_text default_writer (fields_of n at v) ++ behind)
+  fields-apart n zero =
+      let e : n + 0 ≡ n = omega arith in
+      ([], rw e (sym (append-nil (fields_text default_writer (fields_of n at v)))))
+  fields-apart n (suc more) =
+      let so_far = fields-apart n more in
+      let last : List ℕ = 44 ∷ field_text default_writer (at v (n + more)) in
+      let e : n + suc more ≡ (n + more) + 1 = omega arith in (
+        so_far.0 ++ last,
+        rw e (fields-next (n + more) ∙ ap (λ t. t ++ last) so_far.1 ∙ append_assoc (fields_text default_writer (fields_of n at v)) so_far.0 last),
+      )
+
+  pub fields-front : (a b c : Option (List ℕ)) (before held : List ℕ) (n count : ℕ) → n < count
+      → PassesOn a b held (before ++ fields_text default_writer (fields_of n at v))
+      → AppendsPrefix b c (held ++ 44 ∷ field_text default_writer (at v n))
+      → AppendsPrefix a c (before ++ fields_text default_writer (fields_of count at v))
+  fields-front a b c before held n count low p q =
+      let rest = fields-apart (n + 1) (count - (n + 1)) in
+      let all : (n + 1) + (count - (n + 1)) ≡ count = omega arith in
+      let here : AppendsPrefix a c (before ++ fields_text default_writer (fields_of (n + 1) at v)) =
+      subst (λ t. AppendsPrefix a c (before ++ t)) (sym (fields-next n))
+      (passes-front a b c before held (fields_text default_writer (fields_of n at v)) (44 ∷ field_text default_writer (at v n)) p q) in
+      subst (λ t. AppendsPrefix a c (before ++ t)) (sym rest.1 ∙ ap (λ m. fields_text default_writer (fields_of m at v)) all)
+      (prefix-longer a c before (fields_text default_writer (fields_of (n + 1) at v)) rest.0 here)
+
+-- a row: the key, the fields behind it, and a line feed
+row-of : (key : List ℕ) (fields : List (List ℕ)) → 1 ≤ length fields
+    → field_text default_writer key ++ (fields_text default_writer fields ++ 10 ∷ []) ≡ row_text default_writer (key ∷ fields)
+unfolding is_blank
+row-of key [] some = absurd (omega arith)
+row-of key (field ∷ rest) some =
+    sym (append_assoc (field_text default_writer key) (fields_text default_writer (field ∷ rest)) (10 ∷ []))
+
+pub row-parts : {V : Type 0} (count : ℕ) (at : V → ℕ → List ℕ) (v : V) (key : List ℕ) → 1 ≤ count
+    → field_text default_writer key ++ (fields_text default_writer (fields_of count at v) ++ 10 ∷ []) ≡ row_text default_writer (key ∷ fields_of count at v)
+row-parts count at v key some =
+    row-of key (fields_of count at v) (rw (length-map-range_with_len (at v) 0 count) some)
 
 -- ---- the bytes of a field in quotes
 pub escaped-start : (a : Option (List ℕ)) (held : List ℕ) → PassesOn a a held (held ++ escaped default_writer [])
@@ -65,7 +115,7 @@ module _ {A : Type 0} where
   first-cons [] x e = absurd (cc)
   first-cons (y ∷ ys) x e = (let s : y ≡ x = cc in ap (λ z. z ∷ ys) s)
 
-module _ {V : Type 0} (value : V → List ℕ) where
+module _ {V : Type 0} (value : V → List (List ℕ)) where
   -- the rows so far were put, and with those of the pairs that are left they are the table's text
   abbrev pub Written : Option (List ℕ) → Option (List ℕ) → List ℕ → List (Name × V) → List (Name × V) → Type 0
   Written a b held left all = (done : List ℕ) × PassesOn a b held done × (done ++ table_text value left ≡ table_text value all)

@@ -1,15 +1,19 @@
--- The text of a table, by the words of the crate `csv`.
-use Rattle.std.specs.Prelude.{ℕ, List, [], ◌∷◌}
-use Rattle.std.specs.List.{flat_map}
+-- The text of a table.
+use Rattle.std.specs.Prelude.{ℕ, List, ◌∷◌, map}
+use Rattle.std.specs.List.{flat_map, range_with_len}
 use Rattle.csv.specs.Writing.{default_writer, row_text}
 use Rattle.fkv_functions.specs.Names.{text_of}
 use Rattle.fkv_functions.specs.declared.names.Name.{Name}
 
--- A row: the key, a comma, the value, and a line feed. A field is put in double quotes where it has a comma, a double
--- quote, a carriage return or a line feed in it, and double quotes in it are doubled.
-abbrev pub pair_text : {V : Type 0} → (V → List ℕ) → Name × V → List ℕ
-pair_text value p = row_text default_writer (text_of p.0 ∷ value p.1 ∷ [])
+-- the fields of a value that has so many, by their places
+abbrev pub fields_of : {V : Type 0} → ℕ → (V → ℕ → List ℕ) → V → List (List ℕ)
+fields_of count at v = map (at v) (range_with_len 0 count)
+
+-- A row: the key, and behind it the fields of the value, with commas between them and a line feed at the end. A field is put in
+-- double quotes where it has a comma, a double quote, a carriage return or a line feed in it, and double quotes in it are doubled.
+abbrev pub pair_text : {V : Type 0} → (V → List (List ℕ)) → Name × V → List ℕ
+pair_text fields p = row_text default_writer (text_of p.0 ∷ fields p.1)
 
 -- the rows of a table, in order
-abbrev pub table_text : {V : Type 0} → (V → List ℕ) → List (Name × V) → List ℕ
-table_text value pairs = flat_map (pair_text value) pairs
+abbrev pub table_text : {V : Type 0} → (V → List (List ℕ)) → List (Name × V) → List ℕ
+table_text fields pairs = flat_map (pair_text fields) pairs

@@ -5,10 +5,12 @@ pub mod counting;
 pub mod modes;
 pub mod reading;
 pub mod running;
+pub mod shown;
 pub mod writing;
 
 pub use counting::{Counts, Plan, Run};
 pub use fkv_runs::Table;
 pub use modes::RowMode;
 pub use running::{LIMIT, run_alone, run_alone_by, run_one, run_one_by};
+pub use shown::Shown;
 pub use writing::write_table;

@@ -2,15 +2,16 @@
 ghost use Rattle.std.specs.Prelude.{◌≡◌, ◌⊎◌, ◌∷◌, ◌++◌, [], true, Err, IfErr, OnOk, OnErr};
 ghost use Rattle.std.specs.Io.KnownBytes.{Appends};
 ghost use Rattle.csv.specs.Quoting.{needs_byte};
-ghost use Rattle.csv.specs.Writing.{default_writer, escaped, field_text, needs_quotes, quoted};
+ghost use Rattle.csv.specs.Writing.{default_writer, escaped, field_text, fields_text, needs_quotes, quoted};
 ghost use Rattle.fkv_streams.specs.Counting.{CountsOnly};
 ghost use Rattle.fkv_streams.specs.Streams.{AppendsPrefix, PassesOn};
-ghost use Rattle.fkv_feeds.specs.Writing.{pair_text, table_text};
+ghost use Rattle.fkv_feeds.specs.Writing.{fields_of, pair_text, table_text};
 
+use crate::shown::Shown;
 use fkv_functions::{Name, Refused};
 use fkv_runs::Table;
 use fkv_streams::{Sink, WriteBuffer};
-use itoa::{Buffer, Integer};
+use itoa::Buffer;
 use std::alloc::Global;
 
 /// The bytes that are gathered before they are written.
@@ -86,63 +87,97 @@ fn put_field<W: Sink>(buffer: &mut WriteBuffer, sink: &mut W, field: &[u8]) -> R
     }
 }
 
-/// Puts a field, and what ends it. Refused as [`WriteBuffer::put`].
-fn put_ended<W: Sink>(
-    buffer: &mut WriteBuffer,
-    sink: &mut W,
-    field: &[u8],
-    end: u8,
-) -> Result<(), Refused>
+/// Puts a comma, and a field behind it. Refused as [`WriteBuffer::put`].
+fn put_next<W: Sink>(buffer: &mut WriteBuffer, sink: &mut W, field: &[u8]) -> Result<(), Refused>
     ensures ok { OnOk result (PassesOn (W.contents sink.old) (W.contents sink.new) buffer.new
-        (buffer.old ++ (field_text default_writer field.now ++ end ∷ []))) }
+        (buffer.old ++ 44 ∷ field_text default_writer field.now)) }
     ensures refused { OnErr result (AppendsPrefix (W.contents sink.old) (W.contents sink.new)
-        (buffer.old ++ (field_text default_writer field.now ++ end ∷ []))) }
+        (buffer.old ++ 44 ∷ field_text default_writer field.now)) }
     ensures only { IfErr result (λ refused. refused ≡ Refused.Unwritable) }
     ensures counted { CountsOnly Refused.Unwritable result (W.failures sink.old) (W.failures sink.new) }
 {
-    match put_field(buffer, sink, field) {
-        Ok(()) => buffer.put(sink, &[end]),
+    match buffer.put(sink, b",") {
+        Ok(()) => put_field(buffer, sink, field),
+        Err(refused) => Err(refused),
+    }
+}
+
+/// Puts the fields of a value, each behind a comma. Refused as [`WriteBuffer::put`].
+fn put_value<V: Shown, W: Sink>(
+    buffer: &mut WriteBuffer,
+    sink: &mut W,
+    value: &V,
+) -> Result<(), Refused>
+    ensures ok { OnOk result (PassesOn (W.contents sink.old) (W.contents sink.new) buffer.new
+        (buffer.old ++ fields_text default_writer (fields_of V.FIELDS V.field_at value.now))) }
+    ensures refused { OnErr result (AppendsPrefix (W.contents sink.old) (W.contents sink.new)
+        (buffer.old ++ fields_text default_writer (fields_of V.FIELDS V.field_at value.now))) }
+    ensures only { IfErr result (λ refused. refused ≡ Refused.Unwritable) }
+    ensures counted { CountsOnly Refused.Unwritable result (W.failures sink.old) (W.failures sink.new) }
+{
+    let mut digits = Buffer::new();
+    for place in 0..V::FIELDS {
+        match put_next(buffer, sink, value.field(place, &mut digits)) {
+            Ok(()) => {}
+            Err(refused) => return Err(refused),
+        }
+    }
+    Ok(())
+}
+
+/// Puts the fields of a value, each behind a comma, and what ends a row. Refused as [`WriteBuffer::put`].
+fn put_ended<V: Shown, W: Sink>(
+    buffer: &mut WriteBuffer,
+    sink: &mut W,
+    value: &V,
+) -> Result<(), Refused>
+    ensures ok { OnOk result (PassesOn (W.contents sink.old) (W.contents sink.new) buffer.new
+        (buffer.old ++ (fields_text default_writer (fields_of V.FIELDS V.field_at value.now) ++ 10 ∷ []))) }
+    ensures refused { OnErr result (AppendsPrefix (W.contents sink.old) (W.contents sink.new)
+        (buffer.old ++ (fields_text default_writer (fields_of V.FIELDS V.field_at value.now) ++ 10 ∷ []))) }
+    ensures only { IfErr result (λ refused. refused ≡ Refused.Unwritable) }
+    ensures counted { CountsOnly Refused.Unwritable result (W.failures sink.old) (W.failures sink.new) }
+{
+    match put_value(buffer, sink, value) {
+        Ok(()) => buffer.put(sink, b"\n"),
         Err(refused) => Err(refused),
     }
 }
 
 /// Puts a row: a key and its value. Refused as [`WriteBuffer::put`].
-fn put_row<V: Integer, W: Sink>(
+fn put_row<V: Shown, W: Sink>(
     buffer: &mut WriteBuffer,
     sink: &mut W,
     pair: &(Name, V),
 ) -> Result<(), Refused>
     ensures ok { OnOk result (PassesOn (W.contents sink.old) (W.contents sink.new) buffer.new
-        (buffer.old ++ pair_text V.text pair.now)) }
+        (buffer.old ++ pair_text (fields_of V.FIELDS V.field_at) pair.now)) }
     ensures refused { OnErr result (AppendsPrefix (W.contents sink.old) (W.contents sink.new)
-        (buffer.old ++ pair_text V.text pair.now)) }
+        (buffer.old ++ pair_text (fields_of V.FIELDS V.field_at) pair.now)) }
     ensures only { IfErr result (λ refused. refused ≡ Refused.Unwritable) }
     ensures counted { CountsOnly Refused.Unwritable result (W.failures sink.old) (W.failures sink.new) }
 {
-    let mut digits = Buffer::new();
-    let value = digits.format(pair.1).as_bytes();
-    let key = pair.0.bytes();
-    match put_ended(buffer, sink, key, b',') {
-        Ok(()) => put_ended(buffer, sink, value, b'\n'),
+    match put_field(buffer, sink, pair.0.bytes()) {
+        Ok(()) => put_ended(buffer, sink, &pair.1),
         Err(refused) => Err(refused),
     }
 }
 
-/// Writes a table, a row for each key, in order, and lets it out. Its rows are gathered in 64 KiB: no text of all of them is made.
+/// Writes a table, a row for each key, in order, and lets it out: the key, and behind it the fields of its value. Its rows are gathered in 64 KiB: no text of all of them is made.
 ///
 /// # Errors
 ///
 /// `NoMemory`, and then nothing was written; `Unwritable` where the writer fails or takes no more, and then the bytes
 /// that it took are the first of the table's text.
-pub fn write_table<V: Integer, W: Sink>(
+pub fn write_table<V: Shown + Copy, W: Sink>(
     alloc: Global,
     table: &Table<V>,
     writer: &mut W,
 ) -> Result<(), Refused>
     ensures ok { OnOk result
-        (Appends (W.contents writer.old) (W.contents writer.new) (table_text V.text table.now)) }
+        (Appends (W.contents writer.old) (W.contents writer.new) (table_text (fields_of V.FIELDS V.field_at) table.now)) }
     ensures unwritable { result ≡ Err Refused.Unwritable
-        → AppendsPrefix (W.contents writer.old) (W.contents writer.new) (table_text V.text table.now) }
+        → AppendsPrefix (W.contents writer.old) (W.contents writer.new) (table_text (fields_of V.FIELDS V.field_at) table.now) }
     ensures nothing { result ≡ Err Refused.NoMemory → W.contents writer.new ≡ W.contents writer.old }
     ensures only { IfErr result (λ e. (e ≡ Refused.NoMemory) ⊎ (e ≡ Refused.Unwritable)) }
     ensures out { OnOk result (W.is_out writer.new ≡ true) }
