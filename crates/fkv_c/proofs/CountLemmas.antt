@@ -1,7 +1,8 @@
 -- A store of counts is one of whole numbers.
-use Rattle.std.specs.Prelude.{◌≡◌, ◌+◌, ◌%◌, ◌^◌, ℕ, ℤ, Bool, true, false, cond, Option, Some, None}
+use Rattle.std.specs.Prelude.{◌≡◌, ◌+◌, ◌%◌, ◌^◌, ℕ, ℤ, Bool, true, false, cond, List, [], ◌∷◌, map, All, Option, Some, None}
+use Rattle.std.specs.BTreeMap.Range.{IsLtBy}
 use Rattle.std.specs.BTreeMap.{is_at}
-use Rattle.std.proofs.Common.{refl, ap, ◌∙◌, subst}
+use Rattle.std.proofs.Common.{refl, sym, ap, ◌∙◌, subst}
 use Rattle.fkv_functions.specs.declared.names.Name.{Name}
 use Rattle.fkv_functions.specs.Names.{name_cmp}
 use Rattle.fkv_functions.specs.Meanings.{updated}
@@ -11,7 +12,8 @@ use Rattle.fkv_operations.specs.After.{after, after_update, answer, shown_of, to
 use Rattle.fkv_operations.specs.declared.operations.KeyedOp.{KeyedOp}
 use Rattle.fkv_operations.specs.declared.operations.KeyedOp.TheVariants.{Read, Upsert, Rmw, Delete, Merge}
 use Rattle.fkv_operations.specs.declared.operations.Answer.{Answer}
-use Rattle.fkv_c.specs.Counting.{counted, whole, whole_of, whole_op, whole_answer}
+use Rattle.fkv_c.specs.Counting.{counted, whole, whole_of, whole_op, whole_answer, whole_pairs}
+use Rattle.fkv_c.specs.Leading.{FirstIsLeast}
 
 cond_whole : (b : Bool) (v w : Option ℕ) → whole_of (cond b v w) ≡ cond b (whole_of v) (whole_of w)
 cond_whole true v w = refl
@@ -55,3 +57,12 @@ pub made_whole : (old new : PlainMap Name ℕ) (n : KeyedOp Name ℕ ℤ) (op : 
 made_whole old new n op a e same is =
     subst (λ o. Same (whole new) (after name_cmp counted (whole old) o) × (whole_answer a ≡ answer counted (whole old) o)) e
     (λ q. ap whole_of (same q) ∙ after_whole old n q, ap whole_answer is ∙ answer_whole old n)
+
+keys_whole : (pairs : List (Name × ℕ)) → map (λ p. p.0) (whole_pairs pairs) ≡ map (λ p. p.0) pairs
+keys_whole [] = refl
+keys_whole (p ∷ ps) = ap (λ ks. p.0 ∷ ks) (keys_whole ps)
+
+-- of pairs whose first name is the least it is the least of the same pairs as whole numbers
+pub first_whole : (pairs : List (Name × ℕ)) → FirstIsLeast pairs → FirstIsLeast (whole_pairs pairs)
+first_whole [] h = tt
+first_whole (p ∷ ps) h = subst (All (IsLtBy name_cmp p.0)) (sym (keys_whole ps)) h

@@ -1,5 +1,5 @@
 -- What a handle leads to: nothing, a store, which is a plain map, or pairs.
-use Rattle.std.specs.Prelude.{◌≡◌, ◌≢◌, ◌<◌, ◌-◌, ◌^◌, ◌⊎◌, ℕ, ℤ, List, [], ◌∷◌, length, map, All, min, sum_by, Option, Some, None, Result, Ok, Err}
+use Rattle.std.specs.Prelude.{◌≡◌, ◌≢◌, ◌<◌, ◌-◌, ◌^◌, ◌⊎◌, ◌==◌, if◌then◌else◌, ⊤, ℕ, ℤ, List, [], ◌∷◌, length, map, All, min, sum_by, Option, Some, None, Result, Ok, Err}
 use Rattle.std.specs.BTreeMap.{get}
 use Rattle.std.specs.BTreeMap.Range.{IsLtBy}
 use Rattle.fkv_functions.specs.declared.names.Name.{Name}
@@ -49,8 +49,7 @@ kind_of (Some (CellPairs p)) = CellCursor
 
 -- the kind of a store of the functions of this number
 abbrev pub store_kind : ℕ → Kind
-store_kind 5 = CellStore
-store_kind n = Store
+store_kind n = if n == 5 then CellStore else Store
 
 -- whether it is a store, and what cursor is made of it
 abbrev pub IsStore : Kind → Type 0

@@ -55,12 +55,12 @@ pub extern "C" fn fkv_c_get(
     alloc: Global,
     store: &mut Handle,
     name: &[u8],
-    answer: &mut CellTold,
+    told: &mut CellTold,
 ) -> u32
     ensures performed { IsCellPerformedAt name.now store.old.held store.new.held (λ k. Read k (pos 0)) result }
     ensures told { result ≡ 0 → (k : Name) → text_of k ≡ name.now
-        → answer.new ≡ cell_answer_of (answer blind (cells_of store.old.held) (Read k (pos 0))) }
-    ensures left { result ≢ 0 → answer.new ≡ answer.old }
+        → told.new ≡ cell_answer_of (answer blind (cells_of store.old.held) (Read k (pos 0))) }
+    ensures left { result ≢ 0 → told.new ≡ told.old }
     ensures unkeyed { IsNoKey name.now → (result ≡ 36) × (store.new.held ≡ store.old.held) }
 {
     let Some(key) = Name::new(name) else {
@@ -68,7 +68,7 @@ pub extern "C" fn fkv_c_get(
     };
     match operate_cells(alloc, store, KeyedOp::Read(key, 0)) {
         Ok(came) => {
-            *answer = CellTold::of(came);
+            *told = CellTold::of(came);
             0
         }
         Err(fault) => fault.number(),
