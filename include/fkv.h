@@ -1,7 +1,7 @@
 /* fkv: a key-value store for one thread, from C.
  *
- * A store keeps a number for each name, in memory, and changes it by inputs: sums, maxima or capped sums. The library is written and
- * proved in Rattle: what each call does is a contract of its function in crates/fkv_c, which the checker proves. The contracts assume
+ * A store keeps a number for each name, in memory, and changes it by inputs: sums, maxima, capped sums or counts; or it keeps 64 bytes for
+ * each name, which are written, read and removed. The library is written and proved in Rattle: what each call does is a contract of its function in crates/fkv_c, which the checker proves. The contracts assume
  * that the caller owes what stands here as "owed". Nothing checks that.
  *
  * Link with crates/fkv_c/out/libfkv_c.a, and behind it liblibc_c.a of the kit (libc/c/heap.c, which calls malloc, realloc and free).
@@ -53,14 +53,18 @@ enum {
     FKV_BAD_KIND = 37,    /* there is no such kind of store */
     FKV_NULL = 38,        /* a pointer is null */
     FKV_SAME = 39,        /* the store and the cursor are one handle */
-    FKV_OUT_OF_RANGE = 40 /* the value that was to be set has more bits than the store's values */
+    FKV_OUT_OF_RANGE = 40, /* the value that was to be set has more bits than the store's values, or is below 0 and a count */
+    FKV_NOT_NUMBERS = 41, /* the store or the cursor is of cells: fkv_put, fkv_get, fkv_remove and fkv_next_cell are for it */
+    FKV_NOT_CELLS = 42    /* it is of numbers */
 };
 
 /* Kinds of stores: what they make of the inputs of a name. */
 enum {
-    FKV_SUM = 1,       /* adds them up, modulo 2^128 */
-    FKV_MAX = 2,       /* keeps the greatest; values have 64 bits */
-    FKV_CAPPED_SUM = 3 /* adds them up, and declines an input by which the sum would be below 0 or above 1,000,000; it does not merge */
+    FKV_SUM = 1,        /* adds them up, modulo 2^128 */
+    FKV_MAX = 2,        /* keeps the greatest; values have 64 bits */
+    FKV_CAPPED_SUM = 3, /* adds them up, and declines an input by which the sum would be below 0 or above 1,000,000; it does not merge */
+    FKV_COUNT = 4,      /* counts them, modulo 2^64; what they are plays no part */
+    FKV_CELLS = 5       /* no numbers: a cell of 64 bytes for each name, and no inputs */
 };
 
 /* Kinds of answers. */
@@ -92,6 +96,25 @@ typedef struct fkv_pair {
     char name[32];    /* its bytes, and zeros behind them: at least one */
     fkv_number value;
 } fkv_pair;
+
+/* 64 bytes of any kind. */
+typedef struct fkv_cell {
+    unsigned char bytes[64];
+} fkv_cell;
+
+/* What a read of a cell answers. */
+typedef struct fkv_cell_answer {
+    uint64_t kind; /* FKV_VALUE or FKV_ABSENT */
+    fkv_cell cell; /* zeros where the kind is not FKV_VALUE */
+} fkv_cell_answer;
+
+/* A name and its cell. */
+typedef struct fkv_cell_pair {
+    uint64_t is_some; /* 1, or 0 where there is no pair left */
+    uint64_t length;  /* of the name */
+    char name[32];    /* its bytes, and zeros behind them: at least one */
+    fkv_cell cell;
+} fkv_cell_pair;
 
 /* The size of a store. */
 typedef struct fkv_settings {
@@ -125,6 +148,10 @@ uint32_t fkv_c_compact(fkv_handle *store, uint32_t *has_cut);
 uint32_t fkv_c_counts(fkv_handle *store, fkv_sizes *sizes);
 uint32_t fkv_c_list(fkv_handle *store, fkv_handle *cursor);
 uint32_t fkv_c_next(fkv_handle *cursor, fkv_pair *pair);
+uint32_t fkv_c_put(fkv_handle *store, const void *name, size_t length, const fkv_cell *cell);
+uint32_t fkv_c_get(fkv_handle *store, const void *name, size_t length, fkv_cell_answer *answer);
+uint32_t fkv_c_remove(fkv_handle *store, const void *name, size_t length);
+uint32_t fkv_c_next_cell(fkv_handle *cursor, fkv_cell_pair *pair);
 uint32_t fkv_c_close(fkv_handle *handle);
 void fkv_c_name(uint32_t status, char *text, size_t room);
 
@@ -133,7 +160,9 @@ static inline uint32_t fkv_open(fkv_handle *store, uint32_t kind, const fkv_sett
     return store && settings ? fkv_c_open(store, kind, settings) : (uint32_t)FKV_NULL;
 }
 
-/* Changes the value of a name by an input, or gives it its first, and answers the new value, or FKV_DECLINED where it is as it was. */
+/* The five calls that follow are for stores of numbers.
+ *
+ * Changes the value of a name by an input, or gives it its first, and answers the new value, or FKV_DECLINED where it is as it was. */
 static inline uint32_t fkv_rmw(fkv_handle *store, const void *name, size_t length, int64_t input, fkv_answer *answer) {
     return store && name && answer ? fkv_c_rmw(store, name, length, input, answer) : (uint32_t)FKV_NULL;
 }
@@ -175,9 +204,29 @@ static inline uint32_t fkv_list(fkv_handle *store, fkv_handle *cursor) {
     return !store || !cursor ? (uint32_t)FKV_NULL : store == cursor ? (uint32_t)FKV_SAME : fkv_c_list(store, cursor);
 }
 
-/* Tells the cursor's next pair, or that there is none left. */
+/* Tells the next pair of a cursor over numbers, or that there is none left. */
 static inline uint32_t fkv_next(fkv_handle *cursor, fkv_pair *pair) {
     return cursor && pair ? fkv_c_next(cursor, pair) : (uint32_t)FKV_NULL;
+}
+
+/* Writes the cell of a name, whatever it was. */
+static inline uint32_t fkv_put(fkv_handle *store, const void *name, size_t length, const fkv_cell *cell) {
+    return store && name && cell ? fkv_c_put(store, name, length, cell) : (uint32_t)FKV_NULL;
+}
+
+/* Answers the cell of a name, or FKV_ABSENT. */
+static inline uint32_t fkv_get(fkv_handle *store, const void *name, size_t length, fkv_cell_answer *answer) {
+    return store && name && answer ? fkv_c_get(store, name, length, answer) : (uint32_t)FKV_NULL;
+}
+
+/* Removes a name, whether it has a cell or not. */
+static inline uint32_t fkv_remove(fkv_handle *store, const void *name, size_t length) {
+    return store && name ? fkv_c_remove(store, name, length) : (uint32_t)FKV_NULL;
+}
+
+/* Tells the next pair of a cursor over cells, or that there is none left. */
+static inline uint32_t fkv_next_cell(fkv_handle *cursor, fkv_cell_pair *pair) {
+    return cursor && pair ? fkv_c_next_cell(cursor, pair) : (uint32_t)FKV_NULL;
 }
 
 /* Closes an open handle, of a store or of a cursor, and frees what it had. A closed one answers FKV_IS_CLOSED. */

@@ -17,6 +17,72 @@ static void show_answer(const char *what, uint32_t status, const fkv_answer *ans
     printf("  %" PRIu64 " %" PRIu64 " %" PRId64 "\n", answer->kind, answer->value.low, answer->value.high);
 }
 
+static void try_counts(const fkv_settings *settings) {
+    fkv_handle store = FKV_CLOSED, cursor = FKV_CLOSED;
+    fkv_answer answer = {77, {77, 77}};
+    fkv_pair pair = {.is_some = 77};
+    show("counts", fkv_open(&store, FKV_COUNT, settings));
+    show_answer("first", fkv_rmw(&store, "a", 1, -5, &answer), &answer);
+    show_answer("second", fkv_rmw(&store, "a", 1, 9, &answer), &answer);
+    show_answer("merge", fkv_merge(&store, "b", 1, 0, &answer), &answer);
+    show_answer("below 0", fkv_upsert(&store, "a", 1, (fkv_number){UINT64_MAX, -1}, &answer), &answer);
+    show_answer("too large", fkv_upsert(&store, "a", 1, (fkv_number){0, 1}, &answer), &answer);
+    show_answer("greatest", fkv_upsert(&store, "c", 1, (fkv_number){UINT64_MAX, 0}, &answer), &answer);
+    show_answer("wraps", fkv_rmw(&store, "c", 1, 1, &answer), &answer);
+    show_answer("greatest", fkv_upsert(&store, "c", 1, (fkv_number){UINT64_MAX, 0}, &answer), &answer);
+    show("list", fkv_list(&store, &cursor));
+    for (int row = 0; row < 4; row++) {
+        show("next", fkv_next(&cursor, &pair));
+        printf("  %" PRIu64 " %" PRIu64 " %s %" PRIu64 " %" PRId64 "\n", pair.is_some, pair.length, pair.name, pair.value.low, pair.value.high);
+    }
+    show("close", fkv_close(&cursor));
+    show("close", fkv_close(&store));
+}
+
+/* The first and the last byte of a cell. */
+static void show_cell(const char *what, uint32_t status, uint64_t kind, const fkv_cell *cell) {
+    show(what, status);
+    printf("  %" PRIu64 " %d %d\n", kind, cell->bytes[0], cell->bytes[63]);
+}
+
+static void try_cells(const fkv_settings *settings) {
+    fkv_handle store = FKV_CLOSED, cursor = FKV_CLOSED, numbers = FKV_CLOSED;
+    fkv_cell cell = {{1}};
+    fkv_cell_answer answer = {77, {{77}}};
+    fkv_answer number = {77, {77, 77}};
+    fkv_cell_pair pair = {.is_some = 77};
+    fkv_pair number_pair = {.is_some = 77};
+    uint32_t has_cut = 77;
+    cell.bytes[63] = 255;
+    show("closed", fkv_put(&store, "a", 1, &cell));
+    show("cells", fkv_open(&store, FKV_CELLS, settings));
+    show("null cell", fkv_put(&store, "a", 1, NULL));
+    show("no byte", fkv_put(&store, "", 0, &cell));
+    show_cell("absent", fkv_get(&store, "a", 1, &answer), answer.kind, &answer.cell);
+    show("put", fkv_put(&store, "a", 1, &cell));
+    show_cell("get", fkv_get(&store, "a", 1, &answer), answer.kind, &answer.cell);
+    cell.bytes[0] = 2;
+    show("put again", fkv_put(&store, "a", 1, &cell));
+    show("put another", fkv_put(&store, "b", 1, &cell));
+    show("remove", fkv_remove(&store, "b", 1));
+    show_cell("get removed", fkv_get(&store, "b", 1, &answer), answer.kind, &answer.cell);
+    show_answer("no numbers", fkv_rmw(&store, "a", 1, 5, &number), &number);
+    show("compact", fkv_compact(&store, &has_cut));
+    show("list", fkv_list(&store, &cursor));
+    show("no numbers", fkv_next(&cursor, &number_pair));
+    for (int row = 0; row < 2; row++) {
+        show_cell("next", fkv_next_cell(&cursor, &pair), pair.is_some, &pair.cell);
+    }
+    show("no cursor", fkv_next_cell(&store, &pair));
+    show("a cursor", fkv_put(&cursor, "a", 1, &cell));
+    show("numbers", fkv_open(&numbers, FKV_SUM, settings));
+    show("no cells", fkv_put(&numbers, "a", 1, &cell));
+    show_cell("no cells", fkv_get(&numbers, "a", 1, &answer), answer.kind, &answer.cell);
+    show("close", fkv_close(&numbers));
+    show("close", fkv_close(&cursor));
+    show("close", fkv_close(&store));
+}
+
 int main(void) {
     const char *long_name = "a name that has more than 31 bytes";
     fkv_settings settings = FKV_SETTINGS, bad = FKV_SETTINGS;
@@ -92,5 +158,7 @@ int main(void) {
     show_answer("still", fkv_read(&store, "a", 1, &answer), &answer);
     show_answer("no merge", fkv_merge(&store, "a", 1, 1, &answer), &answer);
     show("close", fkv_close(&store));
+    try_counts(&settings);
+    try_cells(&settings);
     return 0;
 }

@@ -1,4 +1,4 @@
-"""The store of one thread, from Python: sums, maxima and capped sums of numbers by name.
+"""The store of one thread, from Python: sums, maxima, capped sums and counts of numbers by name, and cells of 64 bytes by name.
 
     import fkv
 
@@ -6,6 +6,9 @@
         store.rmw("apples", 5)    # 5
         store["apples"]           # 5
         for name in store: ...    # names rising, as strings of bytes
+
+    with fkv.Cells() as cells:
+        cells["apples"] = bytes(64)
 
 A name is a str (its UTF-8) or bytes, of 1 to 31 bytes. A call that is refused raises `Fault`, has done nothing, and the store can be used
 on. A store belongs to the thread that made it.
@@ -18,9 +21,11 @@ import ctypes
 import os
 import re
 
-SUM, MAX, CAPPED_SUM = 1, 2, 3
+SUM, MAX, CAPPED_SUM, COUNT = 1, 2, 3, 4
 
-_CLOSED = 32
+_CELLS = 5
+
+_CLOSED, _BAD_KIND = 32, 37
 _ABSENT, _DECLINED = 1, 4
 
 
@@ -46,6 +51,21 @@ class _Pair(ctypes.Structure):
         ("name", ctypes.c_char * 32),
         ("value", _Number),
     ]
+
+
+class _Cell(ctypes.Structure):
+    _fields_ = [("bytes", ctypes.c_ubyte * 64)]
+
+    def value(self):
+        return bytes(self.bytes)
+
+
+class _CellAnswer(ctypes.Structure):
+    _fields_ = [("kind", ctypes.c_uint64), ("value", _Cell)]
+
+
+class _CellPair(ctypes.Structure):
+    _fields_ = [*_Pair._fields_[:3], ("value", _Cell)]
 
 
 class _Settings(ctypes.Structure):
@@ -76,6 +96,10 @@ def _load():
         "counts": [handle, ctypes.POINTER(_Sizes)],
         "list": [handle, handle],
         "next": [handle, ctypes.POINTER(_Pair)],
+        "put": [handle, *name, ctypes.POINTER(_Cell)],
+        "get": [handle, *name, ctypes.POINTER(_CellAnswer)],
+        "remove": [handle, *name],
+        "next_cell": [handle, ctypes.POINTER(_CellPair)],
         "close": [handle],
         "name": [ctypes.c_uint32, ctypes.c_char_p, ctypes.c_size_t],
     }
@@ -143,13 +167,11 @@ def settings_of(memory, partition_bits=0):
     }
 
 
-class Store:
-    """A store of this kind, in memory. `memory` is what its buckets and page frames take at most; pages that leave the frames stay in
-    memory too. Any setting of `settings_of` may be given by its name instead."""
+class _AnyStore:
+    """What stores of numbers and of cells have in common."""
 
-    def __init__(self, kind, memory="64M", **settings):
+    def __init__(self, kind, memory, settings):
         self._store = _Handle()
-        self._answer = _Answer()
         settings = {**settings_of(memory, settings.get("partition_bits", 0)), **settings}
         _call("open", self._store, kind, ctypes.byref(_Settings(**settings)))
 
@@ -169,24 +191,6 @@ class Store:
         if hasattr(self, "_store"):
             self.close()
 
-    def rmw(self, name, number):
-        """Changes the value of a name by a number of 64 bits, or gives it its first. Returns the new one, or None where the store declined
-        it and the value is as it was."""
-        key = _bytes_of(name)
-        _call("rmw", self._store, key, len(key), _input_of(number), self._answer)
-        return None if self._answer.kind == _DECLINED else self._answer.value.value()
-
-    def merge(self, name, number):
-        """Changes the value as `rmw` does, returns nothing, and reads no page."""
-        key = _bytes_of(name)
-        _call("merge", self._store, key, len(key), _input_of(number), self._answer)
-
-    def get(self, name, default=None):
-        """The value of a name, or the default where it has none."""
-        key = _bytes_of(name)
-        _call("read", self._store, key, len(key), self._answer)
-        return default if self._answer.kind == _ABSENT else self._answer.value.value()
-
     def __getitem__(self, name):
         value = self.get(name)
         if value is None:
@@ -196,28 +200,16 @@ class Store:
     def __contains__(self, name):
         return self.get(name) is not None
 
-    def __setitem__(self, name, value):
-        if not -(1 << 127) <= value < 1 << 127:
-            raise OverflowError("a value has 128 bits")
-        key = _bytes_of(name)
-        number = _Number(value & (1 << 64) - 1, value >> 64)
-        _call("upsert", self._store, key, len(key), ctypes.byref(number), self._answer)
-
-    def __delitem__(self, name):
-        """Removes a name. One that has no value is no error."""
-        key = _bytes_of(name)
-        _call("delete", self._store, key, len(key), self._answer)
-
     def pairs(self):
         """The names, as bytes, and their values that the store has at the first step, names rising."""
-        cursor, pair = _Handle(), _Pair()
+        cursor, pair = _Handle(), self._pair()
         _call("list", self._store, cursor)
         try:
-            _call("next", cursor, pair)
+            _call(self._next, cursor, pair)
             while pair.is_some:
-                start = ctypes.addressof(pair) + _Pair.name.offset
+                start = ctypes.addressof(pair) + type(pair).name.offset
                 yield ctypes.string_at(start, pair.length), pair.value.value()
-                _call("next", cursor, pair)
+                _call(self._next, cursor, pair)
         finally:
             _call("close", cursor)
 
@@ -241,3 +233,73 @@ class Store:
         sizes = _Sizes()
         _call("counts", self._store, ctypes.byref(sizes))
         return {"bytes": sizes.bytes, "evicted": sizes.evicted, "moments": sizes.moments}
+
+
+class Store(_AnyStore):
+    """A store of numbers of this kind, in memory. `memory` is what its buckets and page frames take at most; pages that leave the frames
+    stay in memory too. Any setting of `settings_of` may be given by its name instead."""
+
+    _pair, _next = _Pair, "next"
+
+    def __init__(self, kind, memory="64M", **settings):
+        if kind == _CELLS:
+            raise Fault(_BAD_KIND)
+        self._answer = _Answer()
+        super().__init__(kind, memory, settings)
+
+    def rmw(self, name, number):
+        """Changes the value of a name by a number of 64 bits, or gives it its first. Returns the new one, or None where the store declined
+        it and the value is as it was."""
+        key = _bytes_of(name)
+        _call("rmw", self._store, key, len(key), _input_of(number), self._answer)
+        return None if self._answer.kind == _DECLINED else self._answer.value.value()
+
+    def merge(self, name, number):
+        """Changes the value as `rmw` does, returns nothing, and reads no page."""
+        key = _bytes_of(name)
+        _call("merge", self._store, key, len(key), _input_of(number), self._answer)
+
+    def get(self, name, default=None):
+        """The value of a name, or the default where it has none."""
+        key = _bytes_of(name)
+        _call("read", self._store, key, len(key), self._answer)
+        return default if self._answer.kind == _ABSENT else self._answer.value.value()
+
+    def __setitem__(self, name, value):
+        if not -(1 << 127) <= value < 1 << 127:
+            raise OverflowError("a value has 128 bits")
+        key = _bytes_of(name)
+        number = _Number(value & (1 << 64) - 1, value >> 64)
+        _call("upsert", self._store, key, len(key), ctypes.byref(number), self._answer)
+
+    def __delitem__(self, name):
+        """Removes a name. One that has no value is no error."""
+        key = _bytes_of(name)
+        _call("delete", self._store, key, len(key), self._answer)
+
+
+class Cells(_AnyStore):
+    """A store of 64 bytes for each name, in memory, with the same settings: `cells[name] = bytes`, `cells[name]`, `del cells[name]`."""
+
+    _pair, _next = _CellPair, "next_cell"
+
+    def __init__(self, memory="64M", **settings):
+        self._answer = _CellAnswer()
+        super().__init__(_CELLS, memory, settings)
+
+    def get(self, name, default=None):
+        """The cell of a name, or the default where it has none."""
+        key = _bytes_of(name)
+        _call("get", self._store, key, len(key), self._answer)
+        return default if self._answer.kind == _ABSENT else self._answer.value.value()
+
+    def __setitem__(self, name, cell):
+        if len(cell) != 64:
+            raise ValueError("a cell has 64 bytes")
+        key = _bytes_of(name)
+        _call("put", self._store, key, len(key), _Cell((ctypes.c_ubyte * 64)(*cell)))
+
+    def __delitem__(self, name):
+        """Removes a name. One that has no cell is no error."""
+        key = _bytes_of(name)
+        _call("remove", self._store, key, len(key))

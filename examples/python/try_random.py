@@ -1,4 +1,4 @@
-"""100,000 random operations beside a dict: each answer, and the pairs, names rising, every so often and at the end."""
+"""140,000 random operations beside a dict: each answer, and the pairs, names rising, every so often and at the end."""
 
 import random
 
@@ -14,6 +14,8 @@ def wrapped(value):
 
 def updated(kind, value, amount):
     """What a store of this kind makes of a value, or none, by an amount; None where it declines it."""
+    if kind == fkv.COUNT:
+        return ((value or 0) + 1) % (1 << 64)
     if kind == fkv.MAX:
         return amount if value is None else max(value, amount)
     total = wrapped((value or 0) + amount)
@@ -40,7 +42,8 @@ def step(store, plain, kind, draw):
         update(store, plain, kind, name, amount, what == 5)
     elif what < 7:
         bits = 63 if kind == fkv.MAX else 127
-        plain[name] = draw.randrange(-(1 << bits), 1 << bits)
+        least, end = (0, 1 << 64) if kind == fkv.COUNT else (-(1 << bits), 1 << bits)
+        plain[name] = draw.randrange(least, end)
         store[name] = plain[name]
     elif what < 8:
         plain.pop(name, None)
@@ -71,6 +74,26 @@ def run(seed, kind, steps, **settings):
         return store.counts()["evicted"]
 
 
+def run_cells(seed, steps, **settings):
+    """So many operations of a store of cells with these settings; returns how many bytes left its frames."""
+    draw, plain = random.Random(seed), {}
+    with fkv.Cells(**settings) as cells:
+        for number in range(steps):
+            name = draw.choice(NAMES)
+            what = draw.randrange(4)
+            if what < 2:
+                plain[name] = cells[name] = draw.randbytes(64)
+            elif what < 3:
+                plain.pop(name, None)
+                del cells[name]
+            assert cells.get(name) == plain.get(name), name
+            if number % 10_000 == 0:
+                compare(cells, plain)
+                cells.compact()
+        compare(cells, plain)
+        return cells.counts()["evicted"]
+
+
 def refused(name, call):
     """Whether a call raises the fault of this name."""
     try:
@@ -86,9 +109,14 @@ assert run(1, fkv.SUM, 40_000, memory="64M") == 0
 assert run(2, fkv.SUM, 20_000, **SMALL) > 0
 assert run(3, fkv.MAX, 20_000, **SMALL) > 0
 assert run(4, fkv.CAPPED_SUM, 20_000, **SMALL) > 0
+assert run(5, fkv.COUNT, 20_000, **SMALL) > 0
+assert run_cells(6, 20_000, **SMALL) > 0
 
 assert refused("BadConfig", lambda: fkv.Store(fkv.SUM, frames=1))
 assert refused("BadKind", lambda: fkv.Store(99))
+assert refused("BadKind", lambda: fkv.Store(5))
+with fkv.Store(fkv.COUNT) as store:
+    assert refused("OutOfRange", lambda: store.__setitem__("apples", -1))
 with fkv.Store(fkv.MAX) as store:
     assert refused("OutOfRange", lambda: store.__setitem__("apples", 1 << 63))
 with fkv.Store(fkv.CAPPED_SUM) as store:
@@ -107,4 +135,4 @@ with fkv.Store(fkv.SUM) as store:
     assert list(first) == list(second) == []
 assert refused("Closed", lambda: store.rmw("apples", 5))
 store.close()
-print("100,000 random operations agree with a dict")
+print("140,000 random operations agree with a dict")

@@ -1,3 +1,4 @@
 pub mod Loosely
 pub mod Handling
 pub mod LeadLemmas
+pub mod CountLemmas

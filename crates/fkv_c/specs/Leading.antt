@@ -1,5 +1,5 @@
 -- What a handle leads to: nothing, a store, which is a plain map, or pairs.
-use Rattle.std.specs.Prelude.{◌≡◌, ◌≢◌, ◌<◌, ◌-◌, ◌^◌, ◌⊎◌, ℕ, ℤ, List, [], ◌∷◌, length, map, All, min, sum_by, Option, Some, None, Result, Ok, Err}
+use Rattle.std.specs.Prelude.{◌≡◌, ◌≢◌, ◌<◌, ◌-◌, ◌^◌, ◌⊎◌, ◌==◌, if◌then◌else◌, ⊤, ℕ, ℤ, List, [], ◌∷◌, length, map, All, min, sum_by, Option, Some, None, Result, Ok, Err}
 use Rattle.std.specs.BTreeMap.{get}
 use Rattle.std.specs.BTreeMap.Range.{IsLtBy}
 use Rattle.fkv_functions.specs.declared.names.Name.{Name}
@@ -12,29 +12,54 @@ use Rattle.fkv_functions.specs.Plain.{PlainMap, Same}
 use Rattle.fkv_operations.specs.After.{after, answer}
 use Rattle.fkv_operations.specs.declared.operations.KeyedOp.{KeyedOp}
 use Rattle.fkv_operations.specs.declared.operations.Answer.{Answer}
-use Rattle.fkv_local.specs.Storing.{plain, log_bytes, evicted_bytes}
+use Rattle.fkv_local.specs.Storing.{StoreView, plain, log_bytes, evicted_bytes}
 use Rattle.fkv_c.specs.Statuses.{refusal_number}
+use Rattle.fkv_c.specs.Counting.{counted, whole, whole_pairs}
 use Rattle.fkv_c.specs.Crossing.{answer_of, pair_of}
+use Rattle.fkv_c.specs.Cells.{blind, cell_answer_of, cell_pair_of}
+use Rattle.fkv_c.specs.declared.cells.Cell.{Cell}
+use Rattle.fkv_c.specs.declared.cells.CellTold.{CellTold}
+use Rattle.fkv_c.specs.declared.cells.CellPair.{CellPair}
 use Rattle.fkv_c.specs.declared.numbers.Told.{Told}
 use Rattle.fkv_c.specs.declared.numbers.Pair.{Pair}
 use Rattle.fkv_c.specs.declared.handles.Held.{Held}
-use Rattle.fkv_c.specs.declared.handles.Held.TheVariants.{Sums, Maxima, CappedSums, SumPairs, MaxPairs}
+use Rattle.fkv_c.specs.declared.handles.Held.TheVariants.{Sums, Maxima, CappedSums, Counts, Cells, SumPairs, MaxPairs, CountPairs, CellPairs}
 use Rattle.fkv_c.specs.declared.faults.Fault.{Fault}
 use Rattle.fkv_c.specs.declared.faults.Fault.TheVariants as fault
 
 pub data Kind : Type 0 where
   Shut : Kind
   Store : Kind
+  CellStore : Kind
   Cursor : Kind
+  CellCursor : Kind
 
--- what a handle is
+-- what a handle is: of numbers, or of cells
 abbrev pub kind_of : Option Held → Kind
 kind_of None = Shut
 kind_of (Some (Sums s)) = Store
 kind_of (Some (Maxima s)) = Store
 kind_of (Some (CappedSums s)) = Store
+kind_of (Some (Counts s)) = Store
+kind_of (Some (Cells s)) = CellStore
 kind_of (Some (SumPairs p)) = Cursor
 kind_of (Some (MaxPairs p)) = Cursor
+kind_of (Some (CountPairs p)) = Cursor
+kind_of (Some (CellPairs p)) = CellCursor
+
+-- the kind of a store of the functions of this number
+abbrev pub store_kind : ℕ → Kind
+store_kind n = if n == 5 then CellStore else Store
+
+-- whether it is a store, and what cursor is made of it
+abbrev pub IsStore : Kind → Type 0
+IsStore Store = ⊤
+IsStore CellStore = ⊤
+IsStore other = ⊥
+
+abbrev pub cursor_of : Kind → Kind
+cursor_of CellStore = CellCursor
+cursor_of other = Cursor
 
 -- the number of a store's functions, and what they mean
 abbrev pub set_of : Option Held → ℕ
@@ -42,81 +67,148 @@ set_of None = 0
 set_of (Some (Sums s)) = 1
 set_of (Some (Maxima s)) = 2
 set_of (Some (CappedSums s)) = 3
+set_of (Some (Counts s)) = 4
+set_of (Some (Cells s)) = 5
 set_of (Some (SumPairs p)) = 0
 set_of (Some (MaxPairs p)) = 0
+set_of (Some (CountPairs p)) = 0
+set_of (Some (CellPairs p)) = 0
 
 abbrev pub meaning_of : Option Held → Meanings Name ℤ ℤ ℤ
 meaning_of None = sums
 meaning_of (Some (Sums s)) = sums
 meaning_of (Some (Maxima s)) = maxima
 meaning_of (Some (CappedSums s)) = capped_sums
+meaning_of (Some (Counts s)) = counted
+meaning_of (Some (Cells s)) = sums
 meaning_of (Some (SumPairs p)) = sums
 meaning_of (Some (MaxPairs p)) = sums
+meaning_of (Some (CountPairs p)) = sums
+meaning_of (Some (CellPairs p)) = sums
 
 -- the number by which a name is sent to its partition
 abbrev pub name_code : Name → ℕ
 name_code k = fnv_1a (text_of k)
 
--- THE PLAIN MAP THAT A HANDLE LEADS TO: the store's, the pairs that a cursor still has, or the empty one
+-- THE PLAIN MAP THAT A HANDLE LEADS TO, of numbers: the store's, the pairs that a cursor still has, or the empty one
 abbrev pub map_of : Option Held → PlainMap Name ℤ
 map_of None = λ k. None
 map_of (Some (Sums s)) = plain name_cmp name_code s
 map_of (Some (Maxima s)) = plain name_cmp name_code s
 map_of (Some (CappedSums s)) = plain name_cmp name_code s
+map_of (Some (Counts s)) = whole (plain name_cmp name_code s)
+map_of (Some (Cells s)) = λ k. None
 map_of (Some (SumPairs p)) = get name_cmp p
 map_of (Some (MaxPairs p)) = get name_cmp p
+map_of (Some (CountPairs p)) = whole (get name_cmp p)
+map_of (Some (CellPairs p)) = λ k. None
+
+-- and of cells
+abbrev pub cells_of : Option Held → PlainMap Name Cell
+cells_of None = λ k. None
+cells_of (Some (Sums s)) = λ k. None
+cells_of (Some (Maxima s)) = λ k. None
+cells_of (Some (CappedSums s)) = λ k. None
+cells_of (Some (Counts s)) = λ k. None
+cells_of (Some (Cells s)) = plain name_cmp name_code s
+cells_of (Some (SumPairs p)) = λ k. None
+cells_of (Some (MaxPairs p)) = λ k. None
+cells_of (Some (CountPairs p)) = λ k. None
+cells_of (Some (CellPairs p)) = get name_cmp p
+
+-- both maps of a handle are those of another
+pub record LeadsAsMuch (old new : Option Held) : Type 0 where
+  pub numbers : Same (map_of new) (map_of old)
+  pub cells : Same (cells_of new) (cells_of old)
 
 -- AN OPERATION ON THE STORE OF A HANDLE came to this, and made `new` of the map `old`: where it is done, `new` is `old` after the
 -- operation, and the answer is the plain map's; where it is not, `new` is `old`
-abbrev pub IsMade : Meanings Name ℤ ℤ ℤ → PlainMap Name ℤ → PlainMap Name ℤ → KeyedOp Name ℤ ℤ → Result (Answer ℤ) Fault → Type 0
+abbrev pub IsMade : {V O : Type 0} → Meanings Name V ℤ O → PlainMap Name V → PlainMap Name V → KeyedOp Name V ℤ
+    → Result (Answer O) Fault → Type 0
 IsMade f old new op (Ok a) = Same new (after name_cmp f old op) × (a ≡ answer f old op)
 IsMade f old new op (Err why) = Same new old
 
--- why a call that wants a store does nothing: the handle is no store's, the number is too large for its functions, or the store refuses
+-- a store refuses
+abbrev pub IsRefusal : Fault → Type 0
+IsRefusal why = (r : Refused) × (why ≡ fault.Refused r)
+
+-- why a call that wants a store does nothing: the handle is no store's, or the store refuses
 abbrev pub IsStoreFault : Kind → Fault → Type 0
 IsStoreFault Shut why = why ≡ fault.Closed
-IsStoreFault Store why = (why ≡ fault.OutOfRange) ⊎ ((r : Refused) × (why ≡ fault.Refused r))
+IsStoreFault Store why = IsRefusal why
+IsStoreFault CellStore why = IsRefusal why
 IsStoreFault Cursor why = why ≡ fault.NotAStore
+IsStoreFault CellCursor why = why ≡ fault.NotAStore
 
--- the pairs that a cursor still has, keys rising
+-- the same of one that wants a store of numbers, where the number may be too large for its functions, and of one that wants cells
+abbrev pub IsNumberFault : Kind → Fault → Type 0
+IsNumberFault Store why = (why ≡ fault.OutOfRange) ⊎ IsRefusal why
+IsNumberFault CellStore why = why ≡ fault.NotNumbers
+IsNumberFault other why = IsStoreFault other why
+
+abbrev pub IsCellFault : Kind → Fault → Type 0
+IsCellFault Store why = why ≡ fault.NotCells
+IsCellFault other why = IsStoreFault other why
+
+-- the pairs that a cursor still has, keys rising: of numbers
 abbrev pub pairs_of : Option Held → List (Name × ℤ)
 pairs_of None = []
 pairs_of (Some (Sums s)) = []
 pairs_of (Some (Maxima s)) = []
 pairs_of (Some (CappedSums s)) = []
+pairs_of (Some (Counts s)) = []
+pairs_of (Some (Cells s)) = []
 pairs_of (Some (SumPairs p)) = p.entries
 pairs_of (Some (MaxPairs p)) = p.entries
+pairs_of (Some (CountPairs p)) = whole_pairs p.entries
+pairs_of (Some (CellPairs p)) = []
+
+-- and of cells
+abbrev pub cell_pairs_of : Option Held → List (Name × Cell)
+cell_pairs_of (Some (CellPairs p)) = p.entries
+cell_pairs_of other = []
 
 -- the first of these pairs is told, and those behind it are left; or there is none
-abbrev pub IsNext : List (Name × ℤ) → List (Name × ℤ) → Option (Name × ℤ) → Type 0
+abbrev pub IsNext : {V : Type 0} → List (Name × V) → List (Name × V) → Option (Name × V) → Type 0
 IsNext [] new told = (new ≡ []) × (told ≡ None)
 IsNext (p ∷ ps) new told = (new ≡ ps) × (told ≡ Some p)
 
 -- the first of these pairs has the least name
-abbrev pub FirstIsLeast : List (Name × ℤ) → Type 0
+abbrev pub FirstIsLeast : {V : Type 0} → List (Name × V) → Type 0
 FirstIsLeast [] = Unit {0}
 FirstIsLeast (p ∷ ps) = All (IsLtBy name_cmp p.0) (map (λ q. q.0) ps)
 
 -- a store holds so many bytes in its logs, so many of them below Head, and has taken so many moments
+abbrev pub IsSize : {K V I P : Type 0} → StoreView K V I P → ℕ → ℕ → ℕ → Type 0
+IsSize s bytes evicted moments = (bytes ≡ min (sum_by log_bytes s.parts) (2 ^ 64 - 1))
+    × (evicted ≡ min (sum_by evicted_bytes s.parts) (2 ^ 64 - 1)) × (moments ≡ s.moments)
+
 abbrev pub AreCounts : Option Held → ℕ → ℕ → ℕ → Type 0
 AreCounts None bytes evicted moments = ⊥
-AreCounts (Some (Sums s)) bytes evicted moments =
-    (bytes ≡ min (sum_by log_bytes s.parts) (2 ^ 64 - 1)) × (evicted ≡ min (sum_by evicted_bytes s.parts) (2 ^ 64 - 1))
-    × (moments ≡ s.moments)
-AreCounts (Some (Maxima s)) bytes evicted moments =
-    (bytes ≡ min (sum_by log_bytes s.parts) (2 ^ 64 - 1)) × (evicted ≡ min (sum_by evicted_bytes s.parts) (2 ^ 64 - 1))
-    × (moments ≡ s.moments)
-AreCounts (Some (CappedSums s)) bytes evicted moments =
-    (bytes ≡ min (sum_by log_bytes s.parts) (2 ^ 64 - 1)) × (evicted ≡ min (sum_by evicted_bytes s.parts) (2 ^ 64 - 1))
-    × (moments ≡ s.moments)
+AreCounts (Some (Sums s)) bytes evicted moments = IsSize s bytes evicted moments
+AreCounts (Some (Maxima s)) bytes evicted moments = IsSize s bytes evicted moments
+AreCounts (Some (CappedSums s)) bytes evicted moments = IsSize s bytes evicted moments
+AreCounts (Some (Counts s)) bytes evicted moments = IsSize s bytes evicted moments
+AreCounts (Some (Cells s)) bytes evicted moments = IsSize s bytes evicted moments
 AreCounts (Some (SumPairs p)) bytes evicted moments = ⊥
 AreCounts (Some (MaxPairs p)) bytes evicted moments = ⊥
+AreCounts (Some (CountPairs p)) bytes evicted moments = ⊥
+AreCounts (Some (CellPairs p)) bytes evicted moments = ⊥
 
--- the statuses of an operation on a handle
+-- the statuses of an operation on numbers, and of one on cells
 abbrev pub IsStatus : Kind → ℕ → Type 0
 IsStatus Shut status = status ≡ 32
 IsStatus Store status = (status ≡ 0) ⊎ (status ≡ 40) ⊎ ((why : Refused) × (status ≡ refusal_number why))
+IsStatus CellStore status = status ≡ 41
 IsStatus Cursor status = status ≡ 34
+IsStatus CellCursor status = status ≡ 34
+
+abbrev pub IsCellStatus : Kind → ℕ → Type 0
+IsCellStatus Shut status = status ≡ 32
+IsCellStatus Store status = status ≡ 42
+IsCellStatus CellStore status = (status ≡ 0) ⊎ ((why : Refused) × (status ≡ refusal_number why))
+IsCellStatus Cursor status = status ≡ 34
+IsCellStatus CellCursor status = status ≡ 34
 
 -- AN OPERATION ON A HANDLE, BY ITS STATUS: where that is 0, the map is what the plain one's operation makes of it, and its answer
 -- is written; else the map and what stood for the answer are left
@@ -126,6 +218,7 @@ pub record IsPerformed (old new : Option Held) (op : KeyedOp Name ℤ ℤ) (befo
   pub told : IsStatus (kind_of old) status
   pub done : status ≡ 0 → Same (map_of new) (after name_cmp (meaning_of old) (map_of old) op) × (after_it ≡ answer_of (answer (meaning_of old) (map_of old) op))
   pub left : status ≢ 0 → Same (map_of new) (map_of old) × (after_it ≡ before)
+  pub cells : Same (cells_of new) (cells_of old)
 
 -- the same of the operation on the key of these bytes
 abbrev pub IsPerformedAt : List ℕ → Option Held → Option Held → (Name → KeyedOp Name ℤ ℤ) → Told → Told → ℕ → Type 0
@@ -139,3 +232,21 @@ IsNoKey key = (length key ≡ 0) ⊎ (31 < length key)
 abbrev pub IsNextTold : List (Name × ℤ) → List (Name × ℤ) → Pair → Type 0
 IsNextTold [] new told = (new ≡ []) × (told ≡ pair_of None)
 IsNextTold (p ∷ ps) new told = (new ≡ ps) × (told ≡ pair_of (Some p))
+
+-- AN OPERATION ON THE CELLS OF A HANDLE, BY ITS STATUS: where that is 0, they are what the plain map's operation makes of them; else
+-- they are left
+pub record IsCellPerformed (old new : Option Held) (op : KeyedOp Name Cell ℤ) (status : ℕ) : Type 0 where
+  pub kind : kind_of new ≡ kind_of old
+  pub set : set_of new ≡ set_of old
+  pub told : IsCellStatus (kind_of old) status
+  pub done : status ≡ 0 → Same (cells_of new) (after name_cmp blind (cells_of old) op)
+  pub left : status ≢ 0 → Same (cells_of new) (cells_of old)
+  pub numbers : Same (map_of new) (map_of old)
+
+-- the same of the operation on the key of these bytes
+abbrev pub IsCellPerformedAt : List ℕ → Option Held → Option Held → (Name → KeyedOp Name Cell ℤ) → ℕ → Type 0
+IsCellPerformedAt key old new op status = (k : Name) → text_of k ≡ key → IsCellPerformed old new (op k) status
+
+abbrev pub IsCellNextTold : List (Name × Cell) → List (Name × Cell) → CellPair → Type 0
+IsCellNextTold [] new told = (new ≡ []) × (told ≡ cell_pair_of None)
+IsCellNextTold (p ∷ ps) new told = (new ≡ ps) × (told ≡ cell_pair_of (Some p))

@@ -1,4 +1,6 @@
 pub mod Holding
 pub mod Statuses
 pub mod Crossing
+pub mod Counting
+pub mod Cells
 pub mod Leading

@@ -41,3 +41,5 @@ fault_number fault.NotACursor = 35
 fault_number fault.BadKey = 36
 fault_number fault.BadKind = 37
 fault_number fault.OutOfRange = 40
+fault_number fault.NotNumbers = 41
+fault_number fault.NotCells = 42

@@ -2,7 +2,8 @@
 ghost use Rattle.std.specs.Prelude.{◌≡◌, None, Some, IfOk, IfErr, OnOk};
 ghost use Rattle.fkv_functions.specs.Plain.{Same};
 ghost use Rattle.fkv_functions.specs.declared.refusals.Refused.TheVariants.{NoMemory};
-ghost use Rattle.fkv_c.specs.Leading.{Store, Cursor, kind_of, set_of, meaning_of, map_of, pairs_of, FirstIsLeast, IsMade, IsNext, AreCounts, IsStoreFault};
+ghost use Rattle.fkv_c.specs.Leading.{Store, IsStore, Cursor, cursor_of, kind_of, set_of, store_kind, meaning_of, map_of, cells_of, LeadsAsMuch};
+ghost use Rattle.fkv_c.specs.Leading.{pairs_of, FirstIsLeast, IsMade, IsNext, AreCounts, IsStoreFault, IsNumberFault};
 ghost use Rattle.fkv_c.specs.declared.faults.Fault.TheVariants as fault;
 
 use crate::faults::Fault;
@@ -22,8 +23,9 @@ pub(crate) fn open(
     handle: &mut Handle,
 ) -> Result<(), Fault>
     ensures opened { OnOk result (set_of handle.new.held ≡ kind) }
-    ensures store { OnOk result (kind_of handle.new.held ≡ Store) }
+    ensures store { OnOk result (kind_of handle.new.held ≡ store_kind kind) }
     ensures empty { OnOk result ((k : Name) → map_of handle.new.held k ≡ None) }
+    ensures no_cells { OnOk result ((k : Name) → cells_of handle.new.held k ≡ None) }
     ensures was { OnOk result (handle.old.held ≡ None) }
     ensures same { IfErr result (λ why. handle.new.held ≡ handle.old.held) }
 {
@@ -52,13 +54,14 @@ fn lead(alloc: Global, handle: &mut Handle, held: Held) -> Result<(), Fault>
     }
 }
 
-/// Makes an operation.
+/// Makes an operation on a store of numbers.
 pub(crate) fn operate(alloc: Global, handle: &mut Handle, op: AnyOp) -> Result<Answer<i128>, Fault>
     ensures made { IsMade (meaning_of handle.old.held) (map_of handle.old.held) (map_of handle.new.held) op result }
     ensures set { set_of handle.new.held ≡ set_of handle.old.held }
     ensures kind { kind_of handle.new.held ≡ kind_of handle.old.held }
     ensures store { OnOk result (kind_of handle.old.held ≡ Store) }
-    ensures told { IfErr result (IsStoreFault (kind_of handle.old.held)) }
+    ensures cells { Same (cells_of handle.new.held) (cells_of handle.old.held) }
+    ensures told { IfErr result (IsNumberFault (kind_of handle.old.held)) }
 {
     match handle.take(alloc) {
         None => Err(Fault::Closed),
@@ -72,10 +75,10 @@ pub(crate) fn operate(alloc: Global, handle: &mut Handle, op: AnyOp) -> Result<A
 
 /// Appends what lives at the start of the logs again, and cuts that start. Answers whether any was cut.
 pub(crate) fn compact(alloc: Global, handle: &mut Handle) -> Result<bool, Fault>
-    ensures same { Same (map_of handle.new.held) (map_of handle.old.held) }
+    ensures same { LeadsAsMuch handle.old.held handle.new.held }
     ensures kind { kind_of handle.new.held ≡ kind_of handle.old.held }
     ensures set { set_of handle.new.held ≡ set_of handle.old.held }
-    ensures store { OnOk result (kind_of handle.old.held ≡ Store) }
+    ensures store { OnOk result (IsStore (kind_of handle.old.held)) }
     ensures told { IfErr result (IsStoreFault (kind_of handle.old.held)) }
 {
     match handle.take(alloc) {
@@ -106,12 +109,12 @@ pub(crate) fn counts(alloc: Global, handle: &mut Handle) -> Result<Counts, Fault
 
 /// Opens a closed handle as a cursor over the pairs of a store, keys rising.
 pub(crate) fn list(alloc: Global, from: &mut Handle, into: &mut Handle) -> Result<(), Fault>
-    ensures same { Same (map_of from.new.held) (map_of from.old.held) }
+    ensures same { LeadsAsMuch from.old.held from.new.held }
     ensures kind { kind_of from.new.held ≡ kind_of from.old.held }
     ensures set { set_of from.new.held ≡ set_of from.old.held }
-    ensures opened { OnOk result (kind_of into.new.held ≡ Cursor) }
-    ensures pairs { OnOk result (Same (map_of into.new.held) (map_of from.old.held)) }
-    ensures store { OnOk result (kind_of from.old.held ≡ Store) }
+    ensures opened { OnOk result (kind_of into.new.held ≡ cursor_of (kind_of from.old.held)) }
+    ensures pairs { OnOk result (LeadsAsMuch from.old.held into.new.held) }
+    ensures store { OnOk result (IsStore (kind_of from.old.held)) }
     ensures left { IfErr result (λ why. into.new.held ≡ into.old.held) }
 {
     if !into.is_closed(alloc) {
@@ -125,12 +128,12 @@ pub(crate) fn list(alloc: Global, from: &mut Handle, into: &mut Handle) -> Resul
 
 /// The pairs of a store, for a cursor.
 fn live(alloc: Global, handle: &mut Handle) -> Result<Held, Fault>
-    ensures pairs { IfOk result (λ pairs. Same (map_of (Some pairs)) (map_of handle.old.held)) }
-    ensures cursor { IfOk result (λ pairs. kind_of (Some pairs) ≡ Cursor) }
-    ensures same { Same (map_of handle.new.held) (map_of handle.old.held) }
+    ensures pairs { IfOk result (λ pairs. LeadsAsMuch handle.old.held (Some pairs)) }
+    ensures cursor { IfOk result (λ pairs. kind_of (Some pairs) ≡ cursor_of (kind_of handle.old.held)) }
+    ensures same { LeadsAsMuch handle.old.held handle.new.held }
     ensures kind { kind_of handle.new.held ≡ kind_of handle.old.held }
     ensures set { set_of handle.new.held ≡ set_of handle.old.held }
-    ensures store { OnOk result (kind_of handle.old.held ≡ Store) }
+    ensures store { OnOk result (IsStore (kind_of handle.old.held)) }
     ensures told { IfErr result (IsStoreFault (kind_of handle.old.held)) }
 {
     match handle.take(alloc) {
@@ -143,7 +146,7 @@ fn live(alloc: Global, handle: &mut Handle) -> Result<Held, Fault>
     }
 }
 
-/// The least pair that a cursor still has, which it has no more then.
+/// The least pair that a cursor over numbers still has, which it has no more then.
 pub(crate) fn next(alloc: Global, handle: &mut Handle) -> Result<Option<(Name, i128)>, Fault>
     ensures told { IfOk result (λ pair. IsNext (pairs_of handle.old.held) (pairs_of handle.new.held) pair) }
     ensures least { OnOk result (FirstIsLeast (pairs_of handle.old.held)) }

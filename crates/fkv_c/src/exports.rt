@@ -1,9 +1,9 @@
 //! What C calls. `include/fkv.h` says what C owes.
 ghost use Rattle.std.specs.Prelude.{◌≡◌, ◌≢◌, pos, length, None};
-ghost use Rattle.fkv_functions.specs.Plain.{Same};
 ghost use Rattle.fkv_operations.specs.declared.operations.KeyedOp.TheVariants.{Read, Upsert, Rmw, Delete, Merge};
 ghost use Rattle.fkv_c.specs.Crossing.{value_of};
-ghost use Rattle.fkv_c.specs.Leading.{Store, Cursor, kind_of, set_of, map_of, pairs_of, FirstIsLeast, IsNextTold, AreCounts, IsPerformed, IsPerformedAt, IsNoKey};
+ghost use Rattle.fkv_c.specs.Leading.{Store, IsStore, Cursor, cursor_of, kind_of, set_of, store_kind, map_of, cells_of, LeadsAsMuch};
+ghost use Rattle.fkv_c.specs.Leading.{pairs_of, FirstIsLeast, IsNextTold, AreCounts, IsPerformed, IsPerformedAt, IsNoKey};
 
 use crate::calls::{close, compact, counts, list, next, open, operate};
 use crate::faults::{Fault, status_name};
@@ -23,8 +23,9 @@ pub extern "C" fn fkv_c_open(
     settings: &Settings,
 ) -> u32
     ensures opened { result ≡ 0 → set_of store.new.held ≡ kind }
-    ensures store { result ≡ 0 → kind_of store.new.held ≡ Store }
+    ensures store { result ≡ 0 → kind_of store.new.held ≡ store_kind kind }
     ensures empty { result ≡ 0 → (k : Name) → map_of store.new.held k ≡ None }
+    ensures no_cells { result ≡ 0 → (k : Name) → cells_of store.new.held k ≡ None }
     ensures was { result ≡ 0 → store.old.held ≡ None }
     ensures left { result ≢ 0 → store.new.held ≡ store.old.held }
 {
@@ -47,7 +48,7 @@ fn perform(alloc: Global, store: &mut Handle, op: AnyOp, answer: &mut Told) -> u
     }
 }
 
-/// Adds to the value of a key, or gives it its first, and tells the new one.
+/// Changes the value of a key by an input, or gives it its first, and tells the new one.
 #[unsafe(no_mangle)]
 pub extern "C" fn fkv_c_rmw(
     alloc: Global,
@@ -117,7 +118,7 @@ pub extern "C" fn fkv_c_delete(
     }
 }
 
-/// Adds to the value of a key as `fkv_c_rmw` does, tells nothing of it, and reads no page.
+/// Changes the value of a key as `fkv_c_rmw` does, tells nothing of it, and reads no page.
 #[unsafe(no_mangle)]
 pub extern "C" fn fkv_c_merge(
     alloc: Global,
@@ -138,10 +139,10 @@ pub extern "C" fn fkv_c_merge(
 /// Appends what lives at the start of the logs again, and cuts that start. Tells whether any was cut.
 #[unsafe(no_mangle)]
 pub extern "C" fn fkv_c_compact(alloc: Global, store: &mut Handle, has_cut: &mut u32) -> u32
-    ensures same { Same (map_of store.new.held) (map_of store.old.held) }
+    ensures same { LeadsAsMuch store.old.held store.new.held }
     ensures kind { kind_of store.new.held ≡ kind_of store.old.held }
     ensures set { set_of store.new.held ≡ set_of store.old.held }
-    ensures store { result ≡ 0 → kind_of store.old.held ≡ Store }
+    ensures store { result ≡ 0 → IsStore (kind_of store.old.held) }
     ensures left { result ≢ 0 → has_cut.new ≡ has_cut.old }
 {
     match compact(alloc, store) {
@@ -176,12 +177,12 @@ pub extern "C" fn fkv_c_counts(alloc: Global, store: &mut Handle, sizes: &mut Si
 /// Opens a closed handle as a cursor over the pairs that a store has now, keys rising.
 #[unsafe(no_mangle)]
 pub extern "C" fn fkv_c_list(alloc: Global, store: &mut Handle, cursor: &mut Handle) -> u32
-    ensures same { Same (map_of store.new.held) (map_of store.old.held) }
+    ensures same { LeadsAsMuch store.old.held store.new.held }
     ensures kind { kind_of store.new.held ≡ kind_of store.old.held }
     ensures set { set_of store.new.held ≡ set_of store.old.held }
-    ensures opened { result ≡ 0 → kind_of cursor.new.held ≡ Cursor }
-    ensures pairs { result ≡ 0 → Same (map_of cursor.new.held) (map_of store.old.held) }
-    ensures store { result ≡ 0 → kind_of store.old.held ≡ Store }
+    ensures opened { result ≡ 0 → kind_of cursor.new.held ≡ cursor_of (kind_of store.old.held) }
+    ensures pairs { result ≡ 0 → LeadsAsMuch store.old.held cursor.new.held }
+    ensures store { result ≡ 0 → IsStore (kind_of store.old.held) }
     ensures left { result ≢ 0 → cursor.new.held ≡ cursor.old.held }
 {
     match list(alloc, store, cursor) {
@@ -190,7 +191,7 @@ pub extern "C" fn fkv_c_list(alloc: Global, store: &mut Handle, cursor: &mut Han
     }
 }
 
-/// Tells the least pair that a cursor still has, which it has no more then, or that it has none.
+/// Tells the least pair that a cursor over numbers still has, which it has no more then, or that it has none.
 #[unsafe(no_mangle)]
 pub extern "C" fn fkv_c_next(alloc: Global, cursor: &mut Handle, pair: &mut Pair) -> u32
     ensures told { result ≡ 0 → IsNextTold (pairs_of cursor.old.held) (pairs_of cursor.new.held) pair.new }

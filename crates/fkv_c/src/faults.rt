@@ -21,8 +21,12 @@ pub enum Fault {
     BadKey,
     /// There are no functions of this number.
     BadKind,
-    /// The value has more bits than the functions' values.
+    /// The value has more bits than the functions' values, or is below 0 and a count.
     OutOfRange,
+    /// The handle leads to cells, and numbers are asked for.
+    NotNumbers,
+    /// The handle leads to numbers, and cells are asked for.
+    NotCells,
 }
 
 impl Fault {
@@ -40,6 +44,8 @@ impl Fault {
             Fault::BadKey => 36,
             Fault::BadKind => 37,
             Fault::OutOfRange => 40,
+            Fault::NotNumbers => 41,
+            Fault::NotCells => 42,
         }
     }
 }
@@ -106,6 +112,8 @@ pub(crate) fn status_name(status: u32) -> &'static str {
         38 => "Null",
         39 => "Same",
         40 => "OutOfRange",
+        41 => "NotNumbers",
+        42 => "NotCells",
         _ => "?",
     }
 }

@@ -4,9 +4,10 @@ ghost use Rattle.std.specs.Coded.{coded_option};
 ghost use Rattle.fkv_c.specs.declared.handles.Held.{Held};
 ghost use Rattle.fkv_c.specs.contracts.handles.Held.{the_row};
 
+use crate::cells::{Cell, CellFns};
 use crate::loose::Loose;
 use fkv_device::MemoryDevice;
-use fkv_functions::{CappedSumFns, MaxFns, Name, SumFns};
+use fkv_functions::{CappedSumFns, CountFns, MaxFns, Name, SumFns};
 use fkv_local::LocalStore;
 use std::alloc::Global;
 use std::collections::BTreeMap;
@@ -23,10 +24,18 @@ pub enum Held {
     Maxima(LocalStore<MaxFns, MemoryDevice>),
     /// A store of capped sums.
     CappedSums(LocalStore<CappedSumFns, MemoryDevice>),
+    /// A store of counts.
+    Counts(LocalStore<CountFns, MemoryDevice>),
+    /// A store of cells.
+    Cells(LocalStore<CellFns, MemoryDevice>),
     /// What a cursor over the pairs of a store of sums, capped or not, still has to tell.
     SumPairs(BTreeMap<Name, i128>),
     /// What one over those of a store of maxima has.
     MaxPairs(BTreeMap<Name, i64>),
+    /// What one over those of a store of counts has.
+    CountPairs(BTreeMap<Name, u64>),
+    /// What one over those of a store of cells has.
+    CellPairs(BTreeMap<Name, Cell>),
 }
 
 /// A handle, in memory of C's: a pointer that C neither reads nor writes, null where the handle is closed. It is no `Drop`, so

@@ -2,6 +2,10 @@
 #![tactic(auto)]
 
 mod calls;
+mod cell_calls;
+pub mod cell_exports;
+pub mod cells;
+mod counting;
 pub mod exports;
 pub mod faults;
 pub mod handles;

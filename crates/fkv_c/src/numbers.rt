@@ -110,7 +110,7 @@ impl Pair {
 }
 
 /// These bytes, 32 at most, and zeros behind them.
-fn padded(bytes: &[u8]) -> [u8; 32]
+pub(crate) fn padded(bytes: &[u8]) -> [u8; 32]
     requires { length bytes.now ≤ 32 }
     ensures { result ≡ bytes.now ++ replicate (32 - length bytes.now) 0 }
 {

@@ -4,25 +4,29 @@ ghost use Rattle.fkv_functions.specs.Names.{name_cmp};
 ghost use Rattle.fkv_functions.specs.Plain.{Same};
 ghost use Rattle.fkv_functions.specs.Sets.{sums, maxima, capped_sums};
 ghost use Rattle.fkv_local.specs.Storing.{plain, IsRun};
-ghost use Rattle.fkv_c.specs.Leading.{Store, Cursor, kind_of, set_of, meaning_of, map_of, name_code, pairs_of, FirstIsLeast, IsMade, IsNext, AreCounts, IsStoreFault};
+ghost use Rattle.fkv_c.specs.Leading.{Store, IsStore, Cursor, cursor_of, kind_of, set_of, store_kind, meaning_of, map_of, cells_of, LeadsAsMuch, name_code};
+ghost use Rattle.fkv_c.specs.Leading.{pairs_of, FirstIsLeast, IsMade, IsNext, AreCounts, IsStoreFault, IsNumberFault};
 
+use crate::cells::CellFns;
+use crate::counting::run_counts;
 use crate::faults::Fault;
 use crate::handles::Held;
 use fkv_device::MemoryDevice;
-use fkv_functions::{CappedSumFns, MaxFns, Name, Refused, SumFns};
+use fkv_functions::{CappedSumFns, CountFns, MaxFns, Name, SumFns};
 use fkv_local::{Counts, LocalStore};
 use fkv_operations::{Answer, KeyedOp};
 use fkv_partition::Config;
 use std::alloc::Global;
 
-/// An operation of any of the sets.
+/// An operation of any of the sets of numbers.
 pub(crate) type AnyOp = KeyedOp<Name, i128, i64>;
 
 /// An empty store of the functions of this number.
 pub(crate) fn made(alloc: Global, kind: u32, config: &Config) -> Result<Held, Fault>
     ensures set { IfOk result (λ h. set_of (Some h) ≡ kind) }
-    ensures store { IfOk result (λ h. kind_of (Some h) ≡ Store) }
+    ensures store { IfOk result (λ h. kind_of (Some h) ≡ store_kind kind) }
     ensures empty { IfOk result (λ h. (k : Name) → map_of (Some h) k ≡ None) }
+    ensures no_cells { IfOk result (λ h. (k : Name) → cells_of (Some h) k ≡ None) }
 {
     let device = &mut MemoryDevice::new(alloc);
     match kind {
@@ -38,30 +42,43 @@ pub(crate) fn made(alloc: Global, kind: u32, config: &Config) -> Result<Held, Fa
             Ok(store) => Ok(Held::CappedSums(store)),
             Err(refused) => Err(Fault::Refused(refused)),
         },
+        4 => match LocalStore::open(alloc, config, CountFns, device) {
+            Ok(store) => Ok(Held::Counts(store)),
+            Err(refused) => Err(Fault::Refused(refused)),
+        },
+        5 => match LocalStore::open(alloc, config, CellFns, device) {
+            Ok(store) => Ok(Held::Cells(store)),
+            Err(refused) => Err(Fault::Refused(refused)),
+        },
         _ => Err(Fault::BadKind),
     }
 }
 
-/// Makes an operation.
+/// Makes an operation on a store of numbers.
 pub(crate) fn operate_held(held: &mut Held, op: AnyOp) -> Result<Answer<i128>, Fault>
     ensures made { IsMade (meaning_of (Some held.old)) (map_of (Some held.old)) (map_of (Some held.new)) op result }
     ensures kind { kind_of (Some held.new) ≡ kind_of (Some held.old) }
     ensures set { set_of (Some held.new) ≡ set_of (Some held.old) }
     ensures store { OnOk result (kind_of (Some held.old) ≡ Store) }
-    ensures told { IfErr result (IsStoreFault (kind_of (Some held.old))) }
+    ensures cells { Same (cells_of (Some held.new)) (cells_of (Some held.old)) }
+    ensures told { IfErr result (IsNumberFault (kind_of (Some held.old))) }
 {
     match held {
         Held::Sums(store) => run_sums(store, op),
         Held::Maxima(store) => run_maxima(store, op),
         Held::CappedSums(store) => run_capped(store, op),
-        Held::SumPairs(_) | Held::MaxPairs(_) => Err(Fault::NotAStore),
+        Held::Counts(store) => run_counts(store, op),
+        Held::Cells(_) => Err(Fault::NotNumbers),
+        Held::SumPairs(_) | Held::MaxPairs(_) | Held::CountPairs(_) | Held::CellPairs(_) => {
+            Err(Fault::NotAStore)
+        }
     }
 }
 
 /// The same of sums: an update by the call that is for it, which is the fastest.
 fn run_sums(store: &mut LocalStore<SumFns, MemoryDevice>, op: AnyOp) -> Result<Answer<i128>, Fault>
     ensures made { IsMade sums (plain name_cmp name_code store.old) (plain name_cmp name_code store.new) op result }
-    ensures told { IfErr result (IsStoreFault Store) }
+    ensures told { IfErr result (IsNumberFault Store) }
 {
     let result = match op {
         KeyedOp::Rmw(key, input) => store.rmw(&key, &input),
@@ -79,7 +96,7 @@ fn run_capped(
     op: AnyOp,
 ) -> Result<Answer<i128>, Fault>
     ensures made { IsMade capped_sums (plain name_cmp name_code store.old) (plain name_cmp name_code store.new) op result }
-    ensures told { IfErr result (IsStoreFault Store) }
+    ensures told { IfErr result (IsNumberFault Store) }
 {
     let result = match op {
         KeyedOp::Rmw(key, input) => store.rmw(&key, &input),
@@ -97,7 +114,7 @@ fn run_maxima(
     op: AnyOp,
 ) -> Result<Answer<i128>, Fault>
     ensures made { IsMade maxima (plain name_cmp name_code store.old) (plain name_cmp name_code store.new) op result }
-    ensures told { IfErr result (IsStoreFault Store) }
+    ensures told { IfErr result (IsNumberFault Store) }
 {
     let Some(op) = narrowed(op) else {
         return Err(Fault::OutOfRange);
@@ -144,17 +161,21 @@ fn widened(answer: Answer<i64>) -> Answer<i128>
 
 /// Appends what lives at the start of the logs again, and cuts that start. Answers whether any was cut.
 pub(crate) fn compact_held(held: &mut Held) -> Result<bool, Fault>
-    ensures same { Same (map_of (Some held.new)) (map_of (Some held.old)) }
+    ensures same { LeadsAsMuch (Some held.old) (Some held.new) }
     ensures kind { kind_of (Some held.new) ≡ kind_of (Some held.old) }
     ensures set { set_of (Some held.new) ≡ set_of (Some held.old) }
-    ensures store { OnOk result (kind_of (Some held.old) ≡ Store) }
+    ensures store { OnOk result (IsStore (kind_of (Some held.old))) }
     ensures told { IfErr result (IsStoreFault (kind_of (Some held.old))) }
 {
     let result = match held {
         Held::Sums(store) => store.compact(),
         Held::Maxima(store) => store.compact(),
         Held::CappedSums(store) => store.compact(),
-        Held::SumPairs(_) | Held::MaxPairs(_) => return Err(Fault::NotAStore),
+        Held::Counts(store) => store.compact(),
+        Held::Cells(store) => store.compact(),
+        Held::SumPairs(_) | Held::MaxPairs(_) | Held::CountPairs(_) | Held::CellPairs(_) => {
+            return Err(Fault::NotAStore);
+        }
     };
     match result {
         Ok(has_cut) => Ok(has_cut),
@@ -171,18 +192,22 @@ pub(crate) fn counts_held(held: &Held) -> Result<Counts, Fault>
         Held::Sums(store) => Ok(store.counts()),
         Held::Maxima(store) => Ok(store.counts()),
         Held::CappedSums(store) => Ok(store.counts()),
-        Held::SumPairs(_) | Held::MaxPairs(_) => Err(Fault::NotAStore),
+        Held::Counts(store) => Ok(store.counts()),
+        Held::Cells(store) => Ok(store.counts()),
+        Held::SumPairs(_) | Held::MaxPairs(_) | Held::CountPairs(_) | Held::CellPairs(_) => {
+            Err(Fault::NotAStore)
+        }
     }
 }
 
 /// The pairs of a store, for a cursor.
 pub(crate) fn live_held(held: &mut Held) -> Result<Held, Fault>
-    ensures pairs { IfOk result (λ pairs. Same (map_of (Some pairs)) (map_of (Some held.old))) }
-    ensures cursor { IfOk result (λ pairs. kind_of (Some pairs) ≡ Cursor) }
-    ensures same { Same (map_of (Some held.new)) (map_of (Some held.old)) }
+    ensures pairs { IfOk result (λ pairs. LeadsAsMuch (Some held.old) (Some pairs)) }
+    ensures cursor { IfOk result (λ pairs. kind_of (Some pairs) ≡ cursor_of (kind_of (Some held.old))) }
+    ensures same { LeadsAsMuch (Some held.old) (Some held.new) }
     ensures kind { kind_of (Some held.new) ≡ kind_of (Some held.old) }
     ensures set { set_of (Some held.new) ≡ set_of (Some held.old) }
-    ensures store { OnOk result (kind_of (Some held.old) ≡ Store) }
+    ensures store { OnOk result (IsStore (kind_of (Some held.old))) }
     ensures told { IfErr result (IsStoreFault (kind_of (Some held.old))) }
 {
     match held {
@@ -198,11 +223,21 @@ pub(crate) fn live_held(held: &mut Held) -> Result<Held, Fault>
             Ok(pairs) => Ok(Held::SumPairs(pairs)),
             Err(refused) => Err(Fault::Refused(refused)),
         },
-        Held::SumPairs(_) | Held::MaxPairs(_) => Err(Fault::NotAStore),
+        Held::Counts(store) => match store.live() {
+            Ok(pairs) => Ok(Held::CountPairs(pairs)),
+            Err(refused) => Err(Fault::Refused(refused)),
+        },
+        Held::Cells(store) => match store.live() {
+            Ok(pairs) => Ok(Held::CellPairs(pairs)),
+            Err(refused) => Err(Fault::Refused(refused)),
+        },
+        Held::SumPairs(_) | Held::MaxPairs(_) | Held::CountPairs(_) | Held::CellPairs(_) => {
+            Err(Fault::NotAStore)
+        }
     }
 }
 
-/// The least pair that a cursor still has, which it has no more then.
+/// The least pair that a cursor over numbers still has, which it has no more then.
 pub(crate) fn next_held(held: &mut Held) -> Result<Option<(Name, i128)>, Fault>
     ensures told { IfOk result (λ pair. IsNext (pairs_of (Some held.old)) (pairs_of (Some held.new)) pair) }
     ensures least { OnOk result (FirstIsLeast (pairs_of (Some held.old))) }
@@ -216,6 +251,12 @@ pub(crate) fn next_held(held: &mut Held) -> Result<Option<(Name, i128)>, Fault>
             None => Ok(None),
             Some((name, value)) => Ok(Some((name, i128::from(value)))),
         },
-        Held::Sums(_) | Held::Maxima(_) | Held::CappedSums(_) => Err(Fault::NotACursor),
+        Held::CountPairs(pairs) => match pairs.pop_first() {
+            None => Ok(None),
+            Some((name, value)) => Ok(Some((name, i128::from(value)))),
+        },
+        Held::CellPairs(_) => Err(Fault::NotNumbers),
+        Held::Sums(_) | Held::Maxima(_) | Held::CappedSums(_) | Held::Counts(_) | Held::Cells(_) =>
+            Err(Fault::NotACursor),
     }
 }

@@ -1,8 +1,7 @@
-use Rattle.fkv_functions.specs.Plain.{Same}
-use Rattle.fkv_c.specs.Leading.{map_of}
+use Rattle.fkv_c.specs.Leading.{LeadsAsMuch}
 use Rattle.fkv_c.proofs.LeadLemmas.{led}
 use Rattle.fkv_c.proofs.calls.live.Goals as goal
 
 pub returns-in-Some-clause-same : goal.returns-in-Some-clause-same
 returns-in-Some-clause-same c =
-    led (λ o n. Same (map_of n) (map_of o)) c.args.handle.now.held c.put.new.self.held c.in-Some.held.value c.deref_mut.result.now c.live_held-result.new.held c.in-Some.ensures.value c.deref_mut.ensures.value c.put.ensures.value c.live_held-result.ensures.same
+    led LeadsAsMuch c.args.handle.now.held c.put.new.self.held c.in-Some.held.value c.deref_mut.result.now c.live_held-result.new.held c.in-Some.ensures.value c.deref_mut.ensures.value c.put.ensures.value c.live_held-result.ensures.same
