@@ -29,5 +29,5 @@ pub mod updating;
 pub use changes::Write;
 pub use contexts::{Context, Loading, Phase, Progress, ProgressOf, Wait};
 pub use cores::Core;
-pub use limits::Config;
+pub use limits::{Config, kept_page, read_only_page};
 pub use listing::pairs_of;

@@ -1,5 +1,5 @@
 //! The configuration of a store, and its limits.
-ghost use Rattle.std.specs.Prelude.{◌≡◌, ◌^◌, ◌<◌, ◌≤◌, ◌↔◌, IsTrue, IsSome, IfSome};
+ghost use Rattle.std.specs.Prelude.{◌≡◌, ◌-◌, ◌/◌, ◌^◌, ◌<◌, ◌≤◌, ◌↔◌, IsTrue, IsSome, IfSome};
 ghost use Rattle.fkv_records.specs.Records.{size_of};
 
 use fkv_functions::Fixed;
@@ -65,4 +65,20 @@ impl Config {
     {
         1 << self.partition_bits
     }
+}
+
+/// The page below which a log of so many frames is to be read only, while its tail stands in this page: half of the frames change in
+/// place, one at least, and the tail's is the last of them.
+pub fn read_only_page(frames: u64, tail: u64) -> u64
+    ensures { result ≡ tail - (frames / 2 - 1) }
+{
+    tail.saturating_sub((frames / 2).saturating_sub(1))
+}
+
+/// The page below which pages are to leave memory, while the tail of a log of so many frames stands in this page: so that the page
+/// behind the tail's finds its frame free.
+pub fn kept_page(frames: u64, tail: u64) -> u64
+    ensures { result ≡ tail - (frames - 2) }
+{
+    tail.saturating_sub(frames.saturating_sub(2))
 }

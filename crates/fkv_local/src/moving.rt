@@ -11,7 +11,7 @@ use crate::parts::{Part, SLOT};
 use fkv_device::{Disk, Receipt, Written};
 use fkv_functions::{Mergeable, Refused};
 use fkv_operations::Clock;
-use fkv_partition::Partition;
+use fkv_partition::{Partition, kept_page, read_only_page};
 use std::alloc::Global;
 
 /// Refreshes the session. Refused: `Worn` where no moment is left.
@@ -168,8 +168,7 @@ pub fn tidy<F: Mergeable, D: Disk>(
         (D.Writer.failures part.new.writer)) }
 {
     let tail = tail_page(&part.partition);
-    let changed = (frames / 2).saturating_sub(1);
-    match freeze(&mut part.partition, tail.saturating_sub(changed), clock) {
+    match freeze(&mut part.partition, read_only_page(frames, tail), clock) {
         Ok(()) => {}
         Err(refused) => return Err(refused),
     }
@@ -177,7 +176,6 @@ pub fn tidy<F: Mergeable, D: Disk>(
         Ok(()) => {}
         Err(refused) => return Err(refused),
     }
-    let kept = tail.saturating_sub(frames.saturating_sub(2));
-    let head = kept.min(part.partition.unflushed());
+    let head = kept_page(frames, tail).min(part.partition.unflushed());
     evict(&mut part.partition, head, clock)
 }

@@ -27,6 +27,6 @@ pub mod sessions;
 pub mod updating;
 
 pub use fkv_core::laws::pendings_stay;
-pub use fkv_core::{Config, Progress, ProgressOf, Wait, pairs_of};
+pub use fkv_core::{Config, Progress, ProgressOf, Wait, kept_page, pairs_of, read_only_page};
 pub use partitions::Partition;
 pub use relocations::{Liveness, Relocation, Stage};

@@ -9,6 +9,7 @@ use crate::stores::Store;
 use fkv_device::{Disk, FlushJob, Written};
 use fkv_functions::{Mergeable, Refused};
 use fkv_histories::Recorder;
+use fkv_partition::{kept_page, read_only_page};
 use fkv_records::Address;
 use std::alloc::Global;
 use std::sync::Wait;
@@ -72,8 +73,7 @@ impl<F: Mergeable, D: Disk, H: Recorder<F>> Store<F, D, H> {
         let mut held = self.locks[at.partition].lock(rt);
         gate.pass(at.worker, at.locked());
         let page = self.page_of(held.tail());
-        let changed = (self.frames / 2).saturating_sub(1);
-        match held.shift_read_only(page.saturating_sub(changed)) {
+        match held.shift_read_only(read_only_page(self.frames, page)) {
             Ok(()) => {
                 self.tell_move(at.partition);
                 Ok(())
@@ -90,9 +90,8 @@ impl<F: Mergeable, D: Disk, H: Recorder<F>> Store<F, D, H> {
         let mut held = self.locks[at.partition].lock(rt);
         gate.pass(at.worker, at.locked());
         let page = self.page_of(held.tail());
-        let kept = page.saturating_sub(self.frames.saturating_sub(2));
-        let written = held.unflushed();
-        let shifted = held.shift_head(kept.min(written));
+        let kept = kept_page(self.frames, page);
+        let shifted = held.shift_head(kept.min(held.unflushed()));
         if let Ok(()) = shifted {
             self.tell_move(at.partition);
         }
