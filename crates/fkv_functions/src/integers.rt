@@ -58,7 +58,7 @@ impl Fixed for u64 {
     }
 
     fn stands_in(&self, bytes: &[u8]) -> bool {
-        bytes == self.to_le_bytes().as_slice()
+        word_of(bytes) == *self
     }
 
     ghost sized = { λ v h. refl };
@@ -82,7 +82,7 @@ impl Fixed for i64 {
     }
 
     fn stands_in(&self, bytes: &[u8]) -> bool {
-        bytes == self.cast_unsigned().to_le_bytes().as_slice()
+        word_of(bytes).cast_signed() == *self
     }
 
     ghost sized = { λ v h. refl };
