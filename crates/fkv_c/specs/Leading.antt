@@ -179,7 +179,7 @@ FirstIsLeast [] = Unit {0}
 FirstIsLeast (p ∷ ps) = All (IsLtBy name_cmp p.0) (map (λ q. q.0) ps)
 
 -- a store holds so many bytes in its logs, so many of them below Head, and has taken so many moments
-abbrev pub IsSize : {K V I P : Type 0} → StoreView K V I P → ℕ → ℕ → ℕ → Type 0
+abbrev pub IsSize : {K V I W P : Type 0} → StoreView K V I W P → ℕ → ℕ → ℕ → Type 0
 IsSize s bytes evicted moments = (bytes ≡ min (sum_by log_bytes s.parts) (2 ^ 64 - 1))
     × (evicted ≡ min (sum_by evicted_bytes s.parts) (2 ^ 64 - 1)) × (moments ≡ s.moments)
 
