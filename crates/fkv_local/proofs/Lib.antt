@@ -5,4 +5,5 @@ mod AtOnceLemmas
 mod StoreLemmas
 mod ClearLemmas
 mod CountLemmas
+mod ListingLemmas
 pub mod MergeLemmas

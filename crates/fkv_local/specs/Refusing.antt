@@ -1,11 +1,9 @@
--- Why an operation is refused, and why the live keys are not listed.
-use Rattle.std.specs.Prelude.{◌≡◌, ◌≤◌, ◌+◌, ◌^◌, ℕ, Bool, true, false, List, Some, slice_get, length}
+-- Why an operation is refused.
+use Rattle.std.specs.Prelude.{◌≡◌, ◌≤◌, ◌+◌, ◌^◌, ℕ, Bool, true, false, Some, slice_get, length}
 use Rattle.std.specs.declared.cmp.Ordering.{Ordering}
 use Rattle.fkv_functions.specs.declared.refusals.Refused.{Refused}
 use Rattle.fkv_functions.specs.declared.refusals.Refused.TheVariants.{NoMemory, NoMerge, Worn, Stalled, Damaged}
-use Rattle.fkv_records.specs.Places.{page_at}
 use Rattle.fkv_device.specs.Failing.{FailsOnlyBy, ReadFailsBy}
-use Rattle.fkv_hybrid.specs.Scans.{IsScanRefusal}
 use Rattle.fkv_operations.specs.After.{key_of, is_merge}
 use Rattle.fkv_operations.specs.declared.operations.KeyedOp.{KeyedOp}
 use Rattle.fkv_partition.specs.CoreViews.{partition_of}
@@ -78,15 +76,3 @@ pub record IsRefusal {K V I W P : Type 0} (merges : Bool) (entry : Spelling K V)
   pub part : PartitionView K V I
   pub here : slice_get store.parts (partition_of (length store.parts) (code (key_of op))) ≡ Some part
   pub refused : IsRefusedBy merges entry cmp writes reads op part.core.records.tail store.moments why
-
--- why the live keys of partitions are not listed: for want of memory, or at a flushed page of one of them, by the counts of
--- failures of its reader
-pub record IsUnlisted {K V I P : Type 0} (keeps : Bool) (reads : P → ℕ) (parts : List (PartitionView K V I))
-    (why : Refused) : Type 0 where
-  pub place : ℕ
-  pub view : PartitionView K V I
-  pub here : slice_get parts place ≡ Some view
-  pub reader : P
-  pub reader_now : P
-  pub refused : IsScanRefusal keeps (page_at view.core.records.page_bits view.core.records.begin)
-      (length view.core.records.receipts) (reads reader) (reads reader_now) why

@@ -123,6 +123,49 @@ fn single_calls(rt: HostRuntime) {
     }
 }
 
+/// How many of twenty keys are in each of four lists, from the first one on, where that of a place is left out.
+fn listed(alloc: Global, left_out: usize) -> Result<[usize; 4], Refused> {
+    let config = Config {
+        partition_bits: 2,
+        ..SMALL
+    };
+    let mut store = opened(alloc, &config)?;
+    for number in 0..20u64 {
+        let Some(key) = name_of(number) else {
+            return Err(Refused::Stalled);
+        };
+        store.rmw(&key, &1)?;
+    }
+    let mut lists = store.into_lists();
+    let mut counts = [0; 4];
+    while !lists.is_empty() {
+        let place = lists.len().saturating_sub(1);
+        if place == left_out {
+            lists.skip();
+        } else if let Some(list) = lists.next()? {
+            if place < counts.len() {
+                counts[place] = list.len();
+            }
+        }
+    }
+    Ok(counts)
+}
+
+/// Each list is the same where another one is left out, and that one is none; all have the twenty keys.
+#[test]
+fn lists_that_are_left_out(rt: HostRuntime) {
+    let all = listed(rt.alloc(), 4);
+    assert!(rt; all.is_ok_and(|counts| counts.iter().sum::<usize>() == 20), "{all:?}");
+    for place in 0..4usize {
+        let wanted = all.map(|mut counts| {
+            counts[place] = 0;
+            counts
+        });
+        let come = listed(rt.alloc(), place);
+        assert!(rt; come == wanted, "{place}: {come:?}");
+    }
+}
+
 /// The first refusal where twenty keys are written to a store whose device takes so many pages, if any is refused.
 fn refused(alloc: Global, pages: u64) -> Option<Refused> {
     let mut device = UnsureDevice::new(alloc);
