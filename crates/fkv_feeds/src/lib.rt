@@ -5,6 +5,7 @@ pub mod counting;
 pub mod modes;
 pub mod reading;
 pub mod running;
+mod tabling;
 pub mod writing;
 
 pub use counting::{Counts, Plan, Run};

@@ -143,26 +143,34 @@ fn listed(alloc: Global, left_out: usize) -> Result<[usize; 4], Refused> {
         if place == left_out {
             lists.skip();
         } else if let Some(list) = lists.next()? {
-            if place < counts.len() {
-                counts[place] = list.len();
+            if let Some(count) = counts.get_mut(place) {
+                *count = list.len();
             }
         }
     }
     Ok(counts)
 }
 
+/// Whether lists have these counts, but that of a place, which was left out.
+fn is_without(come: &[usize; 4], all: &[usize; 4], place: usize) -> bool {
+    come.iter().zip(all).enumerate().all(|(at, (come, all))| if at == place {
+        *come == 0
+    } else {
+        come == all
+    })
+}
+
 /// Each list is the same where another one is left out, and that one is none; all have the twenty keys.
 #[test]
 fn lists_that_are_left_out(rt: HostRuntime) {
-    let all = listed(rt.alloc(), 4);
-    assert!(rt; all.is_ok_and(|counts| counts.iter().sum::<usize>() == 20), "{all:?}");
+    let all = listed(rt.alloc(), 4).expect(&rt, "memory");
+    let sum = all
+        .iter()
+        .fold(0usize, |sum, count| sum.saturating_add(*count));
+    assert!(rt; sum == 20, "{all:?}");
     for place in 0..4usize {
-        let wanted = all.map(|mut counts| {
-            counts[place] = 0;
-            counts
-        });
-        let come = listed(rt.alloc(), place);
-        assert!(rt; come == wanted, "{place}: {come:?}");
+        let come = listed(rt.alloc(), place).expect(&rt, "memory");
+        assert!(rt; is_without(&come, &all, place), "{place}: {come:?}");
     }
 }
 
