@@ -14,7 +14,7 @@ use Rattle.std.specs.declared.cmp.Ordering.{Ordering}
 use Rattle.fkv_device.specs.Failing.{FailsOnlyBy, ReadFailsBy}
 use Rattle.fkv_hybrid.specs.Scans.{IsScanRefusal}
 use Rattle.fkv_alone.specs.Spoilt.{Spelling}
-use Rattle.fkv_local.specs.Refusing.{IsUnlisted}
+use Rattle.fkv_local.specs.Listing.{ListsView, IsUnlisted}
 use Rattle.fkv_partition.specs.Views.{PartitionView}
 use Rattle.fkv_feeds.specs.Faults.{IsFault, IsDeviceFault}
 use Rattle.fkv_feeds.specs.Refusing.{IsRowRefusal, IsReached, counted_at, TellsStopped, TellsWhyNone}
@@ -207,10 +207,10 @@ devices-by keeps opens writes reads entry cmp e (IsDeviceFault.unworked old new 
 devices-by keeps opens writes reads entry cmp e (IsDeviceFault.unlisted low flushed before now f) = scans-by keeps low flushed (reads before) (reads now) e f
 
 -- for want of memory at the end a run is refused as where its device is not opened for it
-pub ended-by : {D W R K V L M I : Type 0} (keeps : Bool) (opens : D → ℕ) (writes : W → ℕ) (reads : R → ℕ) (entry : Spelling K V) (cmp : K → K → Ordering) (device : D) (parts : List (PartitionView L M I)) (e : Refused)
-    → (e ≡ NoMemory) ⊎ IsUnlisted keeps reads parts e → IsDeviceFault keeps opens writes reads entry cmp e
-ended-by keeps opens writes reads entry cmp device parts e (inl none) = IsDeviceFault.unopened device device (inl (none, refl))
-ended-by keeps opens writes reads entry cmp device parts e (inr h) = IsDeviceFault.unlisted _ _ h.reader h.reader_now h.refused
+pub ended-by : {D W R K V L M I : Type 0} (keeps : Bool) (opens : D → ℕ) (writes : W → ℕ) (reads : R → ℕ) (entry : Spelling K V) (cmp : K → K → Ordering) (device : D) (e : Refused)
+    → (e ≡ NoMemory) ⊎ ((was : ListsView L M I R) × (readers : List R) × IsUnlisted keeps reads was.parts was.readers readers e) → IsDeviceFault keeps opens writes reads entry cmp e
+ended-by keeps opens writes reads entry cmp device e (inl none) = IsDeviceFault.unopened device device (inl (none, refl))
+ended-by keeps opens writes reads entry cmp device e (inr h) = IsDeviceFault.unlisted _ _ h.2.1.reader h.2.1.reader_now h.2.1.refused
 
 -- ---- what several clauses say of one result
 pub two_ok : {A E P Q R : Type 0} (r : Result A E) → OnOk r P → OnOk r Q → (P → Q → R) → OnOk r R

@@ -1,3 +1,4 @@
 pub mod RunLemmas
 pub mod FeedsLemmas
+mod TableLemmas
 mod WritingLemmas

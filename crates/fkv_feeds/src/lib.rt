@@ -6,6 +6,7 @@ pub mod modes;
 pub mod reading;
 pub mod running;
 pub mod shown;
+mod tabling;
 pub mod writing;
 
 pub use counting::{Counts, Plan, Run};

@@ -11,16 +11,16 @@ ghost use Rattle.fkv_partition.specs.Limits.{IsWithinLimits};
 ghost use Rattle.fkv_feeds.specs.Faults.{IsRunFault};
 ghost use Rattle.fkv_feeds.specs.Tables.{IsTableOf, AreFeeds, HaveRows, StandsFor, amounts_of, folded, most_rows};
 ghost use Rattle.fkv_feeds.specs.Refusing.{IsRunnable, TellsStopped, TellsWhyNone};
-ghost use Rattle.fkv_local.specs.Refusing.{IsUnlisted};
+ghost use Rattle.fkv_local.specs.Listing.{ListsView, IsUnlisted};
 
 use crate::counting::{Counts, Plan, Run};
 use crate::modes::RowMode;
 use crate::reading::{RowStore, read_feed};
+use crate::tabling::table_of;
 use fkv_device::Disk;
 use fkv_functions::{Mergeable, Name, Refused};
 use fkv_local::LocalStore;
 use fkv_partition::Config;
-use fkv_runs::Table;
 use fkv_streams::Source;
 use std::alloc::Global;
 
@@ -68,14 +68,11 @@ fn finish<F: Mergeable<Key = Name, Input = i64>, D: Disk>(
     ensures rising { IfOk result (λ run. IsStrictlySortedBy name_cmp (keys_of run.table)) }
     ensures counted { IfOk result (λ run. run.counts.rows ≡ rows) }
     ensures planned { IfOk result (λ run. run.plan ≡ plan) }
-    ensures told { IfErr result (λ e. (e ≡ Refused.NoMemory) ⊎ IsUnlisted D.Receipt.keeps D.Reader.failures store.parts e) }
+    ensures told { IfErr result (λ e. (e ≡ Refused.NoMemory) ⊎ ((was : ListsView Name F.Value ℤ D.Reader) × (readers : List D.Reader)
+        × IsUnlisted D.Receipt.keeps D.Reader.failures was.parts was.readers readers e)) }
 {
     let appended = store.counts().records;
-    let live = match store.into_map() {
-        Ok(live) => live,
-        Err(refused) => return Err(refused),
-    };
-    let table = match Table::of_map(alloc, &live) {
+    let table = match table_of(alloc, store.into_lists()) {
         Ok(table) => table,
         Err(refused) => return Err(refused),
     };

@@ -7,4 +7,5 @@ mod StoreLemmas
 mod ClearLemmas
 mod RelocateLemmas
 mod CountLemmas
+mod ListingLemmas
 pub mod MergeLemmas

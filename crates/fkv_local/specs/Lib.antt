@@ -4,3 +4,4 @@ pub mod Moving
 pub mod Storing
 pub mod Clearing
 pub mod Refusing
+pub mod Listing

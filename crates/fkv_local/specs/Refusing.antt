@@ -1,11 +1,9 @@
--- Why an operation is refused, and why the live keys are not listed.
-use Rattle.std.specs.Prelude.{◌≡◌, ◌≢◌, ◌≤◌, ◌<◌, ◌+◌, ◌^◌, ℕ, Bool, true, false, List, Some, slice_get, length, map}
+-- Why an operation is refused, and a compaction.
+use Rattle.std.specs.Prelude.{◌≡◌, ◌≢◌, ◌≤◌, ◌<◌, ◌+◌, ◌^◌, ℕ, Bool, true, false, Some, slice_get, length, map}
 use Rattle.std.specs.declared.cmp.Ordering.{Ordering}
 use Rattle.fkv_functions.specs.declared.refusals.Refused.{Refused}
 use Rattle.fkv_functions.specs.declared.refusals.Refused.TheVariants.{NoMemory, NoMerge, Worn, Stalled, Damaged}
-use Rattle.fkv_records.specs.Places.{page_at}
 use Rattle.fkv_device.specs.Failing.{FailsOnlyBy, ReadFailsBy}
-use Rattle.fkv_hybrid.specs.Scans.{IsScanRefusal}
 use Rattle.fkv_operations.specs.After.{key_of, is_merge}
 use Rattle.fkv_operations.specs.declared.operations.KeyedOp.{KeyedOp}
 use Rattle.fkv_partition.specs.CoreViews.{partition_of}
@@ -128,15 +126,3 @@ pub record IsUncompacted {K V I W P : Type 0} (entry : Spelling K V) (cmp : K �
   pub here : IsUncompactedAt entry cmp writes reads old new place why
   pub passed : (p : ℕ) → p < place → FailedAsBefore writes reads old new p
   pub behind : (p : ℕ) → place < p → StaysAt old new p
-
--- why the live keys of partitions are not listed: for want of memory, or at a flushed page of one of them, by the counts of
--- failures of its reader
-pub record IsUnlisted {K V I P : Type 0} (keeps : Bool) (reads : P → ℕ) (parts : List (PartitionView K V I))
-    (why : Refused) : Type 0 where
-  pub place : ℕ
-  pub view : PartitionView K V I
-  pub here : slice_get parts place ≡ Some view
-  pub reader : P
-  pub reader_now : P
-  pub refused : IsScanRefusal keeps (page_at view.core.records.page_bits view.core.records.begin)
-      (length view.core.records.receipts) (reads reader) (reads reader_now) why

@@ -3,7 +3,7 @@ ghost use Rattle.std.specs.Prelude.{◌≡◌, ◌<◌, ℕ, [], length, map, Is
 ghost use Rattle.std.specs.BTreeMap.{get};
 ghost use Rattle.fkv_functions.specs.Plain.{Same};
 ghost use Rattle.fkv_local.specs.Resting.{AreAtRest};
-ghost use Rattle.fkv_local.specs.Refusing.{IsUnlisted};
+ghost use Rattle.fkv_local.specs.Listing.{IsUnlisted};
 ghost use Rattle.fkv_partition.specs.Unions.{union_of};
 
 use crate::parts::Shard;
@@ -26,7 +26,10 @@ pub fn gather<F: Mergeable, D: Disk>(
     ensures views { map (λ shard. shard.part.partition) shards.new ≡ map (λ shard. shard.part.partition) shards.old }
     ensures writers { map (λ shard. shard.part.writer) shards.new ≡ map (λ shard. shard.part.writer) shards.old }
     ensures sized { length shards.new ≡ length shards.old }
-    ensures told { IfErr result (IsUnlisted D.Receipt.keeps D.Reader.failures (map (λ shard. shard.part.partition) shards.old)) }
+    ensures steady { OnOk result (map D.Reader.failures (map (λ shard. shard.reader) shards.new)
+        ≡ map D.Reader.failures (map (λ shard. shard.reader) shards.old)) }
+    ensures told { IfErr result (IsUnlisted D.Receipt.keeps D.Reader.failures (map (λ shard. shard.part.partition) shards.old)
+        (map (λ shard. shard.reader) shards.old) (map (λ shard. shard.reader) shards.new)) }
 {
     for index in 0..shards.len() {
         let shard = &mut shards[index];

@@ -10,10 +10,12 @@ mod compacting;
 pub mod counting;
 mod driving;
 mod gathering;
+pub mod listing;
 mod merging;
 mod moving;
 mod parts;
 pub mod stores;
 
 pub use counting::Counts;
+pub use listing::Lists;
 pub use stores::LocalStore;

@@ -1,5 +1,5 @@
 //! The store of one thread.
-ghost use Rattle.std.specs.Prelude.{◌≡◌, ◌≢◌, ◌<◌, ◌+◌, ◌-◌, ◌^◌, min, sum_by, ℕ, true, false, None, Some, Err, IsTrue, IfOk, IfErr, OnOk, length, slice_get};
+ghost use Rattle.std.specs.Prelude.{◌≡◌, ◌≢◌, ◌<◌, ◌+◌, ◌-◌, ◌^◌, min, sum_by, ℕ, true, false, None, Some, Err, IsTrue, IfOk, IfErr, OnOk, List, map, length, slice_get};
 ghost use Rattle.std.specs.BTreeMap.{get};
 ghost use Rattle.fkv_records.specs.Records.{size_of};
 ghost use Rattle.fkv_pages.specs.Spelled.{IsEntryIn};
@@ -11,12 +11,14 @@ ghost use Rattle.fkv_partition.specs.Limits.{IsWithinLimits};
 ghost use Rattle.fkv_partition.specs.Views.{PartitionView};
 ghost use Rattle.fkv_local.specs.Storing.{plain, IsRun, IsUpdateRun, IsUnopened, SameTerms, log_bytes, evicted_bytes};
 ghost use Rattle.fkv_local.specs.Clearing.{IsCutAt, AnyIsCut, IsAllCut, begin_at};
-ghost use Rattle.fkv_local.specs.Refusing.{IsRefusal, IsUncompacted, IsUncompactedAt, FailedAsBefore, StaysAt, IsUnlisted};
+ghost use Rattle.fkv_local.specs.Refusing.{IsRefusal, IsUncompacted, IsUncompactedAt, FailedAsBefore, StaysAt};
+ghost use Rattle.fkv_local.specs.Listing.{IsUnlisted, lists_of, left};
 
 use crate::compacting::{Effort, compact};
 use crate::counting::{Counts, appended_records, held_bytes};
 use crate::driving::{operate, update};
 use crate::gathering::gather;
+use crate::listing::Lists;
 use crate::merging::update_or_merge;
 use crate::parts::{Shard, Terms, all_placed};
 use fkv_device::Disk;
@@ -235,7 +237,8 @@ impl<F: Mergeable, D: Disk> LocalStore<F, D> {
     pub fn live(&mut self) -> Result<BTreeMap<F::Key, F::Value>, Refused>
         ensures map { IsTrue D.Receipt.keeps → IfOk result (λ live. Same (get F.Key.cmp live) (plain F.Key.cmp F.code self.old)) }
         ensures stays { self.new ≡ record self.old { readers = self.new.readers } }
-        ensures told { IfErr result (IsUnlisted D.Receipt.keeps D.Reader.failures self.old.parts) }
+        ensures steady { OnOk result (map D.Reader.failures self.new.readers ≡ map D.Reader.failures self.old.readers) }
+        ensures told { IfErr result (IsUnlisted D.Receipt.keeps D.Reader.failures self.old.parts self.old.readers self.new.readers) }
     {
         let mut map = BTreeMap::new(self.terms.alloc);
         match gather(&self.terms.functions, &mut map, &mut self.shards) {
@@ -251,10 +254,21 @@ impl<F: Mergeable, D: Disk> LocalStore<F, D> {
     /// As [`LocalStore::live`]'s.
     pub fn into_map(self) -> Result<BTreeMap<F::Key, F::Value>, Refused>
         ensures map { IsTrue D.Receipt.keeps → IfOk result (λ live. Same (get F.Key.cmp live) (plain F.Key.cmp F.code self)) }
-        ensures told { IfErr result (IsUnlisted D.Receipt.keeps D.Reader.failures self.parts) }
+        ensures told { IfErr result (λ why. (readers : List D.Reader)
+            × IsUnlisted D.Receipt.keeps D.Reader.failures self.parts self.readers readers why) }
     {
         let mut store = self;
         store.live()
+    }
+
+    /// The lists of its live pairs, one a partition, of which none is made yet; and the end of the store. So there is never a
+    /// list, and never a map, of all keys.
+    pub fn into_lists(self) -> Lists<F, D>
+        ensures all { result ≡ lists_of self }
+        ensures map { Same (left F.Key.cmp F.code result) (plain F.Key.cmp F.code self) }
+    {
+        let LocalStore { terms, shards, .. } = self;
+        Lists::of(terms, shards)
     }
 
     /// Appends what lives at the start of each log again, as far as there is room, and cuts that start. Answers whether any log's

@@ -192,6 +192,49 @@ impl<F: Mergeable<Key = Name, Value = i128, Input = i64, Output = i128> + Copy, 
         }
     }
 
+    /// How often what was seen, where the lists of the store are the plain map, each of the keys of its partition. A list that
+    /// is refused once is asked for again.
+    fn listed(self) -> Option<Outcome> {
+        let Beside {
+            store,
+            plain,
+            mut seen,
+            ..
+        } = self;
+        let mut lists = store.into_lists();
+        let mut count = 0usize;
+        while !lists.is_empty() {
+            let list = match lists.next() {
+                Err(refused) => {
+                    seen.refused = seen.refused.saturating_add(1);
+                    seen.last = Some(refused);
+                    lists.next()
+                }
+                list => list,
+            };
+            let Ok(Some(list)) = list else {
+                return None;
+            };
+            let home = lists.len() as u64;
+            let is_own = list.iter().all(|(key, value)| {
+                let rest = lists
+                    .functions()
+                    .hash(key)
+                    .checked_rem(lists.count() as u64);
+                rest == Some(home) && plain.get(key) == Some(value)
+            });
+            if !is_own {
+                return None;
+            }
+            count = count.saturating_add(list.len());
+        }
+        if count == plain.len() {
+            Some(seen)
+        } else {
+            None
+        }
+    }
+
     /// Makes these operations, and says whether each was right, and whether the store is the plain map at the end.
     pub fn is_plain_after(&mut self, plan: &Plan) -> bool {
         let mut rng = Xoshiro256PlusPlus::seed_from_u64(plan.seed);
@@ -232,7 +275,7 @@ fn random_op<F: Mergeable<Key = Name, Value = i128, Input = i64>>(
     })
 }
 
-/// What these operations come to over so many partitions, where all is as the plain map has it.
+/// What these operations come to over so many partitions, where all is as the plain map has it, the lists at the end too.
 pub fn outcome_of<
     F: Mergeable<Key = Name, Value = i128, Input = i64, Output = i128> + Copy,
     D: Disk,
@@ -246,7 +289,7 @@ pub fn outcome_of<
         return None;
     };
     if beside.is_plain_after(plan) {
-        Some(beside.seen)
+        beside.listed()
     } else {
         None
     }

@@ -123,6 +123,57 @@ fn single_calls(rt: HostRuntime) {
     }
 }
 
+/// How many of twenty keys are in each of four lists, from the first one on, where that of a place is left out.
+fn listed(alloc: Global, left_out: usize) -> Result<[usize; 4], Refused> {
+    let config = Config {
+        partition_bits: 2,
+        ..SMALL
+    };
+    let mut store = opened(alloc, &config)?;
+    for number in 0..20u64 {
+        let Some(key) = name_of(number) else {
+            return Err(Refused::Stalled);
+        };
+        store.rmw(&key, &1)?;
+    }
+    let mut lists = store.into_lists();
+    let mut counts = [0; 4];
+    while !lists.is_empty() {
+        let place = lists.len().saturating_sub(1);
+        if place == left_out {
+            lists.skip();
+        } else if let Some(list) = lists.next()? {
+            if let Some(count) = counts.get_mut(place) {
+                *count = list.len();
+            }
+        }
+    }
+    Ok(counts)
+}
+
+/// Whether lists have these counts, but that of a place, which was left out.
+fn is_without(come: &[usize; 4], all: &[usize; 4], place: usize) -> bool {
+    come.iter().zip(all).enumerate().all(|(at, (come, all))| if at == place {
+        *come == 0
+    } else {
+        come == all
+    })
+}
+
+/// Each list is the same where another one is left out, and that one is none; all have the twenty keys.
+#[test]
+fn lists_that_are_left_out(rt: HostRuntime) {
+    let all = listed(rt.alloc(), 4).expect(&rt, "memory");
+    let sum = all
+        .iter()
+        .fold(0usize, |sum, count| sum.saturating_add(*count));
+    assert!(rt; sum == 20, "{all:?}");
+    for place in 0..4usize {
+        let come = listed(rt.alloc(), place).expect(&rt, "memory");
+        assert!(rt; is_without(&come, &all, place), "{place}: {come:?}");
+    }
+}
+
 /// The first refusal where twenty keys are written to a store whose device takes so many pages, if any is refused.
 fn refused(alloc: Global, pages: u64) -> Option<Refused> {
     let mut device = UnsureDevice::new(alloc);

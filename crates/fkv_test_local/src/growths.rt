@@ -3,7 +3,7 @@
 use crate::beside::{SMALL, name_of};
 use fkv_device::MemoryDevice;
 use fkv_functions::{Name, Refused, SumFns};
-use fkv_local::LocalStore;
+use fkv_local::{Lists, LocalStore};
 use fkv_operations::{Answer, KeyedOp, KeyedOpOf};
 use std::alloc::Global;
 
@@ -60,7 +60,7 @@ fn op_of(call: Call) -> Option<KeyedOpOf<SumFns>> {
     })
 }
 
-/// Whether the store is the map of the end, as its list and, compacted, as its own end.
+/// Whether the store is the map of the end, as its map and, compacted, as the list that it ends in.
 fn is_live(mut store: LocalStore<SumFns, MemoryDevice>) -> bool {
     let compacted = match store.compact() {
         Err(Refused::NoMemory) => store.compact(),
@@ -74,8 +74,24 @@ fn is_live(mut store: LocalStore<SumFns, MemoryDevice>) -> bool {
         return false;
     };
     compacted.is_ok()
+        && is_listed(store.into_lists())
         && live.len() == LIVE.len()
         && live.iter().zip(LIVE).all(|((key, value), (number, held))| is_key(key, number)
+            && *value == held)
+}
+
+/// Whether these lists are one of the map of the end, and that there is none behind it.
+fn is_listed(mut lists: Lists<SumFns, MemoryDevice>) -> bool {
+    let list = match lists.next() {
+        Err(Refused::NoMemory) => lists.next(),
+        list => list,
+    };
+    let Ok(Some(list)) = list else {
+        return false;
+    };
+    matches!(lists.next(), Ok(None))
+        && list.len() == LIVE.len()
+        && list.iter().zip(LIVE).all(|((key, value), (number, held))| is_key(key, number)
             && *value == held)
 }
 

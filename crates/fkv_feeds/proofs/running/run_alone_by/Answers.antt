@@ -38,7 +38,7 @@ returns-in-Ok-read_feed-clause-told g c =
     let same : new ≡ old = ap (λ n. n ∷ []) c.in-Ok-read_feed.ensures.steady in
     err_weaker _ c.finish.result
     (λ e h. why_none (IsRunFault g.D.Receipt.Receipt.keeps g.D.Disk.failures g.D.Writer.PageWriter.failures g.D.Reader.PageReader.failures g.F.Value.Fixed.bytes_of g.F.Value.Known.is_known g.F.Value.Fixed.SIZE) c.args.config.now _ feeds old new e
-    (let fault = ended-by g.D.Receipt.Receipt.keeps g.D.Disk.failures g.D.Writer.PageWriter.failures g.D.Reader.PageReader.failures _ _ c.args.device _ e h in
+    (let fault = ended-by g.D.Receipt.Receipt.keeps g.D.Disk.failures g.D.Writer.PageWriter.failures g.D.Reader.PageReader.failures _ _ c.args.device e h in
     stopped-by (IsRunFault g.D.Receipt.Receipt.keeps g.D.Disk.failures g.D.Writer.PageWriter.failures g.D.Reader.PageReader.failures g.F.Value.Fixed.bytes_of g.F.Value.Known.is_known g.F.Value.Fixed.SIZE) feeds old new e same fault
     (devices-by g.D.Receipt.Receipt.keeps g.D.Disk.failures g.D.Writer.PageWriter.failures g.D.Reader.PageReader.failures _ _ e fault)))
     c.finish.ensures.told

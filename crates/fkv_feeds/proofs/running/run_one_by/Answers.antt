@@ -27,7 +27,7 @@ pub returns-in-Ok-read_feeds-clause-told : goal.returns-in-Ok-read_feeds-clause-
 returns-in-Ok-read_feeds-clause-told g c =
     err_weaker _ c.finish.result
     (λ e h. why_none (IsRunFault g.D.Receipt.Receipt.keeps g.D.Disk.failures g.D.Writer.PageWriter.failures g.D.Reader.PageReader.failures g.F.Value.Fixed.bytes_of g.F.Value.Known.is_known g.F.Value.Fixed.SIZE) c.args.config.now _ (map g.S.Source.remaining c.args.feeds.now) (map g.S.Source.failures c.args.feeds.now) (map g.S.Source.failures c.read_feeds.new.feeds) e
-    (let fault = ended-by g.D.Receipt.Receipt.keeps g.D.Disk.failures g.D.Writer.PageWriter.failures g.D.Reader.PageReader.failures _ _ c.args.device _ e h in
+    (let fault = ended-by g.D.Receipt.Receipt.keeps g.D.Disk.failures g.D.Writer.PageWriter.failures g.D.Reader.PageReader.failures _ _ c.args.device e h in
     stopped-by (IsRunFault g.D.Receipt.Receipt.keeps g.D.Disk.failures g.D.Writer.PageWriter.failures g.D.Reader.PageReader.failures g.F.Value.Fixed.bytes_of g.F.Value.Known.is_known g.F.Value.Fixed.SIZE) (map g.S.Source.remaining c.args.feeds.now) (map g.S.Source.failures c.args.feeds.now) (map g.S.Source.failures c.read_feeds.new.feeds) e c.in-Ok-read_feeds.ensures.steady fault
     (devices-by g.D.Receipt.Receipt.keeps g.D.Disk.failures g.D.Writer.PageWriter.failures g.D.Reader.PageReader.failures _ _ e fault)))
     c.finish.ensures.told

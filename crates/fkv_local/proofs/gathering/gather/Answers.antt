@@ -1,9 +1,10 @@
-use Rattle.std.proofs.Common.{◌≡◌, ◌≢◌, ◌<◌, length, map, slice_get, Some, get_or, refl, sym, ap, ◌∙◌, subst, arith}
+use Rattle.std.proofs.Common.{◌≡◌, ◌≢◌, ◌<◌, length, map, slice_get, Some, get_or, refl, sym, ap, ◌∙◌, ◌+◌, suc, drop, subst, arith}
 use Rattle.std.proofs.lemmas.List.{length-set}
 use Rattle.std.proofs.lemmas.Option.{slice_get-get_or}
 use Rattle.std.specs.BTreeMap.{get}
 use Rattle.fkv_partition.specs.CoreViews.{partition_of}
-use Rattle.fkv_local.proofs.PartLemmas.{view-get, view-same}
+use Rattle.fkv_local.proofs.PartLemmas.{view-get, view-set, view-same}
+use Rattle.fkv_local.proofs.ListingLemmas.{readers-behind, readers-counted, unlisted-here}
 use Rattle.fkv_partition.proofs.UnionLemmas.{live-more, bare_before}
 use Rattle.fkv_local.proofs.gathering.gather.Goals as goal
 
@@ -18,7 +19,14 @@ loop-index-preserved g c =
     let here : slice_get items i ≡ Some x = slice_get-get_or items i c.index-shards-index.result low in
     let views = map (λ shard. shard.part.partition) c.args.shards.now in
     let there : slice_get views i ≡ Some x.part.partition = ap (λ vs. slice_get vs i) (sym old.views) ∙ view-get (λ shard. shard.part.partition) items i x here in
+    let read : slice_get (map (λ shard. shard.reader) items) i ≡ Some x.reader = view-get (λ shard. shard.reader) items i x here in
+    let readers = map (λ shard. shard.reader) items in
+    let were = map (λ shard. shard.reader) c.args.shards.now in
+    let one : i + 1 ≡ suc i = omega arith in
+    let set = view-set (λ shard. shard.reader) items i (record x { reader = c.put_live.new.reader }) in
     record {
+      counts = ap (map g.D.Reader.PageReader.failures) set ∙ readers-counted g.D.Reader.PageReader.failures were readers i x.reader c.put_live.new.reader old.counts old.behind read c.in-Ok.ensures.steady;
+      behind = rw one (ap (drop (suc i)) set ∙ readers-behind g.D.Reader.PageReader.failures were readers i x.reader c.put_live.new.reader old.counts old.behind read);
       views = view-same (λ shard. shard.part.partition) items i x (record x { reader = c.put_live.new.reader }) here refl ∙ old.views;
       writers = view-same (λ shard. shard.part.writer) items i x (record x { reader = c.put_live.new.reader }) here refl ∙ old.writers;
       sized = length-set items i _ ∙ old.sized;
@@ -59,11 +67,11 @@ returns-in-Err-clause-told g c =
     let x = get_or items i c.index-shards-index.result in
     let low : i < length items = (let t = c.loop-index-test.true in let s = c.loop-index.auto.shards in omega arith) in
     let here : slice_get items i ≡ Some x = slice_get-get_or items i c.index-shards-index.result low in
-    record {
-      place = i;
-      view = x.part.partition;
-      here = ap (λ vs. slice_get vs i) (sym old.views) ∙ view-get (λ shard. shard.part.partition) items i x here;
-      reader = x.reader;
-      reader_now = c.put_live.new.reader;
-      refused = c.in-Err.ensures.refused;
-    }
+    let read : slice_get (map (λ shard. shard.reader) items) i ≡ Some x.reader = view-get (λ shard. shard.reader) items i x here in
+    let readers = map (λ shard. shard.reader) items in
+    let were = map (λ shard. shard.reader) c.args.shards.now in
+    let there = ap (λ vs. slice_get vs i) (sym old.views) ∙ view-get (λ shard. shard.part.partition) items i x here in (
+      i,
+      rw (view-set (λ shard. shard.reader) items i (record x { reader = c.put_live.new.reader }))
+          (unlisted-here g.D.Reader.PageReader.failures were readers i x.reader c.put_live.new.reader old.counts old.behind read g.D.Receipt.Receipt.keeps (map (λ shard. shard.part.partition) c.args.shards.now) x.part.partition c.in-Err.refused there c.in-Err.ensures.refused),
+    )
