@@ -39,10 +39,10 @@ static void try_counts(const fkv_settings *settings) {
     show("close", fkv_close(&store));
 }
 
-/* The first and the last byte of a cell. */
-static void show_cell(const char *what, uint32_t status, uint64_t kind, const fkv_cell *cell) {
+/* The kind of an answer, or whether there is a pair, and the first and the last byte of its cell. */
+static void show_cell(const char *what, uint32_t status, const uint64_t *kind, const fkv_cell *cell) {
     show(what, status);
-    printf("  %" PRIu64 " %d %d\n", kind, cell->bytes[0], cell->bytes[63]);
+    printf("  %" PRIu64 " %d %d\n", *kind, cell->bytes[0], cell->bytes[63]);
 }
 
 static void try_cells(const fkv_settings *settings) {
@@ -58,26 +58,26 @@ static void try_cells(const fkv_settings *settings) {
     show("cells", fkv_open(&store, FKV_CELLS, settings));
     show("null cell", fkv_put(&store, "a", 1, NULL));
     show("no byte", fkv_put(&store, "", 0, &cell));
-    show_cell("absent", fkv_get(&store, "a", 1, &answer), answer.kind, &answer.cell);
+    show_cell("absent", fkv_get(&store, "a", 1, &answer), &answer.kind, &answer.cell);
     show("put", fkv_put(&store, "a", 1, &cell));
-    show_cell("get", fkv_get(&store, "a", 1, &answer), answer.kind, &answer.cell);
+    show_cell("get", fkv_get(&store, "a", 1, &answer), &answer.kind, &answer.cell);
     cell.bytes[0] = 2;
     show("put again", fkv_put(&store, "a", 1, &cell));
     show("put another", fkv_put(&store, "b", 1, &cell));
     show("remove", fkv_remove(&store, "b", 1));
-    show_cell("get removed", fkv_get(&store, "b", 1, &answer), answer.kind, &answer.cell);
+    show_cell("get removed", fkv_get(&store, "b", 1, &answer), &answer.kind, &answer.cell);
     show_answer("no numbers", fkv_rmw(&store, "a", 1, 5, &number), &number);
     show("compact", fkv_compact(&store, &has_cut));
     show("list", fkv_list(&store, &cursor));
     show("no numbers", fkv_next(&cursor, &number_pair));
     for (int row = 0; row < 2; row++) {
-        show_cell("next", fkv_next_cell(&cursor, &pair), pair.is_some, &pair.cell);
+        show_cell("next", fkv_next_cell(&cursor, &pair), &pair.is_some, &pair.cell);
     }
     show("no cursor", fkv_next_cell(&store, &pair));
     show("a cursor", fkv_put(&cursor, "a", 1, &cell));
     show("numbers", fkv_open(&numbers, FKV_SUM, settings));
     show("no cells", fkv_put(&numbers, "a", 1, &cell));
-    show_cell("no cells", fkv_get(&numbers, "a", 1, &answer), answer.kind, &answer.cell);
+    show_cell("no cells", fkv_get(&numbers, "a", 1, &answer), &answer.kind, &answer.cell);
     show("close", fkv_close(&numbers));
     show("close", fkv_close(&cursor));
     show("close", fkv_close(&store));
