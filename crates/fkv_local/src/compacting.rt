@@ -59,27 +59,37 @@ struct Kept<R: Receipt> {
 }
 
 impl<R: Receipt> Kept<R> {
-    /// The page of this receipt: the kept one, or it is read, and kept where it is that of a place.
+    /// The page of this receipt: the kept one, or it is read and kept where it is that of a place. `None` where it is neither.
     fn fetch<P: PageReader<Receipt = R>>(
         &mut self,
         reader: &mut P,
         receipt: &R,
         is_of_place: bool,
-    ) -> Result<Loaded<R>, Refused> {
+    ) -> Option<Result<Loaded<R>, Refused>> {
         if let Some(page) = &self.page {
             if page.receipt().number() == receipt.number() {
-                return page.again();
+                return Some(page.again());
             }
         }
+        if !is_of_place {
+            return None;
+        }
+        Some(self.keep(reader, receipt))
+    }
+
+    /// Reads the page of this receipt, and keeps it.
+    fn keep<P: PageReader<Receipt = R>>(
+        &mut self,
+        reader: &mut P,
+        receipt: &R,
+    ) -> Result<Loaded<R>, Refused> {
         let page = match Loaded::fetch(reader, receipt, self.size) {
             Ok(page) => page,
             Err(refused) => return Err(refused),
         };
-        if is_of_place {
-            match page.again() {
-                Ok(again) => self.page = Some(again),
-                Err(refused) => return Err(refused),
-            }
+        match page.again() {
+            Ok(again) => self.page = Some(again),
+            Err(refused) => return Err(refused),
         }
         Ok(page)
     }
@@ -107,7 +117,8 @@ fn moment_before_another(clock: &mut Clock) -> Result<u64, Refused>
     clock.tick()
 }
 
-/// Makes the next event of the relocation in a context: it goes on, with the page of this receipt if it waits for one.
+/// Makes the next event of the relocation in a context: it goes on, with the page of this receipt if it waits for one. A page
+/// that is kept is handed in; what is not to be kept is read by the partition.
 fn event<F: Mergeable, D: Disk>(
     functions: &F,
     shard: &mut Shard<F, D>,
@@ -130,13 +141,16 @@ fn event<F: Mergeable, D: Disk>(
     };
     match &wanted.receipt {
         None => shard.part.partition.go(SLOT, context, functions, now),
-        Some(receipt) => {
-            let came = kept.fetch(&mut shard.reader, receipt, wanted.is_of_place);
-            shard
+        Some(receipt) => match kept.fetch(&mut shard.reader, receipt, wanted.is_of_place) {
+            Some(came) => shard
                 .part
                 .partition
-                .load(SLOT, context, came, functions, now)
-        }
+                .load(SLOT, context, came, functions, now),
+            None => shard
+                .part
+                .partition
+                .load_by(SLOT, context, functions, &mut shard.reader, now),
+        },
     }
 }
 
