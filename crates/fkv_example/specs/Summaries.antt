@@ -1,5 +1,5 @@
 -- Summaries: how many inputs a key had, the least and the greatest of them, and their sum.
-use Rattle.std.specs.Prelude.{◌≡◌, ◌+◌, ◌%◌, ◌^◌, ◌<◌, ◌≤◌, ◌+ℤ◌, ◌≤ℤ◌, ◌++◌, ◌∷◌, ℕ, ℤ, List, length, fold, All, Contains, FitsSigned, Option, Some}
+use Rattle.std.specs.Prelude.{◌≡◌, ◌==◌, if◌then◌else◌, ◌+◌, ◌%◌, ◌^◌, ◌<◌, ◌≤◌, ◌+ℤ◌, ◌≤ℤ◌, ◌++◌, ◌∷◌, ℕ, ℤ, List, length, fold, All, Contains, FitsSigned, Option, Some}
 use Rattle.std.specs.Fmt.{decimal, signed_decimal}
 use Rattle.std.proofs.Common.{arith}
 use Rattle.std.specs.Int.{w64, w128, to_le_bytes, int_wrap, int_wrapping_add, int_min, int_max}
@@ -70,10 +70,11 @@ summary_parts = record { delta = λ k i. summary_of i; joined = with_later }
 
 -- the field of a summary at a place of a row: the count, the least, the greatest, the sum
 abbrev pub summary_field : Summary → ℕ → List ℕ
-summary_field s 0 = decimal s.count
-summary_field s 1 = signed_decimal s.least
-summary_field s 2 = signed_decimal s.greatest
-summary_field s place = signed_decimal s.sum
+summary_field s place =
+    if place == 0 then decimal s.count
+    else if place == 1 then signed_decimal s.least
+    else if place == 2 then signed_decimal s.greatest
+    else signed_decimal s.sum
 
 pub summary_some : 1 ≤ 4
 summary_some = omega arith
