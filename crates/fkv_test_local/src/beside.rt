@@ -203,7 +203,7 @@ impl<F: Mergeable<Key = Name, Value = i128, Input = i64, Output = i128> + Copy, 
         } = self;
         let mut lists = store.into_lists();
         let mut count = 0usize;
-        while !lists.is_empty() {
+        for _list in 0..lists.len() {
             let list = match lists.next() {
                 Err(refused) => {
                     seen.refused = seen.refused.saturating_add(1);

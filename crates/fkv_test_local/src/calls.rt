@@ -138,7 +138,7 @@ fn listed(alloc: Global, left_out: usize) -> Result<[usize; 4], Refused> {
     }
     let mut lists = store.into_lists();
     let mut counts = [0; 4];
-    while !lists.is_empty() {
+    for _list in 0..lists.len() {
         let place = lists.len().saturating_sub(1);
         if place == left_out {
             lists.skip();
