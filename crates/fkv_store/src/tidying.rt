@@ -90,8 +90,8 @@ impl<F: Mergeable, D: Disk, H: Recorder<F>> Store<F, D, H> {
         let mut held = self.locks[at.partition].lock(rt);
         gate.pass(at.worker, at.locked());
         let page = self.page_of(held.tail());
-        let kept = kept_page(self.frames, page);
-        let shifted = held.shift_head(kept.min(held.unflushed()));
+        let written = held.unflushed();
+        let shifted = held.shift_head(kept_page(self.frames, page).min(written));
         if let Ok(()) = shifted {
             self.tell_move(at.partition);
         }
