@@ -47,6 +47,10 @@ size_of text = scaled (take (digits_in text) text) (unit_of (drop (digits_in tex
 abbrev pub bits_within : ℕ → ℕ → ℕ
 bits_within n most = min (63 - leading_zeros w64 n) most
 
+-- so many partitions that each has 256 KiB at least, and at most 2^6: pages are the smaller the more there are
+abbrev pub partition_bits_in : ℕ → ℕ
+partition_bits_in memory = bits_within (memory / 2 ^ 18) 6
+
 -- what each partition may take of the memory; there are at most 2^6
 abbrev pub share_of : ℕ → ℕ → ℕ
 share_of memory partition_bits = memory / 2 ^ min partition_bits 6

@@ -13,7 +13,7 @@ use Rattle.clap.specs.declared.error.kind.ErrorKind.{ErrorKind}
 use Rattle.clap.specs.declared.error.kind.ErrorKind.TheVariants.{DisplayHelp, DisplayVersion, OutOfMemory}
 use Rattle.fkv_partition.specs.Config.{Config}
 use Rattle.fkv_feed_rows.specs.Amounts.{is_numeral}
-use Rattle.fkv_requests.specs.Memory.{size_of, share_of, bucket_bits_in, page_bits_in, frames_in}
+use Rattle.fkv_requests.specs.Memory.{size_of, partition_bits_in, share_of, bucket_bits_in, page_bits_in, frames_in}
 use Rattle.fkv_requests.specs.declared.requests.Shown.{Shown}
 use Rattle.fkv_requests.specs.declared.requests.Shown.TheVariants.{Count, Sum, Max}
 use Rattle.fkv_requests.specs.declared.requests.TableRequest.{TableRequest}
@@ -147,6 +147,14 @@ shared_config share partition_bits bucket_bits page_bits rows = record {
   turns = 1000000;
 }
 
+-- the same of so much memory
+abbrev pub sized_config : ℕ → ℕ → List Row → Config
+sized_config memory partition_bits rows =
+    shared_config (share_of memory partition_bits) partition_bits
+    (given_or (codes "bucket-bits") rows (bucket_bits_in (share_of memory partition_bits)))
+    (given_or (codes "page-bits") rows (page_bits_in (share_of memory partition_bits)))
+    rows
+
 -- the configuration that the options of a subcommand say, within so much memory where a size is named
 abbrev pub config_of : Option ℕ → List Row → Config
 config_of None rows = record {
@@ -157,12 +165,7 @@ config_of None rows = record {
   frames = number_in (codes "frames") rows;
   turns = 1000000;
 }
-config_of (Some memory) rows =
-    shared_config (share_of memory (number_in (codes "partition-bits") rows))
-    (number_in (codes "partition-bits") rows)
-    (given_or (codes "bucket-bits") rows (bucket_bits_in (share_of memory (number_in (codes "partition-bits") rows))))
-    (given_or (codes "page-bits") rows (page_bits_in (share_of memory (number_in (codes "partition-bits") rows))))
-    rows
+config_of (Some memory) rows = sized_config memory (given_or (codes "partition-bits") rows (partition_bits_in memory)) rows
 
 -- the folder that keeps its pages, if one is named
 abbrev pub folder_of : List Row → Option Text

@@ -11,6 +11,7 @@ ghost use Rattle.fkv_requests.specs.Memory.{
   unit_of,
   scaled,
   bits_within,
+  partition_bits_in,
   share_of,
   bucket_bits_in,
   page_bits_in,
@@ -97,6 +98,14 @@ fn bits_within(number: u64, most: u64) -> u64
 {
     let bits = 63u64.saturating_sub(u64::from(number.leading_zeros()));
     bits.min(most)
+}
+
+/// The bits of the number of partitions: each has 256 KiB at least, and there are at most 2^6. Pages are the smaller the more there
+/// are, and who reads a record reads its whole page.
+pub fn partition_bits_in(memory: u64) -> u64
+    ensures { result ≡ partition_bits_in memory }
+{
+    bits_within(memory / (1 << 18), 6)
 }
 
 /// What each of 2^`partition_bits` partitions may take; there are at most 2^6.

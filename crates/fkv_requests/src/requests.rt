@@ -36,7 +36,9 @@ ghost use Rattle.fkv_requests.specs.Requests.{
   source_of,
 };
 
-use crate::memory::{bucket_bits_in, digits_in, frames_in, page_bits_in, share_of, size_of};
+use crate::memory::{
+    bucket_bits_in, digits_in, frames_in, page_bits_in, partition_bits_in, share_of, size_of,
+};
 use clap::builder::ValueParser;
 use clap::error::ErrorKind;
 use clap::parser::ValueSource;
@@ -362,17 +364,17 @@ fn number_or(options: &ArgMatches<'_>, id: &str, usual: u64) -> u64
 fn config_by(options: &ArgMatches<'_>, memory: Option<u64>) -> Config
     ensures { result ≡ config_of memory (rows_of (found_of options.now)) }
 {
-    let partition_bits = number_by(options, "partition-bits");
     let Some(memory) = memory else {
         return Config {
             id: 1,
-            partition_bits,
+            partition_bits: number_by(options, "partition-bits"),
             bucket_bits: number_by(options, "bucket-bits"),
             page_bits: number_by(options, "page-bits"),
             frames: number_by(options, "frames"),
             turns: 1_000_000,
         };
     };
+    let partition_bits = number_or(options, "partition-bits", partition_bits_in(memory));
     let share = share_of(memory, partition_bits);
     let bucket_bits = number_or(options, "bucket-bits", bucket_bits_in(share));
     let page_bits = number_or(options, "page-bits", page_bits_in(share));
@@ -460,8 +462,8 @@ fn memory<'a>(alloc: Global) -> Arg<'a>
         .long("memory")
         .value_name("SIZE")
         .help(
-            "How much memory buckets and pages may take, as 64M or 2G; it sets --bucket-bits, --page-bits and --frames, where \
-they are not given",
+            "How much memory buckets and pages may take, as 64M or 2G; it sets --partition-bits, --bucket-bits, --page-bits and \
+--frames, where they are not given",
         )
 }
 

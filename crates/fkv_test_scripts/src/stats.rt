@@ -346,7 +346,7 @@ Arguments:
   [FEED]...  CSV files, up to 64, of which - is standard input; with none, standard input. Each line is KEY,AMOUNT (count wants an amount too), with no header: KEY has 1 to 31 bytes, AMOUNT is a whole number of 64 bits
 
 Options:
-      --memory <SIZE>       How much memory buckets and pages may take, as 64M or 2G; it sets --bucket-bits, --page-bits and --frames, where they are not given
+      --memory <SIZE>       How much memory buckets and pages may take, as 64M or 2G; it sets --partition-bits, --bucket-bits, --page-bits and --frames, where they are not given
       --dir <PATH>          Keep pages in files of this folder, made anew; without it they are kept in memory
       --workers <N>         How many threads read the feeds, each some of them: 1 to 14 [default: 1]
       --merge               Make a row a merge where it would read a page

@@ -9,16 +9,16 @@ use Rattle.fkv_requests.proofs.requests.config_by.Goals as goal
 pub returns-in_default : goal.returns-in_default
 returns-in_default c =
     let found = found_of c.args.options.now in
-    let partition = c.number_by-partition_bits.ensures ∙ ap number_of (first_value-rows found (codes "partition-bits")) in
-    let bucket = c.number_by.ensures ∙ ap number_of (first_value-rows found (codes "bucket-bits")) in
-    let page = c.number_by-in_default.ensures ∙ ap number_of (first_value-rows found (codes "page-bits")) in
-    let frames = c.number_by-in_default-2.ensures ∙ ap number_of (first_value-rows found (codes "frames")) in
+    let partition = c.number_by.ensures ∙ ap number_of (first_value-rows found (codes "partition-bits")) in
+    let bucket = c.number_by-in_default.ensures ∙ ap number_of (first_value-rows found (codes "bucket-bits")) in
+    let page = c.number_by-in_default-2.ensures ∙ ap number_of (first_value-rows found (codes "page-bits")) in
+    let frames = c.number_by-in_default-3.ensures ∙ ap number_of (first_value-rows found (codes "frames")) in
     rw c.in_default.is (λ i. record { id = 1; partition_bits = partition i; bucket_bits = bucket i; page_bits = page i; frames = frames i; turns = 1000000 })
 
 pub returns : goal.returns
 returns c =
     let rows = rows_of (found_of c.args.options.now) in
-    let partition = c.number_by-partition_bits.ensures ∙ ap number_of (first_value-rows (found_of c.args.options.now) (codes "partition-bits")) in
+    let partition = c.number_or-partition_bits.ensures ∙ ap (given_or (codes "partition-bits") rows) c.partition_bits_in.ensures in
     let share = c.share_of-share.ensures ∙ ap (share_of c.in-Some.memory) partition in
     let bucket =
     c.number_or-bucket_bits.ensures ∙ ap (given_or (codes "bucket-bits") rows) (c.bucket_bits_in.ensures ∙ ap bucket_bits_in share) in
